@@ -1,0 +1,1 @@
+-- Runs of equal bytes: how the bytes of a read are told.

@@ -1,0 +1,5 @@
+//! What every crate of Pelgushan speaks of.
+#![tactic(auto)]
+
+pub mod list;
+pub mod outcome;
