@@ -1,2 +1,6 @@
 -- The definitions that contracts of this crate and of those above it cite, one subject a file.
+pub mod Count
+pub mod Grain
+pub mod Names
+pub mod Ranges
 pub mod Runs

@@ -1,0 +1,86 @@
+//! Runs of equal bytes.
+
+ghost use Rattle.std.specs.Prelude.{◌≡◌, ◌≢◌, ◌<◌, ◌≤◌, ◌^◌, length, IfOk, take, replicate, slice_index};
+ghost use Rattle.fc_base.specs.declared.runs.Run.{Run};
+ghost use Rattle.fc_base.specs.Runs.{expanded, IsCanonical};
+
+use crate::outcome::NoMemory;
+use std::alloc::Global;
+use std::marker::Model;
+
+/// So many bytes of one value.
+#[derive(Clone, Copy, Debug, PartialEq, Eq)]
+pub struct Run {
+    /// How many, above 0.
+    pub count: u32,
+    /// The byte.
+    pub byte: u8,
+}
+
+/// Bytes as runs of equal bytes: no run is empty, and no two neighbours have the same byte.
+#[derive(Debug, Drop)]
+pub struct Runs {
+    runs: Vec<Run>,
+}
+
+impl Model for Runs {
+    ghost use Rattle.std.specs.Prelude.{List};
+    ghost use Rattle.fc_base.specs.declared.runs.Run.{Run};
+
+    ghost Value = { List Run };
+
+    ghost use Rattle.fc_base.specs.Runs.{IsCanonical};
+
+    ghost view = { λ r. r.runs.items };
+
+    ghost invariant = { λ r. IsCanonical r.runs.items };
+}
+
+impl Runs {
+    /// The runs of these bytes, of which there are fewer than 2^32.
+    pub fn of(alloc: Global, bytes: &[u8]) -> Result<Runs, NoMemory>
+        requires { length bytes.now < 2 ^ 32 }
+        ensures expands { IfOk result (λ runs. expanded runs ≡ bytes.now) }
+        ensures canonical { IfOk result (λ runs. IsCanonical runs) }
+    {
+        let mut runs: Vec<Run> = Vec::new(alloc);
+        let mut start = 0;
+        while start < bytes.len() {
+            let byte = bytes[start];
+            let count = equal_bytes(&bytes[start..], byte);
+            match runs.push(Run { count, byte }) {
+                Ok(()) => {}
+                Err(_) => return Err(NoMemory),
+            }
+            start += count as usize;
+        }
+        Ok(Runs { runs })
+    }
+}
+
+/// How many of the first bytes are this byte.
+fn equal_bytes(bytes: &[u8], byte: u8) -> u32
+    requires { length bytes.now < 2 ^ 32 }
+    ensures within { result ≤ length bytes.now }
+    ensures equal { take result bytes.now ≡ replicate result byte }
+    ensures stops { result < length bytes.now → slice_index bytes.now result ≢ byte }
+{
+    let mut count = 0;
+    for next in bytes {
+        if *next != byte {
+            return count;
+        }
+        count += 1;
+    }
+    count
+}
+
+impl Runs {
+    /// The runs, in order.
+    pub fn as_slice(&self) -> &[Run]
+        ensures value { result.now ≡ self.now }
+        ensures canonical { IsCanonical self.now }
+    {
+        self.runs.as_slice()
+    }
+}
