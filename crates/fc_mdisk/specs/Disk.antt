@@ -1,8 +1,9 @@
 -- A disk as contracts see it, and what each call leaves of it.
-use Rattle.std.specs.Prelude.{◌≡◌, ◌⊎◌, ℕ, ◌+◌, ◌-◌, ◌<◌, ◌≤◌, ◌^◌, ◌==◌, min, Bool, true, false, List, [], length, replicate, slice_set, slice_index_or, is_some, IfSome, Result, Ok, Err, Option, Some, None}
+use Rattle.std.specs.Prelude.{◌≡◌, ℕ, ◌-◌, ◌==◌, Bool, true, false, List, [], length, replicate, slice_set, slice_index_or, is_some, IfSome, Result, Ok, Err, Option}
 use Rattle.std.specs.Option.{option_map}
-use Rattle.std.specs.Bool.{OnTrue, OnFalse}
+use Rattle.std.specs.Bool.{OnFalse}
 use Rattle.std.specs.List.{count_by}
+use Rattle.fc_base.specs.Count.{one_more, FaultsAfter}
 use Rattle.fc_base.specs.declared.disk.DiskKind.{DiskKind}
 use Rattle.fc_base.specs.declared.disk.DiskKind.TheVariants.{Flat, Thin}
 use Rattle.fc_base.specs.declared.disk.DiskError.{DiskError}
@@ -41,25 +42,11 @@ used_as Thin grains occupied = count_by (λ b. b) occupied
 abbrev pub used_of : DiskState → ℕ
 used_of disk = used_as disk.kind disk.grains disk.occupied
 
--- A count stands still at the last value of its type.
-abbrev pub one_more : ℕ → ℕ
-one_more n = min (n + 1) (2 ^ 64 - 1)
-
-abbrev pub HasRisen : ℕ → ℕ → Type 0
-HasRisen old new = (old < new) ⊎ (new ≡ 2 ^ 64 - 1)
-
--- A count of faults over a read or write that may fail. It never falls, and rises where the call fails.
--- Where the disk tells its armed fault, it rises nowhere else.
-pub record FaultsAfter (due : Option ℕ) (failed : Bool) (old new : ℕ) : Type 0 where
-  pub kept : old ≤ new
-  pub cause : OnTrue failed (HasRisen old new)
-  pub quiet : OnTrue (is_some due) (OnFalse failed (new ≡ old))
-
 -- What a read and a write have in common: the counts, and the armed fault, which comes one call nearer.
 pub record AfterCall (before : DiskState) (failed : Bool) (after : DiskState) : Type 0 where
   pub kind : after.kind ≡ before.kind
   pub calls : after.calls ≡ one_more before.calls
-  pub faults : FaultsAfter before.due failed before.faults after.faults
+  pub faults : FaultsAfter (is_some before.due) failed before.faults after.faults
   pub due : after.due ≡ option_map (λ n. n - 1) before.due
   pub fails_as_told : IfSome before.due (λ n. failed ≡ (n == 1))
 
@@ -99,7 +86,7 @@ pub record AfterWrite {A : Type 0} (before : DiskState) (g : ℕ) (bytes : List 
   pub grain : GrainAfter answer bytes (grain_at before.grains g) (grain_at after.grains g)
   pub others : after.grains ≡ slice_set before.grains g (grain_at after.grains g)
   pub occupied : after.occupied ≡ occupied_after answer before.occupied g
-  pub write_faults : FaultsAfter before.due (write_failed answer) before.write_faults after.write_faults
+  pub write_faults : FaultsAfter (is_some before.due) (write_failed answer) before.write_faults after.write_faults
   pub call : AfterCall before (write_failed answer) after
   pub allowed : MayAnswer before.kind answer
 
