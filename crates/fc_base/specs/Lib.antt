@@ -4,3 +4,4 @@ pub mod Grain
 pub mod Names
 pub mod Ranges
 pub mod Runs
+pub mod Count

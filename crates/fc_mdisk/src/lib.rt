@@ -1,0 +1,5 @@
+//! Simulated disks.
+#![tactic(auto)]
+
+pub mod boxed;
+pub mod mdisk;
