@@ -4,4 +4,3 @@ pub mod Grain
 pub mod Names
 pub mod Ranges
 pub mod Runs
-pub mod Count
