@@ -1,0 +1,2 @@
+-- Lemmas and closed examples, one subject a file.
+pub mod TextExamples
