@@ -1,2 +1,3 @@
 -- Lemmas and closed examples, one subject a file.
 pub mod TextExamples
+pub mod WrittenLemmas

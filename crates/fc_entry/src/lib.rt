@@ -11,3 +11,5 @@
 
 pub mod entry;
 pub mod history;
+pub mod parts;
+pub mod refusal_text;
