@@ -1,3 +1,4 @@
 -- Lemmas and closed examples, one subject a file.
 pub mod TextExamples
 pub mod WrittenLemmas
+pub mod JoinLemmas

@@ -13,3 +13,4 @@ pub mod entry;
 pub mod history;
 pub mod parts;
 pub mod refusal_text;
+pub mod reply_text;
