@@ -2,3 +2,5 @@
 pub mod TextExamples
 pub mod WrittenLemmas
 pub mod JoinLemmas
+pub mod PartLemmas
+pub mod CommandLines

@@ -9,6 +9,7 @@
 //! In reading order: `entry`, `history`.
 #![tactic(auto)]
 
+pub mod command_text;
 pub mod entry;
 pub mod history;
 pub mod parts;
