@@ -4,3 +4,4 @@ pub mod WrittenLemmas
 pub mod JoinLemmas
 pub mod PartLemmas
 pub mod CommandLines
+pub mod TextLemmas

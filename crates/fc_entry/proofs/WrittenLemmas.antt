@@ -1,6 +1,6 @@
 -- Text that is written in several calls: `Written-then` joins what was written before and what is written next,
 -- and `Written-cut` is for a writing that failed before its end.
-use Rattle.std.proofs.Common.{◌≡◌, ℕ, ◌+◌, ◌<◌, ◌≤◌, Bool, true, false, List, [], ◌∷◌, ◌++◌, Option, Some, None, is_some, length, get_or, take, drop, refl, sym, ap, subst, ◌∙◌, inl, inr, arith, append_assoc}
+use Rattle.std.proofs.Common.{◌≡◌, ℕ, zero, suc, ◌+◌, ◌<◌, ◌≤◌, Bool, true, false, List, [], ◌∷◌, ◌++◌, Option, Some, None, is_some, IfSome, slice_get, length, get_or, take, drop, refl, sym, ap, subst, ◌∙◌, inl, inr, arith, append_assoc}
 use Rattle.std.proofs.lemmas.List.{append-nil, take-append-drop, take_more}
 use Rattle.std.proofs.lemmas.List.Concat.{flat_map-append}
 use Rattle.std.specs.List.{flat_map}
@@ -173,3 +173,29 @@ Written-stopped f xs i d a b c inside before item =
     let P : List ℕ → Type 0 = λ t. Written a t true c in
     subst P (sym (flat_map-split f xs i d inside))
     (Written-cut a (flat_map f (take (i + 1) xs)) (flat_map f (drop (i + 1) xs)) c (Written-more f xs i d a b true c inside before item))
+
+-- the same, where the item is looked up
+item_at : {X : Type 0} (xs : List X) (i : ℕ) → i < length xs → (x : X) × (slice_get xs i ≡ Some x) × (get_or xs i x ≡ x)
+item_at [] i inside = absurd (omega arith)
+item_at (x ∷ xs) zero inside = (x, refl, refl)
+item_at (x ∷ xs) (suc i) inside = item_at xs i (omega arith)
+
+pub Written-more_at :
+    {X : Type 0} (f : X → List ℕ) (xs : List X) (i : ℕ) (a b : SinkState) (failed : Bool) (c : SinkState) →
+    i < length xs →
+    Written a (flat_map f (take i xs)) false b →
+    IfSome (slice_get xs i) (λ x. Written b (f x) failed c) →
+    Written a (flat_map f (take (i + 1) xs)) failed c
+Written-more_at f xs i a b failed c inside before item =
+    let at = item_at xs i inside in
+    Written-more f xs i at.0 a b failed c inside before (rw at.2 (rw at.1 at item))
+
+pub Written-stopped_at :
+    {X : Type 0} (f : X → List ℕ) (xs : List X) (i : ℕ) (a b c : SinkState) →
+    i < length xs →
+    Written a (flat_map f (take i xs)) false b →
+    IfSome (slice_get xs i) (λ x. Written b (f x) true c) →
+    Written a (flat_map f xs) true c
+Written-stopped_at f xs i a b c inside before item =
+    let at = item_at xs i inside in
+    Written-stopped f xs i at.0 a b c inside before (rw at.2 (rw at.1 at item))

@@ -1,7 +1,7 @@
 -- How the history is printed. An entry is one line, and a report's rows stand behind it, a line each:
 --     NUMBER ACTOR REQUEST -> REPLY
 -- Numbers are decimal, without leading zeros. Volumes, mappings and groups are named by their ids.
-use Rattle.std.specs.Prelude.{ℕ, List, [], ◌++◌, map, length, codes, decimal, slice_index_or}
+use Rattle.std.specs.Prelude.{ℕ, ◌<◌, List, [], ◌++◌, map, length, codes, decimal, slice_index_or, All}
 use Rattle.std.specs.List.{flat_map, join_with_byte}
 use Rattle.fc_base.specs.CommandText.{command_text, byte_word}
 use Rattle.fc_base.specs.Grain.{grain_kib}
@@ -149,13 +149,20 @@ request_text (request.Clean map grain) = codes "clean " ++ two_numbers map.0 gra
 request_text (request.CopyTurn lane) = codes "copyturn " ++ decimal lane
 request_text (request.CleanTurn lane) = codes "cleanturn " ++ decimal lane
 
--- the line of an entry, and behind it the rows of its report
+-- an entry of the actor with this name: its line, and behind it the rows of its report
+abbrev pub text_by : List ℕ → Entry → List ℕ
+text_by actor entry =
+    decimal entry.number ++ codes " " ++ actor ++ codes " " ++ request_text entry.request ++ codes " -> "
+    ++ reply_text entry.reply ++ codes "\n" ++ rows_text entry.reply
+
+-- an entry, where these are the names of actors
 abbrev pub entry_text : List (List ℕ) → Entry → List ℕ
-entry_text actors entry =
-    decimal entry.number ++ codes " " ++ slice_index_or actors entry.actor [] ++ codes " "
-    ++ request_text entry.request ++ codes " -> " ++ reply_text entry.reply ++ codes "\n"
-    ++ rows_text entry.reply
+entry_text actors entry = text_by (slice_index_or actors entry.actor []) entry
 
 -- all entries, in order
 abbrev pub history_text : HistoryState → List ℕ
 history_text history = flat_map (entry_text history.actors) history.entries
+
+-- each entry's actor has a name
+abbrev pub HasNames : HistoryState → Type 0
+HasNames history = All (λ entry. entry.actor < length history.actors) history.entries

@@ -15,3 +15,5 @@ pub mod history;
 pub mod parts;
 pub mod refusal_text;
 pub mod reply_text;
+pub mod request_text;
+pub mod text;

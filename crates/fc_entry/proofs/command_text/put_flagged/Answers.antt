@@ -1,6 +1,4 @@
-use Rattle.std.proofs.Common.{◌++◌, codes}
-use Rattle.fc_base.specs.CommandText.{delim_words, ref_word}
-use Rattle.fc_entry.specs.Spaced.{spaced}
+use Rattle.std.proofs.Common.{◌++◌}
 use Rattle.fc_entry.proofs.WrittenLemmas.{Written-then, Written-cut}
 use Rattle.fc_entry.proofs.command_text.put_flagged.Goals as goal
 

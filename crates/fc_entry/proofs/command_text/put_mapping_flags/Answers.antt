@@ -1,4 +1,4 @@
-use Rattle.std.proofs.Common.{ℕ, Bool, List, is_err, subst}
+use Rattle.std.proofs.Common.{ℕ, List, is_err, subst}
 use Rattle.fc_entry.specs.Written.{Written}
 use Rattle.fc_entry.proofs.CommandLines.{mapping_flags_line}
 use Rattle.fc_entry.proofs.command_text.put_mapping_flags.Goals as goal

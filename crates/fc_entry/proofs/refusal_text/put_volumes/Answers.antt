@@ -1,4 +1,4 @@
-use Rattle.std.proofs.Common.{true, false}
+use Rattle.std.proofs.Common.{false}
 use Rattle.fc_entry.specs.Text.{volume_text}
 use Rattle.fc_entry.proofs.WrittenLemmas.{Written-more, Written-stopped}
 use Rattle.fc_entry.proofs.refusal_text.put_volumes.Goals as goal

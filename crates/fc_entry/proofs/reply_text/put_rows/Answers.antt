@@ -1,5 +1,5 @@
-use Rattle.std.proofs.Common.{ℕ, ◌++◌, List, codes, true, false}
-use Rattle.fc_entry.proofs.WrittenLemmas.{Written-more, Written-stopped}
+use Rattle.std.proofs.Common.{ℕ, ◌++◌, List, codes}
+use Rattle.fc_entry.proofs.WrittenLemmas.{Written-stopped}
 use Rattle.fc_entry.proofs.reply_text.put_rows.Goals as goal
 
 pub returns-in-Err : goal.returns-in-Err

@@ -1,0 +1,21 @@
+-- The text of an entry as the parts that are put one after the other, and the text of a history that grows.
+use Rattle.std.proofs.Common.{◌≡◌, ℕ, List, [], ◌∷◌, ◌++◌, codes, decimal, append_assoc}
+use Rattle.std.proofs.lemmas.List.{append-nil}
+use Rattle.std.specs.List.{concat}
+use Rattle.fc_entry.specs.declared.entry.Entry.{Entry}
+use Rattle.fc_entry.specs.Text.{reply_text, request_text, rows_text, text_by}
+
+abbrev pub entry_parts : List ℕ → Entry → List (List ℕ)
+entry_parts actor entry =
+    (decimal entry.number ++ codes " " ++ actor ++ codes " ") ∷ request_text entry.request ∷ codes " -> "
+    ∷ reply_text entry.reply ∷ codes "\n" ∷ rows_text entry.reply ∷ []
+
+joined :
+    (number actor request reply rows : List ℕ) →
+    concat ((number ++ codes " " ++ actor ++ codes " ") ∷ request ∷ codes " -> " ∷ reply ∷ codes "\n" ∷ rows ∷ [])
+    ≡ number ++ codes " " ++ actor ++ codes " " ++ request ++ codes " -> " ++ reply ++ codes "\n" ++ rows
+joined number actor request reply rows = simp (append_assoc, append-nil)
+
+pub entry_parts-joined : (actor : List ℕ) (entry : Entry) → concat (entry_parts actor entry) ≡ text_by actor entry
+entry_parts-joined actor entry =
+    joined (decimal entry.number) actor (request_text entry.request) (reply_text entry.reply) (rows_text entry.reply)
