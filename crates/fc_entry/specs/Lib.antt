@@ -1,2 +1,5 @@
 -- What histories are and when they are legal, one subject a file, to be read top to bottom.
 pub mod HistoryState
+pub mod Picture
+pub mod PlainStep
+pub mod Reads
