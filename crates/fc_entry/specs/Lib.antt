@@ -3,3 +3,11 @@ pub mod HistoryState
 pub mod Picture
 pub mod PlainStep
 pub mod Reads
+pub mod Told
+pub mod Refused
+pub mod Right
+pub mod Legal
+pub mod Lines
+pub mod Asked
+pub mod Run
+pub mod Added
