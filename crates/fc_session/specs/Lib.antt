@@ -1,1 +1,3 @@
+-- What a session means, one subject a file, to be read top to bottom.
 pub mod Words
+pub mod Codes
