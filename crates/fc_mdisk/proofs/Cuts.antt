@@ -28,7 +28,7 @@ cut-zeros (suc count) width =
     let first : take width (replicate {A = ℕ} (suc count * width) 0) ≡ replicate width 0 = take-replicate width (suc count * width) 0 (omega (arith, next_place count width)) in
     let size : suc count * width - width ≡ count * width = omega (arith, next_place count width) in
     let rest : drop width (replicate {A = ℕ} (suc count * width) 0) ≡ replicate (count * width) 0 =
-      drop-replicate width (suc count * width) 0 ∙ ap (λ (n : ℕ). replicate n 0) size in
+    drop-replicate width (suc count * width) 0 ∙ ap (λ (n : ℕ). replicate n 0) size in
     rw (first, rest, cut-zeros count width) refl
 
 -- a grain lies inside the buffer
@@ -52,7 +52,7 @@ later_put width b k xs ys fits =
 -- writing the k bytes ys at the front of a grain changes that grain alone
 pub cut-put : (count width g k : ℕ) (xs ys : List ℕ) → g < count → count * width ≤ length xs → length ys ≡ k → k ≤ width
     → cut count width (take (g * width) xs ++ (ys ++ drop k (drop (g * width) xs)))
-        ≡ slice_set (cut count width xs) g (ys ++ drop k (take width (drop (g * width) xs)))
+    ≡ slice_set (cut count width xs) g (ys ++ drop k (take width (drop (g * width) xs)))
 cut-put zero width g k xs ys in_range room size fits = absurd (omega arith)
 cut-put (suc count) width zero k xs ys in_range room size fits =
     rw zero-mul (rw (first_put width k xs ys size fits, rest_put width k xs ys size fits) refl)
@@ -63,7 +63,7 @@ cut-put (suc count) width (suc g) k xs ys in_range room size fits =
     let b : ℕ = g * width in
     let fits_b : width + g * width ≤ length xs = omega arith in
     let first : take width (take (width + g * width) xs ++ (ys ++ drop k (drop (width + g * width) xs))) ≡ take width xs =
-      take-put_mid_below (width + g * width) k xs ys width (omega arith) fits_b in
+    take-put_mid_below (width + g * width) k xs ys width (omega arith) fits_b in
     let later = cut-put count width g k (drop width xs) ys below (omega (arith, length-drop width xs)) size fits in
     rw next_place (rw (first, later_put width (g * width) k xs ys fits_b, later, drop-drop (g * width) width xs) refl)
 
@@ -86,13 +86,13 @@ module _ (count width g : ℕ) (bytes : List ℕ) (grains : List (List ℕ)) (vi
 
   -- a write of the bytes ys, as many as there is room for, of which n - g * width are replaced
   pub length-written : (ys : List ℕ) (n : ℕ) → length ys ≤ width → n ≡ g * width + length ys
-    → length (take (g * width) bytes ++ (ys ++ drop (n - g * width) (drop (g * width) bytes))) ≡ length bytes
+      → length (take (g * width) bytes ++ (ys ++ drop (n - g * width) (drop (g * width) bytes))) ≡ length bytes
   length-written ys n fits end =
-    let within : g * width + width ≤ length bytes = ends_in_buffer in
-    simp (length-append, length-take, length-drop) (omega arith)
+      let within : g * width + width ≤ length bytes = ends_in_buffer in
+      simp (length-append, length-take, length-drop) (omega arith)
 
   pub written_is : (ys : List ℕ) (n : ℕ) → length ys ≤ width → n ≡ g * width + length ys
-    → cut count width (take (g * width) bytes ++ (ys ++ drop (n - g * width) (drop (g * width) bytes))) ≡ slice_set grains g (ys ++ drop (length ys) (grain_at grains g))
+      → cut count width (take (g * width) bytes ++ (ys ++ drop (n - g * width) (drop (g * width) bytes))) ≡ slice_set grains g (ys ++ drop (length ys) (grain_at grains g))
   written_is ys n fits end =
-    let size : n - g * width ≡ length ys = omega arith in
-    rw (size, cut-put count width g (length ys) bytes ys is_counted (omega arith) refl fits, view_is, ← grain_is) refl
+      let size : n - g * width ≡ length ys = omega arith in
+      rw (size, cut-put count width g (length ys) bytes ys is_counted (omega arith) refl fits, view_is, ← grain_is) refl

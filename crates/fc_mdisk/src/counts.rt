@@ -1,6 +1,6 @@
 //! What a disk counts, and its armed fault.
 
-ghost use Rattle.std.specs.Prelude.{◌≡◌, ◌==◌, ◌-◌, if◌then◌else◌};
+ghost use Rattle.std.specs.Prelude.{◌≡◌, ◌≤◌, ◌==◌, ◌-◌, if◌then◌else◌};
 ghost use Rattle.fc_base.specs.Count.{one_more};
 
 /// The calls of a disk and those that failed. Each count stands still at 2^64 - 1.
@@ -25,6 +25,7 @@ impl Counts {
     /// Counts a read.
     pub fn add_read(&mut self, failed: bool)
         ensures calls { self.new.calls ≡ one_more self.old.calls }
+        ensures kept { self.old.faults ≤ self.new.faults }
         ensures faults { self.new.faults ≡ (if failed then one_more self.old.faults else self.old.faults) }
         ensures write_faults { self.new.write_faults ≡ self.old.write_faults }
     {
@@ -37,7 +38,9 @@ impl Counts {
     /// Counts a write.
     pub fn add_write(&mut self, failed: bool)
         ensures calls { self.new.calls ≡ one_more self.old.calls }
+        ensures kept { self.old.faults ≤ self.new.faults }
         ensures faults { self.new.faults ≡ (if failed then one_more self.old.faults else self.old.faults) }
+        ensures write_faults_kept { self.old.write_faults ≤ self.new.write_faults }
         ensures write_faults { self.new.write_faults ≡ (if failed then one_more self.old.write_faults else self.old.write_faults) }
     {
         self.add_read(failed);

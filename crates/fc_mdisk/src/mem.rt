@@ -28,13 +28,13 @@ impl Model for MemDisk {
     ghost Value = { DiskState };
 
     ghost view = { λ d. record {
-        kind = Flat;
-        grains = d.grains;
-        occupied = replicate (length d.grains) true;
-        calls = d.counts.calls;
-        faults = d.counts.faults;
-        write_faults = d.counts.write_faults;
-        due = Some d.due
+      kind = Flat;
+      grains = d.grains;
+      occupied = replicate (length d.grains) true;
+      calls = d.counts.calls;
+      faults = d.counts.faults;
+      write_faults = d.counts.write_faults;
+      due = Some d.due;
     } };
 }
 

@@ -6,7 +6,7 @@ use Rattle.fc_mdisk.proofs.flat.FlatGrains.read.Goals as goal
 pub slice_bounds-copy_from_slice-end : goal.slice_bounds-copy_from_slice-end
 slice_bounds-copy_from_slice-end c =
     let within : c.args.grain * c.self.inside.width + c.self.inside.width ≤ length c.self.inside.buffer.items =
-      ends_in_buffer c.self.inside.count c.self.inside.width c.args.grain c.self.inside.buffer.items _ c.self.view_is (omega arith) c.requires.in_range in
+    ends_in_buffer c.self.inside.count c.self.inside.width c.args.grain c.self.inside.buffer.items _ c.self.view_is (omega arith) c.requires.in_range in
     search rules
 
 pub copy_from_slice-requires : goal.copy_from_slice-requires
