@@ -3,6 +3,10 @@
 
 pub mod boxed;
 mod counts;
+pub mod fail;
 mod flat;
+pub mod disks;
 pub mod mdisk;
 pub mod mem;
+pub mod thin;
+mod thin_grains;
