@@ -12,7 +12,6 @@ use Rattle.fc_mdisk.specs.Disks.{disk_at, ChangesOnly}
 -- what disks stand for, when the one at a place was read, and when it is put back changed
 module _ {D : Type 0} (meaning : D → DiskState) (disks : List D) (seen : List DiskState) (place : ℕ) (was : D)
     (view_is : map meaning disks ≡ seen) (in_range : place < length seen) (read : was ≡ slice_index_or disks place was) where
-
   is_there : place < length disks
   is_there = omega (arith, ap (length {A = DiskState}) view_is, length-map disks meaning)
 

@@ -26,7 +26,6 @@ one_counted false false n m e reached = cc
 
 module _ (width g : ℕ) (grains : List ThinGrain) (seen : ThinState) (old : ThinGrain)
     (view_is : state width grains ≡ seen) (in_range : g < length seen.grains) (read : old ≡ slice_index_or grains g old) where
-
   is_there : g < length grains
   is_there = omega (arith, ap (λ (s : ThinState). length s.grains) view_is, length-map grains (bytes_of width))
 
@@ -53,8 +52,9 @@ module _ (width g : ℕ) (grains : List ThinGrain) (seen : ThinState) (old : Thi
   pub written_left : (new : ThinGrain) (bytes : List ℕ) → bytes_of width new ≡ bytes → is_reached new ≡ true
       → state width (slice_set grains g new) ≡ record { grains = slice_set seen.grains g bytes; occupied = slice_set seen.occupied g true }
   written_left new bytes bytes_is reached = λ i. record {
-      grains = (grains_left new ∙ ap (λ (x : List ℕ). slice_set seen.grains g x) bytes_is) i;
-      occupied = occupied_left new reached i }
+    grains = (grains_left new ∙ ap (λ (x : List ℕ). slice_set seen.grains g x) bytes_is) i;
+    occupied = occupied_left new reached i;
+  }
 
   -- the count of those that a write reached
   pub count_left : (new : ThinGrain) (was : Bool) → is_reached new ≡ true → was ≡ is_reached old
@@ -62,9 +62,9 @@ module _ (width g : ℕ) (grains : List ThinGrain) (seen : ThinState) (old : Thi
   count_left new was reached was_is =
       let same : slice_index_or grains g old ≡ old = sym read in
       let replaced : count_by is_reached (slice_set grains g new) + cond (is_reached (slice_index_or grains g old)) 1 0 ≡ count_by is_reached grains + cond (is_reached new) 1 0 =
-        sum_by-set (λ (x : ThinGrain). cond (is_reached x) 1 0) grains g new old is_there in
+      sum_by-set (λ (x : ThinGrain). cond (is_reached x) 1 0) grains g new old is_there in
       one_counted was (is_reached new) _ _
-        (ap (λ (b : Bool). count_by is_reached (slice_set grains g new) + cond b 1 0) (was_is ∙ ap is_reached (sym same)) ∙ replaced) reached
+      (ap (λ (b : Bool). count_by is_reached (slice_set grains g new) + cond b 1 0) (was_is ∙ ap is_reached (sym same)) ∙ replaced) reached
 
   pub count_fits : (used : ℕ) (was : Bool) → was ≡ is_reached old → used ≡ count_by is_reached grains → length grains < 2 ^ 32 → Fits w32 (used + bool_byte (not was))
   count_fits used was was_is used_is bound =

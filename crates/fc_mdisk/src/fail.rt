@@ -29,16 +29,16 @@ impl Model for FailDisk {
     ghost Value = { FailingDisk };
 
     ghost view = { λ d. record {
-        disk = record {
-            kind = Flat;
-            grains = d.grains;
-            occupied = replicate (length d.grains) true;
-            calls = d.counts.calls;
-            faults = d.counts.faults;
-            write_faults = d.counts.write_faults;
-            due = None
-        };
-        failing = d.failing.items
+      disk = record {
+        kind = Flat;
+        grains = d.grains;
+        occupied = replicate (length d.grains) true;
+        calls = d.counts.calls;
+        faults = d.counts.faults;
+        write_faults = d.counts.write_faults;
+        due = None;
+      };
+      failing = d.failing.items;
     } };
 }
 
@@ -95,6 +95,8 @@ impl Mdisk for FailDisk {
     }
 
     fn read(&mut self, grain: u32, out: &mut [u8]) -> Result<(), Failed>
+        requires in_range { grain < length self.old.disk.grains }
+        requires whole { length out.old ≡ length (grain_at self.old.disk.grains grain) }
         ensures disk { AfterRead self.old.disk grain (is_err result) out.new self.new.disk }
         ensures told { is_err result ≡ fails_next self.old }
         ensures failing { self.new.failing ≡ self.old.failing }
@@ -110,6 +112,8 @@ impl Mdisk for FailDisk {
 
     /// A write that fails is torn: it leaves the first half of the bytes.
     fn write(&mut self, grain: u32, bytes: &[u8]) -> Result<(), DiskError>
+        requires in_range { grain < length self.old.disk.grains }
+        requires whole { length bytes.now ≡ length (grain_at self.old.disk.grains grain) }
         ensures disk { AfterWrite self.old.disk grain bytes.now result self.new.disk }
         ensures told { write_failed result ≡ fails_next self.old }
         ensures failing { self.new.failing ≡ self.old.failing }

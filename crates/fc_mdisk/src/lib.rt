@@ -3,9 +3,9 @@
 
 pub mod boxed;
 mod counts;
+pub mod disks;
 pub mod fail;
 mod flat;
-pub mod disks;
 pub mod mdisk;
 pub mod mem;
 pub mod thin;

@@ -29,13 +29,13 @@ impl Model for ThinDisk {
     ghost Value = { DiskState };
 
     ghost view = { λ d. record {
-        kind = Thin;
-        grains = d.grains.grains;
-        occupied = d.grains.occupied;
-        calls = d.counts.calls;
-        faults = d.counts.faults;
-        write_faults = d.counts.write_faults;
-        due = Some d.due
+      kind = Thin;
+      grains = d.grains.grains;
+      occupied = d.grains.occupied;
+      calls = d.counts.calls;
+      faults = d.counts.faults;
+      write_faults = d.counts.write_faults;
+      due = Some d.due;
     } };
 }
 

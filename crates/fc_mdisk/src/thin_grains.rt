@@ -84,8 +84,8 @@ impl Model for ThinGrains {
     ghost Value = { ThinState };
 
     ghost view = { λ t. record {
-        grains = map (bytes_of t.width) t.grains.items;
-        occupied = map is_reached t.grains.items
+      grains = map (bytes_of t.width) t.grains.items;
+      occupied = map is_reached t.grains.items;
     } };
 
     ghost invariant = { λ t. (vec_len t.grains < 2 ^ 32) × (t.used ≡ count_by is_reached t.grains.items) };

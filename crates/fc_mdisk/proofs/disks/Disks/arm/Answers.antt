@@ -7,4 +7,4 @@ pub returns : goal.returns
 returns g c =
     left_is _ c.self.inside.disks.items _ c.args.place _ c.self.view_is c.requires c.index_mut.ensures.value c.arm.new.self
     ∙ ap (λ (d : DiskState). slice_set c.args.self.now c.args.place d)
-      (c.arm.ensures ∙ ap (λ (d : DiskState). armed d c.args.calls) (sym (was_at _ c.self.inside.disks.items _ c.args.place _ c.self.view_is c.requires c.index_mut.ensures.value)))
+    (c.arm.ensures ∙ ap (λ (d : DiskState). armed d c.args.calls) (sym (was_at _ c.self.inside.disks.items _ c.args.place _ c.self.view_is c.requires c.index_mut.ensures.value)))

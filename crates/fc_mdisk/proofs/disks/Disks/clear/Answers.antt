@@ -7,4 +7,4 @@ pub returns : goal.returns
 returns g c =
     left_is _ c.self.inside.disks.items _ c.args.place _ c.self.view_is c.requires c.index_mut.ensures.value c.clear.new.self
     ∙ ap (λ (d : DiskState). slice_set c.args.self.now c.args.place d)
-      (c.clear.ensures ∙ ap (λ (d : DiskState). cleared d) (sym (was_at _ c.self.inside.disks.items _ c.args.place _ c.self.view_is c.requires c.index_mut.ensures.value)))
+    (c.clear.ensures ∙ ap (λ (d : DiskState). cleared d) (sym (was_at _ c.self.inside.disks.items _ c.args.place _ c.self.view_is c.requires c.index_mut.ensures.value)))

@@ -5,7 +5,7 @@ use Rattle.fc_mdisk.proofs.thin_grains.ThinGrains.tear.Goals as goal
 pub overflow_add-self : goal.overflow_add-self
 overflow_add-self c =
     count_fits c.self.inside.width c.args.grain c.self.inside.grains.items _ _ c.self.view_is c.requires.in_range c.index_mut-place.ensures.value
-      c.self.inside.used c.is_reached-first.result c.is_reached-first.ensures (omega arith) (omega arith)
+    c.self.inside.used c.is_reached-first.result c.is_reached-first.ensures (omega arith) (omega arith)
 
 pub returns-clause-size : goal.returns-clause-size
 returns-clause-size c =
