@@ -2,5 +2,7 @@
 #![tactic(auto)]
 
 pub mod gate;
+mod lines;
 pub mod status;
+pub mod store;
 pub mod words;
