@@ -4,3 +4,4 @@ pub mod Codes
 pub mod Stores
 pub mod Reading
 pub mod Progress
+pub mod ReadTo

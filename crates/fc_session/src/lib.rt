@@ -3,6 +3,7 @@
 
 pub mod gate;
 mod lines;
+mod reading;
 pub mod status;
 pub mod store;
 pub mod words;
