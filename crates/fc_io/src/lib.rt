@@ -6,5 +6,5 @@ pub mod mem_sink;
 pub mod mem_source;
 pub mod sink;
 pub mod source;
-pub mod std_source;
 pub mod std_sink;
+pub mod std_source;
