@@ -1,3 +1,6 @@
 -- The definitions that contracts of this crate and of those above it cite, one subject a file.
-pub mod Words
+pub mod Answers
+pub mod Digits
 pub mod Grammar
+pub mod Values
+pub mod Words

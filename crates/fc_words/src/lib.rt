@@ -3,5 +3,8 @@
 //! Work in progress.
 #![tactic(auto)]
 
+pub mod given;
 pub mod grammar;
+pub mod refused;
+pub mod values;
 mod words;
