@@ -3,5 +3,6 @@ pub mod Answers
 pub mod Digits
 pub mod Given
 pub mod Grammar
+pub mod Lines
 pub mod Values
 pub mod Words

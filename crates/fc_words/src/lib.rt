@@ -3,6 +3,7 @@
 //! Work in progress.
 #![tactic(auto)]
 
+mod complete;
 pub mod given;
 pub mod grammar;
 pub mod refused;
