@@ -6,6 +6,7 @@
 mod complete;
 pub mod given;
 pub mod grammar;
+mod reader;
 pub mod refused;
 pub mod values;
 mod words;
