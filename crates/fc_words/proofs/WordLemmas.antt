@@ -1,9 +1,9 @@
 -- Words of a line, from its front.
 use Rattle.std.proofs.Common.{◌≡◌, ◌≢◌, ℕ, ◌+◌, ◌<◌, ◌≤◌, Bool, true, false, not, cond, List, [], ◌∷◌, ◌++◌, length, get_or, suc, zero, take, drop, Option, Some, None, refl, sym, ap, subst, add-one, drop-cons, ◌∙◌, arith}
 use Rattle.std.specs.List.{All, slice_split, position, position_or_len, filter}
-use Rattle.std.proofs.lemmas.List.Splits.{slice_split-cons_yes, slice_split-cons_no, slice_split_none, slice_split_first}
+use Rattle.std.proofs.lemmas.List.Splits.{slice_split_none, slice_split_first, length-slice_split}
 use Rattle.std.proofs.lemmas.List.Quantifiers.{position-Some}
-use Rattle.std.proofs.lemmas.List.Sums.{fails_before_first}
+use Rattle.std.proofs.lemmas.List.Sums.{fails_before_first, length-filter, count_by-le-length}
 use Rattle.std.proofs.lemmas.Bool.{false≢true}
 use Rattle.std.proofs.lemmas.Bool.Decides.{nat_tests}
 use Rattle.fc_words.specs.Words.{is_blank, is_empty, starts_blank, words_of}
@@ -46,5 +46,14 @@ words_of-split (byte ∷ line) (suc k) letter found =
     let rest : List ℕ = drop (suc k + 1) (byte ∷ line) in
     let cut = subst Cuts is.0 (slice_split_first is_blank (byte ∷ line) 0 (omega arith)) in
     let behind : words_of (drop (suc k) (byte ∷ line)) ≡ words_of rest =
-        rw (drop-cons (byte ∷ line) (suc k) 0 is.1, add-one) (words_of-blank (get_or (byte ∷ line) (suc k) 0) (drop (suc (suc k)) (byte ∷ line)) at.1) in
+    rw (drop-cons (byte ∷ line) (suc k) 0 is.1, add-one) (words_of-blank (get_or (byte ∷ line) (suc k) 0) (drop (suc (suc k)) (byte ∷ line)) at.1) in
     words_of-cut byte line rest k cut ∙ ap (λ words. take (suc k) (byte ∷ line) ∷ words) (sym behind)
+
+-- there are no more words than bytes and one
+pub length-words_of : (line : List ℕ) → length (words_of line) ≤ length line + 1
+length-words_of line =
+    omega (arith, length-filter (λ part. not (is_empty part)) (slice_split is_blank line), count_by-le-length (λ part. not (is_empty part)) (slice_split is_blank line), length-slice_split is_blank line, count_by-le-length is_blank line)
+
+-- behind the first word there are fewer
+pub length-words_behind : (line word behind : List ℕ) → words_of line ≡ word ∷ words_of behind → length (words_of behind) ≤ length line
+length-words_behind line word behind e = omega (arith, length-words_of line, ap length e)

@@ -151,11 +151,15 @@ abbrev pub line_behind : Scope → List (List ℕ) → Result Line WordFault
 line_behind scope [] = Err UnknownCommand
 line_behind scope (first ∷ words) = named_line scope (verb_of first) 3 words
 
+-- a first word that is passed over
+abbrev pub is_prefix : List ℕ → Bool
+is_prefix word = bytes_eq word (codes "svctask") || bytes_eq word (codes "svcinfo")
+
 -- a line of words: none, a comment, or what the first word names
 abbrev pub line_of_words : Scope → List (List ℕ) → Result Line WordFault
 line_of_words scope [] = Ok Blank
 line_of_words scope (first ∷ words) =
-    if begins_with 35 first then Ok Blank else (if bytes_eq first (codes "svctask") || bytes_eq first (codes "svcinfo") then line_behind scope words else named_line scope (verb_of first) 2 words)
+    if begins_with 35 first then Ok Blank else (if is_prefix first then line_behind scope words else named_line scope (verb_of first) 2 words)
 
 -- a line without its end
 abbrev pub line_of : Scope → List ℕ → Result Line WordFault

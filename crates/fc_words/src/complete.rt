@@ -3,12 +3,11 @@
 ghost use Rattle.std.specs.Prelude.{◌≡◌, MatchOption, Ok, Err};
 ghost use Rattle.fc_words.specs.Lines.{complete, good, role_line, stop_way};
 
+use crate::given::{Flags, Given, Operands, RoleWord, Settings};
+use crate::grammar::Verb;
 use fc_base::command::{Command, Line, Role, StopWay};
 use fc_base::fault::{RequiredOption, WordFault};
 use fc_base::name::{Name, Ref};
-
-use crate::given::{Flags, Given, Operands, RoleWord, Settings};
-use crate::grammar::Verb;
 
 /// The line of all words. `end` is the number of words plus 1.
 pub fn complete(verb: Verb, end: u32, given: Given) -> Result<Line, WordFault>
@@ -25,20 +24,76 @@ pub fn complete(verb: Verb, end: u32, given: Given) -> Result<Line, WordFault>
         Verb::ArmFault => arm_fault(given, end),
         Verb::PassTime => pass_time(given),
         Verb::MakeMapping => make_mapping(given),
-        Verb::PrepareMapping => of_object(given, end, |map| Command::Prestartfcmap { map, restore: flags.restore }),
-        Verb::StartMapping => of_object(given, end, |map| Command::Startfcmap { map, prep: flags.prep, restore: flags.restore }),
+        Verb::PrepareMapping => of_object(
+            given,
+            end,
+            |map| Command::Prestartfcmap {
+                map,
+                restore: flags.restore,
+            },
+        ),
+        Verb::StartMapping => of_object(
+            given,
+            end,
+            |map| Command::Startfcmap {
+                map,
+                prep: flags.prep,
+                restore: flags.restore,
+            },
+        ),
         Verb::StopMapping => of_object(given, end, |map| Command::Stopfcmap { map, way }),
-        Verb::RemoveMapping => of_object(given, end, |map| Command::Rmfcmap { map, force: flags.force }),
-        Verb::MakeGroup => good(Command::Mkfcconsistgrp { name: name_in(given) }),
-        Verb::PrepareGroup => of_object(given, end, |group| Command::Prestartfcconsistgrp { group, restore: flags.restore }),
-        Verb::StartGroup => of_object(given, end, |group| Command::Startfcconsistgrp { group, prep: flags.prep, restore: flags.restore }),
+        Verb::RemoveMapping => of_object(
+            given,
+            end,
+            |map| Command::Rmfcmap {
+                map,
+                force: flags.force,
+            },
+        ),
+        Verb::MakeGroup => good(Command::Mkfcconsistgrp {
+            name: name_in(given),
+        }),
+        Verb::PrepareGroup => of_object(
+            given,
+            end,
+            |group| Command::Prestartfcconsistgrp {
+                group,
+                restore: flags.restore,
+            },
+        ),
+        Verb::StartGroup => of_object(
+            given,
+            end,
+            |group| Command::Startfcconsistgrp {
+                group,
+                prep: flags.prep,
+                restore: flags.restore,
+            },
+        ),
         Verb::StopGroup => of_object(given, end, |group| Command::Stopfcconsistgrp { group, way }),
-        Verb::RemoveGroup => of_object(given, end, |group| Command::Rmfcconsistgrp { group, force: flags.force }),
-        Verb::ListMappings => good(Command::Lsfcmap { map: object_in(given), delim }),
-        Verb::ListGroups => good(Command::Lsfcconsistgrp { group: object_in(given), delim }),
+        Verb::RemoveGroup => of_object(
+            given,
+            end,
+            |group| Command::Rmfcconsistgrp {
+                group,
+                force: flags.force,
+            },
+        ),
+        Verb::ListMappings => good(Command::Lsfcmap {
+            map: object_in(given),
+            delim,
+        }),
+        Verb::ListGroups => good(Command::Lsfcconsistgrp {
+            group: object_in(given),
+            delim,
+        }),
         Verb::ListVolumes => alone(given, Line::Command(Command::Lsvdisk { delim })),
         Verb::ShowProgress => of_object(given, end, |map| Command::Lsfcmapprogress { map, delim }),
-        Verb::ListDependents => of_object(given, end, |map| Command::Lsfcmapdependentmaps { map, delim }),
+        Verb::ListDependents => of_object(
+            given,
+            end,
+            |map| Command::Lsfcmapdependentmaps { map, delim },
+        ),
         Verb::BeginBlock => alone(given, Line::Together),
         Verb::BeginActor => begin_actor(given, end),
         Verb::EndBlock => alone(given, Line::End),
@@ -96,10 +151,24 @@ fn of_object<F: FnOnce(Ref) -> Command>(
 fn make_volume(given: Given) -> Result<Line, WordFault>
     ensures { result ≡ complete Verb.MakeVolume 0 given.settings given.flags given.operands }
 {
-    let Given { settings, flags, .. } = given;
-    let Settings { name, size, unit, .. } = settings;
+    let Given {
+        settings,
+        flags,
+        ..
+    } = given;
+    let Settings {
+        name,
+        size,
+        unit,
+        ..
+    } = settings;
     match size {
-        Some(size) => good(Command::Mkvdisk { name, size, unit, thin: flags.thin }),
+        Some(size) => good(Command::Mkvdisk {
+            name,
+            size,
+            unit,
+            thin: flags.thin,
+        }),
         None => Err(WordFault::MissingOption(RequiredOption::Size)),
     }
 }
@@ -109,10 +178,21 @@ fn write_blocks(given: Given, end: u32) -> Result<Line, WordFault>
     ensures { result ≡ complete Verb.WriteBlocks end given.settings given.flags given.operands }
 {
     let Given { operands, .. } = given;
-    let Operands { object, block, count, byte, .. } = operands;
+    let Operands {
+        object,
+        block,
+        count,
+        byte,
+        ..
+    } = operands;
     match (object, block, count, byte) {
         (Some(volume), Some(block), Some(count), Some(byte)) => {
-            good(Command::Write { volume, block, count, byte })
+            good(Command::Write {
+                volume,
+                block,
+                count,
+                byte,
+            })
         }
         _ => Err(WordFault::MissingWord(end)),
     }
@@ -123,9 +203,18 @@ fn read_blocks(given: Given, end: u32) -> Result<Line, WordFault>
     ensures { result ≡ complete Verb.ReadBlocks end given.settings given.flags given.operands }
 {
     let Given { operands, .. } = given;
-    let Operands { object, block, count, .. } = operands;
+    let Operands {
+        object,
+        block,
+        count,
+        ..
+    } = operands;
     match (object, block, count) {
-        (Some(volume), Some(block), Some(count)) => good(Command::Read { volume, block, count }),
+        (Some(volume), Some(block), Some(count)) => good(Command::Read {
+            volume,
+            block,
+            count,
+        }),
         _ => Err(WordFault::MissingWord(end)),
     }
 }
@@ -135,9 +224,18 @@ fn arm_fault(given: Given, end: u32) -> Result<Line, WordFault>
     ensures { result ≡ complete Verb.ArmFault end given.settings given.flags given.operands }
 {
     let Given { operands, .. } = given;
-    let Operands { object, grain, calls, .. } = operands;
+    let Operands {
+        object,
+        grain,
+        calls,
+        ..
+    } = operands;
     match (object, grain, calls) {
-        (Some(volume), Some(grain), Some(calls)) => good(Command::Armfault { volume, grain, calls }),
+        (Some(volume), Some(grain), Some(calls)) => good(Command::Armfault {
+            volume,
+            grain,
+            calls,
+        }),
         _ => Err(WordFault::MissingWord(end)),
     }
 }
@@ -156,8 +254,21 @@ fn pass_time(given: Given) -> Result<Line, WordFault>
 fn make_mapping(given: Given) -> Result<Line, WordFault>
     ensures { result ≡ complete Verb.MakeMapping 0 given.settings given.flags given.operands }
 {
-    let Given { settings, flags, .. } = given;
-    let Settings { name, source, target, group, copy_rate, clean_rate, grain_size, .. } = settings;
+    let Given {
+        settings,
+        flags,
+        ..
+    } = given;
+    let Settings {
+        name,
+        source,
+        target,
+        group,
+        copy_rate,
+        clean_rate,
+        grain_size,
+        ..
+    } = settings;
     let Some(source) = source else {
         return Err(WordFault::MissingOption(RequiredOption::Source));
     };
@@ -182,12 +293,29 @@ fn begin_actor(given: Given, end: u32) -> Result<Line, WordFault>
     ensures { result ≡ complete Verb.BeginActor end given.settings given.flags given.operands }
 {
     let Given { operands, .. } = given;
-    let Operands { actor, role, turns, .. } = operands;
+    let Operands {
+        actor,
+        role,
+        turns,
+        ..
+    } = operands;
     match (actor, role, turns) {
-        (Some(name), Some(RoleWord::Host), _) => Ok(Line::Actor { name, role: Role::Host }),
-        (Some(name), Some(RoleWord::Admin), _) => Ok(Line::Actor { name, role: Role::Admin }),
-        (Some(name), Some(RoleWord::Copier), Some(turns)) => Ok(Line::Actor { name, role: Role::Copier(turns) }),
-        (Some(name), Some(RoleWord::Cleaner), Some(turns)) => Ok(Line::Actor { name, role: Role::Cleaner(turns) }),
+        (Some(name), Some(RoleWord::Host), _) => Ok(Line::Actor {
+            name,
+            role: Role::Host,
+        }),
+        (Some(name), Some(RoleWord::Admin), _) => Ok(Line::Actor {
+            name,
+            role: Role::Admin,
+        }),
+        (Some(name), Some(RoleWord::Copier), Some(turns)) => Ok(Line::Actor {
+            name,
+            role: Role::Copier(turns),
+        }),
+        (Some(name), Some(RoleWord::Cleaner), Some(turns)) => Ok(Line::Actor {
+            name,
+            role: Role::Cleaner(turns),
+        }),
         _ => Err(WordFault::MissingWord(end)),
     }
 }

@@ -4,18 +4,16 @@ ghost use Rattle.std.specs.Prelude.{◌≡◌};
 ghost use Rattle.fc_words.specs.Answers.{Leaves};
 ghost use Rattle.fc_words.specs.Given.{no_settings, no_flags, no_operands, nothing_given, set, is_set, raise, is_raised, is_given, is_wanted, take};
 
-use std::alloc::Global;
-
-use fc_base::command::Unit;
-use fc_base::name::{Name, Ref};
-use fc_base::size::GrainSize;
-
 use crate::grammar::{Flag, LineOption, Operand, Setting};
 use crate::refused::WordRefused;
 use crate::values::{
-    read_byte, read_delim, read_grain_size, read_name, read_number, read_ref, read_role, read_turns,
-    read_unit,
+    read_byte, read_delim, read_grain_size, read_name, read_number, read_ref, read_role,
+    read_turns, read_unit,
 };
+use fc_base::command::Unit;
+use fc_base::name::{Name, Ref};
+use fc_base::size::GrainSize;
+use std::alloc::Global;
 
 /// The role of an actor, as it is written.
 #[derive(Clone, Copy, Debug, PartialEq, Eq)]
@@ -226,7 +224,8 @@ impl Operands {
             Operand::Actor => self.actor.is_none(),
             Operand::Role => self.role.is_none(),
             Operand::Turns => {
-                matches!(self.role, Some(RoleWord::Copier | RoleWord::Cleaner)) && self.turns.is_none()
+                matches!(self.role, Some(RoleWord::Copier | RoleWord::Cleaner))
+                    && self.turns.is_none()
             }
         }
     }

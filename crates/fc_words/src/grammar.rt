@@ -150,22 +150,39 @@ pub enum Operand {
 }
 
 const NAME: LineOption = LineOption::Setting(Setting::Name);
+
 const SIZE: LineOption = LineOption::Setting(Setting::Size);
+
 const UNIT: LineOption = LineOption::Setting(Setting::Unit);
+
 const SOURCE: LineOption = LineOption::Setting(Setting::Source);
+
 const TARGET: LineOption = LineOption::Setting(Setting::Target);
+
 const GROUP: LineOption = LineOption::Setting(Setting::Group);
+
 const COPY_RATE: LineOption = LineOption::Setting(Setting::CopyRate);
+
 const CLEAN_RATE: LineOption = LineOption::Setting(Setting::CleanRate);
+
 const GRAIN_SIZE: LineOption = LineOption::Setting(Setting::GrainSize);
+
 const SECONDS: LineOption = LineOption::Setting(Setting::Seconds);
+
 const DELIM: LineOption = LineOption::Setting(Setting::Delim);
+
 const THIN: LineOption = LineOption::Flag(Flag::Thin);
+
 const INCREMENTAL: LineOption = LineOption::Flag(Flag::Incremental);
+
 const AUTODELETE: LineOption = LineOption::Flag(Flag::Autodelete);
+
 const RESTORE: LineOption = LineOption::Flag(Flag::Restore);
+
 const PREP: LineOption = LineOption::Flag(Flag::Prep);
+
 const FORCE: LineOption = LineOption::Flag(Flag::Force);
+
 const SPLIT: LineOption = LineOption::Flag(Flag::Split);
 
 impl Verb {
@@ -237,7 +254,10 @@ impl Verb {
     pub fn of(word: &[u8]) -> Option<Verb>
         ensures { result ≡ verb_of word.now }
     {
-        Verb::all().iter().copied().find(|verb| verb.spelling() == word)
+        Verb::all()
+            .iter()
+            .copied()
+            .find(|verb| verb.spelling() == word)
     }
 
     /// What kind of line it is.
@@ -305,7 +325,10 @@ impl Verb {
     pub fn option(self, word: &[u8]) -> Option<LineOption>
         ensures { result ≡ option_of self word.now }
     {
-        self.options().iter().copied().find(|option| option.spelling() == word)
+        self.options()
+            .iter()
+            .copied()
+            .find(|option| option.spelling() == word)
     }
 
     /// The operands of the line, in order.
@@ -313,7 +336,12 @@ impl Verb {
         ensures { result.now ≡ operands_of self }
     {
         match self {
-            Verb::WriteBlocks => &[Operand::Object, Operand::Block, Operand::Count, Operand::Byte],
+            Verb::WriteBlocks => &[
+                Operand::Object,
+                Operand::Block,
+                Operand::Count,
+                Operand::Byte,
+            ],
             Verb::ReadBlocks => &[Operand::Object, Operand::Block, Operand::Count],
             Verb::ArmFault => &[Operand::Object, Operand::Grain, Operand::Calls],
             Verb::BeginActor => &[Operand::Actor, Operand::Role, Operand::Turns],

@@ -7,16 +7,14 @@ ghost use Rattle.fc_words.specs.Grammar.{family_of, operands_of, verb_of};
 ghost use Rattle.fc_words.specs.Lines.{add_operand, add_option, begins_with, finish, named_line, not_here, read_word, read_words};
 ghost use Rattle.fc_words.specs.Words.{words_of};
 
-use std::alloc::Global;
-
-use fc_base::command::{Line, Scope};
-use fc_base::fault::WordFault;
-
 use crate::complete::complete;
 use crate::given::{Given, Operands};
 use crate::grammar::{LineOption, Operand, Verb};
 use crate::refused::WordRefused;
 use crate::words::split_word;
+use fc_base::command::{Line, Scope};
+use fc_base::fault::WordFault;
+use std::alloc::Global;
 
 /// Whether the word begins with the byte.
 pub fn begins_with_byte(byte: u8, word: &[u8]) -> bool
@@ -29,7 +27,10 @@ pub fn begins_with_byte(byte: u8, word: &[u8]) -> bool
 fn next_operand(verb: Verb, operands: &Operands) -> Option<Operand>
     ensures { result ≡ find (is_wanted operands.now) (operands_of verb) }
 {
-    verb.operands().iter().copied().find(|operand| operands.wants(*operand))
+    verb.operands()
+        .iter()
+        .copied()
+        .find(|operand| operands.wants(*operand))
 }
 
 impl Given {

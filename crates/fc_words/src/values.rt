@@ -8,15 +8,13 @@ ghost use Rattle.fc_words.specs.Answers.{Answers};
 ghost use Rattle.fc_words.specs.Digits.{pushed};
 ghost use Rattle.fc_words.specs.Values.{is_numeral, number_of, hex_of, byte_of, delim_of, turns_of, unit_of, grain_size_of, role_of, name_of, ref_at};
 
-use std::alloc::Global;
-
+use crate::given::RoleWord;
+use crate::refused::WordRefused;
 use fc_base::command::Unit;
 use fc_base::fault::WordFault;
 use fc_base::name::{Name, Ref};
 use fc_base::size::GrainSize;
-
-use crate::given::RoleWord;
-use crate::refused::WordRefused;
+use std::alloc::Global;
 
 /// Whether the byte is a decimal digit.
 fn is_digit_byte(byte: u8) -> bool
