@@ -1,0 +1,4 @@
+pub mod Least
+pub mod Row
+pub mod Bridge
+pub mod Vectors
