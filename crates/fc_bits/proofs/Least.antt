@@ -84,3 +84,17 @@ nearer p from end far (Some g) le clear h =
 
 pub least_from-nearer : (p : ℕ → Bool) (from end far : ℕ) → end ≤ far → ((k : ℕ) → end ≤ k → p k ≡ false) → least_from p from far ≡ least_from p from end
 least_from-nearer p from end far le clear = least_from_is p from end _ (nearer p from end far _ le clear (least_from-tells p from far))
+
+-- a least number below a far end, seen from a nearer end
+pub least_from-none_nearer : (p : ℕ → Bool) (from end far : ℕ) → end ≤ far → None ≡ least_from p from far → None ≡ least_from p from end
+least_from-none_nearer p from end far le e = least_from_is p from end None (λ k low high. IsLeast_at p from far None e k low (omega arith))
+
+pub least_from-some_nearer : (p : ℕ → Bool) (from end far g : ℕ) → g < end → Some g ≡ least_from p from far → Some g ≡ least_from p from end
+least_from-some_nearer p from end far g below e =
+    let h = IsLeast_at p from far (Some g) e in
+    least_from_is p from end (Some g) (h.0, below, h.2, h.3)
+
+pub least_from-some_past : (p : ℕ → Bool) (from end far g : ℕ) → end ≤ g → Some g ≡ least_from p from far → None ≡ least_from p from end
+least_from-some_past p from end far g past e =
+    let h = IsLeast_at p from far (Some g) e in
+    least_from_is p from end None (λ k low high. h.3 k low (omega arith))

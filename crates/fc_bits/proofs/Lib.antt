@@ -1,4 +1,5 @@
 pub mod Least
-pub mod Row
+pub mod Places
 pub mod Bridge
 pub mod Vectors
+pub mod Sets

@@ -1,6 +1,9 @@
 //! Grain bitmaps.
 #![tactic(auto)]
 
+mod grain_set;
+mod scan;
 mod words;
 
+pub use grain_set::GrainSet;
 pub use words::{count_words, first_in_difference};

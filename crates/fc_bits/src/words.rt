@@ -1,21 +1,16 @@
-//! Rows of 64-bit words: how many of their bits are set, and the least set bit.
-//!
-//! Both public calls go over the row a vector of words at a time, and over what is left of it word by word.
+//! Rows of 64-bit words: how many of their bits are set, and the least bit in which one differs from another.
 
-ghost use Rattle.std.specs.Prelude.{◌≡◌, ℕ, ◌+◌, ◌*◌, ◌^◌, ◌<◌, ◌≤◌, ◌==◌, not, ◌&&◌, length, IfSome};
-ghost use Rattle.std.specs.Int.{bit_at};
-ghost use Rattle.fc_bits.specs.Grains.{least_from};
-ghost use Rattle.fc_bits.specs.Words.{bit_of, ones_of};
+ghost use Rattle.std.specs.Prelude.{◌≡◌, ℕ, ◌*◌, ◌^◌, ◌<◌, ◌≤◌, not, ◌&&◌, length};
+ghost use Rattle.fc_bits.specs.Grains.{count_set, least_from};
+ghost use Rattle.fc_bits.specs.Words.{bit_of, bits_of};
 
+use crate::scan::{Clear, Difference, LANES, least_set_bit};
 use std::simd::prelude::*;
-
-/// How many words one vector holds.
-const LANES: usize = 4;
 
 /// How many bits of the words are set. There are fewer than 2^32 of them.
 pub fn count_words(words: &[u64]) -> u32
-    requires { ones_of words.now < 2 ^ 32 }
-    ensures { result ≡ ones_of words.now }
+    requires { count_set (bits_of words.now) < 2 ^ 32 }
+    ensures { result ≡ count_set (bits_of words.now) }
 {
     let mut counts = u64x4::splat(0);
     let mut at = 0;
@@ -37,49 +32,23 @@ pub fn first_in_difference(a: &[u64], b: &[u64], from: u32) -> Option<u32>
     requires numbered { length a.now ≤ 2 ^ 26 }
     ensures { result ≡ least_from (λ g. bit_of a.now g && not (bit_of b.now g)) from (64 * length a.now) }
 {
-    let start = from as usize / 64;
-    if start >= a.len() {
-        return None;
-    }
-    match lowest_from(a[start] & !b[start], from % 64) {
-        Some(bit) => Some(start as u32 * 64 + bit),
-        None => first_from_word(a, b, start + 1),
-    }
+    least_set_bit(&Difference { a, b }, from)
 }
 
-/// The least set bit of the word from `place` on.
-pub(crate) fn lowest_from(word: u64, place: u32) -> Option<u32>
-    requires { place < 64 }
-    ensures value { result ≡ least_from (λ i. bit_at word i == 1) place 64 }
-    ensures bound { IfSome result (λ i. i < 64) }
+/// The least bit from bit `from` on that is clear in the words, of which there are at most 2^26.
+pub(crate) fn first_clear(words: &[u64], from: u32) -> Option<u32>
+    requires { length words.now ≤ 2 ^ 26 }
+    ensures { result ≡ least_from (λ g. not (bit_of words.now g)) from (64 * length words.now) }
 {
-    let rest = word & (u64::MAX << place);
-    if rest == 0 {
-        None
-    } else {
-        Some(rest.trailing_zeros())
-    }
+    least_set_bit(&Clear { words }, from)
 }
 
-/// `first_in_difference` from the first bit of word `start` on.
-fn first_from_word(a: &[u64], b: &[u64], start: usize) -> Option<u32>
-    requires same_length { length a.now ≡ length b.now }
-    requires numbered { length a.now ≤ 2 ^ 26 }
-    requires started { start ≤ length a.now }
-    ensures { result ≡ least_from (λ g. bit_of a.now g && not (bit_of b.now g)) (64 * start) (64 * length a.now) }
+/// Clears each bit of the words that is set in the others, a row of the same length.
+pub(crate) fn clear_others(words: &mut [u64], others: &[u64])
+    requires { length words.old ≡ length others.now }
+    ensures { (g : ℕ) → bit_of words.new g ≡ (bit_of words.old g && not (bit_of others.now g)) }
 {
-    let mut at = start;
-    while at + LANES <= a.len() {
-        let difference = u64x4::from_slice(&a[at..]) & !u64x4::from_slice(&b[at..]);
-        if difference.reduce_or() != 0 {
-            break;
-        }
-        at += LANES;
+    for index in 0..words.len() {
+        words[index] &= !others[index];
     }
-    for word in at..a.len() {
-        if let Some(bit) = lowest_from(a[word] & !b[word], 0) {
-            return Some(word as u32 * 64 + bit);
-        }
-    }
-    None
 }

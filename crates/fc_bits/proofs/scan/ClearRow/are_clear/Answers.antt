@@ -1,0 +1,5 @@
+use Rattle.fc_bits.proofs.Vectors.{clear_in_not}
+use Rattle.fc_bits.proofs.scan.ClearRow.are_clear.Goals as goal
+
+pub returns : goal.returns
+returns c = clear_in_not c.args.self.now.words.now c.args.index 4 c.requires
