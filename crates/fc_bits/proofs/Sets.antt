@@ -75,6 +75,14 @@ module _ (n : ℕ) (words : List ℕ) (value : List Bool) (held : grains_of n wo
   ones_held m tidy e more =
       (tidy-ones n m tidy.numbered (e ∙ tidy.enough) more, grains_of-ones n m (e ∙ tidy.enough) more ∙ ap (λ (x : ℕ). replicate x true) (sym length_held))
 
+-- the least bit of one row of words that is not in another is the least grain of the difference of the sets that they show
+pub difference_of_words : (a b : List ℕ) (xs ys : List Bool) → ((g : ℕ) → bit_of a g ≡ has xs g) → ((g : ℕ) → bit_of b g ≡ has ys g) → length xs ≡ length ys → length xs ≤ 64 * length a
+    → (from : ℕ) → least_from (λ g. bit_of a g && not (bit_of b g)) from (64 * length a) ≡ least_set (difference xs ys) from
+difference_of_words a b xs ys in_a in_b long room from =
+    least_from-same _ (has (difference xs ys)) from (64 * length a) (λ g low high. ap₂ (λ (x y : Bool). x && not y) (in_a g) (in_b g) ∙ sym (has-difference xs ys long g))
+    ∙ least_from-nearer (has (difference xs ys)) from (length (difference xs ys)) (64 * length a) (omega (arith, length-zip2 (λ (x y : Bool). x && not y) xs ys long))
+      (λ g past. get_or_past (difference xs ys) g false past)
+
 -- two sets of one length
 module _ (n m : ℕ) (a b : List ℕ) (xs ys : List Bool) (held_a : grains_of n a ≡ xs) (held_b : grains_of m b ≡ ys) (long : length xs ≡ length ys) where
   pub same_grains : n ≡ m
@@ -86,13 +94,7 @@ module _ (n m : ℕ) (a b : List ℕ) (xs ys : List Bool) (held_a : grains_of n 
   -- what `next_in_difference` answers
   pub difference_held : IsTidy n a → IsTidy m b → (from : ℕ) → least_from (λ g. bit_of a g && not (bit_of b g)) from (64 * length a) ≡ least_set (difference xs ys) from
   difference_held tidy_a tidy_b from =
-      least_from-same _ (has (difference xs ys)) from (64 * length a)
-        (λ g low high. ap₂ (λ (x y : Bool). x && not y) (bit_held n a xs held_a tidy_a g) (bit_held m b ys held_b tidy_b g) ∙ sym (has-difference xs ys long g))
-      ∙ least_from-nearer (has (difference xs ys)) from (length (difference xs ys)) (64 * length a) (omega (arith, long_difference, length_held n a xs held_a, tidy_a.enough))
-        (λ g past. get_or_past (difference xs ys) g false past)
-    where
-      long_difference : length (difference xs ys) ≡ length xs
-      long_difference = length-zip2 (λ (x y : Bool). x && not y) xs ys long
+      difference_of_words a b xs ys (bit_held n a xs held_a tidy_a) (bit_held m b ys held_b tidy_b) long (omega (arith, length_held n a xs held_a, tidy_a.enough)) from
 
   -- what `remove_all` writes
   pub removed_held : (c : List ℕ) → IsTidy n a → length c ≡ length a → ((g : ℕ) → bit_of c g ≡ (bit_of a g && not (bit_of b g))) → IsTidy n c × (grains_of n c ≡ difference xs ys)

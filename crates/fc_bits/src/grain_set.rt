@@ -1,8 +1,8 @@
 //! A set of grains with one bit for each grain.
 
-ghost use Rattle.std.specs.Prelude.{◌≡◌, ℕ, ◌^◌, ◌<◌, ◌≤◌, true, false, length, replicate, slice_index_or, slice_set, IfOk};
+ghost use Rattle.std.specs.Prelude.{◌≡◌, ℕ, ◌^◌, ◌<◌, true, false, length, replicate, slice_index_or, slice_set, IfOk};
 ghost use Rattle.fc_bits.specs.Grains.{has, count_set, difference, least_set, least_clear};
-ghost use Rattle.fc_bits.specs.Words.{bit_of, words_for};
+ghost use Rattle.fc_bits.specs.Words.{bit_of, bits_of, words_for};
 
 use crate::words::{clear_others, count_words, first_clear, first_in_difference};
 use fc_base::outcome::NoMemory;
@@ -122,8 +122,9 @@ impl GrainSet {
     /// The words that hold the set: bit `g mod 64` of word `g / 64` is grain `g`, and the bits past the last grain are clear.
     pub fn words(&self) -> &[u64]
         ensures len { length result.now ≡ words_for (length self.now) }
-        ensures numbered { length result.now ≤ 2 ^ 26 }
         ensures bits { (g : ℕ) → bit_of result.now g ≡ has self.now g }
+        ensures count { count_set (bits_of result.now) ≡ count_set self.now }
+        ensures numbered { length self.now < 2 ^ 32 }
     {
         &self.words
     }

@@ -11,6 +11,9 @@ use std::simd::prelude::*;
 /// How many words one vector holds.
 pub(crate) const LANES: usize = 4;
 
+/// The words of one vector.
+pub(crate) type Vector = Simd<u64, LANES>;
+
 /// A row of words, each made when it is asked for.
 pub(crate) trait Row {
     ghost word_at: { Self → ℕ → ℕ };
@@ -54,8 +57,8 @@ impl Row for Difference<'_> {
     }
 
     fn are_clear(&self, index: usize) -> bool {
-        let a = u64x4::from_slice(&self.a[index..]);
-        let b = u64x4::from_slice(&self.b[index..]);
+        let a = Vector::from_slice(&self.a[index..]);
+        let b = Vector::from_slice(&self.b[index..]);
         (a & !b).reduce_or() == 0
     }
 }
@@ -80,7 +83,7 @@ impl Row for Clear<'_> {
     }
 
     fn are_clear(&self, index: usize) -> bool {
-        (!u64x4::from_slice(&self.words[index..])).reduce_or() == 0
+        (!Vector::from_slice(&self.words[index..])).reduce_or() == 0
     }
 }
 

@@ -4,18 +4,17 @@ ghost use Rattle.std.specs.Prelude.{◌≡◌, ℕ, ◌*◌, ◌^◌, ◌<◌, �
 ghost use Rattle.fc_bits.specs.Grains.{count_set, least_from};
 ghost use Rattle.fc_bits.specs.Words.{bit_of, bits_of};
 
-use crate::scan::{Clear, Difference, LANES, least_set_bit};
-use std::simd::prelude::*;
+use crate::scan::{Clear, Difference, LANES, Vector, least_set_bit};
 
 /// How many bits of the words are set. There are fewer than 2^32 of them.
 pub fn count_words(words: &[u64]) -> u32
     requires { count_set (bits_of words.now) < 2 ^ 32 }
     ensures { result ≡ count_set (bits_of words.now) }
 {
-    let mut counts = u64x4::splat(0);
+    let mut counts = Vector::splat(0);
     let mut at = 0;
     while at + LANES <= words.len() {
-        counts = counts.strict_add(u64x4::from_slice(&words[at..]).count_ones());
+        counts = counts.strict_add(Vector::from_slice(&words[at..]).count_ones());
         at += LANES;
     }
     let mut total = counts.strict_reduce_sum() as u32;

@@ -1,4 +1,5 @@
 use Rattle.std.proofs.Common.{◌+◌, ◌*◌, arith}
+use Rattle.fc_bits.specs.declared.scan.TheConstants.{LANES}
 use Rattle.fc_bits.proofs.Least.{least_from_is}
 use Rattle.fc_bits.proofs.Places.{found_in, least_at_word, clear_more, clear_zeros}
 use Rattle.fc_bits.proofs.scan.least_set_bit_from_word.Goals as goal
@@ -7,7 +8,7 @@ pub loop-at-preserved : goal.loop-at-preserved
 loop-at-preserved g c = record {
   started = omega arith;
   within = omega arith;
-  clear = clear_zeros (g.R.Row.word_at c.args.row.now) c.args.start c.loop-at.at (c.loop-at.at + 4) c.loop-at.invariant.clear (c.are_clear.ensures.0 c.if-are_clear.true);
+  clear = clear_zeros (g.R.Row.word_at c.args.row.now) c.args.start c.loop-at.at (c.loop-at.at + LANES) c.loop-at.invariant.clear (c.are_clear.ensures.0 c.if-are_clear.true);
 }
 
 pub returns-in-Some : goal.returns-in-Some

@@ -5,6 +5,7 @@ use Rattle.std.specs.Int.{w64}
 use Rattle.fc_bits.specs.Grains.{count_set}
 use Rattle.fc_bits.specs.Words.{bits_of}
 use Rattle.std.proofs.lemmas.List.Sums.{sum_by-drop_more}
+use Rattle.fc_bits.specs.declared.scan.TheConstants.{LANES}
 use Rattle.fc_bits.proofs.Bridge.{ones_of, count-bits_of}
 use Rattle.fc_bits.proofs.Vectors.{counts_fit, counted_more, total_fits, total-lt, total_and_rest}
 use Rattle.fc_bits.proofs.words.count_words.Goals as goal
@@ -13,12 +14,12 @@ few : (words : List ℕ) → count_set (bits_of words) < 2 ^ 32 → ((k : ℕ) �
 few words low fits = omega (arith, count-bits_of words (λ k. (fits k).fits))
 
 pub overflow_add-counts : goal.overflow_add-counts
-overflow_add-counts c = counts_fit c.args.words.now c.loop-at.counts c.loop-at.at 4 (few c.args.words.now c.requires c.type_inv.words) c.loop-at.invariant.counted
+overflow_add-counts c = counts_fit c.args.words.now c.loop-at.counts c.loop-at.at LANES (few c.args.words.now c.requires c.type_inv.words) c.loop-at.invariant.counted
 
 pub loop-at-preserved : goal.loop-at-preserved
 loop-at-preserved c = record {
   within = omega arith;
-  counted = counted_more c.args.words.now c.loop-at.counts c.loop-at.at 4 c.loop-at.auto.counts.0 (omega arith) c.loop-at.invariant.counted;
+  counted = counted_more c.args.words.now c.loop-at.counts c.loop-at.at LANES c.loop-at.auto.counts.0 (omega arith) c.loop-at.invariant.counted;
 }
 
 pub overflow_add-total : goal.overflow_add-total
