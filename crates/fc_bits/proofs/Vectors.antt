@@ -8,7 +8,8 @@ use Rattle.std.proofs.lemmas.List.Sums.{sum_by-append, sum_by-cons, sum_by-take-
 use Rattle.std.proofs.lemmas.Simd.{length-chunk, get_or-chunk, get_or-zip2, sum-zip2, adds_fit, fold-sum, sum_fits, length-zip2}
 use Rattle.std.proofs.lemmas.Bool.{eqb-true, eq-eqb}
 use Rattle.std.proofs.lemmas.Nat.{le_or_l, le_or_r}
-use Rattle.fc_bits.proofs.Bridge.{apart, ones_of}
+use Rattle.fc_bits.proofs.Counting.{ones_of}
+use Rattle.fc_bits.proofs.Pairs.{apart}
 
 -- ---- counting
 
@@ -92,6 +93,21 @@ get_or-not words at n k room within =
 
 length-not : (words : List ℕ) (at n : ℕ) → at + n ≤ length words → length (map (λ x. 2 ^ 64 - 1 - x) (loaded words at n)) ≡ n
 length-not words at n room = length-map (loaded words at n) (λ (x : ℕ). 2 ^ 64 - 1 - x) ∙ length-loaded words at n room
+
+pub clear_in_words : (words : List ℕ) (at n : ℕ) → at + n ≤ length words → IsTrue (eqb (fold_l bit_or 0 (loaded words at n)) 0) ↔ ((k : ℕ) → at ≤ k → k < at + n → get_or words k 0 ≡ 0)
+clear_in_words words at n room = lanes_clear (λ k. get_or words k 0) _ at n (length-loaded words at n room) (λ k within. get_or-loaded words at n k within)
+
+pub clear_in_common : (a b : List ℕ) (at n : ℕ) → at + n ≤ length a → at + n ≤ length b
+    → IsTrue (eqb (fold_l bit_or 0 (zip2 bit_and (loaded a at n) (loaded b at n))) 0) ↔ ((k : ℕ) → at ≤ k → k < at + n → bit_and (get_or a k 0) (get_or b k 0) ≡ 0)
+clear_in_common a b at n room_a room_b =
+    lanes_clear (λ k. bit_and (get_or a k 0) (get_or b k 0)) _ at n (length-zip2 bit_and (loaded a at n) (loaded b at n) (long_a ∙ sym long_b) ∙ long_a)
+      (λ k within. get_or-zip2 bit_and (loaded a at n) (loaded b at n) k 0 0 0 (omega (arith, long_a)) (omega (arith, long_b))
+        ∙ ap₂ bit_and (get_or-loaded a at n k within) (get_or-loaded b at n k within))
+  where
+    long_a : length (loaded a at n) ≡ n
+    long_a = length-loaded a at n room_a
+    long_b : length (loaded b at n) ≡ n
+    long_b = length-loaded b at n room_b
 
 pub clear_in_not : (words : List ℕ) (at n : ℕ) → at + n ≤ length words
     → IsTrue (eqb (fold_l bit_or 0 (map (λ x. 2 ^ 64 - 1 - x) (loaded words at n))) 0) ↔ ((k : ℕ) → at ≤ k → k < at + n → 2 ^ 64 - 1 - get_or words k 0 ≡ 0)

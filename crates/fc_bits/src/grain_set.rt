@@ -1,10 +1,10 @@
 //! A set of grains with one bit for each grain.
 
-ghost use Rattle.std.specs.Prelude.{◌≡◌, ℕ, ◌^◌, ◌<◌, true, false, length, replicate, slice_index_or, slice_set, IfOk};
-ghost use Rattle.fc_bits.specs.Grains.{has, count_set, difference, least_set, least_clear};
+ghost use Rattle.std.specs.Prelude.{◌≡◌, ℕ, ◌^◌, ◌<◌, ◌↔◌, true, false, length, replicate, slice_index_or, slice_set, IsTrue, IfOk};
+ghost use Rattle.fc_bits.specs.Grains.{has, count_set, difference, common, union, least_set, least_clear};
 ghost use Rattle.fc_bits.specs.Words.{bit_of, bits_of, words_for};
 
-use crate::words::{clear_others, count_words, first_clear, first_in_difference};
+use crate::words::{clear_others, count_words, first_clear, first_in_difference, first_set, first_shared, set_others};
 use fc_base::outcome::NoMemory;
 use std::alloc::Global;
 use std::marker::Model;
@@ -109,6 +109,51 @@ impl GrainSet {
         ensures { result ≡ least_set (difference self.now other.now) from }
     {
         first_in_difference(&self.words, &other.words, from)
+    }
+
+    /// The least grain from `from` on that is in the set, and None exactly where none of them is.
+    pub fn next_set(&self, from: u32) -> Option<u32>
+        ensures { result ≡ least_set self.now from }
+    {
+        first_set(&self.words, from)
+    }
+
+    /// The least grain from `from` on that is in both sets, and None exactly where there is none.
+    pub fn next_shared(&self, other: &GrainSet, from: u32) -> Option<u32>
+        requires { length self.now ≡ length other.now }
+        ensures { result ≡ least_set (common self.now other.now) from }
+    {
+        first_shared(&self.words, &other.words, from)
+    }
+
+    /// Whether every grain is in the set.
+    pub fn is_full(&self) -> bool
+        ensures { IsTrue result ↔ (self.now ≡ replicate (length self.now) true) }
+    {
+        self.next_clear(0).is_none()
+    }
+
+    /// Whether no grain is in the set.
+    pub fn is_clear(&self) -> bool
+        ensures { IsTrue result ↔ (self.now ≡ replicate (length self.now) false) }
+    {
+        self.next_set(0).is_none()
+    }
+
+    /// Makes this the same set as the other, which has as many grains.
+    pub fn copy_from(&mut self, other: &GrainSet)
+        requires { length self.old ≡ length other.now }
+        ensures { self.new ≡ other.now }
+    {
+        self.words.copy_from_slice(&other.words);
+    }
+
+    /// Puts every grain of the other set into this one.
+    pub fn add_all(&mut self, other: &GrainSet)
+        requires { length self.old ≡ length other.now }
+        ensures { self.new ≡ union self.old other.now }
+    {
+        set_others(&mut self.words, &other.words);
     }
 
     /// Takes every grain of the other set out of this one.

@@ -63,6 +63,58 @@ impl Row for Difference<'_> {
     }
 }
 
+/// The bits that are set in `a` and in `b`.
+#[derive(Clone, Copy)]
+pub(crate) struct Shared<'a> {
+    pub(crate) a: &'a [u64],
+    pub(crate) b: &'a [u64],
+    ghost same_length: { length a.now ≡ length b.now },
+}
+
+impl Row for Shared<'_> {
+    ghost word_at = { λ row k. bit_and (slice_index row.a.now k) (slice_index row.b.now k) };
+
+    ghost word_count = { λ row. length row.a.now };
+
+    fn len(&self) -> usize {
+        self.a.len()
+    }
+
+    fn word(&self, index: usize) -> u64 {
+        self.a[index] & self.b[index]
+    }
+
+    fn are_clear(&self, index: usize) -> bool {
+        let a = Vector::from_slice(&self.a[index..]);
+        let b = Vector::from_slice(&self.b[index..]);
+        (a & b).reduce_or() == 0
+    }
+}
+
+/// The bits that are set in the words.
+#[derive(Clone, Copy)]
+pub(crate) struct Set<'a> {
+    pub(crate) words: &'a [u64],
+}
+
+impl Row for Set<'_> {
+    ghost word_at = { λ row k. slice_index row.words.now k };
+
+    ghost word_count = { λ row. length row.words.now };
+
+    fn len(&self) -> usize {
+        self.words.len()
+    }
+
+    fn word(&self, index: usize) -> u64 {
+        self.words[index]
+    }
+
+    fn are_clear(&self, index: usize) -> bool {
+        Vector::from_slice(&self.words[index..]).reduce_or() == 0
+    }
+}
+
 /// The bits that are clear in the words.
 #[derive(Clone, Copy)]
 pub(crate) struct Clear<'a> {

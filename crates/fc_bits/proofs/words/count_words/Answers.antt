@@ -6,7 +6,7 @@ use Rattle.fc_bits.specs.Grains.{count_set}
 use Rattle.fc_bits.specs.Words.{bits_of}
 use Rattle.std.proofs.lemmas.List.Sums.{sum_by-drop_more}
 use Rattle.fc_bits.specs.declared.scan.TheConstants.{LANES}
-use Rattle.fc_bits.proofs.Bridge.{ones_of, count-bits_of}
+use Rattle.fc_bits.proofs.Counting.{ones_of, count-bits_of}
 use Rattle.fc_bits.proofs.Vectors.{counts_fit, counted_more, total_fits, total-lt, total_and_rest}
 use Rattle.fc_bits.proofs.words.count_words.Goals as goal
 

@@ -1,6 +1,6 @@
 use Rattle.std.proofs.Common.{length, take, drop, ◌+◌, ◌-◌, ◌≡◌, ◌≤◌}
 use Rattle.std.specs.Simd.Lanes.{sum_l}
-use Rattle.fc_bits.proofs.Bridge.{ones_of}
+use Rattle.fc_bits.proofs.Counting.{ones_of}
 use Rattle.fc_bits.proofs.words.count_words.Given as goal
 
 -- the lanes together have counted the words so far

@@ -1,6 +1,6 @@
 use Rattle.std.proofs.Common.{◌*◌, ◌∙◌, length}
 use Rattle.fc_bits.proofs.Least.{least_from-same}
-use Rattle.fc_bits.proofs.Bridge.{bit_in-apart}
+use Rattle.fc_bits.proofs.Pairs.{bit_in-apart}
 use Rattle.fc_bits.proofs.words.first_in_difference.Goals as goal
 
 pub returns : goal.returns
