@@ -3,4 +3,6 @@ pub mod Count
 pub mod Grain
 pub mod Names
 pub mod Ranges
+pub mod Rates
 pub mod Runs
+pub mod States
