@@ -6,3 +6,4 @@ pub mod Ranges
 pub mod Rates
 pub mod Runs
 pub mod States
+pub mod Tables

@@ -1,0 +1,4 @@
+//! The tables of volumes, mappings and groups.
+#![tactic(auto)]
+
+mod indexed;
