@@ -1,7 +1,10 @@
 -- Places in a list, and in the list of its keys.
-use Rattle.std.proofs.Common.{◌≡◌, ℕ, suc, ◌+◌, ◌<◌, ◌≤◌, Bool, true, false, not, ◌||◌, cond, List, [], ◌∷◌, ◌++◌, map, length, find, position, slice_get, Option, Some, None, refl, ap, sym, subst, ◌∙◌, arith, take, drop, remove, set, filter, nat_eq, AllPairs, All, if◌then◌else◌}
+use Rattle.std.proofs.Common.{◌≡◌, ℕ, suc, ◌+◌, ◌<◌, ◌≤◌, Bool, true, false, not, ◌||◌, cond, List, [], ◌∷◌, ◌++◌, map, length, find, position, slice_get, Option, Some, None, refl, ap, sym, subst, ◌∙◌, arith, append-nil, take, drop, remove, set, filter, nat_eq, nat_lt, is_some, AllPairs, All, if◌then◌else◌}
 use Rattle.std.specs.List.{position_or_len, prefix_len, list_any}
-use Rattle.std.proofs.lemmas.List.{length-map}
+use Rattle.std.proofs.lemmas.List.{length-map, take_all, drop_all}
+use Rattle.std.proofs.lemmas.List.Elements.{All-nil, All-cons}
+use Rattle.std.proofs.lemmas.List.Folds.{find_at}
+use Rattle.std.proofs.lemmas.Option.{slice_get_past}
 use Rattle.std.proofs.lemmas.Bool.Decides.{nat_tests}
 
 -- ---- The first place in a list of keys
@@ -83,3 +86,47 @@ module _ {X : Type 0} (key : X → ℕ) where
           → map (λ y. if nat_eq k (key y) then new else y) (x ∷ xs) ≡ set (x ∷ xs) (position_or_len (λ y. nat_eq k (key y)) (x ∷ xs)) new
       by true found rest = rw found (ap (λ ys. new ∷ ys) (map-above k new xs (subst (λ n. IsAbove n xs) (sym (same k (key x) found)) rises.0)))
       by false other rest = rw other (ap (λ ys. x ∷ ys) rest ∙ set-one_more x xs (position_or_len (λ y. nat_eq k (key y)) xs) new)
+
+-- ---- What a search found
+
+module _ {X : Type 0} (test : X → Bool) (xs : List X) where
+  found_at : (b : Bool) (n i : ℕ) → (if b then Some n else None) ≡ Some i → (b ≡ true) × (n ≡ i)
+  found_at true n i e = (refl, cc)
+  found_at false n i e = cc
+
+  missed : (b : Bool) (n : ℕ) → (if b then Some n else None) ≡ None → b ≡ false
+  missed true n e = cc
+  missed false n e = refl
+
+  pub position_or_len-found : (i : ℕ) → position test xs ≡ Some i → position_or_len test xs ≡ i
+  position_or_len-found i e = (found_at (nat_lt (position_or_len test xs) (length xs)) (position_or_len test xs) i e).1
+
+  pub within-found : (i : ℕ) → position test xs ≡ Some i → i < length xs
+  within-found i e =
+      let parts = found_at (nat_lt (position_or_len test xs) (length xs)) (position_or_len test xs) i e in
+      grind (arith, nat_tests, parts)
+
+  pub past-missed : position test xs ≡ None → length xs ≤ position_or_len test xs
+  past-missed e =
+      let no : nat_lt (position_or_len test xs) (length xs) ≡ false = missed (nat_lt (position_or_len test xs) (length xs)) (position_or_len test xs) e in
+      grind (arith, nat_tests, no)
+
+  -- a search by place and a search for the object agree
+  pub find-found : (i : ℕ) → position test xs ≡ Some i → find test xs ≡ slice_get xs i
+  find-found i e = find_at test xs ∙ ap (slice_get xs) (position_or_len-found i e)
+
+  pub find-missed : position test xs ≡ None → find test xs ≡ None
+  find-missed e = find_at test xs ∙ slice_get_past xs (position_or_len test xs) (past-missed e)
+
+-- what a search missed fails the test
+pub all_fail : {X : Type 0} (test : X → Bool) (xs : List X) → is_some (find test xs) ≡ false → All (λ x. test x ≡ false) xs
+all_fail test [] none = All-nil (λ x. test x ≡ false)
+all_fail test (x ∷ xs) none = by (test x) refl none (all_fail test xs)
+    where
+      by : (b : Bool) → test x ≡ b → is_some (cond b (Some x) (find test xs)) ≡ false
+          → (is_some (find test xs) ≡ false → All (λ y. test y ≡ false) xs) → All (λ y. test y ≡ false) (x ∷ xs)
+      by true passes never rest = cc
+      by false fails still rest = All-cons (λ y. test y ≡ false) x xs fails (rest still)
+
+pub remove-past : {X : Type 0} (xs : List X) (i : ℕ) → length xs ≤ i → remove xs i ≡ xs
+remove-past xs i past = rw (take_all, drop_all (suc i) xs (omega arith)) (append-nil xs)

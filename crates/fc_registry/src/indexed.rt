@@ -80,16 +80,20 @@ impl<T: Named> Table<T> {
     pub fn with_id(&self, id: u32) -> Option<&T>
         ensures { option_copied result ≡ find (λ x. id == T.id_of x) (rows self.now) }
     {
-        let place = self.place_of_id(id)?;
-        self.items.as_slice().get(place)
+        match self.place_of_id(id) {
+            Some(place) => self.at(place),
+            None => None,
+        }
     }
 
     /// The object with this name. None exactly where there is none.
     pub fn with_name(&self, name: &Name) -> Option<&T>
         ensures { option_copied result ≡ find (λ x. bytes_eq name.now (T.name_of x)) (rows self.now) }
     {
-        let place = self.place_of_name(name.as_bytes())?;
-        self.items.as_slice().get(place)
+        match self.place_of_name(name.as_bytes()) {
+            Some(place) => self.at(place),
+            None => None,
+        }
     }
 
     /// Makes room for one more object. Refused, the objects are as they were.
@@ -129,11 +133,21 @@ impl<T: Named> Table<T> {
         ensures rest { rows self.new ≡ filter (λ x. not (id == T.id_of x)) (rows self.old) }
         ensures room { room self.old ≤ room self.new }
     {
-        if let Some(place) = self.place_of_id(id) {
-            let _ = self.ids.shift_remove_index(place);
-            let _ = self.names.shift_remove_index(place);
-            let _ = self.items.remove(place);
+        match self.place_of_id(id) {
+            Some(place) => {
+                let _ = self.ids.shift_remove_index(place);
+                let _ = self.names.shift_remove_index(place);
+                let _ = self.items.remove(place);
+            }
+            None => {}
         }
+    }
+
+    /// The object at a place.
+    fn at(&self, place: usize) -> Option<&T>
+        ensures { option_copied result ≡ slice_get (rows self.now) place }
+    {
+        self.items.as_slice().get(place)
     }
 
     /// The place of the object with this id.
