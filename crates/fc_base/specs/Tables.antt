@@ -95,11 +95,7 @@ room_asked (AddMapping mapping) = Some (AddMapping mapping)
 room_asked (AddGroup group) = Some (AddGroup group)
 room_asked change = None
 
--- The ids of each kind rise, and no two objects of a kind have one name.
-pub record AreOrdered (t : Tables) : Type 0 where
-  pub volume_ids : AllPairs (λ v w. v.id.0 < w.id.0) t.volumes
-  pub volume_names : AllPairs (λ v w. v.name ≢ w.name) t.volumes
-  pub mapping_ids : AllPairs (λ m n. m.id.0 < n.id.0) t.mappings
-  pub mapping_names : AllPairs (λ m n. m.name ≢ n.name) t.mappings
-  pub group_ids : AllPairs (λ g h. g.id.0 < h.id.0) t.groups
-  pub group_names : AllPairs (λ g h. g.name ≢ h.name) t.groups
+-- The ids of the objects rise, and no two of them have one name.
+pub record IsOrdered {X : Type 0} (id_of : X → ℕ) (name_of : X → List ℕ) (objects : List X) : Type 0 where
+  pub rising : AllPairs (λ x y. id_of x < id_of y) objects
+  pub distinct : AllPairs (λ x y. name_of x ≢ name_of y) objects

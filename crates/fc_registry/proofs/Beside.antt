@@ -28,7 +28,7 @@ module _ {X Z : Type 0} (id_of : X → ℕ) (name_of : X → List ℕ) (ids : Li
   new_id : (item : X) → ids ≡ map id_of items → All (λ x. id_of x < id_of item) items → list_any (nat_eq (id_of item)) ids ≡ false
   new_id item beside above =
       rw (beside, list_any-map (nat_eq (id_of item)) id_of items)
-          (list_any_none (λ x. nat_eq (id_of item) (id_of x)) items (λ k d within. below_differs (id_of (get_or items k d)) (id_of item) (above k d within)))
+      (list_any_none (λ x. nat_eq (id_of item) (id_of x)) items (λ k d within. below_differs (id_of (get_or items k d)) (id_of item) (above k d within)))
 
   -- no name is the new one
   new_name : (item : X) → texts names ≡ map name_of items → is_some (find (λ x. bytes_eq (name_of item) (name_of x)) items) ≡ false → list_any (λ k. bytes_eq (name_of item) k.items) names ≡ false
@@ -53,17 +53,21 @@ module _ {X Z : Type 0} (id_of : X → ℕ) (name_of : X → List ℕ) (ids : Li
         ap texts (insert_key-new (λ a b. bytes_eq a.items b.items) names name (rw own (new_name item old.names_beside missed)))
         ∙ (map-append (λ k. k.items) names (name ∷ [])
         ∙ ((λ k. old.names_beside k ++ own k ∷ []) ∙ sym (map-append name_of items (item ∷ []))));
-    rising = all_pairs_push (λ x y. id_of x < id_of y) items item old.rising (λ k d within. above k d within);
-    distinct = all_pairs_push (λ x y. name_of x ≢ name_of y) items item old.distinct
-        (λ k d within. other_name item (get_or items k d) (all_fail (λ x. bytes_eq (name_of item) (name_of x)) items missed k d within));
+    ordered = record {
+      rising = all_pairs_push (λ x y. id_of x < id_of y) items item old.ordered.rising (λ k d within. above k d within);
+      distinct = all_pairs_push (λ x y. name_of x ≢ name_of y) items item old.ordered.distinct
+          (λ k d within. other_name item (get_or items k d) (all_fail (λ x. bytes_eq (name_of item) (name_of x)) items missed k d within));
+    };
   }
 
   pub IsIndexed-remove : (i : ℕ) → i < length items → IsIndexed id_of name_of ids names items → IsIndexed id_of name_of (remove ids i) (remove names i) (remove items i)
   IsIndexed-remove i within old = record {
     ids_beside = ap (λ ks. remove ks i) old.ids_beside ∙ sym (map-remove id_of items i);
     names_beside = map-remove (λ k. k.items) names i ∙ (ap (λ ks. remove ks i) old.names_beside ∙ sym (map-remove name_of items i));
-    rising = all_pairs_remove (λ x y. id_of x < id_of y) items i within old.rising;
-    distinct = all_pairs_remove (λ x y. name_of x ≢ name_of y) items i within old.distinct;
+    ordered = record {
+      rising = all_pairs_remove (λ x y. id_of x < id_of y) items i within old.ordered.rising;
+      distinct = all_pairs_remove (λ x y. name_of x ≢ name_of y) items i within old.ordered.distinct;
+    };
   }
 
   -- what a value tells of each place is the same where it tells the same of the new one
@@ -76,11 +80,13 @@ module _ {X Z : Type 0} (id_of : X → ℕ) (name_of : X → List ℕ) (ids : Li
   IsIndexed-set i new same_id same_name old = record {
     ids_beside = old.ids_beside ∙ sym (map-set_same id_of items i new new (same_id new));
     names_beside = old.names_beside ∙ sym (map-set_same name_of items i new new (same_name new));
-    rising = λ a b d before within.
-        let here : b < length items = rw length-set at within in
-        let below : id_of (get_or items a d) < id_of (get_or items b d) = old.rising a b d before here in
-        omega (arith, same_at id_of i a new d (same_id d), same_at id_of i b new d (same_id d));
-    distinct = λ a b d before within same.
-        let here : b < length items = rw length-set at within in
-        old.distinct a b d before here (sym (same_at name_of i a new d (same_name d)) ∙ (same ∙ same_at name_of i b new d (same_name d)));
+    ordered = record {
+      rising = λ a b d before within.
+          let here : b < length items = rw length-set at within in
+          let below : id_of (get_or items a d) < id_of (get_or items b d) = old.ordered.rising a b d before here in
+          omega (arith, same_at id_of i a new d (same_id d), same_at id_of i b new d (same_id d));
+      distinct = λ a b d before within same.
+          let here : b < length items = rw length-set at within in
+          old.ordered.distinct a b d before here (sym (same_at name_of i a new d (same_name d)) ∙ (same ∙ same_at name_of i b new d (same_name d)));
+    };
   }

@@ -122,11 +122,11 @@ module _ {X : Type 0} (test : X → Bool) (xs : List X) where
 pub all_fail : {X : Type 0} (test : X → Bool) (xs : List X) → is_some (find test xs) ≡ false → All (λ x. test x ≡ false) xs
 all_fail test [] none = All-nil (λ x. test x ≡ false)
 all_fail test (x ∷ xs) none = by (test x) refl none (all_fail test xs)
-    where
-      by : (b : Bool) → test x ≡ b → is_some (cond b (Some x) (find test xs)) ≡ false
-          → (is_some (find test xs) ≡ false → All (λ y. test y ≡ false) xs) → All (λ y. test y ≡ false) (x ∷ xs)
-      by true passes never rest = cc
-      by false fails still rest = All-cons (λ y. test y ≡ false) x xs fails (rest still)
+  where
+    by : (b : Bool) → test x ≡ b → is_some (cond b (Some x) (find test xs)) ≡ false
+        → (is_some (find test xs) ≡ false → All (λ y. test y ≡ false) xs) → All (λ y. test y ≡ false) (x ∷ xs)
+    by true passes never rest = cc
+    by false fails still rest = All-cons (λ y. test y ≡ false) x xs fails (rest still)
 
 pub remove-past : {X : Type 0} (xs : List X) (i : ℕ) → length xs ≤ i → remove xs i ≡ xs
 remove-past xs i past = rw (take_all, drop_all (suc i) xs (omega arith)) (append-nil xs)

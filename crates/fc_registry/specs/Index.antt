@@ -1,5 +1,6 @@
 -- A table as its objects, in order of id, and the room that there is for more.
-use Rattle.std.specs.Prelude.{◌≡◌, ◌≢◌, ℕ, ◌<◌, List, map, Vec, AllPairs}
+use Rattle.std.specs.Prelude.{◌≡◌, ℕ, List, map, Vec}
+use Rattle.fc_base.specs.Tables.{IsOrdered}
 
 -- the objects
 abbrev pub rows : {X : Type 0} → List X × ℕ → List X
@@ -17,5 +18,4 @@ texts keys = map (λ k. k.items) keys
 pub record IsIndexed {X Z : Type 0} (id_of : X → ℕ) (name_of : X → List ℕ) (ids : List ℕ) (names : List (Vec ℕ Z)) (items : List X) : Type 0 where
   pub ids_beside : ids ≡ map id_of items
   pub names_beside : texts names ≡ map name_of items
-  pub rising : AllPairs (λ x y. id_of x < id_of y) items
-  pub distinct : AllPairs (λ x y. name_of x ≢ name_of y) items
+  pub ordered : IsOrdered id_of name_of items

@@ -1,11 +1,12 @@
 //! One table: objects in order of id, each found by its id or by its name with one hash look-up.
 
-ghost use Rattle.std.specs.Prelude.{◌≡◌, ◌+◌, ◌<◌, ◌≤◌, ◌↔◌, ℕ, List, [], ◌∷◌, ◌++◌, map, filter, find, position, All, Option, None, Some, option_copied, IsSome, IsNone, OnOk, OnErr, IfSome, length, not, bytes_eq, ◌==◌, slice_get};
-ghost use Rattle.fc_base.specs.Tables.{refers_to};
+ghost use Rattle.std.specs.Prelude.{◌≡◌, ◌+◌, ◌<◌, ◌≤◌, ◌↔◌, ℕ, List, [], ◌∷◌, ◌++◌, map, filter, find, position, All, Option, None, Some, option_copied, IsSome, IsNone, OnOk, OnErr, IfSome, length, not, bytes_eq, ◌==◌, slice_get, option_map, if◌then◌else◌};
+ghost use Rattle.fc_base.specs.Tables.{refers_to, IsOrdered};
 ghost use Rattle.fc_registry.specs.Index.{rows, room};
 
 use fc_base::name::{Name, Ref};
 use fc_base::outcome::NoMemory;
+use fc_base::volume::Mapping;
 use indexmap::IndexSet;
 use std::alloc::Global;
 use std::marker::Model;
@@ -25,6 +26,16 @@ pub trait Named: Drop {
     /// Its name.
     fn name(&self) -> &Name
         ensures { result.now ≡ name_of self.now };
+}
+
+/// The id of an object, if there is one.
+pub fn id_of<T: Named>(object: Option<&T>) -> Option<u32>
+    ensures { result ≡ option_map T.id_of (option_copied object.entry) }
+{
+    match object {
+        Some(object) => Some(object.id()),
+        None => None,
+    }
 }
 
 /// Objects in order of id. Contracts see the list of them, and how many more fit with no memory.
@@ -61,7 +72,8 @@ impl<T: Named> Table<T> {
 
     /// The objects, in order of id.
     pub fn as_slice(&self) -> &[T]
-        ensures { result.now ≡ rows self.now }
+        ensures value { result.now ≡ rows self.now }
+        ensures ordered { IsOrdered T.id_of T.name_of (rows self.now) }
     {
         self.items.as_slice()
     }
@@ -162,5 +174,32 @@ impl<T: Named> Table<T> {
         ensures { result ≡ position (λ x. bytes_eq name.now (T.name_of x)) (rows self.now) }
     {
         self.names.get_index_of(name)
+    }
+}
+
+impl Table<Mapping> {
+    /// Puts the mapping in the place of the one with its id, whose name it keeps. Takes no memory.
+    pub fn set(&mut self, mapping: &Mapping)
+        requires { option_map (λ m. m.name) (find (λ m. mapping.now.id.0 == m.id.0) (rows self.old)) ≡ Some mapping.now.name }
+        ensures rows { rows self.new ≡ map (λ m. if mapping.now.id.0 == m.id.0 then mapping.now else m) (rows self.old) }
+        ensures room { room self.new ≡ room self.old }
+    {
+        match self.place_of_id(mapping.id.0) {
+            Some(place) => {
+                let row = &mut self.items[place];
+                row.source = mapping.source;
+                row.target = mapping.target;
+                row.group = mapping.group;
+                row.state = mapping.state;
+                row.copy_rate = mapping.copy_rate;
+                row.clean_rate = mapping.clean_rate;
+                row.incremental = mapping.incremental;
+                row.autodelete = mapping.autodelete;
+                row.restoring = mapping.restoring;
+                row.held_at_leave = mapping.held_at_leave;
+                row.complete = mapping.complete;
+            }
+            None => {}
+        }
     }
 }

@@ -11,4 +11,4 @@ invariant_of-self g c =
     let new_name = rw (← c.self.view_is) at c.requires.new_name in
     let now = c.self.inside in
     rw (in_ids, in_names, in_items, c.id.ensures)
-        (IsIndexed-push g.T.Named.id_of g.T.Named.name_of now.ids.keys now.names.keys now.items.items c.args.item c.args.name c.self.invariant c.requires.own_name above new_name)
+    (IsIndexed-push g.T.Named.id_of g.T.Named.name_of now.ids.keys now.names.keys now.items.items c.args.item c.args.name c.self.invariant c.requires.own_name above new_name)

@@ -11,16 +11,16 @@ invariant_of-self g c =
     let now = c.self.inside in
     let placed = rw (← c.self.view_is) at (sym c.place_of_id.ensures ∙ c.in-Some.is) in
     rw (c.shift_remove_index.ensures.keys, c.shift_remove_index-in-Some.ensures.keys, c.remove.ensures.items)
-        (IsIndexed-remove g.T.Named.id_of g.T.Named.name_of now.ids.keys now.names.keys now.items.items c.in-Some.place
-            (within-found (λ x. nat_eq c.args.id (g.T.Named.id_of x)) now.items.items c.in-Some.place placed) c.self.invariant)
+    (IsIndexed-remove g.T.Named.id_of g.T.Named.name_of now.ids.keys now.names.keys now.items.items c.in-Some.place
+    (within-found (λ x. nat_eq c.args.id (g.T.Named.id_of x)) now.items.items c.in-Some.place placed) c.self.invariant)
 
 pub returns-in-Some-clause-rest : goal.returns-in-Some-clause-rest
 returns-in-Some-clause-rest g c =
     let items = c.self.inside.items.items in
     let placed = rw (← c.self.view_is) at (sym c.place_of_id.ensures ∙ c.in-Some.is) in
     rw (c.remove.ensures.items, ← c.self.view_is)
-        (ap (remove items) (sym (position_or_len-found (λ x. nat_eq c.args.id (g.T.Named.id_of x)) items c.in-Some.place placed))
-        ∙ sym (filter-remove g.T.Named.id_of c.args.id items (rises g.T.Named.id_of items c.self.invariant.rising)))
+    (ap (remove items) (sym (position_or_len-found (λ x. nat_eq c.args.id (g.T.Named.id_of x)) items c.in-Some.place placed))
+    ∙ sym (filter-remove g.T.Named.id_of c.args.id items (rises g.T.Named.id_of items c.self.invariant.ordered.rising)))
 
 pub returns-in-None-clause-rest : goal.returns-in-None-clause-rest
 returns-in-None-clause-rest g c =
@@ -28,5 +28,5 @@ returns-in-None-clause-rest g c =
     let missed = rw (← c.self.view_is) at (sym c.place_of_id.ensures ∙ c.in-None.is) in
     let test = λ (x : g.row.T.Denot). nat_eq c.args.id (g.T.Named.id_of x) in
     rw (← c.self.view_is)
-        (sym (remove-past items (position_or_len test items) (past-missed test items missed))
-        ∙ sym (filter-remove g.T.Named.id_of c.args.id items (rises g.T.Named.id_of items c.self.invariant.rising)))
+    (sym (remove-past items (position_or_len test items) (past-missed test items missed))
+    ∙ sym (filter-remove g.T.Named.id_of c.args.id items (rises g.T.Named.id_of items c.self.invariant.ordered.rising)))
