@@ -1,0 +1,73 @@
+-- What a line asks.
+use Rattle.std.specs.Prelude.{ℕ, ◌+◌, ◌-◌, ◌*◌, min, max, List, [], ◌∷◌, map, zero, suc, Option, Some, None, Result, Ok, Err}
+use Rattle.fc_base.specs.Grain.{grain_blocks}
+use Rattle.fc_base.specs.declared.command.Command.{Command}
+use Rattle.fc_base.specs.declared.command.Command.TheVariants.{Read as ReadLine, Write as WriteLine}
+use Rattle.fc_base.specs.declared.command.Line.{Line}
+use Rattle.fc_base.specs.declared.command.Line.TheVariants.{Blank, Command as CommandLine}
+use Rattle.fc_base.specs.declared.fault.Refusal.{Refusal}
+use Rattle.fc_base.specs.declared.fault.WordFault.{WordFault}
+use Rattle.fc_base.specs.declared.fault.WordFault.TheVariants.{UnknownCommand}
+use Rattle.fc_base.specs.declared.ids.VolId.{VolId}
+use Rattle.fc_base.specs.declared.name.Ref.{Ref}
+use Rattle.fc_base.specs.declared.request.Request.{Request}
+use Rattle.fc_base.specs.declared.request.Request.TheVariants.{Command as Asked, Unread, Read, Write}
+use Rattle.fc_base.specs.declared.size.GrainSize.{GrainSize}
+use Rattle.fc_base.specs.declared.volume.Volume.{Volume}
+use Rattle.fc_entry.specs.Picture.{grain_of_block}
+use Rattle.fc_entry.specs.Refused.{access_refusal, volume_by}
+use Rattle.fc_entry.specs.Told.{Told}
+
+-- so many numbers from one on
+abbrev pub numbers : ℕ → ℕ → List ℕ
+numbers from zero = []
+numbers from (suc n) = from ∷ numbers (from + 1) n
+
+-- the grains that blocks touch, rising
+abbrev pub touched : GrainSize → ℕ → ℕ → List ℕ
+touched grain block count =
+    let first = grain_of_block grain block in
+    numbers first (grain_of_block grain (block + count - 1) + 1 - first)
+
+-- of some blocks, those in one grain: the first of them, and the first behind them
+abbrev pub first_in : GrainSize → ℕ → ℕ → ℕ
+first_in grain block g = max block (g * grain_blocks grain)
+
+abbrev pub end_in : GrainSize → ℕ → ℕ → ℕ
+end_in grain end g = min end ((g + 1) * grain_blocks grain)
+
+abbrev pub read_in : GrainSize → VolId → ℕ → ℕ → ℕ → Request
+read_in grain volume block count g =
+    let first = first_in grain block g in
+    Read record { volume = volume; block = first; count = end_in grain (block + count) g - first }
+
+abbrev pub write_in : GrainSize → VolId → ℕ → ℕ → ℕ → ℕ → Request
+write_in grain volume block count byte g =
+    let first = first_in grain block g in
+    Write record { volume = volume; block = first; count = end_in grain (block + count) g - first; byte = byte }
+
+-- what an access of a volume asks: one request for each grain that it touches, rising
+abbrev pub access_asked : GrainSize → Told → Command → Ref → ℕ → ℕ → (VolId → ℕ → Request) → List Request
+access_asked grain told command volume block count request =
+    found (access_refusal grain told volume block count) (volume_by volume told.volumes)
+  where
+    found : Option Refusal → Option Volume → List Request
+    found None (Some v) = map (request v.id) (touched grain block count)
+    found _ _ = Asked command ∷ []
+
+-- what a command line asks: an access by its grains, or itself where it is refused; any other command itself
+abbrev pub command_asked : GrainSize → Told → Command → List Request
+command_asked grain told (ReadLine volume block count) =
+    access_asked grain told (ReadLine volume block count) volume block count
+    (λ id. read_in grain id block count)
+command_asked grain told (WriteLine volume block count byte) =
+    access_asked grain told (WriteLine volume block count byte) volume block count
+    (λ id. write_in grain id block count byte)
+command_asked grain told command = Asked command ∷ []
+
+-- what a line asks, as it was read: nothing of a blank one, and a fault is told
+abbrev pub asked : GrainSize → Told → Result Line WordFault → List Request
+asked grain told (Ok Blank) = []
+asked grain told (Ok (CommandLine command)) = command_asked grain told command
+asked grain told (Ok _) = Unread UnknownCommand ∷ []
+asked grain told (Err fault) = Unread fault ∷ []
