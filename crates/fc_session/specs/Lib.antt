@@ -5,3 +5,5 @@ pub mod Stores
 pub mod Reading
 pub mod Progress
 pub mod ReadTo
+pub mod SessionRead
+pub mod Headline
