@@ -23,19 +23,23 @@ abbrev pub takes_volume : Told → Bool
 takes_volume told = is_untouched told.volumes && not (lacks_disk Flat told.pools)
 
 -- the commands that are built so far: reads and writes, and one flat volume of 1 to 4 mb with a name
-abbrev pub is_built : Told → Command → Bool
-is_built told (ReadLine _ _ _) = true
-is_built told (WriteLine _ _ _ _) = true
-is_built told (Mkvdisk (Some _) size None false) = (nat_le 1 size && nat_le size 4) && takes_volume told
-is_built told _ = false
+abbrev pub is_built_command : Bool → Command → Bool
+is_built_command can_make (ReadLine _ _ _) = true
+is_built_command can_make (WriteLine _ _ _ _) = true
+is_built_command can_make (Mkvdisk (Some _) size None false) = (nat_le 1 size && nat_le size 4) && can_make
+is_built_command can_make _ = false
+
+-- the lines that are built so far: those of these commands, and blank ones
+abbrev pub is_built : Bool → Line → Bool
+is_built can_make Blank = true
+is_built can_make (CommandLine command) = is_built_command can_make command
+is_built can_make _ = false
 
 -- a line that isn't built yet is told as one that there isn't
-abbrev pub as_built : Told → Result Line WordFault → Result Line WordFault
-as_built told (Ok Blank) = Ok Blank
-as_built told (Ok (CommandLine command)) = cond (is_built told command) (Ok (CommandLine command)) (Err UnknownCommand)
-as_built told (Ok _) = Err UnknownCommand
-as_built told (Err fault) = Err fault
+abbrev pub as_built : Bool → Result Line WordFault → Result Line WordFault
+as_built can_make (Ok line) = cond (is_built can_make line) (Ok line) (Err UnknownCommand)
+as_built can_make (Err fault) = Err fault
 
 -- how a line of bytes is read, outside a block
 unfoldable pub reading : Reading
-reading told line = as_built told (line_of Free line)
+reading told line = as_built (takes_volume told) (line_of Free line)

@@ -1,6 +1,7 @@
 //! The top call: from the bytes of a session to the bytes of its history.
 #![tactic(auto)]
 
+mod built;
 mod ending;
 pub mod gate;
 mod lines;
