@@ -8,3 +8,7 @@ pub mod Rates
 pub mod Runs
 pub mod States
 pub mod Tables
+pub mod Column
+pub mod Moves
+pub mod RestoreGraph
+pub mod OneByOne

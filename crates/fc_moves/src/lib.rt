@@ -1,0 +1,2 @@
+//! The law of moves.
+#![tactic(auto)]
