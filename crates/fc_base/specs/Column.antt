@@ -1,5 +1,5 @@
 -- Chains of copies seen at one grain: who holds the grain for whom.
-use Rattle.std.specs.Prelude.{ℕ, zero, suc, ◌+◌, Bool, true, false, cond, not, ◌&&◌, eqb, ltb, Option, Some, None, List, [], ◌∷◌, is_none}
+use Rattle.std.specs.Prelude.{ℕ, zero, suc, ◌+◌, Bool, false, cond, not, ◌&&◌, eqb, ltb, Option, Some, None, List, [], ◌∷◌}
 use Rattle.std.specs.List.{filter}
 
 -- The chains without what they hold. Every slot of every chain has a place, counted from 0; the slots of one chain

@@ -12,3 +12,4 @@ pub mod Column
 pub mod Moves
 pub mod RestoreGraph
 pub mod OneByOne
+pub mod Safety

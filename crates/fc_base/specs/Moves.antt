@@ -1,7 +1,7 @@
 -- What has to be copied before a grain is overwritten, and in which order.
-use Rattle.std.specs.Prelude.{◌≡◌, ℕ, zero, suc, ◌+◌, ◌<◌, Bool, true, false, cond, not, ◌&&◌, ◌||◌, eqb, ltb, Option, Some, None, List, [], ◌∷◌, ◌++◌, is_none, reverse, fold, filter_map, option_to_list}
+use Rattle.std.specs.Prelude.{◌≡◌, ℕ, zero, suc, ◌+◌, Bool, true, false, cond, not, ◌&&◌, ◌||◌, eqb, ltb, Option, Some, None, List, [], ◌∷◌, ◌++◌, is_none, reverse, fold, filter_map, option_to_list}
 use Rattle.std.specs.List.{list_any}
-use Rattle.fc_base.specs.Column.{Shape, Column, last_below, first_below, holder, first_reader, needer, is_old_of, old_slots, old_holders}
+use Rattle.fc_base.specs.Column.{Shape, Column, last_below, first_below, holder, first_reader, needer, is_old_of, old_holders}
 
 -- Whether a slot is in a list.
 abbrev pub is_in : ℕ → List ℕ → Bool
@@ -72,3 +72,14 @@ moved c m in_place = cond in_place (record c { held = λ k. eqb k m || c.held k 
 unfoldable pub after_moves : Column → List ℕ → Column
 after_moves c [] = c
 after_moves c (m ∷ ms) = after_moves (moved c m (is_in_place c m)) ms
+
+-- The column after a write to the volume whose live slot is `t`: the slot holds the grain, and no older slot of the volume
+-- does any more.
+abbrev pub written : Column → ℕ → Column
+written c t = taken c t
+
+-- The column after a write that failed and left any bytes in the volume's grain: each older slot of the volume loses it,
+-- and the live slot gets the pair where what the volume showed is lost with it (`now`).
+unfoldable pub torn : Column → ℕ → Bool → Column
+torn c t now =
+    record c { held = λ k. (now && eqb k t) || (c.held k && not (is_old_of c.shape (c.volume t) k)) }

@@ -29,7 +29,7 @@ unfoldable pub fill_now : ℕ → ℕ → Progress → Progress
 fill_now zero m p = p
 fill_now (suc depth) m p =
     elim (is_in_place p.column m) [
-        true ↦ make_move p m true
+      | true ↦ make_move p m true
       | false ↦ make_move (fold (λ q o. serve (λ a r. fill_now depth a r) m q o) p (old_slots p.column.shape (p.column.volume m))) m false
     ]
 

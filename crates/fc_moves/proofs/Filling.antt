@@ -1,14 +1,14 @@
 -- A fill made move by move gives the list of what must move, in its order.
-use Rattle.std.proofs.Common.{◌≡◌, ◌≢◌, ℕ, zero, suc, ◌+◌, ◌<◌, ◌≤◌, Bool, true, false, cond, not, ◌&&◌, ◌||◌, eqb, Option, Some, None, List, [], ◌∷◌, length, fold, filter, filter_map, map, refl, sym, ap, subst, ◌∙◌, arith, ◌⊎◌, inl, inr}
-use Rattle.std.proofs.lemmas.Bool.{cases_Bool, both_ways, cases_order, cases_lt, cases_eq}
-use Rattle.fc_base.specs.Column.{Shape, Column, holder, first_reader, needer, is_old_of, old_slots, old_holders}
-use Rattle.fc_base.specs.Moves.{is_in, is_in_place, asks, next_behind, Must, list_with_asked, moved, taken}
+use Rattle.std.proofs.Common.{◌≡◌, ℕ, zero, suc, ◌<◌, Bool, true, false, not, ◌&&◌, ◌||◌, eqb, Option, Some, None, List, [], ◌∷◌, fold, filter, filter_map, map, refl, sym, ap, subst, ◌∙◌, arith, inl, inr}
+use Rattle.std.proofs.lemmas.Bool.{cases_Bool, both_ways, cases_eq}
+use Rattle.fc_base.specs.Column.{Column, first_reader, needer, is_old_of, old_slots}
+use Rattle.fc_base.specs.Moves.{is_in, is_in_place, asks, list_with_asked, moved, taken}
 use Rattle.fc_base.specs.OneByOne.{Progress, make_move, serve, fill_now}
 use Rattle.fc_base.specs.RestoreGraph.{HasOneLive, HasNoLoop}
 use Rattle.fc_moves.proofs.Search.{cases_option}
-use Rattle.fc_moves.proofs.Readers.{IsHolder, reader_is, is_reader, reader_none, is_reader_none, IsReader}
+use Rattle.fc_moves.proofs.Readers.{IsHolder, reader_is, is_reader, reader_none, is_reader_none}
 use Rattle.fc_moves.proofs.Members.{in_cases, in_head, in_tail, not_in_nil, IsOld, in_old_parts, asks_out_of_place, no_asks_in_place, not_in_place}
-use Rattle.fc_moves.proofs.Prefixes.{with_held, Kept, not_same, first_reader_gone, first_reader_stays, IsUnshielded, mark_stays, old_held_stays, CanFollow, held_more, Fits, Fits.fits_none, Fits.fits_more, held_after, held_after_none, held_after_more, kept_after}
+use Rattle.fc_moves.proofs.Prefixes.{with_held, not_same, first_reader_gone, first_reader_stays, IsUnshielded, mark_stays, old_held_stays, held_more, Fits, Fits.fits_more, held_after, held_after_more, kept_after}
 use Rattle.fc_moves.proofs.Listing.{Asked, asked_facts, asked_from_reader, never_back, list_all, list_again, list_new, list_comes, list_all_grows, Reached, reached_depth, reached_more}
 
 -- the progress after the moves of a list, the latest first
@@ -23,17 +23,17 @@ abbrev pub progress : Column → List ℕ → Progress
 progress c done = record { column = with_held c (held_after c done); made = marked c done }
 
 -- one move more
-same_functions : {f g : ℕ → Bool} → ((k : ℕ) → f k ≡ g k) → f ≡ g
+pub same_functions : {f g : ℕ → Bool} → ((k : ℕ) → f k ≡ g k) → f ≡ g
 same_functions e = λ i. λ k. e k i
 
-make_in_place : (c : Column) (m : ℕ) (h : ℕ → Bool) → is_in_place c m ≡ true → moved (with_held c h) m true ≡ with_held c (held_more c m h)
+pub make_in_place : (c : Column) (m : ℕ) (h : ℕ → Bool) → is_in_place c m ≡ true → moved (with_held c h) m true ≡ with_held c (held_more c m h)
 unfolding moved
 make_in_place c m h t = ap (with_held c) (same_functions (λ k. sym (more k)))
   where
     more : (k : ℕ) → held_more c m h k ≡ (eqb k m || h k)
     more k = rw t refl
 
-make_out_of_place : (c : Column) (m : ℕ) (h : ℕ → Bool) → is_in_place c m ≡ false → moved (with_held c h) m false ≡ with_held c (held_more c m h)
+pub make_out_of_place : (c : Column) (m : ℕ) (h : ℕ → Bool) → is_in_place c m ≡ false → moved (with_held c h) m false ≡ with_held c (held_more c m h)
 unfolding moved taken
 make_out_of_place c m h f = ap (with_held c) (same_functions (λ k. sym (more k)))
   where
@@ -43,14 +43,14 @@ make_out_of_place c m h f = ap (with_held c) (same_functions (λ k. sym (more k)
 pub moved_more : (c : Column) (m : ℕ) (done : List ℕ) → moved (with_held c (held_after c done)) m (is_in_place c m) ≡ with_held c (held_after c (m ∷ done))
 moved_more c m done =
     elim (cases_Bool (is_in_place c m)) [
-        inl t ↦ ap (moved (with_held c (held_after c done)) m) t ∙ (make_in_place c m (held_after c done) t ∙ ap (with_held c) (sym (held_after_more c m done)))
+      | inl t ↦ ap (moved (with_held c (held_after c done)) m) t ∙ (make_in_place c m (held_after c done) t ∙ ap (with_held c) (sym (held_after_more c m done)))
       | inr f ↦ ap (moved (with_held c (held_after c done)) m) f ∙ (make_out_of_place c m (held_after c done) f ∙ ap (with_held c) (sym (held_after_more c m done)))
     ]
 
 pub make_more : (c : Column) (m : ℕ) (done : List ℕ) (b : Bool) → is_in_place c m ≡ b → make_move (progress c done) m b ≡ progress c (m ∷ done)
 make_more c m done b e =
     let col : moved (with_held c (held_after c done)) m b ≡ with_held c (held_after c (m ∷ done)) =
-      ap (moved (with_held c (held_after c done)) m) (sym e) ∙ moved_more c m done in
+    ap (moved (with_held c (held_after c done)) m) (sym e) ∙ moved_more c m done in
     let log : (m, b) ∷ marked c done ≡ marked c (m ∷ done) = ap (λ x. (m, x) ∷ marked c done) (sym e) ∙ sym (marked_more c m done) in
     join col log
   where
@@ -107,7 +107,7 @@ served_same c depth but f o os done e s r =
     record {
       fits = subst (λ (x : List ℕ). Fits c x) (sym l) r.fits;
       made = ap (λ x. fold (serve_now c depth but) x os) s ∙ (r.made ∙ ap (progress c) (sym l));
-      still = ap (is_in but) l ∙ r.still
+      still = ap (is_in but) l ∙ r.still;
     }
 
 -- a slot is filled for it, or stands listed already
@@ -119,7 +119,7 @@ served_filled c depth but f o a os done e s r =
     record {
       fits = subst (λ (x : List ℕ). Fits c x) (sym l) r.fits;
       made = ap (λ x. fold (serve_now c depth but) x os) s ∙ (r.made ∙ ap (progress c) (sym l));
-      still = ap (is_in but) l ∙ r.still
+      still = ap (is_in but) l ∙ r.still;
     }
 
 readers_skip : (c : Column) (f : ℕ → Option ℕ) (o : ℕ) (os : List ℕ) → c.held o ≡ false → readers_of c f (o ∷ os) ≡ readers_of c f os
@@ -138,12 +138,13 @@ served_more c depth but f k o os old ih done fits nb =
     let h : ℕ → Bool = held_after c done in
     let now : h o ≡ c.held o = old_held_stays c done h k.one kept but o k.there k.is_live nb old in
     elim (cases_Bool (c.held o)) [
-        inl t ↦ elim (cases_option (first_reader c but o)) [
-            inl none ↦ served_same c depth but f o os done (readers_none c f o os t (k.agree o old ∙ none))
-              (serve_none (λ a r. fill_now depth a r) but (progress c done) o (now ∙ t)
-                (first_reader_gone c done h kept but o old.is_old (λ a e. let q : None ≡ Some a = sym none ∙ e in cc)))
-              (ih done fits nb)
-          | inr some ↦ served_reader c depth but f k o os old ih done fits nb t some.0 some.1 ]
+      | inl t ↦ elim (cases_option (first_reader c but o)) [
+        | inl none ↦ served_same c depth but f o os done (readers_none c f o os t (k.agree o old ∙ none))
+            (serve_none (λ a r. fill_now depth a r) but (progress c done) o (now ∙ t)
+            (first_reader_gone c done h kept but o old.is_old (λ a e. let q : None ≡ Some a = sym none ∙ e in cc)))
+            (ih done fits nb)
+        | inr some ↦ served_reader c depth but f k o os old ih done fits nb t some.0 some.1
+      ]
       | inr n ↦ served_same c depth but f o os done (readers_skip c f o os n)
           (serve_skip (λ a r. fill_now depth a r) but (progress c done) o (now ∙ n)) (ih done fits nb)
     ]
@@ -157,13 +158,14 @@ served_more c depth but f k o os old ih done fits nb =
         let now : h o ≡ true = old_held_stays c done h k.one kept but o k.there k.is_live nb old ∙ t in
         let d = k.sub a o done old e fits in
         served_filled c depth but f o a os done (readers_some c f o a os t (k.agree o old ∙ e))
-          (elim (cases_Bool (is_in a done)) [
-              inl y ↦ serve_none (λ b r. fill_now depth b r) but (progress c done) o now
-                (first_reader_gone c done h kept but o old.is_old (λ b g. let q : Some a ≡ Some b = sym e ∙ g in let p : a ≡ b = cc in ap (λ x. is_in x done) (sym p) ∙ y))
-                ∙ ap (progress c) (sym (list_again c depth a done y))
-            | inr n ↦ serve_some (λ b r. fill_now depth b r) but (progress c done) o a now
-                (first_reader_stays c done h kept but o a old.is_old nb e n) ∙ d.made n ])
-          (ih (list_with_asked c depth a done) d.fits (k.away a o done old e nb))
+        (elim (cases_Bool (is_in a done)) [
+          | inl y ↦ serve_none (λ b r. fill_now depth b r) but (progress c done) o now
+              (first_reader_gone c done h kept but o old.is_old (λ b g. let q : Some a ≡ Some b = sym e ∙ g in let p : a ≡ b = cc in ap (λ x. is_in x done) (sym p) ∙ y))
+              ∙ ap (progress c) (sym (list_again c depth a done y))
+          | inr n ↦ serve_some (λ b r. fill_now depth b r) but (progress c done) o a now
+              (first_reader_stays c done h kept but o a old.is_old nb e n) ∙ d.made n
+        ])
+        (ih (list_with_asked c depth a done) d.fits (k.away a o done old e nb))
 
 pub served : (c : Column) (depth but : ℕ) (f : ℕ → Option ℕ) → Serves c depth but f → (os : List ℕ) → ((o : ℕ) → is_in o os ≡ true → IsOld c.shape (c.volume but) o) →
     ServesAll c depth but f os
@@ -177,14 +179,21 @@ served c depth but f k (o ∷ os) olds done fits nb =
 reader_same : (c : Column) (m o : ℕ) → c.is_live m ≡ true → is_in_place c m ≡ false → IsOld c.shape (c.volume m) o → needer c o ≡ first_reader c m o
 reader_same c m o ml f old =
     elim (cases_option (first_reader c m o)) [
-        inl none ↦ is_reader_none c o o (λ k kc kl ko i. elim (cases_eq k m) [
-            inl same ↦ not_in_place c m o f (subst (λ (x : ℕ). IsHolder c x o) same i) old.is_old old.of_volume
-          | inr other ↦ reader_none c m o none k kc kl other i ]) ∙ sym none
+      | inl none ↦ is_reader_none c o o (λ k kc kl ko i. elim (cases_eq k m) [
+        | inl same ↦ not_in_place c m o f (subst (λ (x : ℕ). IsHolder c x o) same i) old.is_old old.of_volume
+        | inr other ↦ reader_none c m o none k kc kl other i
+      ]) ∙ sym none
       | inr some ↦ let r = reader_is c m o some.0 some.1 in
-          is_reader c o o some.0 (record { there = r.there; is_live = r.is_live; other = not_same c some.0 o r.is_live old.is_old; reads = r.reads;
+          is_reader c o o some.0 (record {
+            there = r.there;
+            is_live = r.is_live;
+            other = not_same c some.0 o r.is_live old.is_old;
+            reads = r.reads;
             first = λ k ka kl ko i. elim (cases_eq k m) [
-                inl same ↦ not_in_place c m o f (subst (λ (x : ℕ). IsHolder c x o) same i) old.is_old old.of_volume
-              | inr other ↦ r.first k ka kl other i ] }) ∙ sym some.1
+              | inl same ↦ not_in_place c m o f (subst (λ (x : ℕ). IsHolder c x o) same i) old.is_old old.of_volume
+              | inr other ↦ r.first k ka kl other i
+            ];
+          }) ∙ sym some.1
     ]
 
 fill_true : (depth m : ℕ) (p : Progress) → is_in_place p.column m ≡ true → fill_now (suc depth) m p ≡ make_move p m true
@@ -205,10 +214,16 @@ filled_in_place c one depth path m done r free fits nm t =
     let e : list_with_asked c (suc depth) m done ≡ m ∷ done = list_new c depth m done nm ∙ ap (λ x. m ∷ list_all c depth x done) (no_asks_in_place c m t) in
     let mark : is_in_place (with_held c (held_after c done)) m ≡ is_in_place c m = mark_stays c done (held_after c done) one (kept_after c done fits) m r.there r.is_live nm free in
     record {
-      fits = subst (λ (x : List ℕ). Fits c x) (sym e) (fits_more fits (record { there = r.there; is_live = r.is_live; lacks = r.lacks; fresh = nm;
-        asked_first = λ a q. absurd (not_in_nil a (ap (is_in a) (sym (no_asks_in_place c m t)) ∙ q)); unshielded = free }));
+      fits = subst (λ (x : List ℕ). Fits c x) (sym e) (fits_more fits (record {
+        there = r.there;
+        is_live = r.is_live;
+        lacks = r.lacks;
+        fresh = nm;
+        asked_first = λ a q. absurd (not_in_nil a (ap (is_in a) (sym (no_asks_in_place c m t)) ∙ q));
+        unshielded = free;
+      }));
       listed = ap (is_in m) e ∙ in_head m m done refl;
-      made = λ n. fill_true depth m (progress c done) (mark ∙ t) ∙ (make_more c m done true t ∙ ap (progress c) (sym e))
+      made = λ n. fill_true depth m (progress c done) (mark ∙ t) ∙ (make_more c m done true t ∙ ap (progress c) (sym e));
     }
 
 filled_out_of_place : (c : Column) → HasOneLive c.shape → HasNoLoop c.shape → (depth : ℕ) → Fills c depth → (path : List ℕ) (m : ℕ) (done : List ℕ) → Reached c (suc depth) path m →
@@ -222,15 +237,19 @@ filled_out_of_place c one loops depth ih path m done r fits nm f =
     let e : list_with_asked c (suc depth) m done ≡ m ∷ before = list_new c depth m done nm in
     let fb : Fits c before = subst (λ (x : List ℕ). Fits c x) q s.fits in
     let mark : is_in_place (with_held c (held_after c done)) m ≡ is_in_place c m = mark_stays c done (held_after c done) one (kept_after c done fits) m r.there r.is_live nm
-      (λ o p t i g a b w. both_ways _ f t) in
+    (λ o p t i g a b w. both_ways _ f t) in
     record {
-      fits = subst (λ (x : List ℕ). Fits c x) (sym e) (fits_more fb (record { there = r.there; is_live = r.is_live; lacks = r.lacks;
+      fits = subst (λ (x : List ℕ). Fits c x) (sym e) (fits_more fb (record {
+        there = r.there;
+        is_live = r.is_live;
+        lacks = r.lacks;
         fresh = ap (is_in m) (sym q) ∙ s.still;
         asked_first = λ a g. all_asked c one loops depth ih path m r (asks c m) (λ x h. h) done fits a g;
-        unshielded = λ o p t i g a b w. both_ways _ f t }));
+        unshielded = λ o p t i g a b w. both_ways _ f t;
+      }));
       listed = ap (is_in m) e ∙ in_head m m before refl;
       made = λ n. fill_false depth m (progress c done) (mark ∙ f) ∙
-        (ap (λ x. make_move x m false) (s.made ∙ ap (progress c) q) ∙ (make_more c m before false f ∙ ap (progress c) (sym e)))
+          (ap (λ x. make_move x m false) (s.made ∙ ap (progress c) q) ∙ (make_more c m before false f ∙ ap (progress c) (sym e)));
     }
   where
     sub_filled : (c : Column) → HasOneLive c.shape → HasNoLoop c.shape → (depth : ℕ) → Fills c depth → (path : List ℕ) (m : ℕ) → Reached c (suc depth) path m →
@@ -246,15 +265,20 @@ filled_out_of_place c one loops depth ih path m done r fits nm f =
         is_in m (list_with_asked c depth a done) ≡ false
     stays_away c one loops depth m a done mc ml k n =
         elim (cases_Bool (is_in m (list_with_asked c depth a done))) [
-            inr f ↦ f
+          | inr f ↦ f
           | inl t ↦ elim (list_comes c depth a m done t) [ inl l ↦ absurd (both_ways _ n l) | inr g ↦ absurd (never_back c one loops m a m mc ml k g refl) ]
         ]
 
     serves : (c : Column) → HasOneLive c.shape → HasNoLoop c.shape → (depth : ℕ) → Fills c depth → (path : List ℕ) (m : ℕ) → Reached c (suc depth) path m → is_in_place c m ≡ false → Serves c depth m (needer c)
     serves c one loops depth ih path m r f =
-        record { one = one; there = r.there; is_live = r.is_live; agree = λ o old. reader_same c m o r.is_live f old;
+        record {
+          one = one;
+          there = r.there;
+          is_live = r.is_live;
+          agree = λ o old. reader_same c m o r.is_live f old;
           sub = λ a o done old e fits. sub_filled c one loops depth ih path m r a done (reader_asked c one m a o r.there r.is_live old e) fits;
-          away = λ a o done old e n. stays_away c one loops depth m a done r.there r.is_live (reader_asked c one m a o r.there r.is_live old e) n }
+          away = λ a o done old e n. stays_away c one loops depth m a done r.there r.is_live (reader_asked c one m a o r.there r.is_live old e) n;
+        }
 
     -- all that a slot asks for is listed
     all_asked : (c : Column) → HasOneLive c.shape → HasNoLoop c.shape → (depth : ℕ) → Fills c depth → (path : List ℕ) (m : ℕ) → Reached c (suc depth) path m →
@@ -263,18 +287,19 @@ filled_out_of_place c one loops depth ih path m done r fits nm f =
     all_asked c one loops depth ih path m r (b ∷ bs) all done fits a e =
         let d = sub_filled c one loops depth ih path m r b done (asked_facts c one m b r.there r.is_live (all b (in_head b b bs refl))) fits in
         elim (in_cases a b bs e) [
-            inl p ↦ list_all_grows c depth a bs (list_with_asked c depth b done) (ap (λ x. is_in x (list_with_asked c depth b done)) p ∙ d.listed)
+          | inl p ↦ list_all_grows c depth a bs (list_with_asked c depth b done) (ap (λ x. is_in x (list_with_asked c depth b done)) p ∙ d.listed)
           | inr q ↦ all_asked c one loops depth ih path m r bs (λ x h. all x (in_tail x b bs h)) (list_with_asked c depth b done) d.fits a q
         ]
 
 filled_step : (c : Column) → HasOneLive c.shape → HasNoLoop c.shape → (depth : ℕ) → Fills c depth → Fills c (suc depth)
 filled_step c one loops depth ih path m done r free fits =
     elim (cases_Bool (is_in m done)) [
-        inl t ↦ let e : list_with_asked c (suc depth) m done ≡ done = list_again c (suc depth) m done t in
+      | inl t ↦ let e : list_with_asked c (suc depth) m done ≡ done = list_again c (suc depth) m done t in
           record { fits = subst (λ (x : List ℕ). Fits c x) (sym e) fits; listed = ap (is_in m) e ∙ t; made = λ n. absurd (both_ways _ n t) }
       | inr n ↦ elim (cases_Bool (is_in_place c m)) [
-            inl t ↦ filled_in_place c one depth path m done r (free n) fits n t
-          | inr f ↦ filled_out_of_place c one loops depth ih path m done r fits n f ]
+        | inl t ↦ filled_in_place c one depth path m done r (free n) fits n t
+        | inr f ↦ filled_out_of_place c one loops depth ih path m done r fits n f
+      ]
     ]
 
 pub filled : (c : Column) → HasOneLive c.shape → HasNoLoop c.shape → (depth : ℕ) → Fills c depth

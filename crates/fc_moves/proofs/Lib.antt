@@ -4,3 +4,7 @@ pub mod Members
 pub mod Prefixes
 pub mod Listing
 pub mod Filling
+pub mod Writing
+pub mod Shows
+pub mod Lists
+pub mod Lawful

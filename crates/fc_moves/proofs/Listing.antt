@@ -1,16 +1,15 @@
 -- The list of what must move: whom it has, and that asking ends.
-use Rattle.std.proofs.Common.{◌≡◌, ◌≢◌, ℕ, zero, suc, ◌+◌, ◌<◌, ◌≤◌, Bool, true, false, cond, not, eqb, Option, Some, None, List, [], ◌∷◌, length, fold, filter, filter_map, map, refl, sym, ap, subst, ◌∙◌, arith, ◌⊎◌, inl, inr, rules}
-use Rattle.std.specs.List.{list_any, IsDistinct, AllByRecursion}
-use Rattle.std.proofs.lemmas.Bool.{cases_Bool, both_ways, cases_order, cases_lt, cases_eq, eqb-true, ne_eqb, false_from_ne_true}
+use Rattle.std.proofs.Common.{◌≡◌, ◌≢◌, ℕ, zero, suc, ◌+◌, ◌<◌, ◌≤◌, true, false, eqb, List, [], ◌∷◌, length, fold, refl, sym, ap, subst, ◌∙◌, arith, ◌⊎◌, inl, inr}
+use Rattle.std.specs.List.{IsDistinct, AllByRecursion}
+use Rattle.std.proofs.lemmas.Bool.{cases_Bool, ne_eqb, false_from_ne_true}
 use Rattle.std.proofs.lemmas.Map.Keys.{IsDistinct-cons}
 use Rattle.std.proofs.lemmas.Map.Steps.{length-le_from_distinct_below}
-use Rattle.fc_base.specs.Column.{Shape, Column, holder, first_reader, needer, is_old_of, old_slots}
-use Rattle.fc_base.specs.Moves.{is_in, is_in_place, asks, next_behind, Must, Must.root, Must.asked, list_with_asked}
+use Rattle.fc_base.specs.Column.{Shape, Column}
+use Rattle.fc_base.specs.Moves.{is_in, is_in_place, asks, Must, Must.root, Must.asked, list_with_asked}
 use Rattle.fc_base.specs.RestoreGraph.{HasOneLive, HasNoLoop, Edge, Way, Way.last_edge, Way.next_edge}
-use Rattle.fc_moves.proofs.Search.{cases_option}
-use Rattle.fc_moves.proofs.Readers.{IsHolder, own_holder, one_holder, reader_is, IsReader}
-use Rattle.fc_moves.proofs.Members.{in_cases, in_head, in_tail, not_in_nil, IsOld, Asks, asks_parts, asks_from, not_in_place, in_place_parts}
-use Rattle.fc_moves.proofs.Prefixes.{not_same, behind_old}
+use Rattle.fc_moves.proofs.Readers.{IsHolder, own_holder, one_holder, reader_is}
+use Rattle.fc_moves.proofs.Members.{in_cases, in_head, in_tail, not_in_nil, asks_parts, not_in_place, in_place_parts}
+use Rattle.fc_moves.proofs.Prefixes.{behind_old}
 
 -- ---- ways and members
 
@@ -41,14 +40,29 @@ pub asked_from_reader : (c : Column) → HasOneLive c.shape → (m a o : ℕ) �
 asked_from_reader c one m a o mc ml am ac al i old vol =
     let oa : o < a = behind_old c a o al old i in
     record {
-      there = ac; is_live = al; lacks = lacks_from c a o i oa;
+      there = ac;
+      is_live = al;
+      lacks = lacks_from c a o i oa;
       out_of_place = false_from_ne_true (is_in_place c a) (λ t.
-        let p = in_place_parts c a t in
-        let e : p.0 ≡ o = one_holder c a p.0 o p.1 i in
-        am (one a m ac mc al ml (sym p.3 ∙ (ap c.volume e ∙ vol))));
-      edge = record { other = λ e. am (one a m ac mc al ml (sym e)); old = o; live = a; before = oa; there = ac; one_chain = i.one_chain;
-        old_is_old = old; old_is_from = vol; live_is_live = al; live_is_to = refl };
-      old = o; reads = i; old_is_old = old; old_of = vol
+          let p = in_place_parts c a t in
+          let e : p.0 ≡ o = one_holder c a p.0 o p.1 i in
+          am (one a m ac mc al ml (sym p.3 ∙ (ap c.volume e ∙ vol))));
+      edge = record {
+        other = λ e. am (one a m ac mc al ml (sym e));
+        old = o;
+        live = a;
+        before = oa;
+        there = ac;
+        one_chain = i.one_chain;
+        old_is_old = old;
+        old_is_from = vol;
+        live_is_live = al;
+        live_is_to = refl;
+      };
+      old = o;
+      reads = i;
+      old_is_old = old;
+      old_of = vol;
     }
 
 pub asked_facts : (c : Column) → HasOneLive c.shape → (m a : ℕ) → m < c.count → c.is_live m ≡ true → is_in a (asks c m) ≡ true → Asked c m a
@@ -57,8 +71,8 @@ asked_facts c one m a mc ml e =
     let k = p.1 in
     let r = reader_is c p.0 p.0 a k.needs in
     asked_from_reader c one m a p.0 mc ml
-      (λ q. not_in_place c m p.0 k.out_of_place (let P : ℕ → Type 0 = λ x. IsHolder c x p.0 in subst P q r.reads) k.is_old.is_old k.is_old.of_volume)
-      r.there r.is_live r.reads k.is_old.is_old k.is_old.of_volume
+    (λ q. not_in_place c m p.0 k.out_of_place (let P : ℕ → Type 0 = λ x. IsHolder c x p.0 in subst P q r.reads) k.is_old.is_old k.is_old.of_volume)
+    r.there r.is_live r.reads k.is_old.is_old k.is_old.of_volume
 
 -- members of the set are live
 pub must_live : (c : Column) → HasOneLive c.shape → (roots : List ℕ) → ((r : ℕ) → is_in r roots ≡ true → (r < c.count) × (c.is_live r ≡ true)) →
@@ -80,14 +94,14 @@ must_way c one m mc ml x (asked {m = y} k e) =
     let l = must_live c one (m ∷ []) (must_one c m mc ml) y k in
     let f = asked_facts c one y x l.0 l.1 e in
     elim (must_way c one m mc ml y k) [
-        inl p ↦ let P : ℕ → Type 0 = λ z. Edge c.shape (c.volume z) (c.volume x) in inr (last_edge (subst P p f.edge))
+      | inl p ↦ let P : ℕ → Type 0 = λ z. Edge c.shape (c.volume z) (c.volume x) in inr (last_edge (subst P p f.edge))
       | inr w ↦ inr (way_on c.shape (c.volume m) (c.volume y) (c.volume x) w f.edge)
     ]
 
 pub must_through : (c : Column) (m a : ℕ) → is_in a (asks c m) ≡ true → (x : ℕ) → Must c (a ∷ []) x → Must c (m ∷ []) x
 must_through c m a e x (root r) =
     elim (in_cases x a [] r) [
-        inl p ↦ let P : ℕ → Type 0 = λ z. Must c (m ∷ []) z in subst P (sym p) (asked (root (in_head m m [] refl)) e)
+      | inl p ↦ let P : ℕ → Type 0 = λ z. Must c (m ∷ []) z in subst P (sym p) (asked (root (in_head m m [] refl)) e)
       | inr q ↦ absurd (not_in_nil x q)
     ]
 must_through c m a e x (asked {m = y} k f) = asked (must_through c m a e y k) f
@@ -95,7 +109,7 @@ must_through c m a e x (asked {m = y} k f) = asked (must_through c m a e y k) f
 pub must_of_root : (c : Column) (roots : List ℕ) (a : ℕ) → is_in a roots ≡ true → (x : ℕ) → Must c (a ∷ []) x → Must c roots x
 must_of_root c roots a e x (root r) =
     elim (in_cases x a [] r) [
-        inl p ↦ root (ap (λ z. is_in z roots) p ∙ e)
+      | inl p ↦ root (ap (λ z. is_in z roots) p ∙ e)
       | inr q ↦ absurd (not_in_nil x q)
     ]
 must_of_root c roots a e x (asked {m = y} k f) = asked (must_of_root c roots a e y k) f
@@ -105,8 +119,9 @@ pub never_back : (c : Column) → HasOneLive c.shape → HasNoLoop c.shape → (
     Asked c m a → Must c (a ∷ []) x → x ≡ m → ⊥
 never_back c one free m a x mc ml f k e =
     let back : Way c.shape (c.volume m) (c.volume x) = elim (must_way c one a f.there f.is_live x k) [
-        inl p ↦ (let P : ℕ → Type 0 = λ z. Way c.shape (c.volume m) (c.volume z) in subst P (sym p) (last_edge f.edge))
-      | inr w ↦ next_edge f.edge w ] in
+      | inl p ↦ (let P : ℕ → Type 0 = λ z. Way c.shape (c.volume m) (c.volume z) in subst P (sym p) (last_edge f.edge))
+      | inr w ↦ next_edge f.edge w
+    ] in
     free (c.volume m) (let P : ℕ → Type 0 = λ z. Way c.shape (c.volume m) (c.volume z) in subst P e back)
 
 -- ---- the listing, step by step
@@ -137,7 +152,7 @@ grows_all c depth ih x (a ∷ as') listed e = grows_all c depth ih x as' (list_w
 grows_step : (c : Column) (depth : ℕ) → Grows c depth → Grows c (suc depth)
 grows_step c depth ih m x listed e =
     elim (cases_Bool (is_in m listed)) [
-        inl t ↦ ap (is_in x) (list_again c (suc depth) m listed t) ∙ e
+      | inl t ↦ ap (is_in x) (list_again c (suc depth) m listed t) ∙ e
       | inr f ↦ ap (is_in x) (list_new c depth m listed f) ∙ in_tail x m (list_all c depth (asks c m) listed) (grows_all c depth ih x (asks c m) listed e)
     ]
 
@@ -161,17 +176,18 @@ comes_all : (c : Column) (depth : ℕ) → Comes c depth → (x : ℕ) (roots li
 comes_all c depth ih x [] listed e = inl e
 comes_all c depth ih x (a ∷ as') listed e =
     elim (comes_all c depth ih x as' (list_with_asked c depth a listed) e) [
-        inl l ↦ elim (ih a x listed l) [ inl p ↦ inl p | inr k ↦ inr (record { from = a; is_root = in_head a a as' refl; must = k }) ]
+      | inl l ↦ elim (ih a x listed l) [ inl p ↦ inl p | inr k ↦ inr (record { from = a; is_root = in_head a a as' refl; must = k }) ]
       | inr k ↦ inr (record { from = k.from; is_root = in_tail k.from a as' k.is_root; must = k.must })
     ]
 
 comes_step : (c : Column) (depth : ℕ) → Comes c depth → Comes c (suc depth)
 comes_step c depth ih m x listed e =
     elim (cases_Bool (is_in m listed)) [
-        inl t ↦ inl (ap (is_in x) (sym (list_again c (suc depth) m listed t)) ∙ e)
+      | inl t ↦ inl (ap (is_in x) (sym (list_again c (suc depth) m listed t)) ∙ e)
       | inr f ↦ elim (in_cases x m (list_all c depth (asks c m) listed) (ap (is_in x) (sym (list_new c depth m listed f)) ∙ e)) [
-            inl p ↦ inr (root (in_head x m [] p))
-          | inr q ↦ elim (comes_all c depth ih x (asks c m) listed q) [ inl l ↦ inl l | inr k ↦ inr (must_through c m k.from k.is_root x k.must) ] ]
+        | inl p ↦ inr (root (in_head x m [] p))
+        | inr q ↦ elim (comes_all c depth ih x (asks c m) listed q) [ inl l ↦ inl l | inr k ↦ inr (must_through c m k.from k.is_root x k.must) ]
+      ]
     ]
 
 pub list_comes : (c : Column) (depth m x : ℕ) (listed : List ℕ) → is_in x (list_with_asked c depth m listed) ≡ true → (is_in x listed ≡ true) ⊎ Must c (m ∷ []) x
@@ -203,30 +219,45 @@ distinct_none = tt
 
 pub reached_root : (c : Column) (m : ℕ) → m < c.count → c.is_live m ≡ true → c.held m ≡ false → Reached c c.count [] m
 reached_root c m mc ml lacks =
-    record { there = mc; is_live = ml; lacks = lacks; enough = omega arith;
+    record {
+      there = mc;
+      is_live = ml;
+      lacks = lacks;
+      enough = omega arith;
       distinct = IsDistinct-cons eqb m [] tt distinct_none;
-      in_range = λ q e. absurd (not_in_nil q e); ways = λ q e. absurd (not_in_nil q e) }
+      in_range = λ q e. absurd (not_in_nil q e);
+      ways = λ q e. absurd (not_in_nil q e);
+    }
 
 pub reached_depth : (c : Column) (depth : ℕ) (path : List ℕ) (m : ℕ) → Reached c depth path m → 0 < depth
 reached_depth c depth path m r =
     let le : length (m ∷ path) ≤ c.count = length-le_from_distinct_below (m ∷ path) c.count r.distinct
-      (λ q e. elim (in_cases q m path e) [ inl p ↦ (let mc : m < c.count = r.there in omega arith) | inr k ↦ r.in_range q k ]) in
+    (λ q e. elim (in_cases q m path e) [ inl p ↦ (let mc : m < c.count = r.there in omega arith) | inr k ↦ r.in_range q k ]) in
     let en : c.count ≤ depth + length path = r.enough in
     omega arith
 
 pub reached_more : (c : Column) → HasNoLoop c.shape → (depth : ℕ) (path : List ℕ) (m a : ℕ) → Reached c (suc depth) path m → Asked c m a → Reached c depth (m ∷ path) a
 reached_more c free depth path m a r f =
     let way : (q : ℕ) → is_in q (m ∷ path) ≡ true → Way c.shape (c.volume q) (c.volume a) = reached_ways c (suc depth) path m a r f in
-    record { there = f.there; is_live = f.is_live; lacks = f.lacks;
+    record {
+      there = f.there;
+      is_live = f.is_live;
+      lacks = f.lacks;
       enough = (let en : c.count ≤ suc depth + length path = r.enough in omega arith);
       distinct = IsDistinct-cons eqb a (m ∷ path) (apart_from a (m ∷ path) (λ q e same. free (c.volume a)
-        (let P : ℕ → Type 0 = λ z. Way c.shape (c.volume z) (c.volume a) in subst P same (way q e)))) r.distinct;
+          (let P : ℕ → Type 0 = λ z. Way c.shape (c.volume z) (c.volume a) in subst P same (way q e)))) r.distinct;
       in_range = λ q e. elim (in_cases q m path e) [ inl p ↦ (let mc : m < c.count = r.there in omega arith) | inr k ↦ r.in_range q k ];
-      ways = way }
+      ways = way;
+    }
   where
     reached_ways : (c : Column) (depth : ℕ) (path : List ℕ) (m a : ℕ) → Reached c depth path m → Asked c m a → (q : ℕ) → is_in q (m ∷ path) ≡ true → Way c.shape (c.volume q) (c.volume a)
     reached_ways c depth path m a r f q e =
         elim (in_cases q m path e) [
-            inl p ↦ let P : ℕ → Type 0 = λ z. Way c.shape (c.volume z) (c.volume a) in subst P (sym p) (last_edge f.edge)
+          | inl p ↦ let P : ℕ → Type 0 = λ z. Way c.shape (c.volume z) (c.volume a) in subst P (sym p) (last_edge f.edge)
           | inr k ↦ way_on c.shape (c.volume q) (c.volume m) (c.volume a) (r.ways q k) f.edge
         ]
+
+-- a slot that isn't listed yet comes last
+pub list_ends : (c : Column) (depth m : ℕ) → 0 < depth → (before : List ℕ) × (list_with_asked c depth m [] ≡ m ∷ before)
+list_ends c zero m lt = absurd (omega arith)
+list_ends c (suc depth) m lt = (list_all c depth (asks c m) [], list_new c depth m [] refl)

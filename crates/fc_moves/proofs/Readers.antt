@@ -1,9 +1,9 @@
 -- Holders, readers and the slot behind another, as facts on places.
-use Rattle.std.proofs.Common.{◌≡◌, ◌≢◌, ℕ, zero, suc, ◌+◌, ◌<◌, ◌≤◌, Bool, true, false, cond, not, ◌&&◌, eqb, ltb, Option, Some, None, is_none, refl, sym, ap, subst, ◌∙◌, arith, ◌⊎◌, inl, inr}
-use Rattle.std.proofs.lemmas.Bool.{cases_Bool, both_ways, cases_order, cases_lt, cases_eq, and_parts, and_from, and_left, and_right, eqb-true, eq-eqb, ne_eqb, eqb-false, ltb-true, lt-ltb, le-ltb, not-true, not_from_false, not_from_true, false_from_ne_true}
-use Rattle.fc_base.specs.Column.{Shape, Column, last_below, first_below, is_at, holder, first_reader}
+use Rattle.std.proofs.Common.{◌≡◌, ◌≢◌, ℕ, ◌+◌, ◌<◌, ◌≤◌, Bool, true, false, not, ◌&&◌, eqb, ltb, Option, Some, None, is_none, refl, sym, ap, ◌∙◌, arith, inl, inr}
+use Rattle.std.proofs.lemmas.Bool.{both_ways, cases_lt, and_parts, and_from, eqb-true, eq-eqb, ne_eqb, eqb-false, ltb-true, lt-ltb, not-true, not_from_false, false_from_ne_true}
+use Rattle.fc_base.specs.Column.{Column, last_below, is_at, holder, first_reader}
 use Rattle.fc_base.specs.Moves.{none_holds_behind, next_behind}
-use Rattle.fc_moves.proofs.Search.{IsLast, IsFirst, cases_option, last_some, last_none, last_is, last_is_none, first_some, first_none, first_is, first_is_none}
+use Rattle.fc_moves.proofs.Search.{cases_option, last_some, last_none, last_is, last_is_none, first_some, first_none, first_is, first_is_none}
 
 -- `h` is the holder of `k`
 pub record IsHolder (c : Column) (k h : ℕ) : Type 0 where
@@ -28,7 +28,7 @@ holder_is c k h e =
       before = omega (arith, l.below);
       one_chain = eqb-true _ _ p.0;
       holds = p.1;
-      nearest = λ j a b q t. both_ways (holds_for c k j) (l.last j a (omega arith)) (and_from _ _ (eq-eqb _ _ q) t)
+      nearest = λ j a b q t. both_ways (holds_for c k j) (l.last j a (omega arith)) (and_from _ _ (eq-eqb _ _ q) t);
     }
 
 pub is_holder : (c : Column) (k h : ℕ) → IsHolder c k h → holder c k ≡ Some h
@@ -37,7 +37,7 @@ is_holder c k h i =
     last_is (holds_for c k) (k + 1) h (record {
       below = omega (arith, i.before);
       passes = and_from _ _ (eq-eqb _ _ i.one_chain) i.holds;
-      last = λ j a b. holds_for_false c k j (i.nearest j a (omega arith))
+      last = λ j a b. holds_for_false c k j (i.nearest j a (omega arith));
     })
 
 pub holder_none : (c : Column) (k : ℕ) → holder c k ≡ None → (j : ℕ) → j ≤ k → c.chain j ≡ c.chain k → c.held j ≡ true → ⊥
@@ -49,7 +49,7 @@ holder_none c k e j b q t =
 pub holder_from : (c : Column) (k j : ℕ) → j ≤ k → c.chain j ≡ c.chain k → c.held j ≡ true → (h : ℕ) × (j ≤ h) × IsHolder c k h
 holder_from c k j b q t =
     elim (cases_option (holder c k)) [
-        inl e ↦ absurd (holder_none c k e j b q t)
+      | inl e ↦ absurd (holder_none c k e j b q t)
       | inr s ↦ let i = holder_is c k s.0 s.1 in
           elim (cases_lt s.0 j) [ inl lt ↦ absurd (i.nearest j lt b q t) | inr ge ↦ (s.0, ge, i) ]
     ]
@@ -99,8 +99,13 @@ unfolding first_reader
 reader_is c but h a e =
     let f = first_some (reads_at c but h) c.count a e in
     let p = reads_parts c but h a f.passes in
-    record { there = f.below; is_live = p.0; other = p.1; reads = p.2;
-      first = λ k lt l n i. both_ways (reads_at c but h k) (f.first k lt) (reads_from c but h k l n i) }
+    record {
+      there = f.below;
+      is_live = p.0;
+      other = p.1;
+      reads = p.2;
+      first = λ k lt l n i. both_ways (reads_at c but h k) (f.first k lt) (reads_from c but h k l n i);
+    }
 
 pub is_reader : (c : Column) (but h a : ℕ) → IsReader c but h a → first_reader c but h ≡ Some a
 unfolding first_reader
@@ -108,7 +113,7 @@ is_reader c but h a r =
     first_is (reads_at c but h) c.count a (record {
       below = r.there;
       passes = reads_from c but h a r.is_live r.other r.reads;
-      first = λ k lt. false_from_ne_true (reads_at c but h k) (λ e. let p = reads_parts c but h k e in r.first k lt p.0 p.1 p.2)
+      first = λ k lt. false_from_ne_true (reads_at c but h k) (λ e. let p = reads_parts c but h k e in r.first k lt p.0 p.1 p.2);
     })
 
 pub reader_none : (c : Column) (but h : ℕ) → first_reader c but h ≡ None → (k : ℕ) → k < c.count → c.is_live k ≡ true → k ≢ but → IsHolder c k h → ⊥
@@ -125,7 +130,7 @@ is_reader_none c but h f =
 pub reader_from : (c : Column) (but h k : ℕ) → k < c.count → c.is_live k ≡ true → k ≢ but → IsHolder c k h → (a : ℕ) × (a ≤ k) × (first_reader c but h ≡ Some a)
 reader_from c but h k lt l n i =
     elim (cases_option (first_reader c but h)) [
-        inl e ↦ absurd (reader_none c but h e k lt l n i)
+      | inl e ↦ absurd (reader_none c but h e k lt l n i)
       | inr s ↦ let r = reader_is c but h s.0 s.1 in
           elim (cases_lt k s.0) [ inl early ↦ absurd (r.first k early l n i) | inr ge ↦ (s.0, ge, s.1) ]
     ]
@@ -148,17 +153,17 @@ holds_behind c t j = ltb t j && (eqb (c.chain j) (c.chain t) && c.held j)
 none_parts : (c : Column) (t k : ℕ) → none_holds_behind c t k ≡ true → (j : ℕ) → t < j → j ≤ k → c.chain j ≡ c.chain t → c.held j ≡ true → ⊥
 none_parts c t k e j a b q h =
     elim (cases_option (last_below (holds_behind c t) (k + 1))) [
-        inl n ↦ both_ways (holds_behind c t j) (last_none _ (k + 1) n j (omega arith)) (and_from _ _ (lt-ltb t j a) (and_from _ _ (eq-eqb _ _ q) h))
+      | inl n ↦ both_ways (holds_behind c t j) (last_none _ (k + 1) n j (omega arith)) (and_from _ _ (lt-ltb t j a) (and_from _ _ (eq-eqb _ _ q) h))
       | inr s ↦ let f : is_none (last_below (holds_behind c t) (k + 1)) ≡ false = rw s.1 refl in both_ways _ f e
     ]
 
 none_from : (c : Column) (t k : ℕ) → ((j : ℕ) → t < j → j ≤ k → c.chain j ≡ c.chain t → c.held j ≡ true → ⊥) → none_holds_behind c t k ≡ true
 none_from c t k f =
     let e : last_below (holds_behind c t) (k + 1) ≡ None =
-      last_is_none (holds_behind c t) (k + 1) (λ j lt. false_from_ne_true (holds_behind c t j) (λ h.
-        let p = and_parts (ltb t j) _ h in
-        let q = and_parts (eqb (c.chain j) (c.chain t)) _ p.1 in
-        f j (ltb-true t j p.0) (omega arith) (eqb-true _ _ q.0) q.1)) in
+    last_is_none (holds_behind c t) (k + 1) (λ j lt. false_from_ne_true (holds_behind c t j) (λ h.
+    let p = and_parts (ltb t j) _ h in
+    let q = and_parts (eqb (c.chain j) (c.chain t)) _ p.1 in
+    f j (ltb-true t j p.0) (omega arith) (eqb-true _ _ q.0) q.1)) in
     rw e refl
 
 abbrev waits_at : Column → ℕ → ℕ → Bool
@@ -179,8 +184,11 @@ pub next_is : (c : Column) (t n : ℕ) → next_behind c t ≡ Some n → IsNext
 unfolding next_behind
 next_is c t n e =
     let f = first_some (waits_at c t) c.count n e in
-    record { there = f.below; waits = waits_parts c t n f.passes;
-      first = λ k lt w. both_ways (waits_at c t k) (f.first k lt) (waits_from c t k w) }
+    record {
+      there = f.below;
+      waits = waits_parts c t n f.passes;
+      first = λ k lt w. both_ways (waits_at c t k) (f.first k lt) (waits_from c t k w);
+    }
 
 pub is_next : (c : Column) (t n : ℕ) → IsNext c t n → next_behind c t ≡ Some n
 unfolding next_behind
@@ -188,7 +196,7 @@ is_next c t n i =
     first_is (waits_at c t) c.count n (record {
       below = i.there;
       passes = waits_from c t n i.waits;
-      first = λ k lt. false_from_ne_true (waits_at c t k) (λ e. i.first k lt (waits_parts c t k e))
+      first = λ k lt. false_from_ne_true (waits_at c t k) (λ e. i.first k lt (waits_parts c t k e));
     })
 
 pub next_none : (c : Column) (t : ℕ) → next_behind c t ≡ None → (k : ℕ) → k < c.count → Waits c t k → ⊥
@@ -203,7 +211,7 @@ is_next_none c t f =
 pub next_from : (c : Column) (t k : ℕ) → k < c.count → Waits c t k → (n : ℕ) × (n ≤ k) × (next_behind c t ≡ Some n)
 next_from c t k lt w =
     elim (cases_option (next_behind c t)) [
-        inl e ↦ absurd (next_none c t e k lt w)
+      | inl e ↦ absurd (next_none c t e k lt w)
       | inr s ↦ let i = next_is c t s.0 s.1 in
           elim (cases_lt k s.0) [ inl early ↦ absurd (i.first k early w) | inr ge ↦ (s.0, ge, s.1) ]
     ]

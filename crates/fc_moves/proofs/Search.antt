@@ -1,6 +1,6 @@
 -- The greatest and the least number below a bound that pass a test.
-use Rattle.std.proofs.Common.{◌≡◌, ℕ, zero, suc, ◌<◌, ◌≤◌, Bool, true, false, cond, Option, Some, None, refl, sym, ap, subst, ◌∙◌, arith, ◌⊎◌, inl, inr, ⊎_elim}
-use Rattle.std.proofs.lemmas.Bool.{cases_Bool, cond-true, cond-false, both_ways, cases_order}
+use Rattle.std.proofs.Common.{◌≡◌, ℕ, zero, suc, ◌<◌, Bool, true, false, Option, Some, None, refl, sym, ap, subst, ◌∙◌, arith, ◌⊎◌, inl, inr}
+use Rattle.std.proofs.lemmas.Bool.{cases_Bool, both_ways, cases_order}
 use Rattle.fc_base.specs.Column.{last_below, first_below}
 
 last_step_true : (test : ℕ → Bool) (n : ℕ) → test n ≡ true → last_below test (suc n) ≡ Some n
@@ -50,7 +50,7 @@ cases_option (Some a) = inr (a, refl)
 last_none_more : (test : ℕ → Bool) (n : ℕ) → (last_below test n ≡ None → (j : ℕ) → j < n → test j ≡ false) → last_below test (suc n) ≡ None → (j : ℕ) → j < suc n → test j ≡ false
 last_none_more test n ih e j lt =
     elim (cases_Bool (test n)) [
-        inl t ↦ let s : last_below test (suc n) ≡ Some n = last_step_true test n t in cc
+      | inl t ↦ let s : last_below test (suc n) ≡ Some n = last_step_true test n t in cc
       | inr f ↦ let s : last_below test (suc n) ≡ last_below test n = last_step_false test n f in
           elim (cases_order j n) [ inl q ↦ rw q f | inr r ↦ ih (sym s ∙ e) j (omega arith) ]
     ]
@@ -62,7 +62,7 @@ last_none test (suc n) e j lt = last_none_more test n (last_none test n) e j lt
 last_some_more : (test : ℕ → Bool) (n k : ℕ) → (last_below test n ≡ Some k → IsLast test n k) → last_below test (suc n) ≡ Some k → IsLast test (suc n) k
 last_some_more test n k ih e =
     elim (cases_Bool (test n)) [
-        inl t ↦ let s : last_below test (suc n) ≡ Some n = last_step_true test n t in
+      | inl t ↦ let s : last_below test (suc n) ≡ Some n = last_step_true test n t in
           let q : n ≡ k = cc in
           let P : ℕ → Type 0 = λ x. IsLast test (suc n) x in
           subst P q (record { below = omega arith; passes = t; last = λ j a b. absurd (omega arith) })
@@ -78,29 +78,32 @@ last_some test (suc n) k e = last_some_more test n k (last_some test n k) e
 pub last_is : (test : ℕ → Bool) (n k : ℕ) → IsLast test n k → last_below test n ≡ Some k
 last_is test n k h =
     elim (cases_option (last_below test n)) [
-        inl e ↦ absurd (both_ways (test k) (last_none test n e k h.below) h.passes)
+      | inl e ↦ absurd (both_ways (test k) (last_none test n e k h.below) h.passes)
       | inr s ↦ let g = last_some test n s.0 s.1 in
           elim (cases_order s.0 k) [
-              inl q ↦ s.1 ∙ ap Some q
+            | inl q ↦ s.1 ∙ ap Some q
             | inr r ↦ elim r [
-                inl lt ↦ absurd (both_ways (test k) (g.last k lt h.below) h.passes)
-              | inr gt ↦ absurd (both_ways (test s.0) (h.last s.0 gt g.below) g.passes) ] ]
+              | inl lt ↦ absurd (both_ways (test k) (g.last k lt h.below) h.passes)
+              | inr gt ↦ absurd (both_ways (test s.0) (h.last s.0 gt g.below) g.passes)
+            ]
+          ]
     ]
 
 pub last_is_none : (test : ℕ → Bool) (n : ℕ) → ((j : ℕ) → j < n → test j ≡ false) → last_below test n ≡ None
 last_is_none test n h =
     elim (cases_option (last_below test n)) [
-        inl e ↦ e
+      | inl e ↦ e
       | inr s ↦ let g = last_some test n s.0 s.1 in absurd (both_ways (test s.0) (h s.0 g.below) g.passes)
     ]
 
 first_none_more : (test : ℕ → Bool) (n : ℕ) → (first_below test n ≡ None → (j : ℕ) → j < n → test j ≡ false) → first_below test (suc n) ≡ None → (j : ℕ) → j < suc n → test j ≡ false
 first_none_more test n ih e j lt =
     elim (cases_option (first_below test n)) [
-        inr s ↦ let g : first_below test (suc n) ≡ Some s.0 = first_step test n s.0 s.1 in absurd cc
+      | inr s ↦ let g : first_below test (suc n) ≡ Some s.0 = first_step test n s.0 s.1 in absurd cc
       | inl no' ↦ elim (cases_Bool (test n)) [
-            inl t ↦ let g : first_below test (suc n) ≡ Some n = first_step_true test n no' t in absurd cc
-          | inr f ↦ elim (cases_order j n) [ inl q ↦ rw q f | inr r ↦ ih no' j (omega arith) ] ]
+        | inl t ↦ let g : first_below test (suc n) ≡ Some n = first_step_true test n no' t in absurd cc
+        | inr f ↦ elim (cases_order j n) [ inl q ↦ rw q f | inr r ↦ ih no' j (omega arith) ]
+      ]
     ]
 
 pub first_none : (test : ℕ → Bool) (n : ℕ) → first_below test n ≡ None → (j : ℕ) → j < n → test j ≡ false
@@ -110,17 +113,18 @@ first_none test (suc n) e j lt = first_none_more test n (first_none test n) e j 
 first_some_more : (test : ℕ → Bool) (n k : ℕ) → ((k : ℕ) → first_below test n ≡ Some k → IsFirst test n k) → first_below test (suc n) ≡ Some k → IsFirst test (suc n) k
 first_some_more test n k ih e =
     elim (cases_option (first_below test n)) [
-        inr s ↦ let g : first_below test (suc n) ≡ Some s.0 = first_step test n s.0 s.1 in
+      | inr s ↦ let g : first_below test (suc n) ≡ Some s.0 = first_step test n s.0 s.1 in
           let q : s.0 ≡ k = cc in
           let h = ih s.0 s.1 in
           let P : ℕ → Type 0 = λ x. IsFirst test (suc n) x in
           subst P q (record { below = omega (arith, h.below); passes = h.passes; first = h.first })
       | inl no' ↦ elim (cases_Bool (test n)) [
-            inl t ↦ let g : first_below test (suc n) ≡ Some n = first_step_true test n no' t in
-              let q : n ≡ k = cc in
-              let P : ℕ → Type 0 = λ x. IsFirst test (suc n) x in
-              subst P q (record { below = omega arith; passes = t; first = first_none test n no' })
-          | inr f ↦ let g : first_below test (suc n) ≡ None = first_step_false test n no' f in absurd cc ]
+        | inl t ↦ let g : first_below test (suc n) ≡ Some n = first_step_true test n no' t in
+            let q : n ≡ k = cc in
+            let P : ℕ → Type 0 = λ x. IsFirst test (suc n) x in
+            subst P q (record { below = omega arith; passes = t; first = first_none test n no' })
+        | inr f ↦ let g : first_below test (suc n) ≡ None = first_step_false test n no' f in absurd cc
+      ]
     ]
 
 pub first_some : (test : ℕ → Bool) (n k : ℕ) → first_below test n ≡ Some k → IsFirst test n k
@@ -130,18 +134,20 @@ first_some test (suc n) k e = first_some_more test n k (first_some test n) e
 pub first_is : (test : ℕ → Bool) (n k : ℕ) → IsFirst test n k → first_below test n ≡ Some k
 first_is test n k h =
     elim (cases_option (first_below test n)) [
-        inl e ↦ absurd (both_ways (test k) (first_none test n e k h.below) h.passes)
+      | inl e ↦ absurd (both_ways (test k) (first_none test n e k h.below) h.passes)
       | inr s ↦ let g = first_some test n s.0 s.1 in
           elim (cases_order s.0 k) [
-              inl q ↦ s.1 ∙ ap Some q
+            | inl q ↦ s.1 ∙ ap Some q
             | inr r ↦ elim r [
-                inl lt ↦ absurd (both_ways (test s.0) (h.first s.0 lt) g.passes)
-              | inr gt ↦ absurd (both_ways (test k) (g.first k gt) h.passes) ] ]
+              | inl lt ↦ absurd (both_ways (test s.0) (h.first s.0 lt) g.passes)
+              | inr gt ↦ absurd (both_ways (test k) (g.first k gt) h.passes)
+            ]
+          ]
     ]
 
 pub first_is_none : (test : ℕ → Bool) (n : ℕ) → ((j : ℕ) → j < n → test j ≡ false) → first_below test n ≡ None
 first_is_none test n h =
     elim (cases_option (first_below test n)) [
-        inl e ↦ e
+      | inl e ↦ e
       | inr s ↦ let g = first_some test n s.0 s.1 in absurd (both_ways (test s.0) (h s.0 g.below) g.passes)
     ]
