@@ -8,8 +8,13 @@ pub mod Rates
 pub mod Runs
 pub mod States
 pub mod Tables
+pub mod Sheet
 pub mod Column
 pub mod Moves
-pub mod RestoreGraph
 pub mod OneByOne
 pub mod Safety
+pub mod RestoreGraph
+pub mod Need
+pub mod SheetStep
+pub mod SheetFacts
+pub mod SheetFits
