@@ -15,6 +15,7 @@ pub mod OneByOne
 pub mod Safety
 pub mod RestoreGraph
 pub mod Need
+pub mod Plan
 pub mod SheetStep
 pub mod SheetFacts
 pub mod SheetFits

@@ -8,3 +8,4 @@ pub mod Writing
 pub mod Shows
 pub mod Lists
 pub mod Lawful
+pub mod Rows
