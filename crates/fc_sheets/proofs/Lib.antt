@@ -1,0 +1,4 @@
+pub mod Places
+pub mod Removing
+pub mod Aging
+pub mod Splitting

@@ -1,0 +1,2 @@
+//! Every event that fits keeps the facts of sheets.
+#![tactic(auto)]
