@@ -146,7 +146,7 @@ split_keeps b slots k i j c il jl e side =
 
 -- ---- the facts
 
-split_count : (slots : List Slot) (k : ℕ) → length (split_list slots k) ≡ length slots
+pub split_count : (slots : List Slot) (k : ℕ) → length (split_list slots k) ≡ length slots
 split_count slots k = length_relabelled (split_from (slot_at slots k).chain (slot_at slots k).birth) k slots
 
 pub names_split : (b : ℕ) (slots : List Slot) (k : ℕ) → CanSplit b slots k → HasNames (record { births = b; slots = split_list slots k })
