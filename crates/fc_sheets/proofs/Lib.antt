@@ -6,3 +6,4 @@ pub mod Finding
 pub mod Steps
 pub mod Events
 pub mod Forcing
+pub mod Starting
