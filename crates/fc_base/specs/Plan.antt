@@ -11,7 +11,7 @@ move_at slots g grain k =
       slot = record { 0 = (slot_at slots k).birth };
       volume = record { 0 = (slot_at slots k).volume };
       grain = record { 0 = grain };
-      in_place = is_in_place (column slots g) k
+      in_place = is_in_place (column slots g) k;
     }
 
 -- The moves of a fill of the slot at a place.

@@ -38,7 +38,7 @@ shape_of slots =
       birth = λ k. (slot_at slots k).birth;
       chain = λ k. (slot_at slots k).chain;
       volume = λ k. (slot_at slots k).volume;
-      is_live = λ k. (slot_at slots k).is_live
+      is_live = λ k. (slot_at slots k).is_live;
     }
 
 -- The sheet at one grain.

@@ -75,3 +75,14 @@ FitsEvent s (Arm volume grain calls) = Unit {0}
 abbrev pub FitsEvents : (ℕ → ℕ) → Sheet → List LaneEvent → Type 0
 FitsEvents local s [] = s.births < 2 ^ 64
 FitsEvents local s (e ∷ es) = FitsEvent s e × FitsEvents local (sheet_step local s e) es
+
+-- Which moves and writes fit. No older slot of the volume is the holder, at the grain, of a live slot other than the
+-- volume's own.
+abbrev pub FitsTaken : List Slot → ℕ → ℕ → Type 0
+FitsTaken slots v g =
+    (k h : ℕ) → k < length slots → (slot_at slots k).is_live ≡ true → holder (column slots g) k ≡ Some h → (slot_at slots h).is_live ≡ false → (slot_at slots h).volume ≡ v → (slot_at slots k).volume ≡ v
+
+-- Nor of the volume's own.
+abbrev pub FitsLost : List Slot → ℕ → ℕ → Type 0
+FitsLost slots v g =
+    (k h : ℕ) → k < length slots → (slot_at slots k).is_live ≡ true → holder (column slots g) k ≡ Some h → (slot_at slots h).is_live ≡ false → (slot_at slots h).volume ≢ v

@@ -1,15 +1,12 @@
 -- The definitions on small examples whose moves are known.
-use Rattle.std.proofs.Common.{◌≡◌, ℕ, Bool, true, false, Option, Some, None, List, [], ◌∷◌, map, refl, cond, filter}
+use Rattle.std.proofs.Common.{◌≡◌, ℕ, Bool, true, false, Option, Some, None, List, [], ◌∷◌, map, refl}
 use Rattle.fc_base.specs.declared.request.Pair.{Pair}
 use Rattle.fc_base.specs.declared.request.Move.{Move}
-use Rattle.fc_base.specs.declared.ids.MapId.{MapId}
-use Rattle.fc_base.specs.Column.{Column, last_below, first_below, holder, first_reader, needer, places_by_birth, old_slots}
-use Rattle.fc_base.specs.Moves.{is_in_place, asks, next_behind, write_asks, list_with_asked, list_all_with_asked, fill_moves, write_moves, taken, moved, after_moves}
-use Rattle.fc_base.specs.OneByOne.{Progress, begin_at, fill_now, write_now}
-use Rattle.fc_base.specs.Sheet.{Slot, Sheet, no_slots, slot_at, column, live_place, mapping_place, birth_place}
+use Rattle.fc_base.specs.Column.{last_below, first_below, holder, first_reader, needer, places_by_birth, old_slots}
+use Rattle.fc_base.specs.Moves.{is_in_place, asks, next_behind, write_asks, list_with_asked, list_all_with_asked, fill_moves, write_moves}
+use Rattle.fc_base.specs.Sheet.{Slot, Sheet, no_slots, column, live_place, mapping_place, birth_place}
 use Rattle.fc_base.specs.Plan.{moves_of_write, moves_of_fill}
-use Rattle.fc_base.specs.SheetStep.{made, triggered, at_place, retired_at, detached_at, split_at, forced_map, dropped, sheet_moved, sheet_written}
-use Rattle.fc_base.specs.Need.{is_complete}
+use Rattle.fc_base.specs.SheetStep.{made, triggered, at_place, retired_at, split_at, forced_map, sheet_moved, sheet_written}
 
 -- ---- how the examples are written
 

@@ -1,15 +1,14 @@
 -- A slot becomes old where it stands, and a volume gets a chain of its own: what of the facts stays.
-use Rattle.std.proofs.Common.{◌≡◌, ◌≢◌, ℕ, zero, suc, ◌+◌, ◌<◌, ◌≤◌, Bool, true, false, cond, Option, Some, None, List, [], ◌∷◌, ◌++◌, length, get_or, set, replicate, refl, sym, ap, subst, ◌∙◌, arith, ◌⊎◌, inl, inr, length-set, get_or-set_same, get_or-set_other}
+use Rattle.std.proofs.Common.{◌≡◌, ◌≢◌, ℕ, zero, suc, ◌+◌, ◌<◌, Bool, true, false, Some, None, List, [], ◌∷◌, ◌++◌, length, get_or, set, replicate, refl, sym, ap, subst, ◌∙◌, arith, ◌⊎◌, inl, inr, length-set, get_or-set_same, get_or-set_other}
 use Rattle.std.specs.List.{list_all}
-use Rattle.std.proofs.lemmas.Bool.{cases_Bool, both_ways, cases_order, cases_lt, cases_eq}
-use Rattle.fc_base.specs.Column.{Shape, Column, holder}
-use Rattle.fc_base.specs.Sheet.{Slot, Sheet, slot_at, no_slot, shape_of, column}
+use Rattle.std.proofs.lemmas.Bool.{both_ways, cases_eq}
+use Rattle.fc_base.specs.Column.{Shape}
+use Rattle.fc_base.specs.Sheet.{Slot, slot_at, no_slot, shape_of}
 use Rattle.fc_base.specs.SheetFacts.{HasNames, HasSizes, HasMappings}
 use Rattle.fc_base.specs.Need.{is_complete}
 use Rattle.fc_base.specs.RestoreGraph.{HasOneLive, HasNoLoop, Edge, Way, Way.last_edge, Way.next_edge}
-use Rattle.fc_moves.proofs.Readers.{IsHolder}
-use Rattle.fc_sheets.proofs.Places.{Removed, up, up_rises, up_in, up_falls, down, removed_at, big_at, up_low, push_is, push_here}
-use Rattle.fc_sheets.proofs.Removing.{HeldFor, held_for, names_big, sizes_big, mappings_big, one_live_big, edge_small, way_map, IsFull}
+use Rattle.fc_sheets.proofs.Places.{push_is, push_here}
+use Rattle.fc_sheets.proofs.Removing.{HeldFor, held_for, names_big, sizes_big, mappings_big, one_live_big, way_map}
 
 -- `new` is `old` but that a slot may be old now
 pub record Aged (old new : List Slot) : Type 0 where
@@ -27,7 +26,7 @@ age t = record t { is_live = false }
 age_at : (slots : List Slot) (k j : ℕ) → k < length slots → (slot_at (set slots k (age (slot_at slots k))) j ≡ slot_at slots j) ⊎ ((j ≡ k) × (slot_at (set slots k (age (slot_at slots k))) j ≡ age (slot_at slots j)))
 age_at slots k j lt =
     elim (cases_eq j k) [
-        inl e ↦ inr (e, (let P : ℕ → Type 0 = λ z. slot_at (set slots k (age (slot_at slots k))) z ≡ age (slot_at slots z) in subst P (sym e) (get_or-set_same slots k (age (slot_at slots k)) no_slot lt)))
+      | inl e ↦ inr (e, (let P : ℕ → Type 0 = λ z. slot_at (set slots k (age (slot_at slots k))) z ≡ age (slot_at slots z) in subst P (sym e) (get_or-set_same slots k (age (slot_at slots k)) no_slot lt)))
       | inr ne ↦ inl (let ne' : j ≢ k = ne in rw get_or-set_other refl)
     ]
 
@@ -40,7 +39,7 @@ aged_is slots k lt =
       volume = λ j. elim (age_at slots k j lt) [ inl e ↦ ap (λ (t : Slot). t.volume) e | inr e ↦ ap (λ (t : Slot). t.volume) e.1 ];
       mapping = λ j. elim (age_at slots k j lt) [ inl e ↦ ap (λ (t : Slot). t.mapping) e | inr e ↦ ap (λ (t : Slot). t.mapping) e.1 ];
       held = λ j. elim (age_at slots k j lt) [ inl e ↦ ap (λ (t : Slot). t.held) e | inr e ↦ ap (λ (t : Slot). t.held) e.1 ];
-      live = λ j l. elim (age_at slots k j lt) [ inl e ↦ ap (λ (t : Slot). t.is_live) (sym e) ∙ l | inr e ↦ absurd (both_ways _ (ap (λ (t : Slot). t.is_live) e.1) l) ]
+      live = λ j l. elim (age_at slots k j lt) [ inl e ↦ ap (λ (t : Slot). t.is_live) (sym e) ∙ l | inr e ↦ absurd (both_ways _ (ap (λ (t : Slot). t.is_live) e.1) l) ];
     }
 
 -- the aged slot is old, every other is live as before
@@ -57,7 +56,7 @@ names_aged b old new a n =
       births = λ k lt. subst (λ x. x < b) (sym (a.birth k)) (n.births k (omega arith));
       apart = λ i j il jl e. n.apart i j (omega arith) (omega arith) (sym (a.birth i) ∙ (e ∙ a.birth j));
       chains = λ k lt. subst (λ x. x < b) (sym (a.chain k)) (n.chains k (omega arith));
-      fresh = λ i j m il jl e q. n.fresh i j m (omega arith) (omega arith) (sym (a.mapping i) ∙ e) (sym (a.chain j) ∙ (q ∙ a.birth i))
+      fresh = λ i j m il jl e q. n.fresh i j m (omega arith) (omega arith) (sym (a.mapping i) ∙ e) (sym (a.chain j) ∙ (q ∙ a.birth i));
     }
 
 pub sizes_aged : (old new : List Slot) → Aged old new → HasSizes old → HasSizes new
@@ -65,7 +64,7 @@ sizes_aged old new a n =
     let c : length new ≡ length old = a.count in
     record {
       of_chain = λ i j il jl e. ap length (a.held i) ∙ (n.of_chain i j (omega arith) (omega arith) (sym (a.chain i) ∙ (e ∙ a.chain j)) ∙ ap length (sym (a.held j)));
-      of_volume = λ i j il jl e. ap length (a.held i) ∙ (n.of_volume i j (omega arith) (omega arith) (sym (a.volume i) ∙ (e ∙ a.volume j)) ∙ ap length (sym (a.held j)))
+      of_volume = λ i j il jl e. ap length (a.held i) ∙ (n.of_volume i j (omega arith) (omega arith) (sym (a.volume i) ∙ (e ∙ a.volume j)) ∙ ap length (sym (a.held j)));
     }
 
 pub mappings_aged : (old new : List Slot) → Aged old new → HasMappings old → HasMappings new
@@ -73,7 +72,7 @@ mappings_aged old new a n =
     let c : length new ≡ length old = a.count in
     record {
       one_slot = λ i j m il jl e f. n.one_slot i j m (omega arith) (omega arith) (sym (a.mapping i) ∙ e) (sym (a.mapping j) ∙ f);
-      complete = λ k lt l e. ap (list_all (λ b. b)) (a.held k) ∙ n.complete k (omega arith) (a.live k l) (sym (a.mapping k) ∙ e)
+      complete = λ k lt l e. ap (list_all (λ b. b)) (a.held k) ∙ n.complete k (omega arith) (a.live k l) (sym (a.mapping k) ∙ e);
     }
 
 pub one_live_aged : (old new : List Slot) → Aged old new → HasOneLive (shape_of old) → HasOneLive (shape_of new)
@@ -112,9 +111,9 @@ names_alone b slots v grains n =
     let h : slot_at (with_alone slots b v grains) (length slots) ≡ alone b v grains = push_here slots (alone b v grains) in
     let c : (slot_at (with_alone slots b v grains) (length slots)).chain ≡ b = ap (λ (t : Slot). t.chain) h in
     names_big b (b + 1) (with_alone slots b v grains) slots (length slots) (push_is slots (alone b v grains)) n (omega arith)
-      (ap (λ (t : Slot). t.birth) h) (omega (arith, c))
-      (λ i m il e q. let a : (slot_at slots i).birth < b = n.births i il in omega (arith, c, q))
-      (λ m e. let f : None ≡ Some m = sym (ap (λ (t : Slot). t.mapping) h) ∙ e in absurd cc)
+    (ap (λ (t : Slot). t.birth) h) (omega (arith, c))
+    (λ i m il e q. let a : (slot_at slots i).birth < b = n.births i il in omega (arith, c, q))
+    (λ m e. let f : None ≡ Some m = sym (ap (λ (t : Slot). t.mapping) h) ∙ e in absurd cc)
 
 pub sizes_alone : (b : ℕ) (slots : List Slot) (v grains : ℕ) → HasNames (record { births = b; slots = slots }) → HasSizes slots →
     ((i : ℕ) → i < length slots → (slot_at slots i).volume ≡ v → length (slot_at slots i).held ≡ grains) → HasSizes (with_alone slots b v grains)
@@ -122,15 +121,15 @@ sizes_alone b slots v grains n s size =
     let h : slot_at (with_alone slots b v grains) (length slots) ≡ alone b v grains = push_here slots (alone b v grains) in
     let l : length (slot_at (with_alone slots b v grains) (length slots)).held ≡ grains = ap (λ (t : Slot). length t.held) h ∙ length_full grains true in
     sizes_big (with_alone slots b v grains) slots (length slots) (push_is slots (alone b v grains)) s
-      (λ i il e. let a : (slot_at slots i).chain < b = n.chains i il in absurd (let c : (slot_at slots i).chain ≡ b = e ∙ ap (λ (t : Slot). t.chain) h in omega arith))
-      (λ i il e. size i il (e ∙ ap (λ (t : Slot). t.volume) h) ∙ sym l)
+    (λ i il e. let a : (slot_at slots i).chain < b = n.chains i il in absurd (let c : (slot_at slots i).chain ≡ b = e ∙ ap (λ (t : Slot). t.chain) h in omega arith))
+    (λ i il e. size i il (e ∙ ap (λ (t : Slot). t.volume) h) ∙ sym l)
 
 pub mappings_alone : (b : ℕ) (slots : List Slot) (v grains : ℕ) → HasMappings slots → HasMappings (with_alone slots b v grains)
 mappings_alone b slots v grains n =
     let h : slot_at (with_alone slots b v grains) (length slots) ≡ alone b v grains = push_here slots (alone b v grains) in
     mappings_big (with_alone slots b v grains) slots (length slots) (push_is slots (alone b v grains)) n
-      (λ i m il e f. let q : None ≡ Some m = sym (ap (λ (t : Slot). t.mapping) h) ∙ f in cc)
-      (λ l e. ap is_complete h ∙ complete_full grains)
+    (λ i m il e f. let q : None ≡ Some m = sym (ap (λ (t : Slot). t.mapping) h) ∙ f in cc)
+    (λ l e. ap is_complete h ∙ complete_full grains)
 
 pub one_live_alone : (b : ℕ) (slots : List Slot) (v grains : ℕ) → HasOneLive (shape_of slots) →
     ((i : ℕ) → i < length slots → (slot_at slots i).is_live ≡ true → (slot_at slots i).volume ≢ v) → HasOneLive (shape_of (with_alone slots b v grains))
@@ -150,15 +149,23 @@ edge_not_last b slots v grains n x w e =
     let before : e.old < e.live = e.before in
     let old_low : slot_at slots e.old ≡ slot_at (with_alone slots b v grains) e.old = r.low e.old (omega arith) in
     elim (cases_eq e.live (length slots)) [
-        inl last ↦ absurd (
+      | inl last ↦ absurd (
           let a : (slot_at slots e.old).chain < b = n.chains e.old (omega arith) in
           let q : (slot_at slots e.old).chain ≡ b = ap (λ (t : Slot). t.chain) old_low ∙ (e.one_chain ∙ (ap (λ z. (slot_at (with_alone slots b v grains) z).chain) last ∙ ap (λ (t : Slot). t.chain) h)) in
           omega arith)
       | inr ne ↦ let live_low : slot_at slots e.live ≡ slot_at (with_alone slots b v grains) e.live = r.low e.live (omega arith) in
-          record { other = e.other; old = e.old; live = e.live; before = before; there = omega arith;
+          record {
+            other = e.other;
+            old = e.old;
+            live = e.live;
+            before = before;
+            there = omega arith;
             one_chain = ap (λ (t : Slot). t.chain) old_low ∙ (e.one_chain ∙ ap (λ (t : Slot). t.chain) (sym live_low));
-            old_is_old = ap (λ (t : Slot). t.is_live) old_low ∙ e.old_is_old; old_is_from = ap (λ (t : Slot). t.volume) old_low ∙ e.old_is_from;
-            live_is_live = ap (λ (t : Slot). t.is_live) live_low ∙ e.live_is_live; live_is_to = ap (λ (t : Slot). t.volume) live_low ∙ e.live_is_to }
+            old_is_old = ap (λ (t : Slot). t.is_live) old_low ∙ e.old_is_old;
+            old_is_from = ap (λ (t : Slot). t.volume) old_low ∙ e.old_is_from;
+            live_is_live = ap (λ (t : Slot). t.is_live) live_low ∙ e.live_is_live;
+            live_is_to = ap (λ (t : Slot). t.volume) live_low ∙ e.live_is_to;
+          }
     ]
 
 pub no_loop_alone : (b : ℕ) (slots : List Slot) (v grains : ℕ) → HasNames (record { births = b; slots = slots }) → HasNoLoop (shape_of slots) → HasNoLoop (shape_of (with_alone slots b v grains))
@@ -172,10 +179,18 @@ edge_aged slots k lt v w ne e =
     let c : length (set slots k (age (slot_at slots k))) ≡ length slots = a.count in
     let there : e.live < length (set slots k (age (slot_at slots k))) = e.there in
     let other : e.old ≢ k = λ q. ne (sym e.old_is_from ∙ (a.volume e.old ∙ ap (λ z. (slot_at slots z).volume) q)) in
-    record { other = e.other; old = e.old; live = e.live; before = e.before; there = omega arith;
+    record {
+      other = e.other;
+      old = e.old;
+      live = e.live;
+      before = e.before;
+      there = omega arith;
       one_chain = sym (a.chain e.old) ∙ (e.one_chain ∙ a.chain e.live);
-      old_is_old = ap (λ (t : Slot). t.is_live) (sym (aged_other slots k e.old lt other)) ∙ e.old_is_old; old_is_from = sym (a.volume e.old) ∙ e.old_is_from;
-      live_is_live = a.live e.live e.live_is_live; live_is_to = sym (a.volume e.live) ∙ e.live_is_to }
+      old_is_old = ap (λ (t : Slot). t.is_live) (sym (aged_other slots k e.old lt other)) ∙ e.old_is_old;
+      old_is_from = sym (a.volume e.old) ∙ e.old_is_from;
+      live_is_live = a.live e.live e.live_is_live;
+      live_is_to = sym (a.volume e.live) ∙ e.live_is_to;
+    }
 
 -- no edge runs to the volume of a live slot that became old
 no_edge_to : (slots : List Slot) (k : ℕ) → k < length slots → (slot_at slots k).is_live ≡ true → HasOneLive (shape_of slots) → (v : ℕ) → Edge (shape_of (set slots k (age (slot_at slots k)))) v (slot_at slots k).volume → ⊥
@@ -201,4 +216,4 @@ no_loop_aged slots k lt kl one free v way =
     let s : Shape = shape_of (set slots k (age (slot_at slots k))) in
     let last = way_ends s v v way in
     free v (way_avoids s (shape_of slots) (slot_at slots k).volume (edge_aged slots k lt) (no_edge_to slots k lt kl one) v v
-      (λ q. no_edge_to slots k lt kl one last.0 (subst (λ (z : ℕ). Edge s last.0 z) q last.1)) way)
+    (λ q. no_edge_to slots k lt kl one last.0 (subst (λ (z : ℕ). Edge s last.0 z) q last.1)) way)

@@ -1,11 +1,11 @@
 -- Where the live slot of a volume, the slot of a mapping or of a birth stands.
-use Rattle.std.proofs.Common.{◌≡◌, ◌≢◌, ℕ, zero, suc, ◌+◌, ◌<◌, ◌≤◌, Bool, true, false, ◌&&◌, eqb, Option, Some, None, List, [], ◌∷◌, length, refl, sym, ap, subst, ◌∙◌, arith, ◌⊎◌, inl, inr}
-use Rattle.std.proofs.lemmas.Bool.{cases_Bool, both_ways, and_parts, and_from, eqb-true, eq-eqb, false_from_ne_true}
+use Rattle.std.proofs.Common.{◌≡◌, ◌≢◌, ℕ, ◌<◌, true, Option, Some, None, List, length, refl, sym, ap, ◌∙◌, arith}
+use Rattle.std.proofs.lemmas.Bool.{both_ways, and_parts, and_from, eqb-true, eq-eqb, false_from_ne_true}
 use Rattle.fc_base.specs.Column.{is_at}
 use Rattle.fc_base.specs.Sheet.{Slot, slot_at, shape_of, live_place, mapping_place, birth_place}
-use Rattle.fc_base.specs.SheetFacts.{HasNames, HasMappings}
+use Rattle.fc_base.specs.SheetFacts.{HasMappings}
 use Rattle.fc_base.specs.RestoreGraph.{HasOneLive}
-use Rattle.fc_moves.proofs.Search.{IsFirst, first_some, first_none, first_is, first_is_none}
+use Rattle.fc_moves.proofs.Search.{first_some, first_none, first_is, first_is_none}
 
 pub at_true : (o : Option ℕ) (m : ℕ) → is_at o m ≡ true → o ≡ Some m
 at_true None m e = absurd cc
@@ -33,9 +33,9 @@ live_place_is slots v k one l =
       below = l.there;
       passes = and_from _ _ l.is_live (eq-eqb _ _ l.of_volume);
       first = λ j jk. false_from_ne_true _ (λ t.
-        let kl : k < length slots = l.there in
-        let p = and_parts (slot_at slots j).is_live _ t in
-        let same : j ≡ k = one j k (omega arith) kl p.0 l.is_live (eqb-true _ _ p.1 ∙ sym l.of_volume) in omega arith)
+          let kl : k < length slots = l.there in
+          let p = and_parts (slot_at slots j).is_live _ t in
+          let same : j ≡ k = one j k (omega arith) kl p.0 l.is_live (eqb-true _ _ p.1 ∙ sym l.of_volume) in omega arith);
     })
 
 pub no_live_place : (slots : List Slot) (v : ℕ) → live_place slots v ≡ None → (k : ℕ) → k < length slots → (slot_at slots k).is_live ≡ true → (slot_at slots k).volume ≢ v
@@ -50,8 +50,9 @@ pub mapping_place_is : (slots : List Slot) (m k : ℕ) → HasMappings slots →
 unfolding mapping_place
 mapping_place_is slots m k n kl e =
     first_is _ (length slots) k (record {
-      below = kl; passes = at_from (slot_at slots k).mapping m e;
-      first = λ j jk. false_from_ne_true _ (λ t. let same : j ≡ k = n.one_slot j k m (omega arith) kl (at_true (slot_at slots j).mapping m t) e in omega arith)
+      below = kl;
+      passes = at_from (slot_at slots k).mapping m e;
+      first = λ j jk. false_from_ne_true _ (λ t. let same : j ≡ k = n.one_slot j k m (omega arith) kl (at_true (slot_at slots j).mapping m t) e in omega arith);
     })
 
 pub mapping_place_none : (slots : List Slot) (m : ℕ) → mapping_place slots m ≡ None → (k : ℕ) → k < length slots → (slot_at slots k).mapping ≡ Some m → ⊥

@@ -7,3 +7,5 @@ pub mod Steps
 pub mod Events
 pub mod Forcing
 pub mod Starting
+pub mod Holding
+pub mod Lawful

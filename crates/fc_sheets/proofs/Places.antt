@@ -1,6 +1,6 @@
 -- Places after a slot is taken out or put in.
-use Rattle.std.proofs.Common.{◌≡◌, ◌≢◌, ℕ, zero, suc, ◌+◌, ◌<◌, ◌≤◌, Bool, true, false, cond, ltb, Option, Some, None, List, [], ◌∷◌, ◌++◌, length, remove, insert, take, drop, refl, sym, ap, subst, ◌∙◌, arith, ◌⊎◌, inl, inr, add-one}
-use Rattle.std.proofs.lemmas.Bool.{cases_Bool, both_ways, cases_order, cases_lt, cases_eq, ltb-true, lt-ltb, le-ltb}
+use Rattle.std.proofs.Common.{◌≡◌, ℕ, zero, suc, ◌+◌, ◌<◌, ◌≤◌, cond, ltb, List, [], ◌∷◌, ◌++◌, length, remove, insert, refl, sym, ap, subst, ◌∙◌, arith, ◌⊎◌, inl, inr, add-one}
+use Rattle.std.proofs.lemmas.Bool.{cases_order, cases_lt, cases_eq, lt-ltb, le-ltb}
 use Rattle.std.proofs.lemmas.List.Edits.{length-insert, get_or-insert_below, get_or-insert_at, get_or-insert_above, length-remove, get_or-remove_below, get_or-remove_above, insert_end}
 use Rattle.fc_base.specs.Sheet.{Slot, slot_at, no_slot}
 
@@ -29,21 +29,21 @@ up_cases p j = elim (cases_lt j p) [ inl lt ↦ inl (lt, up_low p j lt) | inr le
 pub up_rises : (p i j : ℕ) → i < j → up p i < up p j
 up_rises p i j lt =
     elim (up_cases p i) [
-        inl a ↦ elim (up_cases p j) [ inl b ↦ omega (arith, a.1, b.1) | inr b ↦ omega (arith, a.1, b.1) ]
+      | inl a ↦ elim (up_cases p j) [ inl b ↦ omega (arith, a.1, b.1) | inr b ↦ omega (arith, a.1, b.1) ]
       | inr a ↦ elim (up_cases p j) [ inl b ↦ absurd (omega (arith, a.0, b.0)) | inr b ↦ omega (arith, a.1, b.1) ]
     ]
 
 pub up_falls : (p i j : ℕ) → up p i < up p j → i < j
 up_falls p i j lt =
     elim (up_cases p i) [
-        inl a ↦ elim (up_cases p j) [ inl b ↦ omega (arith, a.1, b.1) | inr b ↦ omega (arith, a.1, b.1, a.0, b.0) ]
+      | inl a ↦ elim (up_cases p j) [ inl b ↦ omega (arith, a.1, b.1) | inr b ↦ omega (arith, a.1, b.1, a.0, b.0) ]
       | inr a ↦ elim (up_cases p j) [ inl b ↦ absurd (omega (arith, a.0, b.0, a.1, b.1)) | inr b ↦ omega (arith, a.1, b.1) ]
     ]
 
 pub up_same : (p i j : ℕ) → up p i ≡ up p j → i ≡ j
 up_same p i j e =
     elim (cases_order i j) [
-        inl s ↦ s
+      | inl s ↦ s
       | inr r ↦ elim r [ inl lt ↦ absurd (let a : up p i < up p j = up_rises p i j lt in omega arith) | inr gt ↦ absurd (let a : up p j < up p i = up_rises p j i gt in omega arith) ]
     ]
 
@@ -65,7 +65,7 @@ down big small p r j lt =
     let c : length small + 1 ≡ length big = r.count in
     let t : p < length big = r.there in
     elim (cases_order j p) [
-        inl e ↦ inl e
+      | inl e ↦ inl e
       | inr n ↦ elim n [ inl b ↦ inr (j, omega arith, up_low p j b) | inr a ↦ inr (pred_of j p a lt c) ]
     ]
   where
@@ -76,7 +76,7 @@ down big small p r j lt =
 pub removed_at : (big small : List Slot) (p : ℕ) → Removed big small p → (j : ℕ) → slot_at small j ≡ slot_at big (up p j)
 removed_at big small p r j =
     elim (up_cases p j) [
-        inl a ↦ r.low j a.0 ∙ ap (slot_at big) (sym a.1)
+      | inl a ↦ r.low j a.0 ∙ ap (slot_at big) (sym a.1)
       | inr a ↦ r.high j a.0 ∙ ap (slot_at big) (sym a.1)
     ]
 
@@ -84,16 +84,22 @@ removed_at big small p r j =
 
 pub remove_is : (slots : List Slot) (p : ℕ) → p < length slots → Removed slots (remove slots p) p
 remove_is slots p lt =
-    record { there = lt; count = length-remove slots p lt;
+    record {
+      there = lt;
+      count = length-remove slots p lt;
       low = λ j b. get_or-remove_below slots p no_slot j b lt;
-      high = λ j b. get_or-remove_above slots p no_slot j b lt ∙ ap (slot_at slots) (add-one j) }
+      high = λ j b. get_or-remove_above slots p no_slot j b lt ∙ ap (slot_at slots) (add-one j);
+    }
 
 pub insert_is : (slots : List Slot) (p : ℕ) (t : Slot) → p ≤ length slots → Removed (insert slots p t) slots p
 insert_is slots p t le =
     let n : length (insert slots p t) ≡ length slots + 1 = length-insert slots p t le in
-    record { there = omega arith; count = sym n;
+    record {
+      there = omega arith;
+      count = sym n;
       low = λ j b. sym (get_or-insert_below slots p t no_slot j b le);
-      high = λ j b. sym (get_or-insert_above slots p t no_slot j b le) ∙ ap (slot_at (insert slots p t)) (add-one j) }
+      high = λ j b. sym (get_or-insert_above slots p t no_slot j b le) ∙ ap (slot_at (insert slots p t)) (add-one j);
+    }
 
 pub insert_here : (slots : List Slot) (p : ℕ) (t : Slot) → p ≤ length slots → slot_at (insert slots p t) p ≡ t
 insert_here slots p t le = get_or-insert_at slots p t no_slot le
@@ -110,7 +116,7 @@ pub all_of_big : (big small : List Slot) (p : ℕ) → Removed big small p → (
     ((i : ℕ) → i < length small → P (slot_at small i)) → (j : ℕ) → j < length big → P (slot_at big j)
 all_of_big big small p r P here all j lt =
     elim (down big small p r j lt) [
-        inl e ↦ subst (λ (z : ℕ). P (slot_at big z)) (sym e) here
+      | inl e ↦ subst (λ (z : ℕ). P (slot_at big z)) (sym e) here
       | inr d ↦ subst (λ (z : ℕ). P (slot_at big z)) d.2 (subst P (removed_at big small p r d.0) (all d.0 d.1))
     ]
 
@@ -119,8 +125,8 @@ pub pairs_of_big : (big small : List Slot) (p : ℕ) → Removed big small p →
     ((i j : ℕ) → i < length small → j < length small → P (slot_at small i) (slot_at small j)) → (i j : ℕ) → i < length big → j < length big → P (slot_at big i) (slot_at big j)
 pairs_of_big big small p r P here left right all i j il jl =
     all_of_big big small p r (λ t. P t (slot_at big j))
-      (all_of_big big small p r (λ u. P (slot_at big p) u) here right j jl)
-      (λ a al. all_of_big big small p r (λ u. P (slot_at small a) u) (left a al) (λ b bl. all a b al bl) j jl) i il
+    (all_of_big big small p r (λ u. P (slot_at big p) u) here right j jl)
+    (λ a al. all_of_big big small p r (λ u. P (slot_at small a) u) (left a al) (λ b bl. all a b al bl) j jl) i il
 
 pub both_at : (Q : Slot → Slot → Type 0) (a b x y : Slot) → a ≡ x → b ≡ y → Q a b → Q x y
 both_at Q a b x y e f q = subst (λ (t : Slot). Q t y) e (subst (λ (t : Slot). Q a t) f q)
@@ -134,13 +140,15 @@ pub one_of_big : (big small : List Slot) (p : ℕ) → Removed big small p → (
     ((i j : ℕ) → i < length small → j < length small → Q (slot_at small i) (slot_at small j) → i ≡ j) → (i j : ℕ) → i < length big → j < length big → Q (slot_at big i) (slot_at big j) → i ≡ j
 one_of_big big small p r Q left right one i j il jl q =
     elim (down big small p r i il) [
-        inl e ↦ elim (down big small p r j jl) [
-            inl f ↦ e ∙ sym f
-          | inr d ↦ absurd (right d.0 d.1 (both_at Q (slot_at big i) (slot_at big j) (slot_at big p) (slot_at small d.0) (ap (slot_at big) e) (big_at big small p r d.0 j d.2) q)) ]
+      | inl e ↦ elim (down big small p r j jl) [
+        | inl f ↦ e ∙ sym f
+        | inr d ↦ absurd (right d.0 d.1 (both_at Q (slot_at big i) (slot_at big j) (slot_at big p) (slot_at small d.0) (ap (slot_at big) e) (big_at big small p r d.0 j d.2) q))
+      ]
       | inr c ↦ elim (down big small p r j jl) [
-            inl f ↦ absurd (left c.0 c.1 (both_at Q (slot_at big i) (slot_at big j) (slot_at small c.0) (slot_at big p) (big_at big small p r c.0 i c.2) (ap (slot_at big) f) q))
-          | inr d ↦ sym c.2 ∙ (ap (up p) (one c.0 d.0 c.1 d.1
-              (both_at Q (slot_at big i) (slot_at big j) (slot_at small c.0) (slot_at small d.0) (big_at big small p r c.0 i c.2) (big_at big small p r d.0 j d.2) q)) ∙ d.2) ]
+        | inl f ↦ absurd (left c.0 c.1 (both_at Q (slot_at big i) (slot_at big j) (slot_at small c.0) (slot_at big p) (big_at big small p r c.0 i c.2) (ap (slot_at big) f) q))
+        | inr d ↦ sym c.2 ∙ (ap (up p) (one c.0 d.0 c.1 d.1
+            (both_at Q (slot_at big i) (slot_at big j) (slot_at small c.0) (slot_at small d.0) (big_at big small p r c.0 i c.2) (big_at big small p r d.0 j d.2) q)) ∙ d.2)
+      ]
     ]
 
 -- and in the small list, where it is so in the big one
@@ -158,4 +166,4 @@ pub one_of_small : (big small : List Slot) (p : ℕ) → Removed big small p →
     ((i j : ℕ) → i < length big → j < length big → Q (slot_at big i) (slot_at big j) → i ≡ j) → (i j : ℕ) → i < length small → j < length small → Q (slot_at small i) (slot_at small j) → i ≡ j
 one_of_small big small p r Q one i j il jl q =
     up_same p i j (one (up p i) (up p j) (up_in big small p r i il) (up_in big small p r j jl)
-      (both_at Q (slot_at small i) (slot_at small j) (slot_at big (up p i)) (slot_at big (up p j)) (removed_at big small p r i) (removed_at big small p r j) q))
+    (both_at Q (slot_at small i) (slot_at small j) (slot_at big (up p i)) (slot_at big (up p j)) (removed_at big small p r i) (removed_at big small p r j) q))

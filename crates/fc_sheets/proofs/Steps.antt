@@ -1,15 +1,13 @@
 -- One slot taken out, put in, made old or split off, on a sheet whose facts hold up to what is under way.
-use Rattle.std.proofs.Common.{◌≡◌, ◌≢◌, ℕ, zero, suc, ◌+◌, ◌<◌, ◌≤◌, Bool, true, false, cond, Option, Some, None, List, [], ◌∷◌, ◌++◌, length, get_or, set, remove, insert, replicate, refl, sym, ap, subst, ◌∙◌, arith, ◌⊎◌, inl, inr}
-use Rattle.std.proofs.lemmas.Bool.{cases_Bool, both_ways, cases_order, cases_lt, cases_eq}
-use Rattle.fc_base.specs.Column.{Shape, Column, holder, needer}
+use Rattle.std.proofs.Common.{◌≡◌, ◌≢◌, ℕ, ◌+◌, ◌<◌, true, false, Some, List, length, get_or, set, remove, refl, sym, ap, subst, ◌∙◌, arith, ◌⊎◌, inl, inr}
+use Rattle.std.proofs.lemmas.Bool.{both_ways, cases_eq}
 use Rattle.fc_base.specs.Sheet.{Slot, Sheet, slot_at, shape_of, column}
-use Rattle.fc_base.specs.SheetFacts.{HasNames, HasSizes, HasMappings, HasLives, HasAllHolders, IsSound}
-use Rattle.fc_base.specs.Need.{is_complete, IsNeeded}
+use Rattle.fc_base.specs.SheetFacts.{HasNames, HasSizes, HasMappings, IsSound}
 use Rattle.fc_base.specs.RestoreGraph.{HasOneLive, HasNoLoop}
-use Rattle.fc_moves.proofs.Readers.{IsHolder, holder_is, is_holder, reader_from}
-use Rattle.fc_sheets.proofs.Places.{Removed, up, up_le, up_in, up_apart, up_same, up_low, up_high, down, removed_at, big_at, remove_is, insert_is, insert_here, push_is, push_here}
-use Rattle.fc_sheets.proofs.Removing.{HeldFor, held_for, held_small, held_big, names_small, sizes_small, mappings_small, one_live_small, names_big, sizes_big, mappings_big, one_live_big}
-use Rattle.fc_sheets.proofs.Aging.{Aged, age, aged_is, aged_here, aged_other, names_aged, sizes_aged, mappings_aged, one_live_aged, held_aged, alone, with_alone, full_at, length_full, names_alone, sizes_alone, mappings_alone, one_live_alone}
+use Rattle.fc_moves.proofs.Readers.{IsHolder, holder_is, is_holder}
+use Rattle.fc_sheets.proofs.Places.{up, up_in, up_apart, down, removed_at, big_at, remove_is, push_is, push_here}
+use Rattle.fc_sheets.proofs.Removing.{HeldFor, held_for, held_small, held_big, names_small, sizes_small, mappings_small, one_live_small}
+use Rattle.fc_sheets.proofs.Aging.{age, aged_is, aged_here, aged_other, names_aged, sizes_aged, mappings_aged, one_live_aged, held_aged, alone, with_alone, full_at, length_full, names_alone, sizes_alone, mappings_alone, one_live_alone}
 
 -- The facts but those on loops. Of some volumes no live slot may be there, and the slots of some mappings may have no holder.
 pub record Holds (b : ℕ) (slots : List Slot) (orphan loose : ℕ → Type 0) : Type 0 where
@@ -28,21 +26,37 @@ Only v x = x ≡ v
 
 pub holds_from : (s : Sheet) → IsSound s → Holds s.births s.slots Nobody Nobody
 holds_from s i =
-    record { names = i.names; sizes = i.sizes; mappings = i.mappings; one_live = i.one_live;
+    record {
+      names = i.names;
+      sizes = i.sizes;
+      mappings = i.mappings;
+      one_live = i.one_live;
       lives = λ k kl. inl (i.lives k kl);
-      holders = λ g k kl l gl. let h = i.holders g k kl l gl in inl (h.0, holder_is (column s.slots g) k h.0 h.1) }
+      holders = λ g k kl l gl. let h = i.holders g k kl l gl in inl (h.0, holder_is (column s.slots g) k h.0 h.1);
+    }
 
 pub sound_from : (b : ℕ) (slots : List Slot) → Holds b slots Nobody Nobody → HasNoLoop (shape_of slots) → IsSound (record { births = b; slots = slots })
 sound_from b slots h free =
-    record { names = h.names; sizes = h.sizes; mappings = h.mappings; one_live = h.one_live; no_loop = free;
+    record {
+      names = h.names;
+      sizes = h.sizes;
+      mappings = h.mappings;
+      one_live = h.one_live;
+      no_loop = free;
       lives = λ k kl. elim (h.lives k kl) [ inl x ↦ x | inr n ↦ absurd n ];
-      holders = λ g k kl l gl. elim (h.holders g k kl l gl) [ inl x ↦ (x.0, is_holder (column slots g) k x.0 x.1) | inr n ↦ absurd n.2 ] }
+      holders = λ g k kl l gl. elim (h.holders g k kl l gl) [ inl x ↦ (x.0, is_holder (column slots g) k x.0 x.1) | inr n ↦ absurd n.2 ];
+    }
 
 pub holds_more : (b : ℕ) (slots : List Slot) (o p l m : ℕ → Type 0) → ((x : ℕ) → o x → p x) → ((x : ℕ) → l x → m x) → Holds b slots o l → Holds b slots p m
 holds_more b slots o p l m f g h =
-    record { names = h.names; sizes = h.sizes; mappings = h.mappings; one_live = h.one_live;
+    record {
+      names = h.names;
+      sizes = h.sizes;
+      mappings = h.mappings;
+      one_live = h.one_live;
       lives = λ k kl. elim (h.lives k kl) [ inl x ↦ inl x | inr n ↦ inr (f (slot_at slots k).volume n) ];
-      holders = λ i k kl v il. elim (h.holders i k kl v il) [ inl x ↦ inl x | inr n ↦ inr (n.0, n.1, g n.0 n.2) ] }
+      holders = λ i k kl v il. elim (h.holders i k kl v il) [ inl x ↦ inl x | inr n ↦ inr (n.0, n.1, g n.0 n.2) ];
+    }
 
 -- ---- a slot is taken out, that is nobody's holder
 
@@ -55,10 +69,14 @@ pub without_live : (b : ℕ) (slots : List Slot) (loose : ℕ → Type 0) (p : �
     Holds b (remove slots p) (Only (slot_at slots p).volume) loose
 without_live b slots loose p h pl free =
     let r = remove_is slots p pl in
-    record { names = names_small b slots (remove slots p) p r h.names; sizes = sizes_small slots (remove slots p) p r h.sizes; mappings = mappings_small slots (remove slots p) p r h.mappings;
+    record {
+      names = names_small b slots (remove slots p) p r h.names;
+      sizes = sizes_small slots (remove slots p) p r h.sizes;
+      mappings = mappings_small slots (remove slots p) p r h.mappings;
       one_live = one_live_small slots (remove slots p) p r h.one_live;
       lives = λ k kl. without_lives b slots loose p h pl k kl;
-      holders = λ g k kl l gl. without_holders b slots loose p h pl free g k kl l gl }
+      holders = λ g k kl l gl. without_holders b slots loose p h pl free g k kl l gl;
+    }
   where
     without_lives : (b : ℕ) (slots : List Slot) (loose : ℕ → Type 0) (p : ℕ) → Holds b slots Nobody loose → p < length slots → (k : ℕ) → k < length (remove slots p) →
         ((j : ℕ) × (j < length (remove slots p)) × ((slot_at (remove slots p) j).is_live ≡ true) × ((slot_at (remove slots p) j).volume ≡ (slot_at (remove slots p) k).volume)) ⊎ ((slot_at (remove slots p) k).volume ≡ (slot_at slots p).volume)
@@ -66,11 +84,12 @@ without_live b slots loose p h pl free =
         let r = remove_is slots p pl in
         let e = removed_at slots (remove slots p) p r k in
         elim (h.lives (up p k) (up_in slots (remove slots p) p r k kl)) [
-            inr n ↦ absurd n
+          | inr n ↦ absurd n
           | inl x ↦ elim (down slots (remove slots p) p r x.0 x.1) [
-                inl same ↦ inr (ap (λ (t : Slot). t.volume) e ∙ (sym x.3 ∙ ap (λ z. (slot_at slots z).volume) same))
-              | inr d ↦ let a = big_at slots (remove slots p) p r d.0 x.0 d.2 in
-                  inl (d.0, d.1, ap (λ (t : Slot). t.is_live) (sym a) ∙ x.2, ap (λ (t : Slot). t.volume) (sym a) ∙ (x.3 ∙ ap (λ (t : Slot). t.volume) (sym e))) ]
+            | inl same ↦ inr (ap (λ (t : Slot). t.volume) e ∙ (sym x.3 ∙ ap (λ z. (slot_at slots z).volume) same))
+            | inr d ↦ let a = big_at slots (remove slots p) p r d.0 x.0 d.2 in
+                inl (d.0, d.1, ap (λ (t : Slot). t.is_live) (sym a) ∙ x.2, ap (λ (t : Slot). t.volume) (sym a) ∙ (x.3 ∙ ap (λ (t : Slot). t.volume) (sym e)))
+          ]
         ]
 
     without_holders : (b : ℕ) (slots : List Slot) (loose : ℕ → Type 0) (p : ℕ) → Holds b slots Nobody loose → p < length slots → NoReader slots p loose → (g k : ℕ) → k < length (remove slots p) →
@@ -82,12 +101,14 @@ without_live b slots loose p h pl free =
         let live : (slot_at slots (up p k)).is_live ≡ true = ap (λ (t : Slot). t.is_live) (sym e) ∙ l in
         let size : length (slot_at (remove slots p) k).held ≡ length (slot_at slots (up p k)).held = ap (λ (t : Slot). length t.held) e in
         elim (h.holders g (up p k) kb live (omega arith)) [
-            inr n ↦ inr (n.0, ap (λ (t : Slot). t.mapping) e ∙ n.1, n.2)
+          | inr n ↦ inr (n.0, ap (λ (t : Slot). t.mapping) e ∙ n.1, n.2)
           | inl x ↦ elim (cases_eq x.0 p) [
-                inr ne ↦ inl (held_small slots (remove slots p) p r g k x.0 kl x.1 ne)
-              | inl same ↦ elim (free g (up p k) kb live (subst (λ (z : ℕ). IsHolder (column slots g) (up p k) z) same x.1)) [
-                    inl self ↦ absurd (up_apart p k self)
-                  | inr n ↦ inr (n.0, ap (λ (t : Slot). t.mapping) e ∙ n.1, n.2) ] ]
+            | inr ne ↦ inl (held_small slots (remove slots p) p r g k x.0 kl x.1 ne)
+            | inl same ↦ elim (free g (up p k) kb live (subst (λ (z : ℕ). IsHolder (column slots g) (up p k) z) same x.1)) [
+              | inl self ↦ absurd (up_apart p k self)
+              | inr n ↦ inr (n.0, ap (λ (t : Slot). t.mapping) e ∙ n.1, n.2)
+            ]
+          ]
         ]
 
 -- where the slot was old, its volume keeps its live slot
@@ -96,13 +117,21 @@ pub without_old : (b : ℕ) (slots : List Slot) (loose : ℕ → Type 0) (p : �
 without_old b slots loose p h pl old free =
     let w = without_live b slots loose p h pl free in
     let r = remove_is slots p pl in
-    record { names = w.names; sizes = w.sizes; mappings = w.mappings; one_live = w.one_live; holders = w.holders;
+    record {
+      names = w.names;
+      sizes = w.sizes;
+      mappings = w.mappings;
+      one_live = w.one_live;
+      holders = w.holders;
       lives = λ k kl. elim (h.lives (up p k) (up_in slots (remove slots p) p r k kl)) [
-          inr n ↦ absurd n
+        | inr n ↦ absurd n
         | inl x ↦ elim (down slots (remove slots p) p r x.0 x.1) [
-              inl same ↦ absurd (both_ways _ old (ap (λ z. (slot_at slots z).is_live) (sym same) ∙ x.2))
-            | inr d ↦ let a = big_at slots (remove slots p) p r d.0 x.0 d.2 in
-                inl (d.0, d.1, ap (λ (t : Slot). t.is_live) (sym a) ∙ x.2, ap (λ (t : Slot). t.volume) (sym a) ∙ (x.3 ∙ ap (λ (t : Slot). t.volume) (sym (removed_at slots (remove slots p) p r k)))) ] ] }
+          | inl same ↦ absurd (both_ways _ old (ap (λ z. (slot_at slots z).is_live) (sym same) ∙ x.2))
+          | inr d ↦ let a = big_at slots (remove slots p) p r d.0 x.0 d.2 in
+              inl (d.0, d.1, ap (λ (t : Slot). t.is_live) (sym a) ∙ x.2, ap (λ (t : Slot). t.volume) (sym a) ∙ (x.3 ∙ ap (λ (t : Slot). t.volume) (sym (removed_at slots (remove slots p) p r k))))
+        ]
+      ];
+    }
 
 -- no live slot of its volume is left where it was live
 pub without_no_live : (slots : List Slot) (p : ℕ) → p < length slots → (slot_at slots p).is_live ≡ true → HasOneLive (shape_of slots) →
@@ -120,15 +149,23 @@ aged_holds b slots loose p h pl =
     let a = aged_is slots p pl in
     let new : List Slot = set slots p (age (slot_at slots p)) in
     let c : length new ≡ length slots = a.count in
-    record { names = names_aged b slots new a h.names; sizes = sizes_aged slots new a h.sizes; mappings = mappings_aged slots new a h.mappings; one_live = one_live_aged slots new a h.one_live;
+    record {
+      names = names_aged b slots new a h.names;
+      sizes = sizes_aged slots new a h.sizes;
+      mappings = mappings_aged slots new a h.mappings;
+      one_live = one_live_aged slots new a h.one_live;
       lives = λ k kl. elim (h.lives k (omega arith)) [
-          inr n ↦ absurd n
+        | inr n ↦ absurd n
         | inl x ↦ elim (cases_eq x.0 p) [
-              inl same ↦ inr (a.volume k ∙ (sym x.3 ∙ ap (λ z. (slot_at slots z).volume) same))
-            | inr ne ↦ inl (x.0, omega (arith, x.1), ap (λ (t : Slot). t.is_live) (aged_other slots p x.0 pl ne) ∙ x.2, a.volume x.0 ∙ (x.3 ∙ sym (a.volume k))) ] ];
+          | inl same ↦ inr (a.volume k ∙ (sym x.3 ∙ ap (λ z. (slot_at slots z).volume) same))
+          | inr ne ↦ inl (x.0, omega (arith, x.1), ap (λ (t : Slot). t.is_live) (aged_other slots p x.0 pl ne) ∙ x.2, a.volume x.0 ∙ (x.3 ∙ sym (a.volume k)))
+        ]
+      ];
       holders = λ g k kl l gl. elim (h.holders g k (omega arith) (a.live k l) (let q : length (slot_at new k).held ≡ length (slot_at slots k).held = ap length (a.held k) in omega arith)) [
-          inl x ↦ inl (held_aged slots new a g k x)
-        | inr n ↦ inr (n.0, a.mapping k ∙ n.1, n.2) ] }
+        | inl x ↦ inl (held_aged slots new a g k x)
+        | inr n ↦ inr (n.0, a.mapping k ∙ n.1, n.2)
+      ];
+    }
 
 pub aged_no_live : (slots : List Slot) (p : ℕ) → p < length slots → (slot_at slots p).is_live ≡ true → HasOneLive (shape_of slots) →
     (i : ℕ) → i < length (set slots p (age (slot_at slots p))) → (slot_at (set slots p (age (slot_at slots p))) i).is_live ≡ true → (slot_at (set slots p (age (slot_at slots p))) i).volume ≢ (slot_at slots p).volume
@@ -147,20 +184,28 @@ alone_holds b slots loose v grains h apart size =
     let new : List Slot = with_alone slots b v grains in
     let r = push_is slots (alone b v grains) in
     let here : slot_at new (length slots) ≡ alone b v grains = push_here slots (alone b v grains) in
-    record { names = names_alone b slots v grains h.names; sizes = sizes_alone b slots v grains h.names h.sizes size; mappings = mappings_alone b slots v grains h.mappings;
+    record {
+      names = names_alone b slots v grains h.names;
+      sizes = sizes_alone b slots v grains h.names h.sizes size;
+      mappings = mappings_alone b slots v grains h.mappings;
       one_live = one_live_alone b slots v grains h.one_live apart;
       lives = λ k kl. elim (down new slots (length slots) r k kl) [
-          inl same ↦ inl (k, kl, ap (λ z. (slot_at new z).is_live) same ∙ ap (λ (t : Slot). t.is_live) here, refl)
+        | inl same ↦ inl (k, kl, ap (λ z. (slot_at new z).is_live) same ∙ ap (λ (t : Slot). t.is_live) here, refl)
         | inr d ↦ let e = big_at new slots (length slots) r d.0 k d.2 in
             elim (h.lives d.0 d.1) [
-                inr orphan ↦ inl (length slots, r.there, ap (λ (t : Slot). t.is_live) here, ap (λ (t : Slot). t.volume) here ∙ (sym orphan ∙ ap (λ (t : Slot). t.volume) (sym e)))
+              | inr orphan ↦ inl (length slots, r.there, ap (λ (t : Slot). t.is_live) here, ap (λ (t : Slot). t.volume) here ∙ (sym orphan ∙ ap (λ (t : Slot). t.volume) (sym e)))
               | inl x ↦ let f = removed_at new slots (length slots) r x.0 in
-                  inl (up (length slots) x.0, up_in new slots (length slots) r x.0 x.1, ap (λ (t : Slot). t.is_live) (sym f) ∙ x.2, ap (λ (t : Slot). t.volume) (sym f) ∙ (x.3 ∙ ap (λ (t : Slot). t.volume) (sym e))) ] ];
+                  inl (up (length slots) x.0, up_in new slots (length slots) r x.0 x.1, ap (λ (t : Slot). t.is_live) (sym f) ∙ x.2, ap (λ (t : Slot). t.volume) (sym f) ∙ (x.3 ∙ ap (λ (t : Slot). t.volume) (sym e)))
+            ]
+      ];
       holders = λ g k kl l gl. elim (down new slots (length slots) r k kl) [
-          inl same ↦ inl (held_for new g k k (omega arith) refl
+        | inl same ↦ inl (held_for new g k k (omega arith) refl
             (ap (λ z. get_or (slot_at new z).held g false) same ∙ (ap (λ (t : Slot). get_or t.held g false) here ∙ full_at grains g
-              (let q : length (slot_at new k).held ≡ grains = ap (λ z. length (slot_at new z).held) same ∙ (ap (λ (t : Slot). length t.held) here ∙ length_full grains true) in omega arith))))
+            (let q : length (slot_at new k).held ≡ grains = ap (λ z. length (slot_at new z).held) same ∙ (ap (λ (t : Slot). length t.held) here ∙ length_full grains true) in omega arith))))
         | inr d ↦ let e = big_at new slots (length slots) r d.0 k d.2 in
             elim (h.holders g d.0 d.1 (ap (λ (t : Slot). t.is_live) (sym e) ∙ l) (let q : length (slot_at new k).held ≡ length (slot_at slots d.0).held = ap (λ (t : Slot). length t.held) e in omega arith)) [
-                inl x ↦ inl (subst (λ (z : ℕ). HeldFor new g z) d.2 (held_big new slots (length slots) r g d.0 x))
-              | inr n ↦ inr (n.0, ap (λ (t : Slot). t.mapping) e ∙ n.1, n.2) ] ] }
+              | inl x ↦ inl (subst (λ (z : ℕ). HeldFor new g z) d.2 (held_big new slots (length slots) r g d.0 x))
+              | inr n ↦ inr (n.0, ap (λ (t : Slot). t.mapping) e ∙ n.1, n.2)
+            ]
+      ];
+    }
