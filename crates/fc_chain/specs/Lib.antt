@@ -1,0 +1,4 @@
+-- What contracts of the chains cite.
+pub mod Chains
+pub mod Walks
+pub mod Found

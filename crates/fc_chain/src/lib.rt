@@ -1,0 +1,9 @@
+//! Chains of copies.
+#![tactic(auto)]
+
+mod cascade;
+mod find;
+mod slot;
+mod walk;
+
+pub use cascade::Cascade;

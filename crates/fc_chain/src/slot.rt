@@ -1,0 +1,89 @@
+//! One slot of a chain: a state of a volume.
+
+ghost use Rattle.std.specs.Prelude.{◌≡◌, ℕ, false, true, None, Some, replicate, length, slice_index_or, slice_set, ◌<◌};
+
+use fc_bits::GrainSet;
+use std::marker::Model;
+
+/// A state of a volume in a chain of copies, named by its birth.
+#[derive(Drop)]
+pub(crate) struct Slot {
+    birth: u64,
+    chain: u64,
+    volume: u32,
+    is_live: bool,
+    mapping: Option<u32>,
+    held: GrainSet,
+}
+
+impl Model for Slot {
+    ghost use Rattle.fc_base.specs.Sheet.{Slot as SheetSlot};
+
+    ghost Value = { SheetSlot };
+
+    ghost view = { λ s. record { birth = s.birth; chain = s.chain; volume = s.volume; is_live = s.is_live; mapping = s.mapping; held = s.held } };
+}
+
+impl Slot {
+    /// The live slot of a volume in a chain of its own, which holds every grain of the set.
+    pub(crate) fn alone(birth: u64, volume: u32, mut held: GrainSet) -> Slot
+        ensures { result ≡ record { birth = birth; chain = birth; volume = volume; is_live = true; mapping = None; held = replicate (length held) true } }
+    {
+        held.set_all();
+        Slot {
+            birth,
+            chain: birth,
+            volume,
+            is_live: true,
+            mapping: None,
+            held,
+        }
+    }
+
+    /// The number by which the slot is named.
+    pub(crate) fn birth(&self) -> u64
+        ensures { result ≡ self.now.birth }
+    {
+        self.birth
+    }
+
+    /// The birth of the slot that began the chain.
+    pub(crate) fn chain(&self) -> u64
+        ensures { result ≡ self.now.chain }
+    {
+        self.chain
+    }
+
+    /// The volume whose state it is.
+    pub(crate) fn volume(&self) -> u32
+        ensures { result ≡ self.now.volume }
+    {
+        self.volume
+    }
+
+    /// Whether it is the volume as hosts see it.
+    pub(crate) fn is_live(&self) -> bool
+        ensures { result ≡ self.now.is_live }
+    {
+        self.is_live
+    }
+
+    /// Whether it is the slot of this mapping.
+    pub(crate) fn is_of(&self, mapping: u32) -> bool
+        ensures { result ≡ is_at self.now.mapping mapping }
+    {
+        match self.mapping {
+            Some(own) => own == mapping,
+            None => false,
+        }
+    }
+
+    /// Whether it holds the grain; past its last grain it holds none.
+    pub(crate) fn holds(&self, grain: u32) -> bool
+        ensures { result ≡ slice_index_or self.now.held grain false }
+    {
+        grain < self.held.len() && self.held.has(grain)
+    }
+}
+
+ghost use Rattle.fc_base.specs.Column.{is_at};
