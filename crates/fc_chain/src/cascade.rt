@@ -1,14 +1,19 @@
 //! The chains of copies of one lane.
 
-ghost use Rattle.std.specs.Prelude.{◌≡◌, ℕ, ◌<◌, ◌/◌, Some};
+ghost use Rattle.std.specs.Prelude.{◌≡◌, ℕ, ◌<◌, ◌/◌, Some, false};
 ghost use Rattle.fc_base.specs.Sheet.{no_slots, slot_at, column, live_place, mapping_place, birth_place};
 ghost use Rattle.fc_base.specs.Column.{holder, needer};
+ghost use Rattle.fc_base.specs.declared.request.Side.TheVariants.{Under};
+ghost use Rattle.fc_base.specs.SheetFits.{FitsTaken, FitsLost};
+ghost use Rattle.fc_base.specs.SheetStep.{sheet_moved, sheet_written, sheet_torn};
 ghost use Rattle.fc_chain.specs.Chains.{IsOfLane, in_lane, found, IsThere};
 
 use crate::find::{name_of, place_of, place_of_live, place_of_mapping};
+use crate::hold::{keep_grain, lose_grain, take_grain};
 use crate::slot::Slot;
 use crate::walk::{first_reader_of, holder_of};
 use fc_base::ids::{MapId, SlotId, VolId};
+use fc_base::request::Side;
 use fc_bits::GrainSet;
 use std::alloc::Global;
 use std::marker::Model;
@@ -99,5 +104,46 @@ impl Cascade {
         let slots = self.slots.as_slice();
         let place = place_of(slots, slot);
         name_of(slots, first_reader_of(slots, place, place, grain / self.lanes as u32))
+    }
+
+    /// The slot got its own copy of the grain; in place its volume's physical grain was the copy already.
+    pub fn moved(&mut self, slot: SlotId, grain: u32, in_place: bool)
+        requires there { IsThere self.old.sheet.slots slot }
+        requires of_lane { IsOfLane self.old grain }
+        requires fits { (k : ℕ) → birth_place self.old.sheet.slots slot.0 ≡ Some k → in_place ≡ false → FitsTaken self.old.sheet.slots (slot_at self.old.sheet.slots k).volume (in_lane self.old grain) }
+        ensures { (k : ℕ) → birth_place self.old.sheet.slots slot.0 ≡ Some k → self.new ≡ record self.old { sheet = sheet_moved (slot_at self.old.sheet.slots k).volume (in_lane self.old grain) in_place self.old.sheet } }
+    {
+        let volume = self.volume(slot);
+        let grain = grain / self.lanes as u32;
+        if in_place {
+            keep_grain(&mut self.slots, volume.0, grain);
+        } else {
+            take_grain(&mut self.slots, volume.0, grain);
+        }
+    }
+
+    /// The volume's grain was written.
+    pub fn written(&mut self, volume: VolId, grain: u32)
+        requires of_lane { IsOfLane self.old grain }
+        requires fits { FitsTaken self.old.sheet.slots volume.0 (in_lane self.old grain) }
+        ensures { self.new ≡ record self.old { sheet = sheet_written volume.0 (in_lane self.old grain) self.old.sheet } }
+    {
+        let grain = grain / self.lanes as u32;
+        take_grain(&mut self.slots, volume.0, grain);
+    }
+
+    /// A write of the volume's grain failed and left any bytes in it. With `Now` what the volume shows is lost
+    /// with them.
+    pub fn torn(&mut self, volume: VolId, grain: u32, side: Side)
+        requires of_lane { IsOfLane self.old grain }
+        requires fits { FitsTaken self.old.sheet.slots volume.0 (in_lane self.old grain) }
+        requires under { side ≡ Under → FitsLost self.old.sheet.slots volume.0 (in_lane self.old grain) }
+        ensures { self.new ≡ record self.old { sheet = sheet_torn volume.0 (in_lane self.old grain) side self.old.sheet } }
+    {
+        let grain = grain / self.lanes as u32;
+        match side {
+            Side::Now => take_grain(&mut self.slots, volume.0, grain),
+            Side::Under => lose_grain(&mut self.slots, volume.0, grain),
+        }
     }
 }

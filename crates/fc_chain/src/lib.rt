@@ -3,6 +3,7 @@
 
 mod cascade;
 mod find;
+mod hold;
 mod slot;
 mod walk;
 

@@ -2,6 +2,9 @@
 
 ghost use Rattle.std.specs.Prelude.{◌≡◌, ℕ, false, true, None, Some, replicate, length, slice_index_or, slice_set, ◌<◌};
 
+ghost use Rattle.fc_base.specs.Column.{is_at};
+ghost use Rattle.fc_base.specs.SheetStep.{grain_taken, grain_kept, grain_lost};
+
 use fc_bits::GrainSet;
 use std::marker::Model;
 
@@ -84,6 +87,35 @@ impl Slot {
     {
         grain < self.held.len() && self.held.has(grain)
     }
-}
 
-ghost use Rattle.fc_base.specs.Column.{is_at};
+    /// A slot of the volume is written: the live slot gets the grain, an old one loses it.
+    pub(crate) fn take(&mut self, volume: u32, grain: u32)
+        ensures { self.new ≡ grain_taken volume grain self.old }
+    {
+        if self.volume == volume && grain < self.held.len() {
+            if self.is_live {
+                self.held.set(grain);
+            } else {
+                self.held.clear(grain);
+            }
+        }
+    }
+
+    /// The volume's live slot gets the grain, which its physical grain already is.
+    pub(crate) fn keep(&mut self, volume: u32, grain: u32)
+        ensures { self.new ≡ grain_kept volume grain self.old }
+    {
+        if self.is_live && self.volume == volume && grain < self.held.len() {
+            self.held.set(grain);
+        }
+    }
+
+    /// The volume's old slots lose the grain.
+    pub(crate) fn lose(&mut self, volume: u32, grain: u32)
+        ensures { self.new ≡ grain_lost volume grain self.old }
+    {
+        if !self.is_live && self.volume == volume && grain < self.held.len() {
+            self.held.clear(grain);
+        }
+    }
+}
