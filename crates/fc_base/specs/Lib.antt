@@ -16,6 +16,7 @@ pub mod Safety
 pub mod RestoreGraph
 pub mod Need
 pub mod Plan
+pub mod MovePlan
 pub mod SheetStep
 pub mod SheetFacts
 pub mod SheetFits
