@@ -2,3 +2,5 @@
 pub mod Chains
 pub mod Walks
 pub mod Found
+pub mod Births
+pub mod Planning

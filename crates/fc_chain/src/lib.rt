@@ -4,6 +4,8 @@
 mod cascade;
 mod find;
 mod hold;
+mod old;
+mod plan;
 mod slot;
 mod walk;
 

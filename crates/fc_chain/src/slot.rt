@@ -1,8 +1,9 @@
 //! One slot of a chain: a state of a volume.
 
-ghost use Rattle.std.specs.Prelude.{◌≡◌, ℕ, false, true, None, Some, replicate, length, slice_index_or, slice_set, ◌<◌};
+ghost use Rattle.std.specs.Prelude.{◌≡◌, ℕ, false, true, None, Some, replicate, length, slice_index_or, slice_set, ◌<◌, not, ◌&&◌, eqb};
 
 ghost use Rattle.fc_base.specs.Column.{is_at};
+ghost use Rattle.fc_chain.specs.Births.{is_after, is_before};
 ghost use Rattle.fc_base.specs.SheetStep.{grain_taken, grain_kept, grain_lost};
 
 use fc_bits::GrainSet;
@@ -86,6 +87,35 @@ impl Slot {
         ensures { result ≡ slice_index_or self.now.held grain false }
     {
         grain < self.held.len() && self.held.has(grain)
+    }
+
+    /// Whether it is an old slot of the volume.
+    pub(crate) fn is_old_of(&self, volume: u32) -> bool
+        ensures { result ≡ (not self.now.is_live && eqb self.now.volume volume) }
+    {
+        !self.is_live && self.volume == volume
+    }
+
+    /// Whether it is an old slot of the volume born after this birth, if there is one.
+    pub(crate) fn is_old_after(&self, volume: u32, after: Option<u64>) -> bool
+        ensures { result ≡ ((not self.now.is_live && eqb self.now.volume volume) && is_after after self.now.birth) }
+    {
+        !self.is_live
+            && self.volume == volume
+            && match after {
+                Some(after) => after < self.birth,
+                None => true,
+            }
+    }
+
+    /// Whether it was born before this birth, if there is one.
+    pub(crate) fn is_born_before(&self, birth: Option<u64>) -> bool
+        ensures { result ≡ is_before self.now.birth birth }
+    {
+        match birth {
+            Some(birth) => self.birth < birth,
+            None => true,
+        }
     }
 
     /// A slot of the volume is written: the live slot gets the grain, an old one loses it.
