@@ -8,3 +8,15 @@ pub mod Rates
 pub mod Runs
 pub mod States
 pub mod Tables
+pub mod Sheet
+pub mod Column
+pub mod Moves
+pub mod OneByOne
+pub mod Safety
+pub mod RestoreGraph
+pub mod Need
+pub mod Plan
+pub mod MovePlan
+pub mod SheetStep
+pub mod SheetFacts
+pub mod SheetFits

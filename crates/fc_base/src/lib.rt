@@ -6,7 +6,7 @@
 //! bytes that they were made of, `Ranges` always rise, and a `List` is its items.
 //!
 //! In reading order: `outcome`, `list`, `ids`, `limits`, `size`, `name`, `runs`, `ranges`, `state`, `disk`,
-//! `fault`, `command`, `request`, `volume`, `decision`.
+//! `fault`, `command`, `request`, `move_plan`, `volume`, `decision`.
 #![tactic(auto)]
 
 pub mod command;
@@ -16,6 +16,7 @@ pub mod fault;
 pub mod ids;
 pub mod limits;
 pub mod list;
+pub mod move_plan;
 pub mod name;
 pub mod outcome;
 pub mod ranges;

@@ -1,0 +1,12 @@
+//! Chains of copies.
+#![tactic(auto)]
+
+mod cascade;
+mod find;
+mod hold;
+mod old;
+mod plan;
+mod slot;
+mod walk;
+
+pub use cascade::Cascade;

@@ -1,0 +1,11 @@
+pub mod Search
+pub mod Readers
+pub mod Members
+pub mod Prefixes
+pub mod Listing
+pub mod Filling
+pub mod Writing
+pub mod Shows
+pub mod Lists
+pub mod Lawful
+pub mod Rows

@@ -1,0 +1,2 @@
+-- What the law of moves says.
+pub mod Law

@@ -1,0 +1,11 @@
+pub mod Places
+pub mod Removing
+pub mod Aging
+pub mod Splitting
+pub mod Finding
+pub mod Steps
+pub mod Events
+pub mod Forcing
+pub mod Starting
+pub mod Holding
+pub mod Lawful

@@ -1,0 +1,2 @@
+-- What the law of sheets says.
+pub mod Law
