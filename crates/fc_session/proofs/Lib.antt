@@ -1,3 +1,5 @@
 -- Lemmas, one subject a file.
 pub mod ProgressLemmas
 pub mod ReadingLemmas
+pub mod EndingLemmas
+pub mod HeadlineLemmas

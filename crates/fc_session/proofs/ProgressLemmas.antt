@@ -14,7 +14,7 @@ use Rattle.fc_entry.proofs.Appending.{IsLegal-append, IsRun-append}
 use Rattle.fc_entry.proofs.LineLemmas.{lined-append, Grows, ended_lines-grow}
 use Rattle.fc_single.specs.declared.stop.Stop.{Stop}
 use Rattle.fc_single.specs.declared.stop.Stop.TheVariants.{LogFull, NoMemory}
-use Rattle.fc_session.specs.Progress.{Progress, Filled, Broken, Fed}
+use Rattle.fc_session.specs.Progress.{Progress, Complete, Filled, Broken, Fed}
 use Rattle.fc_session.specs.Reading.{reading}
 use Rattle.fc_session.specs.Stores.{Answered}
 
@@ -42,11 +42,6 @@ ended-newline :
     (bytes : List ℕ) →
     lined (bytes ++ 10 ∷ []) ≡ record { ended = ended_lines bytes ++ without_return (lined bytes).unended ∷ []; unended = [] }
 ended-newline bytes = lined-append bytes (10 ∷ [])
-
--- these lines are answered whole
-pub record Complete (grain : GrainSize) (told : Told) (lines : List (List ℕ)) (entries : List Entry) : Type 0 where
-  pub run : IsRun grain reading told lines entries
-  pub legal : IsLegal grain told entries
 
 -- after a line was answered: all lines, or a stop
 abbrev pub LineEnds : Result (Unit {0}) Stop → GrainSize → Told → List (List ℕ) → List Entry → Type 0

@@ -16,6 +16,11 @@ pub record Progress (grain : GrainSize) (told : Told) (bytes line : List ℕ) (e
   pub legal : IsLegal grain told entries
   pub unended : line ≡ (lined bytes).unended
 
+-- these lines are answered whole
+pub record Complete (grain : GrainSize) (told : Told) (lines : List (List ℕ)) (entries : List Entry) : Type 0 where
+  pub run : IsRun grain reading told lines entries
+  pub legal : IsLegal grain told entries
+
 -- 262,144 entries answer these lines, and one of the lines asks for more
 pub record Filled (grain : GrainSize) (told : Told) (lines : List (List ℕ)) (entries : List Entry) : Type 0 where
   pub wants : WantsMore grain reading told lines entries

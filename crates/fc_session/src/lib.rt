@@ -1,9 +1,12 @@
 //! The top call: from the bytes of a session to the bytes of its history.
 #![tactic(auto)]
 
+mod built;
+mod ending;
 pub mod gate;
 mod lines;
 mod reading;
+mod session;
 pub mod status;
 pub mod store;
 pub mod words;

@@ -72,7 +72,7 @@ fn take_turn<S: Source, L: LineStore>(
 }
 
 /// The greatest number of bytes of a piece.
-const PIECE_BYTES: usize = 65_536;
+pub const PIECE_BYTES: usize = 65_536;
 
 /// The greatest input.
 const INPUT_BYTES: usize = 67_108_864;
@@ -91,7 +91,7 @@ fn ask_past_limit<S: Source>(source: &mut S, one: &mut [u8]) -> Ending
 }
 
 /// Reads a source from its first byte on, piece by piece through the buffer, and answers the lines that end.
-fn read_pieces<S: Source, L: LineStore>(
+pub fn read_pieces<S: Source, L: LineStore>(
     source: &mut S,
     buffer: &mut [u8],
     line: &mut Vec<u8>,
@@ -124,7 +124,7 @@ fn read_pieces<S: Source, L: LineStore>(
 }
 
 /// So many zeros.
-fn zeros(alloc: Global, count: usize) -> Result<Vec<u8>, NoMemory>
+pub fn zeros(alloc: Global, count: usize) -> Result<Vec<u8>, NoMemory>
     ensures { IfOk result (λ bytes. length bytes.items ≡ count) }
 {
     match vec![in alloc; 0u8; count] {

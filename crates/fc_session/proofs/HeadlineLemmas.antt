@@ -1,0 +1,219 @@
+-- From how a session was read and written to what its status says.
+use Rattle.std.proofs.Common.{◌≡◌, ℕ, ◌+◌, ◌<◌, ◌≤◌, Bool, true, false, List, [], ◌∷◌, ◌++◌, map, length, append_assoc, refl, sym, ◌∙◌, ap, subst, arith, length-append, is_some}
+use Rattle.std.proofs.lemmas.List.{append-nil}
+use Rattle.std.specs.List.{All}
+use Rattle.std.proofs.lemmas.List.Elements.{All-from_recursion}
+use Rattle.std.specs.List.{AllByRecursion as ByRecursion}
+use Rattle.fc_base.specs.declared.request.Request.{Request}
+use Rattle.fc_base.specs.declared.size.GrainSize.{GrainSize}
+use Rattle.fc_entry.specs.declared.entry.Entry.{Entry}
+use Rattle.fc_entry.specs.HistoryState.{HistoryState}
+use Rattle.fc_entry.specs.Legal.{IsLegal}
+use Rattle.fc_entry.specs.Lines.{ended_lines, all_lines}
+use Rattle.fc_entry.specs.Run.{asks, by_main, line_asks, IsRun, IsPartialRun, IsPartOfNext, WantsMore}
+use Rattle.fc_entry.specs.Text.{history_text, HasNames}
+use Rattle.fc_entry.specs.Told.{Told, told_after}
+use Rattle.fc_entry.specs.Written.{Written}
+use Rattle.fc_entry.proofs.LineLemmas.{Grows, all_lines-grow}
+use Rattle.fc_io.specs.Sink.{SinkState, AddsFront}
+use Rattle.fc_io.specs.Source.{SourceState}
+use Rattle.fc_session.specs.Headline.{SessionEnds, EndsAs}
+use Rattle.fc_session.specs.Progress.{Complete, Filled, Broken}
+use Rattle.fc_session.specs.ReadTo.{Gave, IsAtEnd, input_limit}
+use Rattle.fc_session.specs.Reading.{reading}
+use Rattle.fc_session.specs.SessionRead.{SessionRead, EndsSession, status_for}
+use Rattle.fc_session.specs.declared.reading.Ending.{Ending}
+use Rattle.fc_session.specs.declared.reading.Ending.TheVariants as ending
+use Rattle.fc_session.specs.declared.status.Status.{Status}
+use Rattle.fc_session.specs.declared.status.Status.TheVariants as status
+use Rattle.fc_session.proofs.EndingLemmas.{Grows-all}
+use Rattle.fc_session.proofs.ProgressLemmas.{Broken-more}
+use Rattle.fc_single.specs.declared.stop.Stop.TheVariants.{LogFull, NoMemory}
+
+-- whole lines are some first lines
+Broken-complete :
+    (grain : GrainSize) (told : Told) (lines : List (List ℕ)) (history : List Entry) →
+    Complete grain told lines history →
+    Broken grain told lines history
+Broken-complete grain told lines history complete = record {
+  partial = record {
+    before = lines;
+    after = [];
+    whole = history;
+    part = [];
+    lines_are = sym (append-nil lines);
+    entries_are = sym (append-nil history);
+    run = complete.run;
+    next = refl
+  };
+  legal = complete.legal
+}
+
+Broken-filled :
+    (grain : GrainSize) (told : Told) (lines : List (List ℕ)) (history : List Entry) →
+    Filled grain told lines history →
+    Broken grain told lines history
+Broken-filled grain told lines history filled =
+    let wants : WantsMore grain reading told lines history = filled.wants in
+    record {
+      partial = record {
+        before = wants.before;
+        after = wants.line ∷ wants.after;
+        whole = wants.whole;
+        part = wants.part;
+        lines_are = wants.lines_are;
+        entries_are = wants.entries_are;
+        run = wants.run;
+        next = (wants.wanted ∷ wants.more, wants.next)
+      };
+      legal = filled.legal
+    }
+
+-- however a session was read, its entries answer some first lines
+pub Broken-read :
+    (ended : Ending) (before after : SourceState) (grain : GrainSize) (told : Told) (entries : List Entry) →
+    (read : SessionRead ended before after grain told entries) →
+    Broken grain told (all_lines read.bytes) entries × (length read.bytes ≤ input_limit + 1)
+Broken-read ending.End before after grain told entries read =
+    (Broken-complete grain told (all_lines read.bytes) entries read.ends.2, omega (arith, read.ends.1))
+Broken-read ending.ReadFault before after grain told entries read =
+    ( Broken-more grain told (ended_lines read.bytes) (all_lines read.bytes) entries (Grows-all read.bytes)
+        (Broken-complete grain told (ended_lines read.bytes) entries read.ends.2)
+    , omega (arith, read.ends.1) )
+Broken-read ending.TooLong before after grain told entries read =
+    let P : List ℕ → Type 0 = λ b. Broken grain told (all_lines b) entries in
+    let kept : List ℕ = read.ends.0 in
+    let past : List ℕ = read.ends.1 ∷ [] in
+    ( subst P (sym read.ends.2)
+        (Broken-more grain told (ended_lines kept) (all_lines (kept ++ past)) entries (all_lines-grow kept past)
+          (Broken-complete grain told (ended_lines kept) entries read.ends.4))
+    , omega (arith, ap length read.ends.2, length-append kept past, read.ends.3) )
+Broken-read (ending.Stopped LogFull) before after grain told entries read =
+    (Broken-filled grain told (all_lines read.bytes) entries read.ends.1, omega (arith, read.ends.0))
+Broken-read (ending.Stopped NoMemory) before after grain told entries read = (read.ends.1, omega (arith, read.ends.0))
+
+WriteFault-ends :
+    (ended : Ending) (before after : SourceState) (sink sink' : SinkState) (grain : GrainSize) (told : Told) (history : HistoryState) →
+    SessionRead ended before after grain told history.entries →
+    Written sink (history_text history) true sink' →
+    SessionEnds status.WriteFault grain told before after sink sink' history
+WriteFault-ends ended before after sink sink' grain told history read written =
+    let broken : (Broken grain told (all_lines read.bytes) history.entries × (length read.bytes ≤ input_limit + 1)) =
+      Broken-read ended before after grain told history.entries read in
+    record {
+      bytes = read.bytes;
+      gave = read.gave;
+      ends = (written.faults.cause, broken.1, broken.0.partial, written.front)
+    }
+
+-- what was put, whole or not, begins with a front of the text
+front_put :
+    (failed : Bool) (sink sink' : SinkState) (history : HistoryState) →
+    Written sink (history_text history) failed sink' →
+    AddsFront sink.held (history_text history) sink'.held
+front_put true sink sink' history written = written.front
+front_put false sink sink' history written =
+    record { front = history_text history; rest = []; split = sym (append-nil (history_text history)); added = written.held }
+
+-- the status of a session that was read and written
+pub SessionEnds-written :
+    (ended : Ending) (failed : Bool) (before after : SourceState) (sink sink' : SinkState) (grain : GrainSize) (told : Told) (history : HistoryState) →
+    SessionRead ended before after grain told history.entries →
+    Written sink (history_text history) failed sink' →
+    SessionEnds (status_for ended failed) grain told before after sink sink' history
+SessionEnds-written ending.End true before after sink sink' grain told history read written =
+    WriteFault-ends ending.End before after sink sink' grain told history read written
+SessionEnds-written ending.End false before after sink sink' grain told history read written =
+    let complete : Complete grain told (all_lines read.bytes) history.entries = read.ends.2 in
+    record { bytes = read.bytes; gave = read.gave; ends = (read.ends.0, read.ends.1, complete.run, written.held) }
+SessionEnds-written ending.ReadFault true before after sink sink' grain told history read written =
+    WriteFault-ends ending.ReadFault before after sink sink' grain told history read written
+SessionEnds-written ending.ReadFault false before after sink sink' grain told history read written =
+    let complete : Complete grain told (ended_lines read.bytes) history.entries = read.ends.2 in
+    record { bytes = read.bytes; gave = read.gave; ends = (read.ends.0, read.ends.1, complete.run, written.held) }
+SessionEnds-written ending.TooLong true before after sink sink' grain told history read written =
+    WriteFault-ends ending.TooLong before after sink sink' grain told history read written
+SessionEnds-written ending.TooLong false before after sink sink' grain told history read written =
+    let complete : Complete grain told (ended_lines read.ends.0) history.entries = read.ends.4 in
+    record {
+      bytes = read.bytes;
+      gave = read.gave;
+      ends = (read.ends.0, read.ends.1, read.ends.2, read.ends.3, complete.run, written.held)
+    }
+SessionEnds-written (ending.Stopped LogFull) true before after sink sink' grain told history read written =
+    WriteFault-ends (ending.Stopped LogFull) before after sink sink' grain told history read written
+SessionEnds-written (ending.Stopped LogFull) false before after sink sink' grain told history read written =
+    let filled : Filled grain told (all_lines read.bytes) history.entries = read.ends.1 in
+    record { bytes = read.bytes; gave = read.gave; ends = (read.ends.0, filled.wants, filled.full, written.held) }
+SessionEnds-written (ending.Stopped NoMemory) failed before after sink sink' grain told history read written =
+    let broken : Broken grain told (all_lines read.bytes) history.entries = read.ends.1 in
+    record { bytes = read.bytes; gave = read.gave; ends = (read.ends.0, broken.partial, front_put failed sink sink' history written) }
+
+-- all these entries are by `main`
+abbrev pub ByMain : List Entry → Type 0
+ByMain [] = Unit {0}
+ByMain (entry ∷ entries) = (entry.actor ≡ 0) × ByMain entries
+
+ByMain-append : (xs ys : List Entry) → ByMain xs → ByMain ys → ByMain (xs ++ ys)
+ByMain-append [] ys a b = b
+ByMain-append (x ∷ xs) ys a b = (a.0, ByMain-append xs ys a.1 b)
+
+ByMain-asked : (entries : List Entry) (left : List (ℕ × Request)) (requests : List Request) →
+    asks entries ++ left ≡ by_main requests → ByMain entries
+ByMain-asked [] left requests e = tt
+ByMain-asked (entry ∷ entries) left [] e = cc
+ByMain-asked (entry ∷ entries) left (request ∷ requests) e =
+    let first : Path (ℕ × Request) (entry.actor, entry.request) (0, request) = cc in
+    (ap (λ (p : ℕ × Request). p.0) first, ByMain-asked entries left requests cc)
+
+ByMain-run : (grain : GrainSize) (told : Told) (lines : List (List ℕ)) (entries : List Entry) →
+    IsRun grain reading told lines entries → ByMain entries
+ByMain-run grain told [] entries run = subst ByMain (sym run) tt
+ByMain-run grain told (line ∷ lines) entries run =
+    subst ByMain (sym run.2)
+      (ByMain-append run.0 run.1
+        (ByMain-asked run.0 [] _ (append-nil (asks run.0) ∙ run.3))
+        (ByMain-run grain (told_after grain told run.0) lines run.1 run.4))
+
+ByMain-next : (grain : GrainSize) (told : Told) (lines : List (List ℕ)) (entries : List Entry) →
+    IsPartOfNext grain reading told lines entries → ByMain entries
+ByMain-next grain told [] entries next = subst ByMain (sym next) tt
+ByMain-next grain told (line ∷ lines) entries next = ByMain-asked entries next.0 _ next.1
+
+pub ByMain-broken : (grain : GrainSize) (told : Told) (lines : List (List ℕ)) (entries : List Entry) →
+    Broken grain told lines entries → ByMain entries
+ByMain-broken grain told lines entries broken =
+    let partial : IsPartialRun grain reading told lines entries = broken.partial in
+    subst ByMain (sym partial.entries_are)
+      (ByMain-append partial.whole partial.part
+        (ByMain-run grain told partial.before partial.whole partial.run)
+        (ByMain-next grain (told_after grain told partial.whole) partial.after partial.part partial.next))
+
+-- an entry by `main` has a name where there is one
+named_main : (count : ℕ) (entries : List Entry) → 0 < count → ByMain entries → ByRecursion (λ entry. entry.actor < count) entries
+named_main count [] some by = tt
+named_main count (entry ∷ entries) some by = (omega (arith, by.0), named_main count entries some by.1)
+
+pub HasNames-read :
+    (ended : Ending) (before after : SourceState) (grain : GrainSize) (told : Told) (history : HistoryState) (name : List ℕ) →
+    SessionRead ended before after grain told history.entries →
+    history.actors ≡ name ∷ [] →
+    HasNames history
+HasNames-read ended before after grain told history name read actors =
+    let one : 0 < length history.actors = omega (arith, ap length actors) in
+    let broken : (Broken grain told (all_lines read.bytes) history.entries × (length read.bytes ≤ input_limit + 1)) =
+      Broken-read ended before after grain told history.entries read in
+    All-from_recursion (λ entry. entry.actor < length history.actors) history.entries
+      (named_main (length history.actors) history.entries one
+        (ByMain-broken grain told (all_lines read.bytes) history.entries broken.0))
+
+-- the status that was computed is that of the ending
+pub SessionEnds-status :
+    (status : Status) (ended : Ending) (failed : Bool) (before after : SourceState) (sink sink' : SinkState) (grain : GrainSize) (told : Told) (history : HistoryState) →
+    status ≡ status_for ended failed →
+    SessionRead ended before after grain told history.entries →
+    Written sink (history_text history) failed sink' →
+    SessionEnds status grain told before after sink sink' history
+SessionEnds-status status ended failed before after sink sink' grain told history is read written =
+    let P : Status → Type 0 = λ s. SessionEnds s grain told before after sink sink' history in
+    subst P (sym is) (SessionEnds-written ended failed before after sink sink' grain told history read written)

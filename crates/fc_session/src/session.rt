@@ -1,0 +1,69 @@
+//! A whole session over a store.
+
+ghost use Rattle.std.specs.Prelude.{◌≡◌, ◌≤◌, [], ◌∷◌, length, codes, is_err};
+ghost use Rattle.fc_entry.specs.Legal.{IsLegal};
+ghost use Rattle.fc_entry.specs.Text.{HasNames};
+ghost use Rattle.fc_session.specs.Headline.{SessionEnds};
+ghost use Rattle.fc_session.specs.ReadTo.{StandsAtEnd, ReadTo};
+ghost use Rattle.fc_session.specs.SessionRead.{SessionRead, StandsUnlessStarved};
+
+use crate::ending::{end_input, status_of, write_text};
+use crate::reading::{read_pieces, zeros, Ending, PIECE_BYTES};
+use crate::status::Status;
+use crate::store::LineStore;
+use fc_entry::history::History;
+use fc_io::sink::Sink;
+use fc_io::source::Source;
+use fc_single::stop::Stop;
+use std::alloc::Global;
+
+/// Reads a source to its end and answers its lines.
+fn read_session<S: Source, L: LineStore>(
+    alloc: Global,
+    source: &mut S,
+    store: &mut L,
+    history: &mut History,
+) -> Ending
+    requires stands { L.Stands store.old history.old }
+    requires first_entry { history.old.entries ≡ [] }
+    ensures read { SessionRead result (S.meaning source.old) (S.meaning source.new)
+      (L.grain store.old) (L.opening store.old) history.new.entries }
+    ensures actors { history.new.actors ≡ history.old.actors }
+    ensures stands { StandsAtEnd result (L.Stands store.new history.new) }
+    ensures grain { L.grain store.new ≡ L.grain store.old }
+    ensures opening { L.opening store.new ≡ L.opening store.old }
+    ensures limit { length history.new.entries ≤ 262144 }
+{
+    let mut buffer = match zeros(alloc, PIECE_BYTES) {
+        Ok(buffer) => buffer,
+        Err(_) => return Ending::Stopped(Stop::NoMemory),
+    };
+    let mut line = Vec::new(alloc);
+    let ending = read_pieces(source, &mut buffer, &mut line, store, history);
+    end_input(ending, line.as_slice(), store, history)
+}
+
+/// Runs a session over a store without a history: reads it to its end, answers its lines and writes the text.
+pub fn run_session<S: Source, K: Sink, L: LineStore>(
+    alloc: Global,
+    source: &mut S,
+    sink: &mut K,
+    store: &mut L,
+    history: &mut History,
+) -> Status
+    requires stands { L.Stands store.old history.old }
+    requires first_entry { history.old.entries ≡ [] }
+    requires main { history.old.actors ≡ codes "main" ∷ [] }
+    ensures ends { SessionEnds result (L.grain store.old) (L.opening store.old)
+      (S.meaning source.old) (S.meaning source.new) (K.meaning sink.old) (K.meaning sink.new) history.new }
+    ensures legal { IsLegal (L.grain store.old) (L.opening store.old) history.new.entries }
+    ensures actors { history.new.actors ≡ history.old.actors }
+    ensures stands { StandsUnlessStarved result (L.Stands store.new history.new) }
+    ensures grain { L.grain store.new ≡ L.grain store.old }
+    ensures opening { L.opening store.new ≡ L.opening store.old }
+    ensures limit { length history.new.entries ≤ 262144 }
+{
+    let ending = read_session(alloc, source, store, history);
+    let written = write_text(history, sink);
+    status_of(ending, &written)
+}

@@ -1,0 +1,9 @@
+-- The disk that was made ready is fresh, and those before it still are.
+use Rattle.flashcopy.proofs.Fresh.{fresh_more}
+use Rattle.std.proofs.Common.{arith, rules}
+use Rattle.flashcopy.proofs.disks.make_ready.Goals as goal
+
+pub loop-place-preserved : goal.loop-place-preserved
+loop-place-preserved g c =
+    fresh_more g.D.Mdisk.meaning c.loop-place.disks c.loop-place.place c.make_disk_ready.new.disk (omega arith)
+      (search (rules, c.if-not-make_disk_ready.ensures)) c.loop-place.invariant
