@@ -196,8 +196,8 @@ first_volume_text = refl
 report_text :
     entry_text (codes "main" ∷ codes "w1" ∷ [])
     (
-      entry_of 120 1 (request.Command (Lsvdisk None))
-      (reply.Listed (codes "id name status" ∷ codes "0  A    online" ∷ []))
+    entry_of 120 1 (request.Command (Lsvdisk None))
+    (reply.Listed (codes "id name status" ∷ codes "0  A    online" ∷ []))
     )
     ≡ codes "120 w1 lsvdisk -> rows 2\nid name status\n0  A    online\n"
 unfolding digits entry_of

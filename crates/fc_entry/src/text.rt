@@ -63,3 +63,6 @@ pub fn put_history<K: Sink>(history: &History, sink: &mut K) -> Result<(), Faile
     }
     Ok(())
 }
+
+#[cfg(test)]
+mod tests;
