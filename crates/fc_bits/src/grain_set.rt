@@ -4,7 +4,10 @@ ghost use Rattle.std.specs.Prelude.{◌≡◌, ℕ, ◌^◌, ◌<◌, ◌↔◌,
 ghost use Rattle.fc_bits.specs.Grains.{has, count_set, difference, common, union, least_set, least_clear};
 ghost use Rattle.fc_bits.specs.Words.{bit_of, bits_of, words_for};
 
-use crate::words::{clear_others, count_words, first_clear, first_in_difference, first_set, first_shared, set_others};
+use crate::words::{
+    clear_others, count_words, first_clear, first_in_difference, first_set, first_shared,
+    set_others,
+};
 use fc_base::outcome::NoMemory;
 use std::alloc::Global;
 use std::marker::Model;
@@ -100,7 +103,11 @@ impl GrainSet {
         ensures { result ≡ least_clear self.now from }
     {
         let grain = first_clear(&self.words, from)?;
-        if grain < self.grains { Some(grain) } else { None }
+        if grain < self.grains {
+            Some(grain)
+        } else {
+            None
+        }
     }
 
     /// The least grain from `from` on that is in this set and not in the other, and None exactly where there is none.
