@@ -15,7 +15,8 @@
 //!
 //! To read: `specs/Grains.antt` (sets as lists), `specs/Words.antt` (words as rows of bits), `src/grain_set.rt`,
 //! `src/words.rt`, `src/scan.rt`. The proofs: `Least` (what the least number is), `Places` (the least bit, word by word),
-//! `Bridge` (words and lists), `Pairs` (two of them), `Counting`, `Vectors`, `Sets` (the clauses). `Grains` is for callers.
+//! `Bridge` (words and lists), `Pairs` (two of them), `Counting`, `Vectors`, `Sets` (the clauses). `Grains` is for callers, and
+//! `Examples` has the definitions on small sets.
 #![tactic(auto)]
 
 mod grain_set;
