@@ -23,10 +23,10 @@ count-more n words = ap count_set (grains_of-more n words) ∙ sum_by_push (λ (
 ones-bit : (b : ℕ) → b < 2 → count_ones b ≡ cond (eqb b 1) 1 0
 ones-bit b low =
     ⊎_elim
-      (λ (on : b ≡ 1). ap count_ones on ∙ ones-ones 1 ∙ ap (λ (t : Bool). cond {A = ℕ} t 1 0) (sym (eq-eqb b 1 on)))
-      (λ ne. let off : b ≡ 0 = omega arith in
-        ap count_ones off ∙ omega (arith, ones_le_self 0) ∙ ap (λ (t : Bool). cond {A = ℕ} t 1 0) (sym (ne_eqb b 1 ne)))
-      (cases_eq b 1)
+    (λ (on : b ≡ 1). ap count_ones on ∙ ones-ones 1 ∙ ap (λ (t : Bool). cond {A = ℕ} t 1 0) (sym (eq-eqb b 1 on)))
+    (λ ne. let off : b ≡ 0 = omega arith in
+    ap count_ones off ∙ omega (arith, ones_le_self 0) ∙ ap (λ (t : Bool). cond {A = ℕ} t 1 0) (sym (ne_eqb b 1 ne)))
+    (cases_eq b 1)
 
 -- one more digit
 ones-more : (w j : ℕ) → count_ones (w % 2 ^ (1 + j)) ≡ count_ones (w % 2 ^ j) + cond (is_set w j) 1 0
@@ -45,7 +45,7 @@ count-block words k (suc j) le =
     let place : (64 * k + j) % 64 ≡ j = omega arith in
     let bit : bit_of words (64 * k + j) ≡ is_set (get_or words k 0) j = bit_of-word words k (64 * k + j) word ∙ ap (λ (x : ℕ). is_set (get_or words k 0) x) place in
     let digit : count_ones (get_or words k 0 % 2 ^ suc j) ≡ count_ones (get_or words k 0 % 2 ^ j) + cond (is_set (get_or words k 0) j) 1 0 =
-      ap (λ (x : ℕ). count_ones (get_or words k 0 % 2 ^ x)) (omega arith) ∙ ones-more (get_or words k 0) j in
+    ap (λ (x : ℕ). count_ones (get_or words k 0 % 2 ^ x)) (omega arith) ∙ ones-more (get_or words k 0) j in
     ap (λ (x : ℕ). count_set (grains_of x words)) (omega arith) ∙ count-more (64 * k + j) words ∙ ap (λ (t : Bool). count_set (grains_of (64 * k + j) words) + cond t 1 0) bit
     ∙ omega (arith, count-block words k j (omega arith), digit)
 

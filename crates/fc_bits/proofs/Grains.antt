@@ -1,7 +1,7 @@
 -- Lemmas on sets of grains for the crates above: what an answer tells, what two sets hold together, and how a count changes.
-use Rattle.std.proofs.Common.{◌≡◌, ℕ, ◌+◌, ◌*◌, ◌<◌, ◌≤◌, Bool, true, false, not, ◌&&◌, ◌||◌, cond, List, Option, Some, None, length, get_or, set, replicate, refl, sym, ap, ◌∙◌, subst, ⊎_elim, arith, IsTrue, ◌↔◌}
+use Rattle.std.proofs.Common.{◌≡◌, ℕ, ◌+◌, ◌*◌, ◌<◌, ◌≤◌, Bool, true, false, not, ◌&&◌, ◌||◌, cond, List, Option, Some, None, length, set, replicate, refl, sym, ap, ◌∙◌, ⊎_elim, arith, IsTrue, ◌↔◌}
 use Rattle.std.specs.Prelude.{is_some}
-use Rattle.std.proofs.lemmas.Bool.{cases_lt, false≢true, true≢false, not-false, not-true, not_from_true}
+use Rattle.std.proofs.lemmas.Bool.{cases_lt, false≢true, true≢false, not-false, not-true}
 use Rattle.std.proofs.lemmas.List.{same_lists, get_or_past, get_or_default, get_or-replicate, length-replicate}
 use Rattle.std.proofs.lemmas.List.Sums.{sum_by-set}
 use Rattle.std.proofs.lemmas.List.Folds.{sum_by-replicate}
@@ -53,7 +53,7 @@ has-replicate n b g within = get_or-replicate n g b false within
 pub all_alike : (grains : List Bool) (b : Bool) → ((g : ℕ) → g < length grains → has grains g ≡ b) → grains ≡ replicate (length grains) b
 all_alike grains b alike =
     same_lists grains (replicate (length grains) b) (sym (length-replicate (length grains) b))
-      (λ g d within. get_or_default grains g d false within ∙ alike g within ∙ sym (get_or-replicate (length grains) g b d within))
+    (λ g d within. get_or_default grains g d false within ∙ alike g within ∙ sym (get_or-replicate (length grains) g b d within))
 
 alike_all : (grains : List Bool) (b : Bool) → grains ≡ replicate (length grains) b → (g : ℕ) → g < length grains → has grains g ≡ b
 alike_all grains b e g within = ap (λ (x : List Bool). has x g) e ∙ has-replicate (length grains) b g within

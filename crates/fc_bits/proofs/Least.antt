@@ -2,7 +2,7 @@
 use Rattle.std.proofs.Common.{◌≡◌, ℕ, ◌+◌, ◌-◌, ◌<◌, ◌≤◌, zero, suc, Bool, true, false, cond, Option, Some, None, MatchOption, refl, sym, ap, ◌∙◌, subst, ⊎_elim, arith}
 use Rattle.std.specs.Prelude.{find}
 use Rattle.std.specs.List.{range_with_len}
-use Rattle.std.proofs.lemmas.Bool.{cases_lt, cases_order, cases_Bool, false≢true}
+use Rattle.std.proofs.lemmas.Bool.{cases_lt, cases_order, false≢true}
 use Rattle.fc_bits.specs.Grains.{least_from}
 
 -- r is the least number from `from` on and below `end` that passes, and None exactly where none passes
@@ -32,9 +32,9 @@ pub least_from-tells : (p : ℕ → Bool) (from end : ℕ) → IsLeast p from en
 unfolding least_from
 least_from-tells p from end =
     ⊎_elim
-      (λ within. subst (λ (x : ℕ). IsLeast p from x (find p (range_with_len from (end - from)))) (omega arith) (find-tells p from (end - from)))
-      (λ past. rw (past_end past) (λ k low high. absurd (omega arith)))
-      (cases_lt from end)
+    (λ within. subst (λ (x : ℕ). IsLeast p from x (find p (range_with_len from (end - from)))) (omega arith) (find-tells p from (end - from)))
+    (λ past. rw (past_end past) (λ k low high. absurd (omega arith)))
+    (cases_lt from end)
   where
     past_end : end ≤ from → end - from ≡ 0
     past_end past = omega arith
@@ -46,8 +46,8 @@ same_least p from end None (Some g) h t = absurd (false≢true (sym (h g t.0 t.1
 same_least p from end (Some g) None h t = absurd (false≢true (sym (t g h.0 h.1) ∙ h.2))
 same_least p from end (Some g) (Some k) h t =
     ⊎_elim (λ same. ap Some same)
-      (⊎_elim (λ below. absurd (false≢true (sym (t.3 g h.0 below) ∙ h.2))) (λ above. absurd (false≢true (sym (h.3 k t.0 above) ∙ t.2))))
-      (cases_order g k)
+    (⊎_elim (λ below. absurd (false≢true (sym (t.3 g h.0 below) ∙ h.2))) (λ above. absurd (false≢true (sym (h.3 k t.0 above) ∙ t.2))))
+    (cases_order g k)
 
 pub least_from_is : (p : ℕ → Bool) (from end : ℕ) (r : Option ℕ) → IsLeast p from end r → r ≡ least_from p from end
 least_from_is p from end r h = same_least p from end r _ h (least_from-tells p from end)

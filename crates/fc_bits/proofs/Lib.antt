@@ -6,3 +6,4 @@ pub mod Pairs
 pub mod Vectors
 pub mod Sets
 pub mod Grains
+mod Examples

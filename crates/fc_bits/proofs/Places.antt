@@ -1,7 +1,7 @@
 -- The least set bit of a row of words, from a search word by word.
-use Rattle.std.proofs.Common.{◌≡◌, ℕ, ◌+◌, ◌-◌, ◌*◌, ◌/◌, ◌%◌, ◌^◌, ◌<◌, ◌≤◌, Bool, true, false, not, eqb, Option, Some, None, refl, sym, ap, ◌∙◌, subst, ⊎_elim, arith, min, bit_and}
+use Rattle.std.proofs.Common.{◌≡◌, ℕ, ◌+◌, ◌-◌, ◌*◌, ◌/◌, ◌%◌, ◌^◌, ◌<◌, ◌≤◌, false, Option, Some, None, refl, sym, ap, ◌∙◌, subst, ⊎_elim, arith, bit_and}
 use Rattle.std.specs.Int.{bit_at, w64, trailing_zeros}
-use Rattle.std.proofs.lemmas.Bool.{cases_lt, cases_order, eqb-true, eqb-false, eq-eqb, ne_eqb, not-false}
+use Rattle.std.proofs.lemmas.Bool.{cases_lt, eq-eqb, ne_eqb}
 use Rattle.std.proofs.lemmas.Nat.Bits.{bit_at-zero, bit_at-lt, bit_at_and, bit_at-trailing_zeros, bit_at_mask_inside, bit_at_mask_below, ones_shl}
 use Rattle.std.proofs.lemmas.Nat.{and_le_l}
 use Rattle.fc_bits.specs.Grains.{least_from}
@@ -24,9 +24,12 @@ found_in row w place word r read found = subst (λ (x : ℕ). IsLeast (is_set x)
 
 -- in the word that `from` stands in
 pub least_here : (row : ℕ → ℕ) (from n b : ℕ) → from / 64 < n → IsLeast (is_set (row (from / 64))) (from % 64) 64 (Some b) → IsLeast (bit_in row) from (64 * n) (Some (from / 64 * 64 + b))
-least_here row from n b within h =
-    (omega (arith, h.0), omega (arith, h.1), bit_in-at row (from / 64) b h.1 ∙ h.2,
-     λ k low high. let e : k / 64 ≡ from / 64 = omega (arith, h.1) in bit_in-word row k (from / 64) e ∙ h.3 (k % 64) (omega arith) (omega arith))
+least_here row from n b within h = (
+  omega (arith, h.0),
+  omega (arith, h.1),
+  bit_in-at row (from / 64) b h.1 ∙ h.2,
+  λ k low high. let e : k / 64 ≡ from / 64 = omega (arith, h.1) in bit_in-word row k (from / 64) e ∙ h.3 (k % 64) (omega arith) (omega arith),
+)
 
 -- not in that word, so from the next word on
 pub least_past : (row : ℕ → ℕ) (from end : ℕ) (r : Option ℕ) → IsLeast (is_set (row (from / 64))) (from % 64) 64 None → IsLeast (bit_in row) (64 * (from / 64 + 1)) end r → IsLeast (bit_in row) from end r
@@ -40,22 +43,25 @@ ClearBetween row start w = (k : ℕ) → 64 * start ≤ k → k < 64 * w → bit
 pub clear_more : (row : ℕ → ℕ) (start w : ℕ) → ClearBetween row start w → IsLeast (is_set (row w)) 0 64 None → ClearBetween row start (w + 1)
 clear_more row start w clear here k low high =
     ⊎_elim (λ below. clear k low below)
-      (λ at. let e : k / 64 ≡ w = omega arith in bit_in-word row k w e ∙ here (k % 64) (omega arith) (omega arith))
-      (cases_lt k (64 * w))
+    (λ at. let e : k / 64 ≡ w = omega arith in bit_in-word row k w e ∙ here (k % 64) (omega arith) (omega arith))
+    (cases_lt k (64 * w))
 
 pub least_at_word : (row : ℕ → ℕ) (start w n b : ℕ) → start ≤ w → w < n → ClearBetween row start w → IsLeast (is_set (row w)) 0 64 (Some b) → IsLeast (bit_in row) (64 * start) (64 * n) (Some (w * 64 + b))
-least_at_word row start w n b le within clear here =
-    (omega arith, omega (arith, here.1), bit_in-at row w b here.1 ∙ here.2,
-     λ k low high. ⊎_elim (λ below. clear k low below)
-       (λ at. let e : k / 64 ≡ w = omega (arith, here.1) in bit_in-word row k w e ∙ here.3 (k % 64) (omega arith) (omega arith))
-       (cases_lt k (64 * w)))
+least_at_word row start w n b le within clear here = (
+  omega arith,
+  omega (arith, here.1),
+  bit_in-at row w b here.1 ∙ here.2,
+  λ k low high. ⊎_elim (λ below. clear k low below)
+      (λ at. let e : k / 64 ≡ w = omega (arith, here.1) in bit_in-word row k w e ∙ here.3 (k % 64) (omega arith) (omega arith))
+      (cases_lt k (64 * w)),
+)
 
 -- words that are 0
 pub clear_zeros : (row : ℕ → ℕ) (start w top : ℕ) → ClearBetween row start w → ((k : ℕ) → w ≤ k → k < top → row k ≡ 0) → ClearBetween row start top
 clear_zeros row start w top clear zeros k low high =
     ⊎_elim (λ below. clear k low below)
-      (λ past. bit_in-word row k (k / 64) refl ∙ ap (λ (x : ℕ). is_set x (k % 64)) (zeros (k / 64) (omega arith) (omega arith)) ∙ ne_eqb _ 1 (λ (is : bit_at 0 (k % 64) ≡ 1). absurd (omega (arith, bit_at-zero (k % 64)))))
-      (cases_lt k (64 * w))
+    (λ past. bit_in-word row k (k / 64) refl ∙ ap (λ (x : ℕ). is_set x (k % 64)) (zeros (k / 64) (omega arith) (omega arith)) ∙ ne_eqb _ 1 (λ (is : bit_at 0 (k % 64) ≡ 1). absurd (omega (arith, bit_at-zero (k % 64)))))
+    (cases_lt k (64 * w))
 
 -- the bits of a word from a place on
 abbrev pub rest_of : ℕ → ℕ → ℕ
@@ -84,6 +90,9 @@ pub least_rest_some : (word place : ℕ) → place < 64 → word < 2 ^ 64 → 0 
 least_rest_some word place in_word fits some =
     let low = bit_at-trailing_zeros w64 (rest_of word place) some (omega (arith, and_le_l word ((2 ^ 64 - 1) * 2 ^ place % 2 ^ 64))) in
     let at = trailing_zeros w64 (rest_of word place) in
-    let above : place ≤ at = ⊎_elim (λ below. absurd (omega (arith, rest_below word place at in_word below, low.1))) (λ le. le) (cases_lt at place) in
-    (above, low.0, eq-eqb _ 1 (sym (rest_from word place at in_word above low.0) ∙ low.1),
-     λ k from below. ne_eqb _ 1 (λ (is : bit_at word k ≡ 1). absurd (omega (arith, rest_from word place k in_word from (omega (arith, low.0)), low.2 k below))))
+    let above : place ≤ at = ⊎_elim (λ below. absurd (omega (arith, rest_below word place at in_word below, low.1))) (λ le. le) (cases_lt at place) in (
+      above,
+      low.0,
+      eq-eqb _ 1 (sym (rest_from word place at in_word above low.0) ∙ low.1),
+      λ k from below. ne_eqb _ 1 (λ (is : bit_at word k ≡ 1). absurd (omega (arith, rest_from word place k in_word from (omega (arith, low.0)), low.2 k below))),
+    )

@@ -1,14 +1,12 @@
 -- The clauses of a set's calls, from its words: `held` says that these hold the value that a caller sees.
-use Rattle.std.proofs.Common.{◌≡◌, ℕ, ◌+◌, ◌-◌, ◌*◌, ◌/◌, ◌%◌, ◌^◌, ◌<◌, ◌≤◌, Bool, true, false, not, ◌&&◌, List, Option, Some, None, length, get_or, set, replicate, refl, sym, ap, ap₂, ◌∙◌, subst, arith, eqb, bit_and, bit_or}
-use Rattle.std.specs.Int.{bit_at}
+use Rattle.std.proofs.Common.{◌≡◌, ℕ, ◌-◌, ◌*◌, ◌/◌, ◌%◌, ◌^◌, ◌<◌, ◌≤◌, Bool, true, false, not, List, Option, Some, None, length, get_or, set, replicate, refl, sym, ap, ap₂, ◌∙◌, subst, arith, eqb, bit_and, bit_or}
 use Rattle.std.specs.Simd.Lanes.{zip2}
 use Rattle.std.proofs.lemmas.List.{get_or_read, get_or_past}
 use Rattle.std.proofs.lemmas.List.Sums.{count_by-le-length}
-use Rattle.std.proofs.lemmas.Bool.{and_left}
 use Rattle.std.proofs.lemmas.Simd.{length-zip2}
 use Rattle.std.proofs.lemmas.Nat.Bits.{shr_and_one}
 use Rattle.fc_bits.specs.Grains.{has, count_set, least_from, least_set, least_clear}
-use Rattle.fc_bits.specs.Words.{bit_in, bit_of, is_set, grains_of, words_for, bits_of, IsTidy}
+use Rattle.fc_bits.specs.Words.{bit_of, is_set, grains_of, words_for, bits_of, IsTidy}
 use Rattle.fc_bits.proofs.Least.{least_from-same, least_from-nearer, least_from-none_nearer, least_from-some_nearer, least_from-some_past}
 use Rattle.fc_bits.proofs.Bridge.{ones_up_to, length-grains_of, has-tidy, bit_of-word, grains_of-with, tidy-with, grains_of-without, tidy-without, grains_of-zeros, tidy-zeros, grains_of-full, tidy-full, grains_of-ones, tidy-ones}
 use Rattle.fc_bits.proofs.Counting.{count-grains_of}
@@ -32,15 +30,15 @@ module _ (n : ℕ) (words : List ℕ) (value : List Bool) (held : grains_of n wo
       → IsTidy n (set words (g / 64) (bit_or word (1 * 2 ^ (g % 64) % 2 ^ 64))) × (grains_of n (set words (g / 64) (bit_or word (1 * 2 ^ (g % 64) % 2 ^ 64))) ≡ set value g true)
   set_held tidy g word within read =
       subst (λ (x : ℕ). IsTidy n (set words (g / 64) (bit_or x (1 * 2 ^ (g % 64) % 2 ^ 64))) × (grains_of n (set words (g / 64) (bit_or x (1 * 2 ^ (g % 64) % 2 ^ 64))) ≡ set value g true))
-        (sym (get_or_read words (g / 64) word (omega (arith, tidy.enough, length_held)) read 0))
-        (tidy-with n words g tidy (omega (arith, length_held)), grains_of-with n words g tidy.enough (omega (arith, length_held)) ∙ ap (λ (x : List Bool). set x g true) held)
+      (sym (get_or_read words (g / 64) word (omega (arith, tidy.enough, length_held)) read 0))
+      (tidy-with n words g tidy (omega (arith, length_held)), grains_of-with n words g tidy.enough (omega (arith, length_held)) ∙ ap (λ (x : List Bool). set x g true) held)
 
   pub clear_held : IsTidy n words → (g word : ℕ) → g < length value → word ≡ get_or words (g / 64) word
       → IsTidy n (set words (g / 64) (bit_and word (2 ^ 64 - 1 - 1 * 2 ^ (g % 64) % 2 ^ 64))) × (grains_of n (set words (g / 64) (bit_and word (2 ^ 64 - 1 - 1 * 2 ^ (g % 64) % 2 ^ 64))) ≡ set value g false)
   clear_held tidy g word within read =
       subst (λ (x : ℕ). IsTidy n (set words (g / 64) (bit_and x (2 ^ 64 - 1 - 1 * 2 ^ (g % 64) % 2 ^ 64))) × (grains_of n (set words (g / 64) (bit_and x (2 ^ 64 - 1 - 1 * 2 ^ (g % 64) % 2 ^ 64))) ≡ set value g false))
-        (sym (get_or_read words (g / 64) word (omega (arith, tidy.enough, length_held)) read 0))
-        (tidy-without n words g tidy (omega (arith, length_held)), grains_of-without n words g tidy.enough (omega (arith, length_held)) ∙ ap (λ (x : List Bool). set x g false) held)
+      (sym (get_or_read words (g / 64) word (omega (arith, tidy.enough, length_held)) read 0))
+      (tidy-without n words g tidy (omega (arith, length_held)), grains_of-without n words g tidy.enough (omega (arith, length_held)) ∙ ap (λ (x : List Bool). set x g false) held)
 
   -- what `count` counts
   pub count_held : IsTidy n words → count_set (bits_of words) ≡ count_set value
@@ -76,9 +74,10 @@ module _ (n : ℕ) (words : List ℕ) (value : List Bool) (held : grains_of n wo
   zeros_held m tidy e = (tidy-zeros n m tidy.numbered (e ∙ tidy.enough), grains_of-zeros n m ∙ ap (λ (x : ℕ). replicate x false) (sym length_held))
 
   pub full_held : (m : ℕ) → IsTidy n words → m ≡ length words → m ≤ n / 64 → IsTidy n (replicate m (2 ^ 64 - 1)) × (grains_of n (replicate m (2 ^ 64 - 1)) ≡ replicate (length value) true)
-  full_held m tidy e whole =
-      (tidy-full n m tidy.numbered (e ∙ tidy.enough) (omega (arith, tidy.enough)),
-       grains_of-full n m (e ∙ tidy.enough) (omega (arith, tidy.enough)) ∙ ap (λ (x : ℕ). replicate x true) (sym length_held))
+  full_held m tidy e whole = (
+    tidy-full n m tidy.numbered (e ∙ tidy.enough) (omega (arith, tidy.enough)),
+    grains_of-full n m (e ∙ tidy.enough) (omega (arith, tidy.enough)) ∙ ap (λ (x : ℕ). replicate x true) (sym length_held),
+  )
 
   pub ones_held : (m : ℕ) → IsTidy n words → m ≡ length words → n / 64 < m → IsTidy n (ones_up_to n m) × (grains_of n (ones_up_to n m) ≡ replicate (length value) true)
   ones_held m tidy e more =
@@ -91,7 +90,7 @@ module _ (pick : Bool → Bool → Bool) (none : pick false false ≡ false) whe
   least_of_words a b xs ys in_a in_b long room from =
       least_from-same _ (has (zip2 pick xs ys)) from (64 * length a) (λ g low high. ap₂ pick (in_a g) (in_b g) ∙ sym (has-zip pick none xs ys long g))
       ∙ least_from-nearer (has (zip2 pick xs ys)) from (length (zip2 pick xs ys)) (64 * length a) (omega (arith, length-zip2 pick xs ys long))
-        (λ g past. get_or_past (zip2 pick xs ys) g false past)
+      (λ g past. get_or_past (zip2 pick xs ys) g false past)
 
 -- two sets of one length
 module _ (n m : ℕ) (a b : List ℕ) (xs ys : List Bool) (held_a : grains_of n a ≡ xs) (held_b : grains_of m b ≡ ys) (long : length xs ≡ length ys) where
@@ -109,9 +108,10 @@ module _ (n m : ℕ) (a b : List ℕ) (xs ys : List Bool) (held_a : grains_of n 
   -- what `remove_all` and `add_all` write
   pub made_held : (pick : Bool → Bool → Bool) → pick false false ≡ false → (c : List ℕ) → IsTidy n a → IsTidy m b → length c ≡ length a → ((g : ℕ) → bit_of c g ≡ pick (bit_of a g) (bit_of b g))
       → IsTidy n c × (grains_of n c ≡ zip2 pick xs ys)
-  made_held pick none c tidy_a tidy_b same made =
-      (tidy-zip pick none n a b c tidy_a (subst (λ (x : ℕ). IsTidy x b) (sym same_grains) tidy_b) same made,
-       grains_of-zip pick none n a b c made ∙ ap₂ (zip2 pick) held_a (ap (λ (x : ℕ). grains_of x b) same_grains ∙ held_b))
+  made_held pick none c tidy_a tidy_b same made = (
+    tidy-zip pick none n a b c tidy_a (subst (λ (x : ℕ). IsTidy x b) (sym same_grains) tidy_b) same made,
+    grains_of-zip pick none n a b c made ∙ ap₂ (zip2 pick) held_a (ap (λ (x : ℕ). grains_of x b) same_grains ∙ held_b),
+  )
 
   -- what `copy_from` writes
   pub copied_held : IsTidy m b → IsTidy n b × (grains_of n b ≡ ys)

@@ -3,7 +3,7 @@ use Rattle.std.proofs.Common.{◌≡◌, ℕ, zero, suc, ◌+◌, ◌-◌, ◌^�
 use Rattle.std.specs.Simd.Lanes.{zip2, fold_l, sum_l, chunk, Each2, Steps}
 use Rattle.std.specs.Int.{w64}
 use mir.Val.{Fits}
-use Rattle.std.proofs.lemmas.List.{take-append-drop, take-take, drop-take, length-map, length-drop, get_or-map, take_rest}
+use Rattle.std.proofs.lemmas.List.{take-append-drop, take-take, drop-take, length-map, get_or-map, take_rest}
 use Rattle.std.proofs.lemmas.List.Sums.{sum_by-append, sum_by-cons, sum_by-take-le, sum_by-take-drop}
 use Rattle.std.proofs.lemmas.Simd.{length-chunk, get_or-chunk, get_or-zip2, sum-zip2, adds_fit, fold-sum, sum_fits, length-zip2}
 use Rattle.std.proofs.lemmas.Bool.{eqb-true, eq-eqb}
@@ -74,6 +74,7 @@ lanes_clear row lanes at n long read = (clear, test)
     clear t k low high =
         let place : at + (k - at) ≡ k = omega arith in
         ap row (sym place) ∙ sym (read (k - at) (omega arith)) ∙ (or_zero lanes 0 (eqb-true _ 0 t)).1 (k - at)
+
     test : ((k : ℕ) → at ≤ k → k < at + n → row k ≡ 0) → IsTrue (eqb (fold_l bit_or 0 lanes) 0)
     test zeros = eq-eqb _ 0 (or_zeros lanes (λ k within. read k (omega arith) ∙ zeros (at + k) (omega arith) (omega arith)))
 
@@ -101,11 +102,12 @@ pub clear_in_common : (a b : List ℕ) (at n : ℕ) → at + n ≤ length a → 
     → IsTrue (eqb (fold_l bit_or 0 (zip2 bit_and (loaded a at n) (loaded b at n))) 0) ↔ ((k : ℕ) → at ≤ k → k < at + n → bit_and (get_or a k 0) (get_or b k 0) ≡ 0)
 clear_in_common a b at n room_a room_b =
     lanes_clear (λ k. bit_and (get_or a k 0) (get_or b k 0)) _ at n (length-zip2 bit_and (loaded a at n) (loaded b at n) (long_a ∙ sym long_b) ∙ long_a)
-      (λ k within. get_or-zip2 bit_and (loaded a at n) (loaded b at n) k 0 0 0 (omega (arith, long_a)) (omega (arith, long_b))
-        ∙ ap₂ bit_and (get_or-loaded a at n k within) (get_or-loaded b at n k within))
+    (λ k within. get_or-zip2 bit_and (loaded a at n) (loaded b at n) k 0 0 0 (omega (arith, long_a)) (omega (arith, long_b))
+    ∙ ap₂ bit_and (get_or-loaded a at n k within) (get_or-loaded b at n k within))
   where
     long_a : length (loaded a at n) ≡ n
     long_a = length-loaded a at n room_a
+
     long_b : length (loaded b at n) ≡ n
     long_b = length-loaded b at n room_b
 
@@ -118,10 +120,11 @@ pub clear_in_apart : (a b : List ℕ) (at n : ℕ) → at + n ≤ length a → a
     → IsTrue (eqb (fold_l bit_or 0 (zip2 bit_and (loaded a at n) (map (λ x. 2 ^ 64 - 1 - x) (loaded b at n)))) 0) ↔ ((k : ℕ) → at ≤ k → k < at + n → apart a b k ≡ 0)
 clear_in_apart a b at n room_a room_b =
     lanes_clear (apart a b) _ at n (length-zip2 bit_and (loaded a at n) _ (long_a ∙ sym long_b) ∙ long_a)
-      (λ k within. get_or-zip2 bit_and (loaded a at n) (map (λ (x : ℕ). 2 ^ 64 - 1 - x) (loaded b at n)) k 0 0 0 (omega (arith, long_a)) (omega (arith, long_b))
-        ∙ ap₂ bit_and (get_or-loaded a at n k within) (get_or-not b at n k room_b within))
+    (λ k within. get_or-zip2 bit_and (loaded a at n) (map (λ (x : ℕ). 2 ^ 64 - 1 - x) (loaded b at n)) k 0 0 0 (omega (arith, long_a)) (omega (arith, long_b))
+    ∙ ap₂ bit_and (get_or-loaded a at n k within) (get_or-not b at n k room_b within))
   where
     long_a : length (loaded a at n) ≡ n
     long_a = length-loaded a at n room_a
+
     long_b : length (map (λ x. 2 ^ 64 - 1 - x) (loaded b at n)) ≡ n
     long_b = length-not b at n room_b

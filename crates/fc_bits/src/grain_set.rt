@@ -1,15 +1,21 @@
-//! A set of grains with one bit for each grain.
+//! A set of grains with one bit for each grain: a bitmap of FlashCopy.
 
 ghost use Rattle.std.specs.Prelude.{◌≡◌, ℕ, ◌^◌, ◌<◌, ◌↔◌, true, false, length, replicate, slice_index_or, slice_set, IsTrue, IfOk};
 ghost use Rattle.fc_bits.specs.Grains.{has, count_set, difference, common, union, least_set, least_clear};
 ghost use Rattle.fc_bits.specs.Words.{bit_of, bits_of, words_for};
 
-use crate::words::{clear_others, count_words, first_clear, first_in_difference, first_set, first_shared, set_others};
+use crate::words::{
+    clear_others, count_words, first_clear, first_in_difference, first_set, first_shared,
+    set_others,
+};
 use fc_base::outcome::NoMemory;
 use std::alloc::Global;
 use std::marker::Model;
 
-/// A set of grains of one volume or mapping. Contracts see it as the list of its truth values.
+/// A set of the grains of one volume or mapping, as those that are held, needed or changed.
+///
+/// Contracts see it as the list of its truth values: the value at place `g` says whether grain `g` is in the set. The list
+/// is as long as the volume has grains, and keeps its length.
 #[derive(Debug, Drop)]
 pub struct GrainSet {
     words: Vec<u64>,
@@ -28,7 +34,8 @@ impl Model for GrainSet {
 }
 
 impl GrainSet {
-    /// The set of this many grains with none in it. The only call that takes memory.
+    /// A set over this many grains with none of them in it. The only call that takes memory, and want of memory is its only
+    /// other answer.
     pub fn new(alloc: Global, grains: u32) -> Result<GrainSet, NoMemory>
         ensures { IfOk result (λ set. set ≡ replicate grains false) }
     {
@@ -45,7 +52,7 @@ impl GrainSet {
         self.grains
     }
 
-    /// Whether the grain is in the set.
+    /// Whether the grain, which is below `len`, is in the set.
     pub fn has(&self, grain: u32) -> bool
         requires { grain < length self.now }
         ensures { result ≡ slice_index_or self.now grain false }
@@ -53,7 +60,7 @@ impl GrainSet {
         self.words[grain as usize / 64] >> (grain % 64) & 1 == 1
     }
 
-    /// Puts the grain into the set.
+    /// Puts the grain, which is below `len`, into the set.
     pub fn set(&mut self, grain: u32)
         requires { grain < length self.old }
         ensures { self.new ≡ slice_set self.old grain true }
@@ -61,7 +68,7 @@ impl GrainSet {
         self.words[grain as usize / 64] |= 1 << (grain % 64);
     }
 
-    /// Takes the grain out of the set.
+    /// Takes the grain, which is below `len`, out of the set.
     pub fn clear(&mut self, grain: u32)
         requires { grain < length self.old }
         ensures { self.new ≡ slice_set self.old grain false }
@@ -95,15 +102,21 @@ impl GrainSet {
         count_words(&self.words)
     }
 
-    /// The least grain from `from` on that is not in the set, and None exactly where all of them are.
+    /// The least grain from `from` on that is not in the set, and None exactly where all of these are. No grain stands past
+    /// the last, and `from` may.
     pub fn next_clear(&self, from: u32) -> Option<u32>
         ensures { result ≡ least_clear self.now from }
     {
         let grain = first_clear(&self.words, from)?;
-        if grain < self.grains { Some(grain) } else { None }
+        if grain < self.grains {
+            Some(grain)
+        } else {
+            None
+        }
     }
 
-    /// The least grain from `from` on that is in this set and not in the other, and None exactly where there is none.
+    /// The least grain from `from` on that is in this set and not in the other, and None exactly where there is none. The
+    /// other set has as many grains.
     pub fn next_in_difference(&self, other: &GrainSet, from: u32) -> Option<u32>
         requires { length self.now ≡ length other.now }
         ensures { result ≡ least_set (difference self.now other.now) from }
@@ -111,14 +124,15 @@ impl GrainSet {
         first_in_difference(&self.words, &other.words, from)
     }
 
-    /// The least grain from `from` on that is in the set, and None exactly where none of them is.
+    /// The least grain from `from` on that is in the set, and None exactly where none of these is.
     pub fn next_set(&self, from: u32) -> Option<u32>
         ensures { result ≡ least_set self.now from }
     {
         first_set(&self.words, from)
     }
 
-    /// The least grain from `from` on that is in both sets, and None exactly where there is none.
+    /// The least grain from `from` on that is in both sets, and None exactly where there is none. The other set has as many
+    /// grains.
     pub fn next_shared(&self, other: &GrainSet, from: u32) -> Option<u32>
         requires { length self.now ≡ length other.now }
         ensures { result ≡ least_set (common self.now other.now) from }
@@ -148,7 +162,7 @@ impl GrainSet {
         self.words.copy_from_slice(&other.words);
     }
 
-    /// Puts every grain of the other set into this one.
+    /// Puts every grain of the other set, which has as many grains, into this one.
     pub fn add_all(&mut self, other: &GrainSet)
         requires { length self.old ≡ length other.now }
         ensures { self.new ≡ union self.old other.now }
@@ -156,7 +170,7 @@ impl GrainSet {
         set_others(&mut self.words, &other.words);
     }
 
-    /// Takes every grain of the other set out of this one.
+    /// Takes every grain of the other set, which has as many grains, out of this one.
     pub fn remove_all(&mut self, other: &GrainSet)
         requires { length self.old ≡ length other.now }
         ensures { self.new ≡ difference self.old other.now }
@@ -164,7 +178,8 @@ impl GrainSet {
         clear_others(&mut self.words, &other.words);
     }
 
-    /// The words that hold the set: bit `g mod 64` of word `g / 64` is grain `g`, and the bits past the last grain are clear.
+    /// The words that hold the set, as few as have room for it: bit `g mod 64` of word `g / 64` is grain `g`, and the bits
+    /// past the last grain are clear.
     pub fn words(&self) -> &[u64]
         ensures len { length result.now ≡ words_for (length self.now) }
         ensures bits { (g : ℕ) → bit_of result.now g ≡ has self.now g }

@@ -55,33 +55,67 @@ fn plain_next(plain: &[bool], from: u32, wanted: bool) -> Option<u32> {
     None
 }
 
-/// The list of what `pick` makes of two lists.
-fn plain_pick<F: Fn(bool, bool) -> bool>(alloc: Global, a: &[bool], b: &[bool], pick: F) -> Result<Vec<bool>, Fail>
-    requires { F.IsAlwaysCallable pick }
-{
-    let mut picked = Vec::new(alloc);
-    for (x, y) in a.iter().zip(b) {
-        picked.push(pick(*x, *y))?;
+/// What two lists hold together.
+#[derive(Drop)]
+struct Together {
+    apart: Vec<bool>,
+    common: Vec<bool>,
+    union: Vec<bool>,
+}
+
+fn plain_together(alloc: Global, plain: &[bool], others: &[bool]) -> Result<Together, Fail> {
+    let mut apart = Vec::new(alloc);
+    let mut common = Vec::new(alloc);
+    let mut union = Vec::new(alloc);
+    for (value, other) in plain.iter().zip(others) {
+        apart.push(*value && !*other)?;
+        common.push(*value && *other)?;
+        union.push(*value || *other)?;
     }
-    Ok(picked)
+    Ok(Together {
+        apart,
+        common,
+        union,
+    })
+}
+
+/// How many values of the list are true.
+fn plain_count(plain: &[bool]) -> usize {
+    let mut count = 0usize;
+    for value in plain {
+        count = count.wrapping_add(usize::from(*value));
+    }
+    count
 }
 
 /// Each call that reads the set answers what the list does.
 fn assert_same(rt: &impl Abort, set: &GrainSet, plain: &[bool]) {
-    let members = plain.iter().filter(|value| **value).count();
+    let members = plain_count(plain);
     assert_eq!(rt; set.len() as usize, plain.len());
     assert_eq!(rt; set.count() as usize, members);
     assert_eq!(rt; count_words(set.words()) as usize, members);
     assert_eq!(rt; set.is_full(), members == plain.len());
     assert_eq!(rt; set.is_clear(), members == 0);
     for from in 0..set.len().min(200) + 3 {
-        assert_eq!(rt; set.next_set(from), plain_next(plain, from, true), "set from {from}");
-        assert_eq!(rt; set.next_clear(from), plain_next(plain, from, false), "clear from {from}");
+        assert_eq!(rt;
+            set.next_set(from),
+            plain_next(plain, from, true),
+            "set from {from}"
+        );
+        assert_eq!(rt;
+            set.next_clear(from),
+            plain_next(plain, from, false),
+            "clear from {from}"
+        );
         let bit = match set.words().get(from as usize / 64) {
             Some(word) => *word >> (from % 64) & 1 == 1,
             None => false,
         };
-        assert_eq!(rt; bit, plain.get(from as usize).copied().unwrap_or(false), "bit {from}");
+        assert_eq!(rt;
+            bit,
+            plain.get(from as usize).copied().unwrap_or(false),
+            "bit {from}"
+        );
         if from < set.len() {
             assert_eq!(rt; set.has(from), bit, "grain {from}");
         }
@@ -128,25 +162,44 @@ fn one_grain(rt: HostRuntime) -> Result<(), Fail> {
 }
 
 /// Each call over two sets answers and does what the lists do.
-fn assert_pair(rt: &impl Abort, alloc: Global, grains: u32, left: u32, right: u32) -> Result<(), Fail> {
+fn assert_pair(
+    rt: &impl Abort,
+    alloc: Global,
+    grains: u32,
+    left: u32,
+    right: u32,
+) -> Result<(), Fail> {
     let mut set = set_of(alloc, grains, left)?;
     let other = set_of(alloc, grains, right)?;
-    let (plain, others) = (plain_of(alloc, grains, left)?, plain_of(alloc, grains, right)?);
-    let apart = plain_pick(alloc, &plain, &others, |x, y| x && !y)?;
-    let common = plain_pick(alloc, &plain, &others, |x, y| x && y)?;
-    let union = plain_pick(alloc, &plain, &others, |x, y| x || y)?;
+    let (plain, others) = (
+        plain_of(alloc, grains, left)?,
+        plain_of(alloc, grains, right)?,
+    );
+    let together = plain_together(alloc, &plain, &others)?;
     assert_eq!(rt; set.len(), other.len());
     for from in 0..set.len().min(200) + 3 {
-        let first = plain_next(&apart, from, true);
-        assert_eq!(rt; set.next_in_difference(&other, from), first, "apart from {from}");
-        assert_eq!(rt; first_in_difference(set.words(), other.words(), from), first, "words from {from}");
-        assert_eq!(rt; set.next_shared(&other, from), plain_next(&common, from, true), "shared from {from}");
+        let first = plain_next(&together.apart, from, true);
+        assert_eq!(rt;
+            set.next_in_difference(&other, from),
+            first,
+            "apart from {from}"
+        );
+        assert_eq!(rt;
+            first_in_difference(set.words(), other.words(), from),
+            first,
+            "words from {from}"
+        );
+        assert_eq!(rt;
+            set.next_shared(&other, from),
+            plain_next(&together.common, from, true),
+            "shared from {from}"
+        );
     }
     set.add_all(&other);
-    assert_same(rt, &set, &union);
+    assert_same(rt, &set, &together.union);
     assert_eq!(rt; set.len(), other.len());
     set.remove_all(&other);
-    assert_same(rt, &set, &apart);
+    assert_same(rt, &set, &together.apart);
     assert_eq!(rt; set.len(), other.len());
     set.copy_from(&other);
     assert_same(rt, &set, &others);

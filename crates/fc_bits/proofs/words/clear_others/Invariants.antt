@@ -1,4 +1,4 @@
-use Rattle.std.proofs.Common.{ℕ, ◌-◌, ◌^◌, bit_and}
+use Rattle.std.proofs.Common.{◌-◌, ◌^◌, bit_and}
 use Rattle.fc_bits.proofs.Pairs.{MadeUpTo}
 use Rattle.fc_bits.proofs.words.clear_others.Given as goal
 

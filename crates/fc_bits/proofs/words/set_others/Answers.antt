@@ -1,4 +1,4 @@
-use Rattle.std.proofs.Common.{ℕ, bit_or, refl, arith}
+use Rattle.std.proofs.Common.{bit_or, refl, arith}
 use Rattle.fc_bits.proofs.Pairs.{made_more, made_all, bit_of-added}
 use Rattle.fc_bits.proofs.words.set_others.Goals as goal
 
@@ -8,4 +8,4 @@ loop-index-preserved c = made_more (λ x y. bit_or x y) c.args.words.now c.args.
 pub returns : goal.returns
 returns c =
     bit_of-added c.args.words.now c.args.others.now c.loop-index.words
-      (made_all (λ x y. bit_or x y) c.args.words.now c.args.others.now refl c.loop-index.words (omega arith) (omega arith) (λ k low. c.loop-index.invariant.0 k (omega arith)))
+    (made_all (λ x y. bit_or x y) c.args.words.now c.args.others.now refl c.loop-index.words (omega arith) (omega arith) (λ k low. c.loop-index.invariant.0 k (omega arith)))

@@ -1,4 +1,4 @@
-use Rattle.std.proofs.Common.{ℕ, bit_or}
+use Rattle.std.proofs.Common.{bit_or}
 use Rattle.fc_bits.proofs.Pairs.{MadeUpTo}
 use Rattle.fc_bits.proofs.words.set_others.Given as goal
 

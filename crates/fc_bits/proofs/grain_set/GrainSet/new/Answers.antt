@@ -1,4 +1,4 @@
-use Rattle.std.proofs.Common.{ℕ, List, replicate, ap, ◌∙◌, subst, sym}
+use Rattle.std.proofs.Common.{ℕ, List, ap, ◌∙◌, subst, sym}
 use Rattle.fc_bits.specs.Words.{grains_of, IsTidy}
 use Rattle.fc_bits.proofs.Bridge.{grains_of-zeros, tidy-zeros}
 use Rattle.fc_bits.proofs.grain_set.GrainSet.new.Goals as goal

@@ -15,14 +15,14 @@ pub returns-in_err-grain : goal.returns-in_err-grain
 returns-in_err-grain c =
     c.from_residual.ensures
     ∙ no_clear c.self.inside.grains c.self.inside.words.items c.args.self.now c.self.view_is c.self.invariant c.args.from (64 * length c.self.inside.words.items) (omega (arith, c.self.invariant.enough))
-      (found _ _ c.args.from None c.deref.ensures.value c.in_err-grain.ensures)
+    (found _ _ c.args.from None c.deref.ensures.value c.in_err-grain.ensures)
 
 pub returns-then-grain-self : goal.returns-then-grain-self
 returns-then-grain-self c =
     clear_within c.self.inside.grains c.self.inside.words.items c.args.self.now c.self.view_is c.self.invariant c.args.from (64 * length c.self.inside.words.items) c.in_ok-grain.grain c.if-grain-self.true
-      (found _ _ c.args.from (Some c.in_ok-grain.grain) c.deref.ensures.value c.in_ok-grain.ensures)
+    (found _ _ c.args.from (Some c.in_ok-grain.grain) c.deref.ensures.value c.in_ok-grain.ensures)
 
 pub returns-else-grain-self : goal.returns-else-grain-self
 returns-else-grain-self c =
     clear_past c.self.inside.grains c.self.inside.words.items c.args.self.now c.self.view_is c.self.invariant c.args.from (64 * length c.self.inside.words.items) c.in_ok-grain.grain c.if-grain-self.false
-      (found _ _ c.args.from (Some c.in_ok-grain.grain) c.deref.ensures.value c.in_ok-grain.ensures)
+    (found _ _ c.args.from (Some c.in_ok-grain.grain) c.deref.ensures.value c.in_ok-grain.ensures)

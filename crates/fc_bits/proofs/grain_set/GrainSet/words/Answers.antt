@@ -1,6 +1,6 @@
-use Rattle.std.proofs.Common.{List, ℕ, ap, ◌∙◌, sym, arith}
+use Rattle.std.proofs.Common.{List, ℕ, ap, ◌∙◌, arith}
 use Rattle.fc_bits.specs.Grains.{count_set}
-use Rattle.fc_bits.specs.Words.{words_for, bit_of, bits_of}
+use Rattle.fc_bits.specs.Words.{bit_of, bits_of}
 use Rattle.fc_bits.proofs.Sets.{length_held, bit_held, count_held}
 use Rattle.fc_bits.proofs.grain_set.GrainSet.words.Goals as goal
 
