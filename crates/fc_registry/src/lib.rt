@@ -1,4 +1,15 @@
 //! The tables of volumes, mappings and groups.
+//!
+//! A `Registry` is seen as three lists, each in order of id. It promises:
+//! - a look-up gives the object that has the id or the name, and None exactly where none of the kind has it, by
+//!   one hash look-up;
+//! - `check_name` refuses exactly the names that an object of the kind has;
+//! - `reserve` changes no table and takes all the memory that `apply` will need; what it keeps for a new object is
+//!   seen by no look-up until `apply` puts the object in;
+//! - `apply` makes exactly the change `after_change` of `fc_base/specs/Tables.antt`, and takes no memory;
+//! - in every registry the ids of a kind rise, and no two objects of a kind have one name.
+//!
+//! In reading order: this file, `objects` (ids, names and copies of the objects), `indexed` (one table over `indexmap`).
 #![tactic(auto)]
 
 ghost use Rattle.std.specs.Prelude.{◌≡◌, ◌<◌, IsNone, IsSome, IfSome, IsOk, is_some, OnOk, OnErr, option_copied, slice_get, length, if◌then◌else◌, MatchOption};
@@ -310,3 +321,6 @@ impl Registry {
         }
     }
 }
+
+#[cfg(test)]
+mod tests;
