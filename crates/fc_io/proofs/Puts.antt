@@ -1,12 +1,12 @@
 -- What a sink in memory leaves after a `put` that failed, and how what a writer holds grows.
-use Rattle.std.proofs.Common.{◌≡◌, ℕ, ◌+◌, ◌-◌, ◌<◌, ◌≤◌, ◌^◌, min, ◌⊎◌, Bool, true, false, if◌then◌else◌, List, [], ◌++◌, length, take, drop, Option, Some, None, refl, sym, ◌∙◌, ap, subst, inl, inr, arith}
+use Rattle.std.proofs.Common.{◌≡◌, ℕ, ◌+◌, ◌-◌, ◌<◌, ◌^◌, min, Bool, true, false, if◌then◌else◌, List, [], ◌++◌, length, take, drop, Option, Some, None, refl, sym, ◌∙◌, ap, inl, inr, arith}
 use Rattle.std.specs.Bool.{OnTrue}
 use Rattle.std.specs.Io.KnownBytes.{Appends}
 use Rattle.std.proofs.lemmas.Bool.{cases_lt}
 use Rattle.std.proofs.lemmas.List.{append-nil, append_assoc, take-append-drop, take_rest}
-use Rattle.fc_base.specs.Count.{one_more, HasRisen, FaultsAfter}
+use Rattle.fc_base.specs.Count.{FaultsAfter}
 use Rattle.fc_io.specs.Calls.{fails_now, one_call_on}
-use Rattle.fc_io.specs.Sink.{SinkState, held_with, AddsFront, AfterPut}
+use Rattle.fc_io.specs.Sink.{AddsFront, AfterPut}
 
 -- the half of the part was added, if there was memory for it
 half_added : (ok : Bool) (held held' part : List ℕ) (n : ℕ) → held' ≡ (if ok then held ++ take n part else held) → AddsFront (Some held) part (Some held')

@@ -1,9 +1,8 @@
 -- What a source in memory leaves after a `take`.
-use Rattle.std.proofs.Common.{◌≡◌, ℕ, ◌+◌, ◌-◌, ◌<◌, ◌≤◌, Bool, true, false, List, [], ◌++◌, length, take, drop, Result, Ok, Some, refl, sym, ◌∙◌, ap, arith}
+use Rattle.std.proofs.Common.{◌≡◌, ℕ, ◌+◌, ◌≤◌, false, List, ◌++◌, length, take, drop, Ok, Some, refl, sym, ◌∙◌, ap, arith}
 use Rattle.std.proofs.lemmas.List.{length-take-le, length-append, length-drop, take_at, take-append-drop, drop-drop, drop_all}
-use Rattle.fc_base.specs.Count.{FaultsAfter}
 use Rattle.fc_io.specs.Calls.{fails_now, one_call_on}
-use Rattle.fc_io.specs.Source.{SourceState, Takes, AfterTake}
+use Rattle.fc_io.specs.Source.{AfterTake}
 
 pub taken : {E : Type 0} (bytes out copied failing : List ℕ) (start n faults : ℕ)
     → copied ≡ take n (drop start bytes) → start + n ≤ length bytes → n ≤ length out → (n ≡ 0 → length bytes ≤ start) → fails_now failing ≡ false

@@ -20,3 +20,5 @@ pub mod sink;
 pub mod source;
 pub mod std_sink;
 pub mod std_source;
+#[cfg(test)]
+mod tests;

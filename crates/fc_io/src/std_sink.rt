@@ -1,7 +1,8 @@
 //! A sink over a writer of std.
 
-ghost use Rattle.std.specs.Prelude.{◌≡◌, None, IfOk, OnOk, OnErr, is_err, List, ℕ, ◌++◌};
+ghost use Rattle.std.specs.Prelude.{◌≡◌, [], None, IfOk, OnOk, OnErr, is_err, List, ℕ, ◌++◌};
 ghost use Rattle.std.specs.Io.KnownBytes.{Appends, Keeps};
+ghost use Rattle.std.specs.Io.Buffered.{writer_buffer};
 ghost use Rattle.fc_io.specs.Sink.{AfterPut, AfterFlush};
 
 use crate::sink::Sink;
@@ -57,6 +58,7 @@ impl<W: Write + Drop> Sink for StdSink<W> {
 
     fn flush(&mut self) -> Result<(), Failed>
         ensures sink { AfterFlush (record { held = None; failing = None; faults = self.old.faults }) (is_err result) (record { held = None; failing = None; faults = self.new.faults }) }
+        ensures written { OnOk result (writer_buffer self.new.writer ≡ []) }
         ensures bytes { Keeps (⟦<BufWriter<W> as Write>⟧.contents self.old.writer) (⟦<BufWriter<W> as Write>⟧.contents self.new.writer) }
     {
         match self.writer.flush() {

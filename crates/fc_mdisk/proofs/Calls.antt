@@ -1,13 +1,12 @@
 -- What a read and a write leave, from what the parts of a disk say.
-use Rattle.std.proofs.Common.{◌≡◌, ℕ, ◌+◌, ◌-◌, ◌<◌, ◌≤◌, ◌^◌, ◌==◌, ◌⊎◌, min, Bool, true, false, if◌then◌else◌, List, [], ◌∷◌, ◌++◌, length, take, drop, replicate, slice_set, zero, suc, is_some, IfSome, Result, Ok, Err, Option, Some, None, refl, sym, ◌∙◌, ap, subst, inl, inr, arith}
+use Rattle.std.proofs.Common.{◌≡◌, ℕ, ◌+◌, ◌-◌, ◌<◌, ◌≤◌, ◌^◌, ◌==◌, Bool, true, false, if◌then◌else◌, List, ◌∷◌, ◌++◌, length, take, drop, replicate, slice_set, zero, suc, is_some, IfSome, Result, Option, refl, sym, ◌∙◌, ap, subst, inl, inr, arith}
 use Rattle.std.specs.Option.{option_map}
-use Rattle.std.specs.Bool.{OnTrue, OnFalse}
+use Rattle.std.specs.Bool.{OnFalse}
 use Rattle.std.proofs.lemmas.Bool.{cases_lt}
 use Rattle.std.proofs.lemmas.List.{get_or-set_same, length-set, length-append, length-take, length-drop, drop_all, append-nil}
 use Rattle.fc_base.specs.Count.{one_more, HasRisen, FaultsAfter}
 use Rattle.fc_base.specs.declared.disk.DiskKind.{DiskKind}
 use Rattle.fc_base.specs.declared.disk.DiskError.{DiskError}
-use Rattle.fc_base.specs.declared.disk.DiskError.TheVariants.{Failed, NoMemory}
 use Rattle.fc_mdisk.specs.Disk.{DiskState, grain_at, AfterCall, AfterRead, AfterWrite, write_failed, GrainAfter, occupied_after, MayAnswer}
 
 has_risen : (n : ℕ) → HasRisen n (one_more n)

@@ -1,8 +1,8 @@
 -- What a buffer's grains are after it was read, written and made.
-use Rattle.std.proofs.Common.{◌≡◌, ℕ, zero, suc, ◌+◌, ◌-◌, ◌*◌, ◌<◌, ◌≤◌, List, [], ◌∷◌, ◌++◌, length, take, drop, replicate, slice_set, refl, sym, ◌∙◌, ap, arith, rules}
+use Rattle.std.proofs.Common.{◌≡◌, ℕ, zero, suc, ◌+◌, ◌-◌, ◌*◌, ◌<◌, ◌≤◌, List, ◌++◌, length, take, drop, replicate, slice_set, refl, sym, ◌∙◌, ap, arith, rules}
 use Rattle.std.proofs.Math.Nat.{zero-mul, suc-mul, mul-le-mul_right}
 use Rattle.std.proofs.lemmas.List.{length-take, length-drop, length-append, length-take-le, drop-drop, drop-take, drop-append-le, take-replicate, drop-replicate, same_lists, places}
-use Rattle.std.proofs.lemmas.Slice.{take-put_mid_below, overwrites}
+use Rattle.std.proofs.lemmas.Slice.{take-put_mid_below}
 use Rattle.fc_mdisk.specs.Disk.{grain_at}
 use Rattle.fc_mdisk.specs.Cut.{cut}
 

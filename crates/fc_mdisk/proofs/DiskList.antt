@@ -1,10 +1,9 @@
 -- A list of disks of which one changed: what the others and the counts of all of them are.
-use Rattle.std.proofs.Common.{◌≡◌, ◌≢◌, ℕ, ◌+◌, ◌<◌, ◌≤◌, List, length, map, slice_set, slice_index_or, None, refl, sym, ◌∙◌, ap, subst, arith}
-use Rattle.std.specs.List.{All, sum_by}
+use Rattle.std.proofs.Common.{◌≡◌, ◌≢◌, ℕ, ◌+◌, ◌<◌, ◌≤◌, List, length, map, slice_set, slice_index_or, None, sym, ◌∙◌, ap, arith}
+use Rattle.std.specs.List.{sum_by}
 use Rattle.std.proofs.Math.Seq.{map-set_same}
-use Rattle.std.proofs.lemmas.List.{map-set, get_or-map, get_or-set_same, get_or-set_other, length-set, length-map, set-get_or}
+use Rattle.std.proofs.lemmas.List.{map-set, get_or-map, get_or-set_same, get_or-set_other, length-set, length-map}
 use Rattle.std.proofs.lemmas.List.Sums.{sum_by-set}
-use Rattle.std.proofs.lemmas.List.Elements.{All-set}
 use Rattle.fc_base.specs.declared.disk.DiskKind.TheVariants.{Flat}
 use Rattle.fc_mdisk.specs.Disk.{DiskState, blank}
 use Rattle.fc_mdisk.specs.Disks.{disk_at, ChangesOnly}

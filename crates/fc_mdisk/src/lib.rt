@@ -21,5 +21,7 @@ pub mod fail;
 mod flat;
 pub mod mdisk;
 pub mod mem;
+#[cfg(test)]
+mod tests;
 pub mod thin;
 mod thin_grains;

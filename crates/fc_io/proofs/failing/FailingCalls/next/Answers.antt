@@ -1,4 +1,4 @@
-use Rattle.std.proofs.Common.{◌≡◌, arith, ◌∙◌}
+use Rattle.std.proofs.Common.{arith}
 use Rattle.fc_io.proofs.Nearer.{pass_one}
 use Rattle.fc_io.proofs.failing.FailingCalls.next.Goals as goal
 

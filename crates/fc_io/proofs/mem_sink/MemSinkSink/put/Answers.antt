@@ -1,4 +1,4 @@
-use Rattle.std.proofs.Common.{◌≡◌, arith, rules, sym, ◌∙◌, ap}
+use Rattle.std.proofs.Common.{arith}
 use Rattle.fc_io.proofs.Puts.{failed_put, one_fault}
 use Rattle.fc_io.proofs.mem_sink.MemSinkSink.put.Goals as goal
 

@@ -1,4 +1,4 @@
-use Rattle.std.proofs.Common.{◌≡◌, ◌+◌, ◌-◌, ◌≤◌, ℕ, length, take, drop, refl, arith, sym, ◌∙◌, ap}
+use Rattle.std.proofs.Common.{◌≡◌, ◌+◌, ◌-◌, ◌≤◌, length, take, drop, refl, arith, sym, ◌∙◌}
 use Rattle.fc_io.proofs.Takes.{taken}
 use Rattle.fc_io.proofs.mem_source.MemSourceSource.take.Goals as goal
 

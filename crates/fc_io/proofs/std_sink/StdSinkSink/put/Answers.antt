@@ -1,4 +1,3 @@
-use Rattle.std.proofs.Common.{◌≡◌, ◌++◌, ℕ, List, ◌∙◌}
 use Rattle.fc_io.proofs.Puts.{one_more_write}
 use Rattle.fc_io.proofs.std_sink.StdSinkSink.put.Goals as goal
 

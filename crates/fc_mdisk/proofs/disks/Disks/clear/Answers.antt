@@ -1,4 +1,4 @@
-use Rattle.std.proofs.Common.{◌≡◌, ap, sym, ◌∙◌, slice_set}
+use Rattle.std.proofs.Common.{ap, sym, ◌∙◌, slice_set}
 use Rattle.fc_mdisk.specs.Disk.{DiskState, cleared}
 use Rattle.fc_mdisk.proofs.DiskList.{was_at, left_is}
 use Rattle.fc_mdisk.proofs.disks.Disks.clear.Goals as goal

@@ -1,4 +1,3 @@
-use Rattle.std.proofs.Common.{◌≡◌, ap, sym, ◌∙◌}
 use Rattle.fc_mdisk.proofs.DiskList.{was_at, now_at, left_only}
 use Rattle.fc_mdisk.proofs.disks.Disks.write.Goals as goal
 

@@ -1,4 +1,4 @@
-use Rattle.std.proofs.Common.{◌≡◌, refl, ap, sym, ◌∙◌, ◌-◌, ◌==◌, ℕ, ◌<◌, length, Bool, rules, arith}
+use Rattle.std.proofs.Common.{◌≡◌, refl, ◌<◌, length, rules, arith}
 use Rattle.fc_mdisk.specs.Disk.{grain_at}
 use Rattle.fc_mdisk.proofs.Calls.{called, write_is, all_occupied, length-torn, whole_write}
 use Rattle.fc_mdisk.proofs.fail.FailDiskMdisk.write.Goals as goal

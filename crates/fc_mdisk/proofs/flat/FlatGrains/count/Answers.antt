@@ -1,4 +1,4 @@
-use Rattle.std.proofs.Common.{◌≡◌, length, ap, sym, ◌∙◌, List, ℕ}
+use Rattle.std.proofs.Common.{length, ap, sym, ◌∙◌, List, ℕ}
 use Rattle.fc_mdisk.proofs.Cuts.{length-cut}
 use Rattle.fc_mdisk.proofs.flat.FlatGrains.count.Goals as goal
 

@@ -1,5 +1,4 @@
-use Rattle.std.proofs.Common.{◌≡◌, ℕ, ◌+◌, ◌*◌, ◌≤◌, List, length, sym, ap, ◌∙◌, arith, rules, refl, take, drop, ◌-◌}
-use Rattle.fc_mdisk.specs.Disk.{grain_at}
+use Rattle.std.proofs.Common.{◌+◌, ◌*◌, ◌≤◌, length, sym, ap, ◌∙◌, arith, rules, refl}
 use Rattle.fc_mdisk.proofs.Cuts.{ends_in_buffer, part_is}
 use Rattle.fc_mdisk.proofs.flat.FlatGrains.read.Goals as goal
 

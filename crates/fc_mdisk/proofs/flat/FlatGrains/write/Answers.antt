@@ -1,4 +1,4 @@
-use Rattle.std.proofs.Common.{◌≡◌, ℕ, ◌+◌, ◌*◌, ◌≤◌, List, length, sym, ap, ◌∙◌, arith, rules, refl}
+use Rattle.std.proofs.Common.{◌≡◌, ℕ, ◌+◌, ◌*◌, ◌≤◌, List, length, ap, ◌∙◌, arith, rules, refl}
 use Rattle.std.proofs.lemmas.List.{with_items_is}
 use Rattle.fc_mdisk.specs.Disk.{grain_at}
 use Rattle.fc_mdisk.specs.Cut.{cut}

@@ -1,4 +1,4 @@
-use Rattle.std.proofs.Common.{◌≡◌, refl, ap, sym, ◌∙◌, ◌-◌, ◌==◌, ℕ, Bool, Option, Some, rules, arith}
+use Rattle.std.proofs.Common.{refl, ap, sym, ◌∙◌, Some, rules}
 use Rattle.fc_mdisk.proofs.Calls.{called, read_is}
 use Rattle.fc_mdisk.proofs.mem.MemDiskMdisk.read.Goals as goal
 

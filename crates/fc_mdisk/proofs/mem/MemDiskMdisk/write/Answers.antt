@@ -1,4 +1,4 @@
-use Rattle.std.proofs.Common.{◌≡◌, refl, ap, sym, ◌∙◌, ◌-◌, ◌==◌, ℕ, ◌<◌, length, Bool, Option, Some, rules, arith}
+use Rattle.std.proofs.Common.{◌≡◌, ap, sym, ◌∙◌, ◌<◌, length, Some, rules, arith}
 use Rattle.fc_mdisk.specs.Disk.{grain_at}
 use Rattle.fc_mdisk.proofs.Calls.{called, write_is, all_occupied, length-torn, whole_write}
 use Rattle.fc_mdisk.proofs.mem.MemDiskMdisk.write.Goals as goal

@@ -1,5 +1,3 @@
-use Rattle.std.proofs.Common.{◌≡◌, ap, ◌∙◌, List}
-use Rattle.fc_mdisk.specs.declared.thin_grains.ThinGrain.{ThinGrain}
 use Rattle.fc_mdisk.proofs.Reached.{unwritten_state}
 use Rattle.fc_mdisk.proofs.thin_grains.ThinGrains.format.Goals as goal
 

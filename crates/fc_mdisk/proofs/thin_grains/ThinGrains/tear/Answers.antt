@@ -1,4 +1,4 @@
-use Rattle.std.proofs.Common.{◌≡◌, ap, sym, ◌∙◌, arith, List, ℕ, Bool, slice_set, length}
+use Rattle.std.proofs.Common.{ap, sym, ◌∙◌, arith, List, ℕ, slice_set, length}
 use Rattle.fc_mdisk.proofs.Reached.{grains_left, occupied_left, old_bytes, bytes_left, count_fits}
 use Rattle.fc_mdisk.proofs.thin_grains.ThinGrains.tear.Goals as goal
 

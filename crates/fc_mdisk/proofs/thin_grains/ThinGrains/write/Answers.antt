@@ -1,4 +1,4 @@
-use Rattle.std.proofs.Common.{◌≡◌, arith}
+use Rattle.std.proofs.Common.{arith}
 use Rattle.fc_mdisk.proofs.Reached.{written_left, count_fits}
 use Rattle.fc_mdisk.proofs.thin_grains.ThinGrains.write.Goals as goal
 

@@ -1,0 +1,79 @@
+//! What no clause says: that the calls succeed where there is memory, and what std's readers and writers get.
+
+use crate::mem_sink::MemSink;
+use crate::mem_source::MemSource;
+use crate::sink::Sink;
+use crate::source::Source;
+use crate::std_sink::StdSink;
+use crate::std_source::StdSource;
+use fc_base::outcome::Failed;
+use std::io;
+use std::io::Write;
+use std::test::Fail;
+
+#[test]
+fn a_source_gives_its_bytes_in_pieces(rt: HostRuntime) -> Result<(), Fail> {
+    let alloc = rt.alloc();
+    let mut source = MemSource::new(vec![in alloc; 1, 2, 3]?, 2, vec![in alloc; 2]?);
+    let mut out = [0; 8];
+    assert_eq!(rt; source.take(&mut out), Ok(2));
+    assert_eq!(rt; source.take(&mut out), Err(Failed));
+    assert_eq!(rt; source.take(&mut out), Ok(1));
+    assert_eq!(rt; (out[0], out[1]), (3, 2));
+    assert_eq!(rt; source.take(&mut out), Ok(0));
+    assert_eq!(rt; source.faults(), 1);
+    Ok(())
+}
+
+#[test]
+fn a_sink_keeps_what_is_put(rt: HostRuntime) -> Result<(), Fail> {
+    let alloc = rt.alloc();
+    let mut sink = MemSink::new(alloc, vec![in alloc; 2, 4]?);
+    assert_eq!(rt; sink.put(b"ab"), Ok(()));
+    assert_eq!(rt; sink.put(b"cdef"), Err(Failed));
+    assert_eq!(rt; sink.bytes(), b"abcd".as_slice());
+    assert_eq!(rt; sink.flush(), Ok(()));
+    assert_eq!(rt; sink.flush(), Err(Failed));
+    assert_eq!(rt; sink.faults(), 2);
+    Ok(())
+}
+
+#[test]
+fn a_reader_is_a_source(rt: HostRuntime) -> Result<(), Fail> {
+    let mut source = StdSource::new(rt.alloc(), b"abc".as_slice())?;
+    let mut out = [0; 2];
+    assert_eq!(rt; source.take(&mut out), Ok(2));
+    assert_eq!(rt; out, [97, 98]);
+    assert_eq!(rt; source.take(&mut out), Ok(1));
+    assert_eq!(rt; source.take(&mut out), Ok(0));
+    Ok(())
+}
+
+/// A writer that takes nothing.
+#[derive(Drop)]
+struct Stuck;
+
+impl Write for Stuck {
+    fn write(&mut self, _buf: &[u8]) -> io::Result<usize> {
+        Ok(0)
+    }
+
+    fn flush(&mut self) -> io::Result<()> {
+        Ok(())
+    }
+}
+
+#[test]
+fn a_write_that_takes_nothing_is_a_fault(rt: HostRuntime) -> Result<(), Fail> {
+    let alloc = rt.alloc();
+    let long = vec![in alloc; 7; 70_000]?;
+    let mut sink = StdSink::new(alloc, Stuck)?;
+    assert_eq!(rt; sink.put(b"waits"), Ok(()));
+    assert_eq!(rt; sink.put(&long), Err(Failed));
+    assert_eq!(rt; sink.flush(), Err(Failed));
+    assert_eq!(rt; sink.faults(), 2);
+    let mut kept = StdSink::new(alloc, Vec::new(alloc))?;
+    assert_eq!(rt; kept.put(&long), Ok(()));
+    assert_eq!(rt; kept.flush(), Ok(()));
+    Ok(())
+}
