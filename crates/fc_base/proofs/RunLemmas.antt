@@ -1,7 +1,7 @@
 -- One more run behind canonical runs.
-use Rattle.std.proofs.Common.{◌≡◌, ◌≢◌, ℕ, ◌+◌, ◌-◌, ◌<◌, ◌≤◌, List, [], ◌∷◌, ◌++◌, replicate, zero, suc, add-zero, append_assoc, ◌∙◌, ap, sym, subst, arith, take, drop, get_or, length, length-drop}
-use Rattle.std.proofs.lemmas.List.{append-nil, get_or-drop}
-use Rattle.std.proofs.Math.Seq.{take-add}
+use Rattle.std.proofs.Common.{refl, ◌≡◌, ◌≢◌, ℕ, ◌+◌, ◌-◌, ◌<◌, ◌≤◌, List, [], ◌∷◌, ◌++◌, replicate, zero, suc, add-zero, append_assoc, ◌∙◌, ap, sym, subst, arith, take, drop, get_or, length, length-drop, length-append}
+use Rattle.std.proofs.lemmas.List.{append-nil, get_or-drop, take_more, take-append-drop}
+use Rattle.std.proofs.Math.Seq.{take-add, take-append_seam}
 use Rattle.fc_base.specs.declared.runs.Run.{Run}
 use Rattle.fc_base.specs.Runs.{expanded, IsCanonical}
 
@@ -98,3 +98,83 @@ HasRuns-pushed runs more bytes rest start count has inside is_rest within equal 
       subst R (sym pushed) (HasRuns-push runs bytes start count has inside fits (ap (λ r. take count r) (sym is_rest) ∙ equal) stops'),
       omega arith,
     )
+
+-- the bytes of the first runs stand at the front, up to this place
+pub record Filled (runs : List Run) (i : ℕ) (out : List ℕ) (start : ℕ) : Type 0 where
+  pub room : length out ≡ length (expanded runs)
+  pub place : start ≡ length (expanded (take i runs))
+  pub front : take start out ≡ expanded (take i runs)
+
+pub expanded-append : (xs ys : List Run) → expanded (xs ++ ys) ≡ expanded xs ++ expanded ys
+expanded-append [] ys = refl
+expanded-append (x ∷ xs) ys =
+    ap (λ rest. replicate x.count x.byte ++ rest) (expanded-append xs ys)
+    ∙ sym (append_assoc (replicate x.count x.byte) (expanded xs) (expanded ys))
+
+-- one run more, as long as the place behind it
+expanded-more :
+    (runs : List Run) (i : ℕ) (d : Run) →
+    i < length runs →
+    expanded (take (i + 1) runs) ≡ expanded (take i runs) ++ replicate (get_or runs i d).count (get_or runs i d).byte
+expanded-more runs i d inside =
+    ap expanded (take_more runs i d inside) ∙ expanded-push (take i runs) (get_or runs i d)
+
+-- the first runs have no more bytes than all
+expanded-within :
+    (runs : List Run) (i : ℕ) → length (expanded (take i runs)) ≤ length (expanded runs)
+expanded-within runs i =
+    let all : expanded runs ≡ expanded (take i runs) ++ expanded (drop i runs) =
+    ap expanded (sym (take-append-drop i runs)) ∙ expanded-append (take i runs) (drop i runs) in
+    omega (arith, ap length all, length-append (expanded (take i runs)) (expanded (drop i runs)))
+
+length-replicate-run : (n byte : ℕ) → length (replicate n byte) ≡ n
+length-replicate-run zero byte = refl
+length-replicate-run (suc n) byte = ap suc (length-replicate-run n byte)
+
+pub Filled-end :
+    (runs : List Run) (i : ℕ) (d : Run) (out : List ℕ) (start : ℕ) →
+    i < length runs →
+    Filled runs i out start →
+    start + (get_or runs i d).count ≤ length out
+Filled-end runs i d out start inside filled =
+    let n : ℕ = (get_or runs i d).count in
+    let b : ℕ = (get_or runs i d).byte in
+    omega (
+      arith,
+      filled.room,
+      filled.place,
+      ap length (expanded-more runs i d inside),
+      expanded-within runs (i + 1),
+      length-append (expanded (take i runs)) (replicate n b),
+      length-replicate-run n b,
+    )
+
+-- the bytes of one run more
+pub Filled-more :
+    (runs : List Run) (i : ℕ) (d : Run) (out new : List ℕ) (start : ℕ) →
+    i < length runs →
+    Filled runs i out start →
+    new ≡ take start out ++ replicate (start + (get_or runs i d).count - start) (get_or runs i d).byte
+    ++ drop (start + (get_or runs i d).count) out →
+    length new ≡ length out →
+    Filled runs (i + 1) new (start + (get_or runs i d).count)
+Filled-more runs i d out new start inside filled is kept =
+    let n : ℕ = (get_or runs i d).count in
+    let b : ℕ = (get_or runs i d).byte in
+    let part : List ℕ = replicate n b in
+    let less : start + n - start ≡ n = omega arith in
+    let more : expanded (take (i + 1) runs) ≡ expanded (take i runs) ++ part = expanded-more runs i d inside in
+    let all : new ≡ expanded (take (i + 1) runs) ++ drop (start + n) out =
+    is ∙ ap (λ k. take start out ++ replicate k b ++ drop (start + n) out) less
+    ∙ ap (λ front. front ++ part ++ drop (start + n) out) filled.front
+    ∙ ap (λ front. front ++ drop (start + n) out) (sym more) in
+    let place : start + n ≡ length (expanded (take (i + 1) runs)) =
+    omega (arith, filled.place, ap length more, length-append (expanded (take i runs)) part, length-replicate-run n b) in
+    record {
+      room = kept ∙ filled.room;
+      place = place;
+      front =
+          ap (λ k. take k new) place
+          ∙ ap (λ l. take (length (expanded (take (i + 1) runs))) l) all
+          ∙ take-append_seam (expanded (take (i + 1) runs)) (drop (start + n) out);
+    }

@@ -1,7 +1,7 @@
 -- The canonical line of a command: its name, then the options that were given, in the manual's order, then
 -- the operands, with one space between words. Numbers have no leading zeros, and the byte of a `write` is two
 -- hexadecimal digits in lower case.
-use Rattle.std.specs.Prelude.{ℕ, ◌/◌, ◌%◌, Bool, true, false, if◌then◌else◌, List, [], ◌∷◌, ◌++◌, Option, Some, None, codes, decimal}
+use Rattle.std.specs.Prelude.{ℕ, ◌/◌, ◌%◌, Bool, false, if◌then◌else◌, List, [], ◌∷◌, ◌++◌, Option, Some, None, codes, decimal}
 use Rattle.std.specs.List.{join_with_byte}
 use Rattle.std.specs.Fmt.{digit_glyph}
 use Rattle.fc_base.specs.declared.command.Command.{Command}

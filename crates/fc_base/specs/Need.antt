@@ -1,5 +1,5 @@
 -- Who still needs a slot, and who depends on it.
-use Rattle.std.specs.Prelude.{◌≡◌, ◌≢◌, ℕ, ◌<◌, Bool, true, Option, Some, List, length}
+use Rattle.std.specs.Prelude.{◌≡◌, ◌≢◌, ℕ, ◌<◌, Bool, true, Some, List, length}
 use Rattle.std.specs.List.{list_all}
 use Rattle.fc_base.specs.Column.{holder, needer}
 use Rattle.fc_base.specs.Sheet.{Slot, slot_at, column}

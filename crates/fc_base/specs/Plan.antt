@@ -1,7 +1,7 @@
 -- The moves that a fill or a write owes, as the history tells them.
 use Rattle.std.specs.Prelude.{ℕ, Option, Some, None, List, [], map}
 use Rattle.fc_base.specs.declared.request.Move.{Move}
-use Rattle.fc_base.specs.Sheet.{Slot, slot_at, column, live_place}
+use Rattle.fc_base.specs.Sheet.{Slot, slot_at, column}
 use Rattle.fc_base.specs.Moves.{is_in_place, fill_moves, write_moves}
 
 -- The move of the slot at a place: `g` is the grain's place on the sheet, `grain` its number in the volume.

@@ -1,5 +1,5 @@
 -- Which volumes stand before which: a restore is refused where its trigger would close a loop here.
-use Rattle.std.specs.Prelude.{◌≡◌, ◌≢◌, ◌⊎◌, ℕ, ◌<◌, ◌≤◌, Bool, true, false, List, [], ◌∷◌, length}
+use Rattle.std.specs.Prelude.{◌≡◌, ◌≢◌, ◌⊎◌, ℕ, ◌<◌, ◌≤◌, true, false, List, [], ◌∷◌, length}
 use Rattle.fc_base.specs.Column.{Shape}
 
 -- An edge runs from a volume to another where an old slot of the one stands before a live slot of the other in one chain.

@@ -1,5 +1,5 @@
 -- Chains of copies: the slots of all chains, and the pairs of slot and grain that are held.
-use Rattle.std.specs.Prelude.{ℕ, ◌+◌, Bool, true, false, ◌&&◌, eqb, Option, Some, None, List, [], length, replicate, slice_index_or}
+use Rattle.std.specs.Prelude.{ℕ, Bool, false, ◌&&◌, eqb, Option, Some, None, List, [], length, slice_index_or}
 use Rattle.fc_base.specs.Column.{Shape, Column, first_below, is_at}
 
 -- A slot is a state of a volume in a chain of copies. `birth` is its number, by which it is named; no two slots ever have

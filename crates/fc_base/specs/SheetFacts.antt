@@ -1,5 +1,5 @@
 -- What holds of every sheet that is reached.
-use Rattle.std.specs.Prelude.{◌≡◌, ◌≢◌, ℕ, ◌<◌, Bool, true, false, Option, Some, None, List, length}
+use Rattle.std.specs.Prelude.{◌≡◌, ◌≢◌, ℕ, ◌<◌, true, Some, None, List, length}
 use Rattle.fc_base.specs.Column.{holder}
 use Rattle.fc_base.specs.Sheet.{Slot, Sheet, slot_at, shape_of, column}
 use Rattle.fc_base.specs.Need.{is_complete}

@@ -1,11 +1,11 @@
 -- Which events fit a sheet: what the decisions of the control part keep to.
-use Rattle.std.specs.Prelude.{◌≡◌, ◌≢◌, ◌⊎◌, ℕ, ◌+◌, ◌<◌, ◌^◌, Bool, true, false, Option, Some, None, List, [], ◌∷◌, length, IsSome, Contains, slice_index_or}
+use Rattle.std.specs.Prelude.{◌≡◌, ◌≢◌, ◌⊎◌, ℕ, ◌<◌, ◌^◌, true, false, Some, None, List, [], ◌∷◌, length, IsSome, Contains, slice_index_or}
 use Rattle.fc_base.specs.declared.ids.MapId.{MapId}
 use Rattle.fc_base.specs.declared.request.Pair.{Pair}
 use Rattle.fc_base.specs.declared.decision.LaneEvent.{LaneEvent}
 use Rattle.fc_base.specs.declared.decision.LaneEvent.TheVariants.{Make, Remove, Trigger, Retire, Detach, Split, Force, Drop, Forget, NoteCut, Access, Work, Arm}
 use Rattle.fc_base.specs.Column.{holder}
-use Rattle.fc_base.specs.Sheet.{Slot, Sheet, slot_at, shape_of, column, live_place, mapping_place, birth_place, volume_grains}
+use Rattle.fc_base.specs.Sheet.{Slot, Sheet, slot_at, shape_of, column, live_place, mapping_place, birth_place}
 use Rattle.fc_base.specs.SheetStep.{sheet_step, triggered}
 use Rattle.fc_base.specs.Need.{IsNeeded, is_complete}
 use Rattle.fc_base.specs.RestoreGraph.{HasNoLoop}

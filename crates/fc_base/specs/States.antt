@@ -2,7 +2,7 @@
 use Rattle.std.specs.Prelude.{Bool, true, not, ◌&&◌, if◌then◌else◌, Result, Ok, Err}
 use Rattle.fc_base.specs.declared.ids.MapId.{MapId}
 use Rattle.fc_base.specs.declared.state.MapState.{MapState}
-use Rattle.fc_base.specs.declared.state.MapState.TheVariants.{Empty, IdleOrCopied, Preparing, Prepared, Copying, Stopping, Stopped}
+use Rattle.fc_base.specs.declared.state.MapState.TheVariants.{IdleOrCopied, Preparing, Prepared, Copying, Stopping, Stopped}
 use Rattle.fc_base.specs.declared.state.MapEvent.{MapEvent}
 use Rattle.fc_base.specs.declared.state.MapEvent.TheVariants.{Prepare, Start, StartPrep, Stop, StopSplit, StopForce, Supersede, Finish, Remove, RemoveForce}
 use Rattle.fc_base.specs.declared.state.Access.{Access}

@@ -1,6 +1,6 @@
 //! Runs of equal bytes.
 
-ghost use Rattle.std.specs.Prelude.{◌≡◌, ◌≢◌, ◌<◌, ◌≤◌, ◌^◌, length, IfOk, take, replicate, slice_index};
+ghost use Rattle.std.specs.Prelude.{◌≡◌, ◌≢◌, ◌<◌, ◌≤◌, ◌^◌, length, IfOk, take, drop, replicate, slice_index, ◌-◌, ◌++◌};
 ghost use Rattle.fc_base.specs.declared.runs.Run.{Run};
 ghost use Rattle.fc_base.specs.Runs.{expanded, IsCanonical};
 
@@ -82,5 +82,36 @@ impl Runs {
         ensures canonical { IsCanonical self.now }
     {
         self.runs.as_slice()
+    }
+
+    /// Puts the bytes that the runs stand for into `out`, which has room for just these.
+    pub fn expand(&self, out: &mut [u8])
+        requires { length out.old ≡ length (expanded self.now) }
+        ensures { out.new ≡ expanded self.now }
+    {
+        fill_runs(self.runs.as_slice(), out);
+    }
+}
+
+/// Puts one byte at the places from `start` to before `end`.
+fn fill_part(out: &mut [u8], start: usize, end: usize, byte: u8)
+    requires order { start ≤ end }
+    requires within { end ≤ length out.old }
+    ensures filled { out.new ≡ take start out.old ++ replicate (end - start) byte ++ drop end out.old }
+    ensures len { length out.new ≡ length out.old }
+{
+    out[start..end].fill(byte);
+}
+
+/// Puts the bytes that runs stand for into `out`.
+fn fill_runs(runs: &[Run], out: &mut [u8])
+    requires { length out.old ≡ length (expanded runs.now) }
+    ensures { out.new ≡ expanded runs.now }
+{
+    let mut start = 0;
+    for run in runs {
+        let end = start + run.count as usize;
+        fill_part(out, start, end, run.byte);
+        start = end;
     }
 }

@@ -1,6 +1,0 @@
-pub mod Finds
-pub mod Mapping
-pub mod Keeps
-pub mod Olds
-pub mod Places
-pub mod Plans

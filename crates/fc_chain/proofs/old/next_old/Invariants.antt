@@ -1,8 +1,0 @@
-use Rattle.std.proofs.Common.{◌≡◌, ℕ, ◌<◌, ◌≤◌, ◌&&◌, Bool, true, false, Option, None, IfSome, length}
-use Rattle.fc_base.specs.Sheet.{slot_at}
-use Rattle.fc_chain.proofs.Olds.{is_old_after, LeastSoFar}
-use Rattle.fc_chain.proofs.old.next_old.Given as goal
-
--- the least birth so far
-abbrev pub invariant-loop-place : goal.invariant-loop-place
-invariant-loop-place l = LeastSoFar l.slots l.volume l.after l.place l.least
