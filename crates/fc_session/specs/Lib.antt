@@ -3,7 +3,6 @@ pub mod Words
 pub mod Codes
 pub mod Stores
 pub mod Reading
-pub mod Owners
 pub mod Progress
 pub mod ReadTo
 pub mod SessionRead

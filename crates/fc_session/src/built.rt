@@ -2,14 +2,15 @@
 
 ghost use Rattle.std.specs.Prelude.{◌≡◌, IsTrue};
 ghost use Rattle.fc_session.specs.Reading.{is_built, is_built_command};
-ghost use Rattle.fc_session.specs.Owners.{Takes, TakesCommand};
+ghost use Rattle.fc_single.specs.Answered.{TakesLine, TakesCommand};
+ghost use Rattle.fc_single.specs.Single.{SingleState, can_make as can_make_one};
 
 use fc_base::command::{Command, Line};
 
 /// Whether a command is built so far.
 fn is_built_command(can_make: bool, command: &Command) -> bool
     ensures value { result ≡ is_built_command can_make command.now }
-    ensures takes { IsTrue result → TakesCommand can_make command.now }
+    ensures takes { IsTrue result → (state : SingleState) → can_make ≡ can_make_one state → TakesCommand state command.now }
 {
     match command {
         Command::Read { .. } | Command::Write { .. } => true,
@@ -41,7 +42,7 @@ fn is_built_command(can_make: bool, command: &Command) -> bool
 /// Whether a line is built so far.
 fn is_built(can_make: bool, line: &Line) -> bool
     ensures value { result ≡ is_built can_make line.now }
-    ensures takes { IsTrue result → Takes can_make line.now }
+    ensures takes { IsTrue result → (state : SingleState) → can_make ≡ can_make_one state → TakesLine state line.now }
 {
     match line {
         Line::Blank => true,
