@@ -24,6 +24,11 @@ pub record DiskState : Type 0 where
   -- the armed fault, where the disk tells it: how many calls it is away, 0 for none
   pub due : Option ℕ
 
+-- A disk as it is made: no grains, no calls.
+abbrev pub blank : DiskKind → Option ℕ → DiskState
+blank kind due =
+    record { kind = kind; grains = []; occupied = []; calls = 0; faults = 0; write_faults = 0; due = due }
+
 -- No call, no fault, nothing armed.
 pub record IsFresh (disk : DiskState) : Type 0 where
   pub no_calls : disk.calls ≡ 0
