@@ -1,4 +1,5 @@
 -- The definitions that contracts of this crate and of those above it cite, one subject a file.
+pub mod CommandText
 pub mod Count
 pub mod Grain
 pub mod Names

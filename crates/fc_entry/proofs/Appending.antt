@@ -1,12 +1,11 @@
 -- More entries behind a history, and more lines behind a run.
-use Rattle.std.proofs.Common.{◌≡◌, ℕ, ◌+◌, List, [], ◌∷◌, ◌++◌, map, length, append_assoc, refl, sym, ◌∙◌, ap, subst, arith, length-append}
+use Rattle.std.proofs.Common.{◌≡◌, ℕ, ◌+◌, List, [], ◌∷◌, ◌++◌, length, append_assoc, refl, sym, ◌∙◌, ap, subst, arith}
 use Rattle.std.proofs.lemmas.List.{append-nil}
-use Rattle.fc_base.specs.declared.request.Request.{Request}
 use Rattle.fc_base.specs.declared.size.GrainSize.{GrainSize}
 use Rattle.fc_entry.specs.declared.entry.Entry.{Entry}
 use Rattle.fc_entry.specs.Legal.{IsLegal}
 use Rattle.fc_entry.specs.Run.{Reading, asks, line_asks, IsRun}
-use Rattle.fc_entry.specs.Told.{Told, told_step, told_after, opened}
+use Rattle.fc_entry.specs.Told.{Told, told_step, told_after}
 
 -- what is told after one history and then another
 pub told_after-append :
@@ -45,9 +44,10 @@ IsRun-append grain read told [] line xs ys run asked =
 IsRun-append grain read told (first ∷ lines) line xs ys run asked =
     let Q : Told → Type 0 = λ t. asks ys ≡ line_asks grain read t line in
     let same : told_after grain told xs ≡ told_after grain (told_after grain told run.0) run.1 =
-      ap (λ es. told_after grain told es) run.2 ∙ told_after-append grain told run.0 run.1 in
-    ( run.0
-    , run.1 ++ ys
-    , ap (λ es. es ++ ys) run.2 ∙ append_assoc run.0 run.1 ys
-    , run.3
-    , IsRun-append grain read (told_after grain told run.0) lines line run.1 ys run.4 (subst Q same asked) )
+    ap (λ es. told_after grain told es) run.2 ∙ told_after-append grain told run.0 run.1 in (
+      run.0,
+      run.1 ++ ys,
+      ap (λ es. es ++ ys) run.2 ∙ append_assoc run.0 run.1 ys,
+      run.3,
+      IsRun-append grain read (told_after grain told run.0) lines line run.1 ys run.4 (subst Q same asked),
+    )

@@ -1,5 +1,5 @@
 -- What a line asks.
-use Rattle.std.specs.Prelude.{ℕ, ◌+◌, ◌-◌, ◌*◌, ◌/◌, Bool, true, false, min, max, List, [], ◌∷◌, map, zero, suc, Option, Some, None, Result, Ok, Err}
+use Rattle.std.specs.Prelude.{ℕ, ◌+◌, ◌-◌, ◌*◌, min, max, List, [], ◌∷◌, map, zero, suc, Option, Some, None, Result, Ok, Err}
 use Rattle.fc_base.specs.Grain.{grain_blocks}
 use Rattle.fc_base.specs.declared.command.Command.{Command}
 use Rattle.fc_base.specs.declared.command.Command.TheVariants.{Read as ReadLine, Write as WriteLine}
@@ -10,10 +10,8 @@ use Rattle.fc_base.specs.declared.fault.WordFault.{WordFault}
 use Rattle.fc_base.specs.declared.fault.WordFault.TheVariants.{UnknownCommand}
 use Rattle.fc_base.specs.declared.ids.VolId.{VolId}
 use Rattle.fc_base.specs.declared.name.Ref.{Ref}
-use Rattle.fc_base.specs.declared.request.ReadPart.{ReadPart}
 use Rattle.fc_base.specs.declared.request.Request.{Request}
 use Rattle.fc_base.specs.declared.request.Request.TheVariants.{Command as Asked, Unread, Read, Write}
-use Rattle.fc_base.specs.declared.request.WritePart.{WritePart}
 use Rattle.fc_base.specs.declared.size.GrainSize.{GrainSize}
 use Rattle.fc_base.specs.declared.volume.Volume.{Volume}
 use Rattle.fc_entry.specs.Picture.{grain_of_block}
@@ -53,18 +51,18 @@ abbrev pub access_asked : GrainSize → Told → Command → Ref → ℕ → ℕ
 access_asked grain told command volume block count request =
     found (access_refusal grain told volume block count) (volume_by volume told.volumes)
   where
-  found : Option Refusal → Option Volume → List Request
-  found None (Some v) = map (request v.id) (touched grain block count)
-  found _ _ = Asked command ∷ []
+    found : Option Refusal → Option Volume → List Request
+    found None (Some v) = map (request v.id) (touched grain block count)
+    found _ _ = Asked command ∷ []
 
 -- what a command line asks: an access by its grains, or itself where it is refused; any other command itself
 abbrev pub command_asked : GrainSize → Told → Command → List Request
 command_asked grain told (ReadLine volume block count) =
     access_asked grain told (ReadLine volume block count) volume block count
-      (λ id. read_in grain id block count)
+    (λ id. read_in grain id block count)
 command_asked grain told (WriteLine volume block count byte) =
     access_asked grain told (WriteLine volume block count byte) volume block count
-      (λ id. write_in grain id block count byte)
+    (λ id. write_in grain id block count byte)
 command_asked grain told command = Asked command ∷ []
 
 -- what a line asks, as it was read: nothing of a blank one, and a fault is told

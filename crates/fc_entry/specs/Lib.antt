@@ -11,3 +11,4 @@ pub mod Lines
 pub mod Asked
 pub mod Run
 pub mod Added
+pub mod Text

@@ -1,5 +1,5 @@
 -- The lines of a session's bytes.
-use Rattle.std.specs.Prelude.{ℕ, ◌-◌, Bool, ◌==◌, cond, List, [], ◌∷◌, ◌++◌, fold, length, take, slice_index_or}
+use Rattle.std.specs.Prelude.{ℕ, ◌-◌, ◌==◌, cond, List, [], ◌∷◌, ◌++◌, fold, length, take, slice_index_or}
 
 -- the lines that have ended, and the bytes of the one that hasn't
 pub record Lined : Type 0 where
@@ -14,8 +14,8 @@ without_return line = cond (slice_index_or line (length line - 1) 0 == 13) (take
 abbrev pub line_step : Lined → ℕ → Lined
 line_step lined byte =
     cond (byte == 10)
-      record { ended = lined.ended ++ without_return lined.unended ∷ []; unended = [] }
-      record { ended = lined.ended; unended = lined.unended ++ byte ∷ [] }
+    record { ended = lined.ended ++ without_return lined.unended ∷ []; unended = [] }
+    record { ended = lined.ended; unended = lined.unended ++ byte ∷ [] }
 
 abbrev pub lined : List ℕ → Lined
 lined bytes = fold line_step record { ended = []; unended = [] } bytes

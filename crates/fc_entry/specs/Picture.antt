@@ -1,5 +1,5 @@
 -- What plain volumes hold: whole volumes as lists of grains, without chains and bitmaps.
-use Rattle.std.specs.Prelude.{◌≡◌, ℕ, ◌+◌, ◌*◌, ◌/◌, ◌%◌, Bool, true, false, ◌==◌, cond, List, [], ◌∷◌, ◌++◌, take, drop, map, replicate, slice_set, slice_index_or, Option, Some, None}
+use Rattle.std.specs.Prelude.{ℕ, ◌+◌, ◌*◌, ◌/◌, ◌%◌, ◌==◌, cond, List, [], ◌∷◌, ◌++◌, take, drop, map, replicate, slice_index_or, Option, Some, None}
 use Rattle.fc_base.specs.Grain.{block_bytes, grain_bytes, grain_blocks}
 use Rattle.fc_base.specs.declared.ids.VolId.{VolId}
 use Rattle.fc_base.specs.declared.size.GrainSize.{GrainSize}

@@ -1,5 +1,5 @@
 -- What an entry does to plain volumes.
-use Rattle.std.specs.Prelude.{◌≡◌, ℕ, ◌+◌, ◌*◌, Bool, true, false, ◌==◌, ◌&&◌, ◌||◌, not, nat_le, cond, List, [], ◌∷◌, ◌++◌, map, filter, replicate, slice_set, length, Option, Some, None}
+use Rattle.std.specs.Prelude.{ℕ, ◌+◌, ◌*◌, Bool, ◌==◌, ◌&&◌, not, nat_le, cond, List, [], ◌∷◌, ◌++◌, map, filter, replicate, slice_set, Option, Some, None}
 use Rattle.std.specs.List.{list_any}
 use Rattle.fc_base.specs.Grain.{block_bytes}
 use Rattle.fc_base.specs.declared.ids.VolId.{VolId}
@@ -23,16 +23,18 @@ use Rattle.fc_entry.specs.Picture.{Content, Lost, PlainVolume, Picture, zeros, v
 abbrev pub after_write : GrainSize → WritePart → PlainVolume → PlainVolume
 after_write grain part v =
     let g = grain_of_block grain part.block in
-    record v { now = slice_set v.now g
-      (written (byte_in_grain grain part.block) (block_bytes * part.count) part.byte (content_at v.now g)) }
+    record v {
+      now = slice_set v.now g
+          (written (byte_in_grain grain part.block) (block_bytes * part.count) part.byte (content_at v.now g));
+    }
 
 -- the volume after a failed write left any bytes in a grain
 abbrev pub after_torn : Torn → PlainVolume → PlainVolume
 after_torn torn v = torn_at torn.side torn.grain.0 v
   where
-  torn_at : Side → ℕ → PlainVolume → PlainVolume
-  torn_at Now g v = record v { now = slice_set v.now g Lost }
-  torn_at Under g v = record v { under = slice_set v.under g Lost }
+    torn_at : Side → ℕ → PlainVolume → PlainVolume
+    torn_at Now g v = record v { now = slice_set v.now g Lost }
+    torn_at Under g v = record v { under = slice_set v.under g Lost }
 
 -- the source of a volume in a trigger's pairs, if it is a target there
 abbrev pub source_in : List Pair → VolId → Option VolId
@@ -43,17 +45,17 @@ source_in (pair ∷ pairs) target = cond (pair.target.0 == target.0) (Some pair.
 abbrev pub now_in : Picture → VolId → List Content
 now_in picture id = held (volume_in picture id)
   where
-  held : Option PlainVolume → List Content
-  held None = []
-  held (Some v) = v.now
+    held : Option PlainVolume → List Content
+    held None = []
+    held (Some v) = v.now
 
 -- a volume after a trigger: a target holds what its source held, over what it held itself
 abbrev pub after_trigger : Picture → List Pair → PlainVolume → PlainVolume
 after_trigger old pairs v = copied (source_in pairs v.volume)
   where
-  copied : Option VolId → PlainVolume
-  copied None = v
-  copied (Some source) = record v { now = now_in old source; under = v.now }
+    copied : Option VolId → PlainVolume
+    copied None = v
+    copied (Some source) = record v { now = now_in old source; under = v.now }
 
 -- whether a grain is in these ranges
 abbrev pub is_kept : List Range → ℕ → Bool

@@ -16,4 +16,4 @@ IsRightIn from length Lost runs = ⊥
 abbrev pub IsRightRead : GrainSize → Picture → ReadPart → List Run → Type 0
 IsRightRead grain picture part runs =
     IsRightIn (byte_in_grain grain part.block) (block_bytes * part.count)
-      (now_at (volume_in picture part.volume) (grain_of_block grain part.block)) runs
+    (now_at (volume_in picture part.volume) (grain_of_block grain part.block)) runs

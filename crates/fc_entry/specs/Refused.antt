@@ -1,15 +1,13 @@
 -- Which commands are refused, and why: the first refusal of the stated order.
-use Rattle.std.specs.Prelude.{◌≡◌, ℕ, ◌+◌, ◌*◌, ◌/◌, ◌%◌, Bool, true, false, ◌==◌, ◌&&◌, ◌||◌, not, nat_le, nat_lt, cond, List, [], ◌∷◌, ◌++◌, length, Option, Some, None, sum, map}
-use Rattle.std.specs.List.{list_any, list_all}
+use Rattle.std.specs.Prelude.{ℕ, ◌+◌, ◌*◌, ◌/◌, ◌%◌, Bool, ◌==◌, ◌||◌, not, nat_le, nat_lt, cond, List, [], ◌∷◌, length, Option, Some, None, sum, map}
+use Rattle.std.specs.List.{list_any}
 use Rattle.fc_base.specs.Grain.{grain_bytes, grain_blocks}
 use Rattle.fc_base.specs.declared.command.Unit.{Unit as SizeUnit}
 use Rattle.fc_base.specs.declared.disk.DiskKind.{DiskKind}
 use Rattle.fc_base.specs.declared.disk.DiskKind.TheVariants.{Flat, Thin}
-use Rattle.fc_base.specs.declared.fault.Kind.{Kind}
 use Rattle.fc_base.specs.declared.fault.Kind.TheVariants.{Vdisk}
 use Rattle.fc_base.specs.declared.fault.Refusal.{Refusal}
 use Rattle.fc_base.specs.declared.fault.Refusal.TheVariants.{NoSuch, NameTaken, Limit, NoDisk, BadValue}
-use Rattle.fc_base.specs.declared.fault.ValueOf.{ValueOf}
 use Rattle.fc_base.specs.declared.fault.ValueOf.TheVariants.{Size, Blocks}
 use Rattle.fc_base.specs.declared.name.Ref.{Ref}
 use Rattle.fc_base.specs.declared.name.Ref.TheVariants.{Id, Name}
@@ -72,25 +70,25 @@ abbrev pub mkvdisk_refusal : GrainSize → Told → Option (List ℕ) → ℕ �
 mkvdisk_refusal grain told name size unit thin =
     let bytes = size * unit_bytes unit in
     first_of
-      ( where_ ((bytes == 0) || not (bytes % grain_bytes grain == 0)) (BadValue Size)
-      ∷ where_ (nat_le 512 (length told.volumes)) (Limit 512)
-      ∷ where_ (nat_lt 8192 (all_grains told.volumes + bytes / grain_bytes grain)) (Limit 8192)
-      ∷ taken_by (named (volume_name name told.next_volume) told.volumes)
-      ∷ where_ (lacks_disk (kind_of thin) told.pools) NoDisk
-      ∷ [] )
+    (where_ ((bytes == 0) || not (bytes % grain_bytes grain == 0)) (BadValue Size)
+    ∷ where_ (nat_le 512 (length told.volumes)) (Limit 512)
+    ∷ where_ (nat_lt 8192 (all_grains told.volumes + bytes / grain_bytes grain)) (Limit 8192)
+    ∷ taken_by (named (volume_name name told.next_volume) told.volumes)
+    ∷ where_ (lacks_disk (kind_of thin) told.pools) NoDisk
+    ∷ [])
 
 -- an access of a volume is refused for more than 8,192 blocks, for none, and for a block past the volume's end
 abbrev pub blocks_refusal : GrainSize → Volume → ℕ → ℕ → Option Refusal
 blocks_refusal grain volume block count =
     first_of
-      ( where_ (nat_lt 8192 count) (Limit 8192)
-      ∷ where_ ((count == 0) || nat_lt (volume.grains * grain_blocks grain) (block + count)) (BadValue Blocks)
-      ∷ [] )
+    (where_ (nat_lt 8192 count) (Limit 8192)
+    ∷ where_ ((count == 0) || nat_lt (volume.grains * grain_blocks grain) (block + count)) (BadValue Blocks)
+    ∷ [])
 
 -- an access is refused where its reference names no volume, and for its blocks
 abbrev pub access_refusal : GrainSize → Told → Ref → ℕ → ℕ → Option Refusal
 access_refusal grain told volume block count = found (volume_by volume told.volumes)
   where
-  found : Option Volume → Option Refusal
-  found None = Some (NoSuch Vdisk)
-  found (Some v) = blocks_refusal grain v block count
+    found : Option Volume → Option Refusal
+    found None = Some (NoSuch Vdisk)
+    found (Some v) = blocks_refusal grain v block count

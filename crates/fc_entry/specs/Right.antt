@@ -1,19 +1,17 @@
 -- When an entry is right after what was told before it.
-use Rattle.std.specs.Prelude.{◌≡◌, ◌⊎◌, ℕ, ◌+◌, ◌*◌, ◌/◌, ◌%◌, ◌<◌, ◌≤◌, Bool, true, false, ◌==◌, ◌&&◌, not, cond, List, [], ◌∷◌, ◌++◌, length, slice_index_or, Option, Some, None}
+use Rattle.std.specs.Prelude.{◌≡◌, ℕ, ◌*◌, ◌/◌, ◌%◌, ◌≤◌, Bool, true, false, ◌==◌, ◌&&◌, not, cond, [], ◌∷◌, length, slice_index_or, Option, Some, None}
 use Rattle.fc_base.specs.Count.{HasRisen}
-use Rattle.fc_base.specs.Grain.{block_bytes, grain_bytes, grain_blocks}
+use Rattle.fc_base.specs.Grain.{grain_bytes, grain_blocks}
 use Rattle.fc_base.specs.declared.command.Command.{Command}
 use Rattle.fc_base.specs.declared.command.Command.TheVariants.{Mkvdisk, Read as ReadLine, Write as WriteLine}
 use Rattle.fc_base.specs.declared.command.Unit.{Unit as SizeUnit}
 use Rattle.fc_base.specs.declared.disk.DiskKind.{DiskKind}
-use Rattle.fc_base.specs.declared.disk.DiskKind.TheVariants.{Flat, Thin}
+use Rattle.fc_base.specs.declared.disk.DiskKind.TheVariants.{Thin}
 use Rattle.fc_base.specs.declared.fault.Kind.TheVariants.{Vdisk}
 use Rattle.fc_base.specs.declared.fault.Refusal.{Refusal}
 use Rattle.fc_base.specs.declared.fault.Refusal.TheVariants.{Words}
-use Rattle.fc_base.specs.declared.ids.GrainNo.{GrainNo}
 use Rattle.fc_base.specs.declared.ids.VolId.{VolId}
 use Rattle.fc_base.specs.declared.request.Effect.TheVariants.{Make}
-use Rattle.fc_base.specs.declared.request.Place.{Place}
 use Rattle.fc_base.specs.declared.request.Place.TheVariants.{Lane, Every, Control}
 use Rattle.fc_base.specs.declared.request.ReadPart.{ReadPart}
 use Rattle.fc_base.specs.declared.request.Reply.{Reply}
@@ -26,9 +24,9 @@ use Rattle.fc_base.specs.declared.request.WritePart.{WritePart}
 use Rattle.fc_base.specs.declared.size.GrainSize.{GrainSize}
 use Rattle.fc_base.specs.declared.volume.Volume.{Volume}
 use Rattle.fc_entry.specs.declared.entry.Entry.{Entry}
-use Rattle.fc_entry.specs.Picture.{Content, Bytes as Held, Lost, Picture, volume_in, now_at, grain_of_block}
+use Rattle.fc_entry.specs.Picture.{Content, Bytes as Held, Lost, volume_in, now_at, grain_of_block}
 use Rattle.fc_entry.specs.Reads.{IsRightRead}
-use Rattle.fc_entry.specs.Refused.{first_of, mkvdisk_refusal, access_refusal, with_id}
+use Rattle.fc_entry.specs.Refused.{mkvdisk_refusal, access_refusal, with_id}
 use Rattle.fc_entry.specs.Told.{Told, unit_bytes}
 
 -- nothing was moved, no disk was called and none is spoken of: every entry whose place isn't a lane
@@ -64,8 +62,8 @@ ReadAnswers grain told part entry MediumError =
     (is_lost (content_of grain told part.volume part.block) ≡ true) × (entry.calls ≡ 0)
 ReadAnswers grain told part entry DiskFault =
     (is_lost (content_of grain told part.volume part.block) ≡ false)
-      × (entry.calls ≡ 1)
-      × HasRisen entry.faults_before entry.faults_after
+    × (entry.calls ≡ 1)
+    × HasRisen entry.faults_before entry.faults_after
 ReadAnswers grain told part entry NoMemory =
     (is_lost (content_of grain told part.volume part.block) ≡ false) × (entry.calls ≤ 1)
 ReadAnswers grain told part entry _ = ⊥
@@ -86,8 +84,8 @@ cannot_write grain told part = is_lost (content_of grain told part.volume part.b
 abbrev pub torn_by : GrainSize → WritePart → ℕ → Option Torn
 torn_by grain part calls =
     cond (calls == calls_of_write grain part)
-      (Some record { volume = part.volume; grain = record { 0 = grain_of_block grain part.block }; side = Now })
-      None
+    (Some record { volume = part.volume; grain = record { 0 = grain_of_block grain part.block }; side = Now })
+    None
 
 -- the kind of a volume's disks
 abbrev pub IsOfKind : DiskKind → Option Volume → Type 0
@@ -103,23 +101,23 @@ WriteAnswers grain told part entry MediumError =
     (cannot_write grain told part ≡ true) × (entry.calls ≡ 0) × (entry.torn ≡ None)
 WriteAnswers grain told part entry DiskFault =
     (cannot_write grain told part ≡ false)
-      × (1 ≤ entry.calls)
-      × (entry.calls ≤ calls_of_write grain part)
-      × (entry.torn ≡ torn_by grain part entry.calls)
-      × HasRisen entry.faults_before entry.faults_after
+    × (1 ≤ entry.calls)
+    × (entry.calls ≤ calls_of_write grain part)
+    × (entry.torn ≡ torn_by grain part entry.calls)
+    × HasRisen entry.faults_before entry.faults_after
 WriteAnswers grain told part entry NoMemory =
     (cannot_write grain told part ≡ false)
-      × (entry.calls ≤ calls_of_write grain part)
-      × (entry.torn ≡ None)
-      × IsOfKind Thin (with_id part.volume.0 told.volumes)
+    × (entry.calls ≤ calls_of_write grain part)
+    × (entry.torn ≡ None)
+    × IsOfKind Thin (with_id part.volume.0 told.volumes)
 WriteAnswers grain told part entry _ = ⊥
 
 -- what `mkvdisk` answers: its first refusal; else the volume is made, with its effect, or memory was wanted
 abbrev pub MkvdiskAnswers : GrainSize → Told → ℕ → Option SizeUnit → Option Refusal → Entry → Reply → Type 0
 MkvdiskAnswers grain told size unit None entry (Made kind id) =
     (kind ≡ Vdisk)
-      × (id ≡ told.next_volume)
-      × (entry.effects ≡ Make record { 0 = told.next_volume } ((size * unit_bytes unit) / grain_bytes grain) ∷ [])
+    × (id ≡ told.next_volume)
+    × (entry.effects ≡ Make record { 0 = told.next_volume } ((size * unit_bytes unit) / grain_bytes grain) ∷ [])
 MkvdiskAnswers grain told size unit None entry NoMemory = entry.effects ≡ []
 MkvdiskAnswers grain told size unit (Some refusal) entry reply = (reply ≡ Refused refusal) × (entry.effects ≡ [])
 MkvdiskAnswers grain told size unit None entry _ = ⊥
@@ -134,7 +132,7 @@ AccessIsRefused (Some refusal) entry =
 abbrev pub CommandAnswers : GrainSize → Told → Command → Entry → Type 0
 CommandAnswers grain told (Mkvdisk name size unit thin) entry =
     MkvdiskAnswers grain told size unit (mkvdisk_refusal grain told name size unit thin) entry entry.reply
-      × (entry.place ≡ Every)
+    × (entry.place ≡ Every)
 CommandAnswers grain told (ReadLine volume block count) entry =
     AccessIsRefused (access_refusal grain told volume block count) entry
 CommandAnswers grain told (WriteLine volume block count byte) entry =
@@ -148,8 +146,8 @@ Answers grain told (Unread fault) entry =
     (entry.reply ≡ Refused (Words fault)) × (entry.effects ≡ []) × (entry.place ≡ Control) × IsApart entry
 Answers grain told (Read part) entry =
     ReadAnswers grain told part entry entry.reply
-      × IsInLane told (grain_of_block grain part.block) entry
-      × (entry.torn ≡ None)
+    × IsInLane told (grain_of_block grain part.block) entry
+    × (entry.torn ≡ None)
 Answers grain told (Write part) entry =
     WriteAnswers grain told part entry entry.reply × IsInLane told (grain_of_block grain part.block) entry
 Answers grain told _ entry = ⊥

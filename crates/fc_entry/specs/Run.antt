@@ -29,9 +29,9 @@ abbrev pub IsRun : GrainSize → Reading → Told → List (List ℕ) → List E
 IsRun grain read told [] entries = entries ≡ []
 IsRun grain read told (line ∷ lines) entries =
     (first : List Entry) × (rest : List Entry)
-      × (entries ≡ first ++ rest)
-      × (asks first ≡ line_asks grain read told line)
-      × IsRun grain read (told_after grain told first) lines rest
+    × (entries ≡ first ++ rest)
+    × (asks first ≡ line_asks grain read told line)
+    × IsRun grain read (told_after grain told first) lines rest
 
 -- the entries are the first of what the next line asks, if a line is left
 abbrev pub IsPartOfNext : GrainSize → Reading → Told → List (List ℕ) → List Entry → Type 0

@@ -1,12 +1,10 @@
 -- What a history tells, kept from entry to entry.
-use Rattle.std.specs.Prelude.{◌≡◌, ℕ, ◌+◌, ◌-◌, ◌*◌, ◌/◌, Bool, true, false, ◌==◌, cond, List, [], ◌∷◌, ◌++◌, map, length, slice_set, slice_index_or, unwrap_or, Option, Some, None, codes, decimal}
-use Rattle.fc_base.specs.declared.command.Command.{Command}
+use Rattle.std.specs.Prelude.{ℕ, ◌+◌, ◌-◌, ◌*◌, ◌/◌, Bool, true, false, List, [], ◌∷◌, ◌++◌, map, slice_set, Option, Some, None, codes, decimal}
 use Rattle.fc_base.specs.declared.command.Command.TheVariants.{Mkvdisk}
 use Rattle.fc_base.specs.declared.command.Unit.{Unit as SizeUnit}
 use Rattle.fc_base.specs.declared.command.Unit.TheVariants.{Kb, Mb, Gb}
 use Rattle.fc_base.specs.declared.disk.DiskKind.{DiskKind}
 use Rattle.fc_base.specs.declared.disk.DiskKind.TheVariants.{Flat, Thin}
-use Rattle.fc_base.specs.declared.ids.VolId.{VolId}
 use Rattle.fc_base.specs.declared.request.Place.{Place}
 use Rattle.fc_base.specs.declared.request.Place.TheVariants.{Lane}
 use Rattle.fc_base.specs.declared.request.Reply.{Reply}
@@ -45,7 +43,7 @@ opened pools = record {
   pools = pools;
   faults = map (λ _. 0) pools;
   calls = 0;
-  entries = 0
+  entries = 0;
 }
 
 -- the bytes of a size without a unit are in mb; a kb is 1,024 bytes, an mb 1,024 kb, a gb 1,024 mb
@@ -74,20 +72,20 @@ abbrev pub with_volume : Volume → Told → Told
 with_volume volume told = record told {
   volumes = told.volumes ++ volume ∷ [];
   next_volume = told.next_volume + 1;
-  pools = map (pool_without volume.kind) told.pools
+  pools = map (pool_without volume.kind) told.pools;
 }
 
 -- the tables after a request: a volume that was made joins them
 abbrev pub tables_after : GrainSize → Told → Request → Reply → Told
 tables_after grain told (Asked (Mkvdisk name size unit thin)) (Made kind id) =
     with_volume
-      record {
-        id = record { 0 = told.next_volume };
-        name = volume_name name told.next_volume;
-        grains = (size * unit_bytes unit) / grain_bytes grain;
-        kind = kind_of thin
-      }
-      told
+    record {
+      id = record { 0 = told.next_volume };
+      name = volume_name name told.next_volume;
+      grains = (size * unit_bytes unit) / grain_bytes grain;
+      kind = kind_of thin;
+    }
+    told
 tables_after grain told _ _ = told
 
 -- the faults by lane, where the place is a lane set to those at the entry's end
@@ -103,7 +101,7 @@ told_step grain told entry =
       picture = plain_step grain told.picture entry;
       faults = faults_after_at entry.place entry.faults_after told.faults;
       calls = told.calls + entry.calls;
-      entries = told.entries + 1
+      entries = told.entries + 1;
     }
 
 -- what is told after these entries

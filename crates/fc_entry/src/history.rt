@@ -3,13 +3,11 @@
 ghost use Rattle.std.specs.Prelude.{◌≡◌, ◌<◌, ◌^◌, [], ◌∷◌, ◌++◌, length, IfOk, OnOk, OnErr, IfErr, slice_get, slice_index_or, Some};
 ghost use Rattle.fc_entry.specs.HistoryState.{HistoryState};
 
-use std::alloc::Global;
-use std::marker::Model;
-
+use crate::entry::Entry;
 use fc_base::name::Name;
 use fc_base::outcome::NoMemory;
-
-use crate::entry::Entry;
+use std::alloc::Global;
+use std::marker::Model;
 
 /// The names of actors by number, and all entries in order of number.
 #[derive(Drop)]
