@@ -1,2 +1,4 @@
 pub mod Cuts
 pub mod Calls
+pub mod DiskList
+pub mod Reached
