@@ -1,0 +1,4 @@
+-- The store of one volume, and what its calls leave of it.
+pub mod Single
+pub mod Shape
+pub mod Answered

@@ -1,0 +1,5 @@
+//! The store of one volume.
+#![tactic(auto)]
+
+pub mod single;
+pub mod stop;

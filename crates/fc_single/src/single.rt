@@ -1,0 +1,138 @@
+//! The store of one volume, under one owner.
+
+ghost use Rattle.std.specs.Prelude.{◌≡◌, ◌<◌, ◌≤◌, ◌^◌, ◌∷◌, [], length, map, is_some, IfOk, IfSome, None, vec_len};
+ghost use Rattle.std.specs.List.{All, list_any};
+ghost use Rattle.fc_base.specs.declared.disk.DiskKind.TheVariants.{Flat};
+ghost use Rattle.fc_mdisk.specs.Disk.{IsFresh, is_flat};
+ghost use Rattle.fc_mdisk.specs.Disks.{disk_at};
+ghost use Rattle.fc_entry.specs.Asked.{asked};
+ghost use Rattle.fc_entry.specs.Run.{by_main};
+ghost use Rattle.fc_entry.specs.Told.{opened};
+ghost use Rattle.fc_single.specs.Answered.{Answered, StillStands, TakesLine};
+ghost use Rattle.fc_single.specs.Single.{Keeps, StandsFor, can_make, kinds_of, pool_of, told_of};
+
+use crate::stop::Stop;
+use fc_base::command::Line;
+use fc_base::disk::DiskKind;
+use fc_base::fault::WordFault;
+use fc_base::limits::MAX_ENTRIES;
+use fc_base::outcome::NoMemory;
+use fc_base::size::GrainSize;
+use fc_base::volume::Volume;
+use fc_entry::history::History;
+use fc_mdisk::disks::Disks;
+use fc_mdisk::mdisk::Mdisk;
+use std::alloc::Global;
+use std::marker::Model;
+
+/// One volume over a list of disks.
+#[derive(Drop)]
+pub struct Single<D: Mdisk> {
+    alloc: Global,
+    grain: GrainSize,
+    disks: Disks<D>,
+    volume: Option<Volume>,
+    place: usize,
+    lost: Vec<bool>,
+    buffer: Vec<u8>,
+    faults: u64,
+}
+
+impl<D: Mdisk> Model for Single<D> {
+    ghost use Rattle.std.specs.Prelude.{List, map};
+    ghost use Rattle.fc_mdisk.specs.Disks.{disk_at};
+    ghost use Rattle.fc_single.specs.Single.{SingleState};
+    ghost use Rattle.fc_single.specs.Shape.{contents, IsSound};
+
+    ghost Value = { SingleState };
+
+    ghost view = { λ s. record {
+      grain = s.grain;
+      disks = s.disks;
+      volume = s.volume;
+      held = contents s.lost.items (disk_at s.disks s.place).grains;
+      buffer = s.buffer.items;
+    } };
+
+    ghost invariant = { λ s. IsSound s.grain s.disks s.volume s.place s.lost.items s.buffer.items s.faults };
+}
+
+impl<D: Mdisk> Single<D> {
+    /// A store without a volume over these disks. Wants memory for one grain.
+    pub fn new(alloc: Global, grain: GrainSize, disks: Vec<D>) -> Result<Single<D>, NoMemory>
+        requires few { vec_len disks < 2 ^ 30 }
+        requires fresh { All IsFresh (map D.meaning disks.items) }
+        ensures disks { IfOk result (λ s. s.disks ≡ map D.meaning disks.items) }
+        ensures grain { IfOk result (λ s. s.grain ≡ grain) }
+        ensures empty { IfOk result (λ s. s.volume ≡ None) }
+        ensures stands { IfOk result (λ s. StandsFor s (opened (pool_of s.disks ∷ []))) }
+    {
+        match vec![in alloc; 0; grain.bytes() as usize] {
+            Ok(buffer) => Ok(Single {
+                alloc,
+                grain,
+                disks: Disks::new(disks),
+                volume: None,
+                place: 0,
+                lost: Vec::new(alloc),
+                buffer,
+                faults: 0,
+            }),
+            Err(_) => Err(NoMemory),
+        }
+    }
+
+    /// The disks, in the order in which they were handed in.
+    pub fn into_disks(self) -> Vec<D>
+        ensures { map D.meaning result.items ≡ self.disks }
+    {
+        self.disks.into_vec()
+    }
+
+    /// Whether the volume can still be made: there is none yet, and some disk is flat.
+    pub fn flat_left(&self) -> bool
+        ensures { result ≡ can_make self.now }
+    {
+        self.volume.is_none() && first_flat(&self.disks).is_some()
+    }
+
+    /// Answers a line: logs an entry for each thing that it asks.
+    pub fn run_line(&mut self, line: Line, history: &mut History) -> Result<(), Stop>
+        requires taken { TakesLine self.old line }
+        requires stands { StandsFor self.old (told_of self.old history.old) }
+        requires room { length history.old.entries ≤ MAX_ENTRIES }
+        ensures answered { let told = told_of self.old history.old in
+            Answered result self.old.grain told (by_main (asked self.old.grain told (Ok line))) MAX_ENTRIES history.old history.new }
+        ensures stands { StillStands result MAX_ENTRIES self.new history.new }
+        ensures keeps { Keeps self.old self.new }
+    {
+        Err(Stop::NoMemory)
+    }
+
+    /// Logs a line with a fault in its words.
+    pub fn push_unread(&mut self, fault: WordFault, history: &mut History) -> Result<(), Stop>
+        requires stands { StandsFor self.old (told_of self.old history.old) }
+        requires room { length history.old.entries ≤ MAX_ENTRIES }
+        ensures answered { let told = told_of self.old history.old in
+            Answered result self.old.grain told (by_main (asked self.old.grain told (Err fault))) MAX_ENTRIES history.old history.new }
+        ensures stands { StillStands result MAX_ENTRIES self.new history.new }
+        ensures keeps { Keeps self.old self.new }
+    {
+        Err(Stop::NoMemory)
+    }
+}
+
+/// The place of the first flat disk.
+fn first_flat<D: Mdisk>(disks: &Disks<D>) -> Option<usize>
+    ensures found { is_some result ≡ list_any is_flat (kinds_of disks.now) }
+    ensures there { IfSome result (λ place. place < length disks.now) }
+    ensures flat { IfSome result (λ place. (disk_at disks.now place).kind ≡ Flat) }
+{
+    for place in 0..disks.len() {
+        match disks.kind(place) {
+            DiskKind::Flat => return Some(place),
+            DiskKind::Thin => {}
+        }
+    }
+    None
+}
