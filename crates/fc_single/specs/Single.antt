@@ -26,11 +26,11 @@ abbrev pub kinds_of : List DiskState → List DiskKind
 kinds_of disks = map (λ d. d.kind) disks
 
 -- How many disks of each kind there are.
+abbrev pub pool_by : List DiskKind → Pool
+pool_by kinds = record { flat = count_by is_flat kinds; thin = count_by (λ kind. not (is_flat kind)) kinds }
+
 abbrev pub pool_of : List DiskState → Pool
-pool_of disks = record {
-  flat = count_by is_flat (kinds_of disks);
-  thin = count_by (λ kind. not (is_flat kind)) (kinds_of disks);
-}
+pool_of disks = pool_by (kinds_of disks)
 
 -- The faults of all disks, a count that stands still at 2^64 - 1.
 abbrev pub faults_in : List DiskState → ℕ
@@ -49,15 +49,15 @@ abbrev pub IsQuiet : DiskState → Type 0
 IsQuiet disk = IfSome disk.due (λ n. (n ≡ 0) × (disk.faults ≡ 0))
 
 -- What plain volumes hold: the volume, which held zeros before its last trigger, as there never was one.
-abbrev pub picture_of : SingleState → Option Volume → Picture
-picture_of state None = []
-picture_of state (Some v) =
-    record { volume = v.id; now = state.held; under = replicate v.grains (zeros state.grain) } ∷ []
+abbrev pub picture_of : GrainSize → List Content → Option Volume → Picture
+picture_of grain held None = []
+picture_of grain held (Some v) =
+    record { volume = record { 0 = 0 }; now = held; under = replicate v.grains (zeros grain) } ∷ []
 
 -- The disks that are left for new volumes.
-abbrev pub pool_left : List DiskState → Option Volume → Pool
-pool_left disks None = pool_of disks
-pool_left disks (Some v) = pool_without v.kind (pool_of disks)
+abbrev pub pool_left : List DiskKind → Option Volume → Pool
+pool_left kinds None = pool_by kinds
+pool_left kinds (Some v) = pool_without v.kind (pool_by kinds)
 
 -- How many grains the volume has.
 abbrev pub size_of : Option Volume → ℕ
@@ -74,8 +74,8 @@ pub record StandsFor (state : SingleState) (told : Told) : Type 0 where
   pub next_volume : told.next_volume ≡ length told.volumes
   pub first : IfSome state.volume IsFirst
   pub size : length state.held ≡ size_of state.volume
-  pub picture : told.picture ≡ picture_of state state.volume
-  pub pools : told.pools ≡ pool_left state.disks state.volume ∷ []
+  pub picture : told.picture ≡ picture_of state.grain state.held state.volume
+  pub pools : told.pools ≡ pool_left (kinds_of state.disks) state.volume ∷ []
   pub faults : told.faults ≡ faults_in state.disks ∷ []
   pub calls : told.calls ≡ calls_of state.disks
   pub few_calls : told.calls ≤ 2 * told.entries
