@@ -3,6 +3,7 @@ use Rattle.std.proofs.Common.{◌≡◌, ℕ, zero, suc, ◌+◌, ◌<◌, ◌�
 use Rattle.std.proofs.lemmas.List.{append-nil, drop_all}
 use Rattle.fc_mdisk.specs.Disk.{grain_at}
 use Rattle.fc_entry.specs.Picture.{Content, Bytes, Lost, content_at, written}
+use Rattle.fc_entry.specs.Right.{is_lost}
 use Rattle.fc_single.specs.Shape.{content, contents}
 use Rattle.fc_single.specs.Step.{HasLength}
 
@@ -37,3 +38,16 @@ written-whole n byte (Bytes bytes) buffer size room =
     ap (λ (rest : List ℕ). Bytes (replicate n byte ++ rest)) (drop_all (0 + n) bytes (omega arith) ∙ sym (drop_all (0 + n) buffer (omega arith)))
 written-whole n byte Lost buffer size room =
     ap Bytes (sym (append-nil (replicate n byte))) ∙ ap (λ (rest : List ℕ). Bytes (replicate n byte ++ rest)) (sym (drop_all (0 + n) buffer (omega arith)))
+
+-- a mark tells whether its grain is lost
+pub is_lost-content : (mark : Bool) (bytes : List ℕ) → is_lost (content mark bytes) ≡ mark
+is_lost-content true bytes = refl
+is_lost-content false bytes = refl
+
+pub content-readable : (mark : Bool) (bytes : List ℕ) → is_lost (content mark bytes) ≡ false → content mark bytes ≡ Bytes bytes
+content-readable true bytes readable = cc
+content-readable false bytes readable = refl
+
+pub content-sized : (mark : Bool) (bytes : List ℕ) (n : ℕ) → length bytes ≡ n → HasLength (content mark bytes) n
+content-sized true bytes n size = tt
+content-sized false bytes n size = size

@@ -1,5 +1,6 @@
 -- Lemmas, one subject a file.
 pub mod Disks
 pub mod Contents
+pub mod Turns
 pub mod Standing
 pub mod Accesses

@@ -1,22 +1,29 @@
 //! The store of one volume, under one owner.
 
-ghost use Rattle.std.specs.Prelude.{◌≡◌, ◌<◌, ◌≤◌, ◌^◌, ◌∷◌, [], length, map, is_some, IfOk, IfSome, None, vec_len};
+ghost use Rattle.std.specs.Prelude.{◌≡◌, ◌+◌, ◌<◌, ◌≤◌, ◌^◌, ◌∷◌, ◌++◌, [], length, map, take, drop, replicate, slice_set, is_some, is_err, IfOk, OnOk, IfSome, None, false, vec_len};
 ghost use Rattle.std.specs.List.{All, list_any};
 ghost use Rattle.fc_base.specs.declared.disk.DiskKind.TheVariants.{Flat};
 ghost use Rattle.fc_mdisk.specs.Disk.{IsFresh, is_flat};
-ghost use Rattle.fc_mdisk.specs.Disks.{disk_at};
+ghost use Rattle.fc_base.specs.Grain.{grain_bytes};
+ghost use Rattle.fc_base.specs.Runs.{expanded, IsCanonical};
+ghost use Rattle.fc_mdisk.specs.Disks.{calls_of, disk_at};
+ghost use Rattle.fc_entry.specs.Picture.{Bytes, content_at};
+ghost use Rattle.fc_entry.specs.Right.{is_lost};
+ghost use Rattle.fc_single.specs.Shape.{content};
+ghost use Rattle.fc_single.specs.Step.{Called, HasLength};
 ghost use Rattle.fc_entry.specs.Asked.{asked};
 ghost use Rattle.fc_entry.specs.Run.{by_main};
 ghost use Rattle.fc_entry.specs.Told.{opened};
 ghost use Rattle.fc_single.specs.Answered.{Answered, StillStands, TakesLine};
-ghost use Rattle.fc_single.specs.Single.{Keeps, StandsFor, can_make, kinds_of, pool_of, told_of};
+ghost use Rattle.fc_single.specs.Single.{Keeps, StandsFor, can_make, faults_in, kinds_of, pool_of, told_of};
 
 use crate::stop::Stop;
 use fc_base::command::Line;
-use fc_base::disk::DiskKind;
+use fc_base::disk::{DiskError, DiskKind};
 use fc_base::fault::WordFault;
 use fc_base::limits::MAX_ENTRIES;
-use fc_base::outcome::NoMemory;
+use fc_base::outcome::{Failed, NoMemory};
+use fc_base::runs::Runs;
 use fc_base::size::GrainSize;
 use fc_base::volume::Volume;
 use fc_entry::history::History;
@@ -119,6 +126,85 @@ impl<D: Mdisk> Single<D> {
         ensures keeps { Keeps self.old self.new }
     {
         Err(Stop::NoMemory)
+    }
+}
+
+impl<D: Mdisk> Single<D> {
+    /// The faults of all disks.
+    fn faults(&self) -> u64
+        ensures { result ≡ faults_in self.now.disks }
+    {
+        self.faults
+    }
+
+    /// Whether a grain of the volume is lost.
+    fn is_lost(&self, grain: u32) -> bool
+        requires { grain < length self.now.held }
+        ensures { result ≡ is_lost (content_at self.now.held grain) }
+    {
+        self.lost[grain as usize]
+    }
+
+    /// Reads a whole grain of the volume into the buffer.
+    fn read_grain(&mut self, grain: u32) -> Result<(), Failed>
+        requires there { grain < length self.old.held }
+        requires few { calls_of self.old.disks + 1 < 2 ^ 64 }
+        requires readable { is_lost (content_at self.old.held grain) ≡ false }
+        ensures called { Called self.old self.new 1 (is_err result) }
+        ensures held { self.new.held ≡ self.old.held }
+        ensures bytes { OnOk result (content_at self.old.held grain ≡ Bytes self.new.buffer) }
+    {
+        let before = self.disks.faults(self.place);
+        let result = self.disks.read(self.place, grain, &mut self.buffer);
+        let after = self.disks.faults(self.place);
+        self.faults = self.faults.saturating_add(after - before);
+        result
+    }
+
+    /// Fills bytes of the buffer with one byte.
+    fn fill(&mut self, start: u32, len: u32, byte: u8)
+        requires { start + len ≤ grain_bytes self.old.grain }
+        ensures buffer { self.new.buffer ≡ take start self.old.buffer ++ replicate len byte ++ drop (start + len) self.old.buffer }
+        ensures others { self.new ≡ record self.old { buffer = self.new.buffer } }
+    {
+        let start = start as usize;
+        self.buffer[start..start + len as usize].fill(byte);
+    }
+
+    /// Writes the buffer to a grain of the volume, which is lost where this fails.
+    fn write_grain(&mut self, grain: u32) -> Result<(), Failed>
+        requires there { grain < length self.old.held }
+        requires few { calls_of self.old.disks + 1 < 2 ^ 64 }
+        ensures called { Called self.old self.new 1 (is_err result) }
+        ensures held { self.new.held ≡ slice_set self.old.held grain (content (is_err result) self.old.buffer) }
+        ensures size { length self.old.buffer ≡ grain_bytes self.old.grain }
+        ensures sizes { HasLength (content_at self.old.held grain) (grain_bytes self.old.grain) }
+    {
+        let before = self.disks.faults(self.place);
+        let result = self.disks.write(self.place, grain, &self.buffer);
+        let after = self.disks.faults(self.place);
+        self.faults = self.faults.saturating_add(after - before);
+        match result {
+            Ok(()) => {
+                self.lost[grain as usize] = false;
+                Ok(())
+            }
+            Err(DiskError::Failed) => {
+                self.lost[grain as usize] = true;
+                Err(Failed)
+            }
+            Err(DiskError::NoMemory) => unreachable!(),
+        }
+    }
+
+    /// Bytes of the buffer as runs.
+    fn runs(&self, start: u32, len: u32) -> Result<Runs, NoMemory>
+        requires { start + len ≤ grain_bytes self.now.grain }
+        ensures expands { IfOk result (λ runs. expanded runs ≡ take len (drop start self.now.buffer)) }
+        ensures canonical { IfOk result (λ runs. IsCanonical runs) }
+    {
+        let start = start as usize;
+        Runs::of(self.alloc, &self.buffer[start..start + len as usize])
     }
 }
 
