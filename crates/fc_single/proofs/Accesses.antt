@@ -23,7 +23,7 @@ use Rattle.fc_entry.specs.Right.{IsRight, ReadAnswers, WriteAnswers, is_lost, is
 use Rattle.fc_entry.specs.Told.{Told, told_step}
 use Rattle.fc_entry.specs.PlainStep.{after_request, after_write, after_torn, after_loss}
 use Rattle.fc_single.specs.Single.{SingleState, StandsFor, faults_in, picture_of}
-use Rattle.fc_single.specs.Step.{Called, IsInGrain, lane_entry}
+use Rattle.fc_single.specs.Step.{Called, IsInGrain, IsTurn, lane_entry, read_of, write_of}
 use Rattle.fc_single.proofs.Standing.{told_holds, same_picture, in_lane, still_stands}
 
 -- no call leaves all as it is
@@ -38,30 +38,19 @@ no_call state = record {
   quiet = λ quiet. quiet;
 }
 
-abbrev pub read_of : ℕ → ℕ → ReadPart
-read_of block count = record { volume = record { 0 = 0 }; block = block; count = count }
-
-abbrev pub write_of : ℕ → ℕ → ℕ → WritePart
-write_of block count byte = record { volume = record { 0 = 0 }; block = block; count = count; byte = byte }
-
 abbrev pub torn_at : ℕ → Torn
 torn_at g = record { volume = record { 0 = 0 }; grain = record { 0 = g }; side = Now }
-
--- an entry that is right, and a store that stands for what is told after it
-pub record Answers (old new : SingleState) (told : Told) (entry : Entry) : Type 0 where
-  pub right : IsRight old.grain told entry
-  pub stands : StandsFor new (told_step old.grain told entry)
 
 -- the picture after a write, and after a torn one
 picture-written : (volume : Option Volume) (grain : GrainSize) (held : List Content) (part : ℕ × ℕ × ℕ) (picture : Picture)
     → picture ≡ picture_of grain held volume
-    → after_request grain picture (Write (write_of part.0 part.1 part.2)) Done
+    → after_request grain picture (write_of part.0 part.1 part.2) Done
     ≡ picture_of grain (slice_set held (grain_of_block grain part.0)
         (written (byte_in_grain grain part.0) (block_bytes * part.1) part.2 (content_at held (grain_of_block grain part.0)))) volume
 picture-written None grain held part picture same =
-    ap (λ (p : Picture). after_request grain p (Write (write_of part.0 part.1 part.2)) Done) same
+    ap (λ (p : Picture). after_request grain p (write_of part.0 part.1 part.2) Done) same
 picture-written (Some v) grain held part picture same =
-    ap (λ (p : Picture). after_request grain p (Write (write_of part.0 part.1 part.2)) Done) same
+    ap (λ (p : Picture). after_request grain p (write_of part.0 part.1 part.2) Done) same
 
 picture-torn : (volume : Option Volume) (grain : GrainSize) (held : List Content) (g : ℕ) (picture : Picture)
     → picture ≡ picture_of grain held volume
@@ -88,52 +77,58 @@ module _ (old new : SingleState) (told : Told) (block count g n : ℕ) (stands :
 
   -- an entry of a read that left what the volume holds
   pub read_answers : (k : ℕ) (reply : Reply) (failed : Bool) → Called old new k failed → k ≤ 2 → new.held ≡ old.held
-      → ReadAnswers old.grain told (read_of block count)
-          (lane_entry n (Read (read_of block count)) reply None (faults_in old.disks) (faults_in new.disks) k) reply
-      → Answers old new told (lane_entry n (Read (read_of block count)) reply None (faults_in old.disks) (faults_in new.disks) k)
+      → ReadAnswers old.grain told record { volume = record { 0 = 0 }; block = block; count = count }
+          (lane_entry n (read_of block count) reply None (faults_in old.disks) (faults_in new.disks) k) reply
+      → IsTurn (read_of block count) old new told (lane_entry n (read_of block count) reply None (faults_in old.disks) (faults_in new.disks) k)
   read_answers k reply failed called few same answers = record {
-    right = (number, (answers, in_lane old new told (grain_of_block old.grain block) n k (Read (read_of block count)) reply None failed stands called, refl));
+    by_main = refl;
+    asked = refl;
+    keeps = record { grain = called.grain; kinds = called.kinds };
+    right = (number, (answers, in_lane old new told (grain_of_block old.grain block) n k (read_of block count) reply None failed stands called, refl));
     stands =
-        still_stands old new told n k (Read (read_of block count)) reply None failed stands called few refl
+        still_stands old new told n k (read_of block count) reply None failed stands called few refl
           (stands.picture ∙ same_picture old new old.held k failed called same)
           (ap length same);
   }
 
   -- an entry of a write, which left this in the grain
   pub write_answers : (byte k : ℕ) (reply : Reply) (torn : Option Torn) (failed : Bool) → Called old new k failed → k ≤ 2
-      → WriteAnswers old.grain told (write_of block count byte)
-          (lane_entry n (Write (write_of block count byte)) reply torn (faults_in old.disks) (faults_in new.disks) k) reply
-      → after_loss (after_request old.grain told.picture (Write (write_of block count byte)) reply) torn
+      → WriteAnswers old.grain told record { volume = record { 0 = 0 }; block = block; count = count; byte = byte }
+          (lane_entry n (write_of block count byte) reply torn (faults_in old.disks) (faults_in new.disks) k) reply
+      → after_loss (after_request old.grain told.picture (write_of block count byte) reply) torn
         ≡ picture_of old.grain new.held old.volume
       → length new.held ≡ length old.held
-      → Answers old new told (lane_entry n (Write (write_of block count byte)) reply torn (faults_in old.disks) (faults_in new.disks) k)
+      → IsTurn (write_of block count byte) old new told (lane_entry n (write_of block count byte) reply torn (faults_in old.disks) (faults_in new.disks) k)
   write_answers byte k reply torn failed called few answers picture size = record {
-    right = (number, (answers, in_lane old new told (grain_of_block old.grain block) n k (Write (write_of block count byte)) reply torn failed stands called));
+    by_main = refl;
+    asked = refl;
+    keeps = record { grain = called.grain; kinds = called.kinds };
+    right = (number, (answers, in_lane old new told (grain_of_block old.grain block) n k (write_of block count byte) reply torn failed stands called));
     stands =
-        still_stands old new told n k (Write (write_of block count byte)) reply torn failed stands called few refl
+        still_stands old new told n k (write_of block count byte) reply torn failed stands called few refl
           (picture ∙ same_picture old new new.held k failed called refl)
           size;
   }
 
   -- a read of a lost grain, one that failed, one that found no memory, and one that answers the bytes
   pub read-lost : Called old new 0 false → new.held ≡ old.held → is_lost (content_at old.held g) ≡ true
-      → Answers old new told (lane_entry n (Read (read_of block count)) MediumError None (faults_in old.disks) (faults_in new.disks) 0)
+      → IsTurn (read_of block count) old new told (lane_entry n (read_of block count) MediumError None (faults_in old.disks) (faults_in new.disks) 0)
   read-lost called same lost =
       read_answers 0 MediumError false called (omega arith) same (ap is_lost told_at ∙ lost, refl)
 
   pub read-failed : Called old new 1 true → new.held ≡ old.held → is_lost (content_at old.held g) ≡ false
-      → Answers old new told (lane_entry n (Read (read_of block count)) DiskFault None (faults_in old.disks) (faults_in new.disks) 1)
+      → IsTurn (read_of block count) old new told (lane_entry n (read_of block count) DiskFault None (faults_in old.disks) (faults_in new.disks) 1)
   read-failed called same lost =
       read_answers 1 DiskFault true called (omega arith) same (ap is_lost told_at ∙ lost, refl, called.risen)
 
   pub read-no_memory : Called old new 1 false → new.held ≡ old.held → is_lost (content_at old.held g) ≡ false
-      → Answers old new told (lane_entry n (Read (read_of block count)) NoMemory None (faults_in old.disks) (faults_in new.disks) 1)
+      → IsTurn (read_of block count) old new told (lane_entry n (read_of block count) NoMemory None (faults_in old.disks) (faults_in new.disks) 1)
   read-no_memory called same lost =
       read_answers 1 NoMemory false called (omega arith) same (ap is_lost told_at ∙ lost, omega arith)
 
   pub read-done : (buffer : List ℕ) (runs : List Run) → Called old new 1 false → new.held ≡ old.held → content_at old.held g ≡ Held buffer
       → IsCanonical runs → expanded runs ≡ take (block_bytes * count) (drop (byte_in_grain old.grain block) buffer)
-      → Answers old new told (lane_entry n (Read (read_of block count)) (Bytes runs) None (faults_in old.disks) (faults_in new.disks) 1)
+      → IsTurn (read_of block count) old new told (lane_entry n (read_of block count) (Bytes runs) None (faults_in old.disks) (faults_in new.disks) 1)
   read-done buffer runs called same bytes canonical expands =
       let P : Content → Type 0 = λ c. IsRightIn (byte_in_grain old.grain block) (block_bytes * count) c runs in
       read_answers 1 (Bytes runs) false called (omega arith) same (subst P (sym (told_at ∙ bytes)) (canonical, expands), refl)
@@ -141,7 +136,7 @@ module _ (old new : SingleState) (told : Told) (block count g n : ℕ) (stands :
   -- a write of a part of a lost grain, and one whose read failed
   pub write-lost : (byte : ℕ) → (count == grain_blocks old.grain) ≡ false → Called old new 0 false → new.held ≡ old.held
       → is_lost (content_at old.held g) ≡ true
-      → Answers old new told (lane_entry n (Write (write_of block count byte)) MediumError None (faults_in old.disks) (faults_in new.disks) 0)
+      → IsTurn (write_of block count byte) old new told (lane_entry n (write_of block count byte) MediumError None (faults_in old.disks) (faults_in new.disks) 0)
   write-lost byte part called same lost =
       write_answers byte 0 MediumError None false called (omega arith)
         ( ap (λ (c : Content). is_lost c && not (count == grain_blocks old.grain)) told_at
@@ -154,9 +149,9 @@ module _ (old new : SingleState) (told : Told) (block count g n : ℕ) (stands :
 
   pub write-unread : (byte : ℕ) → (count == grain_blocks old.grain) ≡ false → Called old new 1 true → new.held ≡ old.held
       → is_lost (content_at old.held g) ≡ false
-      → Answers old new told (lane_entry n (Write (write_of block count byte)) DiskFault None (faults_in old.disks) (faults_in new.disks) 1)
+      → IsTurn (write_of block count byte) old new told (lane_entry n (write_of block count byte) DiskFault None (faults_in old.disks) (faults_in new.disks) 1)
   write-unread byte part called same lost =
-      let calls_of_part : calls_of_write old.grain (write_of block count byte) ≡ 2 = ap (λ (w : Bool). cond w 1 2) part in
+      let calls_of_part : calls_of_write old.grain record { volume = record { 0 = 0 }; block = block; count = count; byte = byte } ≡ 2 = ap (λ (w : Bool). cond w 1 2) part in
       write_answers byte 1 DiskFault None true called (omega arith)
         ( ap (λ (c : Content). is_lost c && not (count == grain_blocks old.grain)) told_at
           ∙ ap (λ (l : Bool). l && not (count == grain_blocks old.grain)) lost
@@ -173,7 +168,7 @@ module _ (old new : SingleState) (told : Told) (block count g n : ℕ) (stands :
       → (is_lost (content_at old.held g) && not whole) ≡ false
       → written (byte_in_grain old.grain block) (block_bytes * count) byte (content_at old.held g) ≡ Held buffer
       → new.held ≡ slice_set old.held g (Held buffer)
-      → Answers old new told (lane_entry n (Write (write_of block count byte)) Done None (faults_in old.disks) (faults_in new.disks) (cond whole 1 2))
+      → IsTurn (write_of block count byte) old new told (lane_entry n (write_of block count byte) Done None (faults_in old.disks) (faults_in new.disks) (cond whole 1 2))
   write-done byte whole buffer is called can bytes held =
       write_answers byte (cond whole 1 2) Done None false called (calls_fit whole).1
         ( ap (λ (c : Content). is_lost c && not (count == grain_blocks old.grain)) told_at
@@ -192,9 +187,9 @@ module _ (old new : SingleState) (told : Told) (block count g n : ℕ) (stands :
       → Called old new (cond whole 1 2) true
       → (is_lost (content_at old.held g) && not whole) ≡ false
       → new.held ≡ slice_set old.held g Lost
-      → Answers old new told (lane_entry n (Write (write_of block count byte)) DiskFault (Some (torn_at g)) (faults_in old.disks) (faults_in new.disks) (cond whole 1 2))
+      → IsTurn (write_of block count byte) old new told (lane_entry n (write_of block count byte) DiskFault (Some (torn_at g)) (faults_in old.disks) (faults_in new.disks) (cond whole 1 2))
   write-torn byte whole is called can held =
-      let calls_of_all : calls_of_write old.grain (write_of block count byte) ≡ cond whole 1 2 = ap (λ (w : Bool). cond w 1 2) is in
+      let calls_of_all : calls_of_write old.grain record { volume = record { 0 = 0 }; block = block; count = count; byte = byte } ≡ cond whole 1 2 = ap (λ (w : Bool). cond w 1 2) is in
       write_answers byte (cond whole 1 2) DiskFault (Some (torn_at g)) true called (calls_fit whole).1
         ( ap (λ (c : Content). is_lost c && not (count == grain_blocks old.grain)) told_at
           ∙ ap (λ (w : Bool). is_lost (content_at old.held g) && not w) is
@@ -203,7 +198,7 @@ module _ (old new : SingleState) (told : Told) (block count g n : ℕ) (stands :
         , omega (arith, calls_of_all)
         , torn_last whole (torn_at g)
           ∙ ap (λ (w : Bool). cond (cond whole 1 2 == cond w 1 2) (Some (torn_at g)) None) (sym is)
-          ∙ ap (λ (at : ℕ). cond (cond whole 1 2 == calls_of_write old.grain (write_of block count byte)) (Some (torn_at at)) None) (sym inside.of_grain)
+          ∙ ap (λ (at : ℕ). cond (cond whole 1 2 == calls_of_write old.grain record { volume = record { 0 = 0 }; block = block; count = count; byte = byte }) (Some (torn_at at)) None) (sym inside.of_grain)
         , called.risen )
         ( picture-torn old.volume old.grain old.held g told.picture stands.picture
           ∙ ap (λ (h : List Content). picture_of old.grain h old.volume) (sym held) )

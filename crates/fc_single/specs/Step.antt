@@ -9,12 +9,15 @@ use Rattle.fc_base.specs.declared.request.Place.{Place}
 use Rattle.fc_base.specs.declared.request.Place.TheVariants.{Lane}
 use Rattle.fc_base.specs.declared.request.Reply.{Reply}
 use Rattle.fc_base.specs.declared.request.Request.{Request}
+use Rattle.fc_base.specs.declared.request.Request.TheVariants.{Read, Write}
 use Rattle.fc_base.specs.declared.request.Torn.{Torn}
 use Rattle.fc_base.specs.declared.size.GrainSize.{GrainSize}
 use Rattle.fc_mdisk.specs.Disks.{calls_of}
 use Rattle.fc_entry.specs.declared.entry.Entry.{Entry}
 use Rattle.fc_entry.specs.Picture.{Content, Bytes, Lost, grain_of_block}
-use Rattle.fc_single.specs.Single.{SingleState, kinds_of, faults_in, IsQuiet}
+use Rattle.fc_entry.specs.Right.{IsRight}
+use Rattle.fc_entry.specs.Told.{Told, told_step}
+use Rattle.fc_single.specs.Single.{SingleState, Keeps, StandsFor, kinds_of, faults_in, IsQuiet}
 
 -- So many calls of the volume's disk were made, the last of which may have failed.
 pub record Called (old new : SingleState) (count : ℕ) (failed : Bool) : Type 0 where
@@ -30,6 +33,22 @@ pub record Called (old new : SingleState) (count : ℕ) (failed : Bool) : Type 0
 pub record IsInGrain (grain : GrainSize) (block count g : ℕ) : Type 0 where
   pub of_grain : grain_of_block grain block ≡ g
   pub fits : block % grain_blocks grain + count ≤ grain_blocks grain
+
+-- Blocks of the only volume.
+abbrev pub read_of : ℕ → ℕ → Request
+read_of block count = Read record { volume = record { 0 = 0 }; block = block; count = count }
+
+abbrev pub write_of : ℕ → ℕ → ℕ → Request
+write_of block count byte = Write record { volume = record { 0 = 0 }; block = block; count = count; byte = byte }
+
+-- An entry that answers a request of `main`: it is right after what was told, and the store stands for what is told
+-- after it.
+pub record IsTurn (request : Request) (old new : SingleState) (told : Told) (entry : Entry) : Type 0 where
+  pub by_main : entry.actor ≡ 0
+  pub asked : entry.request ≡ request
+  pub right : IsRight old.grain told entry
+  pub stands : StandsFor new (told_step old.grain told entry)
+  pub keeps : Keeps old new
 
 -- A grain that isn't lost has so many bytes.
 abbrev pub HasLength : Content → ℕ → Type 0
