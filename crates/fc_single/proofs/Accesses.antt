@@ -23,7 +23,7 @@ use Rattle.fc_entry.specs.Right.{IsRight, ReadAnswers, WriteAnswers, is_lost, is
 use Rattle.fc_entry.specs.Told.{Told, told_step}
 use Rattle.fc_entry.specs.PlainStep.{after_request, after_write, after_torn, after_loss}
 use Rattle.fc_single.specs.Single.{SingleState, StandsFor, faults_in, picture_of}
-use Rattle.fc_single.specs.Step.{Called, IsInGrain, IsTurn, lane_entry, read_of, write_of}
+use Rattle.fc_single.specs.Step.{Called, IsInGrain, IsTurn, lane_entry, read_of, torn_at, write_of}
 use Rattle.fc_single.proofs.Standing.{told_holds, same_picture, in_lane, still_stands}
 
 -- no call leaves all as it is
@@ -37,9 +37,6 @@ no_call state = record {
   risen = tt;
   quiet = λ quiet. quiet;
 }
-
-abbrev pub torn_at : ℕ → Torn
-torn_at g = record { volume = record { 0 = 0 }; grain = record { 0 = g }; side = Now }
 
 -- the picture after a write, and after a torn one
 picture-written : (volume : Option Volume) (grain : GrainSize) (held : List Content) (part : ℕ × ℕ × ℕ) (picture : Picture)

@@ -10,6 +10,7 @@ use Rattle.fc_base.specs.declared.request.Place.TheVariants.{Lane}
 use Rattle.fc_base.specs.declared.request.Reply.{Reply}
 use Rattle.fc_base.specs.declared.request.Request.{Request}
 use Rattle.fc_base.specs.declared.request.Request.TheVariants.{Read, Write}
+use Rattle.fc_base.specs.declared.request.Side.TheVariants.{Now}
 use Rattle.fc_base.specs.declared.request.Torn.{Torn}
 use Rattle.fc_base.specs.declared.size.GrainSize.{GrainSize}
 use Rattle.fc_mdisk.specs.Disks.{calls_of}
@@ -40,6 +41,9 @@ read_of block count = Read record { volume = record { 0 = 0 }; block = block; co
 
 abbrev pub write_of : ℕ → ℕ → ℕ → Request
 write_of block count byte = Write record { volume = record { 0 = 0 }; block = block; count = count; byte = byte }
+
+abbrev pub torn_at : ℕ → Torn
+torn_at g = record { volume = record { 0 = 0 }; grain = record { 0 = g }; side = Now }
 
 -- An entry that answers a request of `main`: it is right after what was told, and the store stands for what is told
 -- after it.

@@ -1,5 +1,6 @@
 //! The store of one volume.
 #![tactic(auto)]
 
+mod access;
 pub mod single;
 pub mod stop;

@@ -10,7 +10,7 @@ ghost use Rattle.fc_mdisk.specs.Disks.{calls_of, disk_at};
 ghost use Rattle.fc_entry.specs.Picture.{Bytes, content_at};
 ghost use Rattle.fc_entry.specs.Right.{is_lost};
 ghost use Rattle.fc_single.specs.Shape.{content};
-ghost use Rattle.fc_single.specs.Step.{Called, HasLength};
+ghost use Rattle.fc_single.specs.Step.{Called, HasLength, lane_entry};
 ghost use Rattle.fc_entry.specs.Asked.{asked};
 ghost use Rattle.fc_entry.specs.Run.{by_main};
 ghost use Rattle.fc_entry.specs.Told.{opened};
@@ -22,10 +22,13 @@ use fc_base::command::Line;
 use fc_base::disk::{DiskError, DiskKind};
 use fc_base::fault::WordFault;
 use fc_base::limits::MAX_ENTRIES;
+use fc_base::list::List;
 use fc_base::outcome::{Failed, NoMemory};
+use fc_base::request::{Place, Reply, Request, Torn};
 use fc_base::runs::Runs;
 use fc_base::size::GrainSize;
 use fc_base::volume::Volume;
+use fc_entry::entry::Entry;
 use fc_entry::history::History;
 use fc_mdisk::disks::Disks;
 use fc_mdisk::mdisk::Mdisk;
@@ -131,14 +134,40 @@ impl<D: Mdisk> Single<D> {
 
 impl<D: Mdisk> Single<D> {
     /// The faults of all disks.
-    fn faults(&self) -> u64
+    pub(crate) fn faults(&self) -> u64
         ensures { result ≡ faults_in self.now.disks }
     {
         self.faults
     }
 
+    /// The size of a grain.
+    pub(crate) fn grain(&self) -> GrainSize
+        ensures { result ≡ self.now.grain }
+    {
+        self.grain
+    }
+
+    /// An entry of the lane that ends now.
+    pub(crate) fn lane_entry(&self, number: usize, request: Request, reply: Reply, torn: Option<Torn>, faults_before: u64, calls: u32) -> Entry
+        ensures { result ≡ lane_entry number request reply torn faults_before (faults_in self.now.disks) calls }
+    {
+        Entry {
+            number: number as u64,
+            actor: 0,
+            place: Place::Lane(0),
+            request,
+            reply,
+            moves: List::new(self.alloc),
+            effects: List::new(self.alloc),
+            torn,
+            faults_before,
+            faults_after: self.faults,
+            calls,
+        }
+    }
+
     /// Whether a grain of the volume is lost.
-    fn is_lost(&self, grain: u32) -> bool
+    pub(crate) fn is_lost(&self, grain: u32) -> bool
         requires { grain < length self.now.held }
         ensures { result ≡ is_lost (content_at self.now.held grain) }
     {
@@ -146,7 +175,7 @@ impl<D: Mdisk> Single<D> {
     }
 
     /// Reads a whole grain of the volume into the buffer.
-    fn read_grain(&mut self, grain: u32) -> Result<(), Failed>
+    pub(crate) fn read_grain(&mut self, grain: u32) -> Result<(), Failed>
         requires there { grain < length self.old.held }
         requires few { calls_of self.old.disks + 1 < 2 ^ 64 }
         requires readable { is_lost (content_at self.old.held grain) ≡ false }
@@ -162,7 +191,7 @@ impl<D: Mdisk> Single<D> {
     }
 
     /// Fills bytes of the buffer with one byte.
-    fn fill(&mut self, start: u32, len: u32, byte: u8)
+    pub(crate) fn fill(&mut self, start: u32, len: u32, byte: u8)
         requires { start + len ≤ grain_bytes self.old.grain }
         ensures buffer { self.new.buffer ≡ take start self.old.buffer ++ replicate len byte ++ drop (start + len) self.old.buffer }
         ensures others { self.new ≡ record self.old { buffer = self.new.buffer } }
@@ -172,7 +201,7 @@ impl<D: Mdisk> Single<D> {
     }
 
     /// Writes the buffer to a grain of the volume, which is lost where this fails.
-    fn write_grain(&mut self, grain: u32) -> Result<(), Failed>
+    pub(crate) fn write_grain(&mut self, grain: u32) -> Result<(), Failed>
         requires there { grain < length self.old.held }
         requires few { calls_of self.old.disks + 1 < 2 ^ 64 }
         ensures called { Called self.old self.new 1 (is_err result) }
@@ -198,7 +227,7 @@ impl<D: Mdisk> Single<D> {
     }
 
     /// Bytes of the buffer as runs.
-    fn runs(&self, start: u32, len: u32) -> Result<Runs, NoMemory>
+    pub(crate) fn runs(&self, start: u32, len: u32) -> Result<Runs, NoMemory>
         requires { start + len ≤ grain_bytes self.now.grain }
         ensures expands { IfOk result (λ runs. expanded runs ≡ take len (drop start self.now.buffer)) }
         ensures canonical { IfOk result (λ runs. IsCanonical runs) }
