@@ -1,6 +1,6 @@
 -- What the grains of a disk hold, with their marks.
 use Rattle.std.proofs.Common.{◌≡◌, ℕ, zero, suc, ◌+◌, ◌<◌, ◌≤◌, Bool, true, false, List, [], ◌∷◌, ◌++◌, length, take, drop, replicate, slice_set, slice_index_or, refl, sym, ◌∙◌, ap, arith}
-use Rattle.std.proofs.lemmas.List.{append-nil, drop_all}
+use Rattle.std.proofs.lemmas.List.{append-nil, drop_all, length-append, length-replicate, nil_from_length}
 use Rattle.fc_mdisk.specs.Disk.{grain_at}
 use Rattle.fc_entry.specs.Picture.{Content, Bytes, Lost, content_at, written}
 use Rattle.fc_entry.specs.Right.{is_lost}
@@ -32,12 +32,19 @@ contents-replicate zero bytes = refl
 contents-replicate (suc n) bytes = ap (λ (rest : List Content). Bytes bytes ∷ rest) (contents-replicate n bytes)
 
 -- a grain that is written whole
-pub written-whole : (n byte : ℕ) (old : Content) (buffer : List ℕ) → HasLength old n → length buffer ≡ n
-    → written 0 n byte old ≡ Bytes (take 0 buffer ++ (replicate n byte ++ drop (0 + n) buffer))
-written-whole n byte (Bytes bytes) buffer size room =
-    ap (λ (rest : List ℕ). Bytes (replicate n byte ++ rest)) (drop_all (0 + n) bytes (omega arith) ∙ sym (drop_all (0 + n) buffer (omega arith)))
-written-whole n byte Lost buffer size room =
-    ap Bytes (sym (append-nil (replicate n byte))) ∙ ap (λ (rest : List ℕ). Bytes (replicate n byte ++ rest)) (sym (drop_all (0 + n) buffer (omega arith)))
+pub written-whole : (n byte : ℕ) (old : Content) → HasLength old n → written 0 n byte old ≡ Bytes (replicate n byte)
+written-whole n byte (Bytes bytes) size =
+    ap (λ (rest : List ℕ). Bytes (replicate n byte ++ rest)) (drop_all (0 + n) bytes (omega arith)) ∙ ap Bytes (append-nil (replicate n byte))
+written-whole n byte Lost size = refl
+
+-- a buffer that is filled whole
+pub filled-whole : (n byte : ℕ) (old new : List ℕ) → new ≡ take 0 old ++ (replicate n byte ++ drop (0 + n) old) → length new ≡ n → new ≡ replicate n byte
+filled-whole n byte old new filled size =
+    let sizes : length new ≡ n + length (drop (0 + n) old) =
+    ap length filled ∙ length-append (replicate n byte) (drop (0 + n) old) ∙ ap (λ (k : ℕ). k + length (drop (0 + n) old)) (length-replicate n byte) in
+    filled
+    ∙ ap (λ (rest : List ℕ). replicate n byte ++ rest) (nil_from_length (drop (0 + n) old) (omega arith))
+    ∙ append-nil (replicate n byte)
 
 -- a mark tells whether its grain is lost
 pub is_lost-content : (mark : Bool) (bytes : List ℕ) → is_lost (content mark bytes) ≡ mark

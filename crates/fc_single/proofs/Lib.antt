@@ -4,3 +4,4 @@ pub mod Contents
 pub mod Turns
 pub mod Standing
 pub mod Accesses
+pub mod Writes
