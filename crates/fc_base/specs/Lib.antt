@@ -4,4 +4,7 @@ pub mod Count
 pub mod Grain
 pub mod Names
 pub mod Ranges
+pub mod Rates
 pub mod Runs
+pub mod States
+pub mod Tables

@@ -11,4 +11,6 @@ pub mod Lines
 pub mod Asked
 pub mod Run
 pub mod Added
+pub mod Spaced
 pub mod Text
+pub mod Written

@@ -2,7 +2,7 @@
 --     NUMBER ACTOR REQUEST -> REPLY
 -- Numbers are decimal, without leading zeros. Volumes, mappings and groups are named by their ids.
 use Rattle.std.specs.Prelude.{ℕ, List, [], ◌++◌, map, length, codes, decimal, slice_index_or}
-use Rattle.std.specs.List.{concat, join_with_byte}
+use Rattle.std.specs.List.{flat_map, join_with_byte}
 use Rattle.fc_base.specs.CommandText.{command_text, byte_word}
 use Rattle.fc_base.specs.Grain.{grain_kib}
 use Rattle.fc_base.specs.declared.fault.Kind.{Kind}
@@ -17,6 +17,7 @@ use Rattle.fc_base.specs.declared.fault.Refusal.{Refusal}
 use Rattle.fc_base.specs.declared.fault.Refusal.TheVariants as refusal
 use Rattle.fc_base.specs.declared.state.MapState.{MapState}
 use Rattle.fc_base.specs.declared.state.MapState.TheVariants as state
+use Rattle.fc_base.specs.declared.ids.VolId.{VolId}
 use Rattle.fc_base.specs.declared.runs.Run.{Run}
 use Rattle.fc_base.specs.declared.request.Request.{Request}
 use Rattle.fc_base.specs.declared.request.Request.TheVariants as request
@@ -75,6 +76,10 @@ fault_text (fault.Limit n) = codes "limit " ++ decimal n
 abbrev pub two_numbers : ℕ → ℕ → List ℕ
 two_numbers a b = decimal a ++ codes " " ++ decimal b
 
+-- a volume of a loop, behind the one before it
+abbrev pub volume_text : VolId → List ℕ
+volume_text volume = codes " " ++ decimal volume.0
+
 -- why a command was refused
 abbrev pub refusal_text : Refusal → List ℕ
 refusal_text (refusal.Words words) = fault_text words
@@ -93,7 +98,7 @@ refusal_text (refusal.SourceIsTarget volume) = codes "source is target " ++ deci
 refusal_text (refusal.SourceNotReady volume) = codes "source not ready " ++ decimal volume.0
 refusal_text (refusal.TargetActive map) = codes "target active " ++ decimal map.0
 refusal_text (refusal.TargetIsSource volume) = codes "target is source " ++ decimal volume.0
-refusal_text (refusal.RestoreLoop volumes) = codes "restore loop " ++ join_with_byte 32 (map (λ v. decimal v.0) volumes)
+refusal_text (refusal.RestoreLoop volumes) = codes "restore loop" ++ flat_map volume_text volumes
 refusal_text (refusal.NotComplete held total) = codes "not complete " ++ two_numbers held total
 refusal_text refusal.NeedsForce = codes "needs force"
 refusal_text (refusal.SizeDiffers source target) = codes "size differs " ++ two_numbers source target
@@ -128,7 +133,7 @@ reply_text (reply.Refused refusal) = codes "refused " ++ refusal_text refusal
 
 -- the rows of a report, a line each
 abbrev pub rows_text : Reply → List ℕ
-rows_text (reply.Listed rows) = concat (map (λ row. row ++ codes "\n") rows)
+rows_text (reply.Listed rows) = flat_map (λ row. row ++ codes "\n") rows
 rows_text _ = []
 
 -- what was asked
@@ -153,4 +158,4 @@ entry_text actors entry =
 
 -- all entries, in order
 abbrev pub history_text : HistoryState → List ℕ
-history_text history = concat (map (entry_text history.actors) history.entries)
+history_text history = flat_map (entry_text history.actors) history.entries

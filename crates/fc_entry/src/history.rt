@@ -1,7 +1,7 @@
 //! The history: actors' names, and entries in order of number.
 
-ghost use Rattle.std.specs.Prelude.{◌≡◌, ◌<◌, ◌^◌, [], ◌∷◌, ◌++◌, length, IfOk, OnOk, OnErr, IfErr, slice_get, slice_index_or, Some};
-ghost use Rattle.fc_entry.specs.HistoryState.{HistoryState};
+ghost use Rattle.std.specs.Prelude.{◌≡◌, ◌<◌, ◌^◌, [], ◌∷◌, ◌++◌, length, IfOk, OnOk, OnErr, IfErr, IfSome, slice_get, slice_index_or, Some};
+ghost use Rattle.fc_entry.specs.HistoryState.{HistoryState, place_of_name, number_of_actor, with_actor};
 
 use crate::entry::Entry;
 use fc_base::name::Name;
@@ -65,6 +65,29 @@ impl History {
         &self.actors[actor as usize]
     }
 
+    /// The number of the actor with this name: the one that it has, or the next, by which the name is known from then
+    /// on. Refused, the history is as it was.
+    pub fn actor(&mut self, alloc: Global, name: &Name) -> Result<u32, NoMemory>
+        requires { length self.old.actors < 2 ^ 32 }
+        ensures number { IfOk result (λ number. number ≡ number_of_actor self.old.actors name.now) }
+        ensures ok { OnOk result (self.new ≡ record self.old { actors = with_actor self.old.actors name.now }) }
+        ensures err { OnErr result (self.new ≡ self.old) }
+    {
+        match place_of_name(self.actors.as_slice(), name.as_bytes()) {
+            Some(place) => Ok(place as u32),
+            None => {
+                let number = self.actors.len() as u32;
+                match name.copy(alloc) {
+                    Ok(copy) => match self.actors.push(copy) {
+                        Ok(()) => Ok(number),
+                        Err(_) => Err(NoMemory),
+                    },
+                    Err(refused) => Err(refused),
+                }
+            }
+        }
+    }
+
     /// Puts an entry at the end. Refused for want of memory, it is given back and the history is as it was.
     pub fn push(&mut self, entry: Entry) -> Result<(), Entry>
         requires { entry.number ≡ length self.old.entries }
@@ -77,4 +100,12 @@ impl History {
             Err(failed) => Err(failed.value),
         }
     }
+}
+
+/// The place of a name among the actors' names, if it has one.
+fn place_of_name(names: &[Name], name: &[u8]) -> Option<usize>
+    ensures value { result ≡ place_of_name names.now name.now }
+    ensures within { IfSome result (λ place. place < length names.now) }
+{
+    names.iter().position(|known| known.as_bytes() == name)
 }

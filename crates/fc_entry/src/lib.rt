@@ -9,5 +9,9 @@
 //! In reading order: `entry`, `history`.
 #![tactic(auto)]
 
+pub mod command_text;
 pub mod entry;
 pub mod history;
+pub mod parts;
+pub mod refusal_text;
+pub mod reply_text;

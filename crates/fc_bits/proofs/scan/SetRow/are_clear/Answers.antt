@@ -1,0 +1,6 @@
+use Rattle.fc_bits.specs.declared.scan.TheConstants.{LANES}
+use Rattle.fc_bits.proofs.Vectors.{clear_in_words}
+use Rattle.fc_bits.proofs.scan.SetRow.are_clear.Goals as goal
+
+pub returns : goal.returns
+returns c = clear_in_words c.args.self.now.words.now c.args.index LANES c.requires

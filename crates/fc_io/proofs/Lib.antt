@@ -1,0 +1,3 @@
+pub mod Nearer
+pub mod Takes
+pub mod Puts

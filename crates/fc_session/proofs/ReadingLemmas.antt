@@ -1,0 +1,204 @@
+-- How reading goes on and ends.
+use Rattle.std.proofs.Common.{◌≡◌, ℕ, ◌+◌, ◌<◌, ◌≤◌, List, [], ◌∷◌, ◌++◌, length, append_assoc, refl, sym, ◌∙◌, ap, subst, arith, length-append, Result, Ok, Err, Option, Some, None, IfSome, inl, inr, ◌≢◌, take, get_or, zero, suc}
+use Rattle.std.proofs.lemmas.List.{append-nil}
+use Rattle.std.specs.Option.{option_map}
+use Rattle.fc_base.specs.Count.{HasRisen}
+use Rattle.fc_base.specs.declared.size.GrainSize.{GrainSize}
+use Rattle.fc_entry.specs.declared.entry.Entry.{Entry}
+use Rattle.fc_entry.specs.Told.{Told}
+use Rattle.fc_io.specs.Source.{SourceState}
+use Rattle.fc_session.specs.Progress.{Progress, Fed}
+use Rattle.fc_session.specs.ReadTo.{Gave, IsAtEnd, FedPiece, Turned, SoFar, ReadTo, EndsReading, PastLimit, input_limit}
+use Rattle.fc_session.specs.declared.reading.Turn.{Turn}
+use Rattle.fc_session.specs.declared.reading.Turn.TheVariants as turn
+use Rattle.fc_session.specs.declared.reading.Ending.{Ending}
+use Rattle.fc_session.specs.declared.reading.Ending.TheVariants as ending
+use Rattle.fc_single.specs.declared.stop.Stop.{Stop}
+
+-- what was given first, and then
+Gave-append-left :
+    (a c : Option (List ℕ)) (xs ys : List ℕ) (b : Option (List ℕ)) →
+    a ≡ option_map (λ rest. xs ++ rest) b →
+    b ≡ option_map (λ rest. ys ++ rest) c →
+    a ≡ option_map (λ rest. (xs ++ ys) ++ rest) c
+Gave-append-left a None xs ys b first then = first ∙ ap (λ o. option_map (λ rest. xs ++ rest) o) then
+Gave-append-left a (Some rest) xs ys b first then =
+    first ∙ ap (λ o. option_map (λ rest. xs ++ rest) o) then ∙ ap Some (sym (append_assoc xs ys rest))
+
+pub Gave-append :
+    (a b c : SourceState) (xs ys : List ℕ) → Gave a xs b → Gave b ys c → Gave a (xs ++ ys) c
+Gave-append a b c xs ys first then = Gave-append-left a.left c.left xs ys b.left first then
+
+Gave-nothing : (a b c : SourceState) (xs : List ℕ) → Gave a xs b → Gave b [] c → Gave a xs c
+Gave-nothing a b c xs first then =
+    let P : List ℕ → Type 0 = λ l. Gave a l c in
+    subst P (append-nil xs) (Gave-append a b c xs [] first then)
+
+-- a fault that rose rose over more
+HasRisen-before : (old now new : ℕ) → old ≤ now → HasRisen now new → HasRisen old new
+HasRisen-before old now new le (inl rose) = inl (omega arith)
+HasRisen-before old now new le (inr last) = inr last
+
+take-nil : (n : ℕ) → take {A = ℕ} n [] ≡ []
+take-nil zero = refl
+take-nil (suc n) = refl
+
+-- one byte that was taken
+one_taken : (n : ℕ) (out : List ℕ) → (n ≡ 0 → ⊥) → n ≤ length out → length out ≡ 1 → take n out ≡ get_or out 0 0 ∷ []
+one_taken n [] some fits one = absurd (omega arith)
+one_taken n (x ∷ y ∷ out) some fits one = absurd (long out one)
+  where
+    long : (out : List ℕ) → length (x ∷ y ∷ out) ≡ 1 → ⊥
+    long out e = omega arith
+one_taken zero (x ∷ []) some fits one = absurd (some refl)
+one_taken (suc n) (x ∷ []) some fits one = ap (λ l. x ∷ l) (take-nil n)
+
+pub PastLimit-byte :
+    (before after : SourceState) (n : ℕ) (out : List ℕ) →
+    (n ≡ 0 → ⊥) →
+    n ≤ length out →
+    length out ≡ 1 →
+    Gave before (take n out) after →
+    (past : ℕ) × Gave before (past ∷ []) after
+PastLimit-byte before after n out some fits one gave =
+    let P : List ℕ → Type 0 = λ l. Gave before l after in
+    (get_or out 0 0, subst P (one_taken n out some fits one) gave)
+
+-- before the first byte
+pub SoFar-start :
+    (source : SourceState) (grain : GrainSize) (told : Told) (line : List ℕ) (entries : List Entry) →
+    line ≡ [] →
+    entries ≡ [] →
+    SoFar source source grain told line entries 0
+SoFar-start source grain told line entries no_line no_entries =
+    let P : List Entry → Type 0 = λ es. Progress grain told [] line es in
+    record {
+      bytes = [];
+      gave = gave source.left;
+      counted = refl;
+      faults = omega arith;
+      progress = subst P (sym no_entries) record { run = refl; legal = tt; unended = no_line }
+    }
+  where
+    gave : (left : Option (List ℕ)) → left ≡ option_map (λ rest. [] ++ rest) left
+    gave None = refl
+    gave (Some rest) = refl
+
+-- a turn that is told of every reading so far, at this one
+pub Turned-here :
+    (t : Turn) (most taken : ℕ) (before now after : SourceState) (grain now_grain : GrainSize) (told now_told : Told)
+    (line rest : List ℕ) (entries more : List Entry) →
+    now_grain ≡ grain →
+    now_told ≡ told →
+    (so_far : SoFar before now grain told line entries taken) →
+    ((bytes : List ℕ) → Progress now_grain now_told bytes line entries
+      → Turned t most now after now_grain now_told bytes rest more) →
+    Turned t most now after grain told so_far.bytes rest more
+Turned-here t most taken before now after grain now_grain told now_told line rest entries more same_grain same_told so_far turned =
+    let P : GrainSize → Type 0 = λ g. Progress g told so_far.bytes line entries in
+    let Q : Told → Type 0 = λ t'. Progress now_grain t' so_far.bytes line entries in
+    let R : GrainSize → Type 0 = λ g. Turned t most now after g now_told so_far.bytes rest more in
+    let S : Told → Type 0 = λ t'. Turned t most now after grain t' so_far.bytes rest more in
+    subst S same_told (subst R same_grain (turned so_far.bytes (subst Q (sym same_told) (subst P (sym same_grain) so_far.progress))))
+
+-- a piece more
+pub SoFar-more :
+    (n most taken : ℕ) (before now after : SourceState) (grain : GrainSize) (told : Told)
+    (line rest : List ℕ) (entries more : List Entry) →
+    (so_far : SoFar before now grain told line entries taken) →
+    now.faults ≤ after.faults →
+    Turned (turn.More n) most now after grain told so_far.bytes rest more →
+    SoFar before after grain told rest more (taken + n)
+SoFar-more n most taken before now after grain told line rest entries more so_far faults turned =
+    let piece : FedPiece n now after so_far.bytes (λ all. Progress grain told all rest more) = turned.1 in
+    record {
+      bytes = so_far.bytes ++ piece.piece;
+      gave = Gave-append before now after so_far.bytes piece.piece so_far.gave piece.gave;
+      counted = counts so_far.bytes piece.piece so_far.counted piece.counted;
+      faults = le before.faults now.faults after.faults so_far.faults faults;
+      progress = piece.fed
+    }
+  where
+    counts : (xs ys : List ℕ) → length xs ≡ taken → length ys ≡ n → length (xs ++ ys) ≡ taken + n
+    counts xs ys a b = omega (arith, length-append xs ys)
+    le : (a b c : ℕ) → a ≤ b → b ≤ c → a ≤ c
+    le a b c p q = omega arith
+
+-- the end of input
+pub ReadTo-end :
+    (most taken : ℕ) (before now after : SourceState) (grain : GrainSize) (told : Told)
+    (line rest : List ℕ) (entries more : List Entry) →
+    (so_far : SoFar before now grain told line entries taken) →
+    taken ≤ input_limit →
+    now.faults ≤ after.faults →
+    Turned turn.End most now after grain told so_far.bytes rest more →
+    ReadTo ending.End before after grain told rest more
+ReadTo-end most taken before now after grain told line rest entries more so_far within faults turned = record {
+  bytes = so_far.bytes;
+  gave = Gave-nothing before now after so_far.bytes so_far.gave turned.1;
+  faults = omega (arith, so_far.faults);
+  ends = (turned.0, omega (arith, so_far.counted), turned.2)
+}
+
+-- a fault
+pub ReadTo-fault :
+    (most taken : ℕ) (before now after : SourceState) (grain : GrainSize) (told : Told)
+    (line rest : List ℕ) (entries more : List Entry) →
+    (so_far : SoFar before now grain told line entries taken) →
+    taken ≤ input_limit →
+    now.faults ≤ after.faults →
+    Turned turn.Fault most now after grain told so_far.bytes rest more →
+    ReadTo ending.ReadFault before after grain told rest more
+ReadTo-fault most taken before now after grain told line rest entries more so_far within faults turned = record {
+  bytes = so_far.bytes;
+  gave = Gave-nothing before now after so_far.bytes so_far.gave turned.1;
+  faults = omega (arith, so_far.faults);
+  ends = (HasRisen-before before.faults now.faults after.faults so_far.faults turned.0, omega (arith, so_far.counted), turned.2)
+}
+
+-- a stop of the store
+pub ReadTo-stopped :
+    (n most taken : ℕ) (stop : Stop) (before now after : SourceState) (grain : GrainSize) (told : Told)
+    (line rest : List ℕ) (entries more : List Entry) →
+    (so_far : SoFar before now grain told line entries taken) →
+    taken + most ≤ input_limit →
+    now.faults ≤ after.faults →
+    Turned (turn.Stopped n stop) most now after grain told so_far.bytes rest more →
+    ReadTo (ending.Stopped stop) before after grain told rest more
+ReadTo-stopped n most taken stop before now after grain told line rest entries more so_far within faults turned =
+    let piece : FedPiece n now after so_far.bytes (λ all. Fed {A = Unit {0}} (Err stop) grain told all rest more) = turned.1 in
+    record {
+      bytes = so_far.bytes ++ piece.piece;
+      gave = Gave-append before now after so_far.bytes piece.piece so_far.gave piece.gave;
+      faults = omega (arith, so_far.faults);
+      ends = (omega (arith, length-append so_far.bytes piece.piece, so_far.counted, piece.counted, turned.0), piece.fed)
+    }
+
+-- the byte past the limit was asked for
+pub ReadTo-past :
+    (ended : Ending) (taken : ℕ) (before now after : SourceState) (grain : GrainSize) (told : Told)
+    (line : List ℕ) (entries : List Entry) →
+    (so_far : SoFar before now grain told line entries taken) →
+    taken ≡ input_limit →
+    now.faults ≤ after.faults →
+    PastLimit ended now after →
+    ReadTo ended before after grain told line entries
+ReadTo-past ending.End taken before now after grain told line entries so_far full faults past = record {
+  bytes = so_far.bytes;
+  gave = Gave-nothing before now after so_far.bytes so_far.gave past.1;
+  faults = omega (arith, so_far.faults);
+  ends = (past.0, omega (arith, so_far.counted), so_far.progress)
+}
+ReadTo-past ending.ReadFault taken before now after grain told line entries so_far full faults past = record {
+  bytes = so_far.bytes;
+  gave = Gave-nothing before now after so_far.bytes so_far.gave past.1;
+  faults = omega (arith, so_far.faults);
+  ends = (HasRisen-before before.faults now.faults after.faults so_far.faults past.0, omega (arith, so_far.counted), so_far.progress)
+}
+ReadTo-past ending.TooLong taken before now after grain told line entries so_far full faults past = record {
+  bytes = so_far.bytes ++ past.0 ∷ [];
+  gave = Gave-append before now after so_far.bytes (past.0 ∷ []) so_far.gave past.1;
+  faults = omega (arith, so_far.faults);
+  ends = (so_far.bytes, past.0, refl, so_far.counted ∙ full, so_far.progress)
+}
+ReadTo-past (ending.Stopped stop) taken before now after grain told line entries so_far full faults past = absurd past

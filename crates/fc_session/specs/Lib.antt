@@ -1,0 +1,7 @@
+-- What a session means, one subject a file, to be read top to bottom.
+pub mod Words
+pub mod Codes
+pub mod Stores
+pub mod Reading
+pub mod Progress
+pub mod ReadTo

@@ -1,0 +1,131 @@
+//! Every cell of both tables, against tables written by hand.
+
+ghost use Rattle.std.specs.Prelude.{◌≡◌, IsTrue};
+
+use super::*;
+
+const STATES: [MapState; 7] = [
+    MapState::IdleOrCopied,
+    MapState::Stopped,
+    MapState::Preparing,
+    MapState::Prepared,
+    MapState::Copying,
+    MapState::Stopping,
+    MapState::Empty,
+];
+
+const EVENTS: [MapEvent; 10] = [
+    MapEvent::Prepare,
+    MapEvent::Start,
+    MapEvent::StartPrep,
+    MapEvent::Stop,
+    MapEvent::StopSplit,
+    MapEvent::StopForce,
+    MapEvent::Remove,
+    MapEvent::RemoveForce,
+    MapEvent::Supersede,
+    MapEvent::Finish,
+];
+
+/// A row for each of `STATES`, in it a word for each of `EVENTS`, in it a letter for: neither, needed, complete, both.
+/// The letters: i idle_or_copied, p prepared, c copying, s stopping, o stopped; P not prepared, A not allowed in the
+/// state, F needs force; - isn't asked for.
+const NEXT: [[[u8; 4]; 10]; 7] = [
+    [
+        *b"pppp", *b"PPPP", *b"cccc", *b"AAAA", *b"AAAA", *b"AAAA", *b"iiii", *b"iiii", *b"AAAA",
+        *b"AAAA",
+    ],
+    [
+        *b"pppp", *b"PPPP", *b"cccc", *b"AAAA", *b"AAAA", *b"AAAA", *b"FFFF", *b"iiii", *b"iiii",
+        *b"AAAA",
+    ],
+    [
+        *b"AAAA", *b"AAAA", *b"AAAA", *b"oooo", *b"AAAA", *b"oooo", *b"AAAA", *b"AAAA", *b"AAAA",
+        *b"AAAA",
+    ],
+    [
+        *b"AAAA", *b"cccc", *b"AAAA", *b"oooo", *b"AAAA", *b"oooo", *b"AAAA", *b"AAAA", *b"AAAA",
+        *b"AAAA",
+    ],
+    [
+        *b"AAAA", *b"AAAA", *b"AAAA", *b"osos", *b"--ii", *b"ooii", *b"AAAA", *b"AAAA", *b"AAAA",
+        *b"AAiA",
+    ],
+    [
+        *b"AAAA", *b"AAAA", *b"AAAA", *b"AAAA", *b"AAAA", *b"ooii", *b"AAAA", *b"AAAA", *b"AAAA",
+        *b"oAiA",
+    ],
+    [
+        *b"AAAA", *b"AAAA", *b"AAAA", *b"AAAA", *b"AAAA", *b"AAAA", *b"AAAA", *b"AAAA", *b"AAAA",
+        *b"AAAA",
+    ],
+];
+
+/// The letter of an outcome in `state`.
+fn letter(outcome: &Result<MapState, Refusal>, state: MapState) -> u8 {
+    match outcome {
+        Ok(MapState::IdleOrCopied) => b'i',
+        Ok(MapState::Prepared) => b'p',
+        Ok(MapState::Copying) => b'c',
+        Ok(MapState::Stopping) => b's',
+        Ok(MapState::Stopped) => b'o',
+        Err(Refusal::NotPrepared) => b'P',
+        Err(Refusal::NotAllowed(told)) if *told == state => b'A',
+        Err(Refusal::NeedsForce) => b'F',
+        _ => b'?',
+    }
+}
+
+/// Whether a cell is asked for: a split of an incomplete copy isn't.
+fn is_asked(state: MapState, event: MapEvent, complete: bool) -> bool
+    ensures { IsTrue result → state ≡ MapState.Copying → event ≡ MapEvent.StopSplit → IsTrue complete }
+{
+    match (state, event) {
+        (MapState::Copying, MapEvent::StopSplit) => complete,
+        _ => true,
+    }
+}
+
+#[test]
+fn every_cell_of_the_state_table(rt: HostRuntime) {
+    for (state, row) in STATES.iter().zip(NEXT.iter()) {
+        for (event, cell) in EVENTS.iter().zip(row.iter()) {
+            for (place, wanted) in cell.iter().enumerate() {
+                let complete = place >= 2;
+                let needed = place % 2 == 1;
+                if is_asked(*state, *event, complete) {
+                    let outcome = next(*state, *event, complete, needed);
+                    assert_eq!(rt;
+                        letter(&outcome, *state),
+                        *wanted,
+                        "{state:?} {event:?} {place}"
+                    );
+                } else {
+                    assert_eq!(rt; *wanted, b'-', "{state:?} {event:?} {place}");
+                }
+            }
+        }
+    }
+}
+
+/// For each of `STATES`: o online, x offline in that state, p not accessible; where incomplete, and where complete.
+const ACCESS: [[u8; 2]; 7] = [*b"oo", *b"xx", *b"pp", *b"pp", *b"oo", *b"xo", *b"oo"];
+
+#[test]
+fn every_cell_of_the_access_table(rt: HostRuntime) {
+    let map = MapId(3);
+    for (state, row) in STATES.iter().zip(ACCESS.iter()) {
+        for (place, wanted) in row.iter().enumerate() {
+            let told = match access(map, *state, place == 1) {
+                Access::Online => b'o',
+                Access::Offline {
+                    map: told,
+                    state: why,
+                } if told == map && why == *state => b'x',
+                Access::NotAccessible { map: told } if told == map => b'p',
+                _ => b'?',
+            };
+            assert_eq!(rt; told, *wanted, "{state:?} {place}");
+        }
+    }
+}

@@ -1,0 +1,280 @@
+//! What the words of a line have given so far.
+
+ghost use Rattle.std.specs.Prelude.{◌≡◌};
+ghost use Rattle.fc_words.specs.Answers.{Leaves};
+ghost use Rattle.fc_words.specs.Given.{no_settings, no_flags, no_operands, nothing_given, set, is_set, raise, is_raised, is_given, is_wanted, take};
+
+use crate::grammar::{Flag, LineOption, Operand, Setting};
+use crate::refused::WordRefused;
+use crate::values::{
+    read_byte, read_delim, read_grain_size, read_name, read_number, read_ref, read_role,
+    read_turns, read_unit,
+};
+use fc_base::command::Unit;
+use fc_base::name::{Name, Ref};
+use fc_base::size::GrainSize;
+use std::alloc::Global;
+
+/// The role of an actor, as it is written.
+#[derive(Clone, Copy, Debug, PartialEq, Eq)]
+pub enum RoleWord {
+    /// `host`
+    Host,
+    /// `admin`
+    Admin,
+    /// `copier`, and its turns behind it.
+    Copier,
+    /// `cleaner`, and its turns behind it.
+    Cleaner,
+}
+
+/// The values of the options so far.
+#[derive(Drop)]
+pub struct Settings {
+    pub name: Option<Name>,
+    pub size: Option<u32>,
+    pub unit: Option<Unit>,
+    pub source: Option<Ref>,
+    pub target: Option<Ref>,
+    pub group: Option<Ref>,
+    pub copy_rate: Option<u32>,
+    pub clean_rate: Option<u32>,
+    pub grain_size: Option<GrainSize>,
+    pub seconds: Option<u32>,
+    pub delim: Option<u8>,
+}
+
+/// The options without values so far.
+#[derive(Clone, Copy, Debug, PartialEq, Eq)]
+pub struct Flags {
+    pub thin: bool,
+    pub incremental: bool,
+    pub autodelete: bool,
+    pub restore: bool,
+    pub prep: bool,
+    pub force: bool,
+    pub split: bool,
+}
+
+/// The operands so far.
+#[derive(Drop)]
+pub struct Operands {
+    pub object: Option<Ref>,
+    pub block: Option<u32>,
+    pub count: Option<u32>,
+    pub byte: Option<u8>,
+    pub grain: Option<u32>,
+    pub calls: Option<u32>,
+    pub actor: Option<Name>,
+    pub role: Option<RoleWord>,
+    pub turns: Option<u32>,
+}
+
+/// What the words of a line have given so far.
+#[derive(Drop)]
+pub struct Given {
+    /// The option whose value is the next word.
+    pub waiting: Option<Setting>,
+    pub settings: Settings,
+    pub flags: Flags,
+    pub operands: Operands,
+}
+
+impl Settings {
+    /// No option has a value.
+    pub fn none() -> Settings
+        ensures { result ≡ no_settings }
+    {
+        Settings {
+            name: None,
+            size: None,
+            unit: None,
+            source: None,
+            target: None,
+            group: None,
+            copy_rate: None,
+            clean_rate: None,
+            grain_size: None,
+            seconds: None,
+            delim: None,
+        }
+    }
+
+    /// Whether the option has its value.
+    pub fn has(&self, setting: Setting) -> bool
+        ensures { result ≡ is_set setting self.now }
+    {
+        match setting {
+            Setting::Name => self.name.is_some(),
+            Setting::Size => self.size.is_some(),
+            Setting::Unit => self.unit.is_some(),
+            Setting::Source => self.source.is_some(),
+            Setting::Target => self.target.is_some(),
+            Setting::Group => self.group.is_some(),
+            Setting::CopyRate => self.copy_rate.is_some(),
+            Setting::CleanRate => self.clean_rate.is_some(),
+            Setting::GrainSize => self.grain_size.is_some(),
+            Setting::Seconds => self.seconds.is_some(),
+            Setting::Delim => self.delim.is_some(),
+        }
+    }
+
+    /// Gives the option the value that the word says.
+    pub fn set(
+        &mut self,
+        alloc: Global,
+        setting: Setting,
+        word: &[u8],
+        at: u32,
+    ) -> Result<(), WordRefused>
+        ensures { Leaves result self.new (set setting at word.now self.old) }
+    {
+        match setting {
+            Setting::Name => self.name = Some(read_name(alloc, word, at)?),
+            Setting::Size => self.size = Some(read_number(word, at)?),
+            Setting::Unit => self.unit = Some(read_unit(word, at)?),
+            Setting::Source => self.source = Some(read_ref(alloc, word, at)?),
+            Setting::Target => self.target = Some(read_ref(alloc, word, at)?),
+            Setting::Group => self.group = Some(read_ref(alloc, word, at)?),
+            Setting::CopyRate => self.copy_rate = Some(read_number(word, at)?),
+            Setting::CleanRate => self.clean_rate = Some(read_number(word, at)?),
+            Setting::GrainSize => self.grain_size = Some(read_grain_size(word, at)?),
+            Setting::Seconds => self.seconds = Some(read_number(word, at)?),
+            Setting::Delim => self.delim = Some(read_delim(word, at)?),
+        }
+        Ok(())
+    }
+}
+
+impl Flags {
+    /// No option without a value.
+    pub fn none() -> Flags
+        ensures { result ≡ no_flags }
+    {
+        Flags {
+            thin: false,
+            incremental: false,
+            autodelete: false,
+            restore: false,
+            prep: false,
+            force: false,
+            split: false,
+        }
+    }
+
+    /// Whether the option was given, or the other of `-force` and `-split`.
+    pub fn has(&self, flag: Flag) -> bool
+        ensures { result ≡ is_raised flag self.now }
+    {
+        match flag {
+            Flag::Thin => self.thin,
+            Flag::Incremental => self.incremental,
+            Flag::Autodelete => self.autodelete,
+            Flag::Restore => self.restore,
+            Flag::Prep => self.prep,
+            Flag::Force | Flag::Split => self.force || self.split,
+        }
+    }
+
+    /// Adds the option.
+    pub fn raise(&mut self, flag: Flag)
+        ensures { self.new ≡ raise flag self.old }
+    {
+        match flag {
+            Flag::Thin => self.thin = true,
+            Flag::Incremental => self.incremental = true,
+            Flag::Autodelete => self.autodelete = true,
+            Flag::Restore => self.restore = true,
+            Flag::Prep => self.prep = true,
+            Flag::Force => self.force = true,
+            Flag::Split => self.split = true,
+        }
+    }
+}
+
+impl Operands {
+    /// No operand.
+    pub fn none() -> Operands
+        ensures { result ≡ no_operands }
+    {
+        Operands {
+            object: None,
+            block: None,
+            count: None,
+            byte: None,
+            grain: None,
+            calls: None,
+            actor: None,
+            role: None,
+            turns: None,
+        }
+    }
+
+    /// Whether the operand isn't there yet. Turns are wanted behind a role that takes them alone.
+    pub fn wants(&self, operand: Operand) -> bool
+        ensures { result ≡ is_wanted self.now operand }
+    {
+        match operand {
+            Operand::Object => self.object.is_none(),
+            Operand::Block => self.block.is_none(),
+            Operand::Count => self.count.is_none(),
+            Operand::Byte => self.byte.is_none(),
+            Operand::Grain => self.grain.is_none(),
+            Operand::Calls => self.calls.is_none(),
+            Operand::Actor => self.actor.is_none(),
+            Operand::Role => self.role.is_none(),
+            Operand::Turns => {
+                matches!(self.role, Some(RoleWord::Copier | RoleWord::Cleaner))
+                    && self.turns.is_none()
+            }
+        }
+    }
+
+    /// Adds the operand that the word says.
+    pub fn take(
+        &mut self,
+        alloc: Global,
+        operand: Operand,
+        word: &[u8],
+        at: u32,
+    ) -> Result<(), WordRefused>
+        ensures { Leaves result self.new (take operand at word.now self.old) }
+    {
+        match operand {
+            Operand::Object => self.object = Some(read_ref(alloc, word, at)?),
+            Operand::Block => self.block = Some(read_number(word, at)?),
+            Operand::Count => self.count = Some(read_number(word, at)?),
+            Operand::Byte => self.byte = Some(read_byte(word, at)?),
+            Operand::Grain => self.grain = Some(read_number(word, at)?),
+            Operand::Calls => self.calls = Some(read_number(word, at)?),
+            Operand::Actor => self.actor = Some(read_name(alloc, word, at)?),
+            Operand::Role => self.role = Some(read_role(word, at)?),
+            Operand::Turns => self.turns = Some(read_turns(word, at)?),
+        }
+        Ok(())
+    }
+}
+
+impl Given {
+    /// Nothing yet.
+    pub fn nothing() -> Given
+        ensures { result ≡ nothing_given }
+    {
+        Given {
+            waiting: None,
+            settings: Settings::none(),
+            flags: Flags::none(),
+            operands: Operands::none(),
+        }
+    }
+
+    /// Whether the option was given already, or the other of `-force` and `-split`.
+    pub fn has(&self, option: LineOption) -> bool
+        ensures { result ≡ is_given option self.now }
+    {
+        match option {
+            LineOption::Setting(setting) => self.settings.has(setting),
+            LineOption::Flag(flag) => self.flags.has(flag),
+        }
+    }
+}
