@@ -3,3 +3,4 @@ pub mod Single
 pub mod Shape
 pub mod Step
 pub mod Answered
+pub mod Asking

@@ -2,5 +2,6 @@
 #![tactic(auto)]
 
 mod access;
+mod lines;
 pub mod single;
 pub mod stop;

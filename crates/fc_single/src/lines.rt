@@ -1,0 +1,84 @@
+//! Lines: what they ask, entry by entry.
+
+ghost use Rattle.std.specs.Prelude.{◌≡◌, ◌+◌, ◌*◌, ◌<◌, ◌≤◌, ◌∷◌, ◌++◌, [], length, map, Some, OnOk, OnErr, IfErr, option_to_list, if◌then◌else◌};
+ghost use Rattle.fc_base.specs.Grain.{grain_blocks};
+ghost use Rattle.fc_entry.specs.Asked.{asked, touched};
+ghost use Rattle.fc_entry.specs.Refused.{access_refusal, blocks_refusal, volume_by};
+ghost use Rattle.fc_entry.specs.Run.{by_main};
+ghost use Rattle.fc_entry.specs.Told.{Told};
+ghost use Rattle.fc_single.specs.Answered.{Answered, StillStands};
+ghost use Rattle.fc_single.specs.Asking.{command_of, part_of, request_of};
+ghost use Rattle.fc_single.specs.Single.{Keeps, StandsFor, told_of};
+ghost use Rattle.fc_single.specs.Step.{IsInGrain, IsTurn};
+
+use crate::single::Single;
+use crate::stop::Stop;
+use fc_base::command::Command;
+use fc_base::fault::{Kind, Refusal, ValueOf};
+use fc_base::limits::{MAX_BLOCKS, MAX_ENTRIES};
+use fc_base::name::Ref;
+use fc_base::request::{Place, Reply, Request};
+use fc_base::size::GrainSize;
+use fc_base::volume::Volume;
+use fc_entry::entry::Entry;
+use fc_entry::history::History;
+use fc_mdisk::mdisk::Mdisk;
+
+/// What an access does with its blocks.
+#[derive(Clone, Copy, Debug, PartialEq, Eq)]
+pub(crate) enum Access {
+    /// They are read.
+    Read,
+    /// They are written with this byte.
+    Write(u8),
+}
+
+impl Access {
+    ghost use Rattle.fc_single.specs.Asking.{command_of};
+
+    /// The command of an access.
+    fn command(self, volume: Ref, block: u32, count: u32) -> Command
+        ensures { result ≡ command_of self volume block count }
+    {
+        match self {
+            Access::Read => Command::Read { volume, block, count },
+            Access::Write(byte) => Command::Write { volume, block, count, byte },
+        }
+    }
+}
+
+/// Logs an entry.
+fn log(history: &mut History, entry: Entry) -> Result<(), Stop>
+    requires { entry.number ≡ length history.old.entries }
+    ensures ok { OnOk result (history.new ≡ record history.old { entries = history.old.entries ++ entry ∷ [] }) }
+    ensures err { OnErr result (history.new ≡ history.old) }
+    ensures stop { IfErr result (λ stop. stop ≡ Stop.NoMemory) }
+{
+    match history.push(entry) {
+        Ok(()) => Ok(()),
+        Err(_) => Err(Stop::NoMemory),
+    }
+}
+
+/// Whether a reference names the volume of a row.
+fn is_named(row: &Volume, volume: &Ref) -> bool
+    ensures { volume_by volume.now (row.now ∷ []) ≡ (if result then Some row.now else None) }
+{
+    match volume {
+        Ref::Id(id) => row.id.0 == *id,
+        Ref::Name(name) => row.name.as_bytes() == name.as_bytes(),
+    }
+}
+
+/// Why an access of these blocks of a volume is refused, if it is.
+fn refusal_of_blocks(grain: GrainSize, row: &Volume, block: u32, count: u32) -> Option<Refusal>
+    ensures { result ≡ blocks_refusal grain row.now block count }
+{
+    if count > MAX_BLOCKS {
+        return Some(Refusal::Limit(MAX_BLOCKS));
+    }
+    if count == 0 || row.grains as u64 * (grain.blocks() as u64) < block as u64 + count as u64 {
+        return Some(Refusal::BadValue(ValueOf::Blocks));
+    }
+    None
+}
