@@ -5,3 +5,5 @@ pub mod Turns
 pub mod Standing
 pub mod Accesses
 pub mod Writes
+pub mod Logging
+pub mod Places

@@ -82,3 +82,47 @@ fn refusal_of_blocks(grain: GrainSize, row: &Volume, block: u32, count: u32) -> 
     }
     None
 }
+
+impl<D: Mdisk> Single<D> {
+    ghost use Rattle.fc_single.specs.Asking.{part_of, request_of};
+
+    /// Reads or writes blocks of a grain of the volume.
+    fn access(&mut self, access: Access, grain: u32, block: u64, count: u32, history: &History) -> Entry
+        requires stands { StandsFor self.old (told_of self.old history.now) }
+        requires room { length history.now.entries < MAX_ENTRIES }
+        requires there { grain < length self.old.held }
+        requires inside { IsInGrain self.old.grain block count grain }
+        ensures turn { IsTurn (request_of access block count) self.old self.new (told_of self.old history.now) result }
+        ensures size { length self.new.held ≡ length self.old.held }
+    {
+        match access {
+            Access::Read => self.read(grain, block, count, history),
+            Access::Write(byte) => self.write(grain, block, count, byte, history),
+        }
+    }
+
+    /// Does an access in one of its grains, and logs it.
+    fn run_part(&mut self, access: Access, block: u32, count: u32, grain: u32, history: &mut History) -> Result<(), Stop>
+        requires stands { StandsFor self.old (told_of self.old history.old) }
+        requires room { length history.old.entries ≤ MAX_ENTRIES }
+        requires there { grain < length self.old.held }
+        requires begins { block < (grain + 1) * grain_blocks self.old.grain }
+        requires ends { grain * grain_blocks self.old.grain < block + count }
+        ensures answered {
+          Answered result self.old.grain (told_of self.old history.old)
+            (by_main (part_of self.old.grain access block count grain ∷ [])) MAX_ENTRIES history.old history.new
+        }
+        ensures stands { StillStands result MAX_ENTRIES self.new history.new }
+        ensures keeps { Keeps self.old self.new }
+        ensures size { length self.new.held ≡ length self.old.held }
+    {
+        if history.len() >= MAX_ENTRIES {
+            return Err(Stop::LogFull);
+        }
+        let blocks = self.grain().blocks() as u64;
+        let first = (block as u64).max(grain as u64 * blocks);
+        let end = (block as u64 + count as u64).min((grain as u64 + 1) * blocks);
+        let entry = self.access(access, grain, first, (end - first) as u32, history);
+        log(history, entry)
+    }
+}
