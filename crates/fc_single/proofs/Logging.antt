@@ -87,3 +87,77 @@ is_full grain told request limit history room full = record {
   full = omega arith;
   legal = tt;
 }
+
+-- what more entries tell
+told_of-more : (grain : GrainSize) (start : Told) (a b : HistoryState) (more : List Entry) → b.entries ≡ a.entries ++ more
+    → told_after grain start b.entries ≡ told_after grain (told_after grain start a.entries) more
+told_of-more grain start a b more entries =
+    ap (λ (es : List Entry). told_after grain start es) entries ∙ told_after-append grain start a.entries more
+
+-- entries that answer some requests, and entries behind them that answer more
+module _ (grain : GrainSize) (start : Told) (xs : List (ℕ × Request)) (a b c : HistoryState)
+    (first : AnswersAll grain (told_after grain start a.entries) xs a b) where
+
+  legal-more : (more : List Entry) → IsLegal grain (told_after grain start b.entries) more
+      → IsLegal grain (told_after grain start a.entries) (first.more ++ more)
+  legal-more more legal =
+      let P : Told → Type 0 = λ t. IsLegal grain t more in
+      IsLegal-append grain (told_after grain start a.entries) first.more more first.legal
+        (subst P (told_of-more grain start a b first.more first.entries) legal)
+
+  entries-more : (more : List Entry) → c.entries ≡ b.entries ++ more → c.entries ≡ a.entries ++ (first.more ++ more)
+  entries-more more entries =
+      entries ∙ ap (λ (es : List Entry). es ++ more) first.entries ∙ append_assoc a.entries first.more more
+
+  asks-more : (more : List Entry) → asks (first.more ++ more) ≡ xs ++ asks more
+  asks-more more =
+      map-append (λ (e : Entry). (e.actor, e.request)) first.more more ∙ ap (λ (rs : List (ℕ × Request)). rs ++ asks more) first.all
+
+  pub then_all : (ys : List (ℕ × Request)) → AnswersAll grain (told_after grain start b.entries) ys b c
+      → AnswersAll grain (told_after grain start a.entries) (xs ++ ys) a c
+  then_all ys second = record {
+    more = first.more ++ second.more;
+    entries = entries-more second.more second.entries;
+    actors = second.actors ∙ first.actors;
+    all = asks-more second.more ∙ ap (λ (rs : List (ℕ × Request)). xs ++ rs) second.all;
+    legal = legal-more second.more second.legal;
+  }
+
+  pub then_limit : (ys zs : List (ℕ × Request)) (limit : ℕ) → AnswersToLimit grain (told_after grain start b.entries) ys limit b c
+      → AnswersToLimit grain (told_after grain start a.entries) (xs ++ (ys ++ zs)) limit a c
+  then_limit ys zs limit second = record {
+    more = first.more ++ second.more;
+    wanted = second.wanted;
+    left = second.left ++ zs;
+    entries = entries-more second.more second.entries;
+    actors = second.actors ∙ first.actors;
+    some =
+        ap (λ (rs : List (ℕ × Request)). rs ++ (second.wanted ∷ (second.left ++ zs))) (asks-more second.more)
+        ∙ append_assoc xs (asks second.more) (second.wanted ∷ (second.left ++ zs))
+        ∙ ap (λ (rs : List (ℕ × Request)). xs ++ rs) (sym (append_assoc (asks second.more) (second.wanted ∷ second.left) zs))
+        ∙ ap (λ (rs : List (ℕ × Request)). xs ++ (rs ++ zs)) second.some;
+    full = second.full;
+    legal = legal-more second.more second.legal;
+  }
+
+  pub then_some : (ys zs : List (ℕ × Request)) → AnswersSome grain (told_after grain start b.entries) ys b c
+      → AnswersSome grain (told_after grain start a.entries) (xs ++ (ys ++ zs)) a c
+  then_some ys zs second = record {
+    more = first.more ++ second.more;
+    left = second.left ++ zs;
+    entries = entries-more second.more second.entries;
+    actors = second.actors ∙ first.actors;
+    some =
+        ap (λ (rs : List (ℕ × Request)). rs ++ (second.left ++ zs)) (asks-more second.more)
+        ∙ append_assoc xs (asks second.more) (second.left ++ zs)
+        ∙ ap (λ (rs : List (ℕ × Request)). xs ++ rs) (sym (append_assoc (asks second.more) second.left zs))
+        ∙ ap (λ (rs : List (ℕ × Request)). xs ++ (rs ++ zs)) second.some;
+    legal = legal-more second.more second.legal;
+  }
+
+  -- the first that failed ends it
+  pub then_stop : (A : Type 0) (stop : Stop) (ys zs : List (ℕ × Request)) (limit : ℕ)
+      → Answered {A = A} (Err stop) grain (told_after grain start b.entries) ys limit b c
+      → Answered {A = A} (Err stop) grain (told_after grain start a.entries) (xs ++ (ys ++ zs)) limit a c
+  then_stop A LogFull ys zs limit second = then_limit ys zs limit second
+  then_stop A NoMemory ys zs limit second = then_some ys zs second

@@ -125,4 +125,31 @@ impl<D: Mdisk> Single<D> {
         let entry = self.access(access, grain, first, (end - first) as u32, history);
         log(history, entry)
     }
+
+    /// Does an access in all grains that it touches, rising.
+    fn run_parts(&mut self, access: Access, block: u32, count: u32, history: &mut History) -> Result<(), Stop>
+        requires stands { StandsFor self.old (told_of self.old history.old) }
+        requires room { length history.old.entries ≤ MAX_ENTRIES }
+        requires some { 0 < count }
+        requires few { count ≤ MAX_BLOCKS }
+        requires there { block + count ≤ length self.old.held * grain_blocks self.old.grain }
+        ensures answered {
+          Answered result self.old.grain (told_of self.old history.old)
+            (by_main (map (part_of self.old.grain access block count) (touched self.old.grain block count)))
+            MAX_ENTRIES history.old history.new
+        }
+        ensures stands { StillStands result MAX_ENTRIES self.new history.new }
+        ensures keeps { Keeps self.old self.new }
+    {
+        let blocks = self.grain().blocks();
+        let first = block / blocks;
+        let last = ((block as u64 + count as u64 - 1) / blocks as u64) as u32;
+        for grain in first..last + 1 {
+            match self.run_part(access, block, count, grain, history) {
+                Ok(()) => {}
+                Err(stop) => return Err(stop),
+            }
+        }
+        Ok(())
+    }
 }
