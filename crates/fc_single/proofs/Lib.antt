@@ -7,3 +7,4 @@ pub mod Accesses
 pub mod Writes
 pub mod Logging
 pub mod Places
+pub mod Asked

@@ -3,5 +3,6 @@
 
 mod access;
 mod lines;
+mod refusal;
 pub mod single;
 pub mod stop;

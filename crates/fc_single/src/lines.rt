@@ -60,29 +60,6 @@ fn log(history: &mut History, entry: Entry) -> Result<(), Stop>
     }
 }
 
-/// Whether a reference names the volume of a row.
-fn is_named(row: &Volume, volume: &Ref) -> bool
-    ensures { volume_by volume.now (row.now ∷ []) ≡ (if result then Some row.now else None) }
-{
-    match volume {
-        Ref::Id(id) => row.id.0 == *id,
-        Ref::Name(name) => row.name.as_bytes() == name.as_bytes(),
-    }
-}
-
-/// Why an access of these blocks of a volume is refused, if it is.
-fn refusal_of_blocks(grain: GrainSize, row: &Volume, block: u32, count: u32) -> Option<Refusal>
-    ensures { result ≡ blocks_refusal grain row.now block count }
-{
-    if count > MAX_BLOCKS {
-        return Some(Refusal::Limit(MAX_BLOCKS));
-    }
-    if count == 0 || row.grains as u64 * (grain.blocks() as u64) < block as u64 + count as u64 {
-        return Some(Refusal::BadValue(ValueOf::Blocks));
-    }
-    None
-}
-
 impl<D: Mdisk> Single<D> {
     ghost use Rattle.fc_single.specs.Asking.{part_of, request_of};
 

@@ -1,6 +1,6 @@
 //! The store of one volume, under one owner.
 
-ghost use Rattle.std.specs.Prelude.{◌≡◌, ◌+◌, ◌<◌, ◌≤◌, ◌^◌, ◌∷◌, ◌++◌, [], length, map, take, drop, replicate, slice_set, is_some, is_err, IfOk, OnOk, IfSome, None, false, vec_len};
+ghost use Rattle.std.specs.Prelude.{◌≡◌, ◌+◌, ◌<◌, ◌≤◌, ◌^◌, ◌∷◌, ◌++◌, [], length, map, take, drop, replicate, slice_set, is_some, is_err, IfOk, OnOk, IfSome, None, false, option_to_list, vec_len};
 ghost use Rattle.std.specs.List.{All, list_any};
 ghost use Rattle.fc_base.specs.declared.disk.DiskKind.TheVariants.{Flat};
 ghost use Rattle.fc_mdisk.specs.Disk.{IsFresh, is_flat};
@@ -8,21 +8,24 @@ ghost use Rattle.fc_base.specs.Grain.{grain_bytes};
 ghost use Rattle.fc_base.specs.Runs.{expanded, IsCanonical};
 ghost use Rattle.fc_mdisk.specs.Disks.{calls_of, disk_at};
 ghost use Rattle.fc_entry.specs.Picture.{Bytes, content_at};
+ghost use Rattle.fc_entry.specs.Refused.{access_refusal};
 ghost use Rattle.fc_entry.specs.Right.{is_lost};
 ghost use Rattle.fc_single.specs.Shape.{content};
 ghost use Rattle.fc_single.specs.Step.{Called, HasLength, lane_entry};
 ghost use Rattle.fc_entry.specs.Asked.{asked};
 ghost use Rattle.fc_entry.specs.Run.{by_main};
-ghost use Rattle.fc_entry.specs.Told.{opened};
+ghost use Rattle.fc_entry.specs.Told.{Told, opened};
 ghost use Rattle.fc_single.specs.Answered.{Answered, StillStands, TakesLine};
 ghost use Rattle.fc_single.specs.Single.{Keeps, StandsFor, can_make, faults_in, kinds_of, pool_of, told_of};
 
+use crate::refusal::refusal_of_access;
 use crate::stop::Stop;
 use fc_base::command::Line;
 use fc_base::disk::{DiskError, DiskKind};
-use fc_base::fault::WordFault;
+use fc_base::fault::{Refusal, WordFault};
 use fc_base::limits::MAX_ENTRIES;
 use fc_base::list::List;
+use fc_base::name::Ref;
 use fc_base::outcome::{Failed, NoMemory};
 use fc_base::request::{Place, Reply, Request, Torn};
 use fc_base::runs::Runs;
@@ -164,6 +167,16 @@ impl<D: Mdisk> Single<D> {
             faults_after: self.faults,
             calls,
         }
+    }
+
+    /// Why an access of these blocks is refused, if it is.
+    pub(crate) fn refusal(&self, volume: &Ref, block: u32, count: u32) -> Option<Refusal>
+        ensures {
+          (told : Told) → told.volumes ≡ option_to_list self.now.volume
+            → result ≡ access_refusal self.now.grain told volume.now block count
+        }
+    {
+        refusal_of_access(self.grain, &self.volume, volume, block, count)
     }
 
     /// Whether a grain of the volume is lost.
