@@ -1,9 +1,10 @@
 -- What a turn of the volume's disk leaves of the store, and the entries that tell of it.
-use Rattle.std.specs.Prelude.{◌≡◌, ℕ, ◌+◌, ◌%◌, ◌≤◌, Bool, [], Option, None, length, List}
+use Rattle.std.specs.Prelude.{◌≡◌, ℕ, ◌+◌, ◌%◌, ◌≤◌, Bool, [], Option, Some, None, length, replicate, List}
 use Rattle.std.specs.Bool.{OnTrue}
 use Rattle.std.specs.List.{All}
 use Rattle.fc_base.specs.Count.{HasRisen}
 use Rattle.fc_base.specs.Grain.{grain_blocks}
+use Rattle.fc_base.specs.declared.disk.DiskKind.TheVariants.{Flat}
 use Rattle.fc_base.specs.declared.request.Effect.{Effect}
 use Rattle.fc_base.specs.declared.request.Place.{Place}
 use Rattle.fc_base.specs.declared.request.Place.TheVariants.{Lane}
@@ -15,7 +16,7 @@ use Rattle.fc_base.specs.declared.request.Torn.{Torn}
 use Rattle.fc_base.specs.declared.size.GrainSize.{GrainSize}
 use Rattle.fc_mdisk.specs.Disks.{calls_of}
 use Rattle.fc_entry.specs.declared.entry.Entry.{Entry}
-use Rattle.fc_entry.specs.Picture.{Content, Bytes, Lost, grain_of_block}
+use Rattle.fc_entry.specs.Picture.{Content, Bytes, Lost, grain_of_block, zeros}
 use Rattle.fc_entry.specs.Right.{IsRight}
 use Rattle.fc_entry.specs.Told.{Told, told_step}
 use Rattle.fc_single.specs.Single.{SingleState, Keeps, StandsFor, kinds_of, faults_in, IsQuiet}
@@ -53,6 +54,16 @@ pub record IsTurn (request : Request) (old new : SingleState) (told : Told) (ent
   pub right : IsRight old.grain told entry
   pub stands : StandsFor new (told_step old.grain told entry)
   pub keeps : Keeps old new
+
+-- The volume was made: so many grains of zeros. No disk was called.
+pub record IsMade (old : SingleState) (name : List ℕ) (grains : ℕ) (new : SingleState) : Type 0 where
+  pub grain : new.grain ≡ old.grain
+  pub volume : new.volume ≡ Some record { id = record { 0 = 0 }; name = name; grains = grains; kind = Flat }
+  pub held : new.held ≡ replicate grains (zeros old.grain)
+  pub kinds : kinds_of new.disks ≡ kinds_of old.disks
+  pub calls : calls_of new.disks ≡ calls_of old.disks
+  pub faults : faults_in new.disks ≡ faults_in old.disks
+  pub quiet : All IsQuiet old.disks → All IsQuiet new.disks
 
 -- A grain that isn't lost has so many bytes.
 abbrev pub HasLength : Content → ℕ → Type 0

@@ -1,28 +1,30 @@
 //! Lines: what they ask, entry by entry.
 
-ghost use Rattle.std.specs.Prelude.{◌≡◌, ◌+◌, ◌*◌, ◌<◌, ◌≤◌, ◌∷◌, ◌++◌, [], length, map, Some, OnOk, OnErr, IfErr, option_to_list, if◌then◌else◌};
+ghost use Rattle.std.specs.Prelude.{◌≡◌, ◌+◌, ◌*◌, ◌<◌, ◌≤◌, ◌∷◌, ◌++◌, [], length, map, Some, OnOk, OnErr, IfErr};
 ghost use Rattle.fc_base.specs.Grain.{grain_blocks};
-ghost use Rattle.fc_entry.specs.Asked.{asked, touched};
-ghost use Rattle.fc_entry.specs.Refused.{access_refusal, blocks_refusal, volume_by};
+ghost use Rattle.fc_base.specs.declared.command.Command.TheVariants.{Mkvdisk};
+ghost use Rattle.fc_base.specs.declared.request.Request.TheVariants.{Command as Asked};
+ghost use Rattle.fc_entry.specs.Asked.{asked, command_asked, touched};
 ghost use Rattle.fc_entry.specs.Run.{by_main};
-ghost use Rattle.fc_entry.specs.Told.{Told};
-ghost use Rattle.fc_single.specs.Answered.{Answered, StillStands};
+ghost use Rattle.fc_single.specs.Answered.{Answered, StillStands, TakesCommand, TakesLine};
 ghost use Rattle.fc_single.specs.Asking.{command_of, part_of, request_of};
 ghost use Rattle.fc_single.specs.Single.{Keeps, StandsFor, told_of};
-ghost use Rattle.fc_single.specs.Step.{IsInGrain, IsTurn};
+ghost use Rattle.fc_single.specs.Step.{IsInGrain, IsTurn, entry_apart};
 
 use crate::single::Single;
 use crate::stop::Stop;
-use fc_base::command::Command;
-use fc_base::fault::{Kind, Refusal, ValueOf};
+use fc_base::command::{Command, Line, Unit};
+use fc_base::fault::{Kind, Refusal, WordFault};
 use fc_base::limits::{MAX_BLOCKS, MAX_ENTRIES};
-use fc_base::name::Ref;
+use fc_base::name::{Name, Ref};
+use fc_base::outcome::NoMemory;
 use fc_base::request::{Place, Reply, Request};
-use fc_base::size::GrainSize;
-use fc_base::volume::Volume;
 use fc_entry::entry::Entry;
 use fc_entry::history::History;
 use fc_mdisk::mdisk::Mdisk;
+
+/// Bytes in an mb.
+const MIB: u32 = 1_048_576;
 
 /// What an access does with its blocks.
 #[derive(Clone, Copy, Debug, PartialEq, Eq)]
@@ -61,7 +63,7 @@ fn log(history: &mut History, entry: Entry) -> Result<(), Stop>
 }
 
 impl<D: Mdisk> Single<D> {
-    ghost use Rattle.fc_single.specs.Asking.{part_of, request_of};
+    ghost use Rattle.fc_single.specs.Asking.{command_of, part_of, request_of};
 
     /// Reads or writes blocks of a grain of the volume.
     fn access(&mut self, access: Access, grain: u32, block: u64, count: u32, history: &History) -> Entry
@@ -128,5 +130,125 @@ impl<D: Mdisk> Single<D> {
             }
         }
         Ok(())
+    }
+
+    /// Logs an entry that speaks of no disk and changes nothing.
+    fn log_apart(&self, history: &mut History, place: Place, request: Request, reply: Reply) -> Result<(), Stop>
+        requires turn {
+          IsTurn request self.now self.now (told_of self.now history.old)
+            (entry_apart (length history.old.entries) place request reply [])
+        }
+        requires stands { StandsFor self.now (told_of self.now history.old) }
+        requires room { length history.old.entries ≤ MAX_ENTRIES }
+        ensures answered {
+          Answered result self.now.grain (told_of self.now history.old) (by_main (request ∷ [])) MAX_ENTRIES history.old history.new
+        }
+        ensures stands { StillStands result MAX_ENTRIES self.now history.new }
+    {
+        if history.len() >= MAX_ENTRIES {
+            return Err(Stop::LogFull);
+        }
+        let entry = self.entry_apart(history.len(), place, request, reply, self.no_effects());
+        log(history, entry)
+    }
+
+    /// Does an access, or logs why it is refused.
+    fn run_access(&mut self, access: Access, volume: Ref, block: u32, count: u32, history: &mut History) -> Result<(), Stop>
+        requires stands { StandsFor self.old (told_of self.old history.old) }
+        requires room { length history.old.entries ≤ MAX_ENTRIES }
+        ensures answered {
+          let told = told_of self.old history.old in
+          Answered result self.old.grain told
+            (by_main (command_asked self.old.grain told (command_of access volume block count))) MAX_ENTRIES history.old history.new
+        }
+        ensures stands { StillStands result MAX_ENTRIES self.new history.new }
+        ensures keeps { Keeps self.old self.new }
+    {
+        match self.refusal(&volume, block, count) {
+            None => self.run_parts(access, block, count, history),
+            Some(refusal) => {
+                let request = Request::Command(access.command(volume, block, count));
+                self.log_apart(history, Place::Control, request, Reply::Refused(refusal))
+            }
+        }
+    }
+
+    /// Makes the volume, of 1 to 4 MiB.
+    fn run_mkvdisk(&mut self, name: Name, size: u32, unit: Option<Unit>, thin: bool, history: &mut History) -> Result<(), Stop>
+        requires taken { TakesCommand self.old (Mkvdisk (Some name) size unit thin) }
+        requires stands { StandsFor self.old (told_of self.old history.old) }
+        requires room { length history.old.entries ≤ MAX_ENTRIES }
+        ensures answered {
+          Answered result self.old.grain (told_of self.old history.old)
+            (by_main (Asked (Mkvdisk (Some name) size unit thin) ∷ [])) MAX_ENTRIES history.old history.new
+        }
+        ensures stands { StillStands result MAX_ENTRIES self.new history.new }
+        ensures keeps { Keeps self.old self.new }
+    {
+        if history.len() >= MAX_ENTRIES {
+            return Err(Stop::LogFull);
+        }
+        let made = self.make(&name, size * MIB / self.grain().bytes());
+        let request = Request::Command(Command::Mkvdisk { name: Some(name), size, unit, thin });
+        match made {
+            Ok(effects) => {
+                let reply = Reply::Made { kind: Kind::Vdisk, id: 0 };
+                let entry = self.entry_apart(history.len(), Place::Every, request, reply, effects);
+                log(history, entry)
+            }
+            Err(NoMemory) => self.log_apart(history, Place::Every, request, Reply::NoMemory),
+        }
+    }
+
+    /// Answers a command.
+    fn run_command(&mut self, command: Command, history: &mut History) -> Result<(), Stop>
+        requires taken { TakesCommand self.old command }
+        requires stands { StandsFor self.old (told_of self.old history.old) }
+        requires room { length history.old.entries ≤ MAX_ENTRIES }
+        ensures answered {
+          let told = told_of self.old history.old in
+          Answered result self.old.grain told (by_main (command_asked self.old.grain told command)) MAX_ENTRIES history.old history.new
+        }
+        ensures stands { StillStands result MAX_ENTRIES self.new history.new }
+        ensures keeps { Keeps self.old self.new }
+    {
+        match command {
+            Command::Read { volume, block, count } => self.run_access(Access::Read, volume, block, count, history),
+            Command::Write { volume, block, count, byte } => self.run_access(Access::Write(byte), volume, block, count, history),
+            Command::Mkvdisk { name, size, unit, thin } => match name {
+                Some(name) => self.run_mkvdisk(name, size, unit, thin, history),
+                None => unreachable!(),
+            },
+            _ => unreachable!(),
+        }
+    }
+
+    /// Answers a line: logs an entry for each thing that it asks.
+    pub fn run_line(&mut self, line: Line, history: &mut History) -> Result<(), Stop>
+        requires taken { TakesLine self.old line }
+        requires stands { StandsFor self.old (told_of self.old history.old) }
+        requires room { length history.old.entries ≤ MAX_ENTRIES }
+        ensures answered { let told = told_of self.old history.old in
+            Answered result self.old.grain told (by_main (asked self.old.grain told (Ok line))) MAX_ENTRIES history.old history.new }
+        ensures stands { StillStands result MAX_ENTRIES self.new history.new }
+        ensures keeps { Keeps self.old self.new }
+    {
+        match line {
+            Line::Blank => Ok(()),
+            Line::Command(command) => self.run_command(command, history),
+            Line::Together | Line::Actor { .. } | Line::End => self.push_unread(WordFault::UnknownCommand, history),
+        }
+    }
+
+    /// Logs a line with a fault in its words.
+    pub fn push_unread(&mut self, fault: WordFault, history: &mut History) -> Result<(), Stop>
+        requires stands { StandsFor self.old (told_of self.old history.old) }
+        requires room { length history.old.entries ≤ MAX_ENTRIES }
+        ensures answered { let told = told_of self.old history.old in
+            Answered result self.old.grain told (by_main (asked self.old.grain told (Err fault))) MAX_ENTRIES history.old history.new }
+        ensures stands { StillStands result MAX_ENTRIES self.new history.new }
+        ensures keeps { Keeps self.old self.new }
+    {
+        self.log_apart(history, Place::Control, Request::Unread(fault), Reply::Refused(Refusal::Words(fault)))
     }
 }

@@ -1,8 +1,9 @@
 //! The store of one volume, under one owner.
 
-ghost use Rattle.std.specs.Prelude.{◌≡◌, ◌+◌, ◌<◌, ◌≤◌, ◌^◌, ◌∷◌, ◌++◌, [], length, map, take, drop, replicate, slice_set, is_some, is_err, IfOk, OnOk, IfSome, None, false, option_to_list, vec_len};
+ghost use Rattle.std.specs.Prelude.{◌≡◌, ◌+◌, ◌<◌, ◌≤◌, ◌^◌, ◌∷◌, ◌++◌, [], length, map, take, drop, replicate, slice_set, is_some, is_err, IfOk, OnOk, OnErr, IfSome, None, false, true, option_to_list, vec_len};
 ghost use Rattle.std.specs.List.{All, list_any};
 ghost use Rattle.fc_base.specs.declared.disk.DiskKind.TheVariants.{Flat};
+ghost use Rattle.fc_base.specs.declared.request.Effect.TheVariants.{Make};
 ghost use Rattle.fc_mdisk.specs.Disk.{IsFresh, is_flat};
 ghost use Rattle.fc_base.specs.Grain.{grain_bytes};
 ghost use Rattle.fc_base.specs.Runs.{expanded, IsCanonical};
@@ -11,7 +12,7 @@ ghost use Rattle.fc_entry.specs.Picture.{Bytes, content_at};
 ghost use Rattle.fc_entry.specs.Refused.{access_refusal};
 ghost use Rattle.fc_entry.specs.Right.{is_lost};
 ghost use Rattle.fc_single.specs.Shape.{content};
-ghost use Rattle.fc_single.specs.Step.{Called, HasLength, lane_entry};
+ghost use Rattle.fc_single.specs.Step.{Called, HasLength, IsMade, entry_apart, lane_entry};
 ghost use Rattle.fc_entry.specs.Asked.{asked};
 ghost use Rattle.fc_entry.specs.Run.{by_main};
 ghost use Rattle.fc_entry.specs.Told.{Told, opened};
@@ -25,9 +26,10 @@ use fc_base::disk::{DiskError, DiskKind};
 use fc_base::fault::{Refusal, WordFault};
 use fc_base::limits::MAX_ENTRIES;
 use fc_base::list::List;
-use fc_base::name::Ref;
+use fc_base::ids::VolId;
+use fc_base::name::{Name, Ref};
 use fc_base::outcome::{Failed, NoMemory};
-use fc_base::request::{Place, Reply, Request, Torn};
+use fc_base::request::{Effect, Place, Reply, Request, Torn};
 use fc_base::runs::Runs;
 use fc_base::size::GrainSize;
 use fc_base::volume::Volume;
@@ -108,31 +110,6 @@ impl<D: Mdisk> Single<D> {
     {
         self.volume.is_none() && first_flat(&self.disks).is_some()
     }
-
-    /// Answers a line: logs an entry for each thing that it asks.
-    pub fn run_line(&mut self, line: Line, history: &mut History) -> Result<(), Stop>
-        requires taken { TakesLine self.old line }
-        requires stands { StandsFor self.old (told_of self.old history.old) }
-        requires room { length history.old.entries ≤ MAX_ENTRIES }
-        ensures answered { let told = told_of self.old history.old in
-            Answered result self.old.grain told (by_main (asked self.old.grain told (Ok line))) MAX_ENTRIES history.old history.new }
-        ensures stands { StillStands result MAX_ENTRIES self.new history.new }
-        ensures keeps { Keeps self.old self.new }
-    {
-        Err(Stop::NoMemory)
-    }
-
-    /// Logs a line with a fault in its words.
-    pub fn push_unread(&mut self, fault: WordFault, history: &mut History) -> Result<(), Stop>
-        requires stands { StandsFor self.old (told_of self.old history.old) }
-        requires room { length history.old.entries ≤ MAX_ENTRIES }
-        ensures answered { let told = told_of self.old history.old in
-            Answered result self.old.grain told (by_main (asked self.old.grain told (Err fault))) MAX_ENTRIES history.old history.new }
-        ensures stands { StillStands result MAX_ENTRIES self.new history.new }
-        ensures keeps { Keeps self.old self.new }
-    {
-        Err(Stop::NoMemory)
-    }
 }
 
 impl<D: Mdisk> Single<D> {
@@ -167,6 +144,72 @@ impl<D: Mdisk> Single<D> {
             faults_after: self.faults,
             calls,
         }
+    }
+
+    /// An entry that speaks of no disk.
+    pub(crate) fn entry_apart(&self, number: usize, place: Place, request: Request, reply: Reply, effects: List<Effect>) -> Entry
+        ensures { result ≡ entry_apart number place request reply effects }
+    {
+        Entry {
+            number: number as u64,
+            actor: 0,
+            place,
+            request,
+            reply,
+            moves: List::new(self.alloc),
+            effects,
+            torn: None,
+            faults_before: 0,
+            faults_after: 0,
+            calls: 0,
+        }
+    }
+
+    /// No effects.
+    pub(crate) fn no_effects(&self) -> List<Effect>
+        ensures { result ≡ [] }
+    {
+        List::new(self.alloc)
+    }
+
+    /// Makes the volume. Refused, all is as it was.
+    pub(crate) fn make(&mut self, name: &Name, grains: u32) -> Result<List<Effect>, NoMemory>
+        requires { can_make self.old ≡ true }
+        ensures effects { IfOk result (λ effects. effects ≡ Make record { 0 = 0 } grains ∷ []) }
+        ensures made { OnOk result (IsMade self.old name.now grains self.new) }
+        ensures err { OnErr result (self.new ≡ self.old) }
+    {
+        let bytes = self.grain.bytes();
+        let place = match first_flat(&self.disks) {
+            Some(place) => place,
+            None => unreachable!(),
+        };
+        let name = match name.copy(self.alloc) {
+            Ok(name) => name,
+            Err(NoMemory) => return Err(NoMemory),
+        };
+        let lost = match vec![in self.alloc; false; grains as usize] {
+            Ok(lost) => lost,
+            Err(_) => return Err(NoMemory),
+        };
+        let mut effects = List::new(self.alloc);
+        match effects.push(Effect::Make { volume: VolId(0), grains }) {
+            Ok(()) => {}
+            Err(NoMemory) => return Err(NoMemory),
+        }
+        match self.disks.format(place, grains, bytes) {
+            Ok(()) => {}
+            Err(NoMemory) => return Err(NoMemory),
+        }
+        self.place = place;
+        self.lost = lost;
+        self.volume = Some(Volume {
+            id: VolId(0),
+            name,
+            grains,
+            kind: DiskKind::Flat,
+        });
+        Ok(effects)
     }
 
     /// Why an access of these blocks is refused, if it is.
