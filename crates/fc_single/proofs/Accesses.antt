@@ -43,7 +43,7 @@ picture-written : (volume : Option Volume) (grain : GrainSize) (held : List Cont
     → picture ≡ picture_of grain held volume
     → after_request grain picture (write_of part.0 part.1 part.2) Done
     ≡ picture_of grain (slice_set held (grain_of_block grain part.0)
-        (written (byte_in_grain grain part.0) (block_bytes * part.1) part.2 (content_at held (grain_of_block grain part.0)))) volume
+    (written (byte_in_grain grain part.0) (block_bytes * part.1) part.2 (content_at held (grain_of_block grain part.0)))) volume
 picture-written None grain held part picture same =
     ap (λ (p : Picture). after_request grain p (write_of part.0 part.1 part.2) Done) same
 picture-written (Some v) grain held part picture same =
@@ -65,7 +65,6 @@ torn_last false torn = refl
 
 module _ (old new : SingleState) (told : Told) (block count g n : ℕ) (stands : StandsFor old told) (inside : IsInGrain old.grain block count g)
     (there : g < length old.held) (number : n ≡ told.entries) where
-
   -- what is told at the grain is what the store holds there
   pub told_at : content_of old.grain told record { 0 = 0 } block ≡ content_at old.held g
   told_at =
@@ -75,7 +74,7 @@ module _ (old new : SingleState) (told : Told) (block count g n : ℕ) (stands :
   -- an entry of a read that left what the volume holds
   pub read_answers : (k : ℕ) (reply : Reply) (failed : Bool) → Called old new k failed → k ≤ 2 → new.held ≡ old.held
       → ReadAnswers old.grain told record { volume = record { 0 = 0 }; block = block; count = count }
-          (lane_entry n (read_of block count) reply None (faults_in old.disks) (faults_in new.disks) k) reply
+      (lane_entry n (read_of block count) reply None (faults_in old.disks) (faults_in new.disks) k) reply
       → IsTurn (read_of block count) old new told (lane_entry n (read_of block count) reply None (faults_in old.disks) (faults_in new.disks) k)
   read_answers k reply failed called few same answers = record {
     by_main = refl;
@@ -84,16 +83,16 @@ module _ (old new : SingleState) (told : Told) (block count g n : ℕ) (stands :
     right = (number, (answers, in_lane old new told (grain_of_block old.grain block) n k (read_of block count) reply None failed stands called, refl));
     stands =
         still_stands old new told n k (read_of block count) reply None failed stands called few refl
-          (stands.picture ∙ same_picture old new old.held k failed called same)
-          (ap length same);
+        (stands.picture ∙ same_picture old new old.held k failed called same)
+        (ap length same);
   }
 
   -- an entry of a write, which left this in the grain
   pub write_answers : (byte k : ℕ) (reply : Reply) (torn : Option Torn) (failed : Bool) → Called old new k failed → k ≤ 2
       → WriteAnswers old.grain told record { volume = record { 0 = 0 }; block = block; count = count; byte = byte }
-          (lane_entry n (write_of block count byte) reply torn (faults_in old.disks) (faults_in new.disks) k) reply
+      (lane_entry n (write_of block count byte) reply torn (faults_in old.disks) (faults_in new.disks) k) reply
       → after_loss (after_request old.grain told.picture (write_of block count byte) reply) torn
-        ≡ picture_of old.grain new.held old.volume
+      ≡ picture_of old.grain new.held old.volume
       → length new.held ≡ length old.held
       → IsTurn (write_of block count byte) old new told (lane_entry n (write_of block count byte) reply torn (faults_in old.disks) (faults_in new.disks) k)
   write_answers byte k reply torn failed called few answers picture size = record {
@@ -103,8 +102,8 @@ module _ (old new : SingleState) (told : Told) (block count g n : ℕ) (stands :
     right = (number, (answers, in_lane old new told (grain_of_block old.grain block) n k (write_of block count byte) reply torn failed stands called));
     stands =
         still_stands old new told n k (write_of block count byte) reply torn failed stands called few refl
-          (picture ∙ same_picture old new new.held k failed called refl)
-          size;
+        (picture ∙ same_picture old new new.held k failed called refl)
+        size;
   }
 
   -- a read of a lost grain, one that failed, one that found no memory, and one that answers the bytes
@@ -135,29 +134,31 @@ module _ (old new : SingleState) (told : Told) (block count g n : ℕ) (stands :
       → is_lost (content_at old.held g) ≡ true
       → IsTurn (write_of block count byte) old new told (lane_entry n (write_of block count byte) MediumError None (faults_in old.disks) (faults_in new.disks) 0)
   write-lost byte part called same lost =
-      write_answers byte 0 MediumError None false called (omega arith)
-        ( ap (λ (c : Content). is_lost c && not (count == grain_blocks old.grain)) told_at
-          ∙ ap (λ (l : Bool). l && not (count == grain_blocks old.grain)) lost
-          ∙ ap not part
-        , refl
-        , refl )
-        (stands.picture ∙ ap (λ (h : List Content). picture_of old.grain h old.volume) (sym same))
-        (ap length same)
+      write_answers byte 0 MediumError None false called (omega arith) (
+        ap (λ (c : Content). is_lost c && not (count == grain_blocks old.grain)) told_at
+            ∙ ap (λ (l : Bool). l && not (count == grain_blocks old.grain)) lost
+            ∙ ap not part,
+        refl,
+        refl,
+      )
+      (stands.picture ∙ ap (λ (h : List Content). picture_of old.grain h old.volume) (sym same))
+      (ap length same)
 
   pub write-unread : (byte : ℕ) → (count == grain_blocks old.grain) ≡ false → Called old new 1 true → new.held ≡ old.held
       → is_lost (content_at old.held g) ≡ false
       → IsTurn (write_of block count byte) old new told (lane_entry n (write_of block count byte) DiskFault None (faults_in old.disks) (faults_in new.disks) 1)
   write-unread byte part called same lost =
       let calls_of_part : calls_of_write old.grain record { volume = record { 0 = 0 }; block = block; count = count; byte = byte } ≡ 2 = ap (λ (w : Bool). cond w 1 2) part in
-      write_answers byte 1 DiskFault None true called (omega arith)
-        ( ap (λ (c : Content). is_lost c && not (count == grain_blocks old.grain)) told_at
-          ∙ ap (λ (l : Bool). l && not (count == grain_blocks old.grain)) lost
-        , omega arith
-        , omega (arith, calls_of_part)
-        , ap (λ (w : Bool). cond (1 == cond w 1 2) (Some (torn_at (grain_of_block old.grain block))) None) (sym part)
-        , called.risen )
-        (stands.picture ∙ ap (λ (h : List Content). picture_of old.grain h old.volume) (sym same))
-        (ap length same)
+      write_answers byte 1 DiskFault None true called (omega arith) (
+        ap (λ (c : Content). is_lost c && not (count == grain_blocks old.grain)) told_at
+            ∙ ap (λ (l : Bool). l && not (count == grain_blocks old.grain)) lost,
+        omega arith,
+        omega (arith, calls_of_part),
+        ap (λ (w : Bool). cond (1 == cond w 1 2) (Some (torn_at (grain_of_block old.grain block))) None) (sym part),
+        called.risen,
+      )
+      (stands.picture ∙ ap (λ (h : List Content). picture_of old.grain h old.volume) (sym same))
+      (ap length same)
 
   -- a write that was done, and one that was torn
   pub write-done : (byte : ℕ) (whole : Bool) (buffer : List ℕ) → (count == grain_blocks old.grain) ≡ whole
@@ -167,18 +168,19 @@ module _ (old new : SingleState) (told : Told) (block count g n : ℕ) (stands :
       → new.held ≡ slice_set old.held g (Held buffer)
       → IsTurn (write_of block count byte) old new told (lane_entry n (write_of block count byte) Done None (faults_in old.disks) (faults_in new.disks) (cond whole 1 2))
   write-done byte whole buffer is called can bytes held =
-      write_answers byte (cond whole 1 2) Done None false called (calls_fit whole).1
-        ( ap (λ (c : Content). is_lost c && not (count == grain_blocks old.grain)) told_at
-          ∙ ap (λ (w : Bool). is_lost (content_at old.held g) && not w) is
-          ∙ can
-        , ap (λ (w : Bool). cond w 1 2) (sym is)
-        , refl )
-        ( picture-written old.volume old.grain old.held (block, count, byte) told.picture stands.picture
-          ∙ ap (λ (x : ℕ). picture_of old.grain (slice_set old.held x
-              (written (byte_in_grain old.grain block) (block_bytes * count) byte (content_at old.held x))) old.volume) inside.of_grain
-          ∙ ap (λ (c : Content). picture_of old.grain (slice_set old.held g c) old.volume) bytes
-          ∙ ap (λ (h : List Content). picture_of old.grain h old.volume) (sym held) )
-        (ap length held ∙ length-set old.held g (Held buffer))
+      write_answers byte (cond whole 1 2) Done None false called (calls_fit whole).1 (
+        ap (λ (c : Content). is_lost c && not (count == grain_blocks old.grain)) told_at
+            ∙ ap (λ (w : Bool). is_lost (content_at old.held g) && not w) is
+            ∙ can,
+        ap (λ (w : Bool). cond w 1 2) (sym is),
+        refl,
+      )
+      (picture-written old.volume old.grain old.held (block, count, byte) told.picture stands.picture
+      ∙ ap (λ (x : ℕ). picture_of old.grain (slice_set old.held x
+      (written (byte_in_grain old.grain block) (block_bytes * count) byte (content_at old.held x))) old.volume) inside.of_grain
+      ∙ ap (λ (c : Content). picture_of old.grain (slice_set old.held g c) old.volume) bytes
+      ∙ ap (λ (h : List Content). picture_of old.grain h old.volume) (sym held))
+      (ap length held ∙ length-set old.held g (Held buffer))
 
   pub write-torn : (byte : ℕ) (whole : Bool) → (count == grain_blocks old.grain) ≡ whole
       → Called old new (cond whole 1 2) true
@@ -187,16 +189,17 @@ module _ (old new : SingleState) (told : Told) (block count g n : ℕ) (stands :
       → IsTurn (write_of block count byte) old new told (lane_entry n (write_of block count byte) DiskFault (Some (torn_at g)) (faults_in old.disks) (faults_in new.disks) (cond whole 1 2))
   write-torn byte whole is called can held =
       let calls_of_all : calls_of_write old.grain record { volume = record { 0 = 0 }; block = block; count = count; byte = byte } ≡ cond whole 1 2 = ap (λ (w : Bool). cond w 1 2) is in
-      write_answers byte (cond whole 1 2) DiskFault (Some (torn_at g)) true called (calls_fit whole).1
-        ( ap (λ (c : Content). is_lost c && not (count == grain_blocks old.grain)) told_at
-          ∙ ap (λ (w : Bool). is_lost (content_at old.held g) && not w) is
-          ∙ can
-        , (calls_fit whole).0
-        , omega (arith, calls_of_all)
-        , torn_last whole (torn_at g)
-          ∙ ap (λ (w : Bool). cond (cond whole 1 2 == cond w 1 2) (Some (torn_at g)) None) (sym is)
-          ∙ ap (λ (at : ℕ). cond (cond whole 1 2 == calls_of_write old.grain record { volume = record { 0 = 0 }; block = block; count = count; byte = byte }) (Some (torn_at at)) None) (sym inside.of_grain)
-        , called.risen )
-        ( picture-torn old.volume old.grain old.held g told.picture stands.picture
-          ∙ ap (λ (h : List Content). picture_of old.grain h old.volume) (sym held) )
-        (ap length held ∙ length-set old.held g Lost)
+      write_answers byte (cond whole 1 2) DiskFault (Some (torn_at g)) true called (calls_fit whole).1 (
+        ap (λ (c : Content). is_lost c && not (count == grain_blocks old.grain)) told_at
+            ∙ ap (λ (w : Bool). is_lost (content_at old.held g) && not w) is
+            ∙ can,
+        (calls_fit whole).0,
+        omega (arith, calls_of_all),
+        torn_last whole (torn_at g)
+            ∙ ap (λ (w : Bool). cond (cond whole 1 2 == cond w 1 2) (Some (torn_at g)) None) (sym is)
+            ∙ ap (λ (at : ℕ). cond (cond whole 1 2 == calls_of_write old.grain record { volume = record { 0 = 0 }; block = block; count = count; byte = byte }) (Some (torn_at at)) None) (sym inside.of_grain),
+        called.risen,
+      )
+      (picture-torn old.volume old.grain old.held g told.picture stands.picture
+      ∙ ap (λ (h : List Content). picture_of old.grain h old.volume) (sym held))
+      (ap length held ∙ length-set old.held g Lost)

@@ -72,7 +72,6 @@ pub record IsTaken (grain : GrainSize) (told : Told) (access : Access) (volume :
 -- an access by the volume that its reference names
 module _ (grain : GrainSize) (told : Told) (access : Access) (volume : Ref) (block count : ℕ) (row : Option Volume)
     (first : IfSome row IsFirst) (v : Volume) (named : row ≡ Some v) where
-
   is_first : IsFirst v
   is_first = let P : Option Volume → Type 0 = λ o. IfSome o IsFirst in subst P named first
 

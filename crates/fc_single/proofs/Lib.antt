@@ -8,3 +8,5 @@ pub mod Writes
 pub mod Logging
 pub mod Places
 pub mod Asked
+pub mod Apart
+pub mod Making

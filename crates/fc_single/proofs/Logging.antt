@@ -56,22 +56,26 @@ pub turn_logged : (result : Result (Unit {0}) Stop) (limit : ℕ) (request : Req
     → Answered result old.grain (told_of old before) (by_main (request ∷ [])) limit before after × StillStands result limit new after
 turn_logged (Ok done) limit request old new before after entry turn room ok err stop =
     let P : Told → Type 0 = λ t. StandsFor new t in
-    let pushed : after.entries ≡ before.entries ++ entry ∷ [] = ap (λ (h : HistoryState). h.entries) ok in
-    ( logged request old new before after entry turn ok
-    , ( subst P (sym (told_of-push old new before after entry turn.keeps pushed)) turn.stands
-      , omega (arith, ap (length {A = Entry}) pushed, length-append before.entries (entry ∷ [])) ) )
+    let pushed : after.entries ≡ before.entries ++ entry ∷ [] = ap (λ (h : HistoryState). h.entries) ok in (
+      logged request old new before after entry turn ok,
+      (
+        subst P (sym (told_of-push old new before after entry turn.keeps pushed)) turn.stands,
+        omega (arith, ap (length {A = Entry}) pushed, length-append before.entries (entry ∷ [])),
+      ),
+    )
 turn_logged (Err LogFull) limit request old new before after entry turn room ok err stop =
     let never : LogFull ≡ NoMemory = stop in cc
-turn_logged (Err NoMemory) limit request old new before after entry turn room ok err stop =
-    ( record {
-        more = [];
-        left = by_main (request ∷ []);
-        entries = ap (λ (h : HistoryState). h.entries) err ∙ sym (append-nil before.entries);
-        actors = ap (λ (h : HistoryState). h.actors) err;
-        some = refl;
-        legal = tt;
-      }
-    , tt )
+turn_logged (Err NoMemory) limit request old new before after entry turn room ok err stop = (
+  record {
+    more = [];
+    left = by_main (request ∷ []);
+    entries = ap (λ (h : HistoryState). h.entries) err ∙ sym (append-nil before.entries);
+    actors = ap (λ (h : HistoryState). h.actors) err;
+    some = refl;
+    legal = tt;
+  },
+  tt,
+)
 
 -- a history that is full
 pub is_full : (grain : GrainSize) (told : Told) (request : Request) (limit : ℕ) (history : HistoryState) → length history.entries ≤ limit
@@ -97,13 +101,12 @@ told_of-more grain start a b more entries =
 -- entries that answer some requests, and entries behind them that answer more
 module _ (grain : GrainSize) (start : Told) (xs : List (ℕ × Request)) (a b c : HistoryState)
     (first : AnswersAll grain (told_after grain start a.entries) xs a b) where
-
   legal-more : (more : List Entry) → IsLegal grain (told_after grain start b.entries) more
       → IsLegal grain (told_after grain start a.entries) (first.more ++ more)
   legal-more more legal =
       let P : Told → Type 0 = λ t. IsLegal grain t more in
       IsLegal-append grain (told_after grain start a.entries) first.more more first.legal
-        (subst P (told_of-more grain start a b first.more first.entries) legal)
+      (subst P (told_of-more grain start a b first.more first.entries) legal)
 
   entries-more : (more : List Entry) → c.entries ≡ b.entries ++ more → c.entries ≡ a.entries ++ (first.more ++ more)
   entries-more more entries =

@@ -63,7 +63,6 @@ by_main-split request before behind g =
 
 -- the loop over the grains of an access: one grain more, and a grain at which it stops
 module _ (old mid : SingleState) (access : Access) (block count limit g : ℕ) (a b c : HistoryState) (keeps : Keeps old mid) where
-
   -- the request at a grain, in the terms of the start
   pub at_start : (result : Result (Unit {0}) Stop)
       → Answered result mid.grain (told_of mid b) (by_main (part_of mid.grain access block count g ∷ [])) limit b c
@@ -81,8 +80,8 @@ module _ (old mid : SingleState) (access : Access) (block count limit g : ℕ) (
       let request : ℕ → Request = part_of old.grain access block count in
       let P : List (ℕ × Request) → Type 0 = λ rs. AnswersAll old.grain (told_of old a) rs a c in
       subst P (sym (ap (λ (ns : List ℕ). by_main (map request ns)) (numbers-more first g above) ∙ by_main-split request (numbers first (g - first)) [] g))
-        (then_all old.grain (opening old) (by_main (map request (numbers first (g - first)))) a b c before
-          (by_main (request g ∷ [])) (at_start (Ok tt) answered))
+      (then_all old.grain (opening old) (by_main (map request (numbers first (g - first)))) a b c before
+      (by_main (request g ∷ [])) (at_start (Ok tt) answered))
 
   pub stops_at_grain : (first total : ℕ) (stop : Stop) → first ≤ g → g < first + total
       → AnswersAll old.grain (told_of old a) (by_main (map (part_of old.grain access block count) (numbers first (g - first)))) a b
@@ -92,7 +91,7 @@ module _ (old mid : SingleState) (access : Access) (block count limit g : ℕ) (
       let request : ℕ → Request = part_of old.grain access block count in
       let P : List (ℕ × Request) → Type 0 = λ rs. Answered {A = Unit {0}} (Err stop) old.grain (told_of old a) rs limit a c in
       subst P (sym (ap (λ (ns : List ℕ). by_main (map request ns)) (numbers-at first total g above below)
-          ∙ by_main-split request (numbers first (g - first)) (numbers (g + 1) (first + total - g - 1)) g))
-        (then_stop old.grain (opening old) (by_main (map request (numbers first (g - first)))) a b c before
-          (Unit {0}) stop (by_main (request g ∷ [])) (by_main (map request (numbers (g + 1) (first + total - g - 1)))) limit
-          (at_start (Err stop) answered))
+      ∙ by_main-split request (numbers first (g - first)) (numbers (g + 1) (first + total - g - 1)) g))
+      (then_stop old.grain (opening old) (by_main (map request (numbers first (g - first)))) a b c before
+      (Unit {0}) stop (by_main (request g ∷ [])) (by_main (map request (numbers (g + 1) (first + total - g - 1)))) limit
+      (at_start (Err stop) answered))

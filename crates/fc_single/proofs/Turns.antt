@@ -64,7 +64,6 @@ rises true old new all all' (inr last) kept part sums = inr (omega arith)
 
 module _ (grain : GrainSize) (volume : Option Volume) (place : ℕ) (disks disks' : List DiskState) (failed : Bool)
     (there : place < length disks) (only : ChangesOnly disks place disks') (call : AfterCall (disk_at disks place) failed (disk_at disks' place)) where
-
   faults_add : faults_of disks' + (disk_at disks place).faults ≡ faults_of disks + (disk_at disks' place).faults
   faults_add = counts_set disks place disks' only (λ (d : DiskState). d.faults) there
 
@@ -84,7 +83,7 @@ module _ (grain : GrainSize) (volume : Option Volume) (place : ℕ) (disks disks
 
   pub called : (held held' : List Content) (buffer buffer' : List ℕ) → calls_of disks + 1 < 2 ^ 64
       → Called record { grain = grain; disks = disks; volume = volume; held = held; buffer = buffer }
-               record { grain = grain; disks = disks'; volume = volume; held = held'; buffer = buffer' } 1 failed
+      record { grain = grain; disks = disks'; volume = volume; held = held'; buffer = buffer' } 1 failed
   called held held' buffer buffer' few = record {
     grain = refl;
     volume = refl;
@@ -110,7 +109,6 @@ grain-written (Err NoMemory) kind bytes old new may flat is =
 -- a grain that is held, in a store that is sound
 module _ (grain : GrainSize) (disks : List DiskState) (volume : Option Volume) (place : ℕ) (lost : List Bool) (buffer : List ℕ) (faults g : ℕ)
     (sound : IsSound grain disks volume place lost buffer faults) (there : g < length (contents lost (disk_at disks place).grains)) where
-
   pub over : IsOver grain disks place lost
   over = is_over volume grain disks place lost g sound.over there
 
@@ -187,7 +185,6 @@ module _ (grain : GrainSize) (disks : List DiskState) (volume : Option Volume) (
   -- after a write of the buffer to the grain
   module _ {A : Type 0} (answer : Result A DiskError) (disks' : List DiskState) (bytes : List ℕ) (same : bytes ≡ buffer)
       (only : ChangesOnly disks place disks') (write : AfterWrite (disk_at disks place) g bytes answer (disk_at disks' place)) where
-
     wrote : (length (grain_at (disk_at disks' place).grains g) ≡ length bytes)
         × (content (write_failed answer) (grain_at (disk_at disks' place).grains g) ≡ content (write_failed answer) bytes)
     wrote = grain-written answer (disk_at disks place).kind bytes _ _ write.allowed over.flat write.grain
@@ -196,19 +193,19 @@ module _ (grain : GrainSize) (disks : List DiskState) (volume : Option Volume) (
         → IsSound grain disks' volume place (slice_set lost g (write_failed answer)) buffer faults'
     wrote-sound faults' rise risen added =
         sound-written disks' faults' (write_failed answer) (grain_at (disk_at disks' place).grains g) only write.call.kind write.others
-          (wrote.0 ∙ ap length same ∙ sound.room)
-          (added ∙ counts_on grain volume place disks disks' (write_failed answer) over.there only write.call faults rise sound.counted risen)
+        (wrote.0 ∙ ap length same ∙ sound.room)
+        (added ∙ counts_on grain volume place disks disks' (write_failed answer) over.there only write.call faults rise sound.counted risen)
 
     pub wrote-held : contents (slice_set lost g (write_failed answer)) (disk_at disks' place).grains
         ≡ slice_set (contents lost (disk_at disks place).grains) g (content (write_failed answer) buffer)
     wrote-held =
         held-written disks' (write_failed answer) (grain_at (disk_at disks' place).grains g) write.others
         ∙ ap (λ (c : Content). slice_set (contents lost (disk_at disks place).grains) g c)
-          (wrote.1 ∙ ap (λ (b : List ℕ). content (write_failed answer) b) same)
+        (wrote.1 ∙ ap (λ (b : List ℕ). content (write_failed answer) b) same)
 
     pub wrote-called : (held held' : List Content) → calls_of disks + 1 < 2 ^ 64
         → Called record { grain = grain; disks = disks; volume = volume; held = held; buffer = buffer }
-                 record { grain = grain; disks = disks'; volume = volume; held = held'; buffer = buffer } 1 (write_failed answer)
+        record { grain = grain; disks = disks'; volume = volume; held = held'; buffer = buffer } 1 (write_failed answer)
     wrote-called held held' few = called grain volume place disks disks' (write_failed answer) over.there only write.call held held' buffer buffer few
 
 -- what an answer of a disk says of the grain that was read

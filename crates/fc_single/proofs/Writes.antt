@@ -62,13 +62,11 @@ called-twice old between new n m failed first second = record {
 
 module _ (old filled new : SingleState) (told : Told) (block count g n byte : ℕ) (stands : StandsFor old told) (inside : IsInGrain old.grain block count g)
     (there : g < length old.held) (number : n ≡ told.entries) where
-
   -- a write of the whole grain, from a store whose buffer was filled
   module _ (start : ℕ) (whole : count ≡ grain_blocks old.grain) (at_start : start ≡ byte_in_grain old.grain block)
       (same : filled ≡ record old { buffer = filled.buffer })
       (buffer : filled.buffer ≡ take start old.buffer ++ replicate (block_bytes * count) byte ++ drop (start + block_bytes * count) old.buffer)
       (size : length filled.buffer ≡ grain_bytes filled.grain) (sizes : HasLength (content_at filled.held g) (grain_bytes filled.grain)) where
-
     from_first : byte_in_grain old.grain block ≡ 0
     from_first = omega (arith, inside.fits)
 
@@ -92,16 +90,16 @@ module _ (old filled new : SingleState) (told : Told) (block count g n byte : �
         → IsTurn (write_of block count byte) old new told (lane_entry n (write_of block count byte) Done None (faults_in old.disks) (faults_in new.disks) 1)
     whole-done called held =
         write-done old new told block count g n stands inside there number byte true filled.buffer (eq-eqb count (grain_blocks old.grain) whole)
-          (called-after_fill old filled new 1 false same called) (and_right (is_lost (content_at old.held g)) false refl) whole-written
-          (held ∙ ap (λ (h : List Content). slice_set h g (Bytes filled.buffer)) held-kept)
+        (called-after_fill old filled new 1 false same called) (and_right (is_lost (content_at old.held g)) false refl) whole-written
+        (held ∙ ap (λ (h : List Content). slice_set h g (Bytes filled.buffer)) held-kept)
 
     pub whole-torn : Called filled new 1 true → new.held ≡ slice_set filled.held g Lost
         → IsTurn (write_of block count byte) old new told
-            (lane_entry n (write_of block count byte) DiskFault (Some (torn_at g)) (faults_in old.disks) (faults_in new.disks) 1)
+        (lane_entry n (write_of block count byte) DiskFault (Some (torn_at g)) (faults_in old.disks) (faults_in new.disks) 1)
     whole-torn called held =
         write-torn old new told block count g n stands inside there number byte true (eq-eqb count (grain_blocks old.grain) whole)
-          (called-after_fill old filled new 1 true same called) (and_right (is_lost (content_at old.held g)) false refl)
-          (held ∙ ap (λ (h : List Content). slice_set h g Lost) held-kept)
+        (called-after_fill old filled new 1 true same called) (and_right (is_lost (content_at old.held g)) false refl)
+        (held ∙ ap (λ (h : List Content). slice_set h g Lost) held-kept)
 
   -- a write of a part of the grain, which was read before
   module _ (read : SingleState) (start : ℕ) (part : count ≢ grain_blocks old.grain) (at_start : start ≡ byte_in_grain old.grain block)
@@ -109,7 +107,6 @@ module _ (old filled new : SingleState) (told : Told) (block count g n byte : �
       (readable : is_lost (content_at old.held g) ≡ false)
       (same : filled ≡ record read { buffer = filled.buffer })
       (buffer : filled.buffer ≡ take start read.buffer ++ replicate (block_bytes * count) byte ++ drop (start + block_bytes * count) read.buffer) where
-
     part-held : filled.held ≡ old.held
     part-held = ap (λ (s : SingleState). s.held) same ∙ kept
 
@@ -126,13 +123,13 @@ module _ (old filled new : SingleState) (told : Told) (block count g n byte : �
         → IsTurn (write_of block count byte) old new told (lane_entry n (write_of block count byte) Done None (faults_in old.disks) (faults_in new.disks) 2)
     part-done called held =
         write-done old new told block count g n stands inside there number byte false filled.buffer (ne_eqb count (grain_blocks old.grain) part)
-          (part-called false called) (and_left (is_lost (content_at old.held g)) true readable) part-written
-          (held ∙ ap (λ (h : List Content). slice_set h g (Bytes filled.buffer)) part-held)
+        (part-called false called) (and_left (is_lost (content_at old.held g)) true readable) part-written
+        (held ∙ ap (λ (h : List Content). slice_set h g (Bytes filled.buffer)) part-held)
 
     pub part-torn : Called filled new 1 true → new.held ≡ slice_set filled.held g Lost
         → IsTurn (write_of block count byte) old new told
-            (lane_entry n (write_of block count byte) DiskFault (Some (torn_at g)) (faults_in old.disks) (faults_in new.disks) 2)
+        (lane_entry n (write_of block count byte) DiskFault (Some (torn_at g)) (faults_in old.disks) (faults_in new.disks) 2)
     part-torn called held =
         write-torn old new told block count g n stands inside there number byte false (ne_eqb count (grain_blocks old.grain) part)
-          (part-called true called) (and_left (is_lost (content_at old.held g)) true readable)
-          (held ∙ ap (λ (h : List Content). slice_set h g Lost) part-held)
+        (part-called true called) (and_left (is_lost (content_at old.held g)) true readable)
+        (held ∙ ap (λ (h : List Content). slice_set h g Lost) part-held)

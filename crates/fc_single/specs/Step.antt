@@ -83,7 +83,7 @@ lane_entry number request reply torn faults_before faults_after calls = record {
   torn = torn;
   faults_before = faults_before;
   faults_after = faults_after;
-  calls = calls
+  calls = calls;
 }
 
 -- An entry that speaks of no disk.
@@ -99,5 +99,5 @@ entry_apart number place request reply effects = record {
   torn = None;
   faults_before = 0;
   faults_after = 0;
-  calls = 0
+  calls = 0;
 }

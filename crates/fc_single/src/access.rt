@@ -38,13 +38,24 @@ impl<D: Mdisk> Single<D> {
     {
         let number = history.len();
         let before = self.faults();
-        let request = Request::Read(ReadPart { volume: FIRST, block, count });
+        let request = Request::Read(ReadPart {
+            volume: FIRST,
+            block,
+            count,
+        });
         if self.is_lost(grain) {
             return self.lane_entry(number, request, Reply::MediumError, None, before, 0);
         }
         match self.read_grain(grain) {
             Ok(()) => {}
-            Err(Failed) => return self.lane_entry(number, request, Reply::DiskFault, None, before, 1),
+            Err(Failed) => return self.lane_entry(
+                number,
+                request,
+                Reply::DiskFault,
+                None,
+                before,
+                1,
+            ),
         }
         match self.runs(start_in_grain(self.grain(), block), BLOCK_BYTES * count) {
             Ok(runs) => self.lane_entry(number, request, Reply::Bytes(runs), None, before, 1),
@@ -53,7 +64,14 @@ impl<D: Mdisk> Single<D> {
     }
 
     /// Writes blocks of a grain of the volume.
-    pub(crate) fn write(&mut self, grain: u32, block: u64, count: u32, byte: u8, history: &History) -> Entry
+    pub(crate) fn write(
+        &mut self,
+        grain: u32,
+        block: u64,
+        count: u32,
+        byte: u8,
+        history: &History,
+    ) -> Entry
         requires stands { StandsFor self.old (told_of self.old history.now) }
         requires room { length history.now.entries < MAX_ENTRIES }
         requires there { grain < length self.old.held }
@@ -69,7 +87,14 @@ impl<D: Mdisk> Single<D> {
     }
 
     /// Writes a whole grain of the volume, by one call.
-    fn write_whole(&mut self, grain: u32, block: u64, count: u32, byte: u8, history: &History) -> Entry
+    fn write_whole(
+        &mut self,
+        grain: u32,
+        block: u64,
+        count: u32,
+        byte: u8,
+        history: &History,
+    ) -> Entry
         requires stands { StandsFor self.old (told_of self.old history.now) }
         requires room { length history.now.entries < MAX_ENTRIES }
         requires there { grain < length self.old.held }
@@ -80,16 +105,39 @@ impl<D: Mdisk> Single<D> {
     {
         let number = history.len();
         let before = self.faults();
-        let request = Request::Write(WritePart { volume: FIRST, block, count, byte });
-        self.fill(start_in_grain(self.grain(), block), BLOCK_BYTES * count, byte);
+        let request = Request::Write(WritePart {
+            volume: FIRST,
+            block,
+            count,
+            byte,
+        });
+        self.fill(
+            start_in_grain(self.grain(), block),
+            BLOCK_BYTES * count,
+            byte,
+        );
         match self.write_grain(grain) {
             Ok(()) => self.lane_entry(number, request, Reply::Done, None, before, 1),
-            Err(Failed) => self.lane_entry(number, request, Reply::DiskFault, Some(torn(grain)), before, 1),
+            Err(Failed) => self.lane_entry(
+                number,
+                request,
+                Reply::DiskFault,
+                Some(torn(grain)),
+                before,
+                1,
+            ),
         }
     }
 
     /// Writes a part of a grain of the volume, whose rest is read first.
-    fn write_part(&mut self, grain: u32, block: u64, count: u32, byte: u8, history: &History) -> Entry
+    fn write_part(
+        &mut self,
+        grain: u32,
+        block: u64,
+        count: u32,
+        byte: u8,
+        history: &History,
+    ) -> Entry
         requires stands { StandsFor self.old (told_of self.old history.now) }
         requires room { length history.now.entries < MAX_ENTRIES }
         requires there { grain < length self.old.held }
@@ -100,18 +148,41 @@ impl<D: Mdisk> Single<D> {
     {
         let number = history.len();
         let before = self.faults();
-        let request = Request::Write(WritePart { volume: FIRST, block, count, byte });
+        let request = Request::Write(WritePart {
+            volume: FIRST,
+            block,
+            count,
+            byte,
+        });
         if self.is_lost(grain) {
             return self.lane_entry(number, request, Reply::MediumError, None, before, 0);
         }
         match self.read_grain(grain) {
             Ok(()) => {}
-            Err(Failed) => return self.lane_entry(number, request, Reply::DiskFault, None, before, 1),
+            Err(Failed) => return self.lane_entry(
+                number,
+                request,
+                Reply::DiskFault,
+                None,
+                before,
+                1,
+            ),
         }
-        self.fill(start_in_grain(self.grain(), block), BLOCK_BYTES * count, byte);
+        self.fill(
+            start_in_grain(self.grain(), block),
+            BLOCK_BYTES * count,
+            byte,
+        );
         match self.write_grain(grain) {
             Ok(()) => self.lane_entry(number, request, Reply::Done, None, before, 2),
-            Err(Failed) => self.lane_entry(number, request, Reply::DiskFault, Some(torn(grain)), before, 2),
+            Err(Failed) => self.lane_entry(
+                number,
+                request,
+                Reply::DiskFault,
+                Some(torn(grain)),
+                before,
+                2,
+            ),
         }
     }
 }

@@ -43,8 +43,17 @@ impl Access {
         ensures { result ≡ command_of self volume block count }
     {
         match self {
-            Access::Read => Command::Read { volume, block, count },
-            Access::Write(byte) => Command::Write { volume, block, count, byte },
+            Access::Read => Command::Read {
+                volume,
+                block,
+                count,
+            },
+            Access::Write(byte) => Command::Write {
+                volume,
+                block,
+                count,
+                byte,
+            },
         }
     }
 }
@@ -66,7 +75,14 @@ impl<D: Mdisk> Single<D> {
     ghost use Rattle.fc_single.specs.Asking.{command_of, part_of, request_of};
 
     /// Reads or writes blocks of a grain of the volume.
-    fn access(&mut self, access: Access, grain: u32, block: u64, count: u32, history: &History) -> Entry
+    fn access(
+        &mut self,
+        access: Access,
+        grain: u32,
+        block: u64,
+        count: u32,
+        history: &History,
+    ) -> Entry
         requires stands { StandsFor self.old (told_of self.old history.now) }
         requires room { length history.now.entries < MAX_ENTRIES }
         requires there { grain < length self.old.held }
@@ -81,16 +97,21 @@ impl<D: Mdisk> Single<D> {
     }
 
     /// Does an access in one of its grains, and logs it.
-    fn run_part(&mut self, access: Access, block: u32, count: u32, grain: u32, history: &mut History) -> Result<(), Stop>
+    fn run_part(
+        &mut self,
+        access: Access,
+        block: u32,
+        count: u32,
+        grain: u32,
+        history: &mut History,
+    ) -> Result<(), Stop>
         requires stands { StandsFor self.old (told_of self.old history.old) }
         requires room { length history.old.entries ≤ MAX_ENTRIES }
         requires there { grain < length self.old.held }
         requires begins { block < (grain + 1) * grain_blocks self.old.grain }
         requires ends { grain * grain_blocks self.old.grain < block + count }
-        ensures answered {
-          Answered result self.old.grain (told_of self.old history.old)
-            (by_main (part_of self.old.grain access block count grain ∷ [])) MAX_ENTRIES history.old history.new
-        }
+        ensures answered { Answered result self.old.grain (told_of self.old history.old)
+            (by_main (part_of self.old.grain access block count grain ∷ [])) MAX_ENTRIES history.old history.new }
         ensures stands { StillStands result MAX_ENTRIES self.new history.new }
         ensures keeps { Keeps self.old self.new }
         ensures size { length self.new.held ≡ length self.old.held }
@@ -106,17 +127,21 @@ impl<D: Mdisk> Single<D> {
     }
 
     /// Does an access in all grains that it touches, rising.
-    fn run_parts(&mut self, access: Access, block: u32, count: u32, history: &mut History) -> Result<(), Stop>
+    fn run_parts(
+        &mut self,
+        access: Access,
+        block: u32,
+        count: u32,
+        history: &mut History,
+    ) -> Result<(), Stop>
         requires stands { StandsFor self.old (told_of self.old history.old) }
         requires room { length history.old.entries ≤ MAX_ENTRIES }
         requires some { 0 < count }
         requires few { count ≤ MAX_BLOCKS }
         requires there { block + count ≤ length self.old.held * grain_blocks self.old.grain }
-        ensures answered {
-          Answered result self.old.grain (told_of self.old history.old)
+        ensures answered { Answered result self.old.grain (told_of self.old history.old)
             (by_main (map (part_of self.old.grain access block count) (touched self.old.grain block count)))
-            MAX_ENTRIES history.old history.new
-        }
+            MAX_ENTRIES history.old history.new }
         ensures stands { StillStands result MAX_ENTRIES self.new history.new }
         ensures keeps { Keeps self.old self.new }
     {
@@ -133,16 +158,18 @@ impl<D: Mdisk> Single<D> {
     }
 
     /// Logs an entry that speaks of no disk and changes nothing.
-    fn log_apart(&self, history: &mut History, place: Place, request: Request, reply: Reply) -> Result<(), Stop>
-        requires turn {
-          IsTurn request self.now self.now (told_of self.now history.old)
-            (entry_apart (length history.old.entries) place request reply [])
-        }
+    fn log_apart(
+        &self,
+        history: &mut History,
+        place: Place,
+        request: Request,
+        reply: Reply,
+    ) -> Result<(), Stop>
+        requires turn { IsTurn request self.now self.now (told_of self.now history.old)
+            (entry_apart (length history.old.entries) place request reply []) }
         requires stands { StandsFor self.now (told_of self.now history.old) }
         requires room { length history.old.entries ≤ MAX_ENTRIES }
-        ensures answered {
-          Answered result self.now.grain (told_of self.now history.old) (by_main (request ∷ [])) MAX_ENTRIES history.old history.new
-        }
+        ensures answered { Answered result self.now.grain (told_of self.now history.old) (by_main (request ∷ [])) MAX_ENTRIES history.old history.new }
         ensures stands { StillStands result MAX_ENTRIES self.now history.new }
     {
         if history.len() >= MAX_ENTRIES {
@@ -153,14 +180,19 @@ impl<D: Mdisk> Single<D> {
     }
 
     /// Does an access, or logs why it is refused.
-    fn run_access(&mut self, access: Access, volume: Ref, block: u32, count: u32, history: &mut History) -> Result<(), Stop>
+    fn run_access(
+        &mut self,
+        access: Access,
+        volume: Ref,
+        block: u32,
+        count: u32,
+        history: &mut History,
+    ) -> Result<(), Stop>
         requires stands { StandsFor self.old (told_of self.old history.old) }
         requires room { length history.old.entries ≤ MAX_ENTRIES }
-        ensures answered {
-          let told = told_of self.old history.old in
-          Answered result self.old.grain told
-            (by_main (command_asked self.old.grain told (command_of access volume block count))) MAX_ENTRIES history.old history.new
-        }
+        ensures answered { let told = told_of self.old history.old in
+            Answered result self.old.grain told
+            (by_main (command_asked self.old.grain told (command_of access volume block count))) MAX_ENTRIES history.old history.new }
         ensures stands { StillStands result MAX_ENTRIES self.new history.new }
         ensures keeps { Keeps self.old self.new }
     {
@@ -174,14 +206,19 @@ impl<D: Mdisk> Single<D> {
     }
 
     /// Makes the volume, of 1 to 4 MiB.
-    fn run_mkvdisk(&mut self, name: Name, size: u32, unit: Option<Unit>, thin: bool, history: &mut History) -> Result<(), Stop>
+    fn run_mkvdisk(
+        &mut self,
+        name: Name,
+        size: u32,
+        unit: Option<Unit>,
+        thin: bool,
+        history: &mut History,
+    ) -> Result<(), Stop>
         requires taken { TakesCommand self.old (Mkvdisk (Some name) size unit thin) }
         requires stands { StandsFor self.old (told_of self.old history.old) }
         requires room { length history.old.entries ≤ MAX_ENTRIES }
-        ensures answered {
-          Answered result self.old.grain (told_of self.old history.old)
-            (by_main (Asked (Mkvdisk (Some name) size unit thin) ∷ [])) MAX_ENTRIES history.old history.new
-        }
+        ensures answered { Answered result self.old.grain (told_of self.old history.old)
+            (by_main (Asked (Mkvdisk (Some name) size unit thin) ∷ [])) MAX_ENTRIES history.old history.new }
         ensures stands { StillStands result MAX_ENTRIES self.new history.new }
         ensures keeps { Keeps self.old self.new }
     {
@@ -189,10 +226,18 @@ impl<D: Mdisk> Single<D> {
             return Err(Stop::LogFull);
         }
         let made = self.make(&name, size * MIB / self.grain().bytes());
-        let request = Request::Command(Command::Mkvdisk { name: Some(name), size, unit, thin });
+        let request = Request::Command(Command::Mkvdisk {
+            name: Some(name),
+            size,
+            unit,
+            thin,
+        });
         match made {
             Ok(effects) => {
-                let reply = Reply::Made { kind: Kind::Vdisk, id: 0 };
+                let reply = Reply::Made {
+                    kind: Kind::Vdisk,
+                    id: 0,
+                };
                 let entry = self.entry_apart(history.len(), Place::Every, request, reply, effects);
                 log(history, entry)
             }
@@ -205,17 +250,29 @@ impl<D: Mdisk> Single<D> {
         requires taken { TakesCommand self.old command }
         requires stands { StandsFor self.old (told_of self.old history.old) }
         requires room { length history.old.entries ≤ MAX_ENTRIES }
-        ensures answered {
-          let told = told_of self.old history.old in
-          Answered result self.old.grain told (by_main (command_asked self.old.grain told command)) MAX_ENTRIES history.old history.new
-        }
+        ensures answered { let told = told_of self.old history.old in
+            Answered result self.old.grain told (by_main (command_asked self.old.grain told command)) MAX_ENTRIES history.old history.new }
         ensures stands { StillStands result MAX_ENTRIES self.new history.new }
         ensures keeps { Keeps self.old self.new }
     {
         match command {
-            Command::Read { volume, block, count } => self.run_access(Access::Read, volume, block, count, history),
-            Command::Write { volume, block, count, byte } => self.run_access(Access::Write(byte), volume, block, count, history),
-            Command::Mkvdisk { name, size, unit, thin } => match name {
+            Command::Read {
+                volume,
+                block,
+                count,
+            } => self.run_access(Access::Read, volume, block, count, history),
+            Command::Write {
+                volume,
+                block,
+                count,
+                byte,
+            } => self.run_access(Access::Write(byte), volume, block, count, history),
+            Command::Mkvdisk {
+                name,
+                size,
+                unit,
+                thin,
+            } => match name {
                 Some(name) => self.run_mkvdisk(name, size, unit, thin, history),
                 None => unreachable!(),
             },
@@ -236,7 +293,10 @@ impl<D: Mdisk> Single<D> {
         match line {
             Line::Blank => Ok(()),
             Line::Command(command) => self.run_command(command, history),
-            Line::Together | Line::Actor { .. } | Line::End => self.push_unread(WordFault::UnknownCommand, history),
+            Line::Together | Line::Actor { .. } | Line::End => self.push_unread(
+                WordFault::UnknownCommand,
+                history,
+            ),
         }
     }
 
@@ -249,6 +309,11 @@ impl<D: Mdisk> Single<D> {
         ensures stands { StillStands result MAX_ENTRIES self.new history.new }
         ensures keeps { Keeps self.old self.new }
     {
-        self.log_apart(history, Place::Control, Request::Unread(fault), Reply::Refused(Refusal::Words(fault)))
+        self.log_apart(
+            history,
+            Place::Control,
+            Request::Unread(fault),
+            Reply::Refused(Refusal::Words(fault)),
+        )
     }
 }

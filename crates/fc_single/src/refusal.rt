@@ -11,11 +11,15 @@ use fc_base::size::GrainSize;
 use fc_base::volume::Volume;
 
 /// Why an access of blocks is refused, if it is, where at most one volume is there.
-pub(crate) fn refusal_of_access(grain: GrainSize, volume: &Option<Volume>, reference: &Ref, block: u32, count: u32) -> Option<Refusal>
-    ensures {
-      (told : Told) → told.volumes ≡ option_to_list volume.now
-        → result ≡ access_refusal grain told reference.now block count
-    }
+pub(crate) fn refusal_of_access(
+    grain: GrainSize,
+    volume: &Option<Volume>,
+    reference: &Ref,
+    block: u32,
+    count: u32,
+) -> Option<Refusal>
+    ensures { (told : Told) → told.volumes ≡ option_to_list volume.now
+        → result ≡ access_refusal grain told reference.now block count }
 {
     match volume {
         None => Some(Refusal::NoSuch(Kind::Vdisk)),

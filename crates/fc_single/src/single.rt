@@ -24,9 +24,9 @@ use crate::stop::Stop;
 use fc_base::command::Line;
 use fc_base::disk::{DiskError, DiskKind};
 use fc_base::fault::{Refusal, WordFault};
+use fc_base::ids::VolId;
 use fc_base::limits::MAX_ENTRIES;
 use fc_base::list::List;
-use fc_base::ids::VolId;
 use fc_base::name::{Name, Ref};
 use fc_base::outcome::{Failed, NoMemory};
 use fc_base::request::{Effect, Place, Reply, Request, Torn};
@@ -128,7 +128,15 @@ impl<D: Mdisk> Single<D> {
     }
 
     /// An entry of the lane that ends now.
-    pub(crate) fn lane_entry(&self, number: usize, request: Request, reply: Reply, torn: Option<Torn>, faults_before: u64, calls: u32) -> Entry
+    pub(crate) fn lane_entry(
+        &self,
+        number: usize,
+        request: Request,
+        reply: Reply,
+        torn: Option<Torn>,
+        faults_before: u64,
+        calls: u32,
+    ) -> Entry
         ensures { result ≡ lane_entry number request reply torn faults_before (faults_in self.now.disks) calls }
     {
         Entry {
@@ -147,7 +155,14 @@ impl<D: Mdisk> Single<D> {
     }
 
     /// An entry that speaks of no disk.
-    pub(crate) fn entry_apart(&self, number: usize, place: Place, request: Request, reply: Reply, effects: List<Effect>) -> Entry
+    pub(crate) fn entry_apart(
+        &self,
+        number: usize,
+        place: Place,
+        request: Request,
+        reply: Reply,
+        effects: List<Effect>,
+    ) -> Entry
         ensures { result ≡ entry_apart number place request reply effects }
     {
         Entry {
@@ -193,7 +208,10 @@ impl<D: Mdisk> Single<D> {
             Err(_) => return Err(NoMemory),
         };
         let mut effects = List::new(self.alloc);
-        match effects.push(Effect::Make { volume: VolId(0), grains }) {
+        match effects.push(Effect::Make {
+            volume: VolId(0),
+            grains,
+        }) {
             Ok(()) => {}
             Err(NoMemory) => return Err(NoMemory),
         }
@@ -214,10 +232,8 @@ impl<D: Mdisk> Single<D> {
 
     /// Why an access of these blocks is refused, if it is.
     pub(crate) fn refusal(&self, volume: &Ref, block: u32, count: u32) -> Option<Refusal>
-        ensures {
-          (told : Told) → told.volumes ≡ option_to_list self.now.volume
-            → result ≡ access_refusal self.now.grain told volume.now block count
-        }
+        ensures { (told : Told) → told.volumes ≡ option_to_list self.now.volume
+            → result ≡ access_refusal self.now.grain told volume.now block count }
     {
         refusal_of_access(self.grain, &self.volume, volume, block, count)
     }

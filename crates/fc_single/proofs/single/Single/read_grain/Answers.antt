@@ -28,7 +28,7 @@ returns-clause-called g c =
     let few : calls_of c.self.inside.disks + 1 < 2 ^ 64 = rw (← c.self.view_is) at c.requires.few in
     rw (← c.self.view_is)
     (called c.self.inside.grain c.self.inside.volume c.self.inside.place c.self.inside.disks c.read-result.new.self (is_err c.read-result.result)
-      (over _ _ _ _ _ _ _ _ c.self.invariant there).there c.read-result.ensures.others c.read-result.ensures.disk.call _ _ _ _ few)
+    (over _ _ _ _ _ _ _ _ c.self.invariant there).there c.read-result.ensures.others c.read-result.ensures.disk.call _ _ _ _ few)
 
 pub returns-clause-bytes : goal.returns-clause-bytes
 returns-clause-bytes g c =
@@ -41,5 +41,5 @@ returns-clause-bytes g c =
     let P : List ℕ → Type 0 = λ x. OnOk c.read-result.result (content_at c.args.self.now.held c.args.grain ≡ Bytes x) in
     subst P (sym kept)
     (rw (← c.self.view_is)
-      (read_bytes c.read-result.result c.read-result.new.out (grain_at (disk_at c.self.inside.disks c.self.inside.place).grains c.args.grain) _
-        c.read-result.ensures.disk.bytes (held-readable _ _ _ _ _ _ _ _ c.self.invariant there readable)))
+    (read_bytes c.read-result.result c.read-result.new.out (grain_at (disk_at c.self.inside.disks c.self.inside.place).grains c.args.grain) _
+    c.read-result.ensures.disk.bytes (held-readable _ _ _ _ _ _ _ _ c.self.invariant there readable)))

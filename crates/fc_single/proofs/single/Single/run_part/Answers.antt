@@ -20,7 +20,7 @@ pub returns-clause-answered : goal.returns-clause-answered
 returns-clause-answered g c =
     let P : Request → Type 0 = λ r. IsTurn r c.args.self.now c.access-entry.new.self (told_of c.args.self.now c.args.history.now) c.access-entry.result in
     let turn = subst P (part_of-blocks c.args.self.now.grain c.args.access c.args.block c.args.count c.args.grain _ _ _
-      (c.blocks-blocks.ensures ∙ ap grain_blocks c.grain.ensures) c.max-first.ensures c.min-end.ensures) c.access-entry.ensures.turn in
+    (c.blocks-blocks.ensures ∙ ap grain_blocks c.grain.ensures) c.max-first.ensures c.min-end.ensures) c.access-entry.ensures.turn in
     (turn_logged c.log.result _ _ _ _ c.args.history.now c.log.new.history c.access-entry.result turn (omega arith) c.log.ensures.ok c.log.ensures.err c.log.ensures.stop).0
 
 pub returns-clause-stands : goal.returns-clause-stands

@@ -15,5 +15,5 @@ invariant-loop-grain g l = record {
   stands : StandsFor l.self (told_of l.self l.history);
   room : length l.history.entries ≤ MAX_ENTRIES;
   keeps : Keeps l.initial.self l.self;
-  size : length l.self.held ≡ length l.initial.self.held
+  size : length l.self.held ≡ length l.initial.self.held;
 }

@@ -27,8 +27,8 @@ invariant_of-self g c =
     let there : c.args.grain < length (contents c.self.inside.lost.items (disk_at c.self.inside.disks c.self.inside.place).grains) =
     rw (← c.self.view_is) at c.requires.there in
     wrote-sound _ _ _ _ _ _ _ _ c.self.invariant there (Ok c.in-Ok.field-0) c.write-result.new.self c.deref.result.now c.deref.ensures.value
-      c.write-result.ensures.others c.in-Ok.ensures.disk c.saturating_add-self-inside.result (c.faults-after.result - c.faults-before.result)
-      (omega arith) c.saturating_add-self-inside.ensures
+    c.write-result.ensures.others c.in-Ok.ensures.disk c.saturating_add-self-inside.result (c.faults-after.result - c.faults-before.result)
+    (omega arith) c.saturating_add-self-inside.ensures
 
 pub returns-in-Ok-clause-called : goal.returns-in-Ok-clause-called
 returns-in-Ok-clause-called g c =
@@ -37,7 +37,7 @@ returns-in-Ok-clause-called g c =
     let few : calls_of c.self.inside.disks + 1 < 2 ^ 64 = rw (← c.self.view_is) at c.requires.few in
     rw (← c.self.view_is)
     (wrote-called _ _ _ _ _ _ _ _ c.self.invariant there (Ok c.in-Ok.field-0) c.write-result.new.self c.deref.result.now c.deref.ensures.value
-      c.write-result.ensures.others c.in-Ok.ensures.disk _ _ few)
+    c.write-result.ensures.others c.in-Ok.ensures.disk _ _ few)
 
 pub returns-in-Ok-clause-held : goal.returns-in-Ok-clause-held
 returns-in-Ok-clause-held g c =
@@ -45,7 +45,7 @@ returns-in-Ok-clause-held g c =
     rw (← c.self.view_is) at c.requires.there in
     rw (← c.self.view_is)
     (wrote-held _ _ _ _ _ _ _ _ c.self.invariant there (Ok c.in-Ok.field-0) c.write-result.new.self c.deref.result.now c.deref.ensures.value
-      c.write-result.ensures.others c.in-Ok.ensures.disk)
+    c.write-result.ensures.others c.in-Ok.ensures.disk)
 
 pub returns-in-Ok-clause-sizes : goal.returns-in-Ok-clause-sizes
 returns-in-Ok-clause-sizes g c =
@@ -61,8 +61,8 @@ invariant_of-self-in-Err-Failed g c =
     let write : AfterWrite (disk_at c.self.inside.disks c.self.inside.place) c.args.grain c.deref.result.now (Err Failed) (disk_at c.write-result.new.self c.self.inside.place) =
     subst P (search rules) c.write-result.ensures.disk in
     wrote-sound _ _ _ _ _ _ _ _ c.self.invariant there (Err Failed) c.write-result.new.self c.deref.result.now c.deref.ensures.value
-      c.write-result.ensures.others write c.saturating_add-self-inside.result (c.faults-after.result - c.faults-before.result)
-      (omega arith) c.saturating_add-self-inside.ensures
+    c.write-result.ensures.others write c.saturating_add-self-inside.result (c.faults-after.result - c.faults-before.result)
+    (omega arith) c.saturating_add-self-inside.ensures
 
 pub returns-in-Err-Failed-clause-called : goal.returns-in-Err-Failed-clause-called
 returns-in-Err-Failed-clause-called g c =
@@ -74,7 +74,7 @@ returns-in-Err-Failed-clause-called g c =
     let few : calls_of c.self.inside.disks + 1 < 2 ^ 64 = rw (← c.self.view_is) at c.requires.few in
     rw (← c.self.view_is)
     (wrote-called _ _ _ _ _ _ _ _ c.self.invariant there (Err Failed) c.write-result.new.self c.deref.result.now c.deref.ensures.value
-      c.write-result.ensures.others write _ _ few)
+    c.write-result.ensures.others write _ _ few)
 
 pub returns-in-Err-Failed-clause-held : goal.returns-in-Err-Failed-clause-held
 returns-in-Err-Failed-clause-held g c =
@@ -85,7 +85,7 @@ returns-in-Err-Failed-clause-held g c =
     subst P (search rules) c.write-result.ensures.disk in
     rw (← c.self.view_is)
     (wrote-held _ _ _ _ _ _ _ _ c.self.invariant there (Err Failed) c.write-result.new.self c.deref.result.now c.deref.ensures.value
-      c.write-result.ensures.others write)
+    c.write-result.ensures.others write)
 
 pub returns-in-Err-Failed-clause-sizes : goal.returns-in-Err-Failed-clause-sizes
 returns-in-Err-Failed-clause-sizes g c =
