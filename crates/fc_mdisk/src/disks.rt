@@ -71,6 +71,14 @@ impl<D: Mdisk> Disks<D> {
         self.disks[place].used()
     }
 
+    /// The reads and writes of a disk that failed.
+    pub fn faults(&self, place: usize) -> u64
+        requires { place < length self.now }
+        ensures { result ≡ (disk_at self.now place).faults }
+    {
+        self.disks[place].faults()
+    }
+
     /// Formats a disk (`Mdisk::format`). Refused, all are as they were.
     pub fn format(&mut self, place: usize, grains: u32, bytes: u32) -> Result<(), NoMemory>
         requires { place < length self.old }
