@@ -3,3 +3,4 @@ pub mod ProgressLemmas
 pub mod ReadingLemmas
 pub mod EndingLemmas
 pub mod HeadlineLemmas
+pub mod OwnerLemmas

@@ -40,7 +40,7 @@ fn is_built_command(can_make: bool, command: &Command) -> bool
 }
 
 /// Whether a line is built so far.
-fn is_built(can_make: bool, line: &Line) -> bool
+pub fn is_built(can_make: bool, line: &Line) -> bool
     ensures value { result ≡ is_built can_make line.now }
     ensures takes { IsTrue result → (state : SingleState) → can_make ≡ can_make_one state → TakesLine state line.now }
 {

@@ -4,6 +4,7 @@
 mod built;
 mod ending;
 pub mod gate;
+mod owner;
 mod lines;
 mod reading;
 mod session;
