@@ -47,35 +47,47 @@ logged request old new before after entry turn pushed = record {
   legal = (turn.right, tt);
 }
 
--- a turn of the store, and its entry logged or refused for want of memory
-pub turn_logged : (result : Result (Unit {0}) Stop) (limit : ℕ) (request : Request) (old new : SingleState) (before after : HistoryState) (entry : Entry)
+-- what a turn leaves whose entry was logged, or refused for want of memory
+pub record IsLogged (result : Result (Unit {0}) Stop) (limit : ℕ) (request : Request) (old new : SingleState) (before after : HistoryState) : Type 0 where
+  pub answered : Answered result old.grain (told_of old before) (by_main (request ∷ [])) limit before after
+  pub stands : StillStands result new after
+  pub within : length after.entries ≤ limit
+
+pub is_logged : (result : Result (Unit {0}) Stop) (limit : ℕ) (request : Request) (old new : SingleState) (before after : HistoryState) (entry : Entry)
     → IsTurn request old new (told_of old before) entry → length before.entries < limit
     → OnOk result (after ≡ record before { entries = before.entries ++ entry ∷ [] })
     → OnErr result (after ≡ before)
     → IfErr result (λ stop. stop ≡ NoMemory)
-    → Answered result old.grain (told_of old before) (by_main (request ∷ [])) limit before after × StillStands result limit new after
-turn_logged (Ok done) limit request old new before after entry turn room ok err stop =
+    → IsLogged result limit request old new before after
+is_logged (Ok done) limit request old new before after entry turn room ok err stop =
     let P : Told → Type 0 = λ t. StandsFor new t in
-    let pushed : after.entries ≡ before.entries ++ entry ∷ [] = ap (λ (h : HistoryState). h.entries) ok in (
-      logged request old new before after entry turn ok,
-      (
-        subst P (sym (told_of-push old new before after entry turn.keeps pushed)) turn.stands,
-        omega (arith, ap (length {A = Entry}) pushed, length-append before.entries (entry ∷ [])),
-      ),
-    )
-turn_logged (Err LogFull) limit request old new before after entry turn room ok err stop =
+    let pushed : after.entries ≡ before.entries ++ entry ∷ [] = ap (λ (h : HistoryState). h.entries) ok in
+    record {
+      answered = logged request old new before after entry turn ok;
+      stands = subst P (sym (told_of-push old new before after entry turn.keeps pushed)) turn.stands;
+      within = omega (arith, ap (length {A = Entry}) pushed, length-append before.entries (entry ∷ []));
+    }
+is_logged (Err LogFull) limit request old new before after entry turn room ok err stop =
     let never : LogFull ≡ NoMemory = stop in cc
-turn_logged (Err NoMemory) limit request old new before after entry turn room ok err stop = (
-  record {
+is_logged (Err NoMemory) limit request old new before after entry turn room ok err stop = record {
+  answered = record {
     more = [];
     left = by_main (request ∷ []);
     entries = ap (λ (h : HistoryState). h.entries) err ∙ sym (append-nil before.entries);
     actors = ap (λ (h : HistoryState). h.actors) err;
     some = refl;
     legal = tt;
-  },
-  tt,
-)
+  };
+  stands = tt;
+  within = omega (arith, ap (λ (h : HistoryState). length h.entries) err);
+}
+
+-- what is answered leaves the actors
+pub actors-answered : (result : Result (Unit {0}) Stop) (grain : GrainSize) (told : Told) (asked : List (ℕ × Request)) (limit : ℕ) (old new : HistoryState)
+    → Answered result grain told asked limit old new → new.actors ≡ old.actors
+actors-answered (Ok done) grain told asked limit old new answered = answered.actors
+actors-answered (Err LogFull) grain told asked limit old new answered = answered.actors
+actors-answered (Err NoMemory) grain told asked limit old new answered = answered.actors
 
 -- a history that is full
 pub is_full : (grain : GrainSize) (told : Told) (request : Request) (limit : ℕ) (history : HistoryState) → length history.entries ≤ limit

@@ -31,8 +31,8 @@ Answered (Ok _) grain told asked limit old new = AnswersAll grain told asked old
 Answered (Err LogFull) grain told asked limit old new = AnswersToLimit grain told asked limit old new
 Answered (Err NoMemory) grain told asked limit old new = AnswersSome grain told asked old new
 
--- But for want of memory, the store stands for the history, which has no more than the greatest number of entries.
-abbrev pub StillStands : {A : Type 0} → Result A Stop → ℕ → SingleState → HistoryState → Type 0
-StillStands (Ok _) limit state history = StandsFor state (told_of state history) × (length history.entries ≤ limit)
-StillStands (Err LogFull) limit state history = StandsFor state (told_of state history) × (length history.entries ≤ limit)
-StillStands (Err NoMemory) limit state history = Unit {0}
+-- But for want of memory, the store goes on to stand for the history.
+abbrev pub StillStands : {A : Type 0} → Result A Stop → SingleState → HistoryState → Type 0
+StillStands (Ok _) state history = StandsFor state (told_of state history)
+StillStands (Err LogFull) state history = StandsFor state (told_of state history)
+StillStands (Err NoMemory) state history = Unit {0}

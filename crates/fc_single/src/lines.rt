@@ -112,7 +112,8 @@ impl<D: Mdisk> Single<D> {
         requires ends { grain * grain_blocks self.old.grain < block + count }
         ensures answered { Answered result self.old.grain (told_of self.old history.old)
             (by_main (part_of self.old.grain access block count grain ∷ [])) MAX_ENTRIES history.old history.new }
-        ensures stands { StillStands result MAX_ENTRIES self.new history.new }
+        ensures stands { StillStands result self.new history.new }
+        ensures limit { length history.new.entries ≤ MAX_ENTRIES }
         ensures keeps { Keeps self.old self.new }
         ensures size { length self.new.held ≡ length self.old.held }
     {
@@ -142,7 +143,8 @@ impl<D: Mdisk> Single<D> {
         ensures answered { Answered result self.old.grain (told_of self.old history.old)
             (by_main (map (part_of self.old.grain access block count) (touched self.old.grain block count)))
             MAX_ENTRIES history.old history.new }
-        ensures stands { StillStands result MAX_ENTRIES self.new history.new }
+        ensures stands { StillStands result self.new history.new }
+        ensures limit { length history.new.entries ≤ MAX_ENTRIES }
         ensures keeps { Keeps self.old self.new }
     {
         let blocks = self.grain().blocks();
@@ -170,7 +172,8 @@ impl<D: Mdisk> Single<D> {
         requires stands { StandsFor self.now (told_of self.now history.old) }
         requires room { length history.old.entries ≤ MAX_ENTRIES }
         ensures answered { Answered result self.now.grain (told_of self.now history.old) (by_main (request ∷ [])) MAX_ENTRIES history.old history.new }
-        ensures stands { StillStands result MAX_ENTRIES self.now history.new }
+        ensures stands { StillStands result self.now history.new }
+        ensures limit { length history.new.entries ≤ MAX_ENTRIES }
     {
         if history.len() >= MAX_ENTRIES {
             return Err(Stop::LogFull);
@@ -193,7 +196,8 @@ impl<D: Mdisk> Single<D> {
         ensures answered { let told = told_of self.old history.old in
             Answered result self.old.grain told
             (by_main (command_asked self.old.grain told (command_of access volume block count))) MAX_ENTRIES history.old history.new }
-        ensures stands { StillStands result MAX_ENTRIES self.new history.new }
+        ensures stands { StillStands result self.new history.new }
+        ensures limit { length history.new.entries ≤ MAX_ENTRIES }
         ensures keeps { Keeps self.old self.new }
     {
         match self.refusal(&volume, block, count) {
@@ -219,7 +223,8 @@ impl<D: Mdisk> Single<D> {
         requires room { length history.old.entries ≤ MAX_ENTRIES }
         ensures answered { Answered result self.old.grain (told_of self.old history.old)
             (by_main (Asked (Mkvdisk (Some name) size unit thin) ∷ [])) MAX_ENTRIES history.old history.new }
-        ensures stands { StillStands result MAX_ENTRIES self.new history.new }
+        ensures stands { StillStands result self.new history.new }
+        ensures limit { length history.new.entries ≤ MAX_ENTRIES }
         ensures keeps { Keeps self.old self.new }
     {
         if history.len() >= MAX_ENTRIES {
@@ -252,7 +257,8 @@ impl<D: Mdisk> Single<D> {
         requires room { length history.old.entries ≤ MAX_ENTRIES }
         ensures answered { let told = told_of self.old history.old in
             Answered result self.old.grain told (by_main (command_asked self.old.grain told command)) MAX_ENTRIES history.old history.new }
-        ensures stands { StillStands result MAX_ENTRIES self.new history.new }
+        ensures stands { StillStands result self.new history.new }
+        ensures limit { length history.new.entries ≤ MAX_ENTRIES }
         ensures keeps { Keeps self.old self.new }
     {
         match command {
@@ -287,7 +293,9 @@ impl<D: Mdisk> Single<D> {
         requires room { length history.old.entries ≤ MAX_ENTRIES }
         ensures answered { let told = told_of self.old history.old in
             Answered result self.old.grain told (by_main (asked self.old.grain told (Ok line))) MAX_ENTRIES history.old history.new }
-        ensures stands { StillStands result MAX_ENTRIES self.new history.new }
+        ensures stands { StillStands result self.new history.new }
+        ensures limit { length history.new.entries ≤ MAX_ENTRIES }
+        ensures actors { history.new.actors ≡ history.old.actors }
         ensures keeps { Keeps self.old self.new }
     {
         match line {
@@ -306,7 +314,9 @@ impl<D: Mdisk> Single<D> {
         requires room { length history.old.entries ≤ MAX_ENTRIES }
         ensures answered { let told = told_of self.old history.old in
             Answered result self.old.grain told (by_main (asked self.old.grain told (Err fault))) MAX_ENTRIES history.old history.new }
-        ensures stands { StillStands result MAX_ENTRIES self.new history.new }
+        ensures stands { StillStands result self.new history.new }
+        ensures limit { length history.new.entries ≤ MAX_ENTRIES }
+        ensures actors { history.new.actors ≡ history.old.actors }
         ensures keeps { Keeps self.old self.new }
     {
         self.log_apart(

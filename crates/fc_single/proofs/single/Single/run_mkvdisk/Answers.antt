@@ -9,10 +9,11 @@ use Rattle.fc_base.specs.declared.request.Reply.TheVariants.{Made, NoMemory}
 use Rattle.fc_base.specs.declared.request.Request.{Request}
 use Rattle.fc_base.specs.declared.request.Request.TheVariants.{Command as Asked}
 use Rattle.fc_entry.specs.declared.entry.Entry.{Entry}
+use Rattle.fc_base.specs.declared.limits.TheConstants.{MAX_ENTRIES}
 use Rattle.fc_single.specs.Single.{SingleState, told_of}
 use Rattle.fc_single.specs.Step.{IsTurn, entry_apart}
 use Rattle.fc_single.proofs.Apart.{made_of, not_made_of}
-use Rattle.fc_single.proofs.Logging.{is_full, turn_logged}
+use Rattle.fc_single.proofs.Logging.{is_full, is_logged}
 use Rattle.fc_single.proofs.Standing.{entries_of-told_of}
 use Rattle.fc_single.proofs.single.Single.run_mkvdisk.Goals as goal
 
@@ -40,8 +41,8 @@ returns-in-Ok-clause-answered g c =
     let turn = made_of c.args.self.now c.make-made.new.self (told_of c.args.self.now c.args.history.now) (length c.args.history.now.entries)
     c.args.name c.args.size c.args.unit c.args.thin grains c.requires.stands (sym (entries_of-told_of c.args.self.now c.args.history.now)) c.requires.taken
     (ap (λ (b : ℕ). c.args.size * 1048576 / b) (c.bytes.ensures ∙ ap grain_bytes c.grain.ensures)) c.in-Ok.ensures.made in
-    (turn_logged c.log.result _ _ _ _ c.args.history.now c.log.new.history c.entry_apart-entry.result (subst P (sym same) turn)
-    (omega arith) c.log.ensures.ok c.log.ensures.err c.log.ensures.stop).0
+    (is_logged c.log.result MAX_ENTRIES _ c.args.self.now c.make-made.new.self c.args.history.now c.log.new.history c.entry_apart-entry.result (subst P (sym same) turn)
+    (omega arith) c.log.ensures.ok c.log.ensures.err c.log.ensures.stop).answered
 
 pub returns-in-Ok-clause-stands : goal.returns-in-Ok-clause-stands
 returns-in-Ok-clause-stands g c =
@@ -55,5 +56,5 @@ returns-in-Ok-clause-stands g c =
     let turn = made_of c.args.self.now c.make-made.new.self (told_of c.args.self.now c.args.history.now) (length c.args.history.now.entries)
     c.args.name c.args.size c.args.unit c.args.thin grains c.requires.stands (sym (entries_of-told_of c.args.self.now c.args.history.now)) c.requires.taken
     (ap (λ (b : ℕ). c.args.size * 1048576 / b) (c.bytes.ensures ∙ ap grain_bytes c.grain.ensures)) c.in-Ok.ensures.made in
-    (turn_logged c.log.result _ _ _ _ c.args.history.now c.log.new.history c.entry_apart-entry.result (subst P (sym same) turn)
-    (omega arith) c.log.ensures.ok c.log.ensures.err c.log.ensures.stop).1
+    (is_logged c.log.result MAX_ENTRIES _ c.args.self.now c.make-made.new.self c.args.history.now c.log.new.history c.entry_apart-entry.result (subst P (sym same) turn)
+    (omega arith) c.log.ensures.ok c.log.ensures.err c.log.ensures.stop).stands

@@ -27,8 +27,8 @@ loop-grain-preserved g c = record {
       one_more_grain c.args.self.now c.loop-grain.self c.args.access c.args.block c.args.count MAX_ENTRIES c.loop-grain.grain
       c.args.history.now c.loop-grain.history c.run_part.new.history c.loop-grain.invariant.keeps (c.args.block / c.blocks-blocks.result)
       c.loop-grain.auto.grain c.loop-grain.invariant.answered c.in-Ok.ensures.answered;
-  stands = c.in-Ok.ensures.stands.0;
-  room = c.in-Ok.ensures.stands.1;
+  stands = c.in-Ok.ensures.stands;
+  room = c.in-Ok.ensures.limit;
   keeps = record {
     grain = c.in-Ok.ensures.keeps.grain ∙ c.loop-grain.invariant.keeps.grain;
     kinds = c.in-Ok.ensures.keeps.kinds ∙ c.loop-grain.invariant.keeps.kinds;
