@@ -1,31 +1,18 @@
-use Rattle.std.proofs.Common.{rules, ◌≡◌, ◌≤◌, length, ℕ, ◌+◌, ◌-◌, ◌*◌, ◌<◌, ◌/◌, ◌%◌, Bool, true, false, nat_eq, nat_lt, List, [], ◌∷◌, ◌++◌, slice_index_or, slice_set, bit_and, bit_or, Fits, w8, w32, w64, Bor, MutBor}
-use Rattle.fc_entry.specs.Run.{line_asks}
-use Rattle.fc_entry.specs.Told.{told_after}
-use Rattle.fc_session.specs.Reading.{reading}
-use Rattle.fc_session.specs.Stores.{Answered, StaysUp}
-use Rattle.fc_single.specs.Single.{StandsFor, told_of, opening}
+-- What was read is answered.
+use Rattle.std.proofs.Common.{Ok, Err}
+use Rattle.fc_single.specs.Single.{told_of}
+use Rattle.fc_session.proofs.OwnerLemmas.{Answered-one, fault_read}
 use Rattle.fc_session.proofs.owner.OwnerLineStore.answer.Goals as goal
 
--- src/owner.rt:38:5
-pub returns-then-is_built-clause-answered : goal.returns-then-is_built-clause-answered
-returns-then-is_built-clause-answered g c = ?
+pub returns-in-Ok-clause-answered : goal.returns-in-Ok-clause-answered
+returns-in-Ok-clause-answered g c =
+    Answered-one c.answer_line.result c.args.self.now.store.grain (told_of c.args.self.now.store c.args.history.now)
+      c.args.line.now (Ok c.in-Ok.line) c.args.history.now c.answer_line.new.history c.in-Ok.ensures
+      c.answer_line.ensures.answered
 
--- src/owner.rt:38:5
-pub returns-then-is_built-clause-limit : goal.returns-then-is_built-clause-limit
-returns-then-is_built-clause-limit g c = ?
-
--- src/owner.rt:38:5
-pub returns-else-is_built-clause-answered : goal.returns-else-is_built-clause-answered
-returns-else-is_built-clause-answered g c = ?
-
--- src/owner.rt:38:5
-pub returns-else-is_built-clause-limit : goal.returns-else-is_built-clause-limit
-returns-else-is_built-clause-limit g c = ?
-
--- src/owner.rt:38:5
 pub returns-in-Err-Fault-clause-answered : goal.returns-in-Err-Fault-clause-answered
-returns-in-Err-Fault-clause-answered g c = ?
-
--- src/owner.rt:38:5
-pub returns-in-Err-Fault-clause-limit : goal.returns-in-Err-Fault-clause-limit
-returns-in-Err-Fault-clause-limit g c = ?
+returns-in-Err-Fault-clause-answered g c =
+    Answered-one c.push_unread.result c.args.self.now.store.grain (told_of c.args.self.now.store c.args.history.now)
+      c.args.line.now (Err c.in-Err-Fault.fault) c.args.history.now c.push_unread.new.history
+      (fault_read c.in-Err-Fault.field-0 c.in-Err-Fault.fault _ c.in-Err-Fault.field-0-is c.in-Err-Fault.ensures)
+      c.push_unread.ensures.answered
