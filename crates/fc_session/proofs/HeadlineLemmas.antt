@@ -1,7 +1,8 @@
 -- From how a session was read and written to what its status says.
-use Rattle.std.proofs.Common.{◌≡◌, ℕ, ◌+◌, ◌<◌, ◌≤◌, Bool, true, false, List, [], ◌∷◌, ◌++◌, map, length, append_assoc, refl, sym, ◌∙◌, ap, subst, arith, length-append, is_some}
+use Rattle.std.proofs.Common.{◌≡◌, ◌≢◌, ℕ, ◌+◌, ◌<◌, ◌≤◌, Bool, true, false, List, [], ◌∷◌, ◌++◌, map, length, append_assoc, refl, sym, ◌∙◌, ap, subst, arith, length-append, is_some, Option, Some, None}
 use Rattle.std.proofs.lemmas.List.{append-nil}
 use Rattle.std.specs.List.{All}
+use Rattle.std.specs.Option.{option_map}
 use Rattle.std.proofs.lemmas.List.Elements.{All-from_recursion}
 use Rattle.std.specs.List.{AllByRecursion as ByRecursion}
 use Rattle.fc_base.specs.declared.request.Request.{Request}
@@ -217,3 +218,47 @@ pub SessionEnds-status :
 SessionEnds-status status ended failed before after sink sink' grain told history is read written =
     let P : Status → Type 0 = λ s. SessionEnds s grain told before after sink sink' history in
     subst P (sym is) (SessionEnds-written ended failed before after sink sink' grain told history read written)
+
+-- a session that was read isn't refused for its words
+pub status_for-ran : (s : Status) (ended : Ending) (failed : Bool) → s ≡ status_for ended failed → s ≢ status.Usage
+status_for-ran s ending.End true is usage = cc
+status_for-ran s ending.End false is usage = cc
+status_for-ran s ending.ReadFault true is usage = cc
+status_for-ran s ending.ReadFault false is usage = cc
+status_for-ran s ending.TooLong true is usage = cc
+status_for-ran s ending.TooLong false is usage = cc
+status_for-ran s (ending.Stopped LogFull) true is usage = cc
+status_for-ran s (ending.Stopped LogFull) false is usage = cc
+status_for-ran s (ending.Stopped NoMemory) failed is usage = cc
+
+gave_nothing : (left : Option (List ℕ)) → left ≡ option_map (λ rest. [] ++ rest) left
+gave_nothing None = refl
+gave_nothing (Some rest) = refl
+
+held_nothing : (held : Option (List ℕ)) → held ≡ option_map (λ bytes. bytes ++ []) held
+held_nothing None = refl
+held_nothing (Some bytes) = ap Some (sym (append-nil bytes))
+
+-- memory was wanted before anything was read
+pub SessionEnds-starved :
+    (grain : GrainSize) (told : Told) (source : SourceState) (sink : SinkState) (history : HistoryState) →
+    history.entries ≡ [] →
+    SessionEnds status.NoMemory grain told source source sink sink history
+SessionEnds-starved grain told source sink history none = record {
+  bytes = [];
+  gave = gave_nothing source.left;
+  ends = (
+    omega arith,
+    record {
+      before = [];
+      after = [];
+      whole = [];
+      part = [];
+      lines_are = refl;
+      entries_are = none;
+      run = refl;
+      next = refl
+    },
+    record { front = []; rest = history_text history; split = refl; added = held_nothing sink.held },
+  )
+}

@@ -7,3 +7,4 @@ pub mod Progress
 pub mod ReadTo
 pub mod SessionRead
 pub mod Headline
+pub mod DisksBack

@@ -3,6 +3,7 @@
 
 mod built;
 mod ending;
+pub mod flashcopy;
 pub mod gate;
 mod owner;
 mod lines;

@@ -1,6 +1,6 @@
 //! A whole session over a store.
 
-ghost use Rattle.std.specs.Prelude.{◌≡◌, ◌≤◌, [], ◌∷◌, length, codes, is_err};
+ghost use Rattle.std.specs.Prelude.{◌≡◌, ◌≢◌, ◌≤◌, [], ◌∷◌, length, codes, is_err};
 ghost use Rattle.fc_entry.specs.Legal.{IsLegal};
 ghost use Rattle.fc_entry.specs.Text.{HasNames};
 ghost use Rattle.fc_session.specs.Headline.{SessionEnds};
@@ -58,6 +58,7 @@ pub fn run_session<S: Source, K: Sink, L: LineStore>(
       (S.meaning source.old) (S.meaning source.new) (K.meaning sink.old) (K.meaning sink.new) history.new }
     ensures legal { IsLegal (L.grain store.old) (L.opening store.old) history.new.entries }
     ensures actors { history.new.actors ≡ history.old.actors }
+    ensures ran { result ≢ Status.Usage }
     ensures stands { StandsUnlessStarved result (L.Stands store.new history.new) }
     ensures grain { L.grain store.new ≡ L.grain store.old }
     ensures opening { L.opening store.new ≡ L.opening store.old }

@@ -1,5 +1,5 @@
 -- All entries are by `main`, and the status is that of the ending.
-use Rattle.fc_session.proofs.HeadlineLemmas.{HasNames-read, SessionEnds-status}
+use Rattle.fc_session.proofs.HeadlineLemmas.{HasNames-read, SessionEnds-status, status_for-ran}
 use Rattle.std.proofs.Common.{codes, ◌∙◌, is_err}
 use Rattle.fc_session.proofs.session.run_session.Goals as goal
 
@@ -17,3 +17,7 @@ returns-clause-ends g c =
       (g.K.Sink.meaning c.args.sink.now) (g.K.Sink.meaning c.write_text-written.new.sink)
       (g.L.LineStore.grain c.args.store.now) (g.L.LineStore.opening c.args.store.now) c.read_session-ending.new.history
       c.status_of.ensures c.read_session-ending.ensures.read c.write_text-written.ensures
+
+pub returns-clause-ran : goal.returns-clause-ran
+returns-clause-ran g c =
+    status_for-ran c.status_of.result c.read_session-ending.result (is_err c.write_text-written.result) c.status_of.ensures
