@@ -6,7 +6,11 @@
 //! (`Told`), when an entry is right after what was told (`Right`), when a history is legal (`Legal`), what the
 //! lines of a session ask (`Lines`, `Asked`, `Run`), and how an entry is printed (`Text`).
 //!
-//! In reading order: `entry`, `history`.
+//! `put_entry`, `put_history` and `put_command` write exactly that text to a sink, without memory; where a call of
+//! the sink fails, a front of the text was written, and they answer so (`Written`).
+//!
+//! In reading order: `entry`, `history`; then `text` and what it puts, `request_text`, `command_text`, `reply_text`,
+//! `refusal_text`, all over `parts`.
 #![tactic(auto)]
 
 pub mod command_text;
