@@ -86,7 +86,7 @@ a_torn_write = record {
 }
 
 no_torn_write_is_done : AfterWrite {A = Unit {0}} (record thin { due = Some 1 }) 0 (1 ∷ 2 ∷ []) (Ok tt) torn → ⊥
-no_torn_write_is_done write = cc (write.call.fails_as_told)
+no_torn_write_is_done write = cc
 
 no_flat_disk_wants_memory : (bytes : List ℕ) (after : DiskState) → AfterWrite {A = Unit {0}} (record thin { kind = Flat }) 0 bytes (Err NoMemory) after → ⊥
 no_flat_disk_wants_memory bytes after write = cc (write.allowed)
