@@ -1,3 +1,4 @@
 pub mod Nearer
 pub mod Takes
 pub mod Puts
+mod StreamExamples

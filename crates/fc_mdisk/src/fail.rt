@@ -66,6 +66,7 @@ impl Mdisk for FailDisk {
     ghost meaning = { λ d. d.disk };
 
     fn kind(&self) -> DiskKind {
+        // Shows the proof the fields, and with them the kind that they stand for.
         let _ = &self.counts;
         DiskKind::Flat
     }
@@ -129,6 +130,7 @@ impl Mdisk for FailDisk {
     }
 
     fn arm(&mut self, _calls: u32) {
+        // Shows the proof the fields, which tell no armed fault.
         let _ = &self.counts;
     }
 

@@ -55,6 +55,7 @@ impl Mdisk for MemDisk {
     ghost meaning = { λ d. d };
 
     fn kind(&self) -> DiskKind {
+        // Shows the proof the fields, and with them the kind that they stand for.
         let _ = &self.due;
         DiskKind::Flat
     }
