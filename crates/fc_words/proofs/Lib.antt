@@ -1,3 +1,4 @@
 -- Lemmas, one subject a file.
 pub mod DigitLemmas
+pub mod ValueLemmas
 pub mod WordLemmas
