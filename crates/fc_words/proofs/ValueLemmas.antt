@@ -34,7 +34,7 @@ list_all-digits : (ds : List ℕ) → AllDigits 10 ds → list_all (λ b. is_dig
 list_all-digits [] all = refl
 list_all-digits (d ∷ ds) all = rw (lt-ltb (digit_value d) 10 all.0) (list_all-digits ds all.1)
 
-digit-no_blank : (b : ℕ) → is_digit b 10 ≡ true → is_blank b ≡ false
+pub digit-no_blank : (b : ℕ) → is_digit b 10 ≡ true → is_blank b ≡ false
 digit-no_blank b h = grind (arith, nat_tests)
 
 digit-no_dash : (b : ℕ) → is_digit b 10 ≡ true → eqb b 45 ≡ false
@@ -46,7 +46,7 @@ start-no_dash b h = grind (arith, nat_tests)
 start-no_digit : (b : ℕ) → starts_name b ≡ true → is_digit b 10 ≡ false
 start-no_digit b h = grind (arith, nat_tests)
 
-name-no_blank : (b : ℕ) → continues_name b ≡ true → is_blank b ≡ false
+pub name-no_blank : (b : ℕ) → continues_name b ≡ true → is_blank b ≡ false
 name-no_blank b h = grind (arith, nat_tests)
 
 glyph-value : (d : ℕ) → d < 16 → digit_value (digit_glyph false d) ≡ d
@@ -55,17 +55,17 @@ glyph-value d h = grind (arith, nat_tests)
 glyph-no_dash : (d : ℕ) → d < 16 → eqb (digit_glyph false d) 45 ≡ false
 glyph-no_dash d h = grind (arith, nat_tests)
 
-glyph-no_blank : (d : ℕ) → d < 16 → is_blank (digit_glyph false d) ≡ false
+pub glyph-no_blank : (d : ℕ) → d < 16 → is_blank (digit_glyph false d) ≡ false
 glyph-no_blank d h = grind (arith, nat_tests)
 
-printable-no_blank : (b : ℕ) → 33 ≤ b → is_blank b ≡ false
+pub printable-no_blank : (b : ℕ) → 33 ≤ b → is_blank b ≡ false
 printable-no_blank b h = grind (arith, nat_tests)
 
 delim_of-printable : (b : ℕ) → 33 ≤ b → b ≤ 126 → delim_of (b ∷ []) ≡ Some b
 delim_of-printable b low high = grind (arith, nat_tests)
 
 -- a number's word
-number-all : (n : ℕ) → n < 2 ^ 32 → list_all (λ b. is_digit b 10) (decimal n) ≡ true
+pub number-all : (n : ℕ) → n < 2 ^ 32 → list_all (λ b. is_digit b 10) (decimal n) ≡ true
 number-all n small = list_all-digits (decimal n) (decimal_is_IsNumeral n (omega arith)).0.1
 
 numeral-all : (word : List ℕ) → 0 < length word → list_all (λ b. is_digit b 10) word ≡ true → is_numeral word ≡ true
