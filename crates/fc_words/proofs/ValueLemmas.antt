@@ -61,7 +61,7 @@ glyph-no_blank d h = grind (arith, nat_tests)
 pub printable-no_blank : (b : ℕ) → 33 ≤ b → is_blank b ≡ false
 printable-no_blank b h = grind (arith, nat_tests)
 
-delim_of-printable : (b : ℕ) → 33 ≤ b → b ≤ 126 → delim_of (b ∷ []) ≡ Some b
+pub delim_of-printable : (b : ℕ) → 33 ≤ b → b ≤ 126 → delim_of (b ∷ []) ≡ Some b
 delim_of-printable b low high = grind (arith, nat_tests)
 
 -- a number's word
