@@ -91,7 +91,7 @@ is_word-name (b ∷ name) good =
     let fits = (both (nat_le (length name) 62) (starts_name b && list_all continues_name name) good).0 in
     let bytes = both (starts_name b) (list_all continues_name name) (both (nat_le (length name) 62) (starts_name b && list_all continues_name name) good).1 in
     let letters : list_all is_letter (b ∷ name) ≡ true =
-        rw (continues-letter b (starts-continues b bytes.0)) (list_all-weaker continues_name is_letter continues-letter name bytes.1) in
+    rw (continues-letter b (starts-continues b bytes.0)) (list_all-weaker continues_name is_letter continues-letter name bytes.1) in
     word-of (b ∷ name) (omega arith) letters (omega (arith, leb-true (length name) 62 fits))
 
 pub is_word-ref : (ref : Ref) → IsObject ref → is_word (ref_word ref) ≡ true

@@ -46,7 +46,7 @@ line_back : (verb : Verb) (first : List ℕ) {words : List (List ℕ)} {most : �
 line_back verb first {words} {most} command canonical same word no_comment no_prefix named here few reads =
     let all : list_all is_word (first ∷ words) ≡ true = rw word reads.all in
     let fits : length (join_with_byte 32 (first ∷ words)) ≤ 4096 =
-        let count = reads.few in omega (arith, length-join (first ∷ words) all) in
+    let count = reads.few in omega (arith, length-join (first ∷ words) all) in
     let Line : List (List ℕ) → Type 0 = λ ws. line_of Free (join_with_byte 32 ws) ≡ Ok (OfCommand command) in
     subst Line same (rw (le-ltb 4096 (length (join_with_byte 32 (first ∷ words))) fits, words_of-join (first ∷ words) all, no_comment, no_prefix, named, here) (reads.reads 2))
 
