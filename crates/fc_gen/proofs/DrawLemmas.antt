@@ -50,7 +50,7 @@ session-more before after text n m state behind so_far some one adds =
     let line : List ℕ = command_text (draw state).command ++ codes "\n" in
     let Rest : ℕ → ℕ → Type 0 = λ k s. lines_of (drawn_commands n state) ≡ line ++ lines_of (drawn_commands k s) in
     let rest : lines_of (drawn_commands n state) ≡ line ++ lines_of (drawn_commands m behind) =
-        subst (λ (k : ℕ). Rest k behind) (sym one) (subst (λ (s : ℕ). Rest (n - 1) s) (sym adds.0) (drawn_commands-more n state some)) in
+    subst (λ (k : ℕ). Rest k behind) (sym one) (subst (λ (s : ℕ). Rest (n - 1) s) (sym adds.0) (drawn_commands-more n state some)) in
     ap (λ bytes. bytes ++ lines_of (drawn_commands m behind)) adds.1 ∙ (append_assoc before line _ ∙ (ap (λ bytes. before ++ bytes) (sym rest) ∙ so_far))
 
 -- a session begins with the first lines

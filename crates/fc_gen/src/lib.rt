@@ -10,10 +10,9 @@ ghost use Rattle.std.specs.Fmt.{digit_glyph};
 ghost use Rattle.std.specs.List.{flat_map};
 ghost use Rattle.fc_gen.specs.Session.{draw, draw_write, draw_read, draw_start, draw_stop, draw_advance, drawn_of, first_commands, lines_of, next_state, session_text, Adds};
 
-use std::alloc::Global;
-
 use fc_base::outcome::NoMemory;
 use itoa::Buffer;
+use std::alloc::Global;
 
 /// The lines that are drawn.
 const DRAWN_LINES: u32 = 5000;
@@ -214,4 +213,32 @@ pub fn session(alloc: Global, number: u64) -> Result<Vec<u8>, NoMemory>
         text.put_drawn(&mut draws)?;
     }
     Ok(text.bytes)
+}
+
+#[cfg(test)]
+mod tests {
+    use super::*;
+    use std::test::Fail;
+
+    /// The length of a session, and the sum of its bytes by weights 1 to 251, told by another program.
+    #[test]
+    fn is_as_another_program_draws_it(rt: HostRuntime) -> Result<(), Fail> {
+        let known = [
+            (0, 93_721, 847_678_649),
+            (1, 93_286, 842_022_089),
+            (u64::MAX, 93_667, 848_448_731),
+        ];
+        for (number, len, weighed) in known {
+            let text = session(rt.alloc(), number)?;
+            let mut sum: u64 = 0;
+            let mut weight: u64 = 1;
+            for byte in &text {
+                sum = sum.wrapping_add(weight.wrapping_mul(u64::from(*byte)));
+                weight = if weight >= 251 { 1 } else { weight + 1 };
+            }
+            assert_eq!(rt; text.len(), len, "length of {number}");
+            assert_eq!(rt; sum, weighed, "sum of {number}");
+        }
+        Ok(())
+    }
 }

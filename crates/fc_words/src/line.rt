@@ -1,8 +1,10 @@
 //! A line of a session, read.
 
-ghost use Rattle.std.specs.Prelude.{◌≡◌, ◌||◌, codes};
-ghost use Rattle.std.specs.Str.{bytes_eq};
+ghost use Rattle.std.specs.Prelude.{◌≡◌, Ok};
+ghost use Rattle.fc_base.specs.CommandText.{command_text};
+ghost use Rattle.fc_base.specs.declared.command.Command.{Command};
 ghost use Rattle.fc_words.specs.Answers.{Answers};
+ghost use Rattle.fc_words.specs.Canonical.{IsCommand};
 ghost use Rattle.fc_words.specs.Lines.{is_prefix, line_of};
 
 use crate::reader::{begins_with_byte, read_named};
@@ -24,6 +26,17 @@ fn is_prefix_word(word: &[u8]) -> bool
 /// return directly before that. Answers the line, or its first fault with its word's number. (docs/MANUAL.md,
 /// "Lines".)
 pub fn read_line(alloc: Global, line: &[u8], scope: Scope) -> Result<Line, WordRefused>
+    ensures value { Answers result (line_of scope line.now) }
+
+    // The canonical line of a command is read as the command.
+    ensures reads_back { (command : Command) → IsCommand command → line.now ≡ command_text command
+        → scope ≡ Scope.Free → Answers result (Ok (Line.Command command)) }
+{
+    read_in(alloc, line, scope)
+}
+
+/// Reads a line that stands in the scope.
+fn read_in(alloc: Global, line: &[u8], scope: Scope) -> Result<Line, WordRefused>
     ensures { Answers result (line_of scope line.now) }
 {
     if line.len() > MAX_LINE_BYTES {
