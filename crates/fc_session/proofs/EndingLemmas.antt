@@ -47,8 +47,8 @@ SessionRead-ended before after grain told line entries empty read =
         read.ends.0,
         read.ends.1,
         subst P (sym (append-nil (ended_lines read.bytes)) ∙ ap (λ l. ended_lines read.bytes ++ last_line l) (sym closed))
-          record { run = progress.run; legal = progress.legal },
-      )
+            record { run = progress.run; legal = progress.legal },
+      );
     }
 
 -- how reading ends after the last line's answer
@@ -76,7 +76,7 @@ pub SessionRead-answered :
     (answer : Result (Unit {0}) Stop) (before after : SourceState) (grain : GrainSize) (told : Told) (line : List ℕ) (old new : HistoryState) →
     (line ≡ [] → ⊥) →
     Answered answer grain (told_after grain told old.entries)
-      (line_asks grain reading (told_after grain told old.entries) line) old new →
+    (line_asks grain reading (told_after grain told old.entries) line) old new →
     ReadTo ending.End before after grain told line old.entries →
     SessionRead (after_answer answer) before after grain told new.entries
 SessionRead-answered answer before after grain told line old new some answered read =
@@ -86,8 +86,8 @@ SessionRead-answered answer before after grain told line old new some answered r
       bytes = read.bytes;
       gave = read.gave;
       ends = answered_all answer before after grain told read.bytes new.entries read.ends.0 read.ends.1
-        (subst P (last_line-open read.bytes line progress.unended some)
-          (LineEnds-answer answer grain told (ended_lines read.bytes) line old new progress.run progress.legal answered))
+          (subst P (last_line-open read.bytes line progress.unended some)
+          (LineEnds-answer answer grain told (ended_lines read.bytes) line old new progress.run progress.legal answered));
     }
 
 -- another ending
@@ -102,24 +102,24 @@ SessionRead-other ending.ReadFault before after grain told line entries other re
     record {
       bytes = read.bytes;
       gave = read.gave;
-      ends = (read.ends.0, read.ends.1, record { run = progress.run; legal = progress.legal })
+      ends = (read.ends.0, read.ends.1, record { run = progress.run; legal = progress.legal });
     }
 SessionRead-other ending.TooLong before after grain told line entries other read =
     let progress : Progress grain told read.ends.0 line entries = read.ends.4 in
     record {
       bytes = read.bytes;
       gave = read.gave;
-      ends = (read.ends.0, read.ends.1, read.ends.2, read.ends.3, record { run = progress.run; legal = progress.legal })
+      ends = (read.ends.0, read.ends.1, read.ends.2, read.ends.3, record { run = progress.run; legal = progress.legal });
     }
 SessionRead-other (ending.Stopped LogFull) before after grain told line entries other read = record {
   bytes = read.bytes;
   gave = read.gave;
-  ends = (read.ends.0, Filled-more grain told (ended_lines read.bytes) (all_lines read.bytes) entries (Grows-all read.bytes) read.ends.1)
+  ends = (read.ends.0, Filled-more grain told (ended_lines read.bytes) (all_lines read.bytes) entries (Grows-all read.bytes) read.ends.1);
 }
 SessionRead-other (ending.Stopped NoMemory) before after grain told line entries other read = record {
   bytes = read.bytes;
   gave = read.gave;
-  ends = (read.ends.0, Broken-more grain told (ended_lines read.bytes) (all_lines read.bytes) entries (Grows-all read.bytes) read.ends.1)
+  ends = (read.ends.0, Broken-more grain told (ended_lines read.bytes) (all_lines read.bytes) entries (Grows-all read.bytes) read.ends.1);
 }
 
 -- a text that was put, and then sent on
@@ -140,7 +140,7 @@ FaultsAfter-flushed :
 FaultsAfter-flushed told put_told true before put after same first second = record {
   kept = omega (arith, first.kept, second.kept);
   cause = HasRisen-before before put after first.kept second.cause;
-  quiet = quiet told
+  quiet = quiet told;
 }
   where
     quiet : (told : Bool) → OnTrue told (OnFalse true (after ≡ before))
@@ -151,7 +151,7 @@ FaultsAfter-flushed told put_told false before put after same first second =
     record {
       kept = omega (arith, first.kept, second.kept);
       cause = tt;
-      quiet = quiet told first.quiet (subst P same second).quiet
+      quiet = quiet told first.quiet (subst P same second).quiet;
     }
   where
     quiet : (told : Bool) → OnTrue told (OnFalse false (put ≡ before)) → OnTrue told (OnFalse false (after ≡ put)) → OnTrue told (OnFalse false (after ≡ before))
@@ -168,14 +168,14 @@ Written-flushed before put after text true written flushed = record {
   front = record { front = text; rest = []; split = sym (append-nil text); added = flushed.held ∙ written.held };
   told = ap is_some flushed.failing ∙ is_some-one_call_on put.failing ∙ written.told;
   faults = FaultsAfter-flushed (is_some before.failing) (is_some put.failing) true before.faults put.faults after.faults
-    written.told written.faults flushed.faults
+      written.told written.faults flushed.faults;
 }
 Written-flushed before put after text false written flushed = record {
   held = flushed.held ∙ written.held;
   front = tt;
   told = ap is_some flushed.failing ∙ is_some-one_call_on put.failing ∙ written.told;
   faults = FaultsAfter-flushed (is_some before.failing) (is_some put.failing) false before.faults put.faults after.faults
-    written.told written.faults flushed.faults
+      written.told written.faults flushed.faults;
 }
 
 -- a line with some byte

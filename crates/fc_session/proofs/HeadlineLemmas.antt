@@ -45,9 +45,9 @@ Broken-complete grain told lines history complete = record {
     lines_are = sym (append-nil lines);
     entries_are = sym (append-nil history);
     run = complete.run;
-    next = refl
+    next = refl;
   };
-  legal = complete.legal
+  legal = complete.legal;
 }
 
 Broken-filled :
@@ -65,9 +65,9 @@ Broken-filled grain told lines history filled =
         lines_are = wants.lines_are;
         entries_are = wants.entries_are;
         run = wants.run;
-        next = (wants.wanted ∷ wants.more, wants.next)
+        next = (wants.wanted ∷ wants.more, wants.next);
       };
-      legal = filled.legal
+      legal = filled.legal;
     }
 
 -- however a session was read, its entries answer some first lines
@@ -77,18 +77,20 @@ pub Broken-read :
     Broken grain told (all_lines read.bytes) entries × (length read.bytes ≤ input_limit + 1)
 Broken-read ending.End before after grain told entries read =
     (Broken-complete grain told (all_lines read.bytes) entries read.ends.2, omega (arith, read.ends.1))
-Broken-read ending.ReadFault before after grain told entries read =
-    ( Broken-more grain told (ended_lines read.bytes) (all_lines read.bytes) entries (Grows-all read.bytes)
-        (Broken-complete grain told (ended_lines read.bytes) entries read.ends.2)
-    , omega (arith, read.ends.1) )
+Broken-read ending.ReadFault before after grain told entries read = (
+  Broken-more grain told (ended_lines read.bytes) (all_lines read.bytes) entries (Grows-all read.bytes)
+      (Broken-complete grain told (ended_lines read.bytes) entries read.ends.2),
+  omega (arith, read.ends.1),
+)
 Broken-read ending.TooLong before after grain told entries read =
     let P : List ℕ → Type 0 = λ b. Broken grain told (all_lines b) entries in
     let kept : List ℕ = read.ends.0 in
-    let past : List ℕ = read.ends.1 ∷ [] in
-    ( subst P (sym read.ends.2)
-        (Broken-more grain told (ended_lines kept) (all_lines (kept ++ past)) entries (all_lines-grow kept past)
-          (Broken-complete grain told (ended_lines kept) entries read.ends.4))
-    , omega (arith, ap length read.ends.2, length-append kept past, read.ends.3) )
+    let past : List ℕ = read.ends.1 ∷ [] in (
+      subst P (sym read.ends.2)
+          (Broken-more grain told (ended_lines kept) (all_lines (kept ++ past)) entries (all_lines-grow kept past)
+          (Broken-complete grain told (ended_lines kept) entries read.ends.4)),
+      omega (arith, ap length read.ends.2, length-append kept past, read.ends.3),
+    )
 Broken-read (ending.Stopped LogFull) before after grain told entries read =
     (Broken-filled grain told (all_lines read.bytes) entries read.ends.1, omega (arith, read.ends.0))
 Broken-read (ending.Stopped NoMemory) before after grain told entries read = (read.ends.1, omega (arith, read.ends.0))
@@ -100,11 +102,11 @@ WriteFault-ends :
     SessionEnds status.WriteFault grain told before after sink sink' history
 WriteFault-ends ended before after sink sink' grain told history read written =
     let broken : (Broken grain told (all_lines read.bytes) history.entries × (length read.bytes ≤ input_limit + 1)) =
-      Broken-read ended before after grain told history.entries read in
+    Broken-read ended before after grain told history.entries read in
     record {
       bytes = read.bytes;
       gave = read.gave;
-      ends = (written.faults.cause, broken.1, broken.0.partial, written.front)
+      ends = (written.faults.cause, broken.1, broken.0.partial, written.front);
     }
 
 -- what was put, whole or not, begins with a front of the text
@@ -139,7 +141,7 @@ SessionEnds-written ending.TooLong false before after sink sink' grain told hist
     record {
       bytes = read.bytes;
       gave = read.gave;
-      ends = (read.ends.0, read.ends.1, read.ends.2, read.ends.3, complete.run, written.held)
+      ends = (read.ends.0, read.ends.1, read.ends.2, read.ends.3, complete.run, written.held);
     }
 SessionEnds-written (ending.Stopped LogFull) true before after sink sink' grain told history read written =
     WriteFault-ends (ending.Stopped LogFull) before after sink sink' grain told history read written
@@ -172,9 +174,9 @@ ByMain-run : (grain : GrainSize) (told : Told) (lines : List (List ℕ)) (entrie
 ByMain-run grain told [] entries run = subst ByMain (sym run) tt
 ByMain-run grain told (line ∷ lines) entries run =
     subst ByMain (sym run.2)
-      (ByMain-append run.0 run.1
-        (ByMain-asked run.0 [] _ (append-nil (asks run.0) ∙ run.3))
-        (ByMain-run grain (told_after grain told run.0) lines run.1 run.4))
+    (ByMain-append run.0 run.1
+    (ByMain-asked run.0 [] _ (append-nil (asks run.0) ∙ run.3))
+    (ByMain-run grain (told_after grain told run.0) lines run.1 run.4))
 
 ByMain-next : (grain : GrainSize) (told : Told) (lines : List (List ℕ)) (entries : List Entry) →
     IsPartOfNext grain reading told lines entries → ByMain entries
@@ -186,9 +188,9 @@ pub ByMain-broken : (grain : GrainSize) (told : Told) (lines : List (List ℕ)) 
 ByMain-broken grain told lines entries broken =
     let partial : IsPartialRun grain reading told lines entries = broken.partial in
     subst ByMain (sym partial.entries_are)
-      (ByMain-append partial.whole partial.part
-        (ByMain-run grain told partial.before partial.whole partial.run)
-        (ByMain-next grain (told_after grain told partial.whole) partial.after partial.part partial.next))
+    (ByMain-append partial.whole partial.part
+    (ByMain-run grain told partial.before partial.whole partial.run)
+    (ByMain-next grain (told_after grain told partial.whole) partial.after partial.part partial.next))
 
 -- an entry by `main` has a name where there is one
 named_main : (count : ℕ) (entries : List Entry) → 0 < count → ByMain entries → ByRecursion (λ entry. entry.actor < count) entries
@@ -203,10 +205,10 @@ pub HasNames-read :
 HasNames-read ended before after grain told history name read actors =
     let one : 0 < length history.actors = omega (arith, ap length actors) in
     let broken : (Broken grain told (all_lines read.bytes) history.entries × (length read.bytes ≤ input_limit + 1)) =
-      Broken-read ended before after grain told history.entries read in
+    Broken-read ended before after grain told history.entries read in
     All-from_recursion (λ entry. entry.actor < length history.actors) history.entries
-      (named_main (length history.actors) history.entries one
-        (ByMain-broken grain told (all_lines read.bytes) history.entries broken.0))
+    (named_main (length history.actors) history.entries one
+    (ByMain-broken grain told (all_lines read.bytes) history.entries broken.0))
 
 -- the status that was computed is that of the ending
 pub SessionEnds-status :
@@ -257,8 +259,8 @@ SessionEnds-starved grain told source sink history none = record {
       lines_are = refl;
       entries_are = none;
       run = refl;
-      next = refl
+      next = refl;
     },
     record { front = []; rest = history_text history; split = refl; added = held_nothing sink.held },
-  )
+  );
 }

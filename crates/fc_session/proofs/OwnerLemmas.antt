@@ -34,11 +34,11 @@ flat_there : (kinds : List DiskKind) → not ((count_by is_flat kinds == 0) || f
 flat_there [] = refl
 flat_there (Flat ∷ kinds) =
     ap (λ (x : Bool). not (x || false))
-      (ne_eqb (count_by is_flat (Flat ∷ kinds)) 0
-        (λ none. omega (arith, sum_by-cons (λ (k : DiskKind). cond (is_flat k) 1 0) Flat kinds)))
+    (ne_eqb (count_by is_flat (Flat ∷ kinds)) 0
+    (λ none. omega (arith, sum_by-cons (λ (k : DiskKind). cond (is_flat k) 1 0) Flat kinds)))
 flat_there (Thin ∷ kinds) =
     let same : count_by is_flat (Thin ∷ kinds) ≡ count_by is_flat kinds =
-      sum_by-cons (λ (k : DiskKind). cond (is_flat k) 1 0) Thin kinds ∙ zero-add (count_by is_flat kinds) in
+    sum_by-cons (λ (k : DiskKind). cond (is_flat k) 1 0) Thin kinds ∙ zero-add (count_by is_flat kinds) in
     ap (λ (n : ℕ). not ((n == 0) || false)) same ∙ flat_there kinds
 
 takes_by :
@@ -48,8 +48,8 @@ takes_by :
     (is_untouched volumes && not (lacks_disk Flat pools)) ≡ (is_none row && list_any is_flat kinds)
 takes_by None kinds volumes pools rows pool =
     ap (λ (vs : List Volume). is_untouched vs && not (lacks_disk Flat pools)) rows
-      ∙ ap (λ (ps : List Pool). not (lacks_disk Flat ps)) pool
-      ∙ flat_there kinds
+    ∙ ap (λ (ps : List Pool). not (lacks_disk Flat ps)) pool
+    ∙ flat_there kinds
 takes_by (Some v) kinds volumes pools rows pool =
     ap (λ (vs : List Volume). is_untouched vs && not (lacks_disk Flat pools)) rows
 
@@ -71,7 +71,7 @@ pub AnsweredOne-built :
 AnsweredOne-built answer grain state told can line built old new stands can_is built_is answered =
     let P : Bool → Type 0 = λ b. AnsweredOne answer grain told (by_main (asked grain told (cond b (Ok line) (Err UnknownCommand)))) 262144 old new in
     let same : built ≡ is_built (takes_volume told) line =
-      built_is ∙ ap (λ (b : Bool). is_built b line) (can_is ∙ sym (takes_volume-stands state told stands)) in
+    built_is ∙ ap (λ (b : Bool). is_built b line) (can_is ∙ sym (takes_volume-stands state told stands)) in
     subst P same answered
 
 -- what one store says of an answer, in the words of every store

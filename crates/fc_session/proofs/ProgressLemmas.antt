@@ -26,15 +26,15 @@ pub Progress-byte :
     Progress grain told (bytes ++ byte ∷ []) (line ++ byte ∷ []) entries
 Progress-byte grain told bytes line entries byte other before =
     let e : lined (bytes ++ byte ∷ []) ≡ record { ended = (lined bytes).ended; unended = (lined bytes).unended ++ byte ∷ [] } =
-      lined-append bytes (byte ∷ [])
-        ∙ ap (λ b. cond {A = Lined} b
-            record { ended = (lined bytes).ended ++ without_return (lined bytes).unended ∷ []; unended = [] }
-            record { ended = (lined bytes).ended; unended = (lined bytes).unended ++ byte ∷ [] }) other in
+    lined-append bytes (byte ∷ [])
+    ∙ ap (λ b. cond {A = Lined} b
+    record { ended = (lined bytes).ended ++ without_return (lined bytes).unended ∷ []; unended = [] }
+    record { ended = (lined bytes).ended; unended = (lined bytes).unended ++ byte ∷ [] }) other in
     let P : Lined → Type 0 = λ l. IsRun grain reading told l.ended entries in
     record {
       run = subst P (sym e) before.run;
       legal = before.legal;
-      unended = ap (λ l. l ++ byte ∷ []) before.unended ∙ sym (ap (λ (l : Lined). l.unended) e)
+      unended = ap (λ l. l ++ byte ∷ []) before.unended ∙ sym (ap (λ (l : Lined). l.unended) e);
     }
 
 -- the line that a newline ends
@@ -55,13 +55,13 @@ pub LineEnds-answer :
     IsRun grain reading told lines old.entries →
     IsLegal grain told old.entries →
     Answered answer grain (told_after grain told old.entries)
-      (line_asks grain reading (told_after grain told old.entries) line) old new →
+    (line_asks grain reading (told_after grain told old.entries) line) old new →
     LineEnds answer grain told (lines ++ line ∷ []) new.entries
 LineEnds-answer (Ok done) grain told lines line old new run legal answered =
     let P : List Entry → Type 0 = λ es. Complete grain told (lines ++ line ∷ []) es in
     subst P (sym answered.entries) record {
       run = IsRun-append grain reading told lines line old.entries answered.more run answered.all;
-      legal = IsLegal-append grain told old.entries answered.more legal answered.legal
+      legal = IsLegal-append grain told old.entries answered.more legal answered.legal;
     }
 LineEnds-answer (Err LogFull) grain told lines line old new run legal answered =
     let P : List Entry → Type 0 = λ es. IsLegal grain told es in
@@ -77,10 +77,10 @@ LineEnds-answer (Err LogFull) grain told lines line old new run legal answered =
         lines_are = refl;
         entries_are = answered.entries;
         run = run;
-        next = answered.some
+        next = answered.some;
       };
       full = answered.full;
-      legal = subst P (sym answered.entries) (IsLegal-append grain told old.entries answered.more legal answered.legal)
+      legal = subst P (sym answered.entries) (IsLegal-append grain told old.entries answered.more legal answered.legal);
     }
 LineEnds-answer (Err NoMemory) grain told lines line old new run legal answered =
     let P : List Entry → Type 0 = λ es. IsLegal grain told es in
@@ -93,9 +93,9 @@ LineEnds-answer (Err NoMemory) grain told lines line old new run legal answered 
         lines_are = refl;
         entries_are = answered.entries;
         run = run;
-        next = (answered.left, answered.some)
+        next = (answered.left, answered.some);
       };
-      legal = subst P (sym answered.entries) (IsLegal-append grain told old.entries answered.more legal answered.legal)
+      legal = subst P (sym answered.entries) (IsLegal-append grain told old.entries answered.more legal answered.legal);
     }
 
 -- a newline ends the line at hand
@@ -109,7 +109,7 @@ Fed-ended (Ok done) grain told bytes rest entries ends empty =
     record {
       run = subst P (sym (ended-newline bytes)) ends.run;
       legal = ends.legal;
-      unended = empty refl ∙ sym (ap (λ (l : Lined). l.unended) (ended-newline bytes))
+      unended = empty refl ∙ sym (ap (λ (l : Lined). l.unended) (ended-newline bytes));
     }
 Fed-ended (Err LogFull) grain told bytes rest entries ends empty =
     let P : Lined → Type 0 = λ l. Filled grain told l.ended entries in
@@ -124,16 +124,16 @@ pub Fed-newline :
     asked ≡ without_return line →
     Progress grain told bytes line old.entries →
     Answered answer grain (told_after grain told old.entries)
-      (line_asks grain reading (told_after grain told old.entries) asked) old new →
+    (line_asks grain reading (told_after grain told old.entries) asked) old new →
     (IsOk answer → rest ≡ []) →
     Fed answer grain told (bytes ++ 10 ∷ []) rest new.entries
 Fed-newline answer grain told bytes line asked rest old new asks before answered empty =
     let P : List ℕ → Type 0 = λ l. Answered answer grain (told_after grain told old.entries)
-      (line_asks grain reading (told_after grain told old.entries) l) old new in
+    (line_asks grain reading (told_after grain told old.entries) l) old new in
     Fed-ended answer grain told bytes rest new.entries
-      (LineEnds-answer answer grain told (ended_lines bytes) (without_return (lined bytes).unended) old new
-        before.run before.legal (subst P (asks ∙ ap without_return before.unended) answered))
-      empty
+    (LineEnds-answer answer grain told (ended_lines bytes) (without_return (lined bytes).unended) old new
+    before.run before.legal (subst P (asks ∙ ap without_return before.unended) answered))
+    empty
 
 -- where no memory was had for a byte, the lines that ended were answered
 pub Fed-starved :
@@ -143,7 +143,7 @@ pub Fed-starved :
     Broken grain told (ended_lines (bytes ++ byte ∷ [])) entries
 Fed-starved grain told bytes line entries byte other before =
     let after : Progress grain told (bytes ++ byte ∷ []) (line ++ byte ∷ []) entries =
-      Progress-byte grain told bytes line entries byte other before in
+    Progress-byte grain told bytes line entries byte other before in
     record {
       partial = record {
         before = ended_lines (bytes ++ byte ∷ []);
@@ -153,9 +153,9 @@ Fed-starved grain told bytes line entries byte other before =
         lines_are = sym (append-nil (ended_lines (bytes ++ byte ∷ [])));
         entries_are = sym (append-nil entries);
         run = after.run;
-        next = refl
+        next = refl;
       };
-      legal = before.legal
+      legal = before.legal;
     }
 
 -- a stop that is told of some lines is told of more lines too
@@ -176,14 +176,14 @@ Filled-more grain told lines all entries grows filled =
         wanted = wants.wanted;
         more = wants.more;
         lines_are =
-          grows.is ∙ ap (λ l. l ++ grows.more) wants.lines_are
+            grows.is ∙ ap (λ l. l ++ grows.more) wants.lines_are
             ∙ append_assoc wants.before (wants.line ∷ wants.after) grows.more;
         entries_are = wants.entries_are;
         run = wants.run;
-        next = wants.next
+        next = wants.next;
       };
       full = filled.full;
-      legal = filled.legal
+      legal = filled.legal;
     }
 
 part-more :
@@ -210,13 +210,13 @@ Broken-more grain told lines all entries grows broken =
         whole = partial.whole;
         part = partial.part;
         lines_are =
-          grows.is ∙ ap (λ l. l ++ grows.more) partial.lines_are
+            grows.is ∙ ap (λ l. l ++ grows.more) partial.lines_are
             ∙ append_assoc partial.before partial.after grows.more;
         entries_are = partial.entries_are;
         run = partial.run;
-        next = part-more grain (told_after grain told partial.whole) partial.after grows.more partial.part partial.next
+        next = part-more grain (told_after grain told partial.whole) partial.after grows.more partial.part partial.next;
       };
-      legal = broken.legal
+      legal = broken.legal;
     }
 
 -- a stop stays one when more bytes were there
@@ -237,10 +237,10 @@ whole :
     ((bytes ++ take i piece) ++ byte ∷ []) ++ drop (i + 1) piece ≡ bytes ++ piece
 whole bytes piece i byte inside is =
     append_assoc (bytes ++ take i piece) (byte ∷ []) (drop (i + 1) piece)
-      ∙ append_assoc bytes (take i piece) (byte ∷ drop (i + 1) piece)
-      ∙ ap (λ b. bytes ++ (take i piece ++ b ∷ drop (i + 1) piece)) is
-      ∙ ap (λ rest. bytes ++ (take i piece ++ rest)) (sym (drop_more piece i 0 inside))
-      ∙ ap (λ p. bytes ++ p) (take-append-drop i piece)
+    ∙ append_assoc bytes (take i piece) (byte ∷ drop (i + 1) piece)
+    ∙ ap (λ b. bytes ++ (take i piece ++ b ∷ drop (i + 1) piece)) is
+    ∙ ap (λ rest. bytes ++ (take i piece ++ rest)) (sym (drop_more piece i 0 inside))
+    ∙ ap (λ p. bytes ++ p) (take-append-drop i piece)
 
 -- a stop in the midst of a piece is one of the whole piece
 pub Fed-within :
@@ -252,7 +252,7 @@ pub Fed-within :
     byte ≡ get_or piece i 0 →
     ((bytes : List ℕ) → Progress grain told bytes line entries → Progress grain told (bytes ++ take i piece) now_line now_entries) →
     ((bytes : List ℕ) → Progress now_grain now_told bytes now_line now_entries
-      → Fed {A = Unit {0}} (Err stop) now_grain now_told (bytes ++ byte ∷ []) rest after) →
+    → Fed {A = Unit {0}} (Err stop) now_grain now_told (bytes ++ byte ∷ []) rest after) →
     (bytes : List ℕ) →
     Progress grain told bytes line entries →
     Fed {A = Unit {0}} (Err stop) grain told (bytes ++ piece) rest after
@@ -260,10 +260,10 @@ Fed-within stop grain now_grain told now_told piece i byte line now_line rest en
     let P : GrainSize → Type 0 = λ g. Progress g told (bytes ++ take i piece) now_line now_entries in
     let Q : Told → Type 0 = λ t. Progress now_grain t (bytes ++ take i piece) now_line now_entries in
     let fed : Fed {A = Unit {0}} (Err stop) now_grain now_told ((bytes ++ take i piece) ++ byte ∷ []) rest after =
-      next (bytes ++ take i piece) (subst Q (sym same_told) (subst P (sym same_grain) (so_far bytes before))) in
+    next (bytes ++ take i piece) (subst Q (sym same_told) (subst P (sym same_grain) (so_far bytes before))) in
     let R : GrainSize → Type 0 = λ g. Fed {A = Unit {0}} (Err stop) g now_told ((bytes ++ take i piece) ++ byte ∷ []) rest after in
     let S : Told → Type 0 = λ t. Fed {A = Unit {0}} (Err stop) grain t ((bytes ++ take i piece) ++ byte ∷ []) rest after in
     let T : List ℕ → Type 0 = λ b. Fed {A = Unit {0}} (Err stop) grain told b rest after in
     subst T (whole bytes piece i byte inside is)
-      (Fed-more stop grain told ((bytes ++ take i piece) ++ byte ∷ []) (drop (i + 1) piece) rest rest after
-        (subst S same_told (subst R same_grain fed)))
+    (Fed-more stop grain told ((bytes ++ take i piece) ++ byte ∷ []) (drop (i + 1) piece) rest rest after
+    (subst S same_told (subst R same_grain fed)))

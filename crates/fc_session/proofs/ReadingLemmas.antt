@@ -77,7 +77,7 @@ SoFar-start source grain told line entries no_line no_entries =
       gave = gave source.left;
       counted = refl;
       faults = omega arith;
-      progress = subst P (sym no_entries) record { run = refl; legal = tt; unended = no_line }
+      progress = subst P (sym no_entries) record { run = refl; legal = tt; unended = no_line };
     }
   where
     gave : (left : Option (List ℕ)) → left ≡ option_map (λ rest. [] ++ rest) left
@@ -92,7 +92,7 @@ pub Turned-here :
     now_told ≡ told →
     (so_far : SoFar before now grain told line entries taken) →
     ((bytes : List ℕ) → Progress now_grain now_told bytes line entries
-      → Turned t most now after now_grain now_told bytes rest more) →
+    → Turned t most now after now_grain now_told bytes rest more) →
     Turned t most now after grain told so_far.bytes rest more
 Turned-here t most taken before now after grain now_grain told now_told line rest entries more same_grain same_told so_far turned =
     let P : GrainSize → Type 0 = λ g. Progress g told so_far.bytes line entries in
@@ -116,11 +116,12 @@ SoFar-more n most taken before now after grain told line rest entries more so_fa
       gave = Gave-append before now after so_far.bytes piece.piece so_far.gave piece.gave;
       counted = counts so_far.bytes piece.piece so_far.counted piece.counted;
       faults = le before.faults now.faults after.faults so_far.faults faults;
-      progress = piece.fed
+      progress = piece.fed;
     }
   where
     counts : (xs ys : List ℕ) → length xs ≡ taken → length ys ≡ n → length (xs ++ ys) ≡ taken + n
     counts xs ys a b = omega (arith, length-append xs ys)
+
     le : (a b c : ℕ) → a ≤ b → b ≤ c → a ≤ c
     le a b c p q = omega arith
 
@@ -137,7 +138,7 @@ ReadTo-end most taken before now after grain told line rest entries more so_far 
   bytes = so_far.bytes;
   gave = Gave-nothing before now after so_far.bytes so_far.gave turned.1;
   faults = omega (arith, so_far.faults);
-  ends = (turned.0, omega (arith, so_far.counted), turned.2)
+  ends = (turned.0, omega (arith, so_far.counted), turned.2);
 }
 
 -- a fault
@@ -153,7 +154,7 @@ ReadTo-fault most taken before now after grain told line rest entries more so_fa
   bytes = so_far.bytes;
   gave = Gave-nothing before now after so_far.bytes so_far.gave turned.1;
   faults = omega (arith, so_far.faults);
-  ends = (HasRisen-before before.faults now.faults after.faults so_far.faults turned.0, omega (arith, so_far.counted), turned.2)
+  ends = (HasRisen-before before.faults now.faults after.faults so_far.faults turned.0, omega (arith, so_far.counted), turned.2);
 }
 
 -- a stop of the store
@@ -171,7 +172,7 @@ ReadTo-stopped n most taken stop before now after grain told line rest entries m
       bytes = so_far.bytes ++ piece.piece;
       gave = Gave-append before now after so_far.bytes piece.piece so_far.gave piece.gave;
       faults = omega (arith, so_far.faults);
-      ends = (omega (arith, length-append so_far.bytes piece.piece, so_far.counted, piece.counted, turned.0), piece.fed)
+      ends = (omega (arith, length-append so_far.bytes piece.piece, so_far.counted, piece.counted, turned.0), piece.fed);
     }
 
 -- the byte past the limit was asked for
@@ -187,18 +188,18 @@ ReadTo-past ending.End taken before now after grain told line entries so_far ful
   bytes = so_far.bytes;
   gave = Gave-nothing before now after so_far.bytes so_far.gave past.1;
   faults = omega (arith, so_far.faults);
-  ends = (past.0, omega (arith, so_far.counted), so_far.progress)
+  ends = (past.0, omega (arith, so_far.counted), so_far.progress);
 }
 ReadTo-past ending.ReadFault taken before now after grain told line entries so_far full faults past = record {
   bytes = so_far.bytes;
   gave = Gave-nothing before now after so_far.bytes so_far.gave past.1;
   faults = omega (arith, so_far.faults);
-  ends = (HasRisen-before before.faults now.faults after.faults so_far.faults past.0, omega (arith, so_far.counted), so_far.progress)
+  ends = (HasRisen-before before.faults now.faults after.faults so_far.faults past.0, omega (arith, so_far.counted), so_far.progress);
 }
 ReadTo-past ending.TooLong taken before now after grain told line entries so_far full faults past = record {
   bytes = so_far.bytes ++ past.0 ∷ [];
   gave = Gave-append before now after so_far.bytes (past.0 ∷ []) so_far.gave past.1;
   faults = omega (arith, so_far.faults);
-  ends = (so_far.bytes, past.0, refl, so_far.counted ∙ full, so_far.progress)
+  ends = (so_far.bytes, past.0, refl, so_far.counted ∙ full, so_far.progress);
 }
 ReadTo-past (ending.Stopped stop) taken before now after grain told line entries so_far full faults past = absurd past

@@ -28,39 +28,39 @@ abbrev pub EndsAs : Status → GrainSize → Told → List ℕ → SourceState �
 -- the source is at its end, all lines are answered, and the text is written
 EndsAs status.Done grain told bytes source source' sink sink' history =
     IsAtEnd source'
-      × (length bytes ≤ input_limit)
-      × IsRun grain reading told (all_lines bytes) history.entries
-      × GotText history sink sink'
+    × (length bytes ≤ input_limit)
+    × IsRun grain reading told (all_lines bytes) history.entries
+    × GotText history sink sink'
 -- a call of the source failed; the lines that had ended are answered, and the text is written
 EndsAs status.ReadFault grain told bytes source source' sink sink' history =
     HasRisen source.faults source'.faults
-      × (length bytes ≤ input_limit)
-      × IsRun grain reading told (ended_lines bytes) history.entries
-      × GotText history sink sink'
+    × (length bytes ≤ input_limit)
+    × IsRun grain reading told (ended_lines bytes) history.entries
+    × GotText history sink sink'
 -- the byte past the limit was taken; the lines that ended before it are answered, and the text is written
 EndsAs status.TooLong grain told bytes source source' sink sink' history =
     (kept : List ℕ) × (past : ℕ)
-      × (bytes ≡ kept ++ past ∷ [])
-      × (length kept ≡ input_limit)
-      × IsRun grain reading told (ended_lines kept) history.entries
-      × GotText history sink sink'
+    × (bytes ≡ kept ++ past ∷ [])
+    × (length kept ≡ input_limit)
+    × IsRun grain reading told (ended_lines kept) history.entries
+    × GotText history sink sink'
 -- there are 262,144 entries, and a line asks for one more; the text is written
 EndsAs status.LogFull grain told bytes source source' sink sink' history =
     (length bytes ≤ input_limit)
-      × WantsMore grain reading told (all_lines bytes) history.entries
-      × (length history.entries ≡ 262144)
-      × GotText history sink sink'
+    × WantsMore grain reading told (all_lines bytes) history.entries
+    × (length history.entries ≡ 262144)
+    × GotText history sink sink'
 -- a call of the sink failed; some first lines are answered, and a front of the text is written
 EndsAs status.WriteFault grain told bytes source source' sink sink' history =
     HasRisen sink.faults sink'.faults
-      × (length bytes ≤ input_limit + 1)
-      × IsPartialRun grain reading told (all_lines bytes) history.entries
-      × GotFront history sink sink'
+    × (length bytes ≤ input_limit + 1)
+    × IsPartialRun grain reading told (all_lines bytes) history.entries
+    × GotFront history sink sink'
 -- memory was wanted; some first lines are answered, and a front of the text is written
 EndsAs status.NoMemory grain told bytes source source' sink sink' history =
     (length bytes ≤ input_limit)
-      × IsPartialRun grain reading told (all_lines bytes) history.entries
-      × GotFront history sink sink'
+    × IsPartialRun grain reading told (all_lines bytes) history.entries
+    × GotFront history sink sink'
 -- nothing was taken, answered or written
 EndsAs status.Usage grain told bytes source source' sink sink' history =
     (bytes ≡ []) × (history.entries ≡ []) × (sink' ≡ sink)

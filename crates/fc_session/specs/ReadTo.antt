@@ -56,9 +56,9 @@ EndsReading ending.ReadFault before after grain told bytes line entries =
     HasRisen before.faults after.faults × (length bytes ≤ input_limit) × Progress grain told bytes line entries
 EndsReading ending.TooLong before after grain told bytes line entries =
     (kept : List ℕ) × (past : ℕ)
-      × (bytes ≡ kept ++ past ∷ [])
-      × (length kept ≡ input_limit)
-      × Progress grain told kept line entries
+    × (bytes ≡ kept ++ past ∷ [])
+    × (length kept ≡ input_limit)
+    × Progress grain told kept line entries
 EndsReading (ending.Stopped stop) before after grain told bytes line entries =
     (length bytes ≤ input_limit) × Fed {A = Unit {0}} (Err stop) grain told bytes line entries
 

@@ -22,9 +22,9 @@ EndsSession ending.ReadFault before after grain told bytes entries =
     HasRisen before.faults after.faults × (length bytes ≤ input_limit) × Complete grain told (ended_lines bytes) entries
 EndsSession ending.TooLong before after grain told bytes entries =
     (kept : List ℕ) × (past : ℕ)
-      × (bytes ≡ kept ++ past ∷ [])
-      × (length kept ≡ input_limit)
-      × Complete grain told (ended_lines kept) entries
+    × (bytes ≡ kept ++ past ∷ [])
+    × (length kept ≡ input_limit)
+    × Complete grain told (ended_lines kept) entries
 EndsSession (ending.Stopped LogFull) before after grain told bytes entries =
     (length bytes ≤ input_limit) × Filled grain told (all_lines bytes) entries
 EndsSession (ending.Stopped NoMemory) before after grain told bytes entries =

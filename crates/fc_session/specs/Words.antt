@@ -14,7 +14,7 @@ grain_of_value word =
 abbrev pub joined_grain : List ℕ → Option GrainSize
 joined_grain word =
     cond (bytes_eq word (codes "--grain=64")) (Some K64)
-      (cond (bytes_eq word (codes "--grain=256")) (Some K256) None)
+    (cond (bytes_eq word (codes "--grain=256")) (Some K256) None)
 
 -- the grain size of an option and the word behind it
 abbrev pub valued_grain : List ℕ → List ℕ → Option GrainSize

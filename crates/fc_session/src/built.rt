@@ -14,7 +14,12 @@ fn is_built_command(can_make: bool, command: &Command) -> bool
 {
     match command {
         Command::Read { .. } | Command::Write { .. } => true,
-        Command::Mkvdisk { name: Some(_), size, unit: None, thin: false } => 1 <= *size && *size <= 4 && can_make,
+        Command::Mkvdisk {
+            name: Some(_),
+            size,
+            unit: None,
+            thin: false,
+        } => 1 <= *size && *size <= 4 && can_make,
         Command::Mkvdisk { name: None, .. }
         | Command::Mkvdisk { unit: Some(_), .. }
         | Command::Mkvdisk { thin: true, .. }

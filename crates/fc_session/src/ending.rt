@@ -62,8 +62,8 @@ pub fn end_input<L: LineStore>(
     requires stands { StandsAtEnd ending (L.Stands store.old history.old) }
     requires room { length history.old.entries ≤ 262144 }
     ensures read { (before after : SourceState)
-      → ReadTo ending before after (L.grain store.old) (L.opening store.old) line.now history.old.entries
-      → SessionRead result before after (L.grain store.old) (L.opening store.old) history.new.entries }
+        → ReadTo ending before after (L.grain store.old) (L.opening store.old) line.now history.old.entries
+        → SessionRead result before after (L.grain store.old) (L.opening store.old) history.new.entries }
     ensures actors { history.new.actors ≡ history.old.actors }
     ensures stands { StandsAtEnd result (L.Stands store.new history.new) }
     ensures grain { L.grain store.new ≡ L.grain store.old }

@@ -54,12 +54,12 @@ fn run_store<S: Source, K: Sink, D: Mdisk>(
     requires stands { StandsFor store (opening store) }
     requires main { history.old ≡ record { actors = codes "main" ∷ []; entries = [] } }
     ensures session { SessionEnds result store.grain (begun store.disks) (S.meaning source.old) (S.meaning source.new)
-      (K.meaning sink.old) (K.meaning sink.new) history.new }
+        (K.meaning sink.old) (K.meaning sink.new) history.new }
     ensures legal { IsLegal store.grain (begun store.disks) history.new.entries }
     ensures limit { length history.new.entries ≤ 262144 }
     ensures ran { result ≢ Status.Usage }
     ensures disks { DisksAfter result store.disks (map D.meaning disks.new.items)
-      (told_after store.grain (begun store.disks) history.new.entries) }
+        (told_after store.grain (begun store.disks) history.new.entries) }
 {
     let mut owner = Owner { alloc, store };
     let status = run_session(alloc, source, sink, &mut owner, history);
@@ -81,12 +81,12 @@ fn run_grain<S: Source, K: Sink, D: Mdisk>(
     requires few { vec_len disks.old < 2 ^ 30 }
     requires fresh { All IsFresh (map D.meaning disks.old.items) }
     ensures session { SessionEnds result grain (begun (map D.meaning disks.old.items)) (S.meaning source.old)
-      (S.meaning source.new) (K.meaning sink.old) (K.meaning sink.new) history.new }
+        (S.meaning source.new) (K.meaning sink.old) (K.meaning sink.new) history.new }
     ensures legal { IsLegal grain (begun (map D.meaning disks.old.items)) history.new.entries }
     ensures limit { length history.new.entries ≤ 262144 }
     ensures ran { result ≢ Status.Usage }
     ensures disks { DisksAfter result (map D.meaning disks.old.items) (map D.meaning disks.new.items)
-      (told_after grain (begun (map D.meaning disks.old.items)) history.new.entries) }
+        (told_after grain (begun (map D.meaning disks.old.items)) history.new.entries) }
 {
     match add_main(alloc, history) {
         Ok(()) => {}
@@ -114,13 +114,13 @@ pub fn flashcopy_over<S: Source, K: Sink, G: Gate, D: Mdisk>(
     requires fresh { All IsFresh (map D.meaning disks.old.items) }
     ensures usage { (result ≡ Status.Usage) ↔ (session_grain (map (λ word. word.now) words.now) ≡ None) }
     ensures session { let grain = grain_of (map (λ word. word.now) words.now) in
-      SessionEnds result grain (begun (map D.meaning disks.old.items)) (S.meaning source.old)
+        SessionEnds result grain (begun (map D.meaning disks.old.items)) (S.meaning source.old)
         (S.meaning source.new) (K.meaning sink.old) (K.meaning sink.new) history.new }
     ensures legal { let grain = grain_of (map (λ word. word.now) words.now) in
-      IsLegal grain (begun (map D.meaning disks.old.items)) history.new.entries }
+        IsLegal grain (begun (map D.meaning disks.old.items)) history.new.entries }
     ensures limit { length history.new.entries ≤ 262144 }
     ensures disks { let grain = grain_of (map (λ word. word.now) words.now) in
-      DisksAfter result (map D.meaning disks.old.items) (map D.meaning disks.new.items)
+        DisksAfter result (map D.meaning disks.old.items) (map D.meaning disks.new.items)
         (told_after grain (begun (map D.meaning disks.old.items)) history.new.entries) }
 {
     match grain_of_words(words) {
@@ -154,13 +154,13 @@ pub fn flashcopy<S: Source, K: Sink, G: Gate>(
     requires fresh { All IsFresh (map ⟦<BoxedDisk as Mdisk>⟧.meaning disks.old.items) }
     ensures usage { (result ≡ Status.Usage) ↔ (session_grain (map (λ word. word.now) words.now) ≡ None) }
     ensures session { let grain = grain_of (map (λ word. word.now) words.now) in
-      SessionEnds result grain (begun (map ⟦<BoxedDisk as Mdisk>⟧.meaning disks.old.items)) (S.meaning source.old)
+        SessionEnds result grain (begun (map ⟦<BoxedDisk as Mdisk>⟧.meaning disks.old.items)) (S.meaning source.old)
         (S.meaning source.new) (K.meaning sink.old) (K.meaning sink.new) history.new }
     ensures legal { let grain = grain_of (map (λ word. word.now) words.now) in
-      IsLegal grain (begun (map ⟦<BoxedDisk as Mdisk>⟧.meaning disks.old.items)) history.new.entries }
+        IsLegal grain (begun (map ⟦<BoxedDisk as Mdisk>⟧.meaning disks.old.items)) history.new.entries }
     ensures limit { length history.new.entries ≤ 262144 }
     ensures disks { let grain = grain_of (map (λ word. word.now) words.now) in
-      DisksAfter result (map ⟦<BoxedDisk as Mdisk>⟧.meaning disks.old.items)
+        DisksAfter result (map ⟦<BoxedDisk as Mdisk>⟧.meaning disks.old.items)
         (map ⟦<BoxedDisk as Mdisk>⟧.meaning disks.new.items)
         (told_after grain (begun (map ⟦<BoxedDisk as Mdisk>⟧.meaning disks.old.items)) history.new.entries) }
 {

@@ -29,8 +29,8 @@ fn feed_byte<L: LineStore>(
     requires stands { L.Stands store.old history.old }
     requires room { length history.old.entries ≤ 262144 }
     ensures fed { (bytes : List ℕ)
-      → Progress (L.grain store.old) (L.opening store.old) bytes line.old.items history.old.entries
-      → Fed result (L.grain store.old) (L.opening store.old) (bytes ++ byte ∷ []) line.new.items history.new.entries }
+        → Progress (L.grain store.old) (L.opening store.old) bytes line.old.items history.old.entries
+        → Fed result (L.grain store.old) (L.opening store.old) (bytes ++ byte ∷ []) line.new.items history.new.entries }
     ensures actors { history.new.actors ≡ history.old.actors }
     ensures stays { StaysUp result (L.Stands store.new history.new) }
     ensures grain { L.grain store.new ≡ L.grain store.old }
@@ -56,8 +56,8 @@ fn end_line<L: LineStore>(
     requires stands { L.Stands store.old history.old }
     requires room { length history.old.entries ≤ 262144 }
     ensures fed { (bytes : List ℕ)
-      → Progress (L.grain store.old) (L.opening store.old) bytes line.old.items history.old.entries
-      → Fed result (L.grain store.old) (L.opening store.old) (bytes ++ 10 ∷ []) line.new.items history.new.entries }
+        → Progress (L.grain store.old) (L.opening store.old) bytes line.old.items history.old.entries
+        → Fed result (L.grain store.old) (L.opening store.old) (bytes ++ 10 ∷ []) line.new.items history.new.entries }
     ensures actors { history.new.actors ≡ history.old.actors }
     ensures stays { StaysUp result (L.Stands store.new history.new) }
     ensures grain { L.grain store.new ≡ L.grain store.old }
@@ -84,8 +84,8 @@ pub fn feed<L: LineStore>(
     requires stands { L.Stands store.old history.old }
     requires room { length history.old.entries ≤ 262144 }
     ensures fed { (bytes : List ℕ)
-      → Progress (L.grain store.old) (L.opening store.old) bytes line.old.items history.old.entries
-      → Fed result (L.grain store.old) (L.opening store.old) (bytes ++ piece.now) line.new.items history.new.entries }
+        → Progress (L.grain store.old) (L.opening store.old) bytes line.old.items history.old.entries
+        → Fed result (L.grain store.old) (L.opening store.old) (bytes ++ piece.now) line.new.items history.new.entries }
     ensures actors { history.new.actors ≡ history.old.actors }
     ensures stays { StaysUp result (L.Stands store.new history.new) }
     ensures grain { L.grain store.new ≡ L.grain store.old }

@@ -53,8 +53,8 @@ fn answer_line<D: Mdisk>(
     requires stands { StandsFor store.old (told_of store.old history.old) }
     requires room { length history.old.entries ≤ 262144 }
     ensures answered { AnsweredOne result store.old.grain (told_of store.old history.old)
-      (by_main (asked store.old.grain (told_of store.old history.old) (as_built (takes_volume (told_of store.old history.old)) (Ok line))))
-      262144 history.old history.new }
+        (by_main (asked store.old.grain (told_of store.old history.old) (as_built (takes_volume (told_of store.old history.old)) (Ok line))))
+        262144 history.old history.new }
     ensures stands { StillStands result store.new history.new }
     ensures limit { length history.new.entries ≤ 262144 }
     ensures actors { history.new.actors ≡ history.old.actors }

@@ -7,8 +7,8 @@ ghost use Rattle.fc_session.specs.Stores.{StaysUp};
 
 use crate::lines::feed;
 use crate::store::LineStore;
-use fc_entry::history::History;
 use fc_base::outcome::NoMemory;
+use fc_entry::history::History;
 use fc_io::source::Source;
 use fc_single::stop::Stop;
 use std::alloc::Global;
@@ -51,9 +51,9 @@ fn take_turn<S: Source, L: LineStore>(
     requires stands { L.Stands store.old history.old }
     requires room { length history.old.entries ≤ 262144 }
     ensures turned { (bytes : List ℕ)
-      → Progress (L.grain store.old) (L.opening store.old) bytes line.old.items history.old.entries
-      → Turned result (length buffer.old) (S.meaning source.old) (S.meaning source.new)
-          (L.grain store.old) (L.opening store.old) bytes line.new.items history.new.entries }
+        → Progress (L.grain store.old) (L.opening store.old) bytes line.old.items history.old.entries
+        → Turned result (length buffer.old) (S.meaning source.old) (S.meaning source.new)
+        (L.grain store.old) (L.opening store.old) bytes line.new.items history.new.entries }
     ensures faults { (S.meaning source.old).faults ≤ (S.meaning source.new).faults }
     ensures actors { history.new.actors ≡ history.old.actors }
     ensures stands { StandsAfter result (L.Stands store.new history.new) }
@@ -103,7 +103,7 @@ pub fn read_pieces<S: Source, L: LineStore>(
     requires first_entry { history.old.entries ≡ [] }
     requires first_line { line.old.items ≡ [] }
     ensures read { ReadTo result (S.meaning source.old) (S.meaning source.new)
-      (L.grain store.old) (L.opening store.old) line.new.items history.new.entries }
+        (L.grain store.old) (L.opening store.old) line.new.items history.new.entries }
     ensures actors { history.new.actors ≡ history.old.actors }
     ensures stands { StandsAtEnd result (L.Stands store.new history.new) }
     ensures grain { L.grain store.new ≡ L.grain store.old }

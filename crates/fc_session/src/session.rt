@@ -8,7 +8,7 @@ ghost use Rattle.fc_session.specs.ReadTo.{StandsAtEnd, ReadTo};
 ghost use Rattle.fc_session.specs.SessionRead.{SessionRead, StandsUnlessStarved};
 
 use crate::ending::{end_input, status_of, write_text};
-use crate::reading::{read_pieces, zeros, Ending, PIECE_BYTES};
+use crate::reading::{Ending, PIECE_BYTES, read_pieces, zeros};
 use crate::status::Status;
 use crate::store::LineStore;
 use fc_entry::history::History;
@@ -27,7 +27,7 @@ fn read_session<S: Source, L: LineStore>(
     requires stands { L.Stands store.old history.old }
     requires first_entry { history.old.entries ≡ [] }
     ensures read { SessionRead result (S.meaning source.old) (S.meaning source.new)
-      (L.grain store.old) (L.opening store.old) history.new.entries }
+        (L.grain store.old) (L.opening store.old) history.new.entries }
     ensures actors { history.new.actors ≡ history.old.actors }
     ensures stands { StandsAtEnd result (L.Stands store.new history.new) }
     ensures grain { L.grain store.new ≡ L.grain store.old }
@@ -55,7 +55,7 @@ pub fn run_session<S: Source, K: Sink, L: LineStore>(
     requires first_entry { history.old.entries ≡ [] }
     requires main { history.old.actors ≡ codes "main" ∷ [] }
     ensures ends { SessionEnds result (L.grain store.old) (L.opening store.old)
-      (S.meaning source.old) (S.meaning source.new) (K.meaning sink.old) (K.meaning sink.new) history.new }
+        (S.meaning source.old) (S.meaning source.new) (K.meaning sink.old) (K.meaning sink.new) history.new }
     ensures legal { IsLegal (L.grain store.old) (L.opening store.old) history.new.entries }
     ensures actors { history.new.actors ≡ history.old.actors }
     ensures ran { result ≢ Status.Usage }

@@ -28,9 +28,9 @@ pub trait LineStore {
         requires stands { Stands self.old history.old }
         requires room { length history.old.entries ≤ 262144 }
         ensures answered { Answered result (grain self.old)
-          (told_after (grain self.old) (opening self.old) history.old.entries)
-          (line_asks (grain self.old) reading (told_after (grain self.old) (opening self.old) history.old.entries) line.now)
-          history.old history.new }
+            (told_after (grain self.old) (opening self.old) history.old.entries)
+            (line_asks (grain self.old) reading (told_after (grain self.old) (opening self.old) history.old.entries) line.now)
+            history.old history.new }
         ensures actors { history.new.actors ≡ history.old.actors }
         ensures stays { StaysUp result (Stands self.new history.new) }
         ensures grain { grain self.new ≡ grain self.old }

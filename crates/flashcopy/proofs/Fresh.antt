@@ -15,6 +15,6 @@ pub fresh_more :
 fresh_more f xs i new inside fresh below k d within =
     let P : ℕ → Type 0 = λ k. (d : DiskState) → IsFresh (get_or (map f (slice_set xs i new)) k d) in
     below_more P i
-      (λ j less d. rw (map-set f xs i new, get_or-set_other (map f xs) i j (f new) d (λ same. omega arith)) (below j d less))
-      (λ d. rw (map-set f xs i new, get_or-set_same (map f xs) i (f new) d (omega (arith, length-map xs f))) fresh)
-      k within d
+    (λ j less d. rw (map-set f xs i new, get_or-set_other (map f xs) i j (f new) d (λ same. omega arith)) (below j d less))
+    (λ d. rw (map-set f xs i new, get_or-set_same (map f xs) i (f new) d (omega (arith, length-map xs f))) fresh)
+    k within d

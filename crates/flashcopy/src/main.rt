@@ -78,6 +78,14 @@ fn main(rt: HostRuntime) -> ExitCode {
         Err(_) => return ExitCode::from(NO_MEMORY),
     };
     let mut history = History::new(alloc);
-    let status = flashcopy(alloc, &words, &mut source, &mut sink, &mut disks, &FreeGate, &mut history);
+    let status = flashcopy(
+        alloc,
+        &words,
+        &mut source,
+        &mut sink,
+        &mut disks,
+        &FreeGate,
+        &mut history,
+    );
     ExitCode::from(status.code())
 }

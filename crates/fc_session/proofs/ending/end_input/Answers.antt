@@ -8,25 +8,25 @@ returns-in-Ok-clause-read g c = λ before after read.
     let grain = g.L.LineStore.grain c.args.store.now in
     let told = g.L.LineStore.opening c.args.store.now in
     SessionRead-answered (Ok tt) before after grain told c.args.line.now c.args.history.now c.answer.new.history
-      (some_line c.is_empty.result c.args.line.now c.is_empty.ensures c.if-is_empty.false) c.in-Ok.ensures.answered
-      (ReadTo-at_end c.args.ending before after grain told c.args.line.now c.args.history.now.entries c.in-End.is read)
+    (some_line c.is_empty.result c.args.line.now c.is_empty.ensures c.if-is_empty.false) c.in-Ok.ensures.answered
+    (ReadTo-at_end c.args.ending before after grain told c.args.line.now c.args.history.now.entries c.in-End.is read)
 
 pub returns-in-Err-clause-read : goal.returns-in-Err-clause-read
 returns-in-Err-clause-read g c = λ before after read.
     let grain = g.L.LineStore.grain c.args.store.now in
     let told = g.L.LineStore.opening c.args.store.now in
     SessionRead-answered (Err c.in-Err.stop) before after grain told c.args.line.now c.args.history.now c.answer.new.history
-      (some_line c.is_empty.result c.args.line.now c.is_empty.ensures c.if-is_empty.false) c.in-Err.ensures.answered
-      (ReadTo-at_end c.args.ending before after grain told c.args.line.now c.args.history.now.entries c.in-End.is read)
+    (some_line c.is_empty.result c.args.line.now c.is_empty.ensures c.if-is_empty.false) c.in-Err.ensures.answered
+    (ReadTo-at_end c.args.ending before after grain told c.args.line.now c.args.history.now.entries c.in-End.is read)
 
 pub returns-in_default : goal.returns-in_default
 returns-in_default g c = record {
   read = λ before after read.
-    SessionRead-other c.args.ending before after (g.L.LineStore.grain c.args.store.now) (g.L.LineStore.opening c.args.store.now)
+      SessionRead-other c.args.ending before after (g.L.LineStore.grain c.args.store.now) (g.L.LineStore.opening c.args.store.now)
       c.args.line.now c.args.history.now.entries c.in_default.not-End read;
   actors = refl;
   stands = c.requires.stands;
   grain = refl;
   opening = refl;
-  limit = c.requires.room
+  limit = c.requires.room;
 }

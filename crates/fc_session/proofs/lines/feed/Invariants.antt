@@ -11,9 +11,9 @@ invariant-loop-byte g l =
       stands : g.L.LineStore.Stands l.store l.history;
       room : length l.history.entries ≤ 262144;
       fed : (bytes : List ℕ) →
-        Progress grain opening bytes l.fn.line.items l.fn.history.entries →
-        Progress grain opening (bytes ++ take l.byte-index l.piece) l.line.items l.history.entries;
+          Progress grain opening bytes l.fn.line.items l.fn.history.entries →
+          Progress grain opening (bytes ++ take l.byte-index l.piece) l.line.items l.history.entries;
       actors : l.history.actors ≡ l.fn.history.actors;
       grain : g.L.LineStore.grain l.store ≡ grain;
-      opening : g.L.LineStore.opening l.store ≡ opening
+      opening : g.L.LineStore.opening l.store ≡ opening;
     }

@@ -6,4 +6,4 @@ use Rattle.fc_session.proofs.reading.ask_past_limit.Goals as goal
 pub returns-in-Ok-clause-ends : goal.returns-in-Ok-clause-ends
 returns-in-Ok-clause-ends g c =
     PastLimit-byte (g.S.Source.meaning c.args.source.now) (g.S.Source.meaning c.take.new.self) c.in-Ok.field-0 c.take.new.out
-      c.in-Ok.field-0-test.1 c.in-Ok.ensures.taken.fits (omega arith) c.in-Ok.ensures.taken.next
+    c.in-Ok.field-0-test.1 c.in-Ok.ensures.taken.fits (omega arith) c.in-Ok.ensures.taken.next

@@ -9,13 +9,13 @@ invariant-loop-taken g l =
     let opening = g.L.LineStore.opening l.fn.store in
     record {
       so_far : SoFar (g.S.Source.meaning l.fn.source) (g.S.Source.meaning l.source) grain opening l.line.items
-        l.history.entries l.taken;
+          l.history.entries l.taken;
       within : l.taken ≤ 67108864;
       stands : g.L.LineStore.Stands l.store l.history;
       room : length l.history.entries ≤ 262144;
       actors : l.history.actors ≡ l.fn.history.actors;
       grain : g.L.LineStore.grain l.store ≡ grain;
-      opening : g.L.LineStore.opening l.store ≡ opening
+      opening : g.L.LineStore.opening l.store ≡ opening;
     }
 
 abbrev pub decreases-loop-taken : goal.decreases-loop-taken

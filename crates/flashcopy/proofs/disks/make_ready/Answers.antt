@@ -6,4 +6,4 @@ use Rattle.flashcopy.proofs.disks.make_ready.Goals as goal
 pub loop-place-preserved : goal.loop-place-preserved
 loop-place-preserved g c =
     fresh_more g.D.Mdisk.meaning c.loop-place.disks c.loop-place.place c.make_disk_ready.new.disk (omega arith)
-      (search (rules, c.if-not-make_disk_ready.ensures)) c.loop-place.invariant
+    (search (rules, c.if-not-make_disk_ready.ensures)) c.loop-place.invariant
