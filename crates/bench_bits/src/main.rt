@@ -56,8 +56,18 @@ fn plain_first(a: &[u64], b: &[u64], start: usize) -> usize {
 }
 
 /// Prints how many words a way has gone over in a second of processor time since `start`, and the sum of its answers.
-fn report<R: Print + CpuClock>(rt: &R, way: &str, rounds: u32, start: Duration, sum: u64) -> io::Result<()> {
-    let nanos = rt.thread_cpu_time()?.saturating_sub(start).as_nanos().max(1);
+fn report<R: Print + CpuClock>(
+    rt: &R,
+    way: &str,
+    rounds: u32,
+    start: Duration,
+    sum: u64,
+) -> io::Result<()> {
+    let nanos = rt
+        .thread_cpu_time()?
+        .saturating_sub(start)
+        .as_nanos()
+        .max(1);
     let words = u128::from(GRAINS / 64) * u128::from(rounds);
     let speed = words * 1_000_000_000 / nanos;
     println!(rt; "{way:<20} {speed:>12} words per second, sum {sum}")
@@ -86,7 +96,12 @@ fn time_counts<R: Print + CpuClock>(rt: &R, set: &mut GrainSet, rounds: u32) -> 
 }
 
 /// Looks in each round for the grain in which the sets differ.
-fn time_first<R: Print + CpuClock>(rt: &R, a: &GrainSet, b: &GrainSet, rounds: u32) -> io::Result<()>
+fn time_first<R: Print + CpuClock>(
+    rt: &R,
+    a: &GrainSet,
+    b: &GrainSet,
+    rounds: u32,
+) -> io::Result<()>
     requires { length a.now ≡ length b.now }
 {
     let start = rt.thread_cpu_time()?;
