@@ -1,0 +1,2 @@
+-- The definitions of the main theorem on small examples.
+mod Examples

@@ -1,0 +1,58 @@
+//! A session over memory.
+
+ghost use Rattle.std.specs.Prelude.{◌<◌};
+
+use fc_entry::history::History;
+use fc_io::mem_sink::MemSink;
+use fc_io::mem_source::MemSource;
+use fc_mdisk::mem::MemDisk;
+use fc_session::flashcopy::flashcopy_over;
+use fc_session::gate::FreeGate;
+use fc_session::status::Status;
+use std::alloc::{AllocError, Global};
+
+/// What came of a session.
+#[derive(Drop)]
+pub struct Outcome {
+    /// How it ended.
+    pub status: Status,
+    /// What was written.
+    pub written: Vec<u8>,
+    /// How many entries there are.
+    pub entries: usize,
+    /// How many disks came back.
+    pub disks: usize,
+}
+
+/// Runs a session over one flat disk at grain 64, read in pieces of so many bytes, with failing calls.
+pub fn run(
+    alloc: Global,
+    session: &[u8],
+    piece: usize,
+    failing_takes: Vec<u64>,
+    failing_puts: Vec<u64>,
+) -> Result<Outcome, AllocError>
+    requires { 0 < piece }
+{
+    let mut source = MemSource::new(Vec::from_slice(alloc, session)?, piece, failing_takes);
+    let mut sink = MemSink::new(alloc, failing_puts);
+    let mut disks: Vec<MemDisk> = Vec::new(alloc);
+    disks.push(MemDisk::new(alloc))?;
+    let mut history = History::new(alloc);
+    let words = ["run", "--grain", "64"];
+    let status = flashcopy_over(
+        alloc,
+        &words,
+        &mut source,
+        &mut sink,
+        &mut disks,
+        &FreeGate,
+        &mut history,
+    );
+    Ok(Outcome {
+        status,
+        written: Vec::from_slice(alloc, sink.bytes())?,
+        entries: history.len(),
+        disks: disks.len(),
+    })
+}
