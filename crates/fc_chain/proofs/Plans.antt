@@ -1,5 +1,5 @@
 -- A plan lists what must move, step by step.
-use Rattle.std.proofs.Common.{◌≡◌, ◌≢◌, ℕ, zero, suc, ◌+◌, ◌-◌, ◌<◌, ◌≤◌, Bool, true, false, cond, ◌&&◌, not, eqb, Option, Some, None, List, [], ◌∷◌, ◌++◌, length, map, reverse, filter, filter_map, fold, refl, sym, ap, subst, ◌∙◌, arith, ◌⊎◌, inl, inr, length-append}
+use Rattle.std.proofs.Common.{◌≡◌, ◌≢◌, ℕ, zero, suc, ◌+◌, ◌-◌, ◌<◌, ◌≤◌, Bool, true, false, cond, ◌&&◌, not, eqb, Option, Some, None, List, [], ◌∷◌, ◌++◌, length, get_or, map, reverse, filter, filter_map, fold, refl, sym, ap, subst, ◌∙◌, arith, ◌⊎◌, inl, inr, length-append}
 use Rattle.std.specs.List.{list_any}
 use Rattle.std.proofs.lemmas.Bool.{cases_Bool, both_ways, cases_eq, eqb-true, eq-eqb, or_cases, or_left, or_right, true_from_ne_false, false_from_ne_true, and_from, and_left}
 use Rattle.std.proofs.lemmas.List.{map-append}
@@ -16,6 +16,7 @@ use Rattle.fc_moves.proofs.Members.{in_cases, in_head, in_tail, not_in_nil, asks
 use Rattle.fc_moves.proofs.Listing.{list_all, list_zero, list_again, list_new}
 use Rattle.fc_moves.proofs.Lists.{in_reverse, in_reversed}
 use Rattle.fc_chain.proofs.Olds.{places_same}
+use Rattle.fc_chain.proofs.Finds.{read_at}
 
 -- ---- what is listed
 
@@ -262,3 +263,43 @@ room_added slots g number depth place first moves room after apart pl a lt f out
     let q : length moves ≡ length a.done = planned_length slots g number moves a.done a.planned in
     let le : length (list_with_asked (column slots g) depth place a.begun) ≤ room = a.fits in
     omega arith
+
+-- ---- from what the calls answered
+
+pub lists_as : (slots : List Slot) (place : ℕ) (moves now : List Move) (t : Slot) (b : ℕ) (r v : Bool) → place < length slots → t ≡ get_or slots place t → b ≡ t.birth → now ≡ moves →
+    r ≡ list_any (λ (m : Move). eqb m.slot.0 b) now → r ≡ v → list_any (λ (m : Move). eqb m.slot.0 (slot_at slots place).birth) moves ≡ v
+lists_as slots place moves now t b r v pl et eb en er ev =
+    let s : b ≡ (slot_at slots place).birth = eb ∙ ap (λ (x : Slot). x.birth) (sym (read_at slots place t pl et)) in
+    ap (λ z. list_any (λ (m : Move). eqb m.slot.0 z) moves) (sym s) ∙ (ap (list_any (λ (m : Move). eqb m.slot.0 b)) (sym en) ∙ (sym er ∙ ev))
+
+pub added_at : (slots : List Slot) (g number depth place : ℕ) (first moves : List Move) (room v : ℕ) (after : Option ℕ) (t : Slot) → place < length slots → t ≡ get_or slots place t → v ≡ t.volume →
+    AddedSoFar slots g number depth place first moves room v after → AddedSoFar slots g number depth place first moves room (slot_at slots place).volume after
+added_at slots g number depth place first moves room v after t pl et ev a =
+    subst (λ (z : ℕ). AddedSoFar slots g number depth place first moves room z after) (ev ∙ ap (λ (x : Slot). x.volume) (sym (read_at slots place t pl et))) a
+
+pub volume_at : (slots : List Slot) (place v : ℕ) (t : Slot) → place < length slots → t ≡ get_or slots place t → v ≡ t.volume → v ≡ (slot_at slots place).volume
+volume_at slots place v t pl et ev = ev ∙ ap (λ (x : Slot). x.volume) (sym (read_at slots place t pl et))
+
+pub room_for_reader : (slots : List Slot) (g number depth place : ℕ) (first moves : List Move) (room now v : ℕ) (after : Option ℕ) (o r : ℕ) → HasApartBirths slots → place < length slots → v ≡ (slot_at slots place).volume → now ≡ room →
+    AddedSoFar slots g number depth place first moves room v after → 0 < depth → list_any (λ (m : Move). eqb m.slot.0 (slot_at slots place).birth) first ≡ false → is_in_place (column slots g) place ≡ false →
+    IsNextOld slots v after o → Some r ≡ needer (column slots g) o → HasRoom slots g number moves now (depth - 1) r
+room_for_reader slots g number depth place first moves room now v after o r apart pl ev er a lt f out next e =
+    let a' : AddedSoFar slots g number depth place first moves room (slot_at slots place).volume after = subst (λ (z : ℕ). AddedSoFar slots g number depth place first moves room z after) ev a in
+    let n' : IsNextOld slots (slot_at slots place).volume after o = subst (λ (z : ℕ). IsNextOld slots z after o) ev next in
+    subst (λ (z : ℕ). HasRoom slots g number moves z (depth - 1) r) (sym er)
+    (room_inside slots g number depth place first moves room after o r a' lt (not_listed slots g number place first a'.begun apart pl a'.start f) out n' e)
+
+pub room_at_end : (slots : List Slot) (g number depth place : ℕ) (first moves : List Move) (room now v : ℕ) (after : Option ℕ) → HasApartBirths slots → place < length slots → v ≡ (slot_at slots place).volume → now ≡ room →
+    AddedSoFar slots g number depth place first moves room v after → 0 < depth → list_any (λ (m : Move). eqb m.slot.0 (slot_at slots place).birth) first ≡ false → is_in_place (column slots g) place ≡ false →
+    old_after slots v after ≡ [] → length moves < now
+room_at_end slots g number depth place first moves room now v after apart pl ev er a lt f out none =
+    let a' : AddedSoFar slots g number depth place first moves room (slot_at slots place).volume after = subst (λ (z : ℕ). AddedSoFar slots g number depth place first moves room z after) ev a in
+    let r : length moves < room = room_added slots g number depth place first moves room after apart pl a' lt f out (ap (λ z. old_after slots z after) (sym ev) ∙ none) in
+    omega arith
+
+pub answer_at_end : (slots : List Slot) (g number depth place : ℕ) (first moves : List Move) (room v : ℕ) (after : Option ℕ) → HasApartBirths slots → place < length slots → v ≡ (slot_at slots place).volume →
+    AddedSoFar slots g number depth place first moves room v after → 0 < depth → list_any (λ (m : Move). eqb m.slot.0 (slot_at slots place).birth) first ≡ false → is_in_place (column slots g) place ≡ false →
+    old_after slots v after ≡ [] → (listed : List ℕ) → IsPlanned slots g number first listed → IsPlanned slots g number (moves ++ move_at slots g number place ∷ []) (list_with_asked (column slots g) depth place listed)
+answer_at_end slots g number depth place first moves room v after apart pl ev a lt f out none =
+    let a' : AddedSoFar slots g number depth place first moves room (slot_at slots place).volume after = subst (λ (z : ℕ). AddedSoFar slots g number depth place first moves room z after) ev a in
+    answer_added slots g number depth place first moves room after apart pl a' lt f out (ap (λ z. old_after slots z after) (sym ev) ∙ none)
