@@ -4,3 +4,5 @@ pub mod Keeps
 pub mod Olds
 pub mod Places
 pub mod Plans
+pub mod Whole
+pub mod Fitting

@@ -88,10 +88,10 @@ planned_length slots g number moves done p = ap length p.moves_are ∙ (length_m
 
 -- ---- lists grow
 
-abbrev Longer : Column → ℕ → Type 0
+abbrev pub Longer : Column → ℕ → Type 0
 Longer c depth = (m : ℕ) (listed : List ℕ) → length listed ≤ length (list_with_asked c depth m listed)
 
-all_longer : (c : Column) (depth : ℕ) → Longer c depth → (roots listed : List ℕ) → length listed ≤ length (list_all c depth roots listed)
+pub all_longer : (c : Column) (depth : ℕ) → Longer c depth → (roots listed : List ℕ) → length listed ≤ length (list_all c depth roots listed)
 all_longer c depth ih [] listed = omega arith
 all_longer c depth ih (a ∷ as') listed =
     let x : length listed ≤ length (list_with_asked c depth a listed) = ih a listed in
@@ -137,7 +137,7 @@ readers_held c (o ∷ os) =
           | inr s ↦ let p : readers c (o ∷ xs) ≡ s.0 ∷ readers c xs = rw s.1 refl in let q : readers c (o ∷ ys) ≡ s.0 ∷ readers c ys = rw s.1 refl in p ∙ (ap (λ z. s.0 ∷ z) e ∙ sym q)
         ]
 
-all_old : (slots : List Slot) (v : ℕ) → old_after slots v None ≡ old_slots (shape_of slots) v
+pub all_old : (slots : List Slot) (v : ℕ) → old_after slots v None ≡ old_slots (shape_of slots) v
 unfolding old_slots
 all_old slots v = places_same (shape_of slots).birth _ _ (length slots) (λ j jl. elim (cases_Bool (is_old_of (shape_of slots) v j)) [ inl t ↦ and_from _ _ t refl ∙ sym t | inr f ↦ and_left _ true f ∙ sym f ])
 

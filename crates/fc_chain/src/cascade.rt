@@ -1,19 +1,22 @@
 //! The chains of copies of one lane.
 
-ghost use Rattle.std.specs.Prelude.{◌≡◌, ℕ, ◌<◌, ◌/◌, Some, false};
+ghost use Rattle.std.specs.Prelude.{◌≡◌, ℕ, ◌<◌, ◌≤◌, ◌/◌, Some, false};
 ghost use Rattle.fc_base.specs.Sheet.{no_slots, slot_at, column, live_place, mapping_place, birth_place};
 ghost use Rattle.fc_base.specs.Column.{holder, needer};
 ghost use Rattle.fc_base.specs.declared.request.Side.TheVariants.{Under};
 ghost use Rattle.fc_base.specs.SheetFits.{FitsTaken, FitsLost};
 ghost use Rattle.fc_base.specs.SheetStep.{sheet_moved, sheet_written, sheet_torn};
 ghost use Rattle.fc_chain.specs.Chains.{IsOfLane, in_lane, found, IsThere};
+ghost use Rattle.fc_chain.specs.Planning.{CanPlan, planned_moves, volume_count};
 
 use crate::find::{name_of, place_of, place_of_live, place_of_mapping};
 use crate::hold::{keep_grain, lose_grain, take_grain};
+use crate::plan::{LaneGrain, plan_fill, plan_write};
 use crate::slot::Slot;
 use crate::walk::{first_reader_of, holder_of};
 use fc_base::ids::{MapId, SlotId, VolId};
-use fc_base::request::Side;
+use fc_base::move_plan::MovePlan;
+use fc_base::request::{Planned, Side};
 use fc_bits::GrainSet;
 use std::alloc::Global;
 use std::marker::Model;
@@ -144,6 +147,27 @@ impl Cascade {
         match side {
             Side::Now => take_grain(&mut self.slots, volume.0, grain),
             Side::Under => lose_grain(&mut self.slots, volume.0, grain),
+        }
+    }
+
+    /// Puts the moves that a fill or a write owes into the plan, in order. Takes no memory.
+    pub fn plan(&self, write: Planned, plan: &mut MovePlan)
+        requires fit { CanPlan self.now.sheet.slots self.now.lane self.now.lanes write }
+        requires room { volume_count self.now.sheet.slots ≤ plan.old.room }
+        ensures { plan.new ≡ record plan.old { moves = planned_moves self.now.sheet.slots self.now.lanes write } }
+    {
+        let slots = self.slots.as_slice();
+        let lanes = self.lanes as u32;
+        plan.clear();
+        match write {
+            Planned::Fill { slot, grain } => {
+                plan_fill(slots, place_of(slots, slot), LaneGrain { place: grain.0 / lanes, number: grain.0 }, plan);
+            }
+            Planned::Write { volume, grain } => {
+                if let Some(place) = place_of_live(slots, volume.0) {
+                    plan_write(slots, place, LaneGrain { place: grain.0 / lanes, number: grain.0 }, plan);
+                }
+            }
         }
     }
 }

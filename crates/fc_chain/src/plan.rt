@@ -1,16 +1,16 @@
 //! The moves that a fill or a write owes: each slot after all that it asks for, once.
 
-ghost use Rattle.std.specs.Prelude.{◌≡◌, ℕ, ◌<◌, ◌≤◌, IsTrue, length, List, eqb};
+ghost use Rattle.std.specs.Prelude.{◌≡◌, ℕ, ◌<◌, ◌≤◌, IsTrue, length, List, eqb, [], Some};
 ghost use Rattle.std.specs.List.{list_any};
 ghost use Rattle.fc_base.specs.declared.request.Move.{Move};
-ghost use Rattle.fc_base.specs.Plan.{move_at};
+ghost use Rattle.fc_base.specs.Plan.{move_at, moves_of_fill, moves_of_write};
 ghost use Rattle.fc_base.specs.Sheet.{slot_at, column};
 ghost use Rattle.fc_base.specs.Moves.{is_in, is_in_place, list_with_asked};
-ghost use Rattle.fc_chain.specs.Planning.{HasApartBirths, IsPlanned, HasRoom};
+ghost use Rattle.fc_chain.specs.Planning.{HasApartBirths, IsPlanned, HasRoom, FillFits, WriteFits, volume_count};
 
 use crate::old::next_old;
 use crate::slot::Slot;
-use crate::walk::{first_reader_of, holder_of};
+use crate::walk::{first_reader_of, holder_of, next_waiting};
 use fc_base::ids::{GrainNo, SlotId, VolId};
 use fc_base::move_plan::MovePlan;
 use fc_base::request::Move;
@@ -77,4 +77,34 @@ pub(crate) fn add_fill(slots: &[Slot], depth: usize, place: usize, grain: LaneGr
         }
     }
     plan.push(move_of(slots, place, grain));
+}
+
+/// The moves that a fill of the slot at a place owes, into an empty plan.
+pub(crate) fn plan_fill(slots: &[Slot], place: usize, grain: LaneGrain, plan: &mut MovePlan)
+    requires fit { FillFits slots.now grain.place place }
+    requires empty { plan.old.moves ≡ [] }
+    requires room { volume_count slots.now ≤ plan.old.room }
+    ensures { plan.new ≡ record plan.old { moves = moves_of_fill slots.now grain.place grain.number place } }
+{
+    add_fill(slots, slots.len(), place, grain, plan);
+}
+
+/// The moves that a write of the volume owes whose live slot is at a place, into an empty plan.
+pub(crate) fn plan_write(slots: &[Slot], place: usize, grain: LaneGrain, plan: &mut MovePlan)
+    requires fit { WriteFits slots.now place }
+    requires empty { plan.old.moves ≡ [] }
+    requires room { volume_count slots.now ≤ plan.old.room }
+    ensures { plan.new ≡ record plan.old { moves = moves_of_write slots.now grain.place grain.number (Some place) } }
+{
+    let volume = slots[place].volume();
+    let mut after = None;
+    while let Some(old) = next_old(slots, volume, after) {
+        after = Some(slots[old].birth());
+        if let Some(reader) = first_reader_of(slots, old, place, grain.place) {
+            add_fill(slots, slots.len(), reader, grain, plan);
+        }
+    }
+    if let Some(next) = next_waiting(slots, place, grain.place) {
+        add_fill(slots, slots.len(), next, grain, plan);
+    }
 }
