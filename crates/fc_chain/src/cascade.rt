@@ -1,14 +1,17 @@
 //! The chains of copies of one lane.
 
-ghost use Rattle.std.specs.Prelude.{◌≡◌, ℕ, ◌<◌, ◌≤◌, ◌/◌, Some, false};
+ghost use Rattle.std.specs.Prelude.{◌≡◌, ℕ, ◌<◌, ◌≤◌, ◌/◌, ◌↔◌, IsTrue, Some, false};
 ghost use Rattle.fc_base.specs.Sheet.{no_slots, slot_at, column, live_place, mapping_place, birth_place};
 ghost use Rattle.fc_base.specs.Column.{holder, needer};
 ghost use Rattle.fc_base.specs.declared.request.Side.TheVariants.{Under};
 ghost use Rattle.fc_base.specs.SheetFits.{FitsTaken, FitsLost};
 ghost use Rattle.fc_base.specs.SheetStep.{sheet_moved, sheet_written, sheet_torn};
 ghost use Rattle.fc_chain.specs.Chains.{IsOfLane, in_lane, found, IsThere};
+ghost use Rattle.fc_bits.specs.Grains.{count_set};
+ghost use Rattle.fc_chain.specs.Counts.{need_count_of, UsedAt};
 ghost use Rattle.fc_chain.specs.Planning.{CanPlan, planned_moves, volume_count};
 
+use crate::count::{count_needed, is_source};
 use crate::find::{name_of, place_of, place_of_live, place_of_mapping};
 use crate::hold::{keep_grain, lose_grain, take_grain};
 use crate::plan::{LaneGrain, plan_fill, plan_write};
@@ -169,5 +172,31 @@ impl Cascade {
                 }
             }
         }
+    }
+
+    /// How many of the lane's grains the slot holds.
+    pub fn held_count(&self, slot: SlotId) -> u32
+        requires { IsThere self.now.sheet.slots slot }
+        ensures { (k : ℕ) → birth_place self.now.sheet.slots slot.0 ≡ Some k → result ≡ count_set (slot_at self.now.sheet.slots k).held }
+    {
+        let slots = self.slots.as_slice();
+        slots[place_of(slots, slot)].held_count()
+    }
+
+    /// At how many of the lane's grains another slot needs the slot.
+    pub fn need_count(&self, slot: SlotId) -> u32
+        requires { IsThere self.now.sheet.slots slot }
+        ensures { (k : ℕ) → birth_place self.now.sheet.slots slot.0 ≡ Some k → result ≡ need_count_of self.now.sheet.slots k }
+    {
+        let slots = self.slots.as_slice();
+        count_needed(slots, place_of(slots, slot))
+    }
+
+    /// Whether the volume is used as a source: some slot of it has a live slot behind it in its chain. Such a
+    /// volume becomes a target only with the option `-restore`.
+    pub fn used(&self, volume: VolId) -> bool
+        ensures { IsTrue result ↔ UsedAt self.now.sheet.slots volume.0 }
+    {
+        is_source(self.slots.as_slice(), volume.0)
     }
 }

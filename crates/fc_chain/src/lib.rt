@@ -2,6 +2,7 @@
 #![tactic(auto)]
 
 mod cascade;
+mod count;
 mod find;
 mod hold;
 mod old;

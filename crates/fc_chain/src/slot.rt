@@ -3,6 +3,7 @@
 ghost use Rattle.std.specs.Prelude.{◌≡◌, ℕ, false, true, None, Some, replicate, length, slice_index_or, slice_set, ◌<◌, not, ◌&&◌, eqb};
 
 ghost use Rattle.fc_base.specs.Column.{is_at};
+ghost use Rattle.fc_bits.specs.Grains.{count_set};
 ghost use Rattle.fc_chain.specs.Births.{is_after, is_before};
 ghost use Rattle.fc_base.specs.SheetStep.{grain_taken, grain_kept, grain_lost};
 
@@ -87,6 +88,20 @@ impl Slot {
         ensures { result ≡ slice_index_or self.now.held grain false }
     {
         grain < self.held.len() && self.held.has(grain)
+    }
+
+    /// How many of the lane's grains the volume has.
+    pub(crate) fn grains(&self) -> u32
+        ensures { result ≡ length self.now.held }
+    {
+        self.held.len()
+    }
+
+    /// How many grains it holds.
+    pub(crate) fn held_count(&self) -> u32
+        ensures { result ≡ count_set self.now.held }
+    {
+        self.held.count()
     }
 
     /// Whether it is an old slot of the volume.

@@ -1,0 +1,26 @@
+-- How many grains a slot holds, and how many others need of it.
+use Rattle.std.specs.Prelude.{◌≡◌, ◌≢◌, ℕ, zero, suc, ◌+◌, ◌<◌, Bool, true, cond, Option, Some, None, is_some, List, length}
+use Rattle.fc_base.specs.Column.{needer}
+use Rattle.fc_base.specs.Sheet.{Slot, slot_at, column}
+
+-- How many numbers below a bound pass a test.
+abbrev pub count_below : (ℕ → Bool) → ℕ → ℕ
+count_below test zero = 0
+count_below test (suc n) = cond (test n) (count_below test n + 1) (count_below test n)
+
+-- Whether the slot at a place has a needer at a grain.
+abbrev pub is_needed_at : List Slot → ℕ → ℕ → Bool
+is_needed_at slots k g = is_some (needer (column slots g) k)
+
+-- At how many grains the slot at a place has a needer.
+abbrev pub need_count_of : List Slot → ℕ → ℕ
+need_count_of slots k = count_below (is_needed_at slots k) (length (slot_at slots k).held)
+
+-- Some live slot stands behind a place in its chain.
+abbrev pub LiveBehind : List Slot → ℕ → Type 0
+LiveBehind slots k =
+    (j : ℕ) × (j < length slots) × (k < j) × ((slot_at slots j).is_live ≡ true) × ((slot_at slots j).chain ≡ (slot_at slots k).chain)
+
+-- A volume is used as a source: some slot of it has a live slot behind it.
+abbrev pub UsedAt : List Slot → ℕ → Type 0
+UsedAt slots v = (k : ℕ) × (k < length slots) × ((slot_at slots k).volume ≡ v) × LiveBehind slots k
