@@ -6,3 +6,4 @@ pub mod Places
 pub mod Plans
 pub mod Whole
 pub mod Fitting
+pub mod Counting

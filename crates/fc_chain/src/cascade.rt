@@ -1,6 +1,6 @@
 //! The chains of copies of one lane.
 
-ghost use Rattle.std.specs.Prelude.{◌≡◌, ℕ, ◌<◌, ◌≤◌, ◌/◌, ◌↔◌, IsTrue, Some, false};
+ghost use Rattle.std.specs.Prelude.{◌≡◌, ℕ, ◌<◌, ◌≤◌, ◌/◌, ◌↔◌, ◌++◌, length, OnOk, IsTrue, Some, false};
 ghost use Rattle.fc_base.specs.Sheet.{no_slots, slot_at, column, live_place, mapping_place, birth_place};
 ghost use Rattle.fc_base.specs.Column.{holder, needer};
 ghost use Rattle.fc_base.specs.declared.request.Side.TheVariants.{Under};
@@ -8,17 +8,19 @@ ghost use Rattle.fc_base.specs.SheetFits.{FitsTaken, FitsLost};
 ghost use Rattle.fc_base.specs.SheetStep.{sheet_moved, sheet_written, sheet_torn};
 ghost use Rattle.fc_chain.specs.Chains.{IsOfLane, in_lane, found, IsThere};
 ghost use Rattle.fc_bits.specs.Grains.{count_set};
-ghost use Rattle.fc_chain.specs.Counts.{need_count_of, UsedAt};
+ghost use Rattle.fc_chain.specs.Counts.{need_count_of, UsedAt, names_below, is_direct, is_unneeded};
 ghost use Rattle.fc_chain.specs.Planning.{CanPlan, planned_moves, volume_count};
 
-use crate::count::{count_needed, is_source};
+use crate::count::{add_direct, add_unneeded, count_needed, is_source};
 use crate::find::{name_of, place_of, place_of_live, place_of_mapping};
 use crate::hold::{keep_grain, lose_grain, take_grain};
 use crate::plan::{LaneGrain, plan_fill, plan_write};
 use crate::slot::Slot;
 use crate::walk::{first_reader_of, holder_of};
 use fc_base::ids::{MapId, SlotId, VolId};
+use fc_base::list::List;
 use fc_base::move_plan::MovePlan;
+use fc_base::outcome::NoMemory;
 use fc_base::request::{Planned, Side};
 use fc_bits::GrainSet;
 use std::alloc::Global;
@@ -198,5 +200,23 @@ impl Cascade {
         ensures { IsTrue result ↔ UsedAt self.now.sheet.slots volume.0 }
     {
         is_source(self.slots.as_slice(), volume.0)
+    }
+
+    /// Adds the live slots other than this one that have it as holder at some grain of the lane, in order of
+    /// their places. Refused, the list has a part of them.
+    pub fn direct(&self, slot: SlotId, out: &mut List<SlotId>) -> Result<(), NoMemory>
+        requires { IsThere self.now.sheet.slots slot }
+        ensures { OnOk result ((k : ℕ) → birth_place self.now.sheet.slots slot.0 ≡ Some k → out.new ≡ out.old ++ names_below self.now.sheet.slots (is_direct self.now.sheet.slots k) (length self.now.sheet.slots)) }
+    {
+        let slots = self.slots.as_slice();
+        add_direct(slots, place_of(slots, slot), out)
+    }
+
+    /// Adds the old slots that no slot needs at a grain of the lane, in order of their places. Refused, the list
+    /// has a part of them.
+    pub fn unneeded(&self, out: &mut List<SlotId>) -> Result<(), NoMemory>
+        ensures { OnOk result (out.new ≡ out.old ++ names_below self.now.sheet.slots (is_unneeded self.now.sheet.slots) (length self.now.sheet.slots)) }
+    {
+        add_unneeded(self.slots.as_slice(), out)
     }
 }
