@@ -1,5 +1,5 @@
 -- Whether some grain passes.
-use Rattle.std.proofs.Common.{◌≡◌, ℕ, zero, suc, ◌<◌, Bool, true, false, ◌||◌, Option, Some, List, length, refl, sym, ap, ◌∙◌, arith, get_or, inl, inr}
+use Rattle.std.proofs.Common.{◌≡◌, ℕ, zero, suc, ◌<◌, Bool, true, Option, Some, List, length, sym, ap, ◌∙◌, arith, get_or, inl, inr}
 use Rattle.std.proofs.lemmas.Bool.{cases_eq, or_left, or_right, eq-eqb}
 use Rattle.fc_base.specs.Column.{holder, is_at}
 use Rattle.fc_base.specs.Sheet.{Slot, slot_at, column}
@@ -10,7 +10,7 @@ any_from : (test : ℕ → Bool) (n g : ℕ) → g < n → test g ≡ true → a
 any_from test zero g lt e = absurd (omega arith)
 any_from test (suc n) g lt e =
     elim (cases_eq g n) [
-        inl q ↦ or_right (any_below test n) (test n) (ap test (sym q) ∙ e)
+      | inl q ↦ or_right (any_below test n) (test n) (ap test (sym q) ∙ e)
       | inr ne ↦ or_left (any_below test n) (test n) (any_from test n g (omega arith) e)
     ]
 

@@ -1,13 +1,13 @@
 -- Loops over slots answer what the definitions say.
-use Rattle.std.proofs.Common.{◌≡◌, ◌≢◌, ℕ, zero, suc, ◌+◌, ◌-◌, ◌<◌, ◌≤◌, Bool, true, false, ◌&&◌, eqb, Option, Some, None, List, [], ◌∷◌, length, get_or, refl, sym, ap, subst, ◌∙◌, arith, ◌⊎◌, inl, inr}
+use Rattle.std.proofs.Common.{◌≡◌, ◌≢◌, ℕ, zero, suc, ◌+◌, ◌-◌, ◌<◌, ◌≤◌, true, false, Option, Some, None, List, [], ◌∷◌, length, get_or, refl, sym, ap, ◌∙◌, arith, ◌⊎◌, inl, inr}
 use Rattle.std.proofs.lemmas.Bool.{and_from, eq-eqb}
-use Rattle.fc_base.specs.Column.{Column, is_at, holder, first_reader}
+use Rattle.fc_base.specs.Column.{is_at, holder, first_reader}
 use Rattle.fc_base.specs.Moves.{next_behind}
 use Rattle.fc_base.specs.Sheet.{Slot, slot_at, no_slot, column, live_place, mapping_place, birth_place}
 use Rattle.fc_chain.specs.Found.{is_live_of, is_slot_of, is_born}
-use Rattle.fc_chain.specs.Walks.{FirstWaiting, IsFirstWaiting, WaitsBehind}
+use Rattle.fc_chain.specs.Walks.{FirstWaiting, WaitsBehind}
 use Rattle.fc_moves.proofs.Search.{first_is, first_is_none}
-use Rattle.fc_moves.proofs.Readers.{IsHolder, is_holder, holder_is, holder_from, IsReader, is_reader, is_reader_none, Waits, IsNext, is_next, is_next_none}
+use Rattle.fc_moves.proofs.Readers.{IsHolder, is_holder, holder_is, is_reader, is_reader_none, Waits, is_next, is_next_none}
 
 -- what is read at a place is the slot there
 pub read_at : (slots : List Slot) (k : ℕ) (t : Slot) → k < length slots → t ≡ get_or slots k t → slot_at slots k ≡ t
@@ -23,8 +23,11 @@ pub live_found : (slots : List Slot) (v k : ℕ) (t : Slot) → k < length slots
 unfolding live_place
 live_found slots v k t lt e l q before =
     let r = read_at slots k t lt e in
-    sym (first_is (is_live_of slots v) (length slots) k (record { below = lt; first = before;
-      passes = and_from _ _ (ap (λ (x : Slot). x.is_live) r ∙ l) (eq-eqb _ _ (ap (λ (x : Slot). x.volume) r ∙ q)) }))
+    sym (first_is (is_live_of slots v) (length slots) k (record {
+      below = lt;
+      first = before;
+      passes = and_from _ _ (ap (λ (x : Slot). x.is_live) r ∙ l) (eq-eqb _ _ (ap (λ (x : Slot). x.volume) r ∙ q));
+    }))
 
 pub live_not_found : (slots : List Slot) (v k : ℕ) → length slots ≤ k → ((j : ℕ) → j < k → is_live_of slots v j ≡ false) → None ≡ live_place slots v
 unfolding live_place
@@ -91,8 +94,13 @@ pub reader_found : (slots : List Slot) (g of but : ℕ) (o : Option ℕ) → (of
 reader_found slots g of but None apart t f =
     sym (is_reader_none (column slots g) but of (λ k kc l ne i. f k kc ne (waits_behind slots g of k (stands_behind slots g of but k apart l ne i) l i)))
 reader_found slots g of but (Some a) apart t f =
-    sym (is_reader (column slots g) but of a (record { there = f.there; is_live = f.waits.is_live; other = f.other; reads = reads_behind slots g of a t f.waits;
-      first = λ k ka l ne i. f.first k ka ne (waits_behind slots g of k (stands_behind slots g of but k apart l ne i) l i) }))
+    sym (is_reader (column slots g) but of a (record {
+      there = f.there;
+      is_live = f.waits.is_live;
+      other = f.other;
+      reads = reads_behind slots g of a t f.waits;
+      first = λ k ka l ne i. f.first k ka ne (waits_behind slots g of k (stands_behind slots g of but k apart l ne i) l i);
+    }))
 
 pub reader_not_found : (slots : List Slot) (g of but : ℕ) → get_or (slot_at slots of).held g false ≡ false → None ≡ first_reader (column slots g) but of
 reader_not_found slots g of but t =
@@ -108,8 +116,11 @@ pub next_found : (slots : List Slot) (g of : ℕ) (o : Option ℕ) → FirstWait
 next_found slots g of None f =
     sym (is_next_none (column slots g) of (λ k kc w. f k kc (λ e. let b : of < k = w.behind in omega arith) (waits_from slots g of k w)))
 next_found slots g of (Some a) f =
-    sym (is_next (column slots g) of a (record { there = f.there; waits = waits_to slots g of a f.waits;
-      first = λ k ka w. f.first k ka (λ e. let b : of < k = w.behind in omega arith) (waits_from slots g of k w) }))
+    sym (is_next (column slots g) of a (record {
+      there = f.there;
+      waits = waits_to slots g of a f.waits;
+      first = λ k ka w. f.first k ka (λ e. let b : of < k = w.behind in omega arith) (waits_from slots g of k w);
+    }))
 
 pub holder_read : (slots : List Slot) (g of bound : ℕ) (s t : Slot) → of < length slots → s ≡ get_or slots of s → 0 < bound → bound ≤ of + 1 → t ≡ get_or slots (bound - 1) t → t.chain ≡ s.chain → get_or t.held g false ≡ true →
     NoneFrom slots g of bound → Some (bound - 1) ≡ holder (column slots g) of
@@ -117,4 +128,4 @@ holder_read slots g of bound s t ol es lt le et q h none =
     let a = read_at slots of s ol es in
     let b = read_at slots (bound - 1) t (omega arith) et in
     holder_found slots g of (bound - 1) (omega arith) (ap (λ (x : Slot). x.chain) b ∙ (q ∙ ap (λ (x : Slot). x.chain) (sym a))) (ap (λ (x : Slot). get_or x.held g false) b ∙ h)
-      (λ j bj jo r u. none j (omega arith) jo r u)
+    (λ j bj jo r u. none j (omega arith) jo r u)

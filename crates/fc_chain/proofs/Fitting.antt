@@ -1,10 +1,10 @@
 -- What is always kept lets fills and writes be planned.
-use Rattle.std.proofs.Common.{◌≡◌, ℕ, ◌<◌, Bool, true, false, Option, Some, None, List, length, refl, sym, ap, subst, ◌∙◌}
+use Rattle.std.proofs.Common.{◌≡◌, ℕ, Bool, false, Some, List, sym, ap, subst, ◌∙◌}
 use Rattle.std.specs.List.{slice_index_or}
 use Rattle.fc_base.specs.Sheet.{Slot, slot_at, live_place, birth_place}
 use Rattle.fc_chain.specs.Planning.{Plannable, FillFits, WriteFits, CanFill}
 use Rattle.fc_chain.proofs.Keeps.{Kept}
-use Rattle.fc_sheets.proofs.Finding.{LiveAt, live_place_at, birth_place_at}
+use Rattle.fc_sheets.proofs.Finding.{live_place_at, birth_place_at}
 
 pub plannable : (lane lanes births : ℕ) (spare : List (List Bool)) (width cap : ℕ) (items now : List Slot) → Kept lane lanes births items spare width cap → now ≡ items → Plannable now
 plannable lane lanes births spare width cap items now k e =
@@ -20,5 +20,9 @@ fill_fits lane lanes births spare width cap items now b g place k e c f =
     let c' : CanFill now g b = subst (λ (z : List Slot). CanFill z g b) (sym e) c in
     let q : Some c'.place ≡ Some place = sym c'.there ∙ f in
     let same : c'.place ≡ place = cc in
-    record { sheet = plannable lane lanes births spare width cap items now k e; there = (birth_place_at now b place f).0;
-      is_live = ap (λ z. (slot_at now z).is_live) (sym same) ∙ c'.is_live; lacks = ap (λ z. slice_index_or (slot_at now z).held g false) (sym same) ∙ c'.lacks }
+    record {
+      sheet = plannable lane lanes births spare width cap items now k e;
+      there = (birth_place_at now b place f).0;
+      is_live = ap (λ z. (slot_at now z).is_live) (sym same) ∙ c'.is_live;
+      lacks = ap (λ z. slice_index_or (slot_at now z).held g false) (sym same) ∙ c'.lacks;
+    }

@@ -1,9 +1,7 @@
 -- What is always kept is kept by moves and writes.
-use Rattle.std.proofs.Common.{◌≡◌, ℕ, zero, suc, ◌+◌, ◌/◌, ◌<◌, ◌≤◌, Bool, true, false, Option, Some, None, IsSome, List, [], ◌∷◌, ◌++◌, map, take, drop, length, refl, sym, ap, subst, ◌∙◌, arith, append-nil}
-use Rattle.fc_base.specs.declared.request.Side.{Side}
-use Rattle.fc_base.specs.declared.request.Side.TheVariants.{Now, Under}
+use Rattle.std.proofs.Common.{◌≡◌, ℕ, suc, ◌+◌, ◌/◌, ◌≤◌, Bool, false, Option, Some, None, IsSome, List, [], ◌∷◌, ◌++◌, map, take, drop, length, refl, sym, ap, subst, ◌∙◌, arith}
 use Rattle.fc_base.specs.declared.ids.SlotId.{SlotId}
-use Rattle.fc_base.specs.Sheet.{Slot, Sheet, slot_at, birth_place}
+use Rattle.fc_base.specs.Sheet.{Slot, slot_at, birth_place}
 use Rattle.fc_base.specs.SheetStep.{grain_taken, grain_kept, grain_lost}
 use Rattle.fc_base.specs.SheetFacts.{IsSound}
 use Rattle.fc_base.specs.SheetFits.{FitsTaken, FitsLost}
@@ -36,8 +34,12 @@ kept_by : (lane lanes births : ℕ) (spare : List (List Bool)) (width cap : ℕ)
     Kept lane lanes births (take n (new ++ drop (length new) items)) spare width cap
 kept_by lane lanes births spare width cap f items now new n k e l q s =
     subst (λ (z : List Slot). Kept lane lanes births z spare width cap) (sym (written_back f items now new n e l q))
-    (record { lane_in = k.lane_in; sound = s; sets = k.sets;
-      fits = (let c : length (map f items) ≡ length items = length_map f items in let d : length items + length spare ≤ cap = k.fits in omega arith) })
+    (record {
+      lane_in = k.lane_in;
+      sound = s;
+      sets = k.sets;
+      fits = (let c : length (map f items) ≡ length items = length_map f items in let d : length items + length spare ≤ cap = k.fits in omega arith);
+    })
 
 pub kept_written : (value : Chains) (lane lanes births : ℕ) (spare : List (List Bool)) (width cap v g : ℕ) (items now new : List Slot) (n : ℕ) →
     view_of lane lanes births items spare width ≡ value → Kept lane lanes births items spare width cap → FitsTaken value.sheet.slots v (in_lane value g) →

@@ -1,5 +1,5 @@
 -- A change of each slot in turn.
-use Rattle.std.proofs.Common.{◌≡◌, ℕ, zero, suc, ◌+◌, ◌<◌, List, [], ◌∷◌, ◌++◌, map, take, drop, set, get_or, length, refl, sym, ap, subst, ◌∙◌, arith, add-one}
+use Rattle.std.proofs.Common.{◌≡◌, ℕ, zero, suc, ◌+◌, ◌<◌, List, [], ◌∷◌, ◌++◌, map, take, drop, set, get_or, length, sym, ap, ◌∙◌, arith, add-one}
 use Rattle.fc_base.specs.Sheet.{Slot}
 
 map_step : (f : Slot → Slot) (slots : List Slot) (i : ℕ) (t : Slot) → i < length slots → t ≡ get_or (map f (take i slots) ++ drop i slots) i t →

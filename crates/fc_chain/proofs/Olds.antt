@@ -1,11 +1,10 @@
 -- The old slots of a volume, least birth first.
-use Rattle.std.proofs.Common.{◌≡◌, ◌≢◌, ℕ, zero, suc, ◌+◌, ◌<◌, ◌≤◌, Bool, true, false, cond, ◌&&◌, not, eqb, ltb, Option, Some, None, List, [], ◌∷◌, length, get_or, refl, sym, ap, subst, ◌∙◌, arith, ◌⊎◌, inl, inr, add-one}
-use Rattle.std.proofs.lemmas.Bool.{cases_Bool, both_ways, cases_order, cases_lt, cases_eq, and_parts, and_from, and_left, and_right, ltb-true, lt-ltb, le-ltb, eqb-true, not-true, false_from_ne_true}
-use Rattle.fc_base.specs.Column.{Shape, is_old_of, put_by_birth, places_by_birth}
+use Rattle.std.proofs.Common.{◌≡◌, ◌≢◌, ℕ, zero, suc, ◌+◌, ◌<◌, ◌≤◌, Bool, true, false, ◌&&◌, not, ltb, Option, Some, None, List, [], ◌∷◌, length, refl, sym, ap, subst, ◌∙◌, arith, inl, inr}
+use Rattle.std.proofs.lemmas.Bool.{cases_Bool, both_ways, cases_eq, and_parts, and_from, and_left, and_right, ltb-true, lt-ltb, le-ltb, not-true}
+use Rattle.fc_base.specs.Column.{is_old_of, put_by_birth, places_by_birth}
 use Rattle.fc_base.specs.Sheet.{Slot, slot_at, shape_of}
-use Rattle.fc_chain.specs.Births.{is_after, is_before}
-use Rattle.fc_chain.specs.Planning.{old_after, NextOld, IsNextOld, HasApartBirths}
-use Rattle.fc_chain.proofs.Finds.{read_at}
+use Rattle.fc_chain.specs.Births.{is_after}
+use Rattle.fc_chain.specs.Planning.{NextOld, HasApartBirths}
 
 -- ---- lists of places by birth
 
@@ -26,7 +25,7 @@ places_same birth p q zero f = at_zero birth p ∙ sym (at_zero birth q)
 places_same birth p q (suc n) f =
     let e : places_by_birth birth p n ≡ places_by_birth birth q n = places_same birth p q n (λ j jn. f j (omega arith)) in
     elim (cases_Bool (p n)) [
-        inl t ↦ step_true birth p n t ∙ (ap (put_by_birth birth n) e ∙ sym (step_true birth q n (sym (f n (omega arith)) ∙ t)))
+      | inl t ↦ step_true birth p n t ∙ (ap (put_by_birth birth n) e ∙ sym (step_true birth q n (sym (f n (omega arith)) ∙ t)))
       | inr t ↦ step_false birth p n t ∙ (e ∙ sym (step_false birth q n (sym (f n (omega arith)) ∙ t)))
     ]
 
@@ -43,7 +42,7 @@ all_put : (P : ℕ → Type 0) (birth : ℕ → ℕ) (k : ℕ) (js : List ℕ) �
 all_put P birth k [] p a = (p, tt)
 all_put P birth k (j ∷ js) p a =
     elim (cases_Bool (ltb (birth k) (birth j))) [
-        inl t ↦ let e : put_by_birth birth k (j ∷ js) ≡ k ∷ j ∷ js = rw t refl in subst (λ (z : List ℕ). AllIn P z) (sym e) (p, a)
+      | inl t ↦ let e : put_by_birth birth k (j ∷ js) ≡ k ∷ j ∷ js = rw t refl in subst (λ (z : List ℕ). AllIn P z) (sym e) (p, a)
       | inr f ↦ let e : put_by_birth birth k (j ∷ js) ≡ j ∷ put_by_birth birth k js = rw f refl in subst (λ (z : List ℕ). AllIn P z) (sym e) (a.0, all_put P birth k js p a.1)
     ]
 
@@ -52,7 +51,7 @@ all_places P birth test zero f = subst (λ (z : List ℕ). AllIn P z) (sym (at_z
 all_places P birth test (suc n) f =
     let r = all_places P birth test n (λ j jn t. f j (omega arith) t) in
     elim (cases_Bool (test n)) [
-        inl t ↦ subst (λ (z : List ℕ). AllIn P z) (sym (step_true birth test n t)) (all_put P birth n (places_by_birth birth test n) (f n (omega arith) t) r)
+      | inl t ↦ subst (λ (z : List ℕ). AllIn P z) (sym (step_true birth test n t)) (all_put P birth n (places_by_birth birth test n) (f n (omega arith) t) r)
       | inr t ↦ subst (λ (z : List ℕ). AllIn P z) (sym (step_false birth test n t)) r
     ]
 
@@ -67,22 +66,24 @@ places_first birth test k zero lt t least = absurd (omega arith)
 places_first birth test k (suc n) lt t least =
     let later : ℕ → Bool = λ j. test j && ltb (birth k) (birth j) in
     elim (cases_eq n k) [
-        inl e ↦
+      | inl e ↦
           let same : places_by_birth birth test n ≡ places_by_birth birth later n = places_same birth test later n (λ j jn. elim (cases_Bool (test j)) [
-              inl y ↦ y ∙ sym (and_from (test j) _ y (lt-ltb (birth k) (birth j) (least j (omega arith) y (omega arith))))
-            | inr f ↦ f ∙ sym (and_left (test j) _ f) ]) in
+            | inl y ↦ y ∙ sym (and_from (test j) _ y (lt-ltb (birth k) (birth j) (least j (omega arith) y (omega arith))))
+            | inr f ↦ f ∙ sym (and_left (test j) _ f)
+          ]) in
           let all : AllIn (λ j. birth n < birth j) (places_by_birth birth test n) = all_places (λ j. birth n < birth j) birth test n
-            (λ j jn y. let b : birth k < birth j = least j (omega arith) y (omega arith) in let q : birth n ≡ birth k = ap birth e in omega arith) in
+          (λ j jn y. let b : birth k < birth j = least j (omega arith) y (omega arith) in let q : birth n ≡ birth k = ap birth e in omega arith) in
           let gone : later n ≡ false = and_right (test n) _ (le-ltb (birth k) (birth n) (let q : birth n ≡ birth k = ap birth e in omega arith)) in
           step_true birth test n (ap test e ∙ t) ∙ (put_first birth n (places_by_birth birth test n) all ∙
           (ap (λ z. n ∷ z) (same ∙ sym (step_false birth later n gone)) ∙ ap (λ z. z ∷ places_by_birth birth later (suc n)) e))
       | inr ne ↦
           let ih : places_by_birth birth test n ≡ k ∷ places_by_birth birth later n = places_first birth test k n (omega arith) t (λ j jn y d. least j (omega arith) y d) in
           elim (cases_Bool (test n)) [
-              inl y ↦ let b : birth k < birth n = least n (omega arith) y ne in
+            | inl y ↦ let b : birth k < birth n = least n (omega arith) y ne in
                 let put : put_by_birth birth n (k ∷ places_by_birth birth later n) ≡ k ∷ put_by_birth birth n (places_by_birth birth later n) = rw (le-ltb (birth n) (birth k) (omega arith)) refl in
                 step_true birth test n y ∙ (ap (put_by_birth birth n) ih ∙ (put ∙ ap (λ z. k ∷ z) (sym (step_true birth later n (and_from (test n) _ y (lt-ltb (birth k) (birth n) b))))))
-            | inr f ↦ step_false birth test n f ∙ (ih ∙ ap (λ z. k ∷ z) (sym (step_false birth later n (and_left (test n) _ f)))) ]
+            | inr f ↦ step_false birth test n f ∙ (ih ∙ ap (λ z. k ∷ z) (sym (step_false birth later n (and_left (test n) _ f))))
+          ]
     ]
 
 -- ---- the loop that looks for the least birth
@@ -106,17 +107,20 @@ least_found slots v after bound (Some k) apart le f =
     let birth : ℕ → ℕ = (shape_of slots).birth in
     let p = and_parts (is_old_of (shape_of slots) v k) _ f.passes in
     let q = and_parts (not (slot_at slots k).is_live) _ p.0 in
-    record { there = f.there; is_old = not-true _ q.0;
+    record {
+      there = f.there;
+      is_old = not-true _ q.0;
       rest = places_first birth (is_old_after slots v after) k (length slots) f.there f.passes
           (λ j jl t ne. let b : birth k ≤ birth j = f.least j (omega arith) t in let d : birth k ≢ birth j = λ e. ne (apart j k jl f.there (sym e)) in omega arith)
-        ∙ ap (λ z. k ∷ z) (places_same birth (λ j. is_old_after slots v after j && ltb (birth k) (birth j)) (is_old_after slots v (Some (birth k))) (length slots)
-          (λ j jl. same_test (is_old_of (shape_of slots) v j) after (birth k) (birth j) p.1)) }
+          ∙ ap (λ z. k ∷ z) (places_same birth (λ j. is_old_after slots v after j && ltb (birth k) (birth j)) (is_old_after slots v (Some (birth k))) (length slots)
+          (λ j jl. same_test (is_old_of (shape_of slots) v j) after (birth k) (birth j) p.1));
+    }
   where
     same_test : (old : Bool) (after : Option ℕ) (b c : ℕ) → is_after after b ≡ true → ((old && is_after after c) && ltb b c) ≡ (old && ltb b c)
     same_test false after b c t = refl
     same_test true after b c t =
         elim (cases_Bool (ltb b c)) [
-            inl y ↦ and_from _ _ (after_on after b c t (ltb-true b c y)) y ∙ sym y
+          | inl y ↦ and_from _ _ (after_on after b c t (ltb-true b c y)) y ∙ sym y
           | inr n ↦ and_right (is_after after c) _ n ∙ sym n
         ]
       where
@@ -128,21 +132,38 @@ least_found slots v after bound (Some k) apart le f =
 pub least_kept : (slots : List Slot) (v : ℕ) (after : Option ℕ) (bound : ℕ) (o : Option ℕ) → LeastSoFar slots v after bound o → is_old_after slots v after bound ≡ false → LeastSoFar slots v after (bound + 1) o
 least_kept slots v after bound None f n = λ j jb. elim (cases_eq j bound) [ inl e ↦ ap (is_old_after slots v after) e ∙ n | inr ne ↦ f j (omega arith) ]
 least_kept slots v after bound (Some k) f n =
-    record { below = omega (arith, f.below); there = f.there; passes = f.passes;
-      least = λ j jb t. elim (cases_eq j bound) [ inl e ↦ absurd (both_ways _ n (ap (is_old_after slots v after) (sym e) ∙ t)) | inr ne ↦ f.least j (omega arith) t ] }
+    record {
+      below = omega (arith, f.below);
+      there = f.there;
+      passes = f.passes;
+      least = λ j jb t. elim (cases_eq j bound) [ inl e ↦ absurd (both_ways _ n (ap (is_old_after slots v after) (sym e) ∙ t)) | inr ne ↦ f.least j (omega arith) t ];
+    }
 
 pub least_later : (slots : List Slot) (v : ℕ) (after : Option ℕ) (bound k : ℕ) → IsLeast slots v after bound k → (slot_at slots k).birth ≤ (slot_at slots bound).birth → IsLeast slots v after (bound + 1) k
 least_later slots v after bound k f le =
-    record { below = omega (arith, f.below); there = f.there; passes = f.passes;
-      least = λ j jb t. elim (cases_eq j bound) [ inl e ↦ (let q : (slot_at slots j).birth ≡ (slot_at slots bound).birth = ap (λ z. (slot_at slots z).birth) e in omega arith) | inr ne ↦ f.least j (omega arith) t ] }
+    record {
+      below = omega (arith, f.below);
+      there = f.there;
+      passes = f.passes;
+      least = λ j jb t. elim (cases_eq j bound) [ inl e ↦ (let q : (slot_at slots j).birth ≡ (slot_at slots bound).birth = ap (λ z. (slot_at slots z).birth) e in omega arith) | inr ne ↦ f.least j (omega arith) t ];
+    }
 
 pub least_new : (slots : List Slot) (v : ℕ) (after : Option ℕ) (bound : ℕ) (o : Option ℕ) → LeastSoFar slots v after bound o → bound < length slots → is_old_after slots v after bound ≡ true →
     ((k : ℕ) → o ≡ Some k → (slot_at slots bound).birth ≤ (slot_at slots k).birth) → IsLeast slots v after (bound + 1) bound
 least_new slots v after bound None f bl t le =
-    record { below = omega arith; there = bl; passes = t;
-      least = λ j jb y. elim (cases_eq j bound) [ inl e ↦ (let q : (slot_at slots j).birth ≡ (slot_at slots bound).birth = ap (λ z. (slot_at slots z).birth) e in omega arith) | inr ne ↦ absurd (both_ways _ (f j (omega arith)) y) ] }
+    record {
+      below = omega arith;
+      there = bl;
+      passes = t;
+      least = λ j jb y. elim (cases_eq j bound) [ inl e ↦ (let q : (slot_at slots j).birth ≡ (slot_at slots bound).birth = ap (λ z. (slot_at slots z).birth) e in omega arith) | inr ne ↦ absurd (both_ways _ (f j (omega arith)) y) ];
+    }
 least_new slots v after bound (Some k) f bl t le =
-    record { below = omega arith; there = bl; passes = t;
+    record {
+      below = omega arith;
+      there = bl;
+      passes = t;
       least = λ j jb y. elim (cases_eq j bound) [
-          inl e ↦ (let q : (slot_at slots j).birth ≡ (slot_at slots bound).birth = ap (λ z. (slot_at slots z).birth) e in omega arith)
-        | inr ne ↦ (let a : (slot_at slots bound).birth ≤ (slot_at slots k).birth = le k refl in let b : (slot_at slots k).birth ≤ (slot_at slots j).birth = f.least j (omega arith) y in omega arith) ] }
+        | inl e ↦ (let q : (slot_at slots j).birth ≡ (slot_at slots bound).birth = ap (λ z. (slot_at slots z).birth) e in omega arith)
+        | inr ne ↦ (let a : (slot_at slots bound).birth ≤ (slot_at slots k).birth = le k refl in let b : (slot_at slots k).birth ≤ (slot_at slots j).birth = f.least j (omega arith) y in omega arith)
+      ];
+    }

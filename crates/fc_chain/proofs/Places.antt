@@ -1,6 +1,6 @@
 -- Whether a slot is filled in place.
-use Rattle.std.proofs.Common.{◌≡◌, ℕ, ◌<◌, Bool, true, false, not, ◌&&◌, eqb, Option, Some, None, List, length, get_or, refl, sym, ap, ◌∙◌}
-use Rattle.fc_base.specs.Column.{Column, holder}
+use Rattle.std.proofs.Common.{◌≡◌, ℕ, ◌<◌, false, not, ◌&&◌, eqb, Some, None, List, length, get_or, refl, sym, ap, ◌∙◌}
+use Rattle.fc_base.specs.Column.{holder}
 use Rattle.fc_base.specs.Moves.{is_in_place}
 use Rattle.fc_base.specs.Sheet.{Slot, slot_at, column}
 use Rattle.fc_chain.proofs.Finds.{read_at}

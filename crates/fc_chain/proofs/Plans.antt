@@ -1,15 +1,15 @@
 -- A plan lists what must move, step by step.
-use Rattle.std.proofs.Common.{◌≡◌, ◌≢◌, ℕ, zero, suc, ◌+◌, ◌-◌, ◌<◌, ◌≤◌, Bool, true, false, cond, ◌&&◌, not, eqb, Option, Some, None, List, [], ◌∷◌, ◌++◌, length, get_or, map, reverse, filter, filter_map, fold, refl, sym, ap, subst, ◌∙◌, arith, ◌⊎◌, inl, inr, length-append}
+use Rattle.std.proofs.Common.{◌≡◌, ℕ, zero, suc, ◌-◌, ◌<◌, ◌≤◌, Bool, true, false, eqb, Option, Some, None, List, [], ◌∷◌, ◌++◌, length, get_or, map, reverse, filter, filter_map, refl, sym, ap, subst, ◌∙◌, arith, ◌⊎◌, inl, inr, length-append}
 use Rattle.std.specs.List.{list_any}
-use Rattle.std.proofs.lemmas.Bool.{cases_Bool, both_ways, cases_eq, eqb-true, eq-eqb, or_cases, or_left, or_right, true_from_ne_false, false_from_ne_true, and_from, and_left}
+use Rattle.std.proofs.lemmas.Bool.{cases_Bool, both_ways, eqb-true, eq-eqb, or_cases, or_left, or_right, false_from_ne_true, and_from, and_left}
 use Rattle.std.proofs.lemmas.List.{map-append}
-use mathlib.Core.List.{reverse-cons, reverse-reverse, length-reverse}
+use mathlib.Core.List.{reverse-cons, reverse-reverse}
 use Rattle.fc_base.specs.declared.request.Move.{Move}
-use Rattle.fc_base.specs.Column.{Column, Shape, holder, first_reader, needer, is_old_of, old_slots, old_holders}
+use Rattle.fc_base.specs.Column.{Column, needer, is_old_of, old_slots}
 use Rattle.fc_base.specs.Moves.{is_in, is_in_place, asks, list_with_asked}
 use Rattle.fc_base.specs.Plan.{move_at}
 use Rattle.fc_base.specs.Sheet.{Slot, slot_at, shape_of, column}
-use Rattle.fc_chain.specs.Planning.{old_after, NextOld, IsNextOld, HasApartBirths, IsPlanned, HasRoom}
+use Rattle.fc_chain.specs.Planning.{old_after, IsNextOld, HasApartBirths, IsPlanned, HasRoom}
 use Rattle.fc_moves.proofs.Search.{cases_option}
 use Rattle.fc_moves.proofs.Readers.{is_reader_none}
 use Rattle.fc_moves.proofs.Members.{in_cases, in_head, in_tail, not_in_nil, asks_out_of_place, no_asks_in_place}
@@ -24,7 +24,7 @@ listed_to : (slots : List Slot) (g number b : ℕ) (ks : List ℕ) → list_any 
 listed_to slots g number b [] e = absurd cc
 listed_to slots g number b (k ∷ ks) e =
     elim (or_cases (eqb (slot_at slots k).birth b) _ e) [
-        inl p ↦ (k, in_head k k ks refl, eqb-true _ _ p)
+      | inl p ↦ (k, in_head k k ks refl, eqb-true _ _ p)
       | inr q ↦ let r = listed_to slots g number b ks q in (r.0, in_tail r.0 k ks r.1, r.2)
     ]
 
@@ -32,7 +32,7 @@ listed_from : (slots : List Slot) (g number b : ℕ) (ks : List ℕ) (k : ℕ) �
 listed_from slots g number b [] k e q = absurd (not_in_nil k e)
 listed_from slots g number b (j ∷ ks) k e q =
     elim (in_cases k j ks e) [
-        inl p ↦ or_left (eqb (slot_at slots j).birth b) _ (eq-eqb _ _ (ap (λ z. (slot_at slots z).birth) (sym p) ∙ q))
+      | inl p ↦ or_left (eqb (slot_at slots j).birth b) _ (eq-eqb _ _ (ap (λ z. (slot_at slots z).birth) (sym p) ∙ q))
       | inr r ↦ or_right (eqb (slot_at slots j).birth b) _ (listed_from slots g number b ks k r q)
     ]
 
@@ -42,7 +42,7 @@ listed_is slots g number place moves listed apart pl p =
     let b : ℕ = (slot_at slots place).birth in
     let e : list_any (λ (m : Move). eqb m.slot.0 b) moves ≡ list_any (λ (m : Move). eqb m.slot.0 b) (map (move_at slots g number) (reverse listed)) = ap (list_any (λ (m : Move). eqb m.slot.0 b)) p.moves_are in
     elim (cases_Bool (is_in place listed)) [
-        inl t ↦ e ∙ (listed_from slots g number b (reverse listed) place (in_reverse place listed t) refl ∙ sym t)
+      | inl t ↦ e ∙ (listed_from slots g number b (reverse listed) place (in_reverse place listed t) refl ∙ sym t)
       | inr f ↦ e ∙ (false_from_ne_true _ (λ t.
           let r = listed_to slots g number b (reverse listed) t in
           let i = in_reversed r.0 listed r.1 in
@@ -72,7 +72,7 @@ pub planned_more : (slots : List Slot) (g number place : ℕ) (moves : List Move
 planned_more slots g number place moves done pl p =
     record {
       moves_are = ap (λ z. z ++ move_at slots g number place ∷ []) p.moves_are ∙ (sym (map-append (move_at slots g number) (reverse done) (place ∷ [])) ∙ ap (map (move_at slots g number)) (sym (reverse-cons place done)));
-      there = λ k i. elim (in_cases k place done i) [ inl e ↦ omega arith | inr r ↦ p.there k r ]
+      there = λ k i. elim (in_cases k place done i) [ inl e ↦ omega arith | inr r ↦ p.there k r ];
     }
 
 length_map : (slots : List Slot) (g number : ℕ) (ks : List ℕ) → length (map (move_at slots g number) ks) ≡ length ks
@@ -101,7 +101,7 @@ all_longer c depth ih (a ∷ as') listed =
 longer_step : (c : Column) (depth : ℕ) → Longer c depth → Longer c (suc depth)
 longer_step c depth ih m listed =
     elim (cases_Bool (is_in m listed)) [
-        inl t ↦ (let e : length (list_with_asked c (suc depth) m listed) ≡ length listed = ap length (list_again c (suc depth) m listed t) in omega arith)
+      | inl t ↦ (let e : length (list_with_asked c (suc depth) m listed) ≡ length listed = ap length (list_again c (suc depth) m listed t) in omega arith)
       | inr f ↦ (let e : length (list_with_asked c (suc depth) m listed) ≡ suc (length (list_all c depth (asks c m) listed)) = ap length (list_new c depth m listed f) in
           let y : length listed ≤ length (list_all c depth (asks c m) listed) = all_longer c depth ih (asks c m) listed in omega arith)
     ]
@@ -122,7 +122,7 @@ readers_held : (c : Column) (os : List ℕ) → filter_map (needer c) (filter c.
 readers_held c [] = refl
 readers_held c (o ∷ os) =
     elim (cases_Bool (c.held o)) [
-        inl t ↦ let e : filter c.held (o ∷ os) ≡ o ∷ filter c.held os = rw t refl in
+      | inl t ↦ let e : filter c.held (o ∷ os) ≡ o ∷ filter c.held os = rw t refl in
           ap (filter_map (needer c)) e ∙ readers_cons c o (filter c.held os) os (readers_held c os)
       | inr f ↦ let e : filter c.held (o ∷ os) ≡ filter c.held os = rw f refl in
           let n : needer c o ≡ None = needer_none c o f in
@@ -133,7 +133,7 @@ readers_held c (o ∷ os) =
     readers_cons : (c : Column) (o : ℕ) (xs ys : List ℕ) → readers c xs ≡ readers c ys → readers c (o ∷ xs) ≡ readers c (o ∷ ys)
     readers_cons c o xs ys e =
         elim (cases_option (needer c o)) [
-            inl n ↦ let p : readers c (o ∷ xs) ≡ readers c xs = rw n refl in let q : readers c (o ∷ ys) ≡ readers c ys = rw n refl in p ∙ (e ∙ sym q)
+          | inl n ↦ let p : readers c (o ∷ xs) ≡ readers c xs = rw n refl in let q : readers c (o ∷ ys) ≡ readers c ys = rw n refl in p ∙ (e ∙ sym q)
           | inr s ↦ let p : readers c (o ∷ xs) ≡ s.0 ∷ readers c xs = rw s.1 refl in let q : readers c (o ∷ ys) ≡ s.0 ∷ readers c ys = rw s.1 refl in p ∙ (ap (λ z. s.0 ∷ z) e ∙ sym q)
         ]
 
@@ -167,8 +167,14 @@ added_skip slots g number depth place first moves room volume after o a n e =
     let c : Column = column slots g in
     let later : List ℕ = old_after slots volume (Some (slot_at slots o).birth) in
     let q : readers c (o ∷ later) ≡ readers c later = rw (sym e) refl in
-    record { begun = a.begun; done = a.done; start = a.start; planned = a.planned; fits = a.fits;
-      rest = a.rest ∙ ap (λ z. list_all c (depth - 1) z a.done) (ap (readers c) n.rest ∙ q) }
+    record {
+      begun = a.begun;
+      done = a.done;
+      start = a.start;
+      planned = a.planned;
+      fits = a.fits;
+      rest = a.rest ∙ ap (λ z. list_all c (depth - 1) z a.done) (ap (readers c) n.rest ∙ q);
+    }
 
 added_step : (slots : List Slot) (g number depth place : ℕ) (first moves : List Move) (room volume : ℕ) (after : Option ℕ) (o r : ℕ) → (a : AddedSoFar slots g number depth place first moves room volume after) →
     IsNextOld slots volume after o → Some r ≡ needer (column slots g) o →
@@ -185,8 +191,14 @@ pub added_more : (slots : List Slot) (g number depth place : ℕ) (first moves n
     ((listed : List ℕ) → IsPlanned slots g number moves listed → IsPlanned slots g number new (list_with_asked (column slots g) (depth - 1) r listed)) →
     AddedSoFar slots g number depth place first new room volume (Some (slot_at slots o).birth)
 added_more slots g number depth place first moves new room volume after o r a n e filled =
-    record { begun = a.begun; done = list_with_asked (column slots g) (depth - 1) r a.done; start = a.start; planned = filled a.done a.planned; fits = a.fits;
-      rest = added_step slots g number depth place first moves room volume after o r a n e }
+    record {
+      begun = a.begun;
+      done = list_with_asked (column slots g) (depth - 1) r a.done;
+      start = a.start;
+      planned = filled a.done a.planned;
+      fits = a.fits;
+      rest = added_step slots g number depth place first moves room volume after o r a n e;
+    }
 
 -- the whole list is the slot and all that it asks for
 whole : (slots : List Slot) (g depth place : ℕ) (begun : List ℕ) → 0 < depth → is_in place begun ≡ false → is_in_place (column slots g) place ≡ false →
@@ -196,7 +208,7 @@ whole slots g (suc depth) place begun lt n f =
     let d : suc depth - 1 ≡ depth = omega arith in
     list_new (column slots g) depth place begun n ∙
     (ap (λ z. place ∷ list_all (column slots g) depth z begun) (asks_are slots g place f) ∙
-     ap (λ z. place ∷ list_all (column slots g) z (readers (column slots g) (old_after slots (slot_at slots place).volume None)) begun) (sym d))
+    ap (λ z. place ∷ list_all (column slots g) z (readers (column slots g) (old_after slots (slot_at slots place).volume None)) begun) (sym d))
 
 pub room_inside : (slots : List Slot) (g number depth place : ℕ) (first moves : List Move) (room : ℕ) (after : Option ℕ) (o r : ℕ) → (a : AddedSoFar slots g number depth place first moves room (slot_at slots place).volume after) →
     0 < depth → is_in place a.begun ≡ false → is_in_place (column slots g) place ≡ false → IsNextOld slots (slot_at slots place).volume after o → Some r ≡ needer (column slots g) o → HasRoom slots g number moves room (depth - 1) r
@@ -216,8 +228,9 @@ pub answer_again : (slots : List Slot) (g number depth place : ℕ) (moves : Lis
     (listed : List ℕ) → IsPlanned slots g number moves listed → IsPlanned slots g number moves (list_with_asked (column slots g) depth place listed)
 answer_again slots g number depth place moves apart pl w listed p =
     let same : list_with_asked (column slots g) depth place listed ≡ listed = elim w [
-        inl z ↦ ap (λ d. list_with_asked (column slots g) d place listed) z ∙ list_zero (column slots g) place listed
-      | inr t ↦ list_again (column slots g) depth place listed (sym (listed_is slots g number place moves listed apart pl p) ∙ t) ] in
+      | inl z ↦ ap (λ d. list_with_asked (column slots g) d place listed) z ∙ list_zero (column slots g) place listed
+      | inr t ↦ list_again (column slots g) depth place listed (sym (listed_is slots g number place moves listed apart pl p) ∙ t)
+    ] in
     subst (λ (z : List ℕ). IsPlanned slots g number moves z) (sym same) p
 
 pub not_listed : (slots : List Slot) (g number place : ℕ) (moves : List Move) (listed : List ℕ) → HasApartBirths slots → place < length slots → IsPlanned slots g number moves listed →
@@ -253,7 +266,7 @@ pub answer_added : (slots : List Slot) (g number depth place : ℕ) (first moves
 answer_added slots g number depth place first moves room after apart pl a lt f out none listed p =
     let same : listed ≡ a.begun = one_list slots g number first listed a.begun apart p a.start in
     let e : list_with_asked (column slots g) depth place listed ≡ place ∷ a.done =
-      ap (list_with_asked (column slots g) depth place) same ∙ all_done slots g number depth place first moves room after a lt (not_listed slots g number place first a.begun apart pl a.start f) out none in
+    ap (list_with_asked (column slots g) depth place) same ∙ all_done slots g number depth place first moves room after a lt (not_listed slots g number place first a.begun apart pl a.start f) out none in
     subst (λ (z : List ℕ). IsPlanned slots g number (moves ++ move_at slots g number place ∷ []) z) (sym e) (planned_more slots g number place moves a.done pl a.planned)
 
 pub room_added : (slots : List Slot) (g number depth place : ℕ) (first moves : List Move) (room : ℕ) (after : Option ℕ) → HasApartBirths slots → place < length slots → AddedSoFar slots g number depth place first moves room (slot_at slots place).volume after →

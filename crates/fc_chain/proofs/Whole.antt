@@ -1,27 +1,26 @@
 -- The whole plan of a fill and of a write.
-use Rattle.std.proofs.Common.{◌≡◌, ◌≢◌, ℕ, zero, suc, ◌+◌, ◌-◌, ◌<◌, ◌≤◌, Bool, true, false, cond, eqb, Option, Some, None, option_to_list, List, [], ◌∷◌, ◌++◌, length, get_or, map, reverse, filter, filter_map, fold, count_by, refl, sym, ap, subst, ◌∙◌, arith, ◌⊎◌, inl, inr, append-nil}
-use Rattle.std.specs.List.{IsDistinct, AllByRecursion, list_any}
+use Rattle.std.proofs.Common.{◌≡◌, ℕ, zero, suc, ◌+◌, ◌<◌, ◌≤◌, true, false, cond, eqb, Option, Some, None, option_to_list, List, [], ◌∷◌, ◌++◌, length, map, reverse, filter, filter_map, refl, sym, ap, ◌∙◌, arith, inl, inr}
+use Rattle.std.specs.List.{IsDistinct, AllByRecursion}
 use Rattle.std.specs.Cmp.{nat_eq_equiv}
-use Rattle.std.proofs.lemmas.Bool.{cases_Bool, both_ways, cases_eq, eqb-true, eq-eqb, or_left, or_right, or_parts, false_from_ne_true}
+use Rattle.std.proofs.lemmas.Bool.{cases_Bool, both_ways, or_parts}
 use Rattle.std.proofs.lemmas.Map.Made.{length-le_from_is_member}
 use Rattle.std.proofs.lemmas.Map.Keys.{IsDistinct-cons}
 use Rattle.std.proofs.lemmas.List.Sums.{sum_by-cons}
 use Rattle.fc_base.specs.declared.request.Move.{Move}
 use Rattle.fc_base.specs.MovePlan.{PlannedMoves}
-use Rattle.fc_base.specs.Column.{Column, Shape, holder, first_reader, needer, is_old_of, old_slots, old_holders}
-use Rattle.fc_base.specs.Moves.{is_in, is_in_place, asks, next_behind, write_asks, list_with_asked, list_all_with_asked, fill_moves, write_moves}
+use Rattle.fc_base.specs.Column.{Column, first_reader, old_slots}
+use Rattle.fc_base.specs.Moves.{is_in, next_behind, write_asks, list_with_asked, list_all_with_asked, fill_moves, write_moves}
 use Rattle.fc_base.specs.Plan.{move_at, moves_of_fill, moves_of_write}
-use Rattle.fc_base.specs.Sheet.{Slot, slot_at, shape_of, column}
-use Rattle.fc_base.specs.RestoreGraph.{HasOneLive, HasNoLoop}
-use Rattle.fc_chain.specs.Planning.{old_after, NextOld, IsNextOld, HasApartBirths, IsPlanned, HasRoom, Plannable, FillFits, WriteFits, volume_count}
+use Rattle.fc_base.specs.Sheet.{Slot, slot_at, column}
+use Rattle.fc_chain.specs.Planning.{old_after, IsNextOld, IsPlanned, HasRoom, FillFits, WriteFits, volume_count}
 use Rattle.fc_moves.proofs.Search.{cases_option}
 use Rattle.fc_moves.proofs.Readers.{is_reader_none}
-use Rattle.fc_moves.proofs.Members.{in_cases, in_head, in_tail, not_in_nil}
-use Rattle.fc_moves.proofs.Prefixes.{Fits, Fits.fits_none, Fits.fits_more, CanFollow, Kept, kept_after}
+use Rattle.fc_moves.proofs.Members.{in_head, in_tail, not_in_nil}
+use Rattle.fc_moves.proofs.Prefixes.{Fits, Fits.fits_none, Fits.fits_more, kept_after}
 use Rattle.fc_moves.proofs.Listing.{list_all, reached_root}
 use Rattle.fc_moves.proofs.Filling.{filled}
-use Rattle.fc_moves.proofs.Writing.{WrittenAt, written}
-use Rattle.fc_chain.proofs.Plans.{all_old, longer, all_longer, planned_length}
+use Rattle.fc_moves.proofs.Writing.{written}
+use Rattle.fc_chain.proofs.Plans.{all_old, longer, all_longer}
 
 -- ---- how long a plan can be
 
@@ -33,7 +32,7 @@ live_count : (i : ℕ) (slots : List Slot) → length (live_places i slots) ≡ 
 live_count i [] = refl
 live_count i (t ∷ ts) =
     elim (cases_Bool t.is_live) [
-        inl y ↦ let a : live_places i (t ∷ ts) ≡ i ∷ live_places (suc i) ts = rw y refl in
+      | inl y ↦ let a : live_places i (t ∷ ts) ≡ i ∷ live_places (suc i) ts = rw y refl in
           let b : volume_count (t ∷ ts) ≡ volume_count ts + 1 = count_true t ts y in
           ap length a ∙ (let e : length (live_places (suc i) ts) ≡ volume_count ts = live_count (suc i) ts in omega arith)
       | inr n ↦ let a : live_places i (t ∷ ts) ≡ live_places (suc i) ts = rw n refl in
@@ -43,6 +42,7 @@ live_count i (t ∷ ts) =
   where
     count_true : (t : Slot) (ts : List Slot) → t.is_live ≡ true → volume_count (t ∷ ts) ≡ volume_count ts + 1
     count_true t ts y = let e : volume_count (t ∷ ts) ≡ cond t.is_live 1 0 + volume_count ts = sum_by-cons (λ (x : Slot). cond x.is_live 1 0) t ts in let q : cond {A = ℕ} t.is_live 1 0 ≡ 1 = rw y refl in omega arith
+
     count_false : (t : Slot) (ts : List Slot) → t.is_live ≡ false → volume_count (t ∷ ts) ≡ volume_count ts
     count_false t ts n = let e : volume_count (t ∷ ts) ≡ cond t.is_live 1 0 + volume_count ts = sum_by-cons (λ (x : Slot). cond x.is_live 1 0) t ts in let q : cond {A = ℕ} t.is_live 1 0 ≡ 0 = rw n refl in omega arith
 
@@ -54,7 +54,7 @@ in_live i k zero (t ∷ ts) e lt l =
 in_live i k (suc j) (t ∷ ts) e lt l =
     let r : is_in k (live_places (suc i) ts) ≡ true = in_live (suc i) k j ts (omega arith) (omega arith) l in
     elim (cases_Bool t.is_live) [
-        inl y ↦ let a : live_places i (t ∷ ts) ≡ i ∷ live_places (suc i) ts = rw y refl in ap (is_in k) a ∙ in_tail k i (live_places (suc i) ts) r
+      | inl y ↦ let a : live_places i (t ∷ ts) ≡ i ∷ live_places (suc i) ts = rw y refl in ap (is_in k) a ∙ in_tail k i (live_places (suc i) ts) r
       | inr n ↦ let a : live_places i (t ∷ ts) ≡ live_places (suc i) ts = rw n refl in ap (is_in k) a ∙ r
     ]
 
@@ -71,7 +71,7 @@ pub fits_short : (slots : List Slot) (g : ℕ) (done : List ℕ) → Fits (colum
 fits_short slots g done f =
     let kept = kept_after (column slots g) done f in
     let le : length done ≤ length (live_places 0 slots) = length-le_from_is_member nat_eq_equiv done (live_places 0 slots) (fits_distinct (column slots g) done f)
-      (λ q e. let l = kept.live q e in in_live 0 q q slots (omega arith) l.1 l.0) in
+    (λ q e. let l = kept.live q e in in_live 0 q q slots (omega arith) l.1 l.0) in
     let e : length (live_places 0 slots) ≡ volume_count slots = live_count 0 slots in
     omega arith
 
@@ -102,7 +102,7 @@ pub record WrittenSoFar (slots : List Slot) (g number t : ℕ) (moves : List Mov
   pub done : List ℕ
   pub planned : IsPlanned slots g number moves done
   pub rest : list_all_with_asked (column slots g) (write_asks (column slots g) t) ≡
-    list_all (column slots g) (length slots) (write_readers (column slots g) t (old_after slots volume after) ++ option_to_list (next_behind (column slots g) t)) done
+      list_all (column slots g) (length slots) (write_readers (column slots g) t (old_after slots volume after) ++ option_to_list (next_behind (column slots g) t)) done
   pub fits : length (list_all_with_asked (column slots g) (write_asks (column slots g) t)) ≤ room
 
 none_reads : (c : Column) (t o : ℕ) → c.held o ≡ false → first_reader c t o ≡ None
@@ -112,7 +112,7 @@ write_readers_held : (c : Column) (t : ℕ) (os : List ℕ) → filter_map (firs
 write_readers_held c t [] = refl
 write_readers_held c t (o ∷ os) =
     elim (cases_Bool (c.held o)) [
-        inl y ↦ let e : filter c.held (o ∷ os) ≡ o ∷ filter c.held os = rw y refl in
+      | inl y ↦ let e : filter c.held (o ∷ os) ≡ o ∷ filter c.held os = rw y refl in
           ap (filter_map (first_reader c t)) e ∙ cons_same c t o (filter c.held os) os (write_readers_held c t os)
       | inr f ↦ let e : filter c.held (o ∷ os) ≡ filter c.held os = rw f refl in
           let n : first_reader c t o ≡ None = none_reads c t o f in
@@ -123,7 +123,7 @@ write_readers_held c t (o ∷ os) =
     cons_same : (c : Column) (t o : ℕ) (xs ys : List ℕ) → write_readers c t xs ≡ write_readers c t ys → write_readers c t (o ∷ xs) ≡ write_readers c t (o ∷ ys)
     cons_same c t o xs ys e =
         elim (cases_option (first_reader c t o)) [
-            inl n ↦ let p : write_readers c t (o ∷ xs) ≡ write_readers c t xs = rw n refl in let q : write_readers c t (o ∷ ys) ≡ write_readers c t ys = rw n refl in p ∙ (e ∙ sym q)
+          | inl n ↦ let p : write_readers c t (o ∷ xs) ≡ write_readers c t xs = rw n refl in let q : write_readers c t (o ∷ ys) ≡ write_readers c t ys = rw n refl in p ∙ (e ∙ sym q)
           | inr s ↦ let p : write_readers c t (o ∷ xs) ≡ s.0 ∷ write_readers c t xs = rw s.1 refl in let q : write_readers c t (o ∷ ys) ≡ s.0 ∷ write_readers c t ys = rw s.1 refl in p ∙ (ap (λ z. s.0 ∷ z) e ∙ sym q)
         ]
 
@@ -138,9 +138,12 @@ pub write_begins : (slots : List Slot) (g number t : ℕ) (moves : List Move) (r
 write_begins slots g number t moves room v f e le ev =
     let c : Column = column slots g in
     let w = written c t (record { one = f.sheet.one_live; loops = f.sheet.no_loop; there = f.there; is_live = f.is_live }) in
-    record { done = []; planned = none_planned slots g number moves e;
+    record {
+      done = [];
+      planned = none_planned slots g number moves e;
       rest = write_list slots g t ∙ ap (λ z. list_all c (length slots) (write_readers c t (old_after slots z None) ++ option_to_list (next_behind c t)) []) (sym ev);
-      fits = (let s : length (list_all_with_asked c (write_asks c t)) ≤ volume_count slots = fits_short slots g _ w.fits in omega arith) }
+      fits = (let s : length (list_all_with_asked c (write_asks c t)) ≤ volume_count slots = fits_short slots g _ w.fits in omega arith);
+    }
 
 pub write_skip : (slots : List Slot) (g number t : ℕ) (moves : List Move) (room v : ℕ) (after : Option ℕ) (o : ℕ) → WrittenSoFar slots g number t moves room v after → IsNextOld slots v after o → None ≡ first_reader (column slots g) t o →
     WrittenSoFar slots g number t moves room v (Some (slot_at slots o).birth)
@@ -148,8 +151,12 @@ write_skip slots g number t moves room v after o a n e =
     let c : Column = column slots g in
     let later : List ℕ = old_after slots v (Some (slot_at slots o).birth) in
     let q : write_readers c t (o ∷ later) ≡ write_readers c t later = rw (sym e) refl in
-    record { done = a.done; planned = a.planned; fits = a.fits;
-      rest = a.rest ∙ ap (λ z. list_all c (length slots) (z ++ option_to_list (next_behind c t)) a.done) (ap (write_readers c t) n.rest ∙ q) }
+    record {
+      done = a.done;
+      planned = a.planned;
+      fits = a.fits;
+      rest = a.rest ∙ ap (λ z. list_all c (length slots) (z ++ option_to_list (next_behind c t)) a.done) (ap (write_readers c t) n.rest ∙ q);
+    }
 
 write_step : (slots : List Slot) (g number t : ℕ) (moves : List Move) (room v : ℕ) (after : Option ℕ) (o r : ℕ) → (a : WrittenSoFar slots g number t moves room v after) → IsNextOld slots v after o → Some r ≡ first_reader (column slots g) t o →
     list_all_with_asked (column slots g) (write_asks (column slots g) t) ≡

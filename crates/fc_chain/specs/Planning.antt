@@ -1,7 +1,7 @@
 -- How a plan is made: words for its parts.
-use Rattle.std.specs.Prelude.{◌≡◌, ℕ, zero, suc, ◌+◌, ◌<◌, ◌≤◌, Bool, true, false, cond, ◌&&◌, eqb, ltb, Option, Some, None, List, [], ◌∷◌, length, map, reverse, count_by, slice_index_or, IsSome, ◌/◌, ◌%◌}
+use Rattle.std.specs.Prelude.{◌≡◌, ℕ, ◌<◌, ◌≤◌, true, false, ◌&&◌, Option, Some, None, List, [], ◌∷◌, length, map, reverse, count_by, slice_index_or, IsSome, ◌/◌, ◌%◌}
 use Rattle.fc_base.specs.declared.request.Move.{Move}
-use Rattle.fc_base.specs.Column.{Shape, is_old_of, places_by_birth}
+use Rattle.fc_base.specs.Column.{is_old_of, places_by_birth}
 use Rattle.fc_base.specs.Sheet.{Slot, slot_at, shape_of, column, birth_place, live_place}
 use Rattle.fc_base.specs.Moves.{is_in, list_with_asked}
 use Rattle.fc_base.specs.RestoreGraph.{HasOneLive, HasNoLoop}

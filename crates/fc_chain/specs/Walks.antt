@@ -1,5 +1,5 @@
 -- What a walk along a chain finds.
-use Rattle.std.specs.Prelude.{◌≡◌, ◌≢◌, ℕ, ◌<◌, ◌≤◌, Bool, true, false, Option, Some, None, List, length}
+use Rattle.std.specs.Prelude.{◌≡◌, ◌≢◌, ℕ, ◌<◌, ◌≤◌, true, false, Option, Some, None, List, length}
 use Rattle.std.specs.List.{slice_index_or}
 use Rattle.fc_base.specs.Sheet.{Slot, slot_at}
 

@@ -99,7 +99,10 @@ impl Cascade {
         ensures { (k : ℕ) → birth_place self.now.sheet.slots slot.0 ≡ Some k → result ≡ found self.now.sheet.slots (holder (column self.now.sheet.slots (in_lane self.now grain)) k) }
     {
         let slots = self.slots.as_slice();
-        name_of(slots, holder_of(slots, place_of(slots, slot), grain / self.lanes as u32))
+        name_of(
+            slots,
+            holder_of(slots, place_of(slots, slot), grain / self.lanes as u32),
+        )
     }
 
     /// The needer of a slot at a grain of the lane: the first live slot other than it that has it as holder,
@@ -111,7 +114,10 @@ impl Cascade {
     {
         let slots = self.slots.as_slice();
         let place = place_of(slots, slot);
-        name_of(slots, first_reader_of(slots, place, place, grain / self.lanes as u32))
+        name_of(
+            slots,
+            first_reader_of(slots, place, place, grain / self.lanes as u32),
+        )
     }
 
     /// The slot got its own copy of the grain; in place its volume's physical grain was the copy already.
@@ -166,11 +172,27 @@ impl Cascade {
         plan.clear();
         match write {
             Planned::Fill { slot, grain } => {
-                plan_fill(slots, place_of(slots, slot), LaneGrain { place: grain.0 / lanes, number: grain.0 }, plan);
+                plan_fill(
+                    slots,
+                    place_of(slots, slot),
+                    LaneGrain {
+                        place: grain.0 / lanes,
+                        number: grain.0,
+                    },
+                    plan,
+                );
             }
             Planned::Write { volume, grain } => {
                 if let Some(place) = place_of_live(slots, volume.0) {
-                    plan_write(slots, place, LaneGrain { place: grain.0 / lanes, number: grain.0 }, plan);
+                    plan_write(
+                        slots,
+                        place,
+                        LaneGrain {
+                            place: grain.0 / lanes,
+                            number: grain.0,
+                        },
+                        plan,
+                    );
                 }
             }
         }

@@ -68,7 +68,11 @@ fn reads_at(slots: &[Slot], reader: usize, place: usize) -> bool
 }
 
 /// Adds the names of the live slots other than the one at a place that have it as holder at some grain.
-pub(crate) fn add_direct(slots: &[Slot], place: usize, out: &mut List<SlotId>) -> Result<(), NoMemory>
+pub(crate) fn add_direct(
+    slots: &[Slot],
+    place: usize,
+    out: &mut List<SlotId>,
+) -> Result<(), NoMemory>
     ensures { OnOk result (out.new ≡ out.old ++ names_below slots.now (is_direct slots.now place) (length slots.now)) }
 {
     for (reader, slot) in slots.iter().enumerate() {

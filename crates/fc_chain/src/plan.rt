@@ -56,7 +56,13 @@ fn move_of(slots: &[Slot], place: usize, grain: LaneGrain) -> Move
 
 /// Adds the moves that a fill of the slot at a place owes, where they aren't listed yet. The depth bounds how
 /// often asking leads on to asking.
-pub(crate) fn add_fill(slots: &[Slot], depth: usize, place: usize, grain: LaneGrain, plan: &mut MovePlan)
+pub(crate) fn add_fill(
+    slots: &[Slot],
+    depth: usize,
+    place: usize,
+    grain: LaneGrain,
+    plan: &mut MovePlan,
+)
     requires there { place < length slots.now }
     requires apart { HasApartBirths slots.now }
     requires room { HasRoom slots.now grain.place grain.number plan.old.moves plan.old.room depth place }

@@ -1,7 +1,6 @@
 //! One slot of a chain: a state of a volume.
 
 ghost use Rattle.std.specs.Prelude.{◌≡◌, ℕ, false, true, None, Some, replicate, length, slice_index_or, slice_set, ◌<◌, not, ◌&&◌, eqb};
-
 ghost use Rattle.fc_base.specs.Column.{is_at};
 ghost use Rattle.fc_bits.specs.Grains.{count_set};
 ghost use Rattle.fc_chain.specs.Births.{is_after, is_before};

@@ -6,7 +6,7 @@ use Rattle.fc_chain.proofs.count.has_live_behind.Given as goal
 abbrev pub invariant-loop-behind : goal.invariant-loop-behind
 invariant-loop-behind l = record {
   behind : l.place < l.behind;
-  none : (j : ℕ) → l.place < j → j < l.behind → (slot_at l.slots j).is_live ≡ true → (slot_at l.slots j).chain ≡ (slot_at l.slots l.place).chain → ⊥
+  none : (j : ℕ) → l.place < j → j < l.behind → (slot_at l.slots j).is_live ≡ true → (slot_at l.slots j).chain ≡ (slot_at l.slots l.place).chain → ⊥;
 }
 
 abbrev pub decreases-loop-behind : goal.decreases-loop-behind

@@ -1,6 +1,4 @@
-use Rattle.std.proofs.Common.{◌≡◌, ℕ, ◌<◌, ◌≤◌, ◌&&◌, Bool, true, false, Option, None, IfSome, length}
-use Rattle.fc_base.specs.Sheet.{slot_at}
-use Rattle.fc_chain.proofs.Olds.{is_old_after, LeastSoFar}
+use Rattle.fc_chain.proofs.Olds.{LeastSoFar}
 use Rattle.fc_chain.proofs.old.next_old.Given as goal
 
 -- the least birth so far

@@ -1,5 +1,4 @@
-use Rattle.std.proofs.Common.{◌≡◌, ℕ, length}
-use Rattle.fc_base.specs.Sheet.{slot_at}
+use Rattle.std.proofs.Common.{◌≡◌, length}
 use Rattle.fc_chain.specs.Planning.{old_after}
 use Rattle.fc_chain.proofs.Plans.{AddedSoFar}
 use Rattle.fc_chain.proofs.plan.+add_fill.Given as goal
@@ -11,7 +10,7 @@ decreases-add_fill l = l.depth
 abbrev pub invariant-loop-old : goal.invariant-loop-old
 invariant-loop-old l = record {
   room : l.plan.room ≡ l.fn.plan.room;
-  added : AddedSoFar l.slots l.grain.place l.grain.number l.depth l.place l.fn.plan.moves l.plan.moves l.fn.plan.room l.volume l.after
+  added : AddedSoFar l.slots l.grain.place l.grain.number l.depth l.place l.fn.plan.moves l.plan.moves l.fn.plan.room l.volume l.after;
 }
 
 abbrev pub decreases-loop-old : goal.decreases-loop-old

@@ -1,5 +1,4 @@
-use Rattle.std.proofs.Common.{◌∙◌, sym, ap, ◌&&◌, not, eqb}
-use Rattle.fc_base.specs.Sheet.{Slot}
+use Rattle.std.proofs.Common.{◌∙◌, ap, ◌&&◌, not, eqb}
 use Rattle.fc_chain.proofs.Places.{in_place_some, in_place_none}
 use Rattle.fc_chain.proofs.plan.fills_in_place.Goals as goal
 

@@ -1,15 +1,14 @@
-use Rattle.std.proofs.Common.{◌∙◌, sym, ap, refl}
-use Rattle.fc_base.specs.MovePlan.{PlannedMoves}
+use Rattle.std.proofs.Common.{◌∙◌, refl}
 use Rattle.fc_chain.proofs.Plans.{volume_at}
-use Rattle.fc_chain.proofs.Whole.{write_begins, room_for_write, room_for_next, write_alone, write_last, plan_is}
+use Rattle.fc_chain.proofs.Whole.{write_begins, room_for_write, write_alone, write_last, plan_is}
 use Rattle.fc_chain.proofs.plan.plan_write.Goals as goal
 
 pub loop-old-init : goal.loop-old-init
 loop-old-init c = record {
-    room = refl;
-    written = write_begins _ _ _ _ _ _ _ c.requires.fit c.requires.empty c.requires.room
-      (volume_at _ _ _ c.index-slots-place.result c.requires.fit.there c.index-slots-place.is c.volume-volume.ensures)
-  }
+  room = refl;
+  written = write_begins _ _ _ _ _ _ _ c.requires.fit c.requires.empty c.requires.room
+      (volume_at _ _ _ c.index-slots-place.result c.requires.fit.there c.index-slots-place.is c.volume-volume.ensures);
+}
 
 pub add_fill-requires-clause-room : goal.add_fill-requires-clause-room
 add_fill-requires-clause-room c =

@@ -1,4 +1,4 @@
-use Rattle.std.proofs.Common.{◌≡◌, ℕ, length}
+use Rattle.std.proofs.Common.{◌≡◌, length}
 use Rattle.fc_chain.specs.Planning.{old_after}
 use Rattle.fc_chain.proofs.Whole.{WrittenSoFar}
 use Rattle.fc_chain.proofs.plan.plan_write.Given as goal
@@ -7,7 +7,7 @@ use Rattle.fc_chain.proofs.plan.plan_write.Given as goal
 abbrev pub invariant-loop-old : goal.invariant-loop-old
 invariant-loop-old l = record {
   room : l.plan.room ≡ l.fn.plan.room;
-  written : WrittenSoFar l.slots l.grain.place l.grain.number l.place l.plan.moves l.fn.plan.room l.volume l.after
+  written : WrittenSoFar l.slots l.grain.place l.grain.number l.place l.plan.moves l.fn.plan.room l.volume l.after;
 }
 
 abbrev pub decreases-loop-old : goal.decreases-loop-old

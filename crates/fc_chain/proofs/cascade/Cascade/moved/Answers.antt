@@ -1,4 +1,3 @@
-use Rattle.std.proofs.Common.{◌∙◌, sym, ap, length}
 use Rattle.fc_chain.proofs.Keeps.{kept_written, kept_in_place, fits_moved}
 use Rattle.fc_chain.proofs.cascade.Cascade.moved.Goals as goal
 

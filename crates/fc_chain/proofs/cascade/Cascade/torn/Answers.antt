@@ -1,4 +1,3 @@
-use Rattle.std.proofs.Common.{◌∙◌, sym, ap, length}
 use Rattle.fc_chain.proofs.Keeps.{kept_written, kept_lost}
 use Rattle.fc_chain.proofs.cascade.Cascade.torn.Goals as goal
 
