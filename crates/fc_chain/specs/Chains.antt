@@ -1,0 +1,43 @@
+-- The chains of one lane.
+use Rattle.std.specs.Prelude.{◌≡◌, ℕ, ◌+◌, ◌-◌, ◌/◌, ◌%◌, ◌<◌, ◌≤◌, Bool, Option, IsSome, List, [], length, option_map, slice_index_or}
+use Rattle.fc_base.specs.SheetFacts.{IsSound}
+use Rattle.fc_base.specs.declared.ids.SlotId.{SlotId}
+use Rattle.fc_base.specs.Sheet.{Slot, Sheet, slot_at, birth_place}
+
+-- The chains of lane `lane` of `lanes`: the sheet of the lane's grains, and how many slots can be made, of at most how many
+-- grains each, without taking memory.
+pub record Chains : Type 0 where
+  pub lane : ℕ
+  pub lanes : ℕ
+  pub sheet : Sheet
+  pub room : ℕ
+  pub width : ℕ
+
+-- A grain of the volume belongs to the lane, and has this place among the lane's grains.
+abbrev pub IsOfLane : Chains → ℕ → Type 0
+IsOfLane c g = g % c.lanes ≡ c.lane
+
+abbrev pub in_lane : Chains → ℕ → ℕ
+in_lane c g = g / c.lanes
+
+-- How many of a volume's grains the lane has.
+abbrev pub lane_grains : ℕ → ℕ → ℕ → ℕ
+lane_grains lane lanes grains = (grains + lanes - 1 - lane) / lanes
+
+-- The name of the slot at a place.
+abbrev pub slot_id : List Slot → ℕ → SlotId
+slot_id slots k = record { 0 = (slot_at slots k).birth }
+
+abbrev pub found : List Slot → Option ℕ → Option SlotId
+found slots o = option_map (slot_id slots) o
+
+-- What the kept parts have in common, always.
+pub record IsKept (lane lanes : ℕ) (sheet : Sheet) (spare : List (List Bool)) (width capacity : ℕ) : Type 0 where
+  pub lane_in : lane < lanes
+  pub sound : IsSound sheet
+  pub fits : length sheet.slots + length spare ≤ capacity
+  pub sets : (k : ℕ) → k < length spare → length (slice_index_or spare k []) ≡ width
+
+-- The slot with this name is there.
+abbrev pub IsThere : List Slot → SlotId → Type 0
+IsThere slots name = IsSome (birth_place slots name.0)

@@ -1,0 +1,244 @@
+//! The chains of copies of one lane.
+
+ghost use Rattle.std.specs.Prelude.{◌≡◌, ℕ, ◌<◌, ◌≤◌, ◌/◌, ◌↔◌, ◌++◌, length, OnOk, IsTrue, Some, false};
+ghost use Rattle.fc_base.specs.Sheet.{no_slots, slot_at, column, live_place, mapping_place, birth_place};
+ghost use Rattle.fc_base.specs.Column.{holder, needer};
+ghost use Rattle.fc_base.specs.declared.request.Side.TheVariants.{Under};
+ghost use Rattle.fc_base.specs.SheetFits.{FitsTaken, FitsLost};
+ghost use Rattle.fc_base.specs.SheetStep.{sheet_moved, sheet_written, sheet_torn};
+ghost use Rattle.fc_chain.specs.Chains.{IsOfLane, in_lane, found, IsThere};
+ghost use Rattle.fc_bits.specs.Grains.{count_set};
+ghost use Rattle.fc_chain.specs.Counts.{need_count_of, UsedAt, names_below, is_direct, is_unneeded};
+ghost use Rattle.fc_chain.specs.Planning.{CanPlan, planned_moves, volume_count};
+
+use crate::count::{add_direct, add_unneeded, count_needed, is_source};
+use crate::find::{name_of, place_of, place_of_live, place_of_mapping};
+use crate::hold::{keep_grain, lose_grain, take_grain};
+use crate::plan::{LaneGrain, plan_fill, plan_write};
+use crate::slot::Slot;
+use crate::walk::{first_reader_of, holder_of};
+use fc_base::ids::{MapId, SlotId, VolId};
+use fc_base::list::List;
+use fc_base::move_plan::MovePlan;
+use fc_base::outcome::NoMemory;
+use fc_base::request::{Planned, Side};
+use fc_bits::GrainSet;
+use std::alloc::Global;
+use std::marker::Model;
+
+/// The chains of copies of one lane, with the lane's grains of every volume.
+#[derive(Drop)]
+pub struct Cascade {
+    lane: u8,
+    lanes: u8,
+    births: u64,
+    slots: Vec<Slot>,
+    spare: Vec<GrainSet>,
+    width: u32,
+}
+
+impl Model for Cascade {
+    ghost use Rattle.std.specs.Prelude.{length, vec_capacity};
+    ghost use Rattle.fc_chain.specs.Chains.{Chains, IsKept};
+
+    ghost Value = { Chains };
+
+    ghost view = { λ c. record { lane = c.lane; lanes = c.lanes; sheet = record { births = c.births; slots = c.slots.items }; room = length c.spare.items; width = c.width } };
+
+    ghost invariant = { λ c. IsKept c.lane c.lanes (record { births = c.births; slots = c.slots.items }) c.spare.items c.width (vec_capacity c.slots) };
+}
+
+impl Cascade {
+    /// No chain. Takes no memory.
+    pub fn new(alloc: Global, lane: u8, lanes: u8) -> Cascade
+        requires { lane < lanes }
+        ensures lane { result.lane ≡ lane }
+        ensures lanes { result.lanes ≡ lanes }
+        ensures sheet { result.sheet ≡ no_slots }
+    {
+        Cascade {
+            lane,
+            lanes,
+            births: 0,
+            slots: Vec::new(alloc),
+            spare: Vec::new(alloc),
+            width: 0,
+        }
+    }
+
+    /// The volume's live slot, and None exactly where there is no such volume.
+    pub fn live(&self, volume: VolId) -> Option<SlotId>
+        ensures { result ≡ found self.now.sheet.slots (live_place self.now.sheet.slots volume.0) }
+    {
+        let slots = self.slots.as_slice();
+        name_of(slots, place_of_live(slots, volume.0))
+    }
+
+    /// The volume whose slot it is.
+    pub fn volume(&self, slot: SlotId) -> VolId
+        requires { IsThere self.now.sheet.slots slot }
+        ensures { (k : ℕ) → birth_place self.now.sheet.slots slot.0 ≡ Some k → result.0 ≡ (slot_at self.now.sheet.slots k).volume }
+    {
+        let slots = self.slots.as_slice();
+        VolId(slots[place_of(slots, slot)].volume())
+    }
+
+    /// The mapping's slot, and None exactly where it has none.
+    pub fn slot(&self, map: MapId) -> Option<SlotId>
+        ensures { result ≡ found self.now.sheet.slots (mapping_place self.now.sheet.slots map.0) }
+    {
+        let slots = self.slots.as_slice();
+        name_of(slots, place_of_mapping(slots, map.0))
+    }
+
+    /// The holder of a slot at a grain of the lane: the nearest slot at or before it in its chain that holds
+    /// the grain, and None exactly where there is none. A read goes to the holder of the volume's live slot.
+    pub fn holder(&self, slot: SlotId, grain: u32) -> Option<SlotId>
+        requires there { IsThere self.now.sheet.slots slot }
+        requires of_lane { IsOfLane self.now grain }
+        ensures { (k : ℕ) → birth_place self.now.sheet.slots slot.0 ≡ Some k → result ≡ found self.now.sheet.slots (holder (column self.now.sheet.slots (in_lane self.now grain)) k) }
+    {
+        let slots = self.slots.as_slice();
+        name_of(
+            slots,
+            holder_of(slots, place_of(slots, slot), grain / self.lanes as u32),
+        )
+    }
+
+    /// The needer of a slot at a grain of the lane: the first live slot other than it that has it as holder,
+    /// and None exactly where there is none.
+    pub fn needer(&self, slot: SlotId, grain: u32) -> Option<SlotId>
+        requires there { IsThere self.now.sheet.slots slot }
+        requires of_lane { IsOfLane self.now grain }
+        ensures { (k : ℕ) → birth_place self.now.sheet.slots slot.0 ≡ Some k → result ≡ found self.now.sheet.slots (needer (column self.now.sheet.slots (in_lane self.now grain)) k) }
+    {
+        let slots = self.slots.as_slice();
+        let place = place_of(slots, slot);
+        name_of(
+            slots,
+            first_reader_of(slots, place, place, grain / self.lanes as u32),
+        )
+    }
+
+    /// The slot got its own copy of the grain; in place its volume's physical grain was the copy already.
+    pub fn moved(&mut self, slot: SlotId, grain: u32, in_place: bool)
+        requires there { IsThere self.old.sheet.slots slot }
+        requires of_lane { IsOfLane self.old grain }
+        requires fits { (k : ℕ) → birth_place self.old.sheet.slots slot.0 ≡ Some k → in_place ≡ false → FitsTaken self.old.sheet.slots (slot_at self.old.sheet.slots k).volume (in_lane self.old grain) }
+        ensures { (k : ℕ) → birth_place self.old.sheet.slots slot.0 ≡ Some k → self.new ≡ record self.old { sheet = sheet_moved (slot_at self.old.sheet.slots k).volume (in_lane self.old grain) in_place self.old.sheet } }
+    {
+        let volume = self.volume(slot);
+        let grain = grain / self.lanes as u32;
+        if in_place {
+            keep_grain(&mut self.slots, volume.0, grain);
+        } else {
+            take_grain(&mut self.slots, volume.0, grain);
+        }
+    }
+
+    /// The volume's grain was written.
+    pub fn written(&mut self, volume: VolId, grain: u32)
+        requires of_lane { IsOfLane self.old grain }
+        requires fits { FitsTaken self.old.sheet.slots volume.0 (in_lane self.old grain) }
+        ensures { self.new ≡ record self.old { sheet = sheet_written volume.0 (in_lane self.old grain) self.old.sheet } }
+    {
+        let grain = grain / self.lanes as u32;
+        take_grain(&mut self.slots, volume.0, grain);
+    }
+
+    /// A write of the volume's grain failed and left any bytes in it. With `Now` what the volume shows is lost
+    /// with them.
+    pub fn torn(&mut self, volume: VolId, grain: u32, side: Side)
+        requires of_lane { IsOfLane self.old grain }
+        requires fits { FitsTaken self.old.sheet.slots volume.0 (in_lane self.old grain) }
+        requires under { side ≡ Under → FitsLost self.old.sheet.slots volume.0 (in_lane self.old grain) }
+        ensures { self.new ≡ record self.old { sheet = sheet_torn volume.0 (in_lane self.old grain) side self.old.sheet } }
+    {
+        let grain = grain / self.lanes as u32;
+        match side {
+            Side::Now => take_grain(&mut self.slots, volume.0, grain),
+            Side::Under => lose_grain(&mut self.slots, volume.0, grain),
+        }
+    }
+
+    /// Puts the moves that a fill or a write owes into the plan, in order. Takes no memory.
+    pub fn plan(&self, write: Planned, plan: &mut MovePlan)
+        requires fit { CanPlan self.now.sheet.slots self.now.lane self.now.lanes write }
+        requires room { volume_count self.now.sheet.slots ≤ plan.old.room }
+        ensures { plan.new ≡ record plan.old { moves = planned_moves self.now.sheet.slots self.now.lanes write } }
+    {
+        let slots = self.slots.as_slice();
+        let lanes = self.lanes as u32;
+        plan.clear();
+        match write {
+            Planned::Fill { slot, grain } => {
+                plan_fill(
+                    slots,
+                    place_of(slots, slot),
+                    LaneGrain {
+                        place: grain.0 / lanes,
+                        number: grain.0,
+                    },
+                    plan,
+                );
+            }
+            Planned::Write { volume, grain } => {
+                if let Some(place) = place_of_live(slots, volume.0) {
+                    plan_write(
+                        slots,
+                        place,
+                        LaneGrain {
+                            place: grain.0 / lanes,
+                            number: grain.0,
+                        },
+                        plan,
+                    );
+                }
+            }
+        }
+    }
+
+    /// How many of the lane's grains the slot holds.
+    pub fn held_count(&self, slot: SlotId) -> u32
+        requires { IsThere self.now.sheet.slots slot }
+        ensures { (k : ℕ) → birth_place self.now.sheet.slots slot.0 ≡ Some k → result ≡ count_set (slot_at self.now.sheet.slots k).held }
+    {
+        let slots = self.slots.as_slice();
+        slots[place_of(slots, slot)].held_count()
+    }
+
+    /// At how many of the lane's grains another slot needs the slot.
+    pub fn need_count(&self, slot: SlotId) -> u32
+        requires { IsThere self.now.sheet.slots slot }
+        ensures { (k : ℕ) → birth_place self.now.sheet.slots slot.0 ≡ Some k → result ≡ need_count_of self.now.sheet.slots k }
+    {
+        let slots = self.slots.as_slice();
+        count_needed(slots, place_of(slots, slot))
+    }
+
+    /// Whether the volume is used as a source: some slot of it has a live slot behind it in its chain. Such a
+    /// volume becomes a target only with the option `-restore`.
+    pub fn used(&self, volume: VolId) -> bool
+        ensures { IsTrue result ↔ UsedAt self.now.sheet.slots volume.0 }
+    {
+        is_source(self.slots.as_slice(), volume.0)
+    }
+
+    /// Adds the live slots other than this one that have it as holder at some grain of the lane, in order of
+    /// their places. Refused, the list has a part of them.
+    pub fn direct(&self, slot: SlotId, out: &mut List<SlotId>) -> Result<(), NoMemory>
+        requires { IsThere self.now.sheet.slots slot }
+        ensures { OnOk result ((k : ℕ) → birth_place self.now.sheet.slots slot.0 ≡ Some k → out.new ≡ out.old ++ names_below self.now.sheet.slots (is_direct self.now.sheet.slots k) (length self.now.sheet.slots)) }
+    {
+        let slots = self.slots.as_slice();
+        add_direct(slots, place_of(slots, slot), out)
+    }
+
+    /// Adds the old slots that no slot needs at a grain of the lane, in order of their places. Refused, the list
+    /// has a part of them.
+    pub fn unneeded(&self, out: &mut List<SlotId>) -> Result<(), NoMemory>
+        ensures { OnOk result (out.new ≡ out.old ++ names_below self.now.sheet.slots (is_unneeded self.now.sheet.slots) (length self.now.sheet.slots)) }
+    {
+        add_unneeded(self.slots.as_slice(), out)
+    }
+}

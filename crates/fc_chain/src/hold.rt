@@ -1,0 +1,33 @@
+//! Pairs of slot and grain that are got and lost.
+
+ghost use Rattle.std.specs.Prelude.{◌≡◌, map};
+ghost use Rattle.fc_base.specs.SheetStep.{grain_taken, grain_kept, grain_lost};
+
+use crate::slot::Slot;
+
+/// The volume's live slot gets the grain, and its older slots lose it.
+pub(crate) fn take_grain(slots: &mut [Slot], volume: u32, grain: u32)
+    ensures { slots.new ≡ map (grain_taken volume grain) slots.old }
+{
+    for slot in slots.iter_mut() {
+        slot.take(volume, grain);
+    }
+}
+
+/// The volume's live slot gets the grain, and nothing else changes.
+pub(crate) fn keep_grain(slots: &mut [Slot], volume: u32, grain: u32)
+    ensures { slots.new ≡ map (grain_kept volume grain) slots.old }
+{
+    for slot in slots.iter_mut() {
+        slot.keep(volume, grain);
+    }
+}
+
+/// The volume's older slots lose the grain.
+pub(crate) fn lose_grain(slots: &mut [Slot], volume: u32, grain: u32)
+    ensures { slots.new ≡ map (grain_lost volume grain) slots.old }
+{
+    for slot in slots.iter_mut() {
+        slot.lose(volume, grain);
+    }
+}

@@ -1,0 +1,25 @@
+//! The chains of copies of one lane: which grain of which volume is the content of which copy, and what has
+//! to be copied before a grain is overwritten.
+//!
+//! A `Cascade` is seen as the lane's sheet of slots (`fc_base`, `specs/Sheet`), which always has the facts
+//! of `specs/SheetFacts`. Each call is its definition: `holder`, `needer`, `held_count`, `need_count`,
+//! `direct`, `unneeded` and `used` are those of `specs/Column`, `specs/Need` and `specs/RestoreGraph`; `plan` gives
+//! the moves of `specs/Moves` in their order, each once, and needs room for one move a volume; `moved`,
+//! `written` and `torn` change the pairs as `specs/SheetStep` says. Only `direct` and `unneeded` take memory.
+//! That the planned moves are safe, one after the other, is the law of `fc_moves`; that every step keeps the
+//! facts is the law of `fc_sheets`.
+//!
+//! To read: `slot` (one slot), `find` and `walk` (where slots stand, and who holds for whom), `old` and `plan`
+//! (what must move), `hold` (pairs), `count`, and `cascade`, which has the calls.
+#![tactic(auto)]
+
+mod cascade;
+mod count;
+mod find;
+mod hold;
+mod old;
+mod plan;
+mod slot;
+mod walk;
+
+pub use cascade::Cascade;
