@@ -48,13 +48,7 @@ fn the_fourth_take_fails_before_the_first_line_has_ended(
     rt: HostRuntime,
 ) -> Result<(), AllocError> {
     let alloc = rt.alloc();
-    let outcome = run(
-        alloc,
-        FIRST_VOLUME,
-        5,
-        vec![in alloc; 4]?,
-        Vec::new(alloc),
-    )?;
+    let outcome = run(alloc, FIRST_VOLUME, 5, vec![in alloc; 4]?, Vec::new(alloc))?;
     assert!(rt; outcome.status == Status::ReadFault);
     assert_eq!(rt;
         (outcome.written.len(), outcome.entries, outcome.disks),
