@@ -31,12 +31,10 @@ slot_id slots k = record { 0 = (slot_at slots k).birth }
 abbrev pub found : List Slot → Option ℕ → Option SlotId
 found slots o = option_map (slot_id slots) o
 
--- What the kept parts have in common, always.
-pub record IsKept (lane lanes : ℕ) (sheet : Sheet) (spare : List (List Bool)) (width capacity : ℕ) : Type 0 where
+-- What always holds of the kept parts.
+pub record IsKept (lane lanes : ℕ) (sheet : Sheet) : Type 0 where
   pub lane_in : lane < lanes
   pub sound : IsSound sheet
-  pub fits : length sheet.slots + length spare ≤ capacity
-  pub sets : (k : ℕ) → k < length spare → length (slice_index_or spare k []) ≡ width
 
 -- The slot with this name is there.
 abbrev pub IsThere : List Slot → SlotId → Type 0

@@ -5,3 +5,5 @@ pub mod Found
 pub mod Births
 pub mod Planning
 pub mod Counts
+pub mod Table
+pub mod Room
