@@ -1,7 +1,8 @@
 -- What room the events of a command need.
-use Rattle.std.specs.Prelude.{ℕ, ◌+◌, ◌≤◌, List, length, sum_by, All}
+use Rattle.std.specs.Prelude.{ℕ, ◌+◌, ◌^◌, ◌<◌, ◌≤◌, List, length, sum_by, All}
 use Rattle.fc_base.specs.declared.decision.LaneEvent.{LaneEvent}
 use Rattle.fc_base.specs.declared.decision.LaneEvent.TheVariants.{Make, Remove, Trigger, Retire, Detach, Split, Force, Drop, Forget, NoteCut, Access, Work, Arm}
+use Rattle.fc_base.specs.Sheet.{Sheet}
 use Rattle.fc_chain.specs.Chains.{Chains, lane_grains}
 
 -- How many slots an event can make: one for a volume that comes, one for each pair of a trigger, and one for each volume
@@ -36,6 +37,10 @@ grains_come local (NoteCut m source target) = 0
 grains_come local (Access volume access) = 0
 grains_come local (Work m copies cleans) = 0
 grains_come local (Arm volume grain calls) = 0
+
+-- Births are numbers of 64 bits.
+abbrev pub BirthsFit : Sheet → Type 0
+BirthsFit s = s.births < 2 ^ 64
 
 -- The chains have room for all the slots that the events can make.
 pub record HasRoomFor (c : Chains) (events : List LaneEvent) : Type 0 where

@@ -1,6 +1,6 @@
 //! The slots of all chains, with room for new ones.
 
-ghost use Rattle.std.specs.Prelude.{◌≡◌, ℕ, ◌+◌, ◌-◌, ◌^◌, ◌<◌, ◌≤◌, length, replicate, OnOk, OnErr, IfOk, false, slice_index_or, []};
+ghost use Rattle.std.specs.Prelude.{◌≡◌, ℕ, ◌+◌, ◌-◌, ◌^◌, ◌<◌, ◌≤◌, length, replicate, OnOk, OnErr, IfOk, false, slice_index_or, take, []};
 ghost use Rattle.fc_base.specs.Sheet.{no_slots, slot_at, volume_grains};
 ghost use Rattle.fc_base.specs.SheetStep.{with_chain, without, aged, placed, split_at, sheet_written, sheet_moved, sheet_torn};
 ghost use Rattle.fc_base.specs.declared.request.Side.TheVariants.{Under};
@@ -85,20 +85,54 @@ impl SlotTable {
         lose_grain(&mut self.slots, volume, grain);
     }
 
-    /// A spare set, cut to so many grains, with none of them in it.
-    fn spare_set(spare: &mut Vec<GrainSet>, grains: u32) -> GrainSet
-        requires there { 0 < length spare.old.items }
-        requires wide { grains ≤ length (slice_index_or spare.old.items (length spare.old.items - 1) []) }
-        ensures value { result ≡ replicate grains false }
-        ensures rest { spare.new.items ≡ take (length spare.old.items - 1) spare.old.items }
+    /// Room for so many more slots, each of at most so many grains. Room that was there stays. Refused, the table is as
+    /// it was.
+    pub(crate) fn make_room(&mut self, slots: usize, grains: u32) -> Result<(), NoMemory>
+        ensures ok { OnOk result ((slots ≤ self.new.room) × (grains ≤ self.new.width)) }
+        ensures same { self.new.sheet ≡ self.old.sheet }
+        ensures room_stays { self.old.room ≤ self.new.room }
+        ensures width_stays { self.old.width ≤ self.new.width }
+        ensures err { OnErr result (self.new ≡ self.old) }
     {
-        match spare.pop() {
-            Some(mut set) => {
-                set.reset(grains);
-                set
-            }
-            None => unreachable!(),
+        if grains > self.width {
+            self.widen(slots, grains)
+        } else if slots > self.spare.len() {
+            self.top_up(slots)
+        } else {
+            Ok(())
         }
+    }
+
+    /// New spare sets of so many grains in place of those that are there, as many as are wanted or more.
+    fn widen(&mut self, slots: usize, grains: u32) -> Result<(), NoMemory>
+        requires { self.old.width < grains }
+        ensures ok { OnOk result ((slots ≤ self.new.room) × (self.new.width ≡ grains)) }
+        ensures same { self.new.sheet ≡ self.old.sheet }
+        ensures room_stays { self.old.room ≤ self.new.room }
+        ensures err { OnErr result (self.new ≡ self.old) }
+    {
+        let count = slots.max(self.spare.len());
+        let spare = clear_sets(*self.slots.allocator(), count, grains)?;
+        if self.slots.reserve(count).is_err() {
+            return Err(NoMemory);
+        }
+        self.spare = spare;
+        self.width = grains;
+        Ok(())
+    }
+
+    /// More spare sets, so that there are as many as are wanted.
+    fn top_up(&mut self, slots: usize) -> Result<(), NoMemory>
+        requires { self.old.room < slots }
+        ensures ok { OnOk result (self.new ≡ record self.old { room = slots }) }
+        ensures err { OnErr result (self.new ≡ self.old) }
+    {
+        let count = slots - self.spare.len();
+        let mut more = clear_sets(*self.slots.allocator(), count, self.width)?;
+        if self.slots.reserve(slots).is_err() || self.spare.append(&mut more).is_err() {
+            return Err(NoMemory);
+        }
+        Ok(())
     }
 
     /// A chain of one live slot of the volume, which holds all of so many grains.
@@ -108,7 +142,7 @@ impl SlotTable {
         requires wide { grains ≤ self.old.width }
         ensures { self.new ≡ record self.old { sheet = with_chain volume grains self.old.sheet; room = self.old.room - 1 } }
     {
-        let set = SlotTable::spare_set(&mut self.spare, grains);
+        let set = spare_set(&mut self.spare, grains);
         let slot = Slot::alone(self.births, volume, set);
         match self.slots.push(slot) {
             Ok(()) => self.births += 1,
@@ -125,7 +159,7 @@ impl SlotTable {
         requires wide { grains ≤ self.old.width }
         ensures { self.new ≡ record self.old { sheet = placed volume mapping (replicate grains false) place self.old.sheet; room = self.old.room - 1 } }
     {
-        let set = SlotTable::spare_set(&mut self.spare, grains);
+        let set = spare_set(&mut self.spare, grains);
         let slot = Slot::target(self.births, self.slots[place].chain(), volume, mapping, set);
         match self.slots.insert(place + 1, slot) {
             Ok(()) => self.births += 1,
@@ -157,4 +191,35 @@ impl SlotTable {
     {
         split_chain(&mut self.slots, place);
     }
+}
+
+/// A spare set, cut to so many grains, with none of them in it.
+fn spare_set(spare: &mut Vec<GrainSet>, grains: u32) -> GrainSet
+    requires there { 0 < length spare.old.items }
+    requires wide { grains ≤ length (slice_index_or spare.old.items (length spare.old.items - 1) []) }
+    ensures value { result ≡ replicate grains false }
+    ensures rest { spare.new.items ≡ take (length spare.old.items - 1) spare.old.items }
+{
+    match spare.pop() {
+        Some(mut set) => {
+            set.reset(grains);
+            set
+        }
+        None => unreachable!(),
+    }
+}
+
+/// So many sets of so many grains each, with none of them in it.
+fn clear_sets(alloc: Global, count: usize, grains: u32) -> Result<Vec<GrainSet>, NoMemory>
+    ensures { IfOk result (λ sets. sets.items ≡ replicate count (replicate grains false)) }
+{
+    let Ok(mut sets) = Vec::with_capacity(alloc, count) else {
+        return Err(NoMemory);
+    };
+    while sets.len() < count {
+        if sets.push(GrainSet::new(alloc, grains)?).is_err() {
+            return Err(NoMemory);
+        }
+    }
+    Ok(sets)
 }
