@@ -7,3 +7,6 @@ pub mod Plans
 pub mod Whole
 pub mod Fitting
 pub mod Counting
+pub mod Tables
+pub mod Rising
+pub mod Dividing

@@ -1,6 +1,6 @@
 //! The slots of all chains, with room for new ones.
 
-ghost use Rattle.std.specs.Prelude.{◌≡◌, ℕ, ◌+◌, ◌-◌, ◌^◌, ◌<◌, ◌≤◌, length, replicate, OnOk, OnErr, IfOk, false, slice_index_or, take, []};
+ghost use Rattle.std.specs.Prelude.{◌≡◌, ℕ, ◌+◌, ◌-◌, ◌^◌, ◌<◌, ◌≤◌, length, replicate, OnOk, OnErr, IfOk, false, true, slice_index_or, take, []};
 ghost use Rattle.fc_base.specs.Sheet.{no_slots, slot_at, volume_grains};
 ghost use Rattle.fc_base.specs.SheetStep.{with_chain, without, aged, placed, split_at, sheet_written, sheet_moved, sheet_torn};
 ghost use Rattle.fc_base.specs.declared.request.Side.TheVariants.{Under};
@@ -216,7 +216,7 @@ fn clear_sets(alloc: Global, count: usize, grains: u32) -> Result<Vec<GrainSet>,
     let Ok(mut sets) = Vec::with_capacity(alloc, count) else {
         return Err(NoMemory);
     };
-    while sets.len() < count {
+    for _made in 0..count {
         if sets.push(GrainSet::new(alloc, grains)?).is_err() {
             return Err(NoMemory);
         }
