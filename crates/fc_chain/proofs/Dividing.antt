@@ -11,9 +11,9 @@ cut_here f [] k t lt e = absurd (omega arith)
 cut_here f (x ∷ xs) zero t lt e = ap (λ z. cut_off z ∷ xs) e
 cut_here f (x ∷ xs) (suc k) t lt e = ap (λ z. x ∷ z) (cut_here f xs k t (omega arith) e)
 
-pub cut_first : (f : Slot → Slot) (slots now : List Slot) (k : ℕ) (t u : Slot) → k < length slots → t ≡ get_or slots k t → u ≡ cut_off t → now ≡ set slots k u → now ≡ relabelled f k (take (k + 1) slots) ++ drop (k + 1) slots
+pub cut_first : (f : Slot → Slot) (slots now : List Slot) (k : ℕ) (t u : Slot) → k < length slots → t ≡ get_or slots k t → u ≡ cut_off (get_or slots k t) → now ≡ set slots k u → now ≡ relabelled f k (take (k + 1) slots) ++ drop (k + 1) slots
 cut_first f slots now k t u lt e q n =
-    n ∙ (ap (set slots k) q ∙ (cut_here f slots k t lt e ∙ ap (λ z. relabelled f k (take z slots) ++ drop z slots) (sym (add-one k))))
+    n ∙ (ap (set slots k) (q ∙ ap cut_off (sym e)) ∙ (cut_here f slots k t lt e ∙ ap (λ z. relabelled f k (take z slots) ++ drop z slots) (sym (add-one k))))
 
 next_along : (f : Slot → Slot) (slots : List Slot) (k i : ℕ) (t : Slot) → k < i → i < length slots → t ≡ get_or (relabelled f k (take i slots) ++ drop i slots) i t →
     set (relabelled f k (take i slots) ++ drop i slots) i (f t) ≡ relabelled f k (take (i + 1) slots) ++ drop (i + 1) slots
@@ -32,10 +32,10 @@ next_along f (x ∷ xs) (suc k) (suc i) t b lt e =
     suc_more : (i : ℕ) → suc (i + 1) ≡ suc i + 1
     suc_more i = omega arith
 
-pub next_divided : (f : Slot → Slot) (slots now new : List Slot) (k i : ℕ) (t u : Slot) → now ≡ relabelled f k (take i slots) ++ drop i slots → k < i → i < length slots → t ≡ get_or now i t → u ≡ f t → new ≡ set now i u →
+pub next_divided : (f : Slot → Slot) (slots now new : List Slot) (k i : ℕ) (t u : Slot) → now ≡ relabelled f k (take i slots) ++ drop i slots → k < i → i < length slots → t ≡ get_or now i t → u ≡ f (get_or now i t) → new ≡ set now i u →
     new ≡ relabelled f k (take (i + 1) slots) ++ drop (i + 1) slots
 next_divided f slots now new k i t u e b lt r q n =
-    n ∙ (ap (set now i) q ∙ (ap (λ z. set z i (f t)) e ∙ next_along f slots k i t b lt (r ∙ ap (λ z. get_or z i t) e)))
+    n ∙ (ap (set now i) (q ∙ ap f (sym r)) ∙ (ap (λ z. set z i (f t)) e ∙ next_along f slots k i t b lt (r ∙ ap (λ z. get_or z i t) e)))
 
 all_taken : (slots : List Slot) (i : ℕ) → length slots ≤ i → (take i slots ≡ slots) × (drop i slots ≡ [])
 all_taken [] zero le = (refl, refl)

@@ -1,13 +1,16 @@
 -- What is always kept is kept by moves and writes.
-use Rattle.std.proofs.Common.{◌≡◌, ℕ, ◌/◌, Bool, false, true, Option, Some, None, IsSome, List, refl, sym, subst}
+use Rattle.std.proofs.Common.{◌≡◌, ℕ, ◌/◌, Bool, false, true, Option, Some, None, IsSome, List, fold, refl, sym, subst}
 use Rattle.fc_base.specs.declared.ids.SlotId.{SlotId}
 use Rattle.fc_base.specs.declared.request.Side.TheVariants.{Under}
 use Rattle.fc_base.specs.Sheet.{Slot, Sheet, slot_at, birth_place}
-use Rattle.fc_base.specs.SheetStep.{sheet_written, sheet_moved, sheet_torn}
+use Rattle.fc_base.specs.SheetStep.{sheet_written, sheet_moved, sheet_torn, sheet_step}
 use Rattle.fc_base.specs.SheetFacts.{IsSound}
-use Rattle.fc_base.specs.SheetFits.{FitsTaken, FitsLost}
-use Rattle.fc_chain.specs.Chains.{Chains, IsKept, in_lane, IsThere}
+use Rattle.fc_base.specs.SheetFits.{FitsTaken, FitsLost, FitsEvents}
+use Rattle.fc_chain.specs.Chains.{Chains, IsKept, in_lane, lane_grains, IsThere}
 use Rattle.fc_chain.specs.Table.{Table}
+use Rattle.fc_base.specs.declared.decision.LaneEvent.{LaneEvent}
+use Rattle.fc_chain.specs.Room.{BirthsFit}
+use Rattle.fc_chain.proofs.Rising.{births_after, events_sound}
 use Rattle.fc_sheets.proofs.Holding.{written_sound, kept_sound, lost_sound}
 
 abbrev pub view_of : ℕ → ℕ → Table → Chains
@@ -31,6 +34,20 @@ pub kept_lost : (value : Chains) (lane lanes v g : ℕ) (table new : Table) → 
 kept_lost value lane lanes v g table new view k fits e =
     subst (λ (t : Table). IsKept lane lanes t.sheet) (sym e)
     (kept_as lane lanes table.sheet (sheet_torn v (g / lanes) Under table.sheet) k (lost_sound table.sheet v (g / lanes) k.sound (subst (λ (c : Chains). FitsLost c.sheet.slots v (in_lane c g)) (sym view) fits)))
+
+pub births_kept : (value : Chains) (lane lanes : ℕ) (table : Table) (es now : List LaneEvent) → view_of lane lanes table ≡ value → FitsEvents (lane_grains value.lane value.lanes) value.sheet es → now ≡ es →
+    BirthsFit (fold (sheet_step (lane_grains lane lanes)) table.sheet now)
+births_kept value lane lanes table es now view fit e =
+    births_after (lane_grains lane lanes) table.sheet now
+    (subst (λ (z : List LaneEvent). FitsEvents (lane_grains lane lanes) table.sheet z) (sym e) (subst (λ (c : Chains). FitsEvents (lane_grains c.lane c.lanes) c.sheet es) (sym view) fit))
+
+pub kept_applied : (value : Chains) (lane lanes : ℕ) (table new : Table) (es now : List LaneEvent) → view_of lane lanes table ≡ value → IsKept lane lanes table.sheet → FitsEvents (lane_grains value.lane value.lanes) value.sheet es →
+    now ≡ es → new.sheet ≡ fold (sheet_step (lane_grains lane lanes)) table.sheet now → IsKept lane lanes new.sheet
+kept_applied value lane lanes table new es now view k fit e q =
+    subst (λ (s : Sheet). IsKept lane lanes s) (sym q)
+    (kept_as lane lanes table.sheet (fold (sheet_step (lane_grains lane lanes)) table.sheet now) k
+    (events_sound (lane_grains lane lanes) table.sheet now k.sound
+    (subst (λ (z : List LaneEvent). FitsEvents (lane_grains lane lanes) table.sheet z) (sym e) (subst (λ (c : Chains). FitsEvents (lane_grains c.lane c.lanes) c.sheet es) (sym view) fit))))
 
 place_there : (o : Option ℕ) → IsSome o → (k : ℕ) × (o ≡ Some k)
 place_there None t = absurd cc

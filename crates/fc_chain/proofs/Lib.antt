@@ -10,3 +10,4 @@ pub mod Counting
 pub mod Tables
 pub mod Rising
 pub mod Dividing
+pub mod Behind

@@ -1,5 +1,5 @@
 -- Births only rise, so those after all events bound those in between.
-use Rattle.std.proofs.Common.{◌≡◌, ℕ, suc, ◌+◌, ◌<◌, ◌≤◌, ◌^◌, Bool, true, false, cond, Option, Some, None, List, [], ◌∷◌, length, get_or, drop, fold, refl, sym, ap, subst, ◌∙◌, arith, add-one, drop-cons, inl, inr}
+use Rattle.std.proofs.Common.{◌≡◌, ℕ, zero, suc, ◌+◌, ◌<◌, ◌≤◌, ◌^◌, Bool, true, false, cond, Option, Some, None, List, [], ◌∷◌, length, get_or, drop, fold, refl, sym, ap, subst, ◌∙◌, arith, add-one, drop-cons, inl, inr}
 use Rattle.std.proofs.lemmas.Bool.{cases_Bool}
 use Rattle.fc_base.specs.declared.ids.MapId.{MapId}
 use Rattle.fc_base.specs.declared.request.Pair.{Pair}
@@ -87,6 +87,21 @@ next_fits f r s end xs i x lt e rest fit =
     let a : (f s x).births ≤ (fold f (f s x) (drop (i + 1) xs)).births = all_rise f r (drop (i + 1) xs) (f s x) in
     let b : (fold f (f s x) (drop (i + 1) xs)).births ≡ end.births = ap (λ (z : Sheet). z.births) (sym (fold_next f s xs i x lt e) ∙ rest) in
     let c : end.births < 2 ^ 64 = fit in
+    omega arith
+
+pub next_fits_at : {A : Type 0} (f : Sheet → A → Sheet) → ((x : A) → Rises (λ s. f s x)) → (s end : Sheet) (xs : List A) (i : ℕ) (d : A) → i < length xs → fold f s (drop i xs) ≡ end → BirthsFit end → BirthsFit (f s (get_or xs i d))
+next_fits_at f r s end xs i d lt rest fit = next_fits f r s end xs i (get_or xs i d) lt (read xs i d lt) rest fit
+  where
+    read : {A : Type 0} (xs : List A) (i : ℕ) (d : A) → i < length xs → get_or xs i d ≡ get_or xs i (get_or xs i d)
+    read [] i d lt = absurd (omega arith)
+    read (x ∷ xs) zero d lt = refl
+    read (x ∷ xs) (suc i) d lt = read xs i d (omega arith)
+
+-- the births after a first change fit where those after the others do
+pub first_fits : {A : Type 0} (f : Sheet → A → Sheet) → ((x : A) → Rises (λ s. f s x)) → (s : Sheet) (x : A) (xs : List A) → BirthsFit (fold f (f s x) xs) → BirthsFit (f s x)
+first_fits f r s x xs fit =
+    let a : (f s x).births ≤ (fold f (f s x) xs).births = all_rise f r xs (f s x) in
+    let c : (fold f (f s x) xs).births < 2 ^ 64 = fit in
     omega arith
 
 -- ---- all events of a command
