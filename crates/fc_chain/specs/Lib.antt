@@ -4,6 +4,5 @@ pub mod Walks
 pub mod Found
 pub mod Births
 pub mod Planning
-pub mod Counts
 pub mod Table
 pub mod Room

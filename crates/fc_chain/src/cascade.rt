@@ -81,8 +81,7 @@ impl Cascade {
     pub fn apply(&mut self, events: &LaneEvents)
         requires fit { FitsEvents (lane_grains self.old.lane self.old.lanes) self.old.sheet events.now }
         requires room { HasRoomFor self.old events.now }
-        ensures sheet { self.new.sheet ≡ fold (sheet_step (lane_grains self.old.lane self.old.lanes)) self.old.sheet events.now }
-        ensures same { self.new ≡ record self.old { sheet = self.new.sheet; room = self.new.room } }
+        ensures { self.new ≡ record self.old { sheet = fold (sheet_step (lane_grains self.old.lane self.old.lanes)) self.old.sheet events.now; room = self.new.room } }
     {
         step_all(&mut self.table, events.as_slice(), self.lane, self.lanes);
     }
