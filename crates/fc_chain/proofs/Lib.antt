@@ -11,3 +11,4 @@ pub mod Tables
 pub mod Rising
 pub mod Dividing
 pub mod Behind
+pub mod Together

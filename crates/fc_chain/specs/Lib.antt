@@ -6,3 +6,4 @@ pub mod Births
 pub mod Planning
 pub mod Table
 pub mod Room
+pub mod Contiguous
