@@ -1,6 +1,7 @@
 -- The chains of one lane.
 use Rattle.std.specs.Prelude.{◌≡◌, ℕ, ◌+◌, ◌-◌, ◌/◌, ◌%◌, ◌<◌, ◌≤◌, Bool, Option, IsSome, List, [], length, option_map, slice_index_or}
 use Rattle.fc_base.specs.SheetFacts.{IsSound}
+use Rattle.fc_chain.specs.Contiguous.{IsContiguous}
 use Rattle.fc_base.specs.declared.ids.SlotId.{SlotId}
 use Rattle.fc_base.specs.Sheet.{Slot, Sheet, slot_id, birth_place}
 
@@ -31,6 +32,7 @@ found slots o = option_map (slot_id slots) o
 pub record IsKept (lane lanes : ℕ) (sheet : Sheet) : Type 0 where
   pub lane_in : lane < lanes
   pub sound : IsSound sheet
+  pub together : IsContiguous sheet.slots
 
 -- The slot with this name is there.
 abbrev pub IsThere : List Slot → SlotId → Type 0
