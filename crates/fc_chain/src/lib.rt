@@ -27,3 +27,6 @@ mod table;
 mod walk;
 
 pub use cascade::Cascade;
+
+#[cfg(test)]
+mod tests;
