@@ -141,8 +141,10 @@ holder_ends slots g of bound s t c ol es lt le et ne none = holder_not_found slo
   where
     last : ℕ
     last = bound - 1
+
     other : (slot_at slots last).chain ≢ (slot_at slots of).chain
     other e = ne (ap (λ (x : Slot). x.chain) (sym (read_at slots last t (omega arith) et)) ∙ (e ∙ ap (λ (x : Slot). x.chain) (read_at slots of s ol es)))
+
     none_at : NoneFrom slots g of 0
     none_at j a jo q u =
         elim (cases_order j last) [

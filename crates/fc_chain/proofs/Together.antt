@@ -122,20 +122,26 @@ pushed_together b slots t e c = record { labels = labels; one_place = one_place 
   where
     big : List Slot
     big = slots ++ t ∷ []
+
     r : Removed big slots (length slots)
     r = push_is slots t
+
     count : length slots + 1 ≡ length big
     count = r.count
+
     here : (slot_at big (length slots)).chain ≡ b
     here = ap (λ (z : Slot). z.chain) (push_here slots t) ∙ e
+
     low : (j : ℕ) → j < length slots → (slot_at big j).chain ≡ (slot_at slots j).chain
     low j lt = ap (λ (z : Slot). z.chain) (sym (r.low j lt))
+
     labels : (k : ℕ) → k < length big → (slot_at big k).chain < b + 1
     labels k kl =
         elim (cases_lt k (length slots)) [
           | inl lt ↦ (let a : (slot_at slots k).chain < b = c.labels k lt in let q : (slot_at big k).chain ≡ (slot_at slots k).chain = low k lt in omega arith)
           | inr ge ↦ (let q : (slot_at big k).chain ≡ b = ap (λ z. (slot_at big z).chain) (let s : k ≡ length slots = omega (arith, count) in s) ∙ here in omega arith)
         ]
+
     one_place : IsContiguous big
     one_place i j k ij jk kl q =
         elim (cases_lt k (length slots)) [

@@ -83,7 +83,9 @@ impl Cascade {
     {
         let events = events.as_slice();
         match slots_made(events) {
-            Some(slots) => self.table.make_room(slots, widest(events, self.lane, self.lanes)),
+            Some(slots) => self
+                .table
+                .make_room(slots, widest(events, self.lane, self.lanes)),
             None => Err(NoMemory),
         }
     }

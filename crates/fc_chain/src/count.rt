@@ -3,7 +3,6 @@
 ghost use Rattle.std.specs.Prelude.{◌≡◌, ℕ, ◌<◌, ◌↔◌, IsTrue, length, OnOk, ◌++◌};
 ghost use Rattle.fc_base.specs.Sheet.{slot_at};
 ghost use Rattle.fc_base.specs.Counts.{need_count_of, LiveBehind, UsedAt, reads_some, names_below, is_direct, is_unneeded};
-
 ghost use Rattle.fc_chain.specs.Contiguous.{IsContiguous};
 
 use crate::slot::Slot;

@@ -45,13 +45,7 @@ impl Slot {
     }
 
     /// A new live slot of a volume, the mapping's, which holds what the set has.
-    pub(crate) fn target(
-        birth: u64,
-        chain: u64,
-        volume: u32,
-        mapping: u32,
-        held: GrainSet,
-    ) -> Slot
+    pub(crate) fn target(birth: u64, chain: u64, volume: u32, mapping: u32, held: GrainSet) -> Slot
         ensures { result ≡ record { birth = birth; chain = chain; volume = volume; is_live = true; mapping = Some mapping; held = held } }
     {
         Slot {

@@ -18,7 +18,9 @@ use std::process::Abort;
 use std::test::Fail;
 
 const A: u32 = 0;
+
 const B: u32 = 1;
+
 const C: u32 = 2;
 
 /// Makes room for the event and does it, in a lane that has every grain.
@@ -126,11 +128,7 @@ fn starts_and_stops(rt: HostRuntime) {
     apply(&rt, &mut table, LaneEvent::Drop { slot: SlotId(5) });
     apply(&rt, &mut table, trigger(&rt, alloc, 4, A, B));
     apply(&rt, &mut table, LaneEvent::Detach { map: MapId(4) });
-    apply(
-        &rt,
-        &mut table,
-        LaneEvent::Remove { volume: VolId(C) },
-    );
+    apply(&rt, &mut table, LaneEvent::Remove { volume: VolId(C) });
     assert_slots(&rt, &table, &[(A, true, 0), (B, true, 11)]);
 }
 
