@@ -1,0 +1,4 @@
+//! Stub.
+#![tactic(auto)]
+mod work;
+pub use work::WorkFlags;
