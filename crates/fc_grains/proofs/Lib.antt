@@ -1,0 +1,4 @@
+pub mod Contents
+pub mod Finding
+pub mod Adding
+pub mod Changing

@@ -5,13 +5,28 @@ use Rattle.fc_base.specs.Grain.{grain_bytes}
 use Rattle.fc_base.specs.declared.size.GrainSize.{GrainSize}
 use Rattle.fc_mdisk.specs.Disk.{DiskState}
 use Rattle.fc_mdisk.specs.Disks.{calls_of, faults_of, write_faults_of}
-use Rattle.fc_grains.specs.Grains.{stopped}
-use Rattle.fc_grains.specs.Parts.{VolumeDiskState, PoolState, IsWhole, disks_of}
+use Rattle.fc_grains.specs.Grains.{GrainsState, silent_of, stopped}
+use Rattle.fc_grains.specs.Parts.{VolumeDiskState, PoolState, IsWhole, disks_of, grains_of, left_of, new_of}
 use Rattle.fc_grains.specs.declared.sums.Sums.{Sums}
 
 -- All disks.
 abbrev pub all_disks : List VolumeDiskState → PoolState → List DiskState → List DiskState
 all_disks volumes pool aside = map (λ v. v.disk) volumes ++ (disks_of pool ++ aside)
+
+-- What contracts see.
+abbrev pub state_of : GrainSize → List VolumeDiskState → PoolState → List DiskState → List ℕ → Sums → GrainsState
+state_of grain volumes pool aside buffer sums = record {
+  grain = grain;
+  volumes = map grains_of volumes;
+  pool = left_of pool;
+  reserved = map new_of pool.reserved;
+  buffer = buffer;
+  disks = length (all_disks volumes pool aside);
+  silent = silent_of (all_disks volumes pool aside);
+  calls = sums.calls;
+  faults = sums.faults;
+  write_faults = sums.write_faults;
+}
 
 -- The counts of disks, each up to the last value of its type.
 pub record AddUp (disks : List DiskState) (sums : Sums) : Type 0 where

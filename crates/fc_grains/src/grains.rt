@@ -34,25 +34,13 @@ pub struct Grains<D: Mdisk> {
 }
 
 impl<D: Mdisk> Model for Grains<D> {
-    ghost use Rattle.std.specs.Prelude.{length, map, vec_capacity};
-    ghost use Rattle.fc_grains.specs.Grains.{GrainsState, silent_of};
-    ghost use Rattle.fc_grains.specs.Parts.{grains_of, left_of, new_of};
-    ghost use Rattle.fc_grains.specs.Kept.{IsKept, all_disks};
+    ghost use Rattle.std.specs.Prelude.{map, vec_capacity};
+    ghost use Rattle.fc_grains.specs.Grains.{GrainsState};
+    ghost use Rattle.fc_grains.specs.Kept.{IsKept, state_of};
 
     ghost Value = { GrainsState };
 
-    ghost view = { λ s. record {
-      grain = s.grain;
-      volumes = map grains_of s.volumes.items;
-      pool = left_of s.pool;
-      reserved = map new_of s.pool.reserved;
-      buffer = s.buffer.items;
-      disks = length (all_disks s.volumes.items s.pool (map D.meaning s.aside.items));
-      silent = silent_of (all_disks s.volumes.items s.pool (map D.meaning s.aside.items));
-      calls = s.sums.calls;
-      faults = s.sums.faults;
-      write_faults = s.sums.write_faults;
-    } };
+    ghost view = { λ s. state_of s.grain s.volumes.items s.pool (map D.meaning s.aside.items) s.buffer.items s.sums };
 
     ghost invariant = { λ s. IsKept s.grain s.volumes.items s.pool (map D.meaning s.aside.items) s.buffer.items s.sums (vec_capacity s.volumes) (vec_capacity s.aside) };
 }
