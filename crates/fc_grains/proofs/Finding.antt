@@ -55,6 +55,14 @@ pub found_at : (xs : List VolumeDiskState) (id at : ℕ) → HoldsAt (λ (v : Vo
     → (d : VolumeDiskState) → (slice_index_or xs at d).volume.0 ≡ id
 found_at xs id at equal d = ranked _ id Equal (sym (equal d))
 
+-- a place in a slice is one in the list behind it
+pub at_within : (xs vs : List VolumeDiskState) (at : ℕ) → xs ≡ vs → at < length xs → at < length vs
+at_within xs vs at same within = omega (arith, ap (length {A = VolumeDiskState}) same)
+
+pub at_found : (xs vs : List VolumeDiskState) (at id : ℕ) → xs ≡ vs → ((d : VolumeDiskState) → (slice_index_or xs at d).volume.0 ≡ id)
+    → (d : VolumeDiskState) → (slice_index_or vs at d).volume.0 ≡ id
+at_found xs vs at id same found d = ap (λ (l : List VolumeDiskState). (slice_index_or l at d).volume.0) (sym same) ∙ found d
+
 -- a volume with a grain is there
 with_grain : (b more : Bool) (v rest : VolumeGrains) (place : ℕ) → place < length (cond b v rest).contents → (place < length rest.contents → more ≡ true) → (b || more) ≡ true
 with_grain true more v rest place here later = refl

@@ -2,3 +2,5 @@ pub mod Contents
 pub mod Finding
 pub mod Adding
 pub mod Changing
+pub mod Calling
+pub mod Pooling

@@ -2,9 +2,6 @@ use Rattle.std.proofs.Common.{rules}
 use Rattle.std.proofs.lemmas.List.Sorted.{answers_always}
 use Rattle.fc_grains.specs.Parts.{VolumeDiskState}
 use Rattle.fc_grains.proofs.Finding.{found_at, not_missed}
-use Rattle.fc_grains.proofs.Contents.{contents-set}
-use Rattle.fc_grains.proofs.Adding.{faults_rise}
-use Rattle.fc_grains.proofs.Changing.{add_up_same}
 use Rattle.fc_grains.proofs.find.place_of.Goals as goal
 
 pub unreachable-requires : goal.unreachable-requires
