@@ -4,12 +4,13 @@ use Rattle.std.specs.Bool.{OnTrue, OnFalse}
 use Rattle.std.specs.List.{sum_by}
 use Rattle.std.proofs.lemmas.Bool.{cases_lt}
 use Rattle.std.proofs.lemmas.List.{map-set, get_or-map, length-map, length-set, length-append}
-use Rattle.std.proofs.lemmas.List.Sums.{sum_by-set, sum_by-append, get_or-le-sum_by}
+use Rattle.std.proofs.lemmas.List.Sums.{sum_by-set, sum_by-append, sum_by_more, get_or-le-sum_by}
 use Rattle.fc_base.specs.Count.{one_more, HasRisen, FaultsAfter}
 use Rattle.fc_mdisk.specs.Disk.{DiskState}
 use Rattle.fc_grains.specs.Grains.{stopped}
-use Rattle.fc_grains.specs.Kept.{all_disks}
+use Rattle.fc_grains.specs.Kept.{AddUp, all_disks}
 use Rattle.fc_grains.specs.Parts.{VolumeDiskState, PoolState, disks_of}
+use Rattle.fc_grains.specs.declared.sums.Sums.{Sums}
 
 -- one volume's disk changed
 module _ (volumes : List VolumeDiskState) (pool : PoolState) (aside : List DiskState) (at : ℕ) (was now : VolumeDiskState) (within : at < length volumes)
@@ -79,3 +80,19 @@ faults_rise true false all a b sum sum' covers sum_is sum'_is h =
     record { kept = omega (arith, sum_is, sum'_is); cause = tt; quiet = omega (arith, sum_is, sum'_is, h.quiet) }
 faults_rise false false all a b sum sum' covers sum_is sum'_is h =
     record { kept = omega (arith, sum_is, sum'_is); cause = tt; quiet = tt }
+
+-- one disk more is added
+module _ {D : Type 0} (meaning : D → DiskState) (disks : List D) (i : ℕ) (disk : D) (sums sums' : Sums) (within : i < length disks) (read : disk ≡ get_or disks i disk)
+    (add_up : AddUp (take i (map meaning disks)) sums) where
+  one_added : (count : DiskState → ℕ) → sum_by count (take (i + 1) (map meaning disks)) ≡ sum_by count (take i (map meaning disks)) + count (meaning disk)
+  one_added count =
+      sum_by_more count (map meaning disks) i (meaning disk) (omega (arith, length-map disks meaning))
+      ∙ ap (λ (d : DiskState). sum_by count (take i (map meaning disks)) + count d) (get_or-map meaning disks i disk (meaning disk) within ∙ ap meaning (sym read))
+
+  pub added : sums'.calls ≡ stopped (sums.calls + (meaning disk).calls) → sums'.faults ≡ stopped (sums.faults + (meaning disk).faults)
+      → sums'.write_faults ≡ stopped (sums.write_faults + (meaning disk).write_faults) → AddUp (take (i + 1) (map meaning disks)) sums'
+  added calls faults write_faults = record {
+    calls = omega (arith, calls, add_up.calls, one_added (λ (d : DiskState). d.calls));
+    faults = omega (arith, faults, add_up.faults, one_added (λ (d : DiskState). d.faults));
+    write_faults = omega (arith, write_faults, add_up.write_faults, one_added (λ (d : DiskState). d.write_faults));
+  }

@@ -4,3 +4,4 @@ pub mod Adding
 pub mod Changing
 pub mod Calling
 pub mod Pooling
+pub mod Queueing

@@ -44,38 +44,52 @@ lost_after (Ok _) lost place = slice_set lost place false
 lost_after (Err Failed) lost place = slice_set lost place true
 lost_after (Err NoMemory) lost place = lost
 
--- The disks for new volumes, of each kind in the order in which they are taken, and the marks of the volumes to come.
-pub record PoolState : Type 0 where
-  pub bytes : ℕ
+-- Disks of both kinds, of each in the order in which they are taken.
+pub record QueuesState : Type 0 where
   pub flat : List DiskState
   pub thin : List DiskState
+
+abbrev pub queue_of : DiskKind → QueuesState → List DiskState
+queue_of Flat queues = queues.flat
+queue_of Thin queues = queues.thin
+
+-- The queues, when that of a kind becomes another.
+abbrev pub with_queue : DiskKind → List DiskState → QueuesState → QueuesState
+with_queue Flat queue queues = record queues { flat = queue }
+with_queue Thin queue queues = record queues { thin = queue }
+
+abbrev pub disks_in : QueuesState → List DiskState
+disks_in queues = queues.flat ++ queues.thin
+
+-- The disks are of their kinds, and none of them has an armed fault.
+pub record AreSorted (flat thin : List DiskState) : Type 0 where
+  pub all_flat : All (λ (d : DiskState). d.kind ≡ Flat) flat
+  pub all_thin : All (λ (d : DiskState). d.kind ≡ Thin) thin
+  pub flat_unarmed : All IsUnarmed flat
+  pub thin_unarmed : All IsUnarmed thin
+  pub few : length flat + length thin < 2 ^ 32
+
+-- The disks for new volumes, and the marks of the volumes to come.
+pub record PoolState : Type 0 where
+  pub bytes : ℕ
+  pub queues : QueuesState
   pub reserved : List Reserved
 
 abbrev pub new_of : Reserved → NewVolume
 new_of r = record { kind = r.kind; grains = length r.lost }
 
+abbrev pub left_in : QueuesState → Pool
+left_in queues = record { flat = length queues.flat; thin = length queues.thin }
+
 abbrev pub left_of : PoolState → Pool
-left_of pool = record { flat = length pool.flat; thin = length pool.thin }
+left_of pool = left_in pool.queues
 
 abbrev pub disks_of : PoolState → List DiskState
-disks_of pool = pool.flat ++ pool.thin
+disks_of pool = disks_in pool.queues
 
 -- A disk with so many grains of zeros.
 abbrev pub HasZeros : ℕ → ℕ → DiskState → Type 0
 HasZeros bytes count disk = disk.grains ≡ replicate count (replicate bytes 0)
-
--- The queue of a kind, and each queue when the first disk of a kind was taken.
-abbrev pub queue_of : DiskKind → List DiskState → List DiskState → List DiskState
-queue_of Flat flat thin = flat
-queue_of Thin flat thin = thin
-
-abbrev pub flat_after : DiskKind → List DiskState → List DiskState
-flat_after Flat flat = drop 1 flat
-flat_after Thin flat = flat
-
-abbrev pub thin_after : DiskKind → List DiskState → List DiskState
-thin_after Flat thin = thin
-thin_after Thin thin = drop 1 thin
 
 -- A disk is formatted for a volume to come, none of whose grains are lost.
 pub record IsReady (bytes : ℕ) (r : Reserved) (disk : DiskState) : Type 0 where
@@ -83,20 +97,12 @@ pub record IsReady (bytes : ℕ) (r : Reserved) (disk : DiskState) : Type 0 wher
   pub unmarked : r.lost ≡ replicate (length r.lost) false
 
 -- The first disks of each kind are ready for the volumes to come.
-abbrev pub AreReady : ℕ → List DiskState → List DiskState → List Reserved → Type 0
-AreReady bytes flat thin [] = Unit {0}
-AreReady bytes flat thin (r ∷ rest) =
-    (0 < length (queue_of r.kind flat thin))
-    × IsReady bytes r (disk_at (queue_of r.kind flat thin) 0)
-    × AreReady bytes (flat_after r.kind flat) (thin_after r.kind thin) rest
-
-pub record IsPool (bytes : ℕ) (flat thin : List DiskState) (reserved : List Reserved) : Type 0 where
-  pub all_flat : All (λ (d : DiskState). d.kind ≡ Flat) flat
-  pub all_thin : All (λ (d : DiskState). d.kind ≡ Thin) thin
-  pub flat_unarmed : All IsUnarmed flat
-  pub thin_unarmed : All IsUnarmed thin
-  pub ready : AreReady bytes flat thin reserved
-  pub few : length flat + length thin < 2 ^ 32
+abbrev pub AreReady : ℕ → QueuesState → List Reserved → Type 0
+AreReady bytes queues [] = Unit {0}
+AreReady bytes queues (r ∷ rest) =
+    (0 < length (queue_of r.kind queues))
+    × IsReady bytes r (disk_at (queue_of r.kind queues) 0)
+    × AreReady bytes (with_queue r.kind (drop 1 (queue_of r.kind queues)) queues) rest
 
 -- The same disks, in any order: whatever is added up over them, their grains aside, is the same.
 abbrev pub SameDisks : List DiskState → List DiskState → Type 0

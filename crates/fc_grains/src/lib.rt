@@ -8,7 +8,7 @@
 //! Only `new` and `reserve`, and writes of thin disks, take memory. A volume is found by binary search.
 //!
 //! Files: `grains` (the type and what it tells), `making` (volumes come and go), `access` (reads, writes and copies),
-//! `copy_error`; inside `volume_disk`, `pool`, `sums`, `find`. The words are in `specs/`: `Volumes`, `Grains`, `Calls`.
+//! `copy_error`; inside `volume_disk`, `pool`, `queues`, `sums`, `find`. The words are in `specs/`: `Volumes`, `Grains`, `Calls`.
 #![tactic(auto)]
 
 mod access;
@@ -17,6 +17,7 @@ mod find;
 pub mod grains;
 mod making;
 mod pool;
+mod queues;
 mod sums;
 #[cfg(test)]
 mod tests;

@@ -118,7 +118,7 @@ impl<D: Mdisk> Grains<D> {
             ..
         } = self;
         give_volumes(volumes, into);
-        pool.give_disks(into);
+        pool.into_queues().give_disks(into);
         if into.append(&mut aside).is_err() {
             unreachable!()
         }

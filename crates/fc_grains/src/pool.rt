@@ -6,6 +6,7 @@ ghost use Rattle.fc_base.specs.Pools.{of_kind, pool_without};
 ghost use Rattle.fc_grains.specs.Grains.{IsUnarmed, pool_of, reserved_of, next_of};
 ghost use Rattle.fc_grains.specs.Parts.{HasZeros, SameDisks, disks_of, left_of, new_of};
 
+use crate::queues::Queues;
 use crate::volume_disk::VolumeDisk;
 use fc_base::disk::DiskKind;
 use fc_base::ids::VolId;
@@ -13,7 +14,6 @@ use fc_base::outcome::NoMemory;
 use fc_bits::GrainSet;
 use fc_mdisk::mdisk::Mdisk;
 use std::alloc::Global;
-use std::collections::VecDeque;
 use std::marker::Model;
 
 /// A volume to come: the kind of its disk, and its marks.
@@ -23,75 +23,56 @@ pub(crate) struct Reserved {
     pub(crate) lost: GrainSet,
 }
 
-/// The disks that no volume had, of each kind in the order in which they are taken. The first of them are formatted for the
-/// volumes to come.
+/// The disks that no volume had. The first of each kind are formatted for the volumes to come.
 #[derive(Drop)]
 pub(crate) struct Pool<D: Mdisk> {
     bytes: u32,
-    flat: VecDeque<D>,
-    thin: VecDeque<D>,
+    queues: Queues<D>,
     reserved: Vec<Reserved>,
 }
 
 impl<D: Mdisk> Model for Pool<D> {
-    ghost use Rattle.std.specs.Prelude.{map};
-    ghost use Rattle.fc_grains.specs.Parts.{PoolState, IsPool};
+    ghost use Rattle.fc_grains.specs.Parts.{PoolState, AreReady};
 
     ghost Value = { PoolState };
 
-    ghost view = { λ p. record {
-      bytes = p.bytes;
-      flat = map D.meaning p.flat.items;
-      thin = map D.meaning p.thin.items;
-      reserved = p.reserved.items;
-    } };
+    ghost view = { λ p. record { bytes = p.bytes; queues = p.queues; reserved = p.reserved.items } };
 
-    ghost invariant = { λ p. IsPool p.bytes (map D.meaning p.flat.items) (map D.meaning p.thin.items) p.reserved.items };
+    ghost invariant = { λ p. AreReady p.bytes p.queues p.reserved.items };
 }
 
 impl<D: Mdisk> Pool<D> {
     /// These disks, for grains of so many bytes. Refused, the disks are gone.
-    pub(crate) fn new(alloc: Global, bytes: u32, mut disks: Vec<D>) -> Result<Pool<D>, NoMemory>
+    pub(crate) fn new(alloc: Global, bytes: u32, disks: Vec<D>) -> Result<Pool<D>, NoMemory>
         requires few { vec_len disks < 2 ^ 30 }
         requires unarmed { All IsUnarmed (map D.meaning disks.items) }
         ensures bytes { IfOk result (λ p. p.bytes ≡ bytes) }
         ensures reserved { IfOk result (λ p. p.reserved ≡ []) }
         ensures left { IfOk result (λ p. left_of p ≡ pool_of (map D.meaning disks.items)) }
         ensures disks { IfOk result (λ p. SameDisks (disks_of p) (map D.meaning disks.items)) }
+        ensures number { IfOk result (λ p. length (disks_of p) ≡ vec_len disks) }
     {
-        let mut flat = VecDeque::new(alloc);
-        let mut thin = VecDeque::new(alloc);
-        while let Some(disk) = disks.pop() {
-            let kept = match disk.kind() {
-                DiskKind::Flat => flat.push_front(disk),
-                DiskKind::Thin => thin.push_front(disk),
-            };
-            if kept.is_err() {
-                return Err(NoMemory);
-            }
+        match Queues::new(alloc, disks) {
+            Ok(queues) => Ok(Pool {
+                bytes,
+                queues,
+                reserved: Vec::new(alloc),
+            }),
+            Err(NoMemory) => Err(NoMemory),
         }
-        Ok(Pool {
-            bytes,
-            flat,
-            thin,
-            reserved: Vec::new(alloc),
-        })
     }
 
     /// How many disks of a kind there are.
     pub(crate) fn left(&self, kind: DiskKind) -> u32
         ensures { result ≡ of_kind kind (left_of self.now) }
     {
-        match kind {
-            DiskKind::Flat => self.flat.len() as u32,
-            DiskKind::Thin => self.thin.len() as u32,
-        }
+        self.queues.len(kind)
     }
 
     /// How many volumes are to come.
     pub(crate) fn reserved(&self) -> usize
         ensures count { result ≡ length self.now.reserved }
-        ensures few { length self.now.reserved < 2 ^ 32 }
+        ensures few { length self.now.reserved ≤ length (disks_of self.now) }
     {
         self.reserved.len()
     }
@@ -120,13 +101,12 @@ impl<D: Mdisk> Pool<D> {
             return Err(NoMemory);
         }
         let place = self.reserved_of(kind);
-        let bytes = self.bytes;
-        let formatted = match kind {
-            DiskKind::Flat => self.flat[place].format(grains, bytes),
-            DiskKind::Thin => self.thin[place].format(grains, bytes),
-        };
-        if formatted.is_err() || self.reserved.push(Reserved { kind, lost }).is_err() {
-            return Err(NoMemory);
+        match self.queues.format(kind, place, grains, self.bytes) {
+            Ok(()) => {}
+            Err(NoMemory) => return Err(NoMemory),
+        }
+        if self.reserved.push(Reserved { kind, lost }).is_err() {
+            unreachable!()
         }
         Ok(())
     }
@@ -152,37 +132,14 @@ impl<D: Mdisk> Pool<D> {
         ensures disks { SameDisks (result.disk ∷ disks_of self.new) (disks_of self.old) }
     {
         let next = self.reserved.remove(0);
-        let disk = match next.kind {
-            DiskKind::Flat => self.flat.pop_front(),
-            DiskKind::Thin => self.thin.pop_front(),
-        };
-        match disk {
-            Some(disk) => VolumeDisk::new(volume, disk, next.lost),
-            None => unreachable!(),
-        }
+        let disk = self.queues.take_first(next.kind);
+        VolumeDisk::new(volume, disk, next.lost)
     }
 
-    /// Appends all disks.
-    pub(crate) fn give_disks(self, into: &mut Vec<D>)
-        requires { vec_len into.old + length (disks_of self) ≤ vec_capacity into.old }
-        ensures given { (given : List D) × (into.new.items ≡ into.old.items ++ given) × SameDisks (map D.meaning given) (disks_of self) }
-        ensures room { vec_capacity into.old ≤ vec_capacity into.new }
+    /// The disks.
+    pub(crate) fn into_queues(self) -> Queues<D>
+        ensures { result ≡ self.queues }
     {
-        let Pool { mut flat, mut thin, .. } = self;
-        append_queue(&mut flat, into);
-        append_queue(&mut thin, into);
-    }
-}
-
-/// Appends the disks of a queue, in order.
-fn append_queue<D: Mdisk>(queue: &mut VecDeque<D>, into: &mut Vec<D>)
-    requires { vec_len into.old + length queue.old.items ≤ vec_capacity into.old }
-    ensures items { into.new.items ≡ into.old.items ++ queue.old.items }
-    ensures room { vec_capacity into.old ≤ vec_capacity into.new }
-{
-    while let Some(disk) = queue.pop_front() {
-        if into.push(disk).is_err() {
-            unreachable!()
-        }
+        self.queues
     }
 }

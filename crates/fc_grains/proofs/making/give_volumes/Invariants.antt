@@ -5,10 +5,10 @@ use Rattle.fc_grains.proofs.making.give_volumes.Given as goal
 abbrev pub invariant-loop-volume : goal.invariant-loop-volume
 invariant-loop-volume g l = record {
   given : List g.row.D.Denot;
-  items : l.into.items ≡ l.fn.into.now.items ++ given;
+  items : l.into.items ≡ l.fn.into.items ++ given;
   disks : SameDisks (map g.D.Mdisk.meaning given ++ map (λ (v : VolumeDiskState). v.disk) l.volumes.items) (map (λ (v : VolumeDiskState). v.disk) l.fn.volumes.items);
   room : vec_len l.into + vec_len l.volumes ≤ vec_capacity l.into;
-  grown : vec_capacity l.fn.into.now ≤ vec_capacity l.into;
+  grown : vec_capacity l.fn.into ≤ vec_capacity l.into;
 }
 
 abbrev pub decreases-loop-volume : goal.decreases-loop-volume
