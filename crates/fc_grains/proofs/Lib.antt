@@ -5,3 +5,4 @@ pub mod Changing
 pub mod Calling
 pub mod Pooling
 pub mod Queueing
+pub mod Readying

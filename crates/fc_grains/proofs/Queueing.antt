@@ -1,5 +1,5 @@
 -- Queues of disks, from the disks themselves.
-use Rattle.std.proofs.Common.{◌≡◌, ℕ, ◌+◌, ◌<◌, ◌≤◌, List, [], ◌∷◌, ◌++◌, length, map, get_or, slice_set, suc, Option, IfSome, Result, Ok, Err, OnOk, OnErr, refl, sym, ◌∙◌, ap, subst, arith}
+use Rattle.std.proofs.Common.{◌≡◌, ℕ, ◌+◌, ◌<◌, ◌≤◌, List, [], ◌∷◌, ◌++◌, length, map, get_or, slice_set, suc, Option, None, IfSome, Result, Ok, Err, OnOk, OnErr, refl, sym, ◌∙◌, ap, subst, arith}
 use Rattle.std.specs.List.{All}
 use Rattle.std.proofs.lemmas.List.{map-set, set-get_or, length-map, length-set}
 use Rattle.std.proofs.lemmas.List.Elements.{All-set}
@@ -79,13 +79,13 @@ behind : {X : Type 0} (P : X → Type 0) (x : X) (xs : List X) → All P (x ∷ 
 behind P x xs all k d within = all (suc k) d (omega arith)
 
 module _ {D : Type 0} (meaning : D → DiskState) (disks rest : List D) (first : D) (items : disks ≡ first ∷ rest) where
-  split : {P : List DiskState → Type 0} → P (map meaning disks) → P (meaning first ∷ map meaning rest)
-  split {P} = subst P (ap (map meaning) items)
+  split : (P : List DiskState → Type 0) → P (map meaning disks) → P (meaning first ∷ map meaning rest)
+  split P = subst P (ap (map meaning) items)
 
   pub flat_taken : (thin : List DiskState) → AreSorted (map meaning disks) thin → AreSorted (map meaning rest) thin
   flat_taken thin s =
       let P : List DiskState → Type 0 = λ flat. AreSorted flat thin in
-      let t : AreSorted (meaning first ∷ map meaning rest) thin = split {P = P} s in
+      let t : AreSorted (meaning first ∷ map meaning rest) thin = split P s in
       record {
         all_flat = behind (λ (d : DiskState). d.kind ≡ Flat) (meaning first) (map meaning rest) t.all_flat;
         all_thin = t.all_thin;
@@ -97,7 +97,7 @@ module _ {D : Type 0} (meaning : D → DiskState) (disks rest : List D) (first :
   pub thin_taken : (flat : List DiskState) → AreSorted flat (map meaning disks) → AreSorted flat (map meaning rest)
   thin_taken flat s =
       let P : List DiskState → Type 0 = λ thin. AreSorted flat thin in
-      let t : AreSorted flat (meaning first ∷ map meaning rest) = split {P = P} s in
+      let t : AreSorted flat (meaning first ∷ map meaning rest) = split P s in
       record {
         all_flat = t.all_flat;
         all_thin = behind (λ (d : DiskState). d.kind ≡ Thin) (meaning first) (map meaning rest) t.all_thin;
@@ -109,4 +109,4 @@ module _ {D : Type 0} (meaning : D → DiskState) (disks rest : List D) (first :
   pub first_has : (P : DiskState → Type 0) → All P (map meaning disks) → P (meaning first)
   first_has P all =
       let Q : List DiskState → Type 0 = λ ds. All P ds in
-      split {P = Q} all 0 (meaning first) (omega arith)
+      split Q all 0 (meaning first) (omega arith)

@@ -1,0 +1,93 @@
+-- The disks that are ready for the volumes to come.
+use Rattle.std.proofs.Common.{◌≡◌, ℕ, zero, suc, ◌+◌, ◌-◌, ◌<◌, ◌≤◌, Bool, false, cond, List, [], ◌∷◌, ◌++◌, length, map, drop, get_or, replicate, slice_set, refl, sym, ◌∙◌, ap, subst, arith}
+use Rattle.std.specs.List.{sum_by}
+use Rattle.std.proofs.lemmas.List.{length-drop, length-replicate, length-set}
+use Rattle.std.proofs.lemmas.List.Sums.{sum_by-cons, sum_by-append}
+use Rattle.fc_base.specs.declared.disk.DiskKind.{DiskKind}
+use Rattle.fc_base.specs.declared.disk.DiskKind.TheVariants.{Flat, Thin}
+use Rattle.fc_base.specs.Pools.{Pool, of_kind, pool_without}
+use Rattle.fc_mdisk.specs.Disk.{DiskState, cleared, formatted}
+use Rattle.fc_mdisk.specs.Disks.{disk_at}
+use Rattle.fc_grains.specs.Grains.{NewVolume, is_of_kind, next_of, reserved_of}
+use Rattle.fc_grains.specs.Parts.{AreReady, HasZeros, IsReady, QueuesState, SameDisks, disks_in, left_in, new_of, queue_of, with_queue}
+use Rattle.fc_grains.specs.declared.pool.Reserved.{Reserved}
+
+abbrev two : List DiskState → List DiskState → QueuesState
+two flat thin = record { flat = flat; thin = thin }
+
+-- the queues when a disk was formatted
+abbrev pub formatted_in : DiskKind → ℕ → ℕ → ℕ → QueuesState → QueuesState
+formatted_in kind place grains bytes q = with_queue kind (slice_set (queue_of kind q) place (formatted (disk_at (queue_of kind q) place) grains bytes)) q
+
+-- the last of the volumes to come
+last_ready : (kind : DiskKind) (bytes grains place : ℕ) (lost : List Bool) (flat thin : List DiskState) → lost ≡ replicate grains false → place ≡ 0 → place < length (queue_of kind (two flat thin))
+    → (0 < length (queue_of kind (formatted_in kind place grains bytes (two flat thin))))
+    × IsReady bytes record { kind = kind; lost = lost } (disk_at (queue_of kind (formatted_in kind place grains bytes (two flat thin))) 0)
+    × Unit {0}
+last_ready Flat bytes grains place lost [] thin unmarked first within = absurd (omega arith)
+last_ready Flat bytes grains (suc place) lost (d ∷ flat) thin unmarked first within = absurd (omega arith)
+last_ready Flat bytes grains zero lost (d ∷ flat) thin unmarked first within =
+    let size : grains ≡ length lost = sym (ap length unmarked ∙ length-replicate grains false) in
+    (omega arith, record { zeros = ap (λ (n : ℕ). replicate n (replicate bytes 0)) size; unmarked = unmarked ∙ ap (λ (n : ℕ). replicate n false) size }, tt)
+last_ready Thin bytes grains place lost flat [] unmarked first within = absurd (omega arith)
+last_ready Thin bytes grains (suc place) lost flat (d ∷ thin) unmarked first within = absurd (omega arith)
+last_ready Thin bytes grains zero lost flat (d ∷ thin) unmarked first within =
+    let size : grains ≡ length lost = sym (ap length unmarked ∙ length-replicate grains false) in
+    (omega arith, record { zeros = ap (λ (n : ℕ). replicate n (replicate bytes 0)) size; unmarked = unmarked ∙ ap (λ (n : ℕ). replicate n false) size }, tt)
+
+-- a volume to come before it
+one_before : (own kind : DiskKind) (x r : Reserved) (bytes grains place count size : ℕ) (flat thin : List DiskState) (rest : List Reserved)
+    → ((flat thin : List DiskState) (place : ℕ) → place ≡ count → place < length (queue_of kind (two flat thin)) → AreReady bytes (two flat thin) rest
+    → AreReady bytes (formatted_in kind place grains bytes (two flat thin)) (rest ++ r ∷ []))
+    → place ≡ cond (is_of_kind kind record { kind = own; grains = size }) 1 0 + count → place < length (queue_of kind (two flat thin))
+    → (0 < length (queue_of own (two flat thin))) × IsReady bytes x (disk_at (queue_of own (two flat thin)) 0) × AreReady bytes (with_queue own (drop 1 (queue_of own (two flat thin))) (two flat thin)) rest
+    → (0 < length (queue_of own (formatted_in kind place grains bytes (two flat thin))))
+    × IsReady bytes x (disk_at (queue_of own (formatted_in kind place grains bytes (two flat thin))) 0)
+    × AreReady bytes (with_queue own (drop 1 (queue_of own (formatted_in kind place grains bytes (two flat thin)))) (formatted_in kind place grains bytes (two flat thin))) (rest ++ r ∷ [])
+one_before Flat Flat x r bytes grains place count size [] thin rest more is within ready = absurd (omega arith)
+one_before Flat Flat x r bytes grains zero count size (d ∷ flat) thin rest more is within ready = absurd (omega arith)
+one_before Flat Flat x r bytes grains (suc place) count size (d ∷ flat) thin rest more is within ready =
+    (omega arith, ready.1, more flat thin place (omega arith) (omega arith) ready.2)
+one_before Flat Thin x r bytes grains place count size flat thin rest more is within ready =
+    (ready.0, ready.1, more (drop 1 flat) thin place (omega arith) within ready.2)
+one_before Thin Flat x r bytes grains place count size flat thin rest more is within ready =
+    (ready.0, ready.1, more flat (drop 1 thin) place (omega arith) within ready.2)
+one_before Thin Thin x r bytes grains place count size flat [] rest more is within ready = absurd (omega arith)
+one_before Thin Thin x r bytes grains zero count size flat (d ∷ thin) rest more is within ready = absurd (omega arith)
+one_before Thin Thin x r bytes grains (suc place) count size flat (d ∷ thin) rest more is within ready =
+    (omega arith, ready.1, more flat thin place (omega arith) (omega arith) ready.2)
+
+pub ready_more : (kind : DiskKind) (lost : List Bool) (bytes grains : ℕ) → lost ≡ replicate grains false → (reserved : List Reserved) (flat thin : List DiskState) (place : ℕ)
+    → place ≡ reserved_of kind (map new_of reserved) → place < length (queue_of kind (two flat thin)) → AreReady bytes (two flat thin) reserved
+    → AreReady bytes (formatted_in kind place grains bytes (two flat thin)) (reserved ++ record { kind = kind; lost = lost } ∷ [])
+ready_more kind lost bytes grains unmarked [] flat thin place is within ready = last_ready kind bytes grains place lost flat thin unmarked is within
+ready_more kind lost bytes grains unmarked (x ∷ rest) flat thin place is within ready =
+    one_before x.kind kind x record { kind = kind; lost = lost } bytes grains place (reserved_of kind (map new_of rest)) (length x.lost) flat thin rest
+    (ready_more kind lost bytes grains unmarked rest)
+    (is ∙ sum_by-cons (λ (n : NewVolume). cond (is_of_kind kind n) 1 0) (new_of x) (map new_of rest)) within ready
+
+-- the first of the volumes to come
+pub first_ready : (bytes : ℕ) (q : QueuesState) (reserved : List Reserved) (next : Reserved) → 0 < length reserved → next ≡ get_or reserved 0 next → AreReady bytes q reserved
+    → (0 < length (queue_of next.kind q)) × IsReady bytes next (disk_at (queue_of next.kind q) 0) × AreReady bytes (with_queue next.kind (drop 1 (queue_of next.kind q)) q) (drop 1 reserved)
+first_ready bytes q [] next some read ready = absurd (omega arith)
+first_ready bytes q (x ∷ rest) next some read ready =
+    let P : Reserved → Type 0 = λ n. (0 < length (queue_of n.kind q)) × IsReady bytes n (disk_at (queue_of n.kind q) 0) × AreReady bytes (with_queue n.kind (drop 1 (queue_of n.kind q)) q) rest in
+    subst P (sym read) ready
+
+pub next_is : (reserved : List Reserved) (next : Reserved) → 0 < length reserved → next ≡ get_or reserved 0 next → next_of (map new_of reserved) ≡ new_of next
+next_is [] next some read = absurd (omega arith)
+next_is (x ∷ rest) next some read = ap new_of (sym read)
+
+-- the first disk of a kind and the others
+pub taken_same : (kind : DiskKind) (flat thin : List DiskState) → 0 < length (queue_of kind (two flat thin))
+    → SameDisks (disk_at (queue_of kind (two flat thin)) 0 ∷ disks_in (with_queue kind (drop 1 (queue_of kind (two flat thin))) (two flat thin))) (disks_in (two flat thin))
+taken_same Flat [] thin some count = absurd (omega arith)
+taken_same Flat (d ∷ flat) thin some count = refl
+taken_same Thin flat [] some count = absurd (omega arith)
+taken_same Thin flat (d ∷ thin) some count =
+    let f : DiskState → ℕ = λ x. count (cleared x) in
+    omega (arith, sum_by-cons f d (flat ++ thin), sum_by-append f flat thin, sum_by-append f flat (d ∷ thin), sum_by-cons f d thin)
+
+pub left_after : (kind : DiskKind) (q : QueuesState) → left_in (with_queue kind (drop 1 (queue_of kind q)) q) ≡ pool_without kind (left_in q)
+left_after Flat q = λ k. record { flat = length-drop 1 q.flat k; thin = length q.thin }
+left_after Thin q = λ k. record { flat = length q.flat; thin = length-drop 1 q.thin k }
