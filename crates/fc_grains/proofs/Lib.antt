@@ -6,3 +6,4 @@ pub mod Calling
 pub mod Pooling
 pub mod Queueing
 pub mod Readying
+pub mod Moving

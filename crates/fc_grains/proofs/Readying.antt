@@ -1,5 +1,5 @@
 -- The disks that are ready for the volumes to come.
-use Rattle.std.proofs.Common.{◌≡◌, ℕ, zero, suc, ◌+◌, ◌-◌, ◌<◌, ◌≤◌, Bool, false, cond, List, [], ◌∷◌, ◌++◌, length, map, drop, get_or, replicate, slice_set, refl, sym, ◌∙◌, ap, subst, arith}
+use Rattle.std.proofs.Common.{◌≡◌, ℕ, zero, suc, ◌+◌, ◌-◌, ◌<◌, ◌≤◌, Bool, false, cond, List, [], ◌∷◌, ◌++◌, length, map, drop, get_or, replicate, slice_set, Result, Ok, Err, is_ok, is_err, true≢false, refl, sym, ◌∙◌, ap, subst, arith}
 use Rattle.std.specs.List.{sum_by}
 use Rattle.std.proofs.lemmas.List.{length-drop, length-replicate, length-set}
 use Rattle.std.proofs.lemmas.List.Sums.{sum_by-cons, sum_by-append}
@@ -91,3 +91,24 @@ taken_same Thin flat (d ∷ thin) some count =
 pub left_after : (kind : DiskKind) (q : QueuesState) → left_in (with_queue kind (drop 1 (queue_of kind q)) q) ≡ pool_without kind (left_in q)
 left_after Flat q = λ k. record { flat = length-drop 1 q.flat k; thin = length q.thin }
 left_after Thin q = λ k. record { flat = length q.flat; thin = length-drop 1 q.thin k }
+
+of_kind-left : (kind : DiskKind) (q : QueuesState) → of_kind kind (left_in q) ≡ length (queue_of kind q)
+of_kind-left Flat q = refl
+of_kind-left Thin q = refl
+
+pub pushed : {X A E : Type 0} (r : Result A E) (old new : List X) (x : X) → new ≡ cond (is_ok r) (old ++ x ∷ []) old → is_err r ≡ false → new ≡ old ++ x ∷ []
+pushed (Ok a) old new x items good = items
+pushed (Err e) old new x items good = absurd (true≢false good)
+
+-- one volume more is to come
+pub reserved_ready : {A E : Type 0} (r : Result A E) (kind : DiskKind) (lost : List Bool) (bytes grains : ℕ) (old mid new : List Reserved) (q q' : QueuesState) (place : ℕ)
+    → lost ≡ replicate grains false → mid ≡ old → new ≡ cond (is_ok r) (mid ++ record { kind = kind; lost = lost } ∷ []) mid → is_err r ≡ false
+    → place ≡ reserved_of kind (map new_of mid) → reserved_of kind (map new_of old) < of_kind kind (left_in q) → q' ≡ formatted_in kind place grains bytes q
+    → AreReady bytes q old → AreReady bytes q' new
+reserved_ready r kind lost bytes grains old mid new q q' place unmarked same items good is some formats ready =
+    let added : new ≡ old ++ record { kind = kind; lost = lost } ∷ [] = pushed r mid new record { kind = kind; lost = lost } items good ∙ ap (λ (rs : List Reserved). rs ++ record { kind = kind; lost = lost } ∷ []) same in
+    let at : place ≡ reserved_of kind (map new_of old) = is ∙ ap (λ (rs : List Reserved). reserved_of kind (map new_of rs)) same in
+    let P : QueuesState → Type 0 = λ x. AreReady bytes x new in
+    let Q : List Reserved → Type 0 = λ rs. AreReady bytes (formatted_in kind place grains bytes q) rs in
+    subst P (sym formats) (subst Q (sym added)
+    (ready_more kind lost bytes grains unmarked old q.flat q.thin place at (omega (arith, of_kind-left kind q)) ready))

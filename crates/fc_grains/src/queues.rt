@@ -1,6 +1,6 @@
 //! Disks of both kinds, in the order in which they are taken.
 
-ghost use Rattle.std.specs.Prelude.{◌≡◌, ◌+◌, ◌^◌, ◌<◌, ◌≤◌, ◌∷◌, ◌++◌, length, drop, map, slice_set, vec_len, vec_capacity, IfOk, OnOk, OnErr};
+ghost use Rattle.std.specs.Prelude.{◌≡◌, ◌+◌, ◌^◌, ◌<◌, ◌≤◌, ◌∷◌, ◌++◌, length, drop, map, slice_set, vec_len, vec_capacity, List, IfOk, OnOk, OnErr};
 ghost use Rattle.std.specs.List.{All};
 ghost use Rattle.fc_mdisk.specs.Disk.{formatted};
 ghost use Rattle.fc_mdisk.specs.Disks.{disk_at};
@@ -124,7 +124,7 @@ impl<D: Mdisk> Queues<D> {
     /// Appends all disks.
     pub(crate) fn give_disks(self, into: &mut Vec<D>)
         requires { vec_len into.old + length (disks_in self) ≤ vec_capacity into.old }
-        ensures given { map D.meaning into.new.items ≡ map D.meaning into.old.items ++ disks_in self }
+        ensures given { (given : List D) × (into.new.items ≡ into.old.items ++ given) × (map D.meaning given ≡ disks_in self) }
         ensures room { vec_capacity into.old ≤ vec_capacity into.new }
     {
         let Queues { mut flat, mut thin } = self;
