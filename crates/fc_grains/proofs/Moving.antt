@@ -1,5 +1,5 @@
 -- Disks that move from the pool to a volume, and from a volume to those put aside.
-use Rattle.std.proofs.Common.{◌≡◌, ℕ, zero, suc, ◌+◌, ◌-◌, ◌<◌, ◌≤◌, ◌^◌, false, List, [], ◌∷◌, ◌++◌, length, map, take, drop, get_or, replicate, slice_index_or, Option, None, Some, IfSome, Result, Ok, Err, OnOk, OnErr, is_err, true≢false, refl, sym, ◌∙◌, ap, subst, arith}
+use Rattle.std.proofs.Common.{◌≡◌, ℕ, zero, suc, ◌+◌, ◌-◌, ◌<◌, ◌≤◌, ◌^◌, true, false, List, [], ◌∷◌, ◌++◌, length, map, take, drop, get_or, replicate, slice_index_or, Option, None, Some, IfSome, Result, Ok, Err, OnOk, OnErr, is_err, true≢false, refl, sym, ◌∙◌, ap, subst, arith}
 use Rattle.std.specs.List.{All, AllPairs, remove, sum_by}
 use Rattle.std.proofs.lemmas.List.{map-append, take-map, drop-map, get_or-map, length-map, length-append, length-drop, length-replicate}
 use Rattle.std.proofs.lemmas.List.Edits.{length-remove}
@@ -244,6 +244,10 @@ module _ (grain : GrainSize) (pool : PoolState) (buffer : List ℕ) (sums : Sums
 pub on_ok_at : {A E P : Type 0} (r : Result A E) → is_err r ≡ false → OnOk r P → P
 on_ok_at (Ok a) good holds = holds
 on_ok_at (Err e) good holds = absurd (true≢false good)
+
+pub on_err_at : {A E P : Type 0} (r : Result A E) → is_err r ≡ true → OnErr r P → P
+on_err_at (Ok a) bad holds = absurd (true≢false (sym bad))
+on_err_at (Err e) bad holds = holds
 
 pub coming_by : (r : Result (Unit {0}) NoMemory) (old new : List Reserved) (next : NewVolume) → OnOk r (map new_of new ≡ map new_of old ++ next ∷ []) → OnErr r (new ≡ old) → length new ≤ length old + 1
 coming_by (Ok a) old new next ok err =

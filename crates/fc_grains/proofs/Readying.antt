@@ -96,9 +96,12 @@ of_kind-left : (kind : DiskKind) (q : QueuesState) → of_kind kind (left_in q) 
 of_kind-left Flat q = refl
 of_kind-left Thin q = refl
 
+pub joined : {X A E : Type 0} (r : Result A E) (old new more : List X) → new ≡ cond (is_ok r) (old ++ more) old → is_err r ≡ false → new ≡ old ++ more
+joined (Ok a) old new more items good = items
+joined (Err e) old new more items good = absurd (true≢false good)
+
 pub pushed : {X A E : Type 0} (r : Result A E) (old new : List X) (x : X) → new ≡ cond (is_ok r) (old ++ x ∷ []) old → is_err r ≡ false → new ≡ old ++ x ∷ []
-pushed (Ok a) old new x items good = items
-pushed (Err e) old new x items good = absurd (true≢false good)
+pushed r old new x items good = joined r old new (x ∷ []) items good
 
 -- one volume more is to come
 pub reserved_ready : {A E : Type 0} (r : Result A E) (kind : DiskKind) (lost : List Bool) (bytes grains : ℕ) (old mid new : List Reserved) (q q' : QueuesState) (place : ℕ)
