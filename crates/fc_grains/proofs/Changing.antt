@@ -103,17 +103,17 @@ module _ (grain : GrainSize) (volumes : List VolumeDiskState) (pool : PoolState)
   pub state_changed : (buffer' : List ℕ) (sums' : Sums) (change : VolumeGrains → VolumeGrains) → grains_of now ≡ change (grains_of was)
       → one_if_silent now.disk.due ≡ one_if_silent was.disk.due
       → state_of grain (slice_set volumes at now) pool aside buffer' sums' ≡ record (state_of grain volumes pool aside buffer sums) {
-            volumes = changed id change (map grains_of volumes);
-            buffer = buffer';
-            calls = sums'.calls;
-            faults = sums'.faults;
-            write_faults = sums'.write_faults;
-          }
-  state_changed buffer' sums' change changes as_silent = λ k. record (state_of grain volumes pool aside buffer' sums') {
-        volumes = changed_is volumes kept.rising at within was read id found now change changes k;
-        disks = number-same volumes pool aside at was now within read k;
-        silent = total-same volumes pool aside at was now within read (λ (d : DiskState). one_if_silent d.due) as_silent k;
+        volumes = changed id change (map grains_of volumes);
+        buffer = buffer';
+        calls = sums'.calls;
+        faults = sums'.faults;
+        write_faults = sums'.write_faults;
       }
+  state_changed buffer' sums' change changes as_silent = λ k. record (state_of grain volumes pool aside buffer' sums') {
+    volumes = changed_is volumes kept.rising at within was read id found now change changes k;
+    disks = number-same volumes pool aside at was now within read k;
+    silent = total-same volumes pool aside at was now within read (λ (d : DiskState). one_if_silent d.due) as_silent k;
+  }
 
   -- no disk was called
   pub add_up_same : now.disk.calls ≡ was.disk.calls → now.disk.faults ≡ was.disk.faults → now.disk.write_faults ≡ was.disk.write_faults

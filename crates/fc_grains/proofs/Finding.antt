@@ -45,10 +45,10 @@ module _ (xs : List VolumeDiskState) (rising : AreRising xs) (id : ℕ) where
       let behind = (parted comparisons_rise).1 in
       let none : list_any (λ (v : VolumeDiskState). nat_eq v.volume.0 id) xs ≡ false =
       list_any_none (λ (v : VolumeDiskState). nat_eq v.volume.0 id) xs (λ k d within.
-          elim (cases_lt k at) [
-            inl below ↦ lesser _ id (ranked _ id Less (sym (before k d (omega arith) below)))
-            | inr above ↦ greater _ id (ranked _ id Greater (sym (behind k d above within)))
-          ]) in
+      elim (cases_lt k at) [
+        | inl below ↦ lesser _ id (ranked _ id Less (sym (before k d (omega arith) below)))
+        | inr above ↦ greater _ id (ranked _ id Greater (sym (behind k d above within)))
+      ]) in
       true≢false (sym there ∙ is_there-map xs id ∙ none)
 
 pub found_at : (xs : List VolumeDiskState) (id at : ℕ) → HoldsAt (λ (v : VolumeDiskState). nat_cmp v.volume.0 id ≡ Equal) xs at
@@ -118,8 +118,8 @@ changed-at (v ∷ vs) id (suc at) d change rise within is_at =
     let first : v.volume.0 < (get_or vs at d).volume.0 = rise 0 (suc at) d (omega arith) within in
     let same : (get_or vs at d).volume.0 ≡ id = is_at d in
     λ k.
-      cond-false (nat_eq v.volume.0 id) (change v) v (lesser v.volume.0 id (omega arith)) k
-      ∷ changed-at vs id at d change (rise-tail v vs rise) (omega arith) is_at k
+    cond-false (nat_eq v.volume.0 id) (change v) v (lesser v.volume.0 id (omega arith)) k
+    ∷ changed-at vs id at d change (rise-tail v vs rise) (omega arith) is_at k
 
 pub without-at : (vs : List VolumeGrains) (id at : ℕ) → Rise vs → at < length vs → IsAt vs id at → without id vs ≡ remove vs at
 without-at [] id at rise within is_at = absurd (omega arith)

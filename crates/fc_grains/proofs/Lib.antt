@@ -7,3 +7,4 @@ pub mod Pooling
 pub mod Queueing
 pub mod Readying
 pub mod Moving
+pub mod Stored

@@ -122,10 +122,10 @@ module _ (grain : GrainSize) (volumes : List VolumeDiskState) (pool pool' : Pool
       → HasMade (state_of grain volumes pool aside buffer sums) id (state_of grain (volumes ++ v ∷ []) pool' aside buffer sums)
   has_made next left =
       let P : NewVolume → Type 0 = λ n. state_of grain (volumes ++ v ∷ []) pool' aside buffer sums ≡ record (state_of grain volumes pool aside buffer sums) {
-            volumes = map grains_of volumes ++ record { volume = record { 0 = id }; kind = n.kind; contents = replicate n.grains (zeros grain); due = v.disk.due } ∷ [];
-            pool = pool_without n.kind (left_of pool);
-            reserved = drop 1 (map new_of pool.reserved);
-          } in
+        volumes = map grains_of volumes ++ record { volume = record { 0 = id }; kind = n.kind; contents = replicate n.grains (zeros grain); due = v.disk.due } ∷ [];
+        pool = pool_without n.kind (left_of pool);
+        reserved = drop 1 (map new_of pool.reserved);
+      } in
       let held : contents v.lost v.disk.grains ≡ replicate new.grains (zeros grain) =
       (λ k. contents (unmarked k) (has_zeros k)) ∙ contents-replicate new.grains (replicate pool.bytes 0) ∙ ap (λ (n : ℕ). replicate new.grains (Bytes (replicate n 0))) kept.pool_size in
       let seen : map grains_of (volumes ++ v ∷ []) ≡ map grains_of volumes ++ grains_of v ∷ [] = map-append grains_of volumes (v ∷ []) in

@@ -33,11 +33,11 @@ pub record HasWritten {A : Type 0} (old : GrainsState) (volume place : ℕ) (ans
   pub allowed : MayAnswer (volume_of old.volumes volume).kind answer
   -- nothing else changed
   pub rest : new ≡ record old {
-        volumes = changed volume (after_write answer place old.buffer) old.volumes;
-        calls = new.calls;
-        faults = new.faults;
-        write_faults = new.write_faults;
-      }
+    volumes = changed volume (after_write answer place old.buffer) old.volumes;
+    calls = new.calls;
+    faults = new.faults;
+    write_faults = new.write_faults;
+  }
 
 -- A grain of one volume was read and written to the other; or the read failed; or it was done and the write wasn't.
 abbrev pub HasCopied : {A : Type 0} → GrainsState → ℕ → ℕ → ℕ → Result A CopyError → GrainsState → Type 0
@@ -53,12 +53,12 @@ pub record HasMade (old : GrainsState) (volume : ℕ) (new : GrainsState) : Type
   pub unarmed : IfSome due (λ n. n ≡ 0)
   pub told : old.silent ≡ 0 → due ≡ Some 0
   pub made : new ≡ record old {
-        volumes = old.volumes ++ record {
-              volume = record { 0 = volume };
-              kind = (next_of old.reserved).kind;
-              contents = replicate (next_of old.reserved).grains (zeros old.grain);
-              due = due;
-            } ∷ [];
-        pool = pool_without (next_of old.reserved).kind old.pool;
-        reserved = drop 1 old.reserved;
-      }
+    volumes = old.volumes ++ record {
+      volume = record { 0 = volume };
+      kind = (next_of old.reserved).kind;
+      contents = replicate (next_of old.reserved).grains (zeros old.grain);
+      due = due;
+    } ∷ [];
+    pool = pool_without (next_of old.reserved).kind old.pool;
+    reserved = drop 1 old.reserved;
+  }

@@ -27,7 +27,7 @@ pub(crate) struct Reserved {
 #[derive(Drop)]
 pub(crate) struct Pool<D: Mdisk> {
     bytes: u32,
-    queues: Queues<D>,
+    pub(crate) queues: Queues<D>,
     reserved: Vec<Reserved>,
 }
 
@@ -85,7 +85,12 @@ impl<D: Mdisk> Pool<D> {
     }
 
     /// Makes ready for one more volume. Refused, all is as it was, but what grains the disks have.
-    pub(crate) fn reserve(&mut self, alloc: Global, kind: DiskKind, grains: u32) -> Result<(), NoMemory>
+    pub(crate) fn reserve(
+        &mut self,
+        alloc: Global,
+        kind: DiskKind,
+        grains: u32,
+    ) -> Result<(), NoMemory>
         requires { reserved_of kind (map new_of self.old.reserved) < of_kind kind (left_of self.old) }
         ensures ok { OnOk result (map new_of self.new.reserved ≡ map new_of self.old.reserved ++ record { kind = kind; grains = grains } ∷ []) }
         ensures err { OnErr result (self.new.reserved ≡ self.old.reserved) }

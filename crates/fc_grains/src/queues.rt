@@ -55,7 +55,7 @@ impl<D: Mdisk> Queues<D> {
     }
 
     /// Puts a disk before the others of its kind. Refused, it is gone.
-    fn put_first(&mut self, disk: D) -> Result<(), NoMemory>
+    pub(crate) fn put_first(&mut self, disk: D) -> Result<(), NoMemory>
         requires few { length (disks_in self.old) < 2 ^ 30 }
         requires unarmed { IsUnarmed (D.meaning disk) }
         ensures ok { OnOk result (self.new ≡ with_queue (D.meaning disk).kind (D.meaning disk ∷ queue_of (D.meaning disk).kind self.old) self.old) }

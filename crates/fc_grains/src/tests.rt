@@ -16,6 +16,7 @@ use std::test::Fail;
 use std::thread::{Threads, join};
 
 const FIRST: VolId = VolId(0);
+
 const SECOND: VolId = VolId(3);
 
 /// Makes two volumes of two grains, writes, copies, loses and removes, and gives the disks back.
@@ -36,7 +37,7 @@ fn write_and_copy<D: Mdisk>(
     grains.copy(FIRST, SECOND, 1)?;
     grains.fill(0, 65_536, 2);
     grains.read(SECOND, 1)?;
-    assert_eq!(rt; grains.buffer()[2..6], [7, 9, 9, 7]);
+    assert_eq!(rt; &grains.buffer()[2..6], [7, 9, 9, 7].as_slice());
     grains.read(SECOND, 0)?;
     assert_eq!(rt; grains.buffer()[65_535], 0);
     grains.lose(SECOND, 0);
@@ -108,17 +109,16 @@ fn an_armed_fault_comes_in_a_copy(rt: HostRuntime) -> Result<(), Fail> {
     let copied = grains.copy(FIRST, SECOND, 0);
     assert_eq!(rt; copied, Err(CopyError::Write(DiskError::Failed)));
     assert!(rt; grains.is_lost(SECOND, 0));
-    assert_eq!(rt; (grains.calls(), grains.faults(), grains.write_faults()), (3, 2, 1));
+    assert_eq!(rt;
+        (grains.calls(), grains.faults(), grains.write_faults()),
+        (3, 2, 1)
+    );
     grains.arm(FIRST, 1);
     assert_eq!(rt; grains.read(FIRST, 0), Err(Failed));
     Ok(())
 }
 
 /// Fills the buffers of two lanes on two threads.
-fn fill_beside<D: Mdisk + Send>(
-    rt: &impl Threads,
-    first: &mut Grains<D>,
-    second: &mut Grains<D>,
-) {
+fn fill_beside<D: Mdisk + Send>(rt: &impl Threads, first: &mut Grains<D>, second: &mut Grains<D>) {
     join(rt, || first.fill(0, 1, 5), || second.fill(0, 1, 6));
 }

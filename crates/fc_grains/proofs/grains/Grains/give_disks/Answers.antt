@@ -10,20 +10,50 @@ use Rattle.fc_grains.proofs.grains.Grains.give_disks.Goals as goal
 
 pub give_disks-requires : goal.give_disks-requires
 give_disks-requires g c =
-    omega (arith, c.requires, ap (λ (s : GrainsState). s.disks) c.self.view_is, number_of c.self.inside.volumes.items c.self.inside.pool (map g.D.Mdisk.meaning c.self.inside.aside.items),
-    length-map c.self.inside.aside.items g.D.Mdisk.meaning, c.give_volumes.ensures.room, c.give_volumes.new.into.ok.0, ap length c.give_volumes.ensures.given.1, length-append c.args.into.now.items c.give_volumes.ensures.given.0,
-    c.args.into.now.ok.0, same_number (map g.D.Mdisk.meaning c.give_volumes.ensures.given.0) (map (λ (v : VolumeDiskState). v.disk) c.self.inside.volumes.items) c.give_volumes.ensures.given.2, length-map c.give_volumes.ensures.given.0 g.D.Mdisk.meaning,
-    length-map c.self.inside.volumes.items (λ (v : VolumeDiskState). v.disk), ap (λ (q : QueuesState). length (disks_in q)) c.into_queues.ensures)
+    omega (
+      arith,
+      c.requires,
+      ap (λ (s : GrainsState). s.disks) c.self.view_is,
+      number_of c.self.inside.volumes.items c.self.inside.pool (map g.D.Mdisk.meaning c.self.inside.aside.items),
+      length-map c.self.inside.aside.items g.D.Mdisk.meaning,
+      c.give_volumes.ensures.room,
+      c.give_volumes.new.into.ok.0,
+      ap length c.give_volumes.ensures.given.1,
+      length-append c.args.into.now.items c.give_volumes.ensures.given.0,
+      c.args.into.now.ok.0,
+      same_number (map g.D.Mdisk.meaning c.give_volumes.ensures.given.0) (map (λ (v : VolumeDiskState). v.disk) c.self.inside.volumes.items) c.give_volumes.ensures.given.2,
+      length-map c.give_volumes.ensures.given.0 g.D.Mdisk.meaning,
+      length-map c.self.inside.volumes.items (λ (v : VolumeDiskState). v.disk),
+      ap (λ (q : QueuesState). length (disks_in q)) c.into_queues.ensures,
+    )
 
 pub unreachable-requires : goal.unreachable-requires
 unreachable-requires g c =
     let full = on_err_at c.append.result (sym c.is_err.ensures.value ∙ c.if-is_err.true) c.append.ensures.full in
-    omega (arith, full, c.requires, ap (λ (s : GrainsState). s.disks) c.self.view_is, number_of c.self.inside.volumes.items c.self.inside.pool (map g.D.Mdisk.meaning c.self.inside.aside.items),
-    length-map c.self.inside.aside.items g.D.Mdisk.meaning, c.give_volumes.ensures.room, c.give_volumes.new.into.ok.0, ap length c.give_volumes.ensures.given.1, length-append c.args.into.now.items c.give_volumes.ensures.given.0,
-    c.args.into.now.ok.0, same_number (map g.D.Mdisk.meaning c.give_volumes.ensures.given.0) (map (λ (v : VolumeDiskState). v.disk) c.self.inside.volumes.items) c.give_volumes.ensures.given.2, length-map c.give_volumes.ensures.given.0 g.D.Mdisk.meaning,
-    length-map c.self.inside.volumes.items (λ (v : VolumeDiskState). v.disk), ap (λ (q : QueuesState). length (disks_in q)) c.into_queues.ensures,
-    c.give_disks.ensures.room, c.give_disks.new.into.ok.0, ap length c.give_disks.ensures.given.1, length-append c.give_volumes.new.into.items c.give_disks.ensures.given.0,
-    ap (length {A = DiskState}) c.give_disks.ensures.given.2, length-map c.give_disks.ensures.given.0 g.D.Mdisk.meaning, c.self.inside.aside.ok.0)
+    omega (
+      arith,
+      full,
+      c.requires,
+      ap (λ (s : GrainsState). s.disks) c.self.view_is,
+      number_of c.self.inside.volumes.items c.self.inside.pool (map g.D.Mdisk.meaning c.self.inside.aside.items),
+      length-map c.self.inside.aside.items g.D.Mdisk.meaning,
+      c.give_volumes.ensures.room,
+      c.give_volumes.new.into.ok.0,
+      ap length c.give_volumes.ensures.given.1,
+      length-append c.args.into.now.items c.give_volumes.ensures.given.0,
+      c.args.into.now.ok.0,
+      same_number (map g.D.Mdisk.meaning c.give_volumes.ensures.given.0) (map (λ (v : VolumeDiskState). v.disk) c.self.inside.volumes.items) c.give_volumes.ensures.given.2,
+      length-map c.give_volumes.ensures.given.0 g.D.Mdisk.meaning,
+      length-map c.self.inside.volumes.items (λ (v : VolumeDiskState). v.disk),
+      ap (λ (q : QueuesState). length (disks_in q)) c.into_queues.ensures,
+      c.give_disks.ensures.room,
+      c.give_disks.new.into.ok.0,
+      ap length c.give_disks.ensures.given.1,
+      length-append c.give_volumes.new.into.items c.give_disks.ensures.given.0,
+      ap (length {A = DiskState}) c.give_disks.ensures.given.2,
+      length-map c.give_disks.ensures.given.0 g.D.Mdisk.meaning,
+      c.self.inside.aside.ok.0,
+    )
 
 pub returns : goal.returns
 returns g c =
@@ -45,8 +75,7 @@ returns g c =
     let same : SameDisks (map m (first ++ (second ++ last))) all =
     subst P (sym split) (same_given c.self.inside.volumes.items c.self.inside.pool (map m last) (map m first) c.give_volumes.ensures.given.2) in
     let state : GrainsState = state_of c.self.inside.grain c.self.inside.volumes.items c.self.inside.pool (map m last) c.self.inside.buffer.items c.self.inside.sums in
-    let Q : GrainsState → Type 0 = λ s. AreAllOf s (map m (first ++ (second ++ last))) in
-    (
+    let Q : GrainsState → Type 0 = λ s. AreAllOf s (map m (first ++ (second ++ last))) in (
       first ++ (second ++ last),
       items,
       subst Q c.self.view_is (all_of state all (map m (first ++ (second ++ last))) c.self.inside.sums same refl refl refl refl refl c.self.invariant.add_up),

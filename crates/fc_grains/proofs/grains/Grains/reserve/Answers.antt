@@ -14,8 +14,17 @@ invariant_of-self-2 g c =
     c.reserve.ensures.items (ap (map g.D.Mdisk.meaning) c.reserve-2.ensures.items) c.reserve-3.ensures.disks c.self.inside.volumes.cap c.reserve.new.self.cap c.self.inside.aside.cap c.reserve-2.new.self.cap c.self.invariant c.reserve-3.ensures.bytes
     (coming_by c.reserve-3.result _ _ _ c.reserve-3.ensures.ok c.reserve-3.ensures.err)
     (omega (arith, room, c.reserved-coming.ensures.count, c.reserve.new.self.ok.0, ap length c.reserve.ensures.items))
-    (omega (arith, room_aside, c.reserved-coming.ensures.count, c.len.ensures, c.reserve.new.self.ok.0, ap length c.reserve.ensures.items, c.reserve-2.new.self.ok.0, ap length c.reserve-2.ensures.items,
-    length-map c.self.inside.aside.items g.D.Mdisk.meaning))
+    (omega (
+      arith,
+      room_aside,
+      c.reserved-coming.ensures.count,
+      c.len.ensures,
+      c.reserve.new.self.ok.0,
+      ap length c.reserve.ensures.items,
+      c.reserve-2.new.self.ok.0,
+      ap length c.reserve-2.ensures.items,
+      length-map c.self.inside.aside.items g.D.Mdisk.meaning,
+    ))
 
 pub returns-clause-ok : goal.returns-clause-ok
 returns-clause-ok g c =

@@ -8,7 +8,7 @@ pub returns-clause-given : goal.returns-clause-given
 returns-clause-given g c = (
   c.self.inside.flat.items ++ c.self.inside.thin.items,
   c.append_queue-2.ensures.items
-  ∙ ap (λ (xs : List g.row.D.Denot). xs ++ c.self.inside.thin.items) c.append_queue.ensures.items
-  ∙ append_assoc c.args.into.now.items c.self.inside.flat.items c.self.inside.thin.items,
+      ∙ ap (λ (xs : List g.row.D.Denot). xs ++ c.self.inside.thin.items) c.append_queue.ensures.items
+      ∙ append_assoc c.args.into.now.items c.self.inside.flat.items c.self.inside.thin.items,
   map-append g.D.Mdisk.meaning c.self.inside.flat.items c.self.inside.thin.items ∙ ap disks_in c.self.view_is,
 )
