@@ -1,5 +1,5 @@
 -- What calls of one volume's disk leave of a lane's grains.
-use Rattle.std.proofs.Common.{◌≡◌, ℕ, ◌+◌, ◌-◌, ◌<◌, ◌≤◌, ◌==◌, Bool, true, false, cond, nat_eq, List, [], ◌∷◌, length, map, get_or, slice_set, slice_index_or, is_some, IfSome, Option, Some, None, Result, Ok, Err, refl, sym, ◌∙◌, ap, subst, arith}
+use Rattle.std.proofs.Common.{◌≡◌, ℕ, ◌+◌, ◌-◌, ◌<◌, ◌≤◌, Bool, true, false, cond, nat_eq, List, [], ◌∷◌, length, map, get_or, slice_set, slice_index_or, is_some, Option, Some, None, Result, Ok, Err, refl, sym, ◌∙◌, ap, subst, arith}
 use Rattle.std.specs.Bool.{OnFalse}
 use Rattle.std.specs.List.{All}
 use Rattle.std.specs.Option.{option_map}
@@ -16,10 +16,10 @@ use Rattle.fc_entry.specs.Right.{is_lost}
 use Rattle.fc_grains.specs.Calls.{CallsOnce, HasRead, HasWritten}
 use Rattle.fc_grains.specs.Grains.{GrainsState, one_if_silent, stopped}
 use Rattle.fc_grains.specs.Kept.{AddUp, IsKept, all_disks, state_of}
-use Rattle.fc_grains.specs.Parts.{VolumeDiskState, PoolState, IsWhole, content, contents, grains_of, lost_after}
+use Rattle.fc_grains.specs.Parts.{VolumeDiskState, PoolState, IsWhole, contents, grains_of, lost_after}
 use Rattle.fc_grains.specs.Volumes.{VolumeGrains, volume_of, stored, changed, called, armed, holding, after_write}
 use Rattle.fc_grains.specs.declared.sums.Sums.{Sums}
-use Rattle.fc_grains.proofs.Adding.{total-changed, total-same, total-covers, sum_rises, calls_rise, faults_rise}
+use Rattle.fc_grains.proofs.Adding.{total-changed, total-covers, sum_rises, calls_rise, faults_rise}
 use Rattle.fc_grains.proofs.Changing.{volume_is, stored_is, grain_there, kept_changed, state_changed, add_up_same}
 use Rattle.fc_grains.proofs.Contents.{contents-set, contents-lose, content-readable}
 

@@ -1,15 +1,14 @@
 -- One volume of a lane changed.
-use Rattle.std.proofs.Common.{◌≡◌, ℕ, ◌+◌, ◌<◌, ◌≤◌, Bool, false, List, [], length, map, get_or, slice_set, slice_index_or, refl, sym, ◌∙◌, ap, subst, arith}
-use Rattle.std.specs.List.{All, AllPairs}
+use Rattle.std.proofs.Common.{◌≡◌, ℕ, ◌<◌, false, List, [], length, map, get_or, slice_set, slice_index_or, sym, ◌∙◌, ap, subst, arith}
+use Rattle.std.specs.List.{AllPairs}
 use Rattle.std.proofs.Math.Seq.{map-set_same}
 use Rattle.std.proofs.lemmas.List.{map-set, get_or-map, length-map, length-set}
 use Rattle.std.proofs.lemmas.List.Elements.{All-set}
 use Rattle.fc_base.specs.Grain.{grain_bytes}
 use Rattle.fc_base.specs.declared.size.GrainSize.{GrainSize}
 use Rattle.fc_mdisk.specs.Disk.{DiskState, grain_at}
-use Rattle.fc_entry.specs.Picture.{Content, content_at}
-use Rattle.fc_entry.specs.Right.{is_lost}
-use Rattle.fc_grains.specs.Grains.{GrainsState, one_if_silent}
+use Rattle.fc_entry.specs.Picture.{content_at}
+use Rattle.fc_grains.specs.Grains.{one_if_silent}
 use Rattle.fc_grains.specs.Kept.{AddUp, IsKept, all_disks, state_of}
 use Rattle.fc_grains.specs.Parts.{VolumeDiskState, PoolState, IsWhole, content, contents, grains_of}
 use Rattle.fc_grains.specs.Volumes.{VolumeGrains, volume_of, stored, changed}

@@ -1,5 +1,5 @@
 -- What the grains of a disk hold, with their marks.
-use Rattle.std.proofs.Common.{◌≡◌, ℕ, zero, suc, ◌<◌, Bool, true, false, List, [], ◌∷◌, length, replicate, slice_set, slice_index_or, refl, sym, ◌∙◌, ap, arith}
+use Rattle.std.proofs.Common.{◌≡◌, ℕ, zero, suc, ◌<◌, Bool, true, false, List, [], ◌∷◌, length, replicate, slice_set, slice_index_or, refl, ap, arith}
 use Rattle.fc_mdisk.specs.Disk.{grain_at}
 use Rattle.fc_entry.specs.Picture.{Content, Bytes, Lost, content_at}
 use Rattle.fc_entry.specs.Right.{is_lost}

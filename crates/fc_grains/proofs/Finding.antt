@@ -1,6 +1,6 @@
 -- A volume is where the search finds its id.
-use Rattle.std.proofs.Common.{◌≡◌, ℕ, zero, suc, ◌+◌, ◌<◌, ◌≤◌, Bool, true, false, not, cond, ◌||◌, nat_eq, List, [], ◌∷◌, ◌++◌, length, map, get_or, take, drop, slice_set, slice_index_or, refl, sym, ◌∙◌, ap, inl, inr, true≢false, Less, Equal, Greater, arith}
-use Rattle.std.specs.List.{All, AllPairs, HoldsAt, list_any, filter, remove}
+use Rattle.std.proofs.Common.{◌≡◌, ℕ, zero, suc, ◌<◌, ◌≤◌, Bool, true, false, not, cond, ◌||◌, nat_eq, List, [], ◌∷◌, length, map, get_or, slice_set, slice_index_or, refl, sym, ◌∙◌, ap, inl, inr, true≢false, Less, Equal, Greater, arith}
+use Rattle.std.specs.List.{All, AllPairs, HoldsAt, list_any, remove}
 use Rattle.std.specs.List.Sorted.{IsNonDecreasingBy, IsPartitionPoint}
 use Rattle.std.specs.Ordering.{nat_cmp, ordering_index}
 use Rattle.std.proofs.lemmas.Bool.Decides.{nat_tests}

@@ -8,3 +8,4 @@ pub mod Queueing
 pub mod Readying
 pub mod Moving
 pub mod Stored
+pub mod Quiet

@@ -1,6 +1,6 @@
 -- Disks that move from the pool to a volume, and from a volume to those put aside.
-use Rattle.std.proofs.Common.{◌≡◌, ℕ, zero, suc, ◌+◌, ◌-◌, ◌<◌, ◌≤◌, ◌^◌, true, false, List, [], ◌∷◌, ◌++◌, length, map, take, drop, get_or, replicate, slice_index_or, Option, None, Some, IfSome, Result, Ok, Err, OnOk, OnErr, is_err, true≢false, refl, sym, ◌∙◌, ap, subst, arith}
-use Rattle.std.specs.List.{All, AllPairs, remove, sum_by}
+use Rattle.std.proofs.Common.{◌≡◌, ℕ, suc, ◌+◌, ◌<◌, ◌≤◌, ◌^◌, true, false, List, [], ◌∷◌, ◌++◌, length, map, take, drop, get_or, replicate, slice_index_or, Option, None, Some, IfSome, Result, Ok, Err, OnOk, OnErr, is_err, true≢false, refl, sym, ◌∙◌, ap, subst, arith}
+use Rattle.std.specs.List.{All, remove, sum_by}
 use Rattle.std.proofs.lemmas.List.{map-append, take-map, drop-map, get_or-map, length-map, length-append, length-drop, length-replicate}
 use Rattle.std.proofs.lemmas.List.Edits.{length-remove}
 use Rattle.std.proofs.lemmas.List.Elements.{All-append, All-drop, All-push, All-replicate, All-take}
@@ -11,7 +11,7 @@ use Rattle.fc_base.specs.Pools.{pool_without}
 use Rattle.fc_base.specs.declared.outcome.NoMemory.{NoMemory}
 use Rattle.fc_base.specs.declared.size.GrainSize.{GrainSize}
 use Rattle.fc_mdisk.specs.Disk.{DiskState, cleared}
-use Rattle.fc_entry.specs.Picture.{Content, Bytes, zeros}
+use Rattle.fc_entry.specs.Picture.{Bytes, zeros}
 use Rattle.fc_grains.specs.Calls.{HasMade}
 use Rattle.fc_grains.specs.Grains.{AreAllOf, GrainsState, IsUnarmed, NewVolume, next_of, one_if_silent, opened, pool_of, silent_of, stopped}
 use Rattle.fc_grains.specs.Kept.{AddUp, IsKept, all_disks, state_of}

@@ -1,16 +1,14 @@
 -- The disks for new volumes.
-use Rattle.std.proofs.Common.{◌≡◌, ◌⊎◌, ℕ, zero, suc, ◌+◌, ◌-◌, ◌<◌, ◌≤◌, ◌^◌, Bool, true, false, not, cond, List, [], ◌∷◌, ◌++◌, length, map, take, drop, get_or, replicate, slice_set, slice_index_or, refl, sym, ◌∙◌, ap, subst, arith}
+use Rattle.std.proofs.Common.{◌≡◌, ℕ, ◌+◌, ◌<◌, ◌≤◌, Bool, true, false, not, cond, List, [], ◌∷◌, ◌++◌, length, drop, get_or, refl, sym, ◌∙◌, ap, subst, arith}
 use Rattle.std.specs.List.{All, sum_by, count_by}
-use Rattle.std.proofs.lemmas.List.{map-append, length-map, length-append, length-set, length-drop, get_or_default}
+use Rattle.std.proofs.lemmas.List.{length-append, length-drop}
 use Rattle.std.proofs.lemmas.List.{get_or_append_left, get_or_push}
-use Rattle.std.proofs.lemmas.List.Sums.{sum_by-cons, sum_by-append, sum_by-set, sum_by_push}
+use Rattle.std.proofs.lemmas.List.Sums.{sum_by-cons, sum_by-append, sum_by_push}
 use Rattle.fc_base.specs.declared.disk.DiskKind.{DiskKind}
 use Rattle.fc_base.specs.declared.disk.DiskKind.TheVariants.{Flat, Thin}
-use Rattle.fc_base.specs.Pools.{Pool}
-use Rattle.fc_mdisk.specs.Disk.{DiskState, is_flat, cleared, formatted}
-use Rattle.fc_mdisk.specs.Disks.{disk_at}
-use Rattle.fc_grains.specs.Grains.{IsUnarmed, pool_of}
-use Rattle.fc_grains.specs.Parts.{AreReady, IsReady, QueuesState, SameDisks, disks_in, left_in, queue_of, with_queue}
+use Rattle.fc_mdisk.specs.Disk.{DiskState, is_flat, cleared}
+use Rattle.fc_grains.specs.Grains.{IsUnarmed}
+use Rattle.fc_grains.specs.Parts.{AreReady, QueuesState, SameDisks, disks_in, queue_of, with_queue}
 use Rattle.fc_grains.specs.declared.pool.Reserved.{Reserved}
 
 -- the disks that were handed in are those that aren't sorted yet and those that are
@@ -67,31 +65,6 @@ pub last_unarmed : (left : List DiskState) (d : DiskState) → All IsUnarmed (le
 last_unarmed left d all =
     let at : get_or (left ++ d ∷ []) (length left) d ≡ d = get_or_push left d d (length left) refl in
     subst IsUnarmed at (all (length left) d (omega (arith, length-append left (d ∷ []))))
-
--- as disks are formatted
-pub formats_same : (queues : QueuesState) (kind : DiskKind) (place grains bytes : ℕ) → place < length (queue_of kind queues)
-    → SameDisks (disks_in (with_queue kind (slice_set (queue_of kind queues) place (formatted (disk_at (queue_of kind queues) place) grains bytes)) queues)) (disks_in queues)
-formats_same queues Flat place grains bytes within count =
-    let f : DiskState → ℕ = λ d. count (cleared d) in
-    let one = sum_by-set f queues.flat place (formatted (disk_at queues.flat place) grains bytes) (disk_at queues.flat place) within in
-    let same : get_or queues.flat place (disk_at queues.flat place) ≡ disk_at queues.flat place = get_or_default queues.flat place _ _ within in
-    let level : f (get_or queues.flat place (disk_at queues.flat place)) ≡ f (disk_at queues.flat place) = ap f same in
-    sum_by-append f (slice_set queues.flat place (formatted (disk_at queues.flat place) grains bytes)) queues.thin
-    ∙ omega (arith, one, level)
-    ∙ sym (sum_by-append f queues.flat queues.thin)
-formats_same queues Thin place grains bytes within count =
-    let f : DiskState → ℕ = λ d. count (cleared d) in
-    let one = sum_by-set f queues.thin place (formatted (disk_at queues.thin place) grains bytes) (disk_at queues.thin place) within in
-    let same : get_or queues.thin place (disk_at queues.thin place) ≡ disk_at queues.thin place = get_or_default queues.thin place _ _ within in
-    let level : f (get_or queues.thin place (disk_at queues.thin place)) ≡ f (disk_at queues.thin place) = ap f same in
-    sum_by-append f queues.flat (slice_set queues.thin place (formatted (disk_at queues.thin place) grains bytes))
-    ∙ omega (arith, one, level)
-    ∙ sym (sum_by-append f queues.flat queues.thin)
-
-pub formats_left : (queues : QueuesState) (kind : DiskKind) (place : ℕ) (new : DiskState)
-    → left_in (with_queue kind (slice_set (queue_of kind queues) place new) queues) ≡ left_in queues
-formats_left queues Flat place new = λ k. record { flat = length-set queues.flat place new k; thin = length queues.thin }
-formats_left queues Thin place new = λ k. record { flat = length queues.flat; thin = length-set queues.thin place new k }
 
 -- the volumes to come need as many disks as they are
 number_after : (kind : DiskKind) (queues : QueuesState) → 0 < length (queue_of kind queues)

@@ -1,14 +1,14 @@
 -- Queues of disks, from the disks themselves.
-use Rattle.std.proofs.Common.{◌≡◌, ℕ, ◌+◌, ◌<◌, ◌≤◌, List, [], ◌∷◌, ◌++◌, length, map, get_or, slice_set, suc, Option, None, IfSome, Result, Ok, Err, OnOk, OnErr, refl, sym, ◌∙◌, ap, subst, arith}
+use Rattle.std.proofs.Common.{◌≡◌, ℕ, ◌<◌, List, ◌∷◌, length, map, get_or, slice_set, suc, Option, None, IfSome, Result, Ok, Err, OnOk, OnErr, refl, sym, ◌∙◌, ap, subst, arith}
 use Rattle.std.specs.List.{All}
-use Rattle.std.proofs.lemmas.List.{map-set, set-get_or, length-map, length-set}
+use Rattle.std.proofs.lemmas.List.{map-set, set-get_or, length-set}
 use Rattle.std.proofs.lemmas.List.Elements.{All-set}
 use Rattle.fc_base.specs.declared.disk.DiskKind.{DiskKind}
 use Rattle.fc_base.specs.declared.disk.DiskKind.TheVariants.{Flat, Thin}
 use Rattle.fc_base.specs.declared.outcome.NoMemory.{NoMemory}
 use Rattle.fc_mdisk.specs.Disk.{DiskState, blank, formatted}
 use Rattle.fc_mdisk.specs.Disks.{disk_at}
-use Rattle.fc_mdisk.proofs.DiskList.{was_at, left_is}
+use Rattle.fc_mdisk.proofs.DiskList.{was_at}
 use Rattle.fc_grains.specs.Grains.{IsUnarmed}
 use Rattle.fc_grains.specs.Parts.{AreSorted}
 

@@ -1,15 +1,14 @@
 -- The disks that are ready for the volumes to come.
-use Rattle.std.proofs.Common.{◌≡◌, ℕ, zero, suc, ◌+◌, ◌-◌, ◌<◌, ◌≤◌, Bool, false, cond, List, [], ◌∷◌, ◌++◌, length, map, drop, get_or, replicate, slice_set, Result, Ok, Err, is_ok, is_err, true≢false, refl, sym, ◌∙◌, ap, subst, arith}
-use Rattle.std.specs.List.{sum_by}
-use Rattle.std.proofs.lemmas.List.{length-drop, length-replicate, length-set}
-use Rattle.std.proofs.lemmas.List.Sums.{sum_by-cons, sum_by-append}
+use Rattle.std.proofs.Common.{◌≡◌, ℕ, zero, suc, ◌+◌, ◌<◌, Bool, false, cond, List, [], ◌∷◌, ◌++◌, length, map, drop, replicate, slice_set, Result, Ok, Err, is_ok, is_err, true≢false, refl, sym, ◌∙◌, ap, subst, arith}
+use Rattle.std.proofs.lemmas.List.{length-replicate}
+use Rattle.std.proofs.lemmas.List.Sums.{sum_by-cons}
 use Rattle.fc_base.specs.declared.disk.DiskKind.{DiskKind}
 use Rattle.fc_base.specs.declared.disk.DiskKind.TheVariants.{Flat, Thin}
-use Rattle.fc_base.specs.Pools.{Pool, of_kind, pool_without}
-use Rattle.fc_mdisk.specs.Disk.{DiskState, cleared, formatted}
+use Rattle.fc_base.specs.Pools.{of_kind}
+use Rattle.fc_mdisk.specs.Disk.{DiskState, formatted}
 use Rattle.fc_mdisk.specs.Disks.{disk_at}
-use Rattle.fc_grains.specs.Grains.{NewVolume, is_of_kind, next_of, reserved_of}
-use Rattle.fc_grains.specs.Parts.{AreReady, HasZeros, IsReady, QueuesState, SameDisks, disks_in, left_in, new_of, queue_of, with_queue}
+use Rattle.fc_grains.specs.Grains.{NewVolume, is_of_kind, reserved_of}
+use Rattle.fc_grains.specs.Parts.{AreReady, IsReady, QueuesState, left_in, new_of, queue_of, with_queue}
 use Rattle.fc_grains.specs.declared.pool.Reserved.{Reserved}
 
 abbrev two : List DiskState → List DiskState → QueuesState
@@ -65,32 +64,6 @@ ready_more kind lost bytes grains unmarked (x ∷ rest) flat thin place is withi
     one_before x.kind kind x record { kind = kind; lost = lost } bytes grains place (reserved_of kind (map new_of rest)) (length x.lost) flat thin rest
     (ready_more kind lost bytes grains unmarked rest)
     (is ∙ sum_by-cons (λ (n : NewVolume). cond (is_of_kind kind n) 1 0) (new_of x) (map new_of rest)) within ready
-
--- the first of the volumes to come
-pub first_ready : (bytes : ℕ) (q : QueuesState) (reserved : List Reserved) (next : Reserved) → 0 < length reserved → next ≡ get_or reserved 0 next → AreReady bytes q reserved
-    → (0 < length (queue_of next.kind q)) × IsReady bytes next (disk_at (queue_of next.kind q) 0) × AreReady bytes (with_queue next.kind (drop 1 (queue_of next.kind q)) q) (drop 1 reserved)
-first_ready bytes q [] next some read ready = absurd (omega arith)
-first_ready bytes q (x ∷ rest) next some read ready =
-    let P : Reserved → Type 0 = λ n. (0 < length (queue_of n.kind q)) × IsReady bytes n (disk_at (queue_of n.kind q) 0) × AreReady bytes (with_queue n.kind (drop 1 (queue_of n.kind q)) q) rest in
-    subst P (sym read) ready
-
-pub next_is : (reserved : List Reserved) (next : Reserved) → 0 < length reserved → next ≡ get_or reserved 0 next → next_of (map new_of reserved) ≡ new_of next
-next_is [] next some read = absurd (omega arith)
-next_is (x ∷ rest) next some read = ap new_of (sym read)
-
--- the first disk of a kind and the others
-pub taken_same : (kind : DiskKind) (flat thin : List DiskState) → 0 < length (queue_of kind (two flat thin))
-    → SameDisks (disk_at (queue_of kind (two flat thin)) 0 ∷ disks_in (with_queue kind (drop 1 (queue_of kind (two flat thin))) (two flat thin))) (disks_in (two flat thin))
-taken_same Flat [] thin some count = absurd (omega arith)
-taken_same Flat (d ∷ flat) thin some count = refl
-taken_same Thin flat [] some count = absurd (omega arith)
-taken_same Thin flat (d ∷ thin) some count =
-    let f : DiskState → ℕ = λ x. count (cleared x) in
-    omega (arith, sum_by-cons f d (flat ++ thin), sum_by-append f flat thin, sum_by-append f flat (d ∷ thin), sum_by-cons f d thin)
-
-pub left_after : (kind : DiskKind) (q : QueuesState) → left_in (with_queue kind (drop 1 (queue_of kind q)) q) ≡ pool_without kind (left_in q)
-left_after Flat q = λ k. record { flat = length-drop 1 q.flat k; thin = length q.thin }
-left_after Thin q = λ k. record { flat = length q.flat; thin = length-drop 1 q.thin k }
 
 of_kind-left : (kind : DiskKind) (q : QueuesState) → of_kind kind (left_in q) ≡ length (queue_of kind q)
 of_kind-left Flat q = refl

@@ -1,11 +1,10 @@
 -- What is stored after a change of one volume, for crates above.
-use Rattle.std.proofs.Common.{◌≡◌, ◌≢◌, ◌⊎◌, ℕ, ◌+◌, ◌<◌, ◌≤◌, ◌^◌, min, Bool, true, false, not, cond, ◌||◌, nat_eq, List, [], ◌∷◌, ◌++◌, length, map, get_or, slice_set, Result, Ok, Err, inl, inr, true≢false, refl, sym, ◌∙◌, ap, subst, arith}
-use Rattle.std.specs.List.{filter}
+use Rattle.std.proofs.Common.{◌≡◌, ◌≢◌, ◌⊎◌, ℕ, ◌<◌, Bool, true, false, cond, ◌||◌, nat_eq, List, [], ◌∷◌, length, slice_set, inl, inr, true≢false, refl, sym, ◌∙◌, ap, subst, arith}
 use Rattle.std.proofs.lemmas.Bool.{cases_eq, cond-true, cond-false}
 use Rattle.std.proofs.lemmas.Bool.Decides.{nat_tests}
-use Rattle.std.proofs.lemmas.List.{get_or-set_same, get_or-set_other, length-set}
-use Rattle.fc_entry.specs.Picture.{Content, Lost, content_at}
-use Rattle.fc_grains.specs.Volumes.{VolumeGrains, is_there, volume_of, stored, changed, without}
+use Rattle.std.proofs.lemmas.List.{get_or-set_same, get_or-set_other}
+use Rattle.fc_entry.specs.Picture.{Content, content_at}
+use Rattle.fc_grains.specs.Volumes.{VolumeGrains, is_there, volume_of, stored, changed}
 use Rattle.fc_grains.proofs.Finding.{is_there_by}
 
 same_by : (a b : ℕ) → nat_eq a b ≡ true → a ≡ b

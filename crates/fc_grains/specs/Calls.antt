@@ -6,9 +6,9 @@ use Rattle.fc_base.specs.Grain.{grain_bytes}
 use Rattle.fc_base.specs.Pools.{pool_without}
 use Rattle.fc_base.specs.declared.disk.DiskError.{DiskError}
 use Rattle.fc_mdisk.specs.Disk.{write_failed, MayAnswer}
-use Rattle.fc_entry.specs.Picture.{Content, Bytes, Lost, zeros}
+use Rattle.fc_entry.specs.Picture.{Bytes, zeros}
 use Rattle.fc_grains.specs.Grains.{GrainsState, next_of}
-use Rattle.fc_grains.specs.Volumes.{VolumeGrains, volume_of, stored, changed, called, after_write}
+use Rattle.fc_grains.specs.Volumes.{volume_of, stored, changed, called, after_write}
 use Rattle.fc_grains.specs.declared.copy_error.CopyError.{CopyError}
 use Rattle.fc_grains.specs.declared.copy_error.CopyError.TheVariants.{Read, Write}
 

@@ -1,5 +1,5 @@
 -- All that contracts see of the grains of a lane.
-use Rattle.std.specs.Prelude.{◌≡◌, ℕ, ◌-◌, ◌^◌, min, Bool, not, List, [], ◌∷◌, map, length, replicate, count_by, Option, Some, None, IfSome}
+use Rattle.std.specs.Prelude.{◌≡◌, ℕ, ◌-◌, ◌^◌, min, Bool, not, List, [], ◌∷◌, length, replicate, count_by, Option, Some, None, IfSome}
 use Rattle.std.specs.List.{sum_by}
 use Rattle.fc_base.specs.Grain.{grain_bytes}
 use Rattle.fc_base.specs.Pools.{Pool}

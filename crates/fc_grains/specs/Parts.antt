@@ -1,5 +1,5 @@
 -- The parts that the grains of a lane are made of: volumes with their disks, and the pool.
-use Rattle.std.specs.Prelude.{◌≡◌, ℕ, ◌+◌, ◌^◌, ◌<◌, Bool, true, false, List, [], ◌∷◌, ◌++◌, drop, map, length, replicate, slice_set, Result, Ok, Err}
+use Rattle.std.specs.Prelude.{◌≡◌, ℕ, ◌+◌, ◌^◌, ◌<◌, Bool, true, false, List, [], ◌∷◌, ◌++◌, drop, length, replicate, slice_set, Result, Ok, Err}
 use Rattle.std.specs.List.{All, sum_by}
 use Rattle.std.specs.Simd.Lanes.{zip2}
 use Rattle.fc_base.specs.Pools.{Pool}

@@ -1,5 +1,5 @@
 -- What the disks of a lane's volumes hold.
-use Rattle.std.specs.Prelude.{◌≡◌, ℕ, ◌-◌, Bool, ◌==◌, not, cond, List, [], ◌∷◌, map, filter, slice_set, Option, None, Result, Ok, Err}
+use Rattle.std.specs.Prelude.{ℕ, ◌-◌, Bool, ◌==◌, not, cond, List, [], ◌∷◌, map, filter, slice_set, Option, None, Result, Ok, Err}
 use Rattle.std.specs.List.{list_any}
 use Rattle.std.specs.Option.{option_map}
 use Rattle.fc_base.specs.declared.disk.DiskError.{DiskError}

@@ -8,7 +8,9 @@
 //! Only `new` and `reserve`, and writes of thin disks, take memory. A volume is found by binary search.
 //!
 //! Files: `grains` (the type and what it tells), `making` (volumes come and go), `access` (reads, writes and copies),
-//! `copy_error`; inside `volume_disk`, `pool`, `queues`, `sums`, `find`. The words are in `specs/`: `Volumes`, `Grains`, `Calls`.
+//! `copy_error`; inside `volume_disk`, `pool`, `queues`, `sums`, `find`. The words are in `specs/`: `Volumes`, `Grains`,
+//! `Calls`, `Quiet`. What crates above cite is in `proofs/Stored` (what is stored after a change), `proofs/Quiet` (disks
+//! that can't fail) and `proofs/Calling` (a read leaves what grains hold).
 #![tactic(auto)]
 
 mod access;

@@ -1,4 +1,4 @@
-use Rattle.std.proofs.Common.{◌≡◌, ◌+◌, ◌≤◌, ◌++◌, List, length, map, vec_len, vec_capacity}
+use Rattle.std.proofs.Common.{◌≡◌, ◌+◌, ◌≤◌, ◌++◌, List, map, vec_len, vec_capacity}
 use Rattle.fc_grains.specs.Parts.{SameDisks, VolumeDiskState}
 use Rattle.fc_grains.proofs.making.give_volumes.Given as goal
 

@@ -1,7 +1,3 @@
-use Rattle.std.proofs.Common.{◌≡◌, ◌<◌, ℕ, true, length, map, ap, sym, ◌∙◌}
-use Rattle.fc_entry.specs.Right.{is_lost}
-use Rattle.fc_grains.specs.Parts.{grains_of}
-use Rattle.fc_grains.specs.Volumes.{VolumeGrains, volume_of}
 use Rattle.fc_grains.proofs.Calling.{kept_armed, state_armed}
 use Rattle.fc_grains.proofs.Finding.{at_within, at_found}
 use Rattle.fc_grains.proofs.grains.Grains.arm.Goals as goal

@@ -1,9 +1,4 @@
-use Rattle.std.proofs.Common.{◌≡◌, ◌<◌, ◌+◌, ◌-◌, ◌++◌, ℕ, List, true, false, take, drop, length, map, is_err, ap, sym, ◌∙◌, arith}
-use Rattle.fc_entry.specs.Right.{is_lost}
-use Rattle.fc_base.specs.Grain.{grain_bytes}
-use Rattle.fc_grains.specs.Grains.{stopped}
-use Rattle.fc_grains.specs.Parts.{grains_of}
-use Rattle.fc_grains.specs.Volumes.{VolumeGrains, volume_of, stored}
+use Rattle.std.proofs.Common.{false}
 use Rattle.fc_grains.proofs.Calling.{target_still}
 use Rattle.fc_grains.proofs.grains.Grains.copy.Goals as goal
 

@@ -1,4 +1,4 @@
-use Rattle.std.proofs.Common.{◌≡◌, ◌≤◌, ◌<◌, ◌+◌, ◌∙◌, ◌++◌, List, length, map, ap, refl, sym, subst, arith, vec_len, vec_capacity}
+use Rattle.std.proofs.Common.{◌≡◌, ◌∙◌, ◌++◌, List, length, map, ap, refl, sym, subst, arith}
 use Rattle.std.proofs.lemmas.List.{map-append, append_assoc, length-append, length-map}
 use Rattle.fc_mdisk.specs.Disk.{DiskState}
 use Rattle.fc_grains.specs.Grains.{GrainsState, AreAllOf}

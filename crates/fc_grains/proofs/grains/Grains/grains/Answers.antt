@@ -1,7 +1,5 @@
-use Rattle.std.proofs.Common.{◌≡◌, ◌<◌, ℕ, true, length, map, ap, sym, ◌∙◌}
-use Rattle.fc_entry.specs.Right.{is_lost}
-use Rattle.fc_grains.specs.Parts.{grains_of}
-use Rattle.fc_grains.specs.Volumes.{VolumeGrains, volume_of}
+use Rattle.std.proofs.Common.{length, ap, sym, ◌∙◌}
+use Rattle.fc_grains.specs.Volumes.{VolumeGrains}
 use Rattle.fc_grains.proofs.Calling.{was_whole}
 use Rattle.fc_grains.proofs.Changing.{volume_is}
 use Rattle.fc_grains.proofs.Contents.{length-contents}

@@ -1,7 +1,7 @@
-use Rattle.std.proofs.Common.{◌≡◌, ◌<◌, ℕ, true, length, map, ap, sym, ◌∙◌}
+use Rattle.std.proofs.Common.{◌<◌, length, map, ap, sym, ◌∙◌}
 use Rattle.fc_entry.specs.Right.{is_lost}
 use Rattle.fc_grains.specs.Parts.{grains_of}
-use Rattle.fc_grains.specs.Volumes.{VolumeGrains, volume_of}
+use Rattle.fc_grains.specs.Volumes.{volume_of}
 use Rattle.fc_grains.proofs.Changing.{mark_there, stored_is}
 use Rattle.fc_grains.proofs.Contents.{is_lost-content}
 use Rattle.fc_grains.proofs.Finding.{at_within, at_found, is_there_by}

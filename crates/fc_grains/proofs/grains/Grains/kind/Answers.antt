@@ -1,7 +1,5 @@
-use Rattle.std.proofs.Common.{◌≡◌, ◌<◌, ℕ, true, length, map, ap, sym, ◌∙◌}
-use Rattle.fc_entry.specs.Right.{is_lost}
-use Rattle.fc_grains.specs.Parts.{grains_of}
-use Rattle.fc_grains.specs.Volumes.{VolumeGrains, volume_of}
+use Rattle.std.proofs.Common.{ap, sym, ◌∙◌}
+use Rattle.fc_grains.specs.Volumes.{VolumeGrains}
 use Rattle.fc_grains.proofs.Changing.{volume_is}
 use Rattle.fc_grains.proofs.Finding.{at_within, at_found}
 use Rattle.fc_grains.proofs.grains.Grains.kind.Goals as goal

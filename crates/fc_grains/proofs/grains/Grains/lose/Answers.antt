@@ -1,7 +1,6 @@
-use Rattle.std.proofs.Common.{◌≡◌, ◌<◌, ℕ, true, length, map, ap, sym, ◌∙◌}
-use Rattle.fc_entry.specs.Right.{is_lost}
+use Rattle.std.proofs.Common.{◌<◌, length, map}
 use Rattle.fc_grains.specs.Parts.{grains_of}
-use Rattle.fc_grains.specs.Volumes.{VolumeGrains, volume_of}
+use Rattle.fc_grains.specs.Volumes.{volume_of}
 use Rattle.fc_grains.proofs.Calling.{kept_lost, state_lost}
 use Rattle.fc_grains.proofs.Changing.{mark_there}
 use Rattle.fc_grains.proofs.Finding.{at_within, at_found, is_there_by}

@@ -1,7 +1,6 @@
-use Rattle.std.proofs.Common.{◌≡◌, ◌∙◌, ℕ, [], List, length, map, replicate, ap, sym, subst, arith}
+use Rattle.std.proofs.Common.{◌≡◌, ◌∙◌, ℕ, [], List, map, replicate, ap, sym, subst, arith}
 use Rattle.std.proofs.lemmas.List.{length-map}
 use Rattle.fc_mdisk.specs.Disk.{DiskState}
-use Rattle.fc_grains.specs.Grains.{opened}
 use Rattle.fc_grains.specs.Kept.{AddUp, IsKept, state_of}
 use Rattle.fc_grains.specs.Parts.{VolumeDiskState}
 use Rattle.fc_grains.proofs.Moving.{kept_opened, state_opened}

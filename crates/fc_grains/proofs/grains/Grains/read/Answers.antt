@@ -1,9 +1,9 @@
-use Rattle.std.proofs.Common.{◌≡◌, ◌<◌, ◌+◌, ◌-◌, ◌++◌, ℕ, List, true, false, take, drop, length, map, is_err, ap, sym, ◌∙◌, arith}
+use Rattle.std.proofs.Common.{◌≡◌, ◌<◌, ◌+◌, ◌-◌, ◌++◌, false, take, drop, length, map, is_err, ap, sym, ◌∙◌, arith}
 use Rattle.fc_entry.specs.Right.{is_lost}
 use Rattle.fc_base.specs.Grain.{grain_bytes}
 use Rattle.fc_grains.specs.Grains.{stopped}
 use Rattle.fc_grains.specs.Parts.{grains_of}
-use Rattle.fc_grains.specs.Volumes.{VolumeGrains, volume_of, stored}
+use Rattle.fc_grains.specs.Volumes.{volume_of, stored}
 use Rattle.std.proofs.lemmas.List.{with_items_is}
 use Rattle.fc_grains.proofs.Calling.{length-grain, kept_read, has_read}
 use Rattle.fc_grains.proofs.Changing.{grain_there}

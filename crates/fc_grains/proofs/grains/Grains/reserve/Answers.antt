@@ -1,7 +1,6 @@
-use Rattle.std.proofs.Common.{◌≡◌, ◌≤◌, ◌+◌, ◌∙◌, ◌++◌, ◌∷◌, [], List, length, map, ap, sym, subst, arith}
+use Rattle.std.proofs.Common.{◌∙◌, length, map, ap, sym, arith}
 use Rattle.std.proofs.lemmas.List.{length-map}
 use Rattle.std.proofs.lemmas.Result.{on_ok_weaker, on_err_weaker}
-use Rattle.fc_grains.specs.Grains.{NewVolume}
 use Rattle.fc_grains.specs.Parts.{new_of}
 use Rattle.fc_grains.proofs.Moving.{coming_by, kept_reserved, on_ok_at, state_reserved}
 use Rattle.fc_grains.proofs.grains.Grains.reserve.Goals as goal

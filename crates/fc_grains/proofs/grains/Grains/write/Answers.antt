@@ -1,9 +1,7 @@
-use Rattle.std.proofs.Common.{◌≡◌, ◌<◌, ◌+◌, ◌-◌, ◌++◌, ℕ, List, true, false, take, drop, length, map, is_err, ap, sym, ◌∙◌, arith}
-use Rattle.fc_entry.specs.Right.{is_lost}
-use Rattle.fc_base.specs.Grain.{grain_bytes}
+use Rattle.std.proofs.Common.{◌<◌, ◌+◌, ◌-◌, length, map, ap, sym, ◌∙◌}
 use Rattle.fc_grains.specs.Grains.{stopped}
 use Rattle.fc_grains.specs.Parts.{grains_of}
-use Rattle.fc_grains.specs.Volumes.{VolumeGrains, volume_of, stored}
+use Rattle.fc_grains.specs.Volumes.{volume_of}
 use Rattle.fc_grains.proofs.Calling.{length-grain, kept_written, has_written}
 use Rattle.fc_grains.proofs.Changing.{grain_there, mark_there}
 use Rattle.fc_grains.proofs.Finding.{at_within, at_found, is_there_by}

@@ -1,4 +1,4 @@
-use Rattle.std.proofs.Common.{◌<◌, ◌∙◌, length, map, sym}
+use Rattle.std.proofs.Common.{◌<◌, ◌∙◌, length, map}
 use Rattle.std.proofs.lemmas.Result.{on_ok_weaker, on_err_weaker}
 use Rattle.fc_grains.proofs.Queueing.{flat_formatted, thin_formatted, list_formatted, list_same}
 use Rattle.fc_grains.proofs.queues.Queues.format.Goals as goal

@@ -1,7 +1,6 @@
-use Rattle.std.proofs.Common.{◌++◌, ◌∙◌, List, map, sym, ap}
+use Rattle.std.proofs.Common.{◌++◌, ◌∙◌, List, ap}
 use Rattle.std.proofs.lemmas.List.{map-append, append_assoc}
-use Rattle.fc_mdisk.specs.Disk.{DiskState}
-use Rattle.fc_grains.specs.Parts.{QueuesState, disks_in}
+use Rattle.fc_grains.specs.Parts.{disks_in}
 use Rattle.fc_grains.proofs.queues.Queues.give_disks.Goals as goal
 
 pub returns-clause-given : goal.returns-clause-given

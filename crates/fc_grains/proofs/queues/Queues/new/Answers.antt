@@ -3,7 +3,7 @@ use Rattle.std.specs.List.{All}
 use Rattle.std.proofs.lemmas.List.{map-append}
 use Rattle.fc_mdisk.specs.Disk.{DiskState}
 use Rattle.fc_grains.specs.Grains.{IsUnarmed}
-use Rattle.fc_grains.specs.Parts.{QueuesState, queue_of, with_queue}
+use Rattle.fc_grains.specs.Parts.{QueuesState}
 use Rattle.fc_grains.proofs.Pooling.{IsSorting, last_unarmed, sorting}
 use Rattle.fc_grains.proofs.queues.Queues.new.Goals as goal
 
