@@ -1,0 +1,2 @@
+-- What the law of pictures says.
+pub mod Law
