@@ -1,2 +1,6 @@
 pub mod Volumes
 pub mod Staying
+pub mod Leaving
+pub mod Splits
+pub mod Forces
+pub mod Lawful

@@ -1,5 +1,5 @@
 -- A live slot that stays, and reads at the same volumes, shows what it did.
-use Rattle.std.proofs.Common.{◌≡◌, ◌≢◌, ℕ, suc, ◌+◌, ◌<◌, ◌≤◌, Bool, true, false, Option, Some, None, IsSome, is_some, List, length, get_or, refl, sym, ap, subst, ◌∙◌, arith, ◌⊎◌, inl, inr}
+use Rattle.std.proofs.Common.{◌≡◌, ◌≢◌, ℕ, suc, ◌+◌, ◌<◌, ◌≤◌, Bool, true, false, Option, Some, None, IsSome, is_some, List, length, Contains, get_or, refl, sym, ap, subst, ◌∙◌, arith, ◌⊎◌, inl, inr}
 use Rattle.fc_base.specs.Column.{holder}
 use Rattle.fc_base.specs.Sheet.{Slot, slot_at, column, live_place}
 use Rattle.fc_entry.specs.Picture.{PlainVolume, Picture, volume_in, content_at}
@@ -80,6 +80,16 @@ place_to slots v s =
       | inl none ↦ absurd (let f : is_some (live_place slots v) ≡ false = ap is_some none in let q : true ≡ false = sym s ∙ f in cc)
       | inr some ↦ (some.0, live_place_at slots v some.0 some.1)
     ]
+
+-- each volume of the picture has a live slot, where the ids stay and each volume keeps a live slot
+pub only_from : (old new : List Slot) (picture : Picture) (stored : Stored) → Shows old picture stored →
+    (q : PlainVolume) → ((p : PlainVolume) × Contains picture p × (p.volume.0 ≡ q.volume.0)) →
+    ((i v : ℕ) → LiveAt old v i → (j : ℕ) × LiveAt new v j) → IsSome (live_place new q.volume.0)
+only_from old new picture stored s q (p, c, e) lives =
+    let x = place_to old p.volume.0 (s.only p c) in
+    let y = lives x.0 p.volume.0 x.1 in
+    let a = y.1 in
+    place_from new q.volume.0 y.0 a.there a.is_live (a.of_volume ∙ e)
 
 -- ---- one slot taken out, put in or made old
 

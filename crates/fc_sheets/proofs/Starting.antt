@@ -36,6 +36,18 @@ left_aged b slots k h kl l =
       comes = λ j jl. (j, omega arith, a.mapping j, a.volume j, a.held j);
     }
 
+-- where no slot stands after a slot in its chain, it is nobody's holder but its own
+pub nobody_after : (slots : List Slot) (k : ℕ) → has_after slots k ≡ false → (g j : ℕ) → j < length slots → IsHolder (column slots g) j k → (j ≡ k) ⊎ ((m : ℕ) × ((slot_at slots j).mapping ≡ Some m) × Nobody m)
+nobody_after slots k last g j jl i =
+    elim (cases_option (last_below (λ x. ltb k x && eqb (slot_at slots x).chain (slot_at slots k).chain) (length slots))) [
+      | inr some ↦ absurd (let f : has_after slots k ≡ true = rw some.1 refl in both_ways _ last f)
+      | inl none ↦ elim (cases_eq j k) [
+        | inl e ↦ inl e
+        | inr ne ↦ absurd (both_ways _ (last_none (λ x. ltb k x && eqb (slot_at slots x).chain (slot_at slots k).chain) (length slots) none j jl)
+            (and_from _ _ (lt-ltb k j (let b : k ≤ j = i.before in omega arith)) (eq-eqb _ _ (sym i.one_chain))))
+      ]
+    ]
+
 left_removed : (b : ℕ) (slots : List Slot) (k : ℕ) → Holds b slots Nobody Nobody → k < length slots → (slot_at slots k).is_live ≡ true → has_after slots k ≡ false → Left b slots (remove slots k) k
 left_removed b slots k h kl l last =
     let r = remove_is slots k kl in
@@ -46,17 +58,6 @@ left_removed b slots k h kl l last =
       comes = λ j jl. let e = removed_at slots (remove slots k) k r j in
           (up k j, up_in slots (remove slots k) k r j jl, ap (λ (t : Slot). t.mapping) e, ap (λ (t : Slot). t.volume) e, ap (λ (t : Slot). t.held) e);
     }
-  where
-    nobody_after : (slots : List Slot) (k : ℕ) → has_after slots k ≡ false → (g j : ℕ) → j < length slots → IsHolder (column slots g) j k → (j ≡ k) ⊎ ((m : ℕ) × ((slot_at slots j).mapping ≡ Some m) × Nobody m)
-    nobody_after slots k last g j jl i =
-        elim (cases_option (last_below (λ x. ltb k x && eqb (slot_at slots x).chain (slot_at slots k).chain) (length slots))) [
-          | inr some ↦ absurd (let f : has_after slots k ≡ true = rw some.1 refl in both_ways _ last f)
-          | inl none ↦ elim (cases_eq j k) [
-            | inl e ↦ inl e
-            | inr ne ↦ absurd (both_ways _ (last_none (λ x. ltb k x && eqb (slot_at slots x).chain (slot_at slots k).chain) (length slots) none j jl)
-                (and_from _ _ (lt-ltb k j (let b : k ≤ j = i.before in omega arith)) (eq-eqb _ _ (sym i.one_chain))))
-          ]
-        ]
 
 abbrev pub LeftSheet : Sheet → ℕ → Sheet → Type 0
 LeftSheet s k t = (t.births ≡ s.births) × Left s.births s.slots t.slots k

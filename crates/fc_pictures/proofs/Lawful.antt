@@ -1,0 +1,8 @@
+-- The law of pictures.
+use Rattle.fc_pictures.specs.Law.{PictureLaw}
+use Rattle.fc_pictures.proofs.Leaving.{made_shows}
+use Rattle.fc_pictures.proofs.Splits.{split_shows}
+use Rattle.fc_pictures.proofs.Forces.{Kept}
+
+pub picture_law_holds : PictureLaw
+picture_law_holds = ?
