@@ -2,7 +2,8 @@
 use Rattle.fc_pictures.specs.Law.{PictureLaw}
 use Rattle.fc_pictures.proofs.Leaving.{made_shows}
 use Rattle.fc_pictures.proofs.Splits.{split_shows}
-use Rattle.fc_pictures.proofs.Forces.{Kept}
+use Rattle.fc_pictures.proofs.Forces.{forced_shows}
+use Rattle.fc_pictures.proofs.Triggers.{triggered_shows}
 
 pub picture_law_holds : PictureLaw
 picture_law_holds = ?

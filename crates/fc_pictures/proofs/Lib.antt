@@ -3,4 +3,5 @@ pub mod Staying
 pub mod Leaving
 pub mod Splits
 pub mod Forces
+pub mod Triggers
 pub mod Lawful

@@ -79,6 +79,22 @@ map_in f keeps (x ∷ xs) id p e =
       | inr ne ↦ find_later (f x) (map f xs) id (λ q. ne (sym (keeps x) ∙ q)) ∙ map_in f keeps xs id p (sym (find_later x xs id ne) ∙ e)
     ]
 
+pub map_none : (f : PlainVolume → PlainVolume) → KeepsIds f → (picture : Picture) (id : VolId) → volume_in picture id ≡ None → volume_in (map f picture) id ≡ None
+map_none f keeps [] id e = refl
+map_none f keeps (x ∷ xs) id e =
+    elim (cases_eq x.volume.0 id.0) [
+      | inl same ↦ absurd (let g : Some x ≡ None = sym (find_here x xs id same) ∙ e in cc)
+      | inr ne ↦ find_later (f x) (map f xs) id (λ q. ne (sym (keeps x) ∙ q)) ∙ map_none f keeps xs id (sym (find_later x xs id ne) ∙ e)
+    ]
+
+pub map_same : (f : PlainVolume → PlainVolume) → ((p : PlainVolume) → f p ≡ p) → (picture : Picture) → map f picture ≡ picture
+map_same f e [] = refl
+map_same f e (x ∷ xs) = ap (λ (z : PlainVolume). z ∷ map f xs) (e x) ∙ ap (λ (z : Picture). x ∷ z) (map_same f e xs)
+
+pub map_twice : (f g h : PlainVolume → PlainVolume) → ((p : PlainVolume) → g (f p) ≡ h p) → (picture : Picture) → map g (map f picture) ≡ map h picture
+map_twice f g h e [] = refl
+map_twice f g h e (x ∷ xs) = ap (λ (z : PlainVolume). z ∷ map g (map f xs)) (e x) ∙ ap (λ (z : Picture). h x ∷ z) (map_twice f g h e xs)
+
 pub map_from : (f : PlainVolume → PlainVolume) (picture : Picture) (q : PlainVolume) → Contains (map f picture) q → (p : PlainVolume) × Contains picture p × (f p ≡ q)
 map_from f [] q (k, lt, e) = absurd (omega arith)
 map_from f (x ∷ xs) q c =
