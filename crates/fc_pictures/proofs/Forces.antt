@@ -1,6 +1,6 @@
 -- A force: the slots of the mapping and of its dependents leave, one after the other. Until all have left, those still to leave
 -- may read at other volumes than before; what they leave is what their volumes' own grains are.
-use Rattle.std.proofs.Common.{◌≡◌, ◌≢◌, ℕ, ◌+◌, ◌<◌, ◌≤◌, Bool, true, false, cond, Option, Some, None, IsSome, List, [], ◌∷◌, ◌++◌, length, get_or, remove, fold, Contains, refl, sym, ap, subst, ◌∙◌, arith, ◌⊎◌, inl, inr}
+use Rattle.std.proofs.Common.{◌≡◌, ℕ, ◌+◌, ◌<◌, ◌≤◌, Bool, true, false, cond, Option, Some, None, List, [], ◌∷◌, ◌++◌, length, remove, fold, Contains, refl, sym, ap, subst, ◌∙◌, arith, ◌⊎◌, inl, inr}
 use Rattle.std.proofs.lemmas.Bool.{cases_Bool, both_ways, cases_eq}
 use Rattle.fc_base.specs.declared.ids.MapId.{MapId}
 use Rattle.fc_base.specs.Sheet.{Slot, Sheet, slot_at, shape_of, column, mapping_place}
@@ -10,16 +10,16 @@ use Rattle.fc_base.specs.SheetStep.{without, at_place, detached_at, forced_at, f
 use Rattle.fc_base.specs.RestoreGraph.{HasOneLive}
 use Rattle.fc_entry.specs.Picture.{Content, PlainVolume, Picture, volume_in, changed_at}
 use Rattle.fc_rules.specs.LaneTold.{cut_volume, cut_at, leaves}
-use Rattle.fc_rules.specs.Shows.{Stored, Shown, Shows}
+use Rattle.fc_rules.specs.Shows.{Stored, Shows}
 use Rattle.fc_moves.proofs.Search.{cases_option}
 use Rattle.fc_moves.proofs.Readers.{IsHolder, is_holder}
-use Rattle.fc_sheets.proofs.Places.{up, up_low, up_in, up_apart, down, removed_at, big_at, remove_is, push_is, push_here}
+use Rattle.fc_sheets.proofs.Places.{up, up_low, up_in, up_apart, removed_at, remove_is, push_is, push_here}
 use Rattle.fc_sheets.proofs.Removing.{mappings_small}
 use Rattle.fc_sheets.proofs.Aging.{alone, with_alone, mappings_alone}
 use Rattle.fc_sheets.proofs.Finding.{LiveAt, mapping_place_at, mapping_place_is, mapping_place_none}
 use Rattle.fc_sheets.proofs.Forcing.{Among, Closed, Plus, held_exact, slot_of_to, slot_of_from}
 use Rattle.fc_pictures.proofs.Volumes.{id_of, Apart, map_from, apart_map, at_id, at_id_keeps, changed_here, changed_other, cut_twice, cut_keeps}
-use Rattle.fc_pictures.proofs.Staying.{Stays, stays_shown, only_from, removed_holder, Owns, owns_from}
+use Rattle.fc_pictures.proofs.Staying.{Stays, stays_shown, only_from, removed_holder, owns_from}
 use Rattle.fc_pictures.proofs.Leaving.{alone_shown, others_live}
 
 -- ---- the sheet
@@ -67,15 +67,15 @@ forced_none old cur all done n f none =
       mappings = f.mappings;
       each = λ j jl l. elim (f.each j jl l) [
         | inl k ↦ inl (record {
-            place = k.place;
-            there = k.there;
-            same = k.same;
-            holder = k.holder;
-            undone = λ x e d. elim d [
-              | inl q ↦ mapping_place_none cur n none j jl (ap (λ (t : Slot). t.mapping) k.same ∙ (e ∙ ap Some q))
-              | inr d' ↦ k.undone x e d'
-            ];
-          })
+          place = k.place;
+          there = k.there;
+          same = k.same;
+          holder = k.holder;
+          undone = λ x e d. elim d [
+            | inl q ↦ mapping_place_none cur n none j jl (ap (λ (t : Slot). t.mapping) k.same ∙ (e ∙ ap Some q))
+            | inr d' ↦ k.undone x e d'
+          ];
+        })
         | inr c ↦ inr (record { place = c.place; there = c.there; is_live = c.is_live; mapping = c.mapping; of_mapping = c.of_mapping; is_done = inr c.is_done; birth = c.birth; same = c.same })
       ];
       slots = λ j x jl e. let s = f.slots j x jl e in
@@ -98,21 +98,21 @@ forced_removed old cur all done p n closed f pl pm an =
           elim (f.each (up p j) jb (ap (λ (t : Slot). t.is_live) (sym e) ∙ l)) [
             | inr c ↦ inr (record { place = c.place; there = c.there; is_live = c.is_live; mapping = c.mapping; of_mapping = c.of_mapping; is_done = inr c.is_done; birth = c.birth; same = e ∙ c.same })
             | inl k ↦ inl (record {
-                place = k.place;
-                there = k.there;
-                same = e ∙ k.same;
-                undone = λ x q d. elim d [
-                  | inl z ↦ one j jl (ap (λ (t : Slot). t.mapping) (e ∙ k.same) ∙ (q ∙ ap Some z))
-                  | inr d' ↦ k.undone x q d'
-                ];
-                holder = λ free g h i.
-                    let live : (slot_at old k.place).is_live ≡ true = ap (λ (t : Slot). t.is_live) (sym (e ∙ k.same)) ∙ l in
-                    let not_p = λ (b : IsHolder (column cur g) (up p j) p). (let x = k.holder free g p b in
-                    let c = closed g k.place x.0 n k.there live x.2 (ap (λ (t : Slot). t.mapping) (sym x.3) ∙ pm) an in
-                    free c.0 c.1 c.2) in
-                    let x = k.holder free g (up p h) (removed_holder cur small p r g j h jl not_p i) in
-                    (x.0, x.1, x.2, removed_at cur small p r h ∙ x.3);
-              })
+              place = k.place;
+              there = k.there;
+              same = e ∙ k.same;
+              undone = λ x q d. elim d [
+                | inl z ↦ one j jl (ap (λ (t : Slot). t.mapping) (e ∙ k.same) ∙ (q ∙ ap Some z))
+                | inr d' ↦ k.undone x q d'
+              ];
+              holder = λ free g h i.
+                  let live : (slot_at old k.place).is_live ≡ true = ap (λ (t : Slot). t.is_live) (sym (e ∙ k.same)) ∙ l in
+                  let not_p = λ (b : IsHolder (column cur g) (up p j) p). (let x = k.holder free g p b in
+                  let c = closed g k.place x.0 n k.there live x.2 (ap (λ (t : Slot). t.mapping) (sym x.3) ∙ pm) an in
+                  free c.0 c.1 c.2) in
+                  let x = k.holder free g (up p h) (removed_holder cur small p r g j h jl not_p i) in
+                  (x.0, x.1, x.2, removed_at cur small p r h ∙ x.3);
+            })
           ];
       slots = λ j x jl q.
           let e : slot_at small j ≡ slot_at cur (up p j) = removed_at cur small p r j in
@@ -139,16 +139,16 @@ forced_alone old left all done b i n f il live im dn =
             elim (f.each j jo (ap (λ (t : Slot). t.is_live) low ∙ l)) [
               | inr c ↦ inr (record { place = c.place; there = c.there; is_live = c.is_live; mapping = c.mapping; of_mapping = c.of_mapping; is_done = c.is_done; birth = c.birth; same = sym low ∙ c.same })
               | inl k ↦ inl (record {
-                  place = k.place;
-                  there = k.there;
-                  same = sym low ∙ k.same;
-                  undone = k.undone;
-                  holder = λ free g h q.
-                      let hj : h ≤ j = q.before in
-                      let ho : h < length left = omega arith in
-                      let x = k.holder free g h (low_holder left (alone b v grains) g j h jo ho q) in
-                      (x.0, x.1, x.2, sym (r.low h ho) ∙ x.3);
-                })
+                place = k.place;
+                there = k.there;
+                same = sym low ∙ k.same;
+                undone = k.undone;
+                holder = λ free g h q.
+                    let hj : h ≤ j = q.before in
+                    let ho : h < length left = omega arith in
+                    let x = k.holder free g h (low_holder left (alone b v grains) g j h jo ho q) in
+                    (x.0, x.1, x.2, sym (r.low h ho) ∙ x.3);
+              })
             ]
       ];
       slots = λ j x jl q. elim (cases_eq j (length left)) [
@@ -247,7 +247,7 @@ forced_all (n ∷ ns) old s all done closed f a = forced_all ns old (forced_map 
 
 -- ---- the picture
 
-cut_live : (slots : List Slot) (picture : Picture) (k : ℕ) → (slot_at slots k).is_live ≡ true →
+pub cut_live : (slots : List Slot) (picture : Picture) (k : ℕ) → (slot_at slots k).is_live ≡ true →
     cut_at slots (Some k) picture ≡ changed_at (id_of (slot_at slots k).volume) (cut_volume (slot_at slots k).held) picture
 cut_live slots picture k l = ap (λ z. cond z (changed_at (id_of (slot_at slots k).volume) (cut_volume (slot_at slots k).held) picture) picture) l
 

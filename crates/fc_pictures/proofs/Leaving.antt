@@ -1,26 +1,25 @@
 -- What a slot that leaves its chain leaves is what its volume's own physical grains are: retire and detach; and what comes, goes
 -- or is dropped.
-use Rattle.std.proofs.Common.{◌≡◌, ◌≢◌, ℕ, ◌+◌, ◌<◌, ◌≤◌, Bool, true, false, cond, not, Option, Some, None, IsSome, List, [], ◌∷◌, ◌++◌, length, get_or, set, remove, replicate, map, Contains, refl, sym, ap, subst, ◌∙◌, arith, ◌⊎◌, inl, inr}
+use Rattle.std.proofs.Common.{◌≡◌, ◌≢◌, ℕ, ◌+◌, ◌<◌, ◌≤◌, Bool, true, false, Option, Some, IsSome, List, [], ◌∷◌, ◌++◌, length, get_or, set, remove, replicate, Contains, refl, sym, ap, subst, ◌∙◌, arith, ◌⊎◌, inl, inr}
 use Rattle.std.proofs.lemmas.Bool.{both_ways, cases_eq}
 use Rattle.std.proofs.lemmas.List.Elements.{Contains-push_cases}
 use Rattle.std.proofs.lemmas.List.{get_or-replicate, length-replicate}
 use Rattle.fc_base.specs.declared.ids.VolId.{VolId}
 use Rattle.fc_base.specs.Need.{IsNeeded}
 use Rattle.fc_base.specs.Sheet.{Slot, Sheet, slot_at, shape_of, column, live_place}
-use Rattle.fc_base.specs.SheetFacts.{IsSound}
 use Rattle.fc_base.specs.SheetFits.{FitsRemove, FitsDrop}
 use Rattle.fc_base.specs.SheetStep.{at_place, without, made, removed, dropped, retired_at, detached_at}
 use Rattle.fc_base.specs.RestoreGraph.{HasOneLive}
 use Rattle.fc_entry.specs.Picture.{Content, Lost, PlainVolume, Picture, volume_in, changed_at, content_at}
-use Rattle.fc_rules.specs.LaneTold.{cut_by, cut_volume, cut_at}
+use Rattle.fc_rules.specs.LaneTold.{cut_by, cut_volume}
 use Rattle.fc_rules.specs.Shows.{Stored, Shown, Shows}
-use Rattle.fc_moves.proofs.Readers.{IsHolder, holder_is, is_holder, one_holder, own_holder, reader_from}
-use Rattle.fc_sheets.proofs.Places.{Removed, up, up_low, up_in, up_apart, down, removed_at, big_at, remove_is, push_is, push_here}
-use Rattle.fc_sheets.proofs.Aging.{age, aged_is, aged_here, aged_other, alone, with_alone, full_at, length_full}
+use Rattle.fc_moves.proofs.Readers.{IsHolder, holder_is, one_holder, own_holder, reader_from}
+use Rattle.fc_sheets.proofs.Places.{up, up_low, up_in, up_apart, down, removed_at, big_at, remove_is, push_is, push_here}
+use Rattle.fc_sheets.proofs.Aging.{age, aged_is, aged_other, alone, with_alone, full_at, length_full}
 use Rattle.fc_sheets.proofs.Finding.{LiveAt, live_place_at, birth_place_at}
 use Rattle.fc_sheets.proofs.Steps.{without_no_live, aged_no_live}
-use Rattle.fc_pictures.proofs.Volumes.{id_of, Apart, KeepsIds, found, find_is, map_from, apart_map, at_id, at_id_keeps, changed_here, changed_other, push_in, push_new, apart_push, without_id, without_in, without_from, apart_without, length_cut, cut_held, cut_lacked, cut_keeps}
-use Rattle.fc_pictures.proofs.Staying.{Stays, stays_here, stays_trans, stays_shown, stored_shows, place_from, place_to, only_from, removed_stays, added_stays, aged_stays, Owns, owns_from}
+use Rattle.fc_pictures.proofs.Volumes.{id_of, map_from, apart_map, at_id, at_id_keeps, changed_here, changed_other, push_in, push_new, apart_push, without_id, without_in, without_from, apart_without, length_cut, cut_held, cut_lacked, cut_keeps}
+use Rattle.fc_pictures.proofs.Staying.{Stays, stays_trans, stays_shown, stored_shows, place_from, place_to, only_from, removed_stays, added_stays, aged_stays, Owns, owns_from}
 
 -- ---- a chain of its own
 

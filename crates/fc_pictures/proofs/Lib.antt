@@ -4,4 +4,6 @@ pub mod Leaving
 pub mod Splits
 pub mod Forces
 pub mod Triggers
+pub mod Grains
+pub mod Fitting
 pub mod Lawful

@@ -1,5 +1,5 @@
 -- A split changes nothing that is shown: who reads behind the split slot reads at it or behind it, since it is complete.
-use Rattle.std.proofs.Common.{◌≡◌, ◌≢◌, ℕ, ◌<◌, ◌≤◌, true, false, Some, List, length, get_or, refl, sym, ap, ◌∙◌, arith, ◌⊎◌, inl, inr}
+use Rattle.std.proofs.Common.{◌≡◌, ◌≢◌, ℕ, ◌<◌, ◌≤◌, true, false, Some, List, length, get_or, refl, sym, ap, ◌∙◌, arith, inl, inr}
 use Rattle.std.proofs.lemmas.Bool.{cases_lt, cases_eq}
 use Rattle.fc_base.specs.Need.{is_complete}
 use Rattle.fc_base.specs.Sheet.{Slot, Sheet, slot_at, column}

@@ -1,12 +1,11 @@
 -- A live slot that stays, and reads at the same volumes, shows what it did.
-use Rattle.std.proofs.Common.{◌≡◌, ◌≢◌, ℕ, suc, ◌+◌, ◌<◌, ◌≤◌, Bool, true, false, Option, Some, None, IsSome, is_some, List, length, Contains, get_or, refl, sym, ap, subst, ◌∙◌, arith, ◌⊎◌, inl, inr}
-use Rattle.fc_base.specs.Column.{holder}
+use Rattle.std.proofs.Common.{◌≡◌, ℕ, ◌<◌, ◌≤◌, true, false, Some, IsSome, is_some, List, length, Contains, get_or, refl, sym, ap, subst, ◌∙◌, arith, inl, inr}
 use Rattle.fc_base.specs.Sheet.{Slot, slot_at, column, live_place}
 use Rattle.fc_entry.specs.Picture.{PlainVolume, Picture, volume_in, content_at}
 use Rattle.fc_rules.specs.Shows.{Stored, Shown, Shows}
 use Rattle.fc_moves.proofs.Search.{cases_option}
 use Rattle.fc_moves.proofs.Readers.{IsHolder, holder_is, is_holder, holder_from, one_holder, own_holder}
-use Rattle.fc_sheets.proofs.Places.{Removed, up, up_low, le_up, up_in, down, removed_at, big_at}
+use Rattle.fc_sheets.proofs.Places.{Removed, up, le_up, up_in, down, removed_at, big_at}
 use Rattle.fc_sheets.proofs.Forcing.{held_exact}
 use Rattle.fc_sheets.proofs.Aging.{Aged}
 use Rattle.fc_sheets.proofs.Finding.{LiveAt, live_place_at, no_live_place}

@@ -1,27 +1,25 @@
 -- A trigger: all targets become copies at once in the picture, and one pair after the other in the chains.
-use Rattle.std.proofs.Common.{◌≡◌, ◌≢◌, ℕ, ◌+◌, ◌<◌, ◌≤◌, true, false, cond, ◌==◌, Option, Some, None, List, [], ◌∷◌, length, get_or, set, remove, insert, replicate, map, refl, sym, ap, subst, ◌∙◌, arith, ◌⊎◌, inl, inr}
+use Rattle.std.proofs.Common.{◌≡◌, ◌≢◌, ℕ, ◌+◌, ◌<◌, ◌≤◌, true, false, cond, Some, None, List, [], ◌∷◌, length, get_or, set, insert, replicate, map, refl, sym, ap, subst, ◌∙◌, arith, inl, inr}
 use Rattle.std.proofs.lemmas.Bool.{cases_Bool, both_ways, cases_eq, eq-eqb, ne_eqb}
-use Rattle.std.proofs.lemmas.List.{get_or-replicate}
 use Rattle.fc_base.specs.declared.ids.VolId.{VolId}
 use Rattle.fc_base.specs.declared.request.Pair.{Pair}
 use Rattle.fc_base.specs.Sheet.{Slot, Sheet, slot_at, column, live_place, volume_grains, grains_at}
 use Rattle.fc_base.specs.SheetFacts.{IsSound}
 use Rattle.fc_base.specs.SheetFits.{FitsPair, FitsTrigger}
 use Rattle.fc_base.specs.SheetStep.{without, aged, has_after, at_place, left_place, placed, started_empty, triggered}
-use Rattle.fc_entry.specs.Picture.{Content, PlainVolume, Picture, volume_in, content_at}
+use Rattle.fc_entry.specs.Picture.{Content, PlainVolume, Picture, volume_in}
 use Rattle.fc_entry.specs.PlainStep.{source_in, now_in, after_trigger}
 use Rattle.fc_rules.specs.Shows.{Stored, Shown, Shows}
 use Rattle.fc_moves.proofs.Search.{cases_option}
 use Rattle.fc_moves.proofs.Readers.{IsHolder, holder_is, is_holder, own_holder}
-use Rattle.fc_sheets.proofs.Places.{Removed, up, up_low, up_cases, up_in, up_apart, down, removed_at, big_at, remove_is, insert_is, insert_here}
+use Rattle.fc_sheets.proofs.Places.{up, up_low, up_cases, up_in, down, removed_at, big_at, insert_is, insert_here}
 use Rattle.fc_sheets.proofs.Aging.{age, aged_is, length_full}
 use Rattle.fc_sheets.proofs.Finding.{LiveAt, live_place_at, live_place_is}
-use Rattle.fc_sheets.proofs.Forcing.{held_exact}
 use Rattle.fc_sheets.proofs.Splitting.{complete_at}
-use Rattle.fc_sheets.proofs.Starting.{Left, LeftSheet, left_is, nobody_after, new_slot, started_placed, Apart as PairsApart, AllFit, ApartFrom, AllApart, HoldsSheet, all_later, all_fit, all_apart}
+use Rattle.fc_sheets.proofs.Starting.{left_is, nobody_after, new_slot, started_placed, AllFit, ApartFrom, AllApart, HoldsSheet, all_later, all_fit, all_apart}
 use Rattle.fc_sheets.proofs.Steps.{holds_from}
-use Rattle.fc_pictures.proofs.Volumes.{id_of, KeepsIds, found, found_none, map_in, map_none, map_from, map_same, map_twice, apart_map}
-use Rattle.fc_pictures.proofs.Staying.{Stays, stays_trans, stays_shown, only_from, removed_stays, added_stays, aged_stays}
+use Rattle.fc_pictures.proofs.Volumes.{id_of, KeepsIds, found, map_in, map_none, map_from, map_same, map_twice, apart_map}
+use Rattle.fc_pictures.proofs.Staying.{Stays, stays_trans, stays_shown, only_from, added_stays, aged_stays}
 use Rattle.fc_pictures.proofs.Leaving.{others_stay}
 
 -- ---- the picture
@@ -144,17 +142,20 @@ behind_reads left x n grains xl e c g h i =
       | inl same ↦ absurd (not_new left x n grains xl e g (x + 1) (subst (λ (z : ℕ). IsHolder (column big g) (x + 1) z) same i))
       | inr d ↦ let a = removed_at big left (x + 1) r d.0 in
           let low : d.0 ≤ x = below d.0 x h d.2 hx in
-          let i' : IsHolder (column big g) (x + 1) (up (x + 1) d.0) = subst (λ (z : ℕ). IsHolder (column big g) (x + 1) z) (sym d.2) i in
-          (d.0, d.2, record {
-            before = low;
-            one_chain = ap (λ (t : Slot). t.chain) a ∙ (i'.one_chain ∙ chain);
-            holds = ap (λ (t : Slot). get_or t.held g false) a ∙ i'.holds;
-            nearest = λ y dy yx q t.
-                let b = removed_at big left (x + 1) r y in
-                let uy : up (x + 1) y ≡ y = up_low (x + 1) y (omega arith) in
-                let ud : up (x + 1) d.0 ≡ d.0 = up_low (x + 1) d.0 (omega arith) in
-                i'.nearest (up (x + 1) y) (omega arith) (omega arith) (ap (λ (t : Slot). t.chain) (sym b) ∙ (q ∙ sym chain)) (ap (λ (t : Slot). get_or t.held g false) (sym b) ∙ t);
-          })
+          let i' : IsHolder (column big g) (x + 1) (up (x + 1) d.0) = subst (λ (z : ℕ). IsHolder (column big g) (x + 1) z) (sym d.2) i in (
+            d.0,
+            d.2,
+            record {
+              before = low;
+              one_chain = ap (λ (t : Slot). t.chain) a ∙ (i'.one_chain ∙ chain);
+              holds = ap (λ (t : Slot). get_or t.held g false) a ∙ i'.holds;
+              nearest = λ y dy yx q t.
+                  let b = removed_at big left (x + 1) r y in
+                  let uy : up (x + 1) y ≡ y = up_low (x + 1) y (omega arith) in
+                  let ud : up (x + 1) d.0 ≡ d.0 = up_low (x + 1) d.0 (omega arith) in
+                  i'.nearest (up (x + 1) y) (omega arith) (omega arith) (ap (λ (t : Slot). t.chain) (sym b) ∙ (q ∙ sym chain)) (ap (λ (t : Slot). get_or t.held g false) (sym b) ∙ t);
+            },
+          )
     ]
   where
     below : (d x h : ℕ) → up (x + 1) d ≡ h → h ≤ x + 1 → d ≤ x

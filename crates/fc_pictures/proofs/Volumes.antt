@@ -1,11 +1,11 @@
 -- Pictures: which volume has an id, and what changes leave.
-use Rattle.std.proofs.Common.{◌≡◌, ◌≢◌, ℕ, zero, suc, ◌+◌, ◌<◌, Bool, true, false, cond, not, ◌==◌, Option, Some, None, List, [], ◌∷◌, ◌++◌, length, get_or, map, filter, AllPairs, Contains, refl, sym, ap, subst, ◌∙◌, arith, ◌⊎◌, inl, inr}
-use Rattle.std.proofs.lemmas.Bool.{cases_Bool, both_ways, cases_eq, eqb-true, eq-eqb, ne_eqb, not-true}
+use Rattle.std.proofs.Common.{◌≡◌, ◌≢◌, ℕ, zero, suc, ◌<◌, Bool, true, false, cond, not, ◌==◌, Some, None, List, [], ◌∷◌, ◌++◌, length, get_or, map, filter, AllPairs, Contains, refl, sym, ap, subst, ◌∙◌, arith, ◌⊎◌, inl, inr}
+use Rattle.std.proofs.lemmas.Bool.{cases_eq, eq-eqb, ne_eqb}
 use Rattle.std.proofs.lemmas.List.Kept.{AllPairs-filter}
 use Rattle.std.proofs.lemmas.List.Quantifiers.{all_pairs_push}
-use Rattle.std.proofs.lemmas.List.Elements.{Contains-push_cases, Contains-get_or}
+use Rattle.std.proofs.lemmas.List.Elements.{Contains-get_or}
 use Rattle.fc_base.specs.declared.ids.VolId.{VolId}
-use Rattle.fc_entry.specs.Picture.{Content, Lost, PlainVolume, Picture, volume_in, changed_at, content_at}
+use Rattle.fc_entry.specs.Picture.{Content, PlainVolume, Picture, volume_in, changed_at, content_at}
 use Rattle.fc_rules.specs.LaneTold.{cut_by, cut_volume}
 
 -- an id by its number
