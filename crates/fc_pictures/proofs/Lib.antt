@@ -7,3 +7,4 @@ pub mod Triggers
 pub mod Grains
 pub mod Fitting
 pub mod Lawful
+pub mod Examples
