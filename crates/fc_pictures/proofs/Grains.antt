@@ -193,7 +193,7 @@ moved_grains slots stored after k h g w false i e m =
     let a = m h (is_holder (column slots g) k h i) in
     stored_moved (column slots g) stored after g k h w false i e (λ t. absurd cc) (λ f. (a.here, λ ne. a.elsewhere w g (inl ne)))
 
-bit_moved : (v g : ℕ) (in_place : Bool) → IsBit (cond in_place (grain_kept v g) (grain_taken v g)) g
+pub bit_moved : (v g : ℕ) (in_place : Bool) → IsBit (cond in_place (grain_kept v g) (grain_taken v g)) g
 bit_moved v g true = bit_kept v g
 bit_moved v g false = bit_taken v g
 

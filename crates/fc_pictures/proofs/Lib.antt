@@ -6,5 +6,6 @@ pub mod Forces
 pub mod Triggers
 pub mod Grains
 pub mod Fitting
+pub mod Running
 pub mod Lawful
 pub mod Examples

@@ -1,2 +1,3 @@
--- What the law of pictures says.
+-- What the laws of pictures and of steps say.
 pub mod Law
+pub mod StepsLaw

@@ -1,17 +1,29 @@
-//! The law of pictures: the chains and the physical grains of a lane keep showing what plain volumes hold.
+//! The laws of pictures and of steps: the chains and the physical grains of a lane keep showing what plain
+//! volumes hold.
 //!
 //! A picture is what plain volumes hold (`fc_entry`, `specs/Picture`), a sheet has the chains of copies
-//! (`fc_base`, `specs/Sheet`). The two agree where each volume of the picture is the volume of a live slot, and
-//! holds at each grain what its holder's volume stores there (`fc_rules`, `specs/Shows`). The law says
-//! that this is so with no volumes, and stays so at every event that fits, every safe move and
-//! write, and every such move or write that failed; and that safe moves and writes fit the chains.
+//! (`fc_base`, `specs/Sheet`). The two agree where the picture's volumes are those of the live slots, and each
+//! shows at every grain what its holder's volume stores there (`fc_rules`, `specs/Shows`). The law of
+//! pictures says that this is so with no volumes, and stays so at every event that fits, every safe move and
+//! write, and every one of these that fails; and that safe moves and writes fit the chains. The law of
+//! steps says that while the moves of a fill or a write are made one after the other, each is safe when its turn
+//! comes and has the mark that entries tell, and so is the write after them.
 //!
-//! To read: `specs/Law`, what is said; then `proofs/`.
+//! To read: `specs/Law` and `specs/StepsLaw`, what is said; then `proofs/`: `Volumes` (plain facts on pictures),
+//! `Staying` (a slot that stays shows what it did), `Leaving`, `Splits`, `Forces` and `Triggers` (the events), `Grains`
+//! (moves and writes, seen at their grain), `Fitting`, `Lawful`; `Running` (the law of steps); and `Examples`, small
+//! runs that are known by hand.
 #![tactic(auto)]
 
 ghost use Rattle.fc_pictures.specs.Law.{PictureLaw};
+ghost use Rattle.fc_pictures.specs.StepsLaw.{StepsLaw};
 
-/// The law. It does nothing; a caller learns the law.
+/// The law of pictures. It does nothing; a caller learns the law.
 pub fn picture_law()
     ensures { PictureLaw }
+{}
+
+/// The law of steps. It does nothing; a caller learns the law.
+pub fn steps_law()
+    ensures { StepsLaw }
 {}
