@@ -19,14 +19,14 @@ use Rattle.fc_pictures.proofs.Triggers.{triggered_shows}
 use Rattle.fc_pictures.proofs.Grains.{moved_shows, written_shows, torn_move_shown, torn_write_shown}
 use Rattle.fc_pictures.proofs.Fitting.{move_fits, write_fits, read_is, place_of_volume, volume_of_place}
 
-none_shows : (stored : Stored) → Shows [] [] stored
+pub none_shows : (stored : Stored) → Shows [] [] stored
 none_shows stored = record { each = λ k kl l. absurd (omega arith); only = λ p c. absurd (let lt : c.0 < 0 = c.1 in omega arith); apart = λ i j d ij jl e. omega arith }
 
 -- where nothing that is stored changes
 abbrev Same : Stored → Stored → Type 0
 Same stored after = (w g : ℕ) → after w g ≡ stored w g
 
-event_shows : (l : LaneOf) (s : Sheet) (picture : Picture) (stored after : Stored) (e : LaneEvent) → IsSound s → FitsEvent s e → Shows s.slots picture stored → StoredAfter l stored e after →
+pub event_shows : (l : LaneOf) (s : Sheet) (picture : Picture) (stored after : Stored) (e : LaneEvent) → IsSound s → FitsEvent s e → Shows s.slots picture stored → StoredAfter l stored e after →
     Shows (sheet_step (grains_in l) s e).slots (picture_event l s.slots picture e) after
 event_shows l s picture stored after (Make volume grains kind) i f w a = made_shows s picture stored after volume (grains_in l grains) (zeros l.grain) w f a.0 (λ x g ne. a.1 x g ne)
 event_shows l s picture stored after (Remove volume) i f w a = removed_shows s picture stored after volume w f (λ x g ne. a x g ne)

@@ -8,4 +8,5 @@ pub mod Grains
 pub mod Fitting
 pub mod Running
 pub mod Lawful
+pub mod Agreeing
 pub mod Examples

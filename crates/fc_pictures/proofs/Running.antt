@@ -105,6 +105,13 @@ can_move l told number roots moves done rest k given split r =
       mark = sym (ap (λ z. is_in_place z k) r.here ∙ given.law.marks done rest k split);
     }
 
+pub sheet_after_push : (l : LaneOf) (told : LaneTold) (number : ℕ) (done : List ℕ) (k : ℕ) →
+    (move_in (spot_at l told number) k).volume.0 ≡ (slot_at (sheet_after l told number done).slots k).volume →
+    sheet_after l told number (done ++ k ∷ []) ≡ sheet_moved (slot_at (sheet_after l told number done).slots k).volume (place_of l number) (move_in (spot_at l told number) k).in_place (sheet_after l told number done)
+sheet_after_push l told number done k e =
+    let now : Sheet = sheet_after l told number done in
+    fold_push (sheet_move l) (move_in (spot_at l told number)) told.sheet done k ∙ ap (λ v. sheet_moved v (place_of l number) (move_in (spot_at l told number) k).in_place now) e
+
 one_more : (l : LaneOf) (told : LaneTold) (number : ℕ) (roots moves done rest : List ℕ) (k : ℕ) → Given l told number roots moves → moves ≡ done ++ k ∷ rest →
     Reached told.sheet (place_of l number) done (sheet_after l told number done) → Reached told.sheet (place_of l number) (done ++ k ∷ []) (sheet_after l told number (done ++ k ∷ []))
 one_more l told number roots moves done rest k given split r =
@@ -112,8 +119,7 @@ one_more l told number roots moves done rest k given split r =
     let now : Sheet = sheet_after l told number done in
     let m = can_move l told number roots moves done rest k given split r in
     let in_place : Bool = is_in_place (column told.sheet.slots g) k in
-    let whole : sheet_after l told number (done ++ k ∷ []) ≡ sheet_moved (slot_at now.slots k).volume g in_place now =
-    fold_push (sheet_move l) (move_in (spot_at l told number)) told.sheet done k ∙ ap (λ v. sheet_moved v g in_place now) m.volume in
+    let whole = sheet_after_push l told number done k m.volume in
     subst (λ (z : Sheet). Reached told.sheet g (done ++ k ∷ []) z) (sym whole) (move_more told.sheet now g k done in_place r m.safe m.live.inside m.mark)
 
 all_more : (l : LaneOf) (told : LaneTold) (number : ℕ) (roots moves todo done rest : List ℕ) → Given l told number roots moves → moves ≡ done ++ (todo ++ rest) →
@@ -173,7 +179,7 @@ loses : (slots : List Slot) (g t : ℕ) (own : Bool) → reads_own (column slots
 loses slots g t true e = e
 loses slots g t false e = e
 
-write_can : (l : LaneOf) (told : LaneTold) (number t : ℕ) → IsSound told.sheet → IsLiveAt told.sheet.slots (place_of l number) t →
+pub write_can : (l : LaneOf) (told : LaneTold) (number t : ℕ) → IsSound told.sheet → IsLiveAt told.sheet.slots (place_of l number) t →
     let moves = write_moves (column told.sheet.slots (place_of l number)) t in
     CanWrite (sheet_after l told number moves) (place_of l number) t (slot_at told.sheet.slots t).volume
     (cond (reads_own (after_moves (column told.sheet.slots (place_of l number)) moves) t) Now Under)

@@ -1,3 +1,4 @@
--- What the laws of pictures and of steps say.
+-- What the laws say.
 pub mod Law
 pub mod StepsLaw
+pub mod LaneLaw
