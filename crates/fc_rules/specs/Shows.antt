@@ -1,8 +1,8 @@
 -- That the physical grains of a lane show what plain volumes hold.
-use Rattle.std.specs.Prelude.{◌≡◌, ◌≢◌, ℕ, ◌<◌, true, false, Option, Some, None, IsSome, List, [], length, AllPairs, Contains, slice_index_or}
+use Rattle.std.specs.Prelude.{◌≡◌, ◌≢◌, ℕ, ◌<◌, true, false, Some, IsSome, List, length, AllPairs, Contains, slice_index_or}
 use Rattle.fc_base.specs.Column.{holder}
 use Rattle.fc_base.specs.Sheet.{Slot, slot_at, column, live_place}
-use Rattle.fc_entry.specs.Picture.{Content, Lost, PlainVolume, Picture, volume_in, content_at}
+use Rattle.fc_entry.specs.Picture.{Content, PlainVolume, Picture, volume_in, content_at}
 
 -- What is stored: the content of each volume's physical grain, by id and place. It is lost where a write failed.
 abbrev pub Stored : Type 0
