@@ -55,7 +55,7 @@ move_more old now g k done in_place r safe inside mark =
 abbrev Inside : List Slot → ℕ → ℕ → Type 0
 Inside slots g k = g < length (slot_at slots k).held
 
-reader_inside : (slots : List Slot) → HasSizes slots → (g but o a : ℕ) → first_reader (column slots g) but o ≡ Some a → Inside slots g a
+pub reader_inside : (slots : List Slot) → HasSizes slots → (g but o a : ℕ) → first_reader (column slots g) but o ≡ Some a → Inside slots g a
 reader_inside slots sizes g but o a e =
     let r = reader_is (column slots g) but o a e in
     let i = r.reads in

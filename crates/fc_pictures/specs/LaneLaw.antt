@@ -1,9 +1,9 @@
 -- The law of lanes: what the laws of pictures and of steps say of what a lane's past tells.
-use Rattle.std.specs.Prelude.{◌≡◌, ℕ, ◌*◌, false, List, [], ◌∷◌, ◌++◌, map, Some}
+use Rattle.std.specs.Prelude.{◌≡◌, ℕ, ◌*◌, ◌<◌, false, IsSome, List, [], ◌∷◌, ◌++◌, map, Some}
 use Rattle.fc_base.specs.Grain.{block_bytes}
 use Rattle.fc_base.specs.Moves.{write_moves}
-use Rattle.fc_base.specs.Sheet.{Sheet, no_slots, slot_at, column, live_place}
-use Rattle.fc_base.specs.SheetFacts.{IsSound}
+use Rattle.fc_base.specs.Sheet.{Slot, Sheet, no_slots, slot_at, column, live_place, volume_grains}
+use Rattle.fc_base.specs.SheetFacts.{HasSizes, IsSound}
 use Rattle.fc_base.specs.SheetFits.{FitsEvent}
 use Rattle.fc_base.specs.declared.decision.LaneEvent.{LaneEvent}
 use Rattle.fc_base.specs.declared.request.Torn.{Torn}
@@ -11,7 +11,7 @@ use Rattle.fc_base.specs.declared.request.WritePart.{WritePart}
 use Rattle.fc_base.specs.declared.size.GrainSize.{GrainSize}
 use Rattle.fc_entry.specs.Picture.{Lost, Picture, grain_of_block, byte_in_grain, written}
 use Rattle.fc_rules.specs.LaneTold.{LaneOf, LaneTold, place_of, told_event, sheet_write, sheet_tear, picture_write, picture_tear}
-use Rattle.fc_rules.specs.LaneTurn.{spot_at}
+use Rattle.fc_rules.specs.LaneTurn.{spot_at, copied_slot, cleaned_slot}
 use Rattle.fc_rules.specs.Shows.{Stored, Shows}
 use Rattle.fc_rules.specs.Spot.{Spot, move_in}
 use Rattle.fc_rules.specs.Steps.{Step, step_of_move, own_step, steps_of_write, moves_of}
@@ -64,6 +64,10 @@ pub record LaneLaw : Type 0 where
       let spot = spot_at l told (grain_of_block l.grain part.block) in
       let torn = Some (torn_of spot (own_step l.grain spot part t)) in
       Agrees (sheet_tear l (sheet_before_write l told part t) torn) (picture_tear l told.picture torn) after
+  -- the slot of a write, a copy or a cleaning is live, and what is filled lacks the grain
+  pub write_slot : (slots : List Slot) (v g : ℕ) → IsSome (live_place slots v) → g < volume_grains slots v → (t : ℕ) × (live_place slots v ≡ Some t) × IsLiveAt slots g t
+  pub copy_slot : (slots : List Slot) (m g k : ℕ) → copied_slot slots m g ≡ Some k → IsLiveAt slots g k × ((column slots g).held k ≡ false)
+  pub clean_slot : (slots : List Slot) (m g k : ℕ) → HasSizes slots → cleaned_slot slots m g ≡ Some k → IsLiveAt slots g k × ((column slots g).held k ≡ false)
   -- the moves that entries tell are those of the steps
   pub moves_told : (spot : Spot) (ks : List ℕ) → moves_of (map (step_of_move spot) ks) ≡ map (move_in spot) ks
   pub write_told : (grain : GrainSize) (spot : Spot) (part : WritePart) (t : ℕ) → moves_of (steps_of_write grain spot part t) ≡ map (move_in spot) (write_moves spot.column t)
