@@ -12,7 +12,7 @@ use Rattle.std.specs.List.Sorted.{IsPartitionedBy, IsPartitionPoint}
 lt_true : (a b : ℕ) → a < b → nat_lt a b ≡ true
 lt_true a b below = grind (arith, nat_tests)
 
-lt_false : (a b : ℕ) → b ≤ a → nat_lt a b ≡ false
+pub lt_false : (a b : ℕ) → b ≤ a → nat_lt a b ≡ false
 lt_false a b above = grind (arith, nat_tests)
 
 below : (a b : ℕ) → nat_lt a b ≡ true → a < b
@@ -129,7 +129,7 @@ module _ {X : Type 0} (key : X → ℕ) where
   set_known m [] y rising there = cc
   set_known m (x ∷ xs) y rising there = cases m x
       (λ lower. let s = low_step m x xs lower in
-          rw (s.0, s.1.0) (ap (λ ys. x ∷ ys) (set_known m xs y rising.1 (sym s.1.1 ∙ there))))
+      rw (s.0, s.1.0) (ap (λ ys. x ∷ ys) (set_known m xs y rising.1 (sym s.1.1 ∙ there))))
       (λ here. let s = here_step m x xs here rising.0 in rw (s.0, s.1.0) refl)
       (λ higher. let s = past_step m x xs higher rising.0 in absurd (true≢false (sym there ∙ s.1.1)))
 
@@ -137,8 +137,8 @@ module _ {X : Type 0} (key : X → ℕ) where
   at_known m [] rising there = cc
   at_known m (x ∷ xs) rising there = cases m x
       (λ lower. let s = low_step m x xs lower in
-          let rest = at_known m xs rising.1 (sym s.1.1 ∙ there) in
-          rw s.0 (omega (arith, rest.0), rest.1))
+      let rest = at_known m xs rising.1 (sym s.1.1 ∙ there) in
+      rw s.0 (omega (arith, rest.0), rest.1))
       (λ here. let s = here_step m x xs here rising.0 in rw s.0 (omega arith, λ d. here))
       (λ higher. let s = past_step m x xs higher rising.0 in absurd (true≢false (sym there ∙ s.1.1)))
 
@@ -147,7 +147,7 @@ module _ {X : Type 0} (key : X → ℕ) where
   at_new m [] d rising new = λ within. absurd (omega arith)
   at_new m (x ∷ xs) d rising new = cases m x
       (λ lower. let s = low_step m x xs lower in
-          rw s.0 (λ within. at_new m xs d rising.1 (sym s.1.1 ∙ new) (omega arith)))
+      rw s.0 (λ within. at_new m xs d rising.1 (sym s.1.1 ∙ new) (omega arith)))
       (λ here. let s = here_step m x xs here rising.0 in absurd (true≢false (sym s.1.1 ∙ new)))
       (λ higher. let s = past_step m x xs higher rising.0 in rw s.0 (λ within. higher))
 
@@ -155,7 +155,7 @@ module _ {X : Type 0} (key : X → ℕ) where
   take_lows m [] rising = refl
   take_lows m (x ∷ xs) rising = cases m x
       (λ lower. let s = low_step m x xs lower in
-          rw s.0 (ap (λ ys. x ∷ ys) (take_lows m xs rising.1)))
+      rw s.0 (ap (λ ys. x ∷ ys) (take_lows m xs rising.1)))
       (λ here. let s = here_step m x xs here rising.0 in rw s.0 refl)
       (λ higher. let s = past_step m x xs higher rising.0 in rw s.0 refl)
 
@@ -163,7 +163,7 @@ module _ {X : Type 0} (key : X → ℕ) where
   drop_new m [] rising new = refl
   drop_new m (x ∷ xs) rising new = cases m x
       (λ lower. let s = low_step m x xs lower in
-          rw (s.0, s.1.0) (drop_new m xs rising.1 (sym s.1.1 ∙ new)))
+      rw (s.0, s.1.0) (drop_new m xs rising.1 (sym s.1.1 ∙ new)))
       (λ here. let s = here_step m x xs here rising.0 in absurd (true≢false (sym s.1.1 ∙ new)))
       (λ higher. let s = past_step m x xs higher rising.0 in rw (s.0, s.1.0) refl)
 
@@ -196,14 +196,15 @@ module _ {X : Type 0} (key : X → ℕ) where
   put_rises m [] y own rising = (tt, tt)
   put_rises m (x ∷ xs) y own rising = cases m x
       (λ lower. let s = low_step m x xs lower in
-          rw (s.0, s.1.0)
-          (above_join (key x) (lows m xs) y (highs m xs) (above_filter (key x) (λ z. nat_lt (key z) m) xs rising.0) (omega arith) (above_filter (key x) (λ z. nat_lt m (key z)) xs rising.0),
-          put_rises m xs y own rising.1))
+      rw (s.0, s.1.0) (
+        above_join (key x) (lows m xs) y (highs m xs) (above_filter (key x) (λ z. nat_lt (key z) m) xs rising.0) (omega arith) (above_filter (key x) (λ z. nat_lt m (key z)) xs rising.0),
+        put_rises m xs y own rising.1,
+      ))
       (λ here. let s = here_step m x xs here rising.0 in
-          rw (s.0, s.1.0) (above_lower (key y) (key x) xs (omega arith) rising.0, rising.1))
+      rw (s.0, s.1.0) (above_lower (key y) (key x) xs (omega arith) rising.0, rising.1))
       (λ higher. let s = past_step m x xs higher rising.0 in
-          let lower : key y < key x = omega arith in
-          rw (s.0, s.1.0) ((lower, above_lower (key y) (key x) xs (omega arith) rising.0), rising))
+      let lower : key y < key x = omega arith in
+      rw (s.0, s.1.0) ((lower, above_lower (key y) (key x) xs (omega arith) rising.0), rising))
 
   -- the key is there where its row is put
   pub put_known : (m : ℕ) (xs : List X) → Rises xs → is_among m xs ≡ true → (d : X) → lows m xs ++ get_or xs (length (lows m xs)) d ∷ highs m xs ≡ xs

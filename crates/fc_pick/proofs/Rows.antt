@@ -72,11 +72,12 @@ numbers_same m (row ∷ rows) rising there = by (get_or (row ∷ rows) (length (
   where
     rise : Rises number (row ∷ rows)
     rise = rises number (row ∷ rows) rising
+
     by : (z : WorkFlags) → get_or (row ∷ rows) (length (before m (row ∷ rows))) row ≡ z → with_number m (map number (row ∷ rows)) ≡ map number (row ∷ rows)
     by z is =
         let own : z.map.0 ≡ m = sym (ap number is) ∙ (at_known number m (row ∷ rows) rise there).1 row in
         let put : before m (row ∷ rows) ++ z ∷ behind m (row ∷ rows) ≡ row ∷ rows =
-            ap (λ y. before m (row ∷ rows) ++ y ∷ behind m (row ∷ rows)) (sym is) ∙ put_known number m (row ∷ rows) rise there row in
+        ap (λ y. before m (row ∷ rows) ++ y ∷ behind m (row ∷ rows)) (sym is) ∙ put_known number m (row ∷ rows) rise there row in
         let told : with_number z.map.0 (map number (row ∷ rows)) ≡ map number (with_row z (row ∷ rows)) = sym (numbers_with z (row ∷ rows)) in
         subst (λ n. with_number n (map number (row ∷ rows)) ≡ map number (before n (row ∷ rows) ++ z ∷ behind n (row ∷ rows))) own told
         ∙ ap (map number) put

@@ -12,6 +12,8 @@
 #![tactic(auto)]
 
 mod grid;
+#[cfg(test)]
+mod tests;
 mod work;
 
 pub use grid::Grid;

@@ -102,10 +102,10 @@ impl Work {
         ensures next { result ≡ next_work (λ row. row.copies) (G.least_lacking grid.now) self.now.flags }
         ensures by_id { IsRising self.now.flags }
     {
-        for row in self.rows.as_slice() {
-            if row.copies {
-                if let Some(grain) = grid.lacking(row.map) {
-                    return Some((row.map, grain));
+        for copier in self.rows.as_slice() {
+            if copier.copies {
+                if let Some(grain) = grid.lacking(copier.map) {
+                    return Some((copier.map, grain));
                 }
             }
         }
@@ -118,10 +118,10 @@ impl Work {
         ensures next { result ≡ next_work (λ row. row.cleans) (G.least_needed grid.now) self.now.flags }
         ensures by_id { IsRising self.now.flags }
     {
-        for row in self.rows.as_slice() {
-            if row.cleans {
-                if let Some(grain) = grid.needed(row.map) {
-                    return Some((row.map, grain));
+        for cleaner in self.rows.as_slice() {
+            if cleaner.cleans {
+                if let Some(grain) = grid.needed(cleaner.map) {
+                    return Some((cleaner.map, grain));
                 }
             }
         }

@@ -1,4 +1,5 @@
-use Rattle.std.proofs.Common.{sym, ◌∙◌}
+use Rattle.std.proofs.Common.{sym, ◌∙◌, length}
+use Rattle.fc_pick.proofs.Rising.{lt_false}
 use Rattle.fc_pick.proofs.Rows.{row_there, none_there}
 use Rattle.fc_pick.proofs.work.is_at.Goals as goal
 
@@ -7,4 +8,5 @@ returns-then-place-rows c =
     c.eq.ensures ∙ row_there c.args.map.0 c.args.rows.now c.requires.rising c.args.place c.requires.place _ c.if-place-rows.true
 
 pub returns-else-place-rows : goal.returns-else-place-rows
-returns-else-place-rows c = ?
+returns-else-place-rows c =
+    lt_false c.args.place (length c.args.rows.now) c.if-place-rows.false ∙ sym (none_there c.args.map.0 c.args.rows.now c.requires.rising c.args.place c.requires.place c.if-place-rows.false)
