@@ -7,6 +7,7 @@ use fc_base::ids::{GrainNo, MapId};
 use std::process::Abort;
 
 /// A grid on which one mapping alone lacks a grain and is needed at one.
+#[derive(Drop)]
 struct OneMapping {
     map: MapId,
     lacking: GrainNo,
