@@ -1,5 +1,5 @@
 -- The first row that passes a test.
-use Rattle.std.proofs.Common.{◌≡◌, ◌≢◌, ℕ, zero, suc, ◌+◌, ◌<◌, ◌≤◌, Bool, true, false, cond, List, [], ◌∷◌, length, get_or, filter, find, Option, Some, None, refl, ap, sym, subst, ◌∙◌, arith, true≢false, ◌&&◌, ◌||◌, is_some}
+use Rattle.std.proofs.Common.{◌≡◌, ℕ, zero, suc, ◌<◌, Bool, true, false, List, [], ◌∷◌, length, get_or, filter, find, Option, Some, None, refl, ap, sym, subst, ◌∙◌, arith, true≢false, ◌&&◌, ◌||◌, is_some}
 use Rattle.std.proofs.lemmas.List.Kept.{AllPairs-filter}
 use Rattle.fc_base.specs.declared.ids.MapId.{MapId}
 use Rattle.fc_base.specs.declared.ids.GrainNo.{GrainNo}

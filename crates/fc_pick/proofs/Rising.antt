@@ -1,8 +1,7 @@
 -- Lists whose keys rise: where a key stands, and what stands before it and behind it.
-use Rattle.std.proofs.Common.{◌≡◌, ◌≢◌, ℕ, zero, suc, ◌+◌, ◌<◌, ◌≤◌, Bool, true, false, not, ◌||◌, ◌&&◌, cond, List, [], ◌∷◌, ◌++◌, map, length, get_or, take, drop, set, filter, nat_eq, nat_lt, refl, ap, sym, subst, ◌∙◌, arith, AllPairs, All, true≢false, ⊎_elim}
+use Rattle.std.proofs.Common.{◌≡◌, ◌≢◌, ℕ, zero, suc, ◌<◌, ◌≤◌, Bool, true, false, List, [], ◌∷◌, ◌++◌, length, get_or, take, drop, set, filter, nat_eq, nat_lt, refl, ap, sym, ◌∙◌, arith, AllPairs, All, true≢false, ⊎_elim}
 use Rattle.std.specs.List.{list_any, insert}
-use Rattle.std.proofs.lemmas.List.{take-append-drop, map-append}
-use Rattle.std.proofs.lemmas.List.Elements.{filter-append}
+use Rattle.std.proofs.lemmas.List.{take-append-drop}
 use Rattle.std.proofs.lemmas.List.Kept.{AllPairs-cons}
 use Rattle.std.proofs.lemmas.List.Elements.{All-nil, All-cons}
 use Rattle.std.proofs.lemmas.Bool.Decides.{nat_tests}

@@ -1,5 +1,5 @@
 -- Rows in order of id: what a new row, a changed row and a row's going leave of the flags and of the numbers.
-use Rattle.std.proofs.Common.{◌≡◌, ℕ, ◌+◌, ◌<◌, Bool, true, false, not, cond, List, [], ◌∷◌, ◌++◌, map, length, filter, nat_eq, nat_lt, refl, ap, sym, ◌∙◌, ◌||◌, Result, Ok, Err, OnOk, OnErr, set, arith, ◌≤◌}
+use Rattle.std.proofs.Common.{◌≡◌, ℕ, ◌<◌, Bool, true, false, not, cond, List, [], ◌∷◌, ◌++◌, map, length, filter, nat_eq, nat_lt, refl, ap, sym, ◌∙◌, ◌||◌, Result, Ok, Err, OnOk, OnErr, set, arith, ◌≤◌}
 use Rattle.std.specs.List.{list_any, insert}
 use Rattle.std.proofs.lemmas.List.Sums.{length-filter, count_by-le-length}
 use Rattle.std.proofs.lemmas.Bool.Decides.{nat_tests}

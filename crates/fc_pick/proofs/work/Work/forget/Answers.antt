@@ -1,4 +1,4 @@
-use Rattle.std.proofs.Common.{◌≡◌, filter, not, nat_eq, rules}
+use Rattle.std.proofs.Common.{rules}
 use Rattle.std.proofs.lemmas.Fn.{filter_same}
 use Rattle.fc_pick.proofs.Rows.{forgotten_rising, forgotten_flags, forgotten_numbers}
 use Rattle.fc_pick.proofs.work.Work.forget.Goals as goal
