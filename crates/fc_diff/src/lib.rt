@@ -1,0 +1,4 @@
+//! Changed grains.
+#![tactic(auto)]
+
+mod tracked;
