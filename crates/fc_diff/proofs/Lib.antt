@@ -1,1 +1,5 @@
 pub mod Sets
+pub mod Places
+pub mod Naming
+pub mod Events
+pub mod Telling

@@ -8,7 +8,8 @@ use Rattle.fc_bits.specs.Grains.{has, difference}
 use Rattle.fc_bits.proofs.Grains.{length-difference}
 use Rattle.fc_diff.specs.Index.{IsRestart}
 use Rattle.fc_diff.specs.Changed.{grains_with, was_from}
-use Rattle.fc_diff.specs.Table.{Row, row_left}
+use Rattle.fc_diff.specs.Row.{Row}
+use Rattle.fc_diff.specs.Table.{row_left}
 
 pub restart_length : (changed kept restart : List Bool) → IsRestart changed kept restart → length restart ≡ length kept
 restart_length changed kept restart is = ap (λ xs. length xs) is.is ∙ length-difference kept changed (sym is.same_length)

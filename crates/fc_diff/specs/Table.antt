@@ -5,19 +5,10 @@ use Rattle.fc_bits.specs.Grains.{has, difference}
 use Rattle.fc_diff.specs.Changed.{Note, names, joins, was_from, is_own_cut, grains_with}
 use Rattle.fc_diff.specs.declared.tracked.Event.{Event}
 use Rattle.fc_diff.specs.declared.tracked.Event.TheVariants.{Began as OfTrigger, Wrote as OfWrite, Cut as OfCut, Left as OfLeaving}
+use Rattle.fc_diff.specs.Row.{Row}
 use Rattle.fc_diff.specs.Changed.Note.{Tracked, Forgotten, Began, Wrote, Cut, Left}
 
--- A mapping that is followed: its volumes; the source of the last trigger that joined them, once it has begun itself; the
--- grains that have changed since that trigger, and those that were kept as its mapping left copying. Until the mapping has
--- begun all grains are changed and none is kept.
-pub record Row : Type 0 where
-  pub map : ℕ
-  pub source : ℕ
-  pub target : ℕ
-  pub from : Option ℕ
-  pub changed : List Bool
-  pub kept : List Bool
-
+-- a mapping that is followed from here on
 abbrev pub new_row : (m source target grains : ℕ) → Row
 new_row m source target grains =
     record { map = m; source = source; target = target; from = None; changed = replicate grains true; kept = replicate grains false }
@@ -95,3 +86,8 @@ row_restart (Some row) = difference row.kept row.changed
 -- What a mapping that starts again needn't copy; no grains where it isn't followed.
 abbrev pub restart_in : ℕ → List Row → List Bool
 restart_in m rows = row_restart (find (is_of m) rows)
+
+-- the same, as a set of n grains
+abbrev pub restart_or_none : ℕ → Option Row → List Bool
+restart_or_none n None = replicate n false
+restart_or_none n (Some row) = difference row.kept row.changed

@@ -3,7 +3,7 @@
 ghost use Rattle.std.specs.Prelude.{◌≡◌, OnOk, IfOk, None, length, ◌==◌, true};
 ghost use Rattle.fc_bits.specs.Grains.{difference};
 ghost use Rattle.fc_diff.specs.Changed.{joins, names, was_from, is_own_cut};
-ghost use Rattle.fc_diff.specs.Table.{new_row, row_names, row_began, row_wrote, row_cut, row_left, row_after, all_changed, FitsRow};
+ghost use Rattle.fc_diff.specs.Table.{new_row, row_names, row_began, row_wrote, row_cut, row_left, row_after, all_changed, FitsRow, volume_of};
 
 use fc_base::outcome::NoMemory;
 use fc_bits::GrainSet;
@@ -41,7 +41,7 @@ pub(crate) struct Tracked {
 
 impl Model for Tracked {
     ghost use Rattle.std.specs.Prelude.{◌≡◌};
-    ghost use Rattle.fc_diff.specs.Table.{Row};
+    ghost use Rattle.fc_diff.specs.Row.{Row};
     ghost use Rattle.fc_diff.specs.Index.{IsRestart};
 
     ghost Value = { Row };
@@ -49,6 +49,20 @@ impl Model for Tracked {
     ghost view = { λ t. record { map = t.map; source = t.source; target = t.target; from = t.from; changed = t.changed; kept = t.kept } };
 
     ghost invariant = { λ t. IsRestart t.changed t.kept t.restart };
+}
+
+impl Event<'_> {
+    /// The volume that each mapping names to which the event means something.
+    pub(crate) fn volume(&self) -> u32
+        ensures { result ≡ volume_of self.now }
+    {
+        match self {
+            Event::Began { target, .. } => *target,
+            Event::Wrote { volume, .. } => *volume,
+            Event::Cut { volume, .. } => *volume,
+            Event::Left { target, .. } => *target,
+        }
+    }
 }
 
 impl Tracked {
@@ -75,9 +89,24 @@ impl Tracked {
         })
     }
 
+    /// Its source.
+    pub(crate) fn source(&self) -> u32
+        ensures { result ≡ self.now.source }
+    {
+        self.source
+    }
+
+    /// Its target.
+    pub(crate) fn target(&self) -> u32
+        ensures { result ≡ self.now.target }
+    {
+        self.target
+    }
+
     /// The grains with which the mapping would begin again.
     pub(crate) fn restart(&self) -> &GrainSet
-        ensures { result.now ≡ difference self.now.kept self.now.changed }
+        ensures grains { result.now ≡ difference self.now.kept self.now.changed }
+        ensures size { length result.now ≡ length self.now.kept }
     {
         &self.restart
     }
