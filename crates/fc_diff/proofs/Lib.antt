@@ -3,3 +3,4 @@ pub mod Places
 pub mod Naming
 pub mod Events
 pub mod Telling
+pub mod Found

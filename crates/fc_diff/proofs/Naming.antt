@@ -156,7 +156,7 @@ numbers-set (l ∷ lists) zero list = refl
 numbers-set (l ∷ lists) (suc p) list = ap (λ ls. l.items ∷ ls) (numbers-set lists p list)
 
 numbers-remove : {Z : Type 0} (lists : List (Vec ℕ Z)) (p : ℕ) → numbers (remove lists p) ≡ remove (numbers lists) p
-numbers-remove [] p = nothing p
+numbers-remove {Z = Z} [] p = nothing p
   where
     nothing : (q : ℕ) → numbers (remove {X = Vec ℕ Z} [] q) ≡ remove {X = List ℕ} [] q
     nothing zero = refl

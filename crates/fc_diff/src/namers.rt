@@ -1,6 +1,6 @@
 //! For each volume the mappings that name it, so that a note on a volume reaches them alone.
 
-ghost use Rattle.std.specs.Prelude.{◌≡◌, ◌≢◌, ℕ, ◌<◌, [], OnOk, true, length, position, nat_eq, None};
+ghost use Rattle.std.specs.Prelude.{◌≡◌, ◌≢◌, ℕ, ◌<◌, [], OnOk, IsTrue, true, length, position, nat_eq, None};
 ghost use Rattle.fc_diff.specs.Index.{is_listed, named_by};
 
 use fc_base::outcome::NoMemory;
@@ -88,8 +88,7 @@ impl Namers {
     {
         match self.volumes.get_index_of(&volume) {
             Some(place) => {
-                self.lists[place].retain(|number| *number != map);
-                if self.lists[place].is_empty() {
+                if take_number(&mut self.lists[place], map) {
                     let _ = self.volumes.shift_remove_index(place);
                     let _ = self.lists.remove(place);
                 }
@@ -111,4 +110,13 @@ fn add_number(list: &mut Vec<u32>, number: u32) -> Result<(), NoMemory>
         Ok(()) => Ok(()),
         Err(_) => Err(NoMemory),
     }
+}
+
+/// Takes the number out of the list, and answers whether none is left.
+fn take_number(list: &mut Vec<u32>, number: u32) -> bool
+    ensures empty { IsTrue result → list.new.items ≡ [] }
+    ensures kept { (m : ℕ) → m ≢ number → is_listed m list.old.items ≡ true → is_listed m list.new.items ≡ true }
+{
+    list.retain(|other| *other != number);
+    list.as_slice().is_empty()
 }
