@@ -9,7 +9,7 @@ use Rattle.std.proofs.lemmas.Bool.{true≢false}
 use Rattle.fc_diff.specs.declared.tracked.Event.{Event}
 use Rattle.fc_diff.specs.Row.{Row}
 use Rattle.fc_diff.specs.Index.{IsFound, Listing, named_by, is_listed, map_numbers}
-use Rattle.fc_diff.specs.Table.{row_after, row_names, is_of}
+use Rattle.fc_diff.specs.Table.{row_after, is_of, with_new_row}
 use Rattle.fc_diff.proofs.Places.{find-found, find-missed, all_fail, any_found}
 use Rattle.fc_diff.proofs.Events.{same_map, same_source, same_target}
 
@@ -140,15 +140,17 @@ found_told ids namers rows event old rows' e =
     numbers_told [] = refl
     numbers_told (r ∷ rs) = λ k. same_map event r k ∷ numbers_told rs k
 
--- all that name a volume are listed with it
-pub found_complete : (ids : List ℕ) (namers : Listing) (rows : List Row) → IsFound ids namers rows → (v : ℕ) (named : List ℕ) → named ≡ named_by namers v → All (λ row. row_names row v ≡ true → is_listed row.map named ≡ true) rows
-found_complete ids namers rows old v named e k d within names = by (nat_eq v (get_or rows k d).source) refl (nat_eq v (get_or rows k d).target) refl names
-  where
-    by : (a : Bool) → nat_eq v (get_or rows k d).source ≡ a → (b : Bool) → nat_eq v (get_or rows k d).target ≡ b → (a || b) ≡ true → is_listed (get_or rows k d).map named ≡ true
-    by true is b f g = ap (is_listed (get_or rows k d).map) (e ∙ ap (named_by namers) (equal v (get_or rows k d).source is)) ∙ old.by_source k d within
-    by false f true is g = ap (is_listed (get_or rows k d).map) (e ∙ ap (named_by namers) (equal v (get_or rows k d).target is)) ∙ old.by_target k d within
-    by false f false h g = cc
-
 -- rows that were lent as a slice
 pub put_back : (rows new : List Row) (n : ℕ) → n ≡ length rows → length new ≡ length rows → take n (new ++ drop (length new) rows) ≡ new
 put_back rows new n e f = take-append-le n new (drop (length new) rows) (omega arith) ∙ take_all n new (omega arith)
+
+-- ---- a new row
+pub new_with : (row : Row) (rows now : List Row) → rows ≡ now → position (is_of row.map) rows ≡ None → rows ++ row ∷ [] ≡ with_new_row row now
+new_with row rows now seen missed =
+    let new : list_any (is_of row.map) rows ≡ false = any_found (is_of row.map) rows (find-missed (is_of row.map) rows missed) in
+    subst (λ rs. rows ++ row ∷ [] ≡ with_new_row row rs) seen (rw new refl)
+
+pub old_with : (row : Row) (rows now : List Row) → rows ≡ now → list_any (is_of row.map) rows ≡ true → now ≡ with_new_row row now
+old_with row rows now seen there =
+    let here : list_any (is_of row.map) now ≡ true = ap (list_any (is_of row.map)) (sym seen) ∙ there in
+    rw here refl

@@ -159,3 +159,7 @@ told_all event before named now told complete =
         either : (b : Bool) → cond b (row_after event (get_or before k d)) (get_or before k d) ≡ row_after event (get_or before k d)
         either true = refl
         either false = sym (only_named event (get_or before k d) e)
+
+pub moved : (event : Event) (before : List Row) (named named' : List ℕ) (now now' : List Row) → named ≡ named' → now ≡ now' → IsTold event before named now → IsTold event before named' now'
+moved event before named named' now now' e f told =
+    subst (λ n. IsTold event before n now') e (subst (λ rows. IsTold event before named rows) f told)

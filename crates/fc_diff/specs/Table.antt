@@ -2,7 +2,7 @@
 use Rattle.std.specs.Prelude.{◌≡◌, ℕ, Bool, true, false, not, ◌&&◌, ◌||◌, ◌==◌, if◌then◌else◌, List, [], ◌∷◌, ◌++◌, map, filter, find, fold, replicate, length, slice_set, Option, Some, None, is_some}
 use Rattle.std.specs.List.{list_any}
 use Rattle.fc_bits.specs.Grains.{has, difference}
-use Rattle.fc_diff.specs.Changed.{Note, names, joins, was_from, is_own_cut, grains_with}
+use Rattle.fc_diff.specs.Changed.{Note, names, joins, was_from, is_own_cut, grains_with, has_begun, last_source, is_changed, is_kept}
 use Rattle.fc_diff.specs.declared.tracked.Event.{Event}
 use Rattle.fc_diff.specs.declared.tracked.Event.TheVariants.{Began as OfTrigger, Wrote as OfWrite, Cut as OfCut, Left as OfLeaving}
 use Rattle.fc_diff.specs.Row.{Row}
@@ -91,3 +91,25 @@ restart_in m rows = row_restart (find (is_of m) rows)
 abbrev pub restart_or_none : ℕ → Option Row → List Bool
 restart_or_none n None = replicate n false
 restart_or_none n (Some row) = difference row.kept row.changed
+
+-- ---- the table and the notes
+
+-- the table after all these notes
+abbrev pub table_of : List Note → List Row
+table_of notes = fold after_note [] notes
+
+-- what the notes say of a mapping's row: from the one on from which it is followed, if it is
+abbrev pub row_of : (m a b grains : ℕ) → List Note → Row
+row_of m a b grains notes =
+    record {
+      map = m;
+      source = a;
+      target = b;
+      from = if has_begun m a b notes then last_source a b notes else None;
+      changed = grains_with (is_changed m a b notes) grains;
+      kept = grains_with (is_kept m a b notes) grains;
+    }
+
+abbrev pub row_told : List Note → Option Row
+row_told (Tracked m a b grains ∷ notes) = Some (row_of m a b grains notes)
+row_told notes = None
