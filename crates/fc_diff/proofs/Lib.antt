@@ -5,3 +5,4 @@ pub mod Events
 pub mod Telling
 pub mod Found
 pub mod Ends
+pub mod Law
