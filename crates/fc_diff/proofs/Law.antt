@@ -231,3 +231,209 @@ row_push_began m a b n notes p source target = joined (joins a b source target) 
         named : (c : Bool) → names a b target ≡ c → row_of m a b n (notes ++ Began p source target ∷ []) ≡ cond c (all_changed (row_of m a b n notes)) (row_of m a b n notes)
         named true f = row_full m a b n notes (Began p source target) e (λ g k. f k && not (e k)) refl
         named false f = row_same m a b n notes (Began p source target) e (λ g. ap (λ z. z && not (joins a b source target)) f) refl
+
+row_push : (m a b n : ℕ) (notes : List Note) (note : Note) → row_of m a b n (notes ++ note ∷ []) ≡ row_note note (row_of m a b n notes)
+row_push m a b n notes (Tracked p s t k) = row_push_tracked m a b n notes p s t k
+row_push m a b n notes (Forgotten p) = row_push_forgotten m a b n notes p
+row_push m a b n notes (Began p s t) = row_push_began m a b n notes p s t
+row_push m a b n notes (Wrote v g) = row_push_wrote m a b n notes v g
+row_push m a b n notes (Cut v s) = row_push_cut m a b n notes v s
+row_push m a b n notes (Left s t held) = row_push_left m a b n notes s t held
+
+-- ---- the row of one mapping, if it is followed
+
+abbrev pub row_step : ℕ → Note → Option Row → Option Row
+row_step m (Tracked p s t k) None = cond (nat_eq m p) (Some (new_row p s t k)) None
+row_step m (Tracked p s t k) (Some row) = Some row
+row_step m (Forgotten p) row = cond (nat_eq m p) None row
+row_step m (Began p s t) row = option_map (row_began p s t) row
+row_step m (Wrote v g) row = option_map (row_wrote v g) row
+row_step m (Cut v s) row = option_map (row_cut v s) row
+row_step m (Left s t held) row = option_map (row_left s t held) row
+
+new_told : (p s t k : ℕ) → row_of p s t k [] ≡ new_row p s t k
+new_told p s t k = same_row p s t k _ _ _ _ _ _ refl (grains_all k k (is_changed p s t []) true refl (λ g. refl)) (grains_all k k (is_kept p s t []) false refl (λ g. refl))
+
+told_first : (m : ℕ) (note : Note) → row_told (cond (forgets m note) [] (longer_story m note [])) ≡ row_step m note None
+told_first m (Tracked p s t k) = by (nat_eq m p)
+  where
+    by : (c : Bool) → row_told (cond c (Tracked p s t k ∷ []) []) ≡ cond c (Some (new_row p s t k)) None
+    by true = ap Some (new_told p s t k)
+    by false = refl
+told_first m (Forgotten p) = by (nat_eq m p)
+  where
+    by : (c : Bool) → row_told (cond c [] []) ≡ cond c None None
+    by true = refl
+    by false = refl
+told_first m (Began p s t) = refl
+told_first m (Wrote v g) = refl
+told_first m (Cut v s) = refl
+told_first m (Left s t held) = refl
+
+told_later : (m p a b n : ℕ) (notes : List Note) (note : Note) → row_told (cond (forgets m note) [] (longer_story m note (Tracked p a b n ∷ notes))) ≡ row_step m note (row_told (Tracked p a b n ∷ notes))
+told_later m p a b n notes (Tracked q s t k) = ap Some (row_push p a b n notes (Tracked q s t k))
+told_later m p a b n notes (Forgotten q) = by (nat_eq m q)
+  where
+    by : (c : Bool) → row_told (cond c [] (Tracked p a b n ∷ (notes ++ Forgotten q ∷ []))) ≡ cond c None (Some (row_of p a b n notes))
+    by true = refl
+    by false = ap Some (row_push p a b n notes (Forgotten q))
+told_later m p a b n notes (Began q s t) = ap Some (row_push p a b n notes (Began q s t))
+told_later m p a b n notes (Wrote v g) = ap Some (row_push p a b n notes (Wrote v g))
+told_later m p a b n notes (Cut v s) = ap Some (row_push p a b n notes (Cut v s))
+told_later m p a b n notes (Left s t held) = ap Some (row_push p a b n notes (Left s t held))
+
+told_push : (m : ℕ) (note : Note) (tale : List Note) → IsStory m tale → row_told (cond (forgets m note) [] (longer_story m note tale)) ≡ row_step m note (row_told tale)
+told_push m note [] shape = told_first m note
+told_push m note (Tracked p a b n ∷ notes) shape = told_later m p a b n notes note
+told_push m note (Forgotten p ∷ notes) shape = absurd (true≢false (sym shape))
+told_push m note (Began p s t ∷ notes) shape = absurd (true≢false (sym shape))
+told_push m note (Wrote v g ∷ notes) shape = absurd (true≢false (sym shape))
+told_push m note (Cut v s ∷ notes) shape = absurd (true≢false (sym shape))
+told_push m note (Left s t held ∷ notes) shape = absurd (true≢false (sym shape))
+
+-- ---- the row that is found in the table
+
+-- a change that keeps each row's mapping
+find_map : (m : ℕ) (f : Row → Row) → ((row : Row) → (f row).map ≡ row.map) → (rows : List Row) → find (is_of m) (map f rows) ≡ option_map f (find (is_of m) rows)
+find_map m f same [] = refl
+find_map m f same (row ∷ rows) = ap (λ k. cond (nat_eq m k) (Some (f row)) (find (is_of m) (map f rows))) (same row) ∙ by (is_of m row) (find_map m f same rows)
+  where
+    by : (c : Bool) → find (is_of m) (map f rows) ≡ option_map f (find (is_of m) rows) → cond c (Some (f row)) (find (is_of m) (map f rows)) ≡ option_map f (cond c (Some row) (find (is_of m) rows))
+    by true rest = refl
+    by false rest = rest
+
+began_map : (p s t : ℕ) (row : Row) → (row_began p s t row).map ≡ row.map
+began_map p s t row = by (joins row.source row.target s t && (is_some row.from || nat_eq row.map p)) (row_names row t)
+  where
+    by : (c d : Bool) → (cond c (record row { from = Some s; changed = replicate (length row.changed) false; kept = replicate (length row.kept) true }) (cond d (all_changed row) row)).map ≡ row.map
+    by true d = refl
+    by false true = refl
+    by false false = refl
+
+wrote_map : (v g : ℕ) (row : Row) → (row_wrote v g row).map ≡ row.map
+wrote_map v g row = by (row_names row v)
+  where
+    by : (c : Bool) → (cond c (record row { changed = set row.changed g true }) row).map ≡ row.map
+    by true = refl
+    by false = refl
+
+cut_map : (v : ℕ) (s : Option ℕ) (row : Row) → (row_cut v s row).map ≡ row.map
+cut_map v s row = by (row_names row v && not (is_own_cut row.source row.target row.from v s))
+  where
+    by : (c : Bool) → (cond c (all_changed row) row).map ≡ row.map
+    by true = refl
+    by false = refl
+
+left_map : (s t : ℕ) (held : List Bool) (row : Row) → (row_left s t held row).map ≡ row.map
+left_map s t held row = by (was_from row.source row.target row.from s t)
+  where
+    by : (c : Bool) → (cond c (record row { kept = grains_with (has held) (length row.kept) }) row).map ≡ row.map
+    by true = refl
+    by false = refl
+
+equal : (x y : ℕ) → nat_eq x y ≡ true → x ≡ y
+equal x y e = grind (arith, nat_tests)
+
+-- a mapping that is followed no more
+find_without : (m p : ℕ) (rows : List Row) → find (is_of m) (filter (λ row. not (is_of p row)) rows) ≡ cond (nat_eq m p) None (find (is_of m) rows)
+find_without m p [] = by (nat_eq m p)
+  where
+    by : (c : Bool) → None ≡ cond {A = Option Row} c None None
+    by true = refl
+    by false = refl
+find_without m p (row ∷ rows) = by (nat_eq p row.map) refl (nat_eq m row.map) refl (nat_eq m p) refl (find_without m p rows)
+  where
+    by : (x : Bool) → nat_eq p row.map ≡ x → (y : Bool) → nat_eq m row.map ≡ y → (z : Bool) → nat_eq m p ≡ z
+        → find (is_of m) (filter (λ r. not (is_of p r)) rows) ≡ cond (nat_eq m p) None (find (is_of m) rows)
+        → find (is_of m) (filter (λ r. not (is_of p r)) (row ∷ rows)) ≡ cond (nat_eq m p) None (find (is_of m) (row ∷ rows))
+    by true e true f true g rest = rw (e, f, g) (rw g at rest)
+    by true e true f false g rest = absurd (true≢false (sym (same_eq m p (equal m row.map f ∙ sym (equal p row.map e))) ∙ g))
+      where
+        same_eq : (u v : ℕ) → u ≡ v → nat_eq u v ≡ true
+        same_eq u v h = grind (arith, nat_tests)
+    by true e false f z g rest = rw (e, f) rest
+    by false e true f true g rest = absurd (true≢false (sym f ∙ (ap (λ u. nat_eq u row.map) (equal m p g) ∙ e)))
+    by false e true f false g rest = rw (e, f, g) refl
+    by false e false f z g rest = rw (e, f) rest
+
+-- a mapping that is followed from here on
+find_push : (m : ℕ) (rows : List Row) (row : Row) → find (is_of m) (rows ++ row ∷ []) ≡ cond (is_some (find (is_of m) rows)) (find (is_of m) rows) (cond (is_of m row) (Some row) None)
+find_push m [] row = refl
+find_push m (r ∷ rows) row = by (is_of m r) (find_push m rows row)
+  where
+    by : (c : Bool) → find (is_of m) (rows ++ row ∷ []) ≡ cond (is_some (find (is_of m) rows)) (find (is_of m) rows) (cond (is_of m row) (Some row) None)
+        → cond c (Some r) (find (is_of m) (rows ++ row ∷ [])) ≡ cond (is_some (cond c (Some r) (find (is_of m) rows))) (cond c (Some r) (find (is_of m) rows)) (cond (is_of m row) (Some row) None)
+    by true rest = refl
+    by false rest = rest
+
+any_is : (m : ℕ) (rows : List Row) → list_any (is_of m) rows ≡ is_some (find (is_of m) rows)
+any_is m [] = refl
+any_is m (row ∷ rows) = by (is_of m row) (any_is m rows)
+  where
+    by : (c : Bool) → list_any (is_of m) rows ≡ is_some (find (is_of m) rows) → (c || list_any (is_of m) rows) ≡ is_some (cond c (Some row) (find (is_of m) rows))
+    by true rest = refl
+    by false rest = rest
+
+find_with : (m p s t k : ℕ) (rows : List Row) → find (is_of m) (with_new_row (new_row p s t k) rows) ≡ row_step m (Tracked p s t k) (find (is_of m) rows)
+find_with m p s t k rows = by (list_any (is_of p) rows) refl (find (is_of m) rows) refl
+  where
+    new : Row
+    new = new_row p s t k
+    step : (o : Option Row) → cond (is_some o) o (cond (nat_eq m p) (Some (new_row p s t k)) None) ≡ row_step m (Tracked p s t k) o
+    step None = refl
+    step (Some r) = refl
+    there : (c : Bool) → nat_eq m p ≡ c → list_any (is_of p) rows ≡ true → find (is_of m) rows ≡ None → None ≡ cond (nat_eq m p) (Some (new_row p s t k)) None
+    there true e any none = absurd (true≢false (sym any ∙ (any_is p rows ∙ (ap (λ u. is_some (find (is_of u) rows)) (sym (equal m p e)) ∙ ap is_some none))))
+    there false e any none = ap (λ z. cond z (Some (new_row p s t k)) None) (sym e)
+    by : (c : Bool) → list_any (is_of p) rows ≡ c → (o : Option Row) → find (is_of m) rows ≡ o → find (is_of m) (with_new_row (new_row p s t k) rows) ≡ row_step m (Tracked p s t k) (find (is_of m) rows)
+    by true any None e = ap (λ z. find (is_of m) (cond z rows (rows ++ new_row p s t k ∷ []))) any ∙ (e ∙ (there (nat_eq m p) refl any e ∙ ap (row_step m (Tracked p s t k)) (sym e)))
+    by true any (Some r) e = ap (λ z. find (is_of m) (cond z rows (rows ++ new_row p s t k ∷ []))) any ∙ (e ∙ ap (row_step m (Tracked p s t k)) (sym e))
+    by false any o e = ap (λ z. find (is_of m) (cond z rows (rows ++ new_row p s t k ∷ []))) any ∙ (find_push m rows (new_row p s t k) ∙ step (find (is_of m) rows))
+
+pub find_step : (m : ℕ) (note : Note) (rows : List Row) → find (is_of m) (after_note rows note) ≡ row_step m note (find (is_of m) rows)
+find_step m (Tracked p s t k) rows = find_with m p s t k rows
+find_step m (Forgotten p) rows = find_without m p rows
+find_step m (Began p s t) rows = find_map m (row_began p s t) (began_map p s t) rows
+find_step m (Wrote v g) rows = find_map m (row_wrote v g) (wrote_map v g) rows
+find_step m (Cut v s) rows = find_map m (row_cut v s) (cut_map v s) rows
+find_step m (Left s t held) rows = find_map m (row_left s t held) (left_map s t held) rows
+
+-- ---- the table and the notes
+
+-- A table that says of each mapping what these notes say still does so after one note more.
+pub table_push : (notes : List Note) (rows : List Row) (note : Note) → ((m : ℕ) → find (is_of m) rows ≡ row_told (story m notes)) → (m : ℕ) → find (is_of m) (after_note rows note) ≡ row_told (story m (notes ++ note ∷ []))
+table_push notes rows note so_far m =
+    find_step m note rows
+    ∙ (ap (row_step m note) (so_far m)
+    ∙ (sym (told_push m note (story m notes) (story_shape m notes)) ∙ ap row_told (sym (story_push m notes note))))
+
+table_from : (done todo : List Note) (rows : List Row) → ((m : ℕ) → find (is_of m) rows ≡ row_told (story m done)) → (m : ℕ) → find (is_of m) (fold after_note rows todo) ≡ row_told (story m (done ++ todo))
+table_from done [] rows so_far m = so_far m ∙ ap (λ notes. row_told (story m notes)) (sym (append-nil done))
+table_from done (note ∷ todo) rows so_far m =
+    table_from (done ++ note ∷ []) todo (after_note rows note) (table_push done rows note so_far) m
+    ∙ ap (λ notes. row_told (story m notes)) (append_assoc done (note ∷ []) todo)
+
+-- The table has of each mapping the row that the notes say, and none exactly where it isn't followed.
+pub table_is : (notes : List Note) (m : ℕ) → find (is_of m) (table_of notes) ≡ row_told (story m notes)
+table_is notes m = table_from [] notes [] (λ k. refl) m
+
+difference_is : (p q : ℕ → Bool) (places : List ℕ) → difference (map p places) (map q places) ≡ map (λ g. p g && not (q g)) places
+difference_is p q [] = refl
+difference_is p q (g ∷ places) = ap (λ bs. (p g && not (q g)) ∷ bs) (difference_is p q places)
+
+restart_of_told : (tale : List Note) → row_restart (row_told tale) ≡ restart_told tale
+restart_of_told [] = refl
+restart_of_told (Tracked m a b n ∷ notes) = difference_is (is_kept m a b notes) (is_changed m a b notes) (range_with_len 0 n)
+restart_of_told (Forgotten p ∷ notes) = refl
+restart_of_told (Began p s t ∷ notes) = refl
+restart_of_told (Wrote v g ∷ notes) = refl
+restart_of_told (Cut v s ∷ notes) = refl
+restart_of_told (Left s t held ∷ notes) = refl
+
+-- The restart set that the table gives is the one of the definition.
+pub restart_is : (notes : List Note) (m : ℕ) → restart_in m (table_of notes) ≡ restart_set m notes
+restart_is notes m = ap row_restart (table_is notes m) ∙ restart_of_told (story m notes)
+
+-- The same of any table that says of each mapping what the notes say.
+pub restart_so_far : (notes : List Note) (rows : List Row) (m : ℕ) → find (is_of m) rows ≡ row_told (story m notes) → restart_in m rows ≡ restart_set m notes
+restart_so_far notes rows m so_far = ap row_restart so_far ∙ restart_of_told (story m notes)
