@@ -36,6 +36,7 @@ behind_push_no p (n ∷ notes) note e there = by (list_any p notes) refl (p n) r
   where
     same : list_any p (notes ++ note ∷ []) ≡ list_any p notes
     same = any_push p notes note ∙ (ap (λ b. list_any p notes || b) e ∙ or_false (list_any p notes))
+
     by : (b : Bool) → list_any p notes ≡ b → (c : Bool) → p n ≡ c → (c || list_any p notes) ≡ true → (list_any p notes ≡ true → behind_last p (notes ++ note ∷ []) ≡ behind_last p notes ++ note ∷ []) → behind_last p (n ∷ notes ++ note ∷ []) ≡ behind_last p (n ∷ notes) ++ note ∷ []
     by true some c g h rest = rw (same, some) (rest some)
     by false none true g h rest = rw (same, none, g) refl
@@ -65,6 +66,7 @@ story_push m (n ∷ notes) note = by (forgets m note) refl (list_any (forgets m)
   where
     any : list_any (forgets m) (notes ++ note ∷ []) ≡ (list_any (forgets m) notes || forgets m note)
     any = any_push (forgets m) notes note
+
     by : (a : Bool) → forgets m note ≡ a → (b : Bool) → list_any (forgets m) notes ≡ b → (c : Bool) → follows m n ≡ c
         → story m (notes ++ note ∷ []) ≡ cond (forgets m note) [] (longer_story m note (story m notes))
         → story m (n ∷ notes ++ note ∷ []) ≡ cond (forgets m note) [] (longer_story m note (story m (n ∷ notes)))
@@ -161,7 +163,7 @@ pub grains_all : (n k : ℕ) (p : ℕ → Bool) (b : Bool) → n ≡ k → ((g :
 grains_all n k p b e all =
     same_lists (grains_with p n) (replicate k b) (length-grains_with p n ∙ (e ∙ sym (length-replicate k b)))
     (λ g d within. let below : g < n = rw (sym (length-grains_with p n)) within in
-        get_or-grains_with p n g d below ∙ (all g ∙ sym (get_or-replicate k g b d (rw (sym e) below))))
+    get_or-grains_with p n g d below ∙ (all g ∙ sym (get_or-replicate k g b d (rw (sym e) below))))
 
 eq_here : (g h : ℕ) → nat_eq g h ≡ true → g ≡ h
 eq_here g h e = grind (arith, nat_tests)
@@ -174,7 +176,7 @@ grains_set n h p =
     same_lists (grains_with (λ g. p g || nat_eq g h) n) (set (grains_with p n) h true)
     (length-grains_with (λ g. p g || nat_eq g h) n ∙ (sym (length-grains_with p n) ∙ sym (length-set (grains_with p n) h true)))
     (λ g d within. let below : g < n = rw (sym (length-grains_with (λ j. p j || nat_eq j h) n)) within in
-        get_or-grains_with (λ j. p j || nat_eq j h) n g d below ∙ by g d below (nat_eq g h) refl)
+    get_or-grains_with (λ j. p j || nat_eq j h) n g d below ∙ by g d below (nat_eq g h) refl)
   where
     by : (g : ℕ) (d : Bool) → g < n → (b : Bool) → nat_eq g h ≡ b → (p g || nat_eq g h) ≡ get_or (set (grains_with p n) h true) g d
     by g d below true e =

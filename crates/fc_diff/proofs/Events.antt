@@ -68,7 +68,7 @@ only_named (OfWrite volume grain) row unnamed = rw unnamed refl
 only_named (OfCut volume source) row unnamed = rw unnamed refl
 only_named (OfLeaving source target held) row unnamed =
     let fails : was_from row.source row.target row.from source target ≡ false =
-        and_false (is_source row.from source) (joins row.source row.target source target) (not_joined row.source row.target source target unnamed) in
+    and_false (is_source row.from source) (joins row.source row.target source target) (not_joined row.source row.target source target unnamed) in
     rw fails refl
 
 -- ---- told twice

@@ -63,7 +63,7 @@ filter_at m (row ∷ rows) zero d within here distinct =
     (λ k e inside. ap not (eq_false m (get_or rows k e).map (λ same. distinct 0 (suc k) e (omega arith) (omega arith) (sym (equal m row.map here) ∙ sym same)))))
 filter_at m (row ∷ rows) (suc place) d within here distinct =
     let fails : nat_eq m row.map ≡ false =
-        eq_false m row.map (λ same. distinct 0 (suc place) d (omega arith) (omega arith) (same ∙ equal m (get_or rows place d).map here)) in
+    eq_false m row.map (λ same. distinct 0 (suc place) d (omega arith) (omega arith) (same ∙ equal m (get_or rows place d).map here)) in
     rw fails
     (ap (λ rs. row ∷ rs) (filter_at m rows place d (omega arith) here (λ i j e less inside. distinct (suc i) (suc j) e (omega arith) (omega arith))))
 
@@ -104,16 +104,18 @@ found_remove ids namers namers' rows m place row old found kept ids' rows' e f =
       distinct = all_pairs_remove (λ x y. x.map ≢ y.map) rows place (position-Some (is_of m) rows place row found).0 old.distinct;
       by_source = subst (All (λ r. is_listed r.map (named_by namers' r.source) ≡ true)) gone
           (λ k d within. kept (get_or (filter others rows) k d).source (get_or (filter others rows) k d).map (other k d within)
-              (All-filter others (λ r. is_listed r.map (named_by namers r.source) ≡ true) rows old.by_source k d within));
+          (All-filter others (λ r. is_listed r.map (named_by namers r.source) ≡ true) rows old.by_source k d within));
       by_target = subst (All (λ r. is_listed r.map (named_by namers' r.target) ≡ true)) gone
           (λ k d within. kept (get_or (filter others rows) k d).target (get_or (filter others rows) k d).map (other k d within)
-              (All-filter others (λ r. is_listed r.map (named_by namers r.target) ≡ true) rows old.by_target k d within));
+          (All-filter others (λ r. is_listed r.map (named_by namers r.target) ≡ true) rows old.by_target k d within));
     })
   where
     others : Row → Bool
     others r = not (is_of m r)
+
     gone : filter (λ r. not (is_of m r)) rows ≡ remove rows place
     gone = filter_found m rows place row found old.distinct
+
     other : (k : ℕ) (d : Row) → k < length (filter (λ r. not (is_of m r)) rows) → (get_or (filter (λ r. not (is_of m r)) rows) k d).map ≢ m
     other k d within = unequal m (get_or (filter (λ r. not (is_of m r)) rows) k d).map (not_true (is_of m (get_or (filter (λ r. not (is_of m r)) rows) k d)) (filter_passes (λ r. not (is_of m r)) rows k d within))
 
@@ -124,16 +126,16 @@ found_told ids namers rows event old rows' e =
       distinct = λ i j d less within same.
           let here : j < length rows = rw length-map at within in
           let one : (get_or (map (row_after event) rows) i d).map ≡ (get_or rows i d).map =
-              ap (λ r. r.map) (get_or-map (row_after event) rows i d d (omega arith)) ∙ same_map event (get_or rows i d) in
+          ap (λ r. r.map) (get_or-map (row_after event) rows i d d (omega arith)) ∙ same_map event (get_or rows i d) in
           let two : (get_or (map (row_after event) rows) j d).map ≡ (get_or rows j d).map =
-              ap (λ r. r.map) (get_or-map (row_after event) rows j d d here) ∙ same_map event (get_or rows j d) in
+          ap (λ r. r.map) (get_or-map (row_after event) rows j d d here) ∙ same_map event (get_or rows j d) in
           old.distinct i j d less here (sym one ∙ (same ∙ two));
       by_source = All-map (λ r. is_listed r.map (named_by namers r.source) ≡ true) (row_after event) rows
           (All-weaker (λ r. is_listed r.map (named_by namers r.source) ≡ true) (λ r. is_listed (row_after event r).map (named_by namers (row_after event r).source) ≡ true)
-              (λ r there. (λ k. is_listed (same_map event r k) (named_by namers (same_source event r k))) ∙ there) rows old.by_source);
+          (λ r there. (λ k. is_listed (same_map event r k) (named_by namers (same_source event r k))) ∙ there) rows old.by_source);
       by_target = All-map (λ r. is_listed r.map (named_by namers r.target) ≡ true) (row_after event) rows
           (All-weaker (λ r. is_listed r.map (named_by namers r.target) ≡ true) (λ r. is_listed (row_after event r).map (named_by namers (row_after event r).target) ≡ true)
-              (λ r there. (λ k. is_listed (same_map event r k) (named_by namers (same_target event r k))) ∙ there) rows old.by_target);
+          (λ r there. (λ k. is_listed (same_map event r k) (named_by namers (same_target event r k))) ∙ there) rows old.by_target);
     })
   where
     numbers_told : (rs : List Row) → map_numbers (map (row_after event) rs) ≡ map_numbers rs

@@ -73,6 +73,7 @@ module _ (m a b : ℕ) (notes : List Note) (note : Note) (apart : joins_them a b
       choose : (c : Bool) → held_in (cond c (Some note) (last (leaves a b (last_source a b notes)) (since a b notes))) g ≡ cond c (held_in (Some note) g) (held_in (last (leaves a b (last_source a b notes)) (since a b notes)) g)
       choose true = refl
       choose false = refl
+
       by : (c : Bool) → has_begun m a b notes ≡ c → is_kept m a b (notes ++ note ∷ []) g ≡ cond (has_begun m a b notes && leaves a b (last_source a b notes) note) (held_in (Some note) g) (is_kept m a b notes g)
       by true e =
           (λ k. begun_same k && held_in (last (leaves a b (source_same k)) (since_more e k)) g)
@@ -117,7 +118,7 @@ row_push_wrote m a b n notes volume grain = by (names a b volume) refl
     by : (c : Bool) → names a b volume ≡ c → row_of m a b n (notes ++ Wrote volume grain ∷ []) ≡ row_wrote volume grain (row_of m a b n notes)
     by true e = rw e (same_row m a b n _ _ _ _ _ _ (from_same m a b notes (Wrote volume grain) refl)
         (grains_same n (is_changed m a b (notes ++ Wrote volume grain ∷ [])) (λ g. is_changed m a b notes g || nat_eq g grain)
-            (λ g. changed_more m a b notes (Wrote volume grain) refl g ∙ ap (λ z. is_changed m a b notes g || (z && nat_eq g grain)) e)
+        (λ g. changed_more m a b notes (Wrote volume grain) refl g ∙ ap (λ z. is_changed m a b notes g || (z && nat_eq g grain)) e)
         ∙ grains_set n grain (is_changed m a b notes))
         (kept_set m a b n notes (Wrote volume grain) refl refl))
     by false e = rw e (row_same m a b n notes (Wrote volume grain) refl (λ g. ap (λ z. z && nat_eq g grain) e) refl)
@@ -126,15 +127,15 @@ row_push_wrote m a b n notes volume grain = by (names a b volume) refl
 unbegun_full : (m a b n : ℕ) (notes : List Note) → has_begun m a b notes ≡ false → row_of m a b n notes ≡ all_changed (row_of m a b n notes)
 unbegun_full m a b n notes e = same_row m a b n _ _ _ _ _ _ refl
     (grains_all n (length (grains_with (is_changed m a b notes) n)) (is_changed m a b notes) true (sym (length-grains_with (is_changed m a b notes) n))
-        (λ g. ap (λ z. not z || list_any (changes a b (last_source a b notes) g) (since a b notes)) e)) refl
+    (λ g. ap (λ z. not z || list_any (changes a b (last_source a b notes) g) (since a b notes)) e)) refl
 
 unbegun_kept : (m a b n : ℕ) (notes : List Note) (note : Note) → joins_them a b note ≡ false → has_begun m a b notes ≡ false → row_of m a b n (notes ++ note ∷ []) ≡ row_of m a b n notes
 unbegun_kept m a b n notes note apart e = same_row m a b n _ _ _ _ _ _ (from_same m a b notes note apart)
     (grains_same n (is_changed m a b (notes ++ note ∷ [])) (is_changed m a b notes)
-        (λ g. changed_more m a b notes note apart g ∙ (ap (λ z. (not z || list_any (changes a b (last_source a b notes) g) (since a b notes)) || changes a b (last_source a b notes) g note) e
-            ∙ ap (λ z. not z || list_any (changes a b (last_source a b notes) g) (since a b notes)) (sym e))))
+    (λ g. changed_more m a b notes note apart g ∙ (ap (λ z. (not z || list_any (changes a b (last_source a b notes) g) (since a b notes)) || changes a b (last_source a b notes) g note) e
+    ∙ ap (λ z. not z || list_any (changes a b (last_source a b notes) g) (since a b notes)) (sym e))))
     (grains_same n (is_kept m a b (notes ++ note ∷ [])) (is_kept m a b notes)
-        (λ g. kept_more m a b notes note apart g ∙ ap (λ z. cond (z && leaves a b (last_source a b notes) note) (held_in (Some note) g) (is_kept m a b notes g)) e))
+    (λ g. kept_more m a b notes note apart g ∙ ap (λ z. cond (z && leaves a b (last_source a b notes) note) (held_in (Some note) g) (is_kept m a b notes g)) e))
 
 row_push_cut : (m a b n : ℕ) (notes : List Note) (volume : ℕ) (source : Option ℕ) → row_of m a b n (notes ++ Cut volume source ∷ []) ≡ row_cut volume source (row_of m a b n notes)
 row_push_cut m a b n notes volume source = begun (has_begun m a b notes) refl
@@ -142,9 +143,11 @@ row_push_cut m a b n notes volume source = begun (has_begun m a b notes) refl
     chosen : (c : Bool) (row : Row) → row ≡ all_changed row → row ≡ cond c (all_changed row) row
     chosen true row e = e
     chosen false row e = refl
+
     by : has_begun m a b notes ≡ true → (c : Bool) → (names a b volume && not (is_own_cut a b (last_source a b notes) volume source)) ≡ c → row_of m a b n (notes ++ Cut volume source ∷ []) ≡ cond c (all_changed (row_of m a b n notes)) (row_of m a b n notes)
     by e true f = row_full m a b n notes (Cut volume source) refl (λ g. f) refl
     by e false f = row_same m a b n notes (Cut volume source) refl (λ g. f) refl
+
     begun : (c : Bool) → has_begun m a b notes ≡ c → row_of m a b n (notes ++ Cut volume source ∷ []) ≡ row_cut volume source (row_of m a b n notes)
     begun true e =
         by e (names a b volume && not (is_own_cut a b (last_source a b notes) volume source)) refl
@@ -159,9 +162,10 @@ row_push_left m a b n notes source target held = begun (has_begun m a b notes) r
     by : has_begun m a b notes ≡ true → (c : Bool) → was_from a b (last_source a b notes) source target ≡ c → row_of m a b n (notes ++ Left source target held ∷ []) ≡ cond c (record (row_of m a b n notes) { kept = grains_with (has held) (length (grains_with (is_kept m a b notes) n)) }) (row_of m a b n notes)
     by e true f = same_row m a b n _ _ _ _ _ _ (from_same m a b notes (Left source target held) refl) (changed_set m a b n notes (Left source target held) refl (λ g. refl))
         (grains_same n (is_kept m a b (notes ++ Left source target held ∷ [])) (has held)
-            (λ g. kept_more m a b notes (Left source target held) refl g ∙ (λ k. cond (e k && f k) (has held g) (is_kept m a b notes g)))
+        (λ g. kept_more m a b notes (Left source target held) refl g ∙ (λ k. cond (e k && f k) (has held g) (is_kept m a b notes g)))
         ∙ ap (grains_with (has held)) (sym (length-grains_with (is_kept m a b notes) n)))
     by e false f = row_same m a b n notes (Left source target held) refl (λ g. refl) f
+
     begun : (c : Bool) → has_begun m a b notes ≡ c → row_of m a b n (notes ++ Left source target held ∷ []) ≡ row_left source target held (row_of m a b n notes)
     begun true e =
         by e (was_from a b (last_source a b notes) source target) refl
@@ -188,44 +192,49 @@ row_push_began m a b n notes p source target = joined (joins a b source target) 
     -- whether it has begun by this trigger
     begun_now : joins a b source target ≡ true → has_begun m a b (notes ++ Began p source target ∷ []) ≡ (has_begun m a b notes || nat_eq m p)
     begun_now e = any_push (begins m a b) notes (Began p source target) ∙ ap (λ z. has_begun m a b notes || z) (ap (λ z. nat_eq m p && z) e ∙ and_true (nat_eq m p))
+
     source_now : joins a b source target ≡ true → last_source a b (notes ++ Began p source target ∷ []) ≡ Some source
     source_now e = ap option_source (last_push (joins_them a b) notes (Began p source target) ∙ ap (λ z. cond z (Some (Began p source target)) (last (joins_them a b) notes)) e)
       where
         option_source : Option Note → Option ℕ
         option_source None = None
         option_source (Some x) = source_of x
+
     since_now : joins a b source target ≡ true → since a b (notes ++ Began p source target ∷ []) ≡ []
     since_now e = behind_push_yes (joins_them a b) notes (Began p source target) e
+
     is_begun : (c : Bool) → has_begun m a b notes ≡ c → is_some (cond (has_begun m a b notes) (last_source a b notes) None) ≡ has_begun m a b notes
     is_begun true e = ap (λ z. is_some (cond z (last_source a b notes) None)) e ∙ (begun_source m a b notes e ∙ sym e)
     is_begun false e = ap (λ z. is_some (cond z (last_source a b notes) None)) e ∙ sym e
+
     by : joins a b source target ≡ true → (c : Bool) → (has_begun m a b notes || nat_eq m p) ≡ c
         → row_of m a b n (notes ++ Began p source target ∷ []) ≡ cond c (record (row_of m a b n notes) { from = Some source; changed = replicate (length (grains_with (is_changed m a b notes) n)) false; kept = replicate (length (grains_with (is_kept m a b notes) n)) true }) (all_changed (row_of m a b n notes))
     by e true f = same_row m a b n _ _ _ _ _ _
         (λ k. cond ((begun_now e ∙ f) k) (source_now e k) None)
         (grains_all n (length (grains_with (is_changed m a b notes) n)) (is_changed m a b (notes ++ Began p source target ∷ [])) false (sym (length-grains_with (is_changed m a b notes) n))
-            (λ g k. not ((begun_now e ∙ f) k) || list_any (changes a b (source_now e k) g) (since_now e k)))
+        (λ g k. not ((begun_now e ∙ f) k) || list_any (changes a b (source_now e k) g) (since_now e k)))
         (grains_all n (length (grains_with (is_kept m a b notes) n)) (is_kept m a b (notes ++ Began p source target ∷ [])) true (sym (length-grains_with (is_kept m a b notes) n))
-            (λ g k. (begun_now e ∙ f) k && held_in (last (leaves a b (source_now e k)) (since_now e k)) g))
+        (λ g k. (begun_now e ∙ f) k && held_in (last (leaves a b (source_now e k)) (since_now e k)) g))
     by e false f =
         let never : has_begun m a b notes ≡ false = first_false (has_begun m a b notes) (nat_eq m p) f in
         same_row m a b n _ _ _ _ _ _
         ((λ k. cond ((begun_now e ∙ f) k) (last_source a b (notes ++ Began p source target ∷ [])) None) ∙ ap (λ z. cond z (last_source a b notes) None) (sym never))
         (grains_all n (length (grains_with (is_changed m a b notes) n)) (is_changed m a b (notes ++ Began p source target ∷ [])) true (sym (length-grains_with (is_changed m a b notes) n))
-            (λ g. ap (λ z. not z || list_any (changes a b (last_source a b (notes ++ Began p source target ∷ [])) g) (since a b (notes ++ Began p source target ∷ []))) (begun_now e ∙ f)))
+        (λ g. ap (λ z. not z || list_any (changes a b (last_source a b (notes ++ Began p source target ∷ [])) g) (since a b (notes ++ Began p source target ∷ []))) (begun_now e ∙ f)))
         (grains_same n (is_kept m a b (notes ++ Began p source target ∷ [])) (is_kept m a b notes)
-            (λ g. ap (λ z. z && held_in (last (leaves a b (last_source a b (notes ++ Began p source target ∷ []))) (since a b (notes ++ Began p source target ∷ []))) g) (begun_now e ∙ f)
-                ∙ ap (λ z. z && held_in (last (leaves a b (last_source a b notes)) (since a b notes)) g) (sym never)))
+        (λ g. ap (λ z. z && held_in (last (leaves a b (last_source a b (notes ++ Began p source target ∷ []))) (since a b (notes ++ Began p source target ∷ []))) g) (begun_now e ∙ f)
+        ∙ ap (λ z. z && held_in (last (leaves a b (last_source a b notes)) (since a b notes)) g) (sym never)))
       where
         first_false : (x y : Bool) → (x || y) ≡ false → x ≡ false
         first_false true y h = h
         first_false false y h = refl
+
     joined : (c : Bool) → joins a b source target ≡ c → row_of m a b n (notes ++ Began p source target ∷ []) ≡ row_began p source target (row_of m a b n notes)
     joined true e =
         by e (has_begun m a b notes || nat_eq m p) refl
         ∙ (λ k. cond (sym e k && (sym (is_begun (has_begun m a b notes) refl) k || nat_eq m p))
-            (record (row_of m a b n notes) { from = Some source; changed = replicate (length (grains_with (is_changed m a b notes) n)) false; kept = replicate (length (grains_with (is_kept m a b notes) n)) true })
-            (cond (sym (joined_names a b source target e) k) (all_changed (row_of m a b n notes)) (row_of m a b n notes)))
+        (record (row_of m a b n notes) { from = Some source; changed = replicate (length (grains_with (is_changed m a b notes) n)) false; kept = replicate (length (grains_with (is_kept m a b notes) n)) true })
+        (cond (sym (joined_names a b source target e) k) (all_changed (row_of m a b n notes)) (row_of m a b n notes)))
     joined false e = rw e (named (names a b target) refl)
       where
         named : (c : Bool) → names a b target ≡ c → row_of m a b n (notes ++ Began p source target ∷ []) ≡ cond c (all_changed (row_of m a b n notes)) (row_of m a b n notes)
@@ -379,12 +388,15 @@ find_with m p s t k rows = by (list_any (is_of p) rows) refl (find (is_of m) row
   where
     new : Row
     new = new_row p s t k
+
     step : (o : Option Row) → cond (is_some o) o (cond (nat_eq m p) (Some (new_row p s t k)) None) ≡ row_step m (Tracked p s t k) o
     step None = refl
     step (Some r) = refl
+
     there : (c : Bool) → nat_eq m p ≡ c → list_any (is_of p) rows ≡ true → find (is_of m) rows ≡ None → None ≡ cond (nat_eq m p) (Some (new_row p s t k)) None
     there true e any none = absurd (true≢false (sym any ∙ (any_is p rows ∙ (ap (λ u. is_some (find (is_of u) rows)) (sym (equal m p e)) ∙ ap is_some none))))
     there false e any none = ap (λ z. cond z (Some (new_row p s t k)) None) (sym e)
+
     by : (c : Bool) → list_any (is_of p) rows ≡ c → (o : Option Row) → find (is_of m) rows ≡ o → find (is_of m) (with_new_row (new_row p s t k) rows) ≡ row_step m (Tracked p s t k) (find (is_of m) rows)
     by true any None e = ap (λ z. find (is_of m) (cond z rows (rows ++ new_row p s t k ∷ []))) any ∙ (e ∙ (there (nat_eq m p) refl any e ∙ ap (row_step m (Tracked p s t k)) (sym e)))
     by true any (Some r) e = ap (λ z. find (is_of m) (cond z rows (rows ++ new_row p s t k ∷ []))) any ∙ (e ∙ ap (row_step m (Tracked p s t k)) (sym e))

@@ -74,6 +74,7 @@ list_set v (k ∷ volumes) (l ∷ lists) (suc p) list w same first = by (nat_eq 
   where
     apart : nat_eq w k ≡ true → nat_eq w v ≡ false
     apart e = rw (eq_is w k e) (eq_other k v (λ same. absurd (true≢false (sym (eq_same k) ∙ (ap (λ z. nat_eq z k) same ∙ first.0)))))
+
     by : (b : Bool) → nat_eq w k ≡ b → list_of volumes (set lists p list) w ≡ cond (nat_eq w v) list (list_of volumes lists w) → cond (nat_eq w k) l (list_of volumes (set lists p list) w) ≡ cond (nat_eq w v) list (cond (nat_eq w k) l (list_of volumes lists w))
     by true e rest = rw (e, apart e) refl
     by false e rest = rw e rest
@@ -204,10 +205,11 @@ module _ {Z : Type 0} (volumes : List ℕ) (lists : List (Vec ℕ Z)) (state : L
       where
         changed : is_listed m (list_of volumes (set (numbers lists) p new.items) w) ≡ true
         changed = ap (λ ls. is_listed m (list_of volumes ls w)) (sym (numbers-set lists p new)) ∙ kept_by_change old new is w m more there
+
         by : (b : Bool) → nat_eq w v ≡ b → is_listed m (list_of (remove volumes p) (numbers (remove (set lists p new) p)) w) ≡ true
         by true e =
             let none : list_of volumes (set (numbers lists) p new.items) w ≡ [] =
-                list_set v volumes (numbers lists) p new.items w beside first ∙ (ap (λ b. cond b new.items (list_of volumes (numbers lists) w)) e ∙ empty) in
+            list_set v volumes (numbers lists) p new.items w beside first ∙ (ap (λ b. cond b new.items (list_of volumes (numbers lists) w)) e ∙ empty) in
             absurd (true≢false (sym changed ∙ ap (is_listed m) none))
         by false e =
             rw (numbers-remove (set lists p new) p, numbers-set lists p new)

@@ -94,7 +94,7 @@ pub grains_with-has : (grains : List Bool) (n : ℕ) → n ≡ length grains →
 grains_with-has grains n e =
     same_lists (grains_with (has grains) n) grains (length-grains_with (has grains) n ∙ e)
     (λ g d within. let below : g < n = rw (sym (length-grains_with (has grains) n)) within in
-        get_or-grains_with (has grains) n g d below ∙ get_or_default grains g false d (rw (sym e) below))
+    get_or-grains_with (has grains) n g d below ∙ get_or_default grains g false d (rw (sym e) below))
 
 pub left_row : (seen now : Row) → seen ≡ now → (source target : ℕ) (held new : List Bool) → new ≡ held → was_from now.source now.target now.from source target ≡ true → length now.kept ≡ length held → record seen { kept = new } ≡ row_left source target held now
 left_row seen now same source target held new is from size =

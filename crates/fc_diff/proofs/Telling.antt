@@ -78,6 +78,7 @@ module _ (event : Event) (before : List Row) (named : List ℕ) (now : List Row)
     where
       swap : (a b : ℕ) → nat_eq a b ≡ false → nat_eq b a ≡ false
       swap a b e = grind (arith, nat_tests)
+
       unlisted : (row : Row) (n : ℕ) → nat_eq row.map n ≡ false → told_row event named row ≡ told_row event (named ++ n ∷ []) row
       unlisted row n other = ap (λ b. cond b (row_after event row) row) (sym (listed_more row.map n ∙ (ap (λ c. is_listed row.map named || c) other ∙ plain (is_listed row.map named))))
         where
@@ -94,30 +95,39 @@ module _ (event : Event) (before : List Row) (named : List ℕ) (now : List Row)
     where
       places : (a b : ℕ) → (a ≡ b) ⊎ (a ≢ b)
       places a b = ⊎_elim (λ less. inr (λ e. absurd (omega arith))) (λ more. ⊎_elim (λ greater. inr (λ e. absurd (omega arith))) (λ equal. inl (omega arith)) (cases_lt b a)) (cases_lt a b)
+
       inside : place < length now
       inside = (position-Some (is_of number) now place row found).0
+
       own : nat_eq number row.map ≡ true
       own = ap (λ r. nat_eq number r.map) is ∙ (position-Some (is_of number) now place row found).1
+
       below : place < length before
       below = rw (sym told.same_length) inside
+
       number_is : number ≡ row.map
       number_is = grind (arith, nat_tests, own)
+
       before_map : (d : Row) → (get_or before place d).map ≡ number
       before_map d = sym (told_map event named (get_or before place d)) ∙ (ap (λ r. r.map) (sym (told.row place d below)) ∙ (ap (λ r. r.map) (get_or_default now place d row inside ∙ sym is) ∙ sym number_is))
+
       listed_now : (r : Row) → r.map ≡ number → is_listed r.map (named ++ number ∷ []) ≡ true
       listed_now r e = listed_more r.map number ∙ both (is_listed r.map named) (nat_eq r.map number) (same_number r.map number e)
         where
           both : (a b : Bool) → b ≡ true → (a || b) ≡ true
           both true b f = refl
           both false b f = f
+
           same_number : (a b : ℕ) → a ≡ b → nat_eq a b ≡ true
           same_number a b f = grind (arith, nat_tests)
+
       once : (r : Row) → row_after event (told_row event named r) ≡ row_after event r
       once r = by (is_listed r.map named)
         where
           by : (b : Bool) → row_after event (cond b (row_after event r) r) ≡ row_after event r
           by true = twice event r
           by false = refl
+
       at_place : (k : ℕ) (d : Row) → k < length before → k ≡ place → get_or (set now place (row_after event row)) k d ≡ told_row event (named ++ number ∷ []) (get_or before k d)
       at_place k d within here =
           rw here
@@ -125,6 +135,7 @@ module _ (event : Event) (before : List Row) (named : List ℕ) (now : List Row)
           ∙ (ap (row_after event) (is ∙ (get_or_default now place row d inside ∙ told.row place d below))
           ∙ (once (get_or before place d)
           ∙ sym (ap (λ b. cond b (row_after event (get_or before place d)) (get_or before place d)) (listed_now (get_or before place d) (before_map d))))))
+
       apart : (k : ℕ) (d : Row) → k < length before → k ≢ place → nat_eq (get_or before k d).map number ≡ false
       apart k d within other = unequal (get_or before k d).map number (λ e. ⊎_elim
           (λ less. distinct k place d less below (e ∙ sym (before_map d)))
@@ -132,8 +143,10 @@ module _ (event : Event) (before : List Row) (named : List ℕ) (now : List Row)
         where
           unequal : (a b : ℕ) → a ≢ b → nat_eq a b ≡ false
           unequal a b e = grind (arith, nat_tests, e)
+
           ahead : (a b : ℕ) → a ≢ b → b ≤ a → b < a
           ahead a b e le = ⊎_elim (λ less. less) (λ same. absurd (e (omega arith))) (cases_lt b a)
+
       elsewhere : (k : ℕ) (d : Row) → k < length before → k ≢ place → get_or (set now place (row_after event row)) k d ≡ told_row event (named ++ number ∷ []) (get_or before k d)
       elsewhere k d within other =
           get_or-set_other now place k (row_after event row) d other
@@ -150,7 +163,7 @@ pub told_all : (event : Event) (before : List Row) (named : List ℕ) (now : Lis
 told_all event before named now told complete =
     same_lists now (map (row_after event) before) (told.same_length ∙ sym (length-map before (row_after event)))
     (λ k d within. let below : k < length before = rw (sym told.same_length) within in
-        told.row k d below ∙ (by k d below (row_names (get_or before k d) (volume_of event)) refl ∙ sym (get_or-map (row_after event) before k d d below)))
+    told.row k d below ∙ (by k d below (row_names (get_or before k d) (volume_of event)) refl ∙ sym (get_or-map (row_after event) before k d d below)))
   where
     by : (k : ℕ) (d : Row) → k < length before → (b : Bool) → row_names (get_or before k d) (volume_of event) ≡ b → told_row event named (get_or before k d) ≡ row_after event (get_or before k d)
     by k d within true e = ap (λ b. cond b (row_after event (get_or before k d)) (get_or before k d)) (complete k d within e)

@@ -207,3 +207,6 @@ fn number_of(volume: Option<VolId>) -> Option<u32>
         None => None,
     }
 }
+
+#[cfg(test)]
+mod tests;

@@ -14,11 +14,21 @@ use std::marker::Model;
 #[derive(Clone, Copy)]
 pub(crate) enum Event<'a> {
     /// A trigger of the mapping, from source to target.
-    Began { map: u32, source: u32, target: u32 },
+    Began {
+        map: u32,
+        source: u32,
+        target: u32,
+    },
     /// The volume's grain was written, or spoiled.
-    Wrote { volume: u32, grain: u32 },
+    Wrote {
+        volume: u32,
+        grain: u32,
+    },
     /// The volume was cut; as the mapping from this source left copying, if one is told.
-    Cut { volume: u32, source: Option<u32> },
+    Cut {
+        volume: u32,
+        source: Option<u32>,
+    },
     /// The mapping from source to target left copying, when its slot held these grains.
     Left {
         source: u32,

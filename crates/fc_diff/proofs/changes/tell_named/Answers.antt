@@ -23,12 +23,12 @@ loop-number-preserved c =
     let so_far = take c.loop-number.number-index c.args.named.now in
     let more : take (c.loop-number.number-index + 1) c.args.named.now ≡ so_far ++ number ∷ [] = take_more c.args.named.now c.loop-number.number-index 0 c.loop-number-test.true in
     elim c.match-place_of.branch [
-      in-Some w ↦
+      | in-Some w ↦
           (let told = told_found c.args.event before so_far c.loop-number.rows c.loop-number.invariant c.requires.distinct number w.in-Some.place w.index-rows-place.result (sym c.place_of.ensures ∙ w.in-Some.is) w.index-rows-place.is in
           let rows : set c.loop-number.rows w.in-Some.place (row_after c.args.event w.index-rows-place.result) ≡ c.match-place_of.rows =
-              ap (λ r. set c.loop-number.rows w.in-Some.place r) (ap (row_after c.args.event) w.index-rows-place.is ∙ sym w.take.ensures) ∙ sym w.rows-is in
+          ap (λ r. set c.loop-number.rows w.in-Some.place r) (ap (row_after c.args.event) w.index-rows-place.is ∙ sym w.take.ensures) ∙ sym w.rows-is in
           moved c.args.event before (so_far ++ number ∷ []) (take (c.loop-number.number-index + 1) c.args.named.now) (set c.loop-number.rows w.in-Some.place (row_after c.args.event w.index-rows-place.result)) c.match-place_of.rows (sym more) rows told)
-    | in_default w ↦
+      | in_default w ↦
           moved c.args.event before (so_far ++ number ∷ []) (take (c.loop-number.number-index + 1) c.args.named.now) c.loop-number.rows c.match-place_of.rows (sym more) (sym w.rows-is)
           (told_missed c.args.event before so_far c.loop-number.rows c.loop-number.invariant number (sym c.place_of.ensures ∙ w.in_default.is))
     ]
