@@ -1,7 +1,7 @@
 -- What an event does to a row: it keeps the row's mapping, it means nothing to a row that doesn't name its volume, and a
 -- second telling changes nothing.
-use Rattle.std.proofs.Common.{◌≡◌, ℕ, ◌<◌, Bool, true, false, not, ◌&&◌, ◌||◌, cond, List, [], ◌∷◌, length, replicate, set, nat_eq, Option, Some, None, is_some, refl, ap, sym, subst, ◌∙◌, arith}
-use Rattle.std.proofs.lemmas.List.{length-replicate, length-set}
+use Rattle.std.proofs.Common.{◌≡◌, ℕ, Bool, true, false, not, ◌&&◌, ◌||◌, cond, List, [], ◌∷◌, length, replicate, set, nat_eq, Option, Some, is_some, refl, ap, ◌∙◌}
+use Rattle.std.proofs.lemmas.List.{length-replicate}
 use Rattle.fc_bits.specs.Grains.{has}
 use Rattle.fc_diff.specs.declared.tracked.Event.{Event}
 use Rattle.fc_diff.specs.declared.tracked.Event.TheVariants.{Began as OfTrigger, Wrote as OfWrite, Cut as OfCut, Left as OfLeaving}

@@ -1,11 +1,10 @@
 -- How the rows are found: what holds again after a row came, went or was told.
-use Rattle.std.proofs.Common.{◌≡◌, ◌≢◌, ℕ, zero, suc, ◌+◌, ◌<◌, ◌≤◌, Bool, true, false, not, ◌||◌, cond, List, [], ◌∷◌, ◌++◌, map, length, get_or, take, drop, remove, filter, find, nat_eq, position, Option, Some, None, is_some, refl, ap, sym, subst, ◌∙◌, arith, All, AllPairs}
+use Rattle.std.proofs.Common.{◌≡◌, ◌≢◌, ℕ, zero, suc, ◌<◌, Bool, true, false, not, ◌||◌, cond, List, [], ◌∷◌, ◌++◌, map, length, get_or, take, drop, remove, filter, find, nat_eq, position, Option, Some, None, is_some, refl, ap, sym, subst, ◌∙◌, arith, All, AllPairs}
 use Rattle.std.specs.List.{list_any}
 use Rattle.std.proofs.lemmas.List.{get_or-map, length-map, map-append, take-append-le, take_all}
-use Rattle.std.proofs.lemmas.List.Elements.{All-push, All-map, All-weaker, All-filter, filter_passes}
+use Rattle.std.proofs.lemmas.List.Elements.{All-tail, All-push, All-map, All-weaker, All-filter, filter_passes}
 use Rattle.std.proofs.lemmas.List.Quantifiers.{position-Some, all_pairs_push, all_pairs_remove}
 use Rattle.std.proofs.lemmas.Bool.Decides.{nat_tests}
-use Rattle.std.proofs.lemmas.Bool.{true≢false}
 use Rattle.fc_diff.specs.declared.tracked.Event.{Event}
 use Rattle.fc_diff.specs.Row.{Row}
 use Rattle.fc_diff.specs.Index.{IsFound, Listing, named_by, is_listed, map_numbers}
@@ -156,3 +155,15 @@ pub old_with : (row : Row) (rows now : List Row) → rows ≡ now → list_any (
 old_with row rows now seen there =
     let here : list_any (is_of row.map) now ≡ true = ap (list_any (is_of row.map)) (sym seen) ∙ there in
     rw here refl
+
+-- ---- what holds of each row holds of the one that is found
+some_is : (x y : Row) → Some x ≡ Some y → x ≡ y
+some_is x y e = cc
+
+pub found_among : (p : Row → Bool) (P : Row → Type 0) (rows : List Row) (row : Row) → All P rows → find p rows ≡ Some row → P row
+found_among p P [] row all e = cc
+found_among p P (r ∷ rows) row all e = by (p r) refl e (found_among p P rows row (All-tail P r rows all))
+  where
+    by : (b : Bool) → p r ≡ b → cond b (Some r) (find p rows) ≡ Some row → (find p rows ≡ Some row → P row) → P row
+    by true here f rest = subst P (some_is r row f) (all 0 r (omega arith))
+    by false other f rest = rest f

@@ -1,12 +1,10 @@
 -- The table is what the definition says over all that was noted.
-use Rattle.std.proofs.Common.{◌≡◌, ℕ, zero, suc, ◌+◌, ◌<◌, Bool, true, false, not, ◌&&◌, ◌||◌, cond, List, [], ◌∷◌, ◌++◌, map, filter, fold, length, find, set, replicate, nat_eq, Option, Some, None, is_some, option_map, refl, ap, sym, subst, ◌∙◌, arith, append-nil, append_assoc}
+use Rattle.std.proofs.Common.{◌≡◌, ℕ, Bool, true, false, not, ◌&&◌, ◌||◌, cond, List, [], ◌∷◌, ◌++◌, map, filter, fold, length, find, set, replicate, nat_eq, Option, Some, None, is_some, option_map, refl, ap, sym, ◌∙◌, arith, append-nil, append_assoc}
 use Rattle.std.specs.List.{list_any, range_with_len}
-use Rattle.std.specs.Simd.Lanes.{zip2}
 use Rattle.std.proofs.lemmas.Bool.{true≢false}
 use Rattle.std.proofs.lemmas.Bool.Decides.{nat_tests}
-use Rattle.std.proofs.lemmas.List.{length-replicate}
 use Rattle.fc_bits.specs.Grains.{has, difference}
-use Rattle.fc_diff.specs.Changed.{Note, behind_last, last, follows, forgets, story, joins, names, joins_them, begins, has_begun, source_of, last_source, since, is_source, was_from, is_own_cut, changes, is_changed, leaves, held_in, is_kept, grains_with, restart_told, restart_set}
+use Rattle.fc_diff.specs.Changed.{Note, last, forgets, story, joins, names, joins_them, begins, has_begun, source_of, last_source, since, was_from, is_own_cut, changes, is_changed, leaves, held_in, is_kept, grains_with, restart_told, restart_set}
 use Rattle.fc_diff.specs.Changed.Note.{Tracked, Forgotten, Began, Wrote, Cut, Left}
 use Rattle.fc_diff.specs.Row.{Row}
 use Rattle.fc_diff.specs.Table.{new_row, row_names, all_changed, row_began, row_wrote, row_cut, row_left, is_of, with_new_row, after_note, row_restart, restart_in, table_of, row_of, row_told}

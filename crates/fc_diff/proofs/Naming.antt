@@ -1,5 +1,5 @@
 -- Lists beside volumes: what a change of one list, a new one and one that goes leave.
-use Rattle.std.proofs.Common.{◌≡◌, ◌≢◌, ℕ, zero, suc, ◌+◌, ◌<◌, ◌≤◌, Bool, true, false, not, ◌||◌, cond, List, [], ◌∷◌, ◌++◌, map, length, get_or, set, remove, filter, nat_eq, position, Option, Some, None, refl, ap, sym, subst, ◌∙◌, arith, Vec}
+use Rattle.std.proofs.Common.{◌≡◌, ◌≢◌, ℕ, zero, suc, ◌+◌, ◌<◌, Bool, true, false, not, ◌||◌, cond, List, [], ◌∷◌, ◌++◌, length, get_or, set, remove, filter, nat_eq, position, Some, None, refl, ap, sym, subst, ◌∙◌, arith, Vec}
 use Rattle.std.specs.List.{list_any}
 use Rattle.std.proofs.lemmas.List.{get_or-map, length-map, length-set, length-append, map-append}
 use Rattle.indexmap.specs.IndexSet.{insert_key}

@@ -1,11 +1,10 @@
 -- The loop that tells the named mappings of an event.
-use Rattle.std.proofs.Common.{◌≡◌, ◌≢◌, ℕ, ◌+◌, ◌<◌, ◌≤◌, Bool, true, false, ◌||◌, cond, List, [], ◌∷◌, ◌++◌, map, length, get_or, set, take, nat_eq, position, Option, Some, None, refl, ap, sym, subst, ◌∙◌, arith, All, AllPairs, if◌then◌else◌, ⊎_elim, inl, inr, ◌⊎◌}
-use Rattle.std.specs.List.{list_any}
-use Rattle.std.proofs.lemmas.List.{get_or_default, same_lists, length-map, length-set, get_or-map, get_or-set_same, get_or-set_other, take_more, take_all}
+use Rattle.std.proofs.Common.{◌≡◌, ◌≢◌, ℕ, ◌<◌, ◌≤◌, Bool, true, false, ◌||◌, cond, List, [], ◌∷◌, ◌++◌, map, length, get_or, set, nat_eq, position, Some, None, refl, ap, sym, subst, ◌∙◌, arith, All, AllPairs, ⊎_elim, inl, inr, ◌⊎◌}
+use Rattle.std.proofs.lemmas.List.{get_or_default, same_lists, length-map, length-set, get_or-map, get_or-set_same, get_or-set_other}
 use Rattle.std.proofs.lemmas.List.Quantifiers.{position-Some}
 use Rattle.std.proofs.lemmas.List.Folds.{list_any-append}
 use Rattle.std.proofs.lemmas.Bool.Decides.{nat_tests}
-use Rattle.std.proofs.lemmas.Bool.{true≢false, cases_lt}
+use Rattle.std.proofs.lemmas.Bool.{cases_lt}
 use Rattle.fc_diff.specs.declared.tracked.Event.{Event}
 use Rattle.fc_diff.specs.Row.{Row}
 use Rattle.fc_diff.specs.Index.{is_listed, map_numbers}

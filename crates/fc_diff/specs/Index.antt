@@ -1,5 +1,5 @@
 -- What is kept beside the table: of each row the restart set, and how the rows are found.
-use Rattle.std.specs.Prelude.{◌≡◌, ◌≢◌, ℕ, ◌<◌, Bool, true, ◌==◌, if◌then◌else◌, List, [], ◌∷◌, map, length, All, AllPairs, slice_index_or, Vec}
+use Rattle.std.specs.Prelude.{◌≡◌, ◌≢◌, ℕ, Bool, true, ◌==◌, if◌then◌else◌, List, [], ◌∷◌, map, length, All, AllPairs, Vec}
 use Rattle.std.specs.List.{list_any}
 use Rattle.fc_bits.specs.Grains.{difference}
 use Rattle.fc_diff.specs.Row.{Row}

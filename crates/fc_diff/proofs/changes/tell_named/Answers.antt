@@ -1,8 +1,7 @@
-use Rattle.std.proofs.Common.{◌≡◌, ◌<◌, sym, ◌∙◌, ap, subst, arith, take, length, set, get_or, ◌+◌, ◌++◌, ◌∷◌, [], ℕ, List}
+use Rattle.std.proofs.Common.{◌≡◌, sym, ◌∙◌, ap, subst, take, set, get_or, ◌+◌, ◌++◌, ◌∷◌, []}
 use Rattle.std.proofs.lemmas.List.{take_more, take_all}
-use Rattle.fc_diff.specs.Row.{Row}
 use Rattle.std.proofs.lemmas.List.Quantifiers.{position-Some}
-use Rattle.fc_diff.specs.Table.{row_after, FitsRow, is_of}
+use Rattle.fc_diff.specs.Table.{row_after, is_of}
 use Rattle.fc_diff.proofs.Telling.{IsTold, told_numbers, told_fits, told_missed, told_found, told_all, moved}
 use Rattle.fc_diff.proofs.changes.tell_named.Goals as goal
 use Rattle.fc_diff.proofs.changes.tell_named.Goals.{in-Some, in_default}

@@ -1,6 +1,4 @@
-use Rattle.std.proofs.Common.{◌≡◌, sym, ◌∙◌, ap, position, find, Some, None, length, subst}
-use Rattle.std.specs.Option.{ForSome}
-use Rattle.fc_diff.specs.Row.{Row}
+use Rattle.std.proofs.Common.{◌≡◌, sym, ◌∙◌, ap, position, find, Some, None, length}
 use Rattle.fc_diff.specs.Table.{is_of, restart_or_none}
 use Rattle.fc_diff.proofs.Places.{find-missed}
 use Rattle.fc_diff.proofs.Found.{row_found}

@@ -1,4 +1,4 @@
-use Rattle.std.proofs.Common.{◌≡◌, sym, ◌∙◌, ap, position, Some, None, true, false, [], ◌∷◌, ◌++◌, nat_eq, is_some}
+use Rattle.std.proofs.Common.{◌≡◌, sym, ◌∙◌, ap, position, None, [], ◌∷◌, ◌++◌, nat_eq}
 use Rattle.fc_diff.specs.Row.{Row}
 use Rattle.fc_diff.specs.Table.{is_of, new_row}
 use Rattle.fc_diff.proofs.Places.{position-map}

@@ -1,4 +1,4 @@
-use Rattle.std.proofs.Common.{◌≡◌, sym, ◌∙◌, ap, position, nat_eq, None, ◌++◌, ◌∷◌, [], List, ℕ, true}
+use Rattle.std.proofs.Common.{◌≡◌, ◌∙◌, ap, position, nat_eq, None, ◌++◌, ◌∷◌, [], true}
 use Rattle.fc_diff.specs.Index.{Listing, is_listed}
 use Rattle.fc_diff.proofs.Naming.{same_by_coming, here_by_coming, kept_by_coming, inserted, listed_last}
 use Rattle.fc_diff.proofs.namers.Namers.add_volume.Goals as goal

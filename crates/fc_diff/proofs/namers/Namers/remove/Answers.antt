@@ -1,4 +1,4 @@
-use Rattle.std.proofs.Common.{sym, ◌∙◌, ap}
+use Rattle.std.proofs.Common.{sym, ◌∙◌}
 use Rattle.fc_diff.specs.Index.{is_listed, numbers, list_of}
 use Rattle.fc_diff.proofs.Naming.{kept_by_change, kept_by_going}
 use Rattle.fc_diff.proofs.namers.Namers.remove.Goals as goal

@@ -1,5 +1,4 @@
-use Rattle.std.proofs.Common.{◌≡◌, sym, ◌∙◌, ap, length, true}
-use Rattle.fc_diff.specs.Changed.{was_from}
+use Rattle.std.proofs.Common.{sym, ◌∙◌, ap, length}
 use Rattle.fc_diff.specs.Row.{Row}
 use Rattle.fc_diff.proofs.Sets.{restart_length, left_row}
 use Rattle.fc_diff.proofs.tracked.Tracked.take_leaving.Goals as goal
