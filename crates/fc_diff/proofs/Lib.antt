@@ -6,3 +6,4 @@ pub mod Telling
 pub mod Found
 pub mod Ends
 pub mod Law
+pub mod Examples

@@ -1,6 +1,6 @@
 //! The mappings that are followed, and what is noted of their volumes.
 
-ghost use Rattle.std.specs.Prelude.{◌≡◌, ◌≢◌, ℕ, ◌<◌, [], map, find, length, OnOk, OnErr, true, All, AllPairs, None, position, slice_index_or, IfSome, option_map};
+ghost use Rattle.std.specs.Prelude.{◌≡◌, ◌≢◌, [], map, find, length, OnOk, OnErr, true, All, AllPairs, position, option_map};
 ghost use Rattle.std.specs.Option.{ForSome};
 ghost use Rattle.fc_bits.specs.Grains.{count_set};
 ghost use Rattle.fc_diff.specs.Changed.{was_from};

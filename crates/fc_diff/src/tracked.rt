@@ -1,9 +1,9 @@
 //! One mapping that is followed, and what it knows of its grains.
 
-ghost use Rattle.std.specs.Prelude.{◌≡◌, OnOk, IfOk, None, length, ◌==◌, true};
+ghost use Rattle.std.specs.Prelude.{◌≡◌, IfOk, length, true};
 ghost use Rattle.fc_bits.specs.Grains.{difference};
-ghost use Rattle.fc_diff.specs.Changed.{joins, names, was_from, is_own_cut};
-ghost use Rattle.fc_diff.specs.Table.{new_row, row_names, row_began, row_wrote, row_cut, row_left, row_after, all_changed, FitsRow, volume_of};
+ghost use Rattle.fc_diff.specs.Changed.{joins, was_from};
+ghost use Rattle.fc_diff.specs.Table.{new_row, row_began, row_wrote, row_cut, row_left, row_after, all_changed, FitsRow, volume_of};
 
 use fc_base::outcome::NoMemory;
 use fc_bits::GrainSet;
