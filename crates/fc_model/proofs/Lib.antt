@@ -1,0 +1,7 @@
+mod Searching
+mod Lists
+mod Mapping
+mod Columns
+mod Asking
+mod Splitting
+mod Needs
