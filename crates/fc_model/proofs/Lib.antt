@@ -5,3 +5,4 @@ mod Columns
 mod Asking
 mod Splitting
 mod Needs
+mod Loops

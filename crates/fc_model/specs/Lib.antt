@@ -2,3 +2,4 @@
 pub mod Search
 pub mod Lanes
 pub mod Answers
+pub mod Graph

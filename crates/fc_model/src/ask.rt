@@ -6,11 +6,13 @@ ghost use Rattle.fc_base.specs.Need.{IsNeeded, is_complete};
 ghost use Rattle.fc_base.specs.Plan.{moves_of_fill, moves_of_write};
 ghost use Rattle.fc_base.specs.RestoreGraph.{IsUsed};
 ghost use Rattle.fc_base.specs.Sheet.{slot_at, shape_of, column, live_place, mapping_place, birth_place, volume_grains};
-ghost use Rattle.fc_base.specs.SheetStep.{sheet_moved, sheet_written, sheet_torn};
+ghost use Rattle.fc_base.specs.SheetStep.{sheet_moved, sheet_written, sheet_torn, triggered};
 ghost use Rattle.fc_model.specs.Answers.{HasDependents};
+ghost use Rattle.fc_model.specs.Graph.{LoopFound};
 
 use crate::column::{holder_of, reader_of};
 use crate::find::{grains_of_volume, place_of_birth, place_of_live, place_of_mapping};
+use crate::graph::finds_loop;
 use crate::moves::{fill_moves_of, write_moves_of};
 use crate::need::{dependents_of, needed_somewhere, used_as_source};
 use crate::places::{birth_at, grains_of, holds_at, is_complete_at, is_live_at, volume_at};
@@ -18,7 +20,7 @@ use crate::sheet::PlainSheet;
 use fc_base::ids::{GrainNo, MapId, SlotId, VolId};
 use fc_base::list::List;
 use fc_base::outcome::NoMemory;
-use fc_base::request::{Move, Side};
+use fc_base::request::{Move, Pair, Side};
 use std::alloc::Global;
 
 impl PlainSheet {
@@ -198,5 +200,21 @@ impl PlainSheet {
         ensures { IsTrue result ↔ IsUsed (shape_of self.now.slots) volume.0 }
     {
         used_as_source(self.slots(), volume.0)
+    }
+
+    /// Whether the restore graph has a loop.
+    pub fn has_loop(&self, alloc: Global) -> Result<bool, NoMemory>
+        ensures { IfOk result (λ found. LoopFound (shape_of self.now.slots) found) }
+    {
+        finds_loop(alloc, self.slots())
+    }
+
+    /// Whether the restore graph has a loop right after these pairs were triggered.
+    pub fn has_loop_after(&self, alloc: Global, pairs: &[Pair]) -> Result<bool, NoMemory>
+        ensures { IfOk result (λ found. LoopFound (shape_of (triggered pairs.now self.now).slots) found) }
+    {
+        let mut next = self.copy(alloc)?;
+        next.trigger(alloc, pairs)?;
+        next.has_loop(alloc)
     }
 }

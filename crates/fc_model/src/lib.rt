@@ -15,6 +15,7 @@
 mod ask;
 mod column;
 mod find;
+mod graph;
 mod hold;
 mod moves;
 mod need;
