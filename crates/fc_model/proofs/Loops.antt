@@ -1,13 +1,13 @@
 -- Whether the restore graph has a loop.
-use Rattle.std.proofs.Common.{◌≡◌, ◌≢◌, ◌⊎◌, ◌↔◌, ℕ, zero, suc, ◌+◌, ◌-◌, ◌<◌, ◌≤◌, Bool, true, false, not, ◌&&◌, eqb, Option, Some, None, List, [], ◌∷◌, ◌++◌, length, get_or, IsTrue, refl, sym, ap, subst, ◌∙◌, arith, inl, inr}
-use Rattle.std.specs.Prelude.{Contains, remove, slice_index}
-use Rattle.std.proofs.lemmas.Bool.{cases_lt, cases_eq, both_ways, and_parts, and_from, eqb-true, eq-eqb, ne_eqb, not-true}
+use Rattle.std.proofs.Common.{◌≡◌, ◌≢◌, ◌⊎◌, ℕ, zero, suc, ◌+◌, ◌-◌, ◌<◌, ◌≤◌, Bool, not, eqb, List, [], ◌∷◌, ◌++◌, length, get_or, refl, sym, ap, subst, ◌∙◌, arith, inl, inr}
+use Rattle.std.specs.Prelude.{Contains, remove}
+use Rattle.std.proofs.lemmas.Bool.{cases_lt, cases_eq, eq-eqb, ne_eqb}
 use Rattle.std.proofs.lemmas.List.Edits.{get_or-remove_below, get_or-remove_above, length-remove}
 use Rattle.std.proofs.lemmas.List.Elements.{Contains-push, Contains-append_left}
-use Rattle.fc_base.specs.Column.{Shape, is_old_of}
+use Rattle.fc_base.specs.Column.{Shape}
 use Rattle.fc_base.specs.RestoreGraph.{Edge, Way, Way.last_edge, Way.next_edge, HasNoLoop}
 use Rattle.fc_base.specs.Sheet.{Slot, slot_at, shape_of}
-use Rattle.fc_model.specs.Graph.{LiveOfBehind, LeadsInto, IsSink, HasSink, LoopFound}
+use Rattle.fc_model.specs.Graph.{LeadsInto, IsSink, LoopFound}
 
 -- a volume all of whose ways end
 pub data Grounded (s : Shape) : ℕ → Type 0 where
@@ -31,7 +31,7 @@ AllGrounded s left = (v : ℕ) → (Contains left v → ⊥) → Grounded s v
 pub grounded_others : (slots : List Slot) (left : List ℕ) → ((k : ℕ) → k < length slots → Contains left (slot_at slots k).volume) → AllGrounded (shape_of slots) left
 grounded_others slots left all v out =
     grounded (λ w e. absurd (let b : e.old < e.live = e.before in let t : e.live < length slots = e.there in
-      let P : ℕ → Type 0 = λ z. Contains left z in out (subst P e.old_is_from (all e.old (omega arith)))))
+    let P : ℕ → Type 0 = λ z. Contains left z in out (subst P e.old_is_from (all e.old (omega arith)))))
 
 -- whether a list of numbers contains one
 holds_or_not : (xs : List ℕ) (v : ℕ) → Contains xs v ⊎ (Contains xs v → ⊥)

@@ -1,13 +1,13 @@
 -- Who needs a slot, and who depends on it.
-use Rattle.std.proofs.Common.{◌≡◌, ◌≢◌, ◌⊎◌, ◌↔◌, ℕ, zero, suc, ◌+◌, ◌<◌, ◌≤◌, Bool, true, false, cond, Option, Some, None, List, [], ◌∷◌, ◌++◌, length, get_or, IsTrue, refl, sym, ap, subst, ◌∙◌, arith, inl, inr}
+use Rattle.std.proofs.Common.{◌≡◌, ◌≢◌, ◌⊎◌, ◌↔◌, ℕ, zero, suc, ◌+◌, ◌<◌, ◌≤◌, Bool, true, false, cond, Some, None, List, [], ◌∷◌, ◌++◌, length, get_or, IsTrue, refl, sym, ap, subst, ◌∙◌, arith, inl, inr}
 use Rattle.std.specs.Prelude.{AllPairs, Contains}
 use Rattle.std.proofs.lemmas.Bool.{cases_lt, both_ways}
 use Rattle.std.proofs.lemmas.List.Elements.{Contains-get_or, Contains-append_left, Contains-push, Contains-push_cases}
 use Rattle.std.proofs.lemmas.List.Quantifiers.{all_pairs_push}
-use Rattle.fc_base.specs.Column.{Column, holder, needer}
-use Rattle.fc_base.specs.Need.{IsNeeded, ReadsAt, IsDependent, IsDependent.direct, IsDependent.onward}
-use Rattle.fc_base.specs.Sheet.{Slot, slot_at, no_slot, column}
-use Rattle.fc_moves.proofs.Readers.{IsHolder, holder_is, IsReader, reader_is}
+use Rattle.fc_base.specs.Column.{holder, needer}
+use Rattle.fc_base.specs.Need.{IsNeeded, IsDependent, IsDependent.direct, IsDependent.onward}
+use Rattle.fc_base.specs.Sheet.{Slot, slot_at, column}
+use Rattle.fc_moves.proofs.Readers.{IsHolder, holder_is, reader_is}
 use Rattle.fc_model.specs.Answers.{HasDependents, ReadsListed, Joins}
 use Rattle.fc_model.proofs.Columns.{past_end}
 

@@ -3,7 +3,7 @@ use Rattle.std.proofs.Common.{◌≡◌, ℕ, zero, suc, ◌+◌, ◌-◌, ◌<�
 use Rattle.std.proofs.lemmas.Slice.{put_mid-paste}
 use Rattle.std.proofs.lemmas.List.{take_all, take_rest, drop_all, length-set, length-drop}
 use borrow.Rule.Slice.PartMut.{put_mid}
-use Rattle.fc_base.specs.Sheet.{Slot, slot_at, no_slot}
+use Rattle.fc_base.specs.Sheet.{Slot, slot_at}
 use Rattle.fc_base.specs.SheetStep.{split_from, relabelled}
 
 abbrev pub begun : Slot → Slot
@@ -21,7 +21,6 @@ nil_at_end (y ∷ ys) zs e = ap (λ z. y ∷ z) (nil_at_end ys zs e)
 length_map : (f : Slot → Slot) (ts : List Slot) → length (map f ts) ≡ length ts
 length_map f [] = refl
 length_map f (t ∷ ts) = ap suc (length_map f ts)
-
 
 put_at_end : (xs ys : List Slot) (a n : ℕ) → length ys ≡ n → length xs ≤ a + n → put_mid a n xs ys ≡ take a xs ++ ys
 put_at_end xs ys a n l le =

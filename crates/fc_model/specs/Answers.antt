@@ -1,5 +1,5 @@
 -- What the questions to a sheet answer.
-use Rattle.std.specs.Prelude.{◌≡◌, ◌≢◌, ◌⊎◌, ℕ, ◌<◌, true, Option, Some, List, AllPairs, Contains}
+use Rattle.std.specs.Prelude.{◌≡◌, ◌≢◌, ◌⊎◌, ℕ, ◌<◌, true, Some, List, AllPairs, Contains}
 use Rattle.fc_base.specs.Column.{holder}
 use Rattle.fc_base.specs.Need.{IsDependent}
 use Rattle.fc_base.specs.Sheet.{Slot, slot_at, column}

@@ -93,11 +93,7 @@ fn joins(slots: &[Slot], on: usize, place: usize, listed: &[usize]) -> bool
 fn push_where(places: &mut List<usize>, place: usize, is_there: bool) -> Result<(), NoMemory>
     ensures { OnOk result (places.new ≡ cond is_there (places.old ++ place ∷ []) places.old) }
 {
-    if is_there {
-        places.push(place)
-    } else {
-        Ok(())
-    }
+    if is_there { places.push(place) } else { Ok(()) }
 }
 
 /// The dependents of the slot at a place. A holder never stands behind its slot, so one pass in the order of places

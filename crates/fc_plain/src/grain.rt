@@ -80,7 +80,7 @@ impl GrainBytes {
 }
 
 /// The first so many bytes, or all where there are fewer.
-fn front_of(bytes: &[u8], count: usize) -> &[u8]
+pub(crate) fn front_of(bytes: &[u8], count: usize) -> &[u8]
     ensures { result.now ≡ take count bytes.now }
 {
     if count < bytes.len() {

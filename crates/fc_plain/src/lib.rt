@@ -9,6 +9,12 @@
 //! (commands), `reading`, and `plain`, which has the calls.
 #![tactic(auto)]
 
+mod change;
+mod effect;
 mod grain;
+mod plain;
+mod reading;
 mod volume;
 
+pub use plain::Plain;
+pub use reading::PlainRead;

@@ -2,8 +2,9 @@
 
 ghost use Rattle.std.specs.Prelude.{◌≡◌, ◌==◌, ◌++◌, [], ◌∷◌, IfOk, OnOk, replicate, slice_set, cond};
 ghost use Rattle.fc_base.specs.Grain.{grain_bytes};
-ghost use Rattle.fc_entry.specs.Picture.{Bytes, zeros};
+ghost use Rattle.fc_entry.specs.Picture.{Bytes, zeros, written, content_at};
 ghost use Rattle.fc_entry.specs.PlainStep.{after_torn};
+ghost use Rattle.fc_plain.specs.Changes.{tear_if};
 
 use crate::grain::Grain;
 use fc_base::ids::VolId;
@@ -17,8 +18,8 @@ use std::marker::Model;
 #[derive(Drop)]
 pub(crate) struct Volume {
     id: VolId,
-    now: Vec<Grain>,
-    under: Vec<Grain>,
+    current: Vec<Grain>,
+    before: Vec<Grain>,
 }
 
 impl Model for Volume {
@@ -26,7 +27,7 @@ impl Model for Volume {
 
     ghost Value = { PlainVolume };
 
-    ghost view = { λ v. record { volume = v.id; now = v.now.items; under = v.under.items } };
+    ghost view = { λ v. record { volume = v.id; now = v.current.items; under = v.before.items } };
 }
 
 /// Puts a grain at the end.
@@ -70,10 +71,14 @@ fn size_of_grain(grain: GrainSize) -> usize
 
 impl Volume {
     /// A volume of these grains.
-    pub(crate) fn of(id: VolId, now: Vec<Grain>, under: Vec<Grain>) -> Volume
-        ensures { result ≡ record { volume = id; now = now.items; under = under.items } }
+    pub(crate) fn of(id: VolId, current: Vec<Grain>, before: Vec<Grain>) -> Volume
+        ensures { result ≡ record { volume = id; now = current.items; under = before.items } }
     {
-        Volume { id, now, under }
+        Volume {
+            id,
+            current,
+            before,
+        }
     }
 
     /// A volume of so many grains of zeros.
@@ -86,22 +91,18 @@ impl Volume {
         ensures { IfOk result (λ v. v ≡ record { volume = id; now = replicate grains (zeros grain); under = replicate grains (zeros grain) }) }
     {
         let size = size_of_grain(grain);
-        let now = zero_grains(alloc, grains, size)?;
-        let under = zero_grains(alloc, grains, size)?;
-        Ok(Volume { id, now, under })
+        let current = zero_grains(alloc, grains, size)?;
+        let before = zero_grains(alloc, grains, size)?;
+        Ok(Volume::of(id, current, before))
     }
 
     /// Another volume like it.
     pub(crate) fn copy(&self, alloc: Global) -> Result<Volume, NoMemory>
         ensures { IfOk result (λ v. v ≡ self.now) }
     {
-        let now = copies_of(alloc, self.now.as_slice())?;
-        let under = copies_of(alloc, self.under.as_slice())?;
-        Ok(Volume {
-            id: self.id,
-            now,
-            under,
-        })
+        let current = copies_of(alloc, self.current.as_slice())?;
+        let before = copies_of(alloc, self.before.as_slice())?;
+        Ok(Volume::of(self.id, current, before))
     }
 
     /// Its id.
@@ -115,14 +116,14 @@ impl Volume {
     pub(crate) fn now(&self) -> &[Grain]
         ensures { result.now ≡ self.now.now }
     {
-        self.now.as_slice()
+        self.current.as_slice()
     }
 
     /// What it held before its last trigger as a target.
     pub(crate) fn under(&self) -> &[Grain]
         ensures { result.now ≡ self.now.under }
     {
-        self.under.as_slice()
+        self.before.as_slice()
     }
 
     /// Whether it has this id.
@@ -136,8 +137,8 @@ impl Volume {
     pub(crate) fn put(&mut self, place: u64, grain: Grain)
         ensures { self.new ≡ record self.old { now = slice_set self.old.now place grain } }
     {
-        if place < self.now.len() as u64 {
-            self.now[place as usize] = grain;
+        if place < self.current.len() as u64 {
+            self.current[place as usize] = grain;
         }
     }
 
@@ -148,15 +149,43 @@ impl Volume {
         let place = torn.grain.0 as usize;
         match torn.side {
             Side::Now => {
-                if place < self.now.len() {
-                    self.now[place] = Grain::lost();
+                if place < self.current.len() {
+                    self.current[place] = Grain::lost();
                 }
             }
             Side::Under => {
-                if place < self.under.len() {
-                    self.under[place] = Grain::lost();
+                if place < self.before.len() {
+                    self.before[place] = Grain::lost();
                 }
             }
+        }
+    }
+
+    /// The same, where it is the volume whose grain it is.
+    pub(crate) fn tear_where(&mut self, torn: Torn)
+        ensures { self.new ≡ tear_if torn self.old }
+    {
+        if self.id.0 == torn.volume.0 {
+            self.tear(torn);
+        }
+    }
+
+    /// What a grain of it holds after one byte was written at `count` places from `from` on; one that it hasn't is as if
+    /// lost.
+    pub(crate) fn written_at(
+        &self,
+        alloc: Global,
+        place: u64,
+        from: usize,
+        count: usize,
+        byte: u8,
+    ) -> Result<Grain, NoMemory>
+        ensures { IfOk result (λ g. g ≡ written from count byte (content_at self.now.now place)) }
+    {
+        if place < self.current.len() as u64 {
+            self.current[place as usize].after_write(alloc, from, count, byte)
+        } else {
+            Grain::lost().after_write(alloc, from, count, byte)
         }
     }
 }

@@ -1,6 +1,6 @@
 use Rattle.std.proofs.Common.{arith}
 use Rattle.fc_base.specs.Moves.{next_behind}
-use Rattle.fc_model.proofs.Searching.{first_start, first_more, first_done, first_within}
+use Rattle.fc_model.proofs.Searching.{first_start, first_more, first_done}
 use Rattle.fc_model.proofs.column.next_waiting.Goals as goal
 
 pub loop-place-init : goal.loop-place-init

@@ -1,4 +1,3 @@
-use Rattle.std.proofs.Common.{arith}
 use Rattle.fc_model.proofs.Searching.{last_start, last_more}
 use Rattle.fc_model.proofs.find.has_slot_behind.Goals as goal
 

@@ -1,4 +1,4 @@
-use Rattle.std.proofs.Common.{◌≡◌, ◌∙◌, List, ℕ, length, refl, subst, sym, ap}
+use Rattle.std.proofs.Common.{◌∙◌, List, ℕ, length, refl, subst, sym, ap}
 use Rattle.std.specs.Prelude.{Contains}
 use Rattle.fc_base.specs.Sheet.{shape_of}
 use Rattle.fc_model.specs.Graph.{IsSink, LeadsInto}

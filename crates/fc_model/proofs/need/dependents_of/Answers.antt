@@ -1,4 +1,4 @@
-use Rattle.std.proofs.Common.{◌≡◌, ◌↔◌, IsTrue, List, ℕ, subst, arith}
+use Rattle.std.proofs.Common.{◌↔◌, IsTrue, List, ℕ, subst}
 use Rattle.fc_model.specs.Answers.{Joins}
 use Rattle.fc_model.proofs.Needs.{one_more, all_found}
 use Rattle.fc_model.proofs.need.dependents_of.Goals as goal
