@@ -7,3 +7,8 @@ pub mod Plans
 pub mod Whole
 pub mod Fitting
 pub mod Counting
+pub mod Tables
+pub mod Rising
+pub mod Dividing
+pub mod Behind
+pub mod Together

@@ -4,3 +4,6 @@ pub mod Walks
 pub mod Found
 pub mod Births
 pub mod Planning
+pub mod Table
+pub mod Room
+pub mod Contiguous

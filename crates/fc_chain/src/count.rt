@@ -3,6 +3,7 @@
 ghost use Rattle.std.specs.Prelude.{◌≡◌, ℕ, ◌<◌, ◌↔◌, IsTrue, length, OnOk, ◌++◌};
 ghost use Rattle.fc_base.specs.Sheet.{slot_at};
 ghost use Rattle.fc_base.specs.Counts.{need_count_of, LiveBehind, UsedAt, reads_some, names_below, is_direct, is_unneeded};
+ghost use Rattle.fc_chain.specs.Contiguous.{IsContiguous};
 
 use crate::slot::Slot;
 use crate::walk::{first_reader_of, holder_of};
@@ -12,7 +13,8 @@ use fc_base::outcome::NoMemory;
 
 /// At how many of the lane's grains the slot at a place has a needer.
 pub(crate) fn count_needed(slots: &[Slot], place: usize) -> u32
-    requires { place < length slots.now }
+    requires there { place < length slots.now }
+    requires together { IsContiguous slots.now }
     ensures { result ≡ need_count_of slots.now place }
 {
     let mut count = 0;
@@ -26,13 +28,17 @@ pub(crate) fn count_needed(slots: &[Slot], place: usize) -> u32
 
 /// Whether some live slot stands behind a place in its chain.
 fn has_live_behind(slots: &[Slot], place: usize) -> bool
-    requires { place < length slots.now }
+    requires there { place < length slots.now }
+    requires together { IsContiguous slots.now }
     ensures { IsTrue result ↔ LiveBehind slots.now place }
 {
     let chain = slots[place].chain();
     let mut behind = place + 1;
     while behind < slots.len() {
-        if slots[behind].is_live() && slots[behind].chain() == chain {
+        if slots[behind].chain() != chain {
+            return false;
+        }
+        if slots[behind].is_live() {
             return true;
         }
         behind += 1;
@@ -42,6 +48,7 @@ fn has_live_behind(slots: &[Slot], place: usize) -> bool
 
 /// Whether some slot of the volume has a live slot behind it in its chain.
 pub(crate) fn is_source(slots: &[Slot], volume: u32) -> bool
+    requires { IsContiguous slots.now }
     ensures { IsTrue result ↔ UsedAt slots.now volume }
 {
     for (place, slot) in slots.iter().enumerate() {
@@ -54,7 +61,8 @@ pub(crate) fn is_source(slots: &[Slot], volume: u32) -> bool
 
 /// Whether the slot at `reader` has the one at `place` as holder at some grain.
 fn reads_at(slots: &[Slot], reader: usize, place: usize) -> bool
-    requires { reader < length slots.now }
+    requires there { reader < length slots.now }
+    requires together { IsContiguous slots.now }
     ensures { result ≡ reads_some slots.now place reader }
 {
     for grain in 0..slots[reader].grains() {
@@ -73,6 +81,7 @@ pub(crate) fn add_direct(
     place: usize,
     out: &mut List<SlotId>,
 ) -> Result<(), NoMemory>
+    requires { IsContiguous slots.now }
     ensures { OnOk result (out.new ≡ out.old ++ names_below slots.now (is_direct slots.now place) (length slots.now)) }
 {
     for (reader, slot) in slots.iter().enumerate() {
@@ -85,6 +94,7 @@ pub(crate) fn add_direct(
 
 /// Adds the names of the old slots that nobody needs.
 pub(crate) fn add_unneeded(slots: &[Slot], out: &mut List<SlotId>) -> Result<(), NoMemory>
+    requires { IsContiguous slots.now }
     ensures { OnOk result (out.new ≡ out.old ++ names_below slots.now (is_unneeded slots.now) (length slots.now)) }
 {
     for (place, slot) in slots.iter().enumerate() {
