@@ -120,9 +120,9 @@ impl Story {
     fn fill(&mut self, place: Option<usize>, grain: u32) -> Result<(), NoMemory> {
         match place {
             Some(place) => {
-                let moves =
-                    self.sheet
-                        .fill_moves(self.alloc, place, grain as usize, GrainNo(grain))?;
+                let moves = self
+                    .sheet
+                    .fill_moves(self.alloc, place, grain as usize, GrainNo(grain))?;
                 self.make(moves.as_slice())
             }
             None => Ok(()),
