@@ -7,7 +7,7 @@ use Rattle.std.proofs.lemmas.List.Elements.{Contains-push, Contains-append_left}
 use Rattle.fc_base.specs.Column.{Shape}
 use Rattle.fc_base.specs.RestoreGraph.{Edge, Way, Way.last_edge, Way.next_edge, HasNoLoop}
 use Rattle.fc_base.specs.Sheet.{Slot, slot_at, shape_of}
-use Rattle.fc_model.specs.Graph.{LeadsInto, IsSink, LoopFound}
+use Rattle.fc_model.specs.Graph.{LeadsInto, IsSink, Lists, LoopFound}
 
 -- a volume all of whose ways end
 pub data Grounded (s : Shape) : ℕ → Type 0 where
@@ -141,13 +141,17 @@ each_leads s volumes n le below v c =
     same (x ∷ xs) zero lt = refl
     same (x ∷ xs) (suc k) lt = same xs k (omega arith)
 
-pub one_more_volume : (slots : List Slot) (n : ℕ) (now new : List ℕ) (v : ℕ) → ((k : ℕ) → k < n → Contains now (slot_at slots k).volume) → v ≡ (slot_at slots n).volume → new ≡ now ++ v ∷ [] → (k : ℕ) → k < n + 1 → Contains new (slot_at slots k).volume
+pub one_more_volume : (slots : List Slot) (n : ℕ) (now new : List ℕ) (v : ℕ) → ((k : ℕ) → k < n → Contains now (slot_at slots k).volume) → v ≡ (slot_at slots n).volume → Lists now new v → (k : ℕ) → k < n + 1 → Contains new (slot_at slots k).volume
 one_more_volume slots n now new v below e q k lt =
-    let P : List ℕ → Type 0 = λ z. Contains z (slot_at slots k).volume in
-    subst P (sym q) (elim (cases_eq k n) [
-      | inl same ↦ (let Q : ℕ → Type 0 = λ z. Contains (now ++ v ∷ []) z in subst Q (e ∙ ap (λ z. (slot_at slots z).volume) (sym same)) (Contains-push now v))
-      | inr ne ↦ Contains-append_left now (v ∷ []) (slot_at slots k).volume (below k (omega arith))
-    ])
+    elim (cases_eq k n) [
+      | inl same ↦ (let Q : ℕ → Type 0 = λ z. Contains new z in subst Q (e ∙ ap (λ z. (slot_at slots z).volume) (sym same)) q.listed)
+      | inr ne ↦ q.kept (slot_at slots k).volume (below k (omega arith))
+    ]
+
+pub lists_pushed : (old new : List ℕ) (v : ℕ) → new ≡ old ++ v ∷ [] → Lists old new v
+lists_pushed old new v e =
+    let P : List ℕ → Type 0 = λ z. Lists old z v in
+    subst P (sym e) (record { listed = Contains-push old v; kept = λ w c. Contains-append_left old (v ∷ []) w c })
 
 pub found_is : (s : Shape) (left : List ℕ) (n : ℕ) (found : Bool) → AllGrounded s left → ((v : ℕ) → Contains left v → LeadsInto s v left) → n ≡ length left → (empty : Bool) → empty ≡ eqb n 0 → found ≡ not empty → LoopFound s found
 found_is s left n found all on size empty z f =

@@ -26,6 +26,11 @@ abbrev pub HasSink : Shape → List ℕ → Option ℕ → Type 0
 HasSink s volumes None = (v : ℕ) → Contains volumes v → LeadsInto s v volumes
 HasSink s volumes (Some k) = IsSink s volumes k
 
+-- A volume was listed: it is in the new list, and so is all that was in the old one.
+pub record Lists (old new : List ℕ) (v : ℕ) : Type 0 where
+  pub listed : Contains new v
+  pub kept : (w : ℕ) → Contains old w → Contains new w
+
 -- A loop was found, or there is none.
 abbrev pub LoopFound : Shape → Bool → Type 0
 LoopFound s true = (v : ℕ) × Way s v v

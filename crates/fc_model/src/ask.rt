@@ -1,6 +1,6 @@
 //! The questions to the sheet, and the moves and writes that change its pairs.
 
-ghost use Rattle.std.specs.Prelude.{◌≡◌, ℕ, ◌<◌, ◌↔◌, IfSome, IfOk, IsTrue, length, true, false};
+ghost use Rattle.std.specs.Prelude.{◌≡◌, ℕ, ◌<◌, ◌≤◌, ◌↔◌, IfSome, IfOk, IsTrue, length, true, false};
 ghost use Rattle.fc_base.specs.Column.{holder, needer};
 ghost use Rattle.fc_base.specs.Need.{IsNeeded, is_complete};
 ghost use Rattle.fc_base.specs.Plan.{moves_of_fill, moves_of_write};
@@ -14,8 +14,8 @@ use crate::column::{holder_of, reader_of};
 use crate::find::{grains_of_volume, place_of_birth, place_of_live, place_of_mapping};
 use crate::graph::finds_loop;
 use crate::moves::{fill_moves_of, write_moves_of};
-use crate::need::{dependents_of, needed_somewhere, used_as_source};
-use crate::places::{birth_at, grains_of, holds_at, is_complete_at, is_live_at, volume_at};
+use crate::need::{dependents_of, needed_somewhere, used_as_source, widest};
+use crate::places::{birth_at, chain_at, grains_of, holds_at, is_complete_at, is_live_at, volume_at};
 use crate::sheet::PlainSheet;
 use fc_base::ids::{GrainNo, MapId, SlotId, VolId};
 use fc_base::list::List;
@@ -51,6 +51,13 @@ impl PlainSheet {
         ensures { result.0 ≡ (slot_at self.now.slots place).volume }
     {
         VolId(volume_at(self.slots(), place))
+    }
+
+    /// The birth of the slot that began the chain of the slot at a place.
+    pub fn chain(&self, place: usize) -> SlotId
+        ensures { result.0 ≡ (slot_at self.now.slots place).chain }
+    {
+        SlotId(chain_at(self.slots(), place))
     }
 
     /// Whether the slot at a place is live.
@@ -110,6 +117,13 @@ impl PlainSheet {
         ensures { result ≡ volume_grains self.now.slots volume.0 }
     {
         grains_of_volume(self.slots(), volume.0)
+    }
+
+    /// A number of grains that no slot has more of.
+    pub fn width(&self) -> usize
+        ensures { (k : ℕ) → length (slot_at self.now.slots k).held ≤ result }
+    {
+        widest(self.slots())
     }
 
     /// The holder of a slot: the nearest at or before it in its chain that holds the grain.

@@ -1,9 +1,9 @@
 //! The restore graph: its edges, and whether it has a loop.
 
-ghost use Rattle.std.specs.Prelude.{◌≡◌, ℕ, ◌<◌, ◌↔◌, IfOk, OnOk, IsTrue, Contains, length, [], ◌∷◌, ◌++◌};
+ghost use Rattle.std.specs.Prelude.{◌≡◌, ℕ, ◌<◌, ◌↔◌, IfOk, OnOk, IsTrue, Contains, length};
 ghost use Rattle.fc_base.specs.RestoreGraph.{Edge};
 ghost use Rattle.fc_base.specs.Sheet.{slot_at, shape_of};
-ghost use Rattle.fc_model.specs.Graph.{LiveOfBehind, LeadsInto, HasSink, LoopFound};
+ghost use Rattle.fc_model.specs.Graph.{LiveOfBehind, LeadsInto, HasSink, Lists, LoopFound};
 
 use crate::places::{in_one_chain, is_live_at, is_old_at, volume_at};
 use crate::slot::Slot;
@@ -66,23 +66,26 @@ fn sink_of(slots: &[Slot], volumes: &[u32]) -> Option<usize>
     None
 }
 
-/// Puts a volume at the end.
-fn push_volume(volumes: &mut Vec<u32>, volume: u32) -> Result<(), NoMemory>
-    ensures { OnOk result (volumes.new.items ≡ volumes.old.items ++ volume ∷ []) }
+/// Puts a volume at the end, where it isn't listed yet.
+fn list_volume(volumes: &mut Vec<u32>, volume: u32) -> Result<(), NoMemory>
+    ensures { OnOk result (Lists volumes.old.items volumes.new.items volume) }
 {
+    if volumes.as_slice().contains(&volume) {
+        return Ok(());
+    }
     match volumes.push(volume) {
         Ok(()) => Ok(()),
         Err(_) => Err(NoMemory),
     }
 }
 
-/// The volumes of all slots.
+/// The volumes of all slots, each once.
 fn volumes_of(alloc: Global, slots: &[Slot]) -> Result<Vec<u32>, NoMemory>
     ensures { IfOk result (λ volumes. (k : ℕ) → k < length slots.now → Contains volumes.items (slot_at slots.now k).volume) }
 {
     let mut volumes = Vec::new(alloc);
     for place in 0..slots.len() {
-        push_volume(&mut volumes, volume_at(slots, place))?;
+        list_volume(&mut volumes, volume_at(slots, place))?;
     }
     Ok(volumes)
 }

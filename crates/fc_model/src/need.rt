@@ -51,7 +51,7 @@ pub(crate) fn used_as_source(slots: &[Slot], volume: u32) -> bool
 }
 
 /// A number of grains that no slot has more of.
-fn widest(slots: &[Slot]) -> usize
+pub(crate) fn widest(slots: &[Slot]) -> usize
     ensures { (k : ℕ) → length (slot_at slots.now k).held ≤ result }
 {
     let mut width = 0;
