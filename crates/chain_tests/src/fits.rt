@@ -36,8 +36,7 @@ fn fits_remove(plain: &PlainSheet, volume: VolId) -> bool
     };
     for other in 0..plain.len() {
         if other != place
-            && (plain.volume(other).0 == volume.0
-                || plain.chain(other).0 == plain.chain(place).0)
+            && (plain.volume(other).0 == volume.0 || plain.chain(other).0 == plain.chain(place).0)
         {
             return false;
         }

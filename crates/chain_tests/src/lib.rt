@@ -5,4 +5,13 @@
 //! passed over.
 #![tactic(auto)]
 
+#[cfg(test)]
+mod both;
+#[cfg(test)]
+mod draws;
+#[cfg(test)]
 mod fits;
+#[cfg(test)]
+mod taken;
+#[cfg(test)]
+mod tests;

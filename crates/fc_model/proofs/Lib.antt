@@ -4,5 +4,5 @@ mod Mapping
 mod Columns
 mod Asking
 mod Splitting
-mod Needs
+pub mod Needs
 mod Loops
