@@ -15,7 +15,9 @@ use crate::find::{grains_of_volume, place_of_birth, place_of_live, place_of_mapp
 use crate::graph::finds_loop;
 use crate::moves::{fill_moves_of, write_moves_of};
 use crate::need::{dependents_of, needed_somewhere, used_as_source, widest};
-use crate::places::{birth_at, chain_at, grains_of, holds_at, is_complete_at, is_live_at, volume_at};
+use crate::places::{
+    birth_at, chain_at, grains_of, holds_at, is_complete_at, is_live_at, volume_at,
+};
 use crate::sheet::PlainSheet;
 use fc_base::ids::{GrainNo, MapId, SlotId, VolId};
 use fc_base::list::List;
