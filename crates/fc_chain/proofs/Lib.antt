@@ -7,3 +7,6 @@ pub mod Plans
 pub mod Whole
 pub mod Fitting
 pub mod Counting
+pub mod Columns
+pub mod Needs
+pub mod Behind
