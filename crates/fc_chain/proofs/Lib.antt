@@ -10,3 +10,4 @@ pub mod Counting
 pub mod Columns
 pub mod Needs
 pub mod Behind
+pub mod Words

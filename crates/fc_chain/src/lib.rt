@@ -20,6 +20,7 @@ mod hold;
 mod old;
 mod plan;
 mod slot;
+mod waiting;
 mod walk;
 
 pub use cascade::Cascade;
