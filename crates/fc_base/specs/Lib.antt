@@ -20,3 +20,6 @@ pub mod MovePlan
 pub mod SheetStep
 pub mod SheetFacts
 pub mod SheetFits
+pub mod Counts
+pub mod Pools
+pub mod SheetView

@@ -1,5 +1,6 @@
 -- Ranges of grains, rising and never touching.
-use Rattle.std.specs.Prelude.{◌+◌, ◌<◌, ◌≤◌, List, [], ◌∷◌}
+use Rattle.std.specs.Prelude.{ℕ, ◌+◌, ◌<◌, ◌≤◌, Bool, ◌&&◌, nat_le, List, [], ◌∷◌}
+use Rattle.std.specs.List.{list_any}
 use Rattle.fc_base.specs.declared.ranges.Range.{Range}
 
 -- the range isn't empty, and between it and the last grain of the ranges before stands a grain of neither
@@ -18,3 +19,7 @@ IsRisingFrom before (range ∷ ranges) =
 abbrev pub IsRising : List Range → Type 0
 IsRising [] = Unit {0}
 IsRising (range ∷ ranges) = (range.first ≤ range.last) × IsRisingFrom range ranges
+
+-- whether a grain is in these ranges
+abbrev pub is_kept : List Range → ℕ → Bool
+is_kept kept g = list_any (λ range. nat_le range.first g && nat_le g range.last) kept

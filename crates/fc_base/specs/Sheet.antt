@@ -1,5 +1,6 @@
 -- Chains of copies: the slots of all chains, and the pairs of slot and grain that are held.
 use Rattle.std.specs.Prelude.{ℕ, Bool, false, ◌&&◌, eqb, Option, Some, None, List, [], length, slice_index_or}
+use Rattle.fc_base.specs.declared.ids.SlotId.{SlotId}
 use Rattle.fc_base.specs.Column.{Shape, Column, first_below, is_at}
 
 -- A slot is a state of a volume in a chain of copies. `birth` is its number, by which it is named; no two slots ever have
@@ -29,6 +30,10 @@ no_slot = record { birth = 0; chain = 0; volume = 0; is_live = false; mapping = 
 
 abbrev pub slot_at : List Slot → ℕ → Slot
 slot_at slots k = slice_index_or slots k no_slot
+
+-- The name of the slot at a place.
+abbrev pub slot_id : List Slot → ℕ → SlotId
+slot_id slots k = record { 0 = (slot_at slots k).birth }
 
 -- The slots without what they hold, by their places.
 abbrev pub shape_of : List Slot → Shape

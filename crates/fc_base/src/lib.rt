@@ -6,9 +6,11 @@
 //! bytes that they were made of, `Ranges` always rise, and a `List` is its items.
 //!
 //! In reading order: `outcome`, `list`, `ids`, `limits`, `size`, `name`, `runs`, `ranges`, `state`, `disk`,
-//! `fault`, `command`, `request`, `move_plan`, `volume`, `decision`.
+//! `fault`, `command`, `block`, `request`, `move_plan`, `volume`, `decision`; and the trait `sheet::Sheet`, by which
+//! decisions ask the chains of all lanes.
 #![tactic(auto)]
 
+pub mod block;
 pub mod command;
 pub mod decision;
 pub mod disk;
@@ -22,6 +24,7 @@ pub mod outcome;
 pub mod ranges;
 pub mod request;
 pub mod runs;
+pub mod sheet;
 pub mod size;
 pub mod state;
 pub mod volume;

@@ -3,7 +3,7 @@ use Rattle.std.proofs.Common.{◌≡◌, ℕ, zero, suc, ◌<◌, Bool, true, Op
 use Rattle.std.proofs.lemmas.Bool.{cases_eq, or_left, or_right, eq-eqb}
 use Rattle.fc_base.specs.Column.{holder, is_at}
 use Rattle.fc_base.specs.Sheet.{Slot, slot_at, column}
-use Rattle.fc_chain.specs.Counts.{any_below, reads_some}
+use Rattle.fc_base.specs.Counts.{any_below, reads_some}
 use Rattle.fc_chain.proofs.Finds.{read_at}
 
 any_from : (test : ℕ → Bool) (n g : ℕ) → g < n → test g ≡ true → any_below test n ≡ true

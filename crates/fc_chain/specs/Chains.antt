@@ -2,7 +2,7 @@
 use Rattle.std.specs.Prelude.{◌≡◌, ℕ, ◌+◌, ◌-◌, ◌/◌, ◌%◌, ◌<◌, ◌≤◌, Bool, Option, IsSome, List, [], length, option_map, slice_index_or}
 use Rattle.fc_base.specs.SheetFacts.{IsSound}
 use Rattle.fc_base.specs.declared.ids.SlotId.{SlotId}
-use Rattle.fc_base.specs.Sheet.{Slot, Sheet, slot_at, birth_place}
+use Rattle.fc_base.specs.Sheet.{Slot, Sheet, slot_id, birth_place}
 
 -- The chains of lane `lane` of `lanes`: the sheet of the lane's grains, and how many slots can be made, of at most how many
 -- grains each, without taking memory.
@@ -23,10 +23,6 @@ in_lane c g = g / c.lanes
 -- How many of a volume's grains the lane has.
 abbrev pub lane_grains : ℕ → ℕ → ℕ → ℕ
 lane_grains lane lanes grains = (grains + lanes - 1 - lane) / lanes
-
--- The name of the slot at a place.
-abbrev pub slot_id : List Slot → ℕ → SlotId
-slot_id slots k = record { 0 = (slot_at slots k).birth }
 
 abbrev pub found : List Slot → Option ℕ → Option SlotId
 found slots o = option_map (slot_id slots) o

@@ -4,4 +4,3 @@ pub mod Walks
 pub mod Found
 pub mod Births
 pub mod Planning
-pub mod Counts

@@ -8,7 +8,7 @@ ghost use Rattle.fc_base.specs.SheetFits.{FitsTaken, FitsLost};
 ghost use Rattle.fc_base.specs.SheetStep.{sheet_moved, sheet_written, sheet_torn};
 ghost use Rattle.fc_chain.specs.Chains.{IsOfLane, in_lane, found, IsThere};
 ghost use Rattle.fc_bits.specs.Grains.{count_set};
-ghost use Rattle.fc_chain.specs.Counts.{need_count_of, UsedAt, names_below, is_direct, is_unneeded};
+ghost use Rattle.fc_base.specs.Counts.{need_count_of, UsedAt, names_below, is_direct, is_unneeded};
 ghost use Rattle.fc_chain.specs.Planning.{CanPlan, planned_moves, volume_count};
 
 use crate::count::{add_direct, add_unneeded, count_needed, is_source};

@@ -2,7 +2,7 @@
 
 ghost use Rattle.std.specs.Prelude.{◌≡◌, ℕ, ◌<◌, ◌↔◌, IsTrue, length, OnOk, ◌++◌};
 ghost use Rattle.fc_base.specs.Sheet.{slot_at};
-ghost use Rattle.fc_chain.specs.Counts.{need_count_of, LiveBehind, UsedAt, reads_some, names_below, is_direct, is_unneeded};
+ghost use Rattle.fc_base.specs.Counts.{need_count_of, LiveBehind, UsedAt, reads_some, names_below, is_direct, is_unneeded};
 
 use crate::slot::Slot;
 use crate::walk::{first_reader_of, holder_of};

@@ -2,6 +2,7 @@
 use Rattle.std.specs.Prelude.{ℕ, ◌+◌, ◌*◌, Bool, ◌==◌, ◌&&◌, not, nat_le, cond, List, [], ◌∷◌, ◌++◌, map, filter, replicate, slice_set, Option, Some, None}
 use Rattle.std.specs.List.{list_any}
 use Rattle.fc_base.specs.Grain.{block_bytes}
+use Rattle.fc_base.specs.Ranges.{is_kept}
 use Rattle.fc_base.specs.declared.ids.VolId.{VolId}
 use Rattle.fc_base.specs.declared.ranges.Range.{Range}
 use Rattle.fc_base.specs.declared.size.GrainSize.{GrainSize}
@@ -56,10 +57,6 @@ after_trigger old pairs v = copied (source_in pairs v.volume)
     copied : Option VolId → PlainVolume
     copied None = v
     copied (Some source) = record v { now = now_in old source; under = v.now }
-
--- whether a grain is in these ranges
-abbrev pub is_kept : List Range → ℕ → Bool
-is_kept kept g = list_any (λ range. nat_le range.first g && nat_le g range.last) kept
 
 -- grain by grain from `g` on: what is kept of the one, and else the other
 abbrev pub cut_from : List Range → ℕ → List Content → List Content → List Content

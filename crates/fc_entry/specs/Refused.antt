@@ -13,7 +13,8 @@ use Rattle.fc_base.specs.declared.name.Ref.{Ref}
 use Rattle.fc_base.specs.declared.name.Ref.TheVariants.{Id, Name}
 use Rattle.fc_base.specs.declared.size.GrainSize.{GrainSize}
 use Rattle.fc_base.specs.declared.volume.Volume.{Volume}
-use Rattle.fc_entry.specs.Told.{Told, Pool, unit_bytes, kind_of, volume_name}
+use Rattle.fc_base.specs.Pools.{Pool, of_kind}
+use Rattle.fc_entry.specs.Told.{Told, unit_bytes, kind_of, volume_name}
 use Rattle.std.specs.Str.{bytes_eq}
 
 -- the first refusal of a list, if there is one
@@ -50,11 +51,6 @@ volume_by (Name name) volumes = with_name name volumes
 abbrev pub taken_by : Option ℕ → Option Refusal
 taken_by None = None
 taken_by (Some id) = Some (NameTaken id)
-
--- how many disks of a kind a pool has
-abbrev pub of_kind : DiskKind → Pool → ℕ
-of_kind Flat pool = pool.flat
-of_kind Thin pool = pool.thin
 
 -- whether some lane's pool has no disk of the kind
 abbrev pub lacks_disk : DiskKind → List Pool → Bool

@@ -14,14 +14,10 @@ use Rattle.fc_base.specs.declared.request.Request.TheVariants.{Command as Asked}
 use Rattle.fc_base.specs.declared.size.GrainSize.{GrainSize}
 use Rattle.fc_base.specs.declared.volume.Volume.{Volume}
 use Rattle.fc_base.specs.Grain.{grain_bytes}
+use Rattle.fc_base.specs.Pools.{Pool, pool_without}
 use Rattle.fc_entry.specs.declared.entry.Entry.{Entry}
 use Rattle.fc_entry.specs.Picture.{Picture}
 use Rattle.fc_entry.specs.PlainStep.{plain_step}
-
--- how many disks of each kind a lane has for new volumes
-pub record Pool : Type 0 where
-  pub flat : ℕ
-  pub thin : ℕ
 
 -- what a history tells: what plain volumes hold, the table of volumes by id and the next id, by lane the pool of
 -- disks and the faults of all its disks; how many calls of disks were made, and how many entries there are
@@ -56,11 +52,6 @@ unit_bytes (Some Gb) = 1073741824
 abbrev pub kind_of : Bool → DiskKind
 kind_of true = Thin
 kind_of false = Flat
-
--- the pool without one disk of the kind
-abbrev pub pool_without : DiskKind → Pool → Pool
-pool_without Flat pool = record pool { flat = pool.flat - 1 }
-pool_without Thin pool = record pool { thin = pool.thin - 1 }
 
 -- a volume's name: the one that was given, or `vdisk` and its id
 abbrev pub volume_name : Option (List ℕ) → ℕ → List ℕ

@@ -16,7 +16,8 @@ use Rattle.fc_entry.specs.Asked.{asked}
 use Rattle.fc_entry.specs.HistoryState.{HistoryState}
 use Rattle.fc_entry.specs.Refused.{lacks_disk}
 use Rattle.fc_entry.specs.Run.{by_main, line_asks}
-use Rattle.fc_entry.specs.Told.{Told, Pool, opened}
+use Rattle.fc_base.specs.Pools.{Pool}
+use Rattle.fc_entry.specs.Told.{Told, opened}
 use Rattle.fc_mdisk.specs.Disk.{is_flat}
 use Rattle.fc_single.specs.Answered.{Answered as AnsweredOne, StillStands}
 use Rattle.fc_single.specs.Single.{SingleState, StandsFor, told_of, can_make, kinds_of, pool_left, pool_by, opening, Keeps}

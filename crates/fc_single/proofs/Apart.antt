@@ -32,7 +32,8 @@ use Rattle.fc_entry.specs.Picture.{Content, Picture, zeros}
 use Rattle.fc_entry.specs.PlainStep.{after_request}
 use Rattle.fc_entry.specs.Refused.{access_refusal, mkvdisk_refusal, first_of, where_, taken_by, named, lacks_disk, all_grains}
 use Rattle.fc_entry.specs.Right.{IsApart, AccessIsRefused, MkvdiskAnswers}
-use Rattle.fc_entry.specs.Told.{Told, Pool, pool_without, faults_after_at, tables_after, told_step, volume_name}
+use Rattle.fc_base.specs.Pools.{Pool, pool_without}
+use Rattle.fc_entry.specs.Told.{Told, faults_after_at, tables_after, told_step, volume_name}
 use Rattle.fc_single.specs.Answered.{TakesCommand}
 use Rattle.fc_single.specs.Asking.{command_of}
 use Rattle.fc_single.specs.Single.{SingleState, Keeps, StandsFor, IsFirst, can_make, faults_in, kinds_of, picture_of, pool_by, pool_left, size_of}

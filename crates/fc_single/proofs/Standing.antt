@@ -16,7 +16,8 @@ use Rattle.fc_entry.specs.HistoryState.{HistoryState}
 use Rattle.fc_entry.specs.Picture.{Content, Picture, volume_in, now_at, content_at}
 use Rattle.fc_entry.specs.PlainStep.{after_request, after_loss}
 use Rattle.fc_entry.specs.Right.{IsInLane}
-use Rattle.fc_entry.specs.Told.{Told, Pool, tables_after, told_step}
+use Rattle.fc_base.specs.Pools.{Pool}
+use Rattle.fc_entry.specs.Told.{Told, tables_after, told_step}
 use Rattle.fc_entry.proofs.Appending.{entries_of-told_after}
 use Rattle.fc_single.specs.Single.{SingleState, StandsFor, IsFirst, IsQuiet, kinds_of, faults_in, picture_of, pool_left, size_of, opening, told_of}
 use Rattle.fc_single.specs.Step.{Called, lane_entry}

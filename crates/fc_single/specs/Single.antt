@@ -9,7 +9,8 @@ use Rattle.fc_mdisk.specs.Disk.{DiskState, is_flat}
 use Rattle.fc_mdisk.specs.Disks.{calls_of, faults_of}
 use Rattle.fc_entry.specs.HistoryState.{HistoryState}
 use Rattle.fc_entry.specs.Picture.{Content, Picture, zeros}
-use Rattle.fc_entry.specs.Told.{Pool, Told, opened, told_after, pool_without}
+use Rattle.fc_base.specs.Pools.{Pool, pool_without}
+use Rattle.fc_entry.specs.Told.{Told, opened, told_after}
 
 -- All that is said of the store.
 pub record SingleState : Type 0 where

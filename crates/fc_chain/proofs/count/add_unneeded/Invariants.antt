@@ -1,5 +1,5 @@
 use Rattle.std.proofs.Common.{◌≡◌, ◌++◌}
-use Rattle.fc_chain.specs.Counts.{names_below, is_unneeded}
+use Rattle.fc_base.specs.Counts.{names_below, is_unneeded}
 use Rattle.fc_chain.proofs.count.add_unneeded.Given as goal
 
 -- those so far are added

@@ -1,5 +1,5 @@
 use Rattle.std.proofs.Common.{◌≡◌, ◌≤◌}
-use Rattle.fc_chain.specs.Counts.{count_below, is_needed_at}
+use Rattle.fc_base.specs.Counts.{count_below, is_needed_at}
 use Rattle.fc_chain.proofs.count.count_needed.Given as goal
 
 -- the grains so far are counted

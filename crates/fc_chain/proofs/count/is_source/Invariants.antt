@@ -1,6 +1,6 @@
 use Rattle.std.proofs.Common.{◌≡◌, ℕ, ◌<◌}
 use Rattle.fc_base.specs.Sheet.{slot_at}
-use Rattle.fc_chain.specs.Counts.{LiveBehind}
+use Rattle.fc_base.specs.Counts.{LiveBehind}
 use Rattle.fc_chain.proofs.count.is_source.Given as goal
 
 -- no slot so far is one of the volume with a live slot behind it

@@ -1,7 +1,7 @@
 use Rattle.std.proofs.Common.{◌≡◌, false}
 use Rattle.fc_base.specs.Column.{holder, is_at}
 use Rattle.fc_base.specs.Sheet.{column}
-use Rattle.fc_chain.specs.Counts.{any_below}
+use Rattle.fc_base.specs.Counts.{any_below}
 use Rattle.fc_chain.proofs.count.reads_at.Given as goal
 
 -- at no grain so far

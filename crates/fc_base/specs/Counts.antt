@@ -1,9 +1,8 @@
 -- How many grains a slot holds, and how many others need of it.
 use Rattle.std.specs.Prelude.{◌≡◌, ℕ, zero, suc, ◌+◌, ◌<◌, Bool, true, false, cond, not, ◌&&◌, ◌||◌, eqb, is_some, List, [], ◌∷◌, ◌++◌, length}
 use Rattle.fc_base.specs.declared.ids.SlotId.{SlotId}
-use Rattle.fc_chain.specs.Chains.{slot_id}
 use Rattle.fc_base.specs.Column.{needer, holder, is_at}
-use Rattle.fc_base.specs.Sheet.{Slot, slot_at, column}
+use Rattle.fc_base.specs.Sheet.{Slot, slot_at, slot_id, column}
 
 -- How many numbers below a bound pass a test.
 abbrev pub count_below : (ℕ → Bool) → ℕ → ℕ
