@@ -3,16 +3,9 @@ use Rattle.std.proofs.Common.{◌≡◌, ◌≢◌, ℕ, ◌+◌, ◌<◌, ◌�
 use Rattle.std.proofs.lemmas.Bool.{cases_Bool, both_ways, cases_eq}
 use Rattle.fc_base.specs.Column.{Column, needer}
 use Rattle.fc_base.specs.Moves.{next_behind}
+use Rattle.fc_chain.specs.Tallies.{behind, awaited}
 use Rattle.fc_moves.proofs.Search.{cases_option}
 use Rattle.fc_moves.proofs.Readers.{IsHolder, Waits, is_reader_none, reader_from, next_is, next_none, is_next_none, next_from}
-
--- some live slot behind waits for the grain
-abbrev pub behind : Column → ℕ → Bool
-behind c k = is_some (next_behind c k)
-
--- a slot or one behind it waits for the grain with the slots before it
-abbrev pub awaited : Column → ℕ → Bool
-awaited c k = not (c.held k) && (c.is_live k || behind c k)
 
 -- ---- needs
 

@@ -11,3 +11,4 @@ pub mod Columns
 pub mod Needs
 pub mod Behind
 pub mod Words
+pub mod Tallying

@@ -9,8 +9,8 @@ use Rattle.fc_base.specs.Need.{IsNeeded, ReadsAt, IsDependent}
 use Rattle.fc_base.specs.RestoreGraph.{IsUsed}
 use Rattle.fc_base.specs.Sheet.{Slot, slot_at, shape_of, column}
 use Rattle.fc_base.specs.SheetFacts.{HasSizes}
-use Rattle.fc_chain.specs.Chains.{slot_id}
-use Rattle.fc_chain.specs.Counts.{count_below, is_needed_at, need_count_of, LiveBehind, UsedAt, any_below, reads_some, names_below, is_direct, is_unneeded}
+use Rattle.fc_base.specs.Sheet.{slot_id}
+use Rattle.fc_base.specs.Counts.{count_below, is_needed_at, need_count_of, LiveBehind, UsedAt, any_below, reads_some, names_below, is_direct, is_unneeded}
 use Rattle.fc_moves.proofs.Search.{cases_option}
 use Rattle.fc_moves.proofs.Readers.{IsHolder, IsReader, holder_is, is_holder, reader_is}
 use Rattle.fc_sheets.proofs.Finding.{at_true, at_from}

@@ -9,7 +9,7 @@ use Rattle.std.proofs.lemmas.Nat.{mod-pow-add, ones_cat, ones_le_self, mod_below
 use Rattle.std.proofs.lemmas.Nat.Bits.{bit_at-lt, bit_at-zero}
 use Rattle.fc_bits.specs.Words.{is_set, bit_in, bit_of}
 use Rattle.fc_bits.proofs.Pairs.{is_set-and, is_set-and_not, is_set-not}
-use Rattle.fc_chain.specs.Counts.{count_below}
+use Rattle.fc_base.specs.Counts.{count_below}
 
 -- ---- rows that are made in place, word by word
 

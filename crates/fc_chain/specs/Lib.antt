@@ -4,3 +4,4 @@ pub mod Walks
 pub mod Found
 pub mod Births
 pub mod Planning
+pub mod Tallies

@@ -20,6 +20,7 @@ mod hold;
 mod old;
 mod plan;
 mod slot;
+mod tally;
 mod waiting;
 mod walk;
 

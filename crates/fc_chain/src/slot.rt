@@ -96,6 +96,13 @@ impl Slot {
         self.held.len()
     }
 
+    /// The grains that it holds.
+    pub(crate) fn held(&self) -> &GrainSet
+        ensures { result.now ≡ self.now.held }
+    {
+        &self.held
+    }
+
     /// How many grains it holds.
     pub(crate) fn held_count(&self) -> u32
         ensures { result ≡ count_set self.now.held }

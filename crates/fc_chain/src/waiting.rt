@@ -2,7 +2,7 @@
 
 ghost use Rattle.std.specs.Prelude.{◌≡◌, ℕ, ◌*◌, ◌^◌, ◌<◌, ◌≤◌, not, ◌&&◌, false, length};
 ghost use Rattle.fc_bits.specs.Words.{bit_of};
-ghost use Rattle.fc_chain.specs.Counts.{count_below};
+ghost use Rattle.fc_base.specs.Counts.{count_below};
 
 /// Nobody waits for a grain of the first words.
 pub(crate) fn clear_waiting(waiting: &mut [u64], words: usize)

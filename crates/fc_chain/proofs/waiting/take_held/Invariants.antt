@@ -1,5 +1,5 @@
 use Rattle.std.proofs.Common.{◌≡◌, ◌*◌}
-use Rattle.fc_chain.specs.Counts.{count_below}
+use Rattle.fc_base.specs.Counts.{count_below}
 use Rattle.fc_chain.proofs.Words.{IsMadeUpTo, left_of, both_set}
 use Rattle.fc_chain.proofs.waiting.take_held.Given as goal
 

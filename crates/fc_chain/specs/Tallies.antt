@@ -1,0 +1,60 @@
+-- The counts that are kept of each slot, and how one pass from the last slot to the first makes them.
+use Rattle.std.specs.Prelude.{◌≡◌, ℕ, ◌+◌, ◌<◌, ◌≤◌, Bool, not, ◌&&◌, ◌||◌, is_some, List, length, slice_index_or}
+use Rattle.fc_bits.specs.Grains.{count_set}
+use Rattle.fc_bits.specs.Words.{bit_of, words_for}
+use Rattle.fc_base.specs.Column.{Column}
+use Rattle.fc_base.specs.Moves.{next_behind}
+use Rattle.fc_base.specs.Sheet.{Slot, slot_at, column}
+use Rattle.fc_base.specs.Counts.{need_count_of}
+use Rattle.fc_chain.specs.declared.tally.Tally.{Tally}
+
+-- ---- what is kept
+
+-- How many grains the slot holds, and at how many it has a needer.
+abbrev pub tally_of : List Slot → ℕ → Tally
+tally_of slots k = record { held = count_set (slot_at slots k).held; needed = need_count_of slots k }
+
+abbrev pub no_tally : Tally
+no_tally = record { held = 0; needed = 0 }
+
+abbrev pub tally_at : List Tally → ℕ → Tally
+tally_at tallies k = slice_index_or tallies k no_tally
+
+-- Each slot's counts stand at its place.
+abbrev pub AreTallies : List Slot → List Tally → Type 0
+AreTallies slots tallies = (k : ℕ) → k < length slots → tally_at tallies k ≡ tally_of slots k
+
+-- ---- the pass
+
+-- The slots of one chain stand together.
+abbrev pub StandTogether : List Slot → Type 0
+StandTogether slots =
+    (i j k : ℕ) → i < j → j < k → k < length slots → (slot_at slots i).chain ≡ (slot_at slots k).chain → (slot_at slots j).chain ≡ (slot_at slots i).chain
+
+-- The slots of one chain have as many grains.
+abbrev pub AreOneSize : List Slot → Type 0
+AreOneSize slots =
+    (i j : ℕ) → i < length slots → j < length slots → (slot_at slots i).chain ≡ (slot_at slots j).chain → length (slot_at slots i).held ≡ length (slot_at slots j).held
+
+-- The slot's chain goes on at the next place.
+abbrev pub GoesOn : List Slot → ℕ → Type 0
+GoesOn slots k = (k + 1 < length slots) × ((slot_at slots (k + 1)).chain ≡ (slot_at slots k).chain)
+
+-- Some live slot behind waits for the grain with the slot.
+abbrev pub behind : Column → ℕ → Bool
+behind c k = is_some (next_behind c k)
+
+-- The slot or a live one behind it waits for the grain with the slots before it.
+abbrev pub awaited : Column → ℕ → Bool
+awaited c k = not (c.held k) && (c.is_live k || behind c k)
+
+-- The words have the grains that are waited for behind the slot at a place, or by it and behind it.
+abbrev pub HasBehind : List Slot → ℕ → List ℕ → Type 0
+HasBehind slots k words = (g : ℕ) → g < length (slot_at slots k).held → bit_of words g ≡ behind (column slots g) k
+
+abbrev pub HasAwaited : List Slot → ℕ → List ℕ → Type 0
+HasAwaited slots k words = k < length slots → (g : ℕ) → g < length (slot_at slots k).held → bit_of words g ≡ awaited (column slots g) k
+
+-- There are words for the grains of each slot.
+abbrev pub HasWordsFor : List Slot → List ℕ → Type 0
+HasWordsFor slots words = (k : ℕ) → k < length slots → words_for (length (slot_at slots k).held) ≤ length words
