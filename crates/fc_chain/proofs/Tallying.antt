@@ -1,7 +1,8 @@
 -- The pass from the back counts what is needed.
-use Rattle.std.proofs.Common.{◌≡◌, ◌≢◌, ℕ, zero, suc, ◌+◌, ◌-◌, ◌*◌, ◌^◌, ◌<◌, ◌≤◌, Bool, true, false, not, ◌&&◌, ◌||◌, cond, is_some, List, length, get_or, set, refl, sym, ap, ◌∙◌, arith, ◌⊎◌, inl, inr, add-zero, get_or-set_same, get_or-set_other}
+use Rattle.std.proofs.Common.{◌≡◌, ◌≢◌, ℕ, zero, suc, ◌+◌, ◌-◌, ◌*◌, ◌^◌, ◌<◌, ◌≤◌, Bool, true, false, not, ◌&&◌, ◌||◌, cond, is_some, List, length, get_or, set, refl, sym, ap, subst, ◌∙◌, arith, ◌⊎◌, inl, inr, add-zero, get_or-set_same, get_or-set_other}
 use Rattle.std.proofs.lemmas.Bool.{cases_Bool, cases_eq, cases_lt, and_right}
 use Rattle.std.proofs.lemmas.List.{get_or_past}
+use Rattle.fc_bits.specs.Grains.{count_set}
 use Rattle.fc_bits.specs.Words.{bit_of, words_for}
 use Rattle.fc_base.specs.Column.{Column, needer}
 use Rattle.fc_base.specs.Sheet.{Slot, slot_at, column}
@@ -10,6 +11,7 @@ use Rattle.fc_chain.specs.Tallies.{tally_of, tally_at, no_tally, StandTogether, 
 use Rattle.fc_chain.specs.declared.tally.Tally.{Tally}
 use Rattle.fc_chain.proofs.Behind.{needed_is, behind_last, behind_next}
 use Rattle.fc_chain.proofs.Words.{both_set}
+use Rattle.fc_chain.proofs.Finds.{read_at}
 
 -- ---- counts
 
@@ -113,3 +115,23 @@ tallied_more slots tallies place t lt within room e f k low high =
       | inl same ↦ ap (λ z. get_or (set tallies (place - 1) t) z no_tally) same ∙ (get_or-set_same tallies (place - 1) t no_tally (omega arith) ∙ (e ∙ ap (tally_of slots) (sym same)))
       | inr ne ↦ let other : k ≢ place - 1 = ne in get_or-set_other tallies (place - 1) k t no_tally other ∙ f k (omega arith) high
     ]
+
+-- ---- what the code reads
+
+pub holds_words : (slots : List Slot) (k : ℕ) (t : Slot) (held : List Bool) (words : List ℕ) → k < length slots → t ≡ get_or slots k t → held ≡ t.held →
+    length words ≡ words_for (length held) → ((g : ℕ) → bit_of words g ≡ get_or held g false) → length held < 2 ^ 32 → HoldsWords (slot_at slots k).held words
+holds_words slots k t held words lt e q len bits few =
+    let same : held ≡ (slot_at slots k).held = q ∙ ap (λ (x : Slot). x.held) (sym (read_at slots k t lt e)) in
+    let P : List Bool → Type 0 = λ z. HoldsWords z words in
+    subst P same (record { len = len; bits = bits; numbered = few })
+
+pub same_tally : (slots : List Slot) (k : ℕ) (t : Slot) (held needed : ℕ) (w words : List ℕ) → k < length slots → t ≡ get_or slots k t → held ≡ count_set t.held →
+    needed ≡ count_below (both_set w words) (64 * length words) → HoldsWords (slot_at slots k).held words → HasBehind slots k w →
+    (let s : Tally = record { held = held; needed = needed } in s) ≡ tally_of slots k
+same_tally slots k t held needed w words lt e q r h b =
+    let x : held ≡ count_set (slot_at slots k).held = q ∙ ap (λ (z : Slot). count_set z.held) (sym (read_at slots k t lt e)) in
+    let y : needed ≡ need_count_of slots k = r ∙ needed_count slots k w words h b in
+    ap (λ z. let s : Tally = record { held = z; needed = needed } in s) x ∙ ap (λ z. let s : Tally = record { held = count_set (slot_at slots k).held; needed = z } in s) y
+
+pub live_read : (slots : List Slot) (k : ℕ) (t : Slot) (b : Bool) → k < length slots → t ≡ get_or slots k t → (slot_at slots k).is_live ≡ t.is_live
+live_read slots k t b lt e = ap (λ (x : Slot). x.is_live) (read_at slots k t lt e)
