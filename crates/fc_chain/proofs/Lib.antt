@@ -6,9 +6,9 @@ pub mod Places
 pub mod Plans
 pub mod Whole
 pub mod Fitting
-pub mod Counting
 pub mod Columns
 pub mod Needs
 pub mod Behind
 pub mod Words
 pub mod Tallying
+pub mod Direct

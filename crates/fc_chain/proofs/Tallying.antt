@@ -7,7 +7,7 @@ use Rattle.fc_bits.specs.Words.{bit_of, words_for}
 use Rattle.fc_base.specs.Column.{Column, needer}
 use Rattle.fc_base.specs.Sheet.{Slot, slot_at, column}
 use Rattle.fc_base.specs.Counts.{count_below, is_needed_at, need_count_of}
-use Rattle.fc_chain.specs.Tallies.{tally_of, tally_at, no_tally, StandTogether, AreOneSize, GoesOn, behind, awaited, HasBehind, HasAwaited}
+use Rattle.fc_chain.specs.Tallies.{tally_of, tally_at, no_tally, StandTogether, AreOneSize, GoesOn, behind, awaited, HasBehind, HasAwaited, HoldsWords}
 use Rattle.fc_chain.specs.declared.tally.Tally.{Tally}
 use Rattle.fc_chain.proofs.Behind.{needed_is, behind_last, behind_next}
 use Rattle.fc_chain.proofs.Words.{both_set}
@@ -37,12 +37,6 @@ count_le test (suc n) = let ih : count_below test n ≤ n = count_le test n in s
     step false x le = omega arith
 
 -- ---- one slot
-
--- the words that a slot holds
-pub record HoldsWords (held : List Bool) (words : List ℕ) : Type 0 where
-  pub len : length words ≡ words_for (length held)
-  pub bits : (g : ℕ) → bit_of words g ≡ get_or held g false
-  pub numbered : length held < 2 ^ 32
 
 pub needed_count : (slots : List Slot) (k : ℕ) (w words : List ℕ) → HoldsWords (slot_at slots k).held words → HasBehind slots k w →
     count_below (both_set w words) (64 * length words) ≡ need_count_of slots k

@@ -1,5 +1,5 @@
 -- The counts that are kept of each slot, and how one pass from the last slot to the first makes them.
-use Rattle.std.specs.Prelude.{◌≡◌, ℕ, ◌+◌, ◌<◌, ◌≤◌, Bool, not, ◌&&◌, ◌||◌, is_some, List, length, slice_index_or}
+use Rattle.std.specs.Prelude.{◌≡◌, ℕ, ◌+◌, ◌<◌, ◌≤◌, ◌^◌, Bool, false, not, ◌&&◌, ◌||◌, is_some, List, length, slice_index_or}
 use Rattle.fc_bits.specs.Grains.{count_set}
 use Rattle.fc_bits.specs.Words.{bit_of, words_for}
 use Rattle.fc_base.specs.Column.{Column}
@@ -58,3 +58,9 @@ HasAwaited slots k words = k < length slots → (g : ℕ) → g < length (slot_a
 -- There are words for the grains of each slot.
 abbrev pub HasWordsFor : List Slot → List ℕ → Type 0
 HasWordsFor slots words = (k : ℕ) → k < length slots → words_for (length (slot_at slots k).held) ≤ length words
+
+-- The words have the grains that a slot holds.
+pub record HoldsWords (held : List Bool) (words : List ℕ) : Type 0 where
+  pub len : length words ≡ words_for (length held)
+  pub bits : (g : ℕ) → bit_of words g ≡ slice_index_or held g false
+  pub numbered : length held < 2 ^ 32

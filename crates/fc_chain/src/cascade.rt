@@ -231,7 +231,7 @@ impl Cascade {
         ensures { OnOk result ((k : ℕ) → birth_place self.now.sheet.slots slot.0 ≡ Some k → out.new ≡ out.old ++ names_below self.now.sheet.slots (is_direct self.now.sheet.slots k) (length self.now.sheet.slots)) }
     {
         let slots = self.slots.as_slice();
-        add_direct(slots, place_of(slots, slot), out)
+        add_direct(*self.slots.allocator(), slots, place_of(slots, slot), out)
     }
 
     /// Adds the old slots that no slot needs at a grain of the lane, in order of their places. Refused, the list

@@ -2,13 +2,17 @@
 
 ghost use Rattle.std.specs.Prelude.{◌≡◌, ℕ, ◌<◌, ◌↔◌, IsTrue, length, OnOk, ◌++◌};
 ghost use Rattle.fc_base.specs.Sheet.{slot_at};
-ghost use Rattle.fc_base.specs.Counts.{need_count_of, LiveBehind, UsedAt, reads_some, names_below, is_direct, is_unneeded};
+ghost use Rattle.fc_base.specs.Counts.{need_count_of, LiveBehind, UsedAt, names_below, is_direct, is_unneeded};
+ghost use Rattle.fc_chain.specs.Tallies.{StandTogether, AreOneSize, HoldsWords};
 
 use crate::slot::Slot;
-use crate::walk::{first_reader_of, holder_of};
+use crate::tally::goes_on;
+use crate::waiting::take_held;
+use crate::walk::first_reader_of;
 use fc_base::ids::SlotId;
 use fc_base::list::List;
 use fc_base::outcome::NoMemory;
+use std::alloc::Global;
 
 /// At how many of the lane's grains the slot at a place has a needer.
 pub(crate) fn count_needed(slots: &[Slot], place: usize) -> u32
@@ -52,31 +56,45 @@ pub(crate) fn is_source(slots: &[Slot], volume: u32) -> bool
     false
 }
 
-/// Whether the slot at `reader` has the one at `place` as holder at some grain.
-fn reads_at(slots: &[Slot], reader: usize, place: usize) -> bool
-    requires { reader < length slots.now }
-    ensures { result ≡ reads_some slots.now place reader }
-{
-    for grain in 0..slots[reader].grains() {
-        if let Some(holder) = holder_of(slots, reader, grain)
-            && holder == place
-        {
-            return true;
-        }
-    }
-    false
-}
-
 /// Adds the names of the live slots other than the one at a place that have it as holder at some grain.
 pub(crate) fn add_direct(
+    alloc: Global,
     slots: &[Slot],
     place: usize,
     out: &mut List<SlotId>,
 ) -> Result<(), NoMemory>
+    requires there { place < length slots.now }
+    requires together { StandTogether slots.now }
+    requires sizes { AreOneSize slots.now }
     ensures { OnOk result (out.new ≡ out.old ++ names_below slots.now (is_direct slots.now place) (length slots.now)) }
 {
-    for (reader, slot) in slots.iter().enumerate() {
-        if slot.is_live() && reader != place && reads_at(slots, reader, place) {
+    match Vec::from_slice(alloc, slots[place].held().words()) {
+        Ok(mut left) => add_readers(slots, place, &mut left, out),
+        Err(_) => Err(NoMemory),
+    }
+}
+
+/// Adds the live slots behind a place that read there, as long as some grain that it holds is held by no slot
+/// between; `left` has its grains at first.
+fn add_readers(
+    slots: &[Slot],
+    place: usize,
+    left: &mut [u64],
+    out: &mut List<SlotId>,
+) -> Result<(), NoMemory>
+    requires there { place < length slots.now }
+    requires together { StandTogether slots.now }
+    requires sizes { AreOneSize slots.now }
+    requires left { HoldsWords (slot_at slots.now place).held left.old }
+    ensures { OnOk result (out.new ≡ out.old ++ names_below slots.now (is_direct slots.now place) (length slots.now)) }
+{
+    let mut remaining = slots[place].held_count();
+    let mut reader = place;
+    while remaining > 0 && goes_on(slots, reader) {
+        reader += 1;
+        let slot = &slots[reader];
+        remaining -= take_held(left, slot.held().words());
+        if remaining > 0 && slot.is_live() {
             out.push(SlotId(slot.birth()))?;
         }
     }

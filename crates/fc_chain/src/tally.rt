@@ -18,7 +18,7 @@ pub(crate) struct Tally {
 }
 
 /// Whether the slot's chain goes on at the next place.
-fn goes_on(slots: &[Slot], place: usize) -> bool
+pub(crate) fn goes_on(slots: &[Slot], place: usize) -> bool
     requires { place < length slots.now }
     ensures { IsTrue result ↔ GoesOn slots.now place }
 {
