@@ -9,7 +9,8 @@ use Rattle.fc_bits.specs.Words.{bit_of, words_for}
 use Rattle.fc_base.specs.Column.{Column, holder, is_at}
 use Rattle.fc_base.specs.Sheet.{Slot, slot_at, slot_id, column}
 use Rattle.fc_base.specs.Counts.{count_below, any_below, names_below, reads_some, is_direct}
-use Rattle.fc_chain.specs.Tallies.{StandTogether, AreOneSize, GoesOn, HoldsWords}
+use Rattle.fc_chain.specs.Contiguous.{IsContiguous}
+use Rattle.fc_chain.specs.Tallies.{AreOneSize, GoesOn, HoldsWords}
 use Rattle.fc_moves.proofs.Search.{cases_option}
 use Rattle.fc_moves.proofs.Readers.{IsHolder, holder_is, is_holder, holder_between, own_holder}
 use Rattle.fc_sheets.proofs.Finding.{at_true, at_from}
@@ -223,7 +224,7 @@ direct_none slots k j n left r w l z le =
     omega arith)
 
 -- behind the chain's last slot none reads
-pub direct_past : (slots : List Slot) (k j n : ℕ) → StandTogether slots → WalkAt slots k j → (GoesOn slots j → ⊥) → j < n → n < length slots → is_direct slots k n ≡ false
+pub direct_past : (slots : List Slot) (k j n : ℕ) → IsContiguous slots → WalkAt slots k j → (GoesOn slots j → ⊥) → j < n → n < length slots → is_direct slots k n ≡ false
 direct_past slots k j n together w ends lt there =
     false_from_ne_true (is_direct slots k n) (λ e.
     let f = direct_grain slots k n e in
@@ -231,7 +232,7 @@ direct_past slots k j n together w ends lt there =
     let q : (slot_at slots j).chain ≡ (slot_at slots n).chain = w.one_chain ∙ h.1 in
     elim (cases_eq n (j + 1)) [
       | inl same ↦ ends (omega arith, ap (λ z. (slot_at slots z).chain) (sym same) ∙ sym q)
-      | inr ne ↦ ends (omega arith, together j (j + 1) n (omega arith) (omega arith) there q)
+      | inr ne ↦ ends (omega arith, together j (j + 1) n (omega arith) (omega arith) there q ∙ sym q)
     ])
 
 -- ---- names

@@ -9,6 +9,11 @@ pub mod Fitting
 pub mod Columns
 pub mod Needs
 pub mod Behind
+pub mod Awaiting
 pub mod Words
 pub mod Tallying
 pub mod Direct
+pub mod Tables
+pub mod Rising
+pub mod Dividing
+pub mod Together

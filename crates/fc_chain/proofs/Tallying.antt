@@ -7,9 +7,10 @@ use Rattle.fc_bits.specs.Words.{bit_of, words_for}
 use Rattle.fc_base.specs.Column.{Column, needer}
 use Rattle.fc_base.specs.Sheet.{Slot, slot_at, column}
 use Rattle.fc_base.specs.Counts.{count_below, is_needed_at, need_count_of}
-use Rattle.fc_chain.specs.Tallies.{tally_of, tally_at, no_tally, StandTogether, AreOneSize, GoesOn, behind, awaited, HasBehind, HasAwaited, HoldsWords}
+use Rattle.fc_chain.specs.Contiguous.{IsContiguous}
+use Rattle.fc_chain.specs.Tallies.{tally_of, tally_at, no_tally, AreOneSize, GoesOn, behind, awaited, HasBehind, HasAwaited, HoldsWords}
 use Rattle.fc_chain.specs.declared.tally.Tally.{Tally}
-use Rattle.fc_chain.proofs.Behind.{needed_is, behind_last, behind_next}
+use Rattle.fc_chain.proofs.Awaiting.{needed_is, behind_last, behind_next}
 use Rattle.fc_chain.proofs.Words.{both_set}
 use Rattle.fc_chain.proofs.Finds.{read_at}
 
@@ -91,13 +92,13 @@ behind_on slots k w there sizes go a g lt =
     let size : length (slot_at slots (k + 1)).held ≡ length (slot_at slots k).held = sizes (k + 1) k there' there go.1 in
     a there' g (omega arith) ∙ sym (behind_next (column slots g) k (k + 1) refl there' go.1)
 
-pub behind_end : (slots : List Slot) (k : ℕ) (w words : List ℕ) → HoldsWords (slot_at slots k).held words → StandTogether slots → (GoesOn slots k → ⊥) →
+pub behind_end : (slots : List Slot) (k : ℕ) (w words : List ℕ) → HoldsWords (slot_at slots k).held words → IsContiguous slots → (GoesOn slots k → ⊥) →
     ((g : ℕ) → g < 64 * length words → bit_of w g ≡ false) → HasBehind slots k w
 behind_end slots k w words h together ends e g lt =
     e g (words_reach (slot_at slots k).held words g h lt) ∙ sym (behind_last (column slots g) k (λ n kn nl q.
     elim (cases_eq n (k + 1)) [
       | inl same ↦ ends (omega arith, ap (λ z. (slot_at slots z).chain) (sym same) ∙ q)
-      | inr ne ↦ ends (omega arith, together k (k + 1) n (omega arith) (omega arith) nl (sym q))
+      | inr ne ↦ ends (omega arith, together k (k + 1) n (omega arith) (omega arith) nl (sym q) ∙ q)
     ]))
 
 -- ---- the list

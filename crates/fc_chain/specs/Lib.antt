@@ -5,3 +5,6 @@ pub mod Found
 pub mod Births
 pub mod Planning
 pub mod Tallies
+pub mod Table
+pub mod Room
+pub mod Contiguous

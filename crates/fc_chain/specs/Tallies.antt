@@ -26,11 +26,6 @@ AreTallies slots tallies = (k : ℕ) → k < length slots → tally_at tallies k
 
 -- ---- the pass
 
--- The slots of one chain stand together.
-abbrev pub StandTogether : List Slot → Type 0
-StandTogether slots =
-    (i j k : ℕ) → i < j → j < k → k < length slots → (slot_at slots i).chain ≡ (slot_at slots k).chain → (slot_at slots j).chain ≡ (slot_at slots i).chain
-
 -- The slots of one chain have as many grains.
 abbrev pub AreOneSize : List Slot → Type 0
 AreOneSize slots =

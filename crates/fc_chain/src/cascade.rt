@@ -1,28 +1,30 @@
 //! The chains of copies of one lane.
 
-ghost use Rattle.std.specs.Prelude.{◌≡◌, ℕ, ◌<◌, ◌≤◌, ◌/◌, ◌↔◌, ◌++◌, length, OnOk, IsTrue, Some, false};
+ghost use Rattle.std.specs.Prelude.{◌≡◌, ℕ, ◌<◌, ◌≤◌, ◌/◌, ◌↔◌, ◌++◌, length, OnOk, OnErr, IsTrue, Some, false, fold};
 ghost use Rattle.fc_base.specs.Sheet.{no_slots, slot_at, column, live_place, mapping_place, birth_place};
 ghost use Rattle.fc_base.specs.Column.{holder, needer};
 ghost use Rattle.fc_base.specs.declared.request.Side.TheVariants.{Under};
-ghost use Rattle.fc_base.specs.SheetFits.{FitsTaken, FitsLost};
-ghost use Rattle.fc_base.specs.SheetStep.{sheet_moved, sheet_written, sheet_torn};
-ghost use Rattle.fc_chain.specs.Chains.{IsOfLane, in_lane, found, IsThere};
+ghost use Rattle.fc_base.specs.SheetFits.{FitsTaken, FitsLost, FitsEvents};
+ghost use Rattle.fc_base.specs.SheetStep.{sheet_moved, sheet_written, sheet_torn, sheet_step};
+ghost use Rattle.fc_chain.specs.Chains.{IsOfLane, in_lane, lane_grains, found, IsThere};
+ghost use Rattle.fc_chain.specs.Room.{HasRoomFor};
 ghost use Rattle.fc_bits.specs.Grains.{count_set};
 ghost use Rattle.fc_base.specs.Counts.{need_count_of, UsedAt, names_below, is_direct, is_unneeded};
 ghost use Rattle.fc_chain.specs.Planning.{CanPlan, planned_moves, volume_count};
 
 use crate::count::{add_direct, add_unneeded, count_needed, is_source};
+use crate::events::step_all;
 use crate::find::{name_of, place_of, place_of_live, place_of_mapping};
-use crate::hold::{keep_grain, lose_grain, take_grain};
 use crate::plan::{LaneGrain, plan_fill, plan_write};
-use crate::slot::Slot;
+use crate::room::{slots_made, widest};
+use crate::table::SlotTable;
 use crate::walk::{first_reader_of, holder_of};
+use fc_base::decision::LaneEvents;
 use fc_base::ids::{MapId, SlotId, VolId};
 use fc_base::list::List;
 use fc_base::move_plan::MovePlan;
 use fc_base::outcome::NoMemory;
 use fc_base::request::{Planned, Side};
-use fc_bits::GrainSet;
 use std::alloc::Global;
 use std::marker::Model;
 
@@ -31,21 +33,17 @@ use std::marker::Model;
 pub struct Cascade {
     lane: u8,
     lanes: u8,
-    births: u64,
-    slots: Vec<Slot>,
-    spare: Vec<GrainSet>,
-    width: u32,
+    table: SlotTable,
 }
 
 impl Model for Cascade {
-    ghost use Rattle.std.specs.Prelude.{length, vec_capacity};
     ghost use Rattle.fc_chain.specs.Chains.{Chains, IsKept};
 
     ghost Value = { Chains };
 
-    ghost view = { λ c. record { lane = c.lane; lanes = c.lanes; sheet = record { births = c.births; slots = c.slots.items }; room = length c.spare.items; width = c.width } };
+    ghost view = { λ c. record { lane = c.lane; lanes = c.lanes; sheet = c.table.sheet; room = c.table.room; width = c.table.width } };
 
-    ghost invariant = { λ c. IsKept c.lane c.lanes (record { births = c.births; slots = c.slots.items }) c.spare.items c.width (vec_capacity c.slots) };
+    ghost invariant = { λ c. IsKept c.lane c.lanes c.table.sheet };
 }
 
 impl Cascade {
@@ -59,18 +57,42 @@ impl Cascade {
         Cascade {
             lane,
             lanes,
-            births: 0,
-            slots: Vec::new(alloc),
-            spare: Vec::new(alloc),
-            width: 0,
+            table: SlotTable::new(alloc),
         }
+    }
+
+    /// Makes room for the slots that the events can make, so that `apply` of them takes no memory. Room that was there
+    /// stays. Refused, all is as it was.
+    pub fn reserve(&mut self, events: &LaneEvents) -> Result<(), NoMemory>
+        ensures ok { OnOk result (HasRoomFor self.new events.now) }
+        ensures same { self.new ≡ record self.old { room = self.new.room; width = self.new.width } }
+        ensures room_stays { self.old.room ≤ self.new.room }
+        ensures width_stays { self.old.width ≤ self.new.width }
+        ensures err { OnErr result (self.new ≡ self.old) }
+    {
+        let events = events.as_slice();
+        match slots_made(events) {
+            Some(slots) => self
+                .table
+                .make_room(slots, widest(events, self.lane, self.lanes)),
+            None => Err(NoMemory),
+        }
+    }
+
+    /// Does what the events say to the chains, in order. They fit, and there is room for them. Takes no memory.
+    pub fn apply(&mut self, events: &LaneEvents)
+        requires fit { FitsEvents (lane_grains self.old.lane self.old.lanes) self.old.sheet events.now }
+        requires room { HasRoomFor self.old events.now }
+        ensures { self.new ≡ record self.old { sheet = fold (sheet_step (lane_grains self.old.lane self.old.lanes)) self.old.sheet events.now; room = self.new.room } }
+    {
+        step_all(&mut self.table, events.as_slice(), self.lane, self.lanes);
     }
 
     /// The volume's live slot, and None exactly where there is no such volume.
     pub fn live(&self, volume: VolId) -> Option<SlotId>
         ensures { result ≡ found self.now.sheet.slots (live_place self.now.sheet.slots volume.0) }
     {
-        let slots = self.slots.as_slice();
+        let slots = self.table.as_slice();
         name_of(slots, place_of_live(slots, volume.0))
     }
 
@@ -79,7 +101,7 @@ impl Cascade {
         requires { IsThere self.now.sheet.slots slot }
         ensures { (k : ℕ) → birth_place self.now.sheet.slots slot.0 ≡ Some k → result.0 ≡ (slot_at self.now.sheet.slots k).volume }
     {
-        let slots = self.slots.as_slice();
+        let slots = self.table.as_slice();
         VolId(slots[place_of(slots, slot)].volume())
     }
 
@@ -87,7 +109,7 @@ impl Cascade {
     pub fn slot(&self, map: MapId) -> Option<SlotId>
         ensures { result ≡ found self.now.sheet.slots (mapping_place self.now.sheet.slots map.0) }
     {
-        let slots = self.slots.as_slice();
+        let slots = self.table.as_slice();
         name_of(slots, place_of_mapping(slots, map.0))
     }
 
@@ -98,7 +120,7 @@ impl Cascade {
         requires of_lane { IsOfLane self.now grain }
         ensures { (k : ℕ) → birth_place self.now.sheet.slots slot.0 ≡ Some k → result ≡ found self.now.sheet.slots (holder (column self.now.sheet.slots (in_lane self.now grain)) k) }
     {
-        let slots = self.slots.as_slice();
+        let slots = self.table.as_slice();
         name_of(
             slots,
             holder_of(slots, place_of(slots, slot), grain / self.lanes as u32),
@@ -112,7 +134,7 @@ impl Cascade {
         requires of_lane { IsOfLane self.now grain }
         ensures { (k : ℕ) → birth_place self.now.sheet.slots slot.0 ≡ Some k → result ≡ found self.now.sheet.slots (needer (column self.now.sheet.slots (in_lane self.now grain)) k) }
     {
-        let slots = self.slots.as_slice();
+        let slots = self.table.as_slice();
         let place = place_of(slots, slot);
         name_of(
             slots,
@@ -130,9 +152,9 @@ impl Cascade {
         let volume = self.volume(slot);
         let grain = grain / self.lanes as u32;
         if in_place {
-            keep_grain(&mut self.slots, volume.0, grain);
+            self.table.keep(volume.0, grain);
         } else {
-            take_grain(&mut self.slots, volume.0, grain);
+            self.table.take(volume.0, grain);
         }
     }
 
@@ -143,7 +165,7 @@ impl Cascade {
         ensures { self.new ≡ record self.old { sheet = sheet_written volume.0 (in_lane self.old grain) self.old.sheet } }
     {
         let grain = grain / self.lanes as u32;
-        take_grain(&mut self.slots, volume.0, grain);
+        self.table.take(volume.0, grain);
     }
 
     /// A write of the volume's grain failed and left any bytes in it. With `Now` what the volume shows is lost
@@ -156,8 +178,8 @@ impl Cascade {
     {
         let grain = grain / self.lanes as u32;
         match side {
-            Side::Now => take_grain(&mut self.slots, volume.0, grain),
-            Side::Under => lose_grain(&mut self.slots, volume.0, grain),
+            Side::Now => self.table.take(volume.0, grain),
+            Side::Under => self.table.lose(volume.0, grain),
         }
     }
 
@@ -167,7 +189,7 @@ impl Cascade {
         requires room { volume_count self.now.sheet.slots ≤ plan.old.room }
         ensures { plan.new ≡ record plan.old { moves = planned_moves self.now.sheet.slots self.now.lanes write } }
     {
-        let slots = self.slots.as_slice();
+        let slots = self.table.as_slice();
         let lanes = self.lanes as u32;
         plan.clear();
         match write {
@@ -203,7 +225,7 @@ impl Cascade {
         requires { IsThere self.now.sheet.slots slot }
         ensures { (k : ℕ) → birth_place self.now.sheet.slots slot.0 ≡ Some k → result ≡ count_set (slot_at self.now.sheet.slots k).held }
     {
-        let slots = self.slots.as_slice();
+        let slots = self.table.as_slice();
         slots[place_of(slots, slot)].held_count()
     }
 
@@ -212,7 +234,7 @@ impl Cascade {
         requires { IsThere self.now.sheet.slots slot }
         ensures { (k : ℕ) → birth_place self.now.sheet.slots slot.0 ≡ Some k → result ≡ need_count_of self.now.sheet.slots k }
     {
-        let slots = self.slots.as_slice();
+        let slots = self.table.as_slice();
         count_needed(slots, place_of(slots, slot))
     }
 
@@ -221,7 +243,7 @@ impl Cascade {
     pub fn used(&self, volume: VolId) -> bool
         ensures { IsTrue result ↔ UsedAt self.now.sheet.slots volume.0 }
     {
-        is_source(self.slots.as_slice(), volume.0)
+        is_source(self.table.as_slice(), volume.0)
     }
 
     /// Adds the live slots other than this one that have it as holder at some grain of the lane, in order of
@@ -230,8 +252,8 @@ impl Cascade {
         requires { IsThere self.now.sheet.slots slot }
         ensures { OnOk result ((k : ℕ) → birth_place self.now.sheet.slots slot.0 ≡ Some k → out.new ≡ out.old ++ names_below self.now.sheet.slots (is_direct self.now.sheet.slots k) (length self.now.sheet.slots)) }
     {
-        let slots = self.slots.as_slice();
-        add_direct(*self.slots.allocator(), slots, place_of(slots, slot), out)
+        let slots = self.table.as_slice();
+        add_direct(self.table.alloc(), slots, place_of(slots, slot), out)
     }
 
     /// Adds the old slots that no slot needs at a grain of the lane, in order of their places. Refused, the list
@@ -239,6 +261,6 @@ impl Cascade {
     pub fn unneeded(&self, out: &mut List<SlotId>) -> Result<(), NoMemory>
         ensures { OnOk result (out.new ≡ out.old ++ names_below self.now.sheet.slots (is_unneeded self.now.sheet.slots) (length self.now.sheet.slots)) }
     {
-        add_unneeded(self.slots.as_slice(), out)
+        add_unneeded(self.table.as_slice(), out)
     }
 }

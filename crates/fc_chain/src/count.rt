@@ -3,7 +3,8 @@
 ghost use Rattle.std.specs.Prelude.{◌≡◌, ℕ, ◌<◌, ◌↔◌, IsTrue, length, OnOk, ◌++◌};
 ghost use Rattle.fc_base.specs.Sheet.{slot_at};
 ghost use Rattle.fc_base.specs.Counts.{need_count_of, LiveBehind, UsedAt, names_below, is_direct, is_unneeded};
-ghost use Rattle.fc_chain.specs.Tallies.{StandTogether, AreOneSize, HoldsWords};
+ghost use Rattle.fc_chain.specs.Contiguous.{IsContiguous};
+ghost use Rattle.fc_chain.specs.Tallies.{AreOneSize, HoldsWords};
 
 use crate::slot::Slot;
 use crate::tally::goes_on;
@@ -64,7 +65,7 @@ pub(crate) fn add_direct(
     out: &mut List<SlotId>,
 ) -> Result<(), NoMemory>
     requires there { place < length slots.now }
-    requires together { StandTogether slots.now }
+    requires together { IsContiguous slots.now }
     requires sizes { AreOneSize slots.now }
     ensures { OnOk result (out.new ≡ out.old ++ names_below slots.now (is_direct slots.now place) (length slots.now)) }
 {
@@ -83,7 +84,7 @@ fn add_readers(
     out: &mut List<SlotId>,
 ) -> Result<(), NoMemory>
     requires there { place < length slots.now }
-    requires together { StandTogether slots.now }
+    requires together { IsContiguous slots.now }
     requires sizes { AreOneSize slots.now }
     requires left { HoldsWords (slot_at slots.now place).held left.old }
     ensures { OnOk result (out.new ≡ out.old ++ names_below slots.now (is_direct slots.now place) (length slots.now)) }

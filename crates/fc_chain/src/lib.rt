@@ -15,11 +15,15 @@
 
 mod cascade;
 mod count;
+mod events;
 mod find;
 mod hold;
 mod old;
 mod plan;
+mod room;
 mod slot;
+mod split;
+mod table;
 mod tally;
 mod waiting;
 mod walk;

@@ -4,7 +4,7 @@ ghost use Rattle.std.specs.Prelude.{◌≡◌, ℕ, false, true, None, Some, rep
 ghost use Rattle.fc_base.specs.Column.{is_at};
 ghost use Rattle.fc_bits.specs.Grains.{count_set};
 ghost use Rattle.fc_chain.specs.Births.{is_after, is_before};
-ghost use Rattle.fc_base.specs.SheetStep.{grain_taken, grain_kept, grain_lost};
+ghost use Rattle.fc_base.specs.SheetStep.{grain_taken, grain_kept, grain_lost, split_from};
 
 use fc_bits::GrainSet;
 use std::marker::Model;
@@ -40,6 +40,20 @@ impl Slot {
             volume,
             is_live: true,
             mapping: None,
+            held,
+        }
+    }
+
+    /// A new live slot of a volume, the mapping's, which holds what the set has.
+    pub(crate) fn target(birth: u64, chain: u64, volume: u32, mapping: u32, held: GrainSet) -> Slot
+        ensures { result ≡ record { birth = birth; chain = chain; volume = volume; is_live = true; mapping = Some mapping; held = held } }
+    {
+        Slot {
+            birth,
+            chain,
+            volume,
+            is_live: true,
+            mapping: Some(mapping),
             held,
         }
     }
@@ -167,6 +181,30 @@ impl Slot {
     {
         if !self.is_live && self.volume == volume && grain < self.held.len() {
             self.held.clear(grain);
+        }
+    }
+
+    /// It becomes old.
+    pub(crate) fn age(&mut self)
+        ensures { self.new ≡ record self.old { is_live = false } }
+    {
+        self.is_live = false;
+    }
+
+    /// It becomes the first of a chain of its own, and no mapping's any more.
+    pub(crate) fn begin_chain(&mut self)
+        ensures { self.new ≡ record self.old { chain = self.old.birth; mapping = None } }
+    {
+        self.chain = self.birth;
+        self.mapping = None;
+    }
+
+    /// It goes along from one chain into another, if it stands in it.
+    pub(crate) fn go_along(&mut self, from: u64, to: u64)
+        ensures { self.new ≡ split_from from to self.old }
+    {
+        if self.chain == from {
+            self.chain = to;
         }
     }
 }

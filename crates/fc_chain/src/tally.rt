@@ -3,7 +3,8 @@
 ghost use Rattle.std.specs.Prelude.{◌≡◌, ℕ, ◌+◌, ◌<◌, ◌≤◌, ◌↔◌, IsTrue, length};
 ghost use Rattle.fc_bits.specs.Words.{words_for};
 ghost use Rattle.fc_base.specs.Sheet.{slot_at};
-ghost use Rattle.fc_chain.specs.Tallies.{tally_of, AreTallies, StandTogether, AreOneSize, GoesOn, HasBehind, HasAwaited, HasWordsFor};
+ghost use Rattle.fc_chain.specs.Contiguous.{IsContiguous};
+ghost use Rattle.fc_chain.specs.Tallies.{tally_of, AreTallies, AreOneSize, GoesOn, HasBehind, HasAwaited, HasWordsFor};
 
 use crate::slot::Slot;
 use crate::waiting::{clear_waiting, take_held, wait_for_others};
@@ -30,7 +31,7 @@ pub(crate) fn goes_on(slots: &[Slot], place: usize) -> bool
 fn look_behind(slots: &[Slot], place: usize, waiting: &mut [u64])
     requires there { place < length slots.now }
     requires words { HasWordsFor slots.now waiting.old }
-    requires together { StandTogether slots.now }
+    requires together { IsContiguous slots.now }
     requires sizes { AreOneSize slots.now }
     requires awaited { HasAwaited slots.now (place + 1) waiting.old }
     ensures { HasBehind slots.now place waiting.new }
@@ -46,7 +47,7 @@ fn look_behind(slots: &[Slot], place: usize, waiting: &mut [u64])
 fn tally_slot(slots: &[Slot], place: usize, waiting: &mut [u64]) -> Tally
     requires there { place < length slots.now }
     requires words { HasWordsFor slots.now waiting.old }
-    requires together { StandTogether slots.now }
+    requires together { IsContiguous slots.now }
     requires sizes { AreOneSize slots.now }
     requires awaited { HasAwaited slots.now (place + 1) waiting.old }
     ensures tally { result ≡ tally_of slots.now place }
@@ -71,7 +72,7 @@ fn tally_slot(slots: &[Slot], place: usize, waiting: &mut [u64]) -> Tally
 pub(crate) fn recount(slots: &[Slot], waiting: &mut [u64], tallies: &mut [Tally])
     requires room { length slots.now ≤ length tallies.old }
     requires words { HasWordsFor slots.now waiting.old }
-    requires together { StandTogether slots.now }
+    requires together { IsContiguous slots.now }
     requires sizes { AreOneSize slots.now }
     ensures { AreTallies slots.now tallies.new }
 {

@@ -2,5 +2,4 @@ use Rattle.fc_chain.proofs.Keeps.{kept_written}
 use Rattle.fc_chain.proofs.cascade.Cascade.written.Goals as goal
 
 pub invariant_of-self : goal.invariant_of-self
-invariant_of-self c =
-    kept_written c.args.self.now _ _ _ _ _ _ c.args.volume.0 c.args.grain _ c.deref_mut.result.now _ _ c.self.view_is c.self.invariant c.requires.fits c.deref_mut.ensures.value c.deref_mut.ensures.len c.take_grain.ensures
+invariant_of-self c = kept_written c.args.self.now _ _ c.args.volume.0 c.args.grain _ _ c.self.view_is c.self.invariant c.requires.fits c.take.ensures
