@@ -17,3 +17,4 @@ pub mod Tables
 pub mod Rising
 pub mod Dividing
 pub mod Together
+pub mod Touched

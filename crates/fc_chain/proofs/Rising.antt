@@ -10,7 +10,7 @@ use Rattle.fc_base.specs.SheetStep.{at_place, has_after, with_chain, without, ag
 use Rattle.fc_base.specs.SheetFits.{FitsEvent, FitsEvents}
 use Rattle.fc_base.specs.SheetFacts.{IsSound}
 use Rattle.fc_sheets.proofs.Lawful.{event_sound}
-use Rattle.fc_chain.specs.Room.{BirthsFit}
+use Rattle.fc_chain.specs.Room.{BirthsFit, slots_made}
 
 abbrev pub Rises : (Sheet → Sheet) → Type 0
 Rises f = (s : Sheet) → s.births ≤ (f s).births
@@ -73,6 +73,65 @@ step_rises local (NoteCut m source target) s = le_same s.births
 step_rises local (Access volume access) s = le_same s.births
 step_rises local (Work m copies cleans) s = le_same s.births
 step_rises local (Arm volume grain calls) s = le_same s.births
+
+-- ---- how far they rise
+
+le_more : (n : ℕ) → n ≤ n + 0
+le_more n = omega arith
+
+place_at_most : (f : ℕ → Sheet → Sheet) (n : ℕ) → ((k : ℕ) (s : Sheet) → (f k s).births ≤ s.births + n) → (o : Option ℕ) (s : Sheet) → (at_place f o s).births ≤ s.births + n
+place_at_most f n h None s = omega arith
+place_at_most f n h (Some k) s = h k s
+
+all_at_most : {A : Type 0} (f : Sheet → A → Sheet) → ((x : A) (s : Sheet) → (f s x).births ≤ s.births + 1) → (xs : List A) (s : Sheet) → (fold f s xs).births ≤ s.births + length xs
+all_at_most f h [] s = omega arith
+all_at_most f h (x ∷ xs) s =
+    let a : (f s x).births ≤ s.births + 1 = h x s in
+    let b : (fold f (f s x) xs).births ≤ (f s x).births + length xs = all_at_most f h xs (f s x) in
+    omega arith
+
+left_at_most : (k : ℕ) (s : Sheet) → (left_place k s).births ≤ s.births + 0
+left_at_most k s =
+    elim (cases_Bool (has_after s.slots k)) [
+      | inl y ↦ (let e : (left_place k s).births ≡ s.births = rw y refl in omega arith)
+      | inr n ↦ (let e : (left_place k s).births ≡ s.births = rw n refl in omega arith)
+    ]
+
+start_at_most : (p : Pair) (s : Sheet) → (started_empty s p).births ≤ s.births + 1
+start_at_most p s =
+    let t : Sheet = at_place left_place (live_place s.slots p.target.0) s in
+    let a : t.births ≤ s.births + 0 = place_at_most left_place 0 left_at_most (live_place s.slots p.target.0) s in
+    let b : (started_empty s p).births ≤ t.births + 1 = place_at_most (placed p.target.0 p.map.0 _) 1 (λ k u. le_same (u.births + 1)) (live_place t.slots p.source.0) t in
+    omega arith
+
+forced_at_most : (k : ℕ) (s : Sheet) → (forced_at k s).births ≤ s.births + 1
+forced_at_most k s =
+    elim (cases_Bool (slot_at s.slots k).is_live) [
+      | inl y ↦ (let e : (forced_at k s).births ≡ s.births + 1 = rw y refl in omega arith)
+      | inr n ↦ (let e : (forced_at k s).births ≡ s.births = rw n refl in omega arith)
+    ]
+
+force_at_most : (m : MapId) (s : Sheet) → (forced_map s m).births ≤ s.births + 1
+force_at_most m s = place_at_most forced_at 1 forced_at_most (mapping_place s.slots m.0) s
+
+-- an event gives at most a birth for each slot that it can make
+pub step_at_most : (local : ℕ → ℕ) (e : LaneEvent) (s : Sheet) → (sheet_step local s e).births ≤ s.births + slots_made e
+step_at_most local (Make volume grains kind) s = le_same (s.births + 1)
+step_at_most local (Remove volume) s = place_at_most without 0 (λ k u. le_more u.births) (live_place s.slots volume.0) s
+step_at_most local (Trigger pairs) s = all_at_most started_empty start_at_most pairs s
+step_at_most local (Retire m) s = place_at_most retired_at 1 (λ k u. le_same (u.births + 1)) (mapping_place s.slots m.0) s
+step_at_most local (Detach m) s = place_at_most detached_at 1 (λ k u. le_same (u.births + 1)) (mapping_place s.slots m.0) s
+step_at_most local (Split m) s = place_at_most split_at 0 (λ k u. le_more u.births) (mapping_place s.slots m.0) s
+step_at_most local (Force m dependents) s =
+    let a : (forced_map s m).births ≤ s.births + 1 = force_at_most m s in
+    let b : (fold forced_map (forced_map s m) dependents).births ≤ (forced_map s m).births + length dependents = all_at_most forced_map force_at_most dependents (forced_map s m) in
+    omega arith
+step_at_most local (Drop slot) s = place_at_most without 0 (λ k u. le_more u.births) (birth_place s.slots slot.0) s
+step_at_most local (Forget m) s = le_more s.births
+step_at_most local (NoteCut m source target) s = le_more s.births
+step_at_most local (Access volume access) s = le_more s.births
+step_at_most local (Work m copies cleans) s = le_more s.births
+step_at_most local (Arm volume grain calls) s = le_more s.births
 
 -- ---- one of a list of changes
 

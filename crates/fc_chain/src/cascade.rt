@@ -7,16 +7,19 @@ ghost use Rattle.fc_base.specs.declared.request.Side.TheVariants.{Under};
 ghost use Rattle.fc_base.specs.SheetFits.{FitsTaken, FitsLost, FitsEvents};
 ghost use Rattle.fc_base.specs.SheetStep.{sheet_moved, sheet_written, sheet_torn, sheet_step};
 ghost use Rattle.fc_chain.specs.Chains.{IsOfLane, in_lane, lane_grains, found, IsThere};
+ghost use Rattle.fc_chain.specs.Contiguous.{IsContiguous};
+ghost use Rattle.fc_chain.specs.Tallies.{AreOneSize};
 ghost use Rattle.fc_chain.specs.Room.{HasRoomFor};
 ghost use Rattle.fc_bits.specs.Grains.{count_set};
 ghost use Rattle.fc_base.specs.Counts.{need_count_of, UsedAt, names_below, is_direct, is_unneeded};
-ghost use Rattle.fc_chain.specs.Planning.{CanPlan, planned_moves, volume_count};
+ghost use Rattle.fc_chain.specs.Planning.{CanPlan, Plannable, planned_moves, volume_count};
 
 use crate::count::{add_direct, add_unneeded, count_needed, is_source};
 use crate::events::step_all;
 use crate::find::{name_of, place_of, place_of_live, place_of_mapping};
 use crate::plan::{LaneGrain, plan_fill, plan_write};
 use crate::room::{slots_made, widest};
+use crate::slot::Slot;
 use crate::table::SlotTable;
 use crate::walk::{first_reader_of, holder_of};
 use fc_base::decision::LaneEvents;
@@ -61,6 +64,16 @@ impl Cascade {
         }
     }
 
+    /// The slots, with what a plan rests on.
+    fn slots(&self) -> &[Slot]
+        ensures value { result.now ≡ self.now.sheet.slots }
+        ensures plannable { Plannable result.now }
+        ensures together { IsContiguous result.now }
+        ensures sizes { AreOneSize result.now }
+    {
+        self.table.as_slice()
+    }
+
     /// Makes room for the slots that the events can make, so that `apply` of them takes no memory. Room that was there
     /// stays. Refused, all is as it was.
     pub fn reserve(&mut self, events: &LaneEvents) -> Result<(), NoMemory>
@@ -92,7 +105,7 @@ impl Cascade {
     pub fn live(&self, volume: VolId) -> Option<SlotId>
         ensures { result ≡ found self.now.sheet.slots (live_place self.now.sheet.slots volume.0) }
     {
-        let slots = self.table.as_slice();
+        let slots = self.slots();
         name_of(slots, place_of_live(slots, volume.0))
     }
 
@@ -101,7 +114,7 @@ impl Cascade {
         requires { IsThere self.now.sheet.slots slot }
         ensures { (k : ℕ) → birth_place self.now.sheet.slots slot.0 ≡ Some k → result.0 ≡ (slot_at self.now.sheet.slots k).volume }
     {
-        let slots = self.table.as_slice();
+        let slots = self.slots();
         VolId(slots[place_of(slots, slot)].volume())
     }
 
@@ -109,7 +122,7 @@ impl Cascade {
     pub fn slot(&self, map: MapId) -> Option<SlotId>
         ensures { result ≡ found self.now.sheet.slots (mapping_place self.now.sheet.slots map.0) }
     {
-        let slots = self.table.as_slice();
+        let slots = self.slots();
         name_of(slots, place_of_mapping(slots, map.0))
     }
 
@@ -120,7 +133,7 @@ impl Cascade {
         requires of_lane { IsOfLane self.now grain }
         ensures { (k : ℕ) → birth_place self.now.sheet.slots slot.0 ≡ Some k → result ≡ found self.now.sheet.slots (holder (column self.now.sheet.slots (in_lane self.now grain)) k) }
     {
-        let slots = self.table.as_slice();
+        let slots = self.slots();
         name_of(
             slots,
             holder_of(slots, place_of(slots, slot), grain / self.lanes as u32),
@@ -134,7 +147,7 @@ impl Cascade {
         requires of_lane { IsOfLane self.now grain }
         ensures { (k : ℕ) → birth_place self.now.sheet.slots slot.0 ≡ Some k → result ≡ found self.now.sheet.slots (needer (column self.now.sheet.slots (in_lane self.now grain)) k) }
     {
-        let slots = self.table.as_slice();
+        let slots = self.slots();
         let place = place_of(slots, slot);
         name_of(
             slots,
@@ -189,7 +202,7 @@ impl Cascade {
         requires room { volume_count self.now.sheet.slots ≤ plan.old.room }
         ensures { plan.new ≡ record plan.old { moves = planned_moves self.now.sheet.slots self.now.lanes write } }
     {
-        let slots = self.table.as_slice();
+        let slots = self.slots();
         let lanes = self.lanes as u32;
         plan.clear();
         match write {
@@ -225,7 +238,7 @@ impl Cascade {
         requires { IsThere self.now.sheet.slots slot }
         ensures { (k : ℕ) → birth_place self.now.sheet.slots slot.0 ≡ Some k → result ≡ count_set (slot_at self.now.sheet.slots k).held }
     {
-        let slots = self.table.as_slice();
+        let slots = self.slots();
         slots[place_of(slots, slot)].held_count()
     }
 
@@ -234,7 +247,7 @@ impl Cascade {
         requires { IsThere self.now.sheet.slots slot }
         ensures { (k : ℕ) → birth_place self.now.sheet.slots slot.0 ≡ Some k → result ≡ need_count_of self.now.sheet.slots k }
     {
-        let slots = self.table.as_slice();
+        let slots = self.slots();
         count_needed(slots, place_of(slots, slot))
     }
 
@@ -243,7 +256,7 @@ impl Cascade {
     pub fn used(&self, volume: VolId) -> bool
         ensures { IsTrue result ↔ UsedAt self.now.sheet.slots volume.0 }
     {
-        is_source(self.table.as_slice(), volume.0)
+        is_source(self.slots(), volume.0)
     }
 
     /// Adds the live slots other than this one that have it as holder at some grain of the lane, in order of
@@ -252,7 +265,7 @@ impl Cascade {
         requires { IsThere self.now.sheet.slots slot }
         ensures { OnOk result ((k : ℕ) → birth_place self.now.sheet.slots slot.0 ≡ Some k → out.new ≡ out.old ++ names_below self.now.sheet.slots (is_direct self.now.sheet.slots k) (length self.now.sheet.slots)) }
     {
-        let slots = self.table.as_slice();
+        let slots = self.slots();
         add_direct(self.table.alloc(), slots, place_of(slots, slot), out)
     }
 
@@ -261,6 +274,6 @@ impl Cascade {
     pub fn unneeded(&self, out: &mut List<SlotId>) -> Result<(), NoMemory>
         ensures { OnOk result (out.new ≡ out.old ++ names_below self.now.sheet.slots (is_unneeded self.now.sheet.slots) (length self.now.sheet.slots)) }
     {
-        add_unneeded(self.table.as_slice(), out)
+        add_unneeded(self.slots(), out)
     }
 }

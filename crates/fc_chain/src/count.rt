@@ -17,7 +17,8 @@ use std::alloc::Global;
 
 /// At how many of the lane's grains the slot at a place has a needer.
 pub(crate) fn count_needed(slots: &[Slot], place: usize) -> u32
-    requires { place < length slots.now }
+    requires there { place < length slots.now }
+    requires together { IsContiguous slots.now }
     ensures { result ≡ need_count_of slots.now place }
 {
     let mut count = 0;
@@ -31,13 +32,17 @@ pub(crate) fn count_needed(slots: &[Slot], place: usize) -> u32
 
 /// Whether some live slot stands behind a place in its chain.
 fn has_live_behind(slots: &[Slot], place: usize) -> bool
-    requires { place < length slots.now }
+    requires there { place < length slots.now }
+    requires together { IsContiguous slots.now }
     ensures { IsTrue result ↔ LiveBehind slots.now place }
 {
     let chain = slots[place].chain();
     let mut behind = place + 1;
     while behind < slots.len() {
-        if slots[behind].is_live() && slots[behind].chain() == chain {
+        if slots[behind].chain() != chain {
+            return false;
+        }
+        if slots[behind].is_live() {
             return true;
         }
         behind += 1;
@@ -47,6 +52,7 @@ fn has_live_behind(slots: &[Slot], place: usize) -> bool
 
 /// Whether some slot of the volume has a live slot behind it in its chain.
 pub(crate) fn is_source(slots: &[Slot], volume: u32) -> bool
+    requires { IsContiguous slots.now }
     ensures { IsTrue result ↔ UsedAt slots.now volume }
 {
     for (place, slot) in slots.iter().enumerate() {
@@ -104,6 +110,7 @@ fn add_readers(
 
 /// Adds the names of the old slots that nobody needs.
 pub(crate) fn add_unneeded(slots: &[Slot], out: &mut List<SlotId>) -> Result<(), NoMemory>
+    requires { IsContiguous slots.now }
     ensures { OnOk result (out.new ≡ out.old ++ names_below slots.now (is_unneeded slots.now) (length slots.now)) }
 {
     for (place, slot) in slots.iter().enumerate() {

@@ -6,6 +6,7 @@ ghost use Rattle.fc_base.specs.declared.request.Move.{Move};
 ghost use Rattle.fc_base.specs.Plan.{move_at, moves_of_fill, moves_of_write};
 ghost use Rattle.fc_base.specs.Sheet.{slot_at, column};
 ghost use Rattle.fc_base.specs.Moves.{is_in, is_in_place, list_with_asked};
+ghost use Rattle.fc_chain.specs.Contiguous.{IsContiguous};
 ghost use Rattle.fc_chain.specs.Planning.{HasApartBirths, IsPlanned, HasRoom, FillFits, WriteFits, volume_count};
 
 use crate::old::next_old;
@@ -24,7 +25,8 @@ pub(crate) struct LaneGrain {
 
 /// Whether the slot's holder is an old slot of its own volume.
 pub(crate) fn fills_in_place(slots: &[Slot], place: usize, grain: u32) -> bool
-    requires { place < length slots.now }
+    requires there { place < length slots.now }
+    requires together { IsContiguous slots.now }
     ensures { result ≡ is_in_place (column slots.now grain) place }
 {
     let volume = slots[place].volume();
@@ -43,7 +45,8 @@ fn lists(moves: &[Move], birth: u64) -> bool
 
 /// The move of the slot at a place.
 fn move_of(slots: &[Slot], place: usize, grain: LaneGrain) -> Move
-    requires { place < length slots.now }
+    requires there { place < length slots.now }
+    requires together { IsContiguous slots.now }
     ensures { result ≡ move_at slots.now grain.place grain.number place }
 {
     Move {
@@ -65,6 +68,7 @@ pub(crate) fn add_fill(
 )
     requires there { place < length slots.now }
     requires apart { HasApartBirths slots.now }
+    requires together { IsContiguous slots.now }
     requires room { HasRoom slots.now grain.place grain.number plan.old.moves plan.old.room depth place }
     ensures room { plan.new.room ≡ plan.old.room }
     ensures listed { (listed : List ℕ) → IsPlanned slots.now grain.place grain.number plan.old.moves listed → IsPlanned slots.now grain.place grain.number plan.new.moves (list_with_asked (column slots.now grain.place) depth place listed) }
