@@ -25,7 +25,7 @@ same_shape count b b' c c' v v' l l' eb ec ev el n en =
     let p4 = ap (λ (z : ℕ → Bool). let s : Shape = record { count = count; birth = b'; chain = c'; volume = v'; is_live = z } in s) (fun_ext el) in
     p0 ∙ (p1 ∙ (p2 ∙ (p3 ∙ p4)))
 
-abbrev column_with : Shape → (ℕ → Bool) → Column
+abbrev pub column_with : Shape → (ℕ → Bool) → Column
 column_with s h = record { shape = s; held = h }
 
 same_column : (s t : Shape) (h i : ℕ → Bool) → s ≡ t → ((j : ℕ) → h j ≡ i j) → column_with s h ≡ column_with t i

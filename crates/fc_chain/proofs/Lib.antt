@@ -18,3 +18,4 @@ pub mod Rising
 pub mod Dividing
 pub mod Together
 pub mod Touched
+pub mod Retally

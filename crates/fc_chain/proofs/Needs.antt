@@ -70,7 +70,7 @@ held_below [] g e = absurd cc
 held_below (b ∷ bs) zero e = omega arith
 held_below (b ∷ bs) (suc g) e = let r : g < length bs = held_below bs g e in omega arith
 
-some_at : (o : Option ℕ) → is_some o ≡ true → (a : ℕ) × (o ≡ Some a)
+pub some_at : (o : Option ℕ) → is_some o ≡ true → (a : ℕ) × (o ≡ Some a)
 some_at None e = absurd cc
 some_at (Some a) e = (a, refl)
 

@@ -1,11 +1,11 @@
 -- The counts that are kept of each slot, and how one pass from the last slot to the first makes them.
-use Rattle.std.specs.Prelude.{◌≡◌, ℕ, ◌+◌, ◌<◌, ◌≤◌, ◌^◌, Bool, false, not, ◌&&◌, ◌||◌, is_some, List, length, slice_index_or}
+use Rattle.std.specs.Prelude.{◌≡◌, ℕ, ◌+◌, ◌<◌, ◌≤◌, ◌^◌, Bool, false, not, ◌&&◌, ◌||◌, cond, eqb, Option, Some, None, is_some, List, length, slice_index_or}
 use Rattle.fc_bits.specs.Grains.{count_set}
 use Rattle.fc_bits.specs.Words.{bit_of, words_for}
-use Rattle.fc_base.specs.Column.{Column}
+use Rattle.fc_base.specs.Column.{Column, holder, is_at}
 use Rattle.fc_base.specs.Moves.{next_behind}
-use Rattle.fc_base.specs.Sheet.{Slot, slot_at, column}
-use Rattle.fc_base.specs.Counts.{need_count_of}
+use Rattle.fc_base.specs.Sheet.{Slot, slot_at, column, live_place}
+use Rattle.fc_base.specs.Counts.{count_below, is_needed_at, need_count_of}
 use Rattle.fc_chain.specs.declared.tally.Tally.{Tally}
 
 -- ---- what is kept
@@ -59,3 +59,34 @@ pub record HoldsWords (held : List Bool) (words : List ℕ) : Type 0 where
   pub len : length words ≡ words_for (length held)
   pub bits : (g : ℕ) → bit_of words g ≡ slice_index_or held g false
   pub numbered : length held < 2 ^ 32
+
+-- ---- pairs of a volume that change at one grain
+
+-- A test that a grain never passes.
+abbrev pub but : (ℕ → Bool) → ℕ → ℕ → Bool
+but test g i = test i && not (eqb i g)
+
+-- The counts of a slot without one grain.
+abbrev pub tally_but : List Slot → ℕ → ℕ → Tally
+tally_but slots g k =
+    record {
+      held = count_below (but (λ i. slice_index_or (slot_at slots k).held i false) g) (length (slot_at slots k).held);
+      needed = count_below (but (is_needed_at slots k) g) (length (slot_at slots k).held);
+    }
+
+-- The slots whose counts change with a volume's pairs: its own, and the holder of its live slot.
+abbrev pub is_touched : List Slot → ℕ → Option ℕ → ℕ → Bool
+is_touched slots v holder k = eqb (slot_at slots k).volume v || is_at holder k
+
+-- Each slot's counts, those that are touched without the grain.
+abbrev pub AreTalliesBut : List Slot → ℕ → ℕ → Option ℕ → List Tally → Type 0
+AreTalliesBut slots g v holder tallies =
+    (k : ℕ) → k < length slots → tally_at tallies k ≡ cond (is_touched slots v holder k) (tally_but slots g k) (tally_of slots k)
+
+-- The holder of the volume's live slot at the grain.
+abbrev pub holder_at : List Slot → ℕ → Option ℕ → Option ℕ
+holder_at slots g None = None
+holder_at slots g (Some k) = holder (column slots g) k
+
+abbrev pub live_holder : List Slot → ℕ → ℕ → Option ℕ
+live_holder slots g v = holder_at slots g (live_place slots v)
