@@ -1,6 +1,6 @@
 -- The counts of the slots that a change of a volume's pairs touches, and that all others stay.
-use Rattle.std.proofs.Common.{◌≡◌, ◌≢◌, ℕ, zero, suc, ◌+◌, ◌-◌, ◌<◌, ◌≤◌, Bool, true, false, not, ◌&&◌, ◌||◌, cond, eqb, Option, Some, None, is_some, List, [], ◌∷◌, length, get_or, set, map, refl, sym, ap, subst, ◌∙◌, arith, ◌⊎◌, inl, inr, add-zero, get_or-set_same, get_or-set_other}
-use Rattle.std.proofs.lemmas.Bool.{cases_Bool, both_ways, cases_eq, eqb-true, eqb-false, eq-eqb, ne_eqb, and_parts, and_from, and_left, and_right, or_parts, not_from_true, not_from_false}
+use Rattle.std.proofs.Common.{◌≡◌, ◌≢◌, ℕ, zero, suc, ◌+◌, ◌-◌, ◌<◌, ◌≤◌, ◌^◌, Bool, true, false, not, ◌&&◌, ◌||◌, cond, eqb, ltb, Option, Some, None, is_some, List, [], ◌∷◌, length, get_or, set, map, refl, sym, ap, subst, ◌∙◌, arith, ◌⊎◌, inl, inr, add-zero, get_or-set_same, get_or-set_other}
+use Rattle.std.proofs.lemmas.Bool.{cases_Bool, cases_lt, both_ways, cases_eq, eqb-true, eqb-false, eq-eqb, ne_eqb, lt-ltb, le-ltb, and_parts, and_from, and_left, and_right, or_parts, not_from_true, not_from_false, false_from_ne_true}
 use Rattle.fc_base.specs.Column.{Column, needer, holder, is_at}
 use Rattle.fc_base.specs.Sheet.{Slot, slot_at, no_slot, shape_of, column, live_place}
 use Rattle.fc_base.specs.SheetStep.{grain_taken, grain_kept, grain_lost}
@@ -8,14 +8,17 @@ use Rattle.fc_base.specs.SheetFits.{FitsTaken, FitsLost}
 use Rattle.fc_base.specs.Counts.{count_below, is_needed_at, need_count_of}
 use Rattle.fc_base.specs.RestoreGraph.{HasOneLive}
 use Rattle.fc_bits.specs.Grains.{count_set}
-use Rattle.fc_chain.specs.Tallies.{tally_of, tally_at, no_tally, but, tally_but, is_touched, AreTallies, AreTalliesBut, live_holder, holder_at, AreOneSize}
+use Rattle.fc_chain.specs.Tallies.{tally_of, tally_at, no_tally, but, tally_but, is_touched, AreTallies, AreTalliesBut, live_holder, holder_at, AreOneSize, Countable}
+use Rattle.fc_chain.specs.Contiguous.{IsContiguous}
 use Rattle.fc_chain.specs.declared.tally.Tally.{Tally}
 use Rattle.fc_moves.proofs.Search.{cases_option}
 use Rattle.fc_moves.proofs.Readers.{IsHolder, holder_is, is_holder, reader_is}
 use Rattle.fc_sheets.proofs.Finding.{at_from, live_place_is}
 use Rattle.fc_sheets.proofs.Holding.{at_map, IsBit, Regrained, regrained, bit_taken, bit_kept, bit_lost}
 use Rattle.fc_chain.proofs.Needs.{held_below, some_at}
-use Rattle.fc_chain.proofs.Tallying.{count_same}
+use Rattle.fc_chain.proofs.Finds.{read_at}
+use Rattle.fc_chain.proofs.Together.{map_together}
+use Rattle.fc_chain.proofs.Tallying.{count_same, count_le}
 use Rattle.fc_chain.proofs.Direct.{count_set_below}
 use Rattle.fc_chain.proofs.Columns.{column_map, column_elsewhere, column_with}
 use Rattle.fc_chain.proofs.Touched.{Change, IsUntouched, same_need, with_pairs}
@@ -250,3 +253,178 @@ change_lost slots v g fits = record {
     | inl same ↦ absurd (fits a x al live (is_holder (column slots g) a x i) old same)
   ];
 }
+
+-- ---- the lists
+
+-- each slot's counts, those that pass without the grain
+abbrev pub AreMixed : List Slot → ℕ → (ℕ → Bool) → List Tally → Type 0
+AreMixed slots g test tallies = (k : ℕ) → k < length slots → tally_at tallies k ≡ cond (test k) (tally_but slots g k) (tally_of slots k)
+
+-- those below a place, or from it on
+abbrev pub below : (ℕ → Bool) → ℕ → ℕ → Bool
+below test p k = ltb k p && test k
+
+abbrev pub from : (ℕ → Bool) → ℕ → ℕ → Bool
+from test p k = not (ltb k p) && test k
+
+ltb_next : (k p : ℕ) → k ≢ p → ltb k (p + 1) ≡ ltb k p
+ltb_next k p ne =
+    elim (cases_lt k p) [
+      | inl lt ↦ lt-ltb k (p + 1) (omega arith) ∙ sym (lt-ltb k p lt)
+      | inr ge ↦ let n : k ≢ p = ne in le-ltb k (p + 1) (omega arith) ∙ sym (le-ltb k p ge)
+    ]
+
+mixed_other : (slots : List Slot) (g : ℕ) (test next : ℕ → Bool) (tallies : List Tally) (p : ℕ) (t : Tally) → p < length tallies → ((k : ℕ) → k ≢ p → next k ≡ test k) →
+    t ≡ cond (next p) (tally_but slots g p) (tally_of slots p) → AreMixed slots g test tallies → AreMixed slots g next (set tallies p t)
+mixed_other slots g test next tallies p t room same here m k kl =
+    elim (cases_eq k p) [
+      | inl e ↦ ap (λ z. get_or (set tallies p t) z no_tally) e ∙ (get_or-set_same tallies p t no_tally room ∙ (here ∙ ap (λ z. cond (next z) (tally_but slots g z) (tally_of slots z)) (sym e)))
+      | inr ne ↦ let other : k ≢ p = ne in get_or-set_other tallies p k t no_tally other ∙ (m k kl ∙ ap (λ b. cond b (tally_but slots g k) (tally_of slots k)) (sym (same k ne)))
+    ]
+
+mixed_same : (slots : List Slot) (g : ℕ) (test next : ℕ → Bool) (tallies : List Tally) → ((k : ℕ) → next k ≡ test k) → AreMixed slots g test tallies → AreMixed slots g next tallies
+mixed_same slots g test next tallies same m k kl = m k kl ∙ ap (λ b. cond b (tally_but slots g k) (tally_of slots k)) (sym (same k))
+
+below_next : (test : ℕ → Bool) (p k : ℕ) → k ≢ p → below test (p + 1) k ≡ below test p k
+below_next test p k ne = ap (λ b. b && test k) (ltb_next k p ne)
+
+from_next : (test : ℕ → Bool) (p k : ℕ) → k ≢ p → from test (p + 1) k ≡ from test p k
+from_next test p k ne = ap (λ b. not b && test k) (ltb_next k p ne)
+
+below_here : (test : ℕ → Bool) (p : ℕ) → below test (p + 1) p ≡ test p
+below_here test p = ap (λ b. b && test p) (lt-ltb p (p + 1) (omega arith))
+
+from_here : (test : ℕ → Bool) (p : ℕ) → from test (p + 1) p ≡ false
+from_here test p = ap (λ b. not b && test p) (lt-ltb p (p + 1) (omega arith))
+
+here_from : (test : ℕ → Bool) (p : ℕ) → from test p p ≡ test p
+here_from test p = ap (λ b. not b && test p) (le-ltb p p (omega arith))
+
+here_below : (test : ℕ → Bool) (p : ℕ) → below test p p ≡ false
+here_below test p = ap (λ b. b && test p) (le-ltb p p (omega arith))
+
+pub left_none : (slots : List Slot) (g : ℕ) (test : ℕ → Bool) (tallies : List Tally) → AreTallies slots tallies → AreMixed slots g (below test 0) tallies
+left_none slots g test tallies a k kl = a k kl ∙ sym (ap (λ b. cond b (tally_but slots g k) (tally_of slots k)) (ap (λ b. b && test k) (le-ltb k 0 (omega arith))))
+
+pub left_all : (slots : List Slot) (g n : ℕ) (test : ℕ → Bool) (tallies : List Tally) → length slots ≤ n → AreMixed slots g (below test n) tallies → AreMixed slots g test tallies
+left_all slots g n test tallies le m k kl = m k kl ∙ ap (λ b. cond b (tally_but slots g k) (tally_of slots k)) (ap (λ b. b && test k) (lt-ltb k n (omega arith)))
+
+pub left_here : (slots : List Slot) (g : ℕ) (test : ℕ → Bool) (tallies : List Tally) (p : ℕ) (t : Tally) → p < length tallies → test p ≡ true → t ≡ tally_but slots g p → AreMixed slots g (below test p) tallies →
+    AreMixed slots g (below test (p + 1)) (set tallies p t)
+left_here slots g test tallies p t room e q m =
+    mixed_other slots g (below test p) (below test (p + 1)) tallies p t room (below_next test p) (q ∙ sym (ap (λ b. cond b (tally_but slots g p) (tally_of slots p)) (below_here test p ∙ e))) m
+
+pub left_not : (slots : List Slot) (g : ℕ) (test : ℕ → Bool) (tallies : List Tally) (p : ℕ) → test p ≡ false → AreMixed slots g (below test p) tallies → AreMixed slots g (below test (p + 1)) tallies
+left_not slots g test tallies p e m =
+    mixed_same slots g (below test p) (below test (p + 1)) tallies
+    (λ k. elim (cases_eq k p) [
+      | inl q ↦ ap (below test (p + 1)) q ∙ (below_here test p ∙ (e ∙ (sym (here_below test p) ∙ ap (below test p) (sym q))))
+      | inr ne ↦ below_next test p k ne
+    ]) m
+
+-- what stands at the place that is left out next
+pub left_at : (slots : List Slot) (g : ℕ) (test : ℕ → Bool) (tallies : List Tally) (p : ℕ) → p < length slots → AreMixed slots g (below test p) tallies → tally_at tallies p ≡ tally_of slots p
+left_at slots g test tallies p lt m = m p lt ∙ ap (λ b. cond b (tally_but slots g p) (tally_of slots p)) (here_below test p)
+
+pub put_none : (slots : List Slot) (g : ℕ) (test : ℕ → Bool) (tallies : List Tally) → AreMixed slots g test tallies → AreMixed slots g (from test 0) tallies
+put_none slots g test tallies m k kl = m k kl ∙ sym (ap (λ b. cond b (tally_but slots g k) (tally_of slots k)) (ap (λ b. not b && test k) (le-ltb k 0 (omega arith))))
+
+pub put_all : (slots : List Slot) (g n : ℕ) (test : ℕ → Bool) (tallies : List Tally) → length slots ≤ n → AreMixed slots g (from test n) tallies → AreTallies slots tallies
+put_all slots g n test tallies le m k kl = m k kl ∙ ap (λ b. cond b (tally_but slots g k) (tally_of slots k)) (ap (λ b. not b && test k) (lt-ltb k n (omega arith)))
+
+pub put_here : (slots : List Slot) (g : ℕ) (test : ℕ → Bool) (tallies : List Tally) (p : ℕ) (t : Tally) → p < length tallies → t ≡ tally_of slots p → AreMixed slots g (from test p) tallies →
+    AreMixed slots g (from test (p + 1)) (set tallies p t)
+put_here slots g test tallies p t room q m =
+    mixed_other slots g (from test p) (from test (p + 1)) tallies p t room (from_next test p) (q ∙ sym (ap (λ b. cond b (tally_but slots g p) (tally_of slots p)) (from_here test p))) m
+
+pub put_not : (slots : List Slot) (g : ℕ) (test : ℕ → Bool) (tallies : List Tally) (p : ℕ) → test p ≡ false → AreMixed slots g (from test p) tallies → AreMixed slots g (from test (p + 1)) tallies
+put_not slots g test tallies p e m =
+    mixed_same slots g (from test p) (from test (p + 1)) tallies
+    (λ k. elim (cases_eq k p) [
+      | inl q ↦ ap (from test (p + 1)) q ∙ (from_here test p ∙ (sym e ∙ (sym (here_from test p) ∙ ap (from test p) (sym q))))
+      | inr ne ↦ from_next test p k ne
+    ]) m
+
+pub put_at : (slots : List Slot) (g : ℕ) (test : ℕ → Bool) (tallies : List Tally) (p : ℕ) → p < length slots → test p ≡ true → AreMixed slots g (from test p) tallies → tally_at tallies p ≡ tally_but slots g p
+put_at slots g test tallies p lt e m = m p lt ∙ ap (λ b. cond b (tally_but slots g p) (tally_of slots p)) (here_from test p ∙ e)
+
+-- ---- one slot, by what is read
+
+read_held : (slots : List Slot) (k g : ℕ) (t : Slot) (b : Bool) → k < length slots → t ≡ get_or slots k t → b ≡ get_or t.held g false → b ≡ get_or (slot_at slots k).held g false
+read_held slots k g t b lt e q = q ∙ ap (λ (x : Slot). get_or x.held g false) (sym (read_at slots k t lt e))
+
+pub held_counted : (slots : List Slot) (k g : ℕ) (t : Slot) (tally : Tally) (b : Bool) → k < length slots → t ≡ get_or slots k t → tally ≡ tally_of slots k → b ≡ get_or t.held g false → b ≡ true → 0 < tally.held
+held_counted slots k g t tally b lt e q h on =
+    let x : tally.held ≡ (tally_but slots g k).held + cond (get_or (slot_at slots k).held g false) 1 0 = ap (λ (z : Tally). z.held) q ∙ held_part slots k g in
+    let y : cond {A = ℕ} (get_or (slot_at slots k).held g false) 1 0 ≡ 1 = ap (λ z. cond {A = ℕ} z 1 0) (sym (read_held slots k g t b lt e h) ∙ on) in
+    omega arith
+
+pub needed_counted : (slots : List Slot) (k g : ℕ) (tally : Tally) (b : Bool) → tally ≡ tally_of slots k → b ≡ is_needed_at slots k g → b ≡ true → 0 < tally.needed
+needed_counted slots k g tally b q h on =
+    let x : tally.needed ≡ (tally_but slots g k).needed + cond (is_needed_at slots k g) 1 0 = ap (λ (z : Tally). z.needed) q ∙ needed_part slots k g in
+    let y : cond {A = ℕ} (is_needed_at slots k g) 1 0 ≡ 1 = ap (λ z. cond {A = ℕ} z 1 0) (sym h ∙ on) in
+    omega arith
+
+pub without_is : (slots : List Slot) (k g : ℕ) (t : Slot) (tally : Tally) (a b : Bool) (h n : ℕ) → k < length slots → t ≡ get_or slots k t → tally ≡ tally_of slots k → a ≡ get_or t.held g false → b ≡ is_needed_at slots k g →
+    h + cond a 1 0 ≡ tally.held → n + cond b 1 0 ≡ tally.needed → (let s : Tally = record { held = h; needed = n } in s) ≡ tally_but slots g k
+without_is slots k g t tally a b h n lt e q p r x y =
+    let u : h + cond a 1 0 ≡ (tally_but slots g k).held + cond a 1 0 = x ∙ (ap (λ (z : Tally). z.held) q ∙ (held_part slots k g ∙ ap (λ z. (tally_but slots g k).held + cond z 1 0) (sym (read_held slots k g t a lt e p)))) in
+    let v : n + cond b 1 0 ≡ (tally_but slots g k).needed + cond b 1 0 = y ∙ (ap (λ (z : Tally). z.needed) q ∙ (needed_part slots k g ∙ ap (λ z. (tally_but slots g k).needed + cond z 1 0) (sym r))) in
+    tally_parts h n _ _ (omega arith) (omega arith)
+
+pub with_is : (slots : List Slot) (k g : ℕ) (t : Slot) (tally : Tally) (a b : Bool) (h n : ℕ) → k < length slots → t ≡ get_or slots k t → tally ≡ tally_but slots g k → a ≡ get_or t.held g false → b ≡ is_needed_at slots k g →
+    h ≡ tally.held + cond a 1 0 → n ≡ tally.needed + cond b 1 0 → (let s : Tally = record { held = h; needed = n } in s) ≡ tally_of slots k
+with_is slots k g t tally a b h n lt e q p r x y =
+    tally_parts h n _ _
+    (x ∙ (ap (λ (z : Tally). z.held + cond a 1 0) q ∙ (ap (λ z. (tally_but slots g k).held + cond z 1 0) (read_held slots k g t a lt e p) ∙ sym (held_part slots k g))))
+    (y ∙ (ap (λ (z : Tally). z.needed + cond b 1 0) q ∙ (ap (λ z. (tally_but slots g k).needed + cond z 1 0) r ∙ sym (needed_part slots k g))))
+
+-- a count is at most the slot's grains
+pub held_fits : (slots : List Slot) (k g : ℕ) (t u : Slot) (tally : Tally) (a : Bool) (n : ℕ) → k < length slots → t ≡ get_or slots k t → u ≡ get_or slots k u → tally ≡ tally_but slots g k → a ≡ get_or u.held g false → n ≡ length t.held → n < 2 ^ 32 → tally.held + cond a 1 0 < 2 ^ 32
+held_fits slots k g t u tally a n lt e f q p en few =
+    let x : tally.held + cond a 1 0 ≡ (tally_of slots k).held = ap (λ (z : Tally). z.held + cond a 1 0) q ∙ (ap (λ z. (tally_but slots g k).held + cond z 1 0) (read_held slots k g u a lt f p) ∙ sym (held_part slots k g)) in
+    let y : (tally_of slots k).held ≡ count_below (λ i. get_or (slot_at slots k).held i false) (length (slot_at slots k).held) = count_set_below (slot_at slots k).held in
+    let z : count_below (λ i. get_or (slot_at slots k).held i false) (length (slot_at slots k).held) ≤ length (slot_at slots k).held = count_le (λ i. get_or (slot_at slots k).held i false) (length (slot_at slots k).held) in
+    let w : length (slot_at slots k).held ≡ n = ap (λ (s : Slot). length s.held) (read_at slots k t lt e) ∙ sym en in
+    omega arith
+
+pub needed_fits : (slots : List Slot) (k g : ℕ) (t : Slot) (tally : Tally) (b : Bool) (n : ℕ) → k < length slots → t ≡ get_or slots k t → tally ≡ tally_but slots g k → b ≡ is_needed_at slots k g → n ≡ length t.held → n < 2 ^ 32 → tally.needed + cond b 1 0 < 2 ^ 32
+needed_fits slots k g t tally b n lt e q r en few =
+    let x : tally.needed + cond b 1 0 ≡ (tally_of slots k).needed = ap (λ (z : Tally). z.needed + cond b 1 0) q ∙ (ap (λ z. (tally_but slots g k).needed + cond z 1 0) r ∙ sym (needed_part slots k g)) in
+    let z : (tally_of slots k).needed ≤ length (slot_at slots k).held = count_le (is_needed_at slots k) (length (slot_at slots k).held) in
+    let w : length (slot_at slots k).held ≡ n = ap (λ (s : Slot). length s.held) (read_at slots k t lt e) ∙ sym en in
+    omega arith
+
+off_past : (slots : List Slot) (k g : ℕ) (b : Bool) → length (slot_at slots k).held ≤ g → (b ≡ true → g < length (slot_at slots k).held) → b ≡ false
+off_past slots k g b past f = false_from_ne_true b (λ e. let lt : g < length (slot_at slots k).held = f e in omega arith)
+
+pub past_same : (slots : List Slot) (k g : ℕ) (t : Slot) (tally : Tally) (n : ℕ) → k < length slots → t ≡ get_or slots k t → n ≡ length t.held → n ≤ g → tally ≡ tally_but slots g k → tally ≡ tally_of slots k
+past_same slots k g t tally n lt e en le q =
+    let w : length (slot_at slots k).held ≡ n = ap (λ (s : Slot). length s.held) (read_at slots k t lt e) ∙ sym en in
+    let past : length (slot_at slots k).held ≤ g = omega arith in
+    let a : get_or (slot_at slots k).held g false ≡ false = off_past slots k g _ past (held_below (slot_at slots k).held g) in
+    let b : is_needed_at slots k g ≡ false = off_past slots k g _ past (needed_below slots k g) in
+    let x : (tally_of slots k).held ≡ (tally_but slots g k).held + 0 = held_part slots k g ∙ ap (λ z. (tally_but slots g k).held + cond z 1 0) a in
+    let y : (tally_of slots k).needed ≡ (tally_but slots g k).needed + 0 = needed_part slots k g ∙ ap (λ z. (tally_but slots g k).needed + cond z 1 0) b in
+    q ∙ sym (tally_parts _ _ (tally_but slots g k).held (tally_but slots g k).needed (x ∙ add-zero _) (y ∙ add-zero _))
+
+-- ---- the whole change
+
+pub together_of : (slots now : List Slot) → now ≡ slots → Countable slots → IsContiguous now
+together_of slots now e c = subst (λ (z : List Slot). IsContiguous z) (sym e) c.together
+
+pub together_after : (f : Slot → Slot) (g : ℕ) → IsBit f g → (slots now : List Slot) → now ≡ map f slots → Countable slots → IsContiguous now
+together_after f g b slots now e c = subst (λ (z : List Slot). IsContiguous z) (sym e) (map_together f (regrained f g b) slots c.together)
+
+pub tallied_after : (f : Slot → Slot) (g v : ℕ) → IsBit f g → (slots first before after : List Slot) (o : Option ℕ) (w h : ℕ) (tallies : List Tally) → Countable slots → Change (column slots g) (pairs_after f g slots) v →
+    first ≡ slots → before ≡ slots → after ≡ map f slots → w ≡ v → h ≡ g → o ≡ live_holder first g v → AreTalliesBut before h w o tallies → AreTalliesBut after h w o tallies
+tallied_after f g v b slots first before after o w h tallies c ch ef eb ea ew eh eo t =
+    let P : List Slot → Type 0 = λ z. AreTalliesBut z h w o tallies in
+    let t1 : AreTalliesBut slots h w o tallies = subst P eb t in
+    let t2 : AreTalliesBut slots g w o tallies = subst (λ (z : ℕ). AreTalliesBut slots z w o tallies) eh t1 in
+    let t3 : AreTalliesBut slots g v o tallies = subst (λ (z : ℕ). AreTalliesBut slots g z o tallies) ew t2 in
+    let holder : o ≡ live_holder slots g v = eo ∙ ap (λ (z : List Slot). live_holder z g v) ef in
+    let u3 : AreTalliesBut (map f slots) g v o tallies = still_tallied f g v b slots o tallies c.one_live holder ch t3 in
+    let u2 : AreTalliesBut (map f slots) g w o tallies = subst (λ (z : ℕ). AreTalliesBut (map f slots) g z o tallies) (sym ew) u3 in
+    let u1 : AreTalliesBut (map f slots) h w o tallies = subst (λ (z : ℕ). AreTalliesBut (map f slots) z w o tallies) (sym eh) u2 in
+    subst P (sym ea) u1

@@ -4,7 +4,9 @@ use Rattle.fc_bits.specs.Grains.{count_set}
 use Rattle.fc_bits.specs.Words.{bit_of, words_for}
 use Rattle.fc_base.specs.Column.{Column, holder, is_at}
 use Rattle.fc_base.specs.Moves.{next_behind}
-use Rattle.fc_base.specs.Sheet.{Slot, slot_at, column, live_place}
+use Rattle.fc_base.specs.RestoreGraph.{HasOneLive}
+use Rattle.fc_base.specs.Sheet.{Slot, slot_at, shape_of, column, live_place}
+use Rattle.fc_chain.specs.Contiguous.{IsContiguous}
 use Rattle.fc_base.specs.Counts.{count_below, is_needed_at, need_count_of}
 use Rattle.fc_chain.specs.declared.tally.Tally.{Tally}
 
@@ -90,3 +92,9 @@ holder_at slots g (Some k) = holder (column slots g) k
 
 abbrev pub live_holder : List Slot → ℕ → ℕ → Option ℕ
 live_holder slots g v = holder_at slots g (live_place slots v)
+
+-- What the counts rest on: each volume has one live slot, and the slots of a chain stand together and are as large.
+pub record Countable (slots : List Slot) : Type 0 where
+  pub one_live : HasOneLive (shape_of slots)
+  pub one_size : AreOneSize slots
+  pub together : IsContiguous slots

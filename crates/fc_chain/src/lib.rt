@@ -19,6 +19,7 @@ mod events;
 mod find;
 mod hold;
 mod old;
+mod pairs;
 mod plan;
 mod room;
 mod slot;
