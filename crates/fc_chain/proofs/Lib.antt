@@ -19,3 +19,4 @@ pub mod Dividing
 pub mod Together
 pub mod Touched
 pub mod Retally
+pub mod Growing

@@ -8,3 +8,4 @@ pub mod Tallies
 pub mod Table
 pub mod Room
 pub mod Contiguous
+pub mod Ledger

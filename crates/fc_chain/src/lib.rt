@@ -25,6 +25,7 @@ mod room;
 mod slot;
 mod split;
 mod table;
+mod tallies;
 mod tally;
 mod waiting;
 mod walk;

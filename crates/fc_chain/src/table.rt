@@ -1,6 +1,6 @@
 //! The slots of all chains, with room for new ones.
 
-ghost use Rattle.std.specs.Prelude.{◌≡◌, ℕ, ◌+◌, ◌-◌, ◌^◌, ◌<◌, ◌≤◌, length, replicate, OnOk, OnErr, IfOk, false, true, slice_index_or, take, []};
+ghost use Rattle.std.specs.Prelude.{◌≡◌, ℕ, ◌+◌, ◌-◌, ◌^◌, ◌<◌, ◌≤◌, length, replicate, OnOk, OnErr, IfOk, false, true, slice_index_or, take, [], max};
 ghost use Rattle.fc_base.specs.Sheet.{no_slots, slot_at, volume_grains};
 ghost use Rattle.fc_base.specs.SheetStep.{with_chain, without, aged, placed, split_at, sheet_written, sheet_moved, sheet_torn};
 ghost use Rattle.fc_base.specs.declared.request.Side.TheVariants.{Under};
@@ -53,9 +53,17 @@ impl SlotTable {
         *self.slots.allocator()
     }
 
-    /// The slots.
+    /// How many grains a slot that is made can have.
+    pub(crate) fn width(&self) -> u32
+        ensures { result ≡ self.now.width }
+    {
+        self.width
+    }
+
+    /// The slots, none of which has more grains than `width`.
     pub(crate) fn as_slice(&self) -> &[Slot]
-        ensures { result.now ≡ self.now.sheet.slots }
+        ensures value { result.now ≡ self.now.sheet.slots }
+        ensures wide { (k : ℕ) → k < length result.now → length (slot_at result.now k).held ≤ self.now.width }
     {
         self.slots.as_slice()
     }
@@ -97,6 +105,7 @@ impl SlotTable {
         ensures same { self.new.sheet ≡ self.old.sheet }
         ensures room_stays { self.old.room ≤ self.new.room }
         ensures width_stays { self.old.width ≤ self.new.width }
+        ensures width { self.new.width ≤ max self.old.width grains }
         ensures err { OnErr result (self.new ≡ self.old) }
     {
         if grains > self.width {

@@ -18,6 +18,9 @@ pub(crate) struct Tally {
     pub(crate) needed: u32,
 }
 
+/// No counts yet.
+pub(crate) const NO_TALLY: Tally = Tally { held: 0, needed: 0 };
+
 /// Whether the slot's chain goes on at the next place.
 pub(crate) fn goes_on(slots: &[Slot], place: usize) -> bool
     requires { place < length slots.now }
