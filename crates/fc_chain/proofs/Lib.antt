@@ -20,3 +20,4 @@ pub mod Together
 pub mod Touched
 pub mod Retally
 pub mod Growing
+pub mod Parts

@@ -44,16 +44,16 @@ but_below test g zero lt = absurd (omega arith)
 but_below test g (suc n) lt =
     elim (cases_eq g n) [
       | inl same ↦
-        let below : count_below test n ≡ count_below (but test g) n = count_same test (but test g) n (λ i il. but_other test g i (λ e. omega arith)) in
-        let off : but test g n ≡ false = but_here test g n (sym same) in
-        let l : count_below test (suc n) ≡ cond (test n) (count_below (but test g) n + 1) (count_below (but test g) n) = ap (λ x. cond (test n) (x + 1) x) below in
-        let r : count_below (but test g) (suc n) ≡ count_below (but test g) n = ap (λ b. cond b (count_below (but test g) n + 1) (count_below (but test g) n)) off in
-        l ∙ (as_sum (test n) (count_below (but test g) n) ∙ (ap (λ z. count_below (but test g) n + cond (test z) 1 0) (sym same) ∙ ap (λ z. z + cond (test g) 1 0) (sym r)))
+          let below : count_below test n ≡ count_below (but test g) n = count_same test (but test g) n (λ i il. but_other test g i (λ e. omega arith)) in
+          let off : but test g n ≡ false = but_here test g n (sym same) in
+          let l : count_below test (suc n) ≡ cond (test n) (count_below (but test g) n + 1) (count_below (but test g) n) = ap (λ x. cond (test n) (x + 1) x) below in
+          let r : count_below (but test g) (suc n) ≡ count_below (but test g) n = ap (λ b. cond b (count_below (but test g) n + 1) (count_below (but test g) n)) off in
+          l ∙ (as_sum (test n) (count_below (but test g) n) ∙ (ap (λ z. count_below (but test g) n + cond (test z) 1 0) (sym same) ∙ ap (λ z. z + cond (test g) 1 0) (sym r)))
       | inr ne ↦
-        let ih : count_below test n ≡ count_below (but test g) n + cond (test g) 1 0 = but_below test g n (omega arith) in
-        let on : test n ≡ but test g n = but_other test g n (λ e. ne (sym e)) in
-        ap (λ x. cond (test n) (x + 1) x) ih ∙ (ap (λ b. cond b (count_below (but test g) n + cond (test g) 1 0 + 1) (count_below (but test g) n + cond (test g) 1 0)) on
-        ∙ cond_sum (but test g n) (count_below (but test g) n) (cond (test g) 1 0))
+          let ih : count_below test n ≡ count_below (but test g) n + cond (test g) 1 0 = but_below test g n (omega arith) in
+          let on : test n ≡ but test g n = but_other test g n (λ e. ne (sym e)) in
+          ap (λ x. cond (test n) (x + 1) x) ih ∙ (ap (λ b. cond b (count_below (but test g) n + cond (test g) 1 0 + 1) (count_below (but test g) n + cond (test g) 1 0)) on
+          ∙ cond_sum (but test g n) (count_below (but test g) n) (cond (test g) 1 0))
     ]
   where
     as_sum : (b : Bool) (x : ℕ) → cond b (x + 1) x ≡ x + cond b 1 0
@@ -65,12 +65,12 @@ but_count test g n f =
     elim (cases_Bool (test g)) [
       | inl t ↦ but_below test g n (f t)
       | inr off ↦
-        let none : cond {A = ℕ} (test g) 1 0 ≡ 0 = ap (λ b. cond {A = ℕ} b 1 0) off in
-        let same : count_below test n ≡ count_below (but test g) n = count_same test (but test g) n (λ i il. elim (cases_eq i g) [
-          | inl e ↦ (ap test e ∙ off) ∙ sym (but_here test g i e)
-          | inr ne ↦ but_other test g i ne
-        ]) in
-        omega arith
+          let none : cond {A = ℕ} (test g) 1 0 ≡ 0 = ap (λ b. cond {A = ℕ} b 1 0) off in
+          let same : count_below test n ≡ count_below (but test g) n = count_same test (but test g) n (λ i il. elim (cases_eq i g) [
+            | inl e ↦ (ap test e ∙ off) ∙ sym (but_here test g i e)
+            | inr ne ↦ but_other test g i ne
+          ]) in
+          omega arith
     ]
 
 -- ---- a slot's counts
@@ -163,8 +163,8 @@ still_tallied f g v b slots o tallies one e ch t k kl =
     elim (cases_Bool (is_touched slots v o k)) [
       | inl y ↦ ap (λ z. cond z (tally_but slots g k) (tally_of slots k)) y ∙ (sym (tally_but_same f g b slots k) ∙ sym (ap (λ z. cond z (tally_but new g k) (tally_of new k)) y))
       | inr n ↦
-        let u = untouched_is slots g v k one (ap (λ z. is_touched slots v z k) (sym e) ∙ n) in
-        ap (λ z. cond z (tally_but slots g k) (tally_of slots k)) n ∙ (sym (untouched_same f g v b slots k ch u) ∙ sym (ap (λ z. cond z (tally_but new g k) (tally_of new k)) n))
+          let u = untouched_is slots g v k one (ap (λ z. is_touched slots v z k) (sym e) ∙ n) in
+          ap (λ z. cond z (tally_but slots g k) (tally_of slots k)) n ∙ (sym (untouched_same f g v b slots k ch u) ∙ sym (ap (λ z. cond z (tally_but new g k) (tally_of new k)) n))
     ] in
     old ∙ (same ∙ ap (λ z. cond z (tally_but new g k) (tally_of new k)) (sym (touched_map f g b slots v o k)))
   where
@@ -205,11 +205,11 @@ change_taken slots v g sizes fits = record {
   fits = λ a x al live i old lost. elim (cases_eq (slot_at slots x).volume v) [
     | inr ne ↦ absurd (both_ways _ lost (ap (pair g) (taken_off v g (slot_at slots x) ne) ∙ i.holds))
     | inl same ↦
-      let own : (slot_at slots a).volume ≡ v = fits a x al live (is_holder (column slots g) a x i) old same in
-      let before : x ≤ a = i.before in
-      let below : g < length (slot_at slots x).held = held_below (slot_at slots x).held g i.holds in
-      let size : length (slot_at slots x).held ≡ length (slot_at slots a).held = sizes x a (omega arith) al i.one_chain in
-      ap (pair g) (taken_on v g (slot_at slots a) own) ∙ set_on (slot_at slots a).held g (slot_at slots a).is_live live (omega arith)
+        let own : (slot_at slots a).volume ≡ v = fits a x al live (is_holder (column slots g) a x i) old same in
+        let before : x ≤ a = i.before in
+        let below : g < length (slot_at slots x).held = held_below (slot_at slots x).held g i.holds in
+        let size : length (slot_at slots x).held ≡ length (slot_at slots a).held = sizes x a (omega arith) al i.one_chain in
+        ap (pair g) (taken_on v g (slot_at slots a) own) ∙ set_on (slot_at slots a).held g (slot_at slots a).is_live live (omega arith)
   ];
 }
 

@@ -14,13 +14,14 @@ ghost use Rattle.fc_bits.specs.Grains.{count_set};
 ghost use Rattle.fc_base.specs.Counts.{need_count_of, UsedAt, names_below, is_direct, is_unneeded};
 ghost use Rattle.fc_chain.specs.Planning.{CanPlan, Plannable, planned_moves, volume_count};
 
-use crate::count::{add_direct, add_unneeded, count_needed, is_source};
+use crate::count::{add_direct, add_unneeded, is_source};
 use crate::events::step_all;
 use crate::find::{name_of, place_of, place_of_live, place_of_mapping};
 use crate::plan::{LaneGrain, plan_fill, plan_write};
 use crate::room::{slots_made, widest};
 use crate::slot::Slot;
 use crate::table::SlotTable;
+use crate::tallies::Tallies;
 use crate::walk::{first_reader_of, holder_of};
 use fc_base::decision::LaneEvents;
 use fc_base::ids::{MapId, SlotId, VolId};
@@ -37,16 +38,19 @@ pub struct Cascade {
     lane: u8,
     lanes: u8,
     table: SlotTable,
+    tallies: Tallies,
+    room: usize,
+    width: u32,
 }
 
 impl Model for Cascade {
-    ghost use Rattle.fc_chain.specs.Chains.{Chains, IsKept};
+    ghost use Rattle.fc_chain.specs.Chains.{Chains, AreParts};
 
     ghost Value = { Chains };
 
-    ghost view = { λ c. record { lane = c.lane; lanes = c.lanes; sheet = c.table.sheet; room = c.table.room; width = c.table.width } };
+    ghost view = { λ c. record { lane = c.lane; lanes = c.lanes; sheet = c.table.sheet; room = c.room; width = c.width } };
 
-    ghost invariant = { λ c. IsKept c.lane c.lanes c.table.sheet };
+    ghost invariant = { λ c. AreParts c.lane c.lanes c.table c.tallies c.room c.width };
 }
 
 impl Cascade {
@@ -61,6 +65,9 @@ impl Cascade {
             lane,
             lanes,
             table: SlotTable::new(alloc),
+            tallies: Tallies::new(alloc),
+            room: 0,
+            width: 0,
         }
     }
 
@@ -84,12 +91,19 @@ impl Cascade {
         ensures err { OnErr result (self.new ≡ self.old) }
     {
         let events = events.as_slice();
-        match slots_made(events) {
-            Some(slots) => self
-                .table
-                .make_room(slots, widest(events, self.lane, self.lanes)),
-            None => Err(NoMemory),
-        }
+        let Some(slots) = slots_made(events) else {
+            return Err(NoMemory);
+        };
+        let Some(count) = self.table.as_slice().len().checked_add(slots) else {
+            return Err(NoMemory);
+        };
+        let width = widest(events, self.lane, self.lanes).max(self.table.width());
+        self.tallies
+            .make_room(count, (width as usize).div_ceil(64))?;
+        self.table.make_room(slots, width)?;
+        self.room = self.room.max(slots);
+        self.width = width;
+        Ok(())
     }
 
     /// Does what the events say to the chains, in order. They fit, and there is room for them. Takes no memory.
@@ -99,6 +113,8 @@ impl Cascade {
         ensures { self.new ≡ record self.old { sheet = fold (sheet_step (lane_grains self.old.lane self.old.lanes)) self.old.sheet events.now; room = self.new.room } }
     {
         step_all(&mut self.table, events.as_slice(), self.lane, self.lanes);
+        self.tallies.recount(self.table.as_slice());
+        self.room = 0;
     }
 
     /// The volume's live slot, and None exactly where there is no such volume.
@@ -165,9 +181,9 @@ impl Cascade {
         let volume = self.volume(slot);
         let grain = grain / self.lanes as u32;
         if in_place {
-            self.table.keep(volume.0, grain);
+            self.tallies.keep(&mut self.table, volume.0, grain);
         } else {
-            self.table.take(volume.0, grain);
+            self.tallies.take(&mut self.table, volume.0, grain);
         }
     }
 
@@ -178,7 +194,7 @@ impl Cascade {
         ensures { self.new ≡ record self.old { sheet = sheet_written volume.0 (in_lane self.old grain) self.old.sheet } }
     {
         let grain = grain / self.lanes as u32;
-        self.table.take(volume.0, grain);
+        self.tallies.take(&mut self.table, volume.0, grain);
     }
 
     /// A write of the volume's grain failed and left any bytes in it. With `Now` what the volume shows is lost
@@ -191,8 +207,8 @@ impl Cascade {
     {
         let grain = grain / self.lanes as u32;
         match side {
-            Side::Now => self.table.take(volume.0, grain),
-            Side::Under => self.table.lose(volume.0, grain),
+            Side::Now => self.tallies.take(&mut self.table, volume.0, grain),
+            Side::Under => self.tallies.lose(&mut self.table, volume.0, grain),
         }
     }
 
@@ -238,8 +254,7 @@ impl Cascade {
         requires { IsThere self.now.sheet.slots slot }
         ensures { (k : ℕ) → birth_place self.now.sheet.slots slot.0 ≡ Some k → result ≡ count_set (slot_at self.now.sheet.slots k).held }
     {
-        let slots = self.slots();
-        slots[place_of(slots, slot)].held_count()
+        self.tallies.at(place_of(self.slots(), slot)).held
     }
 
     /// At how many of the lane's grains another slot needs the slot.
@@ -247,8 +262,7 @@ impl Cascade {
         requires { IsThere self.now.sheet.slots slot }
         ensures { (k : ℕ) → birth_place self.now.sheet.slots slot.0 ≡ Some k → result ≡ need_count_of self.now.sheet.slots k }
     {
-        let slots = self.slots();
-        count_needed(slots, place_of(slots, slot))
+        self.tallies.at(place_of(self.slots(), slot)).needed
     }
 
     /// Whether the volume is used as a source: some slot of it has a live slot behind it in its chain. Such a
@@ -274,6 +288,6 @@ impl Cascade {
     pub fn unneeded(&self, out: &mut List<SlotId>) -> Result<(), NoMemory>
         ensures { OnOk result (out.new ≡ out.old ++ names_below self.now.sheet.slots (is_unneeded self.now.sheet.slots) (length self.now.sheet.slots)) }
     {
-        add_unneeded(self.slots(), out)
+        add_unneeded(self.slots(), &self.tallies, out)
     }
 }

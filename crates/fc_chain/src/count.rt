@@ -1,34 +1,19 @@
-//! Counts of held and needed grains, and whether a volume is used as a source.
+//! Slots that are needed by none, the direct readers of a slot, and whether a volume is used as a source.
 
-ghost use Rattle.std.specs.Prelude.{◌≡◌, ℕ, ◌<◌, ◌↔◌, IsTrue, length, OnOk, ◌++◌};
+ghost use Rattle.std.specs.Prelude.{◌≡◌, ℕ, ◌<◌, ◌≤◌, ◌↔◌, IsTrue, length, OnOk, ◌++◌};
 ghost use Rattle.fc_base.specs.Sheet.{slot_at};
-ghost use Rattle.fc_base.specs.Counts.{need_count_of, LiveBehind, UsedAt, names_below, is_direct, is_unneeded};
+ghost use Rattle.fc_base.specs.Counts.{LiveBehind, UsedAt, names_below, is_direct, is_unneeded};
 ghost use Rattle.fc_chain.specs.Contiguous.{IsContiguous};
-ghost use Rattle.fc_chain.specs.Tallies.{AreOneSize, HoldsWords};
+ghost use Rattle.fc_chain.specs.Tallies.{AreTallies, AreOneSize, HoldsWords};
 
 use crate::slot::Slot;
+use crate::tallies::Tallies;
 use crate::tally::goes_on;
 use crate::waiting::take_held;
-use crate::walk::first_reader_of;
 use fc_base::ids::SlotId;
 use fc_base::list::List;
 use fc_base::outcome::NoMemory;
 use std::alloc::Global;
-
-/// At how many of the lane's grains the slot at a place has a needer.
-pub(crate) fn count_needed(slots: &[Slot], place: usize) -> u32
-    requires there { place < length slots.now }
-    requires together { IsContiguous slots.now }
-    ensures { result ≡ need_count_of slots.now place }
-{
-    let mut count = 0;
-    for grain in 0..slots[place].grains() {
-        if first_reader_of(slots, place, place, grain).is_some() {
-            count += 1;
-        }
-    }
-    count
-}
 
 /// Whether some live slot stands behind a place in its chain.
 fn has_live_behind(slots: &[Slot], place: usize) -> bool
@@ -109,12 +94,17 @@ fn add_readers(
 }
 
 /// Adds the names of the old slots that nobody needs.
-pub(crate) fn add_unneeded(slots: &[Slot], out: &mut List<SlotId>) -> Result<(), NoMemory>
-    requires { IsContiguous slots.now }
+pub(crate) fn add_unneeded(
+    slots: &[Slot],
+    tallies: &Tallies,
+    out: &mut List<SlotId>,
+) -> Result<(), NoMemory>
+    requires room { length slots.now ≤ length tallies.now.tallies }
+    requires tallied { AreTallies slots.now tallies.now.tallies }
     ensures { OnOk result (out.new ≡ out.old ++ names_below slots.now (is_unneeded slots.now) (length slots.now)) }
 {
     for (place, slot) in slots.iter().enumerate() {
-        if !slot.is_live() && count_needed(slots, place) == 0 {
+        if !slot.is_live() && tallies.at(place).needed == 0 {
             out.push(SlotId(slot.birth()))?;
         }
     }
