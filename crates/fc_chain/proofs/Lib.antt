@@ -21,3 +21,5 @@ pub mod Touched
 pub mod Retally
 pub mod Growing
 pub mod Parts
+pub mod Sorting
+pub mod Listed

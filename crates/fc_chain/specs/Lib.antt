@@ -9,3 +9,5 @@ pub mod Table
 pub mod Room
 pub mod Contiguous
 pub mod Ledger
+pub mod Indexing
+pub mod Directory

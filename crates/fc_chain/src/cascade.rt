@@ -1,6 +1,6 @@
 //! The chains of copies of one lane.
 
-ghost use Rattle.std.specs.Prelude.{◌≡◌, ℕ, ◌<◌, ◌≤◌, ◌/◌, ◌↔◌, ◌++◌, length, OnOk, OnErr, IsTrue, Some, false, fold};
+ghost use Rattle.std.specs.Prelude.{◌≡◌, ℕ, ◌<◌, ◌≤◌, ◌/◌, ◌↔◌, ◌++◌, length, OnOk, OnErr, IsTrue, IfSome, Some, false, fold};
 ghost use Rattle.fc_base.specs.Sheet.{no_slots, slot_at, column, live_place, mapping_place, birth_place};
 ghost use Rattle.fc_base.specs.Column.{holder, needer};
 ghost use Rattle.fc_base.specs.declared.request.Side.TheVariants.{Under};
@@ -15,8 +15,9 @@ ghost use Rattle.fc_base.specs.Counts.{need_count_of, UsedAt, names_below, is_di
 ghost use Rattle.fc_chain.specs.Planning.{CanPlan, Plannable, planned_moves, volume_count};
 
 use crate::count::{add_direct, add_unneeded, is_source};
+use crate::directory::Directory;
 use crate::events::step_all;
-use crate::find::{name_of, place_of, place_of_live, place_of_mapping};
+use crate::find::name_of;
 use crate::plan::{LaneGrain, plan_fill, plan_write};
 use crate::room::{slots_made, widest};
 use crate::slot::Slot;
@@ -39,6 +40,7 @@ pub struct Cascade {
     lanes: u8,
     table: SlotTable,
     tallies: Tallies,
+    directory: Directory,
     room: usize,
     width: u32,
 }
@@ -50,7 +52,7 @@ impl Model for Cascade {
 
     ghost view = { λ c. record { lane = c.lane; lanes = c.lanes; sheet = c.table.sheet; room = c.room; width = c.width } };
 
-    ghost invariant = { λ c. AreParts c.lane c.lanes c.table c.tallies c.room c.width };
+    ghost invariant = { λ c. AreParts c.lane c.lanes c.table c.tallies c.directory c.room c.width };
 }
 
 impl Cascade {
@@ -66,6 +68,7 @@ impl Cascade {
             lanes,
             table: SlotTable::new(alloc),
             tallies: Tallies::new(alloc),
+            directory: Directory::new(alloc),
             room: 0,
             width: 0,
         }
@@ -79,6 +82,34 @@ impl Cascade {
         ensures sizes { AreOneSize result.now }
     {
         self.table.as_slice()
+    }
+
+    /// The place of the slot with this name.
+    fn place_of(&self, slot: SlotId) -> usize
+        requires { IsThere self.now.sheet.slots slot }
+        ensures value { birth_place self.now.sheet.slots slot.0 ≡ Some result }
+        ensures bound { result < length self.now.sheet.slots }
+    {
+        match self.directory.born(self.table.as_slice(), slot.0) {
+            Some(place) => place,
+            None => unreachable!(),
+        }
+    }
+
+    /// The place of the volume's live slot.
+    fn place_of_live(&self, volume: VolId) -> Option<usize>
+        ensures value { result ≡ live_place self.now.sheet.slots volume.0 }
+        ensures bound { IfSome result (λ k. k < length self.now.sheet.slots) }
+    {
+        self.directory.live(self.table.as_slice(), volume.0)
+    }
+
+    /// The place of the mapping's slot.
+    fn place_of_mapping(&self, map: MapId) -> Option<usize>
+        ensures value { result ≡ mapping_place self.now.sheet.slots map.0 }
+        ensures bound { IfSome result (λ k. k < length self.now.sheet.slots) }
+    {
+        self.directory.slot_of(self.table.as_slice(), map.0)
     }
 
     /// Makes room for the slots that the events can make, so that `apply` of them takes no memory. Room that was there
@@ -100,6 +131,7 @@ impl Cascade {
         let width = widest(events, self.lane, self.lanes).max(self.table.width());
         self.tallies
             .make_room(count, (width as usize).div_ceil(64))?;
+        self.directory.make_room(count)?;
         self.table.make_room(slots, width)?;
         self.room = self.room.max(slots);
         self.width = width;
@@ -114,6 +146,7 @@ impl Cascade {
     {
         step_all(&mut self.table, events.as_slice(), self.lane, self.lanes);
         self.tallies.recount(self.table.as_slice());
+        self.directory.rebuild(self.table.as_slice());
         self.room = 0;
     }
 
@@ -121,8 +154,7 @@ impl Cascade {
     pub fn live(&self, volume: VolId) -> Option<SlotId>
         ensures { result ≡ found self.now.sheet.slots (live_place self.now.sheet.slots volume.0) }
     {
-        let slots = self.slots();
-        name_of(slots, place_of_live(slots, volume.0))
+        name_of(self.slots(), self.place_of_live(volume))
     }
 
     /// The volume whose slot it is.
@@ -130,16 +162,14 @@ impl Cascade {
         requires { IsThere self.now.sheet.slots slot }
         ensures { (k : ℕ) → birth_place self.now.sheet.slots slot.0 ≡ Some k → result.0 ≡ (slot_at self.now.sheet.slots k).volume }
     {
-        let slots = self.slots();
-        VolId(slots[place_of(slots, slot)].volume())
+        VolId(self.slots()[self.place_of(slot)].volume())
     }
 
     /// The mapping's slot, and None exactly where it has none.
     pub fn slot(&self, map: MapId) -> Option<SlotId>
         ensures { result ≡ found self.now.sheet.slots (mapping_place self.now.sheet.slots map.0) }
     {
-        let slots = self.slots();
-        name_of(slots, place_of_mapping(slots, map.0))
+        name_of(self.slots(), self.place_of_mapping(map))
     }
 
     /// The holder of a slot at a grain of the lane: the nearest slot at or before it in its chain that holds
@@ -152,7 +182,7 @@ impl Cascade {
         let slots = self.slots();
         name_of(
             slots,
-            holder_of(slots, place_of(slots, slot), grain / self.lanes as u32),
+            holder_of(slots, self.place_of(slot), grain / self.lanes as u32),
         )
     }
 
@@ -164,7 +194,7 @@ impl Cascade {
         ensures { (k : ℕ) → birth_place self.now.sheet.slots slot.0 ≡ Some k → result ≡ found self.now.sheet.slots (needer (column self.now.sheet.slots (in_lane self.now grain)) k) }
     {
         let slots = self.slots();
-        let place = place_of(slots, slot);
+        let place = self.place_of(slot);
         name_of(
             slots,
             first_reader_of(slots, place, place, grain / self.lanes as u32),
@@ -225,7 +255,7 @@ impl Cascade {
             Planned::Fill { slot, grain } => {
                 plan_fill(
                     slots,
-                    place_of(slots, slot),
+                    self.place_of(slot),
                     LaneGrain {
                         place: grain.0 / lanes,
                         number: grain.0,
@@ -234,7 +264,7 @@ impl Cascade {
                 );
             }
             Planned::Write { volume, grain } => {
-                if let Some(place) = place_of_live(slots, volume.0) {
+                if let Some(place) = self.place_of_live(volume) {
                     plan_write(
                         slots,
                         place,
@@ -254,7 +284,7 @@ impl Cascade {
         requires { IsThere self.now.sheet.slots slot }
         ensures { (k : ℕ) → birth_place self.now.sheet.slots slot.0 ≡ Some k → result ≡ count_set (slot_at self.now.sheet.slots k).held }
     {
-        self.tallies.at(place_of(self.slots(), slot)).held
+        self.tallies.at(self.place_of(slot)).held
     }
 
     /// At how many of the lane's grains another slot needs the slot.
@@ -262,7 +292,7 @@ impl Cascade {
         requires { IsThere self.now.sheet.slots slot }
         ensures { (k : ℕ) → birth_place self.now.sheet.slots slot.0 ≡ Some k → result ≡ need_count_of self.now.sheet.slots k }
     {
-        self.tallies.at(place_of(self.slots(), slot)).needed
+        self.tallies.at(self.place_of(slot)).needed
     }
 
     /// Whether the volume is used as a source: some slot of it has a live slot behind it in its chain. Such a
@@ -279,8 +309,7 @@ impl Cascade {
         requires { IsThere self.now.sheet.slots slot }
         ensures { OnOk result ((k : ℕ) → birth_place self.now.sheet.slots slot.0 ≡ Some k → out.new ≡ out.old ++ names_below self.now.sheet.slots (is_direct self.now.sheet.slots k) (length self.now.sheet.slots)) }
     {
-        let slots = self.slots();
-        add_direct(self.table.alloc(), slots, place_of(slots, slot), out)
+        add_direct(self.table.alloc(), self.slots(), self.place_of(slot), out)
     }
 
     /// Adds the old slots that no slot needs at a grain of the lane, in order of their places. Refused, the list

@@ -18,9 +18,11 @@
 
 mod cascade;
 mod count;
+mod directory;
 mod events;
 mod find;
 mod hold;
+mod index;
 mod old;
 mod pairs;
 mod plan;

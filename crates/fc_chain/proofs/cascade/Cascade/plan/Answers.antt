@@ -1,5 +1,7 @@
+use Rattle.std.proofs.Common.{List, ap, sym, ◌∙◌}
+use Rattle.fc_base.specs.Sheet.{Slot, live_place}
 use Rattle.fc_chain.proofs.Fitting.{write_fits}
 use Rattle.fc_chain.proofs.cascade.Cascade.plan.Goals as goal
 
 pub plan_write-requires-clause-fit : goal.plan_write-requires-clause-fit
-plan_write-requires-clause-fit c = write_fits _ _ _ c.slots-slots.ensures.plannable c.in-Some.ensures.value
+plan_write-requires-clause-fit c = write_fits _ _ _ c.slots-slots.ensures.plannable (c.in-Some.ensures.value ∙ ap (λ (z : List Slot). live_place z c.in-Write.volume.0) (sym c.slots-slots.ensures.value))
