@@ -1,20 +1,24 @@
 -- Lists of places in order: what a sort leaves, and what a search in them finds.
-use Rattle.std.proofs.Common.{◌≡◌, ◌≢◌, ℕ, zero, suc, ◌+◌, ◌-◌, ◌/◌, ◌<◌, ◌≤◌, Bool, true, false, ◌&&◌, ◌||◌, eqb, ltb, Option, Some, None, List, [], ◌∷◌, ◌++◌, length, get_or, refl, sym, ap, subst, ◌∙◌, arith, ◌⊎◌, inl, inr, length-append, IsPermutation, Ordering, IfSome, take, drop}
+use Rattle.std.proofs.Common.{◌≡◌, ◌≢◌, ℕ, zero, suc, ◌+◌, ◌-◌, ◌/◌, ◌<◌, ◌≤◌, Bool, true, false, not, ◌&&◌, ◌||◌, eqb, ltb, Option, Some, None, List, [], ◌∷◌, ◌++◌, length, get_or, refl, sym, ap, subst, ◌∙◌, arith, ◌⊎◌, inl, inr, length-append, IsPermutation, Ordering, IfSome, take, drop}
 use Rattle.std.proofs.lemmas.List.{take-append-le, take_all}
 use Rattle.std.specs.List.{Contains}
 use Rattle.std.specs.List.Sorted.{IsSorted}
 use Rattle.std.specs.Ordering.{nat_cmp, on, then_cmp, is_lt}
 use Rattle.std.specs.Cmp.{IsTotalOrder}
-use Rattle.std.proofs.lemmas.Bool.{cases_Bool, cases_lt, cases_eq, cases_order, both_ways, eq-eqb, ne_eqb, eqb-true, ltb-true, lt-ltb, le-ltb, and_parts, and_from, or_cases, or_left, or_right, false_from_ne_true}
+use Rattle.std.proofs.lemmas.Bool.{cases_Bool, cases_lt, cases_eq, cases_order, both_ways, eq-eqb, ne_eqb, eqb-true, ltb-true, lt-ltb, le-ltb, and_parts, and_from, and_left, and_right, or_cases, or_left, or_right, false_from_ne_true}
 use Rattle.std.proofs.lemmas.Cmp.{nat_cmp_total, on_total, then_total}
 use Rattle.std.proofs.lemmas.List.Sorted.{sorted_far, ranks_by, Contains-permutation, IsPermutation-sym, length_permutation}
 use Rattle.std.proofs.lemmas.List.Elements.{Contains-get_or, Contains-append_left, Contains-push, Contains-push_cases}
 use Rattle.fc_base.specs.Sheet.{Slot, slot_at, shape_of, birth_place, mapping_place, live_place}
 use Rattle.fc_base.specs.SheetFacts.{HasMappings}
 use Rattle.fc_base.specs.RestoreGraph.{HasOneLive}
-use Rattle.fc_chain.specs.Planning.{HasApartBirths}
+use Rattle.fc_chain.specs.Planning.{HasApartBirths, NextOld}
 use Rattle.fc_moves.proofs.Search.{first_is, first_is_none}
 use Rattle.fc_sheets.proofs.Finding.{live_place_is, mapping_place_is, no_mapping_place}
+use Rattle.fc_base.specs.Column.{is_old_of}
+use Rattle.fc_base.specs.Counts.{LiveBehind, UsedAt}
+use Rattle.fc_chain.specs.Births.{is_after}
+use Rattle.fc_chain.proofs.Olds.{is_old_after, least_found}
 use Rattle.fc_chain.proofs.Finds.{read_at}
 use Rattle.fc_chain.specs.declared.index.By.{By}
 use Rattle.fc_chain.specs.declared.index.By.TheVariants.{Birth, Mapping, Volume}
@@ -273,3 +277,86 @@ live_gone slots items entries now v key first at n idx e en size ek f le none en
 
 pub other_key : (items entries : List Entry) (i n key : ℕ) (x : Entry) → items ≡ entries → n ≡ length items → i < n → x ≡ get_or items i x → (x.key ≡ key → ⊥) → (entry_at entries i).key ≢ key
 other_key items entries i n key x e en lt r ne q = ne (ap (λ (z : Entry). z.key) (sym (entry_read items entries i n x e en lt r)) ∙ q)
+
+-- ---- all slots of a volume, through a walk over its entries
+
+not_before_from : (key birth : ℕ) (e : Entry) → is_before key birth e ≡ false → key ≤ e.key
+not_before_from key birth e f =
+    elim (cases_lt e.key key) [ inr ge ↦ ge | inl lt ↦ absurd (both_ways _ f (or_left (ltb e.key key) _ (lt-ltb e.key key lt))) ]
+
+volume_entry : (slots : List Slot) (entries : List Entry) (v k : ℕ) → IsIndexOf slots Volume entries → k < length slots → (slot_at slots k).volume ≡ v → (i : ℕ) × (i < length entries) × ((entry_at entries i).place ≡ k) × ((entry_at entries i).key ≡ v)
+volume_entry slots entries v k idx kl same =
+    let l = idx.each k v kl (ap Some same) in
+    let o = idx.only l.0 l.1 in
+    (l.0, l.1, l.2, some_same _ _ (sym o.key ∙ (ap (λ z. key_at Volume (slot_at slots z)) l.2 ∙ ap Some same)))
+
+pub range_all : (slots : List Slot) (entries : List Entry) (v b first at : ℕ) (P : ℕ → Type 0) → IsIndexOf slots Volume entries → IsFirstFrom entries v b first → first ≤ at →
+    ((i : ℕ) → i < at → i < length entries → (entry_at entries i).key ≡ v → P (entry_at entries i).place) → (at < length entries → (entry_at entries at).key ≢ v) → (k : ℕ) → k < length slots → (slot_at slots k).volume ≡ v → P k
+range_all slots entries v b first at P idx f le none ends k kl same =
+    let l = volume_entry slots entries v k idx kl same in
+    elim (cases_lt l.0 at) [
+      | inl before ↦ subst P l.2 (none l.0 before l.1 l.3)
+      | inr after ↦
+        let il : l.0 < length entries = l.1 in
+        let al : at < length entries = omega arith in
+        let low : v ≤ (entry_at entries at).key = not_before_from v b (entry_at entries at) (f.rest at le al) in
+        let differ : (entry_at entries at).key ≢ v = ends al in
+        let key : (entry_at entries l.0).key ≡ v = l.3 in
+        elim (idx.rising at l.0 after il) [ inl less ↦ absurd (omega arith) | inr q ↦ (let e : (entry_at entries at).key ≡ (entry_at entries l.0).key = q.0 in absurd (omega arith)) ]
+    ]
+
+pub range_end : (slots : List Slot) (items entries now : List Entry) (v key b first at n : ℕ) (P : ℕ → Type 0) → IsIndexOf slots Volume entries → items ≡ entries → now ≡ items → n ≡ length items → key ≡ v → IsFirstFrom now key b first → first ≤ at →
+    ((i : ℕ) → i < at → i < length entries → (entry_at entries i).key ≡ key → P (entry_at entries i).place) → (at < n → (entry_at entries at).key ≢ key) → (k : ℕ) → k < length slots → (slot_at slots k).volume ≡ v → P k
+range_end slots items entries now v key b first at n P idx e en size ek f le none ends =
+    let g : IsFirstFrom entries key b first = subst (λ (z : List Entry). IsFirstFrom z key b first) (en ∙ e) f in
+    let h : IsFirstFrom entries v b first = subst (λ (z : ℕ). IsFirstFrom entries z b first) ek g in
+    let long : length items ≡ length entries = ap length e in
+    range_all slots entries v b first at P idx h le (λ i lt il q. none i lt il (q ∙ sym ek)) (λ lt q. ends (omega arith) (q ∙ sym ek))
+
+-- a volume that isn't used
+pub not_used : (slots : List Slot) (v : ℕ) → ((k : ℕ) → k < length slots → (slot_at slots k).volume ≡ v → LiveBehind slots k → ⊥) → UsedAt slots v → ⊥
+not_used slots v f u = f u.0 u.1 u.2 u.3
+
+-- an old slot
+pub old_none : (slots : List Slot) (v : ℕ) (after : Option ℕ) → HasApartBirths slots → ((k : ℕ) → k < length slots → (slot_at slots k).volume ≡ v → is_old_after slots v after k ≡ false) → NextOld slots v after None
+old_none slots v after apart f =
+    least_found slots v after (length slots) None apart (omega arith)
+    (λ j jl. elim (cases_eq (slot_at slots j).volume v) [ inl same ↦ f j jl same | inr ne ↦ and_left _ _ (and_right (not (slot_at slots j).is_live) _ (ne_eqb _ _ ne)) ])
+
+pub old_first : (slots : List Slot) (entries : List Entry) (v at k : ℕ) (after : Option ℕ) → HasApartBirths slots → IsIndexOf slots Volume entries → at < length entries → (entry_at entries at).key ≡ v → k ≡ (entry_at entries at).place → is_old_after slots v after k ≡ true →
+    ((i : ℕ) → i < at → i < length entries → (entry_at entries i).key ≡ v → is_old_after slots v after (entry_at entries i).place ≡ false) → NextOld slots v after (Some k)
+old_first slots entries v at k after apart idx al key e passes none =
+    let o = idx.only at al in
+    let there : k < length slots = (let a : (entry_at entries at).place < length slots = o.there in omega arith) in
+    let own : (slot_at slots k).birth ≡ (entry_at entries at).birth = ap (λ z. (slot_at slots z).birth) e ∙ sym o.birth in
+    least_found slots v after (length slots) (Some k) apart (omega arith) (record {
+      below = there;
+      there = there;
+      passes = passes;
+      least = λ j jl t.
+          let p = and_parts (is_old_of (shape_of slots) v j) _ t in
+          let q = and_parts (not (slot_at slots j).is_live) _ p.0 in
+          let l = volume_entry slots entries v j idx jl (eqb-true _ _ q.1) in
+          let i = idx.only l.0 l.1 in
+          let birth : (entry_at entries l.0).birth ≡ (slot_at slots j).birth = i.birth ∙ ap (λ z. (slot_at slots z).birth) l.2 in
+          elim (cases_lt l.0 at) [
+            | inl before ↦ absurd (both_ways _ (none l.0 before l.1 l.3) (ap (is_old_after slots v after) l.2 ∙ t))
+            | inr later ↦ elim (idx.rising at l.0 later l.1) [
+              | inl less ↦ (let x : (entry_at entries l.0).key ≡ v = l.3 in absurd (omega arith))
+              | inr y ↦ (let z : (entry_at entries at).birth ≤ (entry_at entries l.0).birth = y.1 in omega arith)
+            ]
+          ];
+    })
+
+pub old_here : (slots : List Slot) (items entries : List Entry) (v key i n : ℕ) (after : Option ℕ) (x y : Entry) (t : Slot) → HasApartBirths slots → IsIndexOf slots Volume entries → items ≡ entries → n ≡ length items → i < n → key ≡ v →
+    x ≡ get_or items i x → x.key ≡ key → y ≡ get_or items i y → t ≡ get_or slots y.place t → ((not t.is_live && eqb t.volume v) && is_after after t.birth) ≡ true →
+    ((j : ℕ) → j < i → j < length entries → (entry_at entries j).key ≡ key → is_old_after slots v after (entry_at entries j).place ≡ false) → NextOld slots v after (Some y.place)
+old_here slots items entries v key i n after x y t apart idx e en lt ek rx kx ry rt passes none =
+    let a = entry_read items entries i n x e en lt rx in
+    let b = entry_read items entries i n y e en lt ry in
+    let size : length items ≡ length entries = ap length e in
+    let il : i < length entries = omega arith in
+    let o = idx.only i il in
+    let there : y.place < length slots = (let q : (entry_at entries i).place < length slots = o.there in let r : (entry_at entries i).place ≡ y.place = ap (λ (z : Entry). z.place) b in omega arith) in
+    old_first slots entries v i y.place after apart idx il (ap (λ (z : Entry). z.key) a ∙ (kx ∙ ek)) (sym (ap (λ (z : Entry). z.place) b))
+    (ap (λ (z : Slot). (not z.is_live && eqb z.volume v) && is_after after z.birth) (read_at slots y.place t there rt) ∙ passes) (λ j jl jn q. none j jl jn (q ∙ sym ek))

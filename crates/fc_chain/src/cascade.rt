@@ -14,7 +14,7 @@ ghost use Rattle.fc_bits.specs.Grains.{count_set};
 ghost use Rattle.fc_base.specs.Counts.{need_count_of, UsedAt, names_below, is_direct, is_unneeded};
 ghost use Rattle.fc_chain.specs.Planning.{CanPlan, Plannable, planned_moves, volume_count};
 
-use crate::count::{add_direct, add_unneeded, is_source};
+use crate::count::{add_direct, add_unneeded};
 use crate::directory::Directory;
 use crate::events::step_all;
 use crate::find::name_of;
@@ -255,6 +255,7 @@ impl Cascade {
             Planned::Fill { slot, grain } => {
                 plan_fill(
                     slots,
+                    &self.directory,
                     self.place_of(slot),
                     LaneGrain {
                         place: grain.0 / lanes,
@@ -267,6 +268,7 @@ impl Cascade {
                 if let Some(place) = self.place_of_live(volume) {
                     plan_write(
                         slots,
+                        &self.directory,
                         place,
                         LaneGrain {
                             place: grain.0 / lanes,
@@ -300,7 +302,7 @@ impl Cascade {
     pub fn used(&self, volume: VolId) -> bool
         ensures { IsTrue result ↔ UsedAt self.now.sheet.slots volume.0 }
     {
-        is_source(self.slots(), volume.0)
+        self.directory.is_source(self.slots(), volume.0)
     }
 
     /// Adds the live slots other than this one that have it as holder at some grain of the lane, in order of

@@ -1,8 +1,8 @@
-//! Slots that are needed by none, the direct readers of a slot, and whether a volume is used as a source.
+//! Slots that are needed by none, the direct readers of a slot, and whether live slots stand behind it.
 
 ghost use Rattle.std.specs.Prelude.{◌≡◌, ℕ, ◌<◌, ◌≤◌, ◌↔◌, IsTrue, length, OnOk, ◌++◌};
 ghost use Rattle.fc_base.specs.Sheet.{slot_at};
-ghost use Rattle.fc_base.specs.Counts.{LiveBehind, UsedAt, names_below, is_direct, is_unneeded};
+ghost use Rattle.fc_base.specs.Counts.{LiveBehind, names_below, is_direct, is_unneeded};
 ghost use Rattle.fc_chain.specs.Contiguous.{IsContiguous};
 ghost use Rattle.fc_chain.specs.Tallies.{AreTallies, AreOneSize, HoldsWords};
 
@@ -16,7 +16,7 @@ use fc_base::outcome::NoMemory;
 use std::alloc::Global;
 
 /// Whether some live slot stands behind a place in its chain.
-fn has_live_behind(slots: &[Slot], place: usize) -> bool
+pub(crate) fn has_live_behind(slots: &[Slot], place: usize) -> bool
     requires there { place < length slots.now }
     requires together { IsContiguous slots.now }
     ensures { IsTrue result ↔ LiveBehind slots.now place }
@@ -31,19 +31,6 @@ fn has_live_behind(slots: &[Slot], place: usize) -> bool
             return true;
         }
         behind += 1;
-    }
-    false
-}
-
-/// Whether some slot of the volume has a live slot behind it in its chain.
-pub(crate) fn is_source(slots: &[Slot], volume: u32) -> bool
-    requires { IsContiguous slots.now }
-    ensures { IsTrue result ↔ UsedAt slots.now volume }
-{
-    for (place, slot) in slots.iter().enumerate() {
-        if slot.volume() == volume && has_live_behind(slots, place) {
-            return true;
-        }
     }
     false
 }

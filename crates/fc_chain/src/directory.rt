@@ -1,10 +1,12 @@
-//! The directory of slots: where the slot of a birth, of a mapping and a volume's live slot stand.
+//! The directory of slots: where the slot of a birth and of a mapping stand, and those of a volume.
 
-ghost use Rattle.std.specs.Prelude.{◌≡◌, ◌<◌, ◌≤◌, length, [], OnOk, IfSome};
+ghost use Rattle.std.specs.Prelude.{◌≡◌, ◌<◌, ◌≤◌, length, [], OnOk, IfSome, IsTrue, ◌↔◌};
 ghost use Rattle.fc_base.specs.Sheet.{shape_of, live_place, mapping_place, birth_place};
 ghost use Rattle.fc_base.specs.SheetFacts.{HasMappings};
 ghost use Rattle.fc_base.specs.RestoreGraph.{HasOneLive};
-ghost use Rattle.fc_chain.specs.Planning.{HasApartBirths};
+ghost use Rattle.fc_base.specs.Counts.{UsedAt};
+ghost use Rattle.fc_chain.specs.Contiguous.{IsContiguous};
+ghost use Rattle.fc_chain.specs.Planning.{HasApartBirths, NextOld};
 ghost use Rattle.fc_chain.specs.Directory.{ListsSlots, HasPlaces};
 
 use crate::index::{By, Index};
@@ -102,5 +104,23 @@ impl Directory {
         ensures bound { IfSome result (λ k. k < length slots.now) }
     {
         self.volumes.live(slots, volume)
+    }
+
+    /// Whether some slot of the volume has a live slot behind it in its chain.
+    pub(crate) fn is_source(&self, slots: &[Slot], volume: u32) -> bool
+        requires listed { ListsSlots slots.now self.now }
+        requires together { IsContiguous slots.now }
+        ensures { IsTrue result ↔ UsedAt slots.now volume }
+    {
+        self.volumes.is_source(slots, volume)
+    }
+
+    /// The old slot of the volume with the least birth after one, or after none.
+    pub(crate) fn next_old(&self, slots: &[Slot], volume: u32, after: Option<u64>) -> Option<usize>
+        requires listed { ListsSlots slots.now self.now }
+        requires apart { HasApartBirths slots.now }
+        ensures { NextOld slots.now volume after result }
+    {
+        self.volumes.next_old(slots, volume, after)
     }
 }

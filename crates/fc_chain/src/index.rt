@@ -1,14 +1,17 @@
 //! Where slots stand, listed in the order of births, of mappings or of volumes, so that a search halves the list.
 
-ghost use Rattle.std.specs.Prelude.{◌≡◌, ℕ, ◌+◌, ◌<◌, ◌≤◌, ◌++◌, [], ◌∷◌, length, vec_len, vec_capacity, OnOk, IfSome};
+ghost use Rattle.std.specs.Prelude.{◌≡◌, ℕ, ◌+◌, ◌<◌, ◌≤◌, ◌++◌, [], ◌∷◌, length, vec_len, vec_capacity, OnOk, IfSome, IsTrue, ◌↔◌};
 ghost use Rattle.std.specs.List.Sorted.{IsPermutation};
 ghost use Rattle.fc_base.specs.Sheet.{slot_at, shape_of, live_place, mapping_place, birth_place};
 ghost use Rattle.fc_base.specs.SheetFacts.{HasMappings};
 ghost use Rattle.fc_base.specs.RestoreGraph.{HasOneLive};
-ghost use Rattle.fc_chain.specs.Planning.{HasApartBirths};
+ghost use Rattle.fc_base.specs.Counts.{UsedAt};
+ghost use Rattle.fc_chain.specs.Contiguous.{IsContiguous};
+ghost use Rattle.fc_chain.specs.Planning.{HasApartBirths, NextOld};
 ghost use Rattle.fc_chain.specs.Indexing.{key_at, IsIndexOf, ListsBelow, AreRising, is_before as comes_before, IsFirstFrom, FoundKey};
 ghost use Rattle.fc_chain.specs.declared.index.By.TheVariants.{Birth, Mapping, Volume};
 
+use crate::count::has_live_behind;
 use crate::slot::Slot;
 use fc_base::outcome::NoMemory;
 use std::alloc::Global;
@@ -204,6 +207,41 @@ impl Index {
         while at < self.entries.len() && self.entries[at].key == key {
             let place = self.entries[at].place;
             if slots[place].is_live() {
+                return Some(place);
+            }
+            at += 1;
+        }
+        None
+    }
+
+    /// Whether some slot of the volume has a live slot behind it in its chain.
+    pub(crate) fn is_source(&self, slots: &[Slot], volume: u32) -> bool
+        requires index { IsIndexOf slots.now Volume self.now.entries }
+        requires together { IsContiguous slots.now }
+        ensures { IsTrue result ↔ UsedAt slots.now volume }
+    {
+        let key = u64::from(volume);
+        let mut at = first_from(&self.entries, key, 0);
+        while at < self.entries.len() && self.entries[at].key == key {
+            if has_live_behind(slots, self.entries[at].place) {
+                return true;
+            }
+            at += 1;
+        }
+        false
+    }
+
+    /// The old slot of the volume with the least birth after one, or after none.
+    pub(crate) fn next_old(&self, slots: &[Slot], volume: u32, after: Option<u64>) -> Option<usize>
+        requires index { IsIndexOf slots.now Volume self.now.entries }
+        requires apart { HasApartBirths slots.now }
+        ensures { NextOld slots.now volume after result }
+    {
+        let key = u64::from(volume);
+        let mut at = first_from(&self.entries, key, after.unwrap_or(0));
+        while at < self.entries.len() && self.entries[at].key == key {
+            let place = self.entries[at].place;
+            if slots[place].is_old_after(volume, after) {
                 return Some(place);
             }
             at += 1;

@@ -23,7 +23,6 @@ mod events;
 mod find;
 mod hold;
 mod index;
-mod old;
 mod pairs;
 mod plan;
 mod room;
