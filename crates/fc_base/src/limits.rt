@@ -4,7 +4,7 @@
 pub const BLOCK_BYTES: u32 = 512;
 
 /// Lanes of the store: grain `g` of every volume belongs to lane `g mod LANES`.
-pub const LANES: u32 = 1;
+pub const LANES: u32 = 4;
 
 /// Volumes at one time.
 pub const MAX_VOLUMES: u32 = 512;

@@ -2,6 +2,7 @@
 
 ghost use Rattle.std.specs.Prelude.{◌≡◌, ◌<◌, [], ◌∷◌, ◌++◌, length, IfOk};
 
+use crate::list::List;
 use crate::outcome::NoMemory;
 use crate::request::Move;
 use std::alloc::Global;
@@ -59,5 +60,12 @@ impl MovePlan {
         ensures { self.new ≡ record self.old { moves = [] } }
     {
         self.moves.clear();
+    }
+
+    /// The moves as a list. Takes no memory.
+    pub fn into_moves(self) -> List<Move>
+        ensures { result ≡ self.moves }
+    {
+        List::of(self.moves)
     }
 }

@@ -1,5 +1,5 @@
 -- A chain is divided slot by slot.
-use Rattle.std.proofs.Common.{◌≡◌, ℕ, zero, suc, ◌+◌, ◌<◌, ◌≤◌, Some, None, List, [], ◌∷◌, ◌++◌, map, take, drop, set, get_or, length, refl, sym, ap, ◌∙◌, arith, add-one}
+use Rattle.std.proofs.Common.{◌≡◌, ℕ, zero, suc, ◌+◌, ◌<◌, ◌≤◌, List, [], ◌∷◌, ◌++◌, map, take, drop, set, get_or, length, refl, sym, ap, ◌∙◌, arith, add-one}
 use Rattle.fc_base.specs.Sheet.{Slot}
 use Rattle.fc_base.specs.SheetStep.{relabelled}
 use Rattle.fc_sheets.proofs.Splitting.{cut_off}

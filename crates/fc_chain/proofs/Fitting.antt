@@ -2,7 +2,6 @@
 use Rattle.std.proofs.Common.{◌≡◌, ℕ, Some, List, sym, subst}
 use Rattle.fc_base.specs.Sheet.{Slot, Sheet, live_place}
 use Rattle.fc_chain.specs.Chains.{IsKept}
-use Rattle.fc_chain.specs.Contiguous.{IsContiguous}
 use Rattle.fc_chain.specs.Planning.{Plannable, WriteFits}
 use Rattle.fc_sheets.proofs.Finding.{live_place_at}
 

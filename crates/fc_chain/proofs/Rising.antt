@@ -1,13 +1,13 @@
 -- Births only rise, so those after all events bound those in between.
-use Rattle.std.proofs.Common.{◌≡◌, ℕ, zero, suc, ◌+◌, ◌<◌, ◌≤◌, ◌^◌, Bool, true, false, cond, Option, Some, None, List, [], ◌∷◌, length, get_or, drop, fold, refl, sym, ap, subst, ◌∙◌, arith, add-one, drop-cons, inl, inr}
+use Rattle.std.proofs.Common.{◌≡◌, ℕ, zero, suc, ◌+◌, ◌<◌, ◌≤◌, ◌^◌, Option, Some, None, List, [], ◌∷◌, length, get_or, drop, fold, refl, sym, ap, ◌∙◌, arith, add-one, drop-cons, inl, inr}
 use Rattle.std.proofs.lemmas.Bool.{cases_Bool}
 use Rattle.fc_base.specs.declared.ids.MapId.{MapId}
 use Rattle.fc_base.specs.declared.request.Pair.{Pair}
 use Rattle.fc_base.specs.declared.decision.LaneEvent.{LaneEvent}
 use Rattle.fc_base.specs.declared.decision.LaneEvent.TheVariants.{Make, Remove, Trigger, Retire, Detach, Split, Force, Drop, Forget, NoteCut, Access, Work, Arm}
-use Rattle.fc_base.specs.Sheet.{Slot, Sheet, slot_at, live_place, mapping_place, birth_place}
-use Rattle.fc_base.specs.SheetStep.{at_place, has_after, with_chain, without, aged, left_place, placed, started, started_empty, triggered, retired_at, detached_at, split_at, forced_at, forced_map, sheet_step}
-use Rattle.fc_base.specs.SheetFits.{FitsEvent, FitsEvents}
+use Rattle.fc_base.specs.Sheet.{Sheet, slot_at, live_place, mapping_place, birth_place}
+use Rattle.fc_base.specs.SheetStep.{at_place, has_after, without, left_place, placed, started_empty, retired_at, detached_at, split_at, forced_at, forced_map, sheet_step}
+use Rattle.fc_base.specs.SheetFits.{FitsEvents}
 use Rattle.fc_base.specs.SheetFacts.{IsSound}
 use Rattle.fc_sheets.proofs.Lawful.{event_sound}
 use Rattle.fc_chain.specs.Room.{BirthsFit, slots_made}

@@ -1,10 +1,9 @@
 -- The room that stands beside slots that change.
-use Rattle.std.proofs.Common.{◌≡◌, ℕ, zero, suc, ◌+◌, ◌<◌, ◌≤◌, Bool, true, false, List, [], ◌∷◌, ◌++◌, map, take, drop, length, refl, sym, ap, subst, ◌∙◌, arith}
-use Rattle.fc_base.specs.Sheet.{Slot, slot_at, no_slot}
-use Rattle.fc_base.specs.SheetStep.{split_from, relabelled, grain_taken, grain_kept, grain_lost}
+use Rattle.std.proofs.Common.{◌≡◌, ℕ, suc, ◌+◌, ◌<◌, ◌≤◌, Bool, List, [], ◌∷◌, ◌++◌, map, take, drop, length, refl, sym, ap, subst, ◌∙◌, arith}
+use Rattle.fc_base.specs.Sheet.{Slot, slot_at}
+use Rattle.fc_base.specs.SheetStep.{grain_taken, grain_kept, grain_lost}
 use Rattle.fc_sheets.proofs.Holding.{at_map, Regrained, regrained, bit_taken, bit_kept, bit_lost}
 use Rattle.fc_sheets.proofs.Splitting.{split_same, split_list, split_count}
-use Rattle.fc_sheets.proofs.Places.{all_of_small, all_of_big, remove_is, insert_is, push_is}
 use Rattle.fc_chain.specs.Table.{IsRoomy}
 
 length_map : (f : Slot → Slot) (ts : List Slot) → length (map f ts) ≡ length ts

@@ -1,15 +1,15 @@
 -- The slots of one chain stand together, whatever is done to them.
-use Rattle.std.proofs.Common.{◌≡◌, ◌≢◌, ℕ, zero, suc, ◌+◌, ◌<◌, ◌≤◌, Bool, true, false, Option, Some, None, List, [], ◌∷◌, ◌++◌, length, set, remove, insert, map, fold, refl, sym, ap, subst, ◌∙◌, arith, ◌⊎◌, inl, inr}
+use Rattle.std.proofs.Common.{◌≡◌, ◌≢◌, ℕ, zero, suc, ◌+◌, ◌<◌, ◌≤◌, Bool, true, Option, Some, None, List, [], ◌∷◌, ◌++◌, length, remove, insert, map, fold, refl, sym, ap, subst, ◌∙◌, arith, ◌⊎◌, inl, inr}
 use Rattle.std.proofs.lemmas.Bool.{cases_Bool, cases_eq, cases_lt}
 use Rattle.fc_base.specs.declared.ids.MapId.{MapId}
 use Rattle.fc_base.specs.declared.request.Pair.{Pair}
 use Rattle.fc_base.specs.declared.decision.LaneEvent.{LaneEvent}
 use Rattle.fc_base.specs.declared.decision.LaneEvent.TheVariants.{Make, Remove, Trigger, Retire, Detach, Split, Force, Drop, Forget, NoteCut, Access, Work, Arm}
-use Rattle.fc_base.specs.Sheet.{Slot, Sheet, slot_at, no_slot, live_place, mapping_place, birth_place}
+use Rattle.fc_base.specs.Sheet.{Slot, Sheet, slot_at, live_place, mapping_place, birth_place}
 use Rattle.fc_base.specs.SheetStep.{at_place, has_after, with_chain, without, aged, left_place, placed, started_empty, retired_at, detached_at, split_at, forced_at, forced_map, sheet_step}
 use Rattle.fc_base.specs.SheetFacts.{IsSound}
 use Rattle.fc_base.specs.SheetFits.{FitsEvent, FitsEvents}
-use Rattle.fc_sheets.proofs.Places.{Removed, up, up_rises, up_in, up_cases, down, removed_at, big_at, remove_is, insert_is, insert_here, push_is, push_here}
+use Rattle.fc_sheets.proofs.Places.{Removed, up, up_rises, up_in, removed_at, remove_is, insert_is, insert_here, push_is, push_here}
 use Rattle.fc_sheets.proofs.Aging.{aged_is}
 use Rattle.fc_sheets.proofs.Splitting.{split_list, split_chain, split_count}
 use Rattle.fc_sheets.proofs.Finding.{live_place_at, mapping_place_at, birth_place_at}

@@ -1,8 +1,8 @@
 //! What the events of a command do to the slots.
 
-ghost use Rattle.std.specs.Prelude.{◌≡◌, ℕ, ◌+◌, ◌^◌, ◌<◌, ◌≤◌, length, fold, sum_by, replicate, false, All};
-ghost use Rattle.fc_base.specs.Sheet.{slot_at, live_place, mapping_place, volume_grains};
-ghost use Rattle.fc_base.specs.SheetStep.{at_place, has_after, without, removed, left_place, placed, started_empty, triggered, retired_at, detached_at, split_at, forced_at, forced_map, dropped, sheet_step};
+ghost use Rattle.std.specs.Prelude.{◌≡◌, ◌+◌, ◌^◌, ◌<◌, ◌≤◌, length, fold, sum_by, replicate, false, All};
+ghost use Rattle.fc_base.specs.Sheet.{live_place, mapping_place, volume_grains};
+ghost use Rattle.fc_base.specs.SheetStep.{at_place, has_after, removed, left_place, placed, started_empty, triggered, retired_at, detached_at, split_at, forced_at, forced_map, dropped, sheet_step};
 ghost use Rattle.fc_chain.specs.Chains.{lane_grains};
 ghost use Rattle.fc_chain.specs.Room.{slots_made, grains_come, BirthsFit};
 

@@ -1,6 +1,6 @@
 //! How many slots the events of a command can make, and of how many grains.
 
-ghost use Rattle.std.specs.Prelude.{◌≡◌, ℕ, ◌<◌, ◌≤◌, IfSome, sum_by, All};
+ghost use Rattle.std.specs.Prelude.{◌≡◌, ◌<◌, ◌≤◌, IfSome, sum_by, All};
 ghost use Rattle.fc_chain.specs.Chains.{lane_grains};
 ghost use Rattle.fc_chain.specs.Room.{slots_made as made_by, grains_come};
 

@@ -1,6 +1,6 @@
 //! A chain in two.
 
-ghost use Rattle.std.specs.Prelude.{◌≡◌, ◌<◌, length, drop};
+ghost use Rattle.std.specs.Prelude.{◌≡◌, ◌<◌, length};
 ghost use Rattle.fc_base.specs.Sheet.{slot_at};
 ghost use Rattle.fc_base.specs.SheetStep.{split_from, relabelled};
 

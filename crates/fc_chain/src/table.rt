@@ -1,11 +1,10 @@
 //! The slots of all chains, with room for new ones.
 
 ghost use Rattle.std.specs.Prelude.{◌≡◌, ℕ, ◌+◌, ◌-◌, ◌^◌, ◌<◌, ◌≤◌, length, replicate, OnOk, OnErr, IfOk, false, true, slice_index_or, take, [], max};
-ghost use Rattle.fc_base.specs.Sheet.{no_slots, slot_at, volume_grains};
+ghost use Rattle.fc_base.specs.Sheet.{no_slots, slot_at};
 ghost use Rattle.fc_base.specs.SheetStep.{with_chain, without, aged, placed, split_at, sheet_written, sheet_moved, sheet_torn};
 ghost use Rattle.fc_base.specs.declared.request.Side.TheVariants.{Under};
 
-use crate::find::place_of_live;
 use crate::hold::{keep_grain, lose_grain, take_grain};
 use crate::slot::Slot;
 use crate::split::split_chain;

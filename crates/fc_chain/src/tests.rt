@@ -1,7 +1,7 @@
 //! The events of commands, with ample memory: no clause says that memory suffices. The wanted slots are those of the rules
 //! of starts and stops, worked by hand.
 
-ghost use Rattle.std.specs.Prelude.{ℕ, ◌+◌, ◌^◌, ◌<◌, ◌≤◌};
+ghost use Rattle.std.specs.Prelude.{◌+◌, ◌^◌, ◌<◌, ◌≤◌};
 ghost use Rattle.fc_chain.specs.Room.{slots_made as made_by};
 
 use crate::Cascade;

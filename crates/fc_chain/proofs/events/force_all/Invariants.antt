@@ -1,4 +1,4 @@
-use Rattle.std.proofs.Common.{◌≡◌, ℕ, ◌+◌, ◌≤◌, drop, fold}
+use Rattle.std.proofs.Common.{◌≡◌, ◌+◌, ◌≤◌, drop, fold}
 use Rattle.fc_base.specs.SheetStep.{forced_map}
 use Rattle.fc_chain.proofs.events.force_all.Given as goal
 

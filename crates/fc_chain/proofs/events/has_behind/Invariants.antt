@@ -1,4 +1,4 @@
-use Rattle.std.proofs.Common.{◌≡◌, ◌≢◌, ℕ, ◌<◌, ◌-◌, length}
+use Rattle.std.proofs.Common.{◌≢◌, ℕ, ◌<◌, ◌-◌, length}
 use Rattle.fc_base.specs.Sheet.{slot_at}
 use Rattle.fc_chain.proofs.events.has_behind.Given as goal
 

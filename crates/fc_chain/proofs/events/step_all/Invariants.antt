@@ -1,4 +1,4 @@
-use Rattle.std.proofs.Common.{◌≡◌, ℕ, ◌+◌, ◌≤◌, drop, fold, sum_by}
+use Rattle.std.proofs.Common.{◌≡◌, ◌≤◌, drop, fold, sum_by}
 use Rattle.fc_base.specs.SheetStep.{sheet_step}
 use Rattle.fc_chain.specs.Chains.{lane_grains}
 use Rattle.fc_chain.specs.Room.{slots_made}

@@ -1,4 +1,4 @@
-use Rattle.std.proofs.Common.{◌≡◌, ℕ, ◌+◌, ◌≤◌, drop, fold}
+use Rattle.std.proofs.Common.{◌≡◌, ◌+◌, ◌≤◌, drop, fold}
 use Rattle.fc_base.specs.SheetStep.{started_empty}
 use Rattle.fc_chain.proofs.events.trigger.Given as goal
 

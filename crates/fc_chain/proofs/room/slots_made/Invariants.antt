@@ -1,4 +1,4 @@
-use Rattle.std.proofs.Common.{◌≡◌, ℕ, take, sum_by}
+use Rattle.std.proofs.Common.{◌≡◌, take, sum_by}
 use Rattle.fc_chain.specs.Room.{slots_made}
 use Rattle.fc_chain.proofs.room.slots_made.Given as goal
 

@@ -1,4 +1,4 @@
-use Rattle.std.proofs.Common.{◌≡◌, ◌<◌, refl, length-set, arith}
+use Rattle.std.proofs.Common.{◌<◌, refl, length-set, arith}
 use Rattle.fc_base.specs.SheetStep.{split_from}
 use Rattle.fc_chain.proofs.Dividing.{cut_first, next_divided}
 use Rattle.fc_chain.proofs.split.split_chain.Goals as goal

@@ -1,5 +1,4 @@
-use Rattle.std.proofs.Common.{◌≡◌, ℕ, ◌<◌, ◌-◌, ◌++◌, take, drop, length}
-use Rattle.fc_base.specs.Sheet.{slot_at}
+use Rattle.std.proofs.Common.{◌≡◌, ◌<◌, ◌-◌, ◌++◌, take, drop, length}
 use Rattle.fc_base.specs.SheetStep.{split_from, relabelled}
 use Rattle.fc_chain.proofs.split.split_chain.Given as goal
 

@@ -1,4 +1,4 @@
-use Rattle.std.proofs.Common.{◌≡◌, ℕ, replicate, false}
+use Rattle.std.proofs.Common.{◌≡◌, replicate, false}
 use Rattle.fc_chain.proofs.table.clear_sets.Given as goal
 
 -- so many sets so far

@@ -1,4 +1,4 @@
-use Rattle.std.proofs.Common.{◌≡◌, ℕ, ◌≤◌, List, length, arith, ap, ◌∙◌, subst, sym}
+use Rattle.std.proofs.Common.{◌≡◌, ℕ, List, length, arith, ap, ◌∙◌, subst, sym}
 use Rattle.std.specs.Vec.{vec_len}
 use Rattle.fc_bits.specs.Words.{grains_of, IsTidy, words_for}
 use Rattle.fc_bits.proofs.Bridge.{grains_of-zeros, tidy-zeros}

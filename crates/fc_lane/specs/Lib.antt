@@ -1,0 +1,3 @@
+-- What contracts of the lane cite.
+pub mod LaneState
+pub mod LaneFits

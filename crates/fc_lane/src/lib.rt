@@ -1,0 +1,2 @@
+//! One lane of the store.
+#![tactic(auto)]

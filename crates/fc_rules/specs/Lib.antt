@@ -1,0 +1,8 @@
+-- What is right in a lane.
+pub mod Spot
+pub mod Steps
+pub mod GrainAnswers
+pub mod LaneTold
+pub mod LaneTurn
+pub mod LaneRight
+pub mod Shows
