@@ -1,16 +1,16 @@
 -- What a move, a write and a torn write do to the sheet seen at one grain.
 use mathlib.Core.Path.{fun_ext}
-use Rattle.std.proofs.Common.{◌≡◌, ◌≢◌, ℕ, zero, suc, ◌<◌, Bool, true, false, not, ◌&&◌, ◌||◌, eqb, Some, List, [], ◌∷◌, length, get_or, set, map, refl, sym, ap, ◌∙◌, arith, ◌⊎◌, inl, inr, get_or-set_same, get_or-set_other}
-use Rattle.std.proofs.lemmas.Bool.{cases_Bool, cases_lt, both_ways, cases_eq, eqb-true, eq-eqb, ne_eqb, and_from, and_parts, and_left, and_right, or_left, or_from, not_from_true, not_from_false}
+use Rattle.std.proofs.Common.{◌≡◌, ◌≢◌, ℕ, zero, suc, ◌<◌, Bool, true, false, not, ◌&&◌, ◌||◌, eqb, Some, List, [], ◌∷◌, length, get_or, set, map, refl, sym, ap, ◌∙◌, arith, inl, inr, get_or-set_same, get_or-set_other}
+use Rattle.std.proofs.lemmas.Bool.{cases_Bool, both_ways, cases_eq, eqb-true, eq-eqb, ne_eqb, and_from, and_parts, and_left, and_right, or_left, not_from_true, not_from_false}
 use Rattle.fc_base.specs.declared.request.Side.{Side}
 use Rattle.fc_base.specs.declared.request.Side.TheVariants.{Now, Under}
 use Rattle.fc_base.specs.Column.{Shape, Column, is_old_of}
-use Rattle.fc_base.specs.Sheet.{Slot, Sheet, slot_at, no_slot, shape_of, column, live_place}
+use Rattle.fc_base.specs.Sheet.{Slot, Sheet, slot_at, shape_of, column, live_place}
 use Rattle.fc_base.specs.SheetStep.{grain_taken, grain_kept, grain_lost, sheet_moved, sheet_written, sheet_torn}
 use Rattle.fc_base.specs.Moves.{taken, moved, written, torn}
 use Rattle.fc_base.specs.RestoreGraph.{HasOneLive}
 use Rattle.fc_sheets.proofs.Finding.{LiveAt, live_place_at}
-use Rattle.fc_sheets.proofs.Holding.{at_map, IsBit, Regrained, regrained, bit_taken, bit_kept, bit_lost}
+use Rattle.fc_sheets.proofs.Holding.{at_map, IsBit, regrained, bit_taken, bit_kept, bit_lost}
 
 -- ---- shapes and columns that agree at each place
 

@@ -1,6 +1,6 @@
 -- Who has a slot as holder at some grain: the grains that it holds, less those of each slot passed.
-use Rattle.std.proofs.Common.{◌≡◌, ◌≢◌, ℕ, zero, suc, ◌+◌, ◌-◌, ◌*◌, ◌^◌, ◌<◌, ◌≤◌, Bool, true, false, not, ◌&&◌, cond, eqb, Option, Some, None, List, [], ◌∷◌, ◌++◌, length, get_or, take, refl, sym, ap, subst, ◌∙◌, arith, ◌⊎◌, inl, inr, add-zero, append_assoc, append-nil}
-use Rattle.std.proofs.lemmas.Bool.{cases_Bool, both_ways, cases_eq, cases_lt, eq-eqb, ne_eqb, eqb-true, and_from, and_parts, and_left, and_right, not_from_false, not-true, false_from_ne_true}
+use Rattle.std.proofs.Common.{◌≡◌, ℕ, zero, suc, ◌+◌, ◌-◌, ◌*◌, ◌^◌, ◌<◌, ◌≤◌, Bool, true, false, not, ◌&&◌, cond, eqb, List, [], ◌∷◌, ◌++◌, length, get_or, take, refl, sym, ap, ◌∙◌, arith, inl, inr, add-zero, append_assoc, append-nil}
+use Rattle.std.proofs.lemmas.Bool.{cases_Bool, both_ways, cases_eq, eq-eqb, ne_eqb, and_from, and_parts, and_left, not_from_false, not-true, false_from_ne_true}
 use Rattle.std.proofs.lemmas.List.{get_or_past, take_all}
 use Rattle.std.proofs.lemmas.List.Sums.{sum_by_more}
 use Rattle.fc_base.specs.declared.ids.SlotId.{SlotId}
@@ -8,15 +8,14 @@ use Rattle.fc_bits.specs.Grains.{count_set}
 use Rattle.fc_bits.specs.Words.{bit_of, words_for}
 use Rattle.fc_base.specs.Column.{Column, holder, is_at}
 use Rattle.fc_base.specs.Sheet.{Slot, slot_at, slot_id, column}
-use Rattle.fc_base.specs.Counts.{count_below, any_below, names_below, reads_some, is_direct}
+use Rattle.fc_base.specs.Counts.{count_below, names_below, is_direct}
 use Rattle.fc_chain.specs.Contiguous.{IsContiguous}
 use Rattle.fc_chain.specs.Tallies.{AreOneSize, GoesOn, HoldsWords}
-use Rattle.fc_moves.proofs.Search.{cases_option}
 use Rattle.fc_moves.proofs.Readers.{IsHolder, holder_is, is_holder, holder_between, own_holder}
 use Rattle.fc_sheets.proofs.Finding.{at_true, at_from}
 use Rattle.fc_chain.proofs.Needs.{count_some, counted, any_found, any_from, held_below}
 use Rattle.fc_chain.proofs.Finds.{read_at}
-use Rattle.fc_chain.proofs.Tallying.{count_same, count_past, count_le, holds_words}
+use Rattle.fc_chain.proofs.Tallying.{count_same, count_past, holds_words}
 use Rattle.fc_chain.proofs.Words.{both_set}
 
 -- ---- one grain

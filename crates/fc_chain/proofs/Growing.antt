@@ -1,5 +1,5 @@
 -- How many slots the events of a command leave.
-use Rattle.std.proofs.Common.{◌≡◌, ℕ, zero, suc, ◌+◌, ◌<◌, ◌≤◌, Bool, true, false, Option, Some, None, List, [], ◌∷◌, ◌++◌, length, map, take, drop, set, fold, replicate, refl, sym, ap, ◌∙◌, arith, inl, inr, length-append, length-take, length-drop, length-set}
+use Rattle.std.proofs.Common.{◌≡◌, ℕ, zero, suc, ◌+◌, ◌≤◌, Bool, true, false, Option, Some, None, List, [], ◌∷◌, length, map, take, drop, fold, replicate, refl, ap, arith, inl, inr, length-append, length-take, length-drop, length-set}
 use Rattle.std.specs.List.{sum_by, remove, insert}
 use Rattle.std.proofs.lemmas.Bool.{cases_Bool}
 use Rattle.std.proofs.lemmas.List.Sums.{sum_by-cons}
@@ -8,7 +8,7 @@ use Rattle.fc_base.specs.declared.request.Pair.{Pair}
 use Rattle.fc_base.specs.declared.decision.LaneEvent.{LaneEvent}
 use Rattle.fc_base.specs.declared.decision.LaneEvent.TheVariants.{Make, Remove, Trigger, Retire, Detach, Split, Force, Drop, Forget, NoteCut, Access, Work, Arm}
 use Rattle.fc_base.specs.Sheet.{Slot, Sheet, slot_at, live_place, mapping_place, birth_place, volume_grains}
-use Rattle.fc_base.specs.SheetStep.{with_chain, without, aged, at_place, has_after, left_place, placed, started_empty, triggered, retired_at, detached_at, relabelled, split_at, forced_at, forced_map, sheet_step}
+use Rattle.fc_base.specs.SheetStep.{with_chain, without, aged, at_place, has_after, left_place, placed, started_empty, retired_at, detached_at, relabelled, split_at, forced_at, forced_map, sheet_step}
 use Rattle.fc_chain.specs.Room.{slots_made}
 
 -- a step that leaves at most so many slots more

@@ -1,10 +1,10 @@
 -- The directory through moves and writes, and with no slots.
-use Rattle.std.proofs.Common.{◌≡◌, ℕ, zero, suc, ◌+◌, ◌<◌, ◌≤◌, Option, Some, List, [], ◌∷◌, length, map, refl, sym, ap, subst, ◌∙◌, arith}
+use Rattle.std.proofs.Common.{◌≡◌, ℕ, suc, ◌<◌, ◌≤◌, Some, List, [], ◌∷◌, length, map, refl, sym, ap, subst, ◌∙◌, arith}
 use Rattle.fc_base.specs.Sheet.{Slot, slot_at}
 use Rattle.fc_chain.specs.declared.index.By.{By}
 use Rattle.fc_chain.specs.declared.index.By.TheVariants.{Birth, Mapping, Volume}
 use Rattle.fc_chain.specs.declared.index.Entry.{Entry}
-use Rattle.fc_chain.specs.Indexing.{key_at, entry_at, IsEntryOf, IsIndexOf, Index}
+use Rattle.fc_chain.specs.Indexing.{key_at, entry_at, IsIndexOf}
 use Rattle.fc_chain.specs.Directory.{Directory, ListsSlots, HasPlaces}
 use Rattle.fc_sheets.proofs.Holding.{at_map, Regrained}
 

@@ -1,18 +1,17 @@
 -- What the counts say of needs, of those that depend on a slot and of volumes that are used as sources.
-use Rattle.std.proofs.Common.{◌≡◌, ◌≢◌, ℕ, zero, suc, ◌+◌, ◌<◌, ◌≤◌, Bool, true, false, not, ◌&&◌, eqb, Option, Some, None, is_some, List, [], ◌∷◌, ◌++◌, length, get_or, refl, sym, ap, subst, ◌∙◌, arith, ◌⊎◌, inl, inr}
+use Rattle.std.proofs.Common.{◌≡◌, ◌≢◌, ℕ, zero, suc, ◌+◌, ◌<◌, ◌≤◌, Bool, true, false, not, ◌&&◌, eqb, Option, Some, None, is_some, List, [], ◌∷◌, ◌++◌, length, get_or, refl, sym, ap, subst, ◌∙◌, arith, inl, inr}
 use Rattle.std.specs.List.{Contains}
-use Rattle.std.proofs.lemmas.Bool.{cases_Bool, both_ways, cases_eq, cases_order, eqb-true, eqb-false, eq-eqb, ne_eqb, and_parts, and_from, or_cases, or_left, or_right, not-true, not_from_false, true_from_ne_false, false_from_ne_true}
+use Rattle.std.proofs.lemmas.Bool.{cases_Bool, both_ways, cases_eq, cases_order, eqb-true, eqb-false, eq-eqb, ne_eqb, and_parts, and_from, or_cases, or_left, or_right, not-true, not_from_false}
 use Rattle.std.proofs.lemmas.List.Elements.{Contains-append_left, Contains-push, Contains-push_cases}
 use Rattle.fc_base.specs.declared.ids.SlotId.{SlotId}
-use Rattle.fc_base.specs.Column.{Column, needer, holder, is_at}
+use Rattle.fc_base.specs.Column.{needer, holder, is_at}
 use Rattle.fc_base.specs.Need.{IsNeeded, ReadsAt, IsDependent}
 use Rattle.fc_base.specs.RestoreGraph.{IsUsed}
 use Rattle.fc_base.specs.Sheet.{Slot, slot_at, shape_of, column}
 use Rattle.fc_base.specs.SheetFacts.{HasSizes}
 use Rattle.fc_base.specs.Sheet.{slot_id}
-use Rattle.fc_base.specs.Counts.{count_below, is_needed_at, need_count_of, LiveBehind, UsedAt, any_below, reads_some, names_below, is_direct, is_unneeded}
-use Rattle.fc_moves.proofs.Search.{cases_option}
-use Rattle.fc_moves.proofs.Readers.{IsHolder, IsReader, holder_is, is_holder, reader_is}
+use Rattle.fc_base.specs.Counts.{count_below, is_needed_at, need_count_of, UsedAt, any_below, names_below, is_direct, is_unneeded}
+use Rattle.fc_moves.proofs.Readers.{holder_is, reader_is}
 use Rattle.fc_sheets.proofs.Finding.{at_true, at_from}
 
 -- ---- counts, tests below a bound

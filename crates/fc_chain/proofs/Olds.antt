@@ -1,6 +1,6 @@
 -- The old slots of a volume, least birth first.
-use Rattle.std.proofs.Common.{◌≡◌, ◌≢◌, ℕ, zero, suc, ◌+◌, ◌<◌, ◌≤◌, Bool, true, false, ◌&&◌, not, ltb, Option, Some, None, List, [], ◌∷◌, length, refl, sym, ap, subst, ◌∙◌, arith, inl, inr}
-use Rattle.std.proofs.lemmas.Bool.{cases_Bool, both_ways, cases_eq, and_parts, and_from, and_left, and_right, ltb-true, lt-ltb, le-ltb, not-true}
+use Rattle.std.proofs.Common.{◌≡◌, ◌≢◌, ℕ, zero, suc, ◌<◌, ◌≤◌, Bool, true, false, ◌&&◌, not, ltb, Option, Some, None, List, [], ◌∷◌, length, refl, sym, ap, subst, ◌∙◌, arith, inl, inr}
+use Rattle.std.proofs.lemmas.Bool.{cases_Bool, cases_eq, and_parts, and_from, and_left, and_right, ltb-true, lt-ltb, le-ltb, not-true}
 use Rattle.fc_base.specs.Column.{is_old_of, put_by_birth, places_by_birth}
 use Rattle.fc_base.specs.Sheet.{Slot, slot_at, shape_of}
 use Rattle.fc_chain.specs.Births.{is_after}

@@ -1,17 +1,16 @@
 -- What always holds of a cascade's parts is kept by each call.
-use Rattle.std.proofs.Common.{◌≡◌, ℕ, ◌+◌, ◌/◌, ◌<◌, ◌≤◌, zero, suc, Bool, true, false, List, [], ◌∷◌, length, map, max, fold, refl, sym, ap, subst, ◌∙◌, arith, inl, inr}
+use Rattle.std.proofs.Common.{◌≡◌, ℕ, ◌+◌, ◌/◌, ◌<◌, ◌≤◌, suc, List, [], ◌∷◌, length, map, max, fold, refl, sym, ap, subst, ◌∙◌, arith, inl, inr}
 use Rattle.std.specs.List.{sum_by}
 use Rattle.fc_bits.specs.Words.{words_for}
 use Rattle.fc_base.specs.declared.decision.LaneEvent.{LaneEvent}
 use Rattle.fc_base.specs.Sheet.{Slot, Sheet, slot_at}
 use Rattle.fc_base.specs.SheetStep.{sheet_step}
-use Rattle.fc_base.specs.SheetFits.{FitsTaken, FitsLost, FitsEvents}
+use Rattle.fc_base.specs.SheetFits.{FitsTaken, FitsLost}
 use Rattle.fc_chain.specs.Chains.{Chains, IsKept, AreParts, in_lane, lane_grains}
-use Rattle.fc_chain.specs.Contiguous.{IsContiguous}
 use Rattle.fc_chain.specs.Room.{slots_made, HasRoomFor}
 use Rattle.fc_chain.specs.Table.{Table}
 use Rattle.fc_chain.specs.Ledger.{Ledger, IsCounted}
-use Rattle.fc_chain.specs.Tallies.{tally_at, tally_of, AreTallies, AreOneSize, Countable}
+use Rattle.fc_chain.specs.Tallies.{tally_at, AreTallies, Countable}
 use Rattle.fc_chain.specs.Directory.{Directory, ListsSlots, HasPlaces}
 use Rattle.std.proofs.lemmas.Bool.{cases_lt}
 use Rattle.fc_sheets.proofs.Holding.{Regrained}

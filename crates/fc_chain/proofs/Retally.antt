@@ -1,26 +1,24 @@
 -- The counts of the slots that a change of a volume's pairs touches, and that all others stay.
-use Rattle.std.proofs.Common.{◌≡◌, ◌≢◌, ℕ, zero, suc, ◌+◌, ◌-◌, ◌<◌, ◌≤◌, ◌^◌, Bool, true, false, not, ◌&&◌, ◌||◌, cond, eqb, ltb, Option, Some, None, is_some, List, [], ◌∷◌, length, get_or, set, map, refl, sym, ap, subst, ◌∙◌, arith, ◌⊎◌, inl, inr, add-zero, get_or-set_same, get_or-set_other}
-use Rattle.std.proofs.lemmas.Bool.{cases_Bool, cases_lt, both_ways, cases_eq, eqb-true, eqb-false, eq-eqb, ne_eqb, lt-ltb, le-ltb, and_parts, and_from, and_left, and_right, or_parts, not_from_true, not_from_false, false_from_ne_true}
-use Rattle.fc_base.specs.Column.{Column, needer, holder, is_at}
-use Rattle.fc_base.specs.Sheet.{Slot, slot_at, no_slot, shape_of, column, live_place}
+use Rattle.std.proofs.Common.{◌≡◌, ◌≢◌, ℕ, zero, suc, ◌+◌, ◌<◌, ◌≤◌, ◌^◌, Bool, true, false, not, ◌&&◌, ◌||◌, cond, eqb, ltb, Option, Some, is_some, List, [], ◌∷◌, length, get_or, set, map, refl, sym, ap, subst, ◌∙◌, arith, inl, inr, add-zero, get_or-set_same, get_or-set_other}
+use Rattle.std.proofs.lemmas.Bool.{cases_Bool, cases_lt, both_ways, cases_eq, eqb-false, eq-eqb, ne_eqb, lt-ltb, le-ltb, and_left, and_right, or_parts, not_from_true, false_from_ne_true}
+use Rattle.fc_base.specs.Column.{Column, needer, is_at}
+use Rattle.fc_base.specs.Sheet.{Slot, slot_at, shape_of, column, live_place}
 use Rattle.fc_base.specs.SheetStep.{grain_taken, grain_kept, grain_lost}
 use Rattle.fc_base.specs.SheetFits.{FitsTaken, FitsLost}
-use Rattle.fc_base.specs.Counts.{count_below, is_needed_at, need_count_of}
+use Rattle.fc_base.specs.Counts.{count_below, is_needed_at}
 use Rattle.fc_base.specs.RestoreGraph.{HasOneLive}
-use Rattle.fc_bits.specs.Grains.{count_set}
 use Rattle.fc_chain.specs.Tallies.{tally_of, tally_at, no_tally, but, tally_but, is_touched, AreTallies, AreTalliesBut, live_holder, holder_at, AreOneSize, Countable}
 use Rattle.fc_chain.specs.Contiguous.{IsContiguous}
 use Rattle.fc_chain.specs.declared.tally.Tally.{Tally}
-use Rattle.fc_moves.proofs.Search.{cases_option}
-use Rattle.fc_moves.proofs.Readers.{IsHolder, holder_is, is_holder, reader_is}
+use Rattle.fc_moves.proofs.Readers.{is_holder, reader_is}
 use Rattle.fc_sheets.proofs.Finding.{at_from, live_place_is}
-use Rattle.fc_sheets.proofs.Holding.{at_map, IsBit, Regrained, regrained, bit_taken, bit_kept, bit_lost}
+use Rattle.fc_sheets.proofs.Holding.{at_map, IsBit, regrained}
 use Rattle.fc_chain.proofs.Needs.{held_below, some_at}
 use Rattle.fc_chain.proofs.Finds.{read_at}
 use Rattle.fc_chain.proofs.Together.{map_together}
 use Rattle.fc_chain.proofs.Tallying.{count_same, count_le}
 use Rattle.fc_chain.proofs.Direct.{count_set_below}
-use Rattle.fc_chain.proofs.Columns.{column_map, column_elsewhere, column_with}
+use Rattle.fc_chain.proofs.Columns.{column_map, column_elsewhere}
 use Rattle.fc_chain.proofs.Touched.{Change, IsUntouched, same_need, with_pairs}
 
 -- ---- a count is that without one number and that number

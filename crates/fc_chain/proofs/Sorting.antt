@@ -1,11 +1,11 @@
 -- Lists of places in order: what a sort leaves, and what a search in them finds.
-use Rattle.std.proofs.Common.{◌≡◌, ◌≢◌, ℕ, zero, suc, ◌+◌, ◌-◌, ◌/◌, ◌<◌, ◌≤◌, Bool, true, false, not, ◌&&◌, ◌||◌, eqb, ltb, Option, Some, None, List, [], ◌∷◌, ◌++◌, length, get_or, refl, sym, ap, subst, ◌∙◌, arith, ◌⊎◌, inl, inr, length-append, IsPermutation, Ordering, IfSome, take, drop}
+use Rattle.std.proofs.Common.{◌≡◌, ◌≢◌, ℕ, zero, suc, ◌+◌, ◌<◌, ◌≤◌, true, false, not, ◌&&◌, eqb, ltb, Option, Some, None, List, [], ◌∷◌, ◌++◌, length, get_or, refl, sym, ap, subst, ◌∙◌, arith, ◌⊎◌, inl, inr, length-append, IsPermutation, Ordering, IfSome, take, drop}
 use Rattle.std.proofs.lemmas.List.{take-append-le, take_all}
 use Rattle.std.specs.List.{Contains}
 use Rattle.std.specs.List.Sorted.{IsSorted}
 use Rattle.std.specs.Ordering.{nat_cmp, on, then_cmp, is_lt}
 use Rattle.std.specs.Cmp.{IsTotalOrder}
-use Rattle.std.proofs.lemmas.Bool.{cases_Bool, cases_lt, cases_eq, cases_order, both_ways, eq-eqb, ne_eqb, eqb-true, ltb-true, lt-ltb, le-ltb, and_parts, and_from, and_left, and_right, or_cases, or_left, or_right, false_from_ne_true}
+use Rattle.std.proofs.lemmas.Bool.{cases_lt, cases_eq, cases_order, both_ways, eq-eqb, ne_eqb, eqb-true, ltb-true, lt-ltb, le-ltb, and_parts, and_left, and_right, or_cases, or_left, false_from_ne_true}
 use Rattle.std.proofs.lemmas.Cmp.{nat_cmp_total, on_total, then_total}
 use Rattle.std.proofs.lemmas.List.Sorted.{sorted_far, ranks_by, Contains-permutation, IsPermutation-sym, length_permutation}
 use Rattle.std.proofs.lemmas.List.Elements.{Contains-get_or, Contains-append_left, Contains-push, Contains-push_cases}
@@ -297,12 +297,12 @@ range_all slots entries v b first at P idx f le none ends k kl same =
     elim (cases_lt l.0 at) [
       | inl before ↦ subst P l.2 (none l.0 before l.1 l.3)
       | inr after ↦
-        let il : l.0 < length entries = l.1 in
-        let al : at < length entries = omega arith in
-        let low : v ≤ (entry_at entries at).key = not_before_from v b (entry_at entries at) (f.rest at le al) in
-        let differ : (entry_at entries at).key ≢ v = ends al in
-        let key : (entry_at entries l.0).key ≡ v = l.3 in
-        elim (idx.rising at l.0 after il) [ inl less ↦ absurd (omega arith) | inr q ↦ (let e : (entry_at entries at).key ≡ (entry_at entries l.0).key = q.0 in absurd (omega arith)) ]
+          let il : l.0 < length entries = l.1 in
+          let al : at < length entries = omega arith in
+          let low : v ≤ (entry_at entries at).key = not_before_from v b (entry_at entries at) (f.rest at le al) in
+          let differ : (entry_at entries at).key ≢ v = ends al in
+          let key : (entry_at entries l.0).key ≡ v = l.3 in
+          elim (idx.rising at l.0 after il) [ inl less ↦ absurd (omega arith) | inr q ↦ (let e : (entry_at entries at).key ≡ (entry_at entries l.0).key = q.0 in absurd (omega arith)) ]
     ]
 
 pub range_end : (slots : List Slot) (items entries now : List Entry) (v key b first at n : ℕ) (P : ℕ → Type 0) → IsIndexOf slots Volume entries → items ≡ entries → now ≡ items → n ≡ length items → key ≡ v → IsFirstFrom now key b first → first ≤ at →

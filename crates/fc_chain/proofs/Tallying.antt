@@ -1,14 +1,13 @@
 -- The pass from the back counts what is needed.
-use Rattle.std.proofs.Common.{◌≡◌, ◌≢◌, ℕ, zero, suc, ◌+◌, ◌-◌, ◌*◌, ◌^◌, ◌<◌, ◌≤◌, Bool, true, false, not, ◌&&◌, ◌||◌, cond, is_some, List, length, get_or, set, refl, sym, ap, subst, ◌∙◌, arith, ◌⊎◌, inl, inr, add-zero, get_or-set_same, get_or-set_other}
-use Rattle.std.proofs.lemmas.Bool.{cases_Bool, cases_eq, cases_lt, and_right}
+use Rattle.std.proofs.Common.{◌≡◌, ◌≢◌, ℕ, zero, suc, ◌+◌, ◌-◌, ◌*◌, ◌^◌, ◌<◌, ◌≤◌, Bool, true, false, not, ◌&&◌, ◌||◌, cond, List, length, get_or, set, refl, sym, ap, subst, ◌∙◌, arith, inl, inr, add-zero, get_or-set_same, get_or-set_other}
+use Rattle.std.proofs.lemmas.Bool.{cases_eq, and_right}
 use Rattle.std.proofs.lemmas.List.{get_or_past}
 use Rattle.fc_bits.specs.Grains.{count_set}
 use Rattle.fc_bits.specs.Words.{bit_of, words_for}
-use Rattle.fc_base.specs.Column.{Column, needer}
 use Rattle.fc_base.specs.Sheet.{Slot, slot_at, column}
 use Rattle.fc_base.specs.Counts.{count_below, is_needed_at, need_count_of}
 use Rattle.fc_chain.specs.Contiguous.{IsContiguous}
-use Rattle.fc_chain.specs.Tallies.{tally_of, tally_at, no_tally, AreOneSize, GoesOn, behind, awaited, HasBehind, HasAwaited, HoldsWords}
+use Rattle.fc_chain.specs.Tallies.{tally_of, tally_at, no_tally, AreOneSize, GoesOn, behind, HasBehind, HasAwaited, HoldsWords}
 use Rattle.fc_chain.specs.declared.tally.Tally.{Tally}
 use Rattle.fc_chain.proofs.Awaiting.{needed_is, behind_last, behind_next}
 use Rattle.fc_chain.proofs.Words.{both_set}

@@ -1,9 +1,9 @@
 -- Whose needs change where a volume's pairs change at one grain: its own slots, and the holder of its live slot.
-use Rattle.std.proofs.Common.{◌≡◌, ◌≢◌, ℕ, ◌<◌, ◌≤◌, Bool, true, false, Option, Some, None, is_some, refl, sym, ap, ◌∙◌, arith, ◌⊎◌, inl, inr}
-use Rattle.std.proofs.lemmas.Bool.{cases_Bool, both_ways, cases_eq, false_from_ne_true, true_from_ne_false}
-use Rattle.fc_base.specs.Column.{Shape, Column, needer}
+use Rattle.std.proofs.Common.{◌≡◌, ◌≢◌, ℕ, ◌<◌, ◌≤◌, Bool, true, false, is_some, refl, sym, ap, ◌∙◌, arith, inl, inr}
+use Rattle.std.proofs.lemmas.Bool.{cases_Bool, both_ways, cases_eq}
+use Rattle.fc_base.specs.Column.{Column, needer}
 use Rattle.fc_moves.proofs.Search.{cases_option}
-use Rattle.fc_moves.proofs.Readers.{IsHolder, reader_is, reader_none, reader_from, holder_from, holder_between, one_holder}
+use Rattle.fc_moves.proofs.Readers.{IsHolder, reader_is, reader_none, reader_from, holder_from, holder_between}
 
 abbrev pub with_pairs : Column → (ℕ → Bool) → Column
 with_pairs c held = record { shape = c.shape; held = held }

@@ -1,5 +1,5 @@
 -- The chains of one lane.
-use Rattle.std.specs.Prelude.{◌≡◌, ℕ, ◌+◌, ◌-◌, ◌/◌, ◌%◌, ◌<◌, Option, IsSome, List, option_map}
+use Rattle.std.specs.Prelude.{length, ◌≡◌, ℕ, ◌+◌, ◌-◌, ◌/◌, ◌%◌, ◌<◌, Option, IsSome, List, option_map}
 use Rattle.fc_base.specs.SheetFacts.{IsSound}
 use Rattle.fc_chain.specs.Contiguous.{IsContiguous}
 use Rattle.fc_chain.specs.Table.{Table}

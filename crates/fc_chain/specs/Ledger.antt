@@ -1,5 +1,5 @@
 -- The counts that are kept, with room for more.
-use Rattle.std.specs.Prelude.{◌≡◌, ℕ, ◌+◌, ◌≤◌, List, length}
+use Rattle.std.specs.Prelude.{ℕ, ◌+◌, ◌≤◌, List, length}
 use Rattle.fc_bits.specs.Words.{words_for}
 use Rattle.fc_chain.specs.declared.tally.Tally.{Tally}
 use Rattle.fc_chain.specs.Table.{Table}

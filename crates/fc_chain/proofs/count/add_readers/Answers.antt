@@ -1,5 +1,5 @@
-use Rattle.std.proofs.Common.{◌≡◌, ℕ, ◌+◌, ◌-◌, ◌*◌, ◌<◌, ◌≤◌, ◌++◌, ◌⊎◌, inl, inr, List, length, get_or, arith, sym, ap, ◌∙◌, refl}
-use Rattle.std.proofs.lemmas.Bool.{both_ways, cases_eq}
+use Rattle.std.proofs.Common.{◌+◌, ◌-◌, length, arith, sym, ap, ◌∙◌}
+use Rattle.std.proofs.lemmas.Bool.{both_ways}
 use Rattle.fc_base.specs.Sheet.{Slot}
 use Rattle.fc_chain.proofs.Finds.{read_at}
 use Rattle.fc_chain.proofs.Direct.{walk_first, step_to, stepped, taken_le, listed_none, listed_one, listed_all, listed_first, remaining_first, direct_yes, direct_old, direct_none, direct_past}

@@ -1,4 +1,4 @@
-use Rattle.std.proofs.Common.{sym, ap, ◌∙◌}
+use Rattle.std.proofs.Common.{ap, ◌∙◌}
 use Rattle.fc_base.specs.SheetStep.{grain_lost}
 use Rattle.fc_chain.specs.Table.{Table}
 use Rattle.fc_sheets.proofs.Holding.{bit_lost}

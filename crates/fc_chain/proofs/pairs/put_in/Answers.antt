@@ -1,4 +1,4 @@
-use Rattle.std.proofs.Common.{◌+◌, List, length, arith, sym, subst, ap, ◌∙◌}
+use Rattle.std.proofs.Common.{◌+◌, List, arith, sym, subst, ◌∙◌}
 use Rattle.fc_chain.specs.Tallies.{is_touched}
 use Rattle.fc_chain.specs.declared.tally.Tally.{Tally}
 use Rattle.fc_chain.proofs.Retally.{AreMixed, from, put_none, put_all, put_here, put_not}

@@ -1,4 +1,3 @@
-use Rattle.std.proofs.Common.{◌≡◌, ℕ, ◌<◌, ◌≤◌, List, length, arith, sym, ap, ◌∙◌}
 use Rattle.std.proofs.lemmas.Bool.{both_ways}
 use Rattle.fc_chain.proofs.Tallying.{holds_words, behind_on, behind_end}
 use Rattle.fc_chain.proofs.tally.look_behind.Goals as goal

@@ -1,6 +1,4 @@
-use Rattle.std.proofs.Common.{◌≡◌, ℕ, ◌<◌, ◌≤◌, List, length, arith, sym, ap, ◌∙◌}
-use Rattle.fc_base.specs.Sheet.{slot_at}
-use Rattle.fc_bits.specs.Words.{words_for}
+use Rattle.std.proofs.Common.{arith, sym, ◌∙◌}
 use Rattle.fc_chain.proofs.Tallying.{holds_words, needed_few, same_tally, old_leaves, live_leaves, live_read}
 use Rattle.fc_chain.proofs.tally.tally_slot.Goals as goal
 

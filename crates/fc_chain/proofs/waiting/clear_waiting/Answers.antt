@@ -1,5 +1,5 @@
-use Rattle.std.proofs.Common.{arith, refl, ap}
-use Rattle.fc_chain.proofs.Words.{made_none, made_more, cleared_bits, zeros, IsMadeUpTo}
+use Rattle.std.proofs.Common.{arith, refl}
+use Rattle.fc_chain.proofs.Words.{made_none, made_more, cleared_bits, zeros}
 use Rattle.fc_chain.proofs.waiting.clear_waiting.Goals as goal
 
 pub loop-index-init : goal.loop-index-init

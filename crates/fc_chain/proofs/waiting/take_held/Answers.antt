@@ -1,4 +1,4 @@
-use Rattle.std.proofs.Common.{◌≡◌, ◌-◌, ◌*◌, ◌+◌, ◌^◌, ◌<◌, ◌≤◌, bit_and, get_or, length, arith, refl, ap, sym, ◌∙◌}
+use Rattle.std.proofs.Common.{◌≡◌, ◌-◌, ◌*◌, ◌^◌, bit_and, get_or, length, arith, refl, ap, ◌∙◌}
 use Rattle.fc_base.specs.Counts.{count_below}
 use Rattle.fc_chain.proofs.Words.{made_none, made_more, left_bits, left_of, both_set, count_next, next_fits}
 use Rattle.fc_chain.proofs.waiting.take_held.Goals as goal

@@ -1,5 +1,5 @@
-use Rattle.std.proofs.Common.{arith, refl, ap}
-use Rattle.fc_chain.proofs.Words.{made_none, made_more, others_bits, others_of, IsMadeUpTo}
+use Rattle.std.proofs.Common.{arith, refl}
+use Rattle.fc_chain.proofs.Words.{made_none, made_more, others_bits, others_of}
 use Rattle.fc_chain.proofs.waiting.wait_for_others.Goals as goal
 
 pub loop-index-init : goal.loop-index-init

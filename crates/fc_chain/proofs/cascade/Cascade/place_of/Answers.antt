@@ -1,7 +1,5 @@
 use Rattle.std.proofs.Common.{List, sym, subst}
-use Rattle.fc_base.specs.Sheet.{Slot, shape_of}
-use Rattle.fc_base.specs.SheetFacts.{HasMappings}
-use Rattle.fc_base.specs.RestoreGraph.{HasOneLive}
+use Rattle.fc_base.specs.Sheet.{Slot}
 use Rattle.fc_chain.specs.Planning.{HasApartBirths}
 use Rattle.fc_chain.specs.Directory.{ListsSlots}
 use Rattle.fc_chain.proofs.cascade.Cascade.place_of.Goals as goal

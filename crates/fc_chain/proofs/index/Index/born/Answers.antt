@@ -1,6 +1,6 @@
 use Rattle.std.proofs.Common.{ap, ◌∙◌}
 use Rattle.fc_chain.specs.Indexing.{Index}
-use Rattle.fc_chain.proofs.Sorting.{born_at, found_bound}
+use Rattle.fc_chain.proofs.Sorting.{born_at}
 use Rattle.fc_chain.proofs.index.Index.born.Goals as goal
 
 pub returns-clause-value : goal.returns-clause-value

@@ -1,6 +1,6 @@
 use Rattle.std.proofs.Common.{◌≡◌, ℕ, ◌<◌, ◌≤◌, ◌-◌, false, length}
 use Rattle.fc_base.specs.Sheet.{slot_at}
-use Rattle.fc_chain.specs.Indexing.{entry_at, IsFirstFrom}
+use Rattle.fc_chain.specs.Indexing.{entry_at}
 use Rattle.fc_chain.proofs.index.Index.live.Given as goal
 
 -- no live slot of the volume is listed so far
