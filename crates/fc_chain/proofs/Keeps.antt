@@ -15,15 +15,15 @@ use Rattle.fc_chain.proofs.Rising.{births_after, events_sound}
 use Rattle.fc_chain.proofs.Together.{events_together, map_together}
 use Rattle.fc_sheets.proofs.Holding.{written_sound, kept_sound, lost_sound, regrained, bit_taken, bit_kept, bit_lost}
 
-abbrev pub view_of : ℕ → ℕ → Table → Chains
-view_of lane lanes table = record { lane = lane; lanes = lanes; sheet = table.sheet; room = table.room; width = table.width }
+abbrev pub view_of : ℕ → ℕ → Table → ℕ → ℕ → Chains
+view_of lane lanes table room width = record { lane = lane; lanes = lanes; sheet = table.sheet; room = room; width = width }
 
 kept_as : (lane lanes : ℕ) (old new : Sheet) → IsKept lane lanes old → IsSound new → IsContiguous new.slots → IsKept lane lanes new
 kept_as lane lanes old new k s c = record { lane_in = k.lane_in; sound = s; together = c }
 
-pub kept_written : (value : Chains) (lane lanes v g : ℕ) (table new : Table) → view_of lane lanes table ≡ value → IsKept lane lanes table.sheet → FitsTaken value.sheet.slots v (in_lane value g) →
+pub kept_written : (value : Chains) (lane lanes room width v g : ℕ) (table new : Table) → view_of lane lanes table room width ≡ value → IsKept lane lanes table.sheet → FitsTaken value.sheet.slots v (in_lane value g) →
     new ≡ record table { sheet = sheet_written v (g / lanes) table.sheet } → IsKept lane lanes new.sheet
-kept_written value lane lanes v g table new view k fits e =
+kept_written value lane lanes room width v g table new view k fits e =
     subst (λ (t : Table). IsKept lane lanes t.sheet) (sym e)
     (kept_as lane lanes table.sheet (sheet_written v (g / lanes) table.sheet) k (written_sound table.sheet v (g / lanes) k.sound (subst (λ (c : Chains). FitsTaken c.sheet.slots v (in_lane c g)) (sym view) fits))
     (map_together (grain_taken v (g / lanes)) (regrained (grain_taken v (g / lanes)) (g / lanes) (bit_taken v (g / lanes))) table.sheet.slots k.together))
@@ -33,22 +33,22 @@ kept_in_place lane lanes v g table new k e =
     subst (λ (t : Table). IsKept lane lanes t.sheet) (sym e) (kept_as lane lanes table.sheet (sheet_moved v g true table.sheet) k (kept_sound table.sheet v g k.sound)
     (map_together (grain_kept v g) (regrained (grain_kept v g) g (bit_kept v g)) table.sheet.slots k.together))
 
-pub kept_lost : (value : Chains) (lane lanes v g : ℕ) (table new : Table) → view_of lane lanes table ≡ value → IsKept lane lanes table.sheet → FitsLost value.sheet.slots v (in_lane value g) →
+pub kept_lost : (value : Chains) (lane lanes room width v g : ℕ) (table new : Table) → view_of lane lanes table room width ≡ value → IsKept lane lanes table.sheet → FitsLost value.sheet.slots v (in_lane value g) →
     new ≡ record table { sheet = sheet_torn v (g / lanes) Under table.sheet } → IsKept lane lanes new.sheet
-kept_lost value lane lanes v g table new view k fits e =
+kept_lost value lane lanes room width v g table new view k fits e =
     subst (λ (t : Table). IsKept lane lanes t.sheet) (sym e)
     (kept_as lane lanes table.sheet (sheet_torn v (g / lanes) Under table.sheet) k (lost_sound table.sheet v (g / lanes) k.sound (subst (λ (c : Chains). FitsLost c.sheet.slots v (in_lane c g)) (sym view) fits))
     (map_together (grain_lost v (g / lanes)) (regrained (grain_lost v (g / lanes)) (g / lanes) (bit_lost v (g / lanes))) table.sheet.slots k.together))
 
-pub births_kept : (value : Chains) (lane lanes : ℕ) (table : Table) (es now : List LaneEvent) → view_of lane lanes table ≡ value → FitsEvents (lane_grains value.lane value.lanes) value.sheet es → now ≡ es →
+pub births_kept : (value : Chains) (lane lanes room width : ℕ) (table : Table) (es now : List LaneEvent) → view_of lane lanes table room width ≡ value → FitsEvents (lane_grains value.lane value.lanes) value.sheet es → now ≡ es →
     BirthsFit (fold (sheet_step (lane_grains lane lanes)) table.sheet now)
-births_kept value lane lanes table es now view fit e =
+births_kept value lane lanes room width table es now view fit e =
     births_after (lane_grains lane lanes) table.sheet now
     (subst (λ (z : List LaneEvent). FitsEvents (lane_grains lane lanes) table.sheet z) (sym e) (subst (λ (c : Chains). FitsEvents (lane_grains c.lane c.lanes) c.sheet es) (sym view) fit))
 
-pub kept_applied : (value : Chains) (lane lanes : ℕ) (table new : Table) (es now : List LaneEvent) → view_of lane lanes table ≡ value → IsKept lane lanes table.sheet → FitsEvents (lane_grains value.lane value.lanes) value.sheet es →
+pub kept_applied : (value : Chains) (lane lanes room width : ℕ) (table new : Table) (es now : List LaneEvent) → view_of lane lanes table room width ≡ value → IsKept lane lanes table.sheet → FitsEvents (lane_grains value.lane value.lanes) value.sheet es →
     now ≡ es → new.sheet ≡ fold (sheet_step (lane_grains lane lanes)) table.sheet now → IsKept lane lanes new.sheet
-kept_applied value lane lanes table new es now view k fit e q =
+kept_applied value lane lanes room width table new es now view k fit e q =
     let local : ℕ → ℕ = lane_grains lane lanes in
     let f : FitsEvents local table.sheet now =
     subst (λ (z : List LaneEvent). FitsEvents local table.sheet z) (sym e) (subst (λ (c : Chains). FitsEvents (lane_grains c.lane c.lanes) c.sheet es) (sym view) fit) in

@@ -1,7 +1,10 @@
 -- The chains of one lane.
-use Rattle.std.specs.Prelude.{◌≡◌, ℕ, ◌+◌, ◌-◌, ◌/◌, ◌%◌, ◌<◌, Option, IsSome, List, option_map}
+use Rattle.std.specs.Prelude.{length, ◌≡◌, ℕ, ◌+◌, ◌-◌, ◌/◌, ◌%◌, ◌<◌, Option, IsSome, List, option_map}
 use Rattle.fc_base.specs.SheetFacts.{IsSound}
 use Rattle.fc_chain.specs.Contiguous.{IsContiguous}
+use Rattle.fc_chain.specs.Table.{Table}
+use Rattle.fc_chain.specs.Ledger.{Ledger, IsCounted}
+use Rattle.fc_chain.specs.Directory.{Directory, ListsSlots, HasPlaces}
 use Rattle.fc_base.specs.declared.ids.SlotId.{SlotId}
 use Rattle.fc_base.specs.Sheet.{Slot, Sheet, slot_id, birth_place}
 
@@ -37,3 +40,10 @@ pub record IsKept (lane lanes : ℕ) (sheet : Sheet) : Type 0 where
 -- The slot with this name is there.
 abbrev pub IsThere : List Slot → SlotId → Type 0
 IsThere slots name = IsSome (birth_place slots name.0)
+
+-- All that always holds of a cascade's parts.
+pub record AreParts (lane lanes : ℕ) (table : Table) (ledger : Ledger) (directory : Directory) (room width : ℕ) : Type 0 where
+  pub kept : IsKept lane lanes table.sheet
+  pub counted : IsCounted table ledger room width
+  pub listed : ListsSlots table.sheet.slots directory
+  pub places : HasPlaces (length table.sheet.slots + room) directory

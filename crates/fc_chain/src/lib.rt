@@ -11,22 +11,32 @@
 //! `direct` and `unneeded` take memory. That the planned moves are safe, one after the other, is the law of
 //! `fc_moves`; that every step keeps the facts is the law of `fc_sheets`.
 //!
+//! How many grains each slot holds, and at how many it is needed, is counted in one pass over words after the events
+//! of a command, and kept through moves and writes; slots are found in sorted lists of places. No clause tells of
+//! either.
+//!
 //! To read: `slot` (one slot), `table` (all slots, with room for more), `split` (a chain in two), `room` and `events`
-//! (what commands do), `find` and `walk` (where slots stand, and who holds for whom), `old` and `plan` (what must
-//! move), `hold` (pairs), `count`, and `cascade`, which has the calls.
+//! (what commands do), `find` and `walk` (where slots stand, and who holds for whom), `index` and `directory` (where
+//! slots stand, in order), `plan` (what must move), `hold` (pairs), `waiting`, `tally`, `pairs` and `tallies` (counts),
+//! `count`, and `cascade`, which has the calls.
 #![tactic(auto)]
 
 mod cascade;
 mod count;
+mod directory;
 mod events;
 mod find;
 mod hold;
-mod old;
+mod index;
+mod pairs;
 mod plan;
 mod room;
 mod slot;
 mod split;
 mod table;
+mod tallies;
+mod tally;
+mod waiting;
 mod walk;
 
 pub use cascade::Cascade;

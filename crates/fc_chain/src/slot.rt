@@ -3,7 +3,7 @@
 ghost use Rattle.std.specs.Prelude.{◌≡◌, ℕ, false, true, None, Some, replicate, length, slice_index_or, slice_set, ◌<◌, not, ◌&&◌, eqb};
 ghost use Rattle.fc_base.specs.Column.{is_at};
 ghost use Rattle.fc_bits.specs.Grains.{count_set};
-ghost use Rattle.fc_chain.specs.Births.{is_after, is_before};
+ghost use Rattle.fc_chain.specs.Births.{is_after};
 ghost use Rattle.fc_base.specs.SheetStep.{grain_taken, grain_kept, grain_lost, split_from};
 
 use fc_bits::GrainSet;
@@ -86,6 +86,13 @@ impl Slot {
         self.is_live
     }
 
+    /// The mapping whose slot it is, if any.
+    pub(crate) fn mapping(&self) -> Option<u32>
+        ensures { result ≡ self.now.mapping }
+    {
+        self.mapping
+    }
+
     /// Whether it is the slot of this mapping.
     pub(crate) fn is_of(&self, mapping: u32) -> bool
         ensures { result ≡ is_at self.now.mapping mapping }
@@ -108,6 +115,13 @@ impl Slot {
         ensures { result ≡ length self.now.held }
     {
         self.held.len()
+    }
+
+    /// The grains that it holds.
+    pub(crate) fn held(&self) -> &GrainSet
+        ensures { result.now ≡ self.now.held }
+    {
+        &self.held
     }
 
     /// How many grains it holds.
@@ -134,16 +148,6 @@ impl Slot {
                 Some(after) => after < self.birth,
                 None => true,
             }
-    }
-
-    /// Whether it was born before this birth, if there is one.
-    pub(crate) fn is_born_before(&self, birth: Option<u64>) -> bool
-        ensures { result ≡ is_before self.now.birth birth }
-    {
-        match birth {
-            Some(birth) => self.birth < birth,
-            None => true,
-        }
     }
 
     /// A slot of the volume is written: the live slot gets the grain, an old one loses it.

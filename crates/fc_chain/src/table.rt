@@ -1,6 +1,6 @@
 //! The slots of all chains, with room for new ones.
 
-ghost use Rattle.std.specs.Prelude.{◌≡◌, ◌+◌, ◌-◌, ◌^◌, ◌<◌, ◌≤◌, length, replicate, OnOk, OnErr, IfOk, false, true, slice_index_or, take, []};
+ghost use Rattle.std.specs.Prelude.{◌≡◌, ℕ, ◌+◌, ◌-◌, ◌^◌, ◌<◌, ◌≤◌, length, replicate, OnOk, OnErr, IfOk, false, true, slice_index_or, take, [], max};
 ghost use Rattle.fc_base.specs.Sheet.{no_slots, slot_at};
 ghost use Rattle.fc_base.specs.SheetStep.{with_chain, without, aged, placed, split_at, sheet_written, sheet_moved, sheet_torn};
 ghost use Rattle.fc_base.specs.declared.request.Side.TheVariants.{Under};
@@ -47,9 +47,22 @@ impl SlotTable {
         }
     }
 
-    /// The slots.
+    /// Where memory is taken from.
+    pub(crate) fn alloc(&self) -> Global {
+        *self.slots.allocator()
+    }
+
+    /// How many grains a slot that is made can have.
+    pub(crate) fn width(&self) -> u32
+        ensures { result ≡ self.now.width }
+    {
+        self.width
+    }
+
+    /// The slots, none of which has more grains than `width`.
     pub(crate) fn as_slice(&self) -> &[Slot]
-        ensures { result.now ≡ self.now.sheet.slots }
+        ensures value { result.now ≡ self.now.sheet.slots }
+        ensures wide { (k : ℕ) → k < length result.now → length (slot_at result.now k).held ≤ self.now.width }
     {
         self.slots.as_slice()
     }
@@ -91,6 +104,7 @@ impl SlotTable {
         ensures same { self.new.sheet ≡ self.old.sheet }
         ensures room_stays { self.old.room ≤ self.new.room }
         ensures width_stays { self.old.width ≤ self.new.width }
+        ensures width { self.new.width ≤ max self.old.width grains }
         ensures err { OnErr result (self.new ≡ self.old) }
     {
         if grains > self.width {
