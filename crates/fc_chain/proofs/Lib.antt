@@ -6,7 +6,6 @@ pub mod Places
 pub mod Plans
 pub mod Whole
 pub mod Fitting
-pub mod Columns
 pub mod Needs
 pub mod Behind
 pub mod Awaiting

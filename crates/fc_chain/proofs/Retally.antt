@@ -18,7 +18,7 @@ use Rattle.fc_chain.proofs.Finds.{read_at}
 use Rattle.fc_chain.proofs.Together.{map_together}
 use Rattle.fc_chain.proofs.Tallying.{count_same, count_le}
 use Rattle.fc_chain.proofs.Direct.{count_set_below}
-use Rattle.fc_chain.proofs.Columns.{column_map, column_elsewhere}
+use Rattle.fc_sheets.proofs.Columns.{column_map, column_elsewhere}
 use Rattle.fc_chain.proofs.Touched.{Change, IsUntouched, same_need, with_pairs}
 
 -- ---- a count is that without one number and that number
