@@ -1,0 +1,10 @@
+-- Lemmas of the lane.
+pub mod Stored
+pub mod Naming
+pub mod Accessing
+pub mod Volumes
+pub mod Eventing
+pub mod Telling
+pub mod Readying
+pub mod Moving
+pub mod MoveEnds

@@ -1,0 +1,39 @@
+-- Slots found by their births.
+use Rattle.std.proofs.Common.{◌≡◌, ℕ, ◌<◌, Option, Some, None, length, refl, sym, ap, ◌∙◌, arith}
+use Rattle.std.proofs.lemmas.Bool.{eqb-true, eq-eqb, false_from_ne_true}
+use Rattle.fc_base.specs.Column.{holder}
+use Rattle.fc_base.specs.Sheet.{Sheet, slot_at, slot_id, column, birth_place}
+use Rattle.fc_base.specs.SheetFacts.{HasNames, IsSound}
+use Rattle.fc_base.specs.declared.ids.SlotId.{SlotId}
+use Rattle.fc_chain.specs.Chains.{found}
+use Rattle.fc_moves.proofs.Readers.{IsHolder, holder_is}
+use Rattle.fc_sheets.proofs.Finding.{birth_place_at}
+use Rattle.fc_moves.proofs.Search.{first_is}
+
+pub birth_place_is : (s : Sheet) (k : ℕ) → HasNames s → k < length s.slots → birth_place s.slots (slot_at s.slots k).birth ≡ Some k
+unfolding birth_place
+birth_place_is s k n kl =
+    first_is _ (length s.slots) k (record {
+      below = kl;
+      passes = eq-eqb _ _ refl;
+      first = λ j jk. false_from_ne_true _ (λ t.
+          let same : j ≡ k = n.apart j k (omega arith) kl (eqb-true _ _ t) in omega arith);
+    })
+
+some_is : {A : Type 0} {x y : A} → Some x ≡ Some y → x ≡ y
+some_is {A} {x} {y} e = ap (or_this x) e
+  where
+    or_this : A → Option A → A
+    or_this a None = a
+    or_this a (Some b) = b
+
+-- the holder of a slot, found by its name
+pub holder_named : (s : Sheet) (g b k h : ℕ) (name : SlotId) (o : Option SlotId) → IsSound s → birth_place s.slots b ≡ Some k → holder (column s.slots g) k ≡ Some h →
+    o ≡ found s.slots (holder (column s.slots g) k) → o ≡ Some name → birth_place s.slots name.0 ≡ Some h
+holder_named s g b k h name o sound e q f n =
+    let kl = (birth_place_at s.slots b k e).0 in
+    let is : IsHolder (column s.slots g) k h = holder_is (column s.slots g) k h q in
+    let hk = is.before in
+    let hl : h < length s.slots = omega arith in
+    let same : name ≡ slot_id s.slots h = some_is (sym n ∙ (f ∙ ap (found s.slots) q)) in
+    ap (λ (z : SlotId). birth_place s.slots z.0) same ∙ birth_place_is s h sound.names hl

@@ -1,0 +1,20 @@
+-- That the chains and the stored grains of a lane show what plain volumes hold.
+use Rattle.std.specs.Prelude.{◌≡◌, ℕ, ◌<◌, true, List, length}
+use Rattle.fc_base.specs.Sheet.{Slot, Sheet, slot_at}
+use Rattle.fc_base.specs.SheetFacts.{IsSound}
+use Rattle.fc_entry.specs.Picture.{Picture}
+use Rattle.fc_grains.specs.Volumes.{VolumeGrains, is_there, volume_of, stored}
+use Rattle.fc_rules.specs.Shows.{Shows}
+
+-- The volume of each slot is there, with a grain for each of the slot's.
+pub record HasGrains (slots : List Slot) (volumes : List VolumeGrains) (k : ℕ) : Type 0 where
+  pub there : is_there volumes (slot_at slots k).volume ≡ true
+  pub size : length (volume_of volumes (slot_at slots k).volume).contents ≡ length (slot_at slots k).held
+
+abbrev pub AllSized : Sheet → List VolumeGrains → Type 0
+AllSized s volumes = (k : ℕ) → k < length s.slots → HasGrains s.slots volumes k
+
+pub record Stands (s : Sheet) (picture : Picture) (volumes : List VolumeGrains) : Type 0 where
+  pub sound : IsSound s
+  pub sized : (k : ℕ) → k < length s.slots → HasGrains s.slots volumes k
+  pub shows : Shows s.slots picture (stored volumes)
