@@ -164,6 +164,18 @@ lists_skip slots by p entries none l =
       once = l.once;
     }
 
+pub put_more : (slots : List Slot) (by : By) (p x b : ℕ) (t : Slot) (o : Option ℕ) (old new : List Entry) → p < length slots → t ≡ get_or slots p t → o ≡ Some x → o ≡ key_at by t → b ≡ t.birth → new ≡ old ++ record { key = x; birth = b; place = p } ∷ [] →
+    ListsBelow slots by p old → ListsBelow slots by (p + 1) new
+put_more slots by p x b t o old new lt et os ok eb en l =
+    let P : List Entry → Type 0 = λ z. ListsBelow slots by (p + 1) z in
+    let r = read_at slots p t lt et in
+    subst P (sym en) (lists_put slots by p old (record { key = x; birth = b; place = p }) lt refl (ap (key_at by) r ∙ (sym ok ∙ os)) (eb ∙ ap (λ (z : Slot). z.birth) (sym r)) l)
+
+pub skip_more : (slots : List Slot) (by : By) (p : ℕ) (t : Slot) (o : Option ℕ) (old new : List Entry) → p < length slots → t ≡ get_or slots p t → o ≡ None → o ≡ key_at by t → new ≡ old → ListsBelow slots by p old → ListsBelow slots by (p + 1) new
+skip_more slots by p t o old new lt et on ok en l =
+    let P : List Entry → Type 0 = λ z. ListsBelow slots by (p + 1) z in
+    subst P (sym en) (lists_skip slots by p old (ap (key_at by) (read_at slots p t lt et) ∙ (sym ok ∙ on)) l)
+
 pub index_sorted : (slots : List Slot) (by : By) (n : ℕ) (entries new : List Entry) → length slots ≤ n → ListsBelow slots by n entries → IsPermutation entries new → AreRising new → IsIndexOf slots by new
 index_sorted slots by n entries new le l p r =
     record {
