@@ -1,11 +1,10 @@
 -- What is done at each slot of a volume in turn is done at all of them, and nowhere else.
-use Rattle.std.proofs.Common.{◌≡◌, ◌≢◌, ℕ, zero, suc, ◌+◌, ◌<◌, ◌≤◌, Bool, true, false, not, ◌&&◌, ◌||◌, cond, eqb, Option, Some, None, List, [], ◌∷◌, length, get_or, set, map, refl, sym, ap, subst, ◌∙◌, arith, inl, inr, length-set, get_or-set_same, get_or-set_other, ext_get_or}
+use Rattle.std.proofs.Common.{◌≡◌, ◌≢◌, ℕ, suc, ◌+◌, ◌<◌, ◌≤◌, not, cond, None, List, [], ◌∷◌, length, get_or, set, map, refl, sym, ap, subst, ◌∙◌, arith, inl, inr, length-set, get_or-set_same, get_or-set_other, ext_get_or}
 use Rattle.std.proofs.lemmas.Bool.{cases_eq, eq-eqb, ne_eqb, and_right}
-use Rattle.fc_base.specs.Column.{is_at}
 use Rattle.fc_base.specs.Sheet.{Slot, slot_at, no_slot}
 use Rattle.fc_base.specs.SheetStep.{grain_taken, grain_kept, grain_lost}
 use Rattle.fc_chain.specs.Tallies.{tally_of, tally_at, no_tally, tally_but, is_touched, AreTallies, AreTalliesBut}
-use Rattle.fc_chain.specs.Indexing.{entry_at, no_entry, ListsVolume}
+use Rattle.fc_chain.specs.Indexing.{entry_at, ListsVolume}
 use Rattle.fc_chain.specs.declared.index.Entry.{Entry}
 use Rattle.fc_chain.specs.declared.tally.Tally.{Tally}
 use Rattle.fc_chain.proofs.Finds.{read_at}

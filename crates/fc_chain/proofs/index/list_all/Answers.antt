@@ -1,4 +1,4 @@
-use Rattle.std.proofs.Common.{◌≡◌, ◌≤◌, Vec, Global, vec_capacity, ap, sym, subst, ◌∙◌, arith}
+use Rattle.std.proofs.Common.{◌≡◌, Vec, Global, vec_capacity, ap, ◌∙◌, arith}
 use Rattle.fc_chain.specs.declared.index.Entry.{Entry}
 use Rattle.fc_chain.proofs.Sorting.{put_more, skip_more}
 use Rattle.fc_chain.proofs.index.list_all.Goals as goal
