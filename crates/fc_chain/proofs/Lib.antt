@@ -22,3 +22,4 @@ pub mod Growing
 pub mod Parts
 pub mod Sorting
 pub mod Listed
+pub mod Volumes

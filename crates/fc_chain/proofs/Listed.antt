@@ -4,7 +4,7 @@ use Rattle.fc_base.specs.Sheet.{Slot, slot_at}
 use Rattle.fc_chain.specs.declared.index.By.{By}
 use Rattle.fc_chain.specs.declared.index.By.TheVariants.{Birth, Mapping, Volume}
 use Rattle.fc_chain.specs.declared.index.Entry.{Entry}
-use Rattle.fc_chain.specs.Indexing.{key_at, entry_at, IsIndexOf}
+use Rattle.fc_chain.specs.Indexing.{key_at, entry_at, IsIndexOf, ListsVolume}
 use Rattle.fc_chain.specs.Directory.{Directory, ListsSlots, HasPlaces}
 use Rattle.fc_sheets.proofs.Holding.{at_map, Regrained}
 
@@ -28,6 +28,7 @@ index_map f r slots by entries i =
         birth = e.birth ∙ sym (ap (λ (t : Slot). t.birth) (at_map f slots (entry_at entries j).place r.none) ∙ r.birth (slot_at slots (entry_at entries j).place));
       });
       each = λ k x kl e. i.each k x (omega arith) (sym (key k) ∙ e);
+      once = i.once;
       rising = i.rising;
     }
 
@@ -38,10 +39,17 @@ lists_map f r slots d l = record {
   volumes = index_map f r slots Volume d.volumes.entries l.volumes;
 }
 
+-- a volume's entries are still those of its slots
+pub listed_after : (f : Slot → Slot) → Regrained f → (slots now : List Slot) (d : Directory) (entries : List Entry) (v w : ℕ) → now ≡ map f slots → ListsSlots slots d → w ≡ v → ((ts : List Slot) → ListsSlots ts d → ListsVolume ts v entries) → ListsVolume now w entries
+listed_after f r slots now d entries v w e l same listed =
+    let P : List Slot → Type 0 = λ z. ListsVolume z w entries in
+    let Q : ℕ → Type 0 = λ z. ListsVolume (map f slots) z entries in
+    subst P (sym e) (subst Q (sym same) (listed (map f slots) (lists_map f r slots d l)))
+
 index_empty : (by : By) (entries : List Entry) → entries ≡ [] → IsIndexOf [] by entries
 index_empty by entries e =
     let P : List Entry → Type 0 = λ z. IsIndexOf [] by z in
-    subst P (sym e) (record { only = λ i lt. absurd (omega arith); each = λ k x lt q. absurd (omega arith); rising = λ i j le lt. absurd (omega arith) })
+    subst P (sym e) (record { only = λ i lt. absurd (omega arith); each = λ k x lt q. absurd (omega arith); once = λ k. omega arith; rising = λ i j le lt. absurd (omega arith) })
 
 pub lists_empty : (d : Directory) → d.births.entries ≡ [] → d.mappings.entries ≡ [] → d.volumes.entries ≡ [] → ListsSlots [] d
 lists_empty d a b c = record { births = index_empty Birth d.births.entries a; mappings = index_empty Mapping d.mappings.entries b; volumes = index_empty Volume d.volumes.entries c }

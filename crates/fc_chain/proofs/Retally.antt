@@ -1,13 +1,13 @@
 -- The counts of the slots that a change of a volume's pairs touches, and that all others stay.
-use Rattle.std.proofs.Common.{◌≡◌, ◌≢◌, ℕ, zero, suc, ◌+◌, ◌<◌, ◌≤◌, ◌^◌, Bool, true, false, not, ◌&&◌, ◌||◌, cond, eqb, ltb, Option, Some, is_some, List, [], ◌∷◌, length, get_or, set, map, refl, sym, ap, subst, ◌∙◌, arith, inl, inr, add-zero, get_or-set_same, get_or-set_other}
-use Rattle.std.proofs.lemmas.Bool.{cases_Bool, cases_lt, both_ways, cases_eq, eqb-false, eq-eqb, ne_eqb, lt-ltb, le-ltb, and_left, and_right, or_parts, not_from_true, false_from_ne_true}
+use Rattle.std.proofs.Common.{◌≡◌, ◌≢◌, ℕ, zero, suc, ◌+◌, ◌<◌, ◌≤◌, ◌^◌, Bool, true, false, not, ◌&&◌, ◌||◌, cond, eqb, Option, Some, is_some, List, [], ◌∷◌, length, get_or, set, map, refl, sym, ap, subst, ◌∙◌, arith, inl, inr, add-zero, get_or-set_same}
+use Rattle.std.proofs.lemmas.Bool.{cases_Bool, both_ways, cases_eq, eqb-false, eq-eqb, ne_eqb, and_left, and_right, or_parts, not_from_true, false_from_ne_true}
 use Rattle.fc_base.specs.Column.{Column, needer, is_at}
 use Rattle.fc_base.specs.Sheet.{Slot, slot_at, shape_of, column, live_place}
 use Rattle.fc_base.specs.SheetStep.{grain_taken, grain_kept, grain_lost}
 use Rattle.fc_base.specs.SheetFits.{FitsTaken, FitsLost}
 use Rattle.fc_base.specs.Counts.{count_below, is_needed_at}
 use Rattle.fc_base.specs.RestoreGraph.{HasOneLive}
-use Rattle.fc_chain.specs.Tallies.{tally_of, tally_at, no_tally, but, tally_but, is_touched, AreTallies, AreTalliesBut, live_holder, holder_at, AreOneSize, Countable}
+use Rattle.fc_chain.specs.Tallies.{tally_of, tally_at, but, tally_but, is_touched, AreTalliesBut, live_holder, holder_at, AreOneSize, Countable}
 use Rattle.fc_chain.specs.Contiguous.{IsContiguous}
 use Rattle.fc_chain.specs.declared.tally.Tally.{Tally}
 use Rattle.fc_moves.proofs.Readers.{is_holder, reader_is}
@@ -251,100 +251,6 @@ change_lost slots v g fits = record {
     | inl same ↦ absurd (fits a x al live (is_holder (column slots g) a x i) old same)
   ];
 }
-
--- ---- the lists
-
--- each slot's counts, those that pass without the grain
-abbrev pub AreMixed : List Slot → ℕ → (ℕ → Bool) → List Tally → Type 0
-AreMixed slots g test tallies = (k : ℕ) → k < length slots → tally_at tallies k ≡ cond (test k) (tally_but slots g k) (tally_of slots k)
-
--- those below a place, or from it on
-abbrev pub below : (ℕ → Bool) → ℕ → ℕ → Bool
-below test p k = ltb k p && test k
-
-abbrev pub from : (ℕ → Bool) → ℕ → ℕ → Bool
-from test p k = not (ltb k p) && test k
-
-ltb_next : (k p : ℕ) → k ≢ p → ltb k (p + 1) ≡ ltb k p
-ltb_next k p ne =
-    elim (cases_lt k p) [
-      | inl lt ↦ lt-ltb k (p + 1) (omega arith) ∙ sym (lt-ltb k p lt)
-      | inr ge ↦ let n : k ≢ p = ne in le-ltb k (p + 1) (omega arith) ∙ sym (le-ltb k p ge)
-    ]
-
-mixed_other : (slots : List Slot) (g : ℕ) (test next : ℕ → Bool) (tallies : List Tally) (p : ℕ) (t : Tally) → p < length tallies → ((k : ℕ) → k ≢ p → next k ≡ test k) →
-    t ≡ cond (next p) (tally_but slots g p) (tally_of slots p) → AreMixed slots g test tallies → AreMixed slots g next (set tallies p t)
-mixed_other slots g test next tallies p t room same here m k kl =
-    elim (cases_eq k p) [
-      | inl e ↦ ap (λ z. get_or (set tallies p t) z no_tally) e ∙ (get_or-set_same tallies p t no_tally room ∙ (here ∙ ap (λ z. cond (next z) (tally_but slots g z) (tally_of slots z)) (sym e)))
-      | inr ne ↦ let other : k ≢ p = ne in get_or-set_other tallies p k t no_tally other ∙ (m k kl ∙ ap (λ b. cond b (tally_but slots g k) (tally_of slots k)) (sym (same k ne)))
-    ]
-
-mixed_same : (slots : List Slot) (g : ℕ) (test next : ℕ → Bool) (tallies : List Tally) → ((k : ℕ) → next k ≡ test k) → AreMixed slots g test tallies → AreMixed slots g next tallies
-mixed_same slots g test next tallies same m k kl = m k kl ∙ ap (λ b. cond b (tally_but slots g k) (tally_of slots k)) (sym (same k))
-
-below_next : (test : ℕ → Bool) (p k : ℕ) → k ≢ p → below test (p + 1) k ≡ below test p k
-below_next test p k ne = ap (λ b. b && test k) (ltb_next k p ne)
-
-from_next : (test : ℕ → Bool) (p k : ℕ) → k ≢ p → from test (p + 1) k ≡ from test p k
-from_next test p k ne = ap (λ b. not b && test k) (ltb_next k p ne)
-
-below_here : (test : ℕ → Bool) (p : ℕ) → below test (p + 1) p ≡ test p
-below_here test p = ap (λ b. b && test p) (lt-ltb p (p + 1) (omega arith))
-
-from_here : (test : ℕ → Bool) (p : ℕ) → from test (p + 1) p ≡ false
-from_here test p = ap (λ b. not b && test p) (lt-ltb p (p + 1) (omega arith))
-
-here_from : (test : ℕ → Bool) (p : ℕ) → from test p p ≡ test p
-here_from test p = ap (λ b. not b && test p) (le-ltb p p (omega arith))
-
-here_below : (test : ℕ → Bool) (p : ℕ) → below test p p ≡ false
-here_below test p = ap (λ b. b && test p) (le-ltb p p (omega arith))
-
-pub left_none : (slots : List Slot) (g : ℕ) (test : ℕ → Bool) (tallies : List Tally) → AreTallies slots tallies → AreMixed slots g (below test 0) tallies
-left_none slots g test tallies a k kl = a k kl ∙ sym (ap (λ b. cond b (tally_but slots g k) (tally_of slots k)) (ap (λ b. b && test k) (le-ltb k 0 (omega arith))))
-
-pub left_all : (slots : List Slot) (g n : ℕ) (test : ℕ → Bool) (tallies : List Tally) → length slots ≤ n → AreMixed slots g (below test n) tallies → AreMixed slots g test tallies
-left_all slots g n test tallies le m k kl = m k kl ∙ ap (λ b. cond b (tally_but slots g k) (tally_of slots k)) (ap (λ b. b && test k) (lt-ltb k n (omega arith)))
-
-pub left_here : (slots : List Slot) (g : ℕ) (test : ℕ → Bool) (tallies : List Tally) (p : ℕ) (t : Tally) → p < length tallies → test p ≡ true → t ≡ tally_but slots g p → AreMixed slots g (below test p) tallies →
-    AreMixed slots g (below test (p + 1)) (set tallies p t)
-left_here slots g test tallies p t room e q m =
-    mixed_other slots g (below test p) (below test (p + 1)) tallies p t room (below_next test p) (q ∙ sym (ap (λ b. cond b (tally_but slots g p) (tally_of slots p)) (below_here test p ∙ e))) m
-
-pub left_not : (slots : List Slot) (g : ℕ) (test : ℕ → Bool) (tallies : List Tally) (p : ℕ) → test p ≡ false → AreMixed slots g (below test p) tallies → AreMixed slots g (below test (p + 1)) tallies
-left_not slots g test tallies p e m =
-    mixed_same slots g (below test p) (below test (p + 1)) tallies
-    (λ k. elim (cases_eq k p) [
-      | inl q ↦ ap (below test (p + 1)) q ∙ (below_here test p ∙ (e ∙ (sym (here_below test p) ∙ ap (below test p) (sym q))))
-      | inr ne ↦ below_next test p k ne
-    ]) m
-
--- what stands at the place that is left out next
-pub left_at : (slots : List Slot) (g : ℕ) (test : ℕ → Bool) (tallies : List Tally) (p : ℕ) → p < length slots → AreMixed slots g (below test p) tallies → tally_at tallies p ≡ tally_of slots p
-left_at slots g test tallies p lt m = m p lt ∙ ap (λ b. cond b (tally_but slots g p) (tally_of slots p)) (here_below test p)
-
-pub put_none : (slots : List Slot) (g : ℕ) (test : ℕ → Bool) (tallies : List Tally) → AreMixed slots g test tallies → AreMixed slots g (from test 0) tallies
-put_none slots g test tallies m k kl = m k kl ∙ sym (ap (λ b. cond b (tally_but slots g k) (tally_of slots k)) (ap (λ b. not b && test k) (le-ltb k 0 (omega arith))))
-
-pub put_all : (slots : List Slot) (g n : ℕ) (test : ℕ → Bool) (tallies : List Tally) → length slots ≤ n → AreMixed slots g (from test n) tallies → AreTallies slots tallies
-put_all slots g n test tallies le m k kl = m k kl ∙ ap (λ b. cond b (tally_but slots g k) (tally_of slots k)) (ap (λ b. not b && test k) (lt-ltb k n (omega arith)))
-
-pub put_here : (slots : List Slot) (g : ℕ) (test : ℕ → Bool) (tallies : List Tally) (p : ℕ) (t : Tally) → p < length tallies → t ≡ tally_of slots p → AreMixed slots g (from test p) tallies →
-    AreMixed slots g (from test (p + 1)) (set tallies p t)
-put_here slots g test tallies p t room q m =
-    mixed_other slots g (from test p) (from test (p + 1)) tallies p t room (from_next test p) (q ∙ sym (ap (λ b. cond b (tally_but slots g p) (tally_of slots p)) (from_here test p))) m
-
-pub put_not : (slots : List Slot) (g : ℕ) (test : ℕ → Bool) (tallies : List Tally) (p : ℕ) → test p ≡ false → AreMixed slots g (from test p) tallies → AreMixed slots g (from test (p + 1)) tallies
-put_not slots g test tallies p e m =
-    mixed_same slots g (from test p) (from test (p + 1)) tallies
-    (λ k. elim (cases_eq k p) [
-      | inl q ↦ ap (from test (p + 1)) q ∙ (from_here test p ∙ (sym e ∙ (sym (here_from test p) ∙ ap (from test p) (sym q))))
-      | inr ne ↦ from_next test p k ne
-    ]) m
-
-pub put_at : (slots : List Slot) (g : ℕ) (test : ℕ → Bool) (tallies : List Tally) (p : ℕ) → p < length slots → test p ≡ true → AreMixed slots g (from test p) tallies → tally_at tallies p ≡ tally_but slots g p
-put_at slots g test tallies p lt e m = m p lt ∙ ap (λ b. cond b (tally_but slots g p) (tally_of slots p)) (here_from test p ∙ e)
 
 -- ---- one slot, by what is read
 

@@ -1,13 +1,14 @@
 -- Lists of places in order: what a sort leaves, and what a search in them finds.
-use Rattle.std.proofs.Common.{◌≡◌, ◌≢◌, ℕ, zero, suc, ◌+◌, ◌<◌, ◌≤◌, true, false, not, ◌&&◌, eqb, ltb, Option, Some, None, List, [], ◌∷◌, ◌++◌, length, get_or, refl, sym, ap, subst, ◌∙◌, arith, ◌⊎◌, inl, inr, length-append, IsPermutation, Ordering, IfSome, take, drop}
+use Rattle.std.proofs.Common.{◌≡◌, ◌≢◌, ℕ, zero, suc, ◌+◌, ◌-◌, ◌<◌, ◌≤◌, true, false, not, ◌&&◌, cond, eqb, ltb, Option, Some, None, List, [], ◌∷◌, ◌++◌, length, get_or, refl, sym, ap, subst, ◌∙◌, arith, ◌⊎◌, inl, inr, length-append, IsPermutation, Ordering, IfSome, take, drop, get_or-take, get_or-drop, length-drop, length-take-le}
 use Rattle.std.proofs.lemmas.List.{take-append-le, take_all}
 use Rattle.std.specs.List.{Contains}
+use Rattle.std.proofs.lemmas.List.Sums.{sum_by-cons}
 use Rattle.std.specs.List.Sorted.{IsSorted}
 use Rattle.std.specs.Ordering.{nat_cmp, on, then_cmp, is_lt}
 use Rattle.std.specs.Cmp.{IsTotalOrder}
 use Rattle.std.proofs.lemmas.Bool.{cases_lt, cases_eq, cases_order, both_ways, eq-eqb, ne_eqb, eqb-true, ltb-true, lt-ltb, le-ltb, and_parts, and_left, and_right, or_cases, or_left, false_from_ne_true}
 use Rattle.std.proofs.lemmas.Cmp.{nat_cmp_total, on_total, then_total}
-use Rattle.std.proofs.lemmas.List.Sorted.{sorted_far, ranks_by, Contains-permutation, IsPermutation-sym, length_permutation}
+use Rattle.std.proofs.lemmas.List.Sorted.{sorted_far, ranks_by, Contains-permutation, sum_by-IsPermutation, IsPermutation-sym, length_permutation}
 use Rattle.std.proofs.lemmas.List.Elements.{Contains-get_or, Contains-append_left, Contains-push, Contains-push_cases}
 use Rattle.fc_base.specs.Sheet.{Slot, slot_at, shape_of, birth_place, mapping_place, live_place}
 use Rattle.fc_base.specs.SheetFacts.{HasMappings}
@@ -23,7 +24,7 @@ use Rattle.fc_chain.proofs.Finds.{read_at}
 use Rattle.fc_chain.specs.declared.index.By.{By}
 use Rattle.fc_chain.specs.declared.index.By.TheVariants.{Birth, Mapping, Volume}
 use Rattle.fc_chain.specs.declared.index.Entry.{Entry}
-use Rattle.fc_chain.specs.Indexing.{key_at, no_entry, entry_at, IsEntryOf, IsListed, AreRising, IsIndexOf, ListsBelow, is_before, IsFirstFrom, FoundKey}
+use Rattle.fc_chain.specs.Indexing.{key_at, no_entry, entry_at, listings, IsEntryOf, IsListed, AreRising, IsIndexOf, ListsBelow, is_before, IsFirstFrom, FoundKey, ListsVolume}
 
 -- ---- the order of entries
 
@@ -52,7 +53,7 @@ rising_of xs up i j le lt = not_less (entry_at xs j) (entry_at xs i) (sorted_far
 -- ---- listing
 
 pub lists_none : (slots : List Slot) (by : By) → ListsBelow slots by 0 []
-lists_none slots by = record { short = omega arith; only = λ i lt. absurd (omega arith); each = λ k x lt e. absurd (omega arith) }
+lists_none slots by = record { short = omega arith; only = λ i lt. absurd (omega arith); each = λ k x lt e. absurd (omega arith); below = λ i lt. absurd (omega arith); once = λ k. omega arith }
 
 listed_in : (entries : List Entry) (e : Entry) → Contains entries e → IsListed entries e.place
 listed_in entries e c =
@@ -80,6 +81,42 @@ still_listed entries more k l =
     let P : ℕ → Type 0 = λ z. IsListed (entries ++ more) z in
     subst P l.2 (listed_in (entries ++ more) (entry_at entries l.0) (Contains-append_left entries more (entry_at entries l.0) (Contains-get_or entries l.0 no_entry l.1)))
 
+-- how often a place is listed
+listings_step : (k : ℕ) (x : Entry) (xs : List Entry) → listings k (x ∷ xs) ≡ cond {A = ℕ} (eqb x.place k) 1 0 + listings k xs
+listings_step k x xs = sum_by-cons (λ (e : Entry). cond {A = ℕ} (eqb e.place k) 1 0) x xs
+
+listings_push : (k : ℕ) (entries : List Entry) (e : Entry) → listings k (entries ++ e ∷ []) ≡ listings k entries + cond {A = ℕ} (eqb e.place k) 1 0
+listings_push k [] e = omega (arith, listings_step k e [])
+listings_push k (x ∷ xs) e = let ih : listings k (xs ++ e ∷ []) ≡ listings k xs + cond {A = ℕ} (eqb e.place k) 1 0 = listings_push k xs e in omega (arith, listings_step k x (xs ++ e ∷ []), listings_step k x xs)
+
+listings_none : (k : ℕ) (entries : List Entry) → ((i : ℕ) → i < length entries → (entry_at entries i).place ≢ k) → listings k entries ≡ 0
+listings_none k [] f = refl
+listings_none k (x ∷ xs) f =
+    let ih : listings k xs ≡ 0 = listings_none k xs (λ i il. f (suc i) (omega arith)) in
+    let none : cond {A = ℕ} (eqb x.place k) 1 0 ≡ 0 = ap (λ b. cond {A = ℕ} b 1 0) (ne_eqb x.place k (f 0 (omega arith))) in
+    omega (arith, listings_step k x xs)
+
+listings_one : (k : ℕ) (entries : List Entry) (i : ℕ) → i < length entries → (entry_at entries i).place ≡ k → 1 ≤ listings k entries
+listings_one k [] i lt e = absurd (omega arith)
+listings_one k (x ∷ xs) zero lt e = let one : cond {A = ℕ} (eqb x.place k) 1 0 ≡ 1 = ap (λ b. cond {A = ℕ} b 1 0) (eq-eqb x.place k e) in omega (arith, listings_step k x xs)
+listings_one k (x ∷ xs) (suc i) lt e = let ih : 1 ≤ listings k xs = listings_one k xs i (omega arith) e in omega (arith, listings_step k x xs)
+
+listings_two : (k : ℕ) (entries : List Entry) (i j : ℕ) → i < j → j < length entries → (entry_at entries i).place ≡ k → (entry_at entries j).place ≡ k → 2 ≤ listings k entries
+listings_two k [] i j ij lt e q = absurd (omega arith)
+listings_two k (x ∷ xs) i zero ij lt e q = absurd (omega arith)
+listings_two k (x ∷ xs) zero (suc j) ij lt e q =
+    let one : cond {A = ℕ} (eqb x.place k) 1 0 ≡ 1 = ap (λ b. cond {A = ℕ} b 1 0) (eq-eqb x.place k e) in
+    let more : 1 ≤ listings k xs = listings_one k xs j (omega arith) q in
+    omega (arith, listings_step k x xs)
+listings_two k (x ∷ xs) (suc i) (suc j) ij lt e q = let ih : 2 ≤ listings k xs = listings_two k xs i j (omega arith) (omega arith) e q in omega (arith, listings_step k x xs)
+
+place_below : (entries : List Entry) (p : ℕ) (e : Entry) → ((i : ℕ) → i < length entries → (entry_at entries i).place < p) → Contains entries e → e.place < p
+place_below entries p e f c =
+    let l = listed_in entries e c in
+    let a : (entry_at entries l.0).place < p = f l.0 l.1 in
+    let b : (entry_at entries l.0).place ≡ e.place = l.2 in
+    omega arith
+
 pub lists_put : (slots : List Slot) (by : By) (p : ℕ) (entries : List Entry) (e : Entry) → p < length slots → e.place ≡ p → key_at by (slot_at slots p) ≡ Some e.key → e.birth ≡ (slot_at slots p).birth →
     ListsBelow slots by p entries → ListsBelow slots by (p + 1) (entries ++ e ∷ [])
 lists_put slots by p entries e lt at key birth l =
@@ -95,6 +132,22 @@ lists_put slots by p entries e lt at key birth l =
         | inl same ↦ (let P : ℕ → Type 0 = λ z. IsListed (entries ++ e ∷ []) z in subst P (at ∙ sym same) (listed_in (entries ++ e ∷ []) e (Contains-push entries e)))
         | inr ne ↦ still_listed entries (e ∷ []) k (l.each k x (omega arith) q)
       ];
+      below = λ i il. elim (Contains-push_cases entries e (entry_at (entries ++ e ∷ []) i) (Contains-get_or (entries ++ e ∷ []) i no_entry il)) [
+        | inl c ↦ (let b : (entry_at (entries ++ e ∷ []) i).place < p = place_below entries p (entry_at (entries ++ e ∷ []) i) l.below c in omega arith)
+        | inr q ↦ (let b : (entry_at (entries ++ e ∷ []) i).place ≡ p = ap (λ (z : Entry). z.place) (sym q) ∙ at in omega arith)
+      ];
+      once = λ k.
+          let sum : listings k (entries ++ e ∷ []) ≡ listings k entries + cond {A = ℕ} (eqb e.place k) 1 0 = listings_push k entries e in
+          elim (cases_eq e.place k) [
+            | inl same ↦
+                let zeros : listings k entries ≡ 0 = listings_none k entries (λ i il. (let b : (entry_at entries i).place < p = l.below i il in λ q. omega arith)) in
+                let one : cond {A = ℕ} (eqb e.place k) 1 0 ≡ 1 = ap (λ b. cond {A = ℕ} b 1 0) (eq-eqb e.place k same) in
+                omega arith
+            | inr ne ↦
+                let none : cond {A = ℕ} (eqb e.place k) 1 0 ≡ 0 = ap (λ b. cond {A = ℕ} b 1 0) (ne_eqb e.place k ne) in
+                let few : listings k entries ≤ 1 = l.once k in
+                omega arith
+          ];
     }
 
 pub lists_skip : (slots : List Slot) (by : By) (p : ℕ) (entries : List Entry) → key_at by (slot_at slots p) ≡ None → ListsBelow slots by p entries → ListsBelow slots by (p + 1) entries
@@ -107,7 +160,21 @@ lists_skip slots by p entries none l =
         | inl same ↦ (let bad : Some x ≡ None = sym q ∙ (ap (λ z. key_at by (slot_at slots z)) same ∙ none) in absurd cc)
         | inr ne ↦ l.each k x (omega arith) q
       ];
+      below = λ i il. (let b : (entry_at entries i).place < p = l.below i il in omega arith);
+      once = l.once;
     }
+
+pub put_more : (slots : List Slot) (by : By) (p x b : ℕ) (t : Slot) (o : Option ℕ) (old new : List Entry) → p < length slots → t ≡ get_or slots p t → o ≡ Some x → o ≡ key_at by t → b ≡ t.birth → new ≡ old ++ record { key = x; birth = b; place = p } ∷ [] →
+    ListsBelow slots by p old → ListsBelow slots by (p + 1) new
+put_more slots by p x b t o old new lt et os ok eb en l =
+    let P : List Entry → Type 0 = λ z. ListsBelow slots by (p + 1) z in
+    let r = read_at slots p t lt et in
+    subst P (sym en) (lists_put slots by p old (record { key = x; birth = b; place = p }) lt refl (ap (key_at by) r ∙ (sym ok ∙ os)) (eb ∙ ap (λ (z : Slot). z.birth) (sym r)) l)
+
+pub skip_more : (slots : List Slot) (by : By) (p : ℕ) (t : Slot) (o : Option ℕ) (old new : List Entry) → p < length slots → t ≡ get_or slots p t → o ≡ None → o ≡ key_at by t → new ≡ old → ListsBelow slots by p old → ListsBelow slots by (p + 1) new
+skip_more slots by p t o old new lt et on ok en l =
+    let P : List Entry → Type 0 = λ z. ListsBelow slots by (p + 1) z in
+    subst P (sym en) (lists_skip slots by p old (ap (key_at by) (read_at slots p t lt et) ∙ (sym ok ∙ on)) l)
 
 pub index_sorted : (slots : List Slot) (by : By) (n : ℕ) (entries new : List Entry) → length slots ≤ n → ListsBelow slots by n entries → IsPermutation entries new → AreRising new → IsIndexOf slots by new
 index_sorted slots by n entries new le l p r =
@@ -117,6 +184,7 @@ index_sorted slots by n entries new le l p r =
           let o = l.each k x (omega arith) q in
           let P : ℕ → Type 0 = λ z. IsListed new z in
           subst P o.2 (listed_in new (entry_at entries o.0) (Contains-permutation entries new (entry_at entries o.0) p (Contains-get_or entries o.0 no_entry o.1)));
+      once = λ k. (let same : listings k new ≡ listings k entries = sum_by-IsPermutation (λ (e : Entry). cond {A = ℕ} (eqb e.place k) 1 0) entries new p in let few : listings k entries ≤ 1 = l.once k in omega arith);
       rising = r;
     }
 
@@ -312,6 +380,60 @@ range_end slots items entries now v key b first at n P idx e en size ek f le non
     let h : IsFirstFrom entries v b first = subst (λ (z : ℕ). IsFirstFrom entries z b first) ek g in
     let long : length items ≡ length entries = ap length e in
     range_all slots entries v b first at P idx h le (λ i lt il q. none i lt il (q ∙ sym ek)) (λ lt q. ends (omega arith) (q ∙ sym ek))
+
+-- the part of the list between two searches
+pub range_ordered : (entries : List Entry) (key from to : ℕ) → IsFirstFrom entries key 0 from → IsFirstFrom entries (key + 1) 0 to → from ≤ to
+range_ordered entries key from to f g =
+    elim (cases_lt to from) [
+      | inr ge ↦ ge
+      | inl lt ↦
+          let within : from ≤ length entries = f.within in
+          let a : (entry_at entries to).key < key = before_key key (entry_at entries to) (f.before to lt) in
+          let b : key + 1 ≤ (entry_at entries to).key = not_before_key (key + 1) (entry_at entries to) (g.rest to (omega arith) (omega arith)) in
+          absurd (omega arith)
+    ]
+
+pub volume_range : (slots : List Slot) (entries part : List Entry) (v from to : ℕ) → IsIndexOf slots Volume entries → IsFirstFrom entries v 0 from → IsFirstFrom entries (v + 1) 0 to → part ≡ take (to - from) (drop from entries) → ListsVolume slots v part
+volume_range slots entries part v from to idx f g e =
+    let le : from ≤ to = range_ordered entries v from to f g in
+    let within : to ≤ length entries = g.within in
+    let rest : length (drop from entries) ≡ length entries - from = length-drop from entries in
+    let size : length (take (to - from) (drop from entries)) ≡ to - from = length-take-le (to - from) (drop from entries) (omega arith) in
+    let at : (i : ℕ) → i < to - from → entry_at (take (to - from) (drop from entries)) i ≡ entry_at entries (from + i) =
+    λ i lt. get_or-take (to - from) (drop from entries) i no_entry lt ∙ get_or-drop from entries i no_entry in
+    let P : List Entry → Type 0 = λ z. ListsVolume slots v z in
+    subst P (sym e) (record {
+      there = λ i lt. (let o = idx.only (from + i) (omega arith) in let a : (entry_at entries (from + i)).place < length slots = o.there in let b : (entry_at (take (to - from) (drop from entries)) i).place ≡ (entry_at entries (from + i)).place = ap (λ (z : Entry). z.place) (at i (omega arith)) in omega arith);
+      only = λ i lt.
+          let o = idx.only (from + i) (omega arith) in
+          let low : v ≤ (entry_at entries (from + i)).key = not_before_key v (entry_at entries (from + i)) (f.rest (from + i) (omega arith) (omega arith)) in
+          let high : (entry_at entries (from + i)).key < v + 1 = before_key (v + 1) (entry_at entries (from + i)) (g.before (from + i) (omega arith)) in
+          ap (λ (z : Entry). (slot_at slots z.place).volume) (at i (omega arith)) ∙ (some_same _ _ o.key ∙ (omega arith));
+      each = λ k kl same.
+          let l = volume_entry slots entries v k idx kl same in
+          let il : l.0 < length entries = l.1 in
+          let key : (entry_at entries l.0).key ≡ v = l.3 in
+          let above : from ≤ l.0 = elim (cases_lt l.0 from) [ inr ge ↦ ge | inl lt ↦ (let b : (entry_at entries l.0).key < v = before_key v (entry_at entries l.0) (f.before l.0 lt) in absurd (omega arith)) ] in
+          let under : l.0 < to = elim (cases_lt l.0 to) [ inl lt ↦ lt | inr ge ↦ (let b : v + 1 ≤ (entry_at entries l.0).key = not_before_key (v + 1) (entry_at entries l.0) (g.rest l.0 ge il) in absurd (omega arith)) ] in
+          let back : from + (l.0 - from) ≡ l.0 = omega arith in
+          let place : (entry_at (take (to - from) (drop from entries)) (l.0 - from)).place ≡ k = ap (λ (z : Entry). z.place) (at (l.0 - from) (omega arith)) ∙ (ap (λ z. (entry_at entries z).place) back ∙ l.2) in
+          let inside : l.0 - from < length (take (to - from) (drop from entries)) = omega arith in
+          (l.0 - from, inside, place);
+      once = λ i j ij jl q.
+          let few : listings (entry_at entries (from + j)).place entries ≤ 1 = idx.once (entry_at entries (from + j)).place in
+          let two : 2 ≤ listings (entry_at entries (from + j)).place entries =
+          listings_two (entry_at entries (from + j)).place entries (from + i) (from + j) (omega arith) (omega arith) (ap (λ (z : Entry). z.place) (sym (at i (omega arith))) ∙ (q ∙ ap (λ (z : Entry). z.place) (at j (omega arith)))) refl in
+          omega arith;
+    })
+
+pub volume_found : (items entries a b c : List Entry) (v key from to : ℕ) → items ≡ entries → a ≡ items → b ≡ items → c ≡ items → key ≡ v → IsFirstFrom a key 0 from → IsFirstFrom b (key + 1) 0 to →
+    (slots : List Slot) → IsIndexOf slots Volume entries → ListsVolume slots v (take (to - from) (drop from c))
+volume_found items entries a b c v key from to e ea eb ec ek f g slots idx =
+    let f1 : IsFirstFrom entries key 0 from = subst (λ (z : List Entry). IsFirstFrom z key 0 from) (ea ∙ e) f in
+    let g1 : IsFirstFrom entries (key + 1) 0 to = subst (λ (z : List Entry). IsFirstFrom z (key + 1) 0 to) (eb ∙ e) g in
+    let f2 : IsFirstFrom entries v 0 from = subst (λ (z : ℕ). IsFirstFrom entries z 0 from) ek f1 in
+    let g2 : IsFirstFrom entries (v + 1) 0 to = subst (λ (z : ℕ). IsFirstFrom entries (z + 1) 0 to) ek g1 in
+    volume_range slots entries (take (to - from) (drop from c)) v from to idx f2 g2 (ap (λ z. take (to - from) (drop from z)) (ec ∙ e))
 
 -- a volume that isn't used
 pub not_used : (slots : List Slot) (v : ℕ) → ((k : ℕ) → k < length slots → (slot_at slots k).volume ≡ v → LiveBehind slots k → ⊥) → UsedAt slots v → ⊥

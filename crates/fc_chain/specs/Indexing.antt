@@ -1,5 +1,6 @@
 -- Where slots stand: lists of places in the order of births, of mappings or of volumes.
-use Rattle.std.specs.Prelude.{◌≡◌, ◌≢◌, ◌⊎◌, ℕ, ◌<◌, ◌≤◌, Bool, true, false, ◌&&◌, ◌||◌, eqb, ltb, Option, Some, None, List, length, slice_index_or}
+use Rattle.std.specs.Prelude.{◌≡◌, ◌≢◌, ◌⊎◌, ℕ, ◌<◌, ◌≤◌, Bool, true, false, ◌&&◌, ◌||◌, cond, eqb, ltb, Option, Some, None, List, length, slice_index_or}
+use Rattle.std.specs.List.{sum_by}
 use Rattle.fc_base.specs.Sheet.{Slot, slot_at}
 use Rattle.fc_chain.specs.declared.index.By.{By}
 use Rattle.fc_chain.specs.declared.index.By.TheVariants.{Birth, Mapping, Volume}
@@ -27,22 +28,36 @@ pub record IsEntryOf (slots : List Slot) (by : By) (e : Entry) : Type 0 where
 abbrev pub IsListed : List Entry → ℕ → Type 0
 IsListed entries k = (i : ℕ) × (i < length entries) × ((entry_at entries i).place ≡ k)
 
+-- How often a place is among them.
+abbrev pub listings : ℕ → List Entry → ℕ
+listings k entries = sum_by (λ (e : Entry). cond {A = ℕ} (eqb e.place k) 1 0) entries
+
 -- Keys rise along the list, and with one key the births.
 abbrev pub AreRising : List Entry → Type 0
 AreRising entries =
     (i j : ℕ) → i ≤ j → j < length entries → ((entry_at entries i).key < (entry_at entries j).key) ⊎ (((entry_at entries i).key ≡ (entry_at entries j).key) × ((entry_at entries i).birth ≤ (entry_at entries j).birth))
 
--- All slots that have a key are listed, and nothing else, in the order of the keys.
+-- All slots that have a key are listed, each once, and nothing else, in the order of the keys.
 pub record IsIndexOf (slots : List Slot) (by : By) (entries : List Entry) : Type 0 where
   pub only : (i : ℕ) → i < length entries → IsEntryOf slots by (entry_at entries i)
   pub each : (k x : ℕ) → k < length slots → key_at by (slot_at slots k) ≡ Some x → IsListed entries k
+  pub once : (k : ℕ) → listings k entries ≤ 1
   pub rising : AreRising entries
 
--- Those of the slots below a place are listed, in any order.
+-- Those of the slots below a place are listed, each once, in any order.
 pub record ListsBelow (slots : List Slot) (by : By) (bound : ℕ) (entries : List Entry) : Type 0 where
   pub short : length entries ≤ bound
   pub only : (i : ℕ) → i < length entries → IsEntryOf slots by (entry_at entries i)
   pub each : (k x : ℕ) → k < bound → key_at by (slot_at slots k) ≡ Some x → IsListed entries k
+  pub below : (i : ℕ) → i < length entries → (entry_at entries i).place < bound
+  pub once : (k : ℕ) → listings k entries ≤ 1
+
+-- The slots of a volume are listed, each once, and no others.
+pub record ListsVolume (slots : List Slot) (v : ℕ) (entries : List Entry) : Type 0 where
+  pub there : (i : ℕ) → i < length entries → (entry_at entries i).place < length slots
+  pub only : (i : ℕ) → i < length entries → (slot_at slots (entry_at entries i).place).volume ≡ v
+  pub each : (k : ℕ) → k < length slots → (slot_at slots k).volume ≡ v → IsListed entries k
+  pub once : (i j : ℕ) → i < j → j < length entries → (entry_at entries i).place ≢ (entry_at entries j).place
 
 -- The entry stands before all with this key that are born at a number or later.
 abbrev pub is_before : ℕ → ℕ → Entry → Bool

@@ -211,9 +211,11 @@ impl Cascade {
         let volume = self.volume(slot);
         let grain = grain / self.lanes as u32;
         if in_place {
-            self.tallies.keep(&mut self.table, volume.0, grain);
+            self.tallies
+                .keep(&mut self.table, &self.directory, volume.0, grain);
         } else {
-            self.tallies.take(&mut self.table, volume.0, grain);
+            self.tallies
+                .take(&mut self.table, &self.directory, volume.0, grain);
         }
     }
 
@@ -224,7 +226,8 @@ impl Cascade {
         ensures { self.new ≡ record self.old { sheet = sheet_written volume.0 (in_lane self.old grain) self.old.sheet } }
     {
         let grain = grain / self.lanes as u32;
-        self.tallies.take(&mut self.table, volume.0, grain);
+        self.tallies
+            .take(&mut self.table, &self.directory, volume.0, grain);
     }
 
     /// A write of the volume's grain failed and left any bytes in it. With `Now` what the volume shows is lost
@@ -237,8 +240,12 @@ impl Cascade {
     {
         let grain = grain / self.lanes as u32;
         match side {
-            Side::Now => self.tallies.take(&mut self.table, volume.0, grain),
-            Side::Under => self.tallies.lose(&mut self.table, volume.0, grain),
+            Side::Now => self
+                .tallies
+                .take(&mut self.table, &self.directory, volume.0, grain),
+            Side::Under => self
+                .tallies
+                .lose(&mut self.table, &self.directory, volume.0, grain),
         }
     }
 

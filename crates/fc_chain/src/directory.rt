@@ -1,15 +1,16 @@
 //! The directory of slots: where the slot of a birth and of a mapping stand, and those of a volume.
 
-ghost use Rattle.std.specs.Prelude.{◌≡◌, ◌<◌, ◌≤◌, length, [], OnOk, IfSome, IsTrue, ◌↔◌};
-ghost use Rattle.fc_base.specs.Sheet.{shape_of, live_place, mapping_place, birth_place};
+ghost use Rattle.std.specs.Prelude.{◌≡◌, ◌<◌, ◌≤◌, List, length, [], OnOk, IfSome, IsTrue, ◌↔◌};
+ghost use Rattle.fc_base.specs.Sheet.{Slot as SheetSlot, shape_of, live_place, mapping_place, birth_place};
 ghost use Rattle.fc_base.specs.SheetFacts.{HasMappings};
 ghost use Rattle.fc_base.specs.RestoreGraph.{HasOneLive};
 ghost use Rattle.fc_base.specs.Counts.{UsedAt};
 ghost use Rattle.fc_chain.specs.Contiguous.{IsContiguous};
 ghost use Rattle.fc_chain.specs.Planning.{HasApartBirths, NextOld};
+ghost use Rattle.fc_chain.specs.Indexing.{AreRising, ListsVolume};
 ghost use Rattle.fc_chain.specs.Directory.{ListsSlots, HasPlaces};
 
-use crate::index::{By, Index};
+use crate::index::{By, Entry, Index};
 use crate::slot::Slot;
 use fc_base::outcome::NoMemory;
 use std::alloc::Global;
@@ -104,6 +105,14 @@ impl Directory {
         ensures bound { IfSome result (λ k. k < length slots.now) }
     {
         self.volumes.live(slots, volume)
+    }
+
+    /// The entries of the volume's slots, in the order of births.
+    pub(crate) fn of_volume(&self, volume: u32) -> &[Entry]
+        requires { AreRising self.now.volumes.entries }
+        ensures { (slots : List SheetSlot) → ListsSlots slots self.now → ListsVolume slots volume result.now }
+    {
+        self.volumes.of_volume(volume)
     }
 
     /// Whether some slot of the volume has a live slot behind it in its chain.

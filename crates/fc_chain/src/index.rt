@@ -1,14 +1,14 @@
 //! Where slots stand, listed in the order of births, of mappings or of volumes, so that a search halves the list.
 
-ghost use Rattle.std.specs.Prelude.{◌≡◌, ℕ, ◌+◌, ◌<◌, ◌≤◌, ◌++◌, [], ◌∷◌, length, vec_len, vec_capacity, OnOk, IfSome, IsTrue, ◌↔◌};
+ghost use Rattle.std.specs.Prelude.{◌≡◌, ℕ, ◌+◌, ◌<◌, ◌≤◌, ◌++◌, [], ◌∷◌, List, length, vec_len, vec_capacity, OnOk, IfSome, IsTrue, ◌↔◌};
 ghost use Rattle.std.specs.List.Sorted.{IsPermutation};
-ghost use Rattle.fc_base.specs.Sheet.{slot_at, shape_of, live_place, mapping_place, birth_place};
+ghost use Rattle.fc_base.specs.Sheet.{Slot as SheetSlot, slot_at, shape_of, live_place, mapping_place, birth_place};
 ghost use Rattle.fc_base.specs.SheetFacts.{HasMappings};
 ghost use Rattle.fc_base.specs.RestoreGraph.{HasOneLive};
 ghost use Rattle.fc_base.specs.Counts.{UsedAt};
 ghost use Rattle.fc_chain.specs.Contiguous.{IsContiguous};
 ghost use Rattle.fc_chain.specs.Planning.{HasApartBirths, NextOld};
-ghost use Rattle.fc_chain.specs.Indexing.{key_at, IsIndexOf, ListsBelow, AreRising, is_before as comes_before, IsFirstFrom, FoundKey};
+ghost use Rattle.fc_chain.specs.Indexing.{key_at, IsIndexOf, ListsBelow, AreRising, is_before as comes_before, IsFirstFrom, FoundKey, ListsVolume};
 ghost use Rattle.fc_chain.specs.declared.index.By.TheVariants.{Birth, Mapping, Volume};
 
 use crate::count::has_live_behind;
@@ -30,7 +30,7 @@ pub(crate) enum By {
 pub(crate) struct Entry {
     key: u64,
     birth: u64,
-    place: usize,
+    pub(crate) place: usize,
 }
 
 /// The slots in the order of one number each, and with one number in the order of births.
@@ -212,6 +212,17 @@ impl Index {
             at += 1;
         }
         None
+    }
+
+    /// The entries of the volume's slots.
+    pub(crate) fn of_volume(&self, volume: u32) -> &[Entry]
+        requires { AreRising self.now.entries }
+        ensures { (slots : List SheetSlot) → IsIndexOf slots Volume self.now.entries → ListsVolume slots volume result.now }
+    {
+        let key = u64::from(volume);
+        let from = first_from(&self.entries, key, 0);
+        let to = first_from(&self.entries, key + 1, 0);
+        &self.entries[from..to]
     }
 
     /// Whether some slot of the volume has a live slot behind it in its chain.

@@ -12,8 +12,9 @@
 //! `fc_moves`; that every step keeps the facts is the law of `fc_sheets`.
 //!
 //! How many grains each slot holds, and at how many it is needed, is counted in one pass over words after the events
-//! of a command, and kept through moves and writes; slots are found in sorted lists of places. No clause tells of
-//! either.
+//! of a command, and kept through moves and writes; slots are found in sorted lists of places. A move or a write changes
+//! the slots of its volume alone, from their part of such a list, and counts for them and one holder. No clause tells
+//! of this.
 //!
 //! To read: `slot` (one slot), `table` (all slots, with room for more), `split` (a chain in two), `room` and `events`
 //! (what commands do), `find` and `walk` (where slots stand, and who holds for whom), `index` and `directory` (where

@@ -4,8 +4,10 @@ ghost use Rattle.std.specs.Prelude.{◌≡◌, ℕ, ◌+◌, ◌-◌, ◌^◌, �
 ghost use Rattle.fc_base.specs.Sheet.{no_slots, slot_at};
 ghost use Rattle.fc_base.specs.SheetStep.{with_chain, without, aged, placed, split_at, sheet_written, sheet_moved, sheet_torn};
 ghost use Rattle.fc_base.specs.declared.request.Side.TheVariants.{Under};
+ghost use Rattle.fc_chain.specs.Indexing.{ListsVolume};
 
 use crate::hold::{keep_grain, lose_grain, take_grain};
+use crate::index::Entry;
 use crate::slot::Slot;
 use crate::split::split_chain;
 use fc_base::outcome::NoMemory;
@@ -77,24 +79,27 @@ impl SlotTable {
     }
 
     /// The volume's live slot gets the grain, and its older slots lose it.
-    pub(crate) fn take(&mut self, volume: u32, grain: u32)
+    pub(crate) fn take(&mut self, entries: &[Entry], volume: u32, grain: u32)
+        requires { ListsVolume self.old.sheet.slots volume entries.now }
         ensures { self.new ≡ record self.old { sheet = sheet_written volume grain self.old.sheet } }
     {
-        take_grain(&mut self.slots, volume, grain);
+        take_grain(&mut self.slots, entries, volume, grain);
     }
 
     /// The volume's live slot gets the grain, and nothing else changes.
-    pub(crate) fn keep(&mut self, volume: u32, grain: u32)
+    pub(crate) fn keep(&mut self, entries: &[Entry], volume: u32, grain: u32)
+        requires { ListsVolume self.old.sheet.slots volume entries.now }
         ensures { self.new ≡ record self.old { sheet = sheet_moved volume grain true self.old.sheet } }
     {
-        keep_grain(&mut self.slots, volume, grain);
+        keep_grain(&mut self.slots, entries, volume, grain);
     }
 
     /// The volume's older slots lose the grain.
-    pub(crate) fn lose(&mut self, volume: u32, grain: u32)
+    pub(crate) fn lose(&mut self, entries: &[Entry], volume: u32, grain: u32)
+        requires { ListsVolume self.old.sheet.slots volume entries.now }
         ensures { self.new ≡ record self.old { sheet = sheet_torn volume grain Under self.old.sheet } }
     {
-        lose_grain(&mut self.slots, volume, grain);
+        lose_grain(&mut self.slots, entries, volume, grain);
     }
 
     /// Room for so many more slots, each of at most so many grains. Room that was there stays. Refused, the table is as

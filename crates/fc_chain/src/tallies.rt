@@ -7,8 +7,10 @@ ghost use Rattle.fc_base.specs.SheetFits.{FitsTaken, FitsLost};
 ghost use Rattle.fc_base.specs.SheetStep.{sheet_written, sheet_moved, sheet_torn};
 ghost use Rattle.fc_base.specs.declared.request.Side.TheVariants.{Under};
 ghost use Rattle.fc_chain.specs.Contiguous.{IsContiguous};
+ghost use Rattle.fc_chain.specs.Directory.{ListsSlots};
 ghost use Rattle.fc_chain.specs.Tallies.{tally_at, AreTallies, AreOneSize, Countable};
 
+use crate::directory::Directory;
 use crate::pairs;
 use crate::slot::Slot;
 use crate::table::SlotTable;
@@ -86,7 +88,14 @@ impl Tallies {
     }
 
     /// The volume's live slot gets the grain, and its older slots lose it.
-    pub(crate) fn take(&mut self, table: &mut SlotTable, volume: u32, grain: u32)
+    pub(crate) fn take(
+        &mut self,
+        table: &mut SlotTable,
+        directory: &Directory,
+        volume: u32,
+        grain: u32,
+    )
+        requires listed { ListsSlots table.old.sheet.slots directory.now }
         requires countable { Countable table.old.sheet.slots }
         requires fits { FitsTaken table.old.sheet.slots volume grain }
         requires room { length table.old.sheet.slots ≤ length self.old.tallies }
@@ -96,11 +105,18 @@ impl Tallies {
         ensures slots { length self.new.tallies ≡ length self.old.tallies }
         ensures words { self.new.words ≡ self.old.words }
     {
-        pairs::take(table, &mut self.kept, volume, grain);
+        pairs::take(table, &mut self.kept, directory, volume, grain);
     }
 
     /// The volume's live slot gets the grain, and nothing else changes.
-    pub(crate) fn keep(&mut self, table: &mut SlotTable, volume: u32, grain: u32)
+    pub(crate) fn keep(
+        &mut self,
+        table: &mut SlotTable,
+        directory: &Directory,
+        volume: u32,
+        grain: u32,
+    )
+        requires listed { ListsSlots table.old.sheet.slots directory.now }
         requires countable { Countable table.old.sheet.slots }
         requires room { length table.old.sheet.slots ≤ length self.old.tallies }
         requires tallied { AreTallies table.old.sheet.slots self.old.tallies }
@@ -109,11 +125,18 @@ impl Tallies {
         ensures slots { length self.new.tallies ≡ length self.old.tallies }
         ensures words { self.new.words ≡ self.old.words }
     {
-        pairs::keep(table, &mut self.kept, volume, grain);
+        pairs::keep(table, &mut self.kept, directory, volume, grain);
     }
 
     /// The volume's older slots lose the grain.
-    pub(crate) fn lose(&mut self, table: &mut SlotTable, volume: u32, grain: u32)
+    pub(crate) fn lose(
+        &mut self,
+        table: &mut SlotTable,
+        directory: &Directory,
+        volume: u32,
+        grain: u32,
+    )
+        requires listed { ListsSlots table.old.sheet.slots directory.now }
         requires countable { Countable table.old.sheet.slots }
         requires fits { FitsLost table.old.sheet.slots volume grain }
         requires room { length table.old.sheet.slots ≤ length self.old.tallies }
@@ -123,6 +146,6 @@ impl Tallies {
         ensures slots { length self.new.tallies ≡ length self.old.tallies }
         ensures words { self.new.words ≡ self.old.words }
     {
-        pairs::lose(table, &mut self.kept, volume, grain);
+        pairs::lose(table, &mut self.kept, directory, volume, grain);
     }
 }

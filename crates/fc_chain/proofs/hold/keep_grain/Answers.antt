@@ -1,9 +1,12 @@
 use Rattle.std.proofs.Common.{◌∙◌, sym, ap}
 use Rattle.fc_base.specs.SheetStep.{grain_kept}
-use Rattle.fc_chain.proofs.Mapping.{mapped_more}
+use Rattle.fc_chain.proofs.Volumes.{turned_more, all_kept}
 use Rattle.fc_chain.proofs.hold.keep_grain.Goals as goal
 
-pub loop-slot-preserved : goal.loop-slot-preserved
-loop-slot-preserved c =
-    mapped_more (grain_kept c.args.volume c.args.grain) _ _ _ c.slot-item.result _ c.loop-slot.invariant c.loop-slot-test.true c.slot-item.is
-    (c.keep.ensures ∙ ap (grain_kept c.args.volume c.args.grain) (sym c.slot-item.is))
+pub loop-entry-preserved : goal.loop-entry-preserved
+loop-entry-preserved c =
+    turned_more (grain_kept c.args.volume c.args.grain) c.args.volume c.args.entries.now c.args.slots.now c.loop-entry.slots c.loop-entry.entry-index c.index-slots-entry.result c.keep.new.self
+    c.requires c.loop-entry-test.true c.index-slots-entry.is (c.keep.ensures ∙ ap (grain_kept c.args.volume c.args.grain) (sym c.index-slots-entry.is)) c.loop-entry.invariant
+
+pub returns : goal.returns
+returns c = all_kept c.args.volume c.args.grain c.args.entries.now c.args.slots.now c.loop-entry.slots c.loop-entry.entry-index c.requires c.loop-entry-test.false c.loop-entry.invariant
