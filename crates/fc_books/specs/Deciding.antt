@@ -37,7 +37,8 @@ settle b =
 
 -- ---- the first refusal
 
--- Of any command but that a start would close a loop of restores.
+-- Of any command but that a start would close a loop of restores. Lines `read` and `write` are no commands: a refused one is
+-- an entry of its own, that settles nothing and sets no flag, and one that isn't refused goes to the lanes.
 abbrev pub refused : GrainSize → Books → Command → Option Refusal
 refused grain b (Mkvdisk name size unit thin) = mkvdisk_refused grain b name size unit thin
 refused grain b (Rmvdisk volume) = rmvdisk_refused b volume
@@ -64,7 +65,7 @@ refused grain b (Lsfcmapdependentmaps m delim) = of_mapping b m (λ found. None)
 
 -- ---- what is done
 
--- What a reply and a deed are for what a reference names. A command is done only where that is there.
+-- The deed for what a reference names, and for the members of a group. A command is done only where that is there.
 abbrev pub for_one : {X : Type 0} → Option X → (X → Deed) → Deed
 for_one None deed = nothing
 for_one (Some x) deed = deed x

@@ -20,7 +20,7 @@ use Rattle.fc_base.specs.declared.volume.Volume.{Volume}
 use Rattle.fc_books.specs.Accesses.{is_active}
 use Rattle.fc_books.specs.Books.{Books}
 use Rattle.fc_books.specs.Copies.{is_used}
-use Rattle.fc_books.specs.Groups.{members, group_state, is_none_of}
+use Rattle.fc_books.specs.Groups.{members, group_state, is_none_of, some_in}
 use Rattle.fc_books.specs.Making.{mapping_name, group_name}
 use Rattle.fc_entry.specs.Refused.{first_of, where_, taken_by, lacks_disk, all_grains, blocks_refusal}
 use Rattle.fc_entry.specs.Told.{unit_bytes, kind_of, volume_name}
@@ -78,7 +78,7 @@ abbrev pub rmvdisk_refused : Books → Ref → Option Refusal
 rmvdisk_refused b r =
     of_volume b r (λ v. where_ (list_any (names_volume v) b.tables.mappings || is_used b.sheet.slots v.id) (InUse v.id))
 
--- `read` and `write`: more than 8,192 blocks; none, or one past the volume's end.
+-- `read` and `write`, of which refused ones settle nothing: more than 8,192 blocks; none, or one past the volume's end.
 abbrev pub access_refused : GrainSize → Books → Ref → ℕ → ℕ → Option Refusal
 access_refused grain b r block count = of_volume b r (λ v. blocks_refusal grain v block count)
 
@@ -110,10 +110,7 @@ pair_taken b source target = option_map (λ (m : Mapping). PairTaken m.id) (find
 
 -- A group takes new members while it is empty, idle_or_copied or stopped.
 abbrev pub group_busy : Books → Group → Option Refusal
-group_busy b g = where_ (is_busy (members b.tables g.id)) (NotAllowed (group_state b.tables g.id))
-  where
-    is_busy : List Mapping → Bool
-    is_busy maps = list_any (λ (m : Mapping). is_active m.state) maps
+group_busy b g = where_ (some_in is_active (members b.tables g.id)) (NotAllowed (group_state b.tables g.id))
 
 -- `mkfcmap`: no such source; no such target; one volume twice; other sizes; another grain size than the run's; a mapping with
 -- this source and target; no such group; a copy rate above 150; a clean rate above 150; 512 mappings; 256 with this source;
