@@ -1,4 +1,5 @@
--- The definitions on closed examples.
+-- The definitions on closed examples, and what follows from them.
 pub mod Examples
 pub mod StopExamples
 pub mod GroupExamples
+pub mod Triggering
