@@ -1,0 +1,2 @@
+-- What the contracts of the control part cite beside `fc_books`.
+pub mod Control

@@ -1,0 +1,14 @@
+//! The control part: it decides every command, by the tables and by what it asks of the chains.
+//!
+//! A `Control` has the tables of volumes, mappings and groups, the ids that come next, and which mappings have
+//! background work. It never changes a chain: a decision says what the lanes are to do. Decisions are exactly those of
+//! `fc_books/specs`: `settle` is `settle` of `Deciding`. Want of memory alone is free, and changes nothing.
+//!
+//! In reading order: `draft` (a decision as it is put together), `ending` (how the copy of a mapping ends), `control`.
+#![tactic(auto)]
+
+mod control;
+mod draft;
+mod ending;
+
+pub use control::Control;
