@@ -3,3 +3,5 @@ pub mod Examples
 pub mod StopExamples
 pub mod GroupExamples
 pub mod Triggering
+pub mod Using
+pub mod Keeping

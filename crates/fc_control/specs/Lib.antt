@@ -1,2 +1,3 @@
 -- What the contracts of the control part cite beside `fc_books`.
 pub mod Control
+pub mod Outcome

@@ -4,11 +4,14 @@
 //! background work. It never changes a chain: a decision says what the lanes are to do. Decisions are exactly those of
 //! `fc_books/specs`: `settle` is `settle` of `Deciding`. Want of memory alone is free, and changes nothing.
 //!
-//! In reading order: `draft` (a decision as it is put together), `ending` (how the copy of a mapping ends), `control`.
+//! In reading order: `draft` (a decision as it is put together), `ending` (how the copy of a mapping ends), `control`, `asking`
+//! (what is asked of a copy), `settle`.
 #![tactic(auto)]
 
+mod asking;
 mod control;
 mod draft;
 mod ending;
+mod settle;
 
 pub use control::Control;
