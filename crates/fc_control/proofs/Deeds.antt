@@ -7,7 +7,7 @@ use Rattle.fc_base.specs.declared.volume.Change.{Change}
 use Rattle.fc_books.specs.Books.{Deed, nothing, ◌then◌, all_deeds}
 
 -- by its three parts
-deed_of : (effects effects' : List Effect) (events events' : List LaneEvent) (changes changes' : List Change) → effects ≡ effects' → events ≡ events' → changes ≡ changes' → (let d : Deed = record { effects = effects; events = events; changes = changes } in let e : Deed = record { effects = effects'; events = events'; changes = changes' } in d ≡ e)
+pub deed_of : (effects effects' : List Effect) (events events' : List LaneEvent) (changes changes' : List Change) → effects ≡ effects' → events ≡ events' → changes ≡ changes' → (let d : Deed = record { effects = effects; events = events; changes = changes } in let e : Deed = record { effects = effects'; events = events'; changes = changes' } in d ≡ e)
 deed_of effects effects' events events' changes changes' p q r = cc
 
 pub then-assoc : (a b c : Deed) → ((a then b) then c) ≡ (a then (b then c))

@@ -1,3 +1,6 @@
 -- Lemmas, one subject a file.
 pub mod Deeds
 pub mod Settled
+pub mod Naming
+pub mod Working
+pub mod Grouping

@@ -1,3 +1,5 @@
 -- What the contracts of the control part cite beside `fc_books`.
 pub mod Control
 pub mod Outcome
+pub mod Telling
+pub mod Names

@@ -59,4 +59,32 @@ impl Control {
     {
         self.grain
     }
+
+    /// The mappings with background work, by id.
+    pub fn flags(&self) -> &[WorkFlags]
+        ensures { result.now ≡ self.now.flags }
+    {
+        self.flags.as_slice()
+    }
+
+    /// The id that the next volume gets.
+    pub fn next_volume(&self) -> u32
+        ensures { result ≡ self.now.next_volume }
+    {
+        self.next_volume
+    }
+
+    /// The id that the next mapping gets.
+    pub fn next_mapping(&self) -> u32
+        ensures { result ≡ self.now.next_mapping }
+    {
+        self.next_mapping
+    }
+
+    /// The id that the next group gets.
+    pub fn next_group(&self) -> u32
+        ensures { result ≡ self.now.next_group }
+    {
+        self.next_group
+    }
 }

@@ -10,8 +10,11 @@
 
 mod asking;
 mod control;
+mod decide;
 mod draft;
 mod ending;
+mod name;
 mod settle;
+mod work;
 
 pub use control::Control;
