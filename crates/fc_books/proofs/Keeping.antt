@@ -1,7 +1,7 @@
 -- Ranges that rise, never touch and keep the same grains are the same.
-use Rattle.std.proofs.Common.{◌≡◌, ◌∙◌, sym, ap, ℕ, zero, suc, ◌+◌, ◌-◌, ◌<◌, ◌≤◌, Bool, true, false, cond, ◌&&◌, ◌||◌, ◌==◌, nat_le, List, [], ◌∷◌, inl, inr, refl, arith, ◌⊎◌}
-use Rattle.std.specs.List.{list_any, slice_index_or}
-use Rattle.std.proofs.lemmas.Bool.{cases_eq, eq-eqb, eqb-false, le-leb, lt-leb}
+use Rattle.std.proofs.Common.{◌≡◌, ◌∙◌, sym, ap, ℕ, suc, ◌+◌, ◌-◌, ◌<◌, ◌≤◌, Bool, true, false, cond, ◌&&◌, ◌||◌, ◌==◌, nat_le, List, [], ◌∷◌, inl, inr, refl, arith}
+use Rattle.std.specs.List.{slice_index_or}
+use Rattle.std.proofs.lemmas.Bool.{cases_eq, eq-eqb, le-leb, lt-leb}
 use Rattle.fc_base.specs.Ranges.{IsRising, IsRisingFrom, is_kept}
 use Rattle.fc_base.specs.declared.ranges.Range.{Range}
 use Rattle.fc_books.specs.Copies.{ranges_from, put_before}
@@ -93,7 +93,7 @@ rest_keeps range ranges g bits ends keeps h j e =
 shorter_keeps : (range : Range) (ranges : List Range) (g : ℕ) (bits : List Bool) → range.first ≡ g → g < range.last → Keeps (range ∷ ranges) (g + 1) bits → Keeps (record { first = g + 1; last = range.last } ∷ ranges) (g + 1) bits
 shorter_keeps range ranges g bits begins goes_on keeps h j e =
     ap (λ b. (b && nat_le h range.last) || is_kept ranges h)
-       (le-leb (g + 1) h (omega (arith, e)) ∙ sym (le-leb range.first h (omega (arith, e, begins))))
+    (le-leb (g + 1) h (omega (arith, e)) ∙ sym (le-leb range.first h (omega (arith, e, begins))))
     ∙ keeps h j e
 
 ends_are : (first last a b : ℕ) → first ≡ a → last ≡ b → (let r : Range = record { first = first; last = last } in let s : Range = record { first = a; last = b } in r ≡ s)
@@ -128,13 +128,13 @@ ranges_from-same (true ∷ bits) g (range ∷ ranges) rises from keeps =
       | inl ends ↦
           put_alone range ranges g begins ends rises.1
           ∙ ap (put_before g)
-            (ranges_from-same bits (g + 1) ranges (tail_rises range ranges rises.1) (tail_from range ranges (g + 1) rises.1 (omega (arith, ends)))
-             (rest_keeps range ranges g bits ends (later (range ∷ ranges) g true bits keeps)))
+          (ranges_from-same bits (g + 1) ranges (tail_rises range ranges rises.1) (tail_from range ranges (g + 1) rises.1 (omega (arith, ends)))
+          (rest_keeps range ranges g bits ends (later (range ∷ ranges) g true bits keeps)))
       | inr other ↦
           put_longer range ranges g begins
           ∙ ap (put_before g)
-            (ranges_from-same bits (g + 1) (record { first = g + 1; last = range.last } ∷ ranges) (omega (arith, begins, rises.0, other), rises_by_last range (record { first = g + 1; last = range.last }) ranges refl rises.1) (omega arith)
-             (shorter_keeps range ranges g bits begins (omega (arith, begins, rises.0, other)) (later (range ∷ ranges) g true bits keeps)))
+          (ranges_from-same bits (g + 1) (record { first = g + 1; last = range.last } ∷ ranges) (omega (arith, begins, rises.0, other), rises_by_last range (record { first = g + 1; last = range.last }) ranges refl rises.1) (omega arith)
+          (shorter_keeps range ranges g bits begins (omega (arith, begins, rises.0, other)) (later (range ∷ ranges) g true bits keeps)))
     ]
 
 -- rising ranges that keep what the bits tell are the ranges of these bits

@@ -5,3 +5,5 @@ pub mod GroupExamples
 pub mod Triggering
 pub mod Using
 pub mod Keeping
+pub mod Depending
+pub mod Unchanged

@@ -13,6 +13,7 @@ mod control;
 mod decide;
 mod draft;
 mod ending;
+mod mkvdisk;
 mod name;
 mod settle;
 mod work;
