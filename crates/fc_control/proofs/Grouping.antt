@@ -9,7 +9,7 @@ use Rattle.fc_base.specs.declared.request.Reply.TheVariants.{Made, Refused}
 use Rattle.fc_base.specs.declared.size.GrainSize.{GrainSize}
 use Rattle.fc_books.specs.Books.{Books, nothing}
 use Rattle.fc_books.specs.Deciding.{decide, answered, with_work}
-use Rattle.fc_books.specs.Making.{group_name, make_group, new_group}
+use Rattle.fc_books.specs.Making.{group_name, make_group}
 use Rattle.fc_books.specs.Refused.{mkfcconsistgrp_refused, name_taken}
 use Rattle.fc_control.specs.Names.{name_or}
 use Rattle.fc_entry.specs.Refused.{first_of, where_}
@@ -41,5 +41,5 @@ pub group_made :
 group_made restarts grain b given name found decision name_is found_is is decision_is =
     decision_is
     ∙ ap (λ n. with_work restarts b (Made OfGroups b.next_group) (make_group record { id = record { 0 = b.next_group }; name = n }))
-      (name_is ∙ sym (group_name-or given b.next_group))
+    (name_is ∙ sym (group_name-or given b.next_group))
     ∙ sym (ap (λ o. answered restarts grain b (Mkfcconsistgrp given) o None) (by_name b given name name_is ∙ sym found_is ∙ is))

@@ -4,3 +4,4 @@ pub mod Settled
 pub mod Naming
 pub mod Working
 pub mod Grouping
+pub mod Volumes

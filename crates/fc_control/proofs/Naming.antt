@@ -2,7 +2,7 @@
 use Rattle.std.proofs.Common.{◌≡◌, ◌∙◌, ap, ℕ, zero, suc, ◌+◌, ◌/◌, ◌%◌, ◌^◌, ◌<◌, ◌≤◌, Bool, true, false, ◌&&◌, ◌||◌, nat_le, nat_lt, List, [], ◌∷◌, ◌++◌, length, decimal, arith, refl, length-append}
 use Rattle.std.specs.List.{list_all}
 use Rattle.std.proofs.lemmas.Fmt.{decimal_step, decimal_digit, length-decimal-le}
-use Rattle.std.proofs.lemmas.Bool.{le-leb, leb-true, ltb-true, ltb-false, or_left, or_right}
+use Rattle.std.proofs.lemmas.Bool.{le-leb, ltb-true, ltb-false, or_left, or_right}
 use Rattle.std.proofs.lemmas.List.Folds.{list_all-append}
 use Rattle.fc_base.specs.Names.{is_name, starts_name, continues_name}
 
@@ -33,7 +33,7 @@ more_digits n le small front =
     ap (list_all continues_name) (decimal_step n le small)
     ∙ list_all-append continues_name (decimal (n / 10)) ((48 + n % 10) ∷ [])
     ∙ both (list_all continues_name (decimal (n / 10))) (list_all continues_name ((48 + n % 10) ∷ [])) front
-      (both (continues_name (48 + n % 10)) true (digit_continues (n % 10) (omega arith)) refl)
+    (both (continues_name (48 + n % 10)) true (digit_continues (n % 10) (omega arith)) refl)
 
 by_size : (n : ℕ) (b : Bool) → (b ≡ true → n < 10) → (b ≡ false → 10 ≤ n) → (10 ≤ n → list_all continues_name (decimal (n / 10)) ≡ true) → n < 2 ^ 64 → list_all continues_name (decimal n) ≡ true
 by_size n true below above front small = one_digit n (below refl)
@@ -54,6 +54,6 @@ is_name-numbered (first ∷ rest) n e short small =
     both (nat_le (length (rest ++ decimal n)) 62) (starts_name first && list_all continues_name (rest ++ decimal n))
     (le-leb (length (rest ++ decimal n)) 62 (omega (arith, few, size, short)))
     (both (starts_name first) (list_all continues_name (rest ++ decimal n)) (first_of_both (starts_name first) (list_all continues_name rest) good)
-     (list_all-append continues_name rest (decimal n)
-      ∙ both (list_all continues_name rest) (list_all continues_name (decimal n)) (second_of_both (starts_name first) (list_all continues_name rest) good)
-        (all_continue (suc n) n (omega arith) (omega (arith, small)))))
+    (list_all-append continues_name rest (decimal n)
+    ∙ both (list_all continues_name rest) (list_all continues_name (decimal n)) (second_of_both (starts_name first) (list_all continues_name rest) good)
+    (all_continue (suc n) n (omega arith) (omega (arith, small)))))

@@ -24,6 +24,6 @@ unfolding settling
 settled_by b names drops whole decision names_are drops_are whole_is decision_is =
     decision_is
     ∙ ap decided
-      (whole_is
-       ∙ ap (λ d. d then all_deeds (λ (m : Mapping). settles_in m.state b m) b.tables.mappings)
-         (drops_are ∙ ap (λ slots. told (map (λ slot. Drop slot) slots)) names_are))
+    (whole_is
+    ∙ ap (λ d. d then all_deeds (λ (m : Mapping). settles_in m.state b m) b.tables.mappings)
+    (drops_are ∙ ap (λ slots. told (map (λ slot. Drop slot) slots)) names_are))

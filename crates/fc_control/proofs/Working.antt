@@ -1,5 +1,5 @@
 -- The flags of all mappings.
-use Rattle.std.proofs.Common.{◌≡◌, ◌∙◌, sym, ap, Bool, true, false, cond, ◌&&◌, List, [], ◌∷◌, ◌++◌, map, Option, None, refl, append-nil}
+use Rattle.std.proofs.Common.{◌≡◌, ◌∙◌, ap, Bool, true, false, cond, List, [], ◌∷◌, ◌++◌, map, None, refl, append-nil}
 use Rattle.std.specs.List.{filter, flat_map}
 use Rattle.fc_base.specs.declared.decision.Decision.{Decision}
 use Rattle.fc_base.specs.declared.decision.LaneEvent.{LaneEvent}

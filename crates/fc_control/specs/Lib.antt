@@ -3,3 +3,4 @@ pub mod Control
 pub mod Outcome
 pub mod Telling
 pub mod Names
+pub mod Volumes

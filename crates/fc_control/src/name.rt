@@ -10,12 +10,7 @@ use itoa::Buffer;
 use std::alloc::Global;
 
 /// The name that was given; else the front, which is a short name itself, and the id.
-pub fn name_or(
-    alloc: Global,
-    given: &Option<Name>,
-    front: &[u8],
-    id: u32,
-) -> Result<Name, NoMemory>
+pub fn name_or(alloc: Global, given: &Option<Name>, front: &[u8], id: u32) -> Result<Name, NoMemory>
     requires name { IsTrue (is_name front.now) }
     requires short { length front.now ≤ 20 }
     ensures { IfOk result (λ name. name ≡ name_or given.now front.now id) }

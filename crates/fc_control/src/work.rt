@@ -77,8 +77,13 @@ impl Control {
     fn changes_work<S: Sheet>(&self, sheet: &S, mapping: &Mapping) -> bool
         ensures { result ≡ changes_work (books_of self.now (S.meaning sheet.now)) mapping.now }
     {
-        !(are_same(self.copies(sheet, mapping), has_copies(self.flags(), mapping))
-            && are_same(self.cleans(sheet, mapping), has_cleans(self.flags(), mapping)))
+        !(are_same(
+            self.copies(sheet, mapping),
+            has_copies(self.flags(), mapping),
+        ) && are_same(
+            self.cleans(sheet, mapping),
+            has_cleans(self.flags(), mapping),
+        ))
     }
 }
 

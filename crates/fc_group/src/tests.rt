@@ -70,7 +70,7 @@ fn join(
 
 #[test]
 fn the_first_state_tells(rt: HostRuntime) {
-    let alloc = Global;
+    let alloc = rt.alloc();
     let mut registry = Registry::new(alloc);
     join(&rt, alloc, &mut registry, 0, 1, (0, 1), MapState::Stopped);
     join(
@@ -110,7 +110,7 @@ fn told(outcome: &Result<(), Refusal>) -> (u8, u32) {
 
 #[test]
 fn the_least_volume_is_told(rt: HostRuntime) {
-    let alloc = Global;
+    let alloc = rt.alloc();
     let mut registry = Registry::new(alloc);
     join(
         &rt,

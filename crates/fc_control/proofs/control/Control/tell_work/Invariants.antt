@@ -10,4 +10,4 @@ abbrev pub invariant-loop-mapping : goal.invariant-loop-mapping
 invariant-loop-mapping g l =
     l.draft
     ≡ (l.initial.draft
-       then all_deeds (λ (m : Mapping). told (work_told (books_of l.fn.self (g.S.Sheet.meaning l.fn.sheet)) l.fn.gone m)) (take l.mapping-index l.mapping-items))
+    then all_deeds (λ (m : Mapping). told (work_told (books_of l.fn.self (g.S.Sheet.meaning l.fn.sheet)) l.fn.gone m)) (take l.mapping-index l.mapping-items))
