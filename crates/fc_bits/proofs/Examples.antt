@@ -1,6 +1,6 @@
 -- The definitions on small sets and words.
-use Rattle.std.proofs.Common.{◌≡◌, ℕ, Bool, true, false, List, [], ◌∷◌, Option, Some, None, refl}
-use Rattle.fc_bits.specs.Grains.{has, count_set, difference, common, union, least_from, least_set, least_clear}
+use Rattle.std.proofs.Common.{◌≡◌, Bool, true, false, List, [], ◌∷◌, Some, None, refl}
+use Rattle.fc_bits.specs.Grains.{count_set, difference, common, union, least_from, least_set, least_clear}
 use Rattle.fc_bits.specs.Words.{bit_in, bit_of, grains_of, bits_of, words_for}
 
 ends : List Bool

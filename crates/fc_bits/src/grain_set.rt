@@ -1,6 +1,6 @@
 //! A set of grains with one bit for each grain: a bitmap of FlashCopy.
 
-ghost use Rattle.std.specs.Prelude.{◌≡◌, ℕ, ◌^◌, ◌<◌, ◌↔◌, true, false, length, replicate, slice_index_or, slice_set, IsTrue, IfOk};
+ghost use Rattle.std.specs.Prelude.{◌≡◌, ℕ, ◌^◌, ◌<◌, ◌≤◌, ◌↔◌, true, false, length, replicate, slice_index_or, slice_set, IsTrue, IfOk};
 ghost use Rattle.fc_bits.specs.Grains.{has, count_set, difference, common, union, least_set, least_clear};
 ghost use Rattle.fc_bits.specs.Words.{bit_of, bits_of, words_for};
 
@@ -15,7 +15,7 @@ use std::marker::Model;
 /// A set of the grains of one volume or mapping, as those that are held, needed or changed.
 ///
 /// Contracts see it as the list of its truth values: the value at place `g` says whether grain `g` is in the set. The list
-/// is as long as the volume has grains, and keeps its length.
+/// is as long as the volume has grains, and keeps its length; `reset` alone cuts it.
 #[derive(Debug, Drop)]
 pub struct GrainSet {
     words: Vec<u64>,
@@ -93,6 +93,16 @@ impl GrainSet {
         ensures { self.new ≡ replicate (length self.old) false }
     {
         self.words.fill(0);
+    }
+
+    /// Makes this the set over so many grains, no more than it has, with none of them in it. Takes no memory.
+    pub fn reset(&mut self, grains: u32)
+        requires { grains ≤ length self.old }
+        ensures { self.new ≡ replicate grains false }
+    {
+        self.words.truncate((grains as usize).div_ceil(64));
+        self.words.fill(0);
+        self.grains = grains;
     }
 
     /// How many grains are in the set.

@@ -215,3 +215,20 @@ fn two_sets(rt: HostRuntime) -> Result<(), Fail> {
     }
     Ok(())
 }
+
+#[test]
+fn a_cut_set(rt: HostRuntime) -> Result<(), Fail> {
+    for grains in [0, 1, 63, 64, 65, 128, 200] {
+        for cut in 0..grains + 1 {
+            let mut set = set_of(rt.alloc(), grains, 1)?;
+            assert!(rt; cut <= set.len());
+            set.reset(cut);
+            assert_eq!(rt; set.len(), cut);
+            assert_eq!(rt; set.count(), 0);
+            assert_eq!(rt; set.next_clear(0).is_some(), cut > 0);
+            set.set_all();
+            assert_eq!(rt; set.count(), cut);
+        }
+    }
+    Ok(())
+}

@@ -1,9 +1,11 @@
 -- Loops over slots answer what the definitions say.
 use Rattle.std.proofs.Common.{◌≡◌, ◌≢◌, ℕ, zero, suc, ◌+◌, ◌-◌, ◌<◌, ◌≤◌, true, false, Option, Some, None, List, [], ◌∷◌, length, get_or, refl, sym, ap, ◌∙◌, arith, ◌⊎◌, inl, inr}
-use Rattle.std.proofs.lemmas.Bool.{and_from, eq-eqb}
+use Rattle.std.proofs.lemmas.Bool.{and_from, eq-eqb, cases_order, cases_eq, cases_lt}
 use Rattle.fc_base.specs.Column.{is_at, holder, first_reader}
 use Rattle.fc_base.specs.Moves.{next_behind}
 use Rattle.fc_base.specs.Sheet.{Slot, slot_at, no_slot, column, live_place, mapping_place, birth_place}
+use Rattle.fc_base.specs.Counts.{LiveBehind}
+use Rattle.fc_chain.specs.Contiguous.{IsContiguous}
 use Rattle.fc_chain.specs.Found.{is_live_of, is_slot_of, is_born}
 use Rattle.fc_chain.specs.Walks.{FirstWaiting, WaitsBehind}
 use Rattle.fc_moves.proofs.Search.{first_is, first_is_none}
@@ -129,3 +131,69 @@ holder_read slots g of bound s t ol es lt le et q h none =
     let b = read_at slots (bound - 1) t (omega arith) et in
     holder_found slots g of (bound - 1) (omega arith) (ap (λ (x : Slot). x.chain) b ∙ (q ∙ ap (λ (x : Slot). x.chain) (sym a))) (ap (λ (x : Slot). get_or x.held g false) b ∙ h)
     (λ j bj jo r u. none j (omega arith) jo r u)
+
+-- ---- where a chain ends
+
+-- the slot before the bound is of another chain: none before it is of this one
+pub holder_ends : (slots : List Slot) (g of bound : ℕ) (s t : Slot) → IsContiguous slots → of < length slots → s ≡ get_or slots of s → 0 < bound → bound ≤ of + 1 → t ≡ get_or slots (bound - 1) t → t.chain ≢ s.chain →
+    NoneFrom slots g of bound → None ≡ holder (column slots g) of
+holder_ends slots g of bound s t c ol es lt le et ne none = holder_not_found slots g of none_at
+  where
+    last : ℕ
+    last = bound - 1
+
+    other : (slot_at slots last).chain ≢ (slot_at slots of).chain
+    other e = ne (ap (λ (x : Slot). x.chain) (sym (read_at slots last t (omega arith) et)) ∙ (e ∙ ap (λ (x : Slot). x.chain) (read_at slots of s ol es)))
+
+    none_at : NoneFrom slots g of 0
+    none_at j a jo q u =
+        elim (cases_order j last) [
+          | inl e ↦ other (ap (λ z. (slot_at slots z).chain) (sym e) ∙ q)
+          | inr r ↦ elim r [
+            | inl low ↦ elim (cases_eq last of) [
+              | inl same ↦ other (ap (λ z. (slot_at slots z).chain) same)
+              | inr apart ↦ other (c j last of low (omega arith) ol q)
+            ]
+            | inr high ↦ none j (omega arith) jo q u
+          ]
+        ]
+
+-- the slot at a place is of another chain: none from it on is of this one
+pub waiting_ends : (slots : List Slot) (g from but place : ℕ) (s t : Slot) → IsContiguous slots → from < length slots → s ≡ get_or slots from s → from < place → place < length slots → t ≡ get_or slots place t → t.chain ≢ s.chain →
+    ((j : ℕ) → j < place → j ≢ but → WaitsBehind slots g from j → ⊥) → FirstWaiting slots g from but None
+waiting_ends slots g from but place s t c fl es lt pl et ne none k kl kb w =
+    elim (cases_order k place) [
+      | inl e ↦ other (ap (λ z. (slot_at slots z).chain) (sym e) ∙ w.one_chain)
+      | inr r ↦ elim r [
+        | inl low ↦ none k low kb w
+        | inr high ↦ other (c from place k lt high kl (sym w.one_chain) ∙ w.one_chain)
+      ]
+    ]
+  where
+    other : (slot_at slots place).chain ≢ (slot_at slots from).chain
+    other e = ne (ap (λ (x : Slot). x.chain) (sym (read_at slots place t pl et)) ∙ (e ∙ ap (λ (x : Slot). x.chain) (read_at slots from s fl es)))
+
+-- the slot at a place holds the grain
+pub waiting_held : (slots : List Slot) (g from but place : ℕ) (s t : Slot) → from < length slots → s ≡ get_or slots from s → from < place → place < length slots → t ≡ get_or slots place t → t.chain ≡ s.chain → get_or t.held g false ≡ true →
+    ((j : ℕ) → j < place → j ≢ but → WaitsBehind slots g from j → ⊥) → FirstWaiting slots g from but None
+waiting_held slots g from but place s t fl es lt pl et q h none k kl kb w =
+    let a = read_at slots place t pl et in
+    let b = read_at slots from s fl es in
+    elim (cases_lt k place) [
+      | inl low ↦ none k low kb w
+      | inr high ↦ w.none_holds place lt high (ap (λ (x : Slot). x.chain) a ∙ (q ∙ ap (λ (x : Slot). x.chain) (sym b))) (ap (λ (x : Slot). get_or x.held g false) a ∙ h)
+    ]
+
+pub live_ends : (slots : List Slot) (k behind : ℕ) (s t : Slot) → IsContiguous slots → k < length slots → s ≡ get_or slots k s → k < behind → behind < length slots → t ≡ get_or slots behind t → t.chain ≢ s.chain →
+    ((j : ℕ) → k < j → j < behind → (slot_at slots j).is_live ≡ true → (slot_at slots j).chain ≡ (slot_at slots k).chain → ⊥) → LiveBehind slots k → ⊥
+live_ends slots k behind s t c kl es lt bl et ne none l =
+    elim (cases_order l.0 behind) [
+      | inl e ↦ other (ap (λ z. (slot_at slots z).chain) (sym e) ∙ l.4)
+      | inr r ↦ elim r [
+        | inl low ↦ none l.0 l.2 low l.3 l.4
+        | inr high ↦ other (c k behind l.0 lt high l.1 (sym l.4) ∙ l.4)
+      ]
+    ]
+  where
+    other : (slot_at slots behind).chain ≢ (slot_at slots k).chain
+    other e = ne (ap (λ (x : Slot). x.chain) (sym (read_at slots behind t bl et)) ∙ (e ∙ ap (λ (x : Slot). x.chain) (read_at slots k s kl es)))

@@ -1,64 +1,59 @@
 -- What is always kept is kept by moves and writes.
-use Rattle.std.proofs.Common.{◌≡◌, ℕ, suc, ◌+◌, ◌/◌, ◌≤◌, Bool, false, Option, Some, None, IsSome, List, [], ◌∷◌, ◌++◌, map, take, drop, length, refl, sym, ap, subst, ◌∙◌, arith}
+use Rattle.std.proofs.Common.{◌≡◌, ℕ, ◌/◌, Bool, false, true, Option, Some, None, IsSome, List, fold, refl, sym, subst}
 use Rattle.fc_base.specs.declared.ids.SlotId.{SlotId}
-use Rattle.fc_base.specs.Sheet.{Slot, slot_at, birth_place}
-use Rattle.fc_base.specs.SheetStep.{grain_taken, grain_kept, grain_lost}
+use Rattle.fc_base.specs.declared.request.Side.TheVariants.{Under}
+use Rattle.fc_base.specs.Sheet.{Slot, Sheet, slot_at, birth_place}
+use Rattle.fc_base.specs.SheetStep.{sheet_written, sheet_moved, sheet_torn, sheet_step, grain_taken, grain_kept, grain_lost}
 use Rattle.fc_base.specs.SheetFacts.{IsSound}
-use Rattle.fc_base.specs.SheetFits.{FitsTaken, FitsLost}
-use Rattle.fc_chain.specs.Chains.{Chains, IsKept, in_lane, IsThere}
-use Rattle.fc_sheets.proofs.Holding.{written_sound, kept_sound, lost_sound}
+use Rattle.fc_base.specs.SheetFits.{FitsTaken, FitsLost, FitsEvents}
+use Rattle.fc_chain.specs.Chains.{Chains, IsKept, in_lane, lane_grains, IsThere}
+use Rattle.fc_chain.specs.Table.{Table}
+use Rattle.fc_base.specs.declared.decision.LaneEvent.{LaneEvent}
+use Rattle.fc_chain.specs.Contiguous.{IsContiguous}
+use Rattle.fc_chain.specs.Room.{BirthsFit}
+use Rattle.fc_chain.proofs.Rising.{births_after, events_sound}
+use Rattle.fc_chain.proofs.Together.{events_together, map_together}
+use Rattle.fc_sheets.proofs.Holding.{written_sound, kept_sound, lost_sound, regrained, bit_taken, bit_kept, bit_lost}
 
-length_map : (f : Slot → Slot) (ts : List Slot) → length (map f ts) ≡ length ts
-length_map f [] = refl
-length_map f (t ∷ ts) = ap suc (length_map f ts)
+abbrev pub view_of : ℕ → ℕ → Table → ℕ → ℕ → Chains
+view_of lane lanes table room width = record { lane = lane; lanes = lanes; sheet = table.sheet; room = room; width = width }
 
-take_whole : (xs ys : List Slot) → take (length xs) (xs ++ ys) ≡ xs
-take_whole [] ys = refl
-take_whole (x ∷ xs) ys = ap (λ z. x ∷ z) (take_whole xs ys)
+kept_as : (lane lanes : ℕ) (old new : Sheet) → IsKept lane lanes old → IsSound new → IsContiguous new.slots → IsKept lane lanes new
+kept_as lane lanes old new k s c = record { lane_in = k.lane_in; sound = s; together = c }
 
--- the slots after a call that changed each of them
-pub written_back : (f : Slot → Slot) (items now new : List Slot) (n : ℕ) → now ≡ items → length now ≡ n → new ≡ map f now → take n (new ++ drop (length new) items) ≡ map f items
-written_back f items now new n e l q =
-    let size : n ≡ length new = sym l ∙ (sym (length_map f now) ∙ ap length (sym q)) in
-    ap (λ z. take z (new ++ drop (length new) items)) size ∙ (take_whole new (drop (length new) items) ∙ (q ∙ ap (map f) e))
+pub kept_written : (value : Chains) (lane lanes room width v g : ℕ) (table new : Table) → view_of lane lanes table room width ≡ value → IsKept lane lanes table.sheet → FitsTaken value.sheet.slots v (in_lane value g) →
+    new ≡ record table { sheet = sheet_written v (g / lanes) table.sheet } → IsKept lane lanes new.sheet
+kept_written value lane lanes room width v g table new view k fits e =
+    subst (λ (t : Table). IsKept lane lanes t.sheet) (sym e)
+    (kept_as lane lanes table.sheet (sheet_written v (g / lanes) table.sheet) k (written_sound table.sheet v (g / lanes) k.sound (subst (λ (c : Chains). FitsTaken c.sheet.slots v (in_lane c g)) (sym view) fits))
+    (map_together (grain_taken v (g / lanes)) (regrained (grain_taken v (g / lanes)) (g / lanes) (bit_taken v (g / lanes))) table.sheet.slots k.together))
 
-abbrev pub view_of : ℕ → ℕ → ℕ → List Slot → List (List Bool) → ℕ → Chains
-view_of lane lanes births slots spare width =
-    record { lane = lane; lanes = lanes; sheet = record { births = births; slots = slots }; room = length spare; width = width }
+pub kept_in_place : (lane lanes v g : ℕ) (table new : Table) → IsKept lane lanes table.sheet → new ≡ record table { sheet = sheet_moved v g true table.sheet } → IsKept lane lanes new.sheet
+kept_in_place lane lanes v g table new k e =
+    subst (λ (t : Table). IsKept lane lanes t.sheet) (sym e) (kept_as lane lanes table.sheet (sheet_moved v g true table.sheet) k (kept_sound table.sheet v g k.sound)
+    (map_together (grain_kept v g) (regrained (grain_kept v g) g (bit_kept v g)) table.sheet.slots k.together))
 
-abbrev pub Kept : ℕ → ℕ → ℕ → List Slot → List (List Bool) → ℕ → ℕ → Type 0
-Kept lane lanes births slots spare width cap = IsKept lane lanes (record { births = births; slots = slots }) spare width cap
+pub kept_lost : (value : Chains) (lane lanes room width v g : ℕ) (table new : Table) → view_of lane lanes table room width ≡ value → IsKept lane lanes table.sheet → FitsLost value.sheet.slots v (in_lane value g) →
+    new ≡ record table { sheet = sheet_torn v (g / lanes) Under table.sheet } → IsKept lane lanes new.sheet
+kept_lost value lane lanes room width v g table new view k fits e =
+    subst (λ (t : Table). IsKept lane lanes t.sheet) (sym e)
+    (kept_as lane lanes table.sheet (sheet_torn v (g / lanes) Under table.sheet) k (lost_sound table.sheet v (g / lanes) k.sound (subst (λ (c : Chains). FitsLost c.sheet.slots v (in_lane c g)) (sym view) fits))
+    (map_together (grain_lost v (g / lanes)) (regrained (grain_lost v (g / lanes)) (g / lanes) (bit_lost v (g / lanes))) table.sheet.slots k.together))
 
-kept_by : (lane lanes births : ℕ) (spare : List (List Bool)) (width cap : ℕ) (f : Slot → Slot) (items now new : List Slot) (n : ℕ) → Kept lane lanes births items spare width cap →
-    now ≡ items → length now ≡ n → new ≡ map f now → IsSound (record { births = births; slots = map f items }) →
-    Kept lane lanes births (take n (new ++ drop (length new) items)) spare width cap
-kept_by lane lanes births spare width cap f items now new n k e l q s =
-    subst (λ (z : List Slot). Kept lane lanes births z spare width cap) (sym (written_back f items now new n e l q))
-    (record {
-      lane_in = k.lane_in;
-      sound = s;
-      sets = k.sets;
-      fits = (let c : length (map f items) ≡ length items = length_map f items in let d : length items + length spare ≤ cap = k.fits in omega arith);
-    })
+pub births_kept : (value : Chains) (lane lanes room width : ℕ) (table : Table) (es now : List LaneEvent) → view_of lane lanes table room width ≡ value → FitsEvents (lane_grains value.lane value.lanes) value.sheet es → now ≡ es →
+    BirthsFit (fold (sheet_step (lane_grains lane lanes)) table.sheet now)
+births_kept value lane lanes room width table es now view fit e =
+    births_after (lane_grains lane lanes) table.sheet now
+    (subst (λ (z : List LaneEvent). FitsEvents (lane_grains lane lanes) table.sheet z) (sym e) (subst (λ (c : Chains). FitsEvents (lane_grains c.lane c.lanes) c.sheet es) (sym view) fit))
 
-pub kept_written : (value : Chains) (lane lanes births : ℕ) (spare : List (List Bool)) (width cap v g : ℕ) (items now new : List Slot) (n : ℕ) →
-    view_of lane lanes births items spare width ≡ value → Kept lane lanes births items spare width cap → FitsTaken value.sheet.slots v (in_lane value g) →
-    now ≡ items → length now ≡ n → new ≡ map (grain_taken v (g / lanes)) now → Kept lane lanes births (take n (new ++ drop (length new) items)) spare width cap
-kept_written value lane lanes births spare width cap v g items now new n view k fits e l q =
-    kept_by lane lanes births spare width cap (grain_taken v (g / lanes)) items now new n k e l q
-    (written_sound (record { births = births; slots = items }) v (g / lanes) k.sound (subst (λ (c : Chains). FitsTaken c.sheet.slots v (in_lane c g)) (sym view) fits))
-
-pub kept_in_place : (lane lanes births : ℕ) (spare : List (List Bool)) (width cap v g : ℕ) (items now new : List Slot) (n : ℕ) → Kept lane lanes births items spare width cap →
-    now ≡ items → length now ≡ n → new ≡ map (grain_kept v g) now → Kept lane lanes births (take n (new ++ drop (length new) items)) spare width cap
-kept_in_place lane lanes births spare width cap v g items now new n k e l q =
-    kept_by lane lanes births spare width cap (grain_kept v g) items now new n k e l q (kept_sound (record { births = births; slots = items }) v g k.sound)
-
-pub kept_lost : (value : Chains) (lane lanes births : ℕ) (spare : List (List Bool)) (width cap v g : ℕ) (items now new : List Slot) (n : ℕ) →
-    view_of lane lanes births items spare width ≡ value → Kept lane lanes births items spare width cap → FitsLost value.sheet.slots v (in_lane value g) →
-    now ≡ items → length now ≡ n → new ≡ map (grain_lost v (g / lanes)) now → Kept lane lanes births (take n (new ++ drop (length new) items)) spare width cap
-kept_lost value lane lanes births spare width cap v g items now new n view k fits e l q =
-    kept_by lane lanes births spare width cap (grain_lost v (g / lanes)) items now new n k e l q
-    (lost_sound (record { births = births; slots = items }) v (g / lanes) k.sound (subst (λ (c : Chains). FitsLost c.sheet.slots v (in_lane c g)) (sym view) fits))
+pub kept_applied : (value : Chains) (lane lanes room width : ℕ) (table new : Table) (es now : List LaneEvent) → view_of lane lanes table room width ≡ value → IsKept lane lanes table.sheet → FitsEvents (lane_grains value.lane value.lanes) value.sheet es →
+    now ≡ es → new.sheet ≡ fold (sheet_step (lane_grains lane lanes)) table.sheet now → IsKept lane lanes new.sheet
+kept_applied value lane lanes room width table new es now view k fit e q =
+    let local : ℕ → ℕ = lane_grains lane lanes in
+    let f : FitsEvents local table.sheet now =
+    subst (λ (z : List LaneEvent). FitsEvents local table.sheet z) (sym e) (subst (λ (c : Chains). FitsEvents (lane_grains c.lane c.lanes) c.sheet es) (sym view) fit) in
+    subst (λ (s : Sheet). IsKept lane lanes s) (sym q)
+    (kept_as lane lanes table.sheet (fold (sheet_step local) table.sheet now) k (events_sound local table.sheet now k.sound f) (events_together local table.sheet now k.sound f k.together))
 
 place_there : (o : Option ℕ) → IsSome o → (k : ℕ) × (o ≡ Some k)
 place_there None t = absurd cc

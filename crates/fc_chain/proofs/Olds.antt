@@ -1,6 +1,6 @@
 -- The old slots of a volume, least birth first.
-use Rattle.std.proofs.Common.{◌≡◌, ◌≢◌, ℕ, zero, suc, ◌+◌, ◌<◌, ◌≤◌, Bool, true, false, ◌&&◌, not, ltb, Option, Some, None, List, [], ◌∷◌, length, refl, sym, ap, subst, ◌∙◌, arith, inl, inr}
-use Rattle.std.proofs.lemmas.Bool.{cases_Bool, both_ways, cases_eq, and_parts, and_from, and_left, and_right, ltb-true, lt-ltb, le-ltb, not-true}
+use Rattle.std.proofs.Common.{◌≡◌, ◌≢◌, ℕ, zero, suc, ◌<◌, ◌≤◌, Bool, true, false, ◌&&◌, not, ltb, Option, Some, None, List, [], ◌∷◌, length, refl, sym, ap, subst, ◌∙◌, arith, inl, inr}
+use Rattle.std.proofs.lemmas.Bool.{cases_Bool, cases_eq, and_parts, and_from, and_left, and_right, ltb-true, lt-ltb, le-ltb, not-true}
 use Rattle.fc_base.specs.Column.{is_old_of, put_by_birth, places_by_birth}
 use Rattle.fc_base.specs.Sheet.{Slot, slot_at, shape_of}
 use Rattle.fc_chain.specs.Births.{is_after}
@@ -86,7 +86,7 @@ places_first birth test k (suc n) lt t least =
           ]
     ]
 
--- ---- the loop that looks for the least birth
+-- ---- the slot with the least birth
 
 abbrev pub is_old_after : List Slot → ℕ → Option ℕ → ℕ → Bool
 is_old_after slots v after k = is_old_of (shape_of slots) v k && is_after after (slot_at slots k).birth
@@ -127,43 +127,3 @@ least_found slots v after bound (Some k) apart le f =
         after_on : (after : Option ℕ) (b c : ℕ) → is_after after b ≡ true → b < c → is_after after c ≡ true
         after_on None b c t lt = refl
         after_on (Some a) b c t lt = lt-ltb a c (let q : a < b = ltb-true a b t in omega arith)
-
--- one slot more
-pub least_kept : (slots : List Slot) (v : ℕ) (after : Option ℕ) (bound : ℕ) (o : Option ℕ) → LeastSoFar slots v after bound o → is_old_after slots v after bound ≡ false → LeastSoFar slots v after (bound + 1) o
-least_kept slots v after bound None f n = λ j jb. elim (cases_eq j bound) [ inl e ↦ ap (is_old_after slots v after) e ∙ n | inr ne ↦ f j (omega arith) ]
-least_kept slots v after bound (Some k) f n =
-    record {
-      below = omega (arith, f.below);
-      there = f.there;
-      passes = f.passes;
-      least = λ j jb t. elim (cases_eq j bound) [ inl e ↦ absurd (both_ways _ n (ap (is_old_after slots v after) (sym e) ∙ t)) | inr ne ↦ f.least j (omega arith) t ];
-    }
-
-pub least_later : (slots : List Slot) (v : ℕ) (after : Option ℕ) (bound k : ℕ) → IsLeast slots v after bound k → (slot_at slots k).birth ≤ (slot_at slots bound).birth → IsLeast slots v after (bound + 1) k
-least_later slots v after bound k f le =
-    record {
-      below = omega (arith, f.below);
-      there = f.there;
-      passes = f.passes;
-      least = λ j jb t. elim (cases_eq j bound) [ inl e ↦ (let q : (slot_at slots j).birth ≡ (slot_at slots bound).birth = ap (λ z. (slot_at slots z).birth) e in omega arith) | inr ne ↦ f.least j (omega arith) t ];
-    }
-
-pub least_new : (slots : List Slot) (v : ℕ) (after : Option ℕ) (bound : ℕ) (o : Option ℕ) → LeastSoFar slots v after bound o → bound < length slots → is_old_after slots v after bound ≡ true →
-    ((k : ℕ) → o ≡ Some k → (slot_at slots bound).birth ≤ (slot_at slots k).birth) → IsLeast slots v after (bound + 1) bound
-least_new slots v after bound None f bl t le =
-    record {
-      below = omega arith;
-      there = bl;
-      passes = t;
-      least = λ j jb y. elim (cases_eq j bound) [ inl e ↦ (let q : (slot_at slots j).birth ≡ (slot_at slots bound).birth = ap (λ z. (slot_at slots z).birth) e in omega arith) | inr ne ↦ absurd (both_ways _ (f j (omega arith)) y) ];
-    }
-least_new slots v after bound (Some k) f bl t le =
-    record {
-      below = omega arith;
-      there = bl;
-      passes = t;
-      least = λ j jb y. elim (cases_eq j bound) [
-        | inl e ↦ (let q : (slot_at slots j).birth ≡ (slot_at slots bound).birth = ap (λ z. (slot_at slots z).birth) e in omega arith)
-        | inr ne ↦ (let a : (slot_at slots bound).birth ≤ (slot_at slots k).birth = le k refl in let b : (slot_at slots k).birth ≤ (slot_at slots j).birth = f.least j (omega arith) y in omega arith)
-      ];
-    }

@@ -1,6 +1,10 @@
 -- The chains of one lane.
-use Rattle.std.specs.Prelude.{◌≡◌, ℕ, ◌+◌, ◌-◌, ◌/◌, ◌%◌, ◌<◌, ◌≤◌, Bool, Option, IsSome, List, [], length, option_map, slice_index_or}
+use Rattle.std.specs.Prelude.{length, ◌≡◌, ℕ, ◌+◌, ◌-◌, ◌/◌, ◌%◌, ◌<◌, Option, IsSome, List, option_map}
 use Rattle.fc_base.specs.SheetFacts.{IsSound}
+use Rattle.fc_chain.specs.Contiguous.{IsContiguous}
+use Rattle.fc_chain.specs.Table.{Table}
+use Rattle.fc_chain.specs.Ledger.{Ledger, IsCounted}
+use Rattle.fc_chain.specs.Directory.{Directory, ListsSlots, HasPlaces}
 use Rattle.fc_base.specs.declared.ids.SlotId.{SlotId}
 use Rattle.fc_base.specs.Sheet.{Slot, Sheet, slot_id, birth_place}
 
@@ -27,13 +31,19 @@ lane_grains lane lanes grains = (grains + lanes - 1 - lane) / lanes
 abbrev pub found : List Slot → Option ℕ → Option SlotId
 found slots o = option_map (slot_id slots) o
 
--- What the kept parts have in common, always.
-pub record IsKept (lane lanes : ℕ) (sheet : Sheet) (spare : List (List Bool)) (width capacity : ℕ) : Type 0 where
+-- What always holds of the kept parts.
+pub record IsKept (lane lanes : ℕ) (sheet : Sheet) : Type 0 where
   pub lane_in : lane < lanes
   pub sound : IsSound sheet
-  pub fits : length sheet.slots + length spare ≤ capacity
-  pub sets : (k : ℕ) → k < length spare → length (slice_index_or spare k []) ≡ width
+  pub together : IsContiguous sheet.slots
 
 -- The slot with this name is there.
 abbrev pub IsThere : List Slot → SlotId → Type 0
 IsThere slots name = IsSome (birth_place slots name.0)
+
+-- All that always holds of a cascade's parts.
+pub record AreParts (lane lanes : ℕ) (table : Table) (ledger : Ledger) (directory : Directory) (room width : ℕ) : Type 0 where
+  pub kept : IsKept lane lanes table.sheet
+  pub counted : IsCounted table ledger room width
+  pub listed : ListsSlots table.sheet.slots directory
+  pub places : HasPlaces (length table.sheet.slots + room) directory

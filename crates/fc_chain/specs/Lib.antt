@@ -4,3 +4,10 @@ pub mod Walks
 pub mod Found
 pub mod Births
 pub mod Planning
+pub mod Tallies
+pub mod Table
+pub mod Room
+pub mod Contiguous
+pub mod Ledger
+pub mod Indexing
+pub mod Directory

@@ -8,6 +8,7 @@ use Rattle.fc_base.specs.RestoreGraph.{HasOneLive, HasNoLoop}
 use Rattle.fc_base.specs.Plan.{move_at, moves_of_fill, moves_of_write}
 use Rattle.fc_base.specs.declared.request.Planned.{Planned}
 use Rattle.fc_base.specs.declared.request.Planned.TheVariants.{Fill, Write}
+use Rattle.fc_chain.specs.Contiguous.{IsContiguous}
 use Rattle.fc_chain.specs.Births.{is_after}
 
 -- The old slots of a volume born after one, least birth first.
@@ -65,8 +66,10 @@ abbrev pub CanPlan : List Slot → ℕ → ℕ → Planned → Type 0
 CanPlan slots lane lanes (Fill name grain) = (grain.0 % lanes ≡ lane) × CanFill slots (grain.0 / lanes) name.0
 CanPlan slots lane lanes (Write volume grain) = (grain.0 % lanes ≡ lane) × IsSome (live_place slots volume.0)
 
--- What a plan rests on: births name slots, each volume has one live slot, and the restore graph has no loop.
+-- What a plan rests on: births name slots, chains stand together, each volume has one live slot, and the restore graph has
+-- no loop.
 pub record Plannable (slots : List Slot) : Type 0 where
+  pub together : IsContiguous slots
   pub apart : HasApartBirths slots
   pub one_live : HasOneLive (shape_of slots)
   pub no_loop : HasNoLoop (shape_of slots)

@@ -1,28 +1,35 @@
 //! The chains of copies of one lane.
 
-ghost use Rattle.std.specs.Prelude.{◌≡◌, ℕ, ◌<◌, ◌≤◌, ◌/◌, ◌↔◌, ◌++◌, length, OnOk, IsTrue, Some, false};
+ghost use Rattle.std.specs.Prelude.{◌≡◌, ℕ, ◌<◌, ◌≤◌, ◌/◌, ◌↔◌, ◌++◌, length, OnOk, OnErr, IsTrue, IfSome, Some, false, fold};
 ghost use Rattle.fc_base.specs.Sheet.{no_slots, slot_at, column, live_place, mapping_place, birth_place};
 ghost use Rattle.fc_base.specs.Column.{holder, needer};
 ghost use Rattle.fc_base.specs.declared.request.Side.TheVariants.{Under};
-ghost use Rattle.fc_base.specs.SheetFits.{FitsTaken, FitsLost};
-ghost use Rattle.fc_base.specs.SheetStep.{sheet_moved, sheet_written, sheet_torn};
-ghost use Rattle.fc_chain.specs.Chains.{IsOfLane, in_lane, found, IsThere};
+ghost use Rattle.fc_base.specs.SheetFits.{FitsTaken, FitsLost, FitsEvents};
+ghost use Rattle.fc_base.specs.SheetStep.{sheet_moved, sheet_written, sheet_torn, sheet_step};
+ghost use Rattle.fc_chain.specs.Chains.{IsOfLane, in_lane, lane_grains, found, IsThere};
+ghost use Rattle.fc_chain.specs.Contiguous.{IsContiguous};
+ghost use Rattle.fc_chain.specs.Tallies.{AreOneSize};
+ghost use Rattle.fc_chain.specs.Room.{HasRoomFor};
 ghost use Rattle.fc_bits.specs.Grains.{count_set};
 ghost use Rattle.fc_base.specs.Counts.{need_count_of, UsedAt, names_below, is_direct, is_unneeded};
-ghost use Rattle.fc_chain.specs.Planning.{CanPlan, planned_moves, volume_count};
+ghost use Rattle.fc_chain.specs.Planning.{CanPlan, Plannable, planned_moves, volume_count};
 
-use crate::count::{add_direct, add_unneeded, count_needed, is_source};
-use crate::find::{name_of, place_of, place_of_live, place_of_mapping};
-use crate::hold::{keep_grain, lose_grain, take_grain};
+use crate::count::{add_direct, add_unneeded};
+use crate::directory::Directory;
+use crate::events::step_all;
+use crate::find::name_of;
 use crate::plan::{LaneGrain, plan_fill, plan_write};
+use crate::room::{slots_made, widest};
 use crate::slot::Slot;
+use crate::table::SlotTable;
+use crate::tallies::Tallies;
 use crate::walk::{first_reader_of, holder_of};
+use fc_base::decision::LaneEvents;
 use fc_base::ids::{MapId, SlotId, VolId};
 use fc_base::list::List;
 use fc_base::move_plan::MovePlan;
 use fc_base::outcome::NoMemory;
 use fc_base::request::{Planned, Side};
-use fc_bits::GrainSet;
 use std::alloc::Global;
 use std::marker::Model;
 
@@ -31,21 +38,21 @@ use std::marker::Model;
 pub struct Cascade {
     lane: u8,
     lanes: u8,
-    births: u64,
-    slots: Vec<Slot>,
-    spare: Vec<GrainSet>,
+    table: SlotTable,
+    tallies: Tallies,
+    directory: Directory,
+    room: usize,
     width: u32,
 }
 
 impl Model for Cascade {
-    ghost use Rattle.std.specs.Prelude.{length, vec_capacity};
-    ghost use Rattle.fc_chain.specs.Chains.{Chains, IsKept};
+    ghost use Rattle.fc_chain.specs.Chains.{Chains, AreParts};
 
     ghost Value = { Chains };
 
-    ghost view = { λ c. record { lane = c.lane; lanes = c.lanes; sheet = record { births = c.births; slots = c.slots.items }; room = length c.spare.items; width = c.width } };
+    ghost view = { λ c. record { lane = c.lane; lanes = c.lanes; sheet = c.table.sheet; room = c.room; width = c.width } };
 
-    ghost invariant = { λ c. IsKept c.lane c.lanes (record { births = c.births; slots = c.slots.items }) c.spare.items c.width (vec_capacity c.slots) };
+    ghost invariant = { λ c. AreParts c.lane c.lanes c.table c.tallies c.directory c.room c.width };
 }
 
 impl Cascade {
@@ -59,19 +66,95 @@ impl Cascade {
         Cascade {
             lane,
             lanes,
-            births: 0,
-            slots: Vec::new(alloc),
-            spare: Vec::new(alloc),
+            table: SlotTable::new(alloc),
+            tallies: Tallies::new(alloc),
+            directory: Directory::new(alloc),
+            room: 0,
             width: 0,
         }
+    }
+
+    /// The slots, with what a plan rests on.
+    fn slots(&self) -> &[Slot]
+        ensures value { result.now ≡ self.now.sheet.slots }
+        ensures plannable { Plannable result.now }
+        ensures together { IsContiguous result.now }
+        ensures sizes { AreOneSize result.now }
+    {
+        self.table.as_slice()
+    }
+
+    /// The place of the slot with this name.
+    fn place_of(&self, slot: SlotId) -> usize
+        requires { IsThere self.now.sheet.slots slot }
+        ensures value { birth_place self.now.sheet.slots slot.0 ≡ Some result }
+        ensures bound { result < length self.now.sheet.slots }
+    {
+        match self.directory.born(self.table.as_slice(), slot.0) {
+            Some(place) => place,
+            None => unreachable!(),
+        }
+    }
+
+    /// The place of the volume's live slot.
+    fn place_of_live(&self, volume: VolId) -> Option<usize>
+        ensures value { result ≡ live_place self.now.sheet.slots volume.0 }
+        ensures bound { IfSome result (λ k. k < length self.now.sheet.slots) }
+    {
+        self.directory.live(self.table.as_slice(), volume.0)
+    }
+
+    /// The place of the mapping's slot.
+    fn place_of_mapping(&self, map: MapId) -> Option<usize>
+        ensures value { result ≡ mapping_place self.now.sheet.slots map.0 }
+        ensures bound { IfSome result (λ k. k < length self.now.sheet.slots) }
+    {
+        self.directory.slot_of(self.table.as_slice(), map.0)
+    }
+
+    /// Makes room for the slots that the events can make, so that `apply` of them takes no memory. Room that was there
+    /// stays. Refused, all is as it was.
+    pub fn reserve(&mut self, events: &LaneEvents) -> Result<(), NoMemory>
+        ensures ok { OnOk result (HasRoomFor self.new events.now) }
+        ensures same { self.new ≡ record self.old { room = self.new.room; width = self.new.width } }
+        ensures room_stays { self.old.room ≤ self.new.room }
+        ensures width_stays { self.old.width ≤ self.new.width }
+        ensures err { OnErr result (self.new ≡ self.old) }
+    {
+        let events = events.as_slice();
+        let Some(slots) = slots_made(events) else {
+            return Err(NoMemory);
+        };
+        let Some(count) = self.table.as_slice().len().checked_add(slots) else {
+            return Err(NoMemory);
+        };
+        let width = widest(events, self.lane, self.lanes).max(self.table.width());
+        self.tallies
+            .make_room(count, (width as usize).div_ceil(64))?;
+        self.directory.make_room(count)?;
+        self.table.make_room(slots, width)?;
+        self.room = self.room.max(slots);
+        self.width = width;
+        Ok(())
+    }
+
+    /// Does what the events say to the chains, in order. They fit, and there is room for them. Takes no memory.
+    pub fn apply(&mut self, events: &LaneEvents)
+        requires fit { FitsEvents (lane_grains self.old.lane self.old.lanes) self.old.sheet events.now }
+        requires room { HasRoomFor self.old events.now }
+        ensures { self.new ≡ record self.old { sheet = fold (sheet_step (lane_grains self.old.lane self.old.lanes)) self.old.sheet events.now; room = self.new.room } }
+    {
+        step_all(&mut self.table, events.as_slice(), self.lane, self.lanes);
+        self.tallies.recount(self.table.as_slice());
+        self.directory.rebuild(self.table.as_slice());
+        self.room = 0;
     }
 
     /// The volume's live slot, and None exactly where there is no such volume.
     pub fn live(&self, volume: VolId) -> Option<SlotId>
         ensures { result ≡ found self.now.sheet.slots (live_place self.now.sheet.slots volume.0) }
     {
-        let slots = self.slots.as_slice();
-        name_of(slots, place_of_live(slots, volume.0))
+        name_of(self.slots(), self.place_of_live(volume))
     }
 
     /// The volume whose slot it is.
@@ -79,16 +162,14 @@ impl Cascade {
         requires { IsThere self.now.sheet.slots slot }
         ensures { (k : ℕ) → birth_place self.now.sheet.slots slot.0 ≡ Some k → result.0 ≡ (slot_at self.now.sheet.slots k).volume }
     {
-        let slots = self.slots.as_slice();
-        VolId(slots[place_of(slots, slot)].volume())
+        VolId(self.slots()[self.place_of(slot)].volume())
     }
 
     /// The mapping's slot, and None exactly where it has none.
     pub fn slot(&self, map: MapId) -> Option<SlotId>
         ensures { result ≡ found self.now.sheet.slots (mapping_place self.now.sheet.slots map.0) }
     {
-        let slots = self.slots.as_slice();
-        name_of(slots, place_of_mapping(slots, map.0))
+        name_of(self.slots(), self.place_of_mapping(map))
     }
 
     /// The holder of a slot at a grain of the lane: the nearest slot at or before it in its chain that holds
@@ -98,10 +179,10 @@ impl Cascade {
         requires of_lane { IsOfLane self.now grain }
         ensures { (k : ℕ) → birth_place self.now.sheet.slots slot.0 ≡ Some k → result ≡ found self.now.sheet.slots (holder (column self.now.sheet.slots (in_lane self.now grain)) k) }
     {
-        let slots = self.slots.as_slice();
+        let slots = self.slots();
         name_of(
             slots,
-            holder_of(slots, place_of(slots, slot), grain / self.lanes as u32),
+            holder_of(slots, self.place_of(slot), grain / self.lanes as u32),
         )
     }
 
@@ -112,8 +193,8 @@ impl Cascade {
         requires of_lane { IsOfLane self.now grain }
         ensures { (k : ℕ) → birth_place self.now.sheet.slots slot.0 ≡ Some k → result ≡ found self.now.sheet.slots (needer (column self.now.sheet.slots (in_lane self.now grain)) k) }
     {
-        let slots = self.slots.as_slice();
-        let place = place_of(slots, slot);
+        let slots = self.slots();
+        let place = self.place_of(slot);
         name_of(
             slots,
             first_reader_of(slots, place, place, grain / self.lanes as u32),
@@ -130,9 +211,9 @@ impl Cascade {
         let volume = self.volume(slot);
         let grain = grain / self.lanes as u32;
         if in_place {
-            keep_grain(&mut self.slots, volume.0, grain);
+            self.tallies.keep(&mut self.table, volume.0, grain);
         } else {
-            take_grain(&mut self.slots, volume.0, grain);
+            self.tallies.take(&mut self.table, volume.0, grain);
         }
     }
 
@@ -143,7 +224,7 @@ impl Cascade {
         ensures { self.new ≡ record self.old { sheet = sheet_written volume.0 (in_lane self.old grain) self.old.sheet } }
     {
         let grain = grain / self.lanes as u32;
-        take_grain(&mut self.slots, volume.0, grain);
+        self.tallies.take(&mut self.table, volume.0, grain);
     }
 
     /// A write of the volume's grain failed and left any bytes in it. With `Now` what the volume shows is lost
@@ -156,8 +237,8 @@ impl Cascade {
     {
         let grain = grain / self.lanes as u32;
         match side {
-            Side::Now => take_grain(&mut self.slots, volume.0, grain),
-            Side::Under => lose_grain(&mut self.slots, volume.0, grain),
+            Side::Now => self.tallies.take(&mut self.table, volume.0, grain),
+            Side::Under => self.tallies.lose(&mut self.table, volume.0, grain),
         }
     }
 
@@ -167,14 +248,15 @@ impl Cascade {
         requires room { volume_count self.now.sheet.slots ≤ plan.old.room }
         ensures { plan.new ≡ record plan.old { moves = planned_moves self.now.sheet.slots self.now.lanes write } }
     {
-        let slots = self.slots.as_slice();
+        let slots = self.slots();
         let lanes = self.lanes as u32;
         plan.clear();
         match write {
             Planned::Fill { slot, grain } => {
                 plan_fill(
                     slots,
-                    place_of(slots, slot),
+                    &self.directory,
+                    self.place_of(slot),
                     LaneGrain {
                         place: grain.0 / lanes,
                         number: grain.0,
@@ -183,9 +265,10 @@ impl Cascade {
                 );
             }
             Planned::Write { volume, grain } => {
-                if let Some(place) = place_of_live(slots, volume.0) {
+                if let Some(place) = self.place_of_live(volume) {
                     plan_write(
                         slots,
+                        &self.directory,
                         place,
                         LaneGrain {
                             place: grain.0 / lanes,
@@ -203,8 +286,7 @@ impl Cascade {
         requires { IsThere self.now.sheet.slots slot }
         ensures { (k : ℕ) → birth_place self.now.sheet.slots slot.0 ≡ Some k → result ≡ count_set (slot_at self.now.sheet.slots k).held }
     {
-        let slots = self.slots.as_slice();
-        slots[place_of(slots, slot)].held_count()
+        self.tallies.at(self.place_of(slot)).held
     }
 
     /// At how many of the lane's grains another slot needs the slot.
@@ -212,8 +294,7 @@ impl Cascade {
         requires { IsThere self.now.sheet.slots slot }
         ensures { (k : ℕ) → birth_place self.now.sheet.slots slot.0 ≡ Some k → result ≡ need_count_of self.now.sheet.slots k }
     {
-        let slots = self.slots.as_slice();
-        count_needed(slots, place_of(slots, slot))
+        self.tallies.at(self.place_of(slot)).needed
     }
 
     /// Whether the volume is used as a source: some slot of it has a live slot behind it in its chain. Such a
@@ -221,7 +302,7 @@ impl Cascade {
     pub fn used(&self, volume: VolId) -> bool
         ensures { IsTrue result ↔ UsedAt self.now.sheet.slots volume.0 }
     {
-        is_source(self.slots.as_slice(), volume.0)
+        self.directory.is_source(self.slots(), volume.0)
     }
 
     /// Adds the live slots other than this one that have it as holder at some grain of the lane, in order of
@@ -230,8 +311,7 @@ impl Cascade {
         requires { IsThere self.now.sheet.slots slot }
         ensures { OnOk result ((k : ℕ) → birth_place self.now.sheet.slots slot.0 ≡ Some k → out.new ≡ out.old ++ names_below self.now.sheet.slots (is_direct self.now.sheet.slots k) (length self.now.sheet.slots)) }
     {
-        let slots = self.slots.as_slice();
-        add_direct(slots, place_of(slots, slot), out)
+        add_direct(self.table.alloc(), self.slots(), self.place_of(slot), out)
     }
 
     /// Adds the old slots that no slot needs at a grain of the lane, in order of their places. Refused, the list
@@ -239,6 +319,6 @@ impl Cascade {
     pub fn unneeded(&self, out: &mut List<SlotId>) -> Result<(), NoMemory>
         ensures { OnOk result (out.new ≡ out.old ++ names_below self.now.sheet.slots (is_unneeded self.now.sheet.slots) (length self.now.sheet.slots)) }
     {
-        add_unneeded(self.slots.as_slice(), out)
+        add_unneeded(self.slots(), &self.tallies, out)
     }
 }

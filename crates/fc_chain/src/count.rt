@@ -1,38 +1,33 @@
-//! Counts of held and needed grains, and whether a volume is used as a source.
+//! Slots that are needed by none, the direct readers of a slot, and whether live slots stand behind it.
 
-ghost use Rattle.std.specs.Prelude.{◌≡◌, ℕ, ◌<◌, ◌↔◌, IsTrue, length, OnOk, ◌++◌};
+ghost use Rattle.std.specs.Prelude.{◌≡◌, ℕ, ◌<◌, ◌≤◌, ◌↔◌, IsTrue, length, OnOk, ◌++◌};
 ghost use Rattle.fc_base.specs.Sheet.{slot_at};
-ghost use Rattle.fc_base.specs.Counts.{need_count_of, LiveBehind, UsedAt, reads_some, names_below, is_direct, is_unneeded};
+ghost use Rattle.fc_base.specs.Counts.{LiveBehind, names_below, is_direct, is_unneeded};
+ghost use Rattle.fc_chain.specs.Contiguous.{IsContiguous};
+ghost use Rattle.fc_chain.specs.Tallies.{AreTallies, AreOneSize, HoldsWords};
 
 use crate::slot::Slot;
-use crate::walk::{first_reader_of, holder_of};
+use crate::tallies::Tallies;
+use crate::tally::goes_on;
+use crate::waiting::take_held;
 use fc_base::ids::SlotId;
 use fc_base::list::List;
 use fc_base::outcome::NoMemory;
-
-/// At how many of the lane's grains the slot at a place has a needer.
-pub(crate) fn count_needed(slots: &[Slot], place: usize) -> u32
-    requires { place < length slots.now }
-    ensures { result ≡ need_count_of slots.now place }
-{
-    let mut count = 0;
-    for grain in 0..slots[place].grains() {
-        if first_reader_of(slots, place, place, grain).is_some() {
-            count += 1;
-        }
-    }
-    count
-}
+use std::alloc::Global;
 
 /// Whether some live slot stands behind a place in its chain.
-fn has_live_behind(slots: &[Slot], place: usize) -> bool
-    requires { place < length slots.now }
+pub(crate) fn has_live_behind(slots: &[Slot], place: usize) -> bool
+    requires there { place < length slots.now }
+    requires together { IsContiguous slots.now }
     ensures { IsTrue result ↔ LiveBehind slots.now place }
 {
     let chain = slots[place].chain();
     let mut behind = place + 1;
     while behind < slots.len() {
-        if slots[behind].is_live() && slots[behind].chain() == chain {
+        if slots[behind].chain() != chain {
+            return false;
+        }
+        if slots[behind].is_live() {
             return true;
         }
         behind += 1;
@@ -40,43 +35,45 @@ fn has_live_behind(slots: &[Slot], place: usize) -> bool
     false
 }
 
-/// Whether some slot of the volume has a live slot behind it in its chain.
-pub(crate) fn is_source(slots: &[Slot], volume: u32) -> bool
-    ensures { IsTrue result ↔ UsedAt slots.now volume }
-{
-    for (place, slot) in slots.iter().enumerate() {
-        if slot.volume() == volume && has_live_behind(slots, place) {
-            return true;
-        }
-    }
-    false
-}
-
-/// Whether the slot at `reader` has the one at `place` as holder at some grain.
-fn reads_at(slots: &[Slot], reader: usize, place: usize) -> bool
-    requires { reader < length slots.now }
-    ensures { result ≡ reads_some slots.now place reader }
-{
-    for grain in 0..slots[reader].grains() {
-        if let Some(holder) = holder_of(slots, reader, grain)
-            && holder == place
-        {
-            return true;
-        }
-    }
-    false
-}
-
 /// Adds the names of the live slots other than the one at a place that have it as holder at some grain.
 pub(crate) fn add_direct(
+    alloc: Global,
     slots: &[Slot],
     place: usize,
     out: &mut List<SlotId>,
 ) -> Result<(), NoMemory>
+    requires there { place < length slots.now }
+    requires together { IsContiguous slots.now }
+    requires sizes { AreOneSize slots.now }
     ensures { OnOk result (out.new ≡ out.old ++ names_below slots.now (is_direct slots.now place) (length slots.now)) }
 {
-    for (reader, slot) in slots.iter().enumerate() {
-        if slot.is_live() && reader != place && reads_at(slots, reader, place) {
+    match Vec::from_slice(alloc, slots[place].held().words()) {
+        Ok(mut left) => add_readers(slots, place, &mut left, out),
+        Err(_) => Err(NoMemory),
+    }
+}
+
+/// Adds the live slots behind a place that read there, as long as some grain that it holds is held by no slot
+/// between; `left` has its grains at first.
+fn add_readers(
+    slots: &[Slot],
+    place: usize,
+    left: &mut [u64],
+    out: &mut List<SlotId>,
+) -> Result<(), NoMemory>
+    requires there { place < length slots.now }
+    requires together { IsContiguous slots.now }
+    requires sizes { AreOneSize slots.now }
+    requires left { HoldsWords (slot_at slots.now place).held left.old }
+    ensures { OnOk result (out.new ≡ out.old ++ names_below slots.now (is_direct slots.now place) (length slots.now)) }
+{
+    let mut remaining = slots[place].held_count();
+    let mut reader = place;
+    while remaining > 0 && goes_on(slots, reader) {
+        reader += 1;
+        let slot = &slots[reader];
+        remaining -= take_held(left, slot.held().words());
+        if remaining > 0 && slot.is_live() {
             out.push(SlotId(slot.birth()))?;
         }
     }
@@ -84,11 +81,17 @@ pub(crate) fn add_direct(
 }
 
 /// Adds the names of the old slots that nobody needs.
-pub(crate) fn add_unneeded(slots: &[Slot], out: &mut List<SlotId>) -> Result<(), NoMemory>
+pub(crate) fn add_unneeded(
+    slots: &[Slot],
+    tallies: &Tallies,
+    out: &mut List<SlotId>,
+) -> Result<(), NoMemory>
+    requires room { length slots.now ≤ length tallies.now.tallies }
+    requires tallied { AreTallies slots.now tallies.now.tallies }
     ensures { OnOk result (out.new ≡ out.old ++ names_below slots.now (is_unneeded slots.now) (length slots.now)) }
 {
     for (place, slot) in slots.iter().enumerate() {
-        if !slot.is_live() && count_needed(slots, place) == 0 {
+        if !slot.is_live() && tallies.at(place).needed == 0 {
             out.push(SlotId(slot.birth()))?;
         }
     }

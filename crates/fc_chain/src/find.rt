@@ -1,8 +1,8 @@
 //! Where slots stand: the live slot of a volume, the slot of a mapping, the slot with a birth.
 
-ghost use Rattle.std.specs.Prelude.{◌≡◌, ℕ, ◌<◌, IfSome, length, Some};
+ghost use Rattle.std.specs.Prelude.{◌≡◌, ℕ, ◌<◌, IfSome, length};
 ghost use Rattle.fc_base.specs.Sheet.{live_place, mapping_place, birth_place, slot_at};
-ghost use Rattle.fc_chain.specs.Chains.{found, IsThere};
+ghost use Rattle.fc_chain.specs.Chains.{found};
 
 use crate::slot::Slot;
 use fc_base::ids::SlotId;
@@ -44,18 +44,6 @@ pub(crate) fn place_of_birth(slots: &[Slot], birth: u64) -> Option<usize>
         }
     }
     None
-}
-
-/// The place of the slot with this name, which is there.
-pub(crate) fn place_of(slots: &[Slot], name: SlotId) -> usize
-    requires { IsThere slots.now name }
-    ensures value { birth_place slots.now name.0 ≡ Some result }
-    ensures bound { result < length slots.now }
-{
-    match place_of_birth(slots, name.0) {
-        Some(place) => place,
-        None => unreachable!(),
-    }
 }
 
 /// The name of the slot at a place, if there is one.

@@ -2,24 +2,44 @@
 //! to be copied before a grain is overwritten.
 //!
 //! A `Cascade` is seen as the lane's sheet of slots (`fc_base`, `specs/Sheet`), which always has the facts
-//! of `specs/SheetFacts`. Each call is its definition: `holder`, `needer`, `held_count`, `need_count`,
-//! `direct`, `unneeded` and `used` are those of `specs/Column`, `specs/Need` and `specs/RestoreGraph`; `plan` gives
-//! the moves of `specs/Moves` in their order, each once, and needs room for one move a volume; `moved`,
-//! `written` and `torn` change the pairs as `specs/SheetStep` says. Only `direct` and `unneeded` take memory.
-//! That the planned moves are safe, one after the other, is the law of `fc_moves`; that every step keeps the
-//! facts is the law of `fc_sheets`.
+//! of `specs/SheetFacts`, with each chain in one place (`specs/Contiguous`), so that a walk ends with its chain.
+//! Each call is its definition: `holder`, `needer`, `held_count`, `need_count`, `direct`, `unneeded` and `used`
+//! are those of `specs/Column`, `specs/Counts` and `specs/RestoreGraph`; `plan` gives the moves of `specs/Moves` in
+//! their order, each once, and needs room for one move a volume; `moved`, `written` and `torn` change the pairs
+//! as `specs/SheetStep` says. `reserve` makes room for the slots that the events of a command can make
+//! (`specs/Room`); `apply` then does the events, one after the other, as `specs/SheetStep` says. Only `reserve`,
+//! `direct` and `unneeded` take memory. That the planned moves are safe, one after the other, is the law of
+//! `fc_moves`; that every step keeps the facts is the law of `fc_sheets`.
 //!
-//! To read: `slot` (one slot), `find` and `walk` (where slots stand, and who holds for whom), `old` and `plan`
-//! (what must move), `hold` (pairs), `count`, and `cascade`, which has the calls.
+//! How many grains each slot holds, and at how many it is needed, is counted in one pass over words after the events
+//! of a command, and kept through moves and writes; slots are found in sorted lists of places. No clause tells of
+//! either.
+//!
+//! To read: `slot` (one slot), `table` (all slots, with room for more), `split` (a chain in two), `room` and `events`
+//! (what commands do), `find` and `walk` (where slots stand, and who holds for whom), `index` and `directory` (where
+//! slots stand, in order), `plan` (what must move), `hold` (pairs), `waiting`, `tally`, `pairs` and `tallies` (counts),
+//! `count`, and `cascade`, which has the calls.
 #![tactic(auto)]
 
 mod cascade;
 mod count;
+mod directory;
+mod events;
 mod find;
 mod hold;
-mod old;
+mod index;
+mod pairs;
 mod plan;
+mod room;
 mod slot;
+mod split;
+mod table;
+mod tallies;
+mod tally;
+mod waiting;
 mod walk;
 
 pub use cascade::Cascade;
+
+#[cfg(test)]
+mod tests;

@@ -6,9 +6,11 @@ ghost use Rattle.fc_base.specs.declared.request.Move.{Move};
 ghost use Rattle.fc_base.specs.Plan.{move_at, moves_of_fill, moves_of_write};
 ghost use Rattle.fc_base.specs.Sheet.{slot_at, column};
 ghost use Rattle.fc_base.specs.Moves.{is_in, is_in_place, list_with_asked};
+ghost use Rattle.fc_chain.specs.Contiguous.{IsContiguous};
+ghost use Rattle.fc_chain.specs.Directory.{ListsSlots};
 ghost use Rattle.fc_chain.specs.Planning.{HasApartBirths, IsPlanned, HasRoom, FillFits, WriteFits, volume_count};
 
-use crate::old::next_old;
+use crate::directory::Directory;
 use crate::slot::Slot;
 use crate::walk::{first_reader_of, holder_of, next_waiting};
 use fc_base::ids::{GrainNo, SlotId, VolId};
@@ -24,7 +26,8 @@ pub(crate) struct LaneGrain {
 
 /// Whether the slot's holder is an old slot of its own volume.
 pub(crate) fn fills_in_place(slots: &[Slot], place: usize, grain: u32) -> bool
-    requires { place < length slots.now }
+    requires there { place < length slots.now }
+    requires together { IsContiguous slots.now }
     ensures { result ≡ is_in_place (column slots.now grain) place }
 {
     let volume = slots[place].volume();
@@ -43,7 +46,8 @@ fn lists(moves: &[Move], birth: u64) -> bool
 
 /// The move of the slot at a place.
 fn move_of(slots: &[Slot], place: usize, grain: LaneGrain) -> Move
-    requires { place < length slots.now }
+    requires there { place < length slots.now }
+    requires together { IsContiguous slots.now }
     ensures { result ≡ move_at slots.now grain.place grain.number place }
 {
     Move {
@@ -58,6 +62,7 @@ fn move_of(slots: &[Slot], place: usize, grain: LaneGrain) -> Move
 /// often asking leads on to asking.
 pub(crate) fn add_fill(
     slots: &[Slot],
+    directory: &Directory,
     depth: usize,
     place: usize,
     grain: LaneGrain,
@@ -65,6 +70,8 @@ pub(crate) fn add_fill(
 )
     requires there { place < length slots.now }
     requires apart { HasApartBirths slots.now }
+    requires together { IsContiguous slots.now }
+    requires listed { ListsSlots slots.now directory.now }
     requires room { HasRoom slots.now grain.place grain.number plan.old.moves plan.old.room depth place }
     ensures room { plan.new.room ≡ plan.old.room }
     ensures listed { (listed : List ℕ) → IsPlanned slots.now grain.place grain.number plan.old.moves listed → IsPlanned slots.now grain.place grain.number plan.new.moves (list_with_asked (column slots.now grain.place) depth place listed) }
@@ -75,10 +82,10 @@ pub(crate) fn add_fill(
     if !fills_in_place(slots, place, grain.place) {
         let volume = slots[place].volume();
         let mut after = None;
-        while let Some(old) = next_old(slots, volume, after) {
+        while let Some(old) = directory.next_old(slots, volume, after) {
             after = Some(slots[old].birth());
             if let Some(reader) = first_reader_of(slots, old, old, grain.place) {
-                add_fill(slots, depth - 1, reader, grain, plan);
+                add_fill(slots, directory, depth - 1, reader, grain, plan);
             }
         }
     }
@@ -86,31 +93,45 @@ pub(crate) fn add_fill(
 }
 
 /// The moves that a fill of the slot at a place owes, into an empty plan.
-pub(crate) fn plan_fill(slots: &[Slot], place: usize, grain: LaneGrain, plan: &mut MovePlan)
+pub(crate) fn plan_fill(
+    slots: &[Slot],
+    directory: &Directory,
+    place: usize,
+    grain: LaneGrain,
+    plan: &mut MovePlan,
+)
     requires fit { FillFits slots.now grain.place place }
+    requires listed { ListsSlots slots.now directory.now }
     requires empty { plan.old.moves ≡ [] }
     requires room { volume_count slots.now ≤ plan.old.room }
     ensures { plan.new ≡ record plan.old { moves = moves_of_fill slots.now grain.place grain.number place } }
 {
-    add_fill(slots, slots.len(), place, grain, plan);
+    add_fill(slots, directory, slots.len(), place, grain, plan);
 }
 
 /// The moves that a write of the volume owes whose live slot is at a place, into an empty plan.
-pub(crate) fn plan_write(slots: &[Slot], place: usize, grain: LaneGrain, plan: &mut MovePlan)
+pub(crate) fn plan_write(
+    slots: &[Slot],
+    directory: &Directory,
+    place: usize,
+    grain: LaneGrain,
+    plan: &mut MovePlan,
+)
     requires fit { WriteFits slots.now place }
+    requires listed { ListsSlots slots.now directory.now }
     requires empty { plan.old.moves ≡ [] }
     requires room { volume_count slots.now ≤ plan.old.room }
     ensures { plan.new ≡ record plan.old { moves = moves_of_write slots.now grain.place grain.number (Some place) } }
 {
     let volume = slots[place].volume();
     let mut after = None;
-    while let Some(old) = next_old(slots, volume, after) {
+    while let Some(old) = directory.next_old(slots, volume, after) {
         after = Some(slots[old].birth());
         if let Some(reader) = first_reader_of(slots, old, place, grain.place) {
-            add_fill(slots, slots.len(), reader, grain, plan);
+            add_fill(slots, directory, slots.len(), reader, grain, plan);
         }
     }
     if let Some(next) = next_waiting(slots, place, grain.place) {
-        add_fill(slots, slots.len(), next, grain, plan);
+        add_fill(slots, directory, slots.len(), next, grain, plan);
     }
 }

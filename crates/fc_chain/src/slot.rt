@@ -3,8 +3,8 @@
 ghost use Rattle.std.specs.Prelude.{◌≡◌, ℕ, false, true, None, Some, replicate, length, slice_index_or, slice_set, ◌<◌, not, ◌&&◌, eqb};
 ghost use Rattle.fc_base.specs.Column.{is_at};
 ghost use Rattle.fc_bits.specs.Grains.{count_set};
-ghost use Rattle.fc_chain.specs.Births.{is_after, is_before};
-ghost use Rattle.fc_base.specs.SheetStep.{grain_taken, grain_kept, grain_lost};
+ghost use Rattle.fc_chain.specs.Births.{is_after};
+ghost use Rattle.fc_base.specs.SheetStep.{grain_taken, grain_kept, grain_lost, split_from};
 
 use fc_bits::GrainSet;
 use std::marker::Model;
@@ -44,6 +44,20 @@ impl Slot {
         }
     }
 
+    /// A new live slot of a volume, the mapping's, which holds what the set has.
+    pub(crate) fn target(birth: u64, chain: u64, volume: u32, mapping: u32, held: GrainSet) -> Slot
+        ensures { result ≡ record { birth = birth; chain = chain; volume = volume; is_live = true; mapping = Some mapping; held = held } }
+    {
+        Slot {
+            birth,
+            chain,
+            volume,
+            is_live: true,
+            mapping: Some(mapping),
+            held,
+        }
+    }
+
     /// The number by which the slot is named.
     pub(crate) fn birth(&self) -> u64
         ensures { result ≡ self.now.birth }
@@ -72,6 +86,13 @@ impl Slot {
         self.is_live
     }
 
+    /// The mapping whose slot it is, if any.
+    pub(crate) fn mapping(&self) -> Option<u32>
+        ensures { result ≡ self.now.mapping }
+    {
+        self.mapping
+    }
+
     /// Whether it is the slot of this mapping.
     pub(crate) fn is_of(&self, mapping: u32) -> bool
         ensures { result ≡ is_at self.now.mapping mapping }
@@ -94,6 +115,13 @@ impl Slot {
         ensures { result ≡ length self.now.held }
     {
         self.held.len()
+    }
+
+    /// The grains that it holds.
+    pub(crate) fn held(&self) -> &GrainSet
+        ensures { result.now ≡ self.now.held }
+    {
+        &self.held
     }
 
     /// How many grains it holds.
@@ -120,16 +148,6 @@ impl Slot {
                 Some(after) => after < self.birth,
                 None => true,
             }
-    }
-
-    /// Whether it was born before this birth, if there is one.
-    pub(crate) fn is_born_before(&self, birth: Option<u64>) -> bool
-        ensures { result ≡ is_before self.now.birth birth }
-    {
-        match birth {
-            Some(birth) => self.birth < birth,
-            None => true,
-        }
     }
 
     /// A slot of the volume is written: the live slot gets the grain, an old one loses it.
@@ -160,6 +178,30 @@ impl Slot {
     {
         if !self.is_live && self.volume == volume && grain < self.held.len() {
             self.held.clear(grain);
+        }
+    }
+
+    /// It becomes old.
+    pub(crate) fn age(&mut self)
+        ensures { self.new ≡ record self.old { is_live = false } }
+    {
+        self.is_live = false;
+    }
+
+    /// It becomes the first of a chain of its own, and no mapping's any more.
+    pub(crate) fn begin_chain(&mut self)
+        ensures { self.new ≡ record self.old { chain = self.old.birth; mapping = None } }
+    {
+        self.chain = self.birth;
+        self.mapping = None;
+    }
+
+    /// It goes along from one chain into another, if it stands in it.
+    pub(crate) fn go_along(&mut self, from: u64, to: u64)
+        ensures { self.new ≡ split_from from to self.old }
+    {
+        if self.chain == from {
+            self.chain = to;
         }
     }
 }

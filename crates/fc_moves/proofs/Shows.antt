@@ -64,16 +64,16 @@ moved_is x m =
       | inr f ↦ ap (moved x m) f ∙ make_out_of_place x m x.held f
     ]
 
-grains_in_place : {G : Type 0} (x : Column) (grains : ℕ → G) (m v : ℕ) → is_in_place x m ≡ true → grains_after_move x grains m v ≡ grains v
+pub grains_in_place : {G : Type 0} (x : Column) (grains : ℕ → G) (m v : ℕ) → is_in_place x m ≡ true → grains_after_move x grains m v ≡ grains v
 unfolding grains_after_move
 grains_in_place x grains m v t = rw t refl
 
-grains_other : {G : Type 0} (x : Column) (grains : ℕ → G) (m v : ℕ) → v ≢ x.volume m → grains_after_move x grains m v ≡ grains v
+pub grains_other : {G : Type 0} (x : Column) (grains : ℕ → G) (m v : ℕ) → v ≢ x.volume m → grains_after_move x grains m v ≡ grains v
 unfolding grains_after_move
 grains_other x grains m v ne =
     elim (cases_Bool (is_in_place x m)) [ inl t ↦ rw t refl | inr f ↦ rw (f, ne_eqb v (x.volume m) ne) refl ]
 
-grains_own : {G : Type 0} (x : Column) (grains : ℕ → G) (m h : ℕ) → is_in_place x m ≡ false → IsHolder x m h → grains_after_move x grains m (x.volume m) ≡ grains (x.volume h)
+pub grains_own : {G : Type 0} (x : Column) (grains : ℕ → G) (m h : ℕ) → is_in_place x m ≡ false → IsHolder x m h → grains_after_move x grains m (x.volume m) ≡ grains (x.volume h)
 unfolding grains_after_move
 grains_own x grains m h f i = rw (f, eq-eqb (x.volume m) (x.volume m) refl, shown_at x grains m h i) refl
 

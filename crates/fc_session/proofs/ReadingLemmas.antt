@@ -1,5 +1,5 @@
 -- How reading goes on and ends.
-use Rattle.std.proofs.Common.{◌≡◌, ℕ, ◌+◌, ◌<◌, ◌≤◌, List, [], ◌∷◌, ◌++◌, length, append_assoc, refl, sym, ◌∙◌, ap, subst, arith, length-append, Result, Ok, Err, Option, Some, None, IfSome, inl, inr, ◌≢◌, take, get_or, zero, suc}
+use Rattle.std.proofs.Common.{◌≡◌, ℕ, ◌+◌, ◌<◌, ◌≤◌, List, [], ◌∷◌, ◌++◌, length, append_assoc, refl, sym, ◌∙◌, ap, subst, arith, length-append, length-take, min, ◌-◌, Result, Ok, Err, Option, Some, None, IfSome, inl, inr, ◌≢◌, take, get_or, zero, suc}
 use Rattle.std.proofs.lemmas.List.{append-nil}
 use Rattle.std.specs.Option.{option_map}
 use Rattle.fc_base.specs.Count.{HasRisen}
@@ -9,6 +9,8 @@ use Rattle.fc_entry.specs.Told.{Told}
 use Rattle.fc_io.specs.Source.{SourceState}
 use Rattle.fc_session.specs.Progress.{Progress, Fed}
 use Rattle.fc_session.specs.ReadTo.{Gave, IsAtEnd, FedPiece, Turned, SoFar, ReadTo, EndsReading, PastLimit, input_limit}
+use Rattle.fc_session.specs.Taking.{GaveAny, TurnGave}
+use Rattle.fc_session.proofs.TakesLemmas.{SoFarGave-start, SoFarGave-more, EachGave-last, EachGave-some}
 use Rattle.fc_session.specs.declared.reading.Turn.{Turn}
 use Rattle.fc_session.specs.declared.reading.Turn.TheVariants as turn
 use Rattle.fc_session.specs.declared.reading.Ending.{Ending}
@@ -75,6 +77,7 @@ SoFar-start source grain told line entries no_line no_entries =
     record {
       bytes = [];
       gave = gave source.left;
+      takes = SoFarGave-start source;
       counted = refl;
       faults = omega arith;
       progress = subst P (sym no_entries) record { run = refl; legal = tt; unended = no_line };
@@ -107,13 +110,15 @@ pub SoFar-more :
     (line rest : List ℕ) (entries more : List Entry) →
     (so_far : SoFar before now grain told line entries taken) →
     now.faults ≤ after.faults →
+    TurnGave (turn.More n) now after →
     Turned (turn.More n) most now after grain told so_far.bytes rest more →
     SoFar before after grain told rest more (taken + n)
-SoFar-more n most taken before now after grain told line rest entries more so_far faults turned =
+SoFar-more n most taken before now after grain told line rest entries more so_far faults took turned =
     let piece : FedPiece n now after so_far.bytes (λ all. Progress grain told all rest more) = turned.1 in
     record {
       bytes = so_far.bytes ++ piece.piece;
       gave = Gave-append before now after so_far.bytes piece.piece so_far.gave piece.gave;
+      takes = SoFarGave-more before now after so_far.takes took;
       counted = counts so_far.bytes piece.piece so_far.counted piece.counted;
       faults = le before.faults now.faults after.faults so_far.faults faults;
       progress = piece.fed;
@@ -132,11 +137,13 @@ pub ReadTo-end :
     (so_far : SoFar before now grain told line entries taken) →
     taken ≤ input_limit →
     now.faults ≤ after.faults →
+    TurnGave turn.End now after →
     Turned turn.End most now after grain told so_far.bytes rest more →
     ReadTo ending.End before after grain told rest more
-ReadTo-end most taken before now after grain told line rest entries more so_far within faults turned = record {
+ReadTo-end most taken before now after grain told line rest entries more so_far within faults took turned = record {
   bytes = so_far.bytes;
   gave = Gave-nothing before now after so_far.bytes so_far.gave turned.1;
+  takes = EachGave-last before now after so_far.takes took;
   faults = omega (arith, so_far.faults);
   ends = (turned.0, omega (arith, so_far.counted), turned.2);
 }
@@ -148,11 +155,13 @@ pub ReadTo-fault :
     (so_far : SoFar before now grain told line entries taken) →
     taken ≤ input_limit →
     now.faults ≤ after.faults →
+    TurnGave turn.Fault now after →
     Turned turn.Fault most now after grain told so_far.bytes rest more →
     ReadTo ending.ReadFault before after grain told rest more
-ReadTo-fault most taken before now after grain told line rest entries more so_far within faults turned = record {
+ReadTo-fault most taken before now after grain told line rest entries more so_far within faults took turned = record {
   bytes = so_far.bytes;
   gave = Gave-nothing before now after so_far.bytes so_far.gave turned.1;
+  takes = EachGave-last before now after so_far.takes took;
   faults = omega (arith, so_far.faults);
   ends = (HasRisen-before before.faults now.faults after.faults so_far.faults turned.0, omega (arith, so_far.counted), turned.2);
 }
@@ -164,13 +173,15 @@ pub ReadTo-stopped :
     (so_far : SoFar before now grain told line entries taken) →
     taken + most ≤ input_limit →
     now.faults ≤ after.faults →
+    TurnGave (turn.Stopped n stop) now after →
     Turned (turn.Stopped n stop) most now after grain told so_far.bytes rest more →
     ReadTo (ending.Stopped stop) before after grain told rest more
-ReadTo-stopped n most taken stop before now after grain told line rest entries more so_far within faults turned =
+ReadTo-stopped n most taken stop before now after grain told line rest entries more so_far within faults took turned =
     let piece : FedPiece n now after so_far.bytes (λ all. Fed {A = Unit {0}} (Err stop) grain told all rest more) = turned.1 in
     record {
       bytes = so_far.bytes ++ piece.piece;
       gave = Gave-append before now after so_far.bytes piece.piece so_far.gave piece.gave;
+      takes = EachGave-some before now after so_far.takes took;
       faults = omega (arith, so_far.faults);
       ends = (omega (arith, length-append so_far.bytes piece.piece, so_far.counted, piece.counted, turned.0), piece.fed);
     }
@@ -182,24 +193,36 @@ pub ReadTo-past :
     (so_far : SoFar before now grain told line entries taken) →
     taken ≡ input_limit →
     now.faults ≤ after.faults →
+    GaveAny now after →
     PastLimit ended now after →
     ReadTo ended before after grain told line entries
-ReadTo-past ending.End taken before now after grain told line entries so_far full faults past = record {
+ReadTo-past ending.End taken before now after grain told line entries so_far full faults took past = record {
   bytes = so_far.bytes;
   gave = Gave-nothing before now after so_far.bytes so_far.gave past.1;
+  takes = EachGave-last before now after so_far.takes took;
   faults = omega (arith, so_far.faults);
   ends = (past.0, omega (arith, so_far.counted), so_far.progress);
 }
-ReadTo-past ending.ReadFault taken before now after grain told line entries so_far full faults past = record {
+ReadTo-past ending.ReadFault taken before now after grain told line entries so_far full faults took past = record {
   bytes = so_far.bytes;
   gave = Gave-nothing before now after so_far.bytes so_far.gave past.1;
+  takes = EachGave-last before now after so_far.takes took;
   faults = omega (arith, so_far.faults);
   ends = (HasRisen-before before.faults now.faults after.faults so_far.faults past.0, omega (arith, so_far.counted), so_far.progress);
 }
-ReadTo-past ending.TooLong taken before now after grain told line entries so_far full faults past = record {
+ReadTo-past ending.TooLong taken before now after grain told line entries so_far full faults took past = record {
   bytes = so_far.bytes ++ past.0 ∷ [];
   gave = Gave-append before now after so_far.bytes (past.0 ∷ []) so_far.gave past.1;
+  takes = EachGave-last before now after so_far.takes took;
   faults = omega (arith, so_far.faults);
   ends = (so_far.bytes, past.0, refl, so_far.counted ∙ full, so_far.progress);
 }
-ReadTo-past (ending.Stopped stop) taken before now after grain told line entries so_far full faults past = absurd past
+ReadTo-past (ending.Stopped stop) taken before now after grain told line entries so_far full faults took past = absurd past
+
+-- a piece of at most so many bytes, and at most what is left of the greatest input, stays within it
+pub within-limit :
+    (most taken : ℕ) (buffer : List ℕ) →
+    most ≡ min (length buffer) (67108864 - taken) →
+    taken ≤ 67108864 →
+    taken + length (take most buffer) ≤ 67108864
+within-limit most taken buffer is within = omega (arith, length-take most buffer)

@@ -4,6 +4,8 @@ pub mod Codes
 pub mod Stores
 pub mod Reading
 pub mod Progress
+pub mod Takes
+pub mod Taking
 pub mod ReadTo
 pub mod SessionRead
 pub mod Headline

@@ -8,6 +8,8 @@ use Rattle.fc_entry.specs.Lines.{ended_lines}
 use Rattle.fc_entry.specs.Told.{Told}
 use Rattle.fc_io.specs.Source.{SourceState}
 use Rattle.fc_session.specs.Progress.{Progress, Filled, Broken, Fed}
+use Rattle.fc_session.specs.Takes.{EachGave}
+use Rattle.fc_session.specs.Taking.{SoFarGave}
 use Rattle.fc_session.specs.declared.reading.Turn.{Turn}
 use Rattle.fc_session.specs.declared.reading.Turn.TheVariants as turn
 use Rattle.fc_session.specs.declared.reading.Ending.{Ending}
@@ -66,6 +68,7 @@ EndsReading (ending.Stopped stop) before after grain told bytes line entries =
 pub record ReadTo (ended : Ending) (before after : SourceState) (grain : GrainSize) (told : Told) (line : List ℕ) (entries : List Entry) : Type 0 where
   pub bytes : List ℕ
   pub gave : Gave before bytes after
+  pub takes : EachGave before after
   pub faults : before.faults ≤ after.faults
   pub ends : EndsReading ended before after grain told bytes line entries
 
@@ -73,6 +76,7 @@ pub record ReadTo (ended : Ending) (before after : SourceState) (grain : GrainSi
 pub record SoFar (before now : SourceState) (grain : GrainSize) (told : Told) (line : List ℕ) (entries : List Entry) (taken : ℕ) : Type 0 where
   pub bytes : List ℕ
   pub gave : Gave before bytes now
+  pub takes : SoFarGave before now
   pub counted : length bytes ≡ taken
   pub faults : before.faults ≤ now.faults
   pub progress : Progress grain told bytes line entries

@@ -7,6 +7,7 @@ ghost use Rattle.fc_entry.specs.Told.{told_after};
 ghost use Rattle.fc_mdisk.specs.Disk.{IsFresh};
 ghost use Rattle.fc_session.specs.DisksBack.{grain_of, begun, DisksAfter};
 ghost use Rattle.fc_session.specs.Headline.{SessionEnds};
+ghost use Rattle.fc_session.specs.Takes.{EachGave};
 ghost use Rattle.fc_session.specs.Words.{session_grain};
 ghost use Rattle.fc_single.specs.Single.{StandsFor, opening};
 
@@ -55,6 +56,7 @@ fn run_store<S: Source, K: Sink, D: Mdisk>(
     requires main { history.old ≡ record { actors = codes "main" ∷ []; entries = [] } }
     ensures session { SessionEnds result store.grain (begun store.disks) (S.meaning source.old) (S.meaning source.new)
         (K.meaning sink.old) (K.meaning sink.new) history.new }
+    ensures takes { EachGave (S.meaning source.old) (S.meaning source.new) }
     ensures legal { IsLegal store.grain (begun store.disks) history.new.entries }
     ensures limit { length history.new.entries ≤ 262144 }
     ensures ran { result ≢ Status.Usage }
@@ -82,6 +84,7 @@ fn run_grain<S: Source, K: Sink, D: Mdisk>(
     requires fresh { All IsFresh (map D.meaning disks.old.items) }
     ensures session { SessionEnds result grain (begun (map D.meaning disks.old.items)) (S.meaning source.old)
         (S.meaning source.new) (K.meaning sink.old) (K.meaning sink.new) history.new }
+    ensures takes { EachGave (S.meaning source.old) (S.meaning source.new) }
     ensures legal { IsLegal grain (begun (map D.meaning disks.old.items)) history.new.entries }
     ensures limit { length history.new.entries ≤ 262144 }
     ensures ran { result ≢ Status.Usage }
@@ -116,6 +119,7 @@ pub fn flashcopy_over<S: Source, K: Sink, G: Gate, D: Mdisk>(
     ensures session { let grain = grain_of (map (λ word. word.now) words.now) in
         SessionEnds result grain (begun (map D.meaning disks.old.items)) (S.meaning source.old)
         (S.meaning source.new) (K.meaning sink.old) (K.meaning sink.new) history.new }
+    ensures takes { EachGave (S.meaning source.old) (S.meaning source.new) }
     ensures legal { let grain = grain_of (map (λ word. word.now) words.now) in
         IsLegal grain (begun (map D.meaning disks.old.items)) history.new.entries }
     ensures limit { length history.new.entries ≤ 262144 }
@@ -138,8 +142,8 @@ pub type BoxedDisk = Box<dyn Mdisk + Send>;
 /// The words are those of docs/MANUAL.md; where they aren't in the grammar the answer is Usage and nothing is done. The
 /// history has to be empty, and the disks fresh: no calls, no faults, nothing armed, and fewer than 2^30 of them. For
 /// every status the history that is left is legal. What else each status says of the bytes that were taken, of the
-/// entries, of the written bytes and of the disks is said in specs/Headline and specs/DisksBack. The gate only delays,
-/// and isn't reached before there are blocks.
+/// entries, of the written bytes and of the disks is said in specs/Headline and specs/DisksBack. Each call of the source
+/// but the last gives a byte or more (specs/Takes). The gate only delays, and isn't reached before there are blocks.
 pub fn flashcopy<S: Source, K: Sink, G: Gate>(
     alloc: Global,
     words: &[&str],
@@ -156,6 +160,7 @@ pub fn flashcopy<S: Source, K: Sink, G: Gate>(
     ensures session { let grain = grain_of (map (λ word. word.now) words.now) in
         SessionEnds result grain (begun (map ⟦<BoxedDisk as Mdisk>⟧.meaning disks.old.items)) (S.meaning source.old)
         (S.meaning source.new) (K.meaning sink.old) (K.meaning sink.new) history.new }
+    ensures takes { EachGave (S.meaning source.old) (S.meaning source.new) }
     ensures legal { let grain = grain_of (map (λ word. word.now) words.now) in
         IsLegal grain (begun (map ⟦<BoxedDisk as Mdisk>⟧.meaning disks.old.items)) history.new.entries }
     ensures limit { length history.new.entries ≤ 262144 }

@@ -4,8 +4,8 @@
 //! writes its text to a sink. Its contract is the main theorem: for every source, sink and set of fresh disks, failing
 //! ones included, the history is legal; by the status it is known which bytes were taken, which of their lines are
 //! answered, and what the sink got; and the disks come back with the sums of their calls and faults. The words are
-//! in `specs/Words`, how a line is read in `specs/Reading`, what each status says in `specs/Headline`, and what becomes
-//! of the disks in `specs/DisksBack`.
+//! in `specs/Words`, how a line is read in `specs/Reading`, what each status says in `specs/Headline`, which calls of
+//! the source are made in `specs/Takes`, and what becomes of the disks in `specs/DisksBack`.
 //!
 //! In reading order: `words`, `status`, `gate`, `store` (who answers a line), `built` and `owner` (the store of one
 //! volume does), `lines` (from bytes to lines), `reading`, `ending`, `session`, `flashcopy`.

@@ -4,6 +4,7 @@ ghost use Rattle.std.specs.Prelude.{◌≡◌, ◌≤◌, ◌<◌, ℕ, List, []
 ghost use Rattle.fc_session.specs.Progress.{Progress};
 ghost use Rattle.fc_session.specs.ReadTo.{Turned, StandsAfter, ReadTo, PastLimit, StandsAtEnd};
 ghost use Rattle.fc_session.specs.Stores.{StaysUp};
+ghost use Rattle.fc_session.specs.Taking.{GaveAny, TurnGave};
 
 use crate::lines::feed;
 use crate::store::LineStore;
@@ -54,6 +55,7 @@ fn take_turn<S: Source, L: LineStore>(
         → Progress (L.grain store.old) (L.opening store.old) bytes line.old.items history.old.entries
         → Turned result (length buffer.old) (S.meaning source.old) (S.meaning source.new)
         (L.grain store.old) (L.opening store.old) bytes line.new.items history.new.entries }
+    ensures took { TurnGave result (S.meaning source.old) (S.meaning source.new) }
     ensures faults { (S.meaning source.old).faults ≤ (S.meaning source.new).faults }
     ensures actors { history.new.actors ≡ history.old.actors }
     ensures stands { StandsAfter result (L.Stands store.new history.new) }
@@ -81,6 +83,7 @@ const INPUT_BYTES: usize = 67_108_864;
 fn ask_past_limit<S: Source>(source: &mut S, one: &mut [u8]) -> Ending
     requires { length one.old ≡ 1 }
     ensures ends { PastLimit result (S.meaning source.old) (S.meaning source.new) }
+    ensures took { GaveAny (S.meaning source.old) (S.meaning source.new) }
     ensures faults { (S.meaning source.old).faults ≤ (S.meaning source.new).faults }
 {
     match source.take(one) {

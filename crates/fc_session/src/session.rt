@@ -6,6 +6,7 @@ ghost use Rattle.fc_entry.specs.Text.{HasNames};
 ghost use Rattle.fc_session.specs.Headline.{SessionEnds};
 ghost use Rattle.fc_session.specs.ReadTo.{StandsAtEnd, ReadTo};
 ghost use Rattle.fc_session.specs.SessionRead.{SessionRead, StandsUnlessStarved};
+ghost use Rattle.fc_session.specs.Takes.{EachGave};
 
 use crate::ending::{end_input, status_of, write_text};
 use crate::reading::{Ending, PIECE_BYTES, read_pieces, zeros};
@@ -28,6 +29,7 @@ fn read_session<S: Source, L: LineStore>(
     requires first_entry { history.old.entries ≡ [] }
     ensures read { SessionRead result (S.meaning source.old) (S.meaning source.new)
         (L.grain store.old) (L.opening store.old) history.new.entries }
+    ensures takes { EachGave (S.meaning source.old) (S.meaning source.new) }
     ensures actors { history.new.actors ≡ history.old.actors }
     ensures stands { StandsAtEnd result (L.Stands store.new history.new) }
     ensures grain { L.grain store.new ≡ L.grain store.old }
@@ -56,6 +58,7 @@ pub fn run_session<S: Source, K: Sink, L: LineStore>(
     requires main { history.old.actors ≡ codes "main" ∷ [] }
     ensures ends { SessionEnds result (L.grain store.old) (L.opening store.old)
         (S.meaning source.old) (S.meaning source.new) (K.meaning sink.old) (K.meaning sink.new) history.new }
+    ensures takes { EachGave (S.meaning source.old) (S.meaning source.new) }
     ensures legal { IsLegal (L.grain store.old) (L.opening store.old) history.new.entries }
     ensures actors { history.new.actors ≡ history.old.actors }
     ensures ran { result ≢ Status.Usage }

@@ -199,11 +199,11 @@ forced_all : (ns : List MapId) (s : Sheet) → Forcing s.births s.slots (Among n
 forced_all [] s f = f
 forced_all (n ∷ ns) s f = forced_all ns (forced_map s n) (forced_one s (Among ns) n f)
 
-slot_of_to : (slots : List Slot) (m : MapId) (others : List MapId) (k : ℕ) → IsSlotOf slots m others k → (n : ℕ) × ((slot_at slots k).mapping ≡ Some n) × Among (m ∷ others) n
+pub slot_of_to : (slots : List Slot) (m : MapId) (others : List MapId) (k : ℕ) → IsSlotOf slots m others k → (n : ℕ) × ((slot_at slots k).mapping ≡ Some n) × Among (m ∷ others) n
 slot_of_to slots m others k (n, which, place) =
     (n.0, (mapping_place_at slots n.0 k place).1, elim which [ inl e ↦ inl (ap (λ (z : MapId). z.0) e) | inr c ↦ inr (among_from others n c) ])
 
-slot_of_from : (slots : List Slot) (m : MapId) (others : List MapId) (k n : ℕ) → HasMappings slots → k < length slots → (slot_at slots k).mapping ≡ Some n → Among (m ∷ others) n → IsSlotOf slots m others k
+pub slot_of_from : (slots : List Slot) (m : MapId) (others : List MapId) (k n : ℕ) → HasMappings slots → k < length slots → (slot_at slots k).mapping ≡ Some n → Among (m ∷ others) n → IsSlotOf slots m others k
 slot_of_from slots m others k n h kl e a =
     elim a [
       | inl same ↦ (m, inl refl, mapping_place_is slots m.0 k h kl (e ∙ ap Some same))

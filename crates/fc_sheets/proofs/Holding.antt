@@ -15,7 +15,7 @@ use Rattle.fc_sheets.proofs.Removing.{HeldFor, held_for, way_map}
 
 -- ---- the list function
 
-length_map : (f : Slot → Slot) (ts : List Slot) → length (map f ts) ≡ length ts
+pub length_map : (f : Slot → Slot) (ts : List Slot) → length (map f ts) ≡ length ts
 length_map f [] = refl
 length_map f (t ∷ ts) = ap suc (length_map f ts)
 
@@ -189,7 +189,7 @@ map_holders f g b s i keeps x k kl l xl =
 set_here : (held : List Bool) (g : ℕ) (b : Bool) → g < length held → get_or (set held g b) g false ≡ b
 set_here held g b lt = get_or-set_same held g b false lt
 
-held_in_range : (held : List Bool) (g : ℕ) → get_or held g false ≡ true → g < length held
+pub held_in_range : (held : List Bool) (g : ℕ) → get_or held g false ≡ true → g < length held
 held_in_range [] g e = absurd cc
 held_in_range (b ∷ bs) zero e = omega arith
 held_in_range (b ∷ bs) (suc g) e = let r = held_in_range bs g e in omega arith

@@ -8,4 +8,5 @@ pub mod Events
 pub mod Forcing
 pub mod Starting
 pub mod Holding
+pub mod Columns
 pub mod Lawful

@@ -36,6 +36,18 @@ left_aged b slots k h kl l =
       comes = λ j jl. (j, omega arith, a.mapping j, a.volume j, a.held j);
     }
 
+-- where no slot stands after a slot in its chain, it is nobody's holder but its own
+pub nobody_after : (slots : List Slot) (k : ℕ) → has_after slots k ≡ false → (g j : ℕ) → j < length slots → IsHolder (column slots g) j k → (j ≡ k) ⊎ ((m : ℕ) × ((slot_at slots j).mapping ≡ Some m) × Nobody m)
+nobody_after slots k last g j jl i =
+    elim (cases_option (last_below (λ x. ltb k x && eqb (slot_at slots x).chain (slot_at slots k).chain) (length slots))) [
+      | inr some ↦ absurd (let f : has_after slots k ≡ true = rw some.1 refl in both_ways _ last f)
+      | inl none ↦ elim (cases_eq j k) [
+        | inl e ↦ inl e
+        | inr ne ↦ absurd (both_ways _ (last_none (λ x. ltb k x && eqb (slot_at slots x).chain (slot_at slots k).chain) (length slots) none j jl)
+            (and_from _ _ (lt-ltb k j (let b : k ≤ j = i.before in omega arith)) (eq-eqb _ _ (sym i.one_chain))))
+      ]
+    ]
+
 left_removed : (b : ℕ) (slots : List Slot) (k : ℕ) → Holds b slots Nobody Nobody → k < length slots → (slot_at slots k).is_live ≡ true → has_after slots k ≡ false → Left b slots (remove slots k) k
 left_removed b slots k h kl l last =
     let r = remove_is slots k kl in
@@ -46,22 +58,11 @@ left_removed b slots k h kl l last =
       comes = λ j jl. let e = removed_at slots (remove slots k) k r j in
           (up k j, up_in slots (remove slots k) k r j jl, ap (λ (t : Slot). t.mapping) e, ap (λ (t : Slot). t.volume) e, ap (λ (t : Slot). t.held) e);
     }
-  where
-    nobody_after : (slots : List Slot) (k : ℕ) → has_after slots k ≡ false → (g j : ℕ) → j < length slots → IsHolder (column slots g) j k → (j ≡ k) ⊎ ((m : ℕ) × ((slot_at slots j).mapping ≡ Some m) × Nobody m)
-    nobody_after slots k last g j jl i =
-        elim (cases_option (last_below (λ x. ltb k x && eqb (slot_at slots x).chain (slot_at slots k).chain) (length slots))) [
-          | inr some ↦ absurd (let f : has_after slots k ≡ true = rw some.1 refl in both_ways _ last f)
-          | inl none ↦ elim (cases_eq j k) [
-            | inl e ↦ inl e
-            | inr ne ↦ absurd (both_ways _ (last_none (λ x. ltb k x && eqb (slot_at slots x).chain (slot_at slots k).chain) (length slots) none j jl)
-                (and_from _ _ (lt-ltb k j (let b : k ≤ j = i.before in omega arith)) (eq-eqb _ _ (sym i.one_chain))))
-          ]
-        ]
 
-abbrev LeftSheet : Sheet → ℕ → Sheet → Type 0
+abbrev pub LeftSheet : Sheet → ℕ → Sheet → Type 0
 LeftSheet s k t = (t.births ≡ s.births) × Left s.births s.slots t.slots k
 
-left_is : (s : Sheet) (k : ℕ) → Holds s.births s.slots Nobody Nobody → k < length s.slots → (slot_at s.slots k).is_live ≡ true → LeftSheet s k (left_place k s)
+pub left_is : (s : Sheet) (k : ℕ) → Holds s.births s.slots Nobody Nobody → k < length s.slots → (slot_at s.slots k).is_live ≡ true → LeftSheet s k (left_place k s)
 left_is s k h kl l =
     elim (cases_Bool (has_after s.slots k)) [
       | inl t ↦ let e : left_place k s ≡ aged k s = ap (λ z. cond z (aged k s) (without k s)) t in
@@ -72,7 +73,7 @@ left_is s k h kl l =
 
 -- ---- its new slot
 
-abbrev new_slot : ℕ → ℕ → ℕ → ℕ → ℕ → Slot
+abbrev pub new_slot : ℕ → ℕ → ℕ → ℕ → ℕ → Slot
 new_slot b chain v m grains = record { birth = b; chain = chain; volume = v; is_live = true; mapping = Some m; held = replicate grains false }
 
 placed_holds : (b : ℕ) (slots left : List Slot) (k : ℕ) → Left b slots left k → (x m grains : ℕ) → x < length left → (slot_at left x).is_live ≡ true →
@@ -201,23 +202,23 @@ fits_later s t p q pl a f =
       no_slot_yet = no_mapping_place t.slots q.map.0 (λ k kl e. elim (pl.comes k q.map.0 kl e) [ inl same ↦ a.maps (sym same) | inr c ↦ mapping_place_none s.slots q.map.0 f.no_slot_yet c.0 c.1 c.2 ]);
     }
 
-abbrev AllFit : Sheet → List Pair → Type 0
+abbrev pub AllFit : Sheet → List Pair → Type 0
 AllFit s [] = Unit {0}
 AllFit s (p ∷ ps) = FitsPair s.slots p × (p.target.0 ≢ p.source.0) × AllFit s ps
 
-abbrev ApartFrom : Pair → List Pair → Type 0
+abbrev pub ApartFrom : Pair → List Pair → Type 0
 ApartFrom p [] = Unit {0}
 ApartFrom p (q ∷ qs) = Apart p q × ApartFrom p qs
 
-abbrev AllApart : List Pair → Type 0
+abbrev pub AllApart : List Pair → Type 0
 AllApart [] = Unit {0}
 AllApart (p ∷ ps) = ApartFrom p ps × AllApart ps
 
-all_later : (s t : Sheet) (p : Pair) (qs : List Pair) → Placed s p t → ApartFrom p qs → AllFit s qs → AllFit t qs
+pub all_later : (s t : Sheet) (p : Pair) (qs : List Pair) → Placed s p t → ApartFrom p qs → AllFit s qs → AllFit t qs
 all_later s t p [] pl a f = tt
 all_later s t p (q ∷ qs) pl a f = (fits_later s t p q pl a.0 f.0, f.1, all_later s t p qs pl a.1 f.2)
 
-abbrev HoldsSheet : Sheet → Type 0
+abbrev pub HoldsSheet : Sheet → Type 0
 HoldsSheet s = Holds s.births s.slots Nobody Nobody
 
 triggered_holds : (pairs : List Pair) (s : Sheet) → HoldsSheet s → AllFit s pairs → AllApart pairs → HoldsSheet (triggered pairs s)
@@ -233,7 +234,7 @@ later_contains p q ps (k, lt, e) = (suc k, omega arith, e)
 first_contains : (p : Pair) (ps : List Pair) → Contains (p ∷ ps) p
 first_contains p ps = (zero, omega arith, refl)
 
-all_fit : (s : Sheet) (pairs : List Pair) → ((p : Pair) → Contains pairs p → FitsPair s.slots p) → ((p q : Pair) → Contains pairs p → Contains pairs q → p.target.0 ≢ q.source.0) → AllFit s pairs
+pub all_fit : (s : Sheet) (pairs : List Pair) → ((p : Pair) → Contains pairs p → FitsPair s.slots p) → ((p q : Pair) → Contains pairs p → Contains pairs q → p.target.0 ≢ q.source.0) → AllFit s pairs
 all_fit s [] f a = tt
 all_fit s (p ∷ ps) f a = (
   f p (first_contains p ps),
@@ -249,7 +250,7 @@ apart_from p (q ∷ qs) m t a = (
   apart_from p qs (λ i d il. m (suc i) d (omega arith)) (λ i d il. t (suc i) d (omega arith)) (λ r c. a r (later_contains q r qs c)),
 )
 
-all_apart : (pairs : List Pair) → ((i j : ℕ) (d : Pair) → i < length pairs → j < length pairs → (slice_index_or pairs i d).map.0 ≡ (slice_index_or pairs j d).map.0 → i ≡ j) →
+pub all_apart : (pairs : List Pair) → ((i j : ℕ) (d : Pair) → i < length pairs → j < length pairs → (slice_index_or pairs i d).map.0 ≡ (slice_index_or pairs j d).map.0 → i ≡ j) →
     ((i j : ℕ) (d : Pair) → i < length pairs → j < length pairs → (slice_index_or pairs i d).target.0 ≡ (slice_index_or pairs j d).target.0 → i ≡ j) →
     ((p q : Pair) → Contains pairs p → Contains pairs q → p.target.0 ≢ q.source.0) → AllApart pairs
 all_apart [] m t a = tt

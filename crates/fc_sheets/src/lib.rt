@@ -9,7 +9,8 @@
 //!
 //! To read: `specs/Law`, what is said; then `proofs/`: `Places` (what stands where after a slot is taken
 //! out or put in), `Removing`, `Aging`, `Splitting` (one change of the list), `Finding`, `Steps` (changes that
-//! leave something under way), `Events`, `Forcing`, `Starting` (the events), `Holding` (pairs), `Lawful`.
+//! leave something under way), `Events`, `Forcing`, `Starting` (the events), `Holding` (pairs), `Columns` (pairs
+//! seen at one grain), `Lawful`.
 #![tactic(auto)]
 
 ghost use Rattle.fc_sheets.specs.Law.{SheetLaw};

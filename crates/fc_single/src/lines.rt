@@ -1,6 +1,7 @@
 //! Lines: what they ask, entry by entry.
 
 ghost use Rattle.std.specs.Prelude.{◌≡◌, ◌+◌, ◌*◌, ◌<◌, ◌≤◌, ◌∷◌, ◌++◌, [], length, map, Some, OnOk, OnErr, IfErr};
+ghost use Rattle.std.specs.Bool.{OnTrue, OnFalse};
 ghost use Rattle.fc_base.specs.Grain.{grain_blocks};
 ghost use Rattle.fc_base.specs.declared.command.Command.TheVariants.{Mkvdisk};
 ghost use Rattle.fc_base.specs.declared.request.Request.TheVariants.{Command as Asked};
@@ -56,6 +57,14 @@ impl Access {
             },
         }
     }
+}
+
+/// Whether one more entry would pass the greatest number of entries.
+fn is_full(history: &History) -> bool
+    ensures full { OnTrue result (MAX_ENTRIES ≤ length history.now.entries) }
+    ensures room { OnFalse result (length history.now.entries < MAX_ENTRIES) }
+{
+    history.len() >= MAX_ENTRIES
 }
 
 /// Logs an entry.
@@ -117,7 +126,7 @@ impl<D: Mdisk> Single<D> {
         ensures keeps { Keeps self.old self.new }
         ensures size { length self.new.held ≡ length self.old.held }
     {
-        if history.len() >= MAX_ENTRIES {
+        if is_full(history) {
             return Err(Stop::LogFull);
         }
         let blocks = self.grain().blocks() as u64;
@@ -175,7 +184,7 @@ impl<D: Mdisk> Single<D> {
         ensures stands { StillStands result self.now history.new }
         ensures limit { length history.new.entries ≤ MAX_ENTRIES }
     {
-        if history.len() >= MAX_ENTRIES {
+        if is_full(history) {
             return Err(Stop::LogFull);
         }
         let entry = self.entry_apart(history.len(), place, request, reply, self.no_effects());
@@ -227,7 +236,7 @@ impl<D: Mdisk> Single<D> {
         ensures limit { length history.new.entries ≤ MAX_ENTRIES }
         ensures keeps { Keeps self.old self.new }
     {
-        if history.len() >= MAX_ENTRIES {
+        if is_full(history) {
             return Err(Stop::LogFull);
         }
         let made = self.make(&name, size * MIB / self.grain().bytes());

@@ -5,6 +5,8 @@
 #![tactic(auto)]
 
 #[cfg(test)]
+mod longer;
+#[cfg(test)]
 mod sessions;
 #[cfg(test)]
 mod tests;

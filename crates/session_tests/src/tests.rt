@@ -1,20 +1,30 @@
 //! Sessions that end as they should, and such whose calls fail.
 
+use crate::longer::{all_answers, answers_within, first_lines, lines, session};
 use crate::sessions::run;
 use fc_session::status::Status;
 use std::alloc::AllocError;
 
-const SESSION: &[u8; 53] = b"mkvdisk -name A -size 1\nwrite A 0 1 5a\nread A 0 2\n\n\n\n";
+const FIRST_VOLUME: &[u8] = b"mkvdisk -name A -size 1\nwrite A 0 1 5a\nread A 0 2\n";
 
 const TEXT: &[u8] = b"0 main mkvdisk -name A -size 1 -> Virtual Disk, id [0], successfully created
 1 main write 0 0 1 5a -> ok
 2 main read 0 0 2 -> data 512*5a,512*00
 ";
 
+/// How many bytes of the longer session a `take` gives at most.
+const PIECE: usize = 211;
+
 #[test]
 fn the_first_volume_is_made_written_and_read(rt: HostRuntime) -> Result<(), AllocError> {
     let alloc = rt.alloc();
-    let outcome = run(alloc, SESSION, 65_536, Vec::new(alloc), Vec::new(alloc))?;
+    let outcome = run(
+        alloc,
+        FIRST_VOLUME,
+        65_536,
+        Vec::new(alloc),
+        Vec::new(alloc),
+    )?;
     assert!(rt; outcome.status == Status::Done);
     assert!(rt; outcome.written.as_slice() == TEXT);
     assert_eq!(rt; (outcome.entries, outcome.disks), (3, 1));
@@ -38,7 +48,7 @@ fn the_fourth_take_fails_before_the_first_line_has_ended(
     rt: HostRuntime,
 ) -> Result<(), AllocError> {
     let alloc = rt.alloc();
-    let outcome = run(alloc, SESSION, 5, vec![in alloc; 4]?, Vec::new(alloc))?;
+    let outcome = run(alloc, FIRST_VOLUME, 5, vec![in alloc; 4]?, Vec::new(alloc))?;
     assert!(rt; outcome.status == Status::ReadFault);
     assert_eq!(rt;
         (outcome.written.len(), outcome.entries, outcome.disks),
@@ -48,32 +58,15 @@ fn the_fourth_take_fails_before_the_first_line_has_ended(
 }
 
 #[test]
-fn each_take_fails_once(rt: HostRuntime) -> Result<(), AllocError> {
-    let alloc = rt.alloc();
-    for number in 1..12u64 {
-        let outcome = run(alloc, SESSION, 5, vec![in alloc; number]?, Vec::new(alloc))?;
-        assert!(rt; outcome.status == Status::ReadFault);
-        assert!(rt; TEXT.starts_with(outcome.written.as_slice()));
-        assert_eq!(rt;
-            outcome.entries,
-            if number <= 5 {
-                0
-            } else if number <= 8 {
-                1
-            } else if number <= 10 {
-                2
-            } else {
-                3
-            }
-        );
-    }
-    Ok(())
-}
-
-#[test]
 fn the_first_put_fails(rt: HostRuntime) -> Result<(), AllocError> {
     let alloc = rt.alloc();
-    let outcome = run(alloc, SESSION, 65_536, Vec::new(alloc), vec![in alloc; 1]?)?;
+    let outcome = run(
+        alloc,
+        FIRST_VOLUME,
+        65_536,
+        Vec::new(alloc),
+        vec![in alloc; 1]?,
+    )?;
     assert!(rt; outcome.status == Status::WriteFault);
     assert!(rt; outcome.written.len() < TEXT.len() && TEXT.starts_with(outcome.written.as_slice()));
     assert_eq!(rt; (outcome.entries, outcome.disks), (3, 1));
@@ -81,28 +74,69 @@ fn the_first_put_fails(rt: HostRuntime) -> Result<(), AllocError> {
 }
 
 #[test]
+fn pieces_of_any_size_give_one_history(rt: HostRuntime) -> Result<(), AllocError> {
+    let alloc = rt.alloc();
+    let lines = lines(alloc)?;
+    let bytes = session(alloc, &lines)?;
+    let wanted = all_answers(alloc, &lines)?;
+    assert_eq!(rt; wanted.entries, 14);
+    for piece in [1, 7, 4_097, 65_536] {
+        let outcome = run(alloc, &bytes, piece, Vec::new(alloc), Vec::new(alloc))?;
+        assert!(rt; outcome.status == Status::Done);
+        assert!(rt; outcome.written.as_slice() == wanted.text.as_slice());
+        assert_eq!(rt; (outcome.entries, outcome.disks), (wanted.entries, 1));
+    }
+    Ok(())
+}
+
+#[test]
+fn each_take_fails_once(rt: HostRuntime) -> Result<(), AllocError> {
+    let alloc = rt.alloc();
+    let lines = lines(alloc)?;
+    let bytes = session(alloc, &lines)?;
+    // so many calls take bytes, and one more finds the end
+    let takes = bytes.len().div_ceil(PIECE);
+    for before in 0..takes + 1 {
+        let failing = vec![in alloc; before as u64 + 1]?;
+        let outcome = run(alloc, &bytes, PIECE, failing, Vec::new(alloc))?;
+        let wanted = answers_within(alloc, &lines, PIECE.saturating_mul(before))?;
+        assert!(rt; outcome.status == Status::ReadFault);
+        assert_eq!(rt; (outcome.entries, outcome.disks), (wanted.entries, 1));
+        assert!(rt; outcome.written.as_slice() == wanted.text.as_slice());
+    }
+    let failing = vec![in alloc; takes as u64 + 2]?;
+    let outcome = run(alloc, &bytes, PIECE, failing, Vec::new(alloc))?;
+    assert!(rt; outcome.status == Status::Done);
+    assert_eq!(rt; outcome.entries, 14);
+    Ok(())
+}
+
+#[test]
 fn each_put_fails_once_until_none_is_left(rt: HostRuntime) -> Result<(), AllocError> {
     let alloc = rt.alloc();
-    let mut failed = false;
-    let mut done = false;
-    for number in 1..200u64 {
+    let lines = first_lines(alloc)?;
+    let bytes = session(alloc, &lines)?;
+    let wanted = all_answers(alloc, &lines)?;
+    let mut longest = 0;
+    for number in 1..1_000u64 {
         let outcome = run(
             alloc,
-            SESSION,
+            &bytes,
             65_536,
             Vec::new(alloc),
             vec![in alloc; number]?,
         )?;
-        assert!(rt; TEXT.starts_with(outcome.written.as_slice()));
-        assert_eq!(rt; (outcome.entries, outcome.disks), (3, 1));
+        assert!(rt; wanted.text.starts_with(outcome.written.as_slice()));
+        assert!(rt; outcome.written.len() >= longest);
+        assert_eq!(rt; (outcome.entries, outcome.disks), (wanted.entries, 1));
+        longest = outcome.written.len();
         if outcome.status == Status::Done {
-            assert!(rt; outcome.written.as_slice() == TEXT);
-            done = true;
-        } else {
-            assert!(rt; outcome.status == Status::WriteFault);
-            failed = true;
+            // at least one `put` an entry, and the `flush`
+            assert!(rt; number > 12 && longest == wanted.text.len());
+            return Ok(());
         }
+        assert!(rt; outcome.status == Status::WriteFault);
     }
-    assert!(rt; failed && done);
+    assert!(rt; false);
     Ok(())
 }

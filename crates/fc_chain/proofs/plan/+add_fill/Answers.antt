@@ -24,11 +24,17 @@ add_fill-requires t c = (
     c.in-Some-first_reader_of.ensures.bound,
     (
       c.requires.apart,
-      room_for_reader _ _ _ c.args.depth c.args.place _ _ _ _ c.volume-volume.result c.loop-old.after c.in-Some.old _ c.requires.apart c.requires.there
-          (volume_at _ _ _ c.index-slots-place-then-not-fills_in_place.result c.requires.there c.index-slots-place-then-not-fills_in_place.is c.volume-volume.ensures)
-          c.loop-old.invariant.room c.loop-old.invariant.added (omega arith)
-          (lists_as _ _ _ _ c.index-slots-place.result _ _ _ c.requires.there c.index-slots-place.is c.birth.ensures c.as_slice.ensures c.lists.ensures c.if-lists.false)
-          (sym c.fills_in_place.ensures ∙ c.if-not-fills_in_place.true) c.in-Some.ensures c.in-Some-first_reader_of.ensures.value,
+      (
+        c.requires.together,
+        (
+          c.requires.listed,
+          room_for_reader _ _ _ c.args.depth c.args.place _ _ _ _ c.volume-volume.result c.loop-old.after c.in-Some.old _ c.requires.apart c.requires.there
+              (volume_at _ _ _ c.index-slots-place-then-not-fills_in_place.result c.requires.there c.index-slots-place-then-not-fills_in_place.is c.volume-volume.ensures)
+              c.loop-old.invariant.room c.loop-old.invariant.added (omega arith)
+              (lists_as _ _ _ _ c.index-slots-place.result _ _ _ c.requires.there c.index-slots-place.is c.birth.ensures c.as_slice.ensures c.lists.ensures c.if-lists.false)
+              (sym c.fills_in_place.ensures ∙ c.if-not-fills_in_place.true) c.in-Some.ensures c.in-Some-first_reader_of.ensures.value,
+        ),
+      ),
     ),
   ),
 )

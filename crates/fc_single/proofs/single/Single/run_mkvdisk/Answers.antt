@@ -17,9 +17,9 @@ use Rattle.fc_single.proofs.Logging.{is_full, is_logged}
 use Rattle.fc_single.proofs.Standing.{entries_of-told_of}
 use Rattle.fc_single.proofs.single.Single.run_mkvdisk.Goals as goal
 
-pub returns-then-len-ge-MAX_ENTRIES-clause-answered :
-    goal.returns-then-len-ge-MAX_ENTRIES-clause-answered
-returns-then-len-ge-MAX_ENTRIES-clause-answered g c = is_full _ _ _ _ c.args.history.now c.requires.room (omega arith)
+pub returns-then-is_full-clause-answered :
+    goal.returns-then-is_full-clause-answered
+returns-then-is_full-clause-answered g c = is_full _ _ _ _ c.args.history.now c.requires.room (omega (arith, c.if-is_full.ensures.full))
 
 pub log_apart-requires-clause-turn : goal.log_apart-requires-clause-turn
 log_apart-requires-clause-turn g c =
@@ -36,13 +36,13 @@ returns-in-Ok-clause-answered g c =
     let grains : ℕ = c.args.size * 1048576 / c.bytes.result in
     let same : c.entry_apart-entry.result ≡ entry_apart (length c.args.history.now.entries) Every request (Made Vdisk 0) (Make record { 0 = 0 } grains ∷ []) =
     c.entry_apart-entry.ensures
-    ∙ ap (λ (n : ℕ). entry_apart n Every request (Made Vdisk 0) c.in-Ok.effects) c.len-in-Ok.ensures
+    ∙ ap (λ (n : ℕ). entry_apart n Every request (Made Vdisk 0) c.in-Ok.effects) c.len.ensures
     ∙ ap (λ (es : List Effect). entry_apart (length c.args.history.now.entries) Every request (Made Vdisk 0) es) c.in-Ok.ensures.effects in
     let turn = made_of c.args.self.now c.make-made.new.self (told_of c.args.self.now c.args.history.now) (length c.args.history.now.entries)
     c.args.name c.args.size c.args.unit c.args.thin grains c.requires.stands (sym (entries_of-told_of c.args.self.now c.args.history.now)) c.requires.taken
     (ap (λ (b : ℕ). c.args.size * 1048576 / b) (c.bytes.ensures ∙ ap grain_bytes c.grain.ensures)) c.in-Ok.ensures.made in
     (is_logged c.log.result MAX_ENTRIES _ c.args.self.now c.make-made.new.self c.args.history.now c.log.new.history c.entry_apart-entry.result (subst P (sym same) turn)
-    (omega arith) c.log.ensures.ok c.log.ensures.err c.log.ensures.stop).answered
+    (omega (arith, c.if-is_full.ensures.room)) c.log.ensures.ok c.log.ensures.err c.log.ensures.stop).answered
 
 pub returns-in-Ok-clause-stands : goal.returns-in-Ok-clause-stands
 returns-in-Ok-clause-stands g c =
@@ -51,10 +51,10 @@ returns-in-Ok-clause-stands g c =
     let grains : ℕ = c.args.size * 1048576 / c.bytes.result in
     let same : c.entry_apart-entry.result ≡ entry_apart (length c.args.history.now.entries) Every request (Made Vdisk 0) (Make record { 0 = 0 } grains ∷ []) =
     c.entry_apart-entry.ensures
-    ∙ ap (λ (n : ℕ). entry_apart n Every request (Made Vdisk 0) c.in-Ok.effects) c.len-in-Ok.ensures
+    ∙ ap (λ (n : ℕ). entry_apart n Every request (Made Vdisk 0) c.in-Ok.effects) c.len.ensures
     ∙ ap (λ (es : List Effect). entry_apart (length c.args.history.now.entries) Every request (Made Vdisk 0) es) c.in-Ok.ensures.effects in
     let turn = made_of c.args.self.now c.make-made.new.self (told_of c.args.self.now c.args.history.now) (length c.args.history.now.entries)
     c.args.name c.args.size c.args.unit c.args.thin grains c.requires.stands (sym (entries_of-told_of c.args.self.now c.args.history.now)) c.requires.taken
     (ap (λ (b : ℕ). c.args.size * 1048576 / b) (c.bytes.ensures ∙ ap grain_bytes c.grain.ensures)) c.in-Ok.ensures.made in
     (is_logged c.log.result MAX_ENTRIES _ c.args.self.now c.make-made.new.self c.args.history.now c.log.new.history c.entry_apart-entry.result (subst P (sym same) turn)
-    (omega arith) c.log.ensures.ok c.log.ensures.err c.log.ensures.stop).stands
+    (omega (arith, c.if-is_full.ensures.room)) c.log.ensures.ok c.log.ensures.err c.log.ensures.stop).stands

@@ -1,0 +1,2 @@
+-- What contracts of the tests cite.
+pub mod Fits

@@ -1,0 +1,68 @@
+-- The directory through moves and writes, and with no slots.
+use Rattle.std.proofs.Common.{◌≡◌, ℕ, suc, ◌<◌, ◌≤◌, Some, List, [], ◌∷◌, length, map, refl, sym, ap, subst, ◌∙◌, arith}
+use Rattle.fc_base.specs.Sheet.{Slot, slot_at}
+use Rattle.fc_chain.specs.declared.index.By.{By}
+use Rattle.fc_chain.specs.declared.index.By.TheVariants.{Birth, Mapping, Volume}
+use Rattle.fc_chain.specs.declared.index.Entry.{Entry}
+use Rattle.fc_chain.specs.Indexing.{key_at, entry_at, IsIndexOf}
+use Rattle.fc_chain.specs.Directory.{Directory, ListsSlots, HasPlaces}
+use Rattle.fc_sheets.proofs.Holding.{at_map, Regrained}
+
+length_map : (f : Slot → Slot) (ts : List Slot) → length (map f ts) ≡ length ts
+length_map f [] = refl
+length_map f (t ∷ ts) = ap suc (length_map f ts)
+
+key_map : (f : Slot → Slot) → Regrained f → (by : By) (t : Slot) → key_at by (f t) ≡ key_at by t
+key_map f r Birth t = ap Some (r.birth t)
+key_map f r Mapping t = r.mapping t
+key_map f r Volume t = ap Some (r.volume t)
+
+index_map : (f : Slot → Slot) → Regrained f → (slots : List Slot) (by : By) (entries : List Entry) → IsIndexOf slots by entries → IsIndexOf (map f slots) by entries
+index_map f r slots by entries i =
+    let size : length (map f slots) ≡ length slots = length_map f slots in
+    let key : (k : ℕ) → key_at by (slot_at (map f slots) k) ≡ key_at by (slot_at slots k) = λ k. ap (key_at by) (at_map f slots k r.none) ∙ key_map f r by (slot_at slots k) in
+    record {
+      only = λ j jl. (let e = i.only j jl in record {
+        there = (let a : (entry_at entries j).place < length slots = e.there in omega arith);
+        key = key (entry_at entries j).place ∙ e.key;
+        birth = e.birth ∙ sym (ap (λ (t : Slot). t.birth) (at_map f slots (entry_at entries j).place r.none) ∙ r.birth (slot_at slots (entry_at entries j).place));
+      });
+      each = λ k x kl e. i.each k x (omega arith) (sym (key k) ∙ e);
+      rising = i.rising;
+    }
+
+pub lists_map : (f : Slot → Slot) → Regrained f → (slots : List Slot) (d : Directory) → ListsSlots slots d → ListsSlots (map f slots) d
+lists_map f r slots d l = record {
+  births = index_map f r slots Birth d.births.entries l.births;
+  mappings = index_map f r slots Mapping d.mappings.entries l.mappings;
+  volumes = index_map f r slots Volume d.volumes.entries l.volumes;
+}
+
+index_empty : (by : By) (entries : List Entry) → entries ≡ [] → IsIndexOf [] by entries
+index_empty by entries e =
+    let P : List Entry → Type 0 = λ z. IsIndexOf [] by z in
+    subst P (sym e) (record { only = λ i lt. absurd (omega arith); each = λ k x lt q. absurd (omega arith); rising = λ i j le lt. absurd (omega arith) })
+
+pub lists_empty : (d : Directory) → d.births.entries ≡ [] → d.mappings.entries ≡ [] → d.volumes.entries ≡ [] → ListsSlots [] d
+lists_empty d a b c = record { births = index_empty Birth d.births.entries a; mappings = index_empty Mapping d.mappings.entries b; volumes = index_empty Volume d.volumes.entries c }
+
+pub lists_same : (slots : List Slot) (d e : Directory) → ListsSlots slots d → e.births.entries ≡ d.births.entries → e.mappings.entries ≡ d.mappings.entries → e.volumes.entries ≡ d.volumes.entries → ListsSlots slots e
+lists_same slots d e l a b c = record {
+  births = subst (λ (z : List Entry). IsIndexOf slots Birth z) (sym a) l.births;
+  mappings = subst (λ (z : List Entry). IsIndexOf slots Mapping z) (sym b) l.mappings;
+  volumes = subst (λ (z : List Entry). IsIndexOf slots Volume z) (sym c) l.volumes;
+}
+
+pub places_stay : (n : ℕ) (d e : Directory) → HasPlaces n d → d.births.room ≤ e.births.room → d.mappings.room ≤ e.mappings.room → d.volumes.room ≤ e.volumes.room → HasPlaces n e
+places_stay n d e h a b c = record {
+  births = (let x : n ≤ d.births.room = h.births in omega arith);
+  mappings = (let x : n ≤ d.mappings.room = h.mappings in omega arith);
+  volumes = (let x : n ≤ d.volumes.room = h.volumes in omega arith);
+}
+
+pub places_fewer : (n m : ℕ) (d : Directory) → n ≤ m → HasPlaces m d → HasPlaces n d
+places_fewer n m d le h = record {
+  births = (let x : m ≤ d.births.room = h.births in omega arith);
+  mappings = (let x : m ≤ d.mappings.room = h.mappings in omega arith);
+  volumes = (let x : m ≤ d.volumes.room = h.volumes in omega arith);
+}

@@ -1,0 +1,23 @@
+use Rattle.std.proofs.Common.{ap, ◌∙◌}
+use Rattle.fc_base.specs.SheetStep.{grain_kept}
+use Rattle.fc_chain.specs.Table.{Table}
+use Rattle.fc_sheets.proofs.Holding.{bit_kept}
+use Rattle.fc_chain.proofs.Retally.{together_of, together_after, tallied_after, change_kept}
+use Rattle.fc_chain.proofs.pairs.keep.Goals as goal
+
+pub change_at-change-requires : goal.change_at-change-requires
+change_at-change-requires c = together_of c.args.table.now.sheet.slots c.as_slice.result.now c.as_slice.ensures.value c.requires.countable
+
+pub leave_out-requires-clause-together : goal.leave_out-requires-clause-together
+leave_out-requires-clause-together c = together_of c.args.table.now.sheet.slots c.as_slice-2.result.now c.as_slice-2.ensures.value c.requires.countable
+
+pub put_in-requires-clause-together : goal.put_in-requires-clause-together
+put_in-requires-clause-together c =
+    together_after (grain_kept c.args.volume c.args.grain) c.args.grain (bit_kept c.args.volume c.args.grain) c.args.table.now.sheet.slots c.as_slice-3.result.now (c.as_slice-3.ensures.value ∙ ap (λ (t : Table). t.sheet.slots) c.keep.ensures) c.requires.countable
+
+pub put_in-requires-clause-tallied : goal.put_in-requires-clause-tallied
+put_in-requires-clause-tallied c =
+    tallied_after (grain_kept c.args.volume c.args.grain) c.args.grain c.args.volume (bit_kept c.args.volume c.args.grain) c.args.table.now.sheet.slots c.as_slice.result.now c.as_slice-2.result.now c.as_slice-3.result.now
+    c.change_at-change.result.holder c.change_at-change.result.volume c.change_at-change.result.grain c.leave_out.new.tallies c.requires.countable
+    (change_kept c.args.table.now.sheet.slots c.args.volume c.args.grain)
+    c.as_slice.ensures.value c.as_slice-2.ensures.value (c.as_slice-3.ensures.value ∙ ap (λ (t : Table). t.sheet.slots) c.keep.ensures) c.change_at-change.ensures.volume c.change_at-change.ensures.grain c.change_at-change.ensures.holder c.leave_out.ensures

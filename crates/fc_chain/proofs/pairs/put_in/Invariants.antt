@@ -1,0 +1,7 @@
+use Rattle.fc_chain.specs.Tallies.{is_touched}
+use Rattle.fc_chain.proofs.Retally.{AreMixed, from}
+use Rattle.fc_chain.proofs.pairs.put_in.Given as goal
+
+-- the slots so far are done
+abbrev pub invariant-loop-place : goal.invariant-loop-place
+invariant-loop-place l = AreMixed l.slots l.change.grain (from (is_touched l.slots l.change.volume l.change.holder) l.place) l.tallies

@@ -1,0 +1,28 @@
+-- The directory of slots: by birth, by mapping and by volume.
+use Rattle.std.specs.Prelude.{◌≡◌, ℕ, ◌≤◌, List}
+use Rattle.fc_base.specs.Sheet.{Slot}
+use Rattle.fc_chain.specs.declared.index.By.TheVariants.{Birth, Mapping, Volume}
+use Rattle.fc_chain.specs.Indexing.{Index, IsIndexOf}
+
+pub record Directory : Type 0 where
+  pub births : Index
+  pub mappings : Index
+  pub volumes : Index
+
+-- Each list is by what its name says.
+pub record AreNamed (d : Directory) : Type 0 where
+  pub births : d.births.by ≡ Birth
+  pub mappings : d.mappings.by ≡ Mapping
+  pub volumes : d.volumes.by ≡ Volume
+
+-- They list the slots.
+pub record ListsSlots (slots : List Slot) (d : Directory) : Type 0 where
+  pub births : IsIndexOf slots Birth d.births.entries
+  pub mappings : IsIndexOf slots Mapping d.mappings.entries
+  pub volumes : IsIndexOf slots Volume d.volumes.entries
+
+-- Each has room for so many.
+pub record HasPlaces (n : ℕ) (d : Directory) : Type 0 where
+  pub births : n ≤ d.births.room
+  pub mappings : n ≤ d.mappings.room
+  pub volumes : n ≤ d.volumes.room

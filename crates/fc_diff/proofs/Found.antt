@@ -1,0 +1,169 @@
+-- How the rows are found: what holds again after a row came, went or was told.
+use Rattle.std.proofs.Common.{◌≡◌, ◌≢◌, ℕ, zero, suc, ◌<◌, Bool, true, false, not, ◌||◌, cond, List, [], ◌∷◌, ◌++◌, map, length, get_or, take, drop, remove, filter, find, nat_eq, position, Option, Some, None, is_some, refl, ap, sym, subst, ◌∙◌, arith, All, AllPairs}
+use Rattle.std.specs.List.{list_any}
+use Rattle.std.proofs.lemmas.List.{get_or-map, length-map, map-append, take-append-le, take_all}
+use Rattle.std.proofs.lemmas.List.Elements.{All-tail, All-push, All-map, All-weaker, All-filter, filter_passes}
+use Rattle.std.proofs.lemmas.List.Quantifiers.{position-Some, all_pairs_push, all_pairs_remove}
+use Rattle.std.proofs.lemmas.Bool.Decides.{nat_tests}
+use Rattle.fc_diff.specs.declared.tracked.Event.{Event}
+use Rattle.fc_diff.specs.Row.{Row}
+use Rattle.fc_diff.specs.Index.{IsFound, Listing, named_by, is_listed, map_numbers}
+use Rattle.fc_diff.specs.Table.{row_after, is_of, with_new_row}
+use Rattle.fc_diff.proofs.Places.{find-found, find-missed, all_fail, any_found}
+use Rattle.fc_diff.proofs.Events.{same_map, same_source, same_target}
+
+equal : (a b : ℕ) → nat_eq a b ≡ true → a ≡ b
+equal a b e = grind (arith, nat_tests)
+
+unequal : (a b : ℕ) → nat_eq a b ≡ false → b ≢ a
+unequal a b e same = grind (arith, nat_tests)
+
+eq_false : (a b : ℕ) → b ≢ a → nat_eq a b ≡ false
+eq_false a b other = grind (arith, nat_tests, other)
+
+-- ---- one row
+
+pub row_found : (m : ℕ) (rows : List Row) (place : ℕ) (row : Row) → position (is_of m) rows ≡ Some place → row ≡ get_or rows place row → find (is_of m) rows ≡ Some row
+row_found m rows place row found is = find-found (is_of m) rows place row found ∙ ap Some (sym is)
+
+any_at : {X : Type 0} (test : X → Bool) (xs : List X) (i : ℕ) (d : X) → i < length xs → test (get_or xs i d) ≡ true → list_any test xs ≡ true
+any_at test [] i d within here = absurd (omega arith)
+any_at test (x ∷ xs) zero d within here = rw here refl
+any_at test (x ∷ xs) (suc i) d within here = either (test x) (list_any test xs) (any_at test xs i d (omega arith) here)
+  where
+    either : (a b : Bool) → b ≡ true → (a || b) ≡ true
+    either true b e = refl
+    either false b e = e
+
+pub place_any : (m : ℕ) (rows : List Row) (d : Row) (o : Option ℕ) → position (is_of m) rows ≡ o → is_some o ≡ true → list_any (is_of m) rows ≡ true
+place_any m rows d None e there = cc
+place_any m rows d (Some i) e there = let s = position-Some (is_of m) rows i d e in any_at (is_of m) rows i d s.0 s.1
+
+pub place_none : (m : ℕ) (rows : List Row) (o : Option ℕ) → position (is_of m) rows ≡ o → is_some o ≡ false → position (is_of m) rows ≡ None
+place_none m rows None e none = e
+place_none m rows (Some i) e none = cc
+
+-- ---- a filter that takes one row
+
+filter_all : {X : Type 0} (test : X → Bool) (xs : List X) → ((k : ℕ) (d : X) → k < length xs → test (get_or xs k d) ≡ true) → filter test xs ≡ xs
+filter_all test [] all = refl
+filter_all test (x ∷ xs) all =
+    let passes : test x ≡ true = all 0 x (omega arith) in
+    rw passes (ap (λ ys. x ∷ ys) (filter_all test xs (λ k d within. all (suc k) d (omega arith))))
+
+pub filter_missed : (m : ℕ) (rows : List Row) → position (is_of m) rows ≡ None → filter (λ row. not (is_of m row)) rows ≡ rows
+filter_missed m rows missed = filter_all (λ row. not (is_of m row)) rows (λ k d within. ap not (all_fail (is_of m) rows (find-missed (is_of m) rows missed) k d within))
+
+filter_at : (m : ℕ) (rows : List Row) (place : ℕ) (d : Row) → place < length rows → nat_eq m (get_or rows place d).map ≡ true → AllPairs (λ x y. x.map ≢ y.map) rows → filter (λ row. not (is_of m row)) rows ≡ remove rows place
+filter_at m [] place d within here distinct = absurd (omega arith)
+filter_at m (row ∷ rows) zero d within here distinct =
+    rw here
+    (filter_all (λ r. not (is_of m r)) rows
+    (λ k e inside. ap not (eq_false m (get_or rows k e).map (λ same. distinct 0 (suc k) e (omega arith) (omega arith) (sym (equal m row.map here) ∙ sym same)))))
+filter_at m (row ∷ rows) (suc place) d within here distinct =
+    let fails : nat_eq m row.map ≡ false =
+    eq_false m row.map (λ same. distinct 0 (suc place) d (omega arith) (omega arith) (same ∙ equal m (get_or rows place d).map here)) in
+    rw fails
+    (ap (λ rs. row ∷ rs) (filter_at m rows place d (omega arith) here (λ i j e less inside. distinct (suc i) (suc j) e (omega arith) (omega arith))))
+
+pub filter_found : (m : ℕ) (rows : List Row) (place : ℕ) (d : Row) → position (is_of m) rows ≡ Some place → AllPairs (λ x y. x.map ≢ y.map) rows → filter (λ row. not (is_of m row)) rows ≡ remove rows place
+filter_found m rows place d found distinct = let s = position-Some (is_of m) rows place d found in filter_at m rows place d s.0 s.1 distinct
+
+-- ---- the rows after a change
+
+pub found_push : (ids : List ℕ) (namers namers' : Listing) (rows : List Row) (row : Row) → IsFound ids namers rows → position (is_of row.map) rows ≡ None
+    → ((w m : ℕ) → is_listed m (named_by namers w) ≡ true → is_listed m (named_by namers' w) ≡ true)
+    → is_listed row.map (named_by namers' row.source) ≡ true → is_listed row.map (named_by namers' row.target) ≡ true
+    → (ids' : List ℕ) (rows' : List Row) → ids' ≡ ids ++ row.map ∷ [] → rows' ≡ rows ++ row ∷ [] → IsFound ids' namers' rows'
+found_push ids namers namers' rows row old missed kept source target ids' rows' e f =
+    subst (λ rs. IsFound ids' namers' rs) (sym f) (record {
+      beside = e ∙ (ap (λ xs. xs ++ row.map ∷ []) old.beside ∙ sym (map-append (λ r. r.map) rows (row ∷ [])));
+      distinct = all_pairs_push (λ x y. x.map ≢ y.map) rows row old.distinct
+          (λ k d within. unequal row.map (get_or rows k d).map (all_fail (is_of row.map) rows (find-missed (is_of row.map) rows missed) k d within));
+      by_source = All-push (λ r. is_listed r.map (named_by namers' r.source) ≡ true) rows row (All-weaker (λ r. is_listed r.map (named_by namers r.source) ≡ true) (λ r. is_listed r.map (named_by namers' r.source) ≡ true) (λ r there. kept r.source r.map there) rows old.by_source) source;
+      by_target = All-push (λ r. is_listed r.map (named_by namers' r.target) ≡ true) rows row (All-weaker (λ r. is_listed r.map (named_by namers r.target) ≡ true) (λ r. is_listed r.map (named_by namers' r.target) ≡ true) (λ r there. kept r.target r.map there) rows old.by_target) target;
+    })
+
+map-remove : (rows : List Row) (place : ℕ) → map_numbers (remove rows place) ≡ remove (map_numbers rows) place
+map-remove [] zero = refl
+map-remove [] (suc place) = refl
+map-remove (row ∷ rows) zero = refl
+map-remove (row ∷ rows) (suc place) = ap (λ xs. row.map ∷ xs) (map-remove rows place)
+
+not_true : (b : Bool) → not b ≡ true → b ≡ false
+not_true true e = cc
+not_true false e = refl
+
+pub found_remove : (ids : List ℕ) (namers namers' : Listing) (rows : List Row) (m place : ℕ) (row : Row) → IsFound ids namers rows → position (is_of m) rows ≡ Some place
+    → ((w n : ℕ) → n ≢ m → is_listed n (named_by namers w) ≡ true → is_listed n (named_by namers' w) ≡ true)
+    → (ids' : List ℕ) (rows' : List Row) → ids' ≡ remove ids place → rows' ≡ remove rows place → IsFound ids' namers' rows'
+found_remove ids namers namers' rows m place row old found kept ids' rows' e f =
+    subst (λ rs. IsFound ids' namers' rs) (sym f) (record {
+      beside = e ∙ (ap (λ xs. remove xs place) old.beside ∙ sym (map-remove rows place));
+      distinct = all_pairs_remove (λ x y. x.map ≢ y.map) rows place (position-Some (is_of m) rows place row found).0 old.distinct;
+      by_source = subst (All (λ r. is_listed r.map (named_by namers' r.source) ≡ true)) gone
+          (λ k d within. kept (get_or (filter others rows) k d).source (get_or (filter others rows) k d).map (other k d within)
+          (All-filter others (λ r. is_listed r.map (named_by namers r.source) ≡ true) rows old.by_source k d within));
+      by_target = subst (All (λ r. is_listed r.map (named_by namers' r.target) ≡ true)) gone
+          (λ k d within. kept (get_or (filter others rows) k d).target (get_or (filter others rows) k d).map (other k d within)
+          (All-filter others (λ r. is_listed r.map (named_by namers r.target) ≡ true) rows old.by_target k d within));
+    })
+  where
+    others : Row → Bool
+    others r = not (is_of m r)
+
+    gone : filter (λ r. not (is_of m r)) rows ≡ remove rows place
+    gone = filter_found m rows place row found old.distinct
+
+    other : (k : ℕ) (d : Row) → k < length (filter (λ r. not (is_of m r)) rows) → (get_or (filter (λ r. not (is_of m r)) rows) k d).map ≢ m
+    other k d within = unequal m (get_or (filter (λ r. not (is_of m r)) rows) k d).map (not_true (is_of m (get_or (filter (λ r. not (is_of m r)) rows) k d)) (filter_passes (λ r. not (is_of m r)) rows k d within))
+
+pub found_told : (ids : List ℕ) (namers : Listing) (rows : List Row) (event : Event) → IsFound ids namers rows → (rows' : List Row) → rows' ≡ map (row_after event) rows → IsFound ids namers rows'
+found_told ids namers rows event old rows' e =
+    subst (λ rs. IsFound ids namers rs) (sym e) (record {
+      beside = old.beside ∙ sym (numbers_told rows);
+      distinct = λ i j d less within same.
+          let here : j < length rows = rw length-map at within in
+          let one : (get_or (map (row_after event) rows) i d).map ≡ (get_or rows i d).map =
+          ap (λ r. r.map) (get_or-map (row_after event) rows i d d (omega arith)) ∙ same_map event (get_or rows i d) in
+          let two : (get_or (map (row_after event) rows) j d).map ≡ (get_or rows j d).map =
+          ap (λ r. r.map) (get_or-map (row_after event) rows j d d here) ∙ same_map event (get_or rows j d) in
+          old.distinct i j d less here (sym one ∙ (same ∙ two));
+      by_source = All-map (λ r. is_listed r.map (named_by namers r.source) ≡ true) (row_after event) rows
+          (All-weaker (λ r. is_listed r.map (named_by namers r.source) ≡ true) (λ r. is_listed (row_after event r).map (named_by namers (row_after event r).source) ≡ true)
+          (λ r there. (λ k. is_listed (same_map event r k) (named_by namers (same_source event r k))) ∙ there) rows old.by_source);
+      by_target = All-map (λ r. is_listed r.map (named_by namers r.target) ≡ true) (row_after event) rows
+          (All-weaker (λ r. is_listed r.map (named_by namers r.target) ≡ true) (λ r. is_listed (row_after event r).map (named_by namers (row_after event r).target) ≡ true)
+          (λ r there. (λ k. is_listed (same_map event r k) (named_by namers (same_target event r k))) ∙ there) rows old.by_target);
+    })
+  where
+    numbers_told : (rs : List Row) → map_numbers (map (row_after event) rs) ≡ map_numbers rs
+    numbers_told [] = refl
+    numbers_told (r ∷ rs) = λ k. same_map event r k ∷ numbers_told rs k
+
+-- rows that were lent as a slice
+pub put_back : (rows new : List Row) (n : ℕ) → n ≡ length rows → length new ≡ length rows → take n (new ++ drop (length new) rows) ≡ new
+put_back rows new n e f = take-append-le n new (drop (length new) rows) (omega arith) ∙ take_all n new (omega arith)
+
+-- ---- a new row
+pub new_with : (row : Row) (rows now : List Row) → rows ≡ now → position (is_of row.map) rows ≡ None → rows ++ row ∷ [] ≡ with_new_row row now
+new_with row rows now seen missed =
+    let new : list_any (is_of row.map) rows ≡ false = any_found (is_of row.map) rows (find-missed (is_of row.map) rows missed) in
+    subst (λ rs. rows ++ row ∷ [] ≡ with_new_row row rs) seen (rw new refl)
+
+pub old_with : (row : Row) (rows now : List Row) → rows ≡ now → list_any (is_of row.map) rows ≡ true → now ≡ with_new_row row now
+old_with row rows now seen there =
+    let here : list_any (is_of row.map) now ≡ true = ap (list_any (is_of row.map)) (sym seen) ∙ there in
+    rw here refl
+
+-- ---- what holds of each row holds of the one that is found
+some_is : (x y : Row) → Some x ≡ Some y → x ≡ y
+some_is x y e = cc
+
+pub found_among : (p : Row → Bool) (P : Row → Type 0) (rows : List Row) (row : Row) → All P rows → find p rows ≡ Some row → P row
+found_among p P [] row all e = cc
+found_among p P (r ∷ rows) row all e = by (p r) refl e (found_among p P rows row (All-tail P r rows all))
+  where
+    by : (b : Bool) → p r ≡ b → cond b (Some r) (find p rows) ≡ Some row → (find p rows ≡ Some row → P row) → P row
+    by true here f rest = subst P (some_is r row f) (all 0 r (omega arith))
+    by false other f rest = rest f

@@ -1,0 +1,9 @@
+pub mod Sets
+pub mod Places
+pub mod Naming
+pub mod Events
+pub mod Telling
+pub mod Found
+pub mod Ends
+pub mod Law
+pub mod Examples

@@ -1,0 +1,20 @@
+use Rattle.std.proofs.Common.{◌≡◌, sym, ◌∙◌, ap, position, find, Some, None}
+use Rattle.fc_bits.specs.Grains.{count_set}
+use Rattle.fc_diff.specs.Table.{is_of, row_restart}
+use Rattle.fc_diff.proofs.Places.{find-missed}
+use Rattle.fc_diff.proofs.Found.{row_found}
+use Rattle.fc_diff.proofs.changes.Changes.restart_count.Goals as goal
+
+pub returns-in-Some : goal.returns-in-Some
+returns-in-Some c =
+    let m = c.args.map.0 in
+    let found : position (is_of m) c.self.inside.rows.items ≡ Some c.in-Some.place = ap (position (is_of m)) (sym c.as_slice.ensures.value) ∙ (sym c.place_of.ensures ∙ c.in-Some.is) in
+    let row : find (is_of m) c.args.self.now ≡ Some c.index.result.now = ap (find (is_of m)) (sym c.self.view_is) ∙ row_found m c.self.inside.rows.items c.in-Some.place c.index.result.now found c.index.ensures in
+    c.count.ensures ∙ (ap count_set c.restart.ensures.grains ∙ ap (λ o. count_set (row_restart o)) (sym row))
+
+pub returns-in-None : goal.returns-in-None
+returns-in-None c =
+    let m = c.args.map.0 in
+    let missed : position (is_of m) c.self.inside.rows.items ≡ None = ap (position (is_of m)) (sym c.as_slice.ensures.value) ∙ (sym c.place_of.ensures ∙ c.in-None.is) in
+    let none : find (is_of m) c.args.self.now ≡ None = ap (find (is_of m)) (sym c.self.view_is) ∙ find-missed (is_of m) c.self.inside.rows.items missed in
+    ap (λ o. count_set (row_restart o)) (sym none)

@@ -1,0 +1,81 @@
+-- The disks for new volumes.
+use Rattle.std.proofs.Common.{◌≡◌, ℕ, ◌+◌, ◌<◌, ◌≤◌, Bool, true, false, not, cond, List, [], ◌∷◌, ◌++◌, length, drop, get_or, refl, sym, ◌∙◌, ap, subst, arith}
+use Rattle.std.specs.List.{All, sum_by, count_by}
+use Rattle.std.proofs.lemmas.List.{length-append, length-drop}
+use Rattle.std.proofs.lemmas.List.{get_or_append_left, get_or_push}
+use Rattle.std.proofs.lemmas.List.Sums.{sum_by-cons, sum_by-append, sum_by_push}
+use Rattle.fc_base.specs.declared.disk.DiskKind.{DiskKind}
+use Rattle.fc_base.specs.declared.disk.DiskKind.TheVariants.{Flat, Thin}
+use Rattle.fc_mdisk.specs.Disk.{DiskState, is_flat, cleared}
+use Rattle.fc_grains.specs.Grains.{IsUnarmed}
+use Rattle.fc_grains.specs.Parts.{AreReady, QueuesState, SameDisks, disks_in, queue_of, with_queue}
+use Rattle.fc_grains.specs.declared.pool.Reserved.{Reserved}
+
+-- the disks that were handed in are those that aren't sorted yet and those that are
+pub record IsSorting (all left : List DiskState) (queues : QueuesState) : Type 0 where
+  pub disks : SameDisks (left ++ disks_in queues) all
+  pub flat_count : count_by (λ (d : DiskState). is_flat d.kind) left + length queues.flat ≡ count_by (λ (d : DiskState). is_flat d.kind) all
+  pub thin_count : count_by (λ (d : DiskState). not (is_flat d.kind)) left + length queues.thin ≡ count_by (λ (d : DiskState). not (is_flat d.kind)) all
+  pub unarmed : All IsUnarmed left
+  pub number : length left + length (disks_in queues) ≡ length all
+
+-- a disk goes from the end of the ones to the front of the others
+moved : (f : DiskState → ℕ) (left : List DiskState) (d : DiskState) (flat thin : List DiskState)
+    → sum_by f (left ++ ((d ∷ flat) ++ thin)) ≡ sum_by f ((left ++ d ∷ []) ++ (flat ++ thin))
+moved f left d flat thin =
+    sum_by-append f left (d ∷ (flat ++ thin))
+    ∙ omega (arith, sum_by-cons f d (flat ++ thin), sum_by_push f left d)
+    ∙ sym (sum_by-append f (left ++ d ∷ []) (flat ++ thin))
+
+moved_behind : (f : DiskState → ℕ) (left : List DiskState) (d : DiskState) (flat thin : List DiskState)
+    → sum_by f (left ++ (flat ++ (d ∷ thin))) ≡ sum_by f ((left ++ d ∷ []) ++ (flat ++ thin))
+moved_behind f left d flat thin =
+    sum_by-append f left (flat ++ (d ∷ thin))
+    ∙ omega (arith, sum_by-append f flat (d ∷ thin), sum_by-cons f d thin, sum_by-append f flat thin, sum_by_push f left d)
+    ∙ sym (sum_by-append f (left ++ d ∷ []) (flat ++ thin))
+
+-- a count of the disks that pass a test, of which the last does or doesn't
+one_if : (test : DiskState → Bool) (left : List DiskState) (d : DiskState) (b : Bool) → test d ≡ b → count_by test (left ++ d ∷ []) ≡ count_by test left + cond b 1 0
+one_if test left d b passes =
+    sum_by_push (λ (x : DiskState). cond (test x) 1 0) left d ∙ ap (λ (t : Bool). count_by test left + cond t 1 0) passes
+
+front_all : (P : DiskState → Type 0) (left : List DiskState) (d : DiskState) → All P (left ++ d ∷ []) → All P left
+front_all P left d all k e within =
+    let same : get_or (left ++ d ∷ []) k e ≡ get_or left k e = get_or_append_left left (d ∷ []) e k within in
+    subst P same (all k e (omega (arith, length-append left (d ∷ []))))
+
+pub sorting : (all left : List DiskState) (queues : QueuesState) (d : DiskState) (kind : DiskKind) → d.kind ≡ kind → IsSorting all (left ++ d ∷ []) queues
+    → IsSorting all left (with_queue kind (d ∷ queue_of kind queues) queues)
+sorting all left queues d Flat is s = record {
+  disks = λ count. moved (λ x. count (cleared x)) left d queues.flat queues.thin ∙ s.disks count;
+  flat_count = omega (arith, s.flat_count, one_if (λ (x : DiskState). is_flat x.kind) left d true (ap is_flat is));
+  thin_count = omega (arith, s.thin_count, one_if (λ (x : DiskState). not (is_flat x.kind)) left d false (ap (λ (k : DiskKind). not (is_flat k)) is));
+  unarmed = front_all IsUnarmed left d s.unarmed;
+  number = omega (arith, s.number, length-append left (d ∷ []));
+}
+sorting all left queues d Thin is s = record {
+  disks = λ count. moved_behind (λ x. count (cleared x)) left d queues.flat queues.thin ∙ s.disks count;
+  flat_count = omega (arith, s.flat_count, one_if (λ (x : DiskState). is_flat x.kind) left d false (ap is_flat is));
+  thin_count = omega (arith, s.thin_count, one_if (λ (x : DiskState). not (is_flat x.kind)) left d true (ap (λ (k : DiskKind). not (is_flat k)) is));
+  unarmed = front_all IsUnarmed left d s.unarmed;
+  number = omega (arith, s.number, length-append left (d ∷ []), length-append queues.flat (d ∷ queues.thin), length-append queues.flat queues.thin);
+}
+
+pub last_unarmed : (left : List DiskState) (d : DiskState) → All IsUnarmed (left ++ d ∷ []) → IsUnarmed d
+last_unarmed left d all =
+    let at : get_or (left ++ d ∷ []) (length left) d ≡ d = get_or_push left d d (length left) refl in
+    subst IsUnarmed at (all (length left) d (omega (arith, length-append left (d ∷ []))))
+
+-- the volumes to come need as many disks as they are
+number_after : (kind : DiskKind) (queues : QueuesState) → 0 < length (queue_of kind queues)
+    → length (disks_in (with_queue kind (drop 1 (queue_of kind queues)) queues)) + 1 ≡ length (disks_in queues)
+number_after Flat queues some =
+    omega (arith, length-append (drop 1 queues.flat) queues.thin, length-append queues.flat queues.thin, length-drop 1 queues.flat)
+number_after Thin queues some =
+    omega (arith, length-append queues.flat (drop 1 queues.thin), length-append queues.flat queues.thin, length-drop 1 queues.thin)
+
+pub enough : (bytes : ℕ) (queues : QueuesState) (reserved : List Reserved) → AreReady bytes queues reserved → length reserved ≤ length (disks_in queues)
+enough bytes queues [] ready = omega arith
+enough bytes queues (r ∷ rest) ready =
+    let behind = enough bytes (with_queue r.kind (drop 1 (queue_of r.kind queues)) queues) rest ready.2 in
+    omega (arith, number_after r.kind queues ready.0)

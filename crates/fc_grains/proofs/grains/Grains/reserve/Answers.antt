@@ -1,0 +1,42 @@
+use Rattle.std.proofs.Common.{◌∙◌, length, map, ap, sym, arith}
+use Rattle.std.proofs.lemmas.List.{length-map}
+use Rattle.std.proofs.lemmas.Result.{on_ok_weaker, on_err_weaker}
+use Rattle.fc_grains.specs.Parts.{new_of}
+use Rattle.fc_grains.proofs.Moving.{coming_by, kept_reserved, on_ok_at, state_reserved}
+use Rattle.fc_grains.proofs.grains.Grains.reserve.Goals as goal
+
+pub invariant_of-self-2 : goal.invariant_of-self-2
+invariant_of-self-2 g c =
+    let room = on_ok_at c.reserve.result (sym c.is_err.ensures.value ∙ c.if-is_err.false) c.reserve.ensures.ok in
+    let room_aside = on_ok_at c.reserve-2.result (sym c.is_err-2.ensures.value ∙ c.if-is_err-2.false) c.reserve-2.ensures.ok in
+    kept_reserved c.self.inside.grain c.self.inside.volumes.items c.reserve.new.self.items c.self.inside.pool c.reserve-3.new.self (map g.D.Mdisk.meaning c.self.inside.aside.items) (map g.D.Mdisk.meaning c.reserve-2.new.self.items) c.self.inside.buffer.items c.self.inside.sums
+    c.reserve.ensures.items (ap (map g.D.Mdisk.meaning) c.reserve-2.ensures.items) c.reserve-3.ensures.disks c.self.inside.volumes.cap c.reserve.new.self.cap c.self.inside.aside.cap c.reserve-2.new.self.cap c.self.invariant c.reserve-3.ensures.bytes
+    (coming_by c.reserve-3.result _ _ _ c.reserve-3.ensures.ok c.reserve-3.ensures.err)
+    (omega (arith, room, c.reserved-coming.ensures.count, c.reserve.new.self.ok.0, ap length c.reserve.ensures.items))
+    (omega (
+      arith,
+      room_aside,
+      c.reserved-coming.ensures.count,
+      c.len.ensures,
+      c.reserve.new.self.ok.0,
+      ap length c.reserve.ensures.items,
+      c.reserve-2.new.self.ok.0,
+      ap length c.reserve-2.ensures.items,
+      length-map c.self.inside.aside.items g.D.Mdisk.meaning,
+    ))
+
+pub returns-clause-ok : goal.returns-clause-ok
+returns-clause-ok g c =
+    rw (← c.self.view_is)
+    (on_ok_weaker c.reserve-3.result
+    (λ done. state_reserved c.self.inside.grain c.self.inside.volumes.items c.reserve.new.self.items c.self.inside.pool c.reserve-3.new.self (map g.D.Mdisk.meaning c.self.inside.aside.items) (map g.D.Mdisk.meaning c.reserve-2.new.self.items) c.self.inside.buffer.items c.self.inside.sums
+    c.reserve.ensures.items (ap (map g.D.Mdisk.meaning) c.reserve-2.ensures.items) c.reserve-3.ensures.disks _ done c.reserve-3.ensures.left)
+    c.reserve-3.ensures.ok)
+
+pub returns-clause-err : goal.returns-clause-err
+returns-clause-err g c =
+    rw (← c.self.view_is)
+    (on_err_weaker c.reserve-3.result
+    (λ same. state_reserved c.self.inside.grain c.self.inside.volumes.items c.reserve.new.self.items c.self.inside.pool c.reserve-3.new.self (map g.D.Mdisk.meaning c.self.inside.aside.items) (map g.D.Mdisk.meaning c.reserve-2.new.self.items) c.self.inside.buffer.items c.self.inside.sums
+    c.reserve.ensures.items (ap (map g.D.Mdisk.meaning) c.reserve-2.ensures.items) c.reserve-3.ensures.disks _ (ap (map new_of) same) c.reserve-3.ensures.left)
+    c.reserve-3.ensures.err)

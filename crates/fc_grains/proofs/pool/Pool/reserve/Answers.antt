@@ -1,0 +1,13 @@
+use Rattle.std.proofs.Common.{◌<◌, ◌∙◌, map, sym}
+use Rattle.fc_base.specs.Pools.{of_kind}
+use Rattle.fc_grains.specs.Grains.{reserved_of}
+use Rattle.fc_grains.specs.Parts.{left_in, new_of}
+use Rattle.fc_grains.proofs.Readying.{reserved_ready}
+use Rattle.fc_grains.proofs.pool.Pool.reserve.Goals as goal
+
+pub invariant_of-self-3 : goal.invariant_of-self-3
+invariant_of-self-3 g c =
+    let some : reserved_of c.args.kind (map new_of c.self.inside.reserved.items) < of_kind c.args.kind (left_in c.self.inside.queues) = rw (← c.self.view_is) at c.requires in
+    reserved_ready c.push.result c.args.kind c.in-Ok.lost c.self.inside.bytes c.args.grains c.self.inside.reserved.items c.reserve.new.self.items c.push.new.self.items c.self.inside.queues c.format.new.self
+    c.reserved_of-place.result c.in-Ok.ensures c.reserve.ensures.items c.push.ensures.items (sym c.is_err-2.ensures.value ∙ c.if-is_err-2.false)
+    c.reserved_of-place.ensures some c.in-Ok-format.ensures.ok c.self.invariant

@@ -1,0 +1,91 @@
+-- All that contracts see of the grains of a lane.
+use Rattle.std.specs.Prelude.{◌≡◌, ℕ, ◌-◌, ◌^◌, min, Bool, not, List, [], ◌∷◌, length, replicate, count_by, Option, Some, None, IfSome}
+use Rattle.std.specs.List.{sum_by}
+use Rattle.fc_base.specs.Grain.{grain_bytes}
+use Rattle.fc_base.specs.Pools.{Pool}
+use Rattle.fc_base.specs.declared.disk.DiskKind.{DiskKind}
+use Rattle.fc_base.specs.declared.disk.DiskKind.TheVariants.{Flat, Thin}
+use Rattle.fc_base.specs.declared.size.GrainSize.{GrainSize}
+use Rattle.fc_mdisk.specs.Disk.{DiskState, is_flat}
+use Rattle.fc_mdisk.specs.Disks.{calls_of, faults_of, write_faults_of}
+use Rattle.fc_grains.specs.Volumes.{VolumeGrains}
+
+-- A volume that is to be made.
+pub record NewVolume : Type 0 where
+  pub kind : DiskKind
+  pub grains : ℕ
+
+-- The volumes that are there, in order of id; how many disks are left for new volumes; the new volumes that take no memory, in the
+-- order in which they are made; the bytes of the grain at hand; and of all disks together, those of the pool and those
+-- put aside too: how many there are, how many of them don't tell their armed fault, and their counts, which stand still
+-- at 2^64 - 1.
+pub record GrainsState : Type 0 where
+  pub grain : GrainSize
+  pub volumes : List VolumeGrains
+  pub pool : Pool
+  pub reserved : List NewVolume
+  pub buffer : List ℕ
+  pub disks : ℕ
+  pub silent : ℕ
+  pub calls : ℕ
+  pub faults : ℕ
+  pub write_faults : ℕ
+
+-- A count that stands still at the last value of its type.
+abbrev pub stopped : ℕ → ℕ
+stopped n = min n (2 ^ 64 - 1)
+
+-- How many disks don't tell their armed fault.
+abbrev pub one_if_silent : Option ℕ → ℕ
+one_if_silent None = 1
+one_if_silent (Some _) = 0
+
+abbrev pub silent_of : List DiskState → ℕ
+silent_of disks = sum_by (λ d. one_if_silent d.due) disks
+
+-- How many disks of each kind there are.
+abbrev pub pool_of : List DiskState → Pool
+pool_of disks = record {
+  flat = count_by (λ d. is_flat d.kind) disks;
+  thin = count_by (λ d. not (is_flat d.kind)) disks;
+}
+
+-- How many of the new volumes are of a kind.
+abbrev pub is_of_kind : DiskKind → NewVolume → Bool
+is_of_kind Flat new = is_flat new.kind
+is_of_kind Thin new = not (is_flat new.kind)
+
+abbrev pub reserved_of : DiskKind → List NewVolume → ℕ
+reserved_of kind reserved = count_by (is_of_kind kind) reserved
+
+-- The new volume that is made next.
+abbrev pub next_of : List NewVolume → NewVolume
+next_of [] = record { kind = Flat; grains = 0 }
+next_of (new ∷ reserved) = new
+
+-- A disk that tells its armed fault has none.
+abbrev pub IsUnarmed : DiskState → Type 0
+IsUnarmed disk = IfSome disk.due (λ n. n ≡ 0)
+
+-- No volumes, over these disks, all of them in the pool.
+abbrev pub opened : GrainSize → List DiskState → GrainsState
+opened grain disks = record {
+  grain = grain;
+  volumes = [];
+  pool = pool_of disks;
+  reserved = [];
+  buffer = replicate (grain_bytes grain) 0;
+  disks = length disks;
+  silent = silent_of disks;
+  calls = stopped (calls_of disks);
+  faults = stopped (faults_of disks);
+  write_faults = stopped (write_faults_of disks);
+}
+
+-- These disks are all that there are, with their counts.
+pub record AreAllOf (state : GrainsState) (disks : List DiskState) : Type 0 where
+  pub number : length disks ≡ state.disks
+  pub silent : silent_of disks ≡ state.silent
+  pub calls : stopped (calls_of disks) ≡ state.calls
+  pub faults : stopped (faults_of disks) ≡ state.faults
+  pub write_faults : stopped (write_faults_of disks) ≡ state.write_faults

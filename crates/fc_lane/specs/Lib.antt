@@ -1,3 +1,0 @@
--- What contracts of the lane cite.
-pub mod LaneState
-pub mod LaneFits

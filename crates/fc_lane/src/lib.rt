@@ -1,2 +1,0 @@
-//! One lane of the store.
-#![tactic(auto)]

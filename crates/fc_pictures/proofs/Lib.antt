@@ -1,0 +1,12 @@
+pub mod Volumes
+pub mod Staying
+pub mod Leaving
+pub mod Splits
+pub mod Forces
+pub mod Triggers
+pub mod Grains
+pub mod Fitting
+pub mod Running
+pub mod Lawful
+pub mod Agreeing
+pub mod Examples

@@ -1,0 +1,4 @@
+mod Lists
+mod Writes
+mod BlockLemmas
+mod Cuts
