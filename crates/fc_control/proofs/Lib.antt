@@ -5,3 +5,4 @@ pub mod Naming
 pub mod Working
 pub mod Grouping
 pub mod Volumes
+pub mod Removing

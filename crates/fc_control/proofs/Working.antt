@@ -16,7 +16,7 @@ no_items [] = refl
 no_items (x ∷ xs) = no_items xs
 
 -- what is told of each is told of all
-told_all : {X : Type 0} (f : X → List LaneEvent) (xs : List X) → all_deeds (λ x. told (f x)) xs ≡ told (flat_map f xs)
+pub told_all : {X : Type 0} (f : X → List LaneEvent) (xs : List X) → all_deeds (λ x. told (f x)) xs ≡ told (flat_map f xs)
 told_all f xs = deed_of (flat_map (λ x. []) xs) [] (flat_map f xs) (flat_map f xs) (flat_map (λ x. []) xs) [] (no_items xs) refl (no_items xs)
 
 abbrev event_of : Books → Mapping → LaneEvent
@@ -38,7 +38,7 @@ all_told b = told_all (work_told b None) b.tables.mappings ∙ ap told (each_tol
 abbrev pub with_reply : Reply → Deed → Decision
 with_reply reply d = record { reply = reply; effects = d.effects; events = d.events; changes = d.changes }
 
-told_behind : (d : Deed) (events : List LaneEvent) → (d then told events) ≡ (record d { events = d.events ++ events })
+pub told_behind : (d : Deed) (events : List LaneEvent) → (d then told events) ≡ (record d { events = d.events ++ events })
 told_behind d events = deed_of (d.effects ++ []) d.effects (d.events ++ events) (d.events ++ events) (d.changes ++ []) d.changes (append-nil d.effects) refl (append-nil d.changes)
 
 pub concluded :

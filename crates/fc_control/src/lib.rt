@@ -5,11 +5,12 @@
 //! `fc_books/specs/Deciding.antt`: `settle` is `settle`, and each `decide_..` is `decide` of its command. Want of memory
 //! alone is free, and changes nothing.
 //!
-//! So far there are `settle`, and the decisions on `mkvdisk`, `mkfcconsistgrp`, `armfault`, `advance` and the two reports
-//! on one mapping. The others, and `reserve` and `apply`, are to come.
+//! So far there are `settle`, and the decisions on `mkvdisk`, `rmfcmap`, `mkfcconsistgrp`, `armfault`, `advance` and the
+//! two reports on one mapping. The others, and `reserve` and `apply`, are to come.
 //!
 //! In reading order: `draft` (a decision as it is put together), `ending` (how the copy of a mapping ends), `control`,
-//! `asking` (what is asked of a copy), `settle`, `work` (background work), `name`, `decide`, `mkvdisk`.
+//! `asking` (what is asked of a copy), `settle`, `work` (background work), `name`, `decide`, `mkvdisk`,
+//! `rmfcmap`.
 #![tactic(auto)]
 
 mod asking;
@@ -19,6 +20,7 @@ mod draft;
 mod ending;
 mod mkvdisk;
 mod name;
+mod rmfcmap;
 mod settle;
 mod work;
 
