@@ -1,0 +1,9 @@
+-- The definitions on closed examples, and what follows from them.
+pub mod Examples
+pub mod StopExamples
+pub mod GroupExamples
+pub mod Triggering
+pub mod Using
+pub mod Keeping
+pub mod Depending
+pub mod Unchanged

@@ -1,0 +1,8 @@
+-- Lemmas, one subject a file.
+pub mod Deeds
+pub mod Settled
+pub mod Naming
+pub mod Working
+pub mod Grouping
+pub mod Volumes
+pub mod Removing

@@ -1,0 +1,6 @@
+-- What the contracts of the control part cite beside `fc_books`.
+pub mod Control
+pub mod Outcome
+pub mod Telling
+pub mod Names
+pub mod Volumes

@@ -1,0 +1,90 @@
+//! The control part.
+
+ghost use Rattle.std.specs.Prelude.{◌≡◌, [], IfOk};
+ghost use Rattle.fc_base.specs.Tables.{no_tables};
+ghost use Rattle.fc_control.specs.Control.{books_of};
+
+use crate::draft::Draft;
+use fc_base::outcome::NoMemory;
+use fc_base::size::GrainSize;
+use fc_pick::WorkFlags;
+use fc_registry::Registry;
+use std::alloc::Global;
+use std::marker::Model;
+
+/// The control part: the tables, the ids that come next, and which mappings have background work.
+#[derive(Drop)]
+pub struct Control {
+    registry: Registry,
+    grain: GrainSize,
+    next_volume: u32,
+    next_mapping: u32,
+    next_group: u32,
+    flags: Vec<WorkFlags>,
+}
+
+impl Model for Control {
+    ghost use Rattle.fc_control.specs.Control.{ControlState};
+
+    ghost Value = { ControlState };
+
+    ghost view = { λ c. record { grain = c.grain; tables = c.registry.tables; next_volume = c.next_volume; next_mapping = c.next_mapping; next_group = c.next_group; flags = c.flags.items } };
+}
+
+impl Control {
+    /// The control part of a run that begins: empty tables. Takes no memory.
+    pub fn new(alloc: Global, grain: GrainSize) -> Self
+        ensures { result ≡ record { grain = grain; tables = no_tables; next_volume = 0; next_mapping = 0; next_group = 1; flags = [] } }
+    {
+        Control {
+            registry: Registry::new(alloc),
+            grain,
+            next_volume: 0,
+            next_mapping: 0,
+            next_group: 1,
+            flags: Vec::new(alloc),
+        }
+    }
+
+    /// The tables.
+    pub fn registry(&self) -> &Registry
+        ensures { result.now.tables ≡ self.now.tables }
+    {
+        &self.registry
+    }
+
+    /// The grain size that it was made with.
+    pub fn grain(&self) -> GrainSize
+        ensures { result ≡ self.now.grain }
+    {
+        self.grain
+    }
+
+    /// The mappings with background work, by id.
+    pub fn flags(&self) -> &[WorkFlags]
+        ensures { result.now ≡ self.now.flags }
+    {
+        self.flags.as_slice()
+    }
+
+    /// The id that the next volume gets.
+    pub fn next_volume(&self) -> u32
+        ensures { result ≡ self.now.next_volume }
+    {
+        self.next_volume
+    }
+
+    /// The id that the next mapping gets.
+    pub fn next_mapping(&self) -> u32
+        ensures { result ≡ self.now.next_mapping }
+    {
+        self.next_mapping
+    }
+
+    /// The id that the next group gets.
+    pub fn next_group(&self) -> u32
+        ensures { result ≡ self.now.next_group }
+    {
+        self.next_group
+    }
+}

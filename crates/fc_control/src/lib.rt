@@ -1,0 +1,30 @@
+//! The control part: it decides every command, by the tables and by what it asks of the chains.
+//!
+//! A `Control` has the tables of volumes, mappings and groups, the ids that come next, and which mappings have
+//! background work. It never changes a chain: a decision says what the lanes are to do. Decisions are exactly those of
+//! `fc_books/specs/Deciding.antt`: `settle` is `settle`, and each `decide_..` is `decide` of its command. Want of memory
+//! alone is free, and changes nothing.
+//!
+//! So far there are `settle`, and the decisions on `mkvdisk`, `rmfcmap`, `mkfcconsistgrp`, `armfault`, `advance` and the
+//! two reports on one mapping. The others, and `reserve` and `apply`, are to come.
+//!
+//! In reading order: `draft` (a decision as it is put together), `ending` (how the copy of a mapping ends), `control`,
+//! `asking` (what is asked of a copy), `settle`, `work` (background work), `name`, `decide`, `mkvdisk`,
+//! `rmfcmap`.
+#![tactic(auto)]
+
+mod asking;
+mod control;
+mod decide;
+mod draft;
+mod ending;
+mod mkvdisk;
+mod name;
+mod rmfcmap;
+mod settle;
+mod work;
+
+pub use control::Control;
+
+#[cfg(test)]
+mod tests;

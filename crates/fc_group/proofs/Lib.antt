@@ -1,0 +1,4 @@
+-- Lemmas, one subject a file.
+pub mod Members
+pub mod Least
+pub mod Noting

@@ -1,0 +1,3 @@
+-- What the contracts of groups cite beside `fc_books`.
+pub mod States
+pub mod Found
