@@ -15,9 +15,6 @@ pub record AreDone {A : Type 0} (entries : List Entry) (before after : ℕ → A
   pub done : (j : ℕ) → j < i → j < length entries → now (entry_at entries j).place ≡ after (entry_at entries j).place
   pub rest : (k : ℕ) → k < bound → ((j : ℕ) → j < i → j < length entries → (entry_at entries j).place ≢ k) → now k ≡ before k
 
-pub done_none : {A : Type 0} (entries : List Entry) (before after now : ℕ → A) (bound : ℕ) → ((k : ℕ) → k < bound → now k ≡ before k) → AreDone entries before after bound 0 now
-done_none entries before after now bound e = record { done = λ j lt jl. absurd (omega arith); rest = λ k kl f. e k kl }
-
 pub done_more : {A : Type 0} (slots : List Slot) (v : ℕ) (entries : List Entry) (before after now next : ℕ → A) (bound i p : ℕ) → ListsVolume slots v entries → i < length entries → (entry_at entries i).place ≡ p → next p ≡ after p → ((k : ℕ) → k ≢ p → next k ≡ now k) →
     AreDone entries before after bound i now → AreDone entries before after bound (i + 1) next
 done_more {A} slots v entries before after now next bound i p l lt e here same d = record {
@@ -49,9 +46,6 @@ done_not slots v entries before after now i l d k kl ne = d.rest k kl (λ j ji j
 pub record AreTurned (f : Slot → Slot) (entries : List Entry) (old : List Slot) (i : ℕ) (now : List Slot) : Type 0 where
   pub size : length now ≡ length old
   pub turned : AreDone entries (slot_at old) (λ k. f (slot_at old k)) (length old) i (slot_at now)
-
-pub turned_none : (f : Slot → Slot) (entries : List Entry) (slots : List Slot) → AreTurned f entries slots 0 slots
-turned_none f entries slots = record { size = refl; turned = done_none entries (slot_at slots) (λ k. f (slot_at slots k)) (slot_at slots) (length slots) (λ k kl. refl) }
 
 pub turned_there : (f : Slot → Slot) (v : ℕ) (entries : List Entry) (old now : List Slot) (i : ℕ) → ListsVolume old v entries → i < length entries → AreTurned f entries old i now → (entry_at entries i).place < length now
 turned_there f v entries old now i l lt t =
@@ -129,21 +123,12 @@ own_but slots g v k e = rw (eq-eqb (slot_at slots k).volume v e) refl
 other : (slots : List Slot) (g v k : ℕ) → (slot_at slots k).volume ≢ v → but_own slots g v k ≡ tally_of slots k
 other slots g v k ne = rw (ne_eqb (slot_at slots k).volume v ne) refl
 
-pub left_next : (slots : List Slot) (g v : ℕ) (entries : List Entry) (tallies : List Tally) (i : ℕ) → ListsVolume slots v entries → i < length entries → AreDone entries (tally_of slots) (tally_but slots g) (length slots) i (tally_at tallies) →
-    tally_at tallies (entry_at entries i).place ≡ tally_of slots (entry_at entries i).place
-left_next slots g v entries tallies i l lt d = done_next slots v entries (tally_of slots) (tally_but slots g) (tally_at tallies) (length slots) i (entry_at entries i).place l lt refl (l.there i lt) d
-
 pub left_own : (slots : List Slot) (g v : ℕ) (entries : List Entry) (tallies : List Tally) (i : ℕ) → ListsVolume slots v entries → length entries ≤ i → AreDone entries (tally_of slots) (tally_but slots g) (length slots) i (tally_at tallies) → AreTalliesBut slots g v None tallies
 left_own slots g v entries tallies i l le d k kl =
     elim (cases_eq (slot_at slots k).volume v) [
       | inl same ↦ done_all slots v entries (tally_of slots) (tally_but slots g) (tally_at tallies) i l le d k kl same ∙ sym (own_but slots g v k same)
       | inr ne ↦ done_not slots v entries (tally_of slots) (tally_but slots g) (tally_at tallies) i l d k kl ne ∙ sym (other slots g v k ne)
     ]
-
-pub put_next : (slots : List Slot) (g v : ℕ) (entries : List Entry) (tallies : List Tally) (i : ℕ) → ListsVolume slots v entries → i < length entries → AreDone entries (but_own slots g v) (tally_of slots) (length slots) i (tally_at tallies) →
-    tally_at tallies (entry_at entries i).place ≡ tally_but slots g (entry_at entries i).place
-put_next slots g v entries tallies i l lt d =
-    done_next slots v entries (but_own slots g v) (tally_of slots) (tally_at tallies) (length slots) i (entry_at entries i).place l lt refl (l.there i lt) d ∙ own_but slots g v (entry_at entries i).place (l.only i lt)
 
 pub put_own : (slots : List Slot) (g v : ℕ) (entries : List Entry) (tallies : List Tally) (i : ℕ) → ListsVolume slots v entries → length entries ≤ i → AreDone entries (but_own slots g v) (tally_of slots) (length slots) i (tally_at tallies) → AreTallies slots tallies
 put_own slots g v entries tallies i l le d k kl =

@@ -214,7 +214,7 @@ impl Index {
         None
     }
 
-    /// The entries of the volume's slots.
+    /// The entries of the volume's slots, in the order of births.
     pub(crate) fn of_volume(&self, volume: u32) -> &[Entry]
         requires { AreRising self.now.entries }
         ensures { (slots : List SheetSlot) → IsIndexOf slots Volume self.now.entries → ListsVolume slots volume result.now }

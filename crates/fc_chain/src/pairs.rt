@@ -128,7 +128,7 @@ fn put_in_own(slots: &[Slot], entries: &[Entry], change: Change, tallies: &mut [
     }
 }
 
-/// Leaves the grain out of the counts of the holder too.
+/// Leaves the grain out of the counts of the holder too, if it is no slot of the volume.
 fn leave_out_holder(slots: &[Slot], change: Change, tallies: &mut [Tally])
     requires there { IfSome change.holder (λ k. k < length slots.now) }
     requires room { length slots.now ≤ length tallies.old }
