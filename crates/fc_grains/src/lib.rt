@@ -21,6 +21,4 @@ mod making;
 mod pool;
 mod queues;
 mod sums;
-#[cfg(test)]
-mod tests;
 mod volume_disk;

@@ -14,8 +14,6 @@ mod effect;
 mod grain;
 mod plain;
 mod reading;
-#[cfg(test)]
-mod tests;
 mod volume;
 
 pub use plain::Plain;
