@@ -11,6 +11,8 @@ use Rattle.fc_base.specs.declared.volume.Mapping.{Mapping}
 use Rattle.fc_base.specs.declared.volume.Volume.{Volume}
 use Rattle.fc_books.specs.Accesses.{is_idle}
 use Rattle.fc_books.specs.Books.{Books}
+use Rattle.fc_pick.specs.Flags.{IsRising}
+use Rattle.fc_pick.specs.declared.work.WorkFlags.{WorkFlags}
 
 -- In each table ids rise and no name comes twice, and ids that are given next were never given.
 pub record AreTables (b : Books) : Type 0 where
@@ -58,8 +60,14 @@ pub record Agree (b : Books) : Type 0 where
   pub by_state : (m : Mapping) → Contains b.tables.mappings m → SlotByState m.state b.sheet.slots m
   pub one_busy : (m n : Mapping) → Contains b.tables.mappings m → Contains b.tables.mappings n → m.target.0 ≡ n.target.0 → is_idle m.state ≡ false → is_idle n.state ≡ false → m.id.0 ≡ n.id.0
 
+-- Background work is noted by id, of mappings that were made.
+pub record AreFlags (b : Books) : Type 0 where
+  pub rising : IsRising b.flags
+  pub given : All (λ (row : WorkFlags). row.map.0 < b.next_mapping) b.flags
+
 -- All of it, and the facts of the chains.
 pub record AreSound (b : Books) : Type 0 where
   pub tables : AreTables b
+  pub flags : AreFlags b
   pub sheet : IsSound b.sheet
   pub agree : Agree b

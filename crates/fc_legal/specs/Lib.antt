@@ -1,0 +1,7 @@
+-- When a history is legal, one subject a file, to be read top to bottom.
+pub mod Whole
+pub mod Steps
+pub mod Legal
+pub mod Asked
+pub mod Run
+pub mod Added

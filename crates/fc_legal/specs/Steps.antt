@@ -1,0 +1,105 @@
+-- When an entry is right after what was told, and what is told after it.
+use Rattle.std.specs.Prelude.{◌≡◌, ℕ, ◌+◌, ◌≤◌, Bool, Option, Some, None, List, [], slice_index_or, slice_set}
+use Rattle.fc_base.specs.declared.command.Command.{Command}
+use Rattle.fc_base.specs.declared.command.Command.TheVariants.{Read as ReadLine, Write as WriteLine}
+use Rattle.fc_base.specs.declared.fault.Refusal.{Refusal}
+use Rattle.fc_base.specs.declared.fault.Refusal.TheVariants.{Words}
+use Rattle.fc_base.specs.declared.request.Place.TheVariants.{Lane, Every, Control}
+use Rattle.fc_base.specs.declared.request.Reply.TheVariants.{Refused}
+use Rattle.fc_base.specs.declared.request.Request.{Request}
+use Rattle.fc_base.specs.declared.request.Request.TheVariants.{Command as Asked, Unread, Read, Write, Copy, Clean}
+use Rattle.fc_base.specs.declared.size.GrainSize.{GrainSize}
+use Rattle.fc_books.specs.Books.{Books}
+use Rattle.fc_books.specs.Deciding.{CommandLeaves}
+use Rattle.fc_books.specs.Refused.{access_refused}
+use Rattle.fc_entry.specs.Picture.{grain_of_block}
+use Rattle.fc_entry.specs.PlainStep.{plain_step, after_effects}
+use Rattle.fc_entry.specs.declared.entry.Entry.{Entry}
+use Rattle.fc_legal.specs.Whole.{Whole, lane_of_grain, all_grains, as_one}
+use Rattle.fc_rules.specs.LaneRight.{LaneAnswers, done_write}
+use Rattle.fc_rules.specs.LaneTold.{sheet_entry}
+
+-- ---- entries that no lane makes
+
+-- Nothing was moved, no disk was called, and none is spoken of.
+pub record IsApart (entry : Entry) : Type 0 where
+  pub no_moves : entry.moves ≡ []
+  pub untorn : entry.torn ≡ None
+  pub no_calls : entry.calls ≡ 0
+  pub no_faults_before : entry.faults_before ≡ 0
+  pub no_faults_after : entry.faults_after ≡ 0
+
+-- The first so many entries are there.
+abbrev pub one_more : Whole → Whole
+one_more w = record w { entries = w.entries + 1 }
+
+-- A refused access and an unread line: they settle nothing and do nothing.
+pub record IsRefused (refusal : Refusal) (w : Whole) (entry : Entry) (next : Whole) : Type 0 where
+  pub place : entry.place ≡ Control
+  pub apart : IsApart entry
+  pub reply : entry.reply ≡ Refused refusal
+  pub no_effects : entry.effects ≡ []
+  pub next_is : next ≡ one_more w
+
+abbrev pub AccessIsRefused : Option Refusal → Whole → Entry → Whole → Type 0
+AccessIsRefused None w entry next = ⊥
+AccessIsRefused (Some refusal) w entry next = IsRefused refusal w entry next
+
+-- Any other command: the settling and what is decided of it. The plain volumes follow its effects. No restart set is known
+-- while no mapping is incremental.
+abbrev pub no_restarts : ℕ → List Bool
+no_restarts m = []
+
+pub record CommandStep (grain : GrainSize) (w : Whole) (command : Command) (entry : Entry) (next : Whole) : Type 0 where
+  pub place : entry.place ≡ Every
+  pub apart : IsApart entry
+  pub books : Books
+  pub leaves : CommandLeaves no_restarts grain w.books command entry.reply entry.effects books
+  pub next_is : next ≡ one_more (record w { books = books; picture = after_effects grain w.picture entry.effects })
+
+abbrev pub CommandIsRight : GrainSize → Whole → Command → Entry → Whole → Type 0
+CommandIsRight grain w (ReadLine volume block count) entry next = AccessIsRefused (access_refused grain w.books volume block count) w entry next
+CommandIsRight grain w (WriteLine volume block count byte) entry next = AccessIsRefused (access_refused grain w.books volume block count) w entry next
+CommandIsRight grain w command entry next = CommandStep grain w command entry next
+
+-- ---- entries of lanes
+
+-- What is told after an entry of a lane: what it moved, wrote and tore, its faults and calls.
+abbrev pub after_access : GrainSize → Whole → ℕ → Entry → Whole
+after_access grain w i entry =
+    record {
+      books = record w.books {
+        sheet = sheet_entry (all_grains grain) w.books.sheet (done_write entry.request entry.reply) entry.moves entry.torn;
+      };
+      picture = plain_step grain w.picture entry;
+      faults = slice_set w.faults i entry.faults_after;
+      calls = slice_set w.calls i (slice_index_or w.calls i 0 + entry.calls);
+      entries = w.entries + 1;
+    }
+
+-- An entry at a grain: it is its lane's, begins with the lane's faults, which never fall, has no effects, and answers as its
+-- request may by all chains and all plain volumes.
+pub record AccessStep (grain : GrainSize) (w : Whole) (number : ℕ) (entry : Entry) (next : Whole) : Type 0 where
+  pub place : entry.place ≡ Lane (lane_of_grain w number)
+  pub faults_before : entry.faults_before ≡ slice_index_or w.faults (lane_of_grain w number) 0
+  pub faults_kept : entry.faults_before ≤ entry.faults_after
+  pub no_effects : entry.effects ≡ []
+  pub answers : LaneAnswers (all_grains grain) (as_one w) entry.request entry
+  pub next_is : next ≡ after_access grain w (lane_of_grain w number) entry
+
+-- ---- all
+
+-- By the request. A worker's turn comes with blocks of actors.
+abbrev pub RequestStep : GrainSize → Whole → Request → Entry → Whole → Type 0
+RequestStep grain w (Asked command) entry next = CommandIsRight grain w command entry next
+RequestStep grain w (Unread fault) entry next = IsRefused (Words fault) w entry next
+RequestStep grain w (Read part) entry next = AccessStep grain w (grain_of_block grain part.block) entry next
+RequestStep grain w (Write part) entry next = AccessStep grain w (grain_of_block grain part.block) entry next
+RequestStep grain w (Copy m g) entry next = AccessStep grain w g.0 entry next
+RequestStep grain w (Clean m g) entry next = AccessStep grain w g.0 entry next
+RequestStep grain w request entry next = ⊥
+
+-- Its number is the next.
+pub record Step (grain : GrainSize) (w : Whole) (entry : Entry) (next : Whole) : Type 0 where
+  pub number : entry.number ≡ w.entries
+  pub right : RequestStep grain w entry.request entry next

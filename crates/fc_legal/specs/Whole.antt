@@ -1,0 +1,105 @@
+-- What a history tells, kept from entry to entry; and the part of it that is one lane's.
+use Rattle.std.specs.Prelude.{ℕ, ◌%◌, Bool, List, [], length, map, replicate, slice_index_or}
+use Rattle.std.specs.List.{range_with_len}
+use Rattle.fc_base.specs.Pools.{Pool}
+use Rattle.fc_base.specs.Sheet.{Slot, Sheet}
+use Rattle.fc_base.specs.Tables.{Tables}
+use Rattle.fc_base.specs.declared.size.GrainSize.{GrainSize}
+use Rattle.fc_base.specs.declared.volume.Volume.{Volume}
+use Rattle.fc_books.specs.Accesses.{access_in}
+use Rattle.fc_books.specs.Books.{Books, opened as opened_books}
+use Rattle.fc_entry.specs.Picture.{Lost, PlainVolume, Picture}
+use Rattle.fc_rules.specs.LaneTold.{LaneOf, LaneVolume, LaneTold, grains_in, number_at}
+
+-- The books that decide commands; what plain volumes hold; for each lane the faults of all disks that it ever had, and how
+-- many calls its entries made on them; and how many entries there are.
+pub record Whole : Type 0 where
+  pub books : Books
+  pub picture : Picture
+  pub faults : List ℕ
+  pub calls : List ℕ
+  pub entries : ℕ
+
+-- Before the first entry, over these disks for new volumes, lane by lane.
+abbrev pub opened : List Pool → Whole
+opened pools =
+    record {
+      books = opened_books pools;
+      picture = [];
+      faults = replicate (length pools) 0;
+      calls = replicate (length pools) 0;
+      entries = 0;
+    }
+
+-- How many lanes there are. A grain belongs to the lane that its number leaves when divided by it.
+abbrev pub lanes : Whole → ℕ
+lanes w = length w.faults
+
+abbrev pub lane_of_grain : Whole → ℕ → ℕ
+lane_of_grain w number = number % lanes w
+
+-- ---- all grains as one lane
+
+-- The one lane that has every grain.
+abbrev pub all_grains : GrainSize → LaneOf
+all_grains grain = record { lane = 0; lanes = 1; grain = grain }
+
+-- A volume, and how hosts reach it.
+abbrev pub volume_told : Tables → Volume → LaneVolume
+volume_told t v = record { volume = v.id; kind = v.kind; access = access_in t v.id }
+
+abbrev pub volumes_told : Tables → List LaneVolume
+volumes_told t = map (volume_told t) t.volumes
+
+-- What such a lane would tell. Its disks are spoken of lane by lane alone.
+abbrev pub as_one : Whole → LaneTold
+as_one w =
+    record {
+      sheet = w.books.sheet;
+      picture = w.picture;
+      volumes = volumes_told w.books.tables;
+      flags = w.books.flags;
+      pool = record { flat = 0; thin = 0 };
+      faults = 0;
+      calls = 0;
+    }
+
+-- ---- the part of a lane
+
+-- Of a list by grains those of a lane, by their places there.
+abbrev pub part : {X : Type 0} → LaneOf → X → List X → List X
+part l past xs = map (λ g. slice_index_or xs (number_at l g) past) (range_with_len 0 (grains_in l (length xs)))
+
+abbrev pub part_of_slot : LaneOf → Slot → Slot
+part_of_slot l slot = record slot { held = part l Bool.false slot.held }
+
+abbrev pub part_of_sheet : LaneOf → Sheet → Sheet
+part_of_sheet l s = record { births = s.births; slots = map (part_of_slot l) s.slots }
+
+abbrev pub part_of_volume : LaneOf → PlainVolume → PlainVolume
+part_of_volume l v = record { volume = v.volume; now = part l Lost v.now; under = part l Lost v.under }
+
+abbrev pub part_of_picture : LaneOf → Picture → Picture
+part_of_picture l picture = map (part_of_volume l) picture
+
+-- The lane of a number, among so many.
+abbrev pub lane_at : GrainSize → Whole → ℕ → LaneOf
+lane_at grain w i = record { lane = i; lanes = lanes w; grain = grain }
+
+-- The pool of a lane.
+abbrev pub pool_at : List Pool → ℕ → Pool
+pool_at pools i = slice_index_or pools i (record { flat = 0; thin = 0 })
+
+-- What is a lane's of what the history tells: the chains and plain volumes at its grains, and all volumes and background
+-- work.
+unfoldable pub part_at : GrainSize → Whole → ℕ → LaneTold
+part_at grain w i =
+    record {
+      sheet = part_of_sheet (lane_at grain w i) w.books.sheet;
+      picture = part_of_picture (lane_at grain w i) w.picture;
+      volumes = volumes_told w.books.tables;
+      flags = w.books.flags;
+      pool = pool_at w.books.pools i;
+      faults = slice_index_or w.faults i 0;
+      calls = slice_index_or w.calls i 0;
+    }

@@ -1,0 +1,10 @@
+//! When a history is legal: each entry answers as it may after what the entries before it tell. There is no code here.
+//!
+//! What a history tells (`specs/Whole`) is the books that decide commands (`fc_books`), what plain volumes hold
+//! (`fc_entry`), and for each lane the faults and calls of its disks. A command is decided by the books, and plain
+//! volumes follow its effects; a read, write, copy or cleaning answers by all chains and all plain volumes, as in a lane
+//! that has every grain (`fc_rules`). A history is a run of lines where each line's entries are what it asks.
+//!
+//! In reading order, all in `specs/`: `Whole` (with the part of it that is one lane's), `Steps` (one entry), `Legal`,
+//! `Asked` (what a line asks), `Run`, and `Added` (what a call adds).
+#![tactic(auto)]
