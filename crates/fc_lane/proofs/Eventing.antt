@@ -23,7 +23,7 @@ use Rattle.fc_sheets.proofs.Lawful.{sheet_law_holds}
 use Rattle.fc_pictures.specs.Law.{StoredAfter, HasPlace}
 use Rattle.fc_pictures.proofs.Lawful.{picture_law_holds}
 use Rattle.fc_pictures.proofs.Volumes.{found, map_from, at_id, without_from}
-use Rattle.fc_lane.specs.LaneFits.{HasDisk}
+use Rattle.fc_rules.specs.LaneFits.{HasDisk}
 use Rattle.fc_lane.specs.Parts.{GrainsAfter, SameVolumes, kind_of_grains}
 use Rattle.fc_lane.specs.Standing.{HasGrains, AllSized, Stands}
 use Rattle.fc_lane.proofs.Volumes.{push_there, push_new, push_other, push_here, without_there, without_other, armed_contents, armed_there, armed_kinds, access_kinds, push_kinds, without_kinds, newest_of}

@@ -19,8 +19,8 @@ use Rattle.fc_grains.specs.Grains.{GrainsState, NewVolume, is_of_kind, reserved_
 use Rattle.fc_pick.specs.Flags.{WorkState, is_known, with_number, without_number}
 use Rattle.fc_rules.specs.LaneTold.{LaneOf, LaneTold, grains_in, told_event}
 use Rattle.fc_lane.specs.Accesses.{AccessState}
-use Rattle.fc_lane.specs.LaneFits.{FitsLane}
-use Rattle.fc_lane.specs.Parts.{FitParts, IsReadyFor, StandsFor, kind_of_grains, lane_of, HasDisks, IsNotGone, WorksFirst, AreKnown, KnowsMore, KnowsOf, KnowsAll, known_event, new_of, new_volumes}
+use Rattle.fc_rules.specs.LaneFits.{FitsLane, IsNotGone, WorksFirst}
+use Rattle.fc_lane.specs.Parts.{FitParts, IsReadyFor, StandsFor, kind_of_grains, lane_of, HasDisks, AreKnown, KnowsMore, KnowsOf, KnowsAll, known_event, new_of, new_volumes}
 use Rattle.fc_lane.proofs.Telling.{length_both}
 
 -- ---- new volumes

@@ -15,7 +15,7 @@ use Rattle.fc_pick.specs.declared.work.WorkFlags.{WorkFlags}
 use Rattle.fc_rules.specs.LaneTold.{LaneOf, LaneTold, LaneVolume, grains_in, told_event, volumes_event, flags_event, pool_event}
 use Rattle.fc_sheets.proofs.Finding.{live_place_at}
 use Rattle.fc_lane.specs.Accesses.{AccessState}
-use Rattle.fc_lane.specs.LaneFits.{HasDisk, FitsLane}
+use Rattle.fc_rules.specs.LaneFits.{HasDisk, FitsLane}
 use Rattle.fc_lane.specs.Parts.{BesideFor, SameVolumes, CanDo, HasDone, IsReadyBeside, KnowsAll, SameCounts, FitBeside, FitParts, StandsFor, lane_of, kind_of_told, new_of, new_volumes}
 use Rattle.fc_lane.specs.Standing.{HasGrains}
 use Rattle.fc_lane.proofs.Eventing.{event_stands, event_volumes}

@@ -1,7 +1,6 @@
 -- What contracts of the lane cite.
 pub mod Accesses
 pub mod Parts
-pub mod LaneState
-pub mod LaneFits
+pub mod Lane
 pub mod Standing
 pub mod Moving

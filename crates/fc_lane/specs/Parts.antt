@@ -15,7 +15,7 @@ use Rattle.fc_grains.specs.Volumes.{VolumeGrains, is_there, changed, without, ar
 use Rattle.fc_pick.specs.Flags.{WorkState, is_known, with_number, without_number}
 use Rattle.fc_rules.specs.LaneTold.{LaneOf, LaneTold, LaneVolume, grains_in, volumes_event, flags_event, pool_event}
 use Rattle.fc_lane.specs.Accesses.{AccessState}
-use Rattle.fc_lane.specs.LaneFits.{FitsLane}
+use Rattle.fc_rules.specs.LaneFits.{FitsLane}
 use Rattle.fc_lane.specs.Standing.{Stands}
 
 -- A lane, of so many, with grains of this size.
@@ -161,16 +161,6 @@ DiskOf pool reserved event = Unit {0}
 abbrev pub HasDisks : LaneOf → Pool → List NewVolume → List LaneEvent → Type 0
 HasDisks l pool reserved [] = Unit {0}
 HasDisks l pool reserved (e ∷ es) = DiskOf pool reserved e × HasDisks l pool (reserved ++ new_of l e) es
-
--- A mapping that goes with the first event gets no work by the other.
-abbrev pub IsNotGone : LaneEvent → LaneEvent → Type 0
-IsNotGone (Forget m) (Work n copies cleans) = m.0 ≢ n.0
-IsNotGone first other = Unit {0}
-
--- A mapping that went gets no work.
-abbrev pub WorksFirst : List LaneEvent → Type 0
-WorksFirst [] = Unit {0}
-WorksFirst (e ∷ es) = All (IsNotGone e) es × WorksFirst es
 
 -- All mappings that get work are known.
 abbrev pub AreKnown : List ℕ → List LaneEvent → Type 0

@@ -1,9 +1,9 @@
 //! The parts of a lane of the store, and what moves and events do to them.
 //!
-//! A lane will be its chains (`fc_chain`), the physical grains of its volumes (`fc_grains`), how hosts may reach each
-//! volume, and the background work (`fc_pick`), with a log and a past. Here are its parts. `specs/LaneState` says
-//! what contracts will see of a lane, and `specs/LaneFits` which calls fit it. `specs/Parts` says when the parts
-//! stand for what the lane's past tells (`fc_rules`, `specs/LaneTold`).
+//! A lane is its chains (`fc_chain`), the physical grains of its volumes (`fc_grains`), how hosts may reach each
+//! volume, and the background work (`fc_pick`). `specs/Lane` says what contracts see of a lane and when it stands for
+//! what is told (`fc_rules`, `specs/LaneTold`), `specs/LaneFits` which calls fit it, and `specs/Parts` when the parts
+//! stand for it.
 //!
 //! In reading order: `access` (how hosts reach the volumes), `copy` (events are copied), `ready` (memory for the
 //! events of a command is taken before any is done), `parts` (the events are done, and take none), `stop` and `body`
@@ -13,6 +13,7 @@
 mod access;
 mod body;
 mod copy;
+pub mod lane;
 mod parts;
 mod ready;
 mod stop;

@@ -3,8 +3,8 @@
 ghost use Rattle.std.specs.Prelude.{◌≡◌, ◌<◌, [], OnOk, OnErr, fold, ◌%◌, ◌==◌, cond, IsTrue};
 ghost use Rattle.fc_grains.specs.Volumes.{armed, changed};
 ghost use Rattle.fc_pick.specs.Flags.{is_known, with_flags, with_number};
-ghost use Rattle.fc_lane.specs.LaneFits.{FitsLane};
-ghost use Rattle.fc_lane.specs.Parts.{BesideFor, CanDo, FitBeside, FitParts, HasDone, IsReadyBeside, IsReadyFor, SameCounts, SameVolumes, StandsFor, WorksFirst, lane_of};
+ghost use Rattle.fc_rules.specs.LaneFits.{FitsLane, WorksFirst};
+ghost use Rattle.fc_lane.specs.Parts.{BesideFor, CanDo, FitBeside, FitParts, HasDone, IsReadyBeside, IsReadyFor, SameCounts, SameVolumes, StandsFor, lane_of};
 ghost use Rattle.fc_rules.specs.LaneTold.{LaneTold, told_event};
 
 use crate::access::Accesses;

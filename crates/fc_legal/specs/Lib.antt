@@ -2,6 +2,8 @@
 pub mod Whole
 pub mod Steps
 pub mod Legal
+pub mod Stands
+pub mod Lawful
 pub mod Asked
 pub mod Run
 pub mod Added

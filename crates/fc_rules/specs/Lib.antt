@@ -3,6 +3,7 @@ pub mod Spot
 pub mod Steps
 pub mod GrainAnswers
 pub mod LaneTold
+pub mod LaneFits
 pub mod LaneTurn
 pub mod LaneRight
 pub mod Shows

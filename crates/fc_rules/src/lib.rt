@@ -8,6 +8,6 @@
 //!
 //! In reading order, all in `specs/`: `Spot` (all that matters at one grain), `Steps` (what a write or a fill
 //! does, step by step, and where it may stop), `GrainAnswers` (which answers it may have), `LaneTold`,
-//! `LaneTurn` (which grain a worker's turn takes), `LaneRight`, and `Shows` (how the physical grains of disks stand
+//! `LaneFits` (which calls and events fit a lane), `LaneTurn` (which grain a worker's turn takes), `LaneRight`, and `Shows` (how the physical grains of disks stand
 //! for what plain volumes hold).
 #![tactic(auto)]

@@ -1,5 +1,5 @@
--- Which calls fit a lane.
-use Rattle.std.specs.Prelude.{◌≡◌, ℕ, ◌+◌, ◌<◌, ◌≤◌, ◌%◌, ◌^◌, All, IsSome, List, [], ◌∷◌}
+-- Which calls and events fit a lane.
+use Rattle.std.specs.Prelude.{◌≡◌, ◌≢◌, ℕ, ◌+◌, ◌<◌, ◌≤◌, ◌%◌, ◌^◌, All, IsSome, List, [], ◌∷◌}
 use Rattle.fc_base.specs.Grain.{grain_blocks}
 use Rattle.fc_base.specs.Pools.{of_kind}
 use Rattle.fc_base.specs.Sheet.{live_place, volume_grains}
@@ -38,3 +38,15 @@ HasDisk told (Arm volume grain calls) = Unit {0}
 abbrev pub FitsLane : LaneOf → LaneTold → List LaneEvent → Type 0
 FitsLane l told [] = told.sheet.births < 2 ^ 64
 FitsLane l told (e ∷ es) = FitsEvent told.sheet e × HasDisk told e × FitsLane l (told_event l told e) es
+
+-- ---- background work
+
+-- A mapping that goes with the first event gets no work by the other.
+abbrev pub IsNotGone : LaneEvent → LaneEvent → Type 0
+IsNotGone (Forget m) (Work n copies cleans) = m.0 ≢ n.0
+IsNotGone first other = Unit {0}
+
+-- A mapping that went gets no work.
+abbrev pub WorksFirst : List LaneEvent → Type 0
+WorksFirst [] = Unit {0}
+WorksFirst (e ∷ es) = All (IsNotGone e) es × WorksFirst es

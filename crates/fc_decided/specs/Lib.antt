@@ -1,0 +1,2 @@
+-- What the law of decisions says.
+pub mod Law

@@ -1,0 +1,79 @@
+-- A lane as contracts see it, and when it stands for what is told.
+use Rattle.std.specs.Prelude.{◌≡◌, ℕ, ◌≤◌, Option, Some, None, List, Contains}
+use Rattle.fc_base.specs.MovePlan.{PlannedMoves}
+use Rattle.fc_base.specs.declared.decision.LaneEvent.{LaneEvent}
+use Rattle.fc_base.specs.declared.decision.LaneEvent.TheVariants.{Arm}
+use Rattle.fc_base.specs.declared.ids.GrainNo.{GrainNo}
+use Rattle.fc_base.specs.declared.ids.VolId.{VolId}
+use Rattle.fc_base.specs.declared.request.Request.{Request}
+use Rattle.fc_base.specs.declared.size.GrainSize.{GrainSize}
+use Rattle.fc_chain.specs.Chains.{Chains}
+use Rattle.fc_chain.specs.Planning.{volume_count}
+use Rattle.fc_entry.specs.declared.entry.Entry.{Entry}
+use Rattle.fc_grains.specs.Grains.{GrainsState, opened, stopped}
+use Rattle.fc_grains.specs.Quiet.{IsQuiet}
+use Rattle.fc_mdisk.specs.Disk.{DiskState}
+use Rattle.fc_pick.specs.Flags.{WorkState}
+use Rattle.fc_lane.specs.Accesses.{AccessState}
+use Rattle.fc_lane.specs.Parts.{StandsFor, IsReadyFor, lane_of}
+use Rattle.fc_rules.specs.LaneTold.{LaneOf, LaneTold, nothing_told}
+
+-- Which lane it is, of how many; its chains, the physical grains of its volumes, how hosts reach each volume, and the background
+-- work; and for how many moves there is room in the next plan and in the next entry.
+pub record LaneView : Type 0 where
+  pub lane : ℕ
+  pub lanes : ℕ
+  pub chains : Chains
+  pub grains : GrainsState
+  pub accesses : AccessState
+  pub work : WorkState
+  pub plan_room : ℕ
+  pub entry_room : ℕ
+
+abbrev pub room_of : Option PlannedMoves → ℕ
+room_of None = 0
+room_of (Some plan) = plan.room
+
+abbrev pub of : LaneView → LaneOf
+of v = lane_of v.lane v.lanes v.grains.grain
+
+-- The parts stand for what is told, and so do the faults and calls of all disks, up to 2^64 - 1.
+pub record IsLaneOf (v : LaneView) (told : LaneTold) : Type 0 where
+  pub parts : StandsFor (of v) v.chains v.grains v.accesses v.work told
+  pub faults : v.grains.faults ≡ told.faults
+  pub calls : v.grains.calls ≡ stopped told.calls
+
+-- The next entry takes no memory: there is room for one move per volume, in the plan and in the entry.
+pub record IsReady (v : LaneView) : Type 0 where
+  pub plan : volume_count v.chains.sheet.slots ≤ v.plan_room
+  pub entry : volume_count v.chains.sheet.slots ≤ v.entry_room
+
+-- Events can be done without taking memory.
+abbrev pub CanDoEvents : LaneView → List LaneEvent → Type 0
+CanDoEvents v events = IsReadyFor (of v) v.chains v.grains v.accesses v.work events
+
+-- Which lane it is stays.
+pub record IsSameLane (old new : LaneView) : Type 0 where
+  pub lane : new.lane ≡ old.lane
+  pub lanes : new.lanes ≡ old.lanes
+  pub grain : new.grains.grain ≡ old.grains.grain
+  pub disks : new.grains.disks ≡ old.grains.disks
+  pub silent : new.grains.silent ≡ old.grains.silent
+
+-- Where no disk can fail, none does.
+abbrev pub KeepsQuiet : LaneView → LaneView → Type 0
+KeepsQuiet old new = IsQuiet old.grains → IsQuiet new.grains × (new.grains.faults ≡ old.grains.faults)
+
+-- No fault is armed by these events.
+abbrev pub ArmsNone : List LaneEvent → Type 0
+ArmsNone events = (volume : VolId) (grain : GrainNo) (calls : ℕ) → Contains events (Arm volume grain calls) → ⊥
+
+-- Who asked what, by which number.
+pub record IsAsked (number actor : ℕ) (request : Request) (entry : Entry) : Type 0 where
+  pub number_is : entry.number ≡ number
+  pub actor_is : entry.actor ≡ actor
+  pub request_is : entry.request ≡ request
+
+-- A lane that begins, over disks of this state, tells of no volume.
+abbrev pub begun : GrainsState → LaneTold
+begun grains = record nothing_told { pool = grains.pool; faults = grains.faults; calls = grains.calls }

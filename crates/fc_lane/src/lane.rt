@@ -1,0 +1,32 @@
+//! The lane.
+
+use crate::access::Accesses;
+use crate::body::Body;
+use fc_base::move_plan::MovePlan;
+use fc_mdisk::mdisk::Mdisk;
+use fc_pick::Work;
+use std::marker::Model;
+
+/// One lane of the store: the chains of its grains, their physical grains on disks, how hosts reach each volume, and
+/// the background work.
+#[derive(Drop)]
+pub struct Lane<D: Mdisk> {
+    lane: u8,
+    lanes: u8,
+    body: Body<D>,
+    accesses: Accesses,
+    work: Work,
+    plan: MovePlan,
+    spare: Option<MovePlan>,
+}
+
+impl<D: Mdisk> Model for Lane<D> {
+    ghost use Rattle.std.specs.Prelude.{◌<◌};
+    ghost use Rattle.fc_lane.specs.Lane.{LaneView, room_of};
+
+    ghost Value = { LaneView };
+
+    ghost view = { λ l. record { lane = l.lane; lanes = l.lanes; chains = l.body.cascade; grains = l.body.grains; accesses = l.accesses; work = l.work; plan_room = l.plan.room; entry_room = room_of l.spare } };
+
+    ghost invariant = { λ l. l.lane < l.lanes };
+}

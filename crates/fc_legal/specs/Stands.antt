@@ -1,0 +1,35 @@
+-- What holds of all that is told after a legal history.
+use Rattle.std.specs.Prelude.{◌≡◌, ℕ, ◌+◌, ◌*◌, ◌^◌, ◌<◌, ◌≤◌, List, [], ◌∷◌, length}
+use Rattle.fc_base.specs.declared.volume.Volume.{Volume}
+use Rattle.fc_books.specs.Books.{Books}
+use Rattle.fc_books.specs.Sound.{AreSound}
+use Rattle.fc_entry.specs.Picture.{PlainVolume, Picture}
+use Rattle.fc_legal.specs.Whole.{Whole, lanes}
+
+-- Plain volumes are those of the table, in its order, with its grains.
+abbrev pub ArePlain : List Volume → Picture → Type 0
+ArePlain [] [] = Unit {0}
+ArePlain (v ∷ vs) (p ∷ ps) = (p.volume ≡ v.id) × (length p.now ≡ v.grains) × (length p.under ≡ v.grains) × ArePlain vs ps
+ArePlain vs ps = ⊥
+
+-- After so many decisions there are few ids, births and mappings.
+pub record AreFew (b : Books) (decisions : ℕ) : Type 0 where
+  pub volumes : b.next_volume ≤ decisions
+  pub mappings : b.next_mapping ≤ decisions
+  pub groups : b.next_group ≤ decisions + 1
+  pub births : b.sheet.births ≤ decisions * 2 ^ 20
+  pub at_once : length b.tables.mappings ≤ 512
+  pub volumes_at_once : length b.tables.volumes ≤ 512
+
+-- There is a lane, and pools, faults and calls are told of each.
+pub record AreLanes (w : Whole) : Type 0 where
+  pub some : 0 < lanes w
+  pub pools : length w.books.pools ≡ lanes w
+  pub calls : length w.calls ≡ lanes w
+
+pub record Stands (decisions : ℕ) (w : Whole) : Type 0 where
+  pub sound : AreSound w.books
+  pub few : AreFew w.books decisions
+  pub plain : ArePlain w.books.tables.volumes w.picture
+  pub each_lane : AreLanes w
+

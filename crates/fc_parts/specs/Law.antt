@@ -1,0 +1,56 @@
+-- The law of parts: what lanes do to their grains, one by one, is what happens to all grains.
+use Rattle.std.specs.Prelude.{◌≡◌, ◌≢◌, ℕ, ◌+◌, ◌<◌, ◌≤◌, ◌%◌, List, fold, length, Contains}
+use Rattle.fc_base.specs.Grain.{grain_blocks}
+use Rattle.fc_base.specs.Pools.{Pool}
+use Rattle.fc_base.specs.declared.decision.Decision.{Decision}
+use Rattle.fc_base.specs.declared.volume.Volume.{Volume}
+use Rattle.fc_base.specs.declared.request.Request.{Request}
+use Rattle.fc_base.specs.declared.request.Request.TheVariants.{Read, Write, Copy, Clean}
+use Rattle.fc_base.specs.declared.size.GrainSize.{GrainSize}
+use Rattle.fc_entry.specs.Picture.{grain_of_block}
+use Rattle.fc_entry.specs.declared.entry.Entry.{Entry}
+use Rattle.fc_legal.specs.Steps.{AccessStep, after_access}
+use Rattle.fc_legal.specs.Lawful.{IsLawful, left_by}
+use Rattle.fc_legal.specs.Stands.{Stands}
+use Rattle.fc_legal.specs.Whole.{Whole, opened, lanes, lane_of_grain, lane_at, part_at, pool_at}
+use Rattle.fc_rules.specs.LaneFits.{FitsLane, FitsPart}
+use Rattle.fc_rules.specs.LaneRight.{IsRightInLane, record_of}
+use Rattle.fc_rules.specs.LaneTold.{nothing_told, told_event, told_past}
+
+-- An access is at this grain.
+abbrev pub IsAt : GrainSize → ℕ → Request → Type 0
+IsAt grain number (Read part) = grain_of_block grain part.block ≡ number
+IsAt grain number (Write part) = grain_of_block grain part.block ≡ number
+IsAt grain number (Copy m g) = g.0 ≡ number
+IsAt grain number (Clean m g) = g.0 ≡ number
+IsAt grain number request = ⊥
+
+pub record PartLaw : Type 0 where
+  -- with no entry, each lane is told of its pool
+  pub opening : (grain : GrainSize) (pools : List Pool) (i : ℕ) → i < length pools →
+      part_at grain (opened pools) i ≡ record nothing_told { pool = pool_at pools i }
+  -- a decision that is lawful fits each lane, and tells it its part of what the decision leaves
+  pub decision : (grain : GrainSize) (decisions : ℕ) (w : Whole) (d : Decision) (i : ℕ) → Stands decisions w → IsLawful grain decisions w d → i < lanes w →
+      FitsLane (lane_at grain w i) (part_at grain w i) d.events
+      × (fold (told_event (lane_at grain w i)) (part_at grain w i) d.events ≡ part_at grain (left_by grain w d) i)
+  -- an entry that is right in its lane is right by all grains
+  pub access : (grain : GrainSize) (decisions : ℕ) (w : Whole) (number : ℕ) (entry : Entry) → Stands decisions w → IsAt grain number entry.request →
+      IsRightInLane (lane_at grain w (lane_of_grain w number)) (part_at grain w (lane_of_grain w number)) entry →
+      AccessStep grain w number entry (after_access grain w (lane_of_grain w number) entry)
+  -- it tells its lane its part of what it leaves, and other lanes nothing
+  pub told : (grain : GrainSize) (decisions : ℕ) (w : Whole) (number : ℕ) (entry : Entry) → Stands decisions w → IsAt grain number entry.request →
+      IsRightInLane (lane_at grain w (lane_of_grain w number)) (part_at grain w (lane_of_grain w number)) entry →
+      part_at grain (after_access grain w (lane_of_grain w number) entry) (lane_of_grain w number)
+      ≡ told_past (lane_at grain w (lane_of_grain w number)) (part_at grain w (lane_of_grain w number)) (record_of entry)
+  pub others : (grain : GrainSize) (decisions : ℕ) (w : Whole) (number : ℕ) (entry : Entry) (j : ℕ) → Stands decisions w → IsAt grain number entry.request →
+      IsRightInLane (lane_at grain w (lane_of_grain w number)) (part_at grain w (lane_of_grain w number)) entry →
+      j < lanes w → j ≢ lane_of_grain w number →
+      part_at grain (after_access grain w (lane_of_grain w number) entry) j ≡ part_at grain w j
+  -- and what stood still stands
+  pub stands : (grain : GrainSize) (decisions : ℕ) (w : Whole) (number : ℕ) (entry : Entry) → Stands decisions w → IsAt grain number entry.request →
+      IsRightInLane (lane_at grain w (lane_of_grain w number)) (part_at grain w (lane_of_grain w number)) entry →
+      Stands decisions (after_access grain w (lane_of_grain w number) entry)
+  -- an access that isn't refused fits the lane of its grain
+  pub fits : (grain : GrainSize) (decisions : ℕ) (w : Whole) (v : Volume) (block count : ℕ) → Stands decisions w → Contains w.books.tables.volumes v →
+      1 ≤ count → block % grain_blocks grain + count ≤ grain_blocks grain → grain_of_block grain block < v.grains →
+      FitsPart (lane_at grain w (lane_of_grain w (grain_of_block grain block))) (part_at grain w (lane_of_grain w (grain_of_block grain block))) v.id block count

@@ -1,0 +1,2 @@
+-- What the law of parts says.
+pub mod Law
