@@ -23,15 +23,15 @@ pub part_follows : (grain : GrainSize) (w : Whole) (i : ℕ) → Follows (lane_a
 unfolding part_at
 part_follows grain w i = record { sheet = refl; picture = refl; volumes = refl; flags = refl }
 
-pool_of_part : (grain : GrainSize) (w : Whole) (i : ℕ) → (part_at grain w i).pool ≡ pool_at w.books.pools i
+pub pool_of_part : (grain : GrainSize) (w : Whole) (i : ℕ) → (part_at grain w i).pool ≡ pool_at w.books.pools i
 unfolding part_at
 pool_of_part grain w i = refl
 
-faults_of_part : (grain : GrainSize) (w : Whole) (i : ℕ) → (part_at grain w i).faults ≡ get_or w.faults i 0
+pub faults_of_part : (grain : GrainSize) (w : Whole) (i : ℕ) → (part_at grain w i).faults ≡ get_or w.faults i 0
 unfolding part_at
 faults_of_part grain w i = refl
 
-calls_of_part : (grain : GrainSize) (w : Whole) (i : ℕ) → (part_at grain w i).calls ≡ get_or w.calls i 0
+pub calls_of_part : (grain : GrainSize) (w : Whole) (i : ℕ) → (part_at grain w i).calls ≡ get_or w.calls i 0
 unfolding part_at
 calls_of_part grain w i = refl
 

@@ -5,3 +5,7 @@ pub mod Fitting
 pub mod Pictures
 pub mod Told
 pub mod Decisions
+pub mod Grains
+pub mod Outcomes
+pub mod Spots
+pub mod Accesses
