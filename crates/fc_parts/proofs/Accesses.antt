@@ -92,7 +92,7 @@ access grain decisions w number entry stands at right =
 -- ---- what lanes are told
 
 -- the plain volumes after an entry without effects
-plain_is : (grain : GrainSize) (picture : Picture) (entry : Entry) → entry.effects ≡ [] → plain_step grain picture entry ≡ after_loss (after_request grain picture entry.request entry.reply) entry.torn
+pub plain_is : (grain : GrainSize) (picture : Picture) (entry : Entry) → entry.effects ≡ [] → plain_step grain picture entry ≡ after_loss (after_request grain picture entry.request entry.reply) entry.torn
 plain_is grain picture entry e = ap (λ (z : List Effect). after_effects grain (after_loss (after_request grain picture entry.request entry.reply) entry.torn) z) e
 
 -- a lane's part after an entry, by its fields

@@ -9,3 +9,8 @@ pub mod Grains
 pub mod Outcomes
 pub mod Spots
 pub mod Accesses
+pub mod Staying
+pub mod Outside
+pub mod Soundness
+pub mod Standing
+pub mod Lawful
