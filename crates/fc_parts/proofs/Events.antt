@@ -11,7 +11,7 @@ use Rattle.fc_base.specs.declared.request.Pair.{Pair}
 use Rattle.fc_legal.specs.Whole.{part, part_of_slot, part_of_sheet}
 use Rattle.fc_rules.specs.LaneTold.{LaneOf, grains_in}
 use Rattle.fc_parts.proofs.Numbers.{IsLane, part_replicate}
-use Rattle.fc_parts.proofs.Views.{parts, slot_parts, size_parts, same_view, live_parts, mapping_parts, birth_parts, grains_parts}
+use Rattle.fc_parts.proofs.Views.{sheet_of, parts, slot_parts, size_parts, same_view, live_parts, mapping_parts, birth_parts, grains_parts}
 
 -- ---- lists
 
@@ -20,9 +20,6 @@ map_remove f xs k = map-append f (take k xs) (drop (ℕ.suc k) xs) ∙ ap₂ (λ
 
 map_insert : {X Y : Type 0} (f : X → Y) (xs : List X) (k : ℕ) (x : X) → map f (insert xs k x) ≡ insert (map f xs) k (f x)
 map_insert f xs k x = map-append f (take k xs) (x ∷ drop k xs) ∙ ap₂ (λ a b. a ++ f x ∷ b) (sym (take-map f k xs)) (sym (drop-map f k xs))
-
-abbrev sheet_of : ℕ → List Slot → Sheet
-sheet_of births slots = record { births = births; slots = slots }
 
 part_cond : (l : LaneOf) (b : Bool) (s t : Sheet) → part_of_sheet l (cond b s t) ≡ cond b (part_of_sheet l s) (part_of_sheet l t)
 part_cond l true s t = refl

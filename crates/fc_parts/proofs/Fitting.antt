@@ -15,8 +15,8 @@ use Rattle.fc_parts.proofs.Numbers.{IsLane}
 use Rattle.fc_parts.proofs.Views.{parts, slot_parts, count_parts, shape_parts, column_parts, live_parts, mapping_parts, birth_parts, size_parts, complete_parts, needed_parts}
 use Rattle.fc_parts.proofs.Events.{triggered_agrees}
 
-volume_parts : (l : LaneOf) → IsLane l → (slots : List Slot) (k : ℕ) → (slot_at (parts l slots) k).volume ≡ (slot_at slots k).volume
-volume_parts l i slots k = ap (λ (z : Slot). z.volume) (slot_parts l i slots k)
+name_parts : (l : LaneOf) → IsLane l → (slots : List Slot) (k : ℕ) → (slot_at (parts l slots) k).volume ≡ (slot_at slots k).volume
+name_parts l i slots k = ap (λ (z : Slot). z.volume) (slot_parts l i slots k)
 
 chain_parts : (l : LaneOf) → IsLane l → (slots : List Slot) (k : ℕ) → (slot_at (parts l slots) k).chain ≡ (slot_at slots k).chain
 chain_parts l i slots k = ap (λ (z : Slot). z.chain) (slot_parts l i slots k)
@@ -33,7 +33,7 @@ fits_remove l i slots v f =
       place = f.place;
       is_there = live_parts l i slots v ∙ f.is_there;
       alone = λ j lt same. f.alone j (below_parts l slots j lt) (elim same [
-        | inl e ↦ inl (sym (volume_parts l i slots j) ∙ e)
+        | inl e ↦ inl (sym (name_parts l i slots j) ∙ e)
         | inr e ↦ inr (sym (chain_parts l i slots j) ∙ (e ∙ chain_parts l i slots f.place))
       ]);
     }
@@ -83,7 +83,7 @@ fits_drop l i slots birth f =
     }
 
 pub fits_event : (l : LaneOf) → IsLane l → (s : Sheet) (e : LaneEvent) → FitsEvent s e → FitsEvent (part_of_sheet l s) e
-fits_event l i s (Make volume grains kind) f = λ k lt q. f k (below_parts l s.slots k lt) (sym (volume_parts l i s.slots k) ∙ q)
+fits_event l i s (Make volume grains kind) f = λ k lt q. f k (below_parts l s.slots k lt) (sym (name_parts l i s.slots k) ∙ q)
 fits_event l i s (Remove volume) f = fits_remove l i s.slots volume.0 f
 fits_event l i s (Trigger pairs) f = fits_trigger l i s pairs f
 fits_event l i s (Retire m) f = (f.0, live_slot l i s.slots m.0 f.0 f.1)

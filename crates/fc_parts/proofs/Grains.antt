@@ -20,8 +20,8 @@ use Rattle.fc_entry.specs.PlainStep.{after_write, after_torn, after_request, aft
 use Rattle.fc_legal.specs.Whole.{part, part_of_slot, part_of_sheet, part_of_volume, part_of_picture, all_grains}
 use Rattle.fc_rules.specs.LaneRight.{done_write}
 use Rattle.fc_rules.specs.LaneTold.{LaneOf, place_of, sheet_move, sheet_write, sheet_tear, sheet_entry, write_volume, picture_write, tear_volume, picture_tear, picture_entry}
-use Rattle.fc_parts.proofs.Numbers.{IsLane, IsOf, all_place, part_at_grain, part_set, part_set_other}
-use Rattle.fc_parts.proofs.Views.{parts}
+use Rattle.fc_parts.proofs.Numbers.{IsLane, IsOf, of_same, all_place, part_at_grain, part_set, part_set_other}
+use Rattle.fc_parts.proofs.Views.{sheet_of, parts}
 use Rattle.fc_parts.proofs.Pictures.{changed_parts}
 
 -- ---- all is at one grain
@@ -45,8 +45,8 @@ abbrev Parted : LaneOf → (Slot → Slot) → (Slot → Slot) → Type 0
 Parted l f f' = (t : Slot) → part_of_slot l (f t) ≡ f' (part_of_slot l t)
 
 all_parted : (l : LaneOf) (f f' : Slot → Slot) → Parted l f f' → (births : ℕ) (slots : List Slot) →
-    part_of_sheet l (record { births = births; slots = map f slots }) ≡ (let s : Sheet = record { births = births; slots = map f' (parts l slots) } in s)
-all_parted l f f' each births slots = ap (λ (z : List Slot). let s : Sheet = record { births = births; slots = z } in s) (in_all slots)
+    part_of_sheet l (sheet_of births (map f slots)) ≡ sheet_of births (map f' (parts l slots))
+all_parted l f f' each births slots = ap (sheet_of births) (in_all slots)
   where
     in_all : (slots : List Slot) → parts l (map f slots) ≡ map f' (parts l slots)
     in_all [] = refl
@@ -76,8 +76,8 @@ lost_here l i v number is_of t = bit_here l i number is_of (not t.is_live && eqb
 abbrev Unseen : LaneOf → (Slot → Slot) → Type 0
 Unseen l f = (t : Slot) → part_of_slot l (f t) ≡ part_of_slot l t
 
-all_unseen : (l : LaneOf) (f : Slot → Slot) → Unseen l f → (births : ℕ) (slots : List Slot) → part_of_sheet l (record { births = births; slots = map f slots }) ≡ part_of_sheet l (record { births = births; slots = slots })
-all_unseen l f each births slots = ap (λ (z : List Slot). let s : Sheet = record { births = births; slots = z } in s) (in_all slots)
+all_unseen : (l : LaneOf) (f : Slot → Slot) → Unseen l f → (births : ℕ) (slots : List Slot) → part_of_sheet l (sheet_of births (map f slots)) ≡ part_of_sheet l (sheet_of births slots)
+all_unseen l f each births slots = ap (sheet_of births) (in_all slots)
   where
     in_all : (slots : List Slot) → parts l (map f slots) ≡ parts l slots
     in_all [] = refl
@@ -104,9 +104,6 @@ written_here l i v number s is_of = all_parted l _ _ (taken_here l i v number is
 torn_here : (l : LaneOf) → IsLane l → (v number : ℕ) (side : Side) (s : Sheet) → IsOf l number → part_of_sheet l (sheet_torn v number side s) ≡ sheet_torn v (place_of l number) side (part_of_sheet l s)
 torn_here l i v number Now s is_of = all_parted l _ _ (taken_here l i v number is_of) s.births s.slots
 torn_here l i v number Under s is_of = all_parted l _ _ (lost_here l i v number is_of) s.births s.slots
-
-of_same : (l : LaneOf) (x number : ℕ) → x ≡ number → IsOf l number → IsOf l x
-of_same l x number e is_of = ap (λ z. z % l.lanes) e ∙ is_of
 
 move_here : (l : LaneOf) → IsLane l → (s : Sheet) (m : Move) → IsOf l m.grain.0 → part_of_sheet l (sheet_move (all_grains l.grain) s m) ≡ sheet_move l (part_of_sheet l s) m
 move_here l i s m is_of =

@@ -43,6 +43,9 @@ number_below l i p grains h = inside_from l.lane l.lanes p grains i h
 pub place_below : (l : LaneOf) → IsLane l → (p grains : ℕ) → number_at l p < grains → p < grains_in l grains
 place_below l i p grains h = inside_to l.lane l.lanes p grains i h
 
+pub of_same : (l : LaneOf) (x number : ℕ) → x ≡ number → IsOf l number → IsOf l x
+of_same l x number e is_of = ap (λ z. z % l.lanes) e ∙ is_of
+
 -- the number at the place of a grain of the lane
 pub number_of_place : (l : LaneOf) (number : ℕ) → IsOf l number → number_at l (place_of l number) ≡ number
 number_of_place l number e = ap (λ z. number / l.lanes * l.lanes + z) (sym e) ∙ div-add-mod' number l.lanes

@@ -13,6 +13,7 @@ use Rattle.fc_moves.proofs.Lawful.{write_law}
 use Rattle.fc_moves.proofs.Members.{in_head, in_tail, asks_parts, write_asks_parts}
 use Rattle.fc_moves.proofs.Readers.{next_is}
 use Rattle.fc_sheets.proofs.Holding.{held_in_range}
+use Rattle.fc_parts.proofs.Views.{sheet_of}
 
 -- ---- a change past the end
 
@@ -28,9 +29,6 @@ all_same : (f : Slot → Slot) (slots : List Slot) → ((j : ℕ) → j < length
 all_same f [] same = refl
 all_same f (t ∷ ts) same =
     ap (λ (z : Slot). z ∷ map f ts) (same ℕ.zero (omega arith)) ∙ ap (λ (z : List Slot). t ∷ z) (all_same f ts (λ j lt. same (ℕ.suc j) (omega arith)))
-
-abbrev sheet_of : ℕ → List Slot → Sheet
-sheet_of births slots = record { births = births; slots = slots }
 
 taken_past : (v g : ℕ) (slots : List Slot) → EndsBefore slots v g → map (grain_taken v g) slots ≡ slots
 taken_past v g slots ends = all_same (grain_taken v g) slots (λ j lt. bit_past (eqb (slot_at slots j).volume v) (slot_at slots j).is_live g (slot_at slots j) (λ e. ends j lt (eqb-true _ _ e)))

@@ -1,6 +1,6 @@
 -- What an entry may answer in the lane of its grain it may answer by all grains.
 use mathlib.Core.Path.{fun_ext}
-use Rattle.std.proofs.Common.{◌≡◌, ℕ, ◌%◌, true, false, cond, Option, Some, None, List, get_or, option_map, refl, sym, ap, subst, ◌∙◌}
+use Rattle.std.proofs.Common.{◌≡◌, ℕ, true, false, cond, Option, Some, None, List, get_or, option_map, refl, sym, ap, subst, ◌∙◌}
 use Rattle.fc_base.specs.Column.{Column, needer}
 use Rattle.fc_base.specs.Sheet.{Slot, Sheet, slot_at, column, live_place, mapping_place}
 use Rattle.fc_base.specs.declared.ids.VolId.{VolId}
@@ -18,7 +18,7 @@ use Rattle.fc_rules.specs.LaneTold.{LaneOf, LaneVolume, LaneTold, place_of, acce
 use Rattle.fc_rules.specs.LaneTurn.{spot_at, lacks_at, copied_slot, needer_at, cleaned_slot}
 use Rattle.fc_rules.specs.Spot.{Spot}
 use Rattle.fc_parts.specs.Law.{IsAt}
-use Rattle.fc_parts.proofs.Numbers.{IsLane, IsOf, number_of_place, all_place, part_at_grain}
+use Rattle.fc_parts.proofs.Numbers.{IsLane, IsOf, of_same, number_of_place, all_place, part_at_grain}
 use Rattle.fc_parts.proofs.Views.{parts, slot_parts, column_parts, live_parts, mapping_parts}
 use Rattle.fc_parts.proofs.Pictures.{volume_parts}
 use Rattle.fc_parts.proofs.Told.{Follows}
@@ -94,26 +94,23 @@ write_answers l i big small f part is_of o o' entry e a = subst (λ (z : Option 
     same None a = a
     same (Some t) a = subst (λ (z : Spot). WriteAnswers l.grain z part t entry entry.reply) (spot_same l i big small f (grain_of_block l.grain part.block) is_of) a
 
-of_number : (l : LaneOf) (x number : ℕ) → x ≡ number → IsOf l number → IsOf l x
-of_number l x number e is_of = ap (λ z. z % l.lanes) e ∙ is_of
-
 pub answers_by_all : (l : LaneOf) → IsLane l → (big small : LaneTold) → Follows l big small → (number : ℕ) → IsOf l number → (request : Request) (entry : Entry) → IsAt l.grain number request →
     LaneAnswers l small request entry → LaneAnswers (all_grains l.grain) big request entry
 answers_by_all l i big small f number is_of (Read part) entry at a =
     subst (λ (z : List LaneVolume). ByAccess (access_in z part.volume) entry (ReadAnswers l.grain (spot_at (all_grains l.grain) big (grain_of_block l.grain part.block)) part entry entry.reply)) f.volumes
     (by_access (access_in small.volumes part.volume) entry _ _
-    (subst (λ (z : Spot). ReadAnswers l.grain z part entry entry.reply) (spot_same l i big small f (grain_of_block l.grain part.block) (of_number l (grain_of_block l.grain part.block) number at is_of))) a)
+    (subst (λ (z : Spot). ReadAnswers l.grain z part entry entry.reply) (spot_same l i big small f (grain_of_block l.grain part.block) (of_same l (grain_of_block l.grain part.block) number at is_of))) a)
 answers_by_all l i big small f number is_of (Write part) entry at a =
     subst (λ (z : List LaneVolume). ByAccess (access_in z part.volume) entry (VolumeWrite (all_grains l.grain) big part (live_place big.sheet.slots part.volume.0) entry)) f.volumes
     (by_access (access_in small.volumes part.volume) entry _ _
-    (write_answers l i big small f part (of_number l (grain_of_block l.grain part.block) number at is_of) (live_place small.sheet.slots part.volume.0) (live_place big.sheet.slots part.volume.0) entry
+    (write_answers l i big small f part (of_same l (grain_of_block l.grain part.block) number at is_of) (live_place small.sheet.slots part.volume.0) (live_place big.sheet.slots part.volume.0) entry
     (ap (λ (s : Sheet). live_place s.slots part.volume.0) f.sheet ∙ live_parts l i big.sheet.slots part.volume.0)) a)
 answers_by_all l i big small f number is_of (Copy m grain) entry at a =
-    let here : IsOf l grain.0 = of_number l grain.0 number at is_of in
+    let here : IsOf l grain.0 = of_same l grain.0 number at is_of in
     fill_answers l i big small f m.0 grain.0 here (copied_slot small.sheet.slots m.0 (place_of l grain.0)) (copied_slot big.sheet.slots m.0 (place_of (all_grains l.grain) grain.0)) entry
     (ap (λ (s : Sheet). copied_slot s.slots m.0 (place_of l grain.0)) f.sheet ∙ copied_parts l i big.sheet.slots m.0 grain.0 here) a
 answers_by_all l i big small f number is_of (Clean m grain) entry at a =
-    let here : IsOf l grain.0 = of_number l grain.0 number at is_of in
+    let here : IsOf l grain.0 = of_same l grain.0 number at is_of in
     fill_answers l i big small f m.0 grain.0 here (cleaned_slot small.sheet.slots m.0 (place_of l grain.0)) (cleaned_slot big.sheet.slots m.0 (place_of (all_grains l.grain) grain.0)) entry
     (ap (λ (s : Sheet). cleaned_slot s.slots m.0 (place_of l grain.0)) f.sheet ∙ cleaned_parts l i big.sheet.slots m.0 grain.0 here) a
 answers_by_all l i big small f number is_of request entry at a = absurd at

@@ -61,9 +61,6 @@ follows_all l i (e ∷ es) big small f = follows_all l i es (told_event (all_gra
 
 -- ---- disks
 
-no_pool : Pool
-no_pool = record { flat = 0; thin = 0 }
-
 pool_agrees : (pools : List Pool) (k : ℕ) (e : LaneEvent) → k < length pools → pool_event (pool_at pools k) e ≡ pool_at (pools_after pools e) k
 pool_agrees pools k (Make volume grains kind) lt = sym (get_or-map (pool_without kind) pools k (record { flat = 0; thin = 0 }) (record { flat = 0; thin = 0 }) lt)
 pool_agrees pools k e lt = refl

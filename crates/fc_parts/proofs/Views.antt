@@ -2,15 +2,19 @@
 use mathlib.Core.Path.{fun_ext}
 use Rattle.std.proofs.Common.{◌≡◌, ℕ, ◌<◌, Bool, true, false, ◌&&◌, eqb, Option, Some, None, List, [], ◌∷◌, length, get_or, map, refl, sym, ap, ap₂, ◌∙◌, arith}
 use Rattle.std.specs.List.{list_all}
-use Rattle.std.proofs.lemmas.Bool.{and_parts, and_from}
+use Rattle.std.proofs.lemmas.Bool.{and_from}
 use Rattle.std.proofs.lemmas.List.{nil_from_length}
 use Rattle.fc_base.specs.Column.{Shape, Column, first_below, is_at, needer}
 use Rattle.fc_base.specs.Need.{IsNeeded, is_complete}
-use Rattle.fc_base.specs.Sheet.{Slot, no_slot, slot_at, shape_of, column, live_place, mapping_place, birth_place, grains_at, volume_grains}
+use Rattle.fc_base.specs.Sheet.{Slot, Sheet, no_slot, slot_at, shape_of, column, live_place, mapping_place, birth_place, grains_at, volume_grains}
 use Rattle.fc_legal.specs.Whole.{part, part_of_slot}
 use Rattle.fc_rules.specs.LaneTold.{LaneOf, number_at, grains_in}
 use Rattle.fc_sheets.proofs.Holding.{length_map, at_map}
+use Rattle.fc_sheets.proofs.Splitting.{complete_at}
 use Rattle.fc_parts.proofs.Numbers.{IsLane, number_below, none_in, part_length, part_at}
+
+abbrev pub sheet_of : ℕ → List Slot → Sheet
+sheet_of births slots = record { births = births; slots = slots }
 
 abbrev pub parts : LaneOf → List Slot → List Slot
 parts l slots = map (part_of_slot l) slots
@@ -83,11 +87,6 @@ grains_parts l i slots v = ap (grains_at (parts l slots)) (live_parts l i slots 
 
 -- ---- who holds every grain, and who is needed
 
-all_hold : (bs : List Bool) (g : ℕ) (d : Bool) → list_all (λ b. b) bs ≡ true → g < length bs → get_or bs g d ≡ true
-all_hold [] g d e lt = absurd (omega arith)
-all_hold (b ∷ bs) ℕ.zero d e lt = (and_parts b (list_all (λ x. x) bs) e).0
-all_hold (b ∷ bs) (ℕ.suc g) d e lt = all_hold bs g d (and_parts b (list_all (λ x. x) bs) e).1 (omega arith)
-
 all_from : (bs : List Bool) → ((g : ℕ) → g < length bs → get_or bs g false ≡ true) → list_all (λ b. b) bs ≡ true
 all_from [] f = refl
 all_from (b ∷ bs) f = and_from _ _ (f ℕ.zero (omega arith)) (all_from bs (λ g lt. f (ℕ.suc g) (omega arith)))
@@ -96,7 +95,7 @@ pub complete_parts : (l : LaneOf) → IsLane l → (slots : List Slot) (k : ℕ)
 complete_parts l i slots k e =
     let n : length (slot_at (parts l slots) k).held ≡ grains_in l (length (slot_at slots k).held) = size_parts l i slots k in
     all_from (slot_at (parts l slots) k).held
-    (λ p lt. held_parts l i slots k p false ∙ all_hold (slot_at slots k).held (number_at l p) false e (number_below l i p (length (slot_at slots k).held) (omega arith)))
+    (λ p lt. held_parts l i slots k p false ∙ complete_at (slot_at slots k).held (number_at l p) e (number_below l i p (length (slot_at slots k).held) (omega arith)))
 
 pub needed_parts : (l : LaneOf) → IsLane l → (slots : List Slot) (k : ℕ) → IsNeeded (parts l slots) k → IsNeeded slots k
 needed_parts l i slots k (p, a, e) = (number_at l p, a, ap (λ (z : Column). needer z k) (sym (column_parts l i slots p)) ∙ e)
