@@ -14,6 +14,7 @@ mod access;
 mod body;
 mod copy;
 pub mod lane;
+mod new;
 mod parts;
 mod ready;
 mod stop;
