@@ -150,6 +150,13 @@ impl Cascade {
         self.room = 0;
     }
 
+    /// How many volumes there are. Looks at none of them.
+    pub fn volumes(&self) -> usize
+        ensures { result ≡ volume_count self.now.sheet.slots }
+    {
+        self.directory.volumes()
+    }
+
     /// The volume's live slot, and None exactly where there is no such volume.
     pub fn live(&self, volume: VolId) -> Option<SlotId>
         ensures { result ≡ found self.now.sheet.slots (live_place self.now.sheet.slots volume.0) }
