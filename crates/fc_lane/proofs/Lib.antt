@@ -9,3 +9,5 @@ pub mod Begin
 pub mod Readying
 pub mod Moving
 pub mod MoveEnds
+pub mod Counting
+pub mod LaneEvents
