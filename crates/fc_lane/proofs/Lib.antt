@@ -8,3 +8,5 @@ pub mod Telling
 pub mod Readying
 pub mod Moving
 pub mod MoveEnds
+pub mod StepsMade
+pub mod StepsLoop

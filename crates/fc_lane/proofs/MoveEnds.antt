@@ -188,7 +188,7 @@ empty_ends chains after old new g k h from m can f src ef lost n e =
     (subst (λ (z : ℕ). StoredAt (stored old.volumes) z g Lost (stored (changed m.volume.0 (holding g Lost) old.volumes))) can.volume at_m)) in (
       out_ends chains after old new g k h 0 m can f src.holds e st (ap (λ (b : Bool). cond b 0 2) (sym lost_h)) (not_counted old new (ap (λ (s : GrainsState). s.calls) n) (ap (λ (s : GrainsState). s.faults) n)),
       changed_same old new (holding g Lost) m.volume.0 (λ x. refl) (λ x. refl) (holds_size (holding g Lost) g Lost (λ x. refl)) (λ x. refl) there
-      (n ∙ ap (λ (b : List ℕ). record old { volumes = changed m.volume.0 (holding g Lost) old.volumes; buffer = b }) (sym (ap (λ (s : GrainsState). s.buffer) n))),
+          (n ∙ ap (λ (b : List ℕ). record old { volumes = changed m.volume.0 (holding g Lost) old.volumes; buffer = b }) (sym (ap (λ (s : GrainsState). s.buffer) n))),
     )
 
 -- the volume that a move reads

@@ -16,4 +16,5 @@ mod copy;
 pub mod lane;
 mod parts;
 mod ready;
+mod steps;
 mod stop;
