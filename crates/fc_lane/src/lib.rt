@@ -20,4 +20,5 @@ mod new;
 mod parts;
 mod ready;
 mod rooms;
+mod steps;
 mod stop;
