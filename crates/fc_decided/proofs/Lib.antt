@@ -1,5 +1,10 @@
 pub mod Restarting
 pub mod Lists
+pub mod Ordered
+pub mod Unrefused
 pub mod Apart
 pub mod Working
 pub mod Frame
+pub mod Resting
+pub mod Setting
+pub mod Reaching
