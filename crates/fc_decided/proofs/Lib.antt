@@ -8,3 +8,5 @@ pub mod Frame
 pub mod Resting
 pub mod Setting
 pub mod Reaching
+pub mod Agreeing
+pub mod Grouping

@@ -1,5 +1,5 @@
 -- What is known of a command that isn't refused.
-use Rattle.std.proofs.Common.{◌≡◌, ℕ, Bool, true, false, List, ◌∷◌, Option, Some, None, refl}
+use Rattle.std.proofs.Common.{◌≡◌, ℕ, Bool, true, false, List, [], ◌∷◌, Option, Some, None, refl}
 use Rattle.std.specs.Option.{option_map}
 use Rattle.fc_base.specs.declared.fault.Kind.{Kind}
 use Rattle.fc_base.specs.declared.fault.Refusal.{Refusal}
@@ -26,3 +26,12 @@ none_taken id_of (Some x) e = absurd cc
 pub some_one : {X : Type 0} (kind : Kind) (o : Option X) (next : X → Option Refusal) → of_one kind o next ≡ None → (x : X) × (o ≡ Some x) × (next x ≡ None)
 some_one kind None next e = absurd cc
 some_one kind (Some x) next e = (x, refl, e)
+
+-- none of a list
+abbrev pub AreNone : List (Option Refusal) → Type 0
+AreNone [] = Unit {0}
+AreNone (o ∷ os) = (o ≡ None) × AreNone os
+
+pub none_of : (refusals : List (Option Refusal)) → first_of refusals ≡ None → AreNone refusals
+none_of [] e = tt
+none_of (o ∷ os) e = let r = none_first o os e in (r.0, none_of os r.1)
