@@ -10,3 +10,4 @@ pub mod Setting
 pub mod Reaching
 pub mod Agreeing
 pub mod Grouping
+pub mod Pairing
