@@ -1,6 +1,6 @@
 -- Parts of the agreement of tables and chains, carried over to other tables.
 use Rattle.std.proofs.Common.{◌≡◌, ℕ, Bool, true, false, List, Option, Some, None, refl, sym, ap, subst, ◌∙◌, Contains}
-use Rattle.std.specs.Prelude.{◌==◌, find, IsSome}
+use Rattle.std.specs.Prelude.{IsNone, ◌==◌, find, IsSome}
 use Rattle.std.specs.Option.{ForSome}
 use Rattle.std.proofs.lemmas.Bool.{eqb-true, eq-eqb}
 use Rattle.fc_base.specs.Sheet.{Slot, mapping_place}
@@ -20,6 +20,10 @@ use Rattle.fc_decided.proofs.Lists.{find_from, find_there}
 pub some_from : {X : Type 0} (o : Option X) → IsSome o → (x : X) × (o ≡ Some x)
 some_from None some = absurd cc
 some_from (Some x) some = (x, refl)
+
+pub is_none : {X : Type 0} (o : Option X) → o ≡ None → IsNone o
+is_none None e = search
+is_none (Some x) e = absurd cc
 
 pub some_is : {X : Type 0} (o : Option X) (x : X) → o ≡ Some x → IsSome o
 some_is None x e = absurd cc

@@ -1,6 +1,6 @@
 -- Groups come and go.
 use Rattle.std.proofs.Common.{◌≡◌, ℕ, ◌+◌, ◌<◌, ◌≤◌, ◌^◌, Bool, true, false, cond, not, List, [], ◌∷◌, ◌++◌, length, map, fold, Option, Some, None, refl, sym, ap, subst, ◌∙◌, arith, Contains, ◌⊎◌, inl, inr}
-use Rattle.std.specs.Prelude.{◌==◌, nat_le, find, filter, IsSome, IsNone}
+use Rattle.std.specs.Prelude.{◌==◌, nat_le, find, filter, IsSome}
 use Rattle.std.specs.Option.{ForSome, option_map_or}
 use Rattle.std.proofs.lemmas.Bool.{eqb-true, eq-eqb, both_ways}
 use Rattle.std.proofs.lemmas.List.{length-map}
@@ -26,6 +26,7 @@ use Rattle.fc_legal.specs.Whole.{Whole}
 use Rattle.fc_decided.proofs.Agreeing.{group_there, group_from, of_tables_same, slot_as}
 use Rattle.fc_decided.proofs.Frame.{Suits, tabled, sheeted}
 use Rattle.fc_decided.proofs.Lists.{filter_from, filter_in, map_from}
+use Rattle.fc_decided.proofs.Agreeing.{is_none}
 use Rattle.fc_decided.proofs.Ordered.{push_ordered, filter_ordered, unnamed}
 use Rattle.fc_decided.proofs.Resting.{births_fit}
 use Rattle.fc_decided.proofs.Apart.{fold_append}
@@ -46,10 +47,6 @@ use Rattle.fc_base.specs.declared.fault.Refusal.TheVariants.{Limit}
 use Rattle.fc_entry.specs.Refused.{where_}
 
 -- ---- a group comes
-
-is_none : {X : Type 0} (o : Option X) → o ≡ None → IsNone o
-is_none None e = search
-is_none (Some x) e = absurd cc
 
 pub group_kept : (t : Tables) (g : Group) (o : Option GroupId) → ForSome o (λ id. IsSome (group_with t id)) → ForSome o (λ id. IsSome (group_with (record t { groups = t.groups ++ g ∷ [] }) id))
 group_kept t g o some =

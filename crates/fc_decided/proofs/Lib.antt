@@ -11,3 +11,5 @@ pub mod Reaching
 pub mod Agreeing
 pub mod Grouping
 pub mod Pairing
+pub mod Carrying
+pub mod Making

@@ -135,3 +135,11 @@ find_filtered p q (x ∷ xs) weaker = by (p x) refl (q x) refl (find_filtered p 
     by true passes false gone rest = absurd (both_ways (q x) gone (weaker x (first_in x xs) passes))
     by false fails true kept rest = rw kept (rw fails rest)
     by false fails false gone rest = rw gone (rw fails rest)
+
+pub find_longer : {X : Type 0} (p : X → Bool) (xs ys : List X) (x : X) → find p xs ≡ Some x → find p (xs ++ ys) ≡ Some x
+find_longer p [] ys x e = absurd cc
+find_longer p (z ∷ zs) ys x e = by (p z) (λ rest. find_longer p zs ys x rest) e
+  where
+    by : (b : Bool) → (find p zs ≡ Some x → find p (zs ++ ys) ≡ Some x) → cond b (Some z) (find p zs) ≡ Some x → cond b (Some z) (find p (zs ++ ys)) ≡ Some x
+    by true further q = q
+    by false further q = further q

@@ -1,6 +1,6 @@
 -- Mappings come and go.
 use Rattle.std.proofs.Common.{◌≡◌, ◌≢◌, ℕ, ◌+◌, ◌<◌, ◌≤◌, ◌^◌, Bool, true, false, cond, not, ◌&&◌, List, [], ◌∷◌, ◌++◌, length, fold, Option, Some, None, refl, sym, ap, subst, ◌∙◌, arith, Contains, ◌⊎◌, inl, inr, length-append}
-use Rattle.std.specs.Prelude.{◌==◌, nat_le, filter, IsSome, IsNone, count_by, option_map}
+use Rattle.std.specs.Prelude.{◌==◌, nat_le, filter, IsSome, count_by, option_map}
 use Rattle.std.proofs.lemmas.Bool.{cases_Bool, eqb-true, eq-eqb, both_ways, false_from_ne_true}
 use Rattle.std.proofs.lemmas.Bool.Decides.{nat_tests}
 use Rattle.std.proofs.lemmas.List.Elements.{All-push, All-filter, All-weaker, All-contains, Contains-append_left, Contains-push_cases}
@@ -40,6 +40,7 @@ use Rattle.fc_sheets.proofs.Finding.{mapping_place_none, no_mapping_place}
 use Rattle.fc_decided.proofs.Agreeing.{some_is, volume_there, group_there, has_grains, of_tables_same}
 use Rattle.fc_decided.proofs.Frame.{Suits, tabled, sheeted}
 use Rattle.fc_decided.proofs.Lists.{find_from, find_there, find_short, find_filtered, filter_from, filter_in, map_alike}
+use Rattle.fc_decided.proofs.Agreeing.{is_none}
 use Rattle.fc_decided.proofs.Ordered.{push_ordered, filter_ordered, unnamed, found_by_id}
 use Rattle.fc_decided.proofs.Reaching.{decides, reached, access_online, volumes_through}
 use Rattle.fc_decided.proofs.Resting.{births_fit}
@@ -47,10 +48,6 @@ use Rattle.fc_decided.proofs.Setting.{AreOrdered, one_mapping}
 use Rattle.fc_decided.proofs.Unrefused.{none_of, none_where, none_taken}
 
 -- ---- a mapping comes
-
-is_none : {X : Type 0} (o : Option X) → o ≡ None → IsNone o
-is_none None e = search
-is_none (Some x) e = absurd cc
 
 and_false : (b : Bool) → (b && false) ≡ false
 and_false true = refl
