@@ -13,3 +13,5 @@ pub mod Grouping
 pub mod Pairing
 pub mod Carrying
 pub mod Making
+pub mod Beginning
+pub mod Turning
