@@ -1,0 +1,17 @@
+pub mod Restarting
+pub mod Lists
+pub mod Ordered
+pub mod Unrefused
+pub mod Apart
+pub mod Working
+pub mod Frame
+pub mod Resting
+pub mod Setting
+pub mod Reaching
+pub mod Agreeing
+pub mod Grouping
+pub mod Pairing
+pub mod Carrying
+pub mod Making
+pub mod Beginning
+pub mod Turning
