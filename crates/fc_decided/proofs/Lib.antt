@@ -1,2 +1,4 @@
 pub mod Seen
 pub mod Leaving
+pub mod Splitting
+pub mod Free
