@@ -4,3 +4,8 @@ pub mod Splitting
 pub mod Free
 pub mod Cutting
 pub mod Counting
+pub mod Restarting
+pub mod Lists
+pub mod Apart
+pub mod Working
+pub mod Frame
