@@ -9,3 +9,4 @@ pub mod Lists
 pub mod Apart
 pub mod Working
 pub mod Frame
+pub mod Rows
