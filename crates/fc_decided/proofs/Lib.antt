@@ -10,3 +10,5 @@ pub mod Apart
 pub mod Working
 pub mod Frame
 pub mod Rows
+pub mod TableSteps
+pub mod Ends
