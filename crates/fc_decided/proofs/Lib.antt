@@ -12,3 +12,4 @@ pub mod Frame
 pub mod Rows
 pub mod TableSteps
 pub mod Ends
+pub mod Joint
