@@ -136,7 +136,7 @@ joint_kept t old new changed before after k c p j =
 
 -- ---- a row changes
 
-idle_unseen : (state : MapState) (o : Option Seen) (v : ℕ) → is_idle state ≡ true → StateSeen state o v → o ≡ None
+pub idle_unseen : (state : MapState) (o : Option Seen) (v : ℕ) → is_idle state ≡ true → StateSeen state o v → o ≡ None
 idle_unseen IdleOrCopied o v e s = s
 idle_unseen Empty o v e s = s
 idle_unseen Preparing o v e s = s

@@ -13,3 +13,4 @@ pub mod Rows
 pub mod TableSteps
 pub mod Ends
 pub mod Joint
+pub mod Quiet
