@@ -14,3 +14,4 @@ pub mod TableSteps
 pub mod Ends
 pub mod Joint
 pub mod Quiet
+pub mod Plain
