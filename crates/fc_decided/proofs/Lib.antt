@@ -15,3 +15,4 @@ pub mod Ends
 pub mod Joint
 pub mod Quiet
 pub mod Plain
+pub mod Forced
