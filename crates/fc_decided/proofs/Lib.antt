@@ -16,3 +16,4 @@ pub mod Joint
 pub mod Quiet
 pub mod Plain
 pub mod Forced
+pub mod Stops
