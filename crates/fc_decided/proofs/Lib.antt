@@ -1,3 +1,9 @@
+pub mod Seen
+pub mod Leaving
+pub mod Splitting
+pub mod Free
+pub mod Cutting
+pub mod Counting
 pub mod Restarting
 pub mod Lists
 pub mod Ordered
@@ -15,3 +21,11 @@ pub mod Carrying
 pub mod Making
 pub mod Beginning
 pub mod Turning
+pub mod Rows
+pub mod TableSteps
+pub mod Ends
+pub mod Joint
+pub mod Quiet
+pub mod Plain
+pub mod Forced
+pub mod Stops
