@@ -11,3 +11,5 @@ pub mod Moving
 pub mod MoveEnds
 pub mod Counting
 pub mod LaneEvents
+pub mod Reading
+pub mod ReadAnswers
