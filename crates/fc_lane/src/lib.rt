@@ -18,6 +18,7 @@ mod events;
 pub mod lane;
 mod new;
 mod parts;
+mod read;
 mod ready;
 mod rooms;
 mod steps;
