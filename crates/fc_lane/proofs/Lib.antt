@@ -10,3 +10,4 @@ pub mod Moving
 pub mod MoveEnds
 pub mod StepsMade
 pub mod StepsLoop
+pub mod WritePrepare

@@ -18,3 +18,4 @@ mod parts;
 mod ready;
 mod steps;
 mod stop;
+mod write_step;
