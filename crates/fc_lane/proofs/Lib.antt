@@ -11,3 +11,5 @@ pub mod MoveEnds
 pub mod StepsMade
 pub mod StepsLoop
 pub mod WritePrepare
+pub mod WriteOwn
+pub mod WriteAll

@@ -1,10 +1,11 @@
 -- The write itself, once its moves are made.
-use Rattle.std.specs.Prelude.{◌≡◌, ℕ, ◌+◌, ◌*◌, ◌≤◌, Bool, true, false, cond, Option, Some, None, List, length}
+use Rattle.std.specs.Prelude.{◌≡◌, ℕ, ◌+◌, ◌*◌, ◌≤◌, Bool, true, false, cond, Option, Some, None, List, map}
 use Rattle.fc_base.specs.Count.{HasRisen}
 use Rattle.fc_base.specs.Grain.{block_bytes, grain_bytes}
 use Rattle.fc_base.specs.Moves.{write_moves}
 use Rattle.fc_base.specs.Sheet.{live_place, column}
 use Rattle.fc_base.specs.SheetFacts.{IsSound}
+use Rattle.fc_base.specs.declared.request.Move.{Move}
 use Rattle.fc_base.specs.declared.request.Torn.{Torn}
 use Rattle.fc_base.specs.declared.request.WritePart.{WritePart}
 use Rattle.fc_base.specs.declared.size.GrainSize.{GrainSize}
@@ -16,7 +17,7 @@ use Rattle.fc_grains.specs.Volumes.{stored}
 use Rattle.fc_lane.specs.Moving.{Counted, SameLane}
 use Rattle.fc_lane.specs.Parts.{SameVolumes}
 use Rattle.fc_lane.specs.Standing.{Stands}
-use Rattle.fc_lane.specs.StepsEnd.{torn_in}
+use Rattle.fc_lane.specs.StepsEnd.{StandsAt, torn_in}
 use Rattle.fc_lane.specs.declared.stop.Stop.{Stop}
 use Rattle.fc_lane.specs.declared.stop.Stop.TheVariants.{Failed, NoMemory}
 use Rattle.fc_pictures.specs.LaneLaw.{sheet_before_write}
@@ -25,7 +26,7 @@ use Rattle.fc_rules.specs.GrainAnswers.{cannot_write}
 use Rattle.fc_rules.specs.LaneFits.{FitsPart}
 use Rattle.fc_rules.specs.LaneTold.{LaneOf, LaneTold, place_of, sheet_write, sheet_tear, picture_entry}
 use Rattle.fc_rules.specs.LaneTurn.{spot_at}
-use Rattle.fc_rules.specs.Spot.{Spot}
+use Rattle.fc_rules.specs.Spot.{Spot, move_in}
 use Rattle.fc_rules.specs.Steps.{own_step, torn_by}
 
 -- The grain at hand became what is written: a grain that held this, with the part's bytes. Its rest was read, unless the whole
@@ -92,3 +93,11 @@ OwnEnds l told part t calls (Some NoMemory) chains old after new =
 abbrev pub write_in : WritePart → Option Stop → Option WritePart
 write_in part None = Some part
 write_in part (Some stop) = None
+
+-- A write with its planned moves, in a lane that stands for what is told.
+pub record IsPlannedWrite (l : LaneOf) (told : LaneTold) (part : WritePart) (t : ℕ) (chains : Chains) (grains : GrainsState) (plan : List Move) (number place : ℕ) : Type 0 where
+  pub at : StandsAt l told chains grains
+  pub is : IsWrite l told part t
+  pub plan_is : plan ≡ map (move_in (spot_of l told part)) (write_moves (spot_of l told part).column t)
+  pub number_is : number ≡ grain_of_block l.grain part.block
+  pub place_is : place ≡ place_of l (grain_of_block l.grain part.block)

@@ -1,6 +1,6 @@
 //! The write that an entry asks for, once its moves are made.
 
-ghost use Rattle.std.specs.Prelude.{◌≡◌, ◌+◌, ◌*◌, ◌<◌, ◌≤◌, ℕ, Some, cond, false, length, is_err, ◌==◌, ◌&&◌, not, true};
+ghost use Rattle.std.specs.Prelude.{◌≡◌, ◌+◌, ◌*◌, ◌<◌, ◌≤◌, ◌^◌, [], ℕ, Some, cond, false, length, is_err, ◌==◌, ◌&&◌, not, true};
 ghost use Rattle.fc_base.specs.Column.{holder};
 ghost use Rattle.fc_base.specs.Sheet.{slot_at, column, live_place};
 ghost use Rattle.fc_base.specs.SheetFacts.{IsSound};
@@ -9,7 +9,9 @@ ghost use Rattle.fc_chain.specs.Chains.{IsOfLane, in_lane};
 ghost use Rattle.fc_entry.specs.Picture.{byte_in_grain, grain_of_block};
 ghost use Rattle.fc_entry.specs.Right.{calls_of_write, is_lost, is_whole};
 ghost use Rattle.fc_grains.specs.Volumes.{is_there, stored, volume_of};
-ghost use Rattle.fc_lane.specs.WriteStep.{CanWriteOwn, IsInGrain, IsPrepared, OwnEnds};
+ghost use Rattle.fc_lane.specs.WriteStep.{CanWriteOwn, IsInGrain, IsPlannedWrite, IsPrepared, OwnEnds, spot_of, write_in};
+ghost use Rattle.fc_lane.specs.StepsEnd.{StepsEnd, StepsStand, torn_in};
+ghost use Rattle.fc_rules.specs.Steps.{steps_of_write};
 ghost use Rattle.fc_rules.specs.LaneTold.{LaneOf, LaneTold, place_of};
 
 use crate::body::{Body, StepEnd, done, failed};
@@ -17,8 +19,9 @@ use crate::stop::Stop;
 use fc_base::disk::DiskError;
 use fc_base::ids::{GrainNo, VolId};
 use fc_base::limits::BLOCK_BYTES;
+use fc_base::move_plan::MovePlan;
 use fc_base::outcome::Failed;
-use fc_base::request::{Side, Torn, WritePart};
+use fc_base::request::{Move, Side, Torn, WritePart};
 use fc_base::size::GrainSize;
 use fc_grains::grains::Grains;
 use fc_mdisk::mdisk::Mdisk;
@@ -124,6 +127,33 @@ impl<D: Mdisk> Body<D> {
                 calls,
                 stop: Some(Stop::NoMemory),
             },
+        }
+    }
+
+    /// Writes a part of a grain, which stands at this place among the lane's, with all planned moves before it, and puts
+    /// each move that was made into `made`. It stops at the first step that isn't done.
+    pub(crate) fn write_all(
+        &mut self,
+        plan: &[Move],
+        part: WritePart,
+        grain: GrainNo,
+        place: u32,
+        made: &mut MovePlan,
+    ) -> StepEnd
+        requires can { (l : LaneOf) × (told : LaneTold) × (t : ℕ) × IsPlannedWrite l told part t self.old.cascade self.old.grains plan.now grain.0 place }
+        requires few { length plan.now < 2 ^ 30 }
+        requires room { length plan.now ≤ made.old.room }
+        requires empty { made.old.moves ≡ [] }
+        ensures { (l : LaneOf) (told : LaneTold) (t : ℕ) → IsPlannedWrite l told part t self.old.cascade self.old.grains plan.now grain.0 place → StepsEnd (spot_of l told part) (steps_of_write l.grain (spot_of l told part) part t) made.new.moves result.calls result.stop self.old.grains self.new.grains × StepsStand l told (write_in part result.stop) made.new.moves result.calls (torn_in result.stop) self.old.cascade self.old.grains self.new.cascade self.new.grains }
+    {
+        let moves = self.make_moves(plan, place, made);
+        if moves.stop.is_some() {
+            return moves;
+        }
+        let own = self.write_own(part, grain, place);
+        StepEnd {
+            calls: moves.calls + own.calls,
+            stop: own.stop,
         }
     }
 }
