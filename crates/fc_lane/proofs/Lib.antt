@@ -5,9 +5,12 @@ pub mod Accessing
 pub mod Volumes
 pub mod Eventing
 pub mod Telling
+pub mod Begin
 pub mod Readying
 pub mod Moving
 pub mod MoveEnds
+pub mod Counting
+pub mod LaneEvents
 pub mod StepsMade
 pub mod StepsLoop
 pub mod WritePrepare

@@ -6,13 +6,11 @@ use Rattle.fc_base.specs.declared.decision.LaneEvent.TheVariants.{Arm}
 use Rattle.fc_base.specs.declared.ids.GrainNo.{GrainNo}
 use Rattle.fc_base.specs.declared.ids.VolId.{VolId}
 use Rattle.fc_base.specs.declared.request.Request.{Request}
-use Rattle.fc_base.specs.declared.size.GrainSize.{GrainSize}
 use Rattle.fc_chain.specs.Chains.{Chains}
 use Rattle.fc_chain.specs.Planning.{volume_count}
 use Rattle.fc_entry.specs.declared.entry.Entry.{Entry}
-use Rattle.fc_grains.specs.Grains.{GrainsState, opened, stopped}
+use Rattle.fc_grains.specs.Grains.{GrainsState, stopped}
 use Rattle.fc_grains.specs.Quiet.{IsQuiet}
-use Rattle.fc_mdisk.specs.Disk.{DiskState}
 use Rattle.fc_pick.specs.Flags.{WorkState}
 use Rattle.fc_lane.specs.Accesses.{AccessState}
 use Rattle.fc_lane.specs.Parts.{StandsFor, IsReadyFor, lane_of}
