@@ -15,3 +15,6 @@ pub mod StepsMade
 pub mod StepsLoop
 pub mod Reading
 pub mod ReadAnswers
+pub mod WritePrepare
+pub mod WriteOwn
+pub mod WriteAll
