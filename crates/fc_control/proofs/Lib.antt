@@ -6,3 +6,5 @@ pub mod Working
 pub mod Grouping
 pub mod Volumes
 pub mod Removing
+pub mod Mapped
+pub mod Selecting

@@ -4,3 +4,5 @@ pub mod Outcome
 pub mod Telling
 pub mod Names
 pub mod Volumes
+pub mod Answering
+pub mod Mappings

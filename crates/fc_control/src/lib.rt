@@ -18,9 +18,12 @@ mod control;
 mod decide;
 mod draft;
 mod ending;
+mod groups;
+mod mkfcmap;
 mod mkvdisk;
 mod name;
 mod rmfcmap;
+mod rmvdisk;
 mod settle;
 mod work;
 
