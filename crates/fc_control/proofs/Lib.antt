@@ -8,3 +8,7 @@ pub mod Volumes
 pub mod Removing
 pub mod Mapped
 pub mod Selecting
+pub mod Slots
+pub mod Vanishing
+pub mod Setting
+pub mod Flagged

@@ -6,3 +6,5 @@ pub mod Names
 pub mod Volumes
 pub mod Answering
 pub mod Mappings
+pub mod Choosing
+pub mod Starts

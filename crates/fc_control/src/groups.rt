@@ -1,9 +1,9 @@
 //! The members of a group.
 
-ghost use Rattle.std.specs.Prelude.{◌≡◌, ◌&&◌, length, filter};
+ghost use Rattle.std.specs.Prelude.{◌≡◌, ◌&&◌, not, length, filter};
 ghost use Rattle.std.specs.List.{list_any};
 ghost use Rattle.fc_books.specs.Accesses.{is_active};
-ghost use Rattle.fc_books.specs.Groups.{is_in, some_in};
+ghost use Rattle.fc_books.specs.Groups.{is_in, is_none_of, some_in};
 
 use crate::ending::is_active;
 use fc_base::ids::GroupId;
@@ -21,6 +21,21 @@ pub fn count_members(mappings: &[Mapping], group: GroupId) -> usize
         }
     }
     count
+}
+
+/// Whether some mapping is in the group.
+#[tactic(auto, using(crate::proofs::Selecting::any_there))]
+pub fn has_member(mappings: &[Mapping], group: GroupId) -> bool
+    ensures { result ≡ not (is_none_of (filter (is_in group) mappings.now)) }
+{
+    some_member(mappings, group)
+}
+
+/// Whether some mapping is a member of the group.
+fn some_member(mappings: &[Mapping], group: GroupId) -> bool
+    ensures { result ≡ list_any (is_in group) mappings.now }
+{
+    mappings.iter().any(|mapping| is_member(mapping, group))
 }
 
 /// Whether an active mapping is in the group.

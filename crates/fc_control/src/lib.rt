@@ -22,6 +22,8 @@ mod groups;
 mod mkfcmap;
 mod mkvdisk;
 mod name;
+mod reports;
+mod rmfcconsistgrp;
 mod rmfcmap;
 mod rmvdisk;
 mod settle;

@@ -1,12 +1,13 @@
 //! Decisions on `rmvdisk`.
 
-ghost use Rattle.std.specs.Prelude.{◌≡◌, ◌||◌, ◌==◌, IfOk, None};
+ghost use Rattle.std.specs.Prelude.{◌≡◌, ◌||◌, IfOk, None, false};
 ghost use Rattle.std.specs.List.{list_any};
 ghost use Rattle.fc_base.specs.declared.command.Command.{Command};
 ghost use Rattle.fc_books.specs.Copies.{is_used};
 ghost use Rattle.fc_books.specs.Deciding.{with_work, decide};
 ghost use Rattle.fc_books.specs.Making.{remove_volume};
 ghost use Rattle.fc_books.specs.Refused.{names_volume};
+ghost use Rattle.fc_books.specs.Sound.{AreSound};
 ghost use Rattle.fc_control.specs.Control.{books_of};
 
 use crate::control::Control;
@@ -55,11 +56,10 @@ impl Control {
         volume: &Volume,
     ) -> Result<Decision, NoMemory>
         requires sound { AreSound (books_of self.now (S.meaning sheet.now)) }
-        requires there { Contains self.now.tables.volumes volume.now }
         requires unnamed { list_any (names_volume volume.now) self.now.tables.mappings ≡ false }
         ensures { IfOk result (λ decision. decision ≡ with_work (S.meaning sheet.now).restarts (books_of self.now (S.meaning sheet.now)) Reply.Done (remove_volume volume.now)) }
     {
-        let draft = draft_removal(alloc, volume.id)?;
+        let draft = draft_removal(alloc, volume)?;
         let decision = self.conclude(sheet, draft, Reply::Done)?;
         Ok(decision)
     }
@@ -94,12 +94,12 @@ fn names_volume(mapping: &Mapping, volume: &Volume) -> bool
 }
 
 /// What removing a volume does.
-fn draft_removal(alloc: Global, volume: VolId) -> Result<Draft, NoMemory>
-    ensures { IfOk result (λ draft. draft ≡ removal_of volume) }
+fn draft_removal(alloc: Global, volume: &Volume) -> Result<Draft, NoMemory>
+    ensures { IfOk result (λ draft. draft ≡ remove_volume volume.now) }
 {
     let mut draft = Draft::new(alloc);
-    draft.affect(Effect::Remove { volume })?;
-    draft.tell(LaneEvent::Remove { volume })?;
-    draft.change(Change::RemoveVolume(volume))?;
+    draft.affect(Effect::Remove { volume: volume.id })?;
+    draft.tell(LaneEvent::Remove { volume: volume.id })?;
+    draft.change(Change::RemoveVolume(volume.id))?;
     Ok(draft)
 }
