@@ -1,5 +1,5 @@
 -- The flags of all mappings after a deed that sets some of them.
-use Rattle.std.proofs.Common.{◌≡◌, ◌∙◌, sym, ap, ℕ, zero, suc, Bool, true, false, cond, List, [], ◌∷◌, ◌++◌, map, fold, None, refl, arith, append-nil}
+use Rattle.std.proofs.Common.{◌≡◌, ◌∙◌, sym, ap, ℕ, Bool, true, false, cond, List, [], ◌∷◌, ◌++◌, map, fold, None, refl}
 use Rattle.std.specs.List.{Contains, filter, flat_map}
 use Rattle.fc_base.specs.Sheet.{Slot}
 use Rattle.fc_base.specs.Tables.{IsOrdered}

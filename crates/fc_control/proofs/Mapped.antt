@@ -1,9 +1,9 @@
 -- A mapping that is made, or refused.
-use Rattle.std.proofs.Common.{◌≡◌, ◌∙◌, sym, ap, ℕ, zero, suc, ◌<◌, Bool, true, false, cond, not, ◌&&◌, ◌||◌, ◌==◌, nat_le, nat_lt, List, [], ◌∷◌, ◌++◌, length, map, Option, Some, None, codes, refl, arith, append-nil}
-use Rattle.std.specs.List.{All, Contains, count_by, find, filter}
+use Rattle.std.proofs.Common.{◌≡◌, ◌∙◌, sym, ap, ℕ, ◌<◌, Bool, true, false, cond, not, ◌&&◌, ◌||◌, ◌==◌, nat_le, nat_lt, List, [], ◌∷◌, ◌++◌, length, map, Option, Some, None, codes, refl, arith, append-nil}
+use Rattle.std.specs.List.{All, count_by, find, filter}
 use Rattle.std.specs.Option.{option_map, option_map_or, is_none}
 use Rattle.std.proofs.lemmas.List.Elements.{All-head, All-tail, filter-append}
-use Rattle.fc_base.specs.Tables.{Tables, volume_named, group_named, id_with_name}
+use Rattle.fc_base.specs.Tables.{Tables, volume_named, group_named}
 use Rattle.fc_base.specs.declared.command.Command.{Command}
 use Rattle.fc_base.specs.declared.command.Command.TheVariants.{Mkfcmap}
 use Rattle.fc_base.specs.declared.decision.Decision.{Decision}
@@ -11,9 +11,8 @@ use Rattle.fc_base.specs.declared.decision.LaneEvent.{LaneEvent}
 use Rattle.fc_base.specs.declared.decision.LaneEvent.TheVariants.{Work}
 use Rattle.fc_base.specs.declared.fault.Kind.TheVariants.{Vdisk, Fcmap, Group as OfGroups}
 use Rattle.fc_base.specs.declared.fault.Refusal.{Refusal}
-use Rattle.fc_base.specs.declared.fault.Refusal.TheVariants.{NoSuch, Limit, BadValue, NotAllowed, SizeDiffers, SameVolume, PairTaken}
+use Rattle.fc_base.specs.declared.fault.Refusal.TheVariants.{NoSuch, Limit, BadValue, SizeDiffers, SameVolume}
 use Rattle.fc_base.specs.declared.fault.ValueOf.TheVariants.{CopyRate, CleanRate}
-use Rattle.fc_base.specs.declared.ids.GroupId.{GroupId}
 use Rattle.fc_base.specs.declared.name.Ref.{Ref}
 use Rattle.fc_base.specs.declared.request.Reply.{Reply}
 use Rattle.fc_base.specs.declared.request.Reply.TheVariants.{Made, Refused}
@@ -22,21 +21,21 @@ use Rattle.fc_base.specs.declared.volume.Group.{Group}
 use Rattle.fc_base.specs.declared.volume.Mapping.{Mapping}
 use Rattle.fc_base.specs.declared.volume.Volume.{Volume}
 use Rattle.fc_base.specs.declared.state.MapState.TheVariants.{IdleOrCopied}
-use Rattle.fc_books.specs.Accesses.{is_active, is_copying, is_stopping}
+use Rattle.fc_books.specs.Accesses.{is_copying, is_stopping}
 use Rattle.fc_books.specs.After.{after_deed}
 use Rattle.fc_books.specs.Books.{Books, Deed, nothing}
 use Rattle.fc_books.specs.Copies.{is_whole}
 use Rattle.fc_books.specs.Deciding.{decide, answered, for_one, refused, done, replied, with_work}
-use Rattle.fc_books.specs.Groups.{members, group_state, some_in}
+use Rattle.fc_books.specs.Groups.{members}
 use Rattle.fc_books.specs.Making.{make_mapping, new_mapping, mapping_name, group_asked}
-use Rattle.fc_books.specs.Refused.{of_one, of_asked, of_group, group_busy, grain_differs, is_pair, is_over, pair_taken, name_taken}
+use Rattle.fc_books.specs.Refused.{of_one, of_asked, of_group, group_busy, grain_differs, is_over, pair_taken, name_taken}
 use Rattle.fc_books.specs.Work.{copies, cleans, are_same, changes_work, work_events}
 use Rattle.fc_control.specs.Answering.{answered_by}
 use Rattle.fc_control.specs.Mappings.{ends_refused, asked_refused, rates_refused, full_group, busy_group, room_refused, pair_refused, mapping_with_name}
 use Rattle.fc_control.specs.declared.mkfcmap.MappingOptions.{MappingOptions}
 use Rattle.fc_control.specs.Names.{name_or}
 use Rattle.fc_control.specs.Volumes.{or_else}
-use Rattle.fc_entry.specs.Refused.{first_of, where_, taken_by}
+use Rattle.fc_entry.specs.Refused.{first_of, where_}
 use Rattle.fc_pick.specs.declared.work.WorkFlags.{WorkFlags}
 
 -- ---- any decision that asks for no loop

@@ -1,5 +1,5 @@
 -- Items that pass a test.
-use Rattle.std.proofs.Common.{◌≡◌, ◌∙◌, sym, ap, Bool, true, false, cond, ◌&&◌, ◌||◌, List, [], ◌∷◌, ◌++◌, not, refl}
+use Rattle.std.proofs.Common.{◌≡◌, ◌∙◌, ap, Bool, true, false, cond, ◌&&◌, ◌||◌, List, [], ◌∷◌, not, refl}
 use Rattle.std.specs.List.{list_any, filter}
 use Rattle.fc_base.specs.declared.volume.Mapping.{Mapping}
 use Rattle.fc_books.specs.Books.{Deed, nothing, ◌then◌, all_deeds}

@@ -1,8 +1,8 @@
 -- The slot of a mapping and the live slot of a volume are the first in the list that pass a test.
-use Rattle.std.proofs.Common.{◌≡◌, ◌∙◌, sym, ap, ℕ, zero, suc, ◌+◌, Bool, true, false, cond, not, ◌&&◌, ◌||◌, ◌==◌, eqb, List, [], ◌∷◌, ◌++◌, length, take, drop, remove, insert, slice_set, slice_index_or, Option, Some, None, option_map, refl, arith}
+use Rattle.std.proofs.Common.{◌≡◌, ◌∙◌, sym, ap, ℕ, zero, suc, Bool, true, false, cond, ◌&&◌, eqb, List, [], ◌∷◌, length, remove, insert, slice_set, slice_index_or, Option, Some, None, option_map, refl, arith}
 use Rattle.std.specs.List.{find, filter}
 use Rattle.fc_base.specs.Column.{first_below, is_at}
-use Rattle.fc_base.specs.Sheet.{Slot, Sheet, slot_at, no_slot, live_place, mapping_place}
+use Rattle.fc_base.specs.Sheet.{Slot, slot_at, live_place, mapping_place}
 use Rattle.fc_base.specs.SheetView.{held_at, held_of}
 
 -- ---- the first that passes

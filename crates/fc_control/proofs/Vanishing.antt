@@ -1,14 +1,12 @@
 -- The background work as a volume goes.
-use Rattle.std.proofs.Common.{◌≡◌, ◌∙◌, sym, ap, ℕ, zero, suc, ◌<◌, Bool, true, false, cond, not, ◌&&◌, ◌||◌, ◌==◌, nat_le, List, [], ◌∷◌, ◌++◌, length, remove, slice_index_or, Option, Some, None, refl, arith}
-use Rattle.std.specs.List.{Contains, find, filter, list_any}
+use Rattle.std.proofs.Common.{◌≡◌, ◌∙◌, sym, ap, ℕ, zero, suc, ◌<◌, Bool, true, false, not, ◌||◌, ◌==◌, nat_le, List, [], ◌∷◌, ◌++◌, length, remove, slice_index_or, Option, Some, None, refl, arith}
+use Rattle.std.specs.List.{Contains, list_any}
 use Rattle.std.specs.Option.{option_map_or}
 use Rattle.std.proofs.lemmas.Bool.{eqb-true, eq-eqb}
-use Rattle.fc_base.specs.Column.{is_at}
 use Rattle.fc_base.specs.Sheet.{Slot, Sheet, slot_at, no_slot, live_place, mapping_place}
 use Rattle.fc_base.specs.SheetStep.{at_place, without}
 use Rattle.fc_base.specs.SheetView.{held_of, count_true}
 use Rattle.fc_base.specs.SheetFacts.{HasMappings}
-use Rattle.fc_base.specs.Tables.{volume_with}
 use Rattle.fc_base.specs.declared.decision.Decision.{Decision}
 use Rattle.fc_base.specs.declared.request.Reply.{Reply}
 use Rattle.fc_base.specs.declared.state.MapState.{MapState}
@@ -18,7 +16,7 @@ use Rattle.fc_base.specs.declared.volume.Volume.{Volume}
 use Rattle.fc_books.proofs.Unchanged.{work_events-same}
 use Rattle.fc_books.specs.After.{after_deed}
 use Rattle.fc_books.specs.Books.{Books, Deed}
-use Rattle.fc_books.specs.Copies.{held, total, is_whole}
+use Rattle.fc_books.specs.Copies.{held, total}
 use Rattle.fc_books.specs.Deciding.{with_work}
 use Rattle.fc_books.specs.Making.{remove_volume}
 use Rattle.fc_books.specs.Refused.{names_volume}

@@ -1,5 +1,5 @@
 -- The group, and the flags as they stand.
-use Rattle.std.proofs.Common.{◌∙◌, ap, rules, arith}
+use Rattle.std.proofs.Common.{rules}
 use Rattle.fc_base.specs.declared.request.Reply.TheVariants.{Done}
 use Rattle.fc_control.specs.Control.{books_of}
 use Rattle.fc_control.proofs.Flagged.{group_gone}
