@@ -18,9 +18,14 @@ mod control;
 mod decide;
 mod draft;
 mod ending;
+mod groups;
+mod mkfcmap;
 mod mkvdisk;
 mod name;
+mod reports;
+mod rmfcconsistgrp;
 mod rmfcmap;
+mod rmvdisk;
 mod settle;
 mod work;
 
