@@ -6,3 +6,7 @@ pub mod Working
 pub mod Grouping
 pub mod Volumes
 pub mod Removing
+pub mod StopHeld
+pub mod StopWork
+pub mod StopEnds
+pub mod StopAsked

@@ -4,3 +4,4 @@ pub mod Outcome
 pub mod Telling
 pub mod Names
 pub mod Volumes
+pub mod Stops
