@@ -10,3 +10,4 @@ pub mod StopHeld
 pub mod StopWork
 pub mod StopEnds
 pub mod StopAsked
+pub mod StopParts

@@ -12,9 +12,9 @@ use Rattle.fc_base.specs.SheetView.{AreMappings, DependsOn}
 use Rattle.fc_base.specs.declared.ids.MapId.{MapId}
 use Rattle.fc_base.specs.declared.volume.Mapping.{Mapping}
 use Rattle.fc_books.specs.Books.{Books}
-use Rattle.fc_books.specs.Copies.{places_behind, dependent_places, has_slot_among, dependents}
+use Rattle.fc_books.specs.Copies.{places_behind, has_slot_among, dependents}
 use Rattle.fc_books.specs.Sound.{AreSound}
-use Rattle.fc_books.proofs.Depending.{dependent_places-are, AreDependents}
+use Rattle.fc_books.proofs.Depending.{dependent_places-are}
 use Rattle.fc_registry.proofs.Places.{IsAbove, Rises, rises}
 use Rattle.fc_control.proofs.StopEnds.{AreKnown}
 use Rattle.fc_control.proofs.StopHeld.{place_at}
@@ -104,7 +104,6 @@ dependents_known b m ids sound are n there =
     place_owned b n dep.dependent sound dep.dependent_there (within b.sheet.slots dep.on dep.dependent dep.depends)
 
 -- ---- and they stand in their order
-
 
 first_above : (k n : ℕ) (b rest : Bool) (x : ℕ) → (x == n) ≡ b → k < x → (rest ≡ true → k < n) → (b || rest) ≡ true → k < n
 first_above k n true rest x is lt later e = let same : x ≡ n = eqb-true x n is in omega arith

@@ -1,7 +1,7 @@
 -- What a stop does is what stops may do.
-use Rattle.std.proofs.Common.{◌≡◌, ◌∙◌, sym, ap, ℕ, Bool, true, false, cond, ◌&&◌, ◌||◌, ◌==◌, List, [], ◌∷◌, ◌++◌, map, Option, Some, None, Result, Ok, Err, refl, arith}
-use Rattle.std.specs.List.{list_any, filter}
-use Rattle.std.proofs.lemmas.Bool.{eqb-true, eq-eqb, or_left, or_right}
+use Rattle.std.proofs.Common.{◌≡◌, ◌∙◌, sym, ap, ℕ, Bool, true, false, cond, ◌&&◌, ◌||◌, ◌==◌, List, [], ◌∷◌, ◌++◌, Result, Ok, Err, refl, arith}
+use Rattle.std.specs.List.{list_any}
+use Rattle.std.proofs.lemmas.Bool.{eqb-true, or_left, or_right}
 use Rattle.std.proofs.lemmas.List.Folds.{list_any-append}
 use Rattle.fc_base.specs.States.{next_state}
 use Rattle.fc_base.specs.declared.command.StopWay.{StopWay}
@@ -19,7 +19,7 @@ use Rattle.fc_books.specs.Books.{Books, Deed, nothing, told, ◌then◌, all_dee
 use Rattle.fc_books.specs.Copies.{is_whole}
 use Rattle.fc_books.specs.Ending.{ends_in, ends_by, goes_from, comes_to, as_left, cut_of, leaves_by}
 use Rattle.fc_books.specs.Stopping.{stop_event, stops_with}
-use Rattle.fc_control.specs.Stops.{leaves_asked, is_among, those, ends_those, stop_asked, changes_in, changes_some, removes_some, leaves_in, leaves_some, forgets_some, IsStopEvent, AreStopEvents, AreStopChanges, IsStop}
+use Rattle.fc_control.specs.Stops.{leaves_asked, is_among, those, ends_those, stop_asked, changes_in, changes_some, leaves_in, leaves_some, forgets_some, IsStopEvent, AreStopEvents, AreStopChanges, IsStop}
 
 -- ---- one list after the other
 

@@ -1,10 +1,10 @@
 -- What the slot of a mapping holds stays as the slots of others leave.
-use Rattle.std.proofs.Common.{◌≡◌, ◌∙◌, sym, ap, ℕ, zero, suc, Bool, true, false, cond, not, ◌||◌, ◌==◌, eqb, List, [], ◌∷◌, ◌++◌, length, map, fold, remove, set, Option, Some, None, option_map, refl, arith}
+use Rattle.std.proofs.Common.{◌≡◌, ◌∙◌, sym, ap, ℕ, zero, suc, Bool, true, false, cond, ◌||◌, ◌==◌, eqb, List, [], ◌∷◌, length, map, fold, remove, set, Option, Some, None, refl, arith}
 use Rattle.std.specs.List.{list_any}
-use Rattle.std.proofs.lemmas.Bool.{eqb-true, eq-eqb}
+use Rattle.std.proofs.lemmas.Bool.{eqb-true}
 use Rattle.fc_base.specs.Column.{first_below, is_at}
 use Rattle.fc_base.specs.Sheet.{Slot, Sheet, slot_at, mapping_place}
-use Rattle.fc_base.specs.SheetStep.{at_place, retired_at, detached_at, split_at, split_from, relabelled, forced_at, forced_map, without, aged, sheet_step}
+use Rattle.fc_base.specs.SheetStep.{at_place, retired_at, detached_at, split_at, split_from, relabelled, forced_at, forced_map, without, aged}
 use Rattle.fc_base.specs.SheetView.{held_at, held_of}
 use Rattle.fc_base.specs.declared.decision.LaneEvent.{LaneEvent}
 use Rattle.fc_base.specs.declared.decision.LaneEvent.TheVariants.{Make, Remove, Trigger, Retire, Detach, Split, Force, Drop, Forget, NoteCut, Access, Work, Arm}

@@ -1,8 +1,8 @@
 -- The background work after stops.
-use Rattle.std.proofs.Common.{◌≡◌, ◌∙◌, sym, ap, ℕ, Bool, true, false, cond, not, ◌&&◌, ◌||◌, ◌==◌, nat_le, nat_lt, List, [], ◌∷◌, ◌++◌, map, fold, Option, Some, None, refl, arith, append_assoc}
-use Rattle.std.specs.List.{list_any, filter, flat_map}
+use Rattle.std.proofs.Common.{◌≡◌, ◌∙◌, sym, ap, ℕ, Bool, true, false, cond, not, ◌||◌, ◌==◌, nat_le, List, [], ◌∷◌, ◌++◌, map, fold, Option, Some, None, refl, arith, append_assoc}
+use Rattle.std.specs.List.{filter, flat_map}
 use Rattle.std.specs.Option.{option_map_or, option_and_then}
-use Rattle.std.proofs.lemmas.Bool.{eqb-true, eq-eqb}
+use Rattle.std.proofs.lemmas.Bool.{eqb-true}
 use Rattle.fc_base.specs.SheetView.{held_of, count_true}
 use Rattle.fc_base.specs.Tables.{volume_with}
 use Rattle.fc_base.specs.declared.decision.LaneEvent.{LaneEvent}
@@ -11,15 +11,15 @@ use Rattle.fc_base.specs.declared.volume.Change.{Change}
 use Rattle.fc_base.specs.declared.volume.Change.TheVariants.{AddVolume, RemoveVolume, AddMapping, RemoveMapping, SetMapping, AddGroup, RemoveGroup}
 use Rattle.fc_base.specs.declared.volume.Mapping.{Mapping}
 use Rattle.fc_base.specs.declared.volume.Volume.{Volume}
-use Rattle.fc_books.specs.Accesses.{is_copying, is_stopping}
-use Rattle.fc_books.specs.After.{after_table_change, sheet_after, flags_after, after_event, after_all, after_deed}
+use Rattle.fc_books.specs.Accesses.{is_copying}
+use Rattle.fc_books.specs.After.{after_table_change, sheet_after, flags_after, after_event, after_deed}
 use Rattle.fc_books.specs.Books.{Books, Deed}
 use Rattle.fc_books.specs.Copies.{held, total, is_whole}
-use Rattle.fc_books.specs.Work.{are_same, work_events}
+use Rattle.fc_books.specs.Work.{work_events}
 use Rattle.fc_control.proofs.Removing.{row_with, row_stays, tells}
 use Rattle.fc_control.proofs.StopHeld.{events_hold}
 use Rattle.fc_control.proofs.Working.{each_told}
-use Rattle.fc_control.specs.Stops.{set_by, mapping_after, told_of, told_after, changes_in, changes_some, removes_in, removes_some, leaves_in, leaves_some, forgets_in, forgets_some, IsStopEvent, AreStopEvents, IsStopChange, AreStopChanges, IsStop}
+use Rattle.fc_control.specs.Stops.{set_by, mapping_after, told_of, told_after, changes_in, changes_some, removes_in, removes_some, leaves_some, forgets_in, forgets_some, IsStopEvent, AreStopEvents, IsStopChange, AreStopChanges, IsStop}
 use Rattle.fc_control.specs.Telling.{work_told}
 use Rattle.fc_pick.specs.declared.work.WorkFlags.{WorkFlags}
 

@@ -2,11 +2,13 @@
 use Rattle.std.specs.Prelude.{◌≡◌, ℕ, Bool, true, false, cond, ◌||◌, ◌==◌, List, [], ◌∷◌, filter, Option, Some, None}
 use Rattle.std.specs.List.{list_any}
 use Rattle.std.specs.Option.{option_and_then}
+use Rattle.fc_base.specs.SheetView.{AreMappings, DependsOn}
 use Rattle.fc_base.specs.States.{next_state}
 use Rattle.fc_base.specs.declared.command.StopWay.{StopWay}
 use Rattle.fc_base.specs.declared.command.StopWay.TheVariants.{Plain, Force as ByForce, Split as SplitOff}
 use Rattle.fc_base.specs.declared.decision.LaneEvent.{LaneEvent}
-use Rattle.fc_base.specs.declared.decision.LaneEvent.TheVariants.{Make, Remove, Trigger, Retire, Detach, Split, Force, Drop, Forget, NoteCut, Access, Work, Arm}
+use Rattle.fc_base.specs.declared.decision.LaneEvent.TheVariants.{Make, Remove, Trigger, Retire, Detach, Split, Force, Drop, Forget, Work, Arm}
+use Rattle.fc_base.specs.declared.fault.Refusal.{Refusal}
 use Rattle.fc_base.specs.declared.ids.MapId.{MapId}
 use Rattle.fc_base.specs.declared.state.MapState.{MapState}
 use Rattle.fc_base.specs.declared.state.MapState.TheVariants.{Copying, Stopping}
@@ -16,9 +18,12 @@ use Rattle.fc_base.specs.declared.volume.Mapping.{Mapping}
 use Rattle.fc_books.specs.Accesses.{is_copying}
 use Rattle.fc_books.specs.Books.{Books, Deed, nothing, told, ◌then◌, all_deeds}
 use Rattle.fc_books.specs.Copies.{is_whole}
-use Rattle.fc_books.specs.Ending.{ends_by, leaves_by}
+use Rattle.fc_books.specs.Ending.{ends_in, ends_by, leaves_by}
+use Rattle.fc_books.specs.RefusedStarts.{in_group, by_state, not_complete}
 use Rattle.fc_books.specs.Stopping.{stop_event, stops_with}
+use Rattle.fc_entry.specs.Refused.{first_of}
 use Rattle.fc_control.specs.Telling.{work_told}
+use Rattle.fc_pick.specs.declared.work.WorkFlags.{WorkFlags}
 
 -- ---- a stop, where it is known whether the mapping's slot is needed, and which mappings depend on it
 
@@ -34,6 +39,15 @@ is_among ids m = list_any (λ (id : MapId). id.0 == m.id.0) ids
 abbrev pub those : List MapId → List Mapping → List Mapping
 those ids maps = filter (is_among ids) maps
 
+-- A mapping is stopped with another one where its id is among these.
+abbrev pub stops_among : List MapId → Books → Mapping → Deed
+stops_among ids b m = cond (is_among ids m) (stops_with b m) nothing
+
+-- A mapping ends in a state, if there is one.
+abbrev pub ends_where : Option MapState → Mapping → Deed
+ends_where None m = nothing
+ends_where (Some state) m = ends_in state m
+
 abbrev pub ends_those : StopWay → List MapId → Books → Deed
 ends_those ByForce ids b = all_deeds (stops_with b) (those ids b.tables.mappings)
 ends_those way ids b = nothing
@@ -48,6 +62,15 @@ stop_asked Stopping way needed ids b m =
     then (ends_by (next_state Stopping (stop_event way) m.complete needed) m
     then ends_those ByForce ids b)
 stop_asked state way needed ids b m = ends_by (next_state state (stop_event way) m.complete false) m
+
+-- What is asked of the mappings that depend on one: by force they are stopped with it.
+abbrev pub IsAnswer : StopWay → Books → Mapping → List MapId → Type 0
+IsAnswer ByForce b m ids = AreMappings (DependsOn b.sheet.slots m.id.0) ids
+IsAnswer way b m ids = ids ≡ []
+
+-- Whether a stop of the mapping is refused: for its group, its state, or as a split of an incomplete copy.
+abbrev pub refused_stop : StopWay → Books → Mapping → Option Refusal
+refused_stop way b m = first_of (in_group m ∷ by_state (stop_event way) m ∷ not_complete way b m ∷ [])
 
 -- ---- what changes make of a mapping
 
@@ -68,6 +91,15 @@ told_of b (Some m) = work_told b None m
 
 abbrev pub told_after : Books → List Change → Mapping → List LaneEvent
 told_after b changes m = told_of b (mapping_after changes m)
+
+-- The mapping as it is after one more change.
+abbrev pub set_next : Change → Option Mapping → Option Mapping
+set_next c o = option_and_then (set_by c) o
+
+-- The event that tells the flags of a mapping, if there is one.
+abbrev pub told_flags : Option WorkFlags → List LaneEvent
+told_flags None = []
+told_flags (Some row) = Work row.map row.copies row.cleans ∷ []
 
 -- Whether a change sets or removes the mapping.
 abbrev pub changes_in : ℕ → Change → Bool

@@ -22,6 +22,9 @@ mod mkvdisk;
 mod name;
 mod rmfcmap;
 mod settle;
+mod stop_mapping;
+mod stop_work;
+mod stopping;
 mod work;
 
 pub use control::Control;
