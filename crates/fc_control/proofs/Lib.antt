@@ -12,3 +12,8 @@ pub mod Slots
 pub mod Vanishing
 pub mod Setting
 pub mod Flagged
+pub mod StopHeld
+pub mod StopWork
+pub mod StopEnds
+pub mod StopAsked
+pub mod StopParts

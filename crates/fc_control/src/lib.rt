@@ -27,6 +27,9 @@ mod rmfcconsistgrp;
 mod rmfcmap;
 mod rmvdisk;
 mod settle;
+mod stop_mapping;
+mod stop_work;
+mod stopping;
 mod work;
 
 pub use control::Control;
