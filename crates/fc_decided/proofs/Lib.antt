@@ -15,3 +15,4 @@ pub mod Carrying
 pub mod Making
 pub mod Beginning
 pub mod Turning
+pub mod Receiving
