@@ -16,3 +16,5 @@ pub mod Making
 pub mod Beginning
 pub mod Turning
 pub mod Receiving
+pub mod Copying
+pub mod Turns
