@@ -1,5 +1,5 @@
 -- Plain volumes after a trigger are as large as before; and effects on states change none.
-use Rattle.std.proofs.Common.{◌≡◌, ◌≢◌, ℕ, Bool, true, false, cond, List, [], ◌∷◌, ◌++◌, length, map, Option, Some, None, refl, sym, ap, subst, ◌∙◌, arith, Contains, ◌⊎◌, inl, inr}
+use Rattle.std.proofs.Common.{◌≡◌, Bool, true, false, cond, List, [], ◌∷◌, ◌++◌, length, map, Some, None, refl, sym, ap, subst, ◌∙◌, Contains, inl, inr}
 use Rattle.std.specs.Prelude.{◌==◌}
 use Rattle.std.proofs.lemmas.Bool.{cases_Bool, eqb-true, eq-eqb, both_ways}
 use Rattle.fc_base.specs.declared.ids.VolId.{VolId}
@@ -8,7 +8,7 @@ use Rattle.fc_base.specs.declared.request.Effect.TheVariants.{Make, Remove, Trig
 use Rattle.fc_base.specs.declared.request.Pair.{Pair}
 use Rattle.fc_base.specs.declared.size.GrainSize.{GrainSize}
 use Rattle.fc_base.specs.declared.volume.Volume.{Volume}
-use Rattle.fc_entry.specs.Picture.{Content, PlainVolume, Picture, volume_in}
+use Rattle.fc_entry.specs.Picture.{PlainVolume, Picture}
 use Rattle.fc_entry.specs.PlainStep.{source_in, now_in, after_trigger, after_effect, after_effects}
 use Rattle.fc_legal.specs.Stands.{ArePlain}
 use Rattle.fc_moves.proofs.Search.{cases_option}
@@ -53,21 +53,23 @@ pub plain_size : (vs : List Volume) (picture : Picture) (v : Volume) (id : VolId
 plain_size [] picture v id one plain found e = absurd (none_in v found)
 plain_size (x ∷ xs) [] v id one plain found e = absurd plain
 plain_size (x ∷ xs) (p ∷ ps) v id one plain found e = elim (cases_Bool (p.volume.0 == id.0)) [
-    | inl here ↦
-        let same : x ≡ v = one x v (first_in x xs) found (ap (λ (z : VolId). z.0) (sym plain.0) ∙ eqb-true p.volume.0 id.0 here ∙ e) in
-        ap length (now_here p ps id here) ∙ plain.1 ∙ ap (λ (z : Volume). z.grains) same
-    | inr other ↦
-        ap length (now_later p ps id other)
-        ∙ plain_size xs ps v id (λ a b af bf. one a b (later_in x a xs af) (later_in x b xs bf)) plain.3 (rest other) e
-  ]
+  | inl here ↦
+      let same : x ≡ v = one x v (first_in x xs) found (ap (λ (z : VolId). z.0) (sym plain.0) ∙ eqb-true p.volume.0 id.0 here ∙ e) in
+      ap length (now_here p ps id here) ∙ plain.1 ∙ ap (λ (z : Volume). z.grains) same
+  | inr other ↦
+      ap length (now_later p ps id other)
+      ∙ plain_size xs ps v id (λ a b af bf. one a b (later_in x a xs af) (later_in x b xs bf)) plain.3 (rest other) e
+]
   where
     rest : (p.volume.0 == id.0) ≡ false → Contains xs v
     rest other = elim (in_cases x v xs found) [
-        | inl same ↦ absurd (both_ways (p.volume.0 == id.0) other (eq-eqb p.volume.0 id.0 (ap (λ (z : VolId). z.0) plain.0 ∙ ap (λ (z : Volume). z.id.0) same ∙ sym e)))
-        | inr later ↦ later
-      ]
+      | inl same ↦ absurd (both_ways (p.volume.0 == id.0) other (eq-eqb p.volume.0 id.0 (ap (λ (z : VolId). z.0) plain.0 ∙ ap (λ (z : Volume). z.id.0) same ∙ sym e)))
+      | inr later ↦ later
+    ]
+
     now_here : (p : PlainVolume) (ps : Picture) (id : VolId) → (p.volume.0 == id.0) ≡ true → now_in (p ∷ ps) id ≡ p.now
     now_here p ps id e = rw e refl
+
     now_later : (p : PlainVolume) (ps : Picture) (id : VolId) → (p.volume.0 == id.0) ≡ false → now_in (p ∷ ps) id ≡ now_in ps id
     now_later p ps id e = rw e refl
 
@@ -96,12 +98,12 @@ IsPlain v p = (p.volume ≡ v.id) × (length p.now ≡ v.grains) × (length p.un
 
 plain_one : (vs : List Volume) (old : Picture) (pairs : List Pair) (v : Volume) (p : PlainVolume) → AsLarge vs old pairs → Contains vs v → IsPlain v p → IsPlain v (after_trigger old pairs p)
 plain_one vs old pairs v p large found plain = elim (cases_option (source_in pairs p.volume)) [
-    | inl none ↦ subst (IsPlain v) (sym (trigger_none old pairs p none)) plain
-    | inr some ↦
-        let r = source_from pairs p.volume some.0 some.1 in
-        let size : length (now_in old some.0) ≡ v.grains = ap (λ (s : VolId). length (now_in old s)) (sym r.3) ∙ large r.0 v r.1 found (r.2 ∙ ap (λ (z : VolId). z.0) plain.0) in
-        subst (IsPlain v) (sym (trigger_some old pairs p some.0 some.1)) (plain.0, size, plain.1)
-  ]
+  | inl none ↦ subst (IsPlain v) (sym (trigger_none old pairs p none)) plain
+  | inr some ↦
+      let r = source_from pairs p.volume some.0 some.1 in
+      let size : length (now_in old some.0) ≡ v.grains = ap (λ (s : VolId). length (now_in old s)) (sym r.3) ∙ large r.0 v r.1 found (r.2 ∙ ap (λ (z : VolId). z.0) plain.0) in
+      subst (IsPlain v) (sym (trigger_some old pairs p some.0 some.1)) (plain.0, size, plain.1)
+]
 
 plain_each : (vs all : List Volume) (old picture : Picture) (pairs : List Pair) → AsLarge all old pairs → ((v : Volume) → Contains vs v → Contains all v) → ArePlain vs picture → ArePlain vs (map (after_trigger old pairs) picture)
 plain_each [] all old [] pairs large among plain = tt

@@ -18,3 +18,6 @@ pub mod Turning
 pub mod Receiving
 pub mod Copying
 pub mod Turns
+pub mod Triggering
+pub mod Preparing
+pub mod Starting

@@ -147,9 +147,9 @@ find_longer p (z ∷ zs) ys x e = by (p z) (λ rest. find_longer p zs ys x rest)
 pub any_there : {X : Type 0} (p : X → Bool) (xs : List X) (x : X) → Contains xs x → p x ≡ true → list_any p xs ≡ true
 any_there p [] x found e = absurd (none_in x found)
 any_there p (y ∷ ys) x found e = elim (in_cases y x ys found) [
-    | inl same ↦ ap (λ b. b || list_any p ys) (ap p same ∙ e)
-    | inr rest ↦ ap (λ b. p y || b) (any_there p ys x rest e) ∙ or_true (p y)
-  ]
+  | inl same ↦ ap (λ b. b || list_any p ys) (ap p same ∙ e)
+  | inr rest ↦ ap (λ b. p y || b) (any_there p ys x rest e) ∙ or_true (p y)
+]
   where
     or_true : (b : Bool) → (b || true) ≡ true
     or_true true = refl

@@ -1,12 +1,12 @@
 -- The books after mappings turned: accesses as lanes are told, and tables that agree with the chains.
-use Rattle.std.proofs.Common.{◌≡◌, ◌≢◌, ℕ, ◌+◌, ◌<◌, Bool, true, false, cond, not, List, [], ◌∷◌, ◌++◌, length, map, fold, Option, Some, None, refl, sym, ap, subst, ◌∙◌, arith, Contains, ◌⊎◌, inl, inr}
+use Rattle.std.proofs.Common.{◌≡◌, ◌≢◌, ℕ, ◌<◌, Bool, true, false, cond, List, [], ◌∷◌, length, map, fold, Option, Some, None, refl, sym, ap, subst, ◌∙◌, Contains, ◌⊎◌, inl, inr}
 use Rattle.std.specs.Prelude.{◌==◌, find, IsSome}
 use Rattle.std.specs.Option.{ForSome}
-use Rattle.std.proofs.lemmas.Bool.{cases_Bool, cases_eq, eqb-true, eq-eqb, both_ways}
-use Rattle.fc_base.specs.Sheet.{Slot, Sheet, slot_at, live_place, mapping_place}
+use Rattle.std.proofs.lemmas.Bool.{cases_Bool, eqb-true, eq-eqb, both_ways}
+use Rattle.fc_base.specs.Sheet.{Sheet, slot_at, live_place, mapping_place}
 use Rattle.fc_base.specs.SheetFacts.{HasMappings}
 use Rattle.fc_base.specs.States.{access_of}
-use Rattle.fc_base.specs.Tables.{Tables, volume_with, group_with}
+use Rattle.fc_base.specs.Tables.{volume_with}
 use Rattle.fc_base.specs.declared.decision.LaneEvent.{LaneEvent}
 use Rattle.fc_base.specs.declared.decision.LaneEvent.TheVariants.{Access as SetAccess}
 use Rattle.fc_base.specs.declared.ids.VolId.{VolId}
@@ -18,13 +18,12 @@ use Rattle.fc_base.specs.declared.volume.Volume.{Volume}
 use Rattle.fc_books.specs.Accesses.{access_in, is_idle, is_stopped}
 use Rattle.fc_books.specs.Books.{Books}
 use Rattle.fc_books.specs.Sound.{Agree, IsOfTables, SlotByState}
-use Rattle.fc_books.specs.Starting.{is_superseded}
 use Rattle.fc_decided.proofs.Agreeing.{of_tables_same, slot_as}
 use Rattle.fc_decided.proofs.Carrying.{StaysIn, slot_carried}
 use Rattle.fc_decided.proofs.Lists.{first_in, later_in, in_cases, none_in, map_from, map_in, find_from, find_misses}
 use Rattle.fc_decided.proofs.Reaching.{OneBusy, access_is, access_kept, reached, AreWithin}
 use Rattle.fc_decided.proofs.Setting.{AreOrdered, Restated, set_in, one_mapping, restated_in, sets_ordered, with_mappings}
-use Rattle.fc_decided.proofs.Turning.{CanTurn, turned, idled, news, Outcome, Outcome.turns, Outcome.gives_up, Outcome.keeps, outcome, all_restated, superseded_parts, one_busy_then}
+use Rattle.fc_decided.proofs.Turning.{CanTurn, turned, news, Outcome, Outcome.turns, Outcome.gives_up, Outcome.keeps, outcome, all_restated, superseded_parts, one_busy_then}
 
 -- ---- accesses
 
@@ -45,32 +44,32 @@ reached_other v a now target e = ap (λ b. cond b now a) e
 reached_none : (v : VolId) (state : MapState) (ms : List Mapping) (a : Access) → ((n : Mapping) → Contains ms n → n.target.0 ≢ v.0) → fold (reached v) a (told_accesses state ms) ≡ a
 reached_none v state [] a none = refl
 reached_none v state (m ∷ ms) a none = elim (cases_Bool (v.0 == m.target.0)) [
-    | inl here ↦ absurd (none m (first_in m ms) (sym (eqb-true v.0 m.target.0 here)))
-    | inr other ↦
-        ap (λ (x : Access). fold (reached v) x (told_accesses state ms)) (reached_other v a (access_of m.id state m.complete) m.target other)
-        ∙ reached_none v state ms a (λ n found. none n (later_in m n ms found))
-  ]
+  | inl here ↦ absurd (none m (first_in m ms) (sym (eqb-true v.0 m.target.0 here)))
+  | inr other ↦
+      ap (λ (x : Access). fold (reached v) x (told_accesses state ms)) (reached_other v a (access_of m.id state m.complete) m.target other)
+      ∙ reached_none v state ms a (λ n found. none n (later_in m n ms found))
+]
 
 reached_one : (v : VolId) (state : MapState) (now : Access) (ms : List Mapping) (a : Access) → ((n : Mapping) → Contains ms n → n.target.0 ≡ v.0 → access_of n.id state n.complete ≡ now) →
     (a ≡ now) ⊎ ((n : Mapping) × Contains ms n × (n.target.0 ≡ v.0)) → fold (reached v) a (told_accesses state ms) ≡ now
 reached_one v state now [] a each (inl e) = e
 reached_one v state now [] a each (inr some) = absurd (none_in some.0 some.1)
 reached_one v state now (m ∷ ms) a each some = elim (cases_Bool (v.0 == m.target.0)) [
-    | inl here ↦
-        let e = eqb-true v.0 m.target.0 here in
-        reached_one v state now ms (reached v a (SetAccess m.target (access_of m.id state m.complete))) (λ n found. each n (later_in m n ms found))
-        (inl (reached_here v a (access_of m.id state m.complete) m.target e ∙ each m (first_in m ms) (sym e)))
-    | inr other ↦
-        ap (λ (x : Access). fold (reached v) x (told_accesses state ms)) (reached_other v a (access_of m.id state m.complete) m.target other)
-        ∙ reached_one v state now ms a (λ n found. each n (later_in m n ms found)) (still some other)
-  ]
+  | inl here ↦
+      let e = eqb-true v.0 m.target.0 here in
+      reached_one v state now ms (reached v a (SetAccess m.target (access_of m.id state m.complete))) (λ n found. each n (later_in m n ms found))
+      (inl (reached_here v a (access_of m.id state m.complete) m.target e ∙ each m (first_in m ms) (sym e)))
+  | inr other ↦
+      ap (λ (x : Access). fold (reached v) x (told_accesses state ms)) (reached_other v a (access_of m.id state m.complete) m.target other)
+      ∙ reached_one v state now ms a (λ n found. each n (later_in m n ms found)) (still some other)
+]
   where
     still : (a ≡ now) ⊎ ((n : Mapping) × Contains (m ∷ ms) n × (n.target.0 ≡ v.0)) → (v.0 == m.target.0) ≡ false → (a ≡ now) ⊎ ((n : Mapping) × Contains ms n × (n.target.0 ≡ v.0))
     still (inl e) other = inl e
     still (inr there) other = elim (in_cases m there.0 ms there.1) [
-        | inl same ↦ absurd (both_ways (v.0 == m.target.0) other (eq-eqb v.0 m.target.0 (sym there.2 ∙ ap (λ (z : Mapping). z.target.0) (sym same))))
-        | inr rest ↦ inr (there.0, rest, there.2)
-      ]
+      | inl same ↦ absurd (both_ways (v.0 == m.target.0) other (eq-eqb v.0 m.target.0 (sym there.2 ∙ ap (λ (z : Mapping). z.target.0) (sym same))))
+      | inr rest ↦ inr (there.0, rest, there.2)
+    ]
 
 module _ (b : Books) (maps : List Mapping) (gives : Bool) (state : MapState) (restore : Bool) (ordered : AreOrdered b.tables.mappings) (can : CanTurn b.tables maps gives) (busy : is_idle state ≡ false) where
   abbrev pub fresh : List Mapping

@@ -1,24 +1,19 @@
 -- Mappings that turn to a busy state, all at once: what becomes of every mapping, and how hosts reach volumes.
-use Rattle.std.proofs.Common.{◌≡◌, ◌≢◌, ℕ, ◌+◌, ◌<◌, Bool, true, false, cond, not, ◌&&◌, List, [], ◌∷◌, ◌++◌, length, map, fold, Option, Some, None, refl, sym, ap, subst, ◌∙◌, arith, Contains, ◌⊎◌, inl, inr}
-use Rattle.std.specs.Prelude.{◌==◌, find, filter}
+use Rattle.std.proofs.Common.{◌≡◌, ◌≢◌, Bool, true, false, cond, not, List, [], ◌++◌, map, refl, sym, ap, subst, ◌∙◌, Contains, ◌⊎◌, inl, inr}
+use Rattle.std.specs.Prelude.{◌==◌, filter}
 use Rattle.std.specs.List.{list_any}
 use Rattle.std.proofs.lemmas.Bool.{cases_Bool, cases_eq, eqb-true, eq-eqb, and_parts, and_from, both_ways, false_from_ne_true}
 use Rattle.std.proofs.lemmas.List.Elements.{Contains-append_left, Contains-append_right, Contains-append_cases}
-use Rattle.fc_base.specs.States.{access_of}
 use Rattle.fc_base.specs.Tables.{Tables}
-use Rattle.fc_base.specs.declared.decision.LaneEvent.{LaneEvent}
-use Rattle.fc_base.specs.declared.decision.LaneEvent.TheVariants.{Access as SetAccess}
 use Rattle.fc_base.specs.declared.ids.VolId.{VolId}
-use Rattle.fc_base.specs.declared.state.Access.{Access}
 use Rattle.fc_base.specs.declared.state.MapState.{MapState}
 use Rattle.fc_base.specs.declared.state.MapState.TheVariants.{Empty, IdleOrCopied, Preparing, Prepared, Copying, Stopping, Stopped}
 use Rattle.fc_base.specs.declared.volume.Mapping.{Mapping}
-use Rattle.fc_books.specs.Accesses.{access_in, is_idle, is_stopped, is_active}
-use Rattle.fc_books.specs.Books.{Books}
+use Rattle.fc_books.specs.Accesses.{is_idle, is_stopped, is_active}
 use Rattle.fc_books.specs.Ending.{in_state}
 use Rattle.fc_books.specs.Starting.{is_superseded}
-use Rattle.fc_decided.proofs.Lists.{first_in, later_in, in_cases, none_in, filter_from, filter_in, map_from, map_in, any_in, any_there, any_from}
-use Rattle.fc_decided.proofs.Reaching.{OneBusy, access_is, access_kept, reached, AreWithin}
+use Rattle.fc_decided.proofs.Lists.{none_in, filter_from, filter_in, map_from, map_in, any_in, any_there, any_from}
+use Rattle.fc_decided.proofs.Reaching.{OneBusy}
 use Rattle.fc_decided.proofs.Setting.{AreOrdered, Restated, AreRestated, set_in, set_cases, one_mapping, restated_in}
 
 -- Idle, stopped or prepared.
@@ -92,30 +87,30 @@ module _ (t : Tables) (maps : List Mapping) (gives : Bool) (state : MapState) (r
   -- what of the news it is
   outcome_new : (m x : Mapping) → Contains t.mappings m → Contains news x → x.id.0 ≡ m.id.0 → Outcome m x
   outcome_new m x found new id = elim (Contains-append_cases given (map (turned state restore) maps) x new) [
-      | inl first ↦
-          let g = given_from gives x first in
-          let y = g.1 in
-          let same : y.0 ≡ m = one_mapping t.mappings y.0 m ordered y.1 found (ap (λ (z : Mapping). z.id.0) y.3 ∙ id) in
-          let s : is_superseded maps m ≡ true = ap (is_superseded maps) (sym same) ∙ y.2 in
-          gives_up (superseded_parts m s).2 s (sym y.3 ∙ ap idled same)
-      | inr later ↦
-          let r = map_from (turned state restore) maps x later in
-          let same : r.0 ≡ m = one_mapping t.mappings r.0 m ordered (can.among r.0 r.1) found (ap (λ (z : Mapping). z.id.0) r.2 ∙ id) in
-          turns (subst (λ (z : Mapping). Contains maps z) same r.1) (sym r.2 ∙ ap (turned state restore) same)
-    ]
+    | inl first ↦
+        let g = given_from gives x first in
+        let y = g.1 in
+        let same : y.0 ≡ m = one_mapping t.mappings y.0 m ordered y.1 found (ap (λ (z : Mapping). z.id.0) y.3 ∙ id) in
+        let s : is_superseded maps m ≡ true = ap (is_superseded maps) (sym same) ∙ y.2 in
+        gives_up (superseded_parts m s).2 s (sym y.3 ∙ ap idled same)
+    | inr later ↦
+        let r = map_from (turned state restore) maps x later in
+        let same : r.0 ≡ m = one_mapping t.mappings r.0 m ordered (can.among r.0 r.1) found (ap (λ (z : Mapping). z.id.0) r.2 ∙ id) in
+        turns (subst (λ (z : Mapping). Contains maps z) same r.1) (sym r.2 ∙ ap (turned state restore) same)
+  ]
 
   pub outcome : (m : Mapping) → Contains t.mappings m → Outcome m (set_in news m)
   outcome m found = elim (set_cases news m) [
-      | inl same ↦
-          keeps
-          (λ n there e.
-          let inside : Contains (map (turned state restore) maps) (turned state restore n) = map_in (turned state restore) maps n there in
-          same.1 (turned state restore n) (Contains-append_right given (map (turned state restore) maps) (turned state restore n) inside) e)
-          (λ g. false_from_ne_true (is_superseded maps m) (λ s.
-          same.1 (idled m) (Contains-append_left given (map (turned state restore) maps) (idled m) (given_in gives m g found s)) refl))
-          same.0
-      | inr there ↦ outcome_new m (set_in news m) found there.0 there.1
-    ]
+    | inl same ↦
+        keeps
+        (λ n there e.
+        let inside : Contains (map (turned state restore) maps) (turned state restore n) = map_in (turned state restore) maps n there in
+        same.1 (turned state restore n) (Contains-append_right given (map (turned state restore) maps) (turned state restore n) inside) e)
+        (λ g. false_from_ne_true (is_superseded maps m) (λ s.
+        same.1 (idled m) (Contains-append_left given (map (turned state restore) maps) (idled m) (given_in gives m g found s)) refl))
+        same.0
+    | inr there ↦ outcome_new m (set_in news m) found there.0 there.1
+  ]
 
   -- ---- the tables
 
@@ -127,9 +122,9 @@ module _ (t : Tables) (maps : List Mapping) (gives : Bool) (state : MapState) (r
 
   pub all_restated : AreRestated t.mappings news
   all_restated x found = elim (Contains-append_cases given (map (turned state restore) maps) x found) [
-      | inl first ↦ (let g = given_from gives x first in (g.1.0, g.1.1, subst (Restated g.1.0) g.1.3 (idled_restated g.1.0)))
-      | inr later ↦ (let r = map_from (turned state restore) maps x later in (r.0, can.among r.0 r.1, subst (Restated r.0) r.2 (turned_restated r.0)))
-    ]
+    | inl first ↦ (let g = given_from gives x first in (g.1.0, g.1.1, subst (Restated g.1.0) g.1.3 (idled_restated g.1.0)))
+    | inr later ↦ (let r = map_from (turned state restore) maps x later in (r.0, can.among r.0 r.1, subst (Restated r.0) r.2 (turned_restated r.0)))
+  ]
 
   -- the state that it has then
   pub keeps_state : (m x : Mapping) → Outcome m x → is_idle x.state ≡ false → ((n : Mapping) → Contains maps n → n.id.0 ≢ m.id.0) → (x ≡ m) × (gives ≡ true → is_superseded maps m ≡ false)
@@ -150,9 +145,9 @@ module _ (t : Tables) (maps : List Mapping) (gives : Bool) (state : MapState) (r
   -- a busy one with a target of theirs is one of them
   pub busy_among : OneBusy t.mappings → (m n : Mapping) → Contains maps m → Contains t.mappings n → n.target.0 ≡ m.target.0 → is_idle (set_in news n).state ≡ false → n.id.0 ≡ m.id.0
   busy_among one m n found there target busy_n = elim (cases_eq n.id.0 m.id.0) [
-      | inl same ↦ same
-      | inr other ↦ elim_outcome (outcome n there) busy_n other
-    ]
+    | inl same ↦ same
+    | inr other ↦ elim_outcome (outcome n there) busy_n other
+  ]
     where
       elim_outcome : Outcome n (set_in news n) → is_idle (set_in news n).state ≡ false → n.id.0 ≢ m.id.0 → n.id.0 ≡ m.id.0
       elim_outcome (turns inside e) b other = can.targets n m inside found target
@@ -172,7 +167,7 @@ module _ (t : Tables) (maps : List Mapping) (gives : Bool) (state : MapState) (r
       let r = restated_in t.mappings news m.0 ordered all_restated m.1 in
       let q = restated_in t.mappings news n.0 ordered all_restated n.1 in
       let targets : m.0.target.0 ≡ n.0.target.0 =
-          ap (λ (v : VolId). v.0) (sym r.target) ∙ ap (λ (z : Mapping). z.target.0) m.2 ∙ target ∙ ap (λ (z : Mapping). z.target.0) (sym n.2) ∙ ap (λ (v : VolId). v.0) q.target in
+      ap (λ (v : VolId). v.0) (sym r.target) ∙ ap (λ (z : Mapping). z.target.0) m.2 ∙ target ∙ ap (λ (z : Mapping). z.target.0) (sym n.2) ∙ ap (λ (v : VolId). v.0) q.target in
       let first : is_idle (set_in news m.0).state ≡ false = ap (λ (z : Mapping). is_idle z.state) m.2 ∙ busy_x in
       let second : is_idle (set_in news n.0).state ≡ false = ap (λ (z : Mapping). is_idle z.state) n.2 ∙ busy_y in
       ap (λ (z : Mapping). z.id.0) (sym m.2) ∙ r.id ∙ same one m.0 n.0 m.1 n.1 targets first second (outcome m.0 m.1) (outcome n.0 n.1) ∙ sym q.id ∙ ap (λ (z : Mapping). z.id.0) n.2

@@ -1,12 +1,11 @@
 -- The deeds of preparing and starting, written out.
-use Rattle.std.proofs.Common.{◌≡◌, ℕ, ◌<◌, ◌^◌, Bool, true, false, cond, List, [], ◌∷◌, ◌++◌, length, map, fold, refl, sym, ap, subst, ◌∙◌}
+use Rattle.std.proofs.Common.{◌≡◌, ◌<◌, ◌^◌, Bool, true, false, cond, List, [], ◌∷◌, ◌++◌, map, refl, sym, ap, subst, ◌∙◌}
 use Rattle.std.specs.Prelude.{flat_map, filter}
 use Rattle.fc_base.specs.Pools.{Pool}
 use Rattle.fc_base.specs.Sheet.{Sheet}
 use Rattle.fc_base.specs.SheetFits.{FitsEvents}
 use Rattle.fc_base.specs.Tables.{Tables}
 use Rattle.fc_base.specs.declared.decision.LaneEvent.{LaneEvent}
-use Rattle.fc_base.specs.declared.decision.LaneEvent.TheVariants.{Access as SetAccess}
 use Rattle.fc_base.specs.declared.request.Effect.{Effect}
 use Rattle.fc_base.specs.declared.request.Effect.TheVariants.{State}
 use Rattle.fc_base.specs.declared.size.GrainSize.{GrainSize}
@@ -16,13 +15,13 @@ use Rattle.fc_base.specs.declared.volume.Change.{Change}
 use Rattle.fc_base.specs.declared.volume.Change.TheVariants.{SetMapping}
 use Rattle.fc_base.specs.declared.volume.Mapping.{Mapping}
 use Rattle.fc_books.specs.Books.{Deed, nothing, ◌then◌, all_deeds}
-use Rattle.fc_books.specs.Starting.{is_superseded, gives_way, supersedes, begins}
+use Rattle.fc_books.specs.Starting.{is_superseded, supersedes, begins}
 use Rattle.fc_entry.specs.Picture.{Picture}
 use Rattle.fc_legal.specs.Lawful.{HaveDisks}
 use Rattle.fc_rules.specs.LaneTold.{LaneVolume}
 use Rattle.std.proofs.lemmas.List.{map-append}
 use Rattle.fc_decided.proofs.Apart.{sheet_through, picture_through}
-use Rattle.fc_decided.proofs.Copying.{AreQuiet, quiet_append}
+use Rattle.fc_decided.proofs.Copying.{AreQuiet}
 use Rattle.fc_decided.proofs.Receiving.{told_accesses}
 use Rattle.fc_decided.proofs.Setting.{sets}
 use Rattle.fc_decided.proofs.Turning.{turned, idled}
