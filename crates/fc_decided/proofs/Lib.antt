@@ -29,3 +29,9 @@ pub mod Quiet
 pub mod Plain
 pub mod Forced
 pub mod Stops
+pub mod Receiving
+pub mod Copying
+pub mod Turns
+pub mod Triggering
+pub mod Preparing
+pub mod Starting
