@@ -17,3 +17,4 @@ pub mod Quiet
 pub mod Plain
 pub mod Forced
 pub mod Stops
+pub mod ForceStops
