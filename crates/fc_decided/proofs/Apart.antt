@@ -41,7 +41,7 @@ picture_append grain s picture (e ∷ es) fs = picture_append grain (sheet_step 
 
 -- ---- the one lane
 
-one_lane : (grain : GrainSize) (n : ℕ) → grains_in (all_grains grain) n ≡ n
+pub one_lane : (grain : GrainSize) (n : ℕ) → grains_in (all_grains grain) n ≡ n
 one_lane grain n = omega arith
 
 all_local : (grain : GrainSize) → grains_in (all_grains grain) ≡ (λ (n : ℕ). n)

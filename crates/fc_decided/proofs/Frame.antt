@@ -270,6 +270,41 @@ pub lawful_alone : (grain : GrainSize) (decisions : ℕ) (w : Whole) (reply : Re
 lawful_alone grain decisions w reply deed st s =
     lawful_from grain decisions w (record { reply = reply; effects = deed.effects; events = deed.events; changes = deed.changes }) st (does_alone grain decisions w deed s)
 
+-- The same, where the tables after the changes go by another name.
+pub record SuitsAs (grain : GrainSize) (decisions : ℕ) (w : Whole) (deed : Deed) (after : Books) : Type 0 where
+  pub fits : FitsEvents (λ grains. grains) w.books.sheet deed.events
+  pub disks : HaveDisks w.books.pools (volumes_told w.books.tables) deed.events
+  pub no_work : NoWork deed.events
+  pub gone : AreGone after.tables.mappings deed.events
+  pub fit_changes : FitChanges w.books.tables deed.changes
+  pub picture : picture_through grain w.books.sheet w.picture deed.events ≡ after_effects grain w.picture deed.effects
+  pub volumes : fold volumes_event (volumes_told w.books.tables) deed.events ≡ volumes_told after.tables
+  pub later : w.books.next_mapping ≤ after.next_mapping
+  pub tables : AreTables after
+  pub agree : Agree (record after { sheet = sheet_through w.books.sheet deed.events })
+  pub few : AreFew (record after { sheet = sheet_through w.books.sheet deed.events }) (decisions + 1)
+  pub plain : ArePlain after.tables.volumes (after_effects grain w.picture deed.effects)
+
+suits_same : (grain : GrainSize) (decisions : ℕ) (w : Whole) (deed : Deed) → SuitsAs grain decisions w deed (tabled w.books deed.changes) → Suits grain decisions w deed
+suits_same grain decisions w deed s =
+    record {
+      fits = s.fits;
+      disks = s.disks;
+      no_work = s.no_work;
+      gone = s.gone;
+      fit_changes = s.fit_changes;
+      picture = s.picture;
+      volumes = s.volumes;
+      later = s.later;
+      tables = s.tables;
+      agree = s.agree;
+      few = s.few;
+      plain = s.plain;
+    }
+
+pub suits_as : (grain : GrainSize) (decisions : ℕ) (w : Whole) (deed : Deed) (after : Books) → tabled w.books deed.changes ≡ after → SuitsAs grain decisions w deed after → Suits grain decisions w deed
+suits_as grain decisions w deed after e s = suits_same grain decisions w deed (subst (SuitsAs grain decisions w deed) (sym e) s)
+
 -- ---- bounds
 
 pub few_births : (decisions n : ℕ) → decisions < 2 ^ 32 → n ≤ (decisions + 1) * 2 ^ 20 → n < 2 ^ 64

@@ -6,6 +6,8 @@ pub mod Cutting
 pub mod Counting
 pub mod Restarting
 pub mod Lists
+pub mod Ordered
+pub mod Unrefused
 pub mod Apart
 pub mod Working
 pub mod Frame
@@ -18,3 +20,13 @@ pub mod Plain
 pub mod Forced
 pub mod Stops
 pub mod ForceStops
+pub mod Resting
+pub mod Setting
+pub mod Reaching
+pub mod Agreeing
+pub mod Grouping
+pub mod Pairing
+pub mod Carrying
+pub mod Making
+pub mod Beginning
+pub mod Turning

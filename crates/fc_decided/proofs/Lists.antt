@@ -1,5 +1,5 @@
 -- What lists contain, filtered, mapped and searched.
-use Rattle.std.proofs.Common.{◌≡◌, ℕ, zero, suc, ◌<◌, Bool, true, false, cond, ◌||◌, List, [], ◌∷◌, length, map, Some, None, refl, sym, ap, subst, ◌∙◌, arith, Contains, ◌⊎◌, inl, inr, get_or, All}
+use Rattle.std.proofs.Common.{◌≡◌, ℕ, zero, suc, ◌<◌, Bool, true, false, cond, ◌||◌, List, [], ◌∷◌, ◌++◌, length, map, Some, None, refl, sym, ap, subst, ◌∙◌, arith, Contains, ◌⊎◌, inl, inr, get_or, All}
 use Rattle.std.specs.List.{filter, find, list_any}
 use Rattle.std.proofs.lemmas.Bool.{both_ways}
 use Rattle.std.proofs.lemmas.List.Elements.{Contains-get_or}
@@ -120,3 +120,26 @@ any_in p (y ∷ ys) x none found = by (p y) refl (λ rest there. any_in p ys x r
     by : (b : Bool) → p y ≡ b → (list_any p ys ≡ false → Contains ys x → p x ≡ false) → (b || list_any p ys) ≡ false → p x ≡ false
     by true q further e = absurd cc
     by false q further e = elim (in_cases y x ys found) [ inl same ↦ ap p (sym same) ∙ q | inr rest ↦ further e rest ]
+
+-- one that fails at the end, or is taken out, isn't missed
+pub find_short : {X : Type 0} (p : X → Bool) (xs : List X) (y : X) → p y ≡ false → find p (xs ++ y ∷ []) ≡ find p xs
+find_short p [] y e = rw e refl
+find_short p (x ∷ xs) y e = ap (λ o. cond (p x) (Some x) o) (find_short p xs y e)
+
+pub find_filtered : {X : Type 0} (p q : X → Bool) (xs : List X) → ((x : X) → Contains xs x → p x ≡ true → q x ≡ true) → find p (filter q xs) ≡ find p xs
+find_filtered p q [] weaker = refl
+find_filtered p q (x ∷ xs) weaker = by (p x) refl (q x) refl (find_filtered p q xs (λ z found. weaker z (later_in x z xs found)))
+  where
+    by : (b : Bool) → p x ≡ b → (c : Bool) → q x ≡ c → find p (filter q xs) ≡ find p xs → find p (filter q (x ∷ xs)) ≡ find p (x ∷ xs)
+    by true passes true kept rest = rw kept (rw passes refl)
+    by true passes false gone rest = absurd (both_ways (q x) gone (weaker x (first_in x xs) passes))
+    by false fails true kept rest = rw kept (rw fails rest)
+    by false fails false gone rest = rw gone (rw fails rest)
+
+pub find_longer : {X : Type 0} (p : X → Bool) (xs ys : List X) (x : X) → find p xs ≡ Some x → find p (xs ++ ys) ≡ Some x
+find_longer p [] ys x e = absurd cc
+find_longer p (z ∷ zs) ys x e = by (p z) (λ rest. find_longer p zs ys x rest) e
+  where
+    by : (b : Bool) → (find p zs ≡ Some x → find p (zs ++ ys) ≡ Some x) → cond b (Some z) (find p zs) ≡ Some x → cond b (Some z) (find p (zs ++ ys)) ≡ Some x
+    by true further q = q
+    by false further q = further q
