@@ -30,3 +30,4 @@ pub mod Carrying
 pub mod Making
 pub mod Beginning
 pub mod Turning
+pub mod Suiting

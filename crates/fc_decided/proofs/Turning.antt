@@ -1,25 +1,14 @@
 -- Mappings that turn to a busy state, all at once: what becomes of every mapping, and how hosts reach volumes.
-use Rattle.std.proofs.Common.{◌≡◌, ◌≢◌, ℕ, ◌+◌, ◌<◌, Bool, true, false, cond, not, ◌&&◌, List, [], ◌∷◌, ◌++◌, length, map, fold, Option, Some, None, refl, sym, ap, subst, ◌∙◌, arith, Contains, ◌⊎◌, inl, inr}
-use Rattle.std.specs.Prelude.{◌==◌, find, filter}
-use Rattle.std.specs.List.{list_any}
-use Rattle.std.proofs.lemmas.Bool.{cases_Bool, cases_eq, eqb-true, eq-eqb, and_parts, and_from, both_ways, false_from_ne_true}
-use Rattle.std.proofs.lemmas.List.Elements.{Contains-append_left, Contains-append_right, Contains-append_cases}
-use Rattle.fc_base.specs.States.{access_of}
+use Rattle.std.proofs.Common.{◌≡◌, ◌≢◌, Bool, true, false, cond, List, [], ◌++◌, map, Contains, ◌⊎◌}
+use Rattle.std.specs.Prelude.{filter}
 use Rattle.fc_base.specs.Tables.{Tables}
-use Rattle.fc_base.specs.declared.decision.LaneEvent.{LaneEvent}
-use Rattle.fc_base.specs.declared.decision.LaneEvent.TheVariants.{Access as SetAccess}
-use Rattle.fc_base.specs.declared.ids.VolId.{VolId}
-use Rattle.fc_base.specs.declared.state.Access.{Access}
 use Rattle.fc_base.specs.declared.state.MapState.{MapState}
-use Rattle.fc_base.specs.declared.state.MapState.TheVariants.{Empty, IdleOrCopied, Preparing, Prepared, Copying, Stopping, Stopped}
+use Rattle.fc_base.specs.declared.state.MapState.TheVariants.{IdleOrCopied, Prepared, Stopped}
 use Rattle.fc_base.specs.declared.volume.Mapping.{Mapping}
-use Rattle.fc_books.specs.Accesses.{access_in, is_idle, is_stopped, is_active}
-use Rattle.fc_books.specs.Books.{Books}
+use Rattle.fc_books.specs.Accesses.{is_idle, is_active}
 use Rattle.fc_books.specs.Ending.{in_state}
 use Rattle.fc_books.specs.Starting.{is_superseded}
-use Rattle.fc_decided.proofs.Lists.{first_in, later_in, in_cases, none_in, filter_from, filter_in, map_from, map_in, any_in}
-use Rattle.fc_decided.proofs.Reaching.{OneBusy, access_is, access_kept, reached, AreWithin}
-use Rattle.fc_decided.proofs.Setting.{AreOrdered, Restated, AreRestated, set_in, set_cases, one_mapping, restated_in}
+use Rattle.fc_decided.proofs.Setting.{AreOrdered}
 
 -- Idle, stopped or prepared.
 abbrev pub IsReady : MapState → Type 0
