@@ -11,6 +11,15 @@ pub mod Unrefused
 pub mod Apart
 pub mod Working
 pub mod Frame
+pub mod Rows
+pub mod TableSteps
+pub mod Ends
+pub mod Joint
+pub mod Quiet
+pub mod Plain
+pub mod Forced
+pub mod Stops
+pub mod ForceStops
 pub mod Resting
 pub mod Setting
 pub mod Reaching
@@ -35,3 +44,4 @@ pub mod Turns
 pub mod Triggering
 pub mod Preparing
 pub mod Starting
+pub mod Suiting
