@@ -22,4 +22,5 @@ pub mod Growing
 pub mod Parts
 pub mod Sorting
 pub mod Listed
+pub mod Named
 pub mod Volumes
