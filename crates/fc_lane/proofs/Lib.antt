@@ -11,10 +11,10 @@ pub mod Moving
 pub mod MoveEnds
 pub mod Counting
 pub mod LaneEvents
-pub mod StepsMade
-pub mod StepsLoop
 pub mod Reading
 pub mod ReadAnswers
+pub mod StepsMade
+pub mod StepsLoop
 pub mod WritePrepare
 pub mod WriteOwn
 pub mod WriteAll
