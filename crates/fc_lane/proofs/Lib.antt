@@ -13,3 +13,5 @@ pub mod Counting
 pub mod LaneEvents
 pub mod Reading
 pub mod ReadAnswers
+pub mod StepsMade
+pub mod StepsLoop

@@ -1,5 +1,5 @@
 -- A lane as contracts see it, and when it stands for what is told.
-use Rattle.std.specs.Prelude.{◌≡◌, ℕ, ◌≤◌, Option, Some, None, List, Contains}
+use Rattle.std.specs.Prelude.{◌≡◌, ℕ, ◌<◌, ◌≤◌, ◌^◌, Option, Some, None, List, Contains}
 use Rattle.fc_base.specs.MovePlan.{PlannedMoves}
 use Rattle.fc_base.specs.declared.decision.LaneEvent.{LaneEvent}
 use Rattle.fc_base.specs.declared.decision.LaneEvent.TheVariants.{Arm}
@@ -41,8 +41,10 @@ pub record IsLaneOf (v : LaneView) (told : LaneTold) : Type 0 where
   pub faults : v.grains.faults ≡ told.faults
   pub calls : v.grains.calls ≡ stopped told.calls
 
--- The next entry takes no memory: there is room for one move per volume, in the plan and in the entry.
+-- The next entry takes no memory: there is room for one move per volume, in the plan and in the entry; and the calls of so many
+-- moves can be counted.
 pub record IsReady (v : LaneView) : Type 0 where
+  pub few : volume_count v.chains.sheet.slots < 2 ^ 30
   pub plan : volume_count v.chains.sheet.slots ≤ v.plan_room
   pub entry : volume_count v.chains.sheet.slots ≤ v.entry_room
 

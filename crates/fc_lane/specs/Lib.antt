@@ -5,3 +5,4 @@ pub mod Lane
 pub mod Standing
 pub mod Moving
 pub mod Reading
+pub mod StepsEnd

@@ -21,4 +21,5 @@ mod parts;
 mod read;
 mod ready;
 mod rooms;
+mod steps;
 mod stop;
