@@ -15,3 +15,6 @@ pub mod Reading
 pub mod ReadAnswers
 pub mod StepsMade
 pub mod StepsLoop
+pub mod WritePrepare
+pub mod WriteOwn
+pub mod WriteAll

@@ -25,3 +25,4 @@ mod ready;
 mod rooms;
 mod steps;
 mod stop;
+mod write_step;
