@@ -21,3 +21,4 @@ pub mod Turns
 pub mod Triggering
 pub mod Preparing
 pub mod Starting
+pub mod Allowed
