@@ -22,3 +22,4 @@ pub mod Triggering
 pub mod Preparing
 pub mod Starting
 pub mod Allowed
+pub mod Commands
