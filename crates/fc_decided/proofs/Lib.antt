@@ -45,3 +45,5 @@ pub mod Triggering
 pub mod Preparing
 pub mod Starting
 pub mod Suiting
+pub mod Allowed
+pub mod Commands
