@@ -31,3 +31,5 @@ pub mod Making
 pub mod Beginning
 pub mod Turning
 pub mod Suiting
+pub mod Goings
+pub mod GroupStops
