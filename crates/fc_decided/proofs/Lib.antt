@@ -33,3 +33,4 @@ pub mod Turning
 pub mod Suiting
 pub mod Goings
 pub mod GroupStops
+pub mod Dropping
