@@ -34,3 +34,4 @@ pub mod Suiting
 pub mod Goings
 pub mod GroupStops
 pub mod Dropping
+pub mod Settles
