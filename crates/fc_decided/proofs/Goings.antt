@@ -22,7 +22,7 @@ use Rattle.fc_decided.proofs.Apart.{fold_append, sheet_through, picture_through,
 use Rattle.fc_decided.proofs.Ends.{Rows}
 use Rattle.fc_decided.proofs.Frame.{tabled, left_books, all_leave}
 use Rattle.fc_decided.proofs.Plain.{effects_append}
-use Rattle.fc_decided.proofs.Quiet.{fit_all_append, fits_from_all, Standing}
+use Rattle.fc_decided.proofs.Quiet.{FitAll, fit_all_append, fits_from_all, Standing}
 use Rattle.fc_decided.proofs.Stops.{Sound, Goes}
 use Rattle.fc_decided.proofs.TableSteps.{TableStep, table_then}
 use Rattle.fc_decided.proofs.Working.{AreGone}
@@ -110,9 +110,16 @@ goes_sound grain b picture d births g =
       plain = subst (λ (vs : List Volume). ArePlain vs (after_effects grain picture d.effects)) (sym g.table.same_volumes) g.plain;
     }
 
-pub goes_then : (grain : GrainSize) (b : Books) (picture : Picture) (first second : Deed) (n m : ℕ) → Goes grain b picture first n → Goes grain (left_by b first) (after_effects grain picture first.effects) second m →
+-- A deed that fits, whatever stands after it.
+pub record Part (grain : GrainSize) (b : Books) (picture : Picture) (deed : Deed) (births : ℕ) : Type 0 where
+  pub table : TableStep b deed.events deed.changes
+  pub fit : FitAll b.sheet deed.events
+  pub shows : picture_through grain b.sheet picture deed.events ≡ after_effects grain picture deed.effects
+  pub few : (sheet_through b.sheet deed.events).births ≤ b.sheet.births + births
+
+pub goes_after : (grain : GrainSize) (b : Books) (picture : Picture) (first second : Deed) (n m : ℕ) → Part grain b picture first n → Goes grain (left_by b first) (after_effects grain picture first.effects) second m →
     Goes grain b picture (first then second) (n + m)
-goes_then grain b picture first second n m one two =
+goes_after grain b picture first second n m one two =
     let s = sheet_through b.sheet first.events in
     let flags = fold flags_after b.flags first.events in
     let pools = fold pools_after b.pools first.events in
@@ -137,3 +144,8 @@ goes_then grain b picture first second n m one two =
       plain = subst (ArePlain b.tables.volumes) (sym effects)
           (subst (λ (vs : List Volume). ArePlain vs (after_effects grain (after_effects grain picture first.effects) second.effects)) one.table.same_volumes two.plain);
     }
+
+pub goes_then : (grain : GrainSize) (b : Books) (picture : Picture) (first second : Deed) (n m : ℕ) → Goes grain b picture first n → Goes grain (left_by b first) (after_effects grain picture first.effects) second m →
+    Goes grain b picture (first then second) (n + m)
+goes_then grain b picture first second n m one two =
+    goes_after grain b picture first second n m (record { table = one.table; fit = one.fit; shows = one.shows; few = one.few }) two

@@ -35,3 +35,4 @@ pub mod Goings
 pub mod GroupStops
 pub mod Dropping
 pub mod Settles
+pub mod Settled

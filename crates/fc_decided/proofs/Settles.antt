@@ -98,7 +98,7 @@ Ready Copying b slots m = HasSeen (seen slots m.id.0) m.target.0 true × (is_who
 Ready Stopping b slots m = (is_needed b m ≡ true → HasSeen (seen slots m.id.0) m.target.0 false) × (is_needed b m ≡ false → seen slots m.id.0 ≡ None)
 Ready state b slots m = seen slots m.id.0 ≡ None
 
-still_ready : (state : MapState) (b : Books) (old new : List Slot) (m : Mapping) → seen new m.id.0 ≡ seen old m.id.0 → (FreeCopy old m.id.0 → FreeCopy new m.id.0) → Ready state b old m → Ready state b new m
+pub still_ready : (state : MapState) (b : Books) (old new : List Slot) (m : Mapping) → seen new m.id.0 ≡ seen old m.id.0 → (FreeCopy old m.id.0 → FreeCopy new m.id.0) → Ready state b old m → Ready state b new m
 still_ready Copying b old new m same free r = (subst (λ (o : Option Seen). HasSeen o m.target.0 true) (sym same) r.0, λ w n. free (r.1 w n))
 still_ready Stopping b old new m same free r = ((λ n. subst (λ (o : Option Seen). HasSeen o m.target.0 false) (sym same) (r.0 n)), λ n. same ∙ r.1 n)
 still_ready Empty b old new m same free r = same ∙ r
@@ -110,17 +110,17 @@ still_ready Stopped b old new m same free r = same ∙ r
 -- ---- one mapping
 
 -- What the settling of one mapping does, and leaves for the rest.
-record SettlesOne (grain : GrainSize) (c : Books) (picture : Picture) (m : Mapping) (rest : List Mapping) (d : Deed) : Type 0 where
-  table : TableStep c d.events d.changes
-  fit : FitAll c.sheet d.events
-  shows : picture_through grain c.sheet picture d.events ≡ picture
-  effects : after_effects grain picture d.effects ≡ picture
-  few : (sheet_through c.sheet d.events).births ≤ c.sheet.births + 1
-  sheet : IsSound (sheet_through c.sheet d.events)
-  stands : Standing (tabled c d.changes) (sheet_through c.sheet d.events).slots (IsIdOf rest)
-  rows : (x : Mapping) → Contains c.tables.mappings x → x.id.0 ≢ m.id.0 → Contains (tabled c d.changes).tables.mappings x
-  slots : (n : ℕ) → n ≢ m.id.0 → seen (sheet_through c.sheet d.events).slots n ≡ seen c.sheet.slots n
-  free : (n : ℕ) → n ≢ m.id.0 → FreeCopy c.sheet.slots n → FreeCopy (sheet_through c.sheet d.events).slots n
+pub record SettlesOne (grain : GrainSize) (c : Books) (picture : Picture) (m : Mapping) (rest : List Mapping) (d : Deed) : Type 0 where
+  pub table : TableStep c d.events d.changes
+  pub fit : FitAll c.sheet d.events
+  pub shows : picture_through grain c.sheet picture d.events ≡ picture
+  pub effects : after_effects grain picture d.effects ≡ picture
+  pub few : (sheet_through c.sheet d.events).births ≤ c.sheet.births + 1
+  pub sheet : IsSound (sheet_through c.sheet d.events)
+  pub stands : Standing (tabled c d.changes) (sheet_through c.sheet d.events).slots (IsIdOf rest)
+  pub rows : (x : Mapping) → Contains c.tables.mappings x → x.id.0 ≢ m.id.0 → Contains (tabled c d.changes).tables.mappings x
+  pub slots : (n : ℕ) → n ≢ m.id.0 → seen (sheet_through c.sheet d.events).slots n ≡ seen c.sheet.slots n
+  pub free : (n : ℕ) → n ≢ m.id.0 → FreeCopy c.sheet.slots n → FreeCopy (sheet_through c.sheet d.events).slots n
 
 fewer_pending : (m : Mapping) (rest : List Mapping) (n : ℕ) → n ≢ m.id.0 → IsIdOf (m ∷ rest) n → IsIdOf rest n
 fewer_pending m rest n ne i =
@@ -241,7 +241,7 @@ stopping_settled grain b c picture m rest false false n i st found stopping read
 as_state : (c : Books) (m : Mapping) (state : MapState) → m.state ≡ state → StateSeen state (seen c.sheet.slots m.id.0) m.target.0 → StateSeen m.state (seen c.sheet.slots m.id.0) m.target.0
 as_state c m state e sees = subst (λ (z : MapState). StateSeen z (seen c.sheet.slots m.id.0) m.target.0) (sym e) sees
 
-settles_one : (grain : GrainSize) (b c : Books) (picture : Picture) (m : Mapping) (rest : List Mapping) (state : MapState) → m.state ≡ state → IsSound c.sheet → Standing c c.sheet.slots (IsIdOf (m ∷ rest)) → Contains c.tables.mappings m →
+pub settles_one : (grain : GrainSize) (b c : Books) (picture : Picture) (m : Mapping) (rest : List Mapping) (state : MapState) → m.state ≡ state → IsSound c.sheet → Standing c c.sheet.slots (IsIdOf (m ∷ rest)) → Contains c.tables.mappings m →
     Ready state b c.sheet.slots m → SettlesOne grain c picture m rest (settles_in state b m)
 unfolding copying_deed
 settles_one grain b c picture m rest Copying e i st found ready = copying_settled grain b c picture m rest (is_whole b m) (is_needed b m) refl refl i st found e ready
