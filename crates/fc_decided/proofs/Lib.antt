@@ -36,3 +36,11 @@ pub mod GroupStops
 pub mod Dropping
 pub mod Settles
 pub mod Settled
+pub mod Receiving
+pub mod Copying
+pub mod Turns
+pub mod Triggering
+pub mod Preparing
+pub mod Starting
+pub mod Allowed
+pub mod Commands
