@@ -44,3 +44,4 @@ pub mod Preparing
 pub mod Starting
 pub mod Allowed
 pub mod Commands
+pub mod Decided
