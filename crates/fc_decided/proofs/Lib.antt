@@ -38,6 +38,12 @@ pub mod Quiet
 pub mod Plain
 pub mod Forced
 pub mod Stops
+pub mod Suiting
+pub mod Goings
+pub mod GroupStops
+pub mod Dropping
+pub mod Settles
+pub mod Settled
 pub mod Receiving
 pub mod Copying
 pub mod Turns
@@ -47,3 +53,4 @@ pub mod Starting
 pub mod Suiting
 pub mod Allowed
 pub mod Commands
+pub mod Decided
