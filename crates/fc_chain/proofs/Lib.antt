@@ -23,3 +23,6 @@ pub mod Parts
 pub mod Sorting
 pub mod Listed
 pub mod Volumes
+pub mod LoopMarks
+pub mod LoopWalk
+pub mod LoopSteps

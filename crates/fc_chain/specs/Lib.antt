@@ -11,3 +11,5 @@ pub mod Contiguous
 pub mod Ledger
 pub mod Indexing
 pub mod Directory
+pub mod Routes
+pub mod Links

@@ -29,6 +29,7 @@ mod events;
 mod find;
 mod hold;
 mod index;
+mod loops;
 mod pairs;
 mod plan;
 mod room;
