@@ -26,3 +26,4 @@ pub mod Volumes
 pub mod LoopMarks
 pub mod LoopWalk
 pub mod LoopSteps
+pub mod LoopRows

@@ -13,3 +13,4 @@ pub mod Indexing
 pub mod Directory
 pub mod Routes
 pub mod Links
+pub mod Rows

@@ -33,6 +33,7 @@ mod loops;
 mod pairs;
 mod plan;
 mod room;
+mod rows;
 mod slot;
 mod split;
 mod table;
