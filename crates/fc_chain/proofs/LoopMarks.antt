@@ -1,7 +1,7 @@
 -- Marks along links: what one more link, and one more level, leave of them.
-use Rattle.std.proofs.Common.{◌≡◌, ◌≢◌, ℕ, zero, suc, ◌+◌, ◌<◌, ◌≤◌, Bool, true, false, cond, List, [], ◌∷◌, length, set, count_by, get_or, get_or-set_same, get_or-set_other, refl, sym, ap, subst, ◌∙◌, arith, ◌⊎◌, inl, inr}
+use Rattle.std.proofs.Common.{◌≡◌, ◌≢◌, ℕ, zero, suc, ◌+◌, ◌<◌, ◌≤◌, Bool, true, false, cond, List, [], ◌∷◌, length, set, get_or-set_same, get_or-set_other, refl, sym, ap, subst, ◌∙◌, arith, ◌⊎◌, inl, inr}
 use Rattle.std.proofs.lemmas.Bool.Decides.{nat_tests}
-use Rattle.std.proofs.lemmas.Bool.{cases_eq, cases_lt}
+use Rattle.std.proofs.lemmas.Bool.{cases_eq}
 use Rattle.fc_chain.specs.declared.loops.Link.{Link}
 use Rattle.fc_chain.specs.Routes.{RouteBy, mark_at, AreReal, AreMarkedTo, AreMarked}
 use Rattle.fc_chain.specs.Links.{link_at, HasLink, IsWithin, IsAtLevel, is_zero, unmarked}
@@ -65,7 +65,7 @@ marking_more links start level marks bound from to m bl ef et fl unset at =
         elim at [
           | inl first ↦ ([], (let z : level ≡ 0 = first.0 in omega arith), subst (λ (z : ℕ). HasLink links from z) first.1 edge)
           | inr more ↦ (let r = m.real to (let p : 0 < level = more.0 in let e : mark_at marks to ≡ level = more.1 in omega arith) in
-            (to ∷ r.0, (let l : length r.0 + 1 ≡ mark_at marks to = r.1 in let e : mark_at marks to ≡ level = more.1 in omega arith), (edge, r.2)))
+              (to ∷ r.0, (let l : length r.0 + 1 ≡ mark_at marks to = r.1 in let e : mark_at marks to ≡ level = more.1 in omega arith), (edge, r.2)))
         ]
 
     real : AreReal (HasLink links) start new
@@ -98,8 +98,8 @@ marking_more links start level marks bound from to m bl ef et fl unset at =
         elim (cases_eq (link_at links k).from from) [
           | inl e ↦ (let h : mark_at new (link_at links k).from ≡ level + 1 = ap (λ z. mark_at new z) e ∙ here in omega arith)
           | inr ne ↦ (let h : mark_at new (link_at links k).from ≡ mark_at marks (link_at links k).from = there (link_at links k).from ne in
-            let p : 0 < mark_at marks (link_at links k).from = m.done k (before k lt (λ e. ne (ap (λ z. (link_at links z).from) e ∙ ef))) (was_at (link_at links k).to a) in
-            omega arith)
+              let p : 0 < mark_at marks (link_at links k).from = m.done k (before k lt (λ e. ne (ap (λ z. (link_at links z).from) e ∙ ef))) (was_at (link_at links k).to a) in
+              omega arith)
         ]
       where
         before : (k : ℕ) → k < bound + 1 → k ≢ bound → k < bound
@@ -113,7 +113,7 @@ marked_more links start level marks bound all m = record { low = m.low; real = m
     near v [] le e =
         elim (cases_eq level 0) [
           | inl z ↦ (let d : 0 < mark_at marks v = subst (λ (z : ℕ). 0 < mark_at marks z) e.from_is (m.done e.at (let t : e.at < length links = e.there in omega arith) (inl (z, e.to_is))) in
-            let l : mark_at marks v ≤ level + 1 = m.low v in (d, omega arith))
+              let l : mark_at marks v ≤ level + 1 = m.low v in (d, omega arith))
           | inr nz ↦ m.near v [] (omega arith) e
         ]
     near v (x ∷ xs) le (e, r) =
@@ -122,12 +122,12 @@ marked_more links start level marks bound all m = record { low = m.low; real = m
         let n1 : mark_at marks x ≤ length xs + 1 = n.1 in
         elim (cases_eq (mark_at marks x) level) [
           | inl same ↦ (let d : 0 < mark_at marks v = subst (λ (z : ℕ). 0 < mark_at marks z) e.from_is (m.done e.at (let t : e.at < length links = e.there in omega arith) (inr (omega arith, ap (λ z. mark_at marks z) e.to_is ∙ same))) in
-            let l : mark_at marks v ≤ level + 1 = m.low v in (d, omega arith))
+              let l : mark_at marks v ≤ level + 1 = m.low v in (d, omega arith))
           | inr less ↦ (let s = m.real x n0 in
-            let s1 : length s.0 + 1 ≡ mark_at marks x = s.1 in
-            let t = m.near v (x ∷ s.0) (omega arith) (e, s.2) in
-            let t1 : mark_at marks v ≤ length s.0 + 1 + 1 = (let u : mark_at marks v ≤ length (x ∷ s.0) + 1 = t.1 in omega arith) in
-            (t.0, omega arith))
+              let s1 : length s.0 + 1 ≡ mark_at marks x = s.1 in
+              let t = m.near v (x ∷ s.0) (omega arith) (e, s.2) in
+              let t1 : mark_at marks v ≤ length s.0 + 1 + 1 = (let u : mark_at marks v ≤ length (x ∷ s.0) + 1 = t.1 in omega arith) in
+              (t.0, omega arith))
         ]
 
 -- a level that marks nothing is the last

@@ -1,16 +1,18 @@
 -- Rows: the loops over them, and that they follow the slots through a trigger.
-use Rattle.std.proofs.Common.{◌≡◌, ◌≢◌, ℕ, zero, suc, ◌+◌, ◌<◌, ◌≤◌, Bool, true, false, cond, ◌&&◌, eqb, ltb, Option, Some, None, is_some, List, [], ◌∷◌, ◌++◌, length, get_or, set, map, take, drop, fold, remove, insert, refl, sym, ap, subst, ◌∙◌, arith, ◌⊎◌, inl, inr}
+use Rattle.std.proofs.Common.{◌≡◌, ◌≢◌, ℕ, suc, ◌+◌, ◌<◌, ◌≤◌, Bool, true, false, ◌&&◌, eqb, ltb, Option, Some, None, is_some, List, [], ◌∷◌, ◌++◌, length, set, map, take, drop, remove, insert, refl, sym, ap, ◌∙◌, arith, inl, inr}
 use Rattle.std.proofs.lemmas.Bool.{cases_Bool, both_ways, and_parts, and_from, eqb-true, eq-eqb, ltb-true, lt-ltb, false_from_ne_true}
 use Rattle.std.proofs.Math.ListN.{get_or-map}
 use Rattle.std.proofs.lemmas.List.{map-set, map-append, take-map, drop-map, length-map}
 use Rattle.fc_base.specs.declared.request.Pair.{Pair}
-use Rattle.fc_base.specs.Column.{Shape, first_below, last_below}
+use Rattle.fc_base.specs.Column.{first_below, last_below}
 use Rattle.fc_base.specs.RestoreGraph.{Edge}
 use Rattle.fc_base.specs.Sheet.{Slot, Sheet, slot_at, no_slot, shape_of, live_place}
 use Rattle.fc_base.specs.SheetStep.{has_after, at_place, left_place, placed, started_empty, triggered}
 use Rattle.fc_moves.proofs.Search.{first_is, first_is_none, last_none, last_is_none}
 use Rattle.fc_chain.specs.declared.rows.Row.{Row}
-use Rattle.fc_chain.specs.Rows.{no_row, row_of, rows_of, row_at, is_live_row, live_row, is_row_behind, has_row_behind, row_left, row_placed, at_row, rows_started, rows_triggered, row_shape}
+use Rattle.fc_chain.specs.Contiguous.{IsContiguous}
+use Rattle.fc_chain.specs.Joins.{AreTogether}
+use Rattle.fc_chain.specs.Rows.{row_of, rows_of, row_at, is_live_row, live_row, is_row_behind, has_row_behind, row_left, row_placed, at_row, rows_started, rows_triggered, row_shape}
 
 -- ---- loops over rows
 
@@ -135,3 +137,13 @@ edge_of_rows slots v w e =
       live_is_live = ap (λ (r : Row). r.is_live) (row_is slots e.live) ∙ e.live_is_live;
       live_is_to = ap (λ (r : Row). r.volume) (row_is slots e.live) ∙ e.live_is_to;
     }
+
+pub rows_together : (slots : List Slot) → IsContiguous slots → AreTogether (rows_of slots)
+rows_together slots c i j k ij jk kl e =
+    let l : length (rows_of slots) ≡ length slots = rows_length slots in
+    ap (λ (r : Row). r.chain) (row_is slots j) ∙ (c i j k ij jk (omega arith) (ap (λ (r : Row). r.chain) (sym (row_is slots i)) ∙ (e ∙ ap (λ (r : Row). r.chain) (row_is slots k))) ∙ ap (λ (r : Row). r.chain) (sym (row_is slots k)))
+
+-- rows on which a trigger was tried are those of the slots after it
+pub tried : (s : Sheet) (pairs : List Pair) (slots : List Slot) (rows new after : List Row) → slots ≡ s.slots → rows ≡ rows_of slots → new ≡ rows_triggered pairs rows → after ≡ new → after ≡ rows_of (triggered pairs s).slots
+tried s pairs slots rows new after same copied done read =
+    read ∙ (done ∙ (ap (rows_triggered pairs) (copied ∙ ap rows_of same) ∙ sym (triggered_follows pairs s)))

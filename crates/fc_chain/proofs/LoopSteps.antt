@@ -1,9 +1,9 @@
 -- The least next node, link by link.
-use Rattle.std.proofs.Common.{◌≡◌, ◌≢◌, ℕ, zero, suc, ◌+◌, ◌<◌, ◌≤◌, Option, Some, None, List, [], ◌∷◌, length, min, refl, sym, ap, subst, ◌∙◌, arith, ◌⊎◌, inl, inr}
+use Rattle.std.proofs.Common.{◌≡◌, ℕ, ◌+◌, ◌<◌, ◌≤◌, Option, Some, None, List, [], ◌∷◌, length, min, refl, sym, ap, subst, ◌∙◌, arith, ◌⊎◌, inl, inr}
 use Rattle.std.proofs.lemmas.Bool.{cases_eq, cases_lt}
 use Rattle.fc_chain.specs.Routes.{RouteBy, mark_at}
 use Rattle.fc_chain.specs.declared.loops.Link.{Link}
-use Rattle.fc_chain.specs.Links.{link_at, HasLink, IsWithin, AreWithin, FitsStep, IsLeastStep, LeastStep, least_of}
+use Rattle.fc_chain.specs.Links.{link_at, HasLink, AreWithin, FitsStep, IsLeastStep, LeastStep, least_of}
 
 fits_or : (here mark : ℕ) (marks : List ℕ) (link : Link) → FitsStep here mark marks link ⊎ (FitsStep here mark marks link → ⊥)
 fits_or here mark marks link =

@@ -14,3 +14,4 @@ pub mod Directory
 pub mod Routes
 pub mod Links
 pub mod Rows
+pub mod Joins

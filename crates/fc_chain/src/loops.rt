@@ -86,7 +86,13 @@ fn mark_all(links: &[Link], start: usize, marks: &mut [usize])
 
 /// The lesser of the node to which the link leads and the least so far, if the link leads from the node to one with the
 /// mark.
-fn lesser(best: Option<usize>, link: Link, here: usize, mark: usize, marks: &[usize]) -> Option<usize>
+fn lesser(
+    best: Option<usize>,
+    link: Link,
+    here: usize,
+    mark: usize,
+    marks: &[usize],
+) -> Option<usize>
     requires { IsWithin (length marks.now) link }
     ensures fits { FitsStep here mark marks.now link → result ≡ Some (least_of best link.to) }
     ensures passed { (FitsStep here mark marks.now link → ⊥) → result ≡ best }
@@ -113,7 +119,12 @@ fn next_node(links: &[Link], here: usize, mark: usize, marks: &[usize]) -> Optio
 }
 
 /// Goes from the start along falling marks back to it, each time to the least node.
-fn walk(alloc: Global, links: &[Link], start: usize, marks: &[usize]) -> Result<List<usize>, NoMemory>
+fn walk(
+    alloc: Global,
+    links: &[Link],
+    start: usize,
+    marks: &[usize],
+) -> Result<List<usize>, NoMemory>
     requires within { AreWithin links.now (length marks.now) }
     requires there { start < length marks.now }
     requires marked { AreMarked (HasLink links.now) start marks.now }
@@ -136,7 +147,11 @@ fn walk(alloc: Global, links: &[Link], start: usize, marks: &[usize]) -> Result<
 }
 
 /// The loop that is told among so many nodes, or none.
-pub(crate) fn told_loop(alloc: Global, nodes: usize, links: &[Link]) -> Result<Option<List<usize>>, NoMemory>
+pub(crate) fn told_loop(
+    alloc: Global,
+    nodes: usize,
+    links: &[Link],
+) -> Result<Option<List<usize>>, NoMemory>
     requires { AreWithin links.now nodes }
     ensures { IfOk result (λ found. ToldBy (HasLink links.now) found) }
 {

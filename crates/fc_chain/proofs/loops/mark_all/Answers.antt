@@ -1,4 +1,4 @@
-use Rattle.std.proofs.Common.{◌≡◌, ◌≤◌, length, arith, subst, sym, List, ℕ}
+use Rattle.std.proofs.Common.{◌≤◌, length, arith, subst, sym, List, ℕ}
 use Rattle.fc_chain.specs.Routes.{AreMarkedTo}
 use Rattle.fc_chain.specs.Links.{HasLink, unmarked}
 use Rattle.fc_chain.proofs.LoopMarks.{marked_none, marked_all, unmarked_fits}

@@ -1,4 +1,3 @@
-use Rattle.std.proofs.Common.{arith}
 use Rattle.fc_chain.proofs.LoopSteps.{least_more}
 use Rattle.fc_chain.proofs.loops.next_node.Goals as goal
 

@@ -1,4 +1,4 @@
-use Rattle.std.proofs.Common.{◌≡◌, ◌+◌, ◌-◌, ◌<◌, ◌++◌, ◌∷◌, [], ℕ, List, arith, refl, sym, ap, ◌∙◌, subst}
+use Rattle.std.proofs.Common.{◌≡◌, ◌+◌, ◌-◌, ◌<◌, ℕ, List, arith, refl, sym, ◌∙◌, subst}
 use Rattle.fc_chain.specs.Routes.{mark_at}
 use Rattle.fc_chain.specs.Links.{HasLink}
 use Rattle.fc_chain.proofs.LoopSteps.{next_is, next_none}
@@ -20,7 +20,7 @@ loop-left-preserved c =
     let more : c.loop-left.left ≡ c.loop-left.left - 1 + 1 = omega (arith, c.loop-left-test.true) in
     let some : 0 < c.loop-left.left - 1 = omega (arith, c.loop-left-test.true) in
     let g : GoesOn (HasLink c.args.links.now) c.args.start (mark_at c.args.marks.now c.args.start) c.loop-left.nodes c.loop-left.here (c.loop-left.left - 1 + 1) =
-        subst (λ (z : ℕ). GoesOn (HasLink c.args.links.now) c.args.start (mark_at c.args.marks.now c.args.start) c.loop-left.nodes c.loop-left.here z) more c.loop-left.invariant.so_far in
+    subst (λ (z : ℕ). GoesOn (HasLink c.args.links.now) c.args.start (mark_at c.args.marks.now c.args.start) c.loop-left.nodes c.loop-left.here z) more c.loop-left.invariant.so_far in
     record {
       there = n.there;
       mark_is = n.mark_is;

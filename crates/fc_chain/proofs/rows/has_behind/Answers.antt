@@ -1,4 +1,3 @@
-use Rattle.std.proofs.Common.{arith}
 use Rattle.fc_chain.proofs.LoopRows.{row_behind, no_row_behind}
 use Rattle.fc_chain.proofs.rows.has_behind.Goals as goal
 

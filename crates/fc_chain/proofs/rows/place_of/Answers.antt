@@ -1,5 +1,5 @@
 use Rattle.std.proofs.Common.{arith}
-use Rattle.fc_chain.proofs.LoopRows.{live_row_found, live_row_none, triggered_follows}
+use Rattle.fc_chain.proofs.LoopRows.{live_row_found, live_row_none}
 use Rattle.fc_chain.proofs.rows.place_of.Goals as goal
 
 pub returns-then-row-volume-clause-value : goal.returns-then-row-volume-clause-value
