@@ -22,6 +22,7 @@ pub mod Growing
 pub mod Parts
 pub mod Sorting
 pub mod Listed
+pub mod Named
 pub mod Volumes
 pub mod LoopMarks
 pub mod LoopWalk

@@ -153,9 +153,17 @@ impl Cascade {
         self.room = 0;
     }
 
+    /// How many volumes there are. Looks at none of them.
+    pub fn volumes(&self) -> usize
+        ensures { result ≡ volume_count self.now.sheet.slots }
+    {
+        self.directory.volumes()
+    }
+
     /// The volume's live slot, and None exactly where there is no such volume.
     pub fn live(&self, volume: VolId) -> Option<SlotId>
-        ensures { result ≡ found self.now.sheet.slots (live_place self.now.sheet.slots volume.0) }
+        ensures value { result ≡ found self.now.sheet.slots (live_place self.now.sheet.slots volume.0) }
+        ensures there { IfSome result (λ slot. birth_place self.now.sheet.slots slot.0 ≡ live_place self.now.sheet.slots volume.0) }
     {
         name_of(self.slots(), self.place_of_live(volume))
     }
@@ -170,7 +178,8 @@ impl Cascade {
 
     /// The mapping's slot, and None exactly where it has none.
     pub fn slot(&self, map: MapId) -> Option<SlotId>
-        ensures { result ≡ found self.now.sheet.slots (mapping_place self.now.sheet.slots map.0) }
+        ensures value { result ≡ found self.now.sheet.slots (mapping_place self.now.sheet.slots map.0) }
+        ensures there { IfSome result (λ slot. birth_place self.now.sheet.slots slot.0 ≡ mapping_place self.now.sheet.slots map.0) }
     {
         name_of(self.slots(), self.place_of_mapping(map))
     }

@@ -1,5 +1,5 @@
 -- The law of decisions: what is decided of a command fits the books, and leaves all as sound as before.
-use Rattle.std.specs.Prelude.{ℕ, ◌^◌, ◌<◌, Option}
+use Rattle.std.specs.Prelude.{ℕ, ◌^◌, ◌<◌, List, Option}
 use Rattle.fc_base.specs.declared.command.Command.{Command}
 use Rattle.fc_base.specs.declared.ids.VolId.{VolId}
 use Rattle.fc_base.specs.declared.size.GrainSize.{GrainSize}

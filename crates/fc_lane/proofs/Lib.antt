@@ -5,6 +5,11 @@ pub mod Accessing
 pub mod Volumes
 pub mod Eventing
 pub mod Telling
+pub mod Begin
 pub mod Readying
 pub mod Moving
 pub mod MoveEnds
+pub mod Counting
+pub mod LaneEvents
+pub mod StepsMade
+pub mod StepsLoop

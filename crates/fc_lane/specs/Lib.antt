@@ -4,3 +4,4 @@ pub mod Parts
 pub mod Lane
 pub mod Standing
 pub mod Moving
+pub mod StepsEnd

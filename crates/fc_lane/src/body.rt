@@ -1,6 +1,6 @@
 //! The chains and the physical grains of a lane, as the steps of an entry change them.
 
-ghost use Rattle.std.specs.Prelude.{◌≡◌, ◌<◌, ℕ, Some, None, length};
+ghost use Rattle.std.specs.Prelude.{◌≡◌, ◌<◌, ◌≤◌, ℕ, Some, None, length};
 ghost use Rattle.fc_base.specs.Column.{holder};
 ghost use Rattle.fc_base.specs.Sheet.{slot_at, column, birth_place};
 ghost use Rattle.fc_base.specs.SheetFacts.{IsSound};
@@ -55,6 +55,7 @@ impl<D: Mdisk> Body<D> {
         requires can { (k : ℕ) × CanMove self.old.cascade place mv.now k }
         ensures ends { (k : ℕ) → CanMove self.old.cascade place mv.now k → MoveEnds self.old.cascade self.old.grains place k mv.now result.calls result.stop self.new.cascade self.new.grains }
         ensures same { SameLane self.old.grains self.new.grains }
+        ensures few { result.calls ≤ 2 }
     {
         let grain = mv.grain.0;
         if mv.in_place {

@@ -11,9 +11,14 @@
 #![tactic(auto)]
 
 mod access;
+mod asking;
 mod body;
 mod copy;
+mod events;
 pub mod lane;
+mod new;
 mod parts;
 mod ready;
+mod rooms;
+mod steps;
 mod stop;
