@@ -1,5 +1,6 @@
 -- The law of sums.
 use Rattle.fc_sums.specs.Law.{SumLaw}
+use Rattle.fc_sums.proofs.Depending.{depends_law}
 use Rattle.fc_sums.proofs.Dividing.{parts_law, counts_law}
 use Rattle.fc_sums.proofs.Reading.{reads_law}
 use Rattle.fc_sums.proofs.Slots.{slots_law}
@@ -10,4 +11,5 @@ sum_law_holds = record {
   counts = counts_law;
   slots = slots_law;
   reads = reads_law;
+  depends = depends_law;
 }

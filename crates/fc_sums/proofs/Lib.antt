@@ -2,4 +2,5 @@ pub mod Sums
 pub mod Dividing
 pub mod Slots
 pub mod Reading
+pub mod Depending
 pub mod Lawful
