@@ -3,4 +3,7 @@ pub mod Dividing
 pub mod Slots
 pub mod Reading
 pub mod Depending
+pub mod Unneeded
+pub mod Joining
+pub mod Pooling
 pub mod Lawful

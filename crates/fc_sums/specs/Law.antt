@@ -1,16 +1,19 @@
 -- The law of sums: what lanes count adds up to what all grains count.
-use Rattle.std.specs.Prelude.{◌≡◌, ◌≢◌, ℕ, ◌<◌, ◌/◌, ◌%◌, true, false, ◌↔◌, Some, List, length, slice_index_or, Contains}
-use Rattle.std.specs.List.{sum_by, list_any}
-use Rattle.fc_base.specs.Counts.{UsedAt, reads_some, is_direct}
+use Rattle.std.specs.Prelude.{◌≡◌, ◌≢◌, ℕ, ◌<◌, ◌/◌, ◌%◌, true, false, ◌↔◌, min, Some, List, ◌∷◌, map, fold, length, slice_index_or, Contains}
+use Rattle.std.specs.List.{sum_by, list_any, list_all}
+use Rattle.fc_base.specs.Counts.{UsedAt, reads_some, is_direct, is_unneeded}
 use Rattle.fc_base.specs.Need.{ReadsAt, IsDependent}
+use Rattle.fc_base.specs.Pools.{Pool, of_kind, least_of_kind}
 use Rattle.fc_base.specs.Sheet.{Sheet, slot_at, slot_id, shape_of, live_place, mapping_place, birth_place, volume_grains}
-use Rattle.fc_base.specs.SheetFacts.{HasSizes, HasMappings}
+use Rattle.fc_base.specs.SheetFacts.{HasNames, HasSizes, HasMappings}
 use Rattle.fc_base.specs.SheetStep.{triggered}
 use Rattle.fc_base.specs.SheetView.{held_of, needed_of, count_true, IsRisingIds, AreMappings, ReadsMapping, DependsOn}
+use Rattle.fc_base.specs.declared.disk.DiskKind.{DiskKind}
 use Rattle.fc_base.specs.declared.ids.MapId.{MapId}
+use Rattle.fc_base.specs.declared.ids.SlotId.{SlotId}
 use Rattle.fc_base.specs.declared.request.Pair.{Pair}
 use Rattle.fc_base.specs.declared.size.GrainSize.{GrainSize}
-use Rattle.fc_sums.specs.Parts.{part_of, parts_of, sheet_at}
+use Rattle.fc_sums.specs.Parts.{part_of, parts_of, sheet_at, joined, has_name, unneeded_in, common_to}
 
 -- The parts of so many lanes, by their numbers.
 pub record PartsLaw (grain : GrainSize) (lanes : ℕ) (s : Sheet) : Type 0 where
@@ -79,9 +82,21 @@ pub record DependsLaw (grain : GrainSize) (lanes : ℕ) (s : Sheet) : Type 0 whe
   pub onward : (i m e n : ℕ) → i < lanes → DependsOn s.slots m e → ReadsMapping (part_of grain lanes s i).slots e n → n ≢ m → DependsOn s.slots m n
   pub all_dependents : (m : ℕ) (maps : List MapId) → IsClosed grain lanes s m maps → AreMappings (DependsOn s.slots m) maps
 
+-- An old slot is unneeded where it is in every lane; and so the names of those slots are what all lanes have in common.
+pub record UnneededLaw (grain : GrainSize) (lanes : ℕ) (s : Sheet) : Type 0 where
+  pub slot : (k : ℕ) → is_unneeded s.slots k ≡ list_all (λ (p : Sheet). is_unneeded p.slots k) (parts_of grain lanes s)
+  pub names : common_to (map (λ (p : Sheet). unneeded_in p.slots) (parts_of grain lanes s)) ≡ unneeded_in s.slots
+
 pub record SumLaw : Type 0 where
   pub parts : (grain : GrainSize) (lanes : ℕ) (s : Sheet) → PartsLaw grain lanes s
   pub counts : (grain : GrainSize) (lanes : ℕ) (s : Sheet) → 0 < lanes → CountsLaw grain lanes s
   pub slots : (grain : GrainSize) (lanes i : ℕ) (s : Sheet) → i < lanes → SlotsLaw s (part_of grain lanes s i)
   pub reads : (grain : GrainSize) (lanes : ℕ) (s : Sheet) → 0 < lanes → ReadsLaw grain lanes s
   pub depends : (grain : GrainSize) (lanes : ℕ) (s : Sheet) → 0 < lanes → HasSizes s.slots → HasMappings s.slots → DependsLaw grain lanes s
+  pub unneeded : (grain : GrainSize) (lanes : ℕ) (s : Sheet) → 0 < lanes → HasNames s → UnneededLaw grain lanes s
+  pub has_name : (names : List SlotId) (name : SlotId) → (has_name names name ≡ true) ↔ Contains names name
+  -- the sheet of all is found again from its parts
+  pub joins : (grain : GrainSize) (lanes : ℕ) (s : Sheet) → 0 < lanes → joined (parts_of grain lanes s) ≡ s
+  -- the least pool, lane by lane
+  pub pools : (kind : DiskKind) (pool : Pool) (pools : List Pool) →
+      least_of_kind kind (pool ∷ pools) ≡ fold (λ least p. min least (of_kind kind p)) (of_kind kind pool) pools
