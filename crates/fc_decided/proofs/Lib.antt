@@ -23,3 +23,5 @@ pub mod Preparing
 pub mod Starting
 pub mod Allowed
 pub mod Commands
+pub mod Firsts
+pub mod Clearing
