@@ -23,7 +23,8 @@ use Rattle.fc_legal.specs.Whole.{volume_told}
 use Rattle.fc_rules.specs.LaneTold.{LaneVolume}
 use Rattle.fc_decided.proofs.Frame.{tabled}
 use Rattle.fc_decided.proofs.Lists.{all_from, find_one, find_none}
-use Rattle.fc_decided.proofs.Rows.{Ordered, one_row, row_found, set_rows, set_ordered, set_from, set_in, set_others, drop_rows, drop_ordered, drop_from, drop_others, drop_count, find_set, find_drop}
+use Rattle.fc_decided.proofs.Rows.{row_found, set_rows, set_ordered, set_from, set_in, set_others, drop_rows, drop_ordered, drop_from, drop_others, drop_count, find_set, find_drop}
+use Rattle.fc_decided.proofs.Setting.{AreOrdered, one_mapping}
 use Rattle.fc_decided.proofs.TableSteps.{TableStep}
 
 -- ---- rows that stand
@@ -70,7 +71,7 @@ row_of_tables b maps m r source target group state i =
       state = state;
     }
 
-rows_from : (b : Books) (maps : List Mapping) (old r : Mapping) → Rows b → Follows b old r → Ended b.tables.mappings maps r → Ordered maps → Rows (with_maps b maps)
+rows_from : (b : Books) (maps : List Mapping) (old r : Mapping) → Rows b → Follows b old r → Ended b.tables.mappings maps r → AreOrdered maps → Rows (with_maps b maps)
 rows_from b maps old r rows f ended ordered =
     record {
       tables = record {
@@ -114,7 +115,7 @@ not_decides v m ne = ap (λ b. b && not (is_idle m.state)) (ne_eqb m.target.0 v.
 -- of the rows with this id, and of the new row, none has another target
 old_others : (b : Books) (old r : Mapping) (v : VolId) → Rows b → Follows b old r → v.0 ≢ r.target.0 → (m : Mapping) → Contains b.tables.mappings m → m.id.0 ≡ r.id.0 → decides v m ≡ false
 old_others b old r v rows f ne m found e =
-    let same : m ≡ old = one_row b.tables.mappings m old rows.tables.mappings found f.found (e ∙ same_id b old r f) in
+    let same : m ≡ old = one_mapping b.tables.mappings m old rows.tables.mappings found f.found (e ∙ same_id b old r f) in
     not_decides v m (λ q. ne (sym q ∙ (ap (λ (x : Mapping). x.target.0) same ∙ ap (λ (x : VolId). x.0) (sym f.target))))
 
 idle_online : (id : MapId) (state : MapState) (complete : Bool) → is_idle state ≡ true → access_of id state complete ≡ Online
