@@ -40,7 +40,7 @@ use Rattle.fc_decided.proofs.Unrefused.{some_one}
 
 module _ (grain : GrainSize) (decisions : ℕ) (w : Whole) (small : decisions < 2 ^ 32) (st : Stands decisions w) where
   -- where nothing refuses a command, its deed suits
-  pub Goes : Command → Type 0
+  unfoldable pub Goes : Command → Type 0
   Goes command = refused grain w.books command ≡ None → Suits grain decisions w (done grain w.books command)
 
   -- what a reference named is in its table

@@ -1,3 +1,9 @@
+pub mod Seen
+pub mod Leaving
+pub mod Splitting
+pub mod Free
+pub mod Cutting
+pub mod Counting
 pub mod Restarting
 pub mod Lists
 pub mod Ordered
@@ -5,6 +11,15 @@ pub mod Unrefused
 pub mod Apart
 pub mod Working
 pub mod Frame
+pub mod Rows
+pub mod TableSteps
+pub mod Ends
+pub mod Joint
+pub mod Quiet
+pub mod Plain
+pub mod Forced
+pub mod Stops
+pub mod ForceStops
 pub mod Resting
 pub mod Setting
 pub mod Reaching
@@ -15,6 +30,12 @@ pub mod Carrying
 pub mod Making
 pub mod Beginning
 pub mod Turning
+pub mod Suiting
+pub mod Goings
+pub mod GroupStops
+pub mod Dropping
+pub mod Settles
+pub mod Settled
 pub mod Receiving
 pub mod Copying
 pub mod Turns
@@ -25,3 +46,4 @@ pub mod Allowed
 pub mod Commands
 pub mod Firsts
 pub mod Clearing
+pub mod Decided
