@@ -37,7 +37,7 @@ none_below test (suc n) i e lt t =
           none_below test n i (sym q ∙ e) (omega (arith, lt, ne)) t
     ]
 
-held_below : (held : List Bool) (g : ℕ) → get_or held g false ≡ true → g < length held
+pub held_below : (held : List Bool) (g : ℕ) → get_or held g false ≡ true → g < length held
 held_below [] g e = absurd cc
 held_below (b ∷ bits) zero e = omega arith
 held_below (b ∷ bits) (suc g) e = omega (arith, held_below bits g e)

@@ -44,4 +44,6 @@ pub mod Preparing
 pub mod Starting
 pub mod Allowed
 pub mod Commands
+pub mod Firsts
+pub mod Clearing
 pub mod Decided

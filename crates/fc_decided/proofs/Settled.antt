@@ -35,7 +35,7 @@ use Rattle.fc_decided.proofs.Joint.{HasSeen, StateSeen}
 use Rattle.fc_decided.proofs.Lists.{first_in, later_in, none_in}
 use Rattle.fc_decided.proofs.Plain.{copies, whole_complete}
 use Rattle.fc_decided.proofs.Quiet.{Standing, IsIdOf, first_apart, rest_ordered}
-use Rattle.fc_decided.proofs.Rows.{Ordered}
+use Rattle.fc_decided.proofs.Setting.{AreOrdered}
 use Rattle.fc_decided.proofs.Seen.{Seen, seen}
 use Rattle.fc_decided.proofs.Settles.{Ready, still_ready, SettlesOne, settles_one}
 use Rattle.fc_decided.proofs.Stops.{Sound, Goes, At, slot_of, not_needed}
@@ -56,7 +56,7 @@ none_pending c st =
       };
     }
 
-settles_all : (grain : GrainSize) (ms : List Mapping) (b c : Books) (picture : Picture) → IsSound c.sheet → Standing c c.sheet.slots (IsIdOf ms) → ArePlain c.tables.volumes picture → Ordered ms →
+settles_all : (grain : GrainSize) (ms : List Mapping) (b c : Books) (picture : Picture) → IsSound c.sheet → Standing c c.sheet.slots (IsIdOf ms) → ArePlain c.tables.volumes picture → AreOrdered ms →
     ((m : Mapping) → Contains ms m → Contains c.tables.mappings m) → ((m : Mapping) → Contains ms m → Ready m.state b c.sheet.slots m) →
     Goes grain c picture (all_deeds (λ m. settles_in m.state b m) ms) (length ms)
 settles_all grain [] b c picture i st plain ordered there ready =

@@ -37,7 +37,7 @@ use Rattle.fc_decided.proofs.Leaving.{Left, detached_left}
 use Rattle.fc_decided.proofs.Lists.{first_in, in_cases}
 use Rattle.fc_decided.proofs.Plain.{effects_append, ends_plain, whole_leaves}
 use Rattle.fc_decided.proofs.Quiet.{FitAll, Quietly, quiet, Standing, one_ends, cut_ends, IsIdOf}
-use Rattle.fc_decided.proofs.Rows.{one_row}
+use Rattle.fc_decided.proofs.Setting.{one_mapping}
 use Rattle.fc_decided.proofs.Seen.{Seen, seen, seen_slot, seen_place}
 use Rattle.fc_decided.proofs.TableSteps.{TableStep, table_none, table_then, table_apart}
 
@@ -149,7 +149,7 @@ stays_settled grain c picture m rest i st found sees =
           by_state = λ x there free.
               elim (cases_eq x.id.0 m.id.0) [
                 | inl e ↦
-                    let same : x ≡ m = one_row c.tables.mappings x m st.rows.tables.mappings there found e in
+                    let same : x ≡ m = one_mapping c.tables.mappings x m st.rows.tables.mappings there found e in
                     subst (λ (y : Mapping). StateSeen y.state (seen c.sheet.slots y.id.0) y.target.0) (sym same) sees
                 | inr ne ↦ st.joint.by_state x there (λ p. free (fewer_pending m rest x.id.0 ne p))
               ];
