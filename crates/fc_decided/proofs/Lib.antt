@@ -45,3 +45,5 @@ pub mod Starting
 pub mod Allowed
 pub mod Commands
 pub mod Decided
+pub mod Firsts
+pub mod Clearing
