@@ -6,3 +6,4 @@ pub mod Standing
 pub mod Moving
 pub mod StepsEnd
 pub mod WriteStep
+pub mod Entering
