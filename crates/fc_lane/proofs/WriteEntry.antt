@@ -201,7 +201,7 @@ write_right v new told part t number actor moves calls stop entry s b w online w
         answers = online_answers (of v) told part t plain online_told w.place (write_answers (of v) told part t v.lane number actor v.grains new.grains moves calls stop writable e);
       },
       subst (λ (p : Past). IsLaneOf new (told_past (of v) told p)) (sym (write_told part stop (of v) told v.lane number actor v.grains.faults new.grains.faults moves calls))
-      (lane_after v new told number (write_in part stop) moves calls (torn_in stop) s b x),
+          (lane_after v new told number (write_in part stop) moves calls (torn_in stop) s b x),
     )
 
 -- nothing was done: how the volume may be reached, or a lost grain, forbids it
@@ -220,7 +220,7 @@ untouched_right v told part number actor reply entry s answers none is =
         answers = answers plain refl (record { moves = refl; calls = refl; untorn = refl });
       },
       subst (λ (o : Option WritePart). IsLaneOf v (told_past (of v) told (Step number o [] None v.grains.faults 0))) (sym none)
-      (lane_after v v told number None [] 0 None s (record { lane = refl; lanes = refl; volumes = refl; flags = refl }) (nothing_stands v told s)),
+          (lane_after v v told number None [] 0 None s (record { lane = refl; lanes = refl; volumes = refl; flags = refl }) (nothing_stands v told s)),
     )
 
 -- a volume that isn't online answers how it may be reached

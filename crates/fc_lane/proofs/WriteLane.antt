@@ -186,9 +186,9 @@ module _ (v : LaneView) (part : WritePart) (grain place : ℕ) (w : IsOnline v p
   lost_entered answer number actor entry tells e is =
       untouched_entered v part number actor MediumError entry
       (λ told s fits x r n.
-          let f = fits_write v told part s fits in
-          lost_answers (of v) told part f.0 x (access_told v told part Online s w.online) f.1.place
-          (not_false (cannot_write v.grains.grain (spot_of (of v) told part) part) (sym (told_by answer told tells s fits) ∙ e)) r n) refl is
+      let f = fits_write v told part s fits in
+      lost_answers (of v) told part f.0 x (access_told v told part Online s w.online) f.1.place
+      (not_false (cannot_write v.grains.grain (spot_of (of v) told part) part) (sym (told_by answer told tells s fits) ∙ e)) r n) refl is
     where
       not_false : (b : Bool) → not b ≡ false → b ≡ true
       not_false true e = refl

@@ -262,7 +262,7 @@ module _ (l : LaneOf) (told : LaneTold) (part : WritePart) (t : ℕ) (chains : C
         subst (λ (c : Content). StoredAt (stored old.volumes) part.volume.0 g c (stored new.volumes)) content
         (subst (λ (y : ℕ). StoredAt (stored old.volumes) part.volume.0 y (Bytes mid.buffer) (stored new.volumes)) at st) in
         let agrees = lane_law_holds.written l told part t (stored old.volumes) (stored new.volumes) can.is.sound can.is.place can.is.live
-            (record { sound = can.stands.sound; shows = can.stands.shows }) written_at in (
+        (record { sound = can.stands.sound; shows = can.stands.shows }) written_at in (
           refl,
           record {
             chains_are = is ∙ (λ i. record chains { sheet = sheet_written part.volume.0 (q i / can.lanes_are i) (can.sheet_is i) });
@@ -284,8 +284,8 @@ module _ (l : LaneOf) (told : LaneTold) (part : WritePart) (t : ℕ) (chains : C
         let d = failed_done {A = A} mid new part.volume.0 place x.0 w in
         let st = stored_after old.volumes mid.volumes new.volumes part.volume.0 place Lost p.stored_same (failed_stored {A = A} mid new part.volume.0 place x.0 x.1 w) in
         let agrees = lane_law_holds.torn_write l told part t (stored old.volumes) (stored new.volumes) can.is.sound can.is.place can.is.live
-            (record { sound = can.stands.sound; shows = can.stands.shows })
-            (subst (λ (y : ℕ). StoredAt (stored old.volumes) part.volume.0 y Lost (stored new.volumes)) at st) in
+        (record { sound = can.stands.sound; shows = can.stands.shows })
+        (subst (λ (y : ℕ). StoredAt (stored old.volumes) part.volume.0 y Lost (stored new.volumes)) at st) in
         let torn_is : torn ≡ torn_of spot own = r ∙ (λ i. record { volume = record { 0 = sym named i }; grain = record { 0 = q i }; side = s i }) in
         let counted = calls_all true d.counted in (
           record {
@@ -295,16 +295,16 @@ module _ (l : LaneOf) (told : LaneTold) (part : WritePart) (t : ℕ) (chains : C
             risen = counted.risen refl;
           },
           subst (λ (z : Torn). OwnStands l told part t None (calls_of_write l.grain part) (Some z) chains old after new) (sym torn_is)
-          (record {
-            chains_are = is ∙ (λ i. record chains { sheet = sheet_torn (sym named i) (q i / can.lanes_are i) (s i) (can.sheet_is i) });
-            stands = record {
-              sound = agrees.sound;
-              sized = after_sized (sheet_torn (slot_at told.sheet.slots t).volume g lost_side before) (shape_torn before (slot_at told.sheet.slots t).volume g lost_side) (size_torn (slot_at told.sheet.slots t).volume g lost_side before) d.same;
-              shows = agrees.shows;
-            };
-            counted = counted_any old new (calls_of_write l.grain part) true counted;
-            same = same_then old mid new p.same d.same;
-          }),
+              (record {
+                chains_are = is ∙ (λ i. record chains { sheet = sheet_torn (sym named i) (q i / can.lanes_are i) (s i) (can.sheet_is i) });
+                stands = record {
+                  sound = agrees.sound;
+                  sized = after_sized (sheet_torn (slot_at told.sheet.slots t).volume g lost_side before) (shape_torn before (slot_at told.sheet.slots t).volume g lost_side) (size_torn (slot_at told.sheet.slots t).volume g lost_side before) d.same;
+                  shows = agrees.shows;
+                };
+                counted = counted_any old new (calls_of_write l.grain part) true counted;
+                same = same_then old mid new p.same d.same;
+              }),
         )
       where
         same_calls : (n : ℕ) (x : Torn) → cond (eqb n n) (Some x) None ≡ Some x

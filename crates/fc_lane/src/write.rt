@@ -66,7 +66,15 @@ impl<D: Mdisk> Lane<D> {
         let plan = self.plan.as_slice();
         let mut made = room_for(alloc, plan.len(), &mut self.spare);
         let end = self.body.write_all(plan, part, grain, place, &mut made);
-        self.ended(alloc, number, actor, Ask::Write(part), before, made.into_moves(), end)
+        self.ended(
+            alloc,
+            number,
+            actor,
+            Ask::Write(part),
+            before,
+            made.into_moves(),
+            end,
+        )
     }
 
     /// Writes blocks of one grain of a volume that is online.
