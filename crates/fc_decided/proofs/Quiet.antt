@@ -107,6 +107,7 @@ ends_then b s first second mid last one two =
 pub record OneEnds (b : Books) (s : Sheet) (deed : Deed) (id : ℕ) (pending : ℕ → Type 0) : Type 0 where
   pub ends : EndsQuietly b s deed pending
   pub others : (m : Mapping) → Contains b.tables.mappings m → m.id.0 ≢ id → Contains (tabled b deed.changes).tables.mappings m
+  pub from : (m : Mapping) → Contains (tabled b deed.changes).tables.mappings m → m.id.0 ≢ id → Contains b.tables.mappings m
 
 quiet_test : (s : Sheet) (m : Mapping) (state : MapState) (goes : Bool) → (goes ≡ true → mapping_place s.slots m.id.0 ≡ None) → AreQuiet s (cond goes (goes_from state m) (comes_to state m)).events
 quiet_test s m state true none = (tt, (none refl, tt))
@@ -131,6 +132,7 @@ one_ends b s old m state before after st f sees p =
         };
       };
       others = e.well.ended.others;
+      from = λ y found ne. elim (e.well.ended.from y found) [ inl same ↦ absurd (ne (ap (λ (x : Mapping). x.id.0) same)) | inr there ↦ there.0 ];
     }
 
 -- before it, its target is cut
@@ -147,6 +149,7 @@ cut_ends b c s m deed id after o = by (is_whole c m)
             stands = o.ends.stands;
           };
           others = o.others;
+          from = o.from;
         }
 
 -- ---- dependents
@@ -156,7 +159,7 @@ pub record IsIdOf (ds : List Mapping) (n : ℕ) : Type 0 where
   pub among : Contains ds d
   pub is : d.id.0 ≡ n
 
-rest_ordered : (d : Mapping) (ds : List Mapping) → Ordered (d ∷ ds) → Ordered ds
+pub rest_ordered : (d : Mapping) (ds : List Mapping) → Ordered (d ∷ ds) → Ordered ds
 rest_ordered d ds o =
     record {
       rising = λ i j x ij jl. o.rising (suc i) (suc j) x (omega arith) (omega arith);

@@ -11,6 +11,8 @@ pub mod Moving
 pub mod MoveEnds
 pub mod Counting
 pub mod LaneEvents
+pub mod Reading
+pub mod ReadAnswers
 pub mod StepsMade
 pub mod StepsLoop
 pub mod WritePrepare

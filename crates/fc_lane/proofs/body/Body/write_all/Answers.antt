@@ -1,10 +1,7 @@
-use Rattle.std.proofs.Common.{rules, ◌≡◌, ℕ, ◌∙◌, arith, Option, subst}
+use Rattle.std.proofs.Common.{rules}
 use Rattle.fc_base.specs.Moves.{write_moves}
 use Rattle.fc_entry.specs.Picture.{grain_of_block}
-use Rattle.fc_lane.specs.StepsEnd.{StepsEnd, StepsStand}
 use Rattle.fc_lane.specs.WriteStep.{spot_of}
-use Rattle.fc_lane.specs.declared.stop.Stop.{Stop}
-use Rattle.fc_lane.proofs.StepsLoop.{stop_none}
 use Rattle.fc_lane.proofs.WriteAll.{write_can_move, write_stops, write_can_own, write_ends, moved_whole}
 use Rattle.fc_lane.proofs.body.Body.write_all.Goals as goal
 
