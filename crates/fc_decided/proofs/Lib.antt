@@ -48,3 +48,4 @@ pub mod Firsts
 pub mod Clearing
 pub mod Decided
 pub mod Needing
+pub mod Resettled
