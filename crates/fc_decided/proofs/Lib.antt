@@ -47,3 +47,5 @@ pub mod Commands
 pub mod Firsts
 pub mod Clearing
 pub mod Decided
+pub mod Needing
+pub mod Resettled
