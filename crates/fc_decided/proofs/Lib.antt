@@ -47,3 +47,4 @@ pub mod Commands
 pub mod Decided
 pub mod Firsts
 pub mod Clearing
+pub mod Olds
