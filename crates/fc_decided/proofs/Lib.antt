@@ -44,7 +44,9 @@ pub mod Preparing
 pub mod Starting
 pub mod Allowed
 pub mod Commands
-pub mod Decided
 pub mod Firsts
 pub mod Clearing
 pub mod Olds
+pub mod Decided
+pub mod Needing
+pub mod Resettled

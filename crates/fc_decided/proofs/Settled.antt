@@ -106,7 +106,7 @@ drops_part grain b picture d =
     let births : (sheet_through b.sheet (drop_events names)).births ≡ b.sheet.births = d.births in
     record { table = drops_table b names; fit = d.fit; shows = d.shows grain picture; few = omega arith }
 
-dropped_standing : (b : Books) (s : Sheet) → Standing b b.sheet.slots Nobody → s ≡ sheet_through b.sheet (drop_events (unneeded_names b.sheet.slots)) → Drops b.sheet (unneeded_names b.sheet.slots) → Standing b s.slots (IsIdOf b.tables.mappings)
+pub dropped_standing : (b : Books) (s : Sheet) → Standing b b.sheet.slots Nobody → s ≡ sheet_through b.sheet (drop_events (unneeded_names b.sheet.slots)) → Drops b.sheet (unneeded_names b.sheet.slots) → Standing b s.slots (IsIdOf b.tables.mappings)
 dropped_standing b s st e d =
     subst (λ (x : Sheet). Standing b x.slots (IsIdOf b.tables.mappings)) (sym e) (record {
       rows = st.rows;
@@ -169,7 +169,7 @@ stopping_ready b picture m s d h =
       λ free. d.went m.id.0 h.x (slot_id slots a.place) h.is (old_named b.sheet a.place a.there a.liveness (unneeded_count b m a.place a.is_there free)) birth,
     )
 
-ready_by : (b : Books) (picture : Picture) (m : Mapping) (state : MapState) → Sound b picture → Drops b.sheet (unneeded_names b.sheet.slots) → Contains b.tables.mappings m → StateSeen state (seen b.sheet.slots m.id.0) m.target.0 →
+pub ready_by : (b : Books) (picture : Picture) (m : Mapping) (state : MapState) → Sound b picture → Drops b.sheet (unneeded_names b.sheet.slots) → Contains b.tables.mappings m → StateSeen state (seen b.sheet.slots m.id.0) m.target.0 →
     Ready state b (sheet_through b.sheet (drop_events (unneeded_names b.sheet.slots))).slots m
 ready_by b picture m Copying s d found h = copying_ready b picture m s d found h
 ready_by b picture m Stopping s d found h = stopping_ready b picture m s d h
