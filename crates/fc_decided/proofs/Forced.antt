@@ -66,7 +66,7 @@ dependent_live slots k d (IsDependent.onward i r) = r.is_live
 
 -- ---- it fits
 
-all_held : (held : List Bool) (g : ℕ) → list_all (λ b. b) held ≡ true → g < length held → get_or held g false ≡ true
+pub all_held : (held : List Bool) (g : ℕ) → list_all (λ b. b) held ≡ true → g < length held → get_or held g false ≡ true
 all_held [] g e lt = absurd (omega (arith, lt))
 all_held (true ∷ xs) zero e lt = refl
 all_held (true ∷ xs) (suc g) e lt = all_held xs g e (omega (arith, lt))

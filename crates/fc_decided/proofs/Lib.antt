@@ -46,6 +46,7 @@ pub mod Allowed
 pub mod Commands
 pub mod Firsts
 pub mod Clearing
+pub mod Olds
 pub mod Decided
 pub mod Needing
 pub mod Resettled
