@@ -10,20 +10,11 @@ use Rattle.fc_legal.specs.Stands.{Stands}
 use Rattle.fc_legal.specs.Steps.{no_restarts}
 use Rattle.fc_legal.specs.Whole.{Whole}
 use Rattle.fc_decided.specs.Law.{AreSettled, DecisionLaw}
-<<<<<<< HEAD
-use Rattle.fc_decided.proofs.Commands.{Goes, mkvdisk_goes, rmvdisk_goes, armfault_goes, mkfcmap_goes, rmfcmap_goes, mkfcconsistgrp_goes, rmfcconsistgrp_goes, prestartfcmap_goes, prestartfcconsistgrp_goes, startfcmap_goes, startfcconsistgrp_goes, answered_lawful, no_loop_told}
-use Rattle.fc_decided.proofs.Frame.{Suits}
-use Rattle.fc_decided.proofs.GroupStops.{stop_group_suits}
-use Rattle.fc_decided.proofs.Resting.{nothing_suits}
-use Rattle.fc_decided.proofs.Resettled.{settle_settles}
-use Rattle.fc_decided.proofs.Settled.{settle_lawful}
-=======
 use Rattle.fc_decided.proofs.Commands.{rmvdisk_goes, Goes, mkvdisk_goes, armfault_goes, mkfcmap_goes, rmfcmap_goes, mkfcconsistgrp_goes, rmfcconsistgrp_goes, prestartfcmap_goes, prestartfcconsistgrp_goes, startfcmap_goes, startfcconsistgrp_goes, answered_lawful, no_loop_told}
 use Rattle.fc_decided.proofs.Frame.{Suits}
 use Rattle.fc_decided.proofs.GroupStops.{stop_group_suits}
 use Rattle.fc_decided.proofs.Resting.{nothing_suits}
 use Rattle.fc_decided.proofs.Settled.{settle_lawful, settle_settles}
->>>>>>> 3b366bddbed7cfde8f1dcdb78cff1e097cd9dfbf
 use Rattle.fc_decided.proofs.Suiting.{stop_suits}
 
 suits : (grain : GrainSize) (decisions : ℕ) (w : Whole) (small : decisions < 2 ^ 32) (st : Stands decisions w) → AreSettled w.books →
@@ -53,15 +44,6 @@ suits grain decisions w small st settled (Lsvdisk delim) loop told e f = nothing
 suits grain decisions w small st settled (Lsfcmapprogress m delim) loop told e f = nothing_suits grain decisions w small st
 suits grain decisions w small st settled (Lsfcmapdependentmaps m delim) loop told e f = nothing_suits grain decisions w small st
 
-<<<<<<< HEAD
--- Every decision on a command.
-decided_lawful : (grain : GrainSize) (decisions : ℕ) (w : Whole) (command : Command) (loop : Option (List VolId)) → decisions < 2 ^ 32 → Stands decisions w → AreSettled w.books → IsLoopOf grain w.books command loop → IsLawful grain decisions w (decide no_restarts grain w.books command loop)
-decided_lawful grain decisions w command loop small st settled told =
-    answered_lawful grain decisions w small st command (refused grain w.books command) loop (λ e f. suits grain decisions w small st settled command loop told e f)
-
-pub decision_law_holds : DecisionLaw
-decision_law_holds = record { settled = settle_lawful; settles = settle_settles; decided = decided_lawful }
-=======
 decided : (grain : GrainSize) (decisions : ℕ) (w : Whole) (command : Command) (loop : Option (List VolId)) → decisions < 2 ^ 32 → Stands decisions w → AreSettled w.books →
     IsLoopOf grain w.books command loop → IsLawful grain decisions w (decide no_restarts grain w.books command loop)
 decided grain decisions w command loop small st settled told =
@@ -69,4 +51,3 @@ decided grain decisions w command loop small st settled told =
 
 pub decision_law_holds : DecisionLaw
 decision_law_holds = record { settled = settle_lawful; settles = settle_settles; decided = decided }
->>>>>>> 3b366bddbed7cfde8f1dcdb78cff1e097cd9dfbf
