@@ -1,10 +1,12 @@
 -- The directory through moves and writes, and with no slots.
-use Rattle.std.proofs.Common.{◌≡◌, ℕ, suc, ◌<◌, ◌≤◌, Some, List, [], ◌∷◌, length, map, refl, sym, ap, subst, ◌∙◌, arith}
+use Rattle.std.proofs.Common.{◌≡◌, ℕ, suc, ◌+◌, ◌<◌, ◌≤◌, cond, Some, List, [], ◌∷◌, length, map, refl, sym, ap, subst, ◌∙◌, arith}
+use Rattle.std.proofs.lemmas.List.Sums.{sum_by-cons}
 use Rattle.fc_base.specs.Sheet.{Slot, slot_at}
 use Rattle.fc_chain.specs.declared.index.By.{By}
 use Rattle.fc_chain.specs.declared.index.By.TheVariants.{Birth, Mapping, Volume}
 use Rattle.fc_chain.specs.declared.index.Entry.{Entry}
 use Rattle.fc_chain.specs.Indexing.{key_at, entry_at, IsIndexOf, ListsVolume}
+use Rattle.fc_chain.specs.Planning.{volume_count}
 use Rattle.fc_chain.specs.Directory.{Directory, ListsSlots, HasPlaces}
 use Rattle.fc_sheets.proofs.Holding.{at_map, Regrained}
 
@@ -32,11 +34,19 @@ index_map f r slots by entries i =
       rising = i.rising;
     }
 
+count_map : (f : Slot → Slot) → Regrained f → (slots : List Slot) → volume_count (map f slots) ≡ volume_count slots
+count_map f r [] = refl
+count_map f r (t ∷ ts) =
+    let a : volume_count (f t ∷ map f ts) ≡ cond (f t).is_live 1 0 + volume_count (map f ts) = sum_by-cons (λ (x : Slot). cond x.is_live 1 0) (f t) (map f ts) in
+    let b : volume_count (t ∷ ts) ≡ cond t.is_live 1 0 + volume_count ts = sum_by-cons (λ (x : Slot). cond x.is_live 1 0) t ts in
+    a ∙ (λ k. cond {A = ℕ} (r.is_live t k) 1 0 + count_map f r ts k) ∙ sym b
+
 pub lists_map : (f : Slot → Slot) → Regrained f → (slots : List Slot) (d : Directory) → ListsSlots slots d → ListsSlots (map f slots) d
 lists_map f r slots d l = record {
   births = index_map f r slots Birth d.births.entries l.births;
   mappings = index_map f r slots Mapping d.mappings.entries l.mappings;
   volumes = index_map f r slots Volume d.volumes.entries l.volumes;
+  count = l.count ∙ sym (count_map f r slots);
 }
 
 -- a volume's entries are still those of its slots
@@ -51,11 +61,12 @@ index_empty by entries e =
     let P : List Entry → Type 0 = λ z. IsIndexOf [] by z in
     subst P (sym e) (record { only = λ i lt. absurd (omega arith); each = λ k x lt q. absurd (omega arith); once = λ k. omega arith; rising = λ i j le lt. absurd (omega arith) })
 
-pub lists_empty : (d : Directory) → d.births.entries ≡ [] → d.mappings.entries ≡ [] → d.volumes.entries ≡ [] → ListsSlots [] d
-lists_empty d a b c = record { births = index_empty Birth d.births.entries a; mappings = index_empty Mapping d.mappings.entries b; volumes = index_empty Volume d.volumes.entries c }
+pub lists_empty : (d : Directory) → d.births.entries ≡ [] → d.mappings.entries ≡ [] → d.volumes.entries ≡ [] → d.count ≡ 0 → ListsSlots [] d
+lists_empty d a b c n = record { count = n; births = index_empty Birth d.births.entries a; mappings = index_empty Mapping d.mappings.entries b; volumes = index_empty Volume d.volumes.entries c }
 
-pub lists_same : (slots : List Slot) (d e : Directory) → ListsSlots slots d → e.births.entries ≡ d.births.entries → e.mappings.entries ≡ d.mappings.entries → e.volumes.entries ≡ d.volumes.entries → ListsSlots slots e
-lists_same slots d e l a b c = record {
+pub lists_same : (slots : List Slot) (d e : Directory) → ListsSlots slots d → e.births.entries ≡ d.births.entries → e.mappings.entries ≡ d.mappings.entries → e.volumes.entries ≡ d.volumes.entries → e.count ≡ d.count → ListsSlots slots e
+lists_same slots d e l a b c n = record {
+  count = n ∙ l.count;
   births = subst (λ (z : List Entry). IsIndexOf slots Birth z) (sym a) l.births;
   mappings = subst (λ (z : List Entry). IsIndexOf slots Mapping z) (sym b) l.mappings;
   volumes = subst (λ (z : List Entry). IsIndexOf slots Volume z) (sym c) l.volumes;

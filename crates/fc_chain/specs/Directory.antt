@@ -1,13 +1,15 @@
--- The directory of slots: by birth, by mapping and by volume.
+-- The directory of slots: by birth, by mapping and by volume; and how many volumes there are.
 use Rattle.std.specs.Prelude.{◌≡◌, ℕ, ◌≤◌, List}
 use Rattle.fc_base.specs.Sheet.{Slot}
 use Rattle.fc_chain.specs.declared.index.By.TheVariants.{Birth, Mapping, Volume}
 use Rattle.fc_chain.specs.Indexing.{Index, IsIndexOf}
+use Rattle.fc_chain.specs.Planning.{volume_count}
 
 pub record Directory : Type 0 where
   pub births : Index
   pub mappings : Index
   pub volumes : Index
+  pub count : ℕ
 
 -- Each list is by what its name says.
 pub record AreNamed (d : Directory) : Type 0 where
@@ -15,11 +17,12 @@ pub record AreNamed (d : Directory) : Type 0 where
   pub mappings : d.mappings.by ≡ Mapping
   pub volumes : d.volumes.by ≡ Volume
 
--- They list the slots.
+-- They list the slots, and the volumes are counted.
 pub record ListsSlots (slots : List Slot) (d : Directory) : Type 0 where
   pub births : IsIndexOf slots Birth d.births.entries
   pub mappings : IsIndexOf slots Mapping d.mappings.entries
   pub volumes : IsIndexOf slots Volume d.volumes.entries
+  pub count : d.count ≡ volume_count slots
 
 -- Each has room for so many.
 pub record HasPlaces (n : ℕ) (d : Directory) : Type 0 where

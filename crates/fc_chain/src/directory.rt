@@ -1,4 +1,5 @@
-//! The directory of slots: where the slot of a birth and of a mapping stand, and those of a volume.
+//! The directory of slots: where the slot of a birth and of a mapping stand, and those of a volume; and how many volumes
+//! there are.
 
 ghost use Rattle.std.specs.Prelude.{◌≡◌, ◌<◌, ◌≤◌, List, length, [], OnOk, IfSome, IsTrue, ◌↔◌};
 ghost use Rattle.fc_base.specs.Sheet.{Slot as SheetSlot, shape_of, live_place, mapping_place, birth_place};
@@ -6,7 +7,7 @@ ghost use Rattle.fc_base.specs.SheetFacts.{HasMappings};
 ghost use Rattle.fc_base.specs.RestoreGraph.{HasOneLive};
 ghost use Rattle.fc_base.specs.Counts.{UsedAt};
 ghost use Rattle.fc_chain.specs.Contiguous.{IsContiguous};
-ghost use Rattle.fc_chain.specs.Planning.{HasApartBirths, NextOld};
+ghost use Rattle.fc_chain.specs.Planning.{HasApartBirths, NextOld, volume_count};
 ghost use Rattle.fc_chain.specs.Indexing.{AreRising, ListsVolume};
 ghost use Rattle.fc_chain.specs.Directory.{ListsSlots, HasPlaces};
 
@@ -16,12 +17,13 @@ use fc_base::outcome::NoMemory;
 use std::alloc::Global;
 use std::marker::Model;
 
-/// Lists of all slots by birth, by mapping and by volume, with room for more.
+/// Lists of all slots by birth, by mapping and by volume, with room for more; and the number of volumes.
 #[derive(Drop)]
 pub(crate) struct Directory {
     births: Index,
     mappings: Index,
     volumes: Index,
+    count: usize,
 }
 
 impl Model for Directory {
@@ -29,9 +31,9 @@ impl Model for Directory {
 
     ghost Value = { View };
 
-    ghost view = { λ d. record { births = d.births; mappings = d.mappings; volumes = d.volumes } };
+    ghost view = { λ d. record { births = d.births; mappings = d.mappings; volumes = d.volumes; count = d.count } };
 
-    ghost invariant = { λ d. AreNamed (record { births = d.births; mappings = d.mappings; volumes = d.volumes }) };
+    ghost invariant = { λ d. AreNamed (record { births = d.births; mappings = d.mappings; volumes = d.volumes; count = d.count }) };
 }
 
 impl Directory {
@@ -40,11 +42,13 @@ impl Directory {
         ensures births { result.births.entries ≡ [] }
         ensures mappings { result.mappings.entries ≡ [] }
         ensures volumes { result.volumes.entries ≡ [] }
+        ensures count { result.count ≡ 0 }
     {
         Directory {
             births: Index::new(alloc, By::Birth),
             mappings: Index::new(alloc, By::Mapping),
             volumes: Index::new(alloc, By::Volume),
+            count: 0,
         }
     }
 
@@ -54,6 +58,7 @@ impl Directory {
         ensures births { self.new.births.entries ≡ self.old.births.entries }
         ensures mappings { self.new.mappings.entries ≡ self.old.mappings.entries }
         ensures volumes { self.new.volumes.entries ≡ self.old.volumes.entries }
+        ensures count { self.new.count ≡ self.old.count }
         ensures births_room { self.old.births.room ≤ self.new.births.room }
         ensures mappings_room { self.old.mappings.room ≤ self.new.mappings.room }
         ensures volumes_room { self.old.volumes.room ≤ self.new.volumes.room }
@@ -75,6 +80,14 @@ impl Directory {
         self.births.rebuild(slots);
         self.mappings.rebuild(slots);
         self.volumes.rebuild(slots);
+        self.count = live_slots(slots);
+    }
+
+    /// How many volumes there are.
+    pub(crate) fn volumes(&self) -> usize
+        ensures { result ≡ self.now.count }
+    {
+        self.count
     }
 
     /// The place of the slot with this birth.
@@ -132,4 +145,11 @@ impl Directory {
     {
         self.volumes.next_old(slots, volume, after)
     }
+}
+
+/// How many slots are live: each volume has one.
+fn live_slots(slots: &[Slot]) -> usize
+    ensures { result ≡ volume_count slots.now }
+{
+    slots.iter().filter(|slot| slot.is_live()).count()
 }

@@ -48,5 +48,3 @@ pub mod Firsts
 pub mod Clearing
 pub mod Olds
 pub mod Decided
-pub mod Needing
-pub mod Resettled

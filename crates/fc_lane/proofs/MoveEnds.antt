@@ -1,5 +1,5 @@
 -- How a move ends, by what the chains and the grains did.
-use Rattle.std.proofs.Common.{◌≡◌, ℕ, ◌<◌, ◌/◌, Bool, true, false, cond, Option, Some, None, Ok, Err, List, length, map, refl, sym, ap, subst, ◌∙◌, arith}
+use Rattle.std.proofs.Common.{◌≡◌, ℕ, ◌<◌, ◌/◌, Bool, true, false, cond, Option, Some, None, Ok, Err, List, length, refl, sym, ap, subst, ◌∙◌, arith}
 use Rattle.fc_base.specs.Column.{holder}
 use Rattle.fc_base.specs.Sheet.{Sheet, slot_at, column, birth_place}
 use Rattle.fc_base.specs.SheetFacts.{IsSound}
@@ -21,9 +21,9 @@ use Rattle.fc_lane.specs.Moving.{CanMove, Counted, MoveEnds, SameLane}
 use Rattle.fc_lane.specs.declared.body.StepEnd.{StepEnd}
 use Rattle.fc_lane.specs.declared.stop.Stop.{Stop}
 use Rattle.fc_lane.specs.declared.stop.Stop.TheVariants.{Failed, NoMemory}
-use Rattle.fc_lane.proofs.Moving.{not_counted, one_holder, lost_is, source_at, ids_stay, kinds_stay, Source, ReadDone, read_done, wrote_done, wrote_stored, failed_done, failed_stored, refused_done, refused_stored, stored_after, counted_then, same_then}
+use Rattle.fc_lane.proofs.Moving.{not_counted, one_holder, lost_is, source_at, changed_same, Source, ReadDone, read_done, wrote_done, wrote_stored, failed_done, failed_stored, refused_done, refused_stored, stored_after, counted_then, same_then}
 use Rattle.fc_lane.specs.Standing.{AllSized}
-use Rattle.fc_lane.proofs.Stored.{stored_at}
+use Rattle.fc_lane.proofs.Stored.{stored_at, holds_size}
 
 -- the slot of a move has one place
 pub one_place : (chains : Chains) (g k i : ℕ) (m : Move) → CanMove chains g m k → CanMove chains g m i → k ≡ i
@@ -187,15 +187,8 @@ empty_ends chains after old new g k h from m can f src ef lost n e =
     (subst (λ (z : Content). StoredAt (stored old.volumes) v g z (stored (changed m.volume.0 (holding g Lost) old.volumes))) content
     (subst (λ (z : ℕ). StoredAt (stored old.volumes) z g Lost (stored (changed m.volume.0 (holding g Lost) old.volumes))) can.volume at_m)) in (
       out_ends chains after old new g k h 0 m can f src.holds e st (ap (λ (b : Bool). cond b 0 2) (sym lost_h)) (not_counted old new (ap (λ (s : GrainsState). s.calls) n) (ap (λ (s : GrainsState). s.faults) n)),
-      record {
-        grain = ap (λ (s : GrainsState). s.grain) n;
-        pool = ap (λ (s : GrainsState). s.pool) n;
-        reserved = ap (λ (s : GrainsState). s.reserved) n;
-        disks = ap (λ (s : GrainsState). s.disks) n;
-        silent = ap (λ (s : GrainsState). s.silent) n;
-        ids = ap (λ (s : GrainsState). map (λ (x : VolumeGrains). x.volume) s.volumes) n ∙ ids_stay (holding g Lost) (λ x. refl) m.volume.0 old.volumes;
-        kinds = λ w. ap (λ (s : GrainsState). (volume_of s.volumes w).kind) n ∙ kinds_stay (holding g Lost) (λ x. refl) (λ x. refl) old.volumes m.volume.0 there w;
-      },
+      changed_same old new (holding g Lost) m.volume.0 (λ x. refl) (λ x. refl) (holds_size (holding g Lost) g Lost (λ x. refl)) (λ x. refl) there
+          (n ∙ ap (λ (b : List ℕ). record old { volumes = changed m.volume.0 (holding g Lost) old.volumes; buffer = b }) (sym (ap (λ (s : GrainsState). s.buffer) n))),
     )
 
 -- the volume that a move reads

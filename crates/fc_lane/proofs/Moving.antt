@@ -1,5 +1,5 @@
 -- What the calls of the physical grains do, for one move.
-use Rattle.std.proofs.Common.{◌≡◌, ℕ, ◌<◌, ◌≤◌, ◌+◌, Bool, true, false, eqb, Option, Some, None, Result, Ok, Err, List, [], ◌∷◌, length, map, refl, sym, ap, subst, ◌∙◌, arith, inl, inr}
+use Rattle.std.proofs.Common.{◌≡◌, ℕ, ◌<◌, ◌≤◌, ◌+◌, Bool, true, false, eqb, Option, Some, None, Result, Ok, Err, List, [], ◌∷◌, length, map, refl, sym, ap, subst, ◌∙◌, arith, inl, inr, All, suc, cond}
 use Rattle.std.proofs.lemmas.Bool.{cases_Bool, cases_eq}
 use Rattle.std.specs.Bool.{OnTrue}
 use Rattle.fc_base.specs.Column.{holder}
@@ -12,6 +12,9 @@ use Rattle.fc_entry.specs.Picture.{Content, Bytes, Lost}
 use Rattle.fc_entry.specs.Right.{is_lost}
 use Rattle.fc_grains.specs.Calls.{HasRead, HasWritten}
 use Rattle.fc_grains.specs.Grains.{GrainsState}
+use Rattle.fc_grains.proofs.Quiet.{quiet_read, quiet_written}
+use Rattle.fc_lane.specs.Parts.{kind_of_grains}
+use Rattle.std.proofs.lemmas.List.Elements.{All-cons}
 use Rattle.fc_grains.specs.Volumes.{VolumeGrains, is_there, volume_of, stored, changed, called, after_write}
 use Rattle.fc_mdisk.specs.Disk.{write_failed}
 use Rattle.fc_moves.proofs.Readers.{IsHolder, holder_is}
@@ -43,10 +46,49 @@ kinds_stay f keeps kind vs id t w =
       | inr n ↦ ap (λ (v : VolumeGrains). v.kind) (changed_other f keeps vs id w n)
     ]
 
+pub each_stays : (f : VolumeGrains → VolumeGrains) → KeepsId f → KeepsKind f → (id : ℕ) (vs : List VolumeGrains) → map kind_of_grains (changed id f vs) ≡ map kind_of_grains vs
+each_stays f keeps kind id [] = refl
+each_stays f keeps kind id (v ∷ vs) =
+    let rest = each_stays f keeps kind id vs in
+    let same : kind_of_grains (f v) ≡ kind_of_grains v = λ k. record { volume = keeps v k; kind = kind v k } in
+    elim (cases_Bool (eqb v.volume.0 id)) [
+      | inl hit ↦ rw hit (λ k. same k ∷ rest k)
+      | inr miss ↦ rw miss (λ k. kind_of_grains v ∷ rest k)
+    ]
+
+abbrev pub KeepsDue : (VolumeGrains → VolumeGrains) → Type 0
+KeepsDue f = (v : VolumeGrains) → (f v).due ≡ v.due
+
+abbrev IsUnarmed : VolumeGrains → Type 0
+IsUnarmed v = v.due ≡ Some 0
+
+unarmed_stays : (f : VolumeGrains → VolumeGrains) → KeepsDue f → (id : ℕ) (vs : List VolumeGrains) → All IsUnarmed vs → All IsUnarmed (changed id f vs)
+unarmed_stays f keeps id [] all = all
+unarmed_stays f keeps id (v ∷ vs) all =
+    All-cons IsUnarmed (cond (eqb v.volume.0 id) (f v) v) (changed id f vs)
+    (either (eqb v.volume.0 id) (f v) v (keeps v ∙ all 0 v (omega arith)) (all 0 v (omega arith)))
+    (unarmed_stays f keeps id vs (λ k d within. all (suc k) d (omega arith)))
+  where
+    either : (b : Bool) (x y : VolumeGrains) → IsUnarmed x → IsUnarmed y → IsUnarmed (cond b x y)
+    either true x y p q = p
+    either false x y p q = q
+
 -- ---- what entries leave as it is
 
 pub same_lane : (old : GrainsState) → SameLane old old
-same_lane old = record { grain = refl; pool = refl; reserved = refl; disks = refl; silent = refl; ids = refl; kinds = λ v. refl }
+same_lane old = record {
+  grain = refl;
+  pool = refl;
+  reserved = refl;
+  disks = refl;
+  silent = refl;
+  ids = refl;
+  kinds = λ v. refl;
+  each = refl;
+  there = λ v. refl;
+  sizes = λ v. refl;
+  quiet = λ q. (q, refl);
+}
 
 pub same_then : (old mid new : GrainsState) → SameLane old mid → SameLane mid new → SameLane old new
 same_then old mid new a b =
@@ -58,12 +100,16 @@ same_then old mid new a b =
       silent = b.silent ∙ a.silent;
       ids = b.ids ∙ a.ids;
       kinds = λ v. b.kinds v ∙ a.kinds v;
+      each = b.each ∙ a.each;
+      there = λ v. b.there v ∙ a.there v;
+      sizes = λ v. b.sizes v ∙ a.sizes v;
+      quiet = λ q. let p = a.quiet q in let r = b.quiet p.0 in (r.0, r.1 ∙ p.1);
     }
 
--- a state whose volumes changed so, and the buffer and counts anyhow
-pub changed_same : (old new : GrainsState) (f : VolumeGrains → VolumeGrains) (id : ℕ) → KeepsId f → KeepsKind f → is_there old.volumes id ≡ true →
-    new ≡ record old { volumes = changed id f old.volumes; buffer = new.buffer; calls = new.calls; faults = new.faults; write_faults = new.write_faults } → SameLane old new
-changed_same old new f id keeps kind t e =
+-- a state whose volumes changed so, by no call
+pub changed_same : (old new : GrainsState) (f : VolumeGrains → VolumeGrains) (id : ℕ) → KeepsId f → KeepsKind f → KeepsSize f → KeepsDue f → is_there old.volumes id ≡ true →
+    new ≡ record old { volumes = changed id f old.volumes; buffer = new.buffer } → SameLane old new
+changed_same old new f id keeps kind size due t e =
     let vs : new.volumes ≡ changed id f old.volumes = ap (λ (s : GrainsState). s.volumes) e in
     record {
       grain = ap (λ (s : GrainsState). s.grain) e;
@@ -73,6 +119,16 @@ changed_same old new f id keeps kind t e =
       silent = ap (λ (s : GrainsState). s.silent) e;
       ids = ap (λ (z : List VolumeGrains). map (λ (v : VolumeGrains). v.volume) z) vs ∙ ids_stay f keeps id old.volumes;
       kinds = λ v. ap (λ (z : List VolumeGrains). (volume_of z v).kind) vs ∙ kinds_stay f keeps kind old.volumes id t v;
+      each = ap (λ (z : List VolumeGrains). map kind_of_grains z) vs ∙ each_stays f keeps kind id old.volumes;
+      there = λ x. ap (λ (z : List VolumeGrains). is_there z x) vs ∙ there_stays f keeps old.volumes id x;
+      sizes = λ x. ap (λ (z : List VolumeGrains). length (volume_of z x).contents) vs ∙ size_stays f keeps size old.volumes id x t;
+      quiet = λ q. (
+        record {
+          told = ap (λ (s : GrainsState). s.silent) e ∙ q.told;
+          unarmed = subst (λ (z : List VolumeGrains). All IsUnarmed z) (sym vs) (unarmed_stays f due id old.volumes q.unarmed);
+        },
+        ap (λ (s : GrainsState). s.faults) e,
+      );
     }
 
 -- ---- one call, and two
@@ -80,7 +136,7 @@ changed_same old new f id keeps kind t e =
 abbrev failed_of : Bool → GrainsState → GrainsState → Type 0
 failed_of failed old new = failed ≡ true → HasRisen old.faults new.faults
 
-risen_then : (a b c : ℕ) → a ≤ b → HasRisen b c → HasRisen a c
+pub risen_then : (a b c : ℕ) → a ≤ b → HasRisen b c → HasRisen a c
 risen_then a b c le (inl lt) = inl (omega arith)
 risen_then a b c le (inr e) = inr e
 
@@ -127,6 +183,10 @@ read_done old mid v g failed t h =
         silent = ap (λ (s : GrainsState). s.silent) h.rest;
         ids = ap (λ (z : List VolumeGrains). map (λ (x : VolumeGrains). x.volume) z) vs ∙ ids_stay called called_id v old.volumes;
         kinds = λ w. ap (λ (z : List VolumeGrains). (volume_of z w).kind) vs ∙ kinds_stay called called_id called_kind old.volumes v t w;
+        each = ap (λ (z : List VolumeGrains). map kind_of_grains z) vs ∙ each_stays called called_id called_kind v old.volumes;
+        there = λ x. ap (λ (z : List VolumeGrains). is_there z x) vs ∙ there_stays called called_id old.volumes v x;
+        sizes = λ x. ap (λ (z : List VolumeGrains). length (volume_of z x).contents) vs ∙ size_stays called called_id (contents_size called called_contents) old.volumes v x t;
+        quiet = λ q. let s = quiet_read old mid v g failed q t h in (s.quiet, s.faults);
       };
       stored_same = λ w y. ap (λ (z : List VolumeGrains). stored z w y) vs ∙ stored_stays called called_id called_contents old.volumes v t w y;
       there = λ x. ap (λ (z : List VolumeGrains). is_there z x) vs ∙ there_stays called called_id old.volumes v x;
@@ -159,6 +219,10 @@ write_done {A} old new v g answer keeps kind size t h =
         silent = ap (λ (s : GrainsState). s.silent) h.rest;
         ids = ap (λ (z : List VolumeGrains). map (λ (x : VolumeGrains). x.volume) z) vs ∙ ids_stay f keeps v old.volumes;
         kinds = λ w. ap (λ (z : List VolumeGrains). (volume_of z w).kind) vs ∙ kinds_stay f keeps kind old.volumes v t w;
+        each = ap (λ (z : List VolumeGrains). map kind_of_grains z) vs ∙ each_stays f keeps kind v old.volumes;
+        there = λ x. ap (λ (z : List VolumeGrains). is_there z x) vs ∙ there_stays f keeps old.volumes v x;
+        sizes = λ x. ap (λ (z : List VolumeGrains). length (volume_of z x).contents) vs ∙ size_stays f keeps size old.volumes v x t;
+        quiet = λ q. let s = quiet_written {A = A} old new v g answer q t h in (s.quiet, s.faults);
       };
       there = λ x. ap (λ (z : List VolumeGrains). is_there z x) vs ∙ there_stays f keeps old.volumes v x;
       size = λ x. ap (λ (z : List VolumeGrains). length (volume_of z x).contents) vs ∙ size_stays f keeps size old.volumes v x t;

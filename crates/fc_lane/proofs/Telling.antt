@@ -16,7 +16,9 @@ use Rattle.fc_rules.specs.LaneTold.{LaneOf, LaneTold, LaneVolume, grains_in, tol
 use Rattle.fc_sheets.proofs.Finding.{live_place_at}
 use Rattle.fc_lane.specs.Accesses.{AccessState}
 use Rattle.fc_rules.specs.LaneFits.{HasDisk, FitsLane}
-use Rattle.fc_lane.specs.Parts.{BesideFor, SameVolumes, CanDo, HasDone, IsReadyBeside, KnowsAll, SameCounts, FitBeside, FitParts, StandsFor, lane_of, kind_of_told, new_of, new_volumes}
+use Rattle.fc_grains.specs.Quiet.{IsQuiet}
+use Rattle.fc_lane.specs.Lane.{ArmsNone}
+use Rattle.fc_lane.specs.Parts.{ArmsNot, BesideFor, SameVolumes, CanDo, HasDone, IsReadyBeside, KnowsAll, SameCounts, FitBeside, FitParts, StandsFor, lane_of, kind_of_told, new_of, new_volumes}
 use Rattle.fc_lane.specs.Standing.{HasGrains}
 use Rattle.fc_lane.proofs.Eventing.{event_stands, event_volumes}
 use Rattle.fc_lane.proofs.Volumes.{newest_of}
@@ -119,14 +121,39 @@ pub sheet_then : (l : LaneOf) (events : List LaneEvent) (told : LaneTold) → (f
 sheet_then l [] told = refl
 sheet_then l (e ∷ es) told = sheet_then l es (told_event l told e)
 
+-- no fault is armed by the first event, nor by the others
+pub arms_first : (e : LaneEvent) (es : List LaneEvent) → ArmsNone (e ∷ es) → ArmsNot e
+arms_first (Make volume grains kind) es none = tt
+arms_first (Remove volume) es none = tt
+arms_first (Work m copies cleans) es none = tt
+arms_first (Trigger pairs) es none = tt
+arms_first (Retire m) es none = tt
+arms_first (Detach m) es none = tt
+arms_first (Split m) es none = tt
+arms_first (Force m dependents) es none = tt
+arms_first (Drop slot) es none = tt
+arms_first (Forget m) es none = tt
+arms_first (NoteCut m source target) es none = tt
+arms_first (Access volume access) es none = tt
+arms_first (Arm volume grain calls) es none = none volume grain calls (0, omega arith, refl)
+
+pub arms_rest : (e : LaneEvent) (es : List LaneEvent) → ArmsNone (e ∷ es) → ArmsNone es
+arms_rest e es none volume grain calls c = none volume grain calls (suc c.0, omega (arith, c.1), c.2)
+
 -- Some of the events were done, and these are left.
 pub record Doing (lane lanes : ℕ) (g : GrainsState) (a : AccessState) (w : WorkState) (events : List LaneEvent) (g' : GrainsState) (a' : AccessState) (w' : WorkState) (rest : List LaneEvent) : Type 0 where
   pub ready : IsReadyBeside (lane_of lane lanes g.grain) g' a' w' rest
   pub leads : LeadsOn (lane_of lane lanes g.grain) g a w events g' a' w' rest
   pub kept : SameCounts g g'
+  pub quiet : IsQuiet g → ArmsNone events → IsQuiet g' × ArmsNone rest
 
 pub doing_none : (lane lanes : ℕ) (g : GrainsState) (a : AccessState) (w : WorkState) (events : List LaneEvent) → IsReadyBeside (lane_of lane lanes g.grain) g a w events → Doing lane lanes g a w events g a w events
-doing_none lane lanes g a w events ready = record { ready = ready; leads = leads_first (lane_of lane lanes g.grain) g a w events; kept = counts_same g }
+doing_none lane lanes g a w events ready = record {
+  ready = ready;
+  leads = leads_first (lane_of lane lanes g.grain) g a w events;
+  kept = counts_same g;
+  quiet = λ q none. (q, none);
+}
 
 module _ (lane lanes : ℕ) (g : GrainsState) (a : AccessState) (w : WorkState) (events : List LaneEvent) (g' : GrainsState) (a' : AccessState) (w' : WorkState) where
   pub doing_same : (rest : List LaneEvent) → FitBeside (lane_of lane lanes g.grain) g a w events → Doing lane lanes g a w events g' a' w' rest → SameVolumes g'.volumes a'.volumes
@@ -140,14 +167,15 @@ module _ (lane lanes : ℕ) (g : GrainsState) (a : AccessState) (w : WorkState) 
       (can_do (lane_of lane lanes g.grain) n.0 e rest g' a' w' n.1 n.2.0 n.2.1 d.ready)
 
   pub doing_next : (e : LaneEvent) (rest : List LaneEvent) (g'' : GrainsState) (a'' : AccessState) (w'' : WorkState) → Doing lane lanes g a w events g' a' w' (e ∷ rest) →
-      HasDone (lane_of lane lanes g'.grain) g' a' w' e g'' a'' w'' → Doing lane lanes g a w events g'' a'' w'' rest
-  doing_next e rest g'' a'' w'' d done =
+      HasDone (lane_of lane lanes g'.grain) g' a' w' e g'' a'' w'' → (IsQuiet g' → ArmsNot e → IsQuiet g'') → Doing lane lanes g a w events g'' a'' w'' rest
+  doing_next e rest g'' a'' w'' d done still =
       let l : LaneOf = lane_of lane lanes g.grain in
       let own : HasDone l g' a' w' e g'' a'' w'' = subst (λ (z : GrainSize). HasDone (lane_of lane lanes z) g' a' w' e g'' a'' w'') d.kept.grain done in
       record {
         ready = still_ready l e rest g' g'' a' a'' w' w'' d.ready own;
         leads = leads_next l g g' g'' a a' a'' w w' w'' events rest e d.leads own;
         kept = counts_then g g' g'' d.kept own.kept;
+        quiet = λ q none. let n = d.quiet q none in (still n.0 (arms_first e rest n.1), arms_rest e rest n.1);
       }
 
 pub drop_at : (xs : List LaneEvent) (i : ℕ) (d : LaneEvent) → i < length xs → drop i xs ≡ get_or xs i d ∷ drop (suc i) xs

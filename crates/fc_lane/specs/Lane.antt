@@ -1,18 +1,16 @@
 -- A lane as contracts see it, and when it stands for what is told.
-use Rattle.std.specs.Prelude.{◌≡◌, ℕ, ◌≤◌, Option, Some, None, List, Contains}
+use Rattle.std.specs.Prelude.{◌≡◌, ℕ, ◌<◌, ◌≤◌, ◌^◌, Option, Some, None, List, Contains}
 use Rattle.fc_base.specs.MovePlan.{PlannedMoves}
 use Rattle.fc_base.specs.declared.decision.LaneEvent.{LaneEvent}
 use Rattle.fc_base.specs.declared.decision.LaneEvent.TheVariants.{Arm}
 use Rattle.fc_base.specs.declared.ids.GrainNo.{GrainNo}
 use Rattle.fc_base.specs.declared.ids.VolId.{VolId}
 use Rattle.fc_base.specs.declared.request.Request.{Request}
-use Rattle.fc_base.specs.declared.size.GrainSize.{GrainSize}
 use Rattle.fc_chain.specs.Chains.{Chains}
 use Rattle.fc_chain.specs.Planning.{volume_count}
 use Rattle.fc_entry.specs.declared.entry.Entry.{Entry}
-use Rattle.fc_grains.specs.Grains.{GrainsState, opened, stopped}
+use Rattle.fc_grains.specs.Grains.{GrainsState, stopped}
 use Rattle.fc_grains.specs.Quiet.{IsQuiet}
-use Rattle.fc_mdisk.specs.Disk.{DiskState}
 use Rattle.fc_pick.specs.Flags.{WorkState}
 use Rattle.fc_lane.specs.Accesses.{AccessState}
 use Rattle.fc_lane.specs.Parts.{StandsFor, IsReadyFor, lane_of}
@@ -43,8 +41,10 @@ pub record IsLaneOf (v : LaneView) (told : LaneTold) : Type 0 where
   pub faults : v.grains.faults ≡ told.faults
   pub calls : v.grains.calls ≡ stopped told.calls
 
--- The next entry takes no memory: there is room for one move per volume, in the plan and in the entry.
+-- The next entry takes no memory: there is room for one move per volume, in the plan and in the entry; and the calls of so many
+-- moves can be counted.
 pub record IsReady (v : LaneView) : Type 0 where
+  pub few : volume_count v.chains.sheet.slots < 2 ^ 30
   pub plan : volume_count v.chains.sheet.slots ≤ v.plan_room
   pub entry : volume_count v.chains.sheet.slots ≤ v.entry_room
 

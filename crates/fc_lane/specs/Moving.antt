@@ -13,7 +13,9 @@ use Rattle.fc_base.specs.declared.request.Torn.{Torn}
 use Rattle.fc_chain.specs.Chains.{Chains}
 use Rattle.fc_entry.specs.Picture.{Lost}
 use Rattle.fc_grains.specs.Grains.{GrainsState}
-use Rattle.fc_grains.specs.Volumes.{VolumeGrains, volume_of, stored}
+use Rattle.fc_grains.specs.Quiet.{IsQuiet}
+use Rattle.fc_grains.specs.Volumes.{VolumeGrains, is_there, volume_of, stored}
+use Rattle.fc_lane.specs.Parts.{kind_of_grains}
 use Rattle.fc_lane.specs.declared.stop.Stop.{Stop}
 use Rattle.fc_lane.specs.declared.stop.Stop.TheVariants.{Failed, NoMemory}
 use Rattle.fc_pictures.specs.Law.{StoredAt, StoredMoved}
@@ -36,7 +38,8 @@ pub record Counted (old : GrainsState) (calls : ℕ) (failed : Bool) (new : Grai
 abbrev pub SameKinds : List VolumeGrains → List VolumeGrains → Type 0
 SameKinds old new = (v : ℕ) → (volume_of new v).kind ≡ (volume_of old v).kind
 
--- What entries leave as it is: the disks, the pool, the new volumes that are ready, and the kinds of volumes.
+-- What entries leave as it is: the disks, the pool, the new volumes that are ready, and the ids, kinds and sizes of volumes.
+-- Where no disk can fail, none does.
 pub record SameLane (old new : GrainsState) : Type 0 where
   pub grain : new.grain ≡ old.grain
   pub pool : new.pool ≡ old.pool
@@ -45,6 +48,10 @@ pub record SameLane (old new : GrainsState) : Type 0 where
   pub silent : new.silent ≡ old.silent
   pub ids : map (λ (v : VolumeGrains). v.volume) new.volumes ≡ map (λ (v : VolumeGrains). v.volume) old.volumes
   pub kinds : SameKinds old.volumes new.volumes
+  pub each : map kind_of_grains new.volumes ≡ map kind_of_grains old.volumes
+  pub there : (v : ℕ) → is_there new.volumes v ≡ is_there old.volumes v
+  pub sizes : (v : ℕ) → length (volume_of new.volumes v).contents ≡ length (volume_of old.volumes v).contents
+  pub quiet : IsQuiet old → IsQuiet new × (new.faults ≡ old.faults)
 
 -- ---- one move
 

@@ -1,5 +1,5 @@
 -- That the parts of a lane stand for what its past tells, and what an event does to the grains.
-use Rattle.std.specs.Prelude.{◌≡◌, ◌≢◌, ℕ, ◌+◌, ◌<◌, ◌≤◌, ◌%◌, ◌==◌, cond, true, IsTrue, Option, List, [], ◌∷◌, ◌++◌, map, replicate, length, drop, All}
+use Rattle.std.specs.Prelude.{◌≡◌, ℕ, ◌+◌, ◌<◌, ◌≤◌, ◌%◌, ◌==◌, cond, true, IsTrue, Option, List, [], ◌∷◌, ◌++◌, map, replicate, length, drop, All}
 use Rattle.fc_base.specs.declared.decision.LaneEvent.{LaneEvent}
 use Rattle.fc_base.specs.declared.decision.LaneEvent.TheVariants.{Make, Remove, Trigger, Retire, Detach, Split, Force, Drop, Forget, NoteCut, Access, Work, Arm}
 use Rattle.fc_base.specs.declared.disk.DiskKind.{DiskKind}
@@ -150,6 +150,11 @@ pub record HasDone (l : LaneOf) (grains : GrainsState) (accesses : AccessState) 
   pub room : accesses.room ≤ accesses'.room + length (new_of l e)
   pub flags : work'.flags ≡ flags_event work.flags e
   pub known : work'.known ≡ known_event work.known e
+
+-- It arms no fault.
+abbrev pub ArmsNot : LaneEvent → Type 0
+ArmsNot (Arm volume grain calls) = ⊥
+ArmsNot event = Unit {0}
 
 -- ---- what room needs
 

@@ -1,6 +1,6 @@
 //! The chains and the physical grains of a lane, as the steps of an entry change them.
 
-ghost use Rattle.std.specs.Prelude.{◌≡◌, ◌<◌, ℕ, Some, None, length};
+ghost use Rattle.std.specs.Prelude.{◌≡◌, ◌<◌, ◌≤◌, ℕ, Some, None, length};
 ghost use Rattle.fc_base.specs.Column.{holder};
 ghost use Rattle.fc_base.specs.Sheet.{slot_at, column, birth_place};
 ghost use Rattle.fc_base.specs.SheetFacts.{IsSound};
@@ -55,6 +55,7 @@ impl<D: Mdisk> Body<D> {
         requires can { (k : ℕ) × CanMove self.old.cascade place mv.now k }
         ensures ends { (k : ℕ) → CanMove self.old.cascade place mv.now k → MoveEnds self.old.cascade self.old.grains place k mv.now result.calls result.stop self.new.cascade self.new.grains }
         ensures same { SameLane self.old.grains self.new.grains }
+        ensures few { result.calls ≤ 2 }
     {
         let grain = mv.grain.0;
         if mv.in_place {
@@ -86,14 +87,14 @@ impl<D: Mdisk> Body<D> {
 }
 
 /// A step that was done.
-fn done(calls: u32) -> StepEnd
+pub(crate) fn done(calls: u32) -> StepEnd
     ensures { result ≡ record { calls = calls; stop = None } }
 {
     StepEnd { calls, stop: None }
 }
 
 /// A step whose last call failed.
-fn failed(calls: u32, torn: Option<Torn>) -> StepEnd
+pub(crate) fn failed(calls: u32, torn: Option<Torn>) -> StepEnd
     ensures { result ≡ record { calls = calls; stop = Some (Failed torn) } }
 {
     StepEnd {

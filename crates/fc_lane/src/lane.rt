@@ -11,13 +11,13 @@ use std::marker::Model;
 /// the background work.
 #[derive(Drop)]
 pub struct Lane<D: Mdisk> {
-    lane: u8,
-    lanes: u8,
-    body: Body<D>,
-    accesses: Accesses,
-    work: Work,
-    plan: MovePlan,
-    spare: Option<MovePlan>,
+    pub(crate) lane: u8,
+    pub(crate) lanes: u8,
+    pub(crate) body: Body<D>,
+    pub(crate) accesses: Accesses,
+    pub(crate) work: Work,
+    pub(crate) plan: MovePlan,
+    pub(crate) spare: Option<MovePlan>,
 }
 
 impl<D: Mdisk> Model for Lane<D> {

@@ -4,7 +4,9 @@ ghost use Rattle.std.specs.Prelude.{◌≡◌, ◌<◌, [], OnOk, OnErr, fold, �
 ghost use Rattle.fc_grains.specs.Volumes.{armed, changed};
 ghost use Rattle.fc_pick.specs.Flags.{is_known, with_flags, with_number};
 ghost use Rattle.fc_rules.specs.LaneFits.{FitsLane, WorksFirst};
-ghost use Rattle.fc_lane.specs.Parts.{BesideFor, CanDo, FitBeside, FitParts, HasDone, IsReadyBeside, IsReadyFor, SameCounts, SameVolumes, StandsFor, lane_of};
+ghost use Rattle.fc_grains.specs.Quiet.{IsQuiet};
+ghost use Rattle.fc_lane.specs.Lane.{ArmsNone};
+ghost use Rattle.fc_lane.specs.Parts.{ArmsNot, BesideFor, CanDo, FitBeside, FitParts, HasDone, IsReadyBeside, IsReadyFor, SameCounts, SameVolumes, StandsFor, lane_of};
 ghost use Rattle.fc_rules.specs.LaneTold.{LaneTold, told_event};
 
 use crate::access::Accesses;
@@ -64,6 +66,8 @@ pub(crate) fn apply_events<D: Mdisk>(
     requires fit { FitParts (lane_of lane lanes grains.old.grain) cascade.old grains.old accesses.old work.old events.now }
     ensures stands { (told : LaneTold) → StandsFor (lane_of lane lanes grains.old.grain) cascade.old grains.old accesses.old work.old told → FitsLane (lane_of lane lanes grains.old.grain) told events.now → StandsFor (lane_of lane lanes grains.old.grain) cascade.new grains.new accesses.new work.new (fold (told_event (lane_of lane lanes grains.old.grain)) told events.now) }
     ensures kept { SameCounts grains.old grains.new }
+    ensures made { grains.new.reserved ≡ [] }
+    ensures quiet { IsQuiet grains.old → ArmsNone events.now → IsQuiet grains.new }
 {
     cascade.apply(events);
     do_events(lane, lanes, grains, accesses, work, events.as_slice());
@@ -114,7 +118,8 @@ fn do_event<D: Mdisk>(
     requires lane_in { lane < lanes }
     requires same { SameVolumes grains.old.volumes accesses.old.volumes }
     requires can { CanDo (lane_of lane lanes grains.old.grain) grains.old accesses.old work.old event.now }
-    ensures { HasDone (lane_of lane lanes grains.old.grain) grains.old accesses.old work.old event.now grains.new accesses.new work.new }
+    ensures done { HasDone (lane_of lane lanes grains.old.grain) grains.old accesses.old work.old event.now grains.new accesses.new work.new }
+    ensures quiet { IsQuiet grains.old → ArmsNot event.now → IsQuiet grains.new }
 {
     match event {
         LaneEvent::Make { volume, kind, .. } => {
@@ -161,6 +166,8 @@ fn do_events<D: Mdisk>(
     requires fit { FitBeside (lane_of lane lanes grains.old.grain) grains.old accesses.old work.old events.now }
     ensures stands { (told : LaneTold) → BesideFor (lane_of lane lanes grains.old.grain) grains.old accesses.old work.old told → FitsLane (lane_of lane lanes grains.old.grain) told events.now → BesideFor (lane_of lane lanes grains.old.grain) grains.new accesses.new work.new (fold (told_event (lane_of lane lanes grains.old.grain)) told events.now) }
     ensures kept { SameCounts grains.old grains.new }
+    ensures made { grains.new.reserved ≡ [] }
+    ensures quiet { IsQuiet grains.old → ArmsNone events.now → IsQuiet grains.new }
 {
     for event in events {
         do_event(lane, lanes, grains, accesses, work, event);

@@ -1,2 +1,21 @@
 //! The law of parts: what lanes do to their grains, one by one, is what happens to all grains.
+//!
+//! A history tells of all grains as of one lane that has every grain (`fc_legal`, `specs/Whole`), so the words on
+//! lanes (`fc_rules`) speak of both. The part of a lane is what is told at its grains, by their places, and all
+//! volumes and background work. The law says that a lane's part begins with nothing but its disks; that a decision
+//! that fits all grains fits each part, and leaves in each the part of what it leaves; that an entry that is right in
+//! the lane of its grain is right by all grains, tells its lane its part of what it leaves and other lanes nothing,
+//! and leaves standing what stood; and that an access inside a volume fits the lane of its grain.
+//!
+//! To read: `specs/Law`, what is said; then `proofs/`: `Numbers` (grains by place and by number, parts of lists),
+//! `Views`, `Events` and `Fitting` (chains and events), `Pictures` (plain volumes and events), `Told` and `Decisions`
+//! (what is told of decisions), `Grains` (moves and writes at one grain), `Outcomes` (what an entry did), `Spots` (what it
+//! may answer), `Accesses`, `Staying`, `Outside`, `Soundness` and `Standing` (what stood stands), `Lawful`.
 #![tactic(auto)]
+
+ghost use Rattle.fc_parts.specs.Law.{PartLaw};
+
+/// The law of parts. It does nothing; a caller learns the law.
+pub fn part_law()
+    ensures { PartLaw }
+{}

@@ -20,4 +20,4 @@ loop-event-preserved g c =
     doing_next c.args.lane c.args.lanes c.args.grains.now c.args.accesses.now c.args.work.now c.args.events.now c.loop-event.grains c.loop-event.accesses c.loop-event.work
     c.event-item.result (drop (c.loop-event.event-index + 1) c.args.events.now) c.do_event.new.grains c.do_event.new.accesses c.do_event.new.work
     (subst (λ (z : List LaneEvent). Doing c.args.lane c.args.lanes c.args.grains.now c.args.accesses.now c.args.work.now c.args.events.now c.loop-event.grains c.loop-event.accesses c.loop-event.work z) left c.loop-event.invariant)
-    c.do_event.ensures
+    c.do_event.ensures.done c.do_event.ensures.quiet

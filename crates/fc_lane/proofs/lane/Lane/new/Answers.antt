@@ -1,0 +1,7 @@
+use Rattle.std.proofs.Common.{map}
+use Rattle.fc_lane.proofs.Begin.{begins}
+use Rattle.fc_lane.proofs.lane.Lane.new.Goals as goal
+
+pub returns-clause-stands : goal.returns-clause-stands
+returns-clause-stands g c =
+    begins _ c.args.grain (map g.D.Mdisk.meaning c.args.disks.items) c.in-Ok-new.ensures c.new-3.ensures.lane c.new-3.ensures.lanes c.new-3.ensures.sheet c.new-4.ensures c.new-5.ensures.flags

@@ -1,0 +1,181 @@
+-- An entry of a lane: right by all grains, told to its lane and to no other.
+use Rattle.std.proofs.Common.{◌≡◌, ◌≢◌, ℕ, ◌+◌, ◌%◌, ◌<◌, ◌≤◌, Option, Some, None, List, [], length, get_or, IsSome, Contains, refl, sym, ap, subst, ◌∙◌, arith, length-set, get_or-set_same, get_or-set_other}
+use Rattle.std.proofs.lemmas.Nat.{mod_below}
+use Rattle.fc_base.specs.Grain.{grain_blocks}
+use Rattle.fc_base.specs.Sheet.{Sheet, live_place, volume_grains, grains_at}
+use Rattle.fc_base.specs.declared.request.Effect.{Effect}
+use Rattle.fc_base.specs.declared.request.Reply.{Reply}
+use Rattle.fc_base.specs.declared.request.Reply.TheVariants.{Done}
+use Rattle.fc_base.specs.declared.request.Request.{Request}
+use Rattle.fc_base.specs.declared.request.Request.TheVariants.{Read, Write, Copy, Clean}
+use Rattle.fc_base.specs.declared.request.WritePart.{WritePart}
+use Rattle.fc_base.specs.declared.size.GrainSize.{GrainSize}
+use Rattle.fc_base.specs.declared.state.Access.{Access}
+use Rattle.fc_base.specs.declared.state.Access.TheVariants.{Online, Offline, NotAccessible}
+use Rattle.fc_base.specs.declared.volume.Volume.{Volume}
+use Rattle.fc_entry.specs.Picture.{Picture, grain_of_block}
+use Rattle.fc_entry.specs.PlainStep.{after_request, after_loss, after_effects, plain_step}
+use Rattle.fc_entry.specs.declared.entry.Entry.{Entry}
+use Rattle.fc_legal.specs.Stands.{Stands}
+use Rattle.fc_legal.specs.Steps.{AccessStep, after_access}
+use Rattle.fc_legal.specs.Whole.{Whole, lanes, lane_of_grain, lane_at, part_at, part_of_picture, as_one}
+use Rattle.fc_rules.specs.GrainAnswers.{ByAccess}
+use Rattle.fc_rules.specs.LaneFits.{FitsPart}
+use Rattle.fc_rules.specs.LaneRight.{VolumeWrite, MappingFill, LaneAnswers, IsRightInLane, done_write, record_of}
+use Rattle.fc_rules.specs.LaneTold.{LaneOf, LaneTold, place_of, grains_in, access_in, told_past, sheet_entry, picture_entry}
+use Rattle.fc_rules.specs.LaneTurn.{spot_at, copied_slot, cleaned_slot}
+use Rattle.fc_parts.specs.Law.{IsAt}
+use Rattle.fc_parts.proofs.Numbers.{grain_below}
+use Rattle.fc_parts.proofs.Views.{live_parts, grains_parts}
+use Rattle.fc_parts.proofs.Told.{part_told, part_is, same_told}
+use Rattle.fc_parts.proofs.Decisions.{part_follows, faults_of_part, calls_of_part}
+use Rattle.fc_parts.proofs.Grains.{WriteAt, sheet_here, sheet_away, picture_here, picture_away}
+use Rattle.fc_parts.proofs.Outcomes.{fill_outcome, write_outcome, read_nothing, AllAt, nothing_at, outcome_at}
+use Rattle.fc_parts.proofs.Spots.{answers_by_all}
+
+-- ---- all that an entry did is at its grain
+
+access_at : (access : Access) (number : ℕ) (entry : Entry) (P : Type 0) → (P → AllAt number entry) → ByAccess access entry P → AllAt number entry
+access_at Online number entry P f a = f a
+access_at (Offline map state) number entry P f a = nothing_at number entry a.1.moves a.1.untorn
+access_at (NotAccessible map) number entry P f a = nothing_at number entry a.1.moves a.1.untorn
+
+write_at : (l : LaneOf) (told : LaneTold) (part : WritePart) (o : Option ℕ) (entry : Entry) → VolumeWrite l told part o entry → AllAt (grain_of_block l.grain part.block) entry
+write_at l told part None entry a = absurd a
+write_at l told part (Some t) entry a =
+    let spot = spot_at l told (grain_of_block l.grain part.block) in
+    outcome_at spot _ _ entry _ (write_outcome l.grain spot part t entry entry.reply a)
+
+fill_at : (l : LaneOf) (told : LaneTold) (m number : ℕ) (o : Option ℕ) (entry : Entry) → MappingFill l told m number o entry → AllAt number entry
+fill_at l told m number None entry a = absurd a
+fill_at l told m number (Some k) entry a = outcome_at (spot_at l told number) _ _ entry _ (fill_outcome (spot_at l told number) m k entry entry.reply a)
+
+pub answers_at : (l : LaneOf) (told : LaneTold) (number : ℕ) (request : Request) (entry : Entry) → IsAt l.grain number request → LaneAnswers l told request entry → AllAt number entry
+answers_at l told number (Read part) entry at a =
+    access_at (access_in told.volumes part.volume) number entry _
+    (λ r. let n = read_nothing l.grain (spot_at l told (grain_of_block l.grain part.block)) part entry entry.reply r in nothing_at number entry n.0 n.1) a
+answers_at l told number (Write part) entry at a =
+    access_at (access_in told.volumes part.volume) number entry _
+    (λ r. subst (λ (z : ℕ). AllAt z entry) at (write_at l told part (live_place told.sheet.slots part.volume.0) entry r)) a
+answers_at l told number (Copy m g) entry at a =
+    subst (λ (z : ℕ). AllAt z entry) at (fill_at l told m.0 g.0 (copied_slot told.sheet.slots m.0 (place_of l g.0)) entry a)
+answers_at l told number (Clean m g) entry at a =
+    subst (λ (z : ℕ). AllAt z entry) at (fill_at l told m.0 g.0 (cleaned_slot told.sheet.slots m.0 (place_of l g.0)) entry a)
+answers_at l told number request entry at a = absurd at
+
+done_at : (grain : GrainSize) (number : ℕ) (request : Request) (reply : Reply) → IsAt grain number request → WriteAt grain number (done_write request reply)
+done_at grain number (Write part) Done at = at
+done_at grain number (Write part) reply at = tt
+done_at grain number request reply at = tt
+
+-- ---- the lane of a grain
+
+pub lane_of : (decisions : ℕ) (w : Whole) (number : ℕ) → Stands decisions w → lane_of_grain w number < lanes w
+lane_of decisions w number stands = mod_below number (lanes w) stands.each_lane.some
+
+-- ---- right by all grains
+
+pub access : (grain : GrainSize) (decisions : ℕ) (w : Whole) (number : ℕ) (entry : Entry) → Stands decisions w → IsAt grain number entry.request →
+    IsRightInLane (lane_at grain w (lane_of_grain w number)) (part_at grain w (lane_of_grain w number)) entry →
+    AccessStep grain w number entry (after_access grain w (lane_of_grain w number) entry)
+access grain decisions w number entry stands at right =
+    let j : ℕ = lane_of_grain w number in
+    record {
+      place = right.place;
+      faults_before = right.faults_before ∙ faults_of_part grain w j;
+      faults_kept = right.faults_kept;
+      no_effects = right.no_effects;
+      answers = answers_by_all (lane_at grain w j) (lane_of decisions w number stands) (as_one w) (part_at grain w j) (part_follows grain w j) number refl entry.request entry at right.answers;
+      next_is = refl;
+    }
+
+-- ---- what lanes are told
+
+-- the plain volumes after an entry without effects
+pub plain_is : (grain : GrainSize) (picture : Picture) (entry : Entry) → entry.effects ≡ [] → plain_step grain picture entry ≡ after_loss (after_request grain picture entry.request entry.reply) entry.torn
+plain_is grain picture entry e = ap (λ (z : List Effect). after_effects grain (after_loss (after_request grain picture entry.request entry.reply) entry.torn) z) e
+
+-- a lane's part after an entry, by its fields
+part_after : (grain : GrainSize) (w : Whole) (i : ℕ) (entry : Entry) (j : ℕ) →
+    let next = after_access grain w i entry in
+    part_at grain next j ≡ part_told (lane_at grain w j) next.books.sheet next.picture (part_at grain w j).volumes (part_at grain w j).flags (part_at grain w j).pool (get_or next.faults j 0) (get_or next.calls j 0)
+unfolding part_at
+part_after grain w i entry j =
+    let next : Whole = after_access grain w i entry in
+    part_is grain next j
+    ∙ ap (λ (n : ℕ). part_told (record { lane = j; lanes = n; grain = grain }) next.books.sheet next.picture (part_at grain w j).volumes (part_at grain w j).flags (part_at grain w j).pool (get_or next.faults j 0) (get_or next.calls j 0))
+    (length-set w.faults i entry.faults_after)
+
+pub told : (grain : GrainSize) (decisions : ℕ) (w : Whole) (number : ℕ) (entry : Entry) → Stands decisions w → IsAt grain number entry.request →
+    IsRightInLane (lane_at grain w (lane_of_grain w number)) (part_at grain w (lane_of_grain w number)) entry →
+    part_at grain (after_access grain w (lane_of_grain w number) entry) (lane_of_grain w number)
+    ≡ told_past (lane_at grain w (lane_of_grain w number)) (part_at grain w (lane_of_grain w number)) (record_of entry)
+told grain decisions w number entry stands at right =
+    let j : ℕ = lane_of_grain w number in
+    let l : LaneOf = lane_at grain w j in
+    let small : LaneTold = part_at grain w j in
+    let next : Whole = after_access grain w j entry in
+    let i : j < lanes w = lane_of decisions w number stands in
+    let c : length w.calls ≡ lanes w = stands.each_lane.calls in
+    let f = part_follows grain w j in
+    let a = answers_at l small number entry.request entry at right.answers in
+    let write = done_write entry.request entry.reply in
+    let d = done_at grain number entry.request entry.reply at in
+    part_after grain w j entry j
+    ∙ same_told (part_told l next.books.sheet next.picture small.volumes small.flags small.pool (get_or next.faults j 0) (get_or next.calls j 0)) (told_past l small (record_of entry))
+    (sheet_here l i number refl w.books.sheet write entry.moves entry.torn d a.moves a.torn ∙ ap (λ (s : Sheet). sheet_entry l s write entry.moves entry.torn) (sym f.sheet))
+    (ap (part_of_picture l) (plain_is grain w.picture entry right.no_effects)
+    ∙ (picture_here l i number refl w.picture entry.request entry.reply entry.torn d a.torn ∙ ap (λ (p : Picture). picture_entry l p write entry.torn) (sym f.picture)))
+    refl
+    refl
+    refl
+    (get_or-set_same w.faults j entry.faults_after 0 i)
+    (get_or-set_same w.calls j (get_or w.calls j 0 + entry.calls) 0 (omega arith) ∙ ap (λ n. n + entry.calls) (sym (calls_of_part grain w j)))
+
+pub others : (grain : GrainSize) (decisions : ℕ) (w : Whole) (number : ℕ) (entry : Entry) (j : ℕ) → Stands decisions w → IsAt grain number entry.request →
+    IsRightInLane (lane_at grain w (lane_of_grain w number)) (part_at grain w (lane_of_grain w number)) entry →
+    j < lanes w → j ≢ lane_of_grain w number → part_at grain (after_access grain w (lane_of_grain w number) entry) j ≡ part_at grain w j
+others grain decisions w number entry j stands at right lt other =
+    let k : ℕ = lane_of_grain w number in
+    let l : LaneOf = lane_at grain w j in
+    let small : LaneTold = part_at grain w j in
+    let next : Whole = after_access grain w k entry in
+    let f = part_follows grain w j in
+    let a = answers_at (lane_at grain w k) (part_at grain w k) number entry.request entry at right.answers in
+    let write = done_write entry.request entry.reply in
+    let d = done_at grain number entry.request entry.reply at in
+    let away : number % lanes w ≢ j = λ e. other (sym e) in
+    part_after grain w k entry j
+    ∙ same_told (part_told l next.books.sheet next.picture small.volumes small.flags small.pool (get_or next.faults j 0) (get_or next.calls j 0)) small
+    (sheet_away l lt number away w.books.sheet write entry.moves entry.torn d a.moves a.torn ∙ sym f.sheet)
+    (ap (part_of_picture l) (plain_is grain w.picture entry right.no_effects) ∙ (picture_away l lt number away w.picture entry.request entry.reply entry.torn d a.torn ∙ sym f.picture))
+    refl
+    refl
+    refl
+    (get_or-set_other w.faults k j entry.faults_after 0 other ∙ sym (faults_of_part grain w j))
+    (get_or-set_other w.calls k j (get_or w.calls k 0 + entry.calls) 0 other ∙ sym (calls_of_part grain w j))
+
+-- ---- an access that isn't refused
+
+pub fits : (grain : GrainSize) (decisions : ℕ) (w : Whole) (v : Volume) (block count : ℕ) → Stands decisions w → Contains w.books.tables.volumes v →
+    1 ≤ count → block % grain_blocks grain + count ≤ grain_blocks grain → grain_of_block grain block < v.grains →
+    FitsPart (lane_at grain w (lane_of_grain w (grain_of_block grain block))) (part_at grain w (lane_of_grain w (grain_of_block grain block))) v.id block count
+fits grain decisions w v block count stands there some in_one inside =
+    let number : ℕ = grain_of_block grain block in
+    let j : ℕ = lane_of_grain w number in
+    let l : LaneOf = lane_at grain w j in
+    let small : LaneTold = part_at grain w j in
+    let i : j < lanes w = lane_of decisions w number stands in
+    let f = part_follows grain w j in
+    let p = stands.sound.agree.volumes v there in
+    let live : live_place small.sheet.slots v.id.0 ≡ Some p.0 = ap (λ (s : Sheet). live_place s.slots v.id.0) f.sheet ∙ (live_parts l i w.books.sheet.slots v.id.0 ∙ p.1) in
+    let size : volume_grains small.sheet.slots v.id.0 ≡ grains_in l v.grains =
+    ap (λ (s : Sheet). volume_grains s.slots v.id.0) f.sheet
+    ∙ (grains_parts l i w.books.sheet.slots v.id.0 ∙ ap (grains_in l) (ap (grains_at w.books.sheet.slots) p.1 ∙ p.2)) in
+    record {
+      some = some;
+      in_one = in_one;
+      of_lane = refl;
+      there = subst (λ (o : Option ℕ). IsSome o) (sym live) refl;
+      inside = subst (λ (n : ℕ). place_of l number < n) (sym size) (grain_below l i number v.grains refl inside);
+    }

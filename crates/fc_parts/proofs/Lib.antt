@@ -1,0 +1,16 @@
+pub mod Numbers
+pub mod Views
+pub mod Events
+pub mod Fitting
+pub mod Pictures
+pub mod Told
+pub mod Decisions
+pub mod Grains
+pub mod Outcomes
+pub mod Spots
+pub mod Accesses
+pub mod Staying
+pub mod Outside
+pub mod Soundness
+pub mod Standing
+pub mod Lawful

@@ -1,0 +1,6 @@
+-- Lemmas, one subject a file.
+pub mod ProgressLemmas
+pub mod TakesLemmas
+pub mod ReadingLemmas
+pub mod EndingLemmas
+pub mod HeadlineLemmas

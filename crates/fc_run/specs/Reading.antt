@@ -1,0 +1,37 @@
+-- How a line of a session is read: by the grammar, as far as the lines are built.
+use Rattle.std.specs.Prelude.{ℕ, Bool, true, false, not, cond, List, Result, Ok, Err}
+use Rattle.fc_base.specs.declared.command.Command.{Command}
+use Rattle.fc_base.specs.declared.command.Command.TheVariants.{Mkfcmap, Advance, Lsfcmap, Lsfcconsistgrp, Lsvdisk, Lsfcmapprogress, Lsfcmapdependentmaps}
+use Rattle.fc_base.specs.declared.command.Line.{Line}
+use Rattle.fc_base.specs.declared.command.Line.TheVariants.{Blank, Command as CommandLine}
+use Rattle.fc_base.specs.declared.command.Scope.TheVariants.{Free}
+use Rattle.fc_base.specs.declared.fault.WordFault.{WordFault}
+use Rattle.fc_base.specs.declared.fault.WordFault.TheVariants.{UnknownCommand}
+use Rattle.fc_legal.specs.Run.{Reading}
+use Rattle.fc_words.specs.Lines.{line_of}
+
+-- The commands that are built so far: all but incremental mappings, seconds that pass, and reports.
+abbrev pub is_built_command : Command → Bool
+is_built_command (Mkfcmap source target name group copy_rate clean_rate grain_size incremental autodelete) = not incremental
+is_built_command (Advance seconds) = false
+is_built_command (Lsfcmap m delim) = false
+is_built_command (Lsfcconsistgrp group delim) = false
+is_built_command (Lsvdisk delim) = false
+is_built_command (Lsfcmapprogress m delim) = false
+is_built_command (Lsfcmapdependentmaps m delim) = false
+is_built_command command = true
+
+-- The lines that are built so far: those of these commands, and blank ones.
+abbrev pub is_built : Line → Bool
+is_built Blank = true
+is_built (CommandLine command) = is_built_command command
+is_built _ = false
+
+-- A line that isn't built yet is told as one that there isn't.
+abbrev pub as_built : Result Line WordFault → Result Line WordFault
+as_built (Ok line) = cond (is_built line) (Ok line) (Err UnknownCommand)
+as_built (Err fault) = Err fault
+
+-- How a line of bytes is read, outside a block.
+unfoldable pub reading : Reading
+reading books line = as_built (line_of Free line)
