@@ -10,11 +10,12 @@ use Rattle.fc_legal.specs.Stands.{Stands}
 use Rattle.fc_legal.specs.Steps.{no_restarts}
 use Rattle.fc_legal.specs.Whole.{Whole}
 use Rattle.fc_decided.specs.Law.{AreSettled, DecisionLaw}
-use Rattle.fc_decided.proofs.Commands.{rmvdisk_goes, Goes, mkvdisk_goes, armfault_goes, mkfcmap_goes, rmfcmap_goes, mkfcconsistgrp_goes, rmfcconsistgrp_goes, prestartfcmap_goes, prestartfcconsistgrp_goes, startfcmap_goes, startfcconsistgrp_goes, answered_lawful, no_loop_told}
+use Rattle.fc_decided.proofs.Commands.{Goes, mkvdisk_goes, rmvdisk_goes, armfault_goes, mkfcmap_goes, rmfcmap_goes, mkfcconsistgrp_goes, rmfcconsistgrp_goes, prestartfcmap_goes, prestartfcconsistgrp_goes, startfcmap_goes, startfcconsistgrp_goes, answered_lawful, no_loop_told}
 use Rattle.fc_decided.proofs.Frame.{Suits}
 use Rattle.fc_decided.proofs.GroupStops.{stop_group_suits}
 use Rattle.fc_decided.proofs.Resting.{nothing_suits}
-use Rattle.fc_decided.proofs.Settled.{settle_lawful, settle_settles}
+use Rattle.fc_decided.proofs.Settled.{settle_settles}
+use Rattle.fc_decided.proofs.Settled.{settle_lawful}
 use Rattle.fc_decided.proofs.Suiting.{stop_suits}
 
 suits : (grain : GrainSize) (decisions : ℕ) (w : Whole) (small : decisions < 2 ^ 32) (st : Stands decisions w) → AreSettled w.books →
@@ -44,10 +45,10 @@ suits grain decisions w small st settled (Lsvdisk delim) loop told e f = nothing
 suits grain decisions w small st settled (Lsfcmapprogress m delim) loop told e f = nothing_suits grain decisions w small st
 suits grain decisions w small st settled (Lsfcmapdependentmaps m delim) loop told e f = nothing_suits grain decisions w small st
 
-decided : (grain : GrainSize) (decisions : ℕ) (w : Whole) (command : Command) (loop : Option (List VolId)) → decisions < 2 ^ 32 → Stands decisions w → AreSettled w.books →
-    IsLoopOf grain w.books command loop → IsLawful grain decisions w (decide no_restarts grain w.books command loop)
-decided grain decisions w command loop small st settled told =
+-- Every decision on a command.
+decided_lawful : (grain : GrainSize) (decisions : ℕ) (w : Whole) (command : Command) (loop : Option (List VolId)) → decisions < 2 ^ 32 → Stands decisions w → AreSettled w.books → IsLoopOf grain w.books command loop → IsLawful grain decisions w (decide no_restarts grain w.books command loop)
+decided_lawful grain decisions w command loop small st settled told =
     answered_lawful grain decisions w small st command (refused grain w.books command) loop (λ e f. suits grain decisions w small st settled command loop told e f)
 
 pub decision_law_holds : DecisionLaw
-decision_law_holds = record { settled = settle_lawful; settles = settle_settles; decided = decided }
+decision_law_holds = record { settled = settle_lawful; settles = settle_settles; decided = decided_lawful }
