@@ -11,6 +11,15 @@ pub mod Unrefused
 pub mod Apart
 pub mod Working
 pub mod Frame
+pub mod Rows
+pub mod TableSteps
+pub mod Ends
+pub mod Joint
+pub mod Quiet
+pub mod Plain
+pub mod Forced
+pub mod Stops
+pub mod ForceStops
 pub mod Resting
 pub mod Setting
 pub mod Reaching
@@ -29,3 +38,10 @@ pub mod Quiet
 pub mod Plain
 pub mod Forced
 pub mod Stops
+pub mod Receiving
+pub mod Copying
+pub mod Turns
+pub mod Triggering
+pub mod Preparing
+pub mod Starting
+pub mod Suiting

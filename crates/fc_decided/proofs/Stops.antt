@@ -103,20 +103,20 @@ slot_of b m live h =
       slot = f.2.is;
     }
 
-copying_seen : (b : Books) (pending : ℕ → Type 0) (m : Mapping) → Standing b b.sheet.slots pending → Contains b.tables.mappings m → (pending m.id.0 → ⊥) → m.state ≡ Copying → HasSeen (seen b.sheet.slots m.id.0) m.target.0 true
+pub copying_seen : (b : Books) (pending : ℕ → Type 0) (m : Mapping) → Standing b b.sheet.slots pending → Contains b.tables.mappings m → (pending m.id.0 → ⊥) → m.state ≡ Copying → HasSeen (seen b.sheet.slots m.id.0) m.target.0 true
 copying_seen b pending m st found free e = subst (λ (z : MapState). StateSeen z (seen b.sheet.slots m.id.0) m.target.0) e (st.joint.by_state m found free)
 
 pub not_needed : (b : Books) (m : Mapping) (k : ℕ) → mapping_place b.sheet.slots m.id.0 ≡ Some k → is_needed b m ≡ false → IsNeeded b.sheet.slots k → ⊥
 not_needed b m k place e =
     uncounted_free b.sheet.slots k (not_counted (needed_at b.sheet.slots (Some k)) (ap (λ o. nat_lt 0 (needed_at b.sheet.slots o)) (sym place) ∙ e))
 
-busy_copying : (m : Mapping) → m.state ≡ Copying → is_idle m.state ≡ false
+pub busy_copying : (m : Mapping) → m.state ≡ Copying → is_idle m.state ≡ false
 busy_copying m e = ap is_idle e
 
-follows : (b : Books) (m : Mapping) (state : MapState) → Contains b.tables.mappings m → is_idle m.state ≡ false → state ≢ Empty → Follows b m (in_state state (as_left b m))
+pub follows : (b : Books) (m : Mapping) (state : MapState) → Contains b.tables.mappings m → is_idle m.state ≡ false → state ≢ Empty → Follows b m (in_state state (as_left b m))
 follows b m state found busy ok = record { found = found; id = refl; name = refl; source = refl; target = refl; group = refl; state = ok; busy = busy }
 
-same_follows : (b : Books) (m : Mapping) (state : MapState) → Contains b.tables.mappings m → is_idle m.state ≡ false → state ≢ Empty → Follows b m (in_state state m)
+pub same_follows : (b : Books) (m : Mapping) (state : MapState) → Contains b.tables.mappings m → is_idle m.state ≡ false → state ≢ Empty → Follows b m (in_state state m)
 same_follows b m state found busy ok = record { found = found; id = refl; name = refl; source = refl; target = refl; group = refl; state = ok; busy = busy }
 
 -- what its end says of plain volumes

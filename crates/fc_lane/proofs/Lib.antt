@@ -13,3 +13,8 @@ pub mod Counting
 pub mod LaneEvents
 pub mod StepsMade
 pub mod StepsLoop
+pub mod Reading
+pub mod ReadAnswers
+pub mod WritePrepare
+pub mod WriteOwn
+pub mod WriteAll

@@ -137,7 +137,7 @@ changed_same old new f id keeps kind size due t e =
 abbrev failed_of : Bool → GrainsState → GrainsState → Type 0
 failed_of failed old new = failed ≡ true → HasRisen old.faults new.faults
 
-risen_then : (a b c : ℕ) → a ≤ b → HasRisen b c → HasRisen a c
+pub risen_then : (a b c : ℕ) → a ≤ b → HasRisen b c → HasRisen a c
 risen_then a b c le (inl lt) = inl (omega arith)
 risen_then a b c le (inr e) = inr e
 

@@ -78,7 +78,7 @@ calls_push xs x =
 
 -- ---- whether a grain is lost
 
-lost_same : (c : Content) → lost_in c ≡ is_lost c
+pub lost_same : (c : Content) → lost_in c ≡ is_lost c
 lost_same (Bytes bytes) = refl
 lost_same Lost = refl
 

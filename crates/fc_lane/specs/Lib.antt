@@ -5,3 +5,5 @@ pub mod Lane
 pub mod Standing
 pub mod Moving
 pub mod StepsEnd
+pub mod Reading
+pub mod WriteStep

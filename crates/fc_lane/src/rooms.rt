@@ -10,6 +10,9 @@ use fc_base::outcome::NoMemory;
 use fc_mdisk::mdisk::Mdisk;
 use std::alloc::Global;
 
+/// More volumes than this have no room in memory.
+const MOST_VOLUMES: usize = 1 << 30;
+
 /// For how many moves there is room.
 fn room_in(spare: &Option<MovePlan>) -> usize
     ensures { result ≡ room_of spare.now }
@@ -64,6 +67,9 @@ impl<D: Mdisk> Lane<D> {
         ensures entry_room { self.old.entry_room ≤ self.new.entry_room }
     {
         let volumes = self.body.cascade.volumes();
+        if volumes >= MOST_VOLUMES {
+            return Err(NoMemory);
+        }
         match widen(alloc, &mut self.plan, volumes) {
             Ok(()) => widen_spare(alloc, &mut self.spare, volumes),
             Err(NoMemory) => Err(NoMemory),

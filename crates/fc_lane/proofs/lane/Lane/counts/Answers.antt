@@ -1,4 +1,4 @@
-use Rattle.std.proofs.Common.{rules, ◌≡◌, subst}
+use Rattle.std.proofs.Common.{◌≡◌, subst}
 use Rattle.fc_base.specs.Sheet.{mapping_place}
 use Rattle.fc_base.specs.SheetView.{count_true, held_of, needed_of}
 use Rattle.fc_lane.specs.Lane.{LaneView}

@@ -1,0 +1,2 @@
+-- What contracts of the store cite.
+pub mod Store
