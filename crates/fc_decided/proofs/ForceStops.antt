@@ -1,5 +1,5 @@
 -- A stop by force, and any stop of one mapping that isn't refused.
-use Rattle.std.proofs.Common.{◌≡◌, ◌≢◌, ℕ, ◌+◌, ◌≤◌, Bool, true, false, cond, if◌then◌else◌, Option, Some, None, List, [], ◌∷◌, length, map, fold, refl, sym, ap, subst, ◌∙◌, arith, Contains, inl, inr}
+use Rattle.std.proofs.Common.{◌≡◌, ◌≢◌, ℕ, ◌+◌, ◌≤◌, Bool, true, false, cond, if◌then◌else◌, Option, Some, None, [], ◌∷◌, length, map, fold, refl, sym, ap, subst, ◌∙◌, arith, Contains, inl, inr}
 use Rattle.std.specs.List.{count_by, filter}
 use Rattle.std.proofs.lemmas.Bool.{both_ways}
 use Rattle.std.proofs.lemmas.List.{length-map}
@@ -12,7 +12,6 @@ use Rattle.fc_base.specs.declared.command.StopWay.{StopWay}
 use Rattle.fc_base.specs.declared.command.StopWay.TheVariants.{Plain, Force, Split}
 use Rattle.fc_base.specs.declared.decision.LaneEvent.{LaneEvent}
 use Rattle.fc_base.specs.declared.decision.LaneEvent.TheVariants.{Retire, Detach, Split as SplitOff, Force as ForceOut}
-use Rattle.fc_base.specs.declared.ids.MapId.{MapId}
 use Rattle.fc_base.specs.declared.size.GrainSize.{GrainSize}
 use Rattle.fc_base.specs.declared.state.MapEvent.TheVariants.{StopForce}
 use Rattle.fc_base.specs.declared.state.MapState.{MapState}
@@ -76,9 +75,6 @@ dependent_apart b m k place deps d found e =
 
 forced_sheet : Books → Mapping → Sheet
 forced_sheet b m = fold forced_map b.sheet (m.id ∷ map (λ (d : Mapping). d.id) (dependents b m))
-
-forced_ids : Books → Mapping → List MapId
-forced_ids b m = map (λ (d : Mapping). d.id) (dependents b m)
 
 -- what is still to end: the mapping and its dependents, then they alone
 Forced : Books → Mapping → ℕ → Type 0
@@ -216,7 +212,7 @@ idle_none o v e = e
 stopped_none : (o : Option Seen) (v : ℕ) → o ≡ None → StateSeen Stopped o v
 stopped_none o v e = e
 
-more_births : (grain : GrainSize) (b : Books) (picture : Picture) (deed : Deed) (n m : ℕ) → n ≤ m → Goes grain b picture deed n → Goes grain b picture deed m
+pub more_births : (grain : GrainSize) (b : Books) (picture : Picture) (deed : Deed) (n m : ℕ) → n ≤ m → Goes grain b picture deed n → Goes grain b picture deed m
 more_births grain b picture deed n m le g =
     record {
       table = g.table;
@@ -294,3 +290,17 @@ pub stops_goes : (grain : GrainSize) (b : Books) (m : Mapping) (picture : Pictur
     Goes grain b picture (stops way b m) (length b.tables.mappings + 1)
 unfolding stops
 stops_goes grain b m picture way s found may = state_goes grain b m picture way m.state s found refl may
+
+-- ---- the deed of a split
+
+split_deed : (b : Books) (m : Mapping) (whole needed : Bool) → whole ≡ true → copying_deed Split b m whole needed ≡ (told (SplitOff m.id ∷ []) then ((cut_of b m then ends_in IdleOrCopied (as_left b m)) then nothing))
+unfolding copying_deed
+split_deed b m true needed e = refl
+split_deed b m false needed e = absurd cc
+
+stops_by_state : (way : StopWay) (b : Books) (m : Mapping) (state : MapState) → m.state ≡ state → stops way b m ≡ stops_in state way b m
+unfolding stops
+stops_by_state way b m state e = ap (λ z. stops_in z way b m) e
+
+pub split_is : (b : Books) (m : Mapping) → m.state ≡ Copying → is_whole b m ≡ true → stops Split b m ≡ (told (SplitOff m.id ∷ []) then ((cut_of b m then ends_in IdleOrCopied (as_left b m)) then nothing))
+split_is b m copying whole = stops_by_state Split b m Copying copying ∙ copying_is b m Split ∙ split_deed b m (is_whole b m) (is_needed b m) whole

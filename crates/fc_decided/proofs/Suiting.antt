@@ -98,7 +98,7 @@ goes_suits grain decisions w deed births small st g few =
 -- ---- a stop of a mapping
 
 -- a state in which the stop is allowed
-may_copying : (b : Books) (m : Mapping) (way : StopWay) → not_complete way b m ≡ None → way ≡ Split → is_whole b m ≡ true
+pub may_copying : (b : Books) (m : Mapping) (way : StopWay) → not_complete way b m ≡ None → way ≡ Split → is_whole b m ≡ true
 may_copying b m Split e same = not-false (is_whole b m) (none_where (not (is_whole b m)) (NotComplete (held b m) (total b m)) e)
   where
     not-false : (x : Bool) → not x ≡ false → x ≡ true

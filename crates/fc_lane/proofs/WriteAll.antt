@@ -1,8 +1,7 @@
 -- A write with all its moves.
-use Rattle.std.proofs.Common.{◌≡◌, ℕ, ◌+◌, ◌<◌, ◌≤◌, true, false, Option, Some, None, List, [], ◌∷◌, ◌++◌, map, is_some, refl, sym, ap, subst, ◌∙◌, arith, append_assoc}
-use Rattle.fc_base.specs.Count.{HasRisen}
+use Rattle.std.proofs.Common.{◌≡◌, ℕ, ◌+◌, ◌≤◌, true, false, Option, Some, None, List, [], ◌∷◌, ◌++◌, map, is_some, refl, sym, ap, subst, ◌∙◌, append_assoc}
 use Rattle.fc_base.specs.Moves.{write_moves}
-use Rattle.fc_base.specs.Sheet.{Sheet, slot_at, column}
+use Rattle.fc_base.specs.Sheet.{Sheet}
 use Rattle.fc_base.specs.declared.request.Move.{Move}
 use Rattle.fc_base.specs.declared.request.Torn.{Torn}
 use Rattle.fc_base.specs.declared.request.WritePart.{WritePart}
@@ -10,10 +9,9 @@ use Rattle.fc_chain.specs.Chains.{Chains}
 use Rattle.fc_entry.specs.Picture.{grain_of_block}
 use Rattle.fc_entry.specs.Right.{calls_of_write}
 use Rattle.fc_grains.specs.Grains.{GrainsState}
-use Rattle.fc_lane.specs.Moving.{Counted}
 use Rattle.fc_lane.specs.Standing.{Stands}
-use Rattle.fc_lane.specs.StepsEnd.{CanMakeMoves, FailedIn, RefusedIn, StandsAt, StepsEnd, StepsStand, StoppedIn, torn_in}
-use Rattle.fc_lane.specs.WriteStep.{CanWriteOwn, IsPlannedWrite, IsWrite, OwnEnds, OwnStands, spot_of, write_in}
+use Rattle.fc_lane.specs.StepsEnd.{CanMakeMoves, StepsEnd, StepsStand, StoppedIn, torn_in}
+use Rattle.fc_lane.specs.WriteStep.{CanWriteOwn, IsPlannedWrite, OwnEnds, OwnStands, spot_of, write_in}
 use Rattle.fc_lane.specs.declared.stop.Stop.{Stop}
 use Rattle.fc_lane.specs.declared.stop.Stop.TheVariants.{Failed, NoMemory}
 use Rattle.fc_lane.proofs.Moving.{risen_then, same_then}
@@ -25,7 +23,7 @@ use Rattle.fc_pictures.proofs.Running.{steps_law_holds}
 use Rattle.fc_rules.specs.LaneTold.{LaneOf, LaneTold, place_of, sheet_entry, sheet_tear, sheet_write}
 use Rattle.fc_rules.specs.LaneTurn.{spot_at}
 use Rattle.fc_rules.specs.Spot.{Spot, move_in}
-use Rattle.fc_rules.specs.Steps.{Step, calls_of, moves_of, own_step, step_of_move, steps_of_write}
+use Rattle.fc_rules.specs.Steps.{Step, own_step, step_of_move, steps_of_write}
 use Rattle.fc_sheets.proofs.Finding.{live_place_at}
 
 -- ---- steps with one more at the end

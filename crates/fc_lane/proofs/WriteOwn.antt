@@ -1,11 +1,10 @@
 -- The write itself, once its moves are made: what it needs, and what stands after it.
-use Rattle.std.proofs.Common.{◌≡◌, ℕ, ◌+◌, ◌*◌, ◌<◌, ◌≤◌, ◌%◌, ◌/◌, ◌==◌, ◌&&◌, Bool, true, false, not, cond, eqb, Option, Some, None, Result, Ok, Err, List, [], ◌∷◌, ◌++◌, length, map, refl, sym, ap, subst, ◌∙◌, arith, inl, inr, append-nil}
+use Rattle.std.proofs.Common.{◌≡◌, ℕ, ◌+◌, ◌*◌, ◌<◌, ◌≤◌, ◌%◌, ◌/◌, ◌==◌, ◌&&◌, Bool, true, false, not, cond, eqb, Option, Some, None, Ok, Err, List, [], length, refl, sym, ap, subst, ◌∙◌, arith, append-nil}
 use Rattle.std.proofs.lemmas.Bool.{eq-eqb}
-use Rattle.fc_base.specs.Column.{Shape, holder}
-use Rattle.fc_base.specs.Count.{HasRisen}
+use Rattle.fc_base.specs.Column.{holder}
 use Rattle.fc_base.specs.Grain.{block_bytes, grain_blocks, grain_bytes}
 use Rattle.fc_base.specs.Moves.{after_moves, write_moves}
-use Rattle.fc_base.specs.Sheet.{Slot, Sheet, slot_at, shape_of, column, live_place, slot_id, birth_place}
+use Rattle.fc_base.specs.Sheet.{Sheet, slot_at, shape_of, column, live_place, slot_id, birth_place}
 use Rattle.fc_base.specs.SheetFacts.{IsSound}
 use Rattle.fc_base.specs.SheetFits.{FitsTaken, FitsLost}
 use Rattle.fc_base.specs.SheetStep.{sheet_torn, sheet_written}
@@ -23,11 +22,10 @@ use Rattle.fc_entry.specs.Picture.{Content, Bytes, Lost, byte_in_grain, grain_of
 use Rattle.fc_entry.specs.Right.{calls_of_write, is_lost, is_whole}
 use Rattle.fc_grains.specs.Calls.{HasWritten}
 use Rattle.fc_grains.specs.Grains.{GrainsState}
-use Rattle.fc_grains.specs.Volumes.{VolumeGrains, is_there, volume_of, stored}
+use Rattle.fc_grains.specs.Volumes.{is_there, volume_of, stored}
 use Rattle.fc_lane.specs.Moving.{Counted, SameLane}
-use Rattle.fc_lane.specs.Parts.{SameVolumes}
-use Rattle.fc_lane.specs.Standing.{AllSized, Stands}
-use Rattle.fc_lane.specs.WriteStep.{CanWriteOwn, IsInGrain, IsPrepared, OwnEnds, OwnFailed, OwnStands, spot_of}
+use Rattle.fc_lane.specs.Standing.{AllSized}
+use Rattle.fc_lane.specs.WriteStep.{CanWriteOwn, IsInGrain, IsPrepared, OwnEnds, OwnStands, spot_of}
 use Rattle.fc_lane.specs.declared.body.StepEnd.{StepEnd}
 use Rattle.fc_lane.specs.declared.stop.Stop.{Stop}
 use Rattle.fc_lane.specs.declared.stop.Stop.TheVariants.{Failed, NoMemory}
@@ -42,12 +40,11 @@ use Rattle.fc_pictures.proofs.Agreeing.{lane_law_holds}
 use Rattle.fc_pictures.proofs.Lawful.{picture_law_holds}
 use Rattle.fc_pictures.proofs.Running.{steps_law_holds}
 use Rattle.fc_pictures.proofs.Staying.{stored_shows}
-use Rattle.fc_rules.specs.GrainAnswers.{cannot_write}
 use Rattle.fc_rules.specs.LaneTold.{LaneOf, LaneTold, place_of}
-use Rattle.fc_rules.specs.Spot.{Spot, is_lost as lost_in}
-use Rattle.fc_rules.specs.Steps.{Step, is_of_volume, own_step, reads_own, torn_by}
+use Rattle.fc_rules.specs.Spot.{Spot}
+use Rattle.fc_rules.specs.Steps.{Step, is_of_volume, own_step, reads_own}
 use Rattle.fc_sheets.proofs.Columns.{shape_torn, shape_written}
-use Rattle.fc_sheets.proofs.Finding.{LiveAt, live_place_at, live_place_is}
+use Rattle.fc_sheets.proofs.Finding.{live_place_at, live_place_is}
 
 -- ---- the live slot of a volume, by its name
 
@@ -262,7 +259,7 @@ module _ (l : LaneOf) (told : LaneTold) (part : WritePart) (t : ℕ) (chains : C
         subst (λ (c : Content). StoredAt (stored old.volumes) part.volume.0 g c (stored new.volumes)) content
         (subst (λ (y : ℕ). StoredAt (stored old.volumes) part.volume.0 y (Bytes mid.buffer) (stored new.volumes)) at st) in
         let agrees = lane_law_holds.written l told part t (stored old.volumes) (stored new.volumes) can.is.sound can.is.place can.is.live
-            (record { sound = can.stands.sound; shows = can.stands.shows }) written_at in (
+        (record { sound = can.stands.sound; shows = can.stands.shows }) written_at in (
           refl,
           record {
             chains_are = is ∙ (λ i. record chains { sheet = sheet_written part.volume.0 (q i / can.lanes_are i) (can.sheet_is i) });
@@ -284,8 +281,8 @@ module _ (l : LaneOf) (told : LaneTold) (part : WritePart) (t : ℕ) (chains : C
         let d = failed_done {A = A} mid new part.volume.0 place x.0 w in
         let st = stored_after old.volumes mid.volumes new.volumes part.volume.0 place Lost p.stored_same (failed_stored {A = A} mid new part.volume.0 place x.0 x.1 w) in
         let agrees = lane_law_holds.torn_write l told part t (stored old.volumes) (stored new.volumes) can.is.sound can.is.place can.is.live
-            (record { sound = can.stands.sound; shows = can.stands.shows })
-            (subst (λ (y : ℕ). StoredAt (stored old.volumes) part.volume.0 y Lost (stored new.volumes)) at st) in
+        (record { sound = can.stands.sound; shows = can.stands.shows })
+        (subst (λ (y : ℕ). StoredAt (stored old.volumes) part.volume.0 y Lost (stored new.volumes)) at st) in
         let torn_is : torn ≡ torn_of spot own = r ∙ (λ i. record { volume = record { 0 = sym named i }; grain = record { 0 = q i }; side = s i }) in
         let counted = calls_all true d.counted in (
           record {
@@ -295,16 +292,16 @@ module _ (l : LaneOf) (told : LaneTold) (part : WritePart) (t : ℕ) (chains : C
             risen = counted.risen refl;
           },
           subst (λ (z : Torn). OwnStands l told part t None (calls_of_write l.grain part) (Some z) chains old after new) (sym torn_is)
-          (record {
-            chains_are = is ∙ (λ i. record chains { sheet = sheet_torn (sym named i) (q i / can.lanes_are i) (s i) (can.sheet_is i) });
-            stands = record {
-              sound = agrees.sound;
-              sized = after_sized (sheet_torn (slot_at told.sheet.slots t).volume g lost_side before) (shape_torn before (slot_at told.sheet.slots t).volume g lost_side) (size_torn (slot_at told.sheet.slots t).volume g lost_side before) d.same;
-              shows = agrees.shows;
-            };
-            counted = counted_any old new (calls_of_write l.grain part) true counted;
-            same = same_then old mid new p.same d.same;
-          }),
+              (record {
+                chains_are = is ∙ (λ i. record chains { sheet = sheet_torn (sym named i) (q i / can.lanes_are i) (s i) (can.sheet_is i) });
+                stands = record {
+                  sound = agrees.sound;
+                  sized = after_sized (sheet_torn (slot_at told.sheet.slots t).volume g lost_side before) (shape_torn before (slot_at told.sheet.slots t).volume g lost_side) (size_torn (slot_at told.sheet.slots t).volume g lost_side before) d.same;
+                  shows = agrees.shows;
+                };
+                counted = counted_any old new (calls_of_write l.grain part) true counted;
+                same = same_then old mid new p.same d.same;
+              }),
         )
       where
         same_calls : (n : ℕ) (x : Torn) → cond (eqb n n) (Some x) None ≡ Some x

@@ -1,5 +1,5 @@
 -- What is written: the part's bytes, and the rest of the grain.
-use Rattle.std.proofs.Common.{◌≡◌, ◌≢◌, ℕ, ◌+◌, ◌*◌, ◌≤◌, ◌<◌, ◌==◌, Bool, true, false, cond, List, ◌++◌, length, take, drop, replicate, refl, sym, ◌∙◌, ap, subst, arith, append-nil}
+use Rattle.std.proofs.Common.{◌≡◌, ◌≢◌, ℕ, ◌+◌, ◌*◌, Bool, true, false, cond, List, ◌++◌, length, take, drop, replicate, refl, sym, ◌∙◌, ap, subst, arith, append-nil}
 use Rattle.std.proofs.lemmas.Bool.{eq-eqb, ne_eqb}
 use Rattle.std.proofs.lemmas.List.{drop_all}
 use Rattle.fc_base.specs.Grain.{block_bytes, grain_blocks, grain_bytes}
@@ -13,7 +13,7 @@ use Rattle.fc_grains.specs.Grains.{GrainsState}
 use Rattle.fc_grains.specs.Volumes.{is_there, stored}
 use Rattle.fc_lane.specs.Moving.{Counted, SameLane}
 use Rattle.fc_lane.specs.WriteStep.{IsInGrain, IsPrepared}
-use Rattle.fc_lane.proofs.Moving.{not_counted, counted_then, read_done, same_lane, same_then}
+use Rattle.fc_lane.proofs.Moving.{not_counted, counted_then, read_done, same_then}
 
 pub bytes_of_blocks : (grain : GrainSize) → block_bytes * grain_blocks grain ≡ grain_bytes grain
 bytes_of_blocks K64 = refl

@@ -3,7 +3,7 @@ use Rattle.std.specs.Prelude.{◌≡◌, ℕ, ◌+◌, ◌*◌, ◌≤◌, Bool,
 use Rattle.fc_base.specs.Count.{HasRisen}
 use Rattle.fc_base.specs.Grain.{block_bytes, grain_bytes}
 use Rattle.fc_base.specs.Moves.{write_moves}
-use Rattle.fc_base.specs.Sheet.{live_place, column}
+use Rattle.fc_base.specs.Sheet.{live_place}
 use Rattle.fc_base.specs.SheetFacts.{IsSound}
 use Rattle.fc_base.specs.declared.request.Move.{Move}
 use Rattle.fc_base.specs.declared.request.Torn.{Torn}
@@ -17,7 +17,7 @@ use Rattle.fc_grains.specs.Volumes.{stored}
 use Rattle.fc_lane.specs.Moving.{Counted, SameLane}
 use Rattle.fc_lane.specs.Parts.{SameVolumes}
 use Rattle.fc_lane.specs.Standing.{Stands}
-use Rattle.fc_lane.specs.StepsEnd.{StandsAt, torn_in}
+use Rattle.fc_lane.specs.StepsEnd.{StandsAt}
 use Rattle.fc_lane.specs.declared.stop.Stop.{Stop}
 use Rattle.fc_lane.specs.declared.stop.Stop.TheVariants.{Failed, NoMemory}
 use Rattle.fc_pictures.specs.LaneLaw.{sheet_before_write}

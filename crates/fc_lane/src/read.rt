@@ -14,13 +14,13 @@ ghost use Rattle.fc_rules.specs.LaneTold.{LaneTold, access_in, told_past};
 
 use crate::body::Body;
 use crate::lane::Lane;
+use crate::write_step::start_in_grain;
 use fc_base::ids::VolId;
 use fc_base::limits::BLOCK_BYTES;
 use fc_base::list::List;
 use fc_base::outcome::{Failed, NoMemory};
 use fc_base::request::{Place, ReadPart, Reply, Request};
 use fc_base::runs::Runs;
-use fc_base::size::GrainSize;
 use fc_base::state::Access;
 use fc_entry::entry::Entry;
 use fc_grains::grains::Grains;
@@ -38,20 +38,13 @@ pub(crate) enum GrainRead {
     Failed,
 }
 
-/// The place in its grain of a block's first byte.
-fn first_byte(grain: GrainSize, block: u64) -> u32
-    ensures { result ≡ byte_in_grain grain block }
-{
-    BLOCK_BYTES * (block % grain.blocks() as u64) as u32
-}
-
 /// The part's bytes of the grain at hand.
 fn runs_of<D: Mdisk>(grains: &Grains<D>, alloc: Global, part: &ReadPart) -> Result<Runs, NoMemory>
     requires { byte_in_grain grains.now.grain part.now.block + block_bytes * part.now.count ≤ grain_bytes grains.now.grain }
     ensures expands { IfOk result (λ runs. expanded runs ≡ take (block_bytes * part.now.count) (drop (byte_in_grain grains.now.grain part.now.block) grains.now.buffer)) }
     ensures canonical { IfOk result (λ runs. IsCanonical runs) }
 {
-    let start = first_byte(grains.grain(), part.block) as usize;
+    let start = start_in_grain(grains.grain(), part.block) as usize;
     let len = (BLOCK_BYTES * part.count) as usize;
     Runs::of(alloc, &grains.buffer()[start..start + len])
 }
@@ -64,10 +57,7 @@ impl<D: Mdisk> Body<D> {
         ensures ends { ReadEnds self.old.cascade.sheet self.old.grains volume.0 place result self.new.grains }
         ensures chains { self.new.cascade ≡ self.old.cascade }
     {
-        let Some(slot) = self.cascade.live(volume) else {
-            unreachable!()
-        };
-        let source = self.source_of(slot, grain);
+        let source = self.shown_by(volume, grain);
         if self.grains.is_lost(source, place) {
             return GrainRead::IsLost;
         }

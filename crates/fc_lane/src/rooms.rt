@@ -10,8 +10,8 @@ use fc_base::outcome::NoMemory;
 use fc_mdisk::mdisk::Mdisk;
 use std::alloc::Global;
 
-/// More volumes than this have no room in memory.
-const MOST_VOLUMES: usize = 1 << 30;
+/// No lane has so many volumes, since it begins with fewer disks.
+const TOO_MANY: usize = 1_073_741_824;
 
 /// For how many moves there is room.
 fn room_in(spare: &Option<MovePlan>) -> usize
@@ -67,7 +67,7 @@ impl<D: Mdisk> Lane<D> {
         ensures entry_room { self.old.entry_room ≤ self.new.entry_room }
     {
         let volumes = self.body.cascade.volumes();
-        if volumes >= MOST_VOLUMES {
+        if volumes >= TOO_MANY {
             return Err(NoMemory);
         }
         match widen(alloc, &mut self.plan, volumes) {

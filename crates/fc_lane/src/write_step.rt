@@ -27,7 +27,7 @@ use fc_grains::grains::Grains;
 use fc_mdisk::mdisk::Mdisk;
 
 /// The place in its grain of a block's first byte.
-fn start_in_grain(grain: GrainSize, block: u64) -> u32
+pub(crate) fn start_in_grain(grain: GrainSize, block: u64) -> u32
     ensures { result ≡ byte_in_grain grain block }
 {
     BLOCK_BYTES * (block % grain.blocks() as u64) as u32

@@ -1,5 +1,5 @@
 -- An access in the lane of its grain: the entry is right, and the store stands for what it leaves.
-use Rattle.std.proofs.Common.{◌≡◌, ◌≢◌, ℕ, ◌+◌, ◌*◌, ◌^◌, ◌<◌, ◌≤◌, ◌%◌, List, length, slice_index_or, slice_set, refl, sym, ◌∙◌, ap, subst, arith, Dec, inl, inr}
+use Rattle.std.proofs.Common.{◌≡◌, ◌≢◌, ℕ, ◌+◌, ◌*◌, ◌^◌, ◌<◌, ◌≤◌, ◌%◌, List, length, slice_index_or, slice_set, refl, sym, ◌∙◌, ap, subst, arith, ◌⊎◌, inl, inr, [], ◌∷◌}
 use Rattle.fc_base.specs.declared.request.Request.{Request}
 use Rattle.fc_base.specs.declared.request.Request.TheVariants.{Read, Write, Copy, Clean}
 use Rattle.fc_base.specs.declared.size.GrainSize.{GrainSize}
@@ -14,6 +14,7 @@ use Rattle.fc_parts.specs.Law.{IsAt}
 use Rattle.fc_rules.specs.LaneRight.{IsRightInLane, record_of}
 use Rattle.fc_rules.specs.LaneTold.{LaneTold, told_past}
 use Rattle.fc_store.specs.Store.{StoreView, IsLaneAt, AreLanesOf, AreFewCalls, StandsFor}
+use Rattle.std.proofs.lemmas.Bool.{cases_eq}
 use Rattle.std.proofs.lemmas.List.{get_or-set_same, get_or-set_other, length-set}
 use Rattle.fc_base.specs.declared.command.Command.{Command}
 use Rattle.fc_base.specs.declared.fault.WordFault.{WordFault}
@@ -80,40 +81,34 @@ each_stands :
     IsLane grain w (lane_of_grain w number) v →
     IsLaneOf v (told_past (lane_at grain w (lane_of_grain w number)) (part_at grain w (lane_of_grain w number)) (record_of entry)) →
     AreLanesOf grain (after_access grain w (lane_of_grain w number) entry) (slice_set ls (lane_of_grain w number) v)
-each_stands grain decisions w number entry ls v stands count each at right same now j d inside = by (nat_dec j i)
+each_stands grain decisions w number entry ls v stands count each at right same now j d inside = by (cases_eq j (lane_of_grain w number))
   where
-    i : ℕ
-    i = lane_of_grain w number
-
-    next : Whole
-    next = after_access grain w i entry
-
     within : j < length ls
-    within = omega (arith, length-set ls i v)
+    within = omega (arith, inside, length-set ls (lane_of_grain w number) v)
 
-    by : Dec (j ≡ i) → IsLaneAt grain next j (slice_index_or (slice_set ls i v) j d)
+    by : (j ≡ lane_of_grain w number) ⊎ (j ≢ lane_of_grain w number) → IsLaneAt grain (after_access grain w (lane_of_grain w number) entry) j (slice_index_or (slice_set ls (lane_of_grain w number) v) j d)
     by (inl here) =
-        let P : ℕ → Type 0 = λ k. IsLaneAt grain next k (slice_index_or (slice_set ls i v) k d) in
-        let Q : LaneView → Type 0 = λ x. IsLaneAt grain next i x in
+        let P : ℕ → Type 0 = λ k. IsLaneAt grain (after_access grain w (lane_of_grain w number) entry) k (slice_index_or (slice_set ls (lane_of_grain w number) v) k d) in
+        let Q : LaneView → Type 0 = λ x. IsLaneAt grain (after_access grain w (lane_of_grain w number) entry) (lane_of_grain w number) x in
         let R : LaneTold → Type 0 = λ told. IsLaneOf v told in
         subst P (sym here)
-        (subst Q (sym (get_or-set_same ls i v d (subst (λ k. k < length ls) here within)))
+        (subst Q (sym (get_or-set_same ls (lane_of_grain w number) v d (subst (λ k. k < length ls) here within)))
         record {
           lane = same.0;
-          lanes_are = same.1 ∙ sym (lanes_stay grain w i entry);
+          lanes_are = same.1 ∙ sym (lanes_stay grain w (lane_of_grain w number) entry);
           grain_is = same.2;
           stands = subst R (sym (part_law_holds.told grain decisions w number entry stands at right)) now;
         })
     by (inr other) =
         let old : IsLaneAt grain w j (slice_index_or ls j d) = each j d within in
-        let Q : LaneView → Type 0 = λ x. IsLaneAt grain next j x in
+        let Q : LaneView → Type 0 = λ x. IsLaneAt grain (after_access grain w (lane_of_grain w number) entry) j x in
         let R : LaneTold → Type 0 = λ told. IsLaneOf (slice_index_or ls j d) told in
-        subst Q (sym (get_or-set_other ls i j v d other))
+        subst Q (sym (get_or-set_other ls (lane_of_grain w number) j v d other))
         record {
           lane = old.lane;
-          lanes_are = old.lanes_are ∙ sym (lanes_stay grain w i entry);
+          lanes_are = old.lanes_are ∙ sym (lanes_stay grain w (lane_of_grain w number) entry);
           grain_is = old.grain_is;
-          stands = subst R (sym (part_law_holds.others grain decisions w number entry j stands at right (omega (arith, count)) other)) old.stands;
+          stands = subst R (sym (part_law_holds.others grain decisions w number entry j stands at right (omega (arith, count, within)) other)) old.stands;
         }
 
 -- Its calls stay few.
@@ -122,7 +117,7 @@ few_stay :
     entry.calls ≤ 2 ^ 32 →
     AreFewCalls w →
     AreFewCalls (after_access grain w i entry)
-few_stay grain w i entry few calls j = by (nat_dec j i)
+few_stay grain w i entry few calls j = by (cases_eq j i)
   where
     more : ℕ
     more = slice_index_or w.calls i 0 + entry.calls
@@ -133,7 +128,7 @@ few_stay grain w i entry few calls j = by (nat_dec j i)
     set_at (y ∷ xs) ℕ.zero x bound le = le
     set_at (y ∷ xs) (ℕ.suc i) x bound le = set_at xs i x bound le
 
-    by : Dec (j ≡ i) → slice_index_or (slice_set w.calls i more) j 0 ≤ (w.entries + 1) * 2 ^ 32
+    by : (j ≡ i) ⊎ (j ≢ i) → slice_index_or (slice_set w.calls i more) j 0 ≤ (w.entries + 1) * 2 ^ 32
     by (inl here) =
         let P : ℕ → Type 0 = λ k. slice_index_or (slice_set w.calls i more) k 0 ≤ (w.entries + 1) * 2 ^ 32 in
         subst P (sym here) (set_at w.calls i more ((w.entries + 1) * 2 ^ 32) (omega (arith, calls i, few)))

@@ -1,4 +1,8 @@
 //! The store: the control part and all lanes under one owner.
 #![tactic(auto)]
 
+mod access;
+mod lines;
+mod log;
 pub mod stop;
+pub mod store;

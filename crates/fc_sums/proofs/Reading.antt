@@ -26,7 +26,7 @@ same_when false false f g = refl
 
 -- ---- some lane
 
-or_last : (a b : Bool) → (a || (b || false)) ≡ (a || b)
+pub or_last : (a b : Bool) → (a || (b || false)) ≡ (a || b)
 or_last true b = refl
 or_last false true = refl
 or_last false false = refl
@@ -49,7 +49,7 @@ by_part grain lanes s test i lt e = any_listed test (part_of grain lanes s) lane
 
 -- ---- readers
 
-live_part : (l : LaneOf) → IsLane l → (slots : List Slot) (k : ℕ) → (slot_at (parts l slots) k).is_live ≡ (slot_at slots k).is_live
+pub live_part : (l : LaneOf) → IsLane l → (slots : List Slot) (k : ℕ) → (slot_at (parts l slots) k).is_live ≡ (slot_at slots k).is_live
 live_part l i slots k = ap (λ (z : Slot). z.is_live) (slot_parts l i slots k)
 
 pub from_part : (l : LaneOf) → IsLane l → (slots : List Slot) (k h d : ℕ) → ReadsAt (parts l slots) k h d → ReadsAt slots k h d

@@ -1,14 +1,19 @@
 -- The law of sums: what lanes count adds up to what all grains count.
-use Rattle.std.specs.Prelude.{◌≡◌, ℕ, ◌<◌, ◌/◌, ◌%◌, false, ◌↔◌, List, length, slice_index_or}
-use Rattle.std.specs.List.{sum_by, list_any}
-use Rattle.fc_base.specs.Counts.{UsedAt, reads_some, is_direct}
-use Rattle.fc_base.specs.Need.{ReadsAt}
+use Rattle.std.specs.Prelude.{◌≡◌, ◌≢◌, ℕ, ◌<◌, ◌/◌, ◌%◌, true, false, ◌↔◌, min, Some, List, ◌∷◌, map, fold, length, slice_index_or, Contains}
+use Rattle.std.specs.List.{sum_by, list_any, list_all}
+use Rattle.fc_base.specs.Counts.{UsedAt, reads_some, is_direct, is_unneeded}
+use Rattle.fc_base.specs.Need.{ReadsAt, IsDependent}
+use Rattle.fc_base.specs.Pools.{Pool, of_kind, least_of_kind}
 use Rattle.fc_base.specs.Sheet.{Sheet, slot_at, slot_id, shape_of, live_place, mapping_place, birth_place, volume_grains}
+use Rattle.fc_base.specs.SheetFacts.{HasNames, HasSizes, HasMappings}
 use Rattle.fc_base.specs.SheetStep.{triggered}
-use Rattle.fc_base.specs.SheetView.{held_of, needed_of, count_true, ReadsMapping}
+use Rattle.fc_base.specs.SheetView.{held_of, needed_of, count_true, IsRisingIds, AreMappings, ReadsMapping, DependsOn}
+use Rattle.fc_base.specs.declared.disk.DiskKind.{DiskKind}
+use Rattle.fc_base.specs.declared.ids.MapId.{MapId}
+use Rattle.fc_base.specs.declared.ids.SlotId.{SlotId}
 use Rattle.fc_base.specs.declared.request.Pair.{Pair}
 use Rattle.fc_base.specs.declared.size.GrainSize.{GrainSize}
-use Rattle.fc_sums.specs.Parts.{part_of, parts_of, sheet_at}
+use Rattle.fc_sums.specs.Parts.{part_of, parts_of, sheet_at, joined, has_name, unneeded_in, common_to}
 
 -- The parts of so many lanes, by their numbers.
 pub record PartsLaw (grain : GrainSize) (lanes : ℕ) (s : Sheet) : Type 0 where
@@ -49,8 +54,49 @@ pub record ReadsLaw (grain : GrainSize) (lanes : ℕ) (s : Sheet) : Type 0 where
   pub mapping_in_lane : (m n : ℕ) → ReadsMapping s.slots m n → (i : ℕ) × (i < lanes) × ReadsMapping (part_of grain lanes s i).slots m n
   pub mapping_from_lane : (i m n : ℕ) → i < lanes → ReadsMapping (part_of grain lanes s i).slots m n → ReadsMapping s.slots m n
 
+-- The dependents of a slot, step by step through lanes.
+pub data DependsInLanes (grain : GrainSize) (lanes : ℕ) (s : Sheet) (k : ℕ) : ℕ → Type 0 where
+  first_in : {i d : ℕ} → i < lanes → ReadsAt (part_of grain lanes s i).slots k k d → DependsInLanes grain lanes s k d
+  onward_in : {i e d : ℕ} → i < lanes → DependsInLanes grain lanes s k e → ReadsAt (part_of grain lanes s i).slots k e d → DependsInLanes grain lanes s k d
+
+-- Mappings, by id, that depend on a mapping, with all that read in some lane from it or from one of them.
+pub record IsClosed (grain : GrainSize) (lanes : ℕ) (s : Sheet) (m : ℕ) (maps : List MapId) : Type 0 where
+  pub rising : IsRisingIds maps
+  pub reached : (n : MapId) → Contains maps n → DependsOn s.slots m n.0
+  pub first : (i : ℕ) (n : MapId) → i < lanes → ReadsMapping (part_of grain lanes s i).slots m n.0 → Contains maps n
+  pub onward : (i : ℕ) (e n : MapId) → i < lanes → Contains maps e → ReadsMapping (part_of grain lanes s i).slots e.0 n.0 → n.0 ≢ m → Contains maps n
+
+-- Who reads from a mapping's slot and who depends on it, told by mappings and lanes. A live slot that is no mapping's holds
+-- every grain, and so reads from itself alone.
+pub record DependsLaw (grain : GrainSize) (lanes : ℕ) (s : Sheet) : Type 0 where
+  pub has_mapping : (k h d : ℕ) → ReadsAt s.slots k h d → h ≢ d → (n : ℕ) × (mapping_place s.slots n ≡ Some d)
+  pub dependent_mapping : (k d : ℕ) → IsDependent s.slots k d → (n : ℕ) × (mapping_place s.slots n ≡ Some d)
+  pub direct : (m n from reader : ℕ) → mapping_place s.slots m ≡ Some from → mapping_place s.slots n ≡ Some reader →
+      (is_direct s.slots from reader ≡ true) ↔ ReadsMapping s.slots m n
+  pub all_direct : (m : ℕ) (maps : List MapId) → IsRisingIds maps →
+      ((n : MapId) → Contains maps n → (i : ℕ) × (i < lanes) × ReadsMapping (part_of grain lanes s i).slots m n.0) →
+      ((i : ℕ) (n : MapId) → i < lanes → ReadsMapping (part_of grain lanes s i).slots m n.0 → Contains maps n) →
+      AreMappings (ReadsMapping s.slots m) maps
+  pub dependents : (k d : ℕ) → IsDependent s.slots k d ↔ DependsInLanes grain lanes s k d
+  pub first : (i m n : ℕ) → i < lanes → ReadsMapping (part_of grain lanes s i).slots m n → DependsOn s.slots m n
+  pub onward : (i m e n : ℕ) → i < lanes → DependsOn s.slots m e → ReadsMapping (part_of grain lanes s i).slots e n → n ≢ m → DependsOn s.slots m n
+  pub all_dependents : (m : ℕ) (maps : List MapId) → IsClosed grain lanes s m maps → AreMappings (DependsOn s.slots m) maps
+
+-- An old slot is unneeded where it is in every lane; and so the names of those slots are what all lanes have in common.
+pub record UnneededLaw (grain : GrainSize) (lanes : ℕ) (s : Sheet) : Type 0 where
+  pub slot : (k : ℕ) → is_unneeded s.slots k ≡ list_all (λ (p : Sheet). is_unneeded p.slots k) (parts_of grain lanes s)
+  pub names : common_to (map (λ (p : Sheet). unneeded_in p.slots) (parts_of grain lanes s)) ≡ unneeded_in s.slots
+
 pub record SumLaw : Type 0 where
   pub parts : (grain : GrainSize) (lanes : ℕ) (s : Sheet) → PartsLaw grain lanes s
   pub counts : (grain : GrainSize) (lanes : ℕ) (s : Sheet) → 0 < lanes → CountsLaw grain lanes s
   pub slots : (grain : GrainSize) (lanes i : ℕ) (s : Sheet) → i < lanes → SlotsLaw s (part_of grain lanes s i)
   pub reads : (grain : GrainSize) (lanes : ℕ) (s : Sheet) → 0 < lanes → ReadsLaw grain lanes s
+  pub depends : (grain : GrainSize) (lanes : ℕ) (s : Sheet) → 0 < lanes → HasSizes s.slots → HasMappings s.slots → DependsLaw grain lanes s
+  pub unneeded : (grain : GrainSize) (lanes : ℕ) (s : Sheet) → 0 < lanes → HasNames s → UnneededLaw grain lanes s
+  pub has_name : (names : List SlotId) (name : SlotId) → (has_name names name ≡ true) ↔ Contains names name
+  -- the sheet of all is found again from its parts
+  pub joins : (grain : GrainSize) (lanes : ℕ) (s : Sheet) → 0 < lanes → joined (parts_of grain lanes s) ≡ s
+  -- the least pool, lane by lane
+  pub pools : (kind : DiskKind) (pool : Pool) (pools : List Pool) →
+      least_of_kind kind (pool ∷ pools) ≡ fold (λ least p. min least (of_kind kind p)) (of_kind kind pool) pools

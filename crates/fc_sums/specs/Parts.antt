@@ -1,7 +1,9 @@
 -- The parts of all lanes, in order of the lanes, and the sheet that they are parts of.
-use Rattle.std.specs.Prelude.{ℕ, ◌/◌, ◌%◌, Bool, false, List, length, map, slice_index_or}
-use Rattle.std.specs.List.{sum_by, range_with_len}
+use Rattle.std.specs.Prelude.{ℕ, ◌/◌, ◌%◌, Bool, false, ◌==◌, List, [], ◌∷◌, length, map, filter, fold, slice_index_or}
+use Rattle.std.specs.List.{sum_by, list_any, range_with_len}
+use Rattle.fc_base.specs.Counts.{names_below, is_unneeded}
 use Rattle.fc_base.specs.Sheet.{Slot, Sheet, no_slots, slot_at}
+use Rattle.fc_base.specs.declared.ids.SlotId.{SlotId}
 use Rattle.fc_base.specs.declared.size.GrainSize.{GrainSize}
 use Rattle.fc_legal.specs.Whole.{part_of_sheet}
 use Rattle.fc_rules.specs.LaneTold.{LaneOf}
@@ -44,3 +46,20 @@ joined parts =
       births = (sheet_at parts 0).births;
       slots = map (joined_slot parts) (range_with_len 0 (length (sheet_at parts 0).slots));
     }
+
+-- ---- names that lanes have in common
+
+abbrev pub has_name : List SlotId → SlotId → Bool
+has_name names name = list_any (λ (n : SlotId). n.0 == name.0) names
+
+-- The names of the one list that the other has too.
+abbrev pub common : List SlotId → List SlotId → List SlotId
+common names others = filter (has_name others) names
+
+abbrev pub common_to : List (List SlotId) → List SlotId
+common_to [] = []
+common_to (names ∷ more) = fold common names more
+
+-- The old slots that no slot needs at any grain, by name, in order of their places.
+abbrev pub unneeded_in : List Slot → List SlotId
+unneeded_in slots = names_below slots (is_unneeded slots) (length slots)

@@ -1,5 +1,5 @@
-use Rattle.std.proofs.Common.{◌≡◌, ap, sym, subst, ◌∙◌, refl, ℕ, ◌+◌, ◌*◌, ◌++◌, take, drop, replicate, true, false}
-use Rattle.fc_base.specs.Grain.{block_bytes, grain_bytes, grain_blocks}
+use Rattle.std.proofs.Common.{◌≡◌, ap, sym, subst, ◌∙◌, refl, ℕ, ◌+◌, ◌*◌, ◌++◌, take, drop, replicate}
+use Rattle.fc_base.specs.Grain.{block_bytes, grain_blocks}
 use Rattle.fc_base.specs.declared.size.GrainSize.{GrainSize}
 use Rattle.fc_entry.specs.Picture.{byte_in_grain}
 use Rattle.fc_grains.specs.Grains.{GrainsState}

@@ -1,4 +1,4 @@
-use Rattle.std.proofs.Common.{◌≡◌, ◌≤◌, ◌<◌, ℕ, Option, Some, None, length, ap, sym, subst, ◌∙◌, refl}
+use Rattle.std.proofs.Common.{ℕ, Some, None, ap, sym, subst, ◌∙◌, refl}
 use Rattle.fc_base.specs.declared.disk.DiskError.TheVariants.{Failed as Fails, NoMemory as NoRoom}
 use Rattle.fc_base.specs.declared.size.GrainSize.{GrainSize}
 use Rattle.fc_entry.specs.Right.{calls_of_write}
