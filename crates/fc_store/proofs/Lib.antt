@@ -3,4 +3,6 @@ pub mod Accessing
 pub mod Logging
 pub mod Places
 pub mod Asked
+pub mod Turning
+pub mod Parting
 pub mod LaneSheets

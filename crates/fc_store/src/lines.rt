@@ -1,8 +1,7 @@
 //! Reads and writes, refused accesses and unread lines: what they ask, entry by entry.
 
-ghost use Rattle.std.specs.Prelude.{◌≡◌, ◌+◌, ◌*◌, ◌<◌, ◌≤◌, ◌∷◌, [], length, map, Some, None, Err};
+ghost use Rattle.std.specs.Prelude.{◌≡◌, ◌+◌, ◌*◌, ◌<◌, ◌≤◌, ◌∷◌, [], length, map, Contains, Err};
 ghost use Rattle.fc_base.specs.Grain.{grain_blocks};
-ghost use Rattle.fc_base.specs.Tables.{volume_with, volume_named};
 ghost use Rattle.fc_base.specs.declared.volume.Volume.{Volume};
 ghost use Rattle.fc_entry.specs.Refused.{blocks_refusal};
 ghost use Rattle.fc_legal.specs.Asked.{asked, command_asked, touched};
@@ -57,7 +56,8 @@ impl<D: Mdisk> Store<D> {
     ) -> Result<(), Stop>
         requires stands { TellsSome (StandsFor self.old) history.old.entries }
         requires room { length history.old.entries ≤ MAX_ENTRIES }
-        requires there { (v : Volume) × (volume_with self.old.control.tables volume ≡ Some v) × (grain < v.grains) }
+        requires there { (v : Volume) × Contains self.old.control.tables.volumes v × (v.id ≡ volume) × (grain < v.grains) }
+        requires some { 0 < count }
         requires begins { block < (grain + 1) * grain_blocks self.old.control.grain }
         requires ends { grain * grain_blocks self.old.control.grain < block + count }
         ensures answered { (w : Whole) → IsTold (StandsFor self.old) history.old.entries w →
@@ -96,7 +96,7 @@ impl<D: Mdisk> Store<D> {
         requires room { length history.old.entries ≤ MAX_ENTRIES }
         requires some { 0 < count }
         requires few { count ≤ MAX_BLOCKS }
-        requires there { (v : Volume) × (volume_with self.old.control.tables volume ≡ Some v) × (block + count ≤ v.grains * grain_blocks self.old.control.grain) }
+        requires there { (v : Volume) × Contains self.old.control.tables.volumes v × (v.id ≡ volume) × (block + count ≤ v.grains * grain_blocks self.old.control.grain) }
         ensures answered { (w : Whole) → IsTold (StandsFor self.old) history.old.entries w →
             Answered result (StandsFor self.new) self.old.control.grain w
             (by_main (map (part_of self.old.control.grain access volume block count) (touched self.old.control.grain block count))) history.old history.new }

@@ -1,0 +1,98 @@
+-- A turn of the store: one access in the lane of its grain.
+use Rattle.std.proofs.Common.{◌≡◌, ℕ, ◌+◌, ◌-◌, ◌*◌, ◌%◌, ◌^◌, ◌<◌, ◌≤◌, max, min, List, [], ◌∷◌, ◌++◌, length, slice_index_or, slice_set, Contains, Result, Ok, Err, OnOk, OnErr, IfErr, refl, sym, ◌∙◌, ap, subst, arith}
+use Rattle.fc_base.specs.Grain.{grain_blocks}
+use Rattle.fc_base.specs.declared.ids.VolId.{VolId}
+use Rattle.fc_base.specs.declared.request.Request.{Request}
+use Rattle.fc_base.specs.declared.size.GrainSize.{GrainSize}
+use Rattle.fc_base.specs.declared.volume.Volume.{Volume}
+use Rattle.fc_control.specs.Control.{ControlState}
+use Rattle.fc_entry.specs.HistoryState.{HistoryState}
+use Rattle.fc_entry.specs.Picture.{grain_of_block}
+use Rattle.fc_entry.specs.declared.entry.Entry.{Entry}
+use Rattle.fc_lane.specs.Lane.{LaneView, IsAsked, IsLaneOf, IsSameLane, of}
+use Rattle.fc_legal.specs.Legal.{IsLegal}
+use Rattle.fc_legal.specs.Run.{by_main}
+use Rattle.fc_legal.specs.Steps.{after_access}
+use Rattle.fc_legal.specs.Whole.{Whole, lanes, lane_of_grain, lane_at, part_at}
+use Rattle.fc_parts.specs.Law.{IsAt}
+use Rattle.fc_rules.specs.LaneFits.{FitsPart}
+use Rattle.fc_rules.specs.LaneRight.{IsRightInLane, record_of}
+use Rattle.fc_rules.specs.LaneTold.{LaneOf, LaneTold, told_past}
+use Rattle.fc_store.specs.Answering.{Answered, IsTold}
+use Rattle.fc_store.specs.Asking.{request_of}
+use Rattle.fc_store.specs.Store.{StoreView, IsLaneAt, StandsFor}
+use Rattle.fc_store.specs.declared.access.Access.{Access}
+use Rattle.fc_store.specs.declared.stop.Stop.{Stop}
+use Rattle.fc_store.specs.declared.stop.Stop.TheVariants.{NoMemory}
+use Rattle.fc_store.proofs.Accessing.{access_step, access_stands}
+use Rattle.fc_store.proofs.Logging.{IsTurn}
+use Rattle.fc_store.proofs.Turning.{IsInGrain, at_grain, part_fits, same_lane}
+
+-- A lane with room for its next entry.
+abbrev pub roomy : LaneView → ℕ → ℕ → LaneView
+roomy v plan entry = record v { plan_room = plan; entry_room = entry }
+
+-- The lane of a grain, at its place, with some room.
+module _ (s : StoreView) (w : Whole) (g place : ℕ) (old ready : LaneView) (plan entry_room : ℕ)
+    (stands : StandsFor s w) (at : place ≡ g % length s.lanes) (is_old : old ≡ slice_index_or s.lanes place old) (is_ready : ready ≡ roomy old plan entry_room) where
+  place_is : place ≡ lane_of_grain w g
+  place_is = at ∙ ap (λ n. g % n) stands.count
+
+  inside : place < length s.lanes
+  inside =
+      let some : 0 < length s.lanes = omega (arith, stands.count, stands.stands.each_lane.some) in
+      subst (λ p. p < length s.lanes) (sym at) (mod_below g (length s.lanes) some)
+    where
+      mod_below : (a n : ℕ) → 0 < n → a % n < n
+      mod_below a n some = omega arith
+
+  pub is_lane : IsLaneAt s.control.grain w (lane_of_grain w g) ready
+  is_lane =
+      let P : LaneView → Type 0 = λ v. IsLaneAt s.control.grain w place v in
+      let here : IsLaneAt s.control.grain w place old = subst P (sym is_old) (stands.each place old inside) in
+      let roomed : IsLaneAt s.control.grain w place (roomy old plan entry_room) =
+      record { lane = here.lane; lanes_are = here.lanes_are; grain_is = here.grain_is; stands = record { parts = here.stands.parts; faults = here.stands.faults; calls = here.stands.calls } } in
+      subst (λ p. IsLaneAt s.control.grain w p ready) place_is (subst P (sym is_ready) roomed)
+
+  -- The access fits it.
+  fits_lane : (v : Volume) (volume : VolId) (first count : ℕ) → Contains s.control.tables.volumes v → v.id ≡ volume → IsInGrain s.control.grain first count g → g < v.grains →
+      FitsPart (of ready) (part_at s.control.grain w (lane_of_grain w g)) volume first count
+  fits_lane v volume first count there named in_ within =
+      let there_told : Contains w.books.tables.volumes v = subst (λ t. Contains t.volumes v) stands.control.tables there in
+      let fits = part_fits s.control.grain stands.decisions w volume v first count g stands.stands there_told named in_ within in
+      subst (λ (l : LaneOf). FitsPart l (part_at s.control.grain w (lane_of_grain w g)) volume first count) (sym (same_lane s.control.grain w (lane_of_grain w g) ready is_lane)) fits
+
+  pub can_access : (v : Volume) (volume : VolId) (first count : ℕ) → Contains s.control.tables.volumes v → v.id ≡ volume → IsInGrain s.control.grain first count g → g < v.grains →
+      (told : LaneTold) × IsLaneOf ready told × FitsPart (of ready) told volume first count
+  can_access v volume first count there named in_ within =
+      (part_at s.control.grain w (lane_of_grain w g), is_lane.stands, fits_lane v volume first count there named in_ within)
+
+  -- And its entry is a turn.
+  pub turn : (v : Volume) (volume : VolId) (access : Access) (first count number : ℕ) (entry : Entry) (new : LaneView) →
+      Contains s.control.tables.volumes v → v.id ≡ volume → IsInGrain s.control.grain first count g → g < v.grains →
+      ((told : LaneTold) → IsLaneOf ready told → FitsPart (of ready) told volume first count →
+      IsRightInLane (of ready) told entry × IsLaneOf new (told_past (of ready) told (record_of entry))) →
+      IsAsked number 0 (request_of access volume first count) entry →
+      IsSameLane ready new →
+      entry.calls < 2 ^ 32 →
+      w.entries ≡ number →
+      IsTurn (StandsFor (record s { lanes = slice_set s.lanes place new })) s.control.grain w (request_of access volume first count) entry
+      (after_access s.control.grain w (lane_of_grain w g) entry)
+  turn v volume access first count number entry new there named in_ within right asked same few counted =
+      let grain : GrainSize = s.control.grain in
+      let i : ℕ = lane_of_grain w g in
+      let both = right (part_at grain w i) is_lane.stands (fits_lane v volume first count there named in_ within) in
+      let same_of : of ready ≡ lane_at grain w i = same_lane grain w i ready is_lane in
+      let is_right : IsRightInLane (lane_at grain w i) (part_at grain w i) entry = subst (λ (l : LaneOf). IsRightInLane l (part_at grain w i) entry) same_of both.0 in
+      let now : IsLaneOf new (told_past (lane_at grain w i) (part_at grain w i) (record_of entry)) =
+      subst (λ (l : LaneOf). IsLaneOf new (told_past l (part_at grain w i) (record_of entry))) same_of both.1 in
+      let at_g : IsAt grain g entry.request = subst (λ r. IsAt grain g r) (sym asked.request_is) (at_grain grain access volume first count g in_.of_grain) in
+      let left : StandsFor (record s { lanes = slice_set s.lanes i new }) (after_access grain w i entry) =
+      access_stands s w g entry new stands at_g is_right (same.lane ∙ is_lane.lane, same.lanes ∙ is_lane.lanes_are, same.grain ∙ is_lane.grain_is) now (omega (arith, few)) in
+      record {
+        by_main = asked.actor_is;
+        asked = asked.request_is;
+        step = access_step grain stands.decisions w g entry stands.stands at_g is_right (asked.number_is ∙ sym counted);
+        counted = refl;
+        stands = subst (λ p. StandsFor (record s { lanes = slice_set s.lanes p new }) (after_access grain w i entry)) (sym place_is) left;
+      }

@@ -1,0 +1,22 @@
+-- A refusal leaves one entry more.
+use Rattle.std.proofs.Common.{rules, arith, [], subst, sym}
+use Rattle.fc_entry.specs.declared.entry.Entry.{Entry}
+use Rattle.fc_legal.specs.Steps.{one_more}
+use Rattle.fc_store.specs.Store.{StandsFor}
+use Rattle.fc_store.proofs.Logging.{IsTurn, is_full, is_logged}
+use Rattle.fc_store.proofs.Turning.{refused_turn}
+use Rattle.fc_store.proofs.store.Store.log_refused.Goals as goal
+
+pub returns-then-is_full-clause-answered : goal.returns-then-is_full-clause-answered
+returns-then-is_full-clause-answered g c = λ w told.
+    is_full (StandsFor c.args.self.now) c.args.self.now.control.grain w c.args.request [] c.args.history.now told c.requires.room
+    (omega (arith, c.if-is_full.ensures.full))
+
+pub returns-clause-answered : goal.returns-clause-answered
+returns-clause-answered g c = λ w told.
+    let Turn : Entry → Type 0 = λ e. IsTurn (StandsFor c.args.self.now) c.args.self.now.control.grain w c.args.request e (one_more w) in
+    is_logged c.log.result (StandsFor c.args.self.now) c.args.self.now.control.grain w (one_more w) c.args.request c.args.history.now
+    c.log.new.history c.entry_apart-entry.result
+    (subst Turn (sym c.entry_apart-entry.ensures)
+    (refused_turn c.args.self.now w _ c.args.request c.args.refusal told.0 told.1 (c.requires.refused w told)))
+    told.1 c.log.ensures.ok c.log.ensures.err c.log.ensures.stop

@@ -1,0 +1,63 @@
+-- The access fits the lane of its grain, and its entry is right.
+use Rattle.std.proofs.Common.{rules, arith, ◌≡◌, ◌<◌, ◌≤◌, ◌%◌, ℕ, [], length, slice_index_or, slice_set, ◌∷◌, subst, sym, refl, ◌∙◌, ap}
+use Rattle.fc_store.specs.Store.{StandsFor}
+use Rattle.fc_store.specs.Asking.{part_of}
+use Rattle.fc_base.specs.Grain.{grain_blocks}
+use Rattle.fc_store.specs.Store.{StoreView}
+use Rattle.fc_store.proofs.Logging.{is_full, is_logged, is_starved}
+use Rattle.fc_base.specs.declared.request.Request.{Request}
+use Rattle.fc_legal.specs.Run.{by_main}
+use Rattle.fc_store.specs.Answering.{Answered}
+use Rattle.fc_store.proofs.Places.{part_of-blocks}
+use Rattle.fc_store.proofs.Parting.{can_access, turn}
+use Rattle.fc_store.proofs.Turning.{in_grain}
+use Rattle.fc_store.proofs.store.Store.run_part.Goals as goal
+
+pub returns-then-is_full-clause-answered : goal.returns-then-is_full-clause-answered
+returns-then-is_full-clause-answered g c = λ w told.
+    is_full (StandsFor c.args.self.now) c.args.self.now.control.grain w _ [] c.args.history.now told c.requires.room
+    (omega (arith, c.if-is_full.ensures.full))
+
+pub returns-in-Err-clause-answered : goal.returns-in-Err-clause-answered
+returns-in-Err-clause-answered g c = λ w told.
+    is_starved (StandsFor c.args.self.now) c.args.self.now.control.grain w _ c.args.history.now
+
+pub access_lane-entry-requires-clause-can : goal.access_lane-entry-requires-clause-can
+access_lane-entry-requires-clause-can g c =
+    let same : c.args.self.now ≡ record { control = c.self.inside.control; lanes = c.self.inside.lanes.items } = sym c.self.view_is in
+    let many : c.len.result ≡ length c.self.inside.lanes.items = omega (arith, c.len.ensures) in
+    can_access c.args.self.now c.requires.stands.0 c.args.grain (c.args.grain % c.len.result) c.index_mut-lane.result.now c.make_room.new.self
+    c.make_room.new.self.plan_room c.make_room.new.self.entry_room c.requires.stands.1.0
+    (ap (λ n. c.args.grain % n) (many ∙ ap (λ (s : StoreView). length s.lanes) (sym same)))
+    (c.index_mut-lane.ensures.value ∙ ap (λ (s : StoreView). slice_index_or s.lanes (c.args.grain % c.len.result) c.index_mut-lane.result.now) (sym same))
+    c.in-Ok.ensures.same
+    c.requires.there.0 c.args.volume _ _ c.requires.there.1 c.requires.there.2
+    (in_grain c.args.self.now.control.grain c.args.block c.args.count c.args.grain _ _ _
+    (c.blocks-blocks.ensures ∙ ap grain_blocks (c.grain.ensures ∙ ap (λ (s : StoreView). s.control.grain) (sym same)))
+    c.max-first.ensures c.min-end.ensures c.requires.some c.requires.begins c.requires.ends)
+    c.requires.there.3
+
+pub returns-clause-answered : goal.returns-clause-answered
+returns-clause-answered g c = λ w told.
+    let same : c.args.self.now ≡ record { control = c.self.inside.control; lanes = c.self.inside.lanes.items } = sym c.self.view_is in
+    let many : c.len.result ≡ length c.self.inside.lanes.items = omega (arith, c.len.ensures) in
+    let left = turn c.args.self.now w c.args.grain (c.args.grain % c.len.result) c.index_mut-lane.result.now c.make_room.new.self
+    c.make_room.new.self.plan_room c.make_room.new.self.entry_room told.0
+    (ap (λ n. c.args.grain % n) (many ∙ ap (λ (s : StoreView). length s.lanes) (sym same)))
+    (c.index_mut-lane.ensures.value ∙ ap (λ (s : StoreView). slice_index_or s.lanes (c.args.grain % c.len.result) c.index_mut-lane.result.now) (sym same))
+    c.in-Ok.ensures.same
+    c.requires.there.0 c.args.volume c.args.access _ _ _ c.access_lane-entry.result c.access_lane-entry.new.lane c.requires.there.1 c.requires.there.2
+    (in_grain c.args.self.now.control.grain c.args.block c.args.count c.args.grain _ _ _
+    (c.blocks-blocks.ensures ∙ ap grain_blocks (c.grain.ensures ∙ ap (λ (s : StoreView). s.control.grain) (sym same)))
+    c.max-first.ensures c.min-end.ensures c.requires.some c.requires.begins c.requires.ends)
+    c.requires.there.3 c.access_lane-entry.ensures.right c.access_lane-entry.ensures.asked c.access_lane-entry.ensures.same
+    (omega arith) (told.1 ∙ sym c.len-number.ensures) in
+    let Asks : Request → Type 0 = λ r. Answered c.log.result (StandsFor (record c.args.self.now { lanes = slice_set c.args.self.now.lanes (c.args.grain % c.len.result) c.access_lane-entry.new.lane })) c.args.self.now.control.grain w (by_main (r ∷ [])) c.args.history.now c.log.new.history in
+    let answered = is_logged c.log.result (StandsFor (record c.args.self.now { lanes = slice_set c.args.self.now.lanes (c.args.grain % c.len.result) c.access_lane-entry.new.lane }))
+    c.args.self.now.control.grain w _ _ c.args.history.now c.log.new.history c.access_lane-entry.result left told.1 c.log.ensures.ok c.log.ensures.err c.log.ensures.stop in
+    let asked = subst Asks (part_of-blocks c.args.self.now.control.grain c.args.access c.args.volume c.args.block c.args.count c.args.grain _ _ _
+    (c.blocks-blocks.ensures ∙ ap grain_blocks (c.grain.ensures ∙ ap (λ (s : StoreView). s.control.grain) (sym same)))
+    c.max-first.ensures c.min-end.ensures) answered in
+    let Stands : StoreView → Type 0 = λ s. Answered c.log.result (StandsFor (record s { lanes = slice_set s.lanes (c.args.grain % c.len.result) c.access_lane-entry.new.lane })) c.args.self.now.control.grain w
+    (by_main (part_of c.args.self.now.control.grain c.args.access c.args.volume c.args.block c.args.count c.args.grain ∷ [])) c.args.history.now c.log.new.history in
+    subst Stands same asked
