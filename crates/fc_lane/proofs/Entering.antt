@@ -15,7 +15,7 @@ use Rattle.fc_chain.specs.Chains.{Chains}
 use Rattle.fc_entry.specs.declared.entry.Entry.{Entry}
 use Rattle.fc_entry.specs.declared.entry.Past.TheVariants.{Step}
 use Rattle.fc_grains.specs.Grains.{GrainsState, stopped}
-use Rattle.fc_lane.specs.Entering.{reply_in, steps_entry}
+use Rattle.fc_lane.specs.Entering.{SameBeside, reply_in, steps_entry}
 use Rattle.fc_lane.specs.Lane.{LaneView, IsLaneOf, IsSameLane, KeepsQuiet, of}
 use Rattle.fc_lane.specs.Moving.{more, SameLane}
 use Rattle.fc_lane.specs.StepsEnd.{FailedIn, RefusedIn, StandsAt, StepsEnd, StepsStand, StoppedIn, torn_in}
@@ -50,13 +50,6 @@ stands_at v told s = record {
   stands = s.parts.beside.stands;
   same = s.parts.beside.same;
 }
-
--- the parts that steps don't touch
-pub record SameBeside (old new : LaneView) : Type 0 where
-  pub lane : new.lane ≡ old.lane
-  pub lanes : new.lanes ≡ old.lanes
-  pub volumes : new.accesses.volumes ≡ old.accesses.volumes
-  pub flags : new.work.flags ≡ old.work.flags
 
 pub lane_after : (old new : LaneView) (told : LaneTold) (number : ℕ) (write : Option WritePart) (moves : List Move) (calls : ℕ) (torn : Option Torn) → IsLaneOf old told → SameBeside old new →
     StepsStand (of old) told write moves calls torn old.chains old.grains new.chains new.grains → IsLaneOf new (told_past (of old) told (Step number write moves torn new.grains.faults calls))

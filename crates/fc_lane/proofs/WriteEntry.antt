@@ -26,13 +26,13 @@ use Rattle.fc_entry.specs.declared.entry.Past.{Past}
 use Rattle.fc_entry.specs.declared.entry.Past.TheVariants.{Step}
 use Rattle.fc_grains.specs.Grains.{GrainsState}
 use Rattle.fc_grains.specs.Volumes.{stored, volume_of}
-use Rattle.fc_lane.specs.Entering.{FitsWrite, steps_entry}
+use Rattle.fc_lane.specs.Entering.{FitsWrite, SameBeside, steps_entry}
 use Rattle.fc_lane.specs.Lane.{LaneView, IsLaneOf, of}
 use Rattle.fc_lane.specs.StepsEnd.{StandsAt, StepsEnd, StepsStand, torn_in}
 use Rattle.fc_lane.specs.WriteStep.{IsPlannedWrite, IsWrite, spot_of, write_in}
 use Rattle.fc_lane.specs.declared.stop.Stop.{Stop}
 use Rattle.fc_lane.specs.declared.stop.Stop.TheVariants.{Failed, NoMemory as WantsMemory}
-use Rattle.fc_lane.proofs.Entering.{SameBeside, entry_done, entry_failed, entry_refused, lane_after, nothing_stands, stands_at}
+use Rattle.fc_lane.proofs.Entering.{entry_done, entry_failed, entry_refused, lane_after, nothing_stands, stands_at}
 use Rattle.fc_lane.proofs.Moving.{Source, source_at, one_holder}
 use Rattle.fc_lane.proofs.StepsMade.{lost_same}
 use Rattle.fc_moves.proofs.Writing.{written}

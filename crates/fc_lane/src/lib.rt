@@ -18,6 +18,7 @@ mod body;
 mod copy;
 mod ending;
 mod events;
+mod fill;
 pub mod lane;
 mod new;
 mod parts;
