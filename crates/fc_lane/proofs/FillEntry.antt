@@ -180,9 +180,9 @@ module _ (v new : LaneView) (slot : SlotId) (m : MapId) (grain : GrainNo) (numbe
       let x = copy_fill v m grain of_lane can.0 slot can.1 can.2 slot_is in
       entered (λ told. IsSome (copied_slot told.sheet.slots m.0 at)) (Copy m grain) entry (can.0, x.0, can.1, x.2)
       (λ told s some.
-          let y = copy_fill v m grain of_lane told slot s some slot_is in
-          fill_right (Copy m grain) entry told y.0 s y.2 (λ a. subst (λ (o : Option ℕ). MappingFill (of v) told m.0 grain.0 o entry) (sym y.1) a)
-          (ap record_of is ∙ copy_told m grain v.lane number actor v.grains.faults new.grains.faults moves calls stop) is) is
+      let y = copy_fill v m grain of_lane told slot s some slot_is in
+      fill_right (Copy m grain) entry told y.0 s y.2 (λ a. subst (λ (o : Option ℕ). MappingFill (of v) told m.0 grain.0 o entry) (sym y.1) a)
+      (ap record_of is ∙ copy_told m grain v.lane number actor v.grains.faults new.grains.faults moves calls stop) is) is
 
   pub clean_entered : (first : SlotId) (entry : Entry) → grain.0 % v.lanes ≡ v.lane → (told : LaneTold) × IsLaneOf v told × IsSome (cleaned_slot told.sheet.slots m.0 at) →
       birth_place v.chains.sheet.slots first.0 ≡ mapping_place v.chains.sheet.slots m.0 →
@@ -193,6 +193,6 @@ module _ (v new : LaneView) (slot : SlotId) (m : MapId) (grain : GrainNo) (numbe
       let x = clean_fill v m grain of_lane can.0 first slot can.1 can.2 slot_is needs in
       entered (λ told. IsSome (cleaned_slot told.sheet.slots m.0 at)) (Clean m grain) entry (can.0, x.0, can.1, x.2)
       (λ told s some.
-          let y = clean_fill v m grain of_lane told first slot s some slot_is needs in
-          fill_right (Clean m grain) entry told y.0 s y.2 (λ a. subst (λ (o : Option ℕ). MappingFill (of v) told m.0 grain.0 o entry) (sym y.1) a)
-          (ap record_of is ∙ clean_told m grain v.lane number actor v.grains.faults new.grains.faults moves calls stop) is) is
+      let y = clean_fill v m grain of_lane told first slot s some slot_is needs in
+      fill_right (Clean m grain) entry told y.0 s y.2 (λ a. subst (λ (o : Option ℕ). MappingFill (of v) told m.0 grain.0 o entry) (sym y.1) a)
+      (ap record_of is ∙ clean_told m grain v.lane number actor v.grains.faults new.grains.faults moves calls stop) is) is
