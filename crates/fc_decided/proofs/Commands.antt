@@ -1,11 +1,11 @@
--- Every command that isn't refused, but stops and the removal of a volume.
+-- Every command that isn't refused, but stops.
 use Rattle.std.proofs.Common.{◌≡◌, ◌≢◌, ℕ, ◌<◌, ◌^◌, Bool, false, List, [], ◌∷◌, map, Option, Some, None, refl, sym, ap, subst, ◌∙◌, arith, Contains, inl, inr}
 use Rattle.fc_base.specs.RestoreGraph.{HasNoLoop}
 use Rattle.fc_base.specs.Sheet.{shape_of}
 use Rattle.fc_base.specs.SheetStep.{triggered}
 use Rattle.fc_base.specs.Tables.{refers_to, volume_named, mapping_named, group_named}
 use Rattle.fc_base.specs.declared.command.Command.{Command}
-use Rattle.fc_base.specs.declared.command.Command.TheVariants.{Mkvdisk, Armfault, Mkfcmap, Prestartfcmap, Startfcmap, Rmfcmap, Mkfcconsistgrp, Prestartfcconsistgrp, Startfcconsistgrp, Rmfcconsistgrp}
+use Rattle.fc_base.specs.declared.command.Command.TheVariants.{Mkvdisk, Rmvdisk, Armfault, Mkfcmap, Prestartfcmap, Startfcmap, Rmfcmap, Mkfcconsistgrp, Prestartfcconsistgrp, Startfcconsistgrp, Rmfcconsistgrp}
 use Rattle.fc_base.specs.declared.command.Unit.{Unit as SizeUnit}
 use Rattle.fc_base.specs.declared.fault.Kind.TheVariants.{Vdisk, Fcmap, Group as OfGroups}
 use Rattle.fc_base.specs.declared.fault.Refusal.{Refusal}
@@ -26,6 +26,8 @@ use Rattle.fc_legal.specs.Stands.{Stands}
 use Rattle.fc_legal.specs.Steps.{no_restarts}
 use Rattle.fc_legal.specs.Whole.{Whole}
 use Rattle.fc_decided.proofs.Allowed.{one_prepares, one_starts, group_prepares, group_starts, group_trigger, no_source, few_members}
+use Rattle.fc_decided.specs.Law.{AreSettled}
+use Rattle.fc_decided.proofs.Clearing.{can_go, remove_volume_suits}
 use Rattle.fc_decided.proofs.Frame.{Suits, lawful_with_work}
 use Rattle.fc_decided.proofs.Grouping.{make_group_suits, remove_group_suits}
 use Rattle.fc_decided.proofs.Lists.{find_from, in_cases, none_in}
@@ -61,6 +63,12 @@ module _ (grain : GrainSize) (decisions : ℕ) (w : Whole) (small : decisions < 
   pub mkvdisk_goes : (name : Option (List ℕ)) (size : ℕ) (unit : Option SizeUnit) (thin : Bool) → Goes (Mkvdisk name size unit thin)
   unfolding Goes
   mkvdisk_goes name size unit thin e = make_volume_suits grain decisions w _ small st (can_come grain w name size unit thin e)
+
+  pub rmvdisk_goes : (volume : Ref) → AreSettled w.books → Goes (Rmvdisk volume)
+  unfolding Goes
+  rmvdisk_goes volume settled e =
+      let v = some_one Vdisk (volume_named w.books.tables volume) _ e in
+      one_suits (volume_named w.books.tables volume) v.0 _ v.1 (remove_volume_suits grain decisions w v.0 st settled (can_go w.books v.0 (named_volume volume v.0 v.1) v.2) small)
 
   pub armfault_goes : (volume : Ref) (number calls : ℕ) → Goes (Armfault volume number calls)
   unfolding Goes

@@ -1,6 +1,6 @@
 -- Old slots that nobody needs are dropped, one after the other.
 use Rattle.std.proofs.Common.{◌≡◌, ◌≢◌, ℕ, zero, suc, ◌<◌, ◌≤◌, Bool, true, false, cond, Some, None, List, [], ◌∷◌, ◌++◌, length, map, refl, sym, ap, subst, ◌∙◌, arith, Contains, inl, inr}
-use Rattle.std.proofs.lemmas.Bool.{cases_eq, both_ways, eq-eqb, eqb-true, false_from_ne_true}
+use Rattle.std.proofs.lemmas.Bool.{cases_Bool, cases_eq, both_ways, eq-eqb, eqb-true, false_from_ne_true}
 use Rattle.std.proofs.lemmas.List.Elements.{Contains-append_left, Contains-push, Contains-push_cases}
 use Rattle.fc_base.specs.Counts.{names_below, is_unneeded, need_count_of}
 use Rattle.fc_base.specs.Sheet.{Slot, Sheet, slot_at, slot_id, birth_place}
@@ -19,6 +19,7 @@ use Rattle.fc_decided.proofs.Counting.{uncounted_free, old_uncounted, uncounted_
 use Rattle.fc_decided.proofs.Free.{FreeSlot, free_without}
 use Rattle.fc_decided.proofs.Leaving.{Left, old_left, OfSlot}
 use Rattle.fc_decided.proofs.Lists.{first_in, later_in, in_cases, none_in}
+use Rattle.fc_decided.proofs.Olds.{AreNeeded, NeededOr, one_less, needed_by_test}
 use Rattle.fc_decided.proofs.Quiet.{FitAll}
 use Rattle.fc_decided.proofs.Seen.{Seen, seen, seen_found, size_of}
 
@@ -50,6 +51,7 @@ record DropsOne (s : Sheet) (birth : ℕ) : Type 0 where
   fewer : (n : ℕ) → seen s.slots n ≡ None → seen (dropped birth s).slots n ≡ None
   sizes : (v : ℕ) → size_of (dropped birth s).slots v ≡ size_of s.slots v
   free : (u : Slot) → FreeSlot s.slots u → u.birth ≢ birth → FreeSlot (dropped birth s).slots u
+  olds : (ns : List SlotId) → NeededOr s.slots (record { 0 = birth } ∷ ns) → NeededOr (dropped birth s).slots ns
 
 drops_one : (s : Sheet) (birth : ℕ) → IsSound s → OldFree s.slots birth → DropsOne s birth
 drops_one s birth i o =
@@ -77,6 +79,7 @@ drops_one s birth i o =
           l.went n (ap (λ z. (slot_at slots z).mapping) (sym same) ∙ f.2.of_mapping);
       fewer = l.fewer;
       sizes = l.sizes;
+      olds = λ ns all. subst (λ (z : Sheet). NeededOr z.slots ns) (sym step) (one_less s (record { 0 = birth }) ns p i pl named old all);
       free = λ u f ne. subst (λ (z : Sheet). FreeSlot z.slots u) (sym step) (free_without slots p u pl o.free.free (λ e. ne (ap (λ (t : Slot). t.birth) (sym e) ∙ named)) f);
     }
 
@@ -102,6 +105,7 @@ pub record Drops (s : Sheet) (names : List SlotId) : Type 0 where
   pub fewer : (n : ℕ) → seen s.slots n ≡ None → seen (sheet_through s (drop_events names)).slots n ≡ None
   pub sizes : (v : ℕ) → size_of (sheet_through s (drop_events names)).slots v ≡ size_of s.slots v
   pub free : (u : Slot) → FreeSlot s.slots u → IsNot names u.birth → FreeSlot (sheet_through s (drop_events names)).slots u
+  pub olds : NeededOr s.slots names → AreNeeded (sheet_through s (drop_events names)).slots
 
 pub drops_all : (names : List SlotId) (s : Sheet) → IsSound s → ((n : SlotId) → Contains names n → OldFree s.slots n.0) → AreApart names → Drops s names
 drops_all [] s i each apart =
@@ -115,6 +119,7 @@ drops_all [] s i each apart =
       fewer = λ n e. e;
       sizes = λ v. refl;
       free = λ u f ne. f;
+      olds = λ all k kl old. elim (all k kl old) [ inl n ↦ n | inr named ↦ absurd (none_in (slot_id s.slots k) named) ];
     }
 drops_all (y ∷ ys) s i each apart =
     let one = drops_one s y.0 i (each y (first_in y ys)) in
@@ -140,6 +145,7 @@ drops_all (y ∷ ys) s i each apart =
       fewer = λ n e. rest.fewer n (one.fewer n e);
       sizes = λ v. rest.sizes v ∙ one.sizes v;
       free = λ u f ne. rest.free u (one.free u f (λ b. ne y (first_in y ys) (sym b))) (λ z found. ne z (later_in y z ys found));
+      olds = λ all. rest.olds (one.olds ys all);
     }
 
 -- ---- the names of those that nobody needs
@@ -219,3 +225,11 @@ not_named s k i kl stays x found e =
 
 pub old_named : (s : Sheet) (k : ℕ) → k < length s.slots → (slot_at s.slots k).is_live ≡ false → need_count_of s.slots k ≡ 0 → Contains (unneeded_names s.slots) (slot_id s.slots k)
 old_named s k kl old none = is_named s.slots (is_unneeded s.slots) (length s.slots) k kl (uncounted_old s.slots k old none)
+
+-- The old slots that stay are needed.
+pub needed_or_named : (s : Sheet) → NeededOr s.slots (unneeded_names s.slots)
+needed_or_named s k kl old =
+    elim (cases_Bool (is_unneeded s.slots k)) [
+      | inl t ↦ inr (is_named s.slots (is_unneeded s.slots) (length s.slots) k kl t)
+      | inr f ↦ inl (needed_by_test s.slots k old f)
+    ]

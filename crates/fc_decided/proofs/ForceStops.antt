@@ -1,5 +1,5 @@
 -- A stop by force, and any stop of one mapping that isn't refused.
-use Rattle.std.proofs.Common.{◌≡◌, ◌≢◌, ℕ, ◌+◌, ◌≤◌, Bool, true, false, cond, if◌then◌else◌, Option, Some, None, List, [], ◌∷◌, length, map, fold, refl, sym, ap, subst, ◌∙◌, arith, Contains, inl, inr}
+use Rattle.std.proofs.Common.{◌≡◌, ◌≢◌, ℕ, ◌+◌, ◌≤◌, Bool, true, false, cond, if◌then◌else◌, Option, Some, None, [], ◌∷◌, length, map, fold, refl, sym, ap, subst, ◌∙◌, arith, Contains, inl, inr}
 use Rattle.std.specs.List.{count_by, filter}
 use Rattle.std.proofs.lemmas.Bool.{both_ways}
 use Rattle.std.proofs.lemmas.List.{length-map}
@@ -12,7 +12,6 @@ use Rattle.fc_base.specs.declared.command.StopWay.{StopWay}
 use Rattle.fc_base.specs.declared.command.StopWay.TheVariants.{Plain, Force, Split}
 use Rattle.fc_base.specs.declared.decision.LaneEvent.{LaneEvent}
 use Rattle.fc_base.specs.declared.decision.LaneEvent.TheVariants.{Retire, Detach, Split as SplitOff, Force as ForceOut}
-use Rattle.fc_base.specs.declared.ids.MapId.{MapId}
 use Rattle.fc_base.specs.declared.size.GrainSize.{GrainSize}
 use Rattle.fc_base.specs.declared.state.MapEvent.TheVariants.{StopForce}
 use Rattle.fc_base.specs.declared.state.MapState.{MapState}
@@ -76,9 +75,6 @@ dependent_apart b m k place deps d found e =
 
 forced_sheet : Books → Mapping → Sheet
 forced_sheet b m = fold forced_map b.sheet (m.id ∷ map (λ (d : Mapping). d.id) (dependents b m))
-
-forced_ids : Books → Mapping → List MapId
-forced_ids b m = map (λ (d : Mapping). d.id) (dependents b m)
 
 -- what is still to end: the mapping and its dependents, then they alone
 Forced : Books → Mapping → ℕ → Type 0

@@ -1,11 +1,10 @@
 -- The stop of a group: its members are stopped one after the other, each on what the last left.
 use Rattle.std.proofs.Common.{◌≡◌, ◌≢◌, ℕ, suc, ◌+◌, ◌*◌, ◌<◌, ◌≤◌, ◌^◌, Bool, true, false, not, cond, ◌==◌, nat_le, Option, Some, None, List, [], ◌∷◌, length, map, refl, sym, ap, subst, ◌∙◌, arith, Contains, inl, inr}
-use Rattle.std.specs.List.{find, count_by}
+use Rattle.std.specs.List.{find}
 use Rattle.std.specs.Option.{option_map_or}
 use Rattle.std.proofs.lemmas.Bool.{eqb-true}
 use Rattle.std.proofs.lemmas.List.{length-map}
 use Rattle.std.proofs.lemmas.List.Kept.{AllPairs-filter}
-use Rattle.std.proofs.lemmas.List.Sums.{length-filter, count_by-le-length}
 use Rattle.fc_base.specs.Sheet.{Slot, Sheet, mapping_place}
 use Rattle.fc_base.specs.SheetStep.{sheet_step}
 use Rattle.fc_base.specs.SheetView.{held_of, held_at, count_true}
@@ -40,13 +39,14 @@ use Rattle.fc_legal.specs.Stands.{Stands}
 use Rattle.fc_legal.specs.Steps.{no_restarts}
 use Rattle.fc_legal.specs.Whole.{Whole}
 use Rattle.fc_moves.proofs.Search.{cases_option}
+use Rattle.fc_decided.proofs.Allowed.{few_members}
 use Rattle.fc_decided.proofs.Apart.{fold_append, sheet_through}
 use Rattle.fc_decided.proofs.ForceStops.{MayStop, stops_goes, more_births, split_is}
 use Rattle.fc_decided.proofs.Frame.{tabled, Suits}
 use Rattle.fc_decided.proofs.Goings.{left_by, after_is, goes_sound, goes_then}
 use Rattle.fc_decided.proofs.Lists.{first_in, later_in, none_in, in_cases, find_from, filter_from, map_from}
 use Rattle.fc_decided.proofs.Quiet.{quiet, first_apart, rest_ordered}
-use Rattle.fc_decided.proofs.Rows.{Ordered, one_row}
+use Rattle.fc_decided.proofs.Setting.{AreOrdered, one_mapping}
 use Rattle.fc_decided.proofs.Seen.{Seen, seen, seen_place, seen_none}
 use Rattle.fc_decided.proofs.Stops.{Sound, Goes, nothing_goes, gone_ends, split_sheet}
 use Rattle.fc_decided.proofs.Suiting.{sound_of, goes_suits, may_copying}
@@ -185,7 +185,7 @@ many_goes grain way (id ∷ ids) b picture s few births apart whole =
 
 -- ---- the group
 
-apart_ids : (ms : List Mapping) → Ordered ms → AreApart (map (λ (m : Mapping). m.id) ms)
+apart_ids : (ms : List Mapping) → AreOrdered ms → AreApart (map (λ (m : Mapping). m.id) ms)
 apart_ids [] ordered = tt
 apart_ids (m ∷ ms) ordered = (
   (λ x found.
@@ -203,22 +203,16 @@ each_allowed way b (x ∷ xs) e m found =
       | inr later ↦ each_allowed way b xs none.1.0 m later
     ]
 
-group_whole : (way : StopWay) (b : Books) (ms : List Mapping) → Ordered b.tables.mappings → ((m : Mapping) → Contains ms m → Contains b.tables.mappings m) → for_each (split_refusals way b) ms ≡ None → AreWhole way b (map (λ (m : Mapping). m.id) ms)
+group_whole : (way : StopWay) (b : Books) (ms : List Mapping) → AreOrdered b.tables.mappings → ((m : Mapping) → Contains ms m → Contains b.tables.mappings m) → for_each (split_refusals way b) ms ≡ None → AreWhole way b (map (λ (m : Mapping). m.id) ms)
 group_whole way b ms ordered among e same m found member copying =
     let y = map_from (λ (z : Mapping). z.id) ms m.id member in
-    let is : y.0 ≡ m = one_row b.tables.mappings y.0 m ordered (among y.0 y.1) found (ap (λ (z : MapId). z.0) y.2) in
+    let is : y.0 ≡ m = one_mapping b.tables.mappings y.0 m ordered (among y.0 y.1) found (ap (λ (z : MapId). z.0) y.2) in
     let inside : Contains ms m = subst (λ (z : Mapping). Contains ms z) is y.1 in
     let acts : acts_on way m.state ≡ true = ap (λ w. acts_on w m.state) same ∙ ap (acts_on Split) copying in
     let none : not_complete way b m ≡ None = sym (ap (λ t. cond t (not_complete way b m) None) acts) ∙ each_allowed way b ms e m inside in
     may_copying b m way none same
 
-few_members : (b : Books) (g : GroupId) → length (members b.tables g) ≤ length b.tables.mappings
-few_members b g =
-    let n : length (members b.tables g) ≡ count_by (is_in g) b.tables.mappings = length-filter (is_in g) b.tables.mappings in
-    let le : count_by (is_in g) b.tables.mappings ≤ length b.tables.mappings = count_by-le-length (is_in g) b.tables.mappings in
-    omega arith
-
-members_ordered : (b : Books) (g : GroupId) → Ordered b.tables.mappings → Ordered (members b.tables g)
+members_ordered : (b : Books) (g : GroupId) → AreOrdered b.tables.mappings → AreOrdered (members b.tables g)
 members_ordered b g o =
     record {
       rising = AllPairs-filter (λ (x y : Mapping). x.id.0 < y.id.0) (is_in g) b.tables.mappings o.rising;
@@ -245,8 +239,8 @@ stop_group_suits grain decisions w r way small st e =
     let none = none_of (refusals g) one.2 in
     let rows = st.sound.tables.mappings in
     let count : length ids ≡ length ms = length-map ms (λ (m : Mapping). m.id) in
-    let le : length ms ≤ length b.tables.mappings = few_members b g.id in
     let at_once : length b.tables.mappings ≤ 512 = st.few.at_once in
+    let le : length ms ≤ 512 = few_members b g.id at_once in
     let births : b.sheet.births ≤ decisions * 2 ^ 20 = st.few.births in
     let goes : Goes grain b w.picture (one_by_one no_restarts (member_deed way) b ids) (length ids * 513) =
     many_goes grain way ids b w.picture (sound_of decisions w st) at_once (omega arith) (apart_ids ms (members_ordered b g.id rows))

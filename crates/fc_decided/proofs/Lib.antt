@@ -30,14 +30,6 @@ pub mod Carrying
 pub mod Making
 pub mod Beginning
 pub mod Turning
-pub mod Rows
-pub mod TableSteps
-pub mod Ends
-pub mod Joint
-pub mod Quiet
-pub mod Plain
-pub mod Forced
-pub mod Stops
 pub mod Suiting
 pub mod Goings
 pub mod GroupStops
@@ -50,7 +42,9 @@ pub mod Turns
 pub mod Triggering
 pub mod Preparing
 pub mod Starting
-pub mod Suiting
 pub mod Allowed
 pub mod Commands
+pub mod Firsts
+pub mod Clearing
+pub mod Olds
 pub mod Decided

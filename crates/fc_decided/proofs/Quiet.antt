@@ -20,7 +20,7 @@ use Rattle.fc_entry.specs.Picture.{Picture}
 use Rattle.fc_decided.proofs.Apart.{fold_append, sheet_through, picture_through}
 use Rattle.fc_decided.proofs.Frame.{tabled}
 use Rattle.fc_decided.proofs.Lists.{first_in, later_in, in_cases, none_in}
-use Rattle.fc_decided.proofs.Rows.{Ordered}
+use Rattle.fc_decided.proofs.Setting.{AreOrdered}
 use Rattle.fc_decided.proofs.TableSteps.{TableStep, table_none, table_then, table_apart}
 use Rattle.fc_decided.proofs.Ends.{Rows, Follows, ends}
 use Rattle.fc_decided.proofs.Joint.{StateSeen, Joint, joint_ended, idle_unseen}
@@ -159,20 +159,20 @@ pub record IsIdOf (ds : List Mapping) (n : ℕ) : Type 0 where
   pub among : Contains ds d
   pub is : d.id.0 ≡ n
 
-pub rest_ordered : (d : Mapping) (ds : List Mapping) → Ordered (d ∷ ds) → Ordered ds
+pub rest_ordered : (d : Mapping) (ds : List Mapping) → AreOrdered (d ∷ ds) → AreOrdered ds
 rest_ordered d ds o =
     record {
       rising = λ i j x ij jl. o.rising (suc i) (suc j) x (omega arith) (omega arith);
       distinct = λ i j x ij jl. o.distinct (suc i) (suc j) x (omega arith) (omega arith);
     }
 
-pub first_apart : (d x : Mapping) (ds : List Mapping) → Ordered (d ∷ ds) → Contains ds x → x.id.0 ≢ d.id.0
+pub first_apart : (d x : Mapping) (ds : List Mapping) → AreOrdered (d ∷ ds) → Contains ds x → x.id.0 ≢ d.id.0
 first_apart d x ds o found e =
     let lt : d.id.0 < (get_or ds found.0 x).id.0 = o.rising 0 (suc found.0) x (omega arith) (omega (arith, found.1)) in
     let same : (get_or ds found.0 x).id.0 ≡ x.id.0 = ap (λ (y : Mapping). y.id.0) found.2 in
     omega arith
 
-pub all_stop : (ds : List Mapping) (b c : Books) (s : Sheet) (before after : ℕ → Type 0) → Standing b s.slots before → Ordered ds → ((d : Mapping) → Contains ds d → Contains b.tables.mappings d) →
+pub all_stop : (ds : List Mapping) (b c : Books) (s : Sheet) (before after : ℕ → Type 0) → Standing b s.slots before → AreOrdered ds → ((d : Mapping) → Contains ds d → Contains b.tables.mappings d) →
     ((d : Mapping) → Contains ds d → is_idle d.state ≡ false) → ((d : Mapping) → Contains ds d → seen s.slots d.id.0 ≡ None) → ((n : ℕ) → before n → IsIdOf ds n ⊎ after n) → EndsQuietly b s (all_deeds (stops_with c) ds) after
 all_stop [] b c s before after st ordered there busy none p =
     record {

@@ -35,9 +35,10 @@ use Rattle.fc_decided.proofs.Free.{FreeSlot, free_without, free_alone}
 use Rattle.fc_decided.proofs.Joint.{HasSeen, StateSeen, kept_left, joint_kept}
 use Rattle.fc_decided.proofs.Leaving.{Left, detached_left}
 use Rattle.fc_decided.proofs.Lists.{first_in, in_cases}
+use Rattle.fc_decided.proofs.Olds.{AreNeeded, needed_detached}
 use Rattle.fc_decided.proofs.Plain.{effects_append, ends_plain, whole_leaves}
 use Rattle.fc_decided.proofs.Quiet.{FitAll, Quietly, quiet, Standing, one_ends, cut_ends, IsIdOf}
-use Rattle.fc_decided.proofs.Rows.{one_row}
+use Rattle.fc_decided.proofs.Setting.{one_mapping}
 use Rattle.fc_decided.proofs.Seen.{Seen, seen, seen_slot, seen_place}
 use Rattle.fc_decided.proofs.TableSteps.{TableStep, table_none, table_then, table_apart}
 
@@ -59,6 +60,7 @@ record Detaches (s : Sheet) (m : MapId) : Type 0 where
   left : Left s.slots (sheet_step (λ grains. grains) s (Detach m)).slots (Only m.0)
   free : (n : ℕ) → n ≢ m.0 → FreeCopy s.slots n → FreeCopy (sheet_step (λ grains. grains) s (Detach m)).slots n
   shows : (picture : Picture) → leaves s.slots picture m ≡ picture
+  olds : AreNeeded s.slots → AreNeeded (sheet_step (λ grains. grains) s (Detach m)).slots
 
 detaches : (s : Sheet) (m : MapId) → IsSound s → FreeCopy s.slots m.0 → Detaches s m
 detaches s m i c =
@@ -87,6 +89,7 @@ detaches s m i c =
             live = f.live;
             whole = f.whole;
           });
+      olds = λ all. subst (λ (z : Sheet). AreNeeded z.slots) (sym step) (needed_detached s.births slots k i.sizes kl (ap (λ (t : Slot). list_all (λ b. b) t.held) c.free.is ∙ c.whole) all);
       shows = λ picture. whole_leaves slots picture m (seen_slot (slot_at slots k)) (seen_place slots m.0 k place) (ap (λ (t : Slot). list_all (λ b. b) t.held) c.free.is ∙ c.whole);
     }
 
@@ -121,6 +124,7 @@ pub record SettlesOne (grain : GrainSize) (c : Books) (picture : Picture) (m : M
   pub rows : (x : Mapping) → Contains c.tables.mappings x → x.id.0 ≢ m.id.0 → Contains (tabled c d.changes).tables.mappings x
   pub slots : (n : ℕ) → n ≢ m.id.0 → seen (sheet_through c.sheet d.events).slots n ≡ seen c.sheet.slots n
   pub free : (n : ℕ) → n ≢ m.id.0 → FreeCopy c.sheet.slots n → FreeCopy (sheet_through c.sheet d.events).slots n
+  pub olds : AreNeeded c.sheet.slots → AreNeeded (sheet_through c.sheet d.events).slots
 
 fewer_pending : (m : Mapping) (rest : List Mapping) (n : ℕ) → n ≢ m.id.0 → IsIdOf (m ∷ rest) n → IsIdOf rest n
 fewer_pending m rest n ne i =
@@ -149,7 +153,7 @@ stays_settled grain c picture m rest i st found sees =
           by_state = λ x there free.
               elim (cases_eq x.id.0 m.id.0) [
                 | inl e ↦
-                    let same : x ≡ m = one_row c.tables.mappings x m st.rows.tables.mappings there found e in
+                    let same : x ≡ m = one_mapping c.tables.mappings x m st.rows.tables.mappings there found e in
                     subst (λ (y : Mapping). StateSeen y.state (seen c.sheet.slots y.id.0) y.target.0) (sym same) sees
                 | inr ne ↦ st.joint.by_state x there (λ p. free (fewer_pending m rest x.id.0 ne p))
               ];
@@ -158,6 +162,7 @@ stays_settled grain c picture m rest i st found sees =
       rows = λ x there ne. there;
       slots = λ n ne. refl;
       free = λ n ne f. f;
+      olds = λ all. all;
     }
 
 -- it ends without a slot
@@ -179,6 +184,7 @@ ends_settled grain c picture m rest state i st found busy ok sees =
       rows = one.others;
       slots = λ n ne. ap (λ (x : Sheet). seen x.slots n) q.sheet;
       free = λ n ne g. subst (λ (x : Sheet). FreeCopy x.slots n) (sym q.sheet) g;
+      olds = λ all. subst (λ (x : Sheet). AreNeeded x.slots) (sym q.sheet) all;
     }
 
 no_cut : (grain : GrainSize) (b : Books) (m : Mapping) (picture : Picture) → is_whole b m ≡ true → after_effects grain picture (cut_of b m).effects ≡ picture
@@ -218,6 +224,7 @@ detach_settled grain b c picture m rest i st found busy whole copy =
       rows = one.others;
       slots = λ n ne. ap (λ (x : Sheet). seen x.slots n) q.sheet ∙ d.left.stays n ne;
       free = λ n ne g. subst (λ (x : Sheet). FreeCopy x.slots n) (sym q.sheet) (d.free n ne g);
+      olds = λ all. subst (λ (x : Sheet). AreNeeded x.slots) (sym q.sheet) (d.olds all);
     }
 
 -- ---- by its state

@@ -2,6 +2,7 @@
 #![tactic(auto)]
 
 mod access;
+mod lines;
 mod log;
 pub mod stop;
 pub mod store;
