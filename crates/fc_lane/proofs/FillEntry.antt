@@ -1,5 +1,5 @@
 -- The entry of a copy or a cleaning.
-use Rattle.std.proofs.Common.{◌≡◌, ℕ, ◌<◌, ◌≤◌, ◌/◌, ◌%◌, Bool, true, false, cond, Option, Some, None, IsSome, is_some, List, length, refl, sym, ap, subst, ◌∙◌, inl, inr, slice_index_or}
+use Rattle.std.proofs.Common.{◌≡◌, ℕ, ◌<◌, ◌≤◌, ◌/◌, ◌%◌, Bool, true, false, cond, Option, Some, None, IsSome, List, length, refl, sym, ap, subst, ◌∙◌, inl, inr, slice_index_or}
 use Rattle.fc_base.specs.Column.{needer}
 use Rattle.fc_base.specs.Sheet.{Slot, Sheet, slot_at, slot_id, column, birth_place, mapping_place}
 use Rattle.fc_base.specs.SheetFacts.{IsSound}
@@ -16,7 +16,7 @@ use Rattle.fc_entry.specs.declared.entry.Past.{Past}
 use Rattle.fc_entry.specs.declared.entry.Past.TheVariants.{Step}
 use Rattle.fc_grains.specs.Grains.{GrainsState}
 use Rattle.fc_lane.specs.Entering.{HasEntered, HasFilled, IsFill, steps_entry}
-use Rattle.fc_lane.specs.Lane.{LaneView, IsAsked, IsLaneOf, of}
+use Rattle.fc_lane.specs.Lane.{LaneView, IsLaneOf, of}
 use Rattle.fc_lane.specs.StepsEnd.{StepsEnd, torn_in}
 use Rattle.fc_lane.specs.declared.stop.Stop.{Stop}
 use Rattle.fc_lane.specs.declared.stop.Stop.TheVariants.{Failed, NoMemory}
@@ -26,11 +26,10 @@ use Rattle.fc_moves.proofs.Search.{cases_option}
 use Rattle.fc_pictures.proofs.Agreeing.{lane_law_holds}
 use Rattle.fc_rules.specs.GrainAnswers.{FillAnswers}
 use Rattle.fc_rules.specs.LaneRight.{IsRightInLane, LaneAnswers, MappingFill, record_of}
-use Rattle.fc_rules.specs.LaneTold.{LaneOf, LaneTold, place_of, told_past}
+use Rattle.fc_rules.specs.LaneTold.{LaneTold, place_of, told_past}
 use Rattle.fc_rules.specs.LaneTurn.{cleaned_slot, copied_slot, lacks_at, needer_at, spot_at}
 use Rattle.fc_rules.specs.Spot.{Spot}
 use Rattle.fc_rules.specs.Steps.{steps_of_fill}
-use Rattle.fc_sheets.proofs.Finding.{mapping_place_at}
 
 -- ---- which slot
 

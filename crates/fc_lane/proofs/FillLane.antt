@@ -1,48 +1,30 @@
 -- A copy or a cleaning of a grain in a lane.
-use Rattle.std.proofs.Common.{◌≡◌, ℕ, ◌+◌, ◌<◌, ◌≤◌, ◌/◌, ◌%◌, ◌^◌, Bool, true, false, cond, Option, Some, None, IsSome, is_some, List, [], ◌∷◌, length, map, reverse, refl, sym, ap, subst, ◌∙◌, arith, inl, inr, slice_index_or}
+use Rattle.std.proofs.Common.{◌≡◌, ℕ, ◌<◌, ◌≤◌, ◌/◌, ◌%◌, ◌^◌, false, Option, None, List, [], length, map, reverse, sym, ap, subst, ◌∙◌, arith}
 use Rattle.std.proofs.lemmas.List.{length-map, length-reverse}
-use Rattle.fc_base.specs.Column.{Column, needer}
+use Rattle.fc_base.specs.Column.{Column}
 use Rattle.fc_base.specs.Moves.{fill_moves, list_all_with_asked, list_with_asked}
 use Rattle.fc_base.specs.Plan.{move_at}
-use Rattle.fc_base.specs.Sheet.{Slot, Sheet, slot_at, slot_id, column, birth_place, mapping_place}
+use Rattle.fc_base.specs.Sheet.{Sheet, column, birth_place}
 use Rattle.fc_base.specs.SheetFacts.{IsSound}
-use Rattle.fc_base.specs.declared.ids.GrainNo.{GrainNo}
-use Rattle.fc_base.specs.declared.ids.MapId.{MapId}
-use Rattle.fc_base.specs.declared.ids.SlotId.{SlotId}
 use Rattle.fc_base.specs.declared.request.Move.{Move}
-use Rattle.fc_base.specs.declared.request.Reply.TheVariants.{Moved}
-use Rattle.fc_base.specs.declared.request.Request.{Request}
-use Rattle.fc_base.specs.declared.request.Request.TheVariants.{Copy, Clean}
-use Rattle.fc_chain.specs.Chains.{Chains, found}
 use Rattle.fc_chain.specs.Planning.{CanFill, moves_of_named, volume_count}
 use Rattle.fc_chain.proofs.Whole.{fits_short}
-use Rattle.fc_entry.specs.declared.entry.Entry.{Entry}
-use Rattle.fc_entry.specs.declared.entry.Past.{Past}
-use Rattle.fc_entry.specs.declared.entry.Past.TheVariants.{Step}
-use Rattle.fc_grains.specs.Grains.{GrainsState}
-use Rattle.fc_lane.specs.Entering.{HasEntered, HasFilled, IsFill, SameBeside, steps_entry}
-use Rattle.fc_lane.specs.Lane.{LaneView, IsAsked, IsLaneOf, IsReady, of}
+use Rattle.fc_lane.specs.Entering.{HasFilled, IsFill, SameBeside}
+use Rattle.fc_lane.specs.Lane.{LaneView, IsLaneOf, IsReady, of}
 use Rattle.fc_lane.specs.StepsEnd.{CanMakeMoves, StepsEnd, StepsStand, torn_in}
 use Rattle.fc_lane.specs.declared.stop.Stop.{Stop}
-use Rattle.fc_lane.specs.declared.stop.Stop.TheVariants.{Failed, NoMemory}
-use Rattle.fc_lane.proofs.Entering.{entry_done, entry_failed, entry_refused, lane_after, same_after, stands_at}
-use Rattle.fc_lane.proofs.Naming.{birth_place_is}
+use Rattle.fc_lane.proofs.Entering.{stands_at}
 use Rattle.fc_lane.proofs.WriteEntry.{some_live}
 use Rattle.fc_moves.proofs.Filling.{filled}
 use Rattle.fc_moves.proofs.Listing.{reached_root}
 use Rattle.fc_moves.proofs.Members.{not_in_nil}
 use Rattle.fc_moves.proofs.Prefixes.{Fits, Fits.fits_none}
-use Rattle.fc_moves.proofs.Search.{cases_option}
 use Rattle.fc_pictures.specs.StepsLaw.{IsLiveAt}
-use Rattle.fc_pictures.proofs.Agreeing.{lane_law_holds}
 use Rattle.fc_pictures.proofs.Running.{steps_law_holds}
-use Rattle.fc_rules.specs.GrainAnswers.{FillAnswers}
-use Rattle.fc_rules.specs.LaneRight.{IsRightInLane, LaneAnswers, MappingFill, record_of}
-use Rattle.fc_rules.specs.LaneTold.{LaneOf, LaneTold, place_of, told_past}
-use Rattle.fc_rules.specs.LaneTurn.{cleaned_slot, copied_slot, lacks_at, needer_at, spot_at}
-use Rattle.fc_rules.specs.Spot.{Spot, move_in}
-use Rattle.fc_rules.specs.Steps.{step_of_move, steps_of_fill}
-use Rattle.fc_sheets.proofs.Finding.{mapping_place_at}
+use Rattle.fc_rules.specs.LaneTold.{LaneOf, LaneTold, place_of}
+use Rattle.fc_rules.specs.LaneTurn.{spot_at}
+use Rattle.fc_rules.specs.Spot.{move_in}
+use Rattle.fc_rules.specs.Steps.{step_of_move}
 
 -- ---- how long the plan is
 

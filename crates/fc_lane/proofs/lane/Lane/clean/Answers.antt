@@ -1,4 +1,4 @@
-use Rattle.std.proofs.Common.{◌≡◌, ◌/◌, ℕ, refl, ap, sym, subst, ◌∙◌, Some, IfSome, IsSome}
+use Rattle.std.proofs.Common.{◌≡◌, ◌/◌, ℕ, ap, sym, subst, ◌∙◌, Some, IfSome}
 use Rattle.fc_base.specs.Column.{needer}
 use Rattle.fc_base.specs.Sheet.{birth_place, column, mapping_place}
 use Rattle.fc_base.specs.declared.ids.SlotId.{SlotId}

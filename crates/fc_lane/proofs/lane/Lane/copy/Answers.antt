@@ -1,12 +1,10 @@
-use Rattle.std.proofs.Common.{◌≡◌, ℕ, refl, ap, sym, subst, ◌∙◌, Some, IfSome, IsSome}
+use Rattle.std.proofs.Common.{◌≡◌, ap, subst, ◌∙◌, IfSome}
 use Rattle.fc_base.specs.Sheet.{birth_place, mapping_place}
 use Rattle.fc_base.specs.declared.ids.SlotId.{SlotId}
 use Rattle.fc_base.specs.declared.request.Reply.TheVariants.{Moved}
-use Rattle.fc_base.specs.declared.request.Request.TheVariants.{Copy, Clean}
-use Rattle.fc_lane.specs.Entering.{HasEntered, steps_entry}
-use Rattle.fc_lane.specs.Lane.{LaneView, of}
-use Rattle.fc_rules.specs.LaneTold.{LaneTold, place_of}
-use Rattle.fc_rules.specs.LaneTurn.{copied_slot, cleaned_slot}
+use Rattle.fc_base.specs.declared.request.Request.TheVariants.{Copy}
+use Rattle.fc_lane.specs.Entering.{steps_entry}
+use Rattle.fc_lane.specs.Lane.{LaneView}
 use Rattle.fc_lane.proofs.FillEntry.{copy_fill, copy_entered}
 use Rattle.fc_lane.proofs.lane.Lane.copy.Goals as goal
 

@@ -1,4 +1,4 @@
-use Rattle.std.proofs.Common.{◌≡◌, ◌/◌, ℕ, List, refl, ap, sym, subst, ◌∙◌}
+use Rattle.std.proofs.Common.{◌/◌, List, refl, ap, sym, subst, ◌∙◌}
 use Rattle.fc_base.specs.MovePlan.{PlannedMoves}
 use Rattle.fc_base.specs.declared.request.Move.{Move}
 use Rattle.fc_lane.specs.Entering.{HasFilled}
