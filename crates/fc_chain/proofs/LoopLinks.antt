@@ -7,7 +7,7 @@ use Rattle.fc_chain.specs.declared.loops.Link.{Link}
 use Rattle.fc_chain.specs.declared.rows.Row.{Row}
 use Rattle.fc_chain.specs.Links.{no_link, link_at, HasLink, AreWithin}
 use Rattle.fc_chain.specs.Rows.{row_at}
-use Rattle.fc_chain.specs.Joins.{AreTogether, IsListedAt, FoundNode, IsRising, LinkedTo, with_link, IsJoin, IsDone, AreLinked}
+use Rattle.fc_chain.specs.Joins.{AreTogether, IsListedAt, FoundNode, IsRising, LinkedTo, with_link, IsRepeated, IsJoin, IsDone, AreLinked}
 use Rattle.fc_chain.proofs.LoopVolumes.{one_place}
 
 -- ---- one link more
@@ -130,6 +130,33 @@ linked_end rows volumes links place behind together after ends l = linked_next r
 
 pub linked_live : (rows : List Row) (volumes : List ℕ) (links : List Link) (place : ℕ) → (row_at rows place).is_live ≡ true → AreLinked rows volumes links place 0 → AreLinked rows volumes links (place + 1) 0
 linked_live rows volumes links place live l = linked_next rows volumes links place 0 (λ v i j le n. both_ways (row_at rows place).is_live n.old_is_old live) l
+
+-- the older row of the volume has made the links already
+pub linked_repeated : (rows : List Row) (volumes : List ℕ) (links : List Link) (place : ℕ) → IsRepeated rows place → AreLinked rows volumes links place 0 → AreLinked rows volumes links (place + 1) 0
+linked_repeated rows volumes links place r l =
+    record {
+      only = l.only;
+      all = λ o v i j n d. elim d [
+        | inr s ↦ absurd (let t : v < 0 = s.1 in omega arith)
+        | inl lt ↦ elim (cases_eq o place) [
+          | inr ne ↦ l.all o v i j n (inl (omega arith))
+          | inl e ↦ l.all r.at v i j (older (subst (λ (z : ℕ). IsJoin rows volumes z v i j) e n)) (inl r.before)
+        ]
+      ];
+    }
+  where
+    older : {v i j : ℕ} → IsJoin rows volumes place v i j → IsJoin rows volumes r.at v i j
+    older {v} n =
+        record {
+          before = (let a : r.at < place = r.before in let b : place < v = n.before in omega arith);
+          there = n.there;
+          one_chain = r.one_chain ∙ n.one_chain;
+          old_is_old = r.is_old;
+          live_is_live = n.live_is_live;
+          from_is = record { there = n.from_is.there; is = n.from_is.is ∙ sym r.of_volume };
+          to_is = n.to_is;
+          other = n.other;
+        }
 
 pub linked_unlisted : (rows : List Row) (volumes : List ℕ) (links : List Link) (place : ℕ) (found : Option ℕ) → found ≡ None → FoundNode volumes (row_at rows place).volume found → AreLinked rows volumes links place 0 → AreLinked rows volumes links (place + 1) 0
 linked_unlisted rows volumes links place found e f l = linked_next rows volumes links place 0 (λ v i j le n. subst (λ (z : Option ℕ). FoundNode volumes (row_at rows place).volume z) e f i n.from_is) l

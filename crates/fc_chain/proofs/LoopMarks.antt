@@ -1,6 +1,7 @@
 -- Marks along links: what one more link, and one more level, leave of them.
-use Rattle.std.proofs.Common.{◌≡◌, ◌≢◌, ℕ, zero, suc, ◌+◌, ◌<◌, ◌≤◌, Bool, true, false, cond, List, [], ◌∷◌, length, set, get_or-set_same, get_or-set_other, refl, sym, ap, subst, ◌∙◌, arith, ◌⊎◌, inl, inr}
+use Rattle.std.proofs.Common.{◌≡◌, ◌≢◌, ℕ, suc, ◌+◌, ◌<◌, ◌≤◌, Bool, true, false, cond, List, [], ◌∷◌, length, set, get_or-set_same, get_or-set_other, refl, sym, ap, subst, ◌∙◌, arith, ◌⊎◌, inl, inr}
 use Rattle.std.proofs.lemmas.Bool.Decides.{nat_tests}
+use Rattle.std.proofs.lemmas.List.Sums.{sum_by-set, count_by-le-length}
 use Rattle.std.proofs.lemmas.Bool.{cases_eq}
 use Rattle.fc_chain.specs.declared.loops.Link.{Link}
 use Rattle.fc_chain.specs.Routes.{RouteBy, mark_at, AreReal, AreMarkedTo, AreMarked}
@@ -158,40 +159,20 @@ marked_none links start marks z =
 
 -- ---- how many have no mark
 
-unmarked_head : (x : ℕ) (xs : List ℕ) → unmarked (x ∷ xs) ≡ cond (is_zero x) 1 0 + unmarked xs
-unmarked_head x xs = refl
-
-unmarked_zero : (xs : List ℕ) → unmarked (0 ∷ xs) ≡ unmarked xs + 1
-unmarked_zero xs = let e : unmarked (0 ∷ xs) ≡ 1 + unmarked xs = refl in omega arith
-
-unmarked_suc : (m : ℕ) (xs : List ℕ) → unmarked (suc m ∷ xs) ≡ unmarked xs
-unmarked_suc m xs =
-    let f : is_zero (suc m) ≡ false = grind (arith, nat_tests) in
-    let e : unmarked (suc m ∷ xs) ≡ 0 + unmarked xs = ap (λ b. cond b 1 0 + unmarked xs) f in
-    omega arith
-
 pub unmarked_fits : (marks : List ℕ) → unmarked marks ≤ length marks
-unmarked_fits [] = omega arith
-unmarked_fits (x ∷ xs) =
-    let e : unmarked (x ∷ xs) ≡ cond (is_zero x) 1 0 + unmarked xs = unmarked_head x xs in
-    let a : unmarked xs ≤ length xs = unmarked_fits xs in
-    let b : cond (is_zero x) 1 0 ≤ 1 = one_at_most (is_zero x) in
-    omega arith
-  where
-    one_at_most : (b : Bool) → cond b 1 0 ≤ 1
-    one_at_most true = omega arith
-    one_at_most false = omega arith
+unmarked_fits marks = count_by-le-length is_zero marks
+
+abbrev counts_as : ℕ → ℕ
+counts_as mark = cond (is_zero mark) 1 0
 
 -- one node fewer has none
 unmarked_less : (marks : List ℕ) (v m : ℕ) → v < length marks → mark_at marks v ≡ 0 → unmarked (set marks v (suc m)) + 1 ≡ unmarked marks
-unmarked_less [] v m lt z = absurd (omega arith)
-unmarked_less (x ∷ xs) zero m lt z = ap (λ n. n + 1) (unmarked_suc m xs) ∙ (sym (unmarked_zero xs) ∙ ap (λ n. unmarked (n ∷ xs)) (sym z))
-unmarked_less (x ∷ xs) (suc v) m lt z =
-    let e : unmarked (set xs v (suc m)) + 1 ≡ unmarked xs = unmarked_less xs v m (omega arith) z in
-    let a : unmarked (x ∷ set xs v (suc m)) ≡ cond (is_zero x) 1 0 + unmarked (set xs v (suc m)) = unmarked_head x (set xs v (suc m)) in
-    let b : unmarked (x ∷ xs) ≡ cond (is_zero x) 1 0 + unmarked xs = unmarked_head x xs in
-    let c : unmarked (x ∷ set xs v (suc m)) + 1 ≡ unmarked (x ∷ xs) = omega arith in
-    c
+unmarked_less marks v m lt z =
+    let none : is_zero (suc m) ≡ false = grind (arith, nat_tests) in
+    let before : counts_as (mark_at marks v) ≡ 1 = ap counts_as z in
+    let after : counts_as (suc m) ≡ 0 = ap (λ (b : Bool). cond {A = ℕ} b 1 0) none in
+    let e : unmarked (set marks v (suc m)) + counts_as (mark_at marks v) ≡ unmarked marks + counts_as (suc m) = sum_by-set counts_as marks v (suc m) 0 lt in
+    omega arith
 
 -- ---- one link
 

@@ -21,6 +21,10 @@ way_route : (s : Shape) (v w : ℕ) → Way s v w → (xs : List ℕ) × RouteBy
 way_route s v w (last_edge e) = ([], e)
 way_route s v w (next_edge {w = x} e y) = let r = way_route s x w y in (x ∷ r.0, (e, r.1))
 
+route_way : (s : Shape) (v : ℕ) (xs : List ℕ) (w : ℕ) → RouteBy (Edge s) v xs w → Way s v w
+route_way s v [] w e = last_edge e
+route_way s v (x ∷ xs) w r = next_edge r.0 (route_way s x xs w r.1)
+
 to_route : (s : Shape) (v : ℕ) (xs : List ℕ) (w : ℕ) → RouteBy (Edge s) v xs w → IsRoute s v xs w
 to_route s v [] w e = e
 to_route s v (x ∷ xs) w r = (r.0, to_route s x xs w r.1)
@@ -57,24 +61,16 @@ no_loop_is s t = λ v y. (let r = way_route s v v y in t v r.0 r.1)
 
 -- the answer for one shape is that for another with the same edges
 pub answer_same : (s t : Shape) → ((v w : ℕ) → Edge s v w → Edge t v w) → ((v w : ℕ) → Edge t v w → Edge s v w) → (o : Option (List VolId)) → LoopAnswer s o → LoopAnswer t o
-answer_same s t h b None n = λ v y. (let r = way_route t v v y in n v (to_way s v r.0 v (move_route (Edge t) (Edge s) b v r.0 v r.1)))
-  where
-    to_way : (s : Shape) (v : ℕ) (xs : List ℕ) (w : ℕ) → RouteBy (Edge s) v xs w → Way s v w
-    to_way s v [] w e = last_edge e
-    to_way s v (x ∷ xs) w r = next_edge r.0 (to_way s x xs w r.1)
+answer_same s t h b None n = λ v y. (let r = way_route t v v y in n v (route_way s v r.0 v (move_route (Edge t) (Edge s) b v r.0 v r.1)))
 answer_same s t h b (Some []) n = n
 answer_same s t h b (Some (v ∷ vs)) n =
     let names : List ℕ = map (λ (w : VolId). w.0) vs in
     told_loop_is t v.0 names (told_same (Edge s) (Edge t) h b v.0 names (record {
       is_loop = from_route s v.0 names v.0 n.is_loop;
-      least = λ w xs r. n.least w (as_way s w xs w r);
+      least = λ w xs r. n.least w (route_way s w xs w r);
       shortest = λ other r. n.shortest other (to_route s v.0 other v.0 r);
       earliest = λ other r l. n.earliest other (to_route s v.0 other v.0 r) l;
     }))
-  where
-    as_way : (s : Shape) (v : ℕ) (xs : List ℕ) (w : ℕ) → RouteBy (Edge s) v xs w → Way s v w
-    as_way s v [] w e = last_edge e
-    as_way s v (x ∷ xs) w r = next_edge r.0 (as_way s x xs w r.1)
 
 -- ---- links and edges
 

@@ -1,10 +1,11 @@
 -- The volumes that have old rows, in rising order, each once.
-use Rattle.std.proofs.Common.{◌≡◌, ℕ, zero, suc, ◌+◌, ◌<◌, ◌≤◌, true, Result, Ok, Err, List, [], ◌∷◌, ◌++◌, length, take, drop, get_or, Contains, nat_cmp, MatchResult, refl, sym, ap, subst, ◌∙◌, arith, inl, inr, length-append}
+use Rattle.std.proofs.Common.{◌≡◌, ℕ, ◌+◌, ◌<◌, ◌≤◌, true, Result, Ok, Err, List, [], ◌∷◌, ◌++◌, length, take, drop, get_or, Contains, nat_cmp, MatchResult, sym, ap, subst, ◌∙◌, arith, inl, inr, length-append}
 use Rattle.std.specs.List.Sorted.{IsPermutation, IsBinarySearchResult}
 use Rattle.std.proofs.lemmas.Bool.{cases_eq, cases_lt, both_ways}
 use Rattle.std.proofs.lemmas.List.Sorted.{Contains-permutation, searched}
 use Rattle.std.proofs.Math.ListN.{get_or-append}
-use Rattle.std.proofs.Math.Seq.{get_or-append_seam}
+use Rattle.std.proofs.Math.Seq.{get_or-append_seam, take-length}
+use Rattle.std.proofs.lemmas.List.{get_or_default, take-append-le}
 use Rattle.fc_chain.specs.declared.rows.Row.{Row}
 use Rattle.fc_chain.specs.Rows.{row_at}
 use Rattle.fc_chain.specs.Joins.{volume_at, HasOld, IsListedAt, IsListed, IsRising, NeverFalls, AreOldVolumes}
@@ -23,23 +24,17 @@ listed_before volumes v w (at, l) = (
 listed_last : (volumes : List ℕ) (w : ℕ) → IsListed (volumes ++ w ∷ []) w
 listed_last volumes w = (length volumes, record { there = (let e : length (volumes ++ w ∷ []) ≡ length volumes + length (w ∷ []) = length-append volumes (w ∷ []) in omega arith); is = get_or-append_seam volumes w [] 0 })
 
-at_default : (xs : List ℕ) (k a b : ℕ) → k < length xs → get_or xs k a ≡ get_or xs k b
-at_default [] k a b lt = absurd (omega arith)
-at_default (x ∷ xs) zero a b lt = refl
-at_default (x ∷ xs) (suc k) a b lt = at_default xs k a b (omega arith)
-
 listed_contains : (volumes : List ℕ) (v : ℕ) → IsListed volumes v → Contains volumes v
-listed_contains volumes v (at, l) = (at, l.there, at_default volumes at v 0 l.there ∙ l.is)
+listed_contains volumes v (at, l) = (at, l.there, get_or_default volumes at v 0 l.there ∙ l.is)
 
 contains_listed : (volumes : List ℕ) (v : ℕ) → Contains volumes v → IsListed volumes v
-contains_listed volumes v (at, lt, e) = (at, record { there = lt; is = at_default volumes at 0 v lt ∙ e })
+contains_listed volumes v (at, lt, e) = (at, record { there = lt; is = get_or_default volumes at 0 v lt ∙ e })
 
 pub listed_sorted : (old new : List ℕ) (v : ℕ) → IsPermutation old new → IsListed old v → IsListed new v
 listed_sorted old new v p l = contains_listed new v (Contains-permutation old new v p (listed_contains old v l))
 
-take_front : (xs ys : List ℕ) → take (length xs) (xs ++ ys) ≡ xs
-take_front [] ys = refl
-take_front (x ∷ xs) ys = ap (λ z. x ∷ z) (take_front xs ys)
+take_whole : (xs ys : List ℕ) → take (length xs) (xs ++ ys) ≡ xs
+take_whole xs ys = take-append-le (length xs) xs ys (omega arith) ∙ take-length xs
 
 -- ---- the old rows
 
@@ -117,4 +112,4 @@ volumes_sorted rows old before sorted after new len all b l s p a rising each =
     whole = omega arith
 
     same : after ≡ sorted
-    same = a ∙ (ap (λ n. take n (sorted ++ drop (length sorted) old)) whole ∙ take_front sorted (drop (length sorted) old))
+    same = a ∙ (ap (λ n. take n (sorted ++ drop (length sorted) old)) whole ∙ take_whole sorted (drop (length sorted) old))

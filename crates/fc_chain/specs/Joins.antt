@@ -67,6 +67,14 @@ abbrev pub with_link : List Link → ℕ → Option ℕ → List Link
 with_link links from None = links
 with_link links from (Some to) = links ++ (record { from = from; to = to }) ∷ []
 
+-- An old row of the same volume stands before the row in its chain.
+pub record IsRepeated (rows : List Row) (place : ℕ) : Type 0 where
+  pub at : ℕ
+  pub before : at < place
+  pub one_chain : (row_at rows at).chain ≡ (row_at rows place).chain
+  pub is_old : (row_at rows at).is_live ≡ false
+  pub of_volume : (row_at rows at).volume ≡ (row_at rows place).volume
+
 -- The pair of rows stands among the first.
 abbrev pub IsDone : ℕ → ℕ → ℕ → ℕ → Type 0
 IsDone place behind old live = (old < place) ⊎ ((old ≡ place) × (live < behind))

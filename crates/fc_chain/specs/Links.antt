@@ -1,5 +1,5 @@
 -- Links from node to node, and words for marking along them.
-use Rattle.std.specs.Prelude.{◌≡◌, ◌⊎◌, ℕ, ◌+◌, ◌<◌, ◌≤◌, eqb, Bool, Option, Some, None, List, [], ◌∷◌, length, slice_index_or, cond, min}
+use Rattle.std.specs.Prelude.{◌≡◌, ◌⊎◌, ℕ, ◌<◌, ◌≤◌, Bool, eqb, Option, Some, None, List, length, slice_index_or, count_by, min}
 use Rattle.fc_chain.specs.declared.loops.Link.{Link}
 use Rattle.fc_chain.specs.Routes.{mark_at}
 
@@ -33,8 +33,7 @@ is_zero mark = eqb mark 0
 
 -- How many nodes have no mark.
 abbrev pub unmarked : List ℕ → ℕ
-unmarked [] = 0
-unmarked (m ∷ ms) = cond (is_zero m) 1 0 + unmarked ms
+unmarked marks = count_by is_zero marks
 
 -- A link fits where it leads from the node to one with the mark.
 pub record FitsStep (here mark : ℕ) (marks : List ℕ) (link : Link) : Type 0 where

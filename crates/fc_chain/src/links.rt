@@ -1,12 +1,12 @@
 //! The links that chains make between the volumes that have old rows: from such a volume to each volume with a live row
 //! behind the old one in its chain. The volumes are counted in rising order. And the loop that is told of them.
 
-ghost use Rattle.std.specs.Prelude.{◌≡◌, ◌↔◌, ℕ, ◌+◌, ◌<◌, ◌≤◌, ◌++◌, ◌∷◌, [], length, map, false, IsTrue, OnOk, IfOk, Contains, slice_index_or};
+ghost use Rattle.std.specs.Prelude.{◌≡◌, ◌↔◌, ℕ, ◌+◌, ◌<◌, ◌≤◌, ◌++◌, ◌∷◌, [], length, map, true, false, IsTrue, OnOk, IfOk, Contains, slice_index_or};
 ghost use Rattle.std.specs.List.Sorted.{IsPermutation};
 ghost use Rattle.fc_base.specs.SheetView.{LoopAnswer};
 ghost use Rattle.fc_chain.specs.Links.{AreWithin};
 ghost use Rattle.fc_chain.specs.Rows.{row_at, row_shape};
-ghost use Rattle.fc_chain.specs.Joins.{AreTogether, volume_at, HasOld, IsListed, IsListedAt, FoundNode, IsRising, NeverFalls, AreOldVolumes, LinkedTo, with_link, AreLinked, AllBelow};
+ghost use Rattle.fc_chain.specs.Joins.{AreTogether, volume_at, HasOld, IsListed, IsListedAt, FoundNode, IsRising, NeverFalls, AreOldVolumes, LinkedTo, with_link, IsRepeated, AreLinked, AllBelow};
 ghost use Rattle.fc_base.specs.declared.ids.VolId.{VolId as VolumeId};
 
 use crate::loops::{Link, told_loop};
@@ -157,17 +157,56 @@ fn add_links(
     Ok(())
 }
 
-/// The links that all old rows make.
+/// Whether an old row of the same volume stands before the row in its chain, so that it makes no link of its own.
+fn is_repeated(rows: &[Row], place: usize) -> bool
+    requires { place < length rows.now }
+    ensures { result ≡ true → IsRepeated rows.now place }
+{
+    let row = rows[place];
+    let mut before = place;
+    while before > 0 {
+        before -= 1;
+        if rows[before].chain != row.chain {
+            return false;
+        }
+        if !rows[before].is_live && rows[before].volume == row.volume {
+            return true;
+        }
+    }
+    false
+}
+
+/// Adds the links that a row makes.
+fn link_row(
+    rows: &[Row],
+    volumes: &[u32],
+    place: usize,
+    links: &mut Vec<Link>,
+) -> Result<(), NoMemory>
+    requires rising { IsRising volumes.now }
+    requires together { AreTogether rows.now }
+    requires there { place < length rows.now }
+    requires so_far { AreLinked rows.now volumes.now links.old.items place 0 }
+    ensures { OnOk result (AreLinked rows.now volumes.now links.new.items (place + 1) 0) }
+{
+    if rows[place].is_live {
+        return Ok(());
+    }
+    if is_repeated(rows, place) {
+        return Ok(());
+    }
+    add_links(rows, volumes, place, links)
+}
+
+/// The links that all rows make.
 fn list_links(alloc: Global, rows: &[Row], volumes: &[u32]) -> Result<Vec<Link>, NoMemory>
     requires rising { IsRising volumes.now }
     requires together { AreTogether rows.now }
     ensures { IfOk result (λ links. AreLinked rows.now volumes.now links.items (length rows.now) 0) }
 {
     let mut links = Vec::new(alloc);
-    for (place, row) in rows.iter().enumerate() {
-        if !row.is_live {
-            add_links(rows, volumes, place, &mut links)?;
-        }
+    for place in 0..rows.len() {
+        link_row(rows, volumes, place, &mut links)?;
     }
     Ok(links)
 }

@@ -3,3 +3,4 @@ pub mod Accessing
 pub mod Logging
 pub mod Places
 pub mod Asked
+pub mod LaneSheets

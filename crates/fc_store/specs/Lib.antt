@@ -3,3 +3,4 @@ pub mod Store
 pub mod Answering
 pub mod Asking
 pub mod Apart
+pub mod LaneSheet

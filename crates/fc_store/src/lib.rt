@@ -4,5 +4,6 @@
 mod access;
 mod lines;
 mod log;
+mod sheet;
 pub mod stop;
 pub mod store;
