@@ -21,3 +21,5 @@ pub mod WriteAll
 pub mod Entering
 pub mod WriteEntry
 pub mod WriteLane
+pub mod FillLane
+pub mod FillEntry

@@ -1,5 +1,5 @@
 -- Entries of a lane, and what stands after them.
-use Rattle.std.specs.Prelude.{◌≡◌, ℕ, Option, Some, None, List, []}
+use Rattle.std.specs.Prelude.{◌≡◌, ℕ, ◌%◌, false, Option, Some, None, List, []}
 use Rattle.fc_base.specs.declared.request.Move.{Move}
 use Rattle.fc_base.specs.declared.request.Place.TheVariants.{Lane}
 use Rattle.fc_base.specs.declared.request.Reply.{Reply}
@@ -7,12 +7,12 @@ use Rattle.fc_base.specs.declared.request.Reply.TheVariants.{Done, Moved, DiskFa
 use Rattle.fc_base.specs.declared.request.Request.{Request}
 use Rattle.fc_base.specs.declared.request.Request.TheVariants.{Write as Writes, Copy as Copies, Clean as Cleans}
 use Rattle.fc_base.specs.declared.request.WritePart.{WritePart}
-use Rattle.fc_base.specs.Sheet.{live_place}
+use Rattle.fc_base.specs.Sheet.{birth_place, column, live_place}
 use Rattle.fc_base.specs.SheetFacts.{IsSound}
 use Rattle.fc_entry.specs.Picture.{grain_of_block}
 use Rattle.fc_entry.specs.declared.entry.Entry.{Entry}
 use Rattle.fc_lane.specs.Lane.{LaneView, IsLaneOf, IsAsked, IsSameLane, KeepsQuiet, of}
-use Rattle.fc_lane.specs.StepsEnd.{torn_in}
+use Rattle.fc_lane.specs.StepsEnd.{StepsEnd, StepsStand, torn_in}
 use Rattle.fc_lane.specs.declared.ending.Ask.{Ask}
 use Rattle.fc_lane.specs.declared.ending.Ask.TheVariants.{Write, Copy, Clean}
 use Rattle.fc_lane.specs.declared.stop.Stop.{Stop}
@@ -21,6 +21,8 @@ use Rattle.fc_pictures.specs.StepsLaw.{IsLiveAt}
 use Rattle.fc_rules.specs.LaneFits.{FitsPart}
 use Rattle.fc_rules.specs.LaneRight.{IsRightInLane, record_of}
 use Rattle.fc_rules.specs.LaneTold.{LaneOf, LaneTold, place_of, told_past}
+use Rattle.fc_rules.specs.LaneTurn.{spot_at}
+use Rattle.fc_rules.specs.Steps.{steps_of_fill}
 
 -- What is asked of steps, and what is answered when all of them are done.
 abbrev pub request_of : Ask → Request
@@ -70,3 +72,25 @@ pub record FitsWrite (l : LaneOf) (told : LaneTold) (part : WritePart) (t : ℕ)
   pub place : live_place told.sheet.slots part.volume.0 ≡ Some t
   pub live : IsLiveAt told.sheet.slots (place_of l (grain_of_block l.grain part.block)) t
   pub sound : IsSound told.sheet
+
+-- The parts that steps don't touch.
+pub record SameBeside (old new : LaneView) : Type 0 where
+  pub lane : new.lane ≡ old.lane
+  pub lanes : new.lanes ≡ old.lanes
+  pub volumes : new.accesses.volumes ≡ old.accesses.volumes
+  pub flags : new.work.flags ≡ old.work.flags
+
+-- A fill of the live slot at place `k`, which has this name, and lacks the grain of this number in the lane.
+pub record IsFill (l : LaneOf) (told : LaneTold) (slot number k : ℕ) : Type 0 where
+  pub place : birth_place told.sheet.slots slot ≡ Some k
+  pub live : IsLiveAt told.sheet.slots (place_of l number) k
+  pub lacks : (column told.sheet.slots (place_of l number)).held k ≡ false
+  pub of_lane : number % l.lanes ≡ l.lane
+
+-- Its steps ended so.
+pub record HasFilled (old : LaneView) (slot number : ℕ) (moves : List Move) (calls : ℕ) (stop : Option Stop) (new : LaneView) : Type 0 where
+  pub beside : SameBeside old new
+  pub plan_room : new.plan_room ≡ old.plan_room
+  pub ends : (told : LaneTold) (k : ℕ) → IsLaneOf old told → IsFill (of old) told slot number k →
+      StepsEnd (spot_at (of old) told number) (steps_of_fill (spot_at (of old) told number) k) moves calls stop old.grains new.grains
+      × StepsStand (of old) told None moves calls (torn_in stop) old.chains old.grains new.chains new.grains

@@ -7,9 +7,10 @@
 //!
 //! In reading order: `access` (how hosts reach the volumes), `copy` (events are copied), `ready` (memory for the
 //! events of a command is taken before any is done), `parts` (the events are done, and take none), `stop` and `body`
-//! (one move of a grain: its slot gets its own copy, and what stands where a disk fails in the middle). Then the calls of
-//! `lane`, by file: `new` (a lane begins), `rooms` (memory for the next entry), `events` (a command), `read`, and `asking`
-//! (what a lane tells).
+//! (one move of a grain: its slot gets its own copy, and what stands where a disk fails in the middle), `steps` (moves one
+//! after the other), `write_step` (the write after them), and `ending` (the entry that tells of them). Then the calls of
+//! `lane`, by file: `new` (a lane begins), `rooms` (memory for the next entry), `events` (a command), `read`, `write`,
+//! `fill` (copies and cleanings), and `asking` (what a lane tells).
 #![tactic(auto)]
 
 mod access;
@@ -18,6 +19,7 @@ mod body;
 mod copy;
 mod ending;
 mod events;
+mod fill;
 pub mod lane;
 mod new;
 mod parts;

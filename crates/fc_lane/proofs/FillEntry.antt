@@ -1,0 +1,197 @@
+-- The entry of a copy or a cleaning.
+use Rattle.std.proofs.Common.{◌≡◌, ℕ, ◌<◌, ◌≤◌, ◌/◌, ◌%◌, Bool, true, false, cond, Option, Some, None, IsSome, List, length, refl, sym, ap, subst, ◌∙◌, inl, inr, slice_index_or}
+use Rattle.fc_base.specs.Column.{needer}
+use Rattle.fc_base.specs.Sheet.{Slot, Sheet, slot_at, slot_id, column, birth_place, mapping_place}
+use Rattle.fc_base.specs.SheetFacts.{IsSound}
+use Rattle.fc_base.specs.declared.ids.GrainNo.{GrainNo}
+use Rattle.fc_base.specs.declared.ids.MapId.{MapId}
+use Rattle.fc_base.specs.declared.ids.SlotId.{SlotId}
+use Rattle.fc_base.specs.declared.request.Move.{Move}
+use Rattle.fc_base.specs.declared.request.Reply.TheVariants.{Moved}
+use Rattle.fc_base.specs.declared.request.Request.{Request}
+use Rattle.fc_base.specs.declared.request.Request.TheVariants.{Copy, Clean}
+use Rattle.fc_chain.specs.Chains.{found}
+use Rattle.fc_entry.specs.declared.entry.Entry.{Entry}
+use Rattle.fc_entry.specs.declared.entry.Past.{Past}
+use Rattle.fc_entry.specs.declared.entry.Past.TheVariants.{Step}
+use Rattle.fc_grains.specs.Grains.{GrainsState}
+use Rattle.fc_lane.specs.Entering.{HasEntered, HasFilled, IsFill, steps_entry}
+use Rattle.fc_lane.specs.Lane.{LaneView, IsLaneOf, of}
+use Rattle.fc_lane.specs.StepsEnd.{StepsEnd, torn_in}
+use Rattle.fc_lane.specs.declared.stop.Stop.{Stop}
+use Rattle.fc_lane.specs.declared.stop.Stop.TheVariants.{Failed, NoMemory}
+use Rattle.fc_lane.proofs.Entering.{entry_done, entry_failed, entry_refused, lane_after, same_after}
+use Rattle.fc_lane.proofs.Naming.{birth_place_is}
+use Rattle.fc_moves.proofs.Search.{cases_option}
+use Rattle.fc_pictures.proofs.Agreeing.{lane_law_holds}
+use Rattle.fc_rules.specs.GrainAnswers.{FillAnswers}
+use Rattle.fc_rules.specs.LaneRight.{IsRightInLane, LaneAnswers, MappingFill, record_of}
+use Rattle.fc_rules.specs.LaneTold.{LaneTold, place_of, told_past}
+use Rattle.fc_rules.specs.LaneTurn.{cleaned_slot, copied_slot, lacks_at, needer_at, spot_at}
+use Rattle.fc_rules.specs.Spot.{Spot}
+use Rattle.fc_rules.specs.Steps.{steps_of_fill}
+
+-- ---- which slot
+
+pub some_of : {A : Type 0} (o : Option A) → IsSome o → (x : A) × (o ≡ Some x)
+some_of None e = absurd cc
+some_of (Some x) e = (x, refl)
+
+lacking : (x k : ℕ) (live holds : Bool) → cond live (cond holds None (Some x)) None ≡ Some k → x ≡ k
+lacking x k true true e = absurd cc
+lacking x k true false e = cc
+lacking x k false holds e = absurd cc
+
+copied_place : (slots : List Slot) (m g k : ℕ) → copied_slot slots m g ≡ Some k → mapping_place slots m ≡ Some k
+copied_place slots m g k e =
+    elim (cases_option (mapping_place slots m)) [
+      | inl none ↦ absurd (let f : None ≡ Some k = sym (ap (λ o. lacks_at slots o g) none) ∙ e in cc)
+      | inr x ↦ x.1 ∙ ap Some (lacking x.0 k (slot_at slots x.0).is_live (slice_index_or (slot_at slots x.0).held g true) (sym (ap (λ o. lacks_at slots o g) x.1) ∙ e))
+    ]
+
+cleaned_place : (slots : List Slot) (m g k : ℕ) → cleaned_slot slots m g ≡ Some k → (x : ℕ) × (mapping_place slots m ≡ Some x) × (needer (column slots g) x ≡ Some k)
+cleaned_place slots m g k e =
+    elim (cases_option (mapping_place slots m)) [
+      | inl none ↦ absurd (let f : None ≡ Some k = sym (ap (λ o. needer_at slots o g) none) ∙ e in cc)
+      | inr x ↦ (x.0, x.1, sym (ap (λ o. needer_at slots o g) x.1) ∙ e)
+    ]
+
+-- a slot by its name
+named : (s : Sheet) (k : ℕ) (name : SlotId) (o : Option ℕ) → IsSound s → k < length s.slots → o ≡ Some k → Some name ≡ found s.slots o → birth_place s.slots name.0 ≡ Some k
+named s k name o sound below e f =
+    let same : name ≡ slot_id s.slots k = some_is (f ∙ ap (found s.slots) e) in
+    ap (λ (z : SlotId). birth_place s.slots z.0) same ∙ birth_place_is s k sound.names below
+  where
+    some_is : {x y : SlotId} → Some x ≡ Some y → x ≡ y
+    some_is {x} {y} e = ap (or_this x) e
+      where
+        or_this : SlotId → Option SlotId → SlotId
+        or_this a None = a
+        or_this a (Some b) = b
+
+module _ (v : LaneView) (m : MapId) (grain : GrainNo) (of_lane : grain.0 % v.lanes ≡ v.lane) where
+  abbrev g : ℕ
+  g = place_of (of v) grain.0
+
+  pub copy_fill : (told : LaneTold) (slot : SlotId) → IsLaneOf v told → IsSome (copied_slot told.sheet.slots m.0 g) → birth_place v.chains.sheet.slots slot.0 ≡ mapping_place v.chains.sheet.slots m.0 →
+      (k : ℕ) × (copied_slot told.sheet.slots m.0 g ≡ Some k) × IsFill (of v) told slot.0 grain.0 k
+  copy_fill told slot s some is =
+      let x = some_of (copied_slot told.sheet.slots m.0 g) some in
+      let f = lane_law_holds.copy_slot told.sheet.slots m.0 g x.0 x.1 in
+      let sheet = s.parts.sheet_is in (
+        x.0,
+        x.1,
+        record {
+          place = ap (λ (z : Sheet). birth_place z.slots slot.0) (sym sheet) ∙ (is ∙ (ap (λ (z : Sheet). mapping_place z.slots m.0) sheet ∙ copied_place told.sheet.slots m.0 g x.0 x.1));
+          live = f.0;
+          lacks = f.1;
+          of_lane = of_lane;
+        },
+      )
+
+  pub clean_fill : (told : LaneTold) (slot name : SlotId) → IsLaneOf v told → IsSome (cleaned_slot told.sheet.slots m.0 g) → birth_place v.chains.sheet.slots slot.0 ≡ mapping_place v.chains.sheet.slots m.0 →
+      ((x : ℕ) → birth_place v.chains.sheet.slots slot.0 ≡ Some x → Some name ≡ found v.chains.sheet.slots (needer (column v.chains.sheet.slots (grain.0 / v.chains.lanes)) x)) →
+      (k : ℕ) × (cleaned_slot told.sheet.slots m.0 g ≡ Some k) × IsFill (of v) told name.0 grain.0 k
+  clean_fill told slot name s some is needs =
+      let sheet = s.parts.sheet_is in
+      let sound = s.parts.beside.stands.sound in
+      let k = some_of (cleaned_slot told.sheet.slots m.0 g) some in
+      let f = lane_law_holds.clean_slot told.sheet.slots m.0 g k.0 sound.sizes k.1 in
+      let x = cleaned_place told.sheet.slots m.0 g k.0 k.1 in
+      let born : birth_place v.chains.sheet.slots slot.0 ≡ Some x.0 = is ∙ (ap (λ (z : Sheet). mapping_place z.slots m.0) sheet ∙ x.1) in
+      let told_needs : Some name ≡ found told.sheet.slots (needer (column told.sheet.slots g) x.0) = needs x.0 born ∙ (λ i. found (sheet i).slots (needer (column (sheet i).slots (grain.0 / s.parts.lanes_are i)) x.0)) in (
+        k.0,
+        k.1,
+        record {
+          place = named told.sheet k.0 name (needer (column told.sheet.slots g) x.0) sound f.0.there x.2 told_needs;
+          live = f.0;
+          lacks = f.1;
+          of_lane = of_lane;
+        },
+      )
+
+-- ---- the entry
+
+fill_answers : (spot : Spot) (k lane number actor : ℕ) (request : Request) (map : MapId) (grain : GrainNo) (old new : GrainsState) (moves : List Move) (calls : ℕ) (stop : Option Stop) → grain.0 ≡ spot.number →
+    StepsEnd spot (steps_of_fill spot k) moves calls stop old new →
+    let entry = steps_entry lane number actor request (Moved map grain) old.faults new.faults moves calls stop in
+    FillAnswers spot map.0 k entry entry.reply
+fill_answers spot k lane number actor request map grain old new moves calls None at e =
+    (refl, at, entry_done lane number actor request (Moved map grain) old new spot (steps_of_fill spot k) moves calls e)
+fill_answers spot k lane number actor request map grain old new moves calls (Some (Failed torn)) at e =
+    entry_failed lane number actor request (Moved map grain) old new spot (steps_of_fill spot k) moves calls torn e
+fill_answers spot k lane number actor request map grain old new moves calls (Some NoMemory) at e =
+    entry_refused lane number actor request (Moved map grain) old new spot (steps_of_fill spot k) moves calls e
+
+copy_told : (m : MapId) (grain : GrainNo) (lane number actor before after : ℕ) (moves : List Move) (calls : ℕ) (stop : Option Stop) →
+    record_of (steps_entry lane number actor (Copy m grain) (Moved m grain) before after moves calls stop) ≡ Step number None moves (torn_in stop) after calls
+copy_told m grain lane number actor before after moves calls None = refl
+copy_told m grain lane number actor before after moves calls (Some (Failed torn)) = refl
+copy_told m grain lane number actor before after moves calls (Some NoMemory) = refl
+
+clean_told : (m : MapId) (grain : GrainNo) (lane number actor before after : ℕ) (moves : List Move) (calls : ℕ) (stop : Option Stop) →
+    record_of (steps_entry lane number actor (Clean m grain) (Moved m grain) before after moves calls stop) ≡ Step number None moves (torn_in stop) after calls
+clean_told m grain lane number actor before after moves calls None = refl
+clean_told m grain lane number actor before after moves calls (Some (Failed torn)) = refl
+clean_told m grain lane number actor before after moves calls (Some NoMemory) = refl
+
+module _ (v new : LaneView) (slot : SlotId) (m : MapId) (grain : GrainNo) (number actor : ℕ) (moves : List Move) (calls : ℕ) (stop : Option Stop) (f : HasFilled v slot.0 grain.0 moves calls stop new) where
+  abbrev at : ℕ
+  at = place_of (of v) grain.0
+
+  -- for whatever fits
+  fill_right : (request : Request) (entry : Entry) (told : LaneTold) (k : ℕ) → IsLaneOf v told → IsFill (of v) told slot.0 grain.0 k →
+      (FillAnswers (spot_at (of v) told grain.0) m.0 k entry entry.reply → LaneAnswers (of v) told request entry) → record_of entry ≡ Step number None moves (torn_in stop) new.grains.faults calls →
+      entry ≡ steps_entry v.lane number actor request (Moved m grain) v.grains.faults new.grains.faults moves calls stop → IsRightInLane (of v) told entry × IsLaneOf new (told_past (of v) told (record_of entry))
+  fill_right request entry told k s fill answers told_is is =
+      let x = f.ends told k s fill in
+      let plain : Entry = steps_entry v.lane number actor request (Moved m grain) v.grains.faults new.grains.faults moves calls stop in
+      let filled : FillAnswers (spot_at (of v) told grain.0) m.0 k plain plain.reply = fill_answers (spot_at (of v) told grain.0) k v.lane number actor request m grain v.grains new.grains moves calls stop refl x.0 in
+      let right : LaneAnswers (of v) told request entry = answers (subst (λ (z : Entry). FillAnswers (spot_at (of v) told grain.0) m.0 k z z.reply) (sym is) filled) in (
+        record {
+          place = ap (λ (e : Entry). e.place) is;
+          faults_before = ap (λ (e : Entry). e.faults_before) is ∙ s.faults;
+          faults_kept = subst (λ (e : Entry). e.faults_before ≤ e.faults_after) (sym is) x.1.counted.kept;
+          no_effects = ap (λ (e : Entry). e.effects) is;
+          answers = subst (λ (r : Request). LaneAnswers (of v) told r entry) (sym (ap (λ (e : Entry). e.request) is)) right;
+        },
+        subst (λ (p : Past). IsLaneOf new (told_past (of v) told p)) (sym told_is) (lane_after v new told number None moves calls (torn_in stop) s f.beside x.1),
+      )
+
+  entered : (Fits : LaneTold → Type 0) (request : Request) (entry : Entry) → (told : LaneTold) × (k : ℕ) × IsLaneOf v told × IsFill (of v) told slot.0 grain.0 k →
+      ((told : LaneTold) → IsLaneOf v told → Fits told → IsRightInLane (of v) told entry × IsLaneOf new (told_past (of v) told (record_of entry))) →
+      entry ≡ steps_entry v.lane number actor request (Moved m grain) v.grains.faults new.grains.faults moves calls stop → HasEntered v Fits number actor request entry new
+  entered Fits request entry can right is =
+      let x = f.ends can.0 can.1 can.2 can.3 in
+      record {
+        right = right;
+        asked = record { number_is = ap (λ (e : Entry). e.number) is; actor_is = ap (λ (e : Entry). e.actor) is; request_is = ap (λ (e : Entry). e.request) is };
+        same = same_after v new f.beside x.1.same;
+        quiet = x.1.same.quiet;
+        plan_room = f.plan_room;
+      }
+
+  pub copy_entered : (entry : Entry) → grain.0 % v.lanes ≡ v.lane → (told : LaneTold) × IsLaneOf v told × IsSome (copied_slot told.sheet.slots m.0 at) →
+      birth_place v.chains.sheet.slots slot.0 ≡ mapping_place v.chains.sheet.slots m.0 →
+      entry ≡ steps_entry v.lane number actor (Copy m grain) (Moved m grain) v.grains.faults new.grains.faults moves calls stop →
+      HasEntered v (λ told. IsSome (copied_slot told.sheet.slots m.0 at)) number actor (Copy m grain) entry new
+  copy_entered entry of_lane can slot_is is =
+      let x = copy_fill v m grain of_lane can.0 slot can.1 can.2 slot_is in
+      entered (λ told. IsSome (copied_slot told.sheet.slots m.0 at)) (Copy m grain) entry (can.0, x.0, can.1, x.2)
+      (λ told s some.
+      let y = copy_fill v m grain of_lane told slot s some slot_is in
+      fill_right (Copy m grain) entry told y.0 s y.2 (λ a. subst (λ (o : Option ℕ). MappingFill (of v) told m.0 grain.0 o entry) (sym y.1) a)
+      (ap record_of is ∙ copy_told m grain v.lane number actor v.grains.faults new.grains.faults moves calls stop) is) is
+
+  pub clean_entered : (first : SlotId) (entry : Entry) → grain.0 % v.lanes ≡ v.lane → (told : LaneTold) × IsLaneOf v told × IsSome (cleaned_slot told.sheet.slots m.0 at) →
+      birth_place v.chains.sheet.slots first.0 ≡ mapping_place v.chains.sheet.slots m.0 →
+      ((x : ℕ) → birth_place v.chains.sheet.slots first.0 ≡ Some x → Some slot ≡ found v.chains.sheet.slots (needer (column v.chains.sheet.slots (grain.0 / v.chains.lanes)) x)) →
+      entry ≡ steps_entry v.lane number actor (Clean m grain) (Moved m grain) v.grains.faults new.grains.faults moves calls stop →
+      HasEntered v (λ told. IsSome (cleaned_slot told.sheet.slots m.0 at)) number actor (Clean m grain) entry new
+  clean_entered first entry of_lane can slot_is needs is =
+      let x = clean_fill v m grain of_lane can.0 first slot can.1 can.2 slot_is needs in
+      entered (λ told. IsSome (cleaned_slot told.sheet.slots m.0 at)) (Clean m grain) entry (can.0, x.0, can.1, x.2)
+      (λ told s some.
+      let y = clean_fill v m grain of_lane told first slot s some slot_is needs in
+      fill_right (Clean m grain) entry told y.0 s y.2 (λ a. subst (λ (o : Option ℕ). MappingFill (of v) told m.0 grain.0 o entry) (sym y.1) a)
+      (ap record_of is ∙ clean_told m grain v.lane number actor v.grains.faults new.grains.faults moves calls stop) is) is

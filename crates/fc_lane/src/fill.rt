@@ -1,0 +1,108 @@
+//! Copies and cleanings of one grain: fills of a slot.
+
+ghost use Rattle.std.specs.Prelude.{◌≡◌, ℕ, ◌%◌, IsSome};
+ghost use Rattle.fc_base.specs.declared.request.Request.TheVariants.{Copy, Clean};
+ghost use Rattle.fc_lane.specs.Entering.{HasFilled, IsFill};
+ghost use Rattle.fc_lane.specs.Lane.{IsAsked, IsLaneOf, IsReady, IsSameLane, KeepsQuiet, of};
+ghost use Rattle.fc_rules.specs.LaneRight.{IsRightInLane, record_of};
+ghost use Rattle.fc_rules.specs.LaneTold.{LaneTold, place_of, told_past};
+ghost use Rattle.fc_rules.specs.LaneTurn.{cleaned_slot, copied_slot};
+
+use crate::body::StepEnd;
+use crate::ending::{Ask, room_for};
+use crate::lane::Lane;
+use fc_base::ids::{GrainNo, MapId, SlotId};
+use fc_base::list::List;
+use fc_base::request::{Move, Planned};
+use fc_entry::entry::Entry;
+use fc_mdisk::mdisk::Mdisk;
+use std::alloc::Global;
+
+/// A fill: its moves that were made, and how they ended.
+#[derive(Drop)]
+struct Filled {
+    moves: List<Move>,
+    end: StepEnd,
+}
+
+impl<D: Mdisk> Lane<D> {
+    /// Gives a slot its own copy of a grain, with all moves that it asks for before.
+    fn fill(&mut self, alloc: Global, slot: SlotId, grain: GrainNo) -> Filled
+        requires can { (told : LaneTold) × (k : ℕ) × IsLaneOf self.old told × IsFill (of self.old) told slot.0 grain.0 k }
+        requires ready { IsReady self.old }
+        ensures { HasFilled self.old slot.0 grain.0 result.moves result.end.calls result.end.stop self.new }
+    {
+        let place = grain.0 / self.lanes as u32;
+        self.body
+            .cascade
+            .plan(Planned::Fill { slot, grain }, &mut self.plan);
+        let plan = self.plan.as_slice();
+        let mut made = room_for(alloc, plan.len(), &mut self.spare);
+        let end = self.body.make_moves(plan, place, &mut made);
+        Filled {
+            moves: made.into_moves(),
+            end,
+        }
+    }
+
+    /// Copies a grain of a mapping in the background: its target gets its own copy, after all moves that this asks for. It
+    /// stops at the first call of a disk that fails; what was done before stays done.
+    pub fn copy(
+        &mut self,
+        alloc: Global,
+        number: u64,
+        actor: u32,
+        map: MapId,
+        grain: GrainNo,
+    ) -> Entry
+        requires can { (told : LaneTold) × IsLaneOf self.old told × IsSome (copied_slot told.sheet.slots map.0 (place_of (of self.old) grain.0)) }
+        requires of_lane { grain.0 % self.old.lanes ≡ self.old.lane }
+        requires ready { IsReady self.old }
+        ensures right { (told : LaneTold) → IsLaneOf self.old told → IsSome (copied_slot told.sheet.slots map.0 (place_of (of self.old) grain.0)) →
+            IsRightInLane (of self.old) told result × IsLaneOf self.new (told_past (of self.old) told (record_of result)) }
+        ensures asked { IsAsked number actor (Copy map grain) result }
+        ensures same { IsSameLane self.old self.new }
+        ensures quiet { KeepsQuiet self.old self.new }
+        ensures plan_room { self.new.plan_room ≡ self.old.plan_room }
+    {
+        let Some(slot) = self.body.cascade.slot(map) else {
+            unreachable!()
+        };
+        let before = self.body.grains.faults();
+        let filled = self.fill(alloc, slot, grain);
+        let ask = Ask::Copy { map, grain };
+        self.ended(alloc, number, actor, ask, before, filled.moves, filled.end)
+    }
+
+    /// Hands on a grain of a mapping's target to the copy that needs it, after all moves that this asks for. It stops at
+    /// the first call of a disk that fails; what was done before stays done.
+    pub fn clean(
+        &mut self,
+        alloc: Global,
+        number: u64,
+        actor: u32,
+        map: MapId,
+        grain: GrainNo,
+    ) -> Entry
+        requires can { (told : LaneTold) × IsLaneOf self.old told × IsSome (cleaned_slot told.sheet.slots map.0 (place_of (of self.old) grain.0)) }
+        requires of_lane { grain.0 % self.old.lanes ≡ self.old.lane }
+        requires ready { IsReady self.old }
+        ensures right { (told : LaneTold) → IsLaneOf self.old told → IsSome (cleaned_slot told.sheet.slots map.0 (place_of (of self.old) grain.0)) →
+            IsRightInLane (of self.old) told result × IsLaneOf self.new (told_past (of self.old) told (record_of result)) }
+        ensures asked { IsAsked number actor (Clean map grain) result }
+        ensures same { IsSameLane self.old self.new }
+        ensures quiet { KeepsQuiet self.old self.new }
+        ensures plan_room { self.new.plan_room ≡ self.old.plan_room }
+    {
+        let Some(slot) = self.body.cascade.slot(map) else {
+            unreachable!()
+        };
+        let Some(needer) = self.body.cascade.needer(slot, grain.0) else {
+            unreachable!()
+        };
+        let before = self.body.grains.faults();
+        let filled = self.fill(alloc, needer, grain);
+        let ask = Ask::Clean { map, grain };
+        self.ended(alloc, number, actor, ask, before, filled.moves, filled.end)
+    }
+}
