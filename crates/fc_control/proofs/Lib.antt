@@ -6,3 +6,14 @@ pub mod Working
 pub mod Grouping
 pub mod Volumes
 pub mod Removing
+pub mod Mapped
+pub mod Selecting
+pub mod Slots
+pub mod Vanishing
+pub mod Setting
+pub mod Flagged
+pub mod StopHeld
+pub mod StopWork
+pub mod StopEnds
+pub mod StopAsked
+pub mod StopParts

@@ -4,3 +4,8 @@ pub mod Outcome
 pub mod Telling
 pub mod Names
 pub mod Volumes
+pub mod Answering
+pub mod Mappings
+pub mod Choosing
+pub mod Starts
+pub mod Stops

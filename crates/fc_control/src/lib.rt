@@ -18,10 +18,18 @@ mod control;
 mod decide;
 mod draft;
 mod ending;
+mod groups;
+mod mkfcmap;
 mod mkvdisk;
 mod name;
+mod reports;
+mod rmfcconsistgrp;
 mod rmfcmap;
+mod rmvdisk;
 mod settle;
+mod stop_mapping;
+mod stop_work;
+mod stopping;
 mod work;
 
 pub use control::Control;

@@ -18,3 +18,6 @@ pub mod StepsLoop
 pub mod WritePrepare
 pub mod WriteOwn
 pub mod WriteAll
+pub mod Entering
+pub mod WriteEntry
+pub mod WriteLane

@@ -7,3 +7,4 @@ pub mod Moving
 pub mod Reading
 pub mod StepsEnd
 pub mod WriteStep
+pub mod Entering

@@ -1,0 +1,5 @@
+-- Lemmas, one subject a file.
+pub mod Accessing
+pub mod Logging
+pub mod Places
+pub mod Asked
