@@ -1,31 +1,27 @@
 -- What stands after an entry of a lane.
-use Rattle.std.proofs.Common.{◌≡◌, ℕ, zero, suc, ◌+◌, ◌-◌, ◌^◌, ◌<◌, ◌≤◌, min, Bool, true, false, cond, Option, Some, None, List, [], ◌∷◌, map, refl, sym, ap, subst, ◌∙◌, arith}
-use Rattle.fc_base.specs.Count.{one_more, HasRisen}
-use Rattle.fc_base.specs.Sheet.{Sheet, live_place}
+use Rattle.std.proofs.Common.{◌≡◌, ℕ, zero, suc, ◌+◌, ◌-◌, ◌^◌, min, Option, Some, None, List, [], refl, sym, ap, ◌∙◌, arith}
+use Rattle.fc_base.specs.Count.{one_more}
+use Rattle.fc_base.specs.Sheet.{Sheet}
 use Rattle.fc_base.specs.declared.request.Move.{Move}
 use Rattle.fc_base.specs.declared.request.Reply.{Reply}
-use Rattle.fc_base.specs.declared.request.Reply.TheVariants.{Done, DiskFault, NoMemory, MediumError, Offline, NotAccessible}
 use Rattle.fc_base.specs.declared.request.Request.{Request}
-use Rattle.fc_base.specs.declared.request.Request.TheVariants.{Write}
 use Rattle.fc_base.specs.declared.request.Torn.{Torn}
 use Rattle.fc_base.specs.declared.request.WritePart.{WritePart}
-use Rattle.fc_base.specs.declared.state.Access.{Access}
-use Rattle.fc_base.specs.declared.state.Access.TheVariants.{Online}
 use Rattle.fc_chain.specs.Chains.{Chains}
 use Rattle.fc_entry.specs.declared.entry.Entry.{Entry}
 use Rattle.fc_entry.specs.declared.entry.Past.TheVariants.{Step}
 use Rattle.fc_grains.specs.Grains.{GrainsState, stopped}
-use Rattle.fc_lane.specs.Entering.{reply_in, steps_entry}
-use Rattle.fc_lane.specs.Lane.{LaneView, IsLaneOf, IsSameLane, KeepsQuiet, of}
+use Rattle.fc_lane.specs.Entering.{steps_entry}
+use Rattle.fc_lane.specs.Lane.{LaneView, IsLaneOf, IsSameLane, of}
 use Rattle.fc_lane.specs.Moving.{more, SameLane}
-use Rattle.fc_lane.specs.StepsEnd.{FailedIn, RefusedIn, StandsAt, StepsEnd, StepsStand, StoppedIn, torn_in}
+use Rattle.fc_lane.specs.StepsEnd.{StandsAt, StepsEnd, StepsStand, StoppedIn}
 use Rattle.fc_lane.specs.declared.stop.Stop.{Stop}
 use Rattle.fc_lane.specs.declared.stop.Stop.TheVariants.{Failed, NoMemory as WantsMemory}
 use Rattle.fc_lane.proofs.Moving.{same_lane}
 use Rattle.fc_lane.proofs.StepsMade.{none_counted}
-use Rattle.fc_rules.specs.LaneTold.{LaneOf, LaneTold, told_past}
+use Rattle.fc_rules.specs.LaneTold.{LaneTold, told_past}
 use Rattle.fc_rules.specs.Spot.{Spot}
-use Rattle.fc_rules.specs.Steps.{HasDone, HasDoneNothing, HasFailed, HasNoMemory, Step as OneStep, StoppedAt}
+use Rattle.fc_rules.specs.Steps.{HasDone, HasFailed, HasNoMemory, Step as OneStep, StoppedAt}
 
 -- ---- counts
 

@@ -1,6 +1,6 @@
 -- The entry of a write.
-use Rattle.std.proofs.Common.{◌≡◌, ℕ, zero, suc, ◌+◌, ◌*◌, ◌<◌, ◌≤◌, ◌%◌, ◌/◌, ◌&&◌, Bool, true, false, not, cond, Option, Some, None, List, [], ◌∷◌, length, map, reverse, refl, sym, ap, subst, ◌∙◌, arith}
-use Rattle.std.proofs.lemmas.Bool.{cases_Bool, and_right, eq-eqb, ne_eqb}
+use Rattle.std.proofs.Common.{◌≡◌, ℕ, zero, suc, ◌+◌, ◌<◌, ◌≤◌, ◌%◌, ◌/◌, ◌&&◌, Bool, true, false, not, cond, Option, Some, None, List, [], ◌∷◌, length, map, reverse, refl, sym, ap, subst, ◌∙◌, arith}
+use Rattle.std.proofs.lemmas.Bool.{and_right, eq-eqb, ne_eqb}
 use Rattle.std.proofs.lemmas.List.{length-reverse}
 use Rattle.std.proofs.lemmas.List.Sums.{sum_by-cons}
 use Rattle.fc_base.specs.Column.{Column, holder}
@@ -11,7 +11,7 @@ use Rattle.fc_base.specs.Sheet.{Slot, Sheet, slot_at, column, live_place}
 use Rattle.fc_base.specs.SheetFacts.{IsSound}
 use Rattle.fc_base.specs.declared.request.Move.{Move}
 use Rattle.fc_base.specs.declared.request.Reply.{Reply}
-use Rattle.fc_base.specs.declared.request.Reply.TheVariants.{Done, DiskFault, NoMemory, MediumError}
+use Rattle.fc_base.specs.declared.request.Reply.TheVariants.{Done, MediumError}
 use Rattle.fc_base.specs.declared.request.Request.TheVariants.{Write}
 use Rattle.fc_base.specs.declared.request.WritePart.{WritePart}
 use Rattle.fc_base.specs.declared.state.Access.{Access}
@@ -29,10 +29,10 @@ use Rattle.fc_grains.specs.Volumes.{stored, volume_of}
 use Rattle.fc_lane.specs.Entering.{FitsWrite, steps_entry}
 use Rattle.fc_lane.specs.Lane.{LaneView, IsLaneOf, of}
 use Rattle.fc_lane.specs.StepsEnd.{StandsAt, StepsEnd, StepsStand, torn_in}
-use Rattle.fc_lane.specs.WriteStep.{IsPlannedWrite, IsWrite, spot_of, write_in}
+use Rattle.fc_lane.specs.WriteStep.{spot_of, write_in}
 use Rattle.fc_lane.specs.declared.stop.Stop.{Stop}
 use Rattle.fc_lane.specs.declared.stop.Stop.TheVariants.{Failed, NoMemory as WantsMemory}
-use Rattle.fc_lane.proofs.Entering.{SameBeside, entry_done, entry_failed, entry_refused, lane_after, nothing_stands, stands_at}
+use Rattle.fc_lane.proofs.Entering.{SameBeside, entry_done, entry_failed, entry_refused, lane_after, nothing_stands}
 use Rattle.fc_lane.proofs.Moving.{Source, source_at, one_holder}
 use Rattle.fc_lane.proofs.StepsMade.{lost_same}
 use Rattle.fc_moves.proofs.Writing.{written}

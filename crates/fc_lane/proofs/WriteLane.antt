@@ -1,5 +1,5 @@
 -- A write of a grain in a lane.
-use Rattle.std.proofs.Common.{◌≡◌, ℕ, ◌+◌, ◌<◌, ◌≤◌, ◌/◌, ◌^◌, Bool, true, false, not, Option, Some, None, List, [], length, map, refl, sym, ap, subst, ◌∙◌, arith}
+use Rattle.std.proofs.Common.{◌≡◌, ℕ, ◌<◌, ◌≤◌, ◌/◌, ◌^◌, Bool, true, false, not, Option, None, List, [], length, map, refl, sym, ap, ◌∙◌, arith}
 use Rattle.std.proofs.lemmas.List.{length-map}
 use Rattle.fc_base.specs.Moves.{write_moves}
 use Rattle.fc_base.specs.Plan.{move_at, moves_of_write}
@@ -13,15 +13,13 @@ use Rattle.fc_base.specs.declared.request.WritePart.{WritePart}
 use Rattle.fc_base.specs.declared.state.Access.{Access}
 use Rattle.fc_base.specs.declared.state.Access.TheVariants.{Online, Offline as IsOffline, NotAccessible as IsNotAccessible}
 use Rattle.fc_base.specs.declared.state.MapState.{MapState}
-use Rattle.fc_chain.specs.Chains.{Chains}
 use Rattle.fc_chain.specs.Planning.{volume_count}
 use Rattle.fc_entry.specs.Picture.{grain_of_block}
 use Rattle.fc_entry.specs.declared.entry.Entry.{Entry}
-use Rattle.fc_grains.specs.Grains.{GrainsState}
 use Rattle.fc_lane.specs.Entering.{FitsWrite, HasEntered, steps_entry}
-use Rattle.fc_lane.specs.Lane.{LaneView, IsAsked, IsLaneOf, IsReady, of}
+use Rattle.fc_lane.specs.Lane.{LaneView, IsLaneOf, IsReady, of}
 use Rattle.fc_lane.specs.StepsEnd.{StandsAt, StepsEnd, StepsStand, torn_in}
-use Rattle.fc_lane.specs.WriteStep.{IsPlannedWrite, IsWrite, spot_of, write_in}
+use Rattle.fc_lane.specs.WriteStep.{IsPlannedWrite, spot_of, write_in}
 use Rattle.fc_lane.specs.declared.stop.Stop.{Stop}
 use Rattle.fc_lane.proofs.Entering.{SameBeside, same_after, stands_at}
 use Rattle.fc_lane.proofs.WriteEntry.{fits_write, lost_answers, plan_of_write, some_live, unreached, untouched_right, write_right, write_short}

@@ -1,4 +1,4 @@
-use Rattle.std.proofs.Common.{◌≡◌, not, ap, sym, ◌∙◌}
+use Rattle.std.proofs.Common.{not, ap, sym, ◌∙◌}
 use Rattle.fc_base.specs.Grain.{grain_blocks}
 use Rattle.fc_lane.proofs.WriteEntry.{first_held, first_from, first_inside, part_writable, whole_writable}
 use Rattle.fc_lane.proofs.body.Body.can_write.Goals as goal

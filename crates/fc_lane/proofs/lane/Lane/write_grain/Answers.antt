@@ -1,6 +1,5 @@
-use Rattle.std.proofs.Common.{◌≡◌, ◌≤◌, ℕ, List, Option, length, refl, ap, sym, subst, ◌∙◌}
+use Rattle.std.proofs.Common.{refl, ap, sym, subst, ◌∙◌}
 use Rattle.fc_base.specs.MovePlan.{PlannedMoves}
-use Rattle.fc_base.specs.declared.request.Move.{Move}
 use Rattle.fc_base.specs.declared.request.Reply.TheVariants.{Done}
 use Rattle.fc_base.specs.declared.request.Request.TheVariants.{Write}
 use Rattle.fc_lane.specs.Entering.{HasEntered, steps_entry}

@@ -1,7 +1,5 @@
-use Rattle.std.proofs.Common.{◌≡◌, ◌/◌, ℕ, refl, ap, sym, subst, ◌∙◌}
+use Rattle.std.proofs.Common.{◌/◌, ℕ, refl, ap, sym, subst, ◌∙◌}
 use Rattle.fc_base.specs.Grain.{grain_blocks}
-use Rattle.fc_entry.specs.Picture.{grain_of_block}
-use Rattle.fc_base.specs.declared.size.GrainSize.{GrainSize}
 use Rattle.fc_lane.specs.Lane.{LaneView}
 use Rattle.fc_lane.proofs.WriteLane.{IsOnline, TellsWritable, is_writable, lost_entered, write_fits}
 use Rattle.fc_lane.proofs.lane.Lane.write_online.Goals as goal
