@@ -14,6 +14,7 @@ use Rattle.fc_rules.specs.LaneTurn.{spot_at}
 use Rattle.fc_base.specs.declared.request.ReadPart.{ReadPart}
 use Rattle.fc_base.specs.declared.request.Reply.{Reply}
 use Rattle.fc_base.specs.declared.request.Reply.TheVariants.{Bytes as Answered, DiskFault, MediumError, NoMemory}
+use Rattle.fc_base.specs.declared.request.Request.TheVariants.{Read}
 use Rattle.fc_base.specs.declared.runs.Run.{Run}
 use Rattle.fc_base.specs.declared.state.Access.{Access}
 use Rattle.fc_base.specs.declared.state.Access.TheVariants.{Online}
@@ -28,7 +29,8 @@ use Rattle.fc_grains.specs.Quiet.{IsQuiet}
 use Rattle.fc_grains.specs.Volumes.{VolumeGrains, is_there, stored, changed, called}
 use Rattle.fc_lane.specs.Lane.{LaneView, IsLaneOf, of}
 use Rattle.fc_lane.specs.Parts.{StandsFor, SameVolumes, kind_of_grains}
-use Rattle.fc_lane.specs.Reading.{GrainEnds, ReadEnds, HasAnswered, read_entry}
+use Rattle.fc_lane.specs.Entering.{HasEntered}
+use Rattle.fc_lane.specs.Reading.{GrainEnds, ReadEnds, read_entry}
 use Rattle.fc_lane.specs.Standing.{HasGrains, Stands}
 use Rattle.fc_lane.specs.declared.read.GrainRead.{GrainRead}
 use Rattle.fc_lane.specs.declared.read.GrainRead.TheVariants.{Done, IsLost, Failed}
@@ -38,6 +40,7 @@ use Rattle.fc_pictures.proofs.Staying.{stored_shows}
 use Rattle.fc_pictures.specs.Law.{now_of}
 use Rattle.fc_rules.specs.GrainAnswers.{ByAccess, ReadAnswers}
 use Rattle.fc_rules.specs.LaneRight.{IsRightInLane}
+use Rattle.fc_rules.specs.LaneFits.{FitsPart}
 use Rattle.fc_rules.specs.LaneTold.{LaneOf, LaneTold, LaneVolume, access_in, place_of}
 use Rattle.fc_rules.specs.Spot.{is_lost as is_lost_at}
 use Rattle.fc_sheets.proofs.Finding.{live_place_at}
@@ -77,7 +80,6 @@ pub record ReadLane (v v' : LaneView) : Type 0 where
   pub accesses : v'.accesses ≡ v.accesses
   pub work : v'.work ≡ v.work
   pub plan_room : v'.plan_room ≡ v.plan_room
-  pub entry_room : v'.entry_room ≡ v.entry_room
 
 module _ (v v' : LaneView) (same : ReadLane v v') where
   of_read : v'.grains.grain ≡ v.grains.grain → of v ≡ of v'
@@ -190,6 +192,9 @@ ended v v' same source place there Done e = read_ends v v' same source place fal
 ended v v' same source place there IsLost e = still_ends v v' same e.1
 ended v v' same source place there Failed e = read_ends v v' same source place true there e.1
 
+abbrev pub Entered : ℕ → ℕ → ReadPart → LaneView → Entry → LaneView → Type 0
+Entered number actor part v entry v' = HasEntered v (λ told. FitsPart (of v) told part.volume part.block part.count) number actor (Read part) entry v'
+
 abbrev pub Answers : LaneView → LaneView → ℕ → ℕ → ReadPart → Reply → ℕ → Type 0
 Answers v v' number actor part reply calls =
     (told : LaneTold) → IsLaneOf v told →
@@ -219,18 +224,17 @@ module _ (v w v' : LaneView) (number actor : ℕ) (part : ReadPart) (is : v ≡ 
         answers = subst (λ (a : Access). ByAccess a own (ReadAnswers v.grains.grain (spot_at (of v) told (grain_of_block v.grains.grain part.block)) part own reply)) (sym here) (answers told i);
       }
 
-  has : HasAnswered number actor part v own v'
+  has : Entered number actor part v own v'
   has = record {
     right = λ told i f. (is_right told i, e.stands told i);
     asked = record { number_is = refl; actor_is = refl; request_is = refl };
     same = record { lane = same.lane; lanes = same.lanes; grain = e.grain; disks = e.disks; silent = e.silent };
     quiet = e.quiet;
     plan_room = same.plan_room;
-    entry_room = same.entry_room;
   }
 
-  pub answered : HasAnswered number actor part w entry v'
-  answered = subst (λ (x : LaneView). HasAnswered number actor part x entry v') is (subst (λ (x : Entry). HasAnswered number actor part v x v') (sym own_is) has)
+  pub answered : Entered number actor part w entry v'
+  answered = subst (λ (x : LaneView). Entered number actor part x entry v') is (subst (λ (x : Entry). Entered number actor part v x v') (sym own_is) has)
 
 -- ---- what each end answers
 
@@ -263,18 +267,18 @@ module _ (v v' : LaneView) (number actor : ℕ) (part : ReadPart) (place : ℕ) 
 
 module _ (v w v' : LaneView) (number actor : ℕ) (part : ReadPart) (is : v ≡ w) (same : ReadLane v v') (online : access_in w.accesses.volumes part.volume ≡ Online) (place : ℕ)
     (place_is : place ≡ grain_of_block v.grains.grain part.block / v.lanes) (before : ℕ) (entry : Entry) (before_is : before ≡ v.grains.faults) where
-  pub answered_lost : ReadEnds v.chains.sheet v.grains part.volume.0 place IsLost v'.grains → entry ≡ read_entry v'.lane number actor part MediumError before v'.grains.faults 0 → HasAnswered number actor part w entry v'
+  pub answered_lost : ReadEnds v.chains.sheet v.grains part.volume.0 place IsLost v'.grains → entry ≡ read_entry v'.lane number actor part MediumError before v'.grains.faults 0 → Entered number actor part w entry v'
   answered_lost ends e = answered v w v' number actor part is same online place IsLost ends MediumError before entry before_is e (answers_lost v v' number actor part place place_is ends)
 
-  pub answered_failed : ReadEnds v.chains.sheet v.grains part.volume.0 place Failed v'.grains → entry ≡ read_entry v'.lane number actor part DiskFault before v'.grains.faults 1 → HasAnswered number actor part w entry v'
+  pub answered_failed : ReadEnds v.chains.sheet v.grains part.volume.0 place Failed v'.grains → entry ≡ read_entry v'.lane number actor part DiskFault before v'.grains.faults 1 → Entered number actor part w entry v'
   answered_failed ends e = answered v w v' number actor part is same online place Failed ends DiskFault before entry before_is e (answers_failed v v' number actor part place place_is ends)
 
-  pub answered_no_memory : ReadEnds v.chains.sheet v.grains part.volume.0 place Done v'.grains → entry ≡ read_entry v'.lane number actor part NoMemory before v'.grains.faults 1 → HasAnswered number actor part w entry v'
+  pub answered_no_memory : ReadEnds v.chains.sheet v.grains part.volume.0 place Done v'.grains → entry ≡ read_entry v'.lane number actor part NoMemory before v'.grains.faults 1 → Entered number actor part w entry v'
   answered_no_memory ends e = answered v w v' number actor part is same online place Done ends NoMemory before entry before_is e (answers_no_memory v v' number actor part place place_is ends)
 
   pub answered_bytes : ReadEnds v.chains.sheet v.grains part.volume.0 place Done v'.grains → (runs : List Run) → IsCanonical runs →
       expanded runs ≡ take (block_bytes * part.count) (drop (byte_in_grain v'.grains.grain part.block) v'.grains.buffer) →
-      entry ≡ read_entry v'.lane number actor part (Answered runs) before v'.grains.faults 1 → HasAnswered number actor part w entry v'
+      entry ≡ read_entry v'.lane number actor part (Answered runs) before v'.grains.faults 1 → Entered number actor part w entry v'
   answered_bytes ends runs canonical expands e =
       let grain : v'.grains.grain ≡ v.grains.grain = ap (λ (g : GrainsState). g.grain) ends.ends.1.rest in
       answered v w v' number actor part is same online place Done ends (Answered runs) before entry before_is e

@@ -13,14 +13,10 @@ use Rattle.fc_entry.specs.declared.entry.Entry.{Entry}
 use Rattle.fc_grains.specs.Calls.{HasRead}
 use Rattle.fc_grains.specs.Grains.{GrainsState}
 use Rattle.fc_grains.specs.Volumes.{is_there, stored}
-use Rattle.fc_lane.specs.Lane.{LaneView, IsAsked, IsLaneOf, IsSameLane, KeepsQuiet, of}
 use Rattle.fc_lane.specs.Standing.{AllSized}
 use Rattle.fc_lane.specs.declared.read.GrainRead.{GrainRead}
 use Rattle.fc_lane.specs.declared.read.GrainRead.TheVariants.{Done, IsLost, Failed}
 use Rattle.fc_pictures.specs.StepsLaw.{IsLiveAt}
-use Rattle.fc_rules.specs.LaneFits.{FitsPart}
-use Rattle.fc_rules.specs.LaneRight.{IsRightInLane, record_of}
-use Rattle.fc_rules.specs.LaneTold.{LaneTold, told_past}
 
 -- The volume has the grain of this number, at this place among the lane's.
 pub record CanRead (chains : Chains) (grains : GrainsState) (volume number place : ℕ) : Type 0 where
@@ -64,13 +60,3 @@ read_entry lane number actor part reply before after calls =
       faults_after = after;
       calls = calls;
     }
-
--- The entry is right, and the lane stands for what is then told.
-pub record HasAnswered (number actor : ℕ) (part : ReadPart) (old : LaneView) (entry : Entry) (new : LaneView) : Type 0 where
-  pub right : (told : LaneTold) → IsLaneOf old told → FitsPart (of old) told part.volume part.block part.count →
-      IsRightInLane (of old) told entry × IsLaneOf new (told_past (of old) told (record_of entry))
-  pub asked : IsAsked number actor (Read part) entry
-  pub same : IsSameLane old new
-  pub quiet : KeepsQuiet old new
-  pub plan_room : new.plan_room ≡ old.plan_room
-  pub entry_room : new.entry_room ≡ old.entry_room

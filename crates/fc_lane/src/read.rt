@@ -7,7 +7,8 @@ ghost use Rattle.fc_base.specs.declared.request.Request.TheVariants.{Read};
 ghost use Rattle.fc_base.specs.declared.state.Access.TheVariants.{Online};
 ghost use Rattle.fc_entry.specs.Picture.{byte_in_grain, grain_of_block};
 ghost use Rattle.fc_lane.specs.Lane.{IsAsked, IsLaneOf, IsSameLane, KeepsQuiet, of};
-ghost use Rattle.fc_lane.specs.Reading.{CanRead, HasAnswered, ReadEnds, read_entry};
+ghost use Rattle.fc_lane.specs.Entering.{HasEntered};
+ghost use Rattle.fc_lane.specs.Reading.{CanRead, ReadEnds, read_entry};
 ghost use Rattle.fc_rules.specs.LaneFits.{FitsPart};
 ghost use Rattle.fc_rules.specs.LaneRight.{IsRightInLane, record_of};
 ghost use Rattle.fc_rules.specs.LaneTold.{LaneTold, access_in, told_past};
@@ -102,7 +103,8 @@ impl<D: Mdisk> Lane<D> {
         requires can { (told : LaneTold) × IsLaneOf self.old told × FitsPart (of self.old) told part.volume part.block part.count }
         requires number { grain_of_block self.old.grains.grain part.block < 2 ^ 32 }
         requires online { access_in self.old.accesses.volumes part.volume ≡ Online }
-        ensures { HasAnswered number actor part self.old result self.new }
+        ensures entered { HasEntered self.old (λ told. FitsPart (of self.old) told part.volume part.block part.count) number actor (Read part) result self.new }
+        ensures entry_room { self.new.entry_room ≡ self.old.entry_room }
     {
         let before = self.body.grains.faults();
         let blocks = self.body.grains.grain().blocks() as u64;
@@ -139,16 +141,15 @@ impl<D: Mdisk> Lane<D> {
         ensures plan_room { self.new.plan_room ≡ self.old.plan_room }
         ensures entry_room { self.new.entry_room ≡ self.old.entry_room }
     {
-        let before = self.body.grains.faults();
         match self.accesses.access(part.volume) {
             Access::Online => self.read_online(alloc, number, actor, part),
             Access::Offline { map, state } => {
                 let reply = Reply::Offline { map, state };
-                self.read_entry(alloc, number, actor, part, reply, before, 0)
+                self.untouched(alloc, number, actor, Request::Read(part), reply)
             }
             Access::NotAccessible { map } => {
                 let reply = Reply::NotAccessible { map };
-                self.read_entry(alloc, number, actor, part, reply, before, 0)
+                self.untouched(alloc, number, actor, Request::Read(part), reply)
             }
         }
     }

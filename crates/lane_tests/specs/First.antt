@@ -1,0 +1,21 @@
+-- A lane with one volume.
+use Rattle.std.specs.Prelude.{List, [], ◌∷◌, fold}
+use Rattle.fc_base.specs.declared.decision.LaneEvent.{LaneEvent}
+use Rattle.fc_base.specs.declared.decision.LaneEvent.TheVariants.{Make}
+use Rattle.fc_base.specs.declared.disk.DiskKind.TheVariants.{Flat}
+use Rattle.fc_base.specs.declared.size.GrainSize.TheVariants.{K64}
+use Rattle.fc_grains.specs.Grains.{opened}
+use Rattle.fc_lane.specs.Lane.{begun}
+use Rattle.fc_lane.specs.Parts.{lane_of}
+use Rattle.fc_mdisk.specs.Disk.{DiskState}
+use Rattle.fc_rules.specs.LaneTold.{LaneOf, LaneTold, told_event}
+
+abbrev pub the_lane : LaneOf
+the_lane = lane_of 0 1 K64
+
+-- Volume 0 comes, with two grains.
+abbrev pub first : List LaneEvent
+first = Make record { 0 = 0 } 2 Flat ∷ []
+
+abbrev pub told_first : List DiskState → LaneTold
+told_first disks = fold (told_event the_lane) (begun (opened K64 disks)) first
