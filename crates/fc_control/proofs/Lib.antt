@@ -11,3 +11,7 @@ pub mod StopWork
 pub mod StopEnds
 pub mod StopAsked
 pub mod StopParts
+pub mod StopReads
+pub mod StopSlots
+pub mod StopReach
+pub mod StopLeft
