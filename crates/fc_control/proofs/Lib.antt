@@ -15,3 +15,5 @@ pub mod StopReads
 pub mod StopSlots
 pub mod StopReach
 pub mod StopLeft
+pub mod StopOrder
+pub mod StopMember

@@ -71,11 +71,14 @@ among_same slots m ids sizes are d =
     (λ there. id_there ids d.id (are.all d.id (slot_has slots m d.id.0 (mapping_place slots d.id.0) (mapping_place slots m) sizes refl refl there)))
 
 -- The mappings with these ids are the dependents.
-pub those_depend : (b : Books) (m : Mapping) (ids : List MapId) → AreSound b → AreMappings (DependsOn b.sheet.slots m.id.0) ids → those ids b.tables.mappings ≡ dependents b m
+pub those_are : (b : Books) (m : Mapping) (ids : List MapId) → HasSizes b.sheet.slots → AreMappings (DependsOn b.sheet.slots m.id.0) ids → those ids b.tables.mappings ≡ dependents b m
 unfolding dependents
-those_depend b m ids sound are =
+those_are b m ids sizes are =
     filter_by (is_among ids) (has_slot_among b.sheet.slots (places_behind b.sheet.slots (mapping_place b.sheet.slots m.id.0))) b.tables.mappings
-    (among_same b.sheet.slots m.id.0 ids sound.sheet.sizes are)
+    (among_same b.sheet.slots m.id.0 ids sizes are)
+
+pub those_depend : (b : Books) (m : Mapping) (ids : List MapId) → AreSound b → AreMappings (DependsOn b.sheet.slots m.id.0) ids → those ids b.tables.mappings ≡ dependents b m
+those_depend b m ids sound are = those_are b m ids sound.sheet.sizes are
 
 -- ---- each of them is a mapping's
 
@@ -97,11 +100,14 @@ pub place_owned : (b : Books) (n k : ℕ) → AreSound b → mapping_place b.she
 place_owned b n k sound is lt =
     owner b.tables.mappings n (slot_at b.sheet.slots k).mapping (at_some (slot_at b.sheet.slots k).mapping n (place_at b.sheet.slots n k is)) (sound.agree.owned k lt)
 
+pub dependent_known : (b : Books) (m n : ℕ) → AreSound b → DependsOn b.sheet.slots m n → list_any (λ (d : Mapping). d.id.0 == n) b.tables.mappings ≡ true
+dependent_known b m n sound dep = place_owned b n dep.dependent sound dep.dependent_there (within b.sheet.slots dep.on dep.dependent dep.depends)
+
 pub dependents_known : (b : Books) (m : ℕ) (ids : List MapId) → AreSound b → AreMappings (DependsOn b.sheet.slots m) ids → AreKnown ids b.tables.mappings
 dependents_known b m ids sound are n there =
     let r = id_found ids n there in
-    let dep : DependsOn b.sheet.slots m n = subst (DependsOn b.sheet.slots m) r.2 (are.only r.0 r.1) in
-    place_owned b n dep.dependent sound dep.dependent_there (within b.sheet.slots dep.on dep.dependent dep.depends)
+    let P : ℕ → Type 0 = λ z. DependsOn b.sheet.slots m z in
+    dependent_known b m n sound (subst P r.2 (are.only r.0 r.1))
 
 -- ---- and they stand in their order
 

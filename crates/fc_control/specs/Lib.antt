@@ -5,3 +5,4 @@ pub mod Telling
 pub mod Names
 pub mod Volumes
 pub mod Stops
+pub mod StopGroups
