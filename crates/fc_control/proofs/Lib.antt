@@ -17,3 +17,6 @@ pub mod StopReach
 pub mod StopLeft
 pub mod StopOrder
 pub mod StopMember
+pub mod StopSteps
+pub mod StopWhole
+pub mod StopGroup

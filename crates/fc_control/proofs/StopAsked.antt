@@ -52,13 +52,13 @@ id_found ids n e = let r = any_of (λ (id : MapId). id.0 == n) ids e in (r.0, r.
 pub id_there : (ids : List MapId) (id : MapId) → Contains ids id → list_any (λ (x : MapId). x.0 == id.0) ids ≡ true
 id_there ids id there = any_in (λ (x : MapId). x.0 == id.0) ids id there (eq-eqb id.0 id.0 refl)
 
-has_slot : (slots : List Slot) (m n : ℕ) → HasSizes slots → DependsOn slots m n → option_map_or (λ k. list_any (λ j. j == k) (places_behind slots (mapping_place slots m))) (mapping_place slots n) false ≡ true
+pub has_slot : (slots : List Slot) (m n : ℕ) → HasSizes slots → DependsOn slots m n → option_map_or (λ k. list_any (λ j. j == k) (places_behind slots (mapping_place slots m))) (mapping_place slots n) false ≡ true
 has_slot slots m n sizes dep =
     ap (λ o. option_map_or (λ k. list_any (λ j. j == k) (places_behind slots (mapping_place slots m))) o false) dep.dependent_there
     ∙ ap (λ o. list_any (λ j. j == dep.dependent) (places_behind slots o)) dep.on_there
     ∙ (dependent_places-are slots dep.on sizes).all dep.dependent dep.depends
 
-slot_has : (slots : List Slot) (m n : ℕ) (o p : Option ℕ) → HasSizes slots → mapping_place slots n ≡ o → mapping_place slots m ≡ p → option_map_or (λ k. list_any (λ j. j == k) (places_behind slots p)) o false ≡ true → DependsOn slots m n
+pub slot_has : (slots : List Slot) (m n : ℕ) (o p : Option ℕ) → HasSizes slots → mapping_place slots n ≡ o → mapping_place slots m ≡ p → option_map_or (λ k. list_any (λ j. j == k) (places_behind slots p)) o false ≡ true → DependsOn slots m n
 slot_has slots m n None p sizes is_o is_p e = grind (arith, e)
 slot_has slots m n (Some j) None sizes is_o is_p e = grind (arith, e)
 slot_has slots m n (Some j) (Some k) sizes is_o is_p e =

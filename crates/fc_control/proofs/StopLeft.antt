@@ -29,7 +29,7 @@ pub record Grows (out : ℕ → Bool) (left : ℕ → Bool) (more : ℕ → Bool
   pub old : (n : ℕ) → out n ≡ true → more n ≡ true
   pub new : (n : ℕ) → left n ≡ true → more n ≡ true
 
-pub is_it : ℕ → ℕ → Bool
+unfoldable pub is_it : ℕ → ℕ → Bool
 is_it x n = x == n
 
 -- ---- after plain stops: whoever left reads from no other
@@ -169,7 +169,7 @@ force_none s t out more x left none grows =
       ];
     }
 
-pub among_ids : List MapId → ℕ → Bool
+unfoldable pub among_ids : List MapId → ℕ → Bool
 among_ids ids n = list_any (λ (y : MapId). y.0 == n) ids
 
 -- the mapping and its dependents are closed

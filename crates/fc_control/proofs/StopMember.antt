@@ -109,7 +109,7 @@ all_with b other ids (y ∷ ys) each = one_with b other y (those ids ys) (is_amo
 
 -- ---- dependents, by force
 
-pub left_answer : (b : Books) (d : Deed) (m : Mapping) (ids : List MapId) → AreSound b → Reached ByForce b d → changes_some m.id.0 d.changes ≡ false → IsLeftAnswer ByForce b d.changes m true ids → AreMappings (DependsOn (sheet_by b d).slots m.id.0) ids
+pub left_answer : (b : Books) (d : Deed) (m : Mapping) (ids : List MapId) → AreSound b → Reached ByForce b d → changes_some m.id.0 d.changes ≡ false → IsLeftAnswer ByForce b.sheet.slots d.changes m.id.0 true ids → AreMappings (DependsOn (sheet_by b d).slots m.id.0) ids
 left_answer b d m ids sound reached same answer =
     let out : ℕ → Bool = λ n. changes_some n d.changes in
     let left : ForceLeft b.sheet (sheet_by b d) out = reached.left in
@@ -124,19 +124,19 @@ left_answer b d m ids sound reached same answer =
           answer.all n (reach_depends b.sheet.slots m.id.0 n.0 sound.sheet.mappings back.1, back.0);
     }
 
-pub left_known : (b : Books) (cs : List Change) (m : Mapping) (ids : List MapId) → AreSound b → IsLeftAnswer ByForce b cs m true ids → AreKnown ids b.tables.mappings
+pub left_known : (b : Books) (cs : List Change) (m : Mapping) (ids : List MapId) → AreSound b → IsLeftAnswer ByForce b.sheet.slots cs m.id.0 true ids → AreKnown ids b.tables.mappings
 left_known b cs m ids sound answer n there =
     let r = id_found ids n there in
     let P : ℕ → Type 0 = λ z. DependsOn b.sheet.slots m.id.0 z in
     dependent_known b m.id.0 n sound (subst P r.2 (answer.only r.0 r.1).0)
 
-left_unchanged : (b : Books) (cs : List Change) (m : Mapping) (ids : List MapId) → IsLeftAnswer ByForce b cs m true ids → (n : ℕ) → list_any (λ (id : MapId). id.0 == n) ids ≡ true → changes_some n cs ≡ false
+left_unchanged : (b : Books) (cs : List Change) (m : Mapping) (ids : List MapId) → IsLeftAnswer ByForce b.sheet.slots cs m.id.0 true ids → (n : ℕ) → list_any (λ (id : MapId). id.0 == n) ids ≡ true → changes_some n cs ≡ false
 left_unchanged b cs m ids answer n there =
     let r = id_found ids n there in
     let P : ℕ → Type 0 = λ z. changes_some z cs ≡ false in
     subst P r.2 (answer.only r.0 r.1).1
 
-left_those : (b : Books) (d : Deed) (m : Mapping) (ids : List MapId) → AreSound b → Reached ByForce b d → changes_some m.id.0 d.changes ≡ false → IsLeftAnswer ByForce b d.changes m true ids → dependents (after_deed no_sets b d) m ≡ those ids b.tables.mappings
+left_those : (b : Books) (d : Deed) (m : Mapping) (ids : List MapId) → AreSound b → Reached ByForce b d → changes_some m.id.0 d.changes ≡ false → IsLeftAnswer ByForce b.sheet.slots d.changes m.id.0 true ids → dependents (after_deed no_sets b d) m ≡ those ids b.tables.mappings
 left_those b d m ids sound reached same answer =
     let other : Books = after_deed no_sets b d in
     let is = stopped no_sets b d reached.stop in
@@ -147,11 +147,11 @@ left_those b d m ids sound reached same answer =
     ∙ ap (λ t. those ids t.mappings) is.tables
     ∙ those_after d.changes ids b.tables.mappings reached.stop.changes (left_unchanged b d.changes m ids answer)
 
-left_ids : (b : Books) (cs : List Change) (m : Mapping) (ids : List MapId) → AreSound b → IsLeftAnswer ByForce b cs m true ids → map (λ (x : Mapping). x.id) (those ids b.tables.mappings) ≡ ids
+left_ids : (b : Books) (cs : List Change) (m : Mapping) (ids : List MapId) → AreSound b → IsLeftAnswer ByForce b.sheet.slots cs m.id.0 true ids → map (λ (x : Mapping). x.id) (those ids b.tables.mappings) ≡ ids
 left_ids b cs m ids sound answer =
     ids_same ids b.tables.mappings (rises (λ (x : MapId). x.0) ids answer.rising) (rises (λ (x : Mapping). x.id.0) b.tables.mappings sound.tables.mappings.rising) (left_known b cs m ids sound answer)
 
-forced_parts : (b : Books) (d : Deed) (m : Mapping) (ids : List MapId) (end : Deed) → AreSound b → Reached ByForce b d → changes_some m.id.0 d.changes ≡ false → IsLeftAnswer ByForce b d.changes m true ids →
+forced_parts : (b : Books) (d : Deed) (m : Mapping) (ids : List MapId) (end : Deed) → AreSound b → Reached ByForce b d → changes_some m.id.0 d.changes ≡ false → IsLeftAnswer ByForce b.sheet.slots d.changes m.id.0 true ids →
     (let other = after_deed no_sets b d in
     (told (Force m.id (map (λ (x : Mapping). x.id) (dependents other m)) ∷ []) then (end then all_deeds (stops_with other) (dependents other m)))
     ≡ (told (Force m.id ids ∷ []) then (end then all_deeds (stops_with b) (those ids b.tables.mappings))))
@@ -165,7 +165,7 @@ forced_parts b d m ids end sound reached same answer =
 
 -- ---- need, by plain stops
 
-left_needed : (b : Books) (d : Deed) (m : Mapping) (needed : Bool) (ids : List MapId) → AreSound b → Reached Plain b d → changes_some m.id.0 d.changes ≡ false → IsLeftAnswer Plain b d.changes m needed ids → nat_lt 0 (needed_of (sheet_by b d).slots m.id.0) ≡ needed
+pub left_needed : (b : Books) (d : Deed) (m : Mapping) (needed : Bool) (ids : List MapId) → AreSound b → Reached Plain b d → changes_some m.id.0 d.changes ≡ false → IsLeftAnswer Plain b.sheet.slots d.changes m.id.0 needed ids → nat_lt 0 (needed_of (sheet_by b d).slots m.id.0) ≡ needed
 left_needed b d m needed ids sound reached same answer =
     let out : ℕ → Bool = λ n. changes_some n d.changes in
     let left : PlainLeft b.sheet (sheet_by b d) out = reached.left in
@@ -184,7 +184,7 @@ left_needed b d m needed ids sound reached same answer =
       mapping_apart b.sheet.slots m.id.0 by.0 sound.sheet.mappings by.1,
     ))
 
-plain_parts : (b : Books) (d : Deed) (m : Mapping) (needed : Bool) (ids : List MapId) → AreSound b → Reached Plain b d → changes_some m.id.0 d.changes ≡ false → IsLeftAnswer Plain b d.changes m needed ids → stops_in Copying Plain (after_deed no_sets b d) m ≡ stop_asked Copying Plain needed ids b m
+plain_parts : (b : Books) (d : Deed) (m : Mapping) (needed : Bool) (ids : List MapId) → AreSound b → Reached Plain b d → changes_some m.id.0 d.changes ≡ false → IsLeftAnswer Plain b.sheet.slots d.changes m.id.0 needed ids → stops_in Copying Plain (after_deed no_sets b d) m ≡ stop_asked Copying Plain needed ids b m
 plain_parts b d m needed ids sound reached same answer =
     let other : Books = after_deed no_sets b d in
     let copy = same_copy b d m reached.stop same in
@@ -205,7 +205,7 @@ split_parts b d m needed ids stop same =
     (same_leaves b other m (next_state Copying StopSplit (is_whole b m) needed) (next_state Copying StopSplit (is_whole other m) (is_needed other m)) copy
     (split_next (is_whole other m) (is_needed other m) needed ∙ ap (λ w. next_state Copying StopSplit w needed) copy.whole))
 
-force_parts : (b : Books) (d : Deed) (m : Mapping) (needed : Bool) (ids : List MapId) → AreSound b → Reached ByForce b d → changes_some m.id.0 d.changes ≡ false → IsLeftAnswer ByForce b d.changes m true ids → stops_in Copying ByForce (after_deed no_sets b d) m ≡ stop_asked Copying ByForce needed ids b m
+force_parts : (b : Books) (d : Deed) (m : Mapping) (needed : Bool) (ids : List MapId) → AreSound b → Reached ByForce b d → changes_some m.id.0 d.changes ≡ false → IsLeftAnswer ByForce b.sheet.slots d.changes m.id.0 true ids → stops_in Copying ByForce (after_deed no_sets b d) m ≡ stop_asked Copying ByForce needed ids b m
 force_parts b d m needed ids sound reached same answer =
     let other : Books = after_deed no_sets b d in
     let copy = same_copy b d m reached.stop same in
@@ -216,7 +216,7 @@ force_parts b d m needed ids sound reached same answer =
 
 -- ---- one member
 
-pub member_is : (state : MapState) (way : StopWay) (b : Books) (d : Deed) (m : Mapping) (needed : Bool) (ids : List MapId) → AreSound b → Reached way b d → changes_some m.id.0 d.changes ≡ false → acts_on way state ≡ true → IsLeftAnswer way b d.changes m needed ids → stops_in state way (after_deed no_sets b d) m ≡ stop_asked state way needed ids b m
+pub member_is : (state : MapState) (way : StopWay) (b : Books) (d : Deed) (m : Mapping) (needed : Bool) (ids : List MapId) → AreSound b → Reached way b d → changes_some m.id.0 d.changes ≡ false → acts_on way state ≡ true → IsLeftAnswer way b.sheet.slots d.changes m.id.0 needed ids → stops_in state way (after_deed no_sets b d) m ≡ stop_asked state way needed ids b m
 member_is Copying Plain b d m needed ids sound reached same acts answer = plain_parts b d m needed ids sound reached same answer
 member_is Copying SplitOff b d m needed ids sound reached same acts answer = split_parts b d m needed ids reached.stop same
 member_is Copying ByForce b d m needed ids sound reached same acts answer = force_parts b d m needed ids sound reached same answer

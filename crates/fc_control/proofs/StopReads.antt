@@ -34,17 +34,17 @@ reads_small big small p m n r not_m not_n x =
       | inr i ↦ elim (down big small p r x.from (omega (arith, before, there))) [
         | inl same ↦ absurd (not_m (let P : ℕ → Type 0 = λ z. (slot_at big z).mapping ≡ Some m in subst P same x.from_is))
         | inr h ↦ record {
-            from = h.0;
-            reader = i.0;
-            grain = x.grain;
-            there = i.1;
-            from_is = ap (λ (t : Slot). t.mapping) (removed_at big small p r h.0) ∙ (ap (λ z. (slot_at big z).mapping) h.2 ∙ x.from_is);
-            reader_is = ap (λ (t : Slot). t.mapping) (removed_at big small p r i.0) ∙ (ap (λ z. (slot_at big z).mapping) i.2 ∙ x.reader_is);
-            live = ap (λ (t : Slot). t.is_live) (removed_at big small p r i.0) ∙ (ap (λ z. (slot_at big z).is_live) i.2 ∙ x.live);
-            holds = held_exact big small p r x.grain i.0 h.0
-                (let P : ℕ → Type 0 = λ z. IsHolder (column big x.grain) z (up p h.0) in subst P (sym i.2)
-                (let Q : ℕ → Type 0 = λ z. IsHolder (column big x.grain) x.reader z in subst Q (sym h.2) x.holds));
-          }
+          from = h.0;
+          reader = i.0;
+          grain = x.grain;
+          there = i.1;
+          from_is = ap (λ (t : Slot). t.mapping) (removed_at big small p r h.0) ∙ (ap (λ z. (slot_at big z).mapping) h.2 ∙ x.from_is);
+          reader_is = ap (λ (t : Slot). t.mapping) (removed_at big small p r i.0) ∙ (ap (λ z. (slot_at big z).mapping) i.2 ∙ x.reader_is);
+          live = ap (λ (t : Slot). t.is_live) (removed_at big small p r i.0) ∙ (ap (λ z. (slot_at big z).is_live) i.2 ∙ x.live);
+          holds = held_exact big small p r x.grain i.0 h.0
+              (let P : ℕ → Type 0 = λ z. IsHolder (column big x.grain) z (up p h.0) in subst P (sym i.2)
+              (let Q : ℕ → Type 0 = λ z. IsHolder (column big x.grain) x.reader z in subst Q (sym h.2) x.holds));
+        }
       ]
     ]
 

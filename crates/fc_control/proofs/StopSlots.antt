@@ -191,8 +191,8 @@ all_forced out s (y ∷ ys) are maps closed =
     let rest = all_forced out (forced_map s y) ys (λ n e. are n (later (y.0 == n) (list_any (λ (z : MapId). z.0 == n) ys) e)) one.0.mappings one.0.closed in (
       record { stays = stays_then out s.slots (forced_map s y).slots (fold forced_map (forced_map s y) ys).slots one.0.stays rest.0.stays; mappings = rest.0.mappings; closed = rest.0.closed },
       λ n e x. first_or_rest y.0 n (y.0 == n) (list_any (λ (z : MapId). z.0 == n) ys) ⊥ refl
-      (λ same. one.1 (let P : ℕ → Type 0 = λ z. Has Any (forced_map s y).slots z in subst P (sym same) (rest.0.stays.had n x)))
-      (λ there. rest.1 n there x) e,
+          (λ same. one.1 (let P : ℕ → Type 0 = λ z. Has Any (forced_map s y).slots z in subst P (sym same) (rest.0.stays.had n x)))
+          (λ there. rest.1 n there x) e,
     )
   where
     later : (a b : Bool) → b ≡ true → (a || b) ≡ true

@@ -22,6 +22,7 @@ mod mkvdisk;
 mod name;
 mod rmfcmap;
 mod settle;
+// mod stop_group;
 mod stop_mapping;
 mod stop_work;
 mod stopping;
