@@ -20,3 +20,4 @@ pub mod StopMember
 pub mod StopSteps
 pub mod StopWhole
 pub mod StopGroup
+pub mod StopCode
