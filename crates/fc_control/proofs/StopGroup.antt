@@ -1,18 +1,17 @@
 -- A group is stopped: what is reached after each member, and what is decided.
-use Rattle.std.proofs.Common.{◌≡◌, ◌∙◌, sym, ap, subst, ℕ, zero, suc, ◌+◌, ◌<◌, ◌≤◌, Bool, true, false, cond, not, ◌&&◌, ◌||◌, ◌==◌, nat_lt, List, [], ◌∷◌, ◌++◌, length, map, take, AllPairs, All, get_or, Option, Some, None, Contains, inl, inr, ◌⊎◌, refl, arith, add-one}
-use Rattle.std.specs.Prelude.{◌↔◌}
+use Rattle.std.proofs.Common.{◌≡◌, ◌∙◌, sym, ap, subst, ℕ, zero, suc, ◌+◌, ◌<◌, ◌≤◌, Bool, true, false, cond, not, ◌&&◌, ◌||◌, ◌==◌, nat_lt, List, [], ◌∷◌, ◌++◌, length, map, take, AllPairs, All, get_or, Option, Some, None, Contains, inl, inr, refl, arith, add-one}
 use Rattle.std.specs.List.{list_any, filter, flat_map}
-use Rattle.std.proofs.lemmas.Bool.{eqb-true, eq-eqb, or_left, or_right}
-use Rattle.std.proofs.lemmas.List.{take_more, take_all}
-use Rattle.std.proofs.lemmas.List.Kept.{AllPairs-cons, AllPairs-filter}
+use Rattle.std.proofs.lemmas.Bool.{eqb-true, eq-eqb}
+use Rattle.std.proofs.lemmas.List.{take_all}
+use Rattle.std.proofs.lemmas.List.Kept.{AllPairs-cons}
 use Rattle.std.proofs.lemmas.List.Elements.{All-nil, All-cons}
 use Rattle.fc_base.specs.Sheet.{mapping_place}
-use Rattle.fc_base.specs.SheetView.{AreMappings, ReadsMapping, DependsOn, needed_of}
+use Rattle.fc_base.specs.SheetView.{AreMappings, DependsOn, needed_of}
 use Rattle.fc_base.specs.declared.command.StopWay.{StopWay}
 use Rattle.fc_base.specs.declared.command.StopWay.TheVariants.{Plain, Force as ByForce, Split as SplitOff}
 use Rattle.fc_base.specs.declared.decision.Decision.{Decision}
 use Rattle.fc_base.specs.declared.fault.Refusal.{Refusal}
-use Rattle.fc_base.specs.declared.fault.Refusal.TheVariants.{Empty as EmptyGroup, NotAllowed, NotComplete}
+use Rattle.fc_base.specs.declared.fault.Refusal.TheVariants.{NotAllowed, NotComplete}
 use Rattle.fc_base.specs.declared.ids.GroupId.{GroupId}
 use Rattle.fc_base.specs.declared.ids.MapId.{MapId}
 use Rattle.fc_base.specs.declared.request.Reply.{Reply}
@@ -23,7 +22,7 @@ use Rattle.fc_base.specs.declared.volume.Mapping.{Mapping}
 use Rattle.fc_books.specs.Books.{Books, Deed, nothing, ◌then◌}
 use Rattle.fc_books.specs.Copies.{held, total, is_whole, has_slot_among, places_behind}
 use Rattle.fc_books.specs.Deciding.{with_work}
-use Rattle.fc_books.specs.Groups.{acts_on, is_in, members, some_in, is_none_of, group_state}
+use Rattle.fc_books.specs.Groups.{acts_on, is_in, members, some_in, group_state}
 use Rattle.fc_books.specs.RefusedStarts.{not_complete, for_each, split_refusals, empty_group}
 use Rattle.fc_books.specs.Sound.{AreSound}
 use Rattle.fc_books.specs.Stopping.{stop_group}
@@ -31,15 +30,15 @@ use Rattle.fc_entry.specs.Refused.{first_of, where_}
 use Rattle.fc_registry.proofs.Places.{IsAbove, Rises, rises}
 use Rattle.fc_control.proofs.StopAsked.{any_of, any_in, id_found, dependent_known, has_slot, slot_has}
 use Rattle.fc_control.proofs.StopEnds.{can_stop, stop_nothing}
-use Rattle.fc_control.proofs.StopLeft.{PlainLeft, ForceLeft}
-use Rattle.fc_control.proofs.StopMember.{LeftBy, AreDone, sheet_by, Reached}
+use Rattle.fc_control.proofs.StopLeft.{PlainLeft}
+use Rattle.fc_control.proofs.StopMember.{sheet_by, Reached}
 use Rattle.fc_control.proofs.StopParts.{stops_concluded}
 use Rattle.fc_control.proofs.StopReach.{needed_reads, reads_needed, reads_mapping, mapping_reads, mapping_apart, out_or_not}
 use Rattle.fc_control.proofs.StopSlots.{stays_same}
 use Rattle.fc_control.proofs.StopSteps.{reached_next}
 use Rattle.fc_control.proofs.StopWhole.{so_far, next_passed, next_stopped, now_parts}
 use Rattle.fc_control.specs.Stops.{changes_some, stop_asked, told_after}
-use Rattle.fc_control.specs.StopGroups.{IsLeftAnswer, stops_in_group, stops_now, refused_group, is_acted}
+use Rattle.fc_control.specs.StopGroups.{IsLeftAnswer, stops_in_group, stops_now, refused_group}
 
 -- ---- the chains before answer
 

@@ -1,24 +1,23 @@
 -- The chains after stops, against the chains before them.
-use Rattle.std.proofs.Common.{◌≡◌, ◌≢◌, ◌∙◌, sym, ap, subst, ℕ, ◌<◌, ◌≤◌, Bool, true, false, ◌||◌, ◌==◌, nat_lt, Option, Some, None, IsSome, Contains, List, [], ◌∷◌, ◌++◌, length, remove, set, fold, inl, inr, ◌⊎◌, refl, arith}
+use Rattle.std.proofs.Common.{◌≡◌, ◌∙◌, sym, ap, subst, ℕ, ◌<◌, ◌≤◌, Bool, true, false, ◌||◌, ◌==◌, nat_lt, Option, Some, IsSome, List, [], ◌∷◌, ◌++◌, length, remove, set, fold, inl, inr, ◌⊎◌, refl, arith}
 use Rattle.std.specs.List.{list_any}
 use Rattle.std.proofs.lemmas.Bool.{cases_eq, eqb-true, eq-eqb, or_left, or_right}
-use Rattle.fc_base.specs.Column.{holder}
 use Rattle.fc_base.specs.Sheet.{Slot, Sheet, slot_at, column, mapping_place}
-use Rattle.fc_base.specs.SheetFacts.{HasMappings, IsSound}
+use Rattle.fc_base.specs.SheetFacts.{IsSound}
 use Rattle.fc_base.specs.SheetFits.{FitsForce, IsSlotOf}
 use Rattle.fc_base.specs.SheetStep.{retired_at, detached_at, forced_map}
 use Rattle.fc_base.specs.SheetView.{needed_of, AreMappings, DependsOn}
 use Rattle.fc_base.specs.declared.ids.MapId.{MapId}
-use Rattle.fc_moves.proofs.Readers.{IsHolder, holder_is}
+use Rattle.fc_moves.proofs.Readers.{holder_is}
 use Rattle.fc_sheets.proofs.Aging.{age, aged_is, aged_other, alone}
 use Rattle.fc_sheets.proofs.Events.{retired_sound, detached_sound}
 use Rattle.fc_sheets.proofs.Finding.{mapping_place_at, mapping_place_is}
 use Rattle.fc_sheets.proofs.Forcing.{forced_sound}
 use Rattle.fc_sheets.proofs.Places.{remove_is}
-use Rattle.fc_control.proofs.StopAsked.{id_found, id_there, any_in}
-use Rattle.fc_control.proofs.StopReads.{Reads, Quiet, reads_big, reads_push, push_reads, reads_aged, aged_reads, aged_quiet}
+use Rattle.fc_control.proofs.StopAsked.{id_found, id_there}
+use Rattle.fc_control.proofs.StopReads.{Reads, Quiet, reads_big, push_reads, reads_aged, aged_reads, aged_quiet}
 use Rattle.fc_control.proofs.StopReach.{Reach, first, later, depends_reach, reach_depends, reader_named, reads_needed, unneeded_quiet, not_both, out_or_not, one_place}
-use Rattle.fc_control.proofs.StopSlots.{Has, Any, Live, Stays, stays_then, stays_more, stays_push, stays_removed, has_push, push_has, has_none, ClosedOut, all_forced}
+use Rattle.fc_control.proofs.StopSlots.{Has, Any, Live, Stays, stays_then, stays_more, stays_push, stays_removed, has_none, ClosedOut, all_forced}
 
 -- ---- mappings that left, and one more
 

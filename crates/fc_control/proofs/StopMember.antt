@@ -1,13 +1,12 @@
 -- One more stop, on the books that the stops so far left, by what the chains before them tell.
-use Rattle.std.proofs.Common.{◌≡◌, ◌≢◌, ◌∙◌, sym, ap, subst, ℕ, Bool, true, false, cond, ◌||◌, ◌==◌, nat_lt, List, [], ◌∷◌, ◌++◌, map, fold, Result, inl, inr, refl, arith}
-use Rattle.std.specs.List.{list_any, filter}
+use Rattle.std.proofs.Common.{◌≡◌, ◌∙◌, sym, ap, subst, ℕ, Bool, true, false, cond, ◌==◌, nat_lt, List, [], ◌∷◌, map, fold, Result, inl, inr, refl, arith}
+use Rattle.std.specs.List.{list_any}
 use Rattle.fc_base.specs.Sheet.{Sheet}
 use Rattle.fc_base.specs.SheetFacts.{HasSizes}
-use Rattle.fc_base.specs.SheetView.{held_of, count_true, needed_of, AreMappings, ReadsMapping, DependsOn}
+use Rattle.fc_base.specs.SheetView.{held_of, count_true, needed_of, AreMappings, DependsOn}
 use Rattle.fc_base.specs.States.{next_state}
 use Rattle.fc_base.specs.declared.command.StopWay.{StopWay}
 use Rattle.fc_base.specs.declared.command.StopWay.TheVariants.{Plain, Force as ByForce, Split as SplitOff}
-use Rattle.fc_base.specs.declared.decision.LaneEvent.{LaneEvent}
 use Rattle.fc_base.specs.declared.decision.LaneEvent.TheVariants.{Retire, Detach, Split, Force, NoteCut}
 use Rattle.fc_base.specs.declared.fault.Refusal.{Refusal}
 use Rattle.fc_base.specs.declared.ids.MapId.{MapId}
@@ -24,14 +23,14 @@ use Rattle.fc_books.specs.Copies.{ranges_from, held, is_whole, is_needed, depend
 use Rattle.fc_books.specs.Ending.{ends_in, ends_by, as_left, cut_of, leaves_by}
 use Rattle.fc_books.specs.Groups.{acts_on}
 use Rattle.fc_books.specs.Sound.{AreSound}
-use Rattle.fc_books.specs.Stopping.{stop_event, stops_in, stops, stops_with}
+use Rattle.fc_books.specs.Stopping.{stops_in, stops_with}
 use Rattle.fc_registry.proofs.Places.{rises}
 use Rattle.fc_control.proofs.StopAsked.{those_are, ids_same, id_found, dependent_known, same_tests}
 use Rattle.fc_control.proofs.StopEnds.{AreKnown}
 use Rattle.fc_control.proofs.StopLeft.{PlainLeft, ForceLeft}
 use Rattle.fc_control.proofs.StopOrder.{no_sets, held_same, those_after}
-use Rattle.fc_control.proofs.StopReach.{depends_reach, reach_depends, reach_stays, reach_back, needed_reads, reads_needed, reads_mapping, mapping_reads, mapping_apart, out_or_not, not_both}
-use Rattle.fc_control.proofs.StopWork.{all_after, whole_same, stopped}
+use Rattle.fc_control.proofs.StopReach.{depends_reach, reach_depends, reach_stays, reach_back, needed_reads, reads_needed, reads_mapping, mapping_reads, mapping_apart, out_or_not}
+use Rattle.fc_control.proofs.StopWork.{whole_same, stopped}
 use Rattle.fc_control.specs.Stops.{is_among, those, stop_asked, changes_some, IsStop}
 use Rattle.fc_control.specs.StopGroups.{IsLeftAnswer}
 

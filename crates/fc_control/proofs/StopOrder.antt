@@ -1,23 +1,22 @@
 -- Deeds one after the other, and the tables and what is held after stops.
-use Rattle.std.proofs.Common.{◌≡◌, ◌∙◌, sym, ap, ℕ, zero, suc, ◌<◌, Bool, true, false, cond, ◌||◌, ◌==◌, List, [], ◌∷◌, ◌++◌, map, fold, length, Option, Some, None, Contains, refl, arith}
-use Rattle.std.specs.List.{list_any, filter, find, flat_map}
+use Rattle.std.proofs.Common.{◌≡◌, ◌∙◌, sym, ap, ℕ, zero, suc, ◌<◌, Bool, true, false, cond, ◌||◌, ◌==◌, List, [], ◌∷◌, ◌++◌, fold, Option, Some, None, Contains, refl, arith}
+use Rattle.std.specs.List.{list_any, find}
 use Rattle.std.specs.Option.{option_and_then}
-use Rattle.std.proofs.lemmas.Bool.{eqb-true, eq-eqb}
+use Rattle.std.proofs.lemmas.Bool.{eq-eqb}
 use Rattle.std.proofs.lemmas.Bool.Decides.{nat_tests}
 use Rattle.fc_base.specs.SheetView.{held_of}
-use Rattle.fc_base.specs.Tables.{mapping_with}
 use Rattle.fc_base.specs.declared.decision.LaneEvent.{LaneEvent}
 use Rattle.fc_base.specs.declared.ids.MapId.{MapId}
 use Rattle.fc_base.specs.declared.volume.Change.{Change}
 use Rattle.fc_base.specs.declared.volume.Change.TheVariants.{AddVolume, RemoveVolume, AddMapping, RemoveMapping, SetMapping, AddGroup, RemoveGroup}
 use Rattle.fc_base.specs.declared.volume.Mapping.{Mapping}
-use Rattle.fc_books.specs.After.{after_table_change, after_event, after_all, after_deed}
-use Rattle.fc_books.specs.Books.{Books, Deed, nothing, ◌then◌}
+use Rattle.fc_books.specs.After.{after_table_change, after_event, after_deed}
+use Rattle.fc_books.specs.Books.{Books, Deed, ◌then◌}
 use Rattle.fc_books.specs.Stopping.{one_by_one}
 use Rattle.fc_registry.proofs.Places.{IsAbove, Rises}
 use Rattle.fc_control.proofs.Deeds.{then-assoc, then-nothing}
 use Rattle.fc_control.proofs.StopHeld.{events_hold}
-use Rattle.fc_control.proofs.StopWork.{list_of, all_after, with_mappings, stopped, after_kept}
+use Rattle.fc_control.proofs.StopWork.{list_of, all_after, stopped, after_kept}
 use Rattle.fc_control.specs.Stops.{set_by, mapping_after, changes_in, changes_some, leaves_some, IsStop, AreStopChanges, is_among, those}
 
 -- ---- the books after one deed and then another

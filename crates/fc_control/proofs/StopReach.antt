@@ -1,13 +1,13 @@
 -- Who needs and who depends, by which mapping's slot reads from which.
-use Rattle.std.proofs.Common.{◌≡◌, ◌≢◌, ◌∙◌, sym, ap, subst, ℕ, zero, suc, ◌+◌, ◌<◌, ◌≤◌, Bool, true, false, cond, nat_lt, is_some, Option, Some, None, List, [], ◌∷◌, length, get_or, inl, inr, ◌⊎◌, refl, arith}
-use Rattle.std.proofs.lemmas.Bool.{cases_Bool, cases_eq, lt-ltb, ltb-true}
-use Rattle.fc_base.specs.Column.{holder, needer}
+use Rattle.std.proofs.Common.{◌≡◌, ◌≢◌, ◌∙◌, sym, ap, subst, ℕ, zero, suc, ◌+◌, ◌<◌, ◌≤◌, Bool, true, false, cond, nat_lt, is_some, Option, Some, None, List, length, inl, inr, ◌⊎◌, refl, arith}
+use Rattle.std.proofs.lemmas.Bool.{cases_eq, lt-ltb, ltb-true}
+use Rattle.fc_base.specs.Column.{needer}
 use Rattle.fc_base.specs.Counts.{count_below, is_needed_at, need_count_of}
 use Rattle.fc_base.specs.Need.{ReadsAt, IsNeeded, IsDependent, direct, onward}
 use Rattle.fc_base.specs.Sheet.{Slot, Sheet, slot_at, column, mapping_place}
 use Rattle.fc_base.specs.SheetFacts.{HasMappings, IsSound}
 use Rattle.fc_base.specs.SheetView.{needed_of, needed_at, ReadsMapping, DependsOn}
-use Rattle.fc_moves.proofs.Readers.{IsHolder, holder_is, is_holder, one_holder, own_holder, IsReader, reader_is, reader_from}
+use Rattle.fc_moves.proofs.Readers.{IsHolder, holder_is, is_holder, one_holder, own_holder, reader_is, reader_from}
 use Rattle.fc_moves.proofs.Search.{cases_option}
 use Rattle.fc_sheets.proofs.Finding.{mapping_place_at, mapping_place_is, mapping_place_none}
 use Rattle.fc_sheets.proofs.Holding.{held_in_range}

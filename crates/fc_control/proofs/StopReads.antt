@@ -1,12 +1,10 @@
 -- Which mapping's slot reads from which, as slots leave.
-use Rattle.std.proofs.Common.{◌≡◌, ◌≢◌, ◌∙◌, sym, ap, subst, ℕ, ◌+◌, ◌<◌, ◌≤◌, Bool, true, false, Some, None, List, [], ◌∷◌, ◌++◌, length, remove, set, get_or, inl, inr, refl, arith}
-use Rattle.std.proofs.lemmas.Bool.{cases_eq}
-use Rattle.fc_base.specs.Sheet.{Slot, Sheet, slot_at, column}
-use Rattle.fc_base.specs.SheetStep.{without, aged, retired_at, detached_at}
+use Rattle.std.proofs.Common.{◌≡◌, ◌∙◌, sym, ap, subst, ℕ, ◌+◌, ◌<◌, ◌≤◌, Bool, true, false, Some, None, List, [], ◌∷◌, ◌++◌, length, set, get_or, inl, inr, arith}
+use Rattle.fc_base.specs.Sheet.{Slot, slot_at, column}
 use Rattle.fc_moves.proofs.Readers.{IsHolder, holder_from, one_holder}
 use Rattle.fc_sheets.proofs.Aging.{Aged, age, aged_is, aged_here, aged_other}
 use Rattle.fc_sheets.proofs.Forcing.{held_exact}
-use Rattle.fc_sheets.proofs.Places.{Removed, up, le_up, up_in, up_low, down, removed_at, remove_is, push_is, push_here}
+use Rattle.fc_sheets.proofs.Places.{Removed, up, le_up, up_in, down, removed_at, push_is, push_here}
 
 -- The live slot of mapping `n` has the slot of mapping `m` as holder at some grain.
 pub record Reads (slots : List Slot) (m n : ℕ) : Type 0 where

@@ -1,12 +1,11 @@
 -- Which mappings still have a slot, as slots leave.
-use Rattle.std.proofs.Common.{◌≡◌, ◌≢◌, ◌∙◌, sym, ap, subst, ℕ, ◌+◌, ◌<◌, ◌≤◌, Bool, true, false, cond, ◌||◌, ◌==◌, Option, Some, None, List, [], ◌∷◌, ◌++◌, length, remove, set, fold, inl, inr, refl, arith}
+use Rattle.std.proofs.Common.{◌≡◌, ◌∙◌, sym, ap, subst, ℕ, ◌<◌, Bool, true, false, cond, ◌||◌, ◌==◌, Option, Some, None, List, [], ◌∷◌, ◌++◌, length, remove, fold, inl, inr, refl, arith}
 use Rattle.std.specs.List.{list_any}
 use Rattle.std.proofs.lemmas.Bool.{eqb-true, eq-eqb, or_left}
-use Rattle.fc_base.specs.Sheet.{Slot, Sheet, slot_at, column, mapping_place}
+use Rattle.fc_base.specs.Sheet.{Slot, Sheet, slot_at, mapping_place}
 use Rattle.fc_base.specs.SheetFacts.{HasMappings}
 use Rattle.fc_base.specs.SheetStep.{at_place, without, detached_at, forced_at, forced_map}
 use Rattle.fc_base.specs.declared.ids.MapId.{MapId}
-use Rattle.fc_moves.proofs.Readers.{IsHolder}
 use Rattle.fc_sheets.proofs.Aging.{alone, mappings_alone}
 use Rattle.fc_sheets.proofs.Finding.{mapping_place_at, mapping_place_none}
 use Rattle.fc_sheets.proofs.Places.{Removed, up, up_in, up_apart, down, removed_at, remove_is, push_is, push_here}

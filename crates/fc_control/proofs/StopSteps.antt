@@ -1,11 +1,11 @@
 -- What is reached by one more stop.
-use Rattle.std.proofs.Common.{◌≡◌, ◌≢◌, ◌∙◌, sym, ap, subst, ℕ, Bool, true, false, cond, ◌&&◌, ◌||◌, ◌==◌, nat_lt, List, [], ◌∷◌, ◌++◌, map, fold, Option, Some, None, Result, Ok, Err, Contains, inl, inr, ◌⊎◌, refl, arith}
-use Rattle.std.specs.List.{list_any, filter}
+use Rattle.std.proofs.Common.{◌≡◌, ◌∙◌, sym, ap, subst, ℕ, Bool, true, false, cond, ◌&&◌, ◌||◌, ◌==◌, nat_lt, List, [], ◌∷◌, ◌++◌, fold, Some, None, Result, Ok, Contains, inl, inr, ◌⊎◌, refl, arith}
+use Rattle.std.specs.List.{list_any}
 use Rattle.std.proofs.lemmas.Bool.{eqb-true, eq-eqb, or_left, or_right}
 use Rattle.std.proofs.lemmas.List.Folds.{list_any-append}
 use Rattle.fc_base.specs.Sheet.{Sheet, mapping_place}
 use Rattle.fc_base.specs.SheetStep.{at_place, retired_at, detached_at}
-use Rattle.fc_base.specs.SheetView.{needed_of, AreMappings, DependsOn}
+use Rattle.fc_base.specs.SheetView.{needed_of}
 use Rattle.fc_base.specs.States.{next_state}
 use Rattle.fc_base.specs.declared.command.StopWay.{StopWay}
 use Rattle.fc_base.specs.declared.command.StopWay.TheVariants.{Plain, Force as ByForce, Split as SplitOff}
@@ -27,12 +27,12 @@ use Rattle.fc_books.specs.Sound.{AreSound, SlotByState}
 use Rattle.fc_books.specs.Stopping.{stop_event, stops_with}
 use Rattle.fc_sheets.proofs.Finding.{mapping_place_at, mapping_place_is, mapping_place_none}
 use Rattle.fc_control.proofs.StopAsked.{same_tests}
-use Rattle.fc_control.proofs.StopEnds.{AreKnown, can_stop, stop_is, stop_then, IsPart, part_then, part_nothing, cut_part, ends_in_part, with_part, those_part, those_changes}
+use Rattle.fc_control.proofs.StopEnds.{AreKnown, can_stop, stop_is, stop_then, IsPart, part_then, part_nothing, cut_part, ends_in_part, those_part, those_changes}
 use Rattle.fc_control.proofs.StopLeft.{Grows, is_it, among_ids, PlainLeft, plain_none, plain_retired, plain_detached, ForceLeft, force_none, force_forced}
 use Rattle.fc_control.proofs.StopMember.{LeftBy, AreDone, sheet_by, Reached, left_answer, left_known, left_needed}
 use Rattle.fc_control.proofs.StopOrder.{no_sets}
 use Rattle.fc_control.proofs.StopSlots.{Has, Any, Live}
-use Rattle.fc_control.specs.Stops.{is_among, those, ends_those, stop_asked, changes_in, changes_some, leaves_in, leaves_some, IsStopEvent, AreStopEvents, IsStop}
+use Rattle.fc_control.specs.Stops.{is_among, those, stop_asked, changes_in, changes_some, leaves_in, leaves_some, IsStopEvent, AreStopEvents}
 use Rattle.fc_control.specs.StopGroups.{IsLeftAnswer}
 
 -- ---- which mappings a stop changes

@@ -1,41 +1,27 @@
 -- The members of a group, one after the other.
-use Rattle.std.proofs.Common.{◌≡◌, ◌∙◌, sym, ap, subst, ℕ, zero, suc, ◌+◌, ◌<◌, ◌≤◌, Bool, true, false, cond, not, ◌&&◌, ◌||◌, ◌==◌, nat_lt, List, [], ◌∷◌, ◌++◌, length, map, take, get_or, Option, Some, None, Contains, inl, inr, ◌⊎◌, refl, arith, add-one}
-use Rattle.std.specs.List.{list_any, filter}
+use Rattle.std.proofs.Common.{◌≡◌, ◌∙◌, sym, ap, ℕ, ◌+◌, ◌<◌, Bool, true, false, cond, not, ◌&&◌, ◌||◌, ◌==◌, List, [], ◌∷◌, ◌++◌, length, map, take, get_or, Option, Some, None, Contains, refl, arith}
+use Rattle.std.specs.List.{filter}
 use Rattle.std.specs.Option.{option_and_then}
-use Rattle.std.proofs.lemmas.Bool.{eqb-true, eq-eqb}
 use Rattle.std.proofs.lemmas.List.{take_more}
-use Rattle.std.proofs.lemmas.List.Kept.{AllPairs-cons}
-use Rattle.std.proofs.lemmas.List.Elements.{All-nil, All-cons}
-use Rattle.fc_base.specs.SheetView.{AreMappings, ReadsMapping, DependsOn, needed_of}
 use Rattle.fc_base.specs.Tables.{mapping_with}
 use Rattle.fc_base.specs.declared.command.StopWay.{StopWay}
-use Rattle.fc_base.specs.declared.command.StopWay.TheVariants.{Plain, Force as ByForce, Split as SplitOff}
-use Rattle.fc_base.specs.declared.fault.Refusal.{Refusal}
 use Rattle.fc_base.specs.declared.ids.GroupId.{GroupId}
 use Rattle.fc_base.specs.declared.ids.MapId.{MapId}
-use Rattle.fc_base.specs.declared.state.MapState.{MapState}
-use Rattle.fc_base.specs.declared.state.MapState.TheVariants.{Empty, IdleOrCopied, Preparing, Prepared, Copying, Stopping, Stopped}
 use Rattle.fc_base.specs.declared.volume.Change.{Change}
 use Rattle.fc_base.specs.declared.volume.Change.TheVariants.{AddVolume, RemoveVolume, AddMapping, RemoveMapping, SetMapping, AddGroup, RemoveGroup}
 use Rattle.fc_base.specs.declared.volume.Mapping.{Mapping}
 use Rattle.fc_books.specs.After.{after_deed}
 use Rattle.fc_books.specs.Books.{Books, Deed, nothing, ◌then◌}
-use Rattle.fc_books.specs.Copies.{is_whole}
 use Rattle.fc_books.specs.Groups.{acts_on, is_in}
-use Rattle.fc_books.specs.RefusedStarts.{not_complete, for_each, split_refusals}
 use Rattle.fc_books.specs.Sound.{AreSound}
 use Rattle.fc_books.specs.Stopping.{stops, stops_in, stops_member, one_by_one}
-use Rattle.fc_entry.specs.Refused.{first_of}
-use Rattle.fc_registry.proofs.Places.{IsAbove, Rises, rises}
+use Rattle.fc_registry.proofs.Places.{rises}
 use Rattle.fc_control.proofs.Deeds.{then-nothing}
-use Rattle.fc_control.proofs.StopEnds.{can_stop, stop_nothing}
-use Rattle.fc_control.proofs.StopMember.{LeftBy, AreDone, sheet_by, Reached, member_is}
+use Rattle.fc_control.proofs.StopMember.{AreDone, Reached, member_is}
 use Rattle.fc_control.proofs.StopOrder.{no_sets, one_more, after_same, found_after}
-use Rattle.fc_control.proofs.StopSlots.{stays_same}
-use Rattle.fc_control.proofs.StopSteps.{reached_next}
 use Rattle.fc_control.proofs.StopWork.{stopped}
-use Rattle.fc_control.specs.Stops.{set_by, mapping_after, changes_in, changes_some, stop_asked, AreStopChanges}
-use Rattle.fc_control.specs.StopGroups.{IsLeftAnswer, one_stop, stops_of, stops_in_group, is_acted, stops_now}
+use Rattle.fc_control.specs.Stops.{mapping_after, changes_some, stop_asked, AreStopChanges}
+use Rattle.fc_control.specs.StopGroups.{IsLeftAnswer, one_stop, stops_of, stops_in_group, stops_now}
 
 -- ---- a mapping that was stopped isn't stopped again
 

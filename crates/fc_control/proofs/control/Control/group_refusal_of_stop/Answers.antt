@@ -1,5 +1,5 @@
 -- No member; none that the stop acts on; or a split of an incomplete copy.
-use Rattle.std.proofs.Common.{◌≡◌, ◌∙◌, sym, ap, Some}
+use Rattle.std.proofs.Common.{◌∙◌, sym, ap, Some}
 use Rattle.std.specs.List.{list_any}
 use Rattle.fc_base.specs.Tables.{Tables}
 use Rattle.fc_base.specs.declared.fault.Refusal.TheVariants.{NotAllowed}

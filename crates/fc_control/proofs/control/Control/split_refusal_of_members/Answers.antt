@@ -1,5 +1,5 @@
 -- The first that is refused, or one more that isn't.
-use Rattle.std.proofs.Common.{◌≡◌, ◌∙◌, sym, ap}
+use Rattle.std.proofs.Common.{◌∙◌, ap}
 use Rattle.fc_base.specs.Tables.{Tables}
 use Rattle.fc_control.specs.Control.{books_of}
 use Rattle.fc_control.proofs.StopCode.{each_next, each_found, none_of}

@@ -1,10 +1,10 @@
 -- The mapping is passed over, or stopped after those before it.
-use Rattle.std.proofs.Common.{◌≡◌, ◌∙◌, sym, ap, get_or}
+use Rattle.std.proofs.Common.{◌∙◌, sym, ap}
 use Rattle.std.proofs.lemmas.Option.{get_or_from_slice_get}
 use Rattle.std.specs.List.{slice_get}
 use Rattle.fc_base.specs.Tables.{Tables}
 use Rattle.fc_control.specs.Control.{books_of}
-use Rattle.fc_control.specs.StopGroups.{IsLeftAnswer, stops_now}
+use Rattle.fc_control.specs.StopGroups.{stops_now}
 use Rattle.fc_control.proofs.StopGroup.{member_passed, member_stopped}
 use Rattle.fc_control.proofs.StopParts.{on_ok_by}
 use Rattle.fc_control.proofs.control.Control.stop_member.Goals as goal
