@@ -6,6 +6,12 @@ pub mod Working
 pub mod Grouping
 pub mod Volumes
 pub mod Removing
+pub mod Mapped
+pub mod Selecting
+pub mod Slots
+pub mod Vanishing
+pub mod Setting
+pub mod Flagged
 pub mod StopHeld
 pub mod StopWork
 pub mod StopEnds

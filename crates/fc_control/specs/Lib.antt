@@ -4,5 +4,9 @@ pub mod Outcome
 pub mod Telling
 pub mod Names
 pub mod Volumes
+pub mod Answering
+pub mod Mappings
+pub mod Choosing
+pub mod Starts
 pub mod Stops
 pub mod StopGroups
