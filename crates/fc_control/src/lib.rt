@@ -5,9 +5,7 @@
 //! `fc_books/specs/Deciding.antt`: `settle` is `settle`, and each `decide_..` is `decide` of its command. Want of memory
 //! alone is free, and changes nothing.
 //!
-//! So far there are `settle`, and the decisions on `mkvdisk`, `rmfcmap`, `stopfcmap`, `mkfcconsistgrp`,
-//! `stopfcconsistgrp`, `armfault`, `advance` and the two reports on one mapping. The others, and `reserve` and `apply`,
-//! are to come.
+//! All commands are decided but starts (`prestart..` and `start..`), which are to come, with `reserve` and `apply`.
 //!
 //! In reading order: `draft` (a decision as it is put together), `ending` (how the copy of a mapping ends), `control`,
 //! `asking` (what is asked of a copy), `settle`, `work` (background work), `name`, `decide`, `mkvdisk`,
