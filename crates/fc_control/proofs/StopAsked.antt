@@ -52,13 +52,13 @@ id_found ids n e = let r = any_of (λ (id : MapId). id.0 == n) ids e in (r.0, r.
 pub id_there : (ids : List MapId) (id : MapId) → Contains ids id → list_any (λ (x : MapId). x.0 == id.0) ids ≡ true
 id_there ids id there = any_in (λ (x : MapId). x.0 == id.0) ids id there (eq-eqb id.0 id.0 refl)
 
-has_slot : (slots : List Slot) (m n : ℕ) → HasSizes slots → DependsOn slots m n → option_map_or (λ k. list_any (λ j. j == k) (places_behind slots (mapping_place slots m))) (mapping_place slots n) false ≡ true
+pub has_slot : (slots : List Slot) (m n : ℕ) → HasSizes slots → DependsOn slots m n → option_map_or (λ k. list_any (λ j. j == k) (places_behind slots (mapping_place slots m))) (mapping_place slots n) false ≡ true
 has_slot slots m n sizes dep =
     ap (λ o. option_map_or (λ k. list_any (λ j. j == k) (places_behind slots (mapping_place slots m))) o false) dep.dependent_there
     ∙ ap (λ o. list_any (λ j. j == dep.dependent) (places_behind slots o)) dep.on_there
     ∙ (dependent_places-are slots dep.on sizes).all dep.dependent dep.depends
 
-slot_has : (slots : List Slot) (m n : ℕ) (o p : Option ℕ) → HasSizes slots → mapping_place slots n ≡ o → mapping_place slots m ≡ p → option_map_or (λ k. list_any (λ j. j == k) (places_behind slots p)) o false ≡ true → DependsOn slots m n
+pub slot_has : (slots : List Slot) (m n : ℕ) (o p : Option ℕ) → HasSizes slots → mapping_place slots n ≡ o → mapping_place slots m ≡ p → option_map_or (λ k. list_any (λ j. j == k) (places_behind slots p)) o false ≡ true → DependsOn slots m n
 slot_has slots m n None p sizes is_o is_p e = grind (arith, e)
 slot_has slots m n (Some j) None sizes is_o is_p e = grind (arith, e)
 slot_has slots m n (Some j) (Some k) sizes is_o is_p e =
@@ -71,11 +71,14 @@ among_same slots m ids sizes are d =
     (λ there. id_there ids d.id (are.all d.id (slot_has slots m d.id.0 (mapping_place slots d.id.0) (mapping_place slots m) sizes refl refl there)))
 
 -- The mappings with these ids are the dependents.
-pub those_depend : (b : Books) (m : Mapping) (ids : List MapId) → AreSound b → AreMappings (DependsOn b.sheet.slots m.id.0) ids → those ids b.tables.mappings ≡ dependents b m
+pub those_are : (b : Books) (m : Mapping) (ids : List MapId) → HasSizes b.sheet.slots → AreMappings (DependsOn b.sheet.slots m.id.0) ids → those ids b.tables.mappings ≡ dependents b m
 unfolding dependents
-those_depend b m ids sound are =
+those_are b m ids sizes are =
     filter_by (is_among ids) (has_slot_among b.sheet.slots (places_behind b.sheet.slots (mapping_place b.sheet.slots m.id.0))) b.tables.mappings
-    (among_same b.sheet.slots m.id.0 ids sound.sheet.sizes are)
+    (among_same b.sheet.slots m.id.0 ids sizes are)
+
+pub those_depend : (b : Books) (m : Mapping) (ids : List MapId) → AreSound b → AreMappings (DependsOn b.sheet.slots m.id.0) ids → those ids b.tables.mappings ≡ dependents b m
+those_depend b m ids sound are = those_are b m ids sound.sheet.sizes are
 
 -- ---- each of them is a mapping's
 
@@ -97,11 +100,14 @@ pub place_owned : (b : Books) (n k : ℕ) → AreSound b → mapping_place b.she
 place_owned b n k sound is lt =
     owner b.tables.mappings n (slot_at b.sheet.slots k).mapping (at_some (slot_at b.sheet.slots k).mapping n (place_at b.sheet.slots n k is)) (sound.agree.owned k lt)
 
+pub dependent_known : (b : Books) (m n : ℕ) → AreSound b → DependsOn b.sheet.slots m n → list_any (λ (d : Mapping). d.id.0 == n) b.tables.mappings ≡ true
+dependent_known b m n sound dep = place_owned b n dep.dependent sound dep.dependent_there (within b.sheet.slots dep.on dep.dependent dep.depends)
+
 pub dependents_known : (b : Books) (m : ℕ) (ids : List MapId) → AreSound b → AreMappings (DependsOn b.sheet.slots m) ids → AreKnown ids b.tables.mappings
 dependents_known b m ids sound are n there =
     let r = id_found ids n there in
-    let dep : DependsOn b.sheet.slots m n = subst (DependsOn b.sheet.slots m) r.2 (are.only r.0 r.1) in
-    place_owned b n dep.dependent sound dep.dependent_there (within b.sheet.slots dep.on dep.dependent dep.depends)
+    let P : ℕ → Type 0 = λ z. DependsOn b.sheet.slots m z in
+    dependent_known b m n sound (subst P r.2 (are.only r.0 r.1))
 
 -- ---- and they stand in their order
 

@@ -56,24 +56,24 @@ stop_nothing = record { events = tt; changes = tt; left = λ n e. grind (arith, 
 -- ---- parts by which no slot leaves
 
 pub record IsPart (d : Deed) : Type 0 where
-  is_stop : IsStop d
-  quiet : (n : ℕ) → leaves_some n d.events ≡ false
+  pub is_stop : IsStop d
+  pub quiet : (n : ℕ) → leaves_some n d.events ≡ false
 
-part_then : (d e : Deed) → IsPart d → IsPart e → IsPart (d then e)
+pub part_then : (d e : Deed) → IsPart d → IsPart e → IsPart (d then e)
 part_then d e p q =
     record {
       is_stop = stop_then d e p.is_stop q.is_stop;
       quiet = λ n. list_any-append (leaves_in n) d.events e.events ∙ ap (λ b. b || leaves_some n e.events) (p.quiet n) ∙ q.quiet n;
     }
 
-part_nothing : IsPart nothing
+pub part_nothing : IsPart nothing
 part_nothing = record { is_stop = stop_nothing; quiet = λ n. refl }
 
-part_all : {X : Type 0} (f : X → Deed) (xs : List X) → ((x : X) → IsPart (f x)) → IsPart (all_deeds f xs)
+pub part_all : {X : Type 0} (f : X → Deed) (xs : List X) → ((x : X) → IsPart (f x)) → IsPart (all_deeds f xs)
 part_all f [] each = part_nothing
 part_all f (x ∷ xs) each = part_then (f x) (all_deeds f xs) (each x) (part_all f xs each)
 
-cut_part : (b : Books) (m : Mapping) (whole : Bool) → is_whole b m ≡ whole → IsPart (cut_of b m)
+pub cut_part : (b : Books) (m : Mapping) (whole : Bool) → is_whole b m ≡ whole → IsPart (cut_of b m)
 cut_part b m true is = rw is part_nothing
 cut_part b m false is = rw is record { is_stop = record { events = (tt, tt); changes = tt; left = λ n e. grind (arith, e); gone = λ n e. grind (arith, e) }; quiet = λ n. refl }
 
@@ -90,10 +90,10 @@ ends_part state m false ends = comes_part state m ends
 pub ends_in_part : (state : MapState) (m : Mapping) → is_copying state ≡ false → IsPart (ends_in state m)
 ends_in_part state m ends = ends_part state m (m.autodelete && is_idle state) ends
 
-with_part : (b : Books) (d : Mapping) → IsPart (stops_with b d)
+pub with_part : (b : Books) (d : Mapping) → IsPart (stops_with b d)
 with_part b d = part_then (cut_of b d) (ends_in Stopped (as_left b d)) (cut_part b d (is_whole b d) refl) (ends_in_part Stopped (as_left b d) refl)
 
-those_part : (way : StopWay) (ids : List MapId) (b : Books) → IsPart (ends_those way ids b)
+pub those_part : (way : StopWay) (ids : List MapId) (b : Books) → IsPart (ends_those way ids b)
 those_part Plain ids b = part_nothing
 those_part SplitOff ids b = part_nothing
 those_part ByForce ids b = part_all (stops_with b) (those ids b.tables.mappings) (with_part b)
@@ -135,7 +135,7 @@ rest_has : (here rest : Bool) → (here || rest) ≡ true → here ≡ false →
 rest_has true rest e no_here = grind (arith, no_here)
 rest_has false rest e no_here = e
 
-those_changes : (b : Books) (ids : List MapId) (maps : List Mapping) (n : ℕ) → list_any (λ (id : MapId). id.0 == n) ids ≡ true → list_any (λ (d : Mapping). d.id.0 == n) maps ≡ true → changes_some n (all_with b (those ids maps)).changes ≡ true
+pub those_changes : (b : Books) (ids : List MapId) (maps : List Mapping) (n : ℕ) → list_any (λ (id : MapId). id.0 == n) ids ≡ true → list_any (λ (d : Mapping). d.id.0 == n) maps ≡ true → changes_some n (all_with b (those ids maps)).changes ≡ true
 those_changes b ids [] n there known = grind (arith, known)
 those_changes b ids (d ∷ ds) n there known =
     those_first b ids d (those ids ds) n (d.id.0 == n) (is_among ids d) refl refl there

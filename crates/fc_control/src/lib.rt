@@ -5,12 +5,11 @@
 //! `fc_books/specs/Deciding.antt`: `settle` is `settle`, and each `decide_..` is `decide` of its command. Want of memory
 //! alone is free, and changes nothing.
 //!
-//! So far there are `settle`, and the decisions on `mkvdisk`, `rmfcmap`, `mkfcconsistgrp`, `armfault`, `advance` and the
-//! two reports on one mapping. The others, and `reserve` and `apply`, are to come.
+//! All commands are decided but starts (`prestart..` and `start..`), which are to come, with `reserve` and `apply`.
 //!
 //! In reading order: `draft` (a decision as it is put together), `ending` (how the copy of a mapping ends), `control`,
 //! `asking` (what is asked of a copy), `settle`, `work` (background work), `name`, `decide`, `mkvdisk`,
-//! `rmfcmap`.
+//! `rmfcmap`, `stopping` (what a stop does), `stop_work` (background work after stops), `stop_mapping`, `stop_group`.
 #![tactic(auto)]
 
 mod asking;
@@ -27,6 +26,7 @@ mod rmfcconsistgrp;
 mod rmfcmap;
 mod rmvdisk;
 mod settle;
+mod stop_group;
 mod stop_mapping;
 mod stop_work;
 mod stopping;
