@@ -12,3 +12,4 @@ pub mod Slots
 pub mod Vanishing
 pub mod Setting
 pub mod Flagged
+pub mod Preparing

@@ -14,6 +14,8 @@
 #![tactic(auto)]
 
 mod asking;
+mod begin;
+mod chosen;
 mod control;
 mod decide;
 mod draft;
@@ -22,11 +24,13 @@ mod groups;
 mod mkfcmap;
 mod mkvdisk;
 mod name;
+mod ready;
 mod reports;
 mod rmfcconsistgrp;
 mod rmfcmap;
 mod rmvdisk;
 mod settle;
+mod starting;
 mod work;
 
 pub use control::Control;
