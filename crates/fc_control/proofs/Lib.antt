@@ -13,3 +13,5 @@ pub mod Vanishing
 pub mod Setting
 pub mod Flagged
 pub mod Preparing
+pub mod Triggered
+pub mod Started

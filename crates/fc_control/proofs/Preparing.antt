@@ -57,7 +57,7 @@ set_twice b f g sup ch =
     ∙ changes_set b g (filter ch xs) (fold set_in xs (map f (filter sup xs)))
     ∙ ap (with_maps b) (sym (fold_append set_in xs (map f (filter sup xs)) (map g (filter ch xs))) ∙ set_pointwise (map f (filter sup xs) ++ map g (filter ch xs)) xs)
 
-apart_by : (ch : Mapping → Bool) (x z : Mapping) (xs : List Mapping) → IsAlone xs x → ch x ≡ false → Contains xs z → ch z ≡ true → (t : Bool) → (z.id.0 == x.id.0) ≡ t → t ≡ false
+pub apart_by : (ch : Mapping → Bool) (x z : Mapping) (xs : List Mapping) → IsAlone xs x → ch x ≡ false → Contains xs z → ch z ≡ true → (t : Bool) → (z.id.0 == x.id.0) ≡ t → t ≡ false
 apart_by ch x z xs is_alone none there passes false is = refl
 apart_by ch x z xs is_alone none there passes true is = grind (arith, none, passes, ap ch (is_alone z there is))
 
@@ -247,12 +247,12 @@ there_by : (y : Mapping) (ys : List Mapping) (x : Mapping) (b : Bool) (o : Optio
 there_by y ys x true o e rest = let same : y ≡ x = cc in (0, omega arith, same)
 there_by y ys x false o e rest = let found = rest e in (suc found.0, omega (arith, found.1), found.2)
 
-found_there : (test : Mapping → Bool) (xs : List Mapping) (x : Mapping) → find test xs ≡ Some x → Contains xs x
+pub found_there : (test : Mapping → Bool) (xs : List Mapping) (x : Mapping) → find test xs ≡ Some x → Contains xs x
 found_there test [] x e = grind (arith, e)
 found_there test (y ∷ ys) x e = there_by y ys x (test y) (find test ys) e (found_there test ys x)
 
 -- the one mapping with an id
-tail_rising : (x : Mapping) (xs : List Mapping) → AllPairs (λ (m n : Mapping). m.id.0 < n.id.0) (x ∷ xs) → AllPairs (λ (m n : Mapping). m.id.0 < n.id.0) xs
+pub tail_rising : (x : Mapping) (xs : List Mapping) → AllPairs (λ (m n : Mapping). m.id.0 < n.id.0) (x ∷ xs) → AllPairs (λ (m n : Mapping). m.id.0 < n.id.0) xs
 tail_rising x xs rising i j d lt in_j = rising (suc i) (suc j) d (omega (arith, lt)) (omega (arith, in_j))
 
 none_kept : (p : Mapping → Bool) (xs : List Mapping) → ((k : ℕ) (d : Mapping) → k < length xs → p (slice_index_or xs k d) ≡ false) → filter p xs ≡ []

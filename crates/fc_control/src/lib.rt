@@ -30,6 +30,7 @@ mod rmfcconsistgrp;
 mod rmfcmap;
 mod rmvdisk;
 mod settle;
+mod start;
 mod starting;
 mod work;
 
