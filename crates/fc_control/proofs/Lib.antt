@@ -15,3 +15,4 @@ pub mod Flagged
 pub mod Preparing
 pub mod Triggered
 pub mod Started
+pub mod Looped

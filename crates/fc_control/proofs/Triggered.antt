@@ -50,6 +50,7 @@ other_volume s v w live apart = by s.is_live (eqb s.volume w) refl
     parts : (a b : Bool) → (a && b) ≡ true → b ≡ true
     parts true b e = e
     parts false b e = absurd cc
+
     by : (a b : Bool) → eqb s.volume w ≡ b → (a && b) ≡ false
     by false b is = refl
     by true false is = refl

@@ -8,3 +8,4 @@ pub mod Answering
 pub mod Mappings
 pub mod Choosing
 pub mod Starts
+pub mod Looping

@@ -31,6 +31,7 @@ mod rmfcmap;
 mod rmvdisk;
 mod settle;
 mod start;
+mod startfcmap;
 mod starting;
 mod work;
 

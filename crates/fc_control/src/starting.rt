@@ -71,12 +71,7 @@ impl Control {
     }
 
     /// What preparing mappings does.
-    fn draft_prepare(
-        &self,
-        alloc: Global,
-        chosen: Chosen,
-        restore: bool,
-    ) -> Result<Draft, NoMemory>
+    fn draft_prepare(&self, alloc: Global, chosen: Chosen, restore: bool) -> Result<Draft, NoMemory>
         ensures { IfOk result (λ draft. draft ≡ prepare restore self.now.tables (chosen_of self.now.tables chosen)) }
     {
         let mappings = self.registry().all_mappings();
