@@ -16,3 +16,4 @@ pub mod Preparing
 pub mod Triggered
 pub mod Started
 pub mod Looped
+pub mod Together

@@ -39,7 +39,7 @@ use Rattle.fc_entry.specs.Refused.{first_of}
 
 -- ---- what isn't refused
 
-second_none : (x y : Option Refusal) (rest : List (Option Refusal)) → first_of (x ∷ y ∷ rest) ≡ None → y ≡ None
+pub second_none : (x y : Option Refusal) (rest : List (Option Refusal)) → first_of (x ∷ y ∷ rest) ≡ None → y ≡ None
 second_none None None rest e = refl
 second_none None (Some r) rest e = absurd cc
 second_none (Some r) y rest e = absurd cc
