@@ -9,3 +9,4 @@ pub mod Mappings
 pub mod Choosing
 pub mod Starts
 pub mod Looping
+pub mod Dispatch

@@ -21,6 +21,7 @@ mod begin;
 mod chosen;
 mod control;
 mod decide;
+mod dispatch;
 mod draft;
 mod ending;
 mod groups;
