@@ -24,3 +24,10 @@ pub mod Sorting
 pub mod Listed
 pub mod Named
 pub mod Volumes
+pub mod LoopMarks
+pub mod LoopWalk
+pub mod LoopSteps
+pub mod LoopRows
+pub mod LoopVolumes
+pub mod LoopLinks
+pub mod LoopTold

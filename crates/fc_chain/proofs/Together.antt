@@ -106,14 +106,17 @@ aged_together s k lt =
     let a = aged_is s.slots k lt in
     follows s.births s.births (aged k s).slots s.slots (same_places (aged k s).slots s.slots a.count (λ j jl. a.chain j)) (omega arith)
 
-placed_together : (target m : ℕ) (held : List Bool) (k : ℕ) (s : Sheet) → k < length s.slots → SheetTogether s → SheetTogether (placed target m held k s)
-placed_together target m held k s lt =
+placed_follows : (target m : ℕ) (held : List Bool) (k : ℕ) (s : Sheet) → k < length s.slots → Follows (placed target m held k s).slots s.slots
+placed_follows target m held k s lt =
     let new : Slot = record { birth = s.births; chain = (slot_at s.slots k).chain; volume = target; is_live = true; mapping = Some m; held = held } in
     let big : List Slot = insert s.slots (k + 1) new in
     let next : k + 1 ≡ suc k = omega arith in
     let r : Removed big s.slots (suc k) = subst (λ (z : ℕ). Removed big s.slots z) next (insert_is s.slots (k + 1) new (omega arith)) in
     let here : (slot_at big (suc k)).chain ≡ (slot_at s.slots k).chain = ap (λ z. (slot_at big z).chain) (sym next) ∙ ap (λ (t : Slot). t.chain) (insert_here s.slots (k + 1) new (omega arith)) in
-    follows s.births (s.births + 1) big s.slots (big_follows big s.slots k r lt here) (omega arith)
+    big_follows big s.slots k r lt here
+
+placed_together : (target m : ℕ) (held : List Bool) (k : ℕ) (s : Sheet) → k < length s.slots → SheetTogether s → SheetTogether (placed target m held k s)
+placed_together target m held k s lt = follows s.births (s.births + 1) (placed target m held k s).slots s.slots (placed_follows target m held k s lt) (omega arith)
 
 -- ---- a new chain
 
@@ -225,6 +228,30 @@ all_together f h (x ∷ xs) s t = all_together f h xs (f s x) (h s x t)
 
 abbrev Spread : Sheet → Type 0
 Spread s = IsContiguous s.slots
+
+-- a trigger leaves them together, whatever the labels are
+place_spread : (f : ℕ → Sheet → Sheet) (s : Sheet) (o : Option ℕ) → ((k : ℕ) → o ≡ Some k → Spread (f k s)) → Spread s → Spread (at_place f o s)
+place_spread f s None h c = c
+place_spread f s (Some k) h c = h k refl
+
+left_spread : (k : ℕ) (s : Sheet) → k < length s.slots → Spread s → Spread (left_place k s)
+left_spread k s lt c =
+    elim (cases_Bool (has_after s.slots k)) [
+      | inl y ↦ (let e : left_place k s ≡ aged k s = rw y refl in let a = aged_is s.slots k lt in
+          subst (λ (z : Sheet). Spread z) (sym e) (contiguous_after (aged k s).slots s.slots (same_places (aged k s).slots s.slots a.count (λ j jl. a.chain j)) c))
+      | inr n ↦ (let e : left_place k s ≡ without k s = rw n refl in
+          subst (λ (z : Sheet). Spread z) (sym e) (contiguous_after (without k s).slots s.slots (small_follows s.slots (remove s.slots k) k (remove_is s.slots k lt)) c))
+    ]
+
+started_spread : (s : Sheet) (p : Pair) → Spread s → Spread (started_empty s p)
+started_spread s p c =
+    let u : Sheet = at_place left_place (live_place s.slots p.target.0) s in
+    let a : Spread u = place_spread left_place s (live_place s.slots p.target.0) (λ k e. left_spread k s (live_place_at s.slots p.target.0 k e).there c) c in
+    place_spread (placed p.target.0 p.map.0 _) u (live_place u.slots p.source.0) (λ k e. contiguous_after _ u.slots (placed_follows p.target.0 p.map.0 _ k u (live_place_at u.slots p.source.0 k e).there) a) a
+
+pub triggered_together : (pairs : List Pair) (s : Sheet) → IsContiguous s.slots → IsContiguous (fold started_empty s pairs).slots
+triggered_together [] s c = c
+triggered_together (p ∷ ps) s c = triggered_together ps (started_empty s p) (started_spread s p c)
 
 step_together : (local : ℕ → ℕ) (s : Sheet) (e : LaneEvent) → IsSound s → FitsEvent s e → Spread s → Spread (sheet_step local s e)
 step_together local s e i f c = by_event local s e i f (record { labels = i.names.chains; one_place = c })

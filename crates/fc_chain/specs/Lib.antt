@@ -11,3 +11,7 @@ pub mod Contiguous
 pub mod Ledger
 pub mod Indexing
 pub mod Directory
+pub mod Routes
+pub mod Links
+pub mod Rows
+pub mod Joins

@@ -1,11 +1,12 @@
 //! The chains of copies of one lane.
 
-ghost use Rattle.std.specs.Prelude.{◌≡◌, ℕ, ◌<◌, ◌≤◌, ◌/◌, ◌↔◌, ◌++◌, length, OnOk, OnErr, IsTrue, IfSome, Some, false, fold};
-ghost use Rattle.fc_base.specs.Sheet.{no_slots, slot_at, column, live_place, mapping_place, birth_place};
+ghost use Rattle.std.specs.Prelude.{◌≡◌, ℕ, ◌<◌, ◌≤◌, ◌/◌, ◌↔◌, ◌++◌, length, OnOk, OnErr, IfOk, IsTrue, IfSome, Some, false, fold};
+ghost use Rattle.fc_base.specs.Sheet.{no_slots, slot_at, shape_of, column, live_place, mapping_place, birth_place};
 ghost use Rattle.fc_base.specs.Column.{holder, needer};
 ghost use Rattle.fc_base.specs.declared.request.Side.TheVariants.{Under};
 ghost use Rattle.fc_base.specs.SheetFits.{FitsTaken, FitsLost, FitsEvents};
-ghost use Rattle.fc_base.specs.SheetStep.{sheet_moved, sheet_written, sheet_torn, sheet_step};
+ghost use Rattle.fc_base.specs.SheetStep.{sheet_moved, sheet_written, sheet_torn, triggered, sheet_step};
+ghost use Rattle.fc_base.specs.SheetView.{LoopAnswer};
 ghost use Rattle.fc_chain.specs.Chains.{IsOfLane, in_lane, lane_grains, found, IsThere};
 ghost use Rattle.fc_chain.specs.Contiguous.{IsContiguous};
 ghost use Rattle.fc_chain.specs.Tallies.{AreOneSize};
@@ -18,8 +19,10 @@ use crate::count::{add_direct, add_unneeded};
 use crate::directory::Directory;
 use crate::events::step_all;
 use crate::find::name_of;
+use crate::links::loop_of_rows;
 use crate::plan::{LaneGrain, plan_fill, plan_write};
 use crate::room::{slots_made, widest};
+use crate::rows::{copy_rows, trigger_rows};
 use crate::slot::Slot;
 use crate::table::SlotTable;
 use crate::tallies::Tallies;
@@ -29,7 +32,7 @@ use fc_base::ids::{MapId, SlotId, VolId};
 use fc_base::list::List;
 use fc_base::move_plan::MovePlan;
 use fc_base::outcome::NoMemory;
-use fc_base::request::{Planned, Side};
+use fc_base::request::{Pair, Planned, Side};
 use std::alloc::Global;
 use std::marker::Model;
 
@@ -319,6 +322,19 @@ impl Cascade {
         ensures { IsTrue result ↔ UsedAt self.now.sheet.slots volume.0 }
     {
         self.directory.is_source(self.slots(), volume.0)
+    }
+
+    /// The loop of the restore graph right after these pairs were triggered, as it is told; None exactly where there is no
+    /// loop. Chains are tried on a copy without what slots hold.
+    pub fn loop_of(&self, alloc: Global, pairs: &[Pair]) -> Result<Option<List<VolId>>, NoMemory>
+        ensures { IfOk result (λ found. LoopAnswer (shape_of (triggered pairs.now self.now.sheet).slots) found) }
+    {
+        let mut rows = copy_rows(alloc, self.slots())?;
+        trigger_rows(&mut rows, pairs)?;
+        match loop_of_rows(alloc, &rows) {
+            Ok(found) => Ok(found),
+            Err(e) => Err(e),
+        }
     }
 
     /// Adds the live slots other than this one that have it as holder at some grain of the lane, in order of

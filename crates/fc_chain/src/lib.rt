@@ -7,8 +7,9 @@
 //! are those of `specs/Column`, `specs/Counts` and `specs/RestoreGraph`; `plan` gives the moves of `specs/Moves` in
 //! their order, each once, and needs room for one move a volume; `moved`, `written` and `torn` change the pairs
 //! as `specs/SheetStep` says. `reserve` makes room for the slots that the events of a command can make
-//! (`specs/Room`); `apply` then does the events, one after the other, as `specs/SheetStep` says. Only `reserve`,
-//! `direct` and `unneeded` take memory. That the planned moves are safe, one after the other, is the law of
+//! (`specs/Room`); `apply` then does the events, one after the other, as `specs/SheetStep` says; `loop_of` tells the loop of
+//! the restore graph that a trigger would leave, tried on a copy without what slots hold. Only `reserve`, `direct`,
+//! `unneeded` and `loop_of` take memory. That the planned moves are safe, one after the other, is the law of
 //! `fc_moves`; that every step keeps the facts is the law of `fc_sheets`.
 //!
 //! How many grains each slot holds, and at how many it is needed, is counted in one pass over words after the events
@@ -19,7 +20,8 @@
 //! To read: `slot` (one slot), `table` (all slots, with room for more), `split` (a chain in two), `room` and `events`
 //! (what commands do), `find` and `walk` (where slots stand, and who holds for whom), `index` and `directory` (where
 //! slots stand, in order), `plan` (what must move), `hold` (pairs), `waiting`, `tally`, `pairs` and `tallies` (counts),
-//! `count`, and `cascade`, which has the calls.
+//! `count`, `rows` (a trigger tried on a copy), `links` (which volumes are joined) and `loops` (the loop that is told), and
+//! `cascade`, which has the calls.
 #![tactic(auto)]
 
 mod cascade;
@@ -29,9 +31,12 @@ mod events;
 mod find;
 mod hold;
 mod index;
+mod links;
+mod loops;
 mod pairs;
 mod plan;
 mod room;
+mod rows;
 mod slot;
 mod split;
 mod table;

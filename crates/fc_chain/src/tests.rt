@@ -146,5 +146,20 @@ fn a_volume_comes(rt: HostRuntime) -> Result<(), Fail> {
     chains.apply(&events);
     assert_eq!(rt; chains.live(VolId(A)), Some(SlotId(0)));
     assert_eq!(rt; chains.live(VolId(B)), None);
+    // each target in turn becomes the source's newest copy, and its older slot stays ahead of it
+    let pairs = [pair(0, A, B), pair(1, B, A), pair(2, A, B)];
+    assert!(rt; chains.loop_of(rt.alloc(), &pairs[..2])?.is_none());
+    let told = chains.loop_of(rt.alloc(), &pairs)?.expect(&rt, "a loop");
+    assert_eq!(rt; told.as_slice(), [VolId(A), VolId(B)].as_slice());
     Ok(())
+}
+
+/// A pair of a trigger.
+fn pair(map: u32, source: u32, target: u32) -> Pair {
+    Pair {
+        map: MapId(map),
+        source: VolId(source),
+        target: VolId(target),
+        incremental: false,
+    }
 }

@@ -17,3 +17,8 @@ pub mod Triggered
 pub mod Started
 pub mod Looped
 pub mod Together
+pub mod StopHeld
+pub mod StopWork
+pub mod StopEnds
+pub mod StopAsked
+pub mod StopParts

@@ -22,7 +22,7 @@ use Rattle.fc_control.proofs.Working.{told_all, told_behind}
 use Rattle.fc_control.specs.Telling.{work_told}
 use Rattle.fc_pick.specs.declared.work.WorkFlags.{WorkFlags}
 
-abbrev row_with : List WorkFlags → ℕ → Option WorkFlags
+abbrev pub row_with : List WorkFlags → ℕ → Option WorkFlags
 row_with flags n = find (λ (r : WorkFlags). r.map.0 == n) flags
 
 -- the row of another mapping stays
@@ -34,13 +34,13 @@ other_row gone n r rest true false is_a is_b apart same = same
 other_row gone n r rest true true is_a is_b apart same =
     grind (arith, apart, eq-eqb gone n (eqb-true gone r.map.0 is_a ∙ eqb-true r.map.0 n is_b))
 
-row_stays : (gone n : ℕ) (flags : List WorkFlags) → (gone == n) ≡ false → row_with (filter (λ (x : WorkFlags). not (gone == x.map.0)) flags) n ≡ row_with flags n
+pub row_stays : (gone n : ℕ) (flags : List WorkFlags) → (gone == n) ≡ false → row_with (filter (λ (x : WorkFlags). not (gone == x.map.0)) flags) n ≡ row_with flags n
 row_stays gone n [] apart = refl
 row_stays gone n (r ∷ rest) apart =
     other_row gone n r rest (gone == r.map.0) (r.map.0 == n) refl refl apart (row_stays gone n rest apart)
 
 -- what is told of a mapping that stays
-abbrev tells : Option WorkFlags → Bool → Mapping → List LaneEvent
+abbrev pub tells : Option WorkFlags → Bool → Mapping → List LaneEvent
 tells row whole m =
     let c = is_copying m.state && (not whole && nat_lt 0 m.copy_rate) in
     let k = nat_lt 0 m.clean_rate && (is_stopping m.state || (is_copying m.state && ((m.copy_rate == 0) || whole))) in

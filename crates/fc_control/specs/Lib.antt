@@ -10,3 +10,4 @@ pub mod Choosing
 pub mod Starts
 pub mod Looping
 pub mod Dispatch
+pub mod Stops

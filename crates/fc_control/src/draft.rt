@@ -60,6 +60,13 @@ impl Draft {
         self.changes.push(change)
     }
 
+    /// The changes of the tables so far.
+    pub fn changes(&self) -> &[Change]
+        ensures { result.now ≡ self.now.changes }
+    {
+        self.changes.as_slice()
+    }
+
     /// The decision, with its reply.
     pub fn into_decision(self, reply: Reply) -> Decision
         ensures { result ≡ record { reply = reply; effects = self.effects; events = self.events; changes = self.changes } }

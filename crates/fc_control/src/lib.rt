@@ -5,15 +5,16 @@
 //! `fc_books/specs/Deciding.antt`: `settle` is `settle`, and each `decide_..` is `decide` of its command. Want of memory
 //! alone is free, and changes nothing.
 //!
-//! So far there are `settle`, and the decisions on all commands but stops. What a start decides also tells the loop of
-//! restores that it found: it is asked for exactly where nothing else refuses. The decisions on stops, one call for all
-//! commands, and `reserve` and `apply`, are to come.
+//! So far there are `settle`, and the decisions on all commands but stops of groups. What a start decides also tells the loop of
+//! restores that it found: it is asked for exactly where nothing else refuses. The decision on `stopfcconsistgrp`, one call
+//! for all commands, and `reserve` and `apply`, are to come.
 //!
 //! In reading order: `draft` (a decision as it is put together), `ending` (how the copy of a mapping ends), `control`,
 //! `asking` (what is asked of a copy), `settle`, `work` (background work), `name`, `groups` (members of a group),
 //! `decide` (small commands), `reports`, `mkvdisk`, `rmvdisk`, `mkfcmap`, `rmfcmap`, `rmfcconsistgrp`; and of starts
 //! `chosen` (which mappings a command prepares or starts), `ready` (why not), `begin` (what it does to them), `starting`
-//! and `starting_groups` (the decisions), `start` (a start, with the background work that it sets), `startfcmap`.
+//! and `starting_groups` (the decisions), `start` (a start, with the background work that it sets), `startfcmap`; of stops
+//! `stopping`, `stop_work`, `stop_mapping`; last `dispatch` (by the kind of command).
 #![tactic(auto)]
 
 mod asking;
@@ -38,6 +39,9 @@ mod start;
 mod startfcmap;
 mod starting;
 mod starting_groups;
+mod stop_mapping;
+mod stop_work;
+mod stopping;
 mod work;
 
 pub use control::Control;

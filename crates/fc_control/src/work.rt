@@ -56,7 +56,7 @@ impl Control {
     }
 
     /// Whether the mapping's copy is to be filled in the background.
-    fn copies<S: Sheet>(&self, sheet: &S, mapping: &Mapping) -> bool
+    pub fn copies<S: Sheet>(&self, sheet: &S, mapping: &Mapping) -> bool
         ensures { result ≡ copies (books_of self.now (S.meaning sheet.now)) mapping.now }
     {
         has_state(MapState::Copying, mapping.state)
@@ -64,7 +64,7 @@ impl Control {
     }
 
     /// Whether the grains that others need of the mapping's copy are to be handed on in the background.
-    fn cleans<S: Sheet>(&self, sheet: &S, mapping: &Mapping) -> bool
+    pub fn cleans<S: Sheet>(&self, sheet: &S, mapping: &Mapping) -> bool
         ensures { result ≡ cleans (books_of self.now (S.meaning sheet.now)) mapping.now }
     {
         0 < mapping.clean_rate
@@ -74,7 +74,7 @@ impl Control {
     }
 
     /// Whether the flags of the mapping change.
-    fn changes_work<S: Sheet>(&self, sheet: &S, mapping: &Mapping) -> bool
+    pub fn changes_work<S: Sheet>(&self, sheet: &S, mapping: &Mapping) -> bool
         ensures { result ≡ changes_work (books_of self.now (S.meaning sheet.now)) mapping.now }
     {
         !(are_same(

@@ -1,5 +1,5 @@
 -- What a trigger does to slots: all stay but the live ones of its targets, and each pair gets a live slot.
-use Rattle.std.proofs.Common.{◌≡◌, ◌≢◌, ℕ, zero, suc, ◌+◌, ◌<◌, true, false, Some, None, Option, List, [], ◌∷◌, length, insert, replicate, Contains, refl, sym, ap, subst, ◌∙◌, arith, ◌⊎◌, inl, inr}
+use Rattle.std.proofs.Common.{◌≡◌, ◌≢◌, ℕ, ◌+◌, ◌<◌, true, false, Some, List, [], ◌∷◌, length, insert, replicate, Contains, refl, sym, ap, subst, ◌∙◌, arith, ◌⊎◌, inl, inr}
 use Rattle.fc_base.specs.declared.request.Pair.{Pair}
 use Rattle.fc_base.specs.Sheet.{Slot, Sheet, slot_at, live_place, volume_grains, grains_at}
 use Rattle.fc_base.specs.SheetFits.{FitsPair, FitsTrigger}
@@ -79,10 +79,10 @@ through_one s p h f ne =
     let apart : f.source ≢ f.target = λ e. ne (sym tl.of_volume ∙ (ap (λ z. (slot_at s.slots z).volume) (sym e) ∙ sl.of_volume)) in
     let x = lf.1.stays f.source sl.there apart in
     let found : live_place t.slots p.source.0 ≡ Some x.0 = live_place_is t.slots p.source.0 x.0 lf.1.holds.one_live
-        (record { there = x.1; is_live = ap (λ (z : Slot). z.is_live) x.2 ∙ sl.is_live; of_volume = ap (λ (z : Slot). z.volume) x.2 ∙ sl.of_volume }) in
+    (record { there = x.1; is_live = ap (λ (z : Slot). z.is_live) x.2 ∙ sl.is_live; of_volume = ap (λ (z : Slot). z.volume) x.2 ∙ sl.of_volume }) in
     let whole : started_empty s p ≡ placed p.target.0 p.map.0 (replicate grains false) x.0 t =
-        ap (λ o. at_place (placed p.target.0 p.map.0 (replicate grains false)) (live_place (at_place left_place o s).slots p.source.0) (at_place left_place o s)) f.target_there
-        ∙ ap (λ o. at_place (placed p.target.0 p.map.0 (replicate grains false)) o t) found in
+    ap (λ o. at_place (placed p.target.0 p.map.0 (replicate grains false)) (live_place (at_place left_place o s).slots p.source.0) (at_place left_place o s)) f.target_there
+    ∙ ap (λ o. at_place (placed p.target.0 p.map.0 (replicate grains false)) o t) found in
     subst (λ (z : Sheet). Through s (p ∷ []) z) (sym whole) (through_new s t p f.target x.0 grains lf tl.is_live tl.of_volume x.1 refl)
 
 -- ---- pair by pair
@@ -111,7 +111,7 @@ same_grains : (s t : Sheet) (p q : Pair) → Placed s p t → Apart p q → Fits
 same_grains s t p q pl apart f =
     let at = live_place_at s.slots q.target.0 f.target f.target_there in
     let c = live_carried s.slots t.slots q.target.0 f.target (length (slot_at s.slots f.target).held) pl.holds.one_live f.target_there refl
-        (pl.stays f.target at.there at.is_live (λ e. apart.targets (sym e ∙ at.of_volume))) in
+    (pl.stays f.target at.there at.is_live (λ e. apart.targets (sym e ∙ at.of_volume))) in
     ap (grains_at t.slots) c.1 ∙ c.2 ∙ sym (ap (grains_at s.slots) f.target_there)
 
 through_more : (s m t : Sheet) (p : Pair) (ps : List Pair) → Placed s p m → ApartFrom p ps → AllFit s ps → Through s (p ∷ []) m → Through m ps t → Through s (p ∷ ps) t

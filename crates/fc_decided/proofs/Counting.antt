@@ -20,11 +20,6 @@ all_counted (true ∷ bits) le = all_counted bits (omega (arith, le, count_more 
 all_counted (false ∷ bits) le =
     let most : count_true bits ≤ length bits = count_by-le-length (λ (b : Bool). b) bits in absurd (omega (arith, le, count_more false bits, most))
 
-pub counted_all : (bits : List Bool) → list_all (λ b. b) bits ≡ true → length bits ≤ count_true bits
-counted_all [] e = omega arith
-counted_all (true ∷ bits) e = omega (arith, counted_all bits e, count_more true bits)
-counted_all (false ∷ bits) e = absurd cc
-
 -- ---- needs
 
 none_below : (test : ℕ → Bool) (n i : ℕ) → count_below test n ≡ 0 → i < n → test i ≡ true → ⊥
@@ -37,7 +32,7 @@ none_below test (suc n) i e lt t =
           none_below test n i (sym q ∙ e) (omega (arith, lt, ne)) t
     ]
 
-held_below : (held : List Bool) (g : ℕ) → get_or held g false ≡ true → g < length held
+pub held_below : (held : List Bool) (g : ℕ) → get_or held g false ≡ true → g < length held
 held_below [] g e = absurd cc
 held_below (b ∷ bits) zero e = omega arith
 held_below (b ∷ bits) (suc g) e = omega (arith, held_below bits g e)

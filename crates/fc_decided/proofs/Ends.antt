@@ -1,8 +1,7 @@
 -- What the end of a mapping's copy does to the tables: its row is set or removed, and its target is reached as its new state says.
-use Rattle.std.proofs.Common.{◌≡◌, ◌≢◌, ◌<◌, Bool, true, false, cond, not, ◌&&◌, ◌==◌, Some, None, IsSome, is_some, List, [], ◌∷◌, length, map, refl, sym, ap, subst, ◌∙◌, arith, Contains, ◌⊎◌, inl, inr}
-use Rattle.std.specs.List.{find}
+use Rattle.std.proofs.Common.{◌≡◌, ◌≢◌, ◌<◌, Bool, true, false, cond, not, ◌&&◌, ◌==◌, Some, IsSome, is_some, List, [], ◌∷◌, length, map, refl, sym, ap, subst, ◌∙◌, arith, Contains, ◌⊎◌, inl, inr}
 use Rattle.std.specs.Option.{option_map}
-use Rattle.std.proofs.lemmas.Bool.{cases_eq, cases_Bool, both_ways, and_parts, and_from, eq-eqb, ne_eqb, eqb-true, false_from_ne_true, not-true, not_from_false}
+use Rattle.std.proofs.lemmas.Bool.{cases_eq, cases_Bool, both_ways, and_parts, eq-eqb, ne_eqb}
 use Rattle.std.proofs.lemmas.List.{length-map}
 use Rattle.std.proofs.lemmas.List.Elements.{All-contains}
 use Rattle.fc_base.specs.States.{access_of}
@@ -22,8 +21,10 @@ use Rattle.fc_books.specs.Sound.{AreTables, IsOfTables, HasGrains}
 use Rattle.fc_legal.specs.Whole.{volume_told}
 use Rattle.fc_rules.specs.LaneTold.{LaneVolume}
 use Rattle.fc_decided.proofs.Frame.{tabled}
-use Rattle.fc_decided.proofs.Lists.{all_from, find_one, find_none}
-use Rattle.fc_decided.proofs.Rows.{Ordered, one_row, row_found, set_rows, set_ordered, set_from, set_in, set_others, drop_rows, drop_ordered, drop_from, drop_others, drop_count, find_set, find_drop}
+use Rattle.fc_decided.proofs.Lists.{all_from}
+use Rattle.fc_decided.proofs.Rows.{row_found, set_rows, set_ordered, set_from, set_in, set_others, drop_rows, drop_ordered, drop_from, drop_others, drop_count, find_set, find_drop}
+use Rattle.fc_decided.proofs.Reaching.{decides, OneBusy, access_is, access_online}
+use Rattle.fc_decided.proofs.Setting.{AreOrdered, one_mapping, with_mappings}
 use Rattle.fc_decided.proofs.TableSteps.{TableStep}
 
 -- ---- rows that stand
@@ -32,7 +33,7 @@ use Rattle.fc_decided.proofs.TableSteps.{TableStep}
 pub record Rows (b : Books) : Type 0 where
   pub tables : AreTables b
   pub of_tables : (m : Mapping) → Contains b.tables.mappings m → IsOfTables b.tables m
-  pub one_busy : (m n : Mapping) → Contains b.tables.mappings m → Contains b.tables.mappings n → m.target.0 ≡ n.target.0 → is_idle m.state ≡ false → is_idle n.state ≡ false → m.id.0 ≡ n.id.0
+  pub one_busy : OneBusy b.tables.mappings
 
 -- A row that takes the place of a busy one.
 pub record Follows (b : Books) (old r : Mapping) : Type 0 where
@@ -51,15 +52,12 @@ pub record Ended (old new : List Mapping) (r : Mapping) : Type 0 where
   pub others : (m : Mapping) → Contains old m → m.id.0 ≢ r.id.0 → Contains new m
   pub stays : is_idle r.state ≡ false → Contains new r
 
-abbrev with_maps : Books → List Mapping → Books
-with_maps b maps = record b { tables = record b.tables { mappings = maps } }
-
 abbrev same_id : (b : Books) (old r : Mapping) → Follows b old r → r.id.0 ≡ old.id.0
 same_id b old r f = ap (λ (x : MapId). x.0) f.id
 
 -- ---- the rows stand
 
-row_of_tables : (b : Books) (maps : List Mapping) (m r : Mapping) → r.source ≡ m.source → r.target ≡ m.target → r.group ≡ m.group → r.state ≢ Empty → IsOfTables b.tables m → IsOfTables (with_maps b maps).tables r
+row_of_tables : (b : Books) (maps : List Mapping) (m r : Mapping) → r.source ≡ m.source → r.target ≡ m.target → r.group ≡ m.group → r.state ≢ Empty → IsOfTables b.tables m → IsOfTables (with_mappings b maps).tables r
 row_of_tables b maps m r source target group state i =
     record {
       source = subst (λ (v : VolId). IsSome (volume_with b.tables v)) (sym source) i.source;
@@ -70,7 +68,7 @@ row_of_tables b maps m r source target group state i =
       state = state;
     }
 
-rows_from : (b : Books) (maps : List Mapping) (old r : Mapping) → Rows b → Follows b old r → Ended b.tables.mappings maps r → Ordered maps → Rows (with_maps b maps)
+rows_from : (b : Books) (maps : List Mapping) (old r : Mapping) → Rows b → Follows b old r → Ended b.tables.mappings maps r → AreOrdered maps → Rows (with_mappings b maps)
 rows_from b maps old r rows f ended ordered =
     record {
       tables = record {
@@ -88,7 +86,7 @@ rows_from b maps old r rows f ended ordered =
         new_group = rows.tables.new_group;
       };
       of_tables = λ m found. elim (ended.from m found) [
-        | inl e ↦ subst (λ (x : Mapping). IsOfTables (with_maps b maps).tables x) (sym e) (row_of_tables b maps old r f.source f.target f.group f.state (rows.of_tables old f.found))
+        | inl e ↦ subst (λ (x : Mapping). IsOfTables (with_mappings b maps).tables x) (sym e) (row_of_tables b maps old r f.source f.target f.group f.state (rows.of_tables old f.found))
         | inr there ↦ let i = rows.of_tables m there.0 in row_of_tables b maps m m refl refl refl i.state i
       ];
       one_busy = λ m n fm fn e bm bn. elim (ended.from m fm) [
@@ -105,16 +103,13 @@ rows_from b maps old r rows f ended ordered =
 
 -- ---- how volumes are reached
 
-abbrev decides : VolId → Mapping → Bool
-decides v m = (m.target.0 == v.0) && not (is_idle m.state)
-
 not_decides : (v : VolId) (m : Mapping) → m.target.0 ≢ v.0 → decides v m ≡ false
 not_decides v m ne = ap (λ b. b && not (is_idle m.state)) (ne_eqb m.target.0 v.0 ne)
 
 -- of the rows with this id, and of the new row, none has another target
 old_others : (b : Books) (old r : Mapping) (v : VolId) → Rows b → Follows b old r → v.0 ≢ r.target.0 → (m : Mapping) → Contains b.tables.mappings m → m.id.0 ≡ r.id.0 → decides v m ≡ false
 old_others b old r v rows f ne m found e =
-    let same : m ≡ old = one_row b.tables.mappings m old rows.tables.mappings found f.found (e ∙ same_id b old r f) in
+    let same : m ≡ old = one_mapping b.tables.mappings m old rows.tables.mappings found f.found (e ∙ same_id b old r f) in
     not_decides v m (λ q. ne (sym q ∙ (ap (λ (x : Mapping). x.target.0) same ∙ ap (λ (x : VolId). x.0) (sym f.target))))
 
 idle_online : (id : MapId) (state : MapState) (complete : Bool) → is_idle state ≡ true → access_of id state complete ≡ Online
@@ -126,31 +121,22 @@ idle_online id Copying complete e = absurd cc
 idle_online id Stopping complete e = absurd cc
 idle_online id Stopped complete e = absurd cc
 
--- a row of the new table that decides for the target is the new one
-one_decides : (b : Books) (maps : List Mapping) (old r : Mapping) (v : VolId) → Rows b → Follows b old r → Ended b.tables.mappings maps r → v.0 ≡ r.target.0 → (y : Mapping) → Contains maps y → decides v y ≡ true → y ≡ r
-one_decides b maps old r v rows f ended e y found d =
-    elim (ended.from y found) [
-      | inl same ↦ same
-      | inr there ↦
-          let p = and_parts (y.target.0 == v.0) (not (is_idle y.state)) d in
-          absurd (there.1 (rows.one_busy y old there.0 f.found (eqb-true y.target.0 v.0 p.0 ∙ (e ∙ ap (λ (x : VolId). x.0) f.target)) (not-true (is_idle y.state) p.1) f.busy ∙ sym (same_id b old r f)))
-    ]
-
-own_access : (b : Books) (maps : List Mapping) (old r : Mapping) (v : VolId) → Rows b → Follows b old r → Ended b.tables.mappings maps r → v.0 ≡ r.target.0 →
-    access_in (with_maps b maps).tables v ≡ access_of r.id r.state r.complete
-own_access b maps old r v rows f ended e =
+-- the target is reached as the new row says
+own_access : (b : Books) (maps : List Mapping) (old r : Mapping) (v : VolId) → Rows b → Follows b old r → Ended b.tables.mappings maps r → Rows (with_mappings b maps) → v.0 ≡ r.target.0 →
+    access_in (with_mappings b maps).tables v ≡ access_of r.id r.state r.complete
+own_access b maps old r v rows f ended after e =
     elim (cases_Bool (is_idle r.state)) [
       | inl idle ↦
-          let none : find (decides v) maps ≡ None = find_none (decides v) maps (λ y found. false_from_ne_true (decides v y) (λ d.
-          let same : y ≡ r = one_decides b maps old r v rows f ended e y found d in
-          let p = and_parts (y.target.0 == v.0) (not (is_idle y.state)) d in
-          both_ways (is_idle y.state) (not-true (is_idle y.state) p.1) (ap (λ (x : Mapping). is_idle x.state) same ∙ idle))) in
-          ap access_by none ∙ sym (idle_online r.id r.state r.complete idle)
-      | inr busy ↦
-          let one : find (decides v) maps ≡ Some r = find_one (decides v) maps r (ended.stays busy)
-          (and_from (r.target.0 == v.0) (not (is_idle r.state)) (eq-eqb r.target.0 v.0 (sym e)) (not_from_false (is_idle r.state) busy))
-          (λ y found d. one_decides b maps old r v rows f ended e y found d) in
-          ap access_by one
+          access_online (with_mappings b maps).tables v
+          (λ m found target. elim (ended.from m found) [
+            | inl same ↦ ap (λ (x : Mapping). is_idle x.state) same ∙ idle
+            | inr there ↦ elim (cases_Bool (is_idle m.state)) [
+              | inl rests ↦ rests
+              | inr busy ↦ absurd (there.1 (rows.one_busy m old there.0 f.found (target ∙ (e ∙ ap (λ (x : VolId). x.0) f.target)) busy f.busy ∙ sym (same_id b old r f)))
+            ]
+          ])
+          ∙ sym (idle_online r.id r.state r.complete idle)
+      | inr busy ↦ access_is (with_mappings b maps).tables v r after.tables.mappings after.one_busy (ended.stays busy) (sym e) busy
     ]
 
 told_first : (v : Volume) (xs ys : List LaneVolume) (a c : Access) → a ≡ c → xs ≡ ys → (let x : LaneVolume = record { volume = v.id; kind = v.kind; access = a } in let y : LaneVolume = record { volume = v.id; kind = v.kind; access = c } in (x ∷ xs) ≡ (y ∷ ys))
@@ -197,13 +183,14 @@ comes_step b old m state rows f =
     let r : Mapping = in_state state m in
     let maps = set_rows r b.tables.mappings in
     let ended = set_ended b old r f in
+    let after = rows_from b maps old r rows f ended (set_ordered r old b.tables.mappings rows.tables.mappings f.found (same_id b old r f) f.name) in
     record {
       calm = (tt, tt);
       gone = (tt, tt);
       ids = ids_ended b maps old r f ended;
       fit_changes = (ap (option_map (λ (x : Mapping). x.name)) (row_found b.tables.mappings old r.id rows.tables.mappings f.found (same_id b old r f)) ∙ ap Some (sym f.name), tt);
-      volumes = told_by b.tables (with_maps b maps).tables r.target (access_of r.id r.state r.complete) b.tables.volumes
-          (λ v e. own_access b maps old r v rows f ended e)
+      volumes = told_by b.tables (with_mappings b maps).tables r.target (access_of r.id r.state r.complete) b.tables.volumes
+          (λ v e. own_access b maps old r v rows f ended after e)
           (λ v ne. ap access_by (find_set (decides v) r b.tables.mappings (not_decides v r (λ q. ne (sym q))) (old_others b old r v rows f ne)));
       same_volumes = refl;
       next_volume = refl;
@@ -234,13 +221,14 @@ goes_step b old m state rows f idle =
     let r : Mapping = in_state state m in
     let maps = drop_rows r.id b.tables.mappings in
     let ended = drop_ended b r idle in
+    let after = rows_from b maps old r rows f ended (drop_ordered r.id b.tables.mappings rows.tables.mappings) in
     record {
       calm = (tt, (tt, tt));
       gone = (tt, ((λ n found e. (drop_from r.id n b.tables.mappings found).1 e), tt));
       ids = ids_ended b maps old r f ended;
       fit_changes = (ap is_some (row_found b.tables.mappings old r.id rows.tables.mappings f.found (same_id b old r f)), tt);
-      volumes = told_by b.tables (with_maps b maps).tables r.target (access_of r.id r.state r.complete) b.tables.volumes
-          (λ v e. own_access b maps old r v rows f ended e)
+      volumes = told_by b.tables (with_mappings b maps).tables r.target (access_of r.id r.state r.complete) b.tables.volumes
+          (λ v e. own_access b maps old r v rows f ended after e)
           (λ v ne. ap access_by (find_drop (decides v) r.id b.tables.mappings (old_others b old r v rows f ne)));
       same_volumes = refl;
       next_volume = refl;

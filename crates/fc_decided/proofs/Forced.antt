@@ -18,15 +18,16 @@ use Rattle.fc_moves.proofs.Readers.{IsHolder, holder_is, one_holder, own_holder}
 use Rattle.fc_moves.proofs.Search.{cases_option}
 use Rattle.fc_sheets.proofs.Finding.{mapping_place_is}
 use Rattle.fc_sheets.proofs.Forcing.{Among}
+use Rattle.fc_decided.proofs.Counting.{held_below}
 use Rattle.fc_decided.proofs.Joint.{Joint}
 use Rattle.fc_decided.proofs.Lists.{first_in, later_in, in_cases, filter_from, filter_in, map_from, map_in}
-use Rattle.fc_decided.proofs.Rows.{Ordered}
+use Rattle.fc_decided.proofs.Setting.{AreOrdered}
 use Rattle.fc_decided.proofs.Seen.{seen_slot, seen_place}
 
 -- ---- the dependents of a mapping's slot
 
 pub record Dependents (b : Books) (m : Mapping) (k : ℕ) : Type 0 where
-  pub ordered : Ordered (dependents b m)
+  pub ordered : AreOrdered (dependents b m)
   pub among : (d : Mapping) → Contains (dependents b m) d → Contains b.tables.mappings d
   pub places : (d : Mapping) → Contains (dependents b m) d → (j : ℕ) × (mapping_place b.sheet.slots d.id.0 ≡ Some j) × IsDependent b.sheet.slots k j
   pub all : (d : Mapping) (j : ℕ) → Contains b.tables.mappings d → mapping_place b.sheet.slots d.id.0 ≡ Some j → IsDependent b.sheet.slots k j → Contains (dependents b m) d
@@ -38,7 +39,7 @@ place_from : (slots : List Slot) (k : ℕ) (places : List ℕ) (o : Option ℕ) 
 place_from slots k places None are e = absurd cc
 place_from slots k places (Some j) are e = (j, refl, are.only j e)
 
-pub dependents_are : (b : Books) (m : Mapping) (k : ℕ) → HasSizes b.sheet.slots → Ordered b.tables.mappings → mapping_place b.sheet.slots m.id.0 ≡ Some k → Dependents b m k
+pub dependents_are : (b : Books) (m : Mapping) (k : ℕ) → HasSizes b.sheet.slots → AreOrdered b.tables.mappings → mapping_place b.sheet.slots m.id.0 ≡ Some k → Dependents b m k
 unfolding dependents
 dependents_are b m k sizes ordered place =
     let slots = b.sheet.slots in
@@ -65,12 +66,7 @@ dependent_live slots k d (IsDependent.onward i r) = r.is_live
 
 -- ---- it fits
 
-held_below : (held : List Bool) (g : ℕ) → get_or held g false ≡ true → g < length held
-held_below [] g e = absurd cc
-held_below (x ∷ xs) zero e = omega arith
-held_below (x ∷ xs) (suc g) e = omega (arith, held_below xs g e)
-
-all_held : (held : List Bool) (g : ℕ) → list_all (λ b. b) held ≡ true → g < length held → get_or held g false ≡ true
+pub all_held : (held : List Bool) (g : ℕ) → list_all (λ b. b) held ≡ true → g < length held → get_or held g false ≡ true
 all_held [] g e lt = absurd (omega (arith, lt))
 all_held (true ∷ xs) zero e lt = refl
 all_held (true ∷ xs) (suc g) e lt = all_held xs g e (omega (arith, lt))

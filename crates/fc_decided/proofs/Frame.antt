@@ -3,6 +3,7 @@ use Rattle.std.proofs.Common.{◌≡◌, ℕ, ◌+◌, ◌*◌, ◌<◌, ◌≤�
 use Rattle.std.proofs.lemmas.List.Elements.{All-contains, All-weaker}
 use Rattle.fc_base.specs.declared.request.Effect.{Effect}
 use Rattle.fc_base.specs.declared.volume.Change.TheVariants.{AddVolume, RemoveVolume, AddMapping, RemoveMapping, SetMapping, AddGroup, RemoveGroup}
+use Rattle.fc_decided.proofs.Firsts.{firsts_through}
 use Rattle.fc_decided.proofs.Lists.{all_from}
 use Rattle.fc_base.specs.Pools.{Pool}
 use Rattle.fc_base.specs.Sheet.{Sheet}
@@ -156,6 +157,7 @@ stands_after grain decisions w effects events changes st does =
         pools = pools_count w.books.pools events ∙ st.each_lane.pools;
         calls = st.each_lane.calls;
       };
+      firsts = firsts_through w.books.sheet events st.sound.sheet does.fits st.firsts;
     }
 
 told_after : (grain : GrainSize) (decisions : ℕ) (w : Whole) (effects : List Effect) (events : List LaneEvent) (changes : List Change) → Does grain decisions w effects events changes →

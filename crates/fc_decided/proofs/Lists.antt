@@ -143,3 +143,22 @@ find_longer p (z ∷ zs) ys x e = by (p z) (λ rest. find_longer p zs ys x rest)
     by : (b : Bool) → (find p zs ≡ Some x → find p (zs ++ ys) ≡ Some x) → cond b (Some z) (find p zs) ≡ Some x → cond b (Some z) (find p (zs ++ ys)) ≡ Some x
     by true further q = q
     by false further q = further q
+
+pub any_there : {X : Type 0} (p : X → Bool) (xs : List X) (x : X) → Contains xs x → p x ≡ true → list_any p xs ≡ true
+any_there p [] x found e = absurd (none_in x found)
+any_there p (y ∷ ys) x found e = elim (in_cases y x ys found) [
+  | inl same ↦ ap (λ b. b || list_any p ys) (ap p same ∙ e)
+  | inr rest ↦ ap (λ b. p y || b) (any_there p ys x rest e) ∙ or_true (p y)
+]
+  where
+    or_true : (b : Bool) → (b || true) ≡ true
+    or_true true = refl
+    or_true false = refl
+
+pub any_from : {X : Type 0} (p : X → Bool) (xs : List X) → list_any p xs ≡ true → (x : X) × Contains xs x × (p x ≡ true)
+any_from p [] e = absurd cc
+any_from {X} p (y ∷ ys) e = by (p y) refl (λ rest. any_from p ys rest) e
+  where
+    by : (b : Bool) → p y ≡ b → (list_any p ys ≡ true → (x : X) × Contains ys x × (p x ≡ true)) → (b || list_any p ys) ≡ true → (x : X) × Contains (y ∷ ys) x × (p x ≡ true)
+    by true q further there = (y, first_in y ys, q)
+    by false q further there = let r = further there in (r.0, later_in y r.0 ys r.1, r.2)

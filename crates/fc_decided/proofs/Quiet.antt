@@ -20,7 +20,7 @@ use Rattle.fc_entry.specs.Picture.{Picture}
 use Rattle.fc_decided.proofs.Apart.{fold_append, sheet_through, picture_through}
 use Rattle.fc_decided.proofs.Frame.{tabled}
 use Rattle.fc_decided.proofs.Lists.{first_in, later_in, in_cases, none_in}
-use Rattle.fc_decided.proofs.Rows.{Ordered}
+use Rattle.fc_decided.proofs.Setting.{AreOrdered}
 use Rattle.fc_decided.proofs.TableSteps.{TableStep, table_none, table_then, table_apart}
 use Rattle.fc_decided.proofs.Ends.{Rows, Follows, ends}
 use Rattle.fc_decided.proofs.Joint.{StateSeen, Joint, joint_ended, idle_unseen}
@@ -107,6 +107,7 @@ ends_then b s first second mid last one two =
 pub record OneEnds (b : Books) (s : Sheet) (deed : Deed) (id : ℕ) (pending : ℕ → Type 0) : Type 0 where
   pub ends : EndsQuietly b s deed pending
   pub others : (m : Mapping) → Contains b.tables.mappings m → m.id.0 ≢ id → Contains (tabled b deed.changes).tables.mappings m
+  pub from : (m : Mapping) → Contains (tabled b deed.changes).tables.mappings m → m.id.0 ≢ id → Contains b.tables.mappings m
 
 quiet_test : (s : Sheet) (m : Mapping) (state : MapState) (goes : Bool) → (goes ≡ true → mapping_place s.slots m.id.0 ≡ None) → AreQuiet s (cond goes (goes_from state m) (comes_to state m)).events
 quiet_test s m state true none = (tt, (none refl, tt))
@@ -131,6 +132,7 @@ one_ends b s old m state before after st f sees p =
         };
       };
       others = e.well.ended.others;
+      from = λ y found ne. elim (e.well.ended.from y found) [ inl same ↦ absurd (ne (ap (λ (x : Mapping). x.id.0) same)) | inr there ↦ there.0 ];
     }
 
 -- before it, its target is cut
@@ -147,6 +149,7 @@ cut_ends b c s m deed id after o = by (is_whole c m)
             stands = o.ends.stands;
           };
           others = o.others;
+          from = o.from;
         }
 
 -- ---- dependents
@@ -156,20 +159,20 @@ pub record IsIdOf (ds : List Mapping) (n : ℕ) : Type 0 where
   pub among : Contains ds d
   pub is : d.id.0 ≡ n
 
-rest_ordered : (d : Mapping) (ds : List Mapping) → Ordered (d ∷ ds) → Ordered ds
+pub rest_ordered : (d : Mapping) (ds : List Mapping) → AreOrdered (d ∷ ds) → AreOrdered ds
 rest_ordered d ds o =
     record {
       rising = λ i j x ij jl. o.rising (suc i) (suc j) x (omega arith) (omega arith);
       distinct = λ i j x ij jl. o.distinct (suc i) (suc j) x (omega arith) (omega arith);
     }
 
-pub first_apart : (d x : Mapping) (ds : List Mapping) → Ordered (d ∷ ds) → Contains ds x → x.id.0 ≢ d.id.0
+pub first_apart : (d x : Mapping) (ds : List Mapping) → AreOrdered (d ∷ ds) → Contains ds x → x.id.0 ≢ d.id.0
 first_apart d x ds o found e =
     let lt : d.id.0 < (get_or ds found.0 x).id.0 = o.rising 0 (suc found.0) x (omega arith) (omega (arith, found.1)) in
     let same : (get_or ds found.0 x).id.0 ≡ x.id.0 = ap (λ (y : Mapping). y.id.0) found.2 in
     omega arith
 
-pub all_stop : (ds : List Mapping) (b c : Books) (s : Sheet) (before after : ℕ → Type 0) → Standing b s.slots before → Ordered ds → ((d : Mapping) → Contains ds d → Contains b.tables.mappings d) →
+pub all_stop : (ds : List Mapping) (b c : Books) (s : Sheet) (before after : ℕ → Type 0) → Standing b s.slots before → AreOrdered ds → ((d : Mapping) → Contains ds d → Contains b.tables.mappings d) →
     ((d : Mapping) → Contains ds d → is_idle d.state ≡ false) → ((d : Mapping) → Contains ds d → seen s.slots d.id.0 ≡ None) → ((n : ℕ) → before n → IsIdOf ds n ⊎ after n) → EndsQuietly b s (all_deeds (stops_with c) ds) after
 all_stop [] b c s before after st ordered there busy none p =
     record {

@@ -1,43 +1,22 @@
 -- The table of mappings after one of its rows was set or removed.
 use Rattle.std.proofs.Common.{◌≡◌, ◌≢◌, ℕ, ◌<◌, ◌≤◌, Bool, false, cond, not, ◌==◌, if◌then◌else◌, Some, List, [], ◌∷◌, length, map, refl, sym, ap, subst, ◌∙◌, arith, Contains, ◌⊎◌, inl, inr, get_or}
 use Rattle.std.specs.List.{filter, find, count_by}
-use Rattle.std.proofs.lemmas.Bool.{cases_eq, cases_order, both_ways, eq-eqb, ne_eqb, eqb-true, not-true, not_from_false}
-use Rattle.std.proofs.lemmas.List.{get_or-map, length-map, get_or_default}
+use Rattle.std.proofs.lemmas.Bool.{cases_eq, both_ways, eq-eqb, ne_eqb, eqb-true, not-true, not_from_false}
+use Rattle.std.proofs.lemmas.List.{get_or-map, length-map}
 use Rattle.std.proofs.lemmas.List.Elements.{Contains-get_or}
 use Rattle.std.proofs.lemmas.List.Kept.{AllPairs-filter}
 use Rattle.std.proofs.lemmas.List.Sums.{length-filter, count_by-le-length}
-use Rattle.fc_base.specs.Tables.{IsOrdered}
 use Rattle.fc_base.specs.declared.ids.MapId.{MapId}
 use Rattle.fc_base.specs.declared.volume.Mapping.{Mapping}
+use Rattle.fc_decided.proofs.Setting.{AreOrdered, one_mapping}
 use Rattle.fc_decided.proofs.Lists.{first_in, later_in, filter_from, filter_in, map_from, map_in, find_one}
 
 -- ---- rows by id
 
-abbrev pub Ordered : List Mapping → Type 0
-Ordered maps = IsOrdered (λ (m : Mapping). m.id.0) (λ (m : Mapping). m.name) maps
-
-pub one_row : (maps : List Mapping) (x y : Mapping) → Ordered maps → Contains maps x → Contains maps y → x.id.0 ≡ y.id.0 → x ≡ y
-one_row maps x y ordered cx cy same =
-    elim (cases_order cx.0 cy.0) [
-      | inl e ↦ sym cx.2 ∙ ap (λ i. get_or maps i x) e ∙ get_or_default maps cy.0 x y cy.1 ∙ cy.2
-      | inr other ↦ elim other [
-        | inl lt ↦ absurd (
-            let r : (get_or maps cx.0 x).id.0 < (get_or maps cy.0 x).id.0 = ordered.rising cx.0 cy.0 x lt cy.1 in
-            let a : (get_or maps cx.0 x).id.0 ≡ x.id.0 = ap (λ (m : Mapping). m.id.0) cx.2 in
-            let b : (get_or maps cy.0 x).id.0 ≡ y.id.0 = ap (λ (m : Mapping). m.id.0) (get_or_default maps cy.0 x y cy.1 ∙ cy.2) in
-            omega arith)
-        | inr gt ↦ absurd (
-            let r : (get_or maps cy.0 x).id.0 < (get_or maps cx.0 x).id.0 = ordered.rising cy.0 cx.0 x gt cx.1 in
-            let a : (get_or maps cx.0 x).id.0 ≡ x.id.0 = ap (λ (m : Mapping). m.id.0) cx.2 in
-            let b : (get_or maps cy.0 x).id.0 ≡ y.id.0 = ap (λ (m : Mapping). m.id.0) (get_or_default maps cy.0 x y cy.1 ∙ cy.2) in
-            omega arith)
-      ]
-    ]
-
-pub row_found : (maps : List Mapping) (m : Mapping) (id : MapId) → Ordered maps → Contains maps m → id.0 ≡ m.id.0 → find (λ (x : Mapping). id.0 == x.id.0) maps ≡ Some m
+pub row_found : (maps : List Mapping) (m : Mapping) (id : MapId) → AreOrdered maps → Contains maps m → id.0 ≡ m.id.0 → find (λ (x : Mapping). id.0 == x.id.0) maps ≡ Some m
 row_found maps m id ordered found e =
     find_one (λ (x : Mapping). id.0 == x.id.0) maps m found (eq-eqb id.0 m.id.0 e)
-    (λ y fy q. one_row maps y m ordered fy found (sym (eqb-true id.0 y.id.0 q) ∙ e))
+    (λ y fy q. one_mapping maps y m ordered fy found (sym (eqb-true id.0 y.id.0 q) ∙ e))
 
 -- ---- a row is set
 
@@ -60,17 +39,17 @@ set_id r m =
       | inr ne ↦ ap (λ (x : Mapping). x.id.0) (set_there r m ne)
     ]
 
-set_name : (r old m : Mapping) (maps : List Mapping) → Ordered maps → Contains maps old → Contains maps m → r.id.0 ≡ old.id.0 → r.name ≡ old.name → (set_row r m).name ≡ m.name
+set_name : (r old m : Mapping) (maps : List Mapping) → AreOrdered maps → Contains maps old → Contains maps m → r.id.0 ≡ old.id.0 → r.name ≡ old.name → (set_row r m).name ≡ m.name
 set_name r old m maps ordered co cm id name =
     elim (cases_eq r.id.0 m.id.0) [
-      | inl e ↦ ap (λ (x : Mapping). x.name) (set_here r m e) ∙ name ∙ ap (λ (x : Mapping). x.name) (one_row maps old m ordered co cm (sym id ∙ e))
+      | inl e ↦ ap (λ (x : Mapping). x.name) (set_here r m e) ∙ name ∙ ap (λ (x : Mapping). x.name) (one_mapping maps old m ordered co cm (sym id ∙ e))
       | inr ne ↦ ap (λ (x : Mapping). x.name) (set_there r m ne)
     ]
 
 at_set : (r d : Mapping) (maps : List Mapping) (i : ℕ) → i < length maps → get_or (set_rows r maps) i d ≡ set_row r (get_or maps i d)
 at_set r d maps i lt = get_or-map (set_row r) maps i d d lt
 
-pub set_ordered : (r old : Mapping) (maps : List Mapping) → Ordered maps → Contains maps old → r.id.0 ≡ old.id.0 → r.name ≡ old.name → Ordered (set_rows r maps)
+pub set_ordered : (r old : Mapping) (maps : List Mapping) → AreOrdered maps → Contains maps old → r.id.0 ≡ old.id.0 → r.name ≡ old.name → AreOrdered (set_rows r maps)
 set_ordered r old maps ordered found id name =
     let count : length (set_rows r maps) ≡ length maps = length-map maps (set_row r) in
     record {
@@ -108,7 +87,7 @@ set_others r m maps found ne = subst (λ (z : Mapping). Contains (set_rows r map
 abbrev pub drop_rows : MapId → List Mapping → List Mapping
 drop_rows id maps = filter (λ m. not (id.0 == m.id.0)) maps
 
-pub drop_ordered : (id : MapId) (maps : List Mapping) → Ordered maps → Ordered (drop_rows id maps)
+pub drop_ordered : (id : MapId) (maps : List Mapping) → AreOrdered maps → AreOrdered (drop_rows id maps)
 drop_ordered id maps ordered =
     record {
       rising = AllPairs-filter (λ (x y : Mapping). x.id.0 < y.id.0) (λ (m : Mapping). not (id.0 == m.id.0)) maps ordered.rising;

@@ -31,7 +31,7 @@ use Rattle.fc_decided.proofs.Frame.{tabled}
 use Rattle.fc_decided.proofs.Joint.{HasSeen, StateSeen, kept_left, kept_retired, joint_kept}
 use Rattle.fc_decided.proofs.Leaving.{Left, Retired, detached_left, retired_seen}
 use Rattle.fc_decided.proofs.Plain.{effects_append, ends_plain, copies, whole_complete, cut_leaves, leaves_plain, whole_leaves}
-use Rattle.fc_decided.proofs.Quiet.{FitAll, Quietly, quiet, Standing, EndsQuietly, nothing_ends, ends_then, one_ends, cut_ends}
+use Rattle.fc_decided.proofs.Quiet.{FitAll, Quietly, quiet, Standing, EndsQuietly, nothing_ends, ends_then, OneEnds, one_ends, cut_ends}
 use Rattle.fc_decided.proofs.Seen.{Seen, seen, seen_slot, seen_found}
 use Rattle.fc_decided.proofs.Splitting.{split_left}
 use Rattle.fc_decided.proofs.TableSteps.{TableStep, table_none, table_then, IsApart, table_apart}
@@ -103,20 +103,20 @@ slot_of b m live h =
       slot = f.2.is;
     }
 
-copying_seen : (b : Books) (pending : ℕ → Type 0) (m : Mapping) → Standing b b.sheet.slots pending → Contains b.tables.mappings m → (pending m.id.0 → ⊥) → m.state ≡ Copying → HasSeen (seen b.sheet.slots m.id.0) m.target.0 true
+pub copying_seen : (b : Books) (pending : ℕ → Type 0) (m : Mapping) → Standing b b.sheet.slots pending → Contains b.tables.mappings m → (pending m.id.0 → ⊥) → m.state ≡ Copying → HasSeen (seen b.sheet.slots m.id.0) m.target.0 true
 copying_seen b pending m st found free e = subst (λ (z : MapState). StateSeen z (seen b.sheet.slots m.id.0) m.target.0) e (st.joint.by_state m found free)
 
 pub not_needed : (b : Books) (m : Mapping) (k : ℕ) → mapping_place b.sheet.slots m.id.0 ≡ Some k → is_needed b m ≡ false → IsNeeded b.sheet.slots k → ⊥
 not_needed b m k place e =
     uncounted_free b.sheet.slots k (not_counted (needed_at b.sheet.slots (Some k)) (ap (λ o. nat_lt 0 (needed_at b.sheet.slots o)) (sym place) ∙ e))
 
-busy_copying : (m : Mapping) → m.state ≡ Copying → is_idle m.state ≡ false
+pub busy_copying : (m : Mapping) → m.state ≡ Copying → is_idle m.state ≡ false
 busy_copying m e = ap is_idle e
 
-follows : (b : Books) (m : Mapping) (state : MapState) → Contains b.tables.mappings m → is_idle m.state ≡ false → state ≢ Empty → Follows b m (in_state state (as_left b m))
+pub follows : (b : Books) (m : Mapping) (state : MapState) → Contains b.tables.mappings m → is_idle m.state ≡ false → state ≢ Empty → Follows b m (in_state state (as_left b m))
 follows b m state found busy ok = record { found = found; id = refl; name = refl; source = refl; target = refl; group = refl; state = ok; busy = busy }
 
-same_follows : (b : Books) (m : Mapping) (state : MapState) → Contains b.tables.mappings m → is_idle m.state ≡ false → state ≢ Empty → Follows b m (in_state state m)
+pub same_follows : (b : Books) (m : Mapping) (state : MapState) → Contains b.tables.mappings m → is_idle m.state ≡ false → state ≢ Empty → Follows b m (in_state state m)
 same_follows b m state found busy ok = record { found = found; id = refl; name = refl; source = refl; target = refl; group = refl; state = ok; busy = busy }
 
 -- what its end says of plain volumes
@@ -169,10 +169,13 @@ retire_goes grain b m picture s found copying =
     seen_target b m h x e = let q : Some x ≡ Some h.x = sym e ∙ h.is in let same : x ≡ h.x = cc in ap (λ (z : Seen). z.volume) same ∙ h.of_target
 
 -- taken out: a deed of its end in a state without a slot
-pub gone_ends : (b : Books) (s : Sheet) (m : Mapping) (state : MapState) → Standing b s.slots (Only m.id.0) → Contains b.tables.mappings m → is_idle m.state ≡ false → state ≢ Empty →
-    StateSeen state (seen s.slots m.id.0) m.target.0 → EndsQuietly b s ((cut_of b m then ends_in state (as_left b m)) then nothing) Nobody
-gone_ends b s m state st found busy ok sees =
-    let one = cut_ends b b s m (ends_in state (as_left b m)) m.id.0 Nobody (one_ends b s m (as_left b m) state (Only m.id.0) Nobody st (follows b m state found busy ok) sees (stays_pending m)) in
+pub gone_one : (b : Books) (s : Sheet) (m : Mapping) (state : MapState) → Standing b s.slots (Only m.id.0) → Contains b.tables.mappings m → is_idle m.state ≡ false → state ≢ Empty →
+    StateSeen state (seen s.slots m.id.0) m.target.0 → OneEnds b s (cut_of b m then ends_in state (as_left b m)) m.id.0 Nobody
+gone_one b s m state st found busy ok sees =
+    cut_ends b b s m (ends_in state (as_left b m)) m.id.0 Nobody (one_ends b s m (as_left b m) state (Only m.id.0) Nobody st (follows b m state found busy ok) sees (stays_pending m))
+
+pub gone_ends : (b : Books) (s : Sheet) (m : Mapping) (state : MapState) → OneEnds b s (cut_of b m then ends_in state (as_left b m)) m.id.0 Nobody → EndsQuietly b s ((cut_of b m then ends_in state (as_left b m)) then nothing) Nobody
+gone_ends b s m state one =
     ends_then b s (cut_of b m then ends_in state (as_left b m)) nothing Nobody Nobody one.ends (nothing_ends (tabled b (cut_of b m then ends_in state (as_left b m)).changes) s Nobody one.ends.stands)
 
 left_standing : (b : Books) (new : List Slot) (m : Mapping) → Standing b b.sheet.slots Nobody → Left b.sheet.slots new (Only m.id.0) → Standing b new (Only m.id.0)
@@ -194,7 +197,7 @@ detach_goes grain b m picture state s found copying free ok none =
     let step : next ≡ detached_at k b.sheet = ap (λ o. at_place detached_at o b.sheet) at.is_there in
     let l : Left slots next.slots (Only m.id.0) = subst (λ (z : Sheet). Left slots z.slots (Only m.id.0)) (sym step) (detached_left b.sheet k m.id.0 s.sheet.mappings s.sheet.one_live at.there at.liveness at.of_mapping) in
     let st = left_standing b next.slots m s.stands l in
-    let all = gone_ends b next m state st found (busy_copying m copying) ok (none (seen next.slots m.id.0) m.target.0 (l.went m.id.0 refl)) in
+    let all = gone_ends b next m state (gone_one b next m state st found (busy_copying m copying) ok (none (seen next.slots m.id.0) m.target.0 (l.went m.id.0 refl))) in
     let c = copies b Nobody m s.sheet.one_live s.stands found seen_live in
     let cut = cut_leaves grain b m c.0 picture c.1 s.plain in
     let effects = left_effects grain b m picture state nothing ∙ cut in
@@ -204,9 +207,15 @@ detach_goes grain b m picture state s found copying free ok none =
 
 -- ---- a split of a copying mapping whose copy is whole
 
-pub split_goes : (grain : GrainSize) (b : Books) (m : Mapping) (picture : Picture) → Sound b picture → Contains b.tables.mappings m → m.state ≡ Copying → is_whole b m ≡ true →
-    Goes grain b picture (told (SplitOff m.id ∷ []) then ((cut_of b m then ends_in IdleOrCopied (as_left b m)) then nothing)) 1
-split_goes grain b m picture s found copying whole =
+-- The chains after it.
+pub record SplitSheet (b : Books) (m : Mapping) : Type 0 where
+  pub fits : FitsEvent b.sheet (SplitOff m.id)
+  pub left : Left b.sheet.slots (sheet_step (λ grains. grains) b.sheet (SplitOff m.id)).slots (Only m.id.0)
+  pub births : (sheet_step (λ grains. grains) b.sheet (SplitOff m.id)).births ≡ b.sheet.births
+  pub one : OneEnds b (sheet_step (λ grains. grains) b.sheet (SplitOff m.id)) (cut_of b m then ends_in IdleOrCopied (as_left b m)) m.id.0 Nobody
+
+pub split_sheet : (b : Books) (m : Mapping) (picture : Picture) → Sound b picture → Contains b.tables.mappings m → m.state ≡ Copying → is_whole b m ≡ true → SplitSheet b m
+split_sheet b m picture s found copying whole =
     let slots = b.sheet.slots in
     let seen_live = copying_seen b Nobody m s.stands found (λ n. n) copying in
     let at = slot_of b m true seen_live in
@@ -221,10 +230,21 @@ split_goes grain b m picture s found copying whole =
     let step : next ≡ split_at k b.sheet = ap (λ o. at_place split_at o b.sheet) at.is_there in
     let after : IsSound (split_at k b.sheet) = subst IsSound step (event_sound (λ grains. grains) b.sheet (SplitOff m.id) s.sheet fits) in
     let l : Left slots next.slots (Only m.id.0) = subst (λ (z : Sheet). Left slots z.slots (Only m.id.0)) (sym step) (split_left b.sheet k m.id.0 s.sheet after at.there at.of_mapping) in
-    let st = left_standing b next.slots m s.stands l in
-    let all = gone_ends b next m IdleOrCopied st found (busy_copying m copying) (λ e. absurd cc) (l.went m.id.0 refl) in
-    let cut = cut_leaves grain b m c.0 picture c.1 s.plain ∙ whole_leaves slots picture m.id c.0 c.1.is full in
+    record {
+      fits = fits;
+      left = l;
+      births = ap (λ (z : Sheet). z.births) step;
+      one = gone_one b next m IdleOrCopied (left_standing b next.slots m s.stands l) found (busy_copying m copying) (λ e. absurd cc) (l.went m.id.0 refl);
+    }
+
+pub split_goes : (grain : GrainSize) (b : Books) (m : Mapping) (picture : Picture) → Sound b picture → Contains b.tables.mappings m → m.state ≡ Copying → is_whole b m ≡ true →
+    Goes grain b picture (told (SplitOff m.id ∷ []) then ((cut_of b m then ends_in IdleOrCopied (as_left b m)) then nothing)) 1
+split_goes grain b m picture s found copying whole =
+    let next : Sheet = sheet_step (λ grains. grains) b.sheet (SplitOff m.id) in
+    let p = split_sheet b m picture s found copying whole in
+    let c = copies b Nobody m s.sheet.one_live s.stands found (copying_seen b Nobody m s.stands found (λ n. n) copying) in
+    let cut = cut_leaves grain b m c.0 picture c.1 s.plain ∙ whole_leaves b.sheet.slots picture m.id c.0 c.1.is (whole_complete b m c.0 c.1 whole) in
     let effects = left_effects grain b m picture IdleOrCopied nothing ∙ cut in
-    event_then grain b picture (SplitOff m.id) ((cut_of b m then ends_in IdleOrCopied (as_left b m)) then nothing) 1 s fits tt
-    (subst (λ (z : Sheet). z.births ≤ b.sheet.births + 1) (sym step) (omega arith)) all (sym effects)
+    event_then grain b picture (SplitOff m.id) ((cut_of b m then ends_in IdleOrCopied (as_left b m)) then nothing) 1 s p.fits tt
+    (omega (arith, p.births)) (gone_ends b next m IdleOrCopied p.one) (sym effects)
     (subst (ArePlain b.tables.volumes) (sym effects) s.plain)

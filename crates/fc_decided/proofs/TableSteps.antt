@@ -7,7 +7,6 @@ use Rattle.fc_base.specs.declared.volume.Change.{Change}
 use Rattle.fc_base.specs.declared.volume.Change.TheVariants.{AddVolume, RemoveVolume, AddMapping, RemoveMapping, SetMapping, AddGroup, RemoveGroup}
 use Rattle.fc_base.specs.declared.volume.Mapping.{Mapping}
 use Rattle.fc_base.specs.Pools.{Pool}
-use Rattle.fc_base.specs.Sheet.{Sheet}
 use Rattle.fc_books.specs.After.{after_table_change}
 use Rattle.fc_books.specs.Books.{Books}
 use Rattle.fc_legal.specs.Lawful.{HaveDisks, FitChanges}
@@ -75,20 +74,6 @@ tables_change b (RemoveMapping id) = refl
 tables_change b (SetMapping mapping) = refl
 tables_change b (AddGroup group) = refl
 tables_change b (RemoveGroup id) = refl
-
--- the chains don't matter to the tables
-sheet_change : (b : Books) (s : Sheet) (c : Change) → after_table_change (record b { sheet = s }) c ≡ record (after_table_change b c) { sheet = s }
-sheet_change b s (AddVolume volume) = refl
-sheet_change b s (RemoveVolume id) = refl
-sheet_change b s (AddMapping mapping) = refl
-sheet_change b s (RemoveMapping id) = refl
-sheet_change b s (SetMapping mapping) = refl
-sheet_change b s (AddGroup group) = refl
-sheet_change b s (RemoveGroup id) = refl
-
-pub tabled_with : (b : Books) (s : Sheet) (changes : List Change) → tabled (record b { sheet = s }) changes ≡ record (tabled b changes) { sheet = s }
-tabled_with b s [] = refl
-tabled_with b s (c ∷ cs) = ap (λ (x : Books). tabled x cs) (sheet_change b s c) ∙ tabled_with (after_table_change b c) s cs
 
 pub fit_append : (b : Books) (cs ds : List Change) → FitChanges b.tables cs → FitChanges (tabled b cs).tables ds → FitChanges b.tables (cs ++ ds)
 fit_append b [] ds first second = second

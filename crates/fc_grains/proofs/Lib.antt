@@ -9,3 +9,4 @@ pub mod Readying
 pub mod Moving
 pub mod Stored
 pub mod Quiet
+pub mod Whole

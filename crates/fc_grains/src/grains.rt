@@ -1,8 +1,9 @@
 //! The grains of a lane: the type, and what it tells.
 
-ghost use Rattle.std.specs.Prelude.{◌≡◌, ◌+◌, ◌^◌, ◌<◌, ◌≤◌, ◌++◌, true, length, take, drop, replicate};
+ghost use Rattle.std.specs.Prelude.{◌≡◌, ◌+◌, ◌^◌, ◌<◌, ◌≤◌, ◌++◌, ℕ, List, true, length, take, drop, replicate};
 ghost use Rattle.fc_base.specs.Grain.{grain_bytes};
 ghost use Rattle.fc_base.specs.Pools.{of_kind};
+ghost use Rattle.fc_entry.specs.Picture.{Bytes};
 ghost use Rattle.fc_entry.specs.Right.{is_lost};
 ghost use Rattle.fc_grains.specs.Volumes.{is_there, volume_of, stored};
 
@@ -51,6 +52,15 @@ impl<D: Mdisk> Grains<D> {
         ensures { result ≡ self.now.grain }
     {
         self.grain
+    }
+
+    /// The bytes of a grain: of the one at hand, and of each that isn't lost.
+    pub fn bytes(&self) -> u32
+        ensures value { result ≡ grain_bytes self.now.grain }
+        ensures hand { length self.now.buffer ≡ grain_bytes self.now.grain }
+        ensures whole { (volume place : ℕ) (bytes : List ℕ) → stored self.now.volumes volume place ≡ Bytes bytes → length bytes ≡ grain_bytes self.now.grain }
+    {
+        self.grain.bytes()
     }
 
     /// The kind of the disk of a volume that is there.

@@ -11,5 +11,13 @@ pub mod Moving
 pub mod MoveEnds
 pub mod Counting
 pub mod LaneEvents
+pub mod Reading
+pub mod ReadAnswers
 pub mod StepsMade
 pub mod StepsLoop
+pub mod WritePrepare
+pub mod WriteOwn
+pub mod WriteAll
+pub mod Entering
+pub mod WriteEntry
+pub mod WriteLane

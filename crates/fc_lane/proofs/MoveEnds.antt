@@ -1,5 +1,5 @@
 -- How a move ends, by what the chains and the grains did.
-use Rattle.std.proofs.Common.{◌≡◌, ℕ, ◌<◌, ◌/◌, Bool, true, false, cond, Option, Some, None, Ok, Err, List, length, map, refl, sym, ap, subst, ◌∙◌, arith}
+use Rattle.std.proofs.Common.{◌≡◌, ℕ, ◌<◌, ◌/◌, Bool, true, false, cond, Option, Some, None, Ok, Err, List, length, refl, sym, ap, subst, ◌∙◌, arith}
 use Rattle.fc_base.specs.Column.{holder}
 use Rattle.fc_base.specs.Sheet.{Sheet, slot_at, column, birth_place}
 use Rattle.fc_base.specs.SheetFacts.{IsSound}

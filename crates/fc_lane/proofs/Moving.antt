@@ -1,5 +1,5 @@
 -- What the calls of the physical grains do, for one move.
-use Rattle.std.proofs.Common.{◌≡◌, ℕ, ◌<◌, ◌≤◌, ◌+◌, Bool, true, false, eqb, Option, Some, None, Result, Ok, Err, List, [], ◌∷◌, length, map, refl, sym, ap, subst, ◌∙◌, arith, inl, inr, All, zero, suc, cond}
+use Rattle.std.proofs.Common.{◌≡◌, ℕ, ◌<◌, ◌≤◌, ◌+◌, Bool, true, false, eqb, Option, Some, None, Result, Ok, Err, List, [], ◌∷◌, length, map, refl, sym, ap, subst, ◌∙◌, arith, inl, inr, All, suc, cond}
 use Rattle.std.proofs.lemmas.Bool.{cases_Bool, cases_eq}
 use Rattle.std.specs.Bool.{OnTrue}
 use Rattle.fc_base.specs.Column.{holder}
@@ -13,7 +13,6 @@ use Rattle.fc_entry.specs.Right.{is_lost}
 use Rattle.fc_grains.specs.Calls.{HasRead, HasWritten}
 use Rattle.fc_grains.specs.Grains.{GrainsState}
 use Rattle.fc_grains.proofs.Quiet.{quiet_read, quiet_written}
-use Rattle.fc_grains.specs.Quiet.{IsQuiet}
 use Rattle.fc_lane.specs.Parts.{kind_of_grains}
 use Rattle.std.proofs.lemmas.List.Elements.{All-cons}
 use Rattle.fc_grains.specs.Volumes.{VolumeGrains, is_there, volume_of, stored, changed, called, after_write}
@@ -137,7 +136,7 @@ changed_same old new f id keeps kind size due t e =
 abbrev failed_of : Bool → GrainsState → GrainsState → Type 0
 failed_of failed old new = failed ≡ true → HasRisen old.faults new.faults
 
-risen_then : (a b c : ℕ) → a ≤ b → HasRisen b c → HasRisen a c
+pub risen_then : (a b c : ℕ) → a ≤ b → HasRisen b c → HasRisen a c
 risen_then a b c le (inl lt) = inl (omega arith)
 risen_then a b c le (inr e) = inr e
 

@@ -1,12 +1,11 @@
 -- Moves made one after the other, as entries tell them.
-use Rattle.std.proofs.Common.{◌≡◌, ℕ, ◌+◌, ◌<◌, ◌≤◌, ◌%◌, ◌/◌, ◌||◌, Bool, true, false, cond, eqb, Option, Some, None, List, [], ◌∷◌, ◌++◌, length, map, sum, refl, sym, ap, subst, ◌∙◌, arith, inl, inr, append_assoc, append-nil}
+use Rattle.std.proofs.Common.{◌≡◌, ℕ, ◌+◌, ◌≤◌, ◌%◌, ◌/◌, ◌||◌, Bool, true, false, cond, eqb, Option, Some, None, List, [], ◌∷◌, ◌++◌, length, map, sum, refl, sym, ap, subst, ◌∙◌, arith, inl, inr, append_assoc, append-nil}
 use Rattle.fc_base.specs.Column.{holder, Shape}
-use Rattle.fc_base.specs.Count.{HasRisen, one_more}
+use Rattle.fc_base.specs.Count.{one_more}
 use Rattle.fc_base.specs.Moves.{is_in_place}
 use Rattle.fc_base.specs.Sheet.{Slot, Sheet, slot_at, shape_of, column, birth_place}
-use Rattle.fc_base.specs.SheetStep.{sheet_moved, sheet_torn, sheet_written, grain_lost, grain_taken}
-use Rattle.fc_base.specs.declared.disk.DiskKind.{DiskKind}
-use Rattle.fc_base.specs.declared.disk.DiskKind.TheVariants.{Thin, Flat}
+use Rattle.fc_base.specs.SheetStep.{sheet_torn, sheet_written, grain_lost, grain_taken}
+use Rattle.fc_base.specs.declared.disk.DiskKind.TheVariants.{Thin}
 use Rattle.fc_base.specs.declared.request.Move.{Move}
 use Rattle.fc_base.specs.declared.request.Side.{Side}
 use Rattle.fc_base.specs.declared.request.Side.TheVariants.{Under, Now}
@@ -18,23 +17,23 @@ use Rattle.fc_grains.specs.Grains.{GrainsState}
 use Rattle.fc_grains.specs.Volumes.{VolumeGrains, is_there, volume_of, stored}
 use Rattle.fc_lane.specs.Moving.{CanMove, Counted, MoveEnds, MoveNotMade, SameLane, more}
 use Rattle.fc_lane.specs.Parts.{VolumeKind, SameVolumes, kind_of_grains, kind_of_told}
-use Rattle.fc_lane.specs.Standing.{AllSized, HasGrains, Stands}
-use Rattle.fc_lane.specs.StepsEnd.{CanMakeMoves, FailedIn, RefusedIn, StandsAt, StepsEnd, StepsStand, StoppedIn, torn_in}
+use Rattle.fc_lane.specs.Standing.{AllSized, Stands}
+use Rattle.fc_lane.specs.StepsEnd.{CanMakeMoves, FailedIn, RefusedIn, StepsEnd, StepsStand, StoppedIn, torn_in}
 use Rattle.fc_lane.specs.declared.stop.Stop.{Stop}
 use Rattle.fc_lane.specs.declared.stop.Stop.TheVariants.{Failed, NoMemory}
 use Rattle.fc_lane.proofs.Moving.{counted_then, same_lane, same_then, one_holder}
 use Rattle.fc_lane.proofs.Naming.{birth_place_is}
-use Rattle.fc_pictures.specs.Law.{StoredAt, StoredMoved, now_of}
-use Rattle.fc_pictures.specs.LaneLaw.{Agrees, torn_of}
-use Rattle.fc_pictures.specs.StepsLaw.{MovesRun, Reached, sheet_after}
+use Rattle.fc_pictures.specs.Law.{StoredAt, now_of}
+use Rattle.fc_pictures.specs.LaneLaw.{torn_of}
+use Rattle.fc_pictures.specs.StepsLaw.{sheet_after}
 use Rattle.fc_pictures.proofs.Agreeing.{lane_law_holds}
 use Rattle.fc_pictures.proofs.Lawful.{picture_law_holds}
 use Rattle.fc_pictures.proofs.Staying.{stored_shows}
 use Rattle.fc_pictures.proofs.Running.{sheet_after_push}
-use Rattle.fc_rules.specs.LaneTold.{LaneOf, LaneTold, LaneVolume, place_of, is_thin_in, is_thin_kind, sheet_tear, picture_tear}
+use Rattle.fc_rules.specs.LaneTold.{LaneOf, LaneTold, LaneVolume, place_of, is_thin_in, is_thin_kind}
 use Rattle.fc_rules.specs.LaneTurn.{spot_at}
 use Rattle.fc_rules.specs.Spot.{Spot, move_in, is_lost as lost_in}
-use Rattle.fc_rules.specs.Steps.{Step, calls_of, calls_of_move, moves_of, step_of_move, torn_by}
+use Rattle.fc_rules.specs.Steps.{Step, calls_of, moves_of, step_of_move}
 use Rattle.fc_sheets.proofs.Columns.{shape_torn}
 use Rattle.fc_sheets.proofs.Holding.{at_map, regrained, bit_taken, bit_lost}
 use Rattle.std.proofs.lemmas.Bool.{cases_Bool}
@@ -78,7 +77,7 @@ calls_push xs x =
 
 -- ---- whether a grain is lost
 
-lost_same : (c : Content) → lost_in c ≡ is_lost c
+pub lost_same : (c : Content) → lost_in c ≡ is_lost c
 lost_same (Bytes bytes) = refl
 lost_same Lost = refl
 

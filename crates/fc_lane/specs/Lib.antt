@@ -4,4 +4,7 @@ pub mod Parts
 pub mod Lane
 pub mod Standing
 pub mod Moving
+pub mod Reading
 pub mod StepsEnd
+pub mod WriteStep
+pub mod Entering

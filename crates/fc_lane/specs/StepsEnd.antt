@@ -12,7 +12,7 @@ use Rattle.fc_lane.specs.Standing.{Stands}
 use Rattle.fc_lane.specs.declared.stop.Stop.{Stop}
 use Rattle.fc_lane.specs.declared.stop.Stop.TheVariants.{Failed, NoMemory}
 use Rattle.fc_pictures.specs.StepsLaw.{MovesRun}
-use Rattle.fc_rules.specs.LaneTold.{LaneOf, LaneTold, place_of, sheet_entry, picture_entry}
+use Rattle.fc_rules.specs.LaneTold.{LaneOf, LaneTold, sheet_entry, picture_entry}
 use Rattle.fc_rules.specs.Spot.{Spot}
 use Rattle.fc_rules.specs.Steps.{Step, calls_of, moves_of, torn_by}
 

@@ -21,10 +21,11 @@ impl<D: Mdisk> Lane<D> {
         ensures needed { result.1 ≡ needed_of self.now.chains.sheet.slots map.0 }
     {
         match self.body.cascade.slot(map) {
-            Some(slot) => (
-                self.body.cascade.held_count(slot),
-                self.body.cascade.need_count(slot),
-            ),
+            Some(slot) => {
+                let held = self.body.cascade.held_count(slot);
+                let needed = self.body.cascade.need_count(slot);
+                (held, needed)
+            }
             None => (0, 0),
         }
     }

@@ -87,14 +87,14 @@ impl<D: Mdisk> Body<D> {
 }
 
 /// A step that was done.
-fn done(calls: u32) -> StepEnd
+pub(crate) fn done(calls: u32) -> StepEnd
     ensures { result ≡ record { calls = calls; stop = None } }
 {
     StepEnd { calls, stop: None }
 }
 
 /// A step whose last call failed.
-fn failed(calls: u32, torn: Option<Torn>) -> StepEnd
+pub(crate) fn failed(calls: u32, torn: Option<Torn>) -> StepEnd
     ensures { result ≡ record { calls = calls; stop = Some (Failed torn) } }
 {
     StepEnd {

@@ -1,4 +1,4 @@
-//! The parts of a lane of the store, and what moves and events do to them.
+//! One lane of the store: its parts, and what reads, moves and events do to them.
 //!
 //! A lane is its chains (`fc_chain`), the physical grains of its volumes (`fc_grains`), how hosts may reach each
 //! volume, and the background work (`fc_pick`). `specs/Lane` says what contracts see of a lane and when it stands for
@@ -7,18 +7,24 @@
 //!
 //! In reading order: `access` (how hosts reach the volumes), `copy` (events are copied), `ready` (memory for the
 //! events of a command is taken before any is done), `parts` (the events are done, and take none), `stop` and `body`
-//! (one move of a grain: its slot gets its own copy, and what stands where a disk fails in the middle).
+//! (one move of a grain: its slot gets its own copy, and what stands where a disk fails in the middle). Then the calls of
+//! `lane`, by file: `new` (a lane begins), `rooms` (memory for the next entry), `events` (a command), `read`, and `asking`
+//! (what a lane tells).
 #![tactic(auto)]
 
 mod access;
 mod asking;
 mod body;
 mod copy;
+mod ending;
 mod events;
 pub mod lane;
 mod new;
 mod parts;
+mod read;
 mod ready;
 mod rooms;
 mod steps;
 mod stop;
+mod write;
+mod write_step;

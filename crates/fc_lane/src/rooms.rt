@@ -10,6 +10,9 @@ use fc_base::outcome::NoMemory;
 use fc_mdisk::mdisk::Mdisk;
 use std::alloc::Global;
 
+/// No lane has so many volumes, since it begins with fewer disks.
+const TOO_MANY: usize = 1_073_741_824;
+
 /// For how many moves there is room.
 fn room_in(spare: &Option<MovePlan>) -> usize
     ensures { result ≡ room_of spare.now }
@@ -64,6 +67,9 @@ impl<D: Mdisk> Lane<D> {
         ensures entry_room { self.old.entry_room ≤ self.new.entry_room }
     {
         let volumes = self.body.cascade.volumes();
+        if volumes >= TOO_MANY {
+            return Err(NoMemory);
+        }
         match widen(alloc, &mut self.plan, volumes) {
             Ok(()) => widen_spare(alloc, &mut self.spare, volumes),
             Err(NoMemory) => Err(NoMemory),

@@ -1,5 +1,6 @@
 -- What holds of all that is told after a legal history.
-use Rattle.std.specs.Prelude.{◌≡◌, ℕ, ◌+◌, ◌*◌, ◌^◌, ◌<◌, ◌≤◌, List, [], ◌∷◌, length}
+use Rattle.std.specs.Prelude.{◌≡◌, ℕ, ◌+◌, ◌*◌, ◌^◌, ◌<◌, ◌≤◌, true, None, List, [], ◌∷◌, length}
+use Rattle.fc_base.specs.Sheet.{Slot, slot_at}
 use Rattle.fc_base.specs.declared.volume.Volume.{Volume}
 use Rattle.fc_books.specs.Books.{Books}
 use Rattle.fc_books.specs.Sound.{AreSound}
@@ -21,6 +22,11 @@ pub record AreFew (b : Books) (decisions : ℕ) : Type 0 where
   pub at_once : length b.tables.mappings ≤ 512
   pub volumes_at_once : length b.tables.volumes ≤ 512
 
+-- A live slot that is no mapping's is first in its chain.
+abbrev pub AreFirst : List Slot → Type 0
+AreFirst slots =
+    (j k : ℕ) → j < length slots → k < length slots → (slot_at slots k).is_live ≡ true → (slot_at slots k).mapping ≡ None → (slot_at slots j).chain ≡ (slot_at slots k).chain → k ≤ j
+
 -- There is a lane, and pools, faults and calls are told of each.
 pub record AreLanes (w : Whole) : Type 0 where
   pub some : 0 < lanes w
@@ -32,4 +38,4 @@ pub record Stands (decisions : ℕ) (w : Whole) : Type 0 where
   pub few : AreFew w.books decisions
   pub plain : ArePlain w.books.tables.volumes w.picture
   pub each_lane : AreLanes w
-
+  pub firsts : AreFirst w.books.sheet.slots

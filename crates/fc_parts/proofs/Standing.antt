@@ -11,7 +11,7 @@ use Rattle.fc_rules.specs.LaneRight.{IsRightInLane, done_write}
 use Rattle.fc_parts.specs.Law.{IsAt}
 use Rattle.fc_parts.proofs.Accesses.{access, plain_is}
 use Rattle.fc_parts.proofs.Soundness.{entry_sound}
-use Rattle.fc_parts.proofs.Staying.{entry_stay, books_stay, plain_stay}
+use Rattle.fc_parts.proofs.Staying.{entry_stay, books_stay, firsts_stay, plain_stay}
 
 pub stands : (grain : GrainSize) (decisions : ℕ) (w : Whole) (number : ℕ) (entry : Entry) → Stands decisions w → IsAt grain number entry.request →
     IsRightInLane (lane_at grain w (lane_of_grain w number)) (part_at grain w (lane_of_grain w number)) entry →
@@ -40,4 +40,5 @@ stands grain decisions w number entry before at right =
         pools = before.each_lane.pools ∙ sym same;
         calls = length-set w.calls (lane_of_grain w number) _ ∙ (before.each_lane.calls ∙ sym same);
       };
+      firsts = firsts_stay w.books.sheet next.books.sheet s before.firsts;
     }

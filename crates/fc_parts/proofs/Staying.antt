@@ -26,7 +26,7 @@ use Rattle.fc_books.specs.Books.{Books}
 use Rattle.fc_books.specs.Sound.{HasSlot, SlotByState, Agree, AreSound}
 use Rattle.fc_entry.specs.Picture.{PlainVolume, Picture, changed_at}
 use Rattle.fc_entry.specs.PlainStep.{after_write, after_torn, after_request, after_loss}
-use Rattle.fc_legal.specs.Stands.{ArePlain}
+use Rattle.fc_legal.specs.Stands.{ArePlain, AreFirst}
 use Rattle.fc_rules.specs.LaneTold.{LaneOf, place_of, sheet_move, sheet_write, sheet_tear, sheet_entry}
 use Rattle.fc_sheets.proofs.Holding.{length_map, at_map, IsBit, regrained, bit_taken, bit_kept, bit_lost}
 
@@ -40,9 +40,10 @@ pub record Stay (old new : Sheet) : Type 0 where
   pub is_live : (k : ℕ) → (slot_at new.slots k).is_live ≡ (slot_at old.slots k).is_live
   pub mapping : (k : ℕ) → (slot_at new.slots k).mapping ≡ (slot_at old.slots k).mapping
   pub size : (k : ℕ) → length (slot_at new.slots k).held ≡ length (slot_at old.slots k).held
+  pub chain : (k : ℕ) → (slot_at new.slots k).chain ≡ (slot_at old.slots k).chain
 
 all_stay : (s : Sheet) → Stay s s
-all_stay s = record { births = refl; count = refl; volume = λ k. refl; is_live = λ k. refl; mapping = λ k. refl; size = λ k. refl }
+all_stay s = record { births = refl; count = refl; volume = λ k. refl; is_live = λ k. refl; mapping = λ k. refl; size = λ k. refl; chain = λ k. refl }
 
 stay_then : (a b c : Sheet) → Stay a b → Stay b c → Stay a c
 stay_then a b c p q =
@@ -53,6 +54,7 @@ stay_then a b c p q =
       is_live = λ k. q.is_live k ∙ p.is_live k;
       mapping = λ k. q.mapping k ∙ p.mapping k;
       size = λ k. q.size k ∙ p.size k;
+      chain = λ k. q.chain k ∙ p.chain k;
     }
 
 bit_stay : (f : Slot → Slot) (g : ℕ) → IsBit f g → (s : Sheet) → Stay s (record { births = s.births; slots = map f s.slots })
@@ -66,6 +68,7 @@ bit_stay f g b s =
       is_live = λ k. ap (λ (t : Slot). t.is_live) (at k) ∙ r.is_live (slot_at s.slots k);
       mapping = λ k. ap (λ (t : Slot). t.mapping) (at k) ∙ r.mapping (slot_at s.slots k);
       size = λ k. ap (λ (t : Slot). length t.held) (at k) ∙ r.size (slot_at s.slots k);
+      chain = λ k. ap (λ (t : Slot). t.chain) (at k) ∙ r.chain (slot_at s.slots k);
     }
 
 moved_stay : (v g : ℕ) (in_place : Bool) (s : Sheet) → Stay s (sheet_moved v g in_place s)
@@ -93,6 +96,12 @@ entry_stay l s write moves torn =
     let moved : Sheet = fold (sheet_move l) s moves in
     let next : Sheet = sheet_write l moved write in
     stay_then s next (sheet_tear l next torn) (stay_then s moved next (moves_stay l s moves) (write_stay l moved write)) (tear_stay l next torn)
+
+-- A live slot of no mapping stays first in its chain.
+pub firsts_stay : (old new : Sheet) → Stay old new → AreFirst old.slots → AreFirst new.slots
+firsts_stay old new s firsts j k first second live none same =
+    firsts j k (subst (λ n. j < n) s.count first) (subst (λ n. k < n) s.count second) (sym (s.is_live k) ∙ live) (sym (s.mapping k) ∙ none)
+    (sym (s.chain j) ∙ same ∙ s.chain k)
 
 -- ---- their places
 

@@ -19,7 +19,7 @@ use Rattle.fc_run.specs.Progress.{Progress, Filled, Broken, Fed}
 use Rattle.fc_run.specs.ReadTo.{ReadTo, EndsReading, IsAtEnd, Gave, input_limit}
 use Rattle.fc_run.specs.Reading.{reading}
 use Rattle.fc_run.specs.SessionRead.{SessionRead, EndsSession}
-use Rattle.fc_run.specs.Stores.{Answered, IsTold, Reached}
+use Rattle.fc_store.specs.Answering.{Answered, IsTold, Reached}
 use Rattle.fc_run.proofs.ProgressLemmas.{LineEnds, LineEnds-answer, Filled-more, Broken-more}
 use Rattle.fc_run.specs.declared.reading.Ending.{Ending}
 use Rattle.fc_run.specs.declared.reading.Ending.TheVariants as ending

@@ -14,7 +14,7 @@ use Rattle.fc_legal.specs.Run.{line_asks, asks, IsRun, IsPartialRun, IsPartOfNex
 use Rattle.fc_legal.specs.Whole.{Whole}
 use Rattle.fc_run.specs.Progress.{Progress, Filled, Broken, Fed}
 use Rattle.fc_run.specs.Reading.{reading}
-use Rattle.fc_run.specs.Stores.{Answered, IsTold, Reached}
+use Rattle.fc_store.specs.Answering.{Answered, IsTold, Reached}
 use Rattle.fc_store.specs.declared.stop.Stop.{Stop}
 use Rattle.fc_store.specs.declared.stop.Stop.TheVariants.{LogFull, NoMemory}
 

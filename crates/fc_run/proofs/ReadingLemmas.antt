@@ -8,7 +8,7 @@ use Rattle.fc_entry.specs.declared.entry.Entry.{Entry}
 use Rattle.fc_legal.specs.Whole.{Whole}
 use Rattle.fc_io.specs.Source.{SourceState}
 use Rattle.fc_run.specs.Progress.{Progress, Fed}
-use Rattle.fc_run.specs.Stores.{IsTold, Reached}
+use Rattle.fc_store.specs.Answering.{IsTold, Reached}
 use Rattle.fc_run.specs.ReadTo.{Gave, IsAtEnd, FedPiece, Turned, SoFar, ReadTo, EndsReading, PastLimit, input_limit}
 use Rattle.fc_run.specs.Taking.{GaveAny, TurnGave}
 use Rattle.fc_run.proofs.TakesLemmas.{SoFarGave-start, SoFarGave-more, EachGave-last, EachGave-some}

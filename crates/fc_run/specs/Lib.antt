@@ -1,6 +1,5 @@
 -- What running a session over a store means, one subject a file, to be read top to bottom.
 pub mod Codes
-pub mod Stores
 pub mod Reading
 pub mod Progress
 pub mod Takes

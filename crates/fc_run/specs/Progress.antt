@@ -8,7 +8,7 @@ use Rattle.fc_legal.specs.Whole.{Whole}
 use Rattle.fc_store.specs.declared.stop.Stop.{Stop}
 use Rattle.fc_store.specs.declared.stop.Stop.TheVariants.{LogFull, NoMemory}
 use Rattle.fc_run.specs.Reading.{reading}
-use Rattle.fc_run.specs.Stores.{Reached}
+use Rattle.fc_store.specs.Answering.{Reached}
 
 -- Every line that ended in these bytes was answered, and the line at hand is the one that hasn't ended.
 pub record Progress (grain : GrainSize) (w : Whole) (bytes line : List ℕ) (entries : List Entry) (last : Whole) : Type 0 where

@@ -8,7 +8,7 @@ use Rattle.fc_entry.specs.Lines.{ended_lines}
 use Rattle.fc_legal.specs.Whole.{Whole}
 use Rattle.fc_io.specs.Source.{SourceState}
 use Rattle.fc_run.specs.Progress.{Progress, Fed}
-use Rattle.fc_run.specs.Stores.{Reached}
+use Rattle.fc_store.specs.Answering.{Reached}
 use Rattle.fc_run.specs.Takes.{EachGave}
 use Rattle.fc_run.specs.Taking.{SoFarGave}
 use Rattle.fc_run.specs.declared.reading.Turn.{Turn}

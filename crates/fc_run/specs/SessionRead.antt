@@ -9,7 +9,7 @@ use Rattle.fc_legal.specs.Whole.{Whole}
 use Rattle.fc_io.specs.Source.{SourceState}
 use Rattle.fc_run.specs.Progress.{Filled, Broken}
 use Rattle.fc_run.specs.Reading.{reading}
-use Rattle.fc_run.specs.Stores.{IsTold}
+use Rattle.fc_store.specs.Answering.{IsTold}
 use Rattle.fc_run.specs.ReadTo.{Gave, IsAtEnd, input_limit}
 use Rattle.fc_run.specs.declared.reading.Ending.{Ending}
 use Rattle.fc_run.specs.declared.reading.Ending.TheVariants as ending

@@ -6,7 +6,7 @@ ghost use Rattle.fc_entry.specs.Text.{HasNames, history_text};
 ghost use Rattle.fc_entry.specs.Written.{Written};
 ghost use Rattle.fc_run.specs.ReadTo.{ReadTo, StandsAtEnd};
 ghost use Rattle.fc_run.specs.SessionRead.{SessionRead, status_for, written_or};
-ghost use Rattle.fc_run.specs.Stores.{StandsFor};
+ghost use Rattle.fc_store.specs.Answering.{TellsSome};
 ghost use Rattle.fc_legal.specs.Whole.{Whole};
 
 use crate::reading::Ending;
@@ -60,7 +60,7 @@ pub fn end_input<L: LineStore>(
     store: &mut L,
     history: &mut History,
 ) -> Ending
-    requires stands { StandsAtEnd ending (StandsFor (L.Stands store.old) history.old.entries) }
+    requires stands { StandsAtEnd ending (TellsSome (L.Stands store.old) history.old.entries) }
     requires room { length history.old.entries ≤ 262144 }
     ensures read { (w : Whole) (before after : SourceState)
         → ReadTo ending before after (L.Stands store.old) (L.grain store.old) w line.now history.old.entries

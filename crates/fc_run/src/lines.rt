@@ -3,7 +3,7 @@
 ghost use Rattle.std.specs.Prelude.{◌≡◌, ◌≤◌, ℕ, List, [], ◌∷◌, ◌++◌, length, IsTrue};
 ghost use Rattle.fc_entry.specs.Lines.{without_return};
 ghost use Rattle.fc_run.specs.Progress.{Progress, Fed};
-ghost use Rattle.fc_run.specs.Stores.{Reached, StandsFor, StaysUp};
+ghost use Rattle.fc_store.specs.Answering.{Reached, TellsSome, StaysUp};
 ghost use Rattle.fc_legal.specs.Whole.{Whole};
 
 use crate::store::LineStore;
@@ -27,13 +27,13 @@ fn feed_byte<L: LineStore>(
     store: &mut L,
     history: &mut History,
 ) -> Result<(), Stop>
-    requires stands { StandsFor (L.Stands store.old) history.old.entries }
+    requires stands { TellsSome (L.Stands store.old) history.old.entries }
     requires room { length history.old.entries ≤ 262144 }
     ensures fed { (w : Whole) (bytes : List ℕ)
         → Reached (L.Stands store.old) history.old.entries (Progress (L.grain store.old) w bytes line.old.items history.old.entries)
         → Fed result (L.Stands store.new) (L.grain store.old) w (bytes ++ byte ∷ []) line.new.items history.new.entries }
     ensures actors { history.new.actors ≡ history.old.actors }
-    ensures stays { StaysUp result (StandsFor (L.Stands store.new) history.new.entries) }
+    ensures stays { StaysUp result (TellsSome (L.Stands store.new) history.new.entries) }
     ensures grain { L.grain store.new ≡ L.grain store.old }
     ensures limit { length history.new.entries ≤ 262144 }
 {
@@ -53,13 +53,13 @@ fn end_line<L: LineStore>(
     store: &mut L,
     history: &mut History,
 ) -> Result<(), Stop>
-    requires stands { StandsFor (L.Stands store.old) history.old.entries }
+    requires stands { TellsSome (L.Stands store.old) history.old.entries }
     requires room { length history.old.entries ≤ 262144 }
     ensures fed { (w : Whole) (bytes : List ℕ)
         → Reached (L.Stands store.old) history.old.entries (Progress (L.grain store.old) w bytes line.old.items history.old.entries)
         → Fed result (L.Stands store.new) (L.grain store.old) w (bytes ++ 10 ∷ []) line.new.items history.new.entries }
     ensures actors { history.new.actors ≡ history.old.actors }
-    ensures stays { StaysUp result (StandsFor (L.Stands store.new) history.new.entries) }
+    ensures stays { StaysUp result (TellsSome (L.Stands store.new) history.new.entries) }
     ensures grain { L.grain store.new ≡ L.grain store.old }
     ensures limit { length history.new.entries ≤ 262144 }
 {
@@ -80,13 +80,13 @@ pub fn feed<L: LineStore>(
     store: &mut L,
     history: &mut History,
 ) -> Result<(), Stop>
-    requires stands { StandsFor (L.Stands store.old) history.old.entries }
+    requires stands { TellsSome (L.Stands store.old) history.old.entries }
     requires room { length history.old.entries ≤ 262144 }
     ensures fed { (w : Whole) (bytes : List ℕ)
         → Reached (L.Stands store.old) history.old.entries (Progress (L.grain store.old) w bytes line.old.items history.old.entries)
         → Fed result (L.Stands store.new) (L.grain store.old) w (bytes ++ piece.now) line.new.items history.new.entries }
     ensures actors { history.new.actors ≡ history.old.actors }
-    ensures stays { StaysUp result (StandsFor (L.Stands store.new) history.new.entries) }
+    ensures stays { StaysUp result (TellsSome (L.Stands store.new) history.new.entries) }
     ensures grain { L.grain store.new ≡ L.grain store.old }
     ensures limit { length history.new.entries ≤ 262144 }
 {

@@ -3,7 +3,7 @@
 ghost use Rattle.std.specs.Prelude.{◌≡◌, ◌≤◌, ◌<◌, ℕ, List, [], ◌∷◌, ◌++◌, length, IsTrue, IfOk};
 ghost use Rattle.fc_run.specs.Progress.{Progress};
 ghost use Rattle.fc_run.specs.ReadTo.{Turned, TurnWithin, StandsAfter, ReadTo, PastLimit, StandsAtEnd};
-ghost use Rattle.fc_run.specs.Stores.{Reached, StandsFor};
+ghost use Rattle.fc_store.specs.Answering.{Reached, TellsSome};
 ghost use Rattle.fc_legal.specs.Whole.{Whole};
 ghost use Rattle.fc_run.specs.Taking.{GaveAny, TurnGave};
 
@@ -50,7 +50,7 @@ fn take_turn<S: Source, L: LineStore>(
     history: &mut History,
 ) -> Turn
     requires some { 0 < length buffer.old }
-    requires stands { StandsFor (L.Stands store.old) history.old.entries }
+    requires stands { TellsSome (L.Stands store.old) history.old.entries }
     requires room { length history.old.entries ≤ 262144 }
     ensures turned { (w : Whole) (bytes : List ℕ)
         → Reached (L.Stands store.old) history.old.entries (Progress (L.grain store.old) w bytes line.old.items history.old.entries)
@@ -60,7 +60,7 @@ fn take_turn<S: Source, L: LineStore>(
     ensures took { TurnGave result (S.meaning source.old) (S.meaning source.new) }
     ensures faults { (S.meaning source.old).faults ≤ (S.meaning source.new).faults }
     ensures actors { history.new.actors ≡ history.old.actors }
-    ensures stands { StandsAfter result (StandsFor (L.Stands store.new) history.new.entries) }
+    ensures stands { StandsAfter result (TellsSome (L.Stands store.new) history.new.entries) }
     ensures grain { L.grain store.new ≡ L.grain store.old }
     ensures limit { length history.new.entries ≤ 262144 }
 {
@@ -103,12 +103,12 @@ pub fn read_pieces<S: Source, L: LineStore>(
     history: &mut History,
 ) -> Ending
     requires some { 0 < length buffer.old }
-    requires stands { StandsFor (L.Stands store.old) history.old.entries }
+    requires stands { TellsSome (L.Stands store.old) history.old.entries }
     requires first_entry { history.old.entries ≡ [] }
     requires first_line { line.old.items ≡ [] }
     ensures read { (w : Whole) → L.Stands store.old w → w.entries ≡ 0 → ReadTo result (S.meaning source.old) (S.meaning source.new)
         (L.Stands store.new) (L.grain store.old) w line.new.items history.new.entries }
-    ensures stands { StandsAtEnd result (StandsFor (L.Stands store.new) history.new.entries) }
+    ensures stands { StandsAtEnd result (TellsSome (L.Stands store.new) history.new.entries) }
     ensures actors { history.new.actors ≡ history.old.actors }
     ensures grain { L.grain store.new ≡ L.grain store.old }
     ensures limit { length history.new.entries ≤ 262144 }

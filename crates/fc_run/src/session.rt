@@ -3,7 +3,7 @@
 ghost use Rattle.std.specs.Prelude.{◌≡◌, ◌≢◌, ◌≤◌, [], ◌∷◌, length, codes, is_err};
 ghost use Rattle.fc_legal.specs.Legal.{IsLegal};
 ghost use Rattle.fc_legal.specs.Whole.{Whole};
-ghost use Rattle.fc_run.specs.Stores.{StandsFor};
+ghost use Rattle.fc_store.specs.Answering.{TellsSome};
 ghost use Rattle.fc_entry.specs.Text.{HasNames};
 ghost use Rattle.fc_run.specs.Headline.{SessionEnds};
 ghost use Rattle.fc_run.specs.ReadTo.{StandsAtEnd, ReadTo};
@@ -27,7 +27,7 @@ fn read_session<S: Source, L: LineStore>(
     store: &mut L,
     history: &mut History,
 ) -> Ending
-    requires stands { StandsFor (L.Stands store.old) history.old.entries }
+    requires stands { TellsSome (L.Stands store.old) history.old.entries }
     requires first_entry { history.old.entries ≡ [] }
     ensures read { (w : Whole) → L.Stands store.old w → w.entries ≡ 0 → SessionRead result (S.meaning source.old) (S.meaning source.new)
         (L.Stands store.new) (L.grain store.old) w history.new.entries }
@@ -53,7 +53,7 @@ pub fn run_session<S: Source, K: Sink, L: LineStore>(
     store: &mut L,
     history: &mut History,
 ) -> Status
-    requires stands { StandsFor (L.Stands store.old) history.old.entries }
+    requires stands { TellsSome (L.Stands store.old) history.old.entries }
     requires first_entry { history.old.entries ≡ [] }
     requires main { history.old.actors ≡ codes "main" ∷ [] }
     ensures ends { (w : Whole) → L.Stands store.old w → w.entries ≡ 0 → (last : Whole)

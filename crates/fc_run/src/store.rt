@@ -5,7 +5,7 @@ ghost use Rattle.fc_base.specs.declared.size.GrainSize.{GrainSize};
 ghost use Rattle.fc_legal.specs.Run.{line_asks};
 ghost use Rattle.fc_legal.specs.Whole.{Whole};
 ghost use Rattle.fc_run.specs.Reading.{reading};
-ghost use Rattle.fc_run.specs.Stores.{Answered, IsTold, StandsFor};
+ghost use Rattle.fc_store.specs.Answering.{Answered, IsTold, TellsSome};
 
 use fc_entry::history::History;
 use fc_store::stop::Stop;
@@ -21,7 +21,7 @@ pub trait LineStore {
     /// Answers a line: one entry or more at the history's end, or none. Stopped, the first of them are there; but for
     /// want of memory the store goes on to stand for what is told.
     fn answer(&mut self, line: &[u8], history: &mut History) -> Result<(), Stop>
-        requires stands { StandsFor (Stands self.old) history.old.entries }
+        requires stands { TellsSome (Stands self.old) history.old.entries }
         requires room { length history.old.entries ≤ 262144 }
         ensures answered { (w : Whole) → IsTold (Stands self.old) history.old.entries w →
             Answered result (Stands self.new) (grain self.old) w (line_asks (grain self.old) reading w line.now) history.old history.new }

@@ -1,4 +1,9 @@
 //! The store: the control part and all lanes under one owner.
 #![tactic(auto)]
 
+mod access;
+mod lines;
+mod log;
+mod sheet;
 pub mod stop;
+pub mod store;

@@ -1,7 +1,7 @@
 use Rattle.std.proofs.Common.{◌≡◌, ◌≤◌, ℕ, List, ◌++◌, length, take}
 use Rattle.fc_legal.specs.Whole.{Whole}
 use Rattle.fc_run.specs.Progress.{Progress}
-use Rattle.fc_run.specs.Stores.{Reached, StandsFor}
+use Rattle.fc_store.specs.Answering.{Reached, TellsSome}
 use Rattle.fc_run.proofs.lines.feed.Given as goal
 
 -- the bytes so far were fed
@@ -9,7 +9,7 @@ abbrev pub invariant-loop-byte : goal.invariant-loop-byte
 invariant-loop-byte g l =
     let grain = g.L.LineStore.grain l.fn.store in
     record {
-      stands : StandsFor (g.L.LineStore.Stands l.store) l.history.entries;
+      stands : TellsSome (g.L.LineStore.Stands l.store) l.history.entries;
       room : length l.history.entries ≤ 262144;
       fed : (w : Whole) (bytes : List ℕ) →
           Reached (g.L.LineStore.Stands l.fn.store) l.fn.history.entries (Progress grain w bytes l.fn.line.items l.fn.history.entries) →

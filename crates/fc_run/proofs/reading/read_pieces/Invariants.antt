@@ -1,7 +1,7 @@
 use Rattle.std.proofs.Common.{◌≡◌, ◌≤◌, ◌-◌, ℕ, length}
 use Rattle.fc_legal.specs.Whole.{Whole}
 use Rattle.fc_run.specs.ReadTo.{SoFar}
-use Rattle.fc_run.specs.Stores.{StandsFor}
+use Rattle.fc_store.specs.Answering.{TellsSome}
 use Rattle.fc_run.proofs.reading.read_pieces.Given as goal
 
 -- so many bytes were taken, and the lines that ended in them answered
@@ -13,7 +13,7 @@ invariant-loop-taken g l =
           SoFar (g.S.Source.meaning l.fn.source) (g.S.Source.meaning l.source) (g.L.LineStore.Stands l.store) grain w l.line.items
           l.history.entries l.taken;
       within : l.taken ≤ 67108864;
-      stands : StandsFor (g.L.LineStore.Stands l.store) l.history.entries;
+      stands : TellsSome (g.L.LineStore.Stands l.store) l.history.entries;
       room : length l.history.entries ≤ 262144;
       actors : l.history.actors ≡ l.fn.history.actors;
       grain : g.L.LineStore.grain l.store ≡ grain;

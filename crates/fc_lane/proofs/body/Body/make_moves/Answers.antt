@@ -1,6 +1,6 @@
-use Rattle.std.proofs.Common.{rules, arith, ◌≡◌, ◌+◌, ◌*◌, ◌<◌, ◌≤◌, ℕ, ◌∷◌, List, length, ap, sym, subst, refl, ◌∙◌}
+use Rattle.std.proofs.Common.{rules, arith, ◌+◌, List, ap, sym, subst, refl, ◌∙◌}
 use Rattle.fc_base.specs.declared.request.Move.{Move}
-use Rattle.fc_lane.proofs.StepsLoop.{Looping, Planned, loop_begins, loop_sound, loop_sized, loop_can, loop_next, loop_stops, loop_ends, ends_none, next_left, move_of}
+use Rattle.fc_lane.proofs.StepsLoop.{Looping, loop_begins, loop_sound, loop_sized, loop_can, loop_next, loop_stops, loop_ends, ends_none, next_left, move_of}
 use Rattle.fc_base.specs.MovePlan.{PlannedMoves}
 use Rattle.fc_lane.proofs.body.Body.make_moves.Goals as goal
 

@@ -1,4 +1,4 @@
-use Rattle.std.proofs.Common.{rules, refl}
+use Rattle.std.proofs.Common.{refl}
 use Rattle.fc_lane.proofs.LaneEvents.{applied_stands}
 use Rattle.fc_lane.proofs.lane.Lane.apply.Goals as goal
 

@@ -1,4 +1,4 @@
--- What a line's answer leaves of the history and of the store.
+-- What an answer leaves of the history and of a store. How the store stands for what is told is a parameter.
 use Rattle.std.specs.Prelude.{◌≡◌, ℕ, List, length, Result, Ok, Err}
 use Rattle.fc_base.specs.declared.request.Request.{Request}
 use Rattle.fc_base.specs.declared.size.GrainSize.{GrainSize}
@@ -25,8 +25,8 @@ Answered (Err LogFull) Stands grain w asked old new = Reached Stands new.entries
 Answered (Err NoMemory) Stands grain w asked old new = (last : Whole) × AnswersSome grain w asked old new last
 
 -- Something is told, and the store stands for it.
-abbrev pub StandsFor : (Whole → Type 0) → List Entry → Type 0
-StandsFor Stands entries = (last : Whole) × IsTold Stands entries last
+abbrev pub TellsSome : (Whole → Type 0) → List Entry → Type 0
+TellsSome Stands entries = (last : Whole) × IsTold Stands entries last
 
 -- But for want of memory, this goes on to hold.
 abbrev pub StaysUp : {A : Type 0} → Result A Stop → Type 0 → Type 0

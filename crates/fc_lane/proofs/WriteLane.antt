@@ -1,0 +1,195 @@
+-- A write of a grain in a lane.
+use Rattle.std.proofs.Common.{◌≡◌, ℕ, ◌+◌, ◌<◌, ◌≤◌, ◌/◌, ◌^◌, Bool, true, false, not, Option, Some, None, List, [], length, map, refl, sym, ap, subst, ◌∙◌, arith}
+use Rattle.std.proofs.lemmas.List.{length-map}
+use Rattle.fc_base.specs.Moves.{write_moves}
+use Rattle.fc_base.specs.Plan.{move_at, moves_of_write}
+use Rattle.fc_base.specs.Sheet.{Sheet, column, live_place}
+use Rattle.fc_base.specs.declared.request.Move.{Move}
+use Rattle.fc_base.specs.declared.ids.MapId.{MapId}
+use Rattle.fc_base.specs.declared.request.Reply.{Reply}
+use Rattle.fc_base.specs.declared.request.Reply.TheVariants.{Done, MediumError, Offline, NotAccessible}
+use Rattle.fc_base.specs.declared.request.Request.TheVariants.{Write}
+use Rattle.fc_base.specs.declared.request.WritePart.{WritePart}
+use Rattle.fc_base.specs.declared.state.Access.{Access}
+use Rattle.fc_base.specs.declared.state.Access.TheVariants.{Online, Offline as IsOffline, NotAccessible as IsNotAccessible}
+use Rattle.fc_base.specs.declared.state.MapState.{MapState}
+use Rattle.fc_chain.specs.Chains.{Chains}
+use Rattle.fc_chain.specs.Planning.{volume_count}
+use Rattle.fc_entry.specs.Picture.{grain_of_block}
+use Rattle.fc_entry.specs.declared.entry.Entry.{Entry}
+use Rattle.fc_grains.specs.Grains.{GrainsState}
+use Rattle.fc_lane.specs.Entering.{FitsWrite, HasEntered, steps_entry}
+use Rattle.fc_lane.specs.Lane.{LaneView, IsAsked, IsLaneOf, IsReady, of}
+use Rattle.fc_lane.specs.StepsEnd.{StandsAt, StepsEnd, StepsStand, torn_in}
+use Rattle.fc_lane.specs.WriteStep.{IsPlannedWrite, IsWrite, spot_of, write_in}
+use Rattle.fc_lane.specs.declared.stop.Stop.{Stop}
+use Rattle.fc_lane.proofs.Entering.{SameBeside, same_after, stands_at}
+use Rattle.fc_lane.proofs.WriteEntry.{fits_write, lost_answers, plan_of_write, some_live, unreached, untouched_right, write_right, write_short}
+use Rattle.fc_rules.specs.GrainAnswers.{ByAccess, cannot_write}
+use Rattle.fc_rules.specs.LaneFits.{FitsPart}
+use Rattle.fc_rules.specs.LaneRight.{VolumeWrite, done_write}
+use Rattle.fc_rules.specs.LaneTold.{LaneOf, LaneTold, access_in, place_of}
+use Rattle.fc_rules.specs.Steps.{HasDoneNothing, steps_of_write}
+
+-- a lane in which a grain can be written
+pub record IsWritable (v : LaneView) (part : WritePart) (grain place : ℕ) : Type 0 where
+  pub can : (told : LaneTold) × IsLaneOf v told × FitsPart (of v) told part.volume part.block part.count
+  pub writable : (told : LaneTold) → IsLaneOf v told → FitsPart (of v) told part.volume part.block part.count → cannot_write v.grains.grain (spot_of (of v) told part) part ≡ false
+  pub ready : IsReady v
+  pub online : access_in v.accesses.volumes part.volume ≡ Online
+  pub number_is : grain ≡ grain_of_block v.grains.grain part.block
+  pub place_is : place ≡ grain / v.lanes
+
+module _ (v : LaneView) (part : WritePart) (grain place : ℕ) (w : IsWritable v part grain place) (plan : List Move)
+    (plan_is : plan ≡ moves_of_write v.chains.sheet.slots (grain / v.chains.lanes) grain (live_place v.chains.sheet.slots part.volume.0)) where
+  abbrev Fits : LaneTold → Type 0
+  Fits told = FitsPart (of v) told part.volume part.block part.count
+
+  planned : (told : LaneTold) (t : ℕ) → IsLaneOf v told → FitsWrite (of v) told part t → IsPlannedWrite (of v) told part t v.chains v.grains plan grain place
+  planned told t s f = record {
+    at = stands_at v told s;
+    is = record { fits = f.fits; place = f.place; live = f.live; sound = f.sound; writable = w.writable told s f.fits };
+    plan_is = plan_is ∙ plan_of_write (of v) told part t v.chains v.grains (stands_at v told s) f grain w.number_is;
+    number_is = w.number_is;
+    place_is = w.place_is ∙ ap (λ z. z / v.lanes) w.number_is;
+  }
+
+  pub write_planned : (l : LaneOf) × (told : LaneTold) × (t : ℕ) × IsPlannedWrite l told part t v.chains v.grains plan grain place
+  write_planned =
+      let f = fits_write v w.can.0 part w.can.1 w.can.2 in
+      (of v, w.can.0, f.0, planned w.can.0 f.0 w.can.1 f.1)
+
+  plan_short : length plan ≤ volume_count v.chains.sheet.slots
+  plan_short =
+      let told = w.can.0 in
+      let s = w.can.1 in
+      let f = fits_write v told part s w.can.2 in
+      let g : ℕ = place_of (of v) (grain_of_block (of v).grain part.block) in
+      let ks : List ℕ = write_moves (column told.sheet.slots g) f.0 in
+      let e : length plan ≡ length ks = ap (length {A = Move}) (planned told f.0 s f.1).plan_is ∙ length-map ks (move_at told.sheet.slots g (grain_of_block (of v).grain part.block)) in
+      let short : length ks ≤ volume_count told.sheet.slots = write_short told.sheet g f.0 f.1.sound f.1.live in
+      let same : volume_count told.sheet.slots ≡ volume_count v.chains.sheet.slots = ap (λ (z : Sheet). volume_count z.slots) (sym s.parts.sheet_is) in
+      omega arith
+
+  pub plan_few : length plan < 2 ^ 30
+  plan_few =
+      let short = plan_short in
+      let few = w.ready.few in
+      omega arith
+
+  pub plan_fits : length plan ≤ v.entry_room
+  plan_fits =
+      let short = plan_short in
+      let room = w.ready.entry in
+      omega arith
+
+  pub some_room : 0 < v.entry_room
+  some_room =
+      let told = w.can.0 in
+      let s = w.can.1 in
+      let f = fits_write v told part s w.can.2 in
+      let some : 0 < volume_count told.sheet.slots = some_live told.sheet.slots f.0 f.1.live.there f.1.live.is_live in
+      let same : volume_count told.sheet.slots ≡ volume_count v.chains.sheet.slots = ap (λ (z : Sheet). volume_count z.slots) (sym s.parts.sheet_is) in
+      let room = w.ready.entry in
+      omega arith
+
+  pub write_entered : (new : LaneView) (number actor : ℕ) (moves : List Move) (calls : ℕ) (stop : Option Stop) (entry : Entry) → SameBeside v new → new.plan_room ≡ v.plan_room →
+      ((l : LaneOf) (told : LaneTold) (t : ℕ) → IsPlannedWrite l told part t v.chains v.grains plan grain place → StepsEnd (spot_of l told part) (steps_of_write l.grain (spot_of l told part) part t) moves calls stop v.grains new.grains
+      × StepsStand l told (write_in part stop) moves calls (torn_in stop) v.chains v.grains new.chains new.grains) →
+      entry ≡ steps_entry v.lane number actor (Write part) Done v.grains.faults new.grains.faults moves calls stop → HasEntered v Fits number actor (Write part) entry new
+  write_entered new number actor moves calls stop entry b room ends is =
+      let told = w.can.0 in
+      let f = fits_write v told part w.can.1 w.can.2 in
+      let x = ends (of v) told f.0 (planned told f.0 w.can.1 f.1) in
+      record {
+        right = λ told s fits.
+            let f = fits_write v told part s fits in
+            let x = ends (of v) told f.0 (planned told f.0 s f.1) in
+            write_right v new told part f.0 number actor moves calls stop entry s b f.1 w.online (w.writable told s fits) x.0 x.1 is;
+        asked = record { number_is = ap (λ (e : Entry). e.number) is; actor_is = ap (λ (e : Entry). e.actor) is; request_is = ap (λ (e : Entry). e.request) is };
+        same = same_after v new b x.1.same;
+        quiet = x.1.same.quiet;
+        plan_room = room;
+      }
+
+-- ---- a write for which nothing is done
+
+pub untouched_entered : (v : LaneView) (part : WritePart) (number actor : ℕ) (reply : Reply) (entry : Entry) →
+    ((told : LaneTold) → IsLaneOf v told → FitsPart (of v) told part.volume part.block part.count → (e : Entry) → e.reply ≡ reply → HasDoneNothing e →
+    ByAccess (access_in told.volumes part.volume) e (VolumeWrite (of v) told part (live_place told.sheet.slots part.volume.0) e)) →
+    done_write (Write part) reply ≡ None → entry ≡ steps_entry v.lane number actor (Write part) reply v.grains.faults v.grains.faults [] 0 None →
+    HasEntered v (λ told. FitsPart (of v) told part.volume part.block part.count) number actor (Write part) entry v
+untouched_entered v part number actor reply entry answers none is = record {
+  right = λ told s f. untouched_right v told part number actor reply entry s (answers told s f) none is;
+  asked = record { number_is = ap (λ (e : Entry). e.number) is; actor_is = ap (λ (e : Entry). e.actor) is; request_is = ap (λ (e : Entry). e.request) is };
+  same = record { lane = refl; lanes = refl; grain = refl; disks = refl; silent = refl };
+  quiet = λ q. (q, refl);
+  plan_room = refl;
+}
+
+-- how the volume may be reached, as it is told
+access_told : (v : LaneView) (told : LaneTold) (part : WritePart) (a : Access) → IsLaneOf v told → access_in v.accesses.volumes part.volume ≡ a → access_in told.volumes part.volume ≡ a
+access_told v told part a s is = ap (λ z. access_in z part.volume) (sym s.parts.beside.volumes_are) ∙ is
+
+pub offline_entered : (v : LaneView) (part : WritePart) (number actor : ℕ) (map : MapId) (state : MapState) (entry : Entry) → access_in v.accesses.volumes part.volume ≡ IsOffline map state →
+    entry ≡ steps_entry v.lane number actor (Write part) (Offline map state) v.grains.faults v.grains.faults [] 0 None →
+    HasEntered v (λ told. FitsPart (of v) told part.volume part.block part.count) number actor (Write part) entry v
+offline_entered v part number actor map state entry is e =
+    untouched_entered v part number actor (Offline map state) entry
+    (λ told s f x r n. unreached told part (IsOffline map state) (Offline map state) x _ (access_told v told part (IsOffline map state) s is) (λ y q d. (q, d)) r n) refl e
+
+pub barred_entered : (v : LaneView) (part : WritePart) (number actor : ℕ) (map : MapId) (entry : Entry) → access_in v.accesses.volumes part.volume ≡ IsNotAccessible map →
+    entry ≡ steps_entry v.lane number actor (Write part) (NotAccessible map) v.grains.faults v.grains.faults [] 0 None →
+    HasEntered v (λ told. FitsPart (of v) told part.volume part.block part.count) number actor (Write part) entry v
+barred_entered v part number actor map entry is e =
+    untouched_entered v part number actor (NotAccessible map) entry
+    (λ told s f x r n. unreached told part (IsNotAccessible map) (NotAccessible map) x _ (access_told v told part (IsNotAccessible map) s is) (λ y q d. (q, d)) r n) refl e
+
+-- ---- whether it can be written
+
+-- a lane with a volume that is online
+pub record IsOnline (v : LaneView) (part : WritePart) : Type 0 where
+  pub can : (told : LaneTold) × IsLaneOf v told × FitsPart (of v) told part.volume part.block part.count
+  pub online : access_in v.accesses.volumes part.volume ≡ Online
+
+abbrev pub TellsWritable : LaneView → WritePart → ℕ → ℕ → Bool → Type 0
+TellsWritable v part grain place answer =
+    (l : LaneOf) (told : LaneTold) (t : ℕ) → StandsAt l told v.chains v.grains → FitsWrite l told part t → grain ≡ grain_of_block l.grain part.block → place ≡ place_of l (grain_of_block l.grain part.block) →
+    answer ≡ not (cannot_write l.grain (spot_of l told part) part)
+
+module _ (v : LaneView) (part : WritePart) (grain place : ℕ) (w : IsOnline v part) (number_is : grain ≡ grain_of_block v.grains.grain part.block) (place_is : place ≡ grain / v.lanes) where
+  place_told : place ≡ place_of (of v) (grain_of_block v.grains.grain part.block)
+  place_told = place_is ∙ ap (λ z. z / v.lanes) number_is
+
+  pub write_fits : (l : LaneOf) × (told : LaneTold) × (t : ℕ) × StandsAt l told v.chains v.grains × FitsWrite l told part t × (grain ≡ grain_of_block l.grain part.block) × (place ≡ place_of l (grain_of_block l.grain part.block))
+  write_fits =
+      let f = fits_write v w.can.0 part w.can.1 w.can.2 in
+      (of v, w.can.0, f.0, stands_at v w.can.0 w.can.1, f.1, number_is, place_told)
+
+  told_by : (answer : Bool) (told : LaneTold) → TellsWritable v part grain place answer → IsLaneOf v told → FitsPart (of v) told part.volume part.block part.count →
+      answer ≡ not (cannot_write v.grains.grain (spot_of (of v) told part) part)
+  told_by answer told tells s fits =
+      let f = fits_write v told part s fits in
+      tells (of v) told f.0 (stands_at v told s) f.1 number_is place_told
+
+  pub is_writable : (answer : Bool) → TellsWritable v part grain place answer → answer ≡ true → (told : LaneTold) → IsLaneOf v told → FitsPart (of v) told part.volume part.block part.count →
+      cannot_write v.grains.grain (spot_of (of v) told part) part ≡ false
+  is_writable answer tells e told s fits = not_true (cannot_write v.grains.grain (spot_of (of v) told part) part) (sym (told_by answer told tells s fits) ∙ e)
+    where
+      not_true : (b : Bool) → not b ≡ true → b ≡ false
+      not_true true e = absurd cc
+      not_true false e = refl
+
+  pub lost_entered : (answer : Bool) (number actor : ℕ) (entry : Entry) → TellsWritable v part grain place answer → answer ≡ false →
+      entry ≡ steps_entry v.lane number actor (Write part) MediumError v.grains.faults v.grains.faults [] 0 None →
+      HasEntered v (λ told. FitsPart (of v) told part.volume part.block part.count) number actor (Write part) entry v
+  lost_entered answer number actor entry tells e is =
+      untouched_entered v part number actor MediumError entry
+      (λ told s fits x r n.
+      let f = fits_write v told part s fits in
+      lost_answers (of v) told part f.0 x (access_told v told part Online s w.online) f.1.place
+      (not_false (cannot_write v.grains.grain (spot_of (of v) told part) part) (sym (told_by answer told tells s fits) ∙ e)) r n) refl is
+    where
+      not_false : (b : Bool) → not b ≡ false → b ≡ true
+      not_false true e = refl
+      not_false false e = absurd cc

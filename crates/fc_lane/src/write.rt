@@ -1,0 +1,129 @@
+//! Writes of blocks of one grain.
+
+ghost use Rattle.std.specs.Prelude.{◌≡◌, ◌<◌, ◌^◌, ◌/◌, ◌%◌, ℕ, Some, false, not};
+ghost use Rattle.fc_base.specs.declared.request.Request.TheVariants.{Write};
+ghost use Rattle.fc_base.specs.declared.state.Access.TheVariants.{Online};
+ghost use Rattle.fc_entry.specs.Picture.{grain_of_block};
+ghost use Rattle.fc_lane.specs.Entering.{FitsWrite, HasEntered};
+ghost use Rattle.fc_lane.specs.Lane.{IsAsked, IsLaneOf, IsReady, IsSameLane, KeepsQuiet, of};
+ghost use Rattle.fc_lane.specs.StepsEnd.{StandsAt};
+ghost use Rattle.fc_lane.specs.WriteStep.{spot_of};
+ghost use Rattle.fc_rules.specs.GrainAnswers.{cannot_write};
+ghost use Rattle.fc_rules.specs.LaneFits.{FitsPart};
+ghost use Rattle.fc_rules.specs.LaneRight.{IsRightInLane, record_of};
+ghost use Rattle.fc_rules.specs.LaneTold.{LaneOf, LaneTold, access_in, place_of, told_past};
+
+use crate::body::Body;
+use crate::ending::{Ask, room_for};
+use crate::lane::Lane;
+use fc_base::ids::GrainNo;
+use fc_base::request::{Planned, Reply, Request, WritePart};
+use fc_base::state::Access;
+use fc_entry::entry::Entry;
+use fc_mdisk::mdisk::Mdisk;
+use std::alloc::Global;
+
+impl<D: Mdisk> Body<D> {
+    /// Whether a part of a grain, which stands at this place among the lane's, can be written: a part of a lost grain
+    /// can't be.
+    fn can_write(&self, part: WritePart, grain: u32, place: u32) -> bool
+        requires can { (l : LaneOf) × (told : LaneTold) × (t : ℕ) × StandsAt l told self.now.cascade self.now.grains × FitsWrite l told part t × (grain ≡ grain_of_block l.grain part.block) × (place ≡ place_of l (grain_of_block l.grain part.block)) }
+        ensures { (l : LaneOf) (told : LaneTold) (t : ℕ) → StandsAt l told self.now.cascade self.now.grains → FitsWrite l told part t → grain ≡ grain_of_block l.grain part.block → place ≡ place_of l (grain_of_block l.grain part.block) → result ≡ not (cannot_write l.grain (spot_of l told part) part) }
+    {
+        if part.count == self.grains.grain().blocks() {
+            return true;
+        }
+        let source = self.shown_by(part.volume, grain);
+        !self.grains.is_lost(source, place)
+    }
+}
+
+impl<D: Mdisk> Lane<D> {
+    /// Writes blocks of one grain that can be written, at this place among the lane's, with the moves that this owes.
+    fn write_grain(
+        &mut self,
+        alloc: Global,
+        number: u64,
+        actor: u32,
+        part: WritePart,
+        grain: GrainNo,
+        place: u32,
+    ) -> Entry
+        requires can { (told : LaneTold) × IsLaneOf self.old told × FitsPart (of self.old) told part.volume part.block part.count }
+        requires writable { (told : LaneTold) → IsLaneOf self.old told → FitsPart (of self.old) told part.volume part.block part.count → cannot_write self.old.grains.grain (spot_of (of self.old) told part) part ≡ false }
+        requires ready { IsReady self.old }
+        requires online { access_in self.old.accesses.volumes part.volume ≡ Online }
+        requires number { grain.0 ≡ grain_of_block self.old.grains.grain part.block }
+        requires place { place ≡ grain.0 / self.old.lanes }
+        ensures { HasEntered self.old (λ told. FitsPart (of self.old) told part.volume part.block part.count) number actor (Write part) result self.new }
+    {
+        let before = self.body.grains.faults();
+        let write = Planned::Write {
+            volume: part.volume,
+            grain,
+        };
+        self.body.cascade.plan(write, &mut self.plan);
+        let plan = self.plan.as_slice();
+        let mut made = room_for(alloc, plan.len(), &mut self.spare);
+        let end = self.body.write_all(plan, part, grain, place, &mut made);
+        self.ended(
+            alloc,
+            number,
+            actor,
+            Ask::Write(part),
+            before,
+            made.into_moves(),
+            end,
+        )
+    }
+
+    /// Writes blocks of one grain of a volume that is online.
+    fn write_online(&mut self, alloc: Global, number: u64, actor: u32, part: WritePart) -> Entry
+        requires can { (told : LaneTold) × IsLaneOf self.old told × FitsPart (of self.old) told part.volume part.block part.count }
+        requires number { grain_of_block self.old.grains.grain part.block < 2 ^ 32 }
+        requires ready { IsReady self.old }
+        requires online { access_in self.old.accesses.volumes part.volume ≡ Online }
+        ensures { HasEntered self.old (λ told. FitsPart (of self.old) told part.volume part.block part.count) number actor (Write part) result self.new }
+    {
+        let blocks = self.body.grains.grain().blocks() as u64;
+        let grain = (part.block / blocks) as u32;
+        let place = grain / self.lanes as u32;
+        if !self.body.can_write(part, grain, place) {
+            return self.untouched(
+                alloc,
+                number,
+                actor,
+                Request::Write(part),
+                Reply::MediumError,
+            );
+        }
+        self.write_grain(alloc, number, actor, part, GrainNo(grain), place)
+    }
+
+    /// Writes blocks of one grain of a volume, after the moves that this owes, so that every copy keeps what it shows. A
+    /// volume that isn't online answers how it may be reached, a part of a lost grain a medium error. It stops at the
+    /// first call of a disk that fails; what was done before stays done.
+    pub fn write(&mut self, alloc: Global, number: u64, actor: u32, part: WritePart) -> Entry
+        requires can { (told : LaneTold) × IsLaneOf self.old told × FitsPart (of self.old) told part.volume part.block part.count }
+        requires number { grain_of_block self.old.grains.grain part.block < 2 ^ 32 }
+        requires ready { IsReady self.old }
+        ensures right { (told : LaneTold) → IsLaneOf self.old told → FitsPart (of self.old) told part.volume part.block part.count →
+            IsRightInLane (of self.old) told result × IsLaneOf self.new (told_past (of self.old) told (record_of result)) }
+        ensures asked { IsAsked number actor (Write part) result }
+        ensures same { IsSameLane self.old self.new }
+        ensures quiet { KeepsQuiet self.old self.new }
+        ensures plan_room { self.new.plan_room ≡ self.old.plan_room }
+    {
+        match self.accesses.access(part.volume) {
+            Access::Online => self.write_online(alloc, number, actor, part),
+            Access::Offline { map, state } => {
+                let reply = Reply::Offline { map, state };
+                self.untouched(alloc, number, actor, Request::Write(part), reply)
+            }
+            Access::NotAccessible { map } => {
+                let reply = Reply::NotAccessible { map };
+                self.untouched(alloc, number, actor, Request::Write(part), reply)
+            }
+        }
+    }
+}

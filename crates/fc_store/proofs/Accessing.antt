@@ -1,0 +1,163 @@
+-- An access in the lane of its grain: the entry is right, and the store stands for what it leaves.
+use Rattle.std.proofs.Common.{◌≡◌, ◌≢◌, ℕ, ◌+◌, ◌*◌, ◌^◌, ◌<◌, ◌≤◌, ◌%◌, List, length, slice_index_or, slice_set, refl, sym, ◌∙◌, ap, subst, arith, ◌⊎◌, inl, inr, [], ◌∷◌}
+use Rattle.fc_base.specs.declared.request.Request.{Request}
+use Rattle.fc_base.specs.declared.request.Request.TheVariants.{Read, Write, Copy, Clean}
+use Rattle.fc_base.specs.declared.size.GrainSize.{GrainSize}
+use Rattle.fc_control.specs.Control.{ControlState}
+use Rattle.fc_entry.specs.declared.entry.Entry.{Entry}
+use Rattle.fc_lane.specs.Lane.{LaneView, IsLaneOf, IsSameLane, of}
+use Rattle.fc_legal.specs.Legal.{IsLegal}
+use Rattle.fc_legal.specs.Stands.{Stands}
+use Rattle.fc_legal.specs.Steps.{Step, RequestStep, AccessStep, after_access}
+use Rattle.fc_legal.specs.Whole.{Whole, lanes, lane_of_grain, lane_at, part_at}
+use Rattle.fc_parts.specs.Law.{IsAt}
+use Rattle.fc_rules.specs.LaneRight.{IsRightInLane, record_of}
+use Rattle.fc_rules.specs.LaneTold.{LaneTold, told_past}
+use Rattle.fc_store.specs.Store.{StoreView, IsLaneAt, AreLanesOf, AreFewCalls, StandsFor}
+use Rattle.std.proofs.lemmas.Bool.{cases_eq}
+use Rattle.std.proofs.lemmas.List.{get_or-set_same, get_or-set_other, length-set}
+use Rattle.fc_base.specs.declared.command.Command.{Command}
+use Rattle.fc_base.specs.declared.fault.WordFault.{WordFault}
+use Rattle.fc_base.specs.declared.request.Request.TheVariants.{Command as Asked, Unread, CopyTurn, CleanTurn}
+use Rattle.fc_entry.specs.Picture.{grain_of_block}
+use Rattle.fc_parts.proofs.Lawful.{part_law_holds}
+
+-- ---- the entry
+
+by_request :
+    (grain : GrainSize) (w next : Whole) (number : ℕ) (entry : Entry) (request : Request) →
+    IsAt grain number request →
+    AccessStep grain w number entry next →
+    RequestStep grain w request entry next
+by_request grain w next number entry (Read part) at step =
+    let P : ℕ → Type 0 = λ n. AccessStep grain w n entry next in
+    subst P (sym at) step
+by_request grain w next number entry (Write part) at step =
+    let P : ℕ → Type 0 = λ n. AccessStep grain w n entry next in
+    subst P (sym at) step
+by_request grain w next number entry (Copy m g) at step =
+    let P : ℕ → Type 0 = λ n. AccessStep grain w n entry next in
+    subst P (sym at) step
+by_request grain w next number entry (Clean m g) at step =
+    let P : ℕ → Type 0 = λ n. AccessStep grain w n entry next in
+    subst P (sym at) step
+by_request grain w next number entry (Asked command) at step = absurd at
+by_request grain w next number entry (Unread fault) at step = absurd at
+by_request grain w next number entry (CopyTurn lane) at step = absurd at
+by_request grain w next number entry (CleanTurn lane) at step = absurd at
+
+-- An entry that is right in the lane of its grain is right.
+pub access_step :
+    (grain : GrainSize) (decisions : ℕ) (w : Whole) (number : ℕ) (entry : Entry) →
+    Stands decisions w →
+    IsAt grain number entry.request →
+    IsRightInLane (lane_at grain w (lane_of_grain w number)) (part_at grain w (lane_of_grain w number)) entry →
+    entry.number ≡ w.entries →
+    Step grain w entry (after_access grain w (lane_of_grain w number) entry)
+access_step grain decisions w number entry stands at right counted = record {
+  number = counted;
+  right = by_request grain w (after_access grain w (lane_of_grain w number) entry) number entry entry.request at
+      (part_law_holds.access grain decisions w number entry stands at right);
+}
+
+-- ---- the store
+
+-- How many lanes there are stays.
+lanes_stay : (grain : GrainSize) (w : Whole) (i : ℕ) (entry : Entry) → lanes (after_access grain w i entry) ≡ lanes w
+lanes_stay grain w i entry = length-set w.faults i entry.faults_after
+
+-- Which lane it is says all of it.
+abbrev pub IsLane : GrainSize → Whole → ℕ → LaneView → Type 0
+IsLane grain w i v = (v.lane ≡ i) × (v.lanes ≡ lanes w) × (v.grains.grain ≡ grain)
+
+-- The lane of the access stands for its part of what is told, and the others for theirs.
+each_stands :
+    (grain : GrainSize) (decisions : ℕ) (w : Whole) (number : ℕ) (entry : Entry) (ls : List LaneView) (v : LaneView) →
+    Stands decisions w →
+    length ls ≡ lanes w →
+    AreLanesOf grain w ls →
+    IsAt grain number entry.request →
+    IsRightInLane (lane_at grain w (lane_of_grain w number)) (part_at grain w (lane_of_grain w number)) entry →
+    IsLane grain w (lane_of_grain w number) v →
+    IsLaneOf v (told_past (lane_at grain w (lane_of_grain w number)) (part_at grain w (lane_of_grain w number)) (record_of entry)) →
+    AreLanesOf grain (after_access grain w (lane_of_grain w number) entry) (slice_set ls (lane_of_grain w number) v)
+each_stands grain decisions w number entry ls v stands count each at right same now j d inside = by (cases_eq j (lane_of_grain w number))
+  where
+    within : j < length ls
+    within = omega (arith, inside, length-set ls (lane_of_grain w number) v)
+
+    by : (j ≡ lane_of_grain w number) ⊎ (j ≢ lane_of_grain w number) → IsLaneAt grain (after_access grain w (lane_of_grain w number) entry) j (slice_index_or (slice_set ls (lane_of_grain w number) v) j d)
+    by (inl here) =
+        let P : ℕ → Type 0 = λ k. IsLaneAt grain (after_access grain w (lane_of_grain w number) entry) k (slice_index_or (slice_set ls (lane_of_grain w number) v) k d) in
+        let Q : LaneView → Type 0 = λ x. IsLaneAt grain (after_access grain w (lane_of_grain w number) entry) (lane_of_grain w number) x in
+        let R : LaneTold → Type 0 = λ told. IsLaneOf v told in
+        subst P (sym here)
+        (subst Q (sym (get_or-set_same ls (lane_of_grain w number) v d (subst (λ k. k < length ls) here within)))
+        record {
+          lane = same.0;
+          lanes_are = same.1 ∙ sym (lanes_stay grain w (lane_of_grain w number) entry);
+          grain_is = same.2;
+          stands = subst R (sym (part_law_holds.told grain decisions w number entry stands at right)) now;
+        })
+    by (inr other) =
+        let old : IsLaneAt grain w j (slice_index_or ls j d) = each j d within in
+        let Q : LaneView → Type 0 = λ x. IsLaneAt grain (after_access grain w (lane_of_grain w number) entry) j x in
+        let R : LaneTold → Type 0 = λ told. IsLaneOf (slice_index_or ls j d) told in
+        subst Q (sym (get_or-set_other ls (lane_of_grain w number) j v d other))
+        record {
+          lane = old.lane;
+          lanes_are = old.lanes_are ∙ sym (lanes_stay grain w (lane_of_grain w number) entry);
+          grain_is = old.grain_is;
+          stands = subst R (sym (part_law_holds.others grain decisions w number entry j stands at right (omega (arith, count, within)) other)) old.stands;
+        }
+
+-- Its calls stay few.
+few_stay :
+    (grain : GrainSize) (w : Whole) (i : ℕ) (entry : Entry) →
+    entry.calls ≤ 2 ^ 32 →
+    AreFewCalls w →
+    AreFewCalls (after_access grain w i entry)
+few_stay grain w i entry few calls j = by (cases_eq j i)
+  where
+    more : ℕ
+    more = slice_index_or w.calls i 0 + entry.calls
+
+    -- past the last lane nothing is counted
+    set_at : (xs : List ℕ) (i : ℕ) (x bound : ℕ) → x ≤ bound → slice_index_or (slice_set xs i x) i 0 ≤ bound
+    set_at [] i x bound le = omega arith
+    set_at (y ∷ xs) ℕ.zero x bound le = le
+    set_at (y ∷ xs) (ℕ.suc i) x bound le = set_at xs i x bound le
+
+    by : (j ≡ i) ⊎ (j ≢ i) → slice_index_or (slice_set w.calls i more) j 0 ≤ (w.entries + 1) * 2 ^ 32
+    by (inl here) =
+        let P : ℕ → Type 0 = λ k. slice_index_or (slice_set w.calls i more) k 0 ≤ (w.entries + 1) * 2 ^ 32 in
+        subst P (sym here) (set_at w.calls i more ((w.entries + 1) * 2 ^ 32) (omega (arith, calls i, few)))
+    by (inr other) =
+        let P : ℕ → Type 0 = λ x. x ≤ (w.entries + 1) * 2 ^ 32 in
+        subst P (sym (get_or-set_other w.calls i j more 0 other)) (omega (arith, calls j))
+
+-- After an access the store stands for what it leaves.
+pub access_stands :
+    (s : StoreView) (w : Whole) (number : ℕ) (entry : Entry) (v : LaneView) →
+    StandsFor s w →
+    IsAt s.control.grain number entry.request →
+    IsRightInLane (lane_at s.control.grain w (lane_of_grain w number)) (part_at s.control.grain w (lane_of_grain w number)) entry →
+    IsLane s.control.grain w (lane_of_grain w number) v →
+    IsLaneOf v (told_past (lane_at s.control.grain w (lane_of_grain w number)) (part_at s.control.grain w (lane_of_grain w number)) (record_of entry)) →
+    entry.calls ≤ 2 ^ 32 →
+    StandsFor (record s { lanes = slice_set s.lanes (lane_of_grain w number) v }) (after_access s.control.grain w (lane_of_grain w number) entry)
+access_stands s w number entry v stands at right same now few = record {
+  control = record {
+    tables = stands.control.tables;
+    next_volume = stands.control.next_volume;
+    next_mapping = stands.control.next_mapping;
+    next_group = stands.control.next_group;
+    flags = stands.control.flags;
+  };
+  count = length-set s.lanes (lane_of_grain w number) v ∙ stands.count ∙ sym (lanes_stay s.control.grain w (lane_of_grain w number) entry);
+  each = each_stands s.control.grain stands.decisions w number entry s.lanes v stands.stands stands.count stands.each at right same now;
+  decisions = stands.decisions;
+  few = omega (arith, stands.few);
+  stands = part_law_holds.stands s.control.grain stands.decisions w number entry stands.stands at right;
+  calls = few_stay s.control.grain w (lane_of_grain w number) entry few stands.calls;
+}

@@ -1,0 +1,98 @@
+-- What lanes tell, taken together, is what the sheet of all grains tells.
+use Rattle.std.proofs.Common.{◌≡◌, ℕ, ◌+◌, ◌≤◌, Option, List, [], ◌∷◌, length, map, take, get_or, refl, sym, ap, subst, ◌∙◌}
+use Rattle.std.specs.Prelude.{◌↔◌, slice_index_or, Result, IfOk, fold, min}
+use Rattle.std.specs.List.{sum_by}
+use mathlib.Core.List.{map-map}
+use Rattle.std.proofs.lemmas.List.{get_or-map, take_all}
+use Rattle.std.proofs.lemmas.List.Sums.{sum_by-cons}
+use Rattle.fc_base.specs.Counts.{UsedAt}
+use Rattle.fc_base.specs.Pools.{of_kind, least_of_kind}
+use Rattle.fc_base.specs.Sheet.{Sheet, no_slots, shape_of}
+use Rattle.fc_base.specs.SheetStep.{triggered}
+use Rattle.fc_base.specs.SheetView.{held_of, needed_of, count_true, LoopAnswer}
+use Rattle.fc_base.specs.declared.disk.DiskKind.{DiskKind}
+use Rattle.fc_base.specs.declared.ids.VolId.{VolId}
+use Rattle.fc_base.specs.declared.outcome.NoMemory.{NoMemory}
+use Rattle.fc_base.specs.declared.request.Pair.{Pair}
+use Rattle.fc_chain.specs.Chains.{Chains}
+use Rattle.fc_base.specs.Column.{Shape}
+use Rattle.fc_lane.specs.Lane.{LaneView}
+use Rattle.fc_sums.specs.Law.{SlotsLaw}
+use Rattle.fc_sums.specs.Parts.{part_of, parts_of, sheet_at, common_to, unneeded_in}
+use Rattle.fc_sums.proofs.Lawful.{sum_law_holds}
+use Rattle.fc_store.specs.LaneSheet.{chains_of, pools_of, sheet_of, HaveSheet}
+
+-- ---- sums over lanes
+
+pub sum_chains : (f : Sheet → ℕ) (lanes : List LaneView) → sum_by (λ (v : LaneView). f v.chains.sheet) lanes ≡ sum_by f (chains_of lanes)
+sum_chains f [] = refl
+sum_chains f (v ∷ vs) =
+    sum_by-cons (λ (x : LaneView). f x.chains.sheet) v vs
+    ∙ (ap (λ z. f v.chains.sheet + z) (sum_chains f vs)
+    ∙ sym (sum_by-cons f v.chains.sheet (chains_of vs)))
+
+sum_of : (lanes : List LaneView) → HaveSheet lanes → (f : Sheet → ℕ) (all : ℕ) → ((h : HaveSheet lanes) → sum_by f (parts_of h.grain (length lanes) (sheet_of lanes)) ≡ all) → sum_by (λ (v : LaneView). f v.chains.sheet) lanes ≡ all
+sum_of lanes h f all e = sum_chains f lanes ∙ (ap (sum_by f) h.parts ∙ e h)
+
+pub held_by_lanes : (lanes : List LaneView) → HaveSheet lanes → (m : ℕ) → sum_by (λ (v : LaneView). count_true (held_of v.chains.sheet.slots m)) lanes ≡ count_true (held_of (sheet_of lanes).slots m)
+held_by_lanes lanes h m =
+    sum_of lanes h (λ (p : Sheet). count_true (held_of p.slots m)) (count_true (held_of (sheet_of lanes).slots m))
+    (λ x. (sum_law_holds.counts x.grain (length lanes) (sheet_of lanes) x.some).held m)
+
+pub needed_by_lanes : (lanes : List LaneView) → HaveSheet lanes → (m : ℕ) → sum_by (λ (v : LaneView). needed_of v.chains.sheet.slots m) lanes ≡ needed_of (sheet_of lanes).slots m
+needed_by_lanes lanes h m =
+    sum_of lanes h (λ (p : Sheet). needed_of p.slots m) (needed_of (sheet_of lanes).slots m)
+    (λ x. (sum_law_holds.counts x.grain (length lanes) (sheet_of lanes) x.some).needed m)
+
+-- ---- the first lane
+
+pub first_part : (lanes : List LaneView) → (h : HaveSheet lanes) → (d : LaneView) → (slice_index_or lanes 0 d).chains.sheet ≡ part_of h.grain (length lanes) (sheet_of lanes) 0
+first_part lanes h d =
+    sym (get_or-map (λ (v : LaneView). v.chains.sheet) lanes 0 d no_slots h.some)
+    ∙ (ap (λ (z : List Sheet). sheet_at z 0) h.parts
+    ∙ (sum_law_holds.parts h.grain (length lanes) (sheet_of lanes)).part 0 h.some)
+
+pub slots_of_first : (lanes : List LaneView) → (h : HaveSheet lanes) → SlotsLaw (sheet_of lanes) (part_of h.grain (length lanes) (sheet_of lanes) 0)
+slots_of_first lanes h = sum_law_holds.slots h.grain (length lanes) 0 (sheet_of lanes) h.some
+
+-- as it is reached
+pub first_is : (lanes : List LaneView) → (h : HaveSheet lanes) → (v : LaneView) (chains : Chains) → v ≡ get_or lanes 0 v → chains ≡ v.chains → chains.sheet ≡ part_of h.grain (length lanes) (sheet_of lanes) 0
+first_is lanes h v chains e q = ap (λ (c : Chains). c.sheet) q ∙ (ap (λ (z : LaneView). z.chains.sheet) e ∙ first_part lanes h v)
+
+pub used_from : (lanes : List LaneView) → (h : HaveSheet lanes) → (s : Sheet) → s ≡ part_of h.grain (length lanes) (sheet_of lanes) 0 → (A : Type 0) (v : ℕ) →
+    (A ↔ UsedAt s.slots v) → (A ↔ UsedAt (sheet_of lanes).slots v)
+used_from lanes h s e A v iff =
+    let law = (slots_of_first lanes h).used v in
+    let P : Sheet → Type 0 = λ z. A ↔ UsedAt z.slots v in
+    let q = subst P e iff in
+    (λ a. law.0 (q.0 a), λ u. q.1 (law.1 u))
+
+pub loop_from : (lanes : List LaneView) → (h : HaveSheet lanes) → (s : Sheet) → s ≡ part_of h.grain (length lanes) (sheet_of lanes) 0 → (pairs : List Pair) (r : Result (Option (List VolId)) NoMemory) →
+    IfOk r (λ found. LoopAnswer (shape_of (triggered pairs s).slots) found) → IfOk r (λ found. LoopAnswer (shape_of (triggered pairs (sheet_of lanes)).slots) found)
+loop_from lanes h s e pairs r answer =
+    let P : Shape → Type 0 = λ sh. IfOk r (λ found. LoopAnswer sh found) in
+    subst P (ap (λ (z : Sheet). shape_of (triggered pairs z).slots) e ∙ (slots_of_first lanes h).triggered pairs) answer
+
+-- ---- unneeded slots
+
+pub unneeded_by_lanes : (lanes : List LaneView) → HaveSheet lanes → common_to (map (λ (v : LaneView). unneeded_in v.chains.sheet.slots) lanes) ≡ unneeded_in (sheet_of lanes).slots
+unneeded_by_lanes lanes h =
+    ap common_to (sym (map-map (λ (p : Sheet). unneeded_in p.slots) (λ (v : LaneView). v.chains.sheet) lanes))
+    ∙ (ap (λ (z : List Sheet). common_to (map (λ (p : Sheet). unneeded_in p.slots) z)) h.parts
+    ∙ (sum_law_holds.unneeded h.grain (length lanes) (sheet_of lanes) h.some h.sound.names).names)
+
+-- ---- pools
+
+fold_pools : (kind : DiskKind) (a : ℕ) (lanes : List LaneView) → fold (λ least (v : LaneView). min least (of_kind kind v.grains.pool)) a lanes ≡ fold (λ least p. min least (of_kind kind p)) a (pools_of lanes)
+fold_pools kind a [] = refl
+fold_pools kind a (v ∷ vs) = fold_pools kind (min a (of_kind kind v.grains.pool)) vs
+
+pub least_by_lanes : (kind : DiskKind) (lanes rest : List LaneView) (v : LaneView) (first least i : ℕ) → lanes ≡ v ∷ rest → first ≡ of_kind kind v.grains.pool → length rest ≤ i →
+    least ≡ fold (λ least (v : LaneView). min least (of_kind kind v.grains.pool)) first (take i rest) → least ≡ least_of_kind kind (pools_of lanes)
+least_by_lanes kind lanes rest v first least i e f le q =
+    q
+    ∙ (ap (fold (λ least (v : LaneView). min least (of_kind kind v.grains.pool)) first) (take_all i rest le)
+    ∙ (fold_pools kind first rest
+    ∙ (ap (λ a. fold (λ least p. min least (of_kind kind p)) a (pools_of rest)) f
+    ∙ (sym (sum_law_holds.pools kind v.grains.pool (pools_of rest))
+    ∙ ap (λ z. least_of_kind kind (pools_of z)) (sym e)))))

@@ -1,0 +1,6 @@
+-- Lemmas, one subject a file.
+pub mod Accessing
+pub mod Logging
+pub mod Places
+pub mod Asked
+pub mod LaneSheets

@@ -1,0 +1,6 @@
+-- What contracts of the store cite.
+pub mod Store
+pub mod Answering
+pub mod Asking
+pub mod Apart
+pub mod LaneSheet

@@ -1,0 +1,60 @@
+//! Entries of the history.
+
+ghost use Rattle.std.specs.Prelude.{◌≡◌, ◌<◌, ◌≤◌, [], ◌∷◌, ◌++◌, length, IfErr, OnErr, OnOk, None};
+ghost use Rattle.std.specs.Bool.{OnFalse, OnTrue};
+ghost use Rattle.fc_store.specs.Apart.{entry_apart};
+
+use crate::stop::Stop;
+use fc_base::limits::MAX_ENTRIES;
+use fc_base::list::List;
+use fc_base::request::{Effect, Place, Reply, Request};
+use fc_entry::entry::Entry;
+use fc_entry::history::History;
+use std::alloc::Global;
+
+/// Whether one more entry would pass the greatest number of entries.
+pub(crate) fn is_full(history: &History) -> bool
+    ensures full { OnTrue result (MAX_ENTRIES ≤ length history.now.entries) }
+    ensures room { OnFalse result (length history.now.entries < MAX_ENTRIES) }
+{
+    history.len() >= MAX_ENTRIES
+}
+
+/// Puts an entry at the history's end.
+pub(crate) fn log(history: &mut History, entry: Entry) -> Result<(), Stop>
+    requires { entry.number ≡ length history.old.entries }
+    ensures ok { OnOk result (history.new ≡ record history.old { entries = history.old.entries ++ entry ∷ [] }) }
+    ensures err { OnErr result (history.new ≡ history.old) }
+    ensures stop { IfErr result (λ stop. stop ≡ Stop.NoMemory) }
+{
+    match history.push(entry) {
+        Ok(()) => Ok(()),
+        Err(_) => Err(Stop::NoMemory),
+    }
+}
+
+/// An entry of `main` that speaks of no disk.
+pub(crate) fn entry_apart(
+    alloc: Global,
+    number: usize,
+    place: Place,
+    request: Request,
+    reply: Reply,
+    effects: List<Effect>,
+) -> Entry
+    ensures { result ≡ entry_apart number place request reply effects }
+{
+    Entry {
+        number: number as u64,
+        actor: 0,
+        place,
+        request,
+        reply,
+        moves: List::new(alloc),
+        effects,
+        torn: None,
+        faults_before: 0,
+        faults_after: 0,
+        calls: 0,
+    }
+}

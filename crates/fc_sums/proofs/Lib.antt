@@ -1,0 +1,9 @@
+pub mod Sums
+pub mod Dividing
+pub mod Slots
+pub mod Reading
+pub mod Depending
+pub mod Unneeded
+pub mod Joining
+pub mod Pooling
+pub mod Lawful

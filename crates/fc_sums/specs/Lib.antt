@@ -1,0 +1,3 @@
+-- What the law of sums says.
+pub mod Parts
+pub mod Law

@@ -1,0 +1,65 @@
+-- The parts of all lanes, in order of the lanes, and the sheet that they are parts of.
+use Rattle.std.specs.Prelude.{ℕ, ◌/◌, ◌%◌, Bool, false, ◌==◌, List, [], ◌∷◌, length, map, filter, fold, slice_index_or}
+use Rattle.std.specs.List.{sum_by, list_any, range_with_len}
+use Rattle.fc_base.specs.Counts.{names_below, is_unneeded}
+use Rattle.fc_base.specs.Sheet.{Slot, Sheet, no_slots, slot_at}
+use Rattle.fc_base.specs.declared.ids.SlotId.{SlotId}
+use Rattle.fc_base.specs.declared.size.GrainSize.{GrainSize}
+use Rattle.fc_legal.specs.Whole.{part_of_sheet}
+use Rattle.fc_rules.specs.LaneTold.{LaneOf}
+
+-- A lane of so many.
+abbrev pub lane_of : GrainSize → ℕ → ℕ → LaneOf
+lane_of grain lanes i = record { lane = i; lanes = lanes; grain = grain }
+
+-- The part of a lane, and the parts of all lanes.
+abbrev pub part_of : GrainSize → ℕ → Sheet → ℕ → Sheet
+part_of grain lanes s i = part_of_sheet (lane_of grain lanes i) s
+
+abbrev pub parts_of : GrainSize → ℕ → Sheet → List Sheet
+parts_of grain lanes s = map (part_of grain lanes s) (range_with_len 0 lanes)
+
+-- ---- the sheet of parts
+
+-- The part at a place of a list.
+abbrev pub sheet_at : List Sheet → ℕ → Sheet
+sheet_at parts i = slice_index_or parts i no_slots
+
+-- What the slot at a place holds of all grains: a grain stands in the part that its number leaves when divided by how
+-- many there are, and as many grains as the parts have together.
+abbrev pub grains_held : List Sheet → ℕ → ℕ
+grains_held parts k = sum_by (λ (p : Sheet). length (slot_at p.slots k).held) parts
+
+abbrev pub holds_at : List Sheet → ℕ → ℕ → Bool
+holds_at parts k g = slice_index_or (slot_at (sheet_at parts (g % length parts)).slots k).held (g / length parts) false
+
+abbrev pub joined_held : List Sheet → ℕ → List Bool
+joined_held parts k = map (holds_at parts k) (range_with_len 0 (grains_held parts k))
+
+-- The sheet of all grains: the slots of the first part, with what they hold of all.
+abbrev pub joined_slot : List Sheet → ℕ → Slot
+joined_slot parts k = record (slot_at (sheet_at parts 0).slots k) { held = joined_held parts k }
+
+abbrev pub joined : List Sheet → Sheet
+joined parts =
+    record {
+      births = (sheet_at parts 0).births;
+      slots = map (joined_slot parts) (range_with_len 0 (length (sheet_at parts 0).slots));
+    }
+
+-- ---- names that lanes have in common
+
+abbrev pub has_name : List SlotId → SlotId → Bool
+has_name names name = list_any (λ (n : SlotId). n.0 == name.0) names
+
+-- The names of the one list that the other has too.
+abbrev pub common : List SlotId → List SlotId → List SlotId
+common names others = filter (has_name others) names
+
+abbrev pub common_to : List (List SlotId) → List SlotId
+common_to [] = []
+common_to (names ∷ more) = fold common names more
+
+-- The old slots that no slot needs at any grain, by name, in order of their places.
+abbrev pub unneeded_in : List Slot → List SlotId
+unneeded_in slots = names_below slots (is_unneeded slots) (length slots)
