@@ -5,8 +5,8 @@
 //! `fc_books/specs/Deciding.antt`: `settle` is `settle`, and each `decide_..` is `decide` of its command. Want of memory
 //! alone is free, and changes nothing.
 //!
-//! So far there are `settle`, and the decisions on all commands but stops of groups. What a start decides also tells the loop of
-//! restores that it found: it is asked for exactly where nothing else refuses. The decision on `stopfcconsistgrp`, one call
+//! So far there are `settle`, and the decisions on all commands but `stopfcconsistgrp`. What a start decides also tells
+//! the loop of restores that it found: it is asked for exactly where nothing else refuses. The stop of a group, one call
 //! for all commands, and `reserve` and `apply`, are to come.
 //!
 //! In reading order: `draft` (a decision as it is put together), `ending` (how the copy of a mapping ends), `control`,
