@@ -37,13 +37,6 @@ impl MovePlan {
         }
     }
 
-    /// For how many moves there is room.
-    pub fn room(&self) -> usize
-        ensures { result ≡ self.now.room }
-    {
-        self.room
-    }
-
     /// The moves, in order.
     pub fn as_slice(&self) -> &[Move]
         ensures { result.now ≡ self.now.moves }

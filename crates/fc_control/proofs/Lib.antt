@@ -12,6 +12,11 @@ pub mod Slots
 pub mod Vanishing
 pub mod Setting
 pub mod Flagged
+pub mod Preparing
+pub mod Triggered
+pub mod Started
+pub mod Looped
+pub mod Together
 pub mod StopHeld
 pub mod StopWork
 pub mod StopEnds

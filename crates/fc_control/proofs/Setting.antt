@@ -152,3 +152,16 @@ set_kept f p x zs keeps is_alone there = by (p x) refl
     by : (b : Bool) → p x ≡ b → fold set_one x (map f (filter p zs)) ≡ cond b (f x) x
     by true passes = set_first f p x zs there.0 keeps is_alone passes there.1 there.2
     by false none = set_other f p x zs keeps is_alone none
+
+-- One whose id no set mapping has stays.
+apart_one : (f : Mapping → Mapping) (y z : Mapping) → ((m : Mapping) → (f m).id.0 ≡ m.id.0) → (z.id.0 == y.id.0) ≡ false → set_one y (f z) ≡ y
+apart_one f y z keeps e = ap (λ n. if n == y.id.0 then f z else y) (keeps z) ∙ ap (λ b. if b then f z else y) e
+
+apart_by : (f : Mapping → Mapping) (p : Mapping → Bool) (y z : Mapping) (kept : List Mapping) (b : Bool) → p z ≡ b → ((m : Mapping) → (f m).id.0 ≡ m.id.0) → (p z ≡ true → (z.id.0 == y.id.0) ≡ false) → fold set_one y (map f kept) ≡ y → fold set_one y (map f (cond b (z ∷ kept) kept)) ≡ y
+apart_by f p y z kept false is keeps apart rest = rest
+apart_by f p y z kept true is keeps apart rest = ap (λ m. fold set_one m (map f kept)) (apart_one f y z keeps (apart is)) ∙ rest
+
+pub set_apart : (f : Mapping → Mapping) (p : Mapping → Bool) (y : Mapping) (zs : List Mapping) → ((m : Mapping) → (f m).id.0 ≡ m.id.0) → ((z : Mapping) → Contains zs z → p z ≡ true → (z.id.0 == y.id.0) ≡ false) → fold set_one y (map f (filter p zs)) ≡ y
+set_apart f p y [] keeps apart = refl
+set_apart f p y (z ∷ zs) keeps apart =
+    apart_by f p y z (filter p zs) (p z) refl keeps (apart z (first_there z zs)) (set_apart f p y zs keeps (λ x found. apart x (later_there x z zs found)))

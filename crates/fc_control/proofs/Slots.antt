@@ -123,6 +123,16 @@ found-insert test [] (suc k) y f = passed_over test y [] f
 found-insert test (x ∷ xs) zero y f = passed_over test y (x ∷ xs) f
 found-insert test (x ∷ xs) (suc k) y f = ap (λ o. cond (test x) (Some x) o) (found-insert test xs k y f)
 
+pub found-insert_new : {X : Type 0} (test : X → Bool) (xs : List X) (k : ℕ) (y : X) → test y ≡ true → find test xs ≡ None → find test (insert xs k y) ≡ Some y
+found-insert_new test [] zero y f none = ap (λ b. cond b (Some y) None) f
+found-insert_new test [] (suc k) y f none = ap (λ b. cond b (Some y) None) f
+found-insert_new test (x ∷ xs) zero y f none = ap (λ b. cond b (Some y) (find test (x ∷ xs))) f
+found-insert_new test (x ∷ xs) (suc k) y f none = by (test x) none (found-insert_new test xs k y f)
+  where
+    by : (b : Bool) {o found : Option _} → cond b (Some x) o ≡ None → (o ≡ None → found ≡ Some y) → cond b (Some x) found ≡ Some y
+    by true e rest = absurd cc
+    by false e rest = rest e
+
 -- one kept item among those that are found
 pub found-filter : {X : Type 0} (test keep : X → Bool) (xs : List X) → ((x : X) → test x ≡ true → keep x ≡ true) → find test (filter keep xs) ≡ find test xs
 found-filter test keep [] kept = refl
@@ -132,3 +142,27 @@ found-filter test keep (x ∷ xs) kept = by (test x) (keep x) refl refl (found-f
     by a true is_a is_b rest = ap (λ t. cond t (Some x) (find test (filter keep xs))) is_a ∙ ap (λ o. cond a (Some x) o) rest
     by false false is_a is_b rest = rest
     by true false is_a is_b rest = grind (arith, is_b, kept x is_a)
+
+-- ---- the slot of a mapping is set
+
+place_front : (s : Slot) (ss : List Slot) (m : ℕ) → mapping_place (s ∷ ss) m ≡ front (is_of m s) (mapping_place ss m)
+unfolding mapping_place
+place_front s ss m = first_front (λ k. is_at (slot_at (s ∷ ss) k).mapping m) (length ss)
+
+no_place : (m : ℕ) → mapping_place [] m ≡ None
+unfolding mapping_place
+no_place m = first_none (λ k. is_at (slot_at [] k).mapping m)
+
+set_by : (s : Slot) (ss : List Slot) (m k : ℕ) (y : Slot) (b : Bool) (o : Option ℕ) → is_of m s ≡ b → front b o ≡ Some k → is_of m y ≡ true → ((j : ℕ) → o ≡ Some j → find (is_of m) (slice_set ss j y) ≡ Some y) → find (is_of m) (slice_set (s ∷ ss) k y) ≡ Some y
+unfolding front
+set_by s ss m zero y true o is e passes rest = ap (λ b. cond b (Some y) (find (is_of m) ss)) passes
+set_by s ss m (suc k) y true o is e passes rest = grind (arith, e)
+set_by s ss m k y false None is e passes rest = absurd cc
+set_by s ss m zero y false (Some j) is e passes rest = grind (arith, e)
+set_by s ss m (suc k) y false (Some j) is e passes rest =
+    let same : j ≡ k = cc in
+    ap (λ b. cond b (Some s) (find (is_of m) (slice_set ss k y))) is ∙ rest k (ap Some same)
+
+pub found-set_first : (slots : List Slot) (m k : ℕ) (y : Slot) → mapping_place slots m ≡ Some k → is_of m y ≡ true → find (is_of m) (slice_set slots k y) ≡ Some y
+found-set_first [] m k y e passes = let none = no_place m in absurd cc
+found-set_first (s ∷ ss) m k y e passes = set_by s ss m k y (is_of m s) (mapping_place ss m) refl (sym (place_front s ss m) ∙ e) passes (λ j there. found-set_first ss m j y there passes)

@@ -1,8 +1,12 @@
 -- What is done to some of the mappings.
-use Rattle.std.specs.Prelude.{Bool, cond, [], ◌∷◌, None}
+use Rattle.std.specs.Prelude.{Bool, cond, ◌==◌, List, [], ◌∷◌, filter, None}
+use Rattle.fc_base.specs.Tables.{Tables}
 use Rattle.fc_base.specs.declared.volume.Change.TheVariants.{SetMapping}
 use Rattle.fc_base.specs.declared.volume.Mapping.{Mapping}
 use Rattle.fc_books.specs.Books.{Deed, nothing}
+use Rattle.fc_books.specs.Groups.{is_in}
+use Rattle.fc_control.specs.declared.chosen.Chosen.{Chosen}
+use Rattle.fc_control.specs.declared.chosen.Chosen.TheVariants.{One, Members}
 
 -- The deed for a mapping that is chosen.
 abbrev pub for_chosen : (Mapping → Bool) → (Mapping → Deed) → Mapping → Deed
@@ -11,3 +15,11 @@ for_chosen chosen deed m = cond (chosen m) (deed m) nothing
 -- A mapping leaves its group.
 abbrev pub leaves_group : Mapping → Deed
 leaves_group m = record { effects = []; events = []; changes = SetMapping (record m { group = None }) ∷ [] }
+
+-- The mappings that a command prepares or starts: one, or the members of a group.
+abbrev pub is_chosen : Chosen → Mapping → Bool
+is_chosen (One id) m = id.0 == m.id.0
+is_chosen (Members g) m = is_in g m
+
+abbrev pub chosen_of : Tables → Chosen → List Mapping
+chosen_of t chosen = filter (is_chosen chosen) t.mappings

@@ -8,5 +8,7 @@ pub mod Answering
 pub mod Mappings
 pub mod Choosing
 pub mod Starts
+pub mod Looping
+pub mod Dispatch
 pub mod Stops
 pub mod StopGroups

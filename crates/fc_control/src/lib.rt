@@ -5,28 +5,41 @@
 //! `fc_books/specs/Deciding.antt`: `settle` is `settle`, and each `decide_..` is `decide` of its command. Want of memory
 //! alone is free, and changes nothing.
 //!
-//! All commands are decided but starts (`prestart..` and `start..`), which are to come, with `reserve` and `apply`.
+//! All commands are decided. What a start decides also tells the loop of restores that it found: it is asked for exactly
+//! where nothing else refuses. One call for all commands, and `reserve` and `apply`, are to come.
 //!
 //! In reading order: `draft` (a decision as it is put together), `ending` (how the copy of a mapping ends), `control`,
-//! `asking` (what is asked of a copy), `settle`, `work` (background work), `name`, `decide`, `mkvdisk`,
-//! `rmfcmap`, `stopping` (what a stop does), `stop_work` (background work after stops), `stop_mapping`, `stop_group`.
+//! `asking` (what is asked of a copy), `settle`, `work` (background work), `name`, `groups` (members of a group),
+//! `decide` (small commands), `reports`, `mkvdisk`, `rmvdisk`, `mkfcmap`, `rmfcmap`, `rmfcconsistgrp`; and of starts
+//! `chosen` (which mappings a command prepares or starts), `ready` (why not), `begin` (what it does to them), `starting`
+//! and `starting_groups` (the decisions), `start` (a start, with the background work that it sets), `startfcmap`; of stops
+//! `stopping` (what a stop does), `stop_work` (background work after stops), `stop_mapping`, `stop_group`; last `dispatch`
+//! (by the kind of command).
 #![tactic(auto)]
 
 mod asking;
+mod begin;
+mod chosen;
 mod control;
 mod decide;
+mod dispatch;
 mod draft;
 mod ending;
 mod groups;
 mod mkfcmap;
 mod mkvdisk;
 mod name;
+mod ready;
 mod reports;
 mod rmfcconsistgrp;
 mod rmfcmap;
 mod rmvdisk;
 mod settle;
 mod stop_group;
+mod start;
+mod startfcmap;
+mod starting;
+mod starting_groups;
 mod stop_mapping;
 mod stop_work;
 mod stopping;

@@ -35,7 +35,7 @@ impl Control {
     }
 
     /// Lanes are told of the background work of a mapping, where it changes and the mapping doesn't go.
-    fn tell_work_of<S: Sheet>(
+    pub fn tell_work_of<S: Sheet>(
         &self,
         sheet: &S,
         draft: &mut Draft,
@@ -88,7 +88,7 @@ impl Control {
 }
 
 /// Whether the mapping's copy is being filled in the background.
-fn has_copies(rows: &[WorkFlags], mapping: &Mapping) -> bool
+pub fn has_copies(rows: &[WorkFlags], mapping: &Mapping) -> bool
     ensures { result ≡ option_map_or (λ row. row.copies) (row_of rows.now mapping.now) false }
 {
     match row_of(rows, mapping) {
@@ -98,7 +98,7 @@ fn has_copies(rows: &[WorkFlags], mapping: &Mapping) -> bool
 }
 
 /// Whether the grains that others need of the mapping's copy are being handed on in the background.
-fn has_cleans(rows: &[WorkFlags], mapping: &Mapping) -> bool
+pub fn has_cleans(rows: &[WorkFlags], mapping: &Mapping) -> bool
     ensures { result ≡ option_map_or (λ row. row.cleans) (row_of rows.now mapping.now) false }
 {
     match row_of(rows, mapping) {
@@ -122,7 +122,7 @@ fn is_row_of(row: &WorkFlags, mapping: &Mapping) -> bool
 }
 
 /// Whether both are true, or none.
-fn are_same(a: bool, b: bool) -> bool
+pub fn are_same(a: bool, b: bool) -> bool
     ensures { result ≡ are_same a b }
 {
     if a { b } else { !b }
