@@ -4,3 +4,4 @@ pub mod Logging
 pub mod Places
 pub mod Asked
 pub mod LaneSheets
+pub mod Readers
