@@ -1,5 +1,5 @@
 -- What lanes tell, taken together, is what the sheet of all grains tells.
-use Rattle.std.proofs.Common.{◌≡◌, ℕ, ◌+◌, ◌≤◌, Option, List, [], ◌∷◌, length, map, take, get_or, refl, sym, ap, subst, ◌∙◌}
+use Rattle.std.proofs.Common.{◌≡◌, ◌<◌, ℕ, ◌+◌, ◌≤◌, Option, List, [], ◌∷◌, length, map, take, get_or, refl, sym, ap, subst, ◌∙◌}
 use Rattle.std.specs.Prelude.{◌↔◌, slice_index_or, Result, IfOk, fold, min}
 use Rattle.std.specs.List.{sum_by}
 use mathlib.Core.List.{map-map}
@@ -46,11 +46,14 @@ needed_by_lanes lanes h m =
 
 -- ---- the first lane
 
-pub first_part : (lanes : List LaneView) → (h : HaveSheet lanes) → (d : LaneView) → (slice_index_or lanes 0 d).chains.sheet ≡ part_of h.grain (length lanes) (sheet_of lanes) 0
-first_part lanes h d =
-    sym (get_or-map (λ (v : LaneView). v.chains.sheet) lanes 0 d no_slots h.some)
-    ∙ (ap (λ (z : List Sheet). sheet_at z 0) h.parts
-    ∙ (sum_law_holds.parts h.grain (length lanes) (sheet_of lanes)).part 0 h.some)
+pub lane_part : (lanes : List LaneView) → (h : HaveSheet lanes) → (i : ℕ) (d : LaneView) → i < length lanes → (slice_index_or lanes i d).chains.sheet ≡ part_of h.grain (length lanes) (sheet_of lanes) i
+lane_part lanes h i d lt =
+    sym (get_or-map (λ (v : LaneView). v.chains.sheet) lanes i d no_slots lt)
+    ∙ (ap (λ (z : List Sheet). sheet_at z i) h.parts
+    ∙ (sum_law_holds.parts h.grain (length lanes) (sheet_of lanes)).part i lt)
+
+first_part : (lanes : List LaneView) → (h : HaveSheet lanes) → (d : LaneView) → (slice_index_or lanes 0 d).chains.sheet ≡ part_of h.grain (length lanes) (sheet_of lanes) 0
+first_part lanes h d = lane_part lanes h 0 d h.some
 
 pub slots_of_first : (lanes : List LaneView) → (h : HaveSheet lanes) → SlotsLaw (sheet_of lanes) (part_of h.grain (length lanes) (sheet_of lanes) 0)
 slots_of_first lanes h = sum_law_holds.slots h.grain (length lanes) 0 (sheet_of lanes) h.some

@@ -6,3 +6,4 @@ pub mod Asked
 pub mod Turning
 pub mod Parting
 pub mod LaneSheets
+pub mod Readers

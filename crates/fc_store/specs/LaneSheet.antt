@@ -1,12 +1,16 @@
 -- The chains of all lanes together, as the lanes tell them.
-use Rattle.std.specs.Prelude.{◌≡◌, ℕ, ◌<◌, ◌^◌, List, [], length, map}
+use Rattle.std.specs.Prelude.{◌≡◌, ℕ, ◌<◌, ◌^◌, Bool, false, Option, Some, None, List, [], length, map, flat_map, AllPairs, Contains}
+use Rattle.fc_base.specs.Counts.{names_below, is_direct}
 use Rattle.fc_base.specs.Pools.{Pool}
-use Rattle.fc_base.specs.Sheet.{Sheet, slot_at}
+use Rattle.fc_base.specs.Sheet.{Slot, Sheet, slot_at, birth_place, mapping_place}
 use Rattle.fc_base.specs.SheetFacts.{IsSound}
 use Rattle.fc_base.specs.SheetView.{SheetView}
+use Rattle.fc_base.specs.declared.ids.SlotId.{SlotId}
 use Rattle.fc_base.specs.declared.size.GrainSize.{GrainSize}
+use Rattle.fc_base.specs.declared.volume.Mapping.{Mapping}
+use Rattle.fc_chain.specs.Chains.{found}
 use Rattle.fc_lane.specs.Lane.{LaneView}
-use Rattle.fc_sums.specs.Parts.{parts_of, joined}
+use Rattle.fc_sums.specs.Parts.{parts_of, joined, has_name}
 
 abbrev pub chains_of : List LaneView → List Sheet
 chains_of lanes = map (λ (v : LaneView). v.chains.sheet) lanes
@@ -20,6 +24,30 @@ sheet_of lanes = joined (chains_of lanes)
 
 abbrev pub view_of : List LaneView → SheetView
 view_of lanes = record { sheet = sheet_of lanes; restarts = λ m. []; pools = pools_of lanes }
+
+-- The slots that have the slot with this name as holder at some grain of a lane; and of all lanes, one after another.
+abbrev pub direct_at : List Slot → Option ℕ → List SlotId
+direct_at slots None = []
+direct_at slots (Some k) = names_below slots (is_direct slots k) (length slots)
+
+abbrev pub direct_of : SlotId → Sheet → List SlotId
+direct_of name s = direct_at s.slots (birth_place s.slots name.0)
+
+abbrev pub readers_in : List LaneView → SlotId → List SlotId
+readers_in lanes name = flat_map (λ (v : LaneView). direct_of name v.chains.sheet) lanes
+
+-- The slot of a mapping is among these.
+abbrev pub is_slot_among : List SlotId → Option SlotId → Bool
+is_slot_among names None = false
+is_slot_among names (Some name) = has_name names name
+
+abbrev pub is_owner_among : List SlotId → Sheet → ℕ → Bool
+is_owner_among names s m = is_slot_among names (found s.slots (mapping_place s.slots m))
+
+-- Mappings by id, and each that has a slot.
+pub record AreListed (s : Sheet) (mappings : List Mapping) : Type 0 where
+  pub rising : AllPairs (λ (a b : Mapping). a.id.0 < b.id.0) mappings
+  pub owned : (k n : ℕ) → k < length s.slots → (slot_at s.slots k).mapping ≡ Some n → (m : Mapping) × Contains mappings m × (m.id.0 ≡ n)
 
 -- There are lanes, and their chains are the parts of one sound sheet, whose grains can be counted.
 pub record HaveSheet (lanes : List LaneView) : Type 0 where

@@ -1,21 +1,24 @@
 //! The chains of all lanes together, as the lanes tell them.
 
-ghost use Rattle.std.specs.Prelude.{◌≡◌, ◌<◌, ◌^◌, ◌↔◌, IsTrue, IfOk, length, fold, map as map_list};
+ghost use Rattle.std.specs.Prelude.{◌≡◌, ℕ, ◌<◌, ◌^◌, ◌↔◌, ◌++◌, IsTrue, IfOk, OnOk, length, fold, filter, map as map_list, slice_index_or};
 ghost use Rattle.std.specs.List.{sum_by};
 ghost use Rattle.fc_base.specs.Counts.{UsedAt};
 ghost use Rattle.fc_base.specs.Pools.{least_of_kind};
 ghost use Rattle.fc_base.specs.Sheet.{shape_of};
 ghost use Rattle.fc_base.specs.SheetStep.{triggered};
-ghost use Rattle.fc_base.specs.SheetView.{count_true, held_of, needed_of, LoopAnswer};
+ghost use Rattle.fc_base.specs.SheetView.{count_true, held_of, needed_of, AreMappings, ReadsMapping, LoopAnswer};
+ghost use Rattle.fc_base.specs.declared.volume.Mapping.{Mapping};
+ghost use Rattle.fc_chain.specs.Chains.{IsThere};
 ghost use Rattle.fc_lane.specs.Lane.{LaneView};
 ghost use Rattle.fc_sums.specs.Parts.{has_name, common, common_to, unneeded_in};
-ghost use Rattle.fc_store.specs.LaneSheet.{sheet_of, pools_of, HaveSheet};
+ghost use Rattle.fc_store.specs.LaneSheet.{sheet_of, pools_of, HaveSheet, direct_of, readers_in, is_owner_among, AreListed};
 
 use fc_base::disk::DiskKind;
 use fc_base::ids::{MapId, SlotId, VolId};
 use fc_base::list::List;
 use fc_base::outcome::NoMemory;
 use fc_base::request::Pair;
+use fc_base::volume::Mapping;
 use fc_lane::lane::Lane;
 use fc_mdisk::mdisk::Mdisk;
 use std::alloc::Global;
@@ -150,4 +153,80 @@ fn common_to_all<D: Mdisk>(
         names = common_names(alloc, names.as_slice(), others.as_slice())?;
     }
     Ok(names)
+}
+
+/// Adds the slots that have the slot with this name as holder at some grain of the lane.
+fn add_readers<D: Mdisk>(
+    lane: &Lane<D>,
+    slot: SlotId,
+    names: &mut List<SlotId>,
+) -> Result<(), NoMemory>
+    requires { IsThere lane.now.chains.sheet.slots slot }
+    ensures { OnOk result (names.new ≡ names.old ++ direct_of slot lane.now.chains.sheet) }
+{
+    lane.cascade().direct(slot, names)
+}
+
+/// The slots that have the slot with this name as holder at some grain, lane by lane.
+fn readers_of<D: Mdisk>(
+    lanes: &[Lane<D>],
+    alloc: Global,
+    slot: SlotId,
+) -> Result<List<SlotId>, NoMemory>
+    requires { (i : ℕ) (d : LaneView) → i < length lanes.now → IsThere (slice_index_or lanes.now i d).chains.sheet.slots slot }
+    ensures { IfOk result (λ names. names ≡ readers_in lanes.now slot) }
+{
+    let mut names = List::new(alloc);
+    for lane in lanes {
+        add_readers(lane, slot, &mut names)?;
+    }
+    Ok(names)
+}
+
+/// Whether the slot of a mapping is among these.
+fn owns_one<D: Mdisk>(lane: &Lane<D>, names: &[SlotId], map: MapId) -> bool
+    ensures { result ≡ is_owner_among names.now lane.now.chains.sheet map.0 }
+{
+    match lane.cascade().slot(map) {
+        Some(slot) => is_among(names, slot),
+        None => false,
+    }
+}
+
+/// The mappings whose slots are among these, by id.
+fn owners<D: Mdisk>(
+    lane: &Lane<D>,
+    mappings: &[Mapping],
+    alloc: Global,
+    names: &[SlotId],
+) -> Result<List<MapId>, NoMemory>
+    ensures { IfOk result (λ maps. maps ≡ map_list (λ (m : Mapping). m.id) (filter (λ (m : Mapping). is_owner_among names.now lane.now.chains.sheet m.id.0) mappings.now)) }
+{
+    let mut maps = List::new(alloc);
+    for mapping in mappings {
+        if owns_one(lane, names, mapping.id) {
+            maps.push(mapping.id)?;
+        }
+    }
+    Ok(maps)
+}
+
+/// The mappings, by id, whose live slots have the mapping's slot as holder at some grain.
+pub(crate) fn direct_in<D: Mdisk>(
+    lanes: &[Lane<D>],
+    mappings: &[Mapping],
+    alloc: Global,
+    map: MapId,
+) -> Result<List<MapId>, NoMemory>
+    requires have { HaveSheet lanes.now }
+    requires listed { AreListed (sheet_of lanes.now) mappings.now }
+    ensures { IfOk result (λ maps. AreMappings (ReadsMapping (sheet_of lanes.now).slots map.0) maps) }
+{
+    match lanes[0].cascade().slot(map) {
+        Some(slot) => match readers_of(lanes, alloc, slot) {
+            Ok(names) => owners(&lanes[0], mappings, alloc, names.as_slice()),
+            Err(NoMemory) => Err(NoMemory),
+        },
+        None => Ok(List::new(alloc)),
+    }
 }

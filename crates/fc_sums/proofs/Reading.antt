@@ -31,7 +31,7 @@ or_last true b = refl
 or_last false true = refl
 or_last false false = refl
 
-any_listed : {X : Type 0} → (test : X → Bool) (at : ℕ → X) (n : ℕ) → list_any test (map at (range_with_len 0 n)) ≡ any_below (λ i. test (at i)) n
+pub any_listed : {X : Type 0} → (test : X → Bool) (at : ℕ → X) (n : ℕ) → list_any test (map at (range_with_len 0 n)) ≡ any_below (λ i. test (at i)) n
 any_listed test at zero = refl
 any_listed test at (suc n) =
     let e : suc n ≡ n + 1 = omega arith in

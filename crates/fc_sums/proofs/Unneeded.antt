@@ -85,7 +85,7 @@ has_step false xs x name = or_false (has_name xs name)
     or_false true = refl
     or_false false = refl
 
-AreApart : List Slot → Type 0
+abbrev pub AreApart : List Slot → Type 0
 AreApart slots = (i j : ℕ) → i < length slots → j < length slots → (slot_at slots i).birth ≡ (slot_at slots j).birth → i ≡ j
 
 other_name : (b c : Bool) → c ≡ false → (x : Bool) → (x || (b && c)) ≡ x
@@ -99,7 +99,6 @@ own_name x true c e f = rw e f
 own_name x false c e f = rw e refl
 
 name_past : (slots : List Slot) → AreApart slots → (test : ℕ → Bool) (n k : ℕ) → n ≤ k → k < length slots → has_name (names_below slots test n) (slot_id slots k) ≡ false
-unfolding AreApart
 name_past slots apart test zero k le lt = refl
 name_past slots apart test (suc n) k le lt =
     has_step (test n) (names_below slots test n) (slot_id slots n) (slot_id slots k)
@@ -108,8 +107,7 @@ name_past slots apart test (suc n) k le lt =
     (has_name (names_below slots test n) (slot_id slots k))
     ∙ name_past slots apart test n k (omega arith) lt)
 
-name_at : (slots : List Slot) → AreApart slots → (test : ℕ → Bool) (n k : ℕ) → n ≤ length slots → k < n → has_name (names_below slots test n) (slot_id slots k) ≡ test k
-unfolding AreApart
+pub name_at : (slots : List Slot) → AreApart slots → (test : ℕ → Bool) (n k : ℕ) → n ≤ length slots → k < n → has_name (names_below slots test n) (slot_id slots k) ≡ test k
 name_at slots apart test zero k le lt = absurd (omega arith)
 name_at slots apart test (suc n) k le lt =
     has_step (test n) (names_below slots test n) (slot_id slots n) (slot_id slots k)
@@ -141,7 +139,7 @@ names_common : (slots : List Slot) → AreApart slots → (test other : ℕ → 
 names_common slots apart test other =
     names_filter slots (has_name (names_below slots other (length slots))) test other (length slots) (λ k lt. name_at slots apart other (length slots) k (omega arith) lt)
 
-names_same : (slots others : List Slot) (test other : ℕ → Bool) (n : ℕ) → ((k : ℕ) → slot_id slots k ≡ slot_id others k) → ((k : ℕ) → test k ≡ other k) → names_below slots test n ≡ names_below others other n
+pub names_same : (slots others : List Slot) (test other : ℕ → Bool) (n : ℕ) → ((k : ℕ) → slot_id slots k ≡ slot_id others k) → ((k : ℕ) → test k ≡ other k) → names_below slots test n ≡ names_below others other n
 names_same slots others test other zero f e = refl
 names_same slots others test other (suc n) f e =
     ap₂ (λ (b : Bool) names. cond b (names ++ slot_id slots n ∷ []) names) (e n) (names_same slots others test other n f e)
@@ -190,7 +188,6 @@ names_by_lanes grain (suc m) s above apart =
     ∙ common_rest grain (suc m) s apart 1 m (omega arith) (is_unneeded (part_of grain (suc m) s 0).slots)
 
 pub unneeded_law : (grain : GrainSize) (lanes : ℕ) (s : Sheet) → 0 < lanes → HasNames s → UnneededLaw grain lanes s
-unfolding AreApart
 unneeded_law grain lanes s above named = record {
   slot = unneeded_by_lanes grain lanes s above;
   names = names_by_lanes grain lanes s above named.apart
