@@ -1,24 +1,27 @@
 -- What lanes tell, taken together, is what the sheet of all grains tells.
-use Rattle.std.proofs.Common.{◌≡◌, ◌<◌, ℕ, ◌+◌, ◌≤◌, Option, List, [], ◌∷◌, length, map, take, get_or, refl, sym, ap, subst, ◌∙◌}
+use Rattle.std.proofs.Common.{◌≡◌, ◌<◌, ℕ, ◌+◌, ◌^◌, ◌≤◌, Option, List, [], ◌∷◌, length, map, take, get_or, refl, sym, ap, subst, ◌∙◌}
 use Rattle.std.specs.Prelude.{◌↔◌, slice_index_or, Result, IfOk, fold, min}
 use Rattle.std.specs.List.{sum_by}
 use mathlib.Core.List.{map-map}
-use Rattle.std.proofs.lemmas.List.{get_or-map, take_all}
+use Rattle.std.proofs.lemmas.List.{get_or-map, take_all, length-map}
+use Rattle.std.proofs.lemmas.List.FromFn.{fill_by_all}
 use Rattle.std.proofs.lemmas.List.Sums.{sum_by-cons}
 use Rattle.fc_base.specs.Counts.{UsedAt}
 use Rattle.fc_base.specs.Pools.{of_kind, least_of_kind}
-use Rattle.fc_base.specs.Sheet.{Sheet, no_slots, shape_of}
+use Rattle.fc_base.specs.Sheet.{slot_at, Sheet, no_slots, shape_of}
+use Rattle.fc_base.specs.SheetFacts.{IsSound}
 use Rattle.fc_base.specs.SheetStep.{triggered}
 use Rattle.fc_base.specs.SheetView.{held_of, needed_of, count_true, LoopAnswer}
 use Rattle.fc_base.specs.declared.disk.DiskKind.{DiskKind}
 use Rattle.fc_base.specs.declared.ids.VolId.{VolId}
 use Rattle.fc_base.specs.declared.outcome.NoMemory.{NoMemory}
 use Rattle.fc_base.specs.declared.request.Pair.{Pair}
+use Rattle.fc_base.specs.declared.size.GrainSize.{GrainSize}
 use Rattle.fc_chain.specs.Chains.{Chains}
 use Rattle.fc_base.specs.Column.{Shape}
 use Rattle.fc_lane.specs.Lane.{LaneView}
 use Rattle.fc_sums.specs.Law.{SlotsLaw}
-use Rattle.fc_sums.specs.Parts.{part_of, parts_of, sheet_at, common_to, unneeded_in}
+use Rattle.fc_sums.specs.Parts.{part_of, parts_of, sheet_at, common_to, unneeded_in, joined}
 use Rattle.fc_sums.proofs.Lawful.{sum_law_holds}
 use Rattle.fc_store.specs.LaneSheet.{chains_of, pools_of, sheet_of, HaveSheet}
 
@@ -99,3 +102,30 @@ least_by_lanes kind lanes rest v first least i e f le q =
     ∙ (ap (λ a. fold (λ least p. min least (of_kind kind p)) a (pools_of rest)) f
     ∙ (sym (sum_law_holds.pools kind v.grains.pool (pools_of rest))
     ∙ ap (λ z. least_of_kind kind (pools_of z)) (sym e)))))
+
+-- ---- lanes that have the parts of a sheet
+
+chains_are : (grain : GrainSize) (s : Sheet) (lanes : List LaneView) → ((i : ℕ) (d : LaneView) → i < length lanes → (slice_index_or lanes i d).chains.sheet ≡ part_of grain (length lanes) s i) →
+    chains_of lanes ≡ parts_of grain (length lanes) s
+chains_are grain s [] each = refl
+chains_are grain s (v ∷ vs) each =
+    fill_by_all (part_of grain (length (v ∷ vs)) s) (chains_of (v ∷ vs)) (length (v ∷ vs)) no_slots (length-map (v ∷ vs) (λ (x : LaneView). x.chains.sheet))
+    (λ i lt. get_or-map (λ (x : LaneView). x.chains.sheet) (v ∷ vs) i v no_slots lt ∙ each i v lt)
+
+pub have_sheet : (grain : GrainSize) (s : Sheet) (lanes : List LaneView) → 0 < length lanes →
+    ((i : ℕ) (d : LaneView) → i < length lanes → (slice_index_or lanes i d).chains.sheet ≡ part_of grain (length lanes) s i) →
+    IsSound s → ((k : ℕ) → length (slot_at s.slots k).held < 2 ^ 32) → HaveSheet lanes × (sheet_of lanes ≡ s)
+have_sheet grain s lanes some each sound countable =
+    let are : chains_of lanes ≡ parts_of grain (length lanes) s = chains_are grain s lanes each in
+    let same : sheet_of lanes ≡ s = ap joined are ∙ sum_law_holds.joins grain (length lanes) s some in
+    let Sound : Sheet → Type 0 = λ z. IsSound z in
+    let Countable : Sheet → Type 0 = λ z. (k : ℕ) → length (slot_at z.slots k).held < 2 ^ 32 in (
+      record {
+        grain = grain;
+        some = some;
+        parts = are ∙ ap (parts_of grain (length lanes)) (sym same);
+        sound = subst Sound (sym same) sound;
+        countable = subst Countable (sym same) countable;
+      },
+      same,
+    )

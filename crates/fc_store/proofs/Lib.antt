@@ -5,3 +5,4 @@ pub mod Places
 pub mod Asked
 pub mod LaneSheets
 pub mod Readers
+pub mod Dependents

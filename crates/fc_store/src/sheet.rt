@@ -1,17 +1,17 @@
 //! The chains of all lanes together, as the lanes tell them.
 
-ghost use Rattle.std.specs.Prelude.{◌≡◌, ℕ, ◌<◌, ◌^◌, ◌↔◌, ◌++◌, IsTrue, IfOk, OnOk, length, fold, filter, map as map_list, slice_index_or};
+ghost use Rattle.std.specs.Prelude.{◌≡◌, ℕ, ◌+◌, ◌<◌, ◌^◌, ◌↔◌, ◌++◌, IsTrue, IfOk, OnOk, length, fold, filter, map as map_list, slice_index_or};
 ghost use Rattle.std.specs.List.{sum_by};
 ghost use Rattle.fc_base.specs.Counts.{UsedAt};
 ghost use Rattle.fc_base.specs.Pools.{least_of_kind};
 ghost use Rattle.fc_base.specs.Sheet.{shape_of};
 ghost use Rattle.fc_base.specs.SheetStep.{triggered};
-ghost use Rattle.fc_base.specs.SheetView.{count_true, held_of, needed_of, AreMappings, ReadsMapping, LoopAnswer};
+ghost use Rattle.fc_base.specs.SheetView.{count_true, held_of, needed_of, AreMappings, ReadsMapping, DependsOn, LoopAnswer};
 ghost use Rattle.fc_base.specs.declared.volume.Mapping.{Mapping};
 ghost use Rattle.fc_chain.specs.Chains.{IsThere};
 ghost use Rattle.fc_lane.specs.Lane.{LaneView};
 ghost use Rattle.fc_sums.specs.Parts.{has_name, common, common_to, unneeded_in};
-ghost use Rattle.fc_store.specs.LaneSheet.{sheet_of, pools_of, HaveSheet, direct_of, readers_in, is_owner_among, AreListed};
+ghost use Rattle.fc_store.specs.LaneSheet.{sheet_of, pools_of, HaveSheet, direct_of, readers_in, is_owner_among, AreListed, has_map, with_map, AddsReaders, Reached};
 
 use fc_base::disk::DiskKind;
 use fc_base::ids::{MapId, SlotId, VolId};
@@ -228,5 +228,138 @@ pub(crate) fn direct_in<D: Mdisk>(
             Err(NoMemory) => Err(NoMemory),
         },
         None => Ok(List::new(alloc)),
+    }
+}
+
+/// Whether a mapping is among these.
+fn is_map_among(maps: &[MapId], map: MapId) -> bool
+    ensures { result ≡ has_map maps.now map }
+{
+    for other in maps {
+        if map.0 == other.0 {
+            return true;
+        }
+    }
+    false
+}
+
+/// Adds a mapping, unless it is that one or there.
+fn add_map(reached: &mut List<MapId>, but: MapId, map: MapId) -> Result<(), NoMemory>
+    ensures { OnOk result (reached.new ≡ with_map but reached.old map) }
+{
+    if map.0 == but.0 || is_map_among(reached.as_slice(), map) {
+        return Ok(());
+    }
+    reached.push(map)
+}
+
+/// Adds those of the mappings that aren't that one or there.
+fn add_maps(reached: &mut List<MapId>, but: MapId, maps: &[MapId]) -> Result<(), NoMemory>
+    ensures { OnOk result (reached.new ≡ fold (with_map but) reached.old maps.now) }
+{
+    for map in maps {
+        add_map(reached, but, *map)?;
+    }
+    Ok(())
+}
+
+/// Adds the mappings that read from a mapping's slot, but for one.
+fn add_more<D: Mdisk>(
+    lanes: &[Lane<D>],
+    mappings: &[Mapping],
+    alloc: Global,
+    but: MapId,
+    from: MapId,
+    reached: &mut List<MapId>,
+) -> Result<(), NoMemory>
+    requires have { HaveSheet lanes.now }
+    requires listed { AreListed (sheet_of lanes.now) mappings.now }
+    ensures { OnOk result (AddsReaders (sheet_of lanes.now) but from.0 reached.old reached.new) }
+{
+    match direct_in(lanes, mappings, alloc, from) {
+        Ok(more) => add_maps(reached, but, more.as_slice()),
+        Err(NoMemory) => Err(NoMemory),
+    }
+}
+
+/// The mapping at a place.
+fn map_at(maps: &[MapId], place: usize) -> MapId
+    requires { place < length maps.now }
+    ensures { slice_index_or maps.now place result ≡ result }
+{
+    maps[place]
+}
+
+/// Asks the mapping at a place of those reached, if there is one, who reads from it.
+fn ask_one<D: Mdisk>(
+    lanes: &[Lane<D>],
+    mappings: &[Mapping],
+    alloc: Global,
+    map: MapId,
+    turn: usize,
+    reached: &mut List<MapId>,
+) -> Result<(), NoMemory>
+    requires have { HaveSheet lanes.now }
+    requires listed { AreListed (sheet_of lanes.now) mappings.now }
+    requires reached { Reached (sheet_of lanes.now) map turn reached.old }
+    ensures { OnOk result (Reached (sheet_of lanes.now) map (turn + 1) reached.new) }
+{
+    if turn >= reached.len() {
+        return Ok(());
+    }
+    let from = map_at(reached.as_slice(), turn);
+    add_more(lanes, mappings, alloc, map, from, reached)
+}
+
+/// The mappings whose slots are dependents of a mapping's slot, in the order in which they are found.
+fn reached_from<D: Mdisk>(
+    lanes: &[Lane<D>],
+    mappings: &[Mapping],
+    alloc: Global,
+    map: MapId,
+) -> Result<List<MapId>, NoMemory>
+    requires have { HaveSheet lanes.now }
+    requires listed { AreListed (sheet_of lanes.now) mappings.now }
+    ensures { IfOk result (λ reached. Reached (sheet_of lanes.now) map (length mappings.now) reached) }
+{
+    let mut reached = List::new(alloc);
+    add_more(lanes, mappings, alloc, map, map, &mut reached)?;
+    for turn in 0..mappings.len() {
+        ask_one(lanes, mappings, alloc, map, turn, &mut reached)?;
+    }
+    Ok(reached)
+}
+
+/// The ids of the mappings that are among these.
+fn listed_among(
+    mappings: &[Mapping],
+    alloc: Global,
+    among: &[MapId],
+) -> Result<List<MapId>, NoMemory>
+    ensures { IfOk result (λ maps. maps ≡ map_list (λ (m : Mapping). m.id) (filter (λ (m : Mapping). has_map among.now m.id) mappings.now)) }
+{
+    let mut maps = List::new(alloc);
+    for mapping in mappings {
+        if is_map_among(among, mapping.id) {
+            maps.push(mapping.id)?;
+        }
+    }
+    Ok(maps)
+}
+
+/// The mappings, by id, whose slots are dependents of the mapping's slot.
+pub(crate) fn dependents_in<D: Mdisk>(
+    lanes: &[Lane<D>],
+    mappings: &[Mapping],
+    alloc: Global,
+    map: MapId,
+) -> Result<List<MapId>, NoMemory>
+    requires have { HaveSheet lanes.now }
+    requires listed { AreListed (sheet_of lanes.now) mappings.now }
+    ensures { IfOk result (λ maps. AreMappings (DependsOn (sheet_of lanes.now).slots map.0) maps) }
+{
+    match reached_from(lanes, mappings, alloc, map) {
+        Ok(reached) => listed_among(mappings, alloc, reached.as_slice()),
+        Err(NoMemory) => Err(NoMemory),
     }
 }
