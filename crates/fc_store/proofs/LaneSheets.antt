@@ -1,22 +1,23 @@
 -- What lanes tell, taken together, is what the sheet of all grains tells.
-use Rattle.std.proofs.Common.{◌≡◌, ◌<◌, ℕ, ◌+◌, ◌^◌, ◌≤◌, Option, List, [], ◌∷◌, length, map, take, get_or, refl, sym, ap, subst, ◌∙◌}
+use Rattle.std.proofs.Common.{◌≡◌, ◌<◌, ℕ, ◌+◌, ◌^◌, ◌≤◌, Option, List, [], ◌∷◌, length, map, take, get_or, refl, sym, ap, subst, ◌∙◌, Bool, Some, None, arith}
 use Rattle.std.specs.Prelude.{◌↔◌, slice_index_or, Result, IfOk, fold, min}
 use Rattle.std.specs.List.{sum_by}
 use mathlib.Core.List.{map-map}
 use Rattle.std.proofs.lemmas.List.{get_or-map, take_all, length-map}
 use Rattle.std.proofs.lemmas.List.FromFn.{fill_by_all}
-use Rattle.std.proofs.lemmas.List.Sums.{sum_by-cons}
-use Rattle.fc_base.specs.Counts.{UsedAt}
+use Rattle.std.proofs.lemmas.List.Sums.{sum_by-cons, count_by-le-length}
+use Rattle.fc_base.specs.Counts.{is_needed_at, UsedAt}
 use Rattle.fc_base.specs.Pools.{of_kind, least_of_kind}
-use Rattle.fc_base.specs.Sheet.{slot_at, Sheet, no_slots, shape_of}
+use Rattle.fc_base.specs.Sheet.{slot_at, Sheet, no_slots, shape_of, mapping_place}
 use Rattle.fc_base.specs.SheetFacts.{IsSound}
 use Rattle.fc_base.specs.SheetStep.{triggered}
-use Rattle.fc_base.specs.SheetView.{held_of, needed_of, count_true, LoopAnswer}
+use Rattle.fc_base.specs.SheetView.{held_of, needed_of, count_true, LoopAnswer, held_at, needed_at}
 use Rattle.fc_base.specs.declared.disk.DiskKind.{DiskKind}
 use Rattle.fc_base.specs.declared.ids.VolId.{VolId}
 use Rattle.fc_base.specs.declared.outcome.NoMemory.{NoMemory}
 use Rattle.fc_base.specs.declared.request.Pair.{Pair}
 use Rattle.fc_base.specs.declared.size.GrainSize.{GrainSize}
+use Rattle.fc_chain.proofs.Tallying.{count_le}
 use Rattle.fc_chain.specs.Chains.{Chains}
 use Rattle.fc_base.specs.Column.{Shape}
 use Rattle.fc_lane.specs.Lane.{LaneView}
@@ -46,6 +47,21 @@ pub needed_by_lanes : (lanes : List LaneView) → HaveSheet lanes → (m : ℕ) 
 needed_by_lanes lanes h m =
     sum_of lanes h (λ (p : Sheet). needed_of p.slots m) (needed_of (sheet_of lanes).slots m)
     (λ x. (sum_law_holds.counts x.grain (length lanes) (sheet_of lanes) x.some).needed m)
+
+-- the sums can be counted
+held_few : (lanes : List LaneView) → HaveSheet lanes → (o : Option ℕ) → count_true (held_at (sheet_of lanes).slots o) < 2 ^ 32
+held_few lanes h None = omega arith
+held_few lanes h (Some k) = omega (arith, count_by-le-length (λ (b : Bool). b) (slot_at (sheet_of lanes).slots k).held, h.countable k)
+
+pub held_fits : (lanes : List LaneView) → HaveSheet lanes → (m : ℕ) → sum_by (λ (v : LaneView). count_true (held_of v.chains.sheet.slots m)) lanes < 2 ^ 32
+held_fits lanes h m = omega (arith, held_by_lanes lanes h m, held_few lanes h (mapping_place (sheet_of lanes).slots m))
+
+needed_few : (lanes : List LaneView) → HaveSheet lanes → (o : Option ℕ) → needed_at (sheet_of lanes).slots o < 2 ^ 32
+needed_few lanes h None = omega arith
+needed_few lanes h (Some k) = omega (arith, count_le (is_needed_at (sheet_of lanes).slots k) (length (slot_at (sheet_of lanes).slots k).held), h.countable k)
+
+pub needed_fits : (lanes : List LaneView) → HaveSheet lanes → (m : ℕ) → sum_by (λ (v : LaneView). needed_of v.chains.sheet.slots m) lanes < 2 ^ 32
+needed_fits lanes h m = omega (arith, needed_by_lanes lanes h m, needed_few lanes h (mapping_place (sheet_of lanes).slots m))
 
 -- ---- the first lane
 

@@ -24,7 +24,7 @@ use fc_mdisk::mdisk::Mdisk;
 use std::alloc::Global;
 
 /// How many grains the lanes hold for the slot of a mapping.
-pub(crate) fn held_in<D: Mdisk>(lanes: &[Lane<D>], map: MapId) -> u32
+fn sum_held<D: Mdisk>(lanes: &[Lane<D>], map: MapId) -> u32
     requires { sum_by (λ (v : LaneView). count_true (held_of v.chains.sheet.slots map.0)) lanes.now < 2 ^ 32 }
     ensures { result ≡ sum_by (λ (v : LaneView). count_true (held_of v.chains.sheet.slots map.0)) lanes.now }
 {
@@ -36,7 +36,7 @@ pub(crate) fn held_in<D: Mdisk>(lanes: &[Lane<D>], map: MapId) -> u32
 }
 
 /// At how many grains of the lanes the slot of a mapping is needed.
-pub(crate) fn needed_in<D: Mdisk>(lanes: &[Lane<D>], map: MapId) -> u32
+fn sum_needed<D: Mdisk>(lanes: &[Lane<D>], map: MapId) -> u32
     requires { sum_by (λ (v : LaneView). needed_of v.chains.sheet.slots map.0) lanes.now < 2 ^ 32 }
     ensures { result ≡ sum_by (λ (v : LaneView). needed_of v.chains.sheet.slots map.0) lanes.now }
 {
@@ -45,6 +45,22 @@ pub(crate) fn needed_in<D: Mdisk>(lanes: &[Lane<D>], map: MapId) -> u32
         needed += lane.counts(map).1;
     }
     needed
+}
+
+/// How many grains the slot of a mapping holds; 0 where it has none.
+pub(crate) fn held_in<D: Mdisk>(lanes: &[Lane<D>], map: MapId) -> u32
+    requires { HaveSheet lanes.now }
+    ensures { result ≡ count_true (held_of (sheet_of lanes.now).slots map.0) }
+{
+    sum_held(lanes, map)
+}
+
+/// At how many grains another slot needs the slot of a mapping; 0 where it has none.
+pub(crate) fn needed_in<D: Mdisk>(lanes: &[Lane<D>], map: MapId) -> u32
+    requires { HaveSheet lanes.now }
+    ensures { result ≡ needed_of (sheet_of lanes.now).slots map.0 }
+{
+    sum_needed(lanes, map)
 }
 
 /// Whether a volume is used as a source.
