@@ -13,6 +13,7 @@ use Rattle.fc_base.specs.SheetFacts.{IsSound}
 use Rattle.fc_base.specs.SheetStep.{triggered}
 use Rattle.fc_base.specs.SheetView.{held_of, needed_of, count_true, LoopAnswer, held_at, needed_at}
 use Rattle.fc_base.specs.declared.disk.DiskKind.{DiskKind}
+use Rattle.fc_base.specs.declared.ids.SlotId.{SlotId}
 use Rattle.fc_base.specs.declared.ids.VolId.{VolId}
 use Rattle.fc_base.specs.declared.outcome.NoMemory.{NoMemory}
 use Rattle.fc_base.specs.declared.request.Pair.{Pair}
@@ -102,6 +103,12 @@ unneeded_by_lanes lanes h =
     ap common_to (sym (map-map (λ (p : Sheet). unneeded_in p.slots) (λ (v : LaneView). v.chains.sheet) lanes))
     ∙ (ap (λ (z : List Sheet). common_to (map (λ (p : Sheet). unneeded_in p.slots) z)) h.parts
     ∙ (sum_law_holds.unneeded h.grain (length lanes) (sheet_of lanes) h.some h.sound.names).names)
+
+pub unneeded_answer : (lanes : List LaneView) → HaveSheet lanes → (r : Result (List SlotId) NoMemory) →
+    IfOk r (λ names. names ≡ common_to (map (λ (v : LaneView). unneeded_in v.chains.sheet.slots) lanes)) → IfOk r (λ names. names ≡ unneeded_in (sheet_of lanes).slots)
+unneeded_answer lanes h r answer =
+    let P : List SlotId → Type 0 = λ all. IfOk r (λ names. names ≡ all) in
+    subst P (unneeded_by_lanes lanes h) answer
 
 -- ---- pools
 

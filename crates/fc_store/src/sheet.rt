@@ -139,11 +139,8 @@ fn unneeded_names<D: Mdisk>(lane: &Lane<D>, alloc: Global) -> Result<List<SlotId
     }
 }
 
-/// The old slots that no slot needs at any grain of the lanes.
-pub(crate) fn unneeded_by<D: Mdisk>(
-    lanes: &[Lane<D>],
-    alloc: Global,
-) -> Result<List<SlotId>, NoMemory>
+/// The names of old slots without a need that all lanes have in common.
+fn unneeded_by<D: Mdisk>(lanes: &[Lane<D>], alloc: Global) -> Result<List<SlotId>, NoMemory>
     ensures { IfOk result (λ names. names ≡ common_to (map_list (λ (v : LaneView). unneeded_in v.chains.sheet.slots) lanes.now)) }
 {
     match lanes.split_first() {
@@ -153,6 +150,17 @@ pub(crate) fn unneeded_by<D: Mdisk>(
         }
         None => Ok(List::new(alloc)),
     }
+}
+
+/// The old slots that no slot needs at any grain, in order of their places.
+pub(crate) fn unneeded_slots<D: Mdisk>(
+    lanes: &[Lane<D>],
+    alloc: Global,
+) -> Result<List<SlotId>, NoMemory>
+    requires { HaveSheet lanes.now }
+    ensures { IfOk result (λ names. names ≡ unneeded_in (sheet_of lanes.now).slots) }
+{
+    unneeded_by(lanes, alloc)
 }
 
 /// Those of the names that stand for unneeded slots in each of these lanes.
