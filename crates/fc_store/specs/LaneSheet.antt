@@ -82,3 +82,8 @@ pub record AddsReaders (s : Sheet) (but : MapId) (from : ℕ) (old new : List Ma
   pub more : List MapId
   pub readers : AreMappings (ReadsMapping s.slots from) more
   pub added : new ≡ fold (with_map but) old more
+
+-- Lanes with one sheet, and the table of its mappings.
+pub record IsAsked (lanes : List LaneView) (mappings : List Mapping) : Type 0 where
+  pub have : HaveSheet lanes
+  pub listed : AreListed (sheet_of lanes) mappings

@@ -11,7 +11,7 @@ ghost use Rattle.fc_base.specs.declared.volume.Mapping.{Mapping};
 ghost use Rattle.fc_chain.specs.Chains.{IsThere};
 ghost use Rattle.fc_lane.specs.Lane.{LaneView};
 ghost use Rattle.fc_sums.specs.Parts.{has_name, common, common_to, unneeded_in};
-ghost use Rattle.fc_store.specs.LaneSheet.{sheet_of, pools_of, HaveSheet, direct_of, readers_in, is_owner_among, AreListed, has_map, with_map, AddsReaders, Reached};
+ghost use Rattle.fc_store.specs.LaneSheet.{sheet_of, pools_of, HaveSheet, direct_of, readers_in, is_owner_among, AreListed, has_map, with_map, AddsReaders, Reached, view_of, IsAsked};
 
 use fc_base::disk::DiskKind;
 use fc_base::ids::{MapId, SlotId, VolId};
@@ -22,6 +22,7 @@ use fc_base::volume::Mapping;
 use fc_lane::lane::Lane;
 use fc_mdisk::mdisk::Mdisk;
 use std::alloc::Global;
+use std::marker::Model;
 
 /// How many grains the lanes hold for the slot of a mapping.
 fn sum_held<D: Mdisk>(lanes: &[Lane<D>], map: MapId) -> u32
@@ -385,5 +386,89 @@ pub(crate) fn dependents_in<D: Mdisk>(
     match reached_from(lanes, mappings, alloc, map) {
         Ok(reached) => listed_among(mappings, alloc, reached.as_slice()),
         Err(NoMemory) => Err(NoMemory),
+    }
+}
+
+/// The chains of all lanes together, as decisions on commands ask for them, beside the table of mappings.
+pub struct LaneSheet<'a, D: Mdisk> {
+    lanes: &'a [Lane<D>],
+    mappings: &'a [Mapping],
+}
+
+impl<'a, D: Mdisk> Model for LaneSheet<'a, D> {
+    ghost use Rattle.std.specs.Prelude.{List};
+    ghost use Rattle.fc_lane.specs.Lane.{LaneView};
+    ghost use Rattle.fc_store.specs.LaneSheet.{IsAsked};
+
+    ghost Value = { List LaneView };
+
+    ghost view = { λ s. s.lanes.now };
+
+    ghost invariant = { λ s. IsAsked s.lanes.now s.mappings.now };
+}
+
+impl<'a, D: Mdisk> LaneSheet<'a, D> {
+    /// These lanes, with the table of mappings.
+    pub fn new(lanes: &'a [Lane<D>], mappings: &'a [Mapping]) -> Self
+        requires { IsAsked lanes.now mappings.now }
+        ensures { result ≡ lanes.now }
+    {
+        LaneSheet { lanes, mappings }
+    }
+
+    /// How many grains the slot of a mapping holds; 0 where it has none.
+    pub fn held(&self, map: MapId) -> u32
+        ensures { result ≡ count_true (held_of (view_of self.now).sheet.slots map.0) }
+    {
+        held_in(self.lanes, map)
+    }
+
+    /// At how many grains another slot needs the slot of a mapping; 0 where it has none.
+    pub fn needed(&self, map: MapId) -> u32
+        ensures { result ≡ needed_of (view_of self.now).sheet.slots map.0 }
+    {
+        needed_in(self.lanes, map)
+    }
+
+    /// Whether the volume is used as a source.
+    pub fn used(&self, volume: VolId) -> bool
+        ensures { IsTrue result ↔ UsedAt (view_of self.now).sheet.slots volume.0 }
+    {
+        used_in(self.lanes, volume)
+    }
+
+    /// The loop of the restore graph right after these pairs were triggered.
+    pub fn loop_of(&self, alloc: Global, pairs: &[Pair]) -> Result<Option<List<VolId>>, NoMemory>
+        ensures { IfOk result (λ found. LoopAnswer (shape_of (triggered pairs.now (view_of self.now).sheet).slots) found) }
+    {
+        loop_in(self.lanes, alloc, pairs)
+    }
+
+    /// The mappings, by id, whose live slots have the mapping's slot as holder at some grain.
+    pub fn direct(&self, alloc: Global, map: MapId) -> Result<List<MapId>, NoMemory>
+        ensures { IfOk result (λ maps. AreMappings (ReadsMapping (view_of self.now).sheet.slots map.0) maps) }
+    {
+        direct_in(self.lanes, self.mappings, alloc, map)
+    }
+
+    /// The mappings, by id, whose slots are dependents of the mapping's slot.
+    pub fn dependents(&self, alloc: Global, map: MapId) -> Result<List<MapId>, NoMemory>
+        ensures { IfOk result (λ maps. AreMappings (DependsOn (view_of self.now).sheet.slots map.0) maps) }
+    {
+        dependents_in(self.lanes, self.mappings, alloc, map)
+    }
+
+    /// The old slots that no slot needs at any grain, in order of their places.
+    pub fn unneeded(&self, alloc: Global) -> Result<List<SlotId>, NoMemory>
+        ensures { IfOk result (λ names. names ≡ unneeded_in (view_of self.now).sheet.slots) }
+    {
+        unneeded_slots(self.lanes, alloc)
+    }
+
+    /// The least number of disks of the kind that some lane has for new volumes.
+    pub fn pool(&self, kind: DiskKind) -> u32
+        ensures { result ≡ least_of_kind kind (view_of self.now).pools }
+    {
+        pool_in(self.lanes, kind)
     }
 }
