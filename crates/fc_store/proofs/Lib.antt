@@ -7,3 +7,4 @@ pub mod Turning
 pub mod Parting
 pub mod LaneSheets
 pub mod Readers
+pub mod Dependents
