@@ -4,3 +4,6 @@ pub mod Logging
 pub mod Places
 pub mod Asked
 pub mod LaneSheets
+pub mod Dealing
+pub mod NewStore
+pub mod DealLists

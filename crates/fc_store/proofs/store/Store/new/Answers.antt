@@ -1,0 +1,30 @@
+use Rattle.std.proofs.Common.{rules, ◌≡◌, ◌<◌, ◌≤◌, ◌^◌, ◌+◌, ◌++◌, IfOk, List, map, vec_len, vec_capacity, ℕ, ◌-◌, ◌*◌, length, ◌/◌, ◌%◌, Bool, true, false, nat_eq, nat_lt, [], ◌∷◌, slice_index_or, slice_set, bit_and, bit_or, Fits, w8, w32, w64, Bor, MutBor}
+use Rattle.std.specs.List.{All}
+use Rattle.fc_grains.specs.Grains.{silent_of}
+use Rattle.fc_grains.specs.Quiet.{IsQuiet}
+use Rattle.fc_lane.specs.Lane.{LaneView}
+use Rattle.fc_legal.specs.Whole.{opened}
+use Rattle.fc_mdisk.specs.Disk.{IsFresh}
+use Rattle.fc_store.specs.Dealing.{AreAllIn, disks_in, pools_dealt, silent_in}
+use Rattle.fc_store.specs.Store.{StandsFor}
+use Rattle.fc_store.proofs.store.Store.new.Goals as goal
+
+-- src/new.rt:37:27
+pub make_lanes-requires-clause-fit : goal.make_lanes-requires-clause-fit
+make_lanes-requires-clause-fit g c = ?
+
+-- src/new.rt:24:5
+pub returns-clause-stands : goal.returns-clause-stands
+returns-clause-stands g c = ?
+
+-- src/new.rt:24:5
+pub returns-clause-quiet : goal.returns-clause-quiet
+returns-clause-quiet g c = ?
+
+-- src/new.rt:24:5
+pub returns-clause-disks : goal.returns-clause-disks
+returns-clause-disks g c = ?
+
+-- src/new.rt:24:5
+pub returns-clause-silent : goal.returns-clause-silent
+returns-clause-silent g c = ?
