@@ -94,3 +94,8 @@ one_begins grain n lists ls disks v begin lane lanes grains stands quiet =
         quiet = λ told. quiet (sym (ap (λ (g : GrainsState). g.silent) grains) ∙ told);
       }) (All-nil (Begins n)));
     }
+
+-- Over the lists that were dealt.
+pub begin_dealt : (grain : GrainSize) (count n : ℕ) (disks : List DiskState) (lists : List (List DiskState)) (ls : List LaneView) → count ≡ n → lists ≡ all_dealt n disks → Begin grain count lists ls → Begin grain n (all_dealt n disks) ls
+begin_dealt grain count n disks lists ls number are begin =
+    subst (λ k. Begin grain k (all_dealt n disks) ls) number (subst (λ (xs : List (List DiskState)). Begin grain count xs ls) are begin)

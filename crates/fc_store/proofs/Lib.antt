@@ -7,3 +7,4 @@ pub mod LaneSheets
 pub mod Dealing
 pub mod NewStore
 pub mod DealLists
+pub mod Giving

@@ -53,11 +53,17 @@ books_sound pools = record {
   };
 }
 
+from_zero : (i : ℕ) → 0 + i ≡ i
+from_zero i = omega arith
+
 length_replicate : (n x : ℕ) → length (replicate n x) ≡ n
 length_replicate ℕ.zero x = refl
 length_replicate (ℕ.suc n) x = ap ℕ.suc (length_replicate n x)
 
-zero_at : (n i : ℕ) → get_or (replicate n 0) i 0 ≡ 0
+abbrev zeros : ℕ → List ℕ
+zeros n = replicate n 0
+
+zero_at : (n i : ℕ) → get_or (zeros n) i 0 ≡ 0
 zero_at ℕ.zero i = refl
 zero_at (ℕ.suc n) ℕ.zero = refl
 zero_at (ℕ.suc n) (ℕ.suc i) = zero_at n i
@@ -152,6 +158,7 @@ module _ (grain : GrainSize) (n : ℕ) (disks : List DiskState) (ls : List LaneV
       sym (get_or-map (λ (v : LaneView). v.lane) ls i d 0 (omega (arith, lt, count_made)))
       ∙ ap (λ (ns : List ℕ). get_or ns i 0) made.numbers
       ∙ get_or-range_with_len 0 (length ls) i 0 (omega (arith, lt, count_made))
+      ∙ from_zero i
 
   lane_at_opening : (i : ℕ) (d : LaneView) → i < n → All IsFresh disks → IsLaneAt grain (opened (pools_dealt n disks)) i (get_or ls i d)
   lane_at_opening i d lt fresh =

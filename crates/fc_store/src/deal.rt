@@ -26,7 +26,11 @@ fn no_lists<D: Mdisk>(alloc: Global, count: usize) -> Result<Vec<Vec<D>>, NoMemo
 }
 
 /// Deals disks to so many lists in turn, each in order. Refused, the disks are gone.
-pub(crate) fn deal<D: Mdisk>(alloc: Global, count: usize, disks: Vec<D>) -> Result<Vec<Vec<D>>, NoMemory>
+pub(crate) fn deal<D: Mdisk>(
+    alloc: Global,
+    count: usize,
+    disks: Vec<D>,
+) -> Result<Vec<Vec<D>>, NoMemory>
     requires { 0 < count }
     ensures { IfOk result (λ lists. lists_of D.meaning lists.items ≡ all_dealt count (map D.meaning disks.items)) }
 {

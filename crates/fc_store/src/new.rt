@@ -16,8 +16,10 @@ use fc_base::limits::LANES;
 use fc_base::outcome::NoMemory;
 use fc_base::size::GrainSize;
 use fc_control::Control;
+use fc_lane::lane::Lane;
 use fc_mdisk::mdisk::Mdisk;
 use std::alloc::Global;
+use std::collections::VecDeque;
 
 impl<D: Mdisk> Store<D> {
     /// A store without volumes, over fresh disks, which are dealt to the lanes in turn. Refused, the disks are gone.
@@ -43,5 +45,24 @@ impl<D: Mdisk> Store<D> {
             control: Control::new(alloc, grain),
             lanes,
         })
+    }
+
+    /// Appends all disks as they are, lane by lane, to a list that has room for them.
+    pub fn give_disks(self, into: &mut Vec<D>)
+        requires { vec_len into.old + disks_in self.lanes ≤ vec_capacity into.old }
+        ensures { (given : List D) × (into.new.items ≡ into.old.items ++ given) × AreAllIn self.lanes (map D.meaning given) }
+    {
+        let Store { lanes, .. } = self;
+        give_lanes(VecDeque::from(lanes), into);
+    }
+}
+
+/// Appends the disks of lanes, in order.
+fn give_lanes<D: Mdisk>(mut lanes: VecDeque<Lane<D>>, into: &mut Vec<D>)
+    requires { vec_len into.old + disks_in lanes.items ≤ vec_capacity into.old }
+    ensures { (given : List D) × (into.new.items ≡ into.old.items ++ given) × AreAllIn lanes.items (map D.meaning given) }
+{
+    while let Some(lane) = lanes.pop_front() {
+        lane.give_disks(into);
     }
 }

@@ -47,7 +47,7 @@ overflow_cast-len g c =
         count_begun c.args.grain (vec_len c.args.lists) c.loop-disks.invariant.done c.loop-disks.lanes.items c.loop-disks.invariant.begin,
         length-map c.args.lists.items (λ (x : Vec g.row.D.Denot Global). map m x.items),
         some_left c.loop-disks.invariant.done (map m c.in-Some.disks.items) (lists_of m c.pop_front.new.self.items) (lists_of m c.args.lists.items) all,
-      )
+      );
     }
 
 pub new-requires-clause-few : goal.new-requires-clause-few
@@ -84,6 +84,6 @@ loop-disks-preserved g c =
       count_is = c.len-count.ensures;
       split = moved done own rest (lists_of m c.args.lists.items) all;
       begin = subst (λ (ls : List LaneView). Begin c.args.grain (vec_len c.args.lists) (done ++ own ∷ []) ls) (sym c.in-Ok-push.ensures.items)
-      (one_begins c.args.grain (vec_len c.args.lists) done c.loop-disks.lanes.items own c.in-Ok.lane c.loop-disks.invariant.begin (c.in-Ok.ensures.lane ∙ c.len.ensures ∙ c.loop-disks.lanes.ok.0) (c.in-Ok.ensures.lanes ∙ c.len-count.ensures) c.in-Ok.ensures.grains c.in-Ok.ensures.stands c.in-Ok.ensures.quiet);
+          (one_begins c.args.grain (vec_len c.args.lists) done c.loop-disks.lanes.items own c.in-Ok.lane c.loop-disks.invariant.begin (c.in-Ok.ensures.lane ∙ c.len.ensures ∙ c.loop-disks.lanes.ok.0) (c.in-Ok.ensures.lanes ∙ c.len-count.ensures) c.in-Ok.ensures.grains c.in-Ok.ensures.stands c.in-Ok.ensures.quiet);
       fit = rest_fits own rest fit;
     }
