@@ -1,23 +1,21 @@
 -- A store that begins stands for what is told before the first entry.
-use Rattle.std.proofs.Common.{◌≡◌, ℕ, suc, zero, ◌+◌, ◌*◌, ◌^◌, ◌<◌, ◌≤◌, Option, Some, List, [], ◌∷◌, ◌++◌, length, map, get_or, replicate, refl, sym, ap, ap₂, subst, ◌∙◌, arith, inl, inr}
-use Rattle.std.specs.List.{All, sum_by, range_with_len}
-use Rattle.std.proofs.lemmas.Bool.{cases_lt}
-use Rattle.std.proofs.lemmas.List.{get_or-map, length-map, map-append, length-append}
-use Rattle.std.proofs.lemmas.List.Elements.{All-nil, All-cons, All-append}
-use Rattle.std.proofs.lemmas.List.FromFn.{get_or-range_with_len, get_or-map-range_with_len, length-map-range_with_len, map-range_with_len_more}
+use Rattle.std.proofs.Common.{◌≡◌, ℕ, suc, zero, ◌+◌, ◌^◌, ◌<◌, List, [], ◌∷◌, length, map, get_or, replicate, refl, sym, ap, ap₂, subst, ◌∙◌, arith}
+use Rattle.std.specs.List.{All, sum_by}
+use Rattle.std.proofs.lemmas.List.{get_or-map, length-map}
+use Rattle.std.proofs.lemmas.List.Elements.{All-nil}
+use Rattle.std.proofs.lemmas.List.FromFn.{get_or-range_with_len, get_or-map-range_with_len, length-map-range_with_len}
 use Rattle.std.proofs.lemmas.List.Sums.{sum_by-cons}
 use Rattle.fc_base.specs.Pools.{Pool}
-use Rattle.fc_base.specs.Sheet.{no_slots}
 use Rattle.fc_base.specs.Tables.{no_tables}
 use Rattle.fc_base.specs.declared.size.GrainSize.{GrainSize}
 use Rattle.fc_books.specs.Books.{opened as opened_books}
 use Rattle.fc_books.specs.Sound.{AreSound}
 use Rattle.fc_control.specs.Control.{ControlState}
-use Rattle.fc_grains.specs.Grains.{GrainsState, IsUnarmed, opened as opened_grains, one_if_silent, pool_of, silent_of, stopped}
+use Rattle.fc_grains.specs.Grains.{GrainsState, opened as opened_grains, one_if_silent, pool_of, silent_of, stopped}
 use Rattle.fc_grains.specs.Quiet.{IsQuiet}
 use Rattle.fc_lane.specs.Lane.{LaneView, IsLaneOf, begun}
 use Rattle.fc_legal.specs.Stands.{Stands}
-use Rattle.fc_legal.specs.Whole.{Whole, lanes, opened, part_at, pool_at}
+use Rattle.fc_legal.specs.Whole.{lanes, opened, part_at, pool_at}
 use Rattle.fc_mdisk.specs.Disk.{DiskState, IsFresh}
 use Rattle.fc_mdisk.specs.Disks.{calls_of, faults_of}
 use Rattle.fc_parts.proofs.Lawful.{part_law_holds}
@@ -26,7 +24,7 @@ use Rattle.fc_sheets.proofs.Lawful.{none_sound}
 use Rattle.fc_decided.proofs.Lists.{none_in}
 use Rattle.fc_sums.proofs.Sums.{sum_total}
 use Rattle.fc_store.specs.Dealing.{Begin, Begins, FitLane, all_dealt, dealt, disks_in, pools_dealt, silent_in}
-use Rattle.fc_store.specs.Store.{StoreView, StandsFor, IsLaneAt, IsControlOf}
+use Rattle.fc_store.specs.Store.{StandsFor, IsLaneAt}
 use Rattle.fc_store.proofs.Dealing.{all_of_dealt, few_dealt, total_dealt}
 
 -- ---- what is told before the first entry

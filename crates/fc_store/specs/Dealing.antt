@@ -3,7 +3,7 @@ use Rattle.std.specs.Prelude.{◌≡◌, ℕ, ◌+◌, ◌<◌, ◌^◌, ◌%◌
 use Rattle.std.specs.List.{All, sum_by, range_with_len}
 use Rattle.fc_base.specs.Pools.{Pool}
 use Rattle.fc_base.specs.declared.size.GrainSize.{GrainSize}
-use Rattle.fc_grains.specs.Grains.{GrainsState, IsUnarmed, opened, pool_of, silent_of}
+use Rattle.fc_grains.specs.Grains.{IsUnarmed, opened, pool_of, silent_of}
 use Rattle.fc_grains.specs.Quiet.{IsQuiet}
 use Rattle.fc_lane.specs.Lane.{LaneView, IsLaneOf, begun}
 use Rattle.fc_mdisk.specs.Disk.{DiskState}

@@ -1,6 +1,6 @@
 //! Disks, dealt to lanes.
 
-ghost use Rattle.std.specs.Prelude.{◌≡◌, ◌<◌, ◌^◌, [], IfOk, map, replicate, length, vec_len};
+ghost use Rattle.std.specs.Prelude.{◌≡◌, ◌<◌, ◌^◌, [], IfOk, map, replicate, vec_len};
 ghost use Rattle.std.specs.List.{All};
 ghost use Rattle.fc_store.specs.Dealing.{Begin, FitLane, all_dealt, lists_of};
 

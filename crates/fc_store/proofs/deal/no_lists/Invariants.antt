@@ -1,4 +1,4 @@
-use Rattle.std.proofs.Common.{◌≡◌, [], List, replicate}
+use Rattle.std.proofs.Common.{◌≡◌, [], replicate}
 use Rattle.fc_store.specs.Dealing.{lists_of}
 use Rattle.fc_store.proofs.deal.no_lists.Given as goal
 

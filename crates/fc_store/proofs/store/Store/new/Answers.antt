@@ -1,8 +1,8 @@
-use Rattle.std.proofs.Common.{◌≡◌, ◌<◌, ◌^◌, ◌∙◌, List, length, map, sym, subst, arith}
+use Rattle.std.proofs.Common.{◌<◌, ◌^◌, ◌∙◌, List, length, map, sym, subst, arith}
 use Rattle.std.specs.List.{All}
 use Rattle.std.proofs.lemmas.List.{length-map}
 use Rattle.fc_mdisk.specs.Disk.{DiskState}
-use Rattle.fc_store.specs.Dealing.{Begin, FitLane, all_dealt, lists_of}
+use Rattle.fc_store.specs.Dealing.{Begin, FitLane, all_dealt}
 use Rattle.fc_store.proofs.DealLists.{begin_dealt, lists_count}
 use Rattle.fc_store.proofs.NewStore.{all_fit, number_made, quiet_made, silent_made, store_begins}
 use Rattle.fc_store.proofs.store.Store.new.Given as given
