@@ -8,3 +8,7 @@ pub mod Parting
 pub mod LaneSheets
 pub mod Readers
 pub mod Dependents
+pub mod Dealing
+pub mod NewStore
+pub mod DealLists
+pub mod Giving

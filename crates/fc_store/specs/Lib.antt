@@ -4,3 +4,4 @@ pub mod Answering
 pub mod Asking
 pub mod Apart
 pub mod LaneSheet
+pub mod Dealing

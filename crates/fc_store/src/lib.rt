@@ -2,8 +2,10 @@
 #![tactic(auto)]
 
 mod access;
+mod deal;
 mod lines;
 mod log;
+mod new;
 mod sheet;
 pub mod stop;
 pub mod store;
