@@ -4,3 +4,7 @@ pub mod Logging
 pub mod Places
 pub mod Asked
 pub mod LaneSheets
+pub mod PhaseStands
+pub mod PhaseLanes
+pub mod EffectRanges
+pub mod CommandSteps

@@ -4,3 +4,5 @@ pub mod Answering
 pub mod Asking
 pub mod Apart
 pub mod LaneSheet
+pub mod Phase
+pub mod Effects

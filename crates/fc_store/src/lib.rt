@@ -2,8 +2,10 @@
 #![tactic(auto)]
 
 mod access;
+mod effects;
 mod lines;
 mod log;
+mod phases;
 mod sheet;
 pub mod stop;
 pub mod store;
