@@ -8,3 +8,4 @@ pub mod PhaseStands
 pub mod PhaseLanes
 pub mod EffectRanges
 pub mod CommandSteps
+pub mod CommandLogs

@@ -19,7 +19,7 @@ use Rattle.fc_parts.proofs.Lawful.{part_law_holds}
 use Rattle.fc_pick.specs.declared.work.WorkFlags.{WorkFlags}
 use Rattle.fc_rules.specs.LaneFits.{FitsLane}
 use Rattle.fc_rules.specs.LaneTold.{LaneOf, LaneTold, told_event}
-use Rattle.fc_store.specs.Phase.{StandsAt, IsControlAfter, IsLaneAfter, IsLaneReady, EachLane, FitAll}
+use Rattle.fc_store.specs.Phase.{StandsAt, IsDecidedAt, IsControlAfter, IsLaneAfter, IsLaneReady, EachLane, FitAll}
 use Rattle.fc_store.specs.Store.{StoreView, IsControlOf, IsLaneAt, AreLanesOf, AreFewCalls, StandsFor}
 
 -- ---- the control part
@@ -209,3 +209,13 @@ entry_stands decisions s w stands few = record {
   stands = record { sound = stands.stands.sound; few = stands.stands.few; plain = stands.stands.plain; each_lane = record { some = stands.stands.each_lane.some; pools = stands.stands.each_lane.pools; calls = stands.stands.each_lane.calls }; firsts = stands.stands.firsts };
   calls = λ i. omega (arith, stands.calls i);
 }
+
+-- ---- as the store's functions see it
+
+pub fits_here : (s : StoreView) (d : Decision) (ls : List LaneView) → IsDecidedAt s d → ls ≡ s.lanes → FitAll ls d.events
+fits_here s d ls decided same = subst (λ (vs : List LaneView). FitAll vs d.events) (sym same) (fit_all decided.0 s decided.1 d decided.2 decided.3)
+
+pub ready_here : (decisions : ℕ) (old new : StoreView) (w : Whole) (ls : List LaneView) → StandsAt decisions old w → new.control ≡ old.control → ls ≡ old.lanes → EachLane IsLaneReady ls new.lanes →
+    StandsAt decisions new w
+ready_here decisions old new w ls stands control same ready =
+    ready_stands decisions old new w stands control (subst (λ (vs : List LaneView). EachLane IsLaneReady vs new.lanes) same ready)

@@ -2,6 +2,7 @@
 #![tactic(auto)]
 
 mod access;
+mod command;
 mod effects;
 mod lines;
 mod log;

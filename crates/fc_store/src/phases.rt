@@ -48,4 +48,14 @@ impl<D: Mdisk> Store<D> {
     {
         reserve_lanes(self.lanes.as_mut_slice(), &decision.events)
     }
+
+    /// The lanes do what is decided. Takes no memory.
+    fn apply_in_lanes(&mut self, decision: &Decision)
+        requires decided { IsDecidedAt self.old decision.now }
+        requires ready { CanAllDo self.old.lanes decision.now.events }
+        ensures lanes { EachLane (IsLaneAfter decision.now.events) self.old.lanes self.new.lanes }
+        ensures control { self.new.control ≡ self.old.control }
+    {
+        apply_lanes(self.lanes.as_mut_slice(), &decision.events)
+    }
 }
