@@ -215,7 +215,9 @@ entry_stands decisions s w stands few = record {
 pub fits_here : (s : StoreView) (d : Decision) (ls : List LaneView) → IsDecidedAt s d → ls ≡ s.lanes → FitAll ls d.events
 fits_here s d ls decided same = subst (λ (vs : List LaneView). FitAll vs d.events) (sym same) (fit_all decided.0 s decided.1 d decided.2 decided.3)
 
-pub ready_here : (decisions : ℕ) (old new : StoreView) (w : Whole) (ls : List LaneView) → StandsAt decisions old w → new.control ≡ old.control → ls ≡ old.lanes → EachLane IsLaneReady ls new.lanes →
-    StandsAt decisions new w
-ready_here decisions old new w ls stands control same ready =
-    ready_stands decisions old new w stands control (subst (λ (vs : List LaneView). EachLane IsLaneReady vs new.lanes) same ready)
+pub done_here : (P : LaneView → LaneView → Type 0) (old new ls ms : List LaneView) → ls ≡ old → new ≡ ms → EachLane P ls ms → EachLane P old new
+done_here P old new ls ms before after each = subst (λ (vs : List LaneView). EachLane P old vs) (sym after) (subst (λ (vs : List LaneView). EachLane P vs ms) before each)
+
+pub ready_here : (decisions : ℕ) (old new : StoreView) (w : Whole) (ls ms : List LaneView) → StandsAt decisions old w → new.control ≡ old.control → ls ≡ old.lanes → new.lanes ≡ ms →
+    EachLane IsLaneReady ls ms → StandsAt decisions new w
+ready_here decisions old new w ls ms stands control before after ready = ready_stands decisions old new w stands control (done_here IsLaneReady old.lanes new.lanes ls ms before after ready)
