@@ -20,7 +20,7 @@ use Rattle.fc_store.specs.Phase.{IsDecided, StandsAt, after_settling, decided_af
 use Rattle.fc_store.specs.Store.{StoreView, StandsFor}
 use Rattle.fc_store.specs.declared.stop.Stop.{Stop}
 use Rattle.fc_store.specs.declared.stop.Stop.TheVariants.{NoMemory}
-use Rattle.fc_store.proofs.CommandSteps.{settled_turn, decided_turn}
+use Rattle.fc_store.proofs.CommandSteps.{unsettled_turn, settled_turn, decided_turn}
 use Rattle.fc_store.proofs.Logging.{IsTurn, is_logged}
 
 pub log_step : (result : Result (Unit {0}) Stop) (s : StoreView) (grain : GrainSize) (w next : Whole) (command : Command) (reply : Reply) (effects : List Effect) (before after : HistoryState) (entry : Entry) →
@@ -66,4 +66,14 @@ log_after_both result s grain decisions w command loop reply effects before afte
     logs grain w next
     (subst (λ (r : Reply). Step grain w (entry_apart (length before.entries) Every (Asked command) r effects) next) (sym replied)
     (subst (λ (es : List Effect). Step grain w (entry_apart (length before.entries) Every (Asked command) (decided_after grain w command loop).reply es) next) (sym same) turn.step))
+    turn.counted turn.stands told
+
+pub log_before_settling : (result : Result (Unit {0}) Stop) (s : StoreView) (grain : GrainSize) (decisions : ℕ) (w : Whole) (command : Command) (effects : List Effect) (before after : HistoryState) →
+    IsDecided command → LogsAny result s command Reply.NoMemory effects before after →
+    effects ≡ [] → StandsAt decisions s w → decisions ≤ 2 * w.entries → w.entries ≡ length before.entries →
+    Answered result (StandsFor s) grain w (by_main (Asked command ∷ [])) before after
+log_before_settling result s grain decisions w command effects before after decided logs none stands few told =
+    let turn = unsettled_turn s grain decisions w command (length before.entries) decided (sym told) few stands in
+    logs grain w (one_more w)
+    (subst (λ (es : List Effect). Step grain w (entry_apart (length before.entries) Every (Asked command) Reply.NoMemory es) (one_more w)) (sym none) turn.step)
     turn.counted turn.stands told

@@ -57,8 +57,8 @@ stepped grain w command reply effects books number decided counted leaves = reco
 pub decided_step : (grain : GrainSize) (w : Whole) (command : Command) (loop : Option (List VolId)) (number : ℕ) → IsDecided command → number ≡ w.entries →
     IsLoopOf grain (settled w.books) command loop →
     Step grain w
-        (entry_apart number Every (Asked command) (decided_after grain w command loop).reply ((settle w.books).effects ++ (decided_after grain w command loop).effects))
-        (one_more (left_by grain (after_settling grain w) (decided_after grain w command loop)))
+    (entry_apart number Every (Asked command) (decided_after grain w command loop).reply ((settle w.books).effects ++ (decided_after grain w command loop).effects))
+    (one_more (left_by grain (after_settling grain w) (decided_after grain w command loop)))
 decided_step grain w command loop number decided counted told =
     let d : Decision = decided_after grain w command loop in
     let entry : Entry = entry_apart number Every (Asked command) d.reply ((settle w.books).effects ++ d.effects) in
@@ -84,8 +84,8 @@ pub decided_turn : (s : StoreView) (grain : GrainSize) (decisions : ℕ) (w : Wh
     IsLoopOf grain (settled w.books) command loop → decisions ≤ 2 * w.entries →
     StandsAt (decisions + 1 + 1) s (left_by grain (after_settling grain w) (decided_after grain w command loop)) →
     IsTurn (StandsFor s) grain w (Asked command)
-        (entry_apart number Every (Asked command) (decided_after grain w command loop).reply ((settle w.books).effects ++ (decided_after grain w command loop).effects))
-        (one_more (left_by grain (after_settling grain w) (decided_after grain w command loop)))
+    (entry_apart number Every (Asked command) (decided_after grain w command loop).reply ((settle w.books).effects ++ (decided_after grain w command loop).effects))
+    (one_more (left_by grain (after_settling grain w) (decided_after grain w command loop)))
 decided_turn s grain decisions w command loop number decided counted told few stands = record {
   by_main = refl;
   asked = refl;

@@ -40,7 +40,14 @@ impl<D: Mdisk> Store<D> {
         ensures limit { length history.new.entries ≤ MAX_ENTRIES }
     {
         let request = Request::Command(command);
-        let entry = entry_apart(self.alloc, history.len(), Place::Every, request, reply, effects);
+        let entry = entry_apart(
+            self.alloc,
+            history.len(),
+            Place::Every,
+            request,
+            reply,
+            effects,
+        );
         log(history, entry)
     }
 
