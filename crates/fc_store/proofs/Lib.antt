@@ -9,3 +9,4 @@ pub mod PhaseLanes
 pub mod EffectRanges
 pub mod CommandSteps
 pub mod CommandLogs
+pub mod CommandSheet
