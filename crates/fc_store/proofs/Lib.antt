@@ -12,3 +12,9 @@ pub mod Dealing
 pub mod NewStore
 pub mod DealLists
 pub mod Giving
+pub mod PhaseStands
+pub mod PhaseLanes
+pub mod EffectRanges
+pub mod CommandSteps
+pub mod CommandLogs
+pub mod CommandSheet

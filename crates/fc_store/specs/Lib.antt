@@ -5,3 +5,5 @@ pub mod Asking
 pub mod Apart
 pub mod LaneSheet
 pub mod Dealing
+pub mod Phase
+pub mod Effects
