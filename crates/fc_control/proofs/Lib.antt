@@ -32,3 +32,4 @@ pub mod StopSteps
 pub mod StopWhole
 pub mod StopGroup
 pub mod StopCode
+pub mod Dispatched
