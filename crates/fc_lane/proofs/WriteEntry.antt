@@ -160,9 +160,9 @@ module _ (l : LaneOf) (told : LaneTold) (part : WritePart) (t : ℕ) (chains : C
 
 write_told : (part : WritePart) (stop : Option Stop) (l : LaneOf) (told : LaneTold) (lane number actor before after : ℕ) (moves : List Move) (calls : ℕ) →
     record_of (steps_entry lane number actor (Write part) Done before after moves calls stop) ≡ Step number (write_in part stop) moves (torn_in stop) after calls
-write_told part None l told lane number actor before after moves calls = refl
-write_told part (Some (Failed torn)) l told lane number actor before after moves calls = refl
-write_told part (Some WantsMemory) l told lane number actor before after moves calls = refl
+write_told part None l told lane n actor before after moves calls = refl
+write_told part (Some (Failed torn)) l told lane n actor before after moves calls = refl
+write_told part (Some WantsMemory) l told lane n actor before after moves calls = refl
 
 -- the answers of a volume that is online
 online_answers : (l : LaneOf) (told : LaneTold) (part : WritePart) (t : ℕ) (entry : Entry) → access_in told.volumes part.volume ≡ Online → live_place told.sheet.slots part.volume.0 ≡ Some t →

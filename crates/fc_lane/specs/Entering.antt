@@ -37,9 +37,9 @@ done_of (Clean m grain) = Moved m grain
 
 -- What is answered when steps ended so.
 abbrev pub reply_in : Reply → Option Stop → Reply
-reply_in done None = done
-reply_in done (Some (Failed torn)) = DiskFault
-reply_in done (Some WantsMemory) = NoMemory
+reply_in reply None = reply
+reply_in reply (Some (Failed torn)) = DiskFault
+reply_in reply (Some WantsMemory) = NoMemory
 
 -- An entry of a lane, of steps that ended so.
 abbrev pub steps_entry : ℕ → ℕ → ℕ → Request → Reply → ℕ → ℕ → List Move → ℕ → Option Stop → Entry
