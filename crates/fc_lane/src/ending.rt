@@ -7,10 +7,10 @@ ghost use Rattle.fc_lane.specs.StepsEnd.{torn_in};
 
 use crate::body::StepEnd;
 use crate::lane::Lane;
+use crate::roomy::RoomyPlan;
 use crate::stop::Stop;
 use fc_base::ids::{GrainNo, MapId};
 use fc_base::list::List;
-use crate::roomy::RoomyPlan;
 use fc_base::move_plan::MovePlan;
 use fc_base::outcome::NoMemory;
 use fc_base::request::{Move, Place, Reply, Request, Torn, WritePart};

@@ -60,12 +60,25 @@ impl<D: Mdisk> Store<D> {
             Err(NoMemory) => return Err(Stop::NoMemory),
         }
         let number = history.len() as u64;
-        let entry = access_lane(self.alloc, lane, number, access, volume, first, (end - first) as u32);
+        let entry = access_lane(
+            self.alloc,
+            lane,
+            number,
+            access,
+            volume,
+            first,
+            (end - first) as u32,
+        );
         log(history, entry)
     }
 
     /// Logs a refused access or an unread line, which settles nothing and does nothing.
-    fn log_refused(&self, history: &mut History, request: Request, refusal: Refusal) -> Result<(), Stop>
+    fn log_refused(
+        &self,
+        history: &mut History,
+        request: Request,
+        refusal: Refusal,
+    ) -> Result<(), Stop>
         requires stands { TellsSome (StandsFor self.now) history.old.entries }
         requires room { length history.old.entries ≤ MAX_ENTRIES }
         requires refused { (w : Whole) → IsTold (StandsFor self.now) history.old.entries w → IsRefusalOf self.now.control.grain w request refusal }
@@ -78,7 +91,14 @@ impl<D: Mdisk> Store<D> {
         }
         let reply = Reply::Refused(refusal);
         let effects = List::new(self.alloc);
-        let entry = entry_apart(self.alloc, history.len(), Place::Control, request, reply, effects);
+        let entry = entry_apart(
+            self.alloc,
+            history.len(),
+            Place::Control,
+            request,
+            reply,
+            effects,
+        );
         log(history, entry)
     }
 
