@@ -32,3 +32,5 @@ pub mod StopSteps
 pub mod StopWhole
 pub mod StopGroup
 pub mod StopCode
+pub mod Without
+pub mod Applying

@@ -17,6 +17,7 @@
 //! (by the kind of command).
 #![tactic(auto)]
 
+mod apply;
 mod asking;
 mod begin;
 mod chosen;
@@ -25,6 +26,7 @@ mod decide;
 mod dispatch;
 mod draft;
 mod ending;
+mod flags;
 mod groups;
 mod mkfcmap;
 mod mkvdisk;
