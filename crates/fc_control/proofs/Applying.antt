@@ -1,23 +1,22 @@
 -- A decision that is applied: its changes and then its events, each in order.
-use Rattle.std.proofs.Common.{◌≡◌, ℕ, suc, ◌+◌, ◌<◌, ◌≤◌, Bool, true, false, cond, List, [], ◌∷◌, length, get_or, drop, filter, find, fold, refl, ap, sym, ◌∙◌, subst, arith, Option, Some, None, inl, inr, ◌⊎◌, AllPairs, not, nat_eq}
+use Rattle.std.proofs.Common.{◌≡◌, ℕ, ◌+◌, ◌<◌, ◌≤◌, Bool, true, false, cond, List, [], ◌∷◌, length, get_or, drop, filter, find, fold, refl, ap, sym, ◌∙◌, subst, arith, Option, Some, None, inl, inr, ◌⊎◌, not, nat_eq, Result, Ok, Err, OnOk}
 use Rattle.std.proofs.lemmas.List.{drop_more}
 use Rattle.std.proofs.lemmas.List.Kept.{AllPairs-filter}
+use Rattle.std.proofs.lemmas.List.Sums.{sum_by-cons}
 use Rattle.std.specs.Option.{ForSome}
 use Rattle.fc_base.specs.SheetView.{SheetView}
-use Rattle.fc_base.specs.Tables.{Tables, Fits, after_change, room_asked}
+use Rattle.fc_base.specs.Tables.{after_change, room_asked}
 use Rattle.fc_base.specs.declared.decision.LaneEvent.{LaneEvent}
 use Rattle.fc_base.specs.declared.decision.LaneEvent.TheVariants.{Make, Remove, Trigger, Retire, Detach, Split, Force, Drop, Forget, NoteCut, Access, Work, Arm}
-use Rattle.fc_base.specs.declared.ids.MapId.{MapId}
+use Rattle.fc_base.specs.declared.outcome.NoMemory.{NoMemory}
 use Rattle.fc_base.specs.declared.volume.Change.{Change}
 use Rattle.fc_base.specs.declared.volume.Change.TheVariants.{AddVolume, RemoveVolume, AddMapping, RemoveMapping, SetMapping, AddGroup, RemoveGroup}
 use Rattle.fc_books.specs.After.{after_table_change, flags_after}
-use Rattle.fc_books.specs.Books.{Books}
 use Rattle.fc_control.specs.Applied.{changed}
-use Rattle.fc_control.specs.Changes.{FitChanges, adds, reserved_after, AreReserved, IsCountable, AreCountable, is_work, works}
+use Rattle.fc_control.specs.Changes.{FitChanges, adds, reserved_after, AreReserved, AreCountable, is_work, works}
 use Rattle.fc_control.specs.Control.{ControlState, books_of}
-use Rattle.fc_pick.proofs.Rising.{rises, pairs_of, put_rises}
 use Rattle.fc_pick.proofs.Rows.{number, rising_with}
-use Rattle.fc_pick.specs.Flags.{IsRising, is_flagged, with_flags, without_flags}
+use Rattle.fc_pick.specs.Flags.{IsRising, is_flagged, with_flags}
 use Rattle.fc_pick.specs.declared.work.WorkFlags.{WorkFlags}
 use Rattle.fc_control.proofs.Without.{with_some, with_none}
 
@@ -38,7 +37,7 @@ none_reserved reserved (change ∷ changes) none = by (asks change) none (none_r
   where
     by : ((adds change ≡ true) × (room_asked change ≡ Some change)) ⊎ ((adds change ≡ false) × (room_asked change ≡ None)) → length (filter adds (change ∷ changes)) ≡ 0 → (length (filter adds changes) ≡ 0 → AreReserved reserved changes) → AreReserved reserved (change ∷ changes)
     by (inl is) none rest = let more = rw is.0 at none in absurd (omega (arith, more))
-    by (inr is) none rest = let fewer = rw is.0 at none in rw is.1 (tt, rest fewer)
+    by (inr is) none rest = let fewer = rw is.0 at none in rw is.1 (λ x e. cc, rest fewer)
 
 -- the first change that adds an object is the one alone
 pub one_reserved : (reserved : Option Change) (changes : List Change) → length (filter adds changes) ≤ 1 → ForSome (find adds changes) (λ change. reserved ≡ Some change) → AreReserved reserved changes
@@ -53,7 +52,27 @@ one_reserved reserved (change ∷ changes) one kept = by (asks change) one kept 
     by (inr is) one kept rest =
         let fewer = rw is.0 at one in
         let own = rw is.0 at kept in
-        rw is.1 (tt, rest fewer own)
+        rw is.1 (λ x e. cc, rest fewer own)
+
+found_asks : (changes : List Change) (change : Change) → find adds changes ≡ Some change → room_asked change ≡ Some change
+found_asks [] change is = cc
+found_asks (other ∷ changes) change is = by (asks other) is (found_asks changes change)
+  where
+    by : ((adds other ≡ true) × (room_asked other ≡ Some other)) ⊎ ((adds other ≡ false) × (room_asked other ≡ None)) → find adds (other ∷ changes) ≡ Some change → (find adds changes ≡ Some change → room_asked change ≡ Some change) → room_asked change ≡ Some change
+    by (inl asked) is rest =
+        let found : Some other ≡ Some change = rw asked.0 at is in
+        let same : other ≡ change = cc in
+        subst (λ x. room_asked x ≡ Some x) same asked.1
+    by (inr asked) is rest = rest (rw asked.0 at is)
+
+pub object_kept : (r : Result (Unit {0}) NoMemory) (reserved : Option Change) (changes : List Change) (change : Change) → length (filter adds changes) ≤ 1 → find adds changes ≡ Some change → OnOk r (reserved ≡ room_asked change) → OnOk r (AreReserved reserved changes)
+object_kept (Ok x) reserved changes change one found kept =
+    let own : reserved ≡ Some change = kept ∙ found_asks changes change found in
+    one_reserved reserved changes one (λ x e. own ∙ (sym found ∙ e))
+object_kept (Err e) reserved changes change one found kept = tt
+
+pub none_kept : (reserved : Option Change) (changes : List Change) → length (filter adds changes) ≤ 1 → find adds changes ≡ None → AreReserved reserved changes
+none_kept reserved changes one found = one_reserved reserved changes one (λ x e. let never : None ≡ Some x = sym found ∙ e in cc)
 
 -- ---- changes, one after another
 
@@ -165,14 +184,45 @@ pub record Flagging (c : ControlState) (events : List LaneEvent) (now : ControlS
   pub comes_to : fold flags_after now.flags left ≡ fold flags_after c.flags events
   pub same : now ≡ record c { flags = now.flags; room = now.room }
 
+works_more : (event : LaneEvent) (events : List LaneEvent) → works (event ∷ events) ≡ cond (is_work event) 1 0 + works events
+works_more event events = sum_by-cons (λ (e : LaneEvent). cond (is_work e) 1 0) event events
+
 pub flagging_room : (c : ControlState) (events : List LaneEvent) (now : ControlState) (event : LaneEvent) (left : List LaneEvent) → Flagging c events now (event ∷ left) → cond (is_work event) 1 0 ≤ now.room
-flagging_room c events now event left h = omega (arith, h.room)
+flagging_room c events now event left h = omega (arith, h.room, works_more event left)
 
 pub flagging_next : (c : ControlState) (events : List LaneEvent) (now next : ControlState) (event : LaneEvent) (left : List LaneEvent) → Flagging c events now (event ∷ left) →
     next.flags ≡ flags_after now.flags event → now.room ≤ next.room + cond (is_work event) 1 0 → next ≡ record now { flags = next.flags; room = next.room } → Flagging c events next left
 flagging_next c events now next event left h is room same = record {
   rising = subst IsRising (sym is) (rising_after now.flags event h.rising);
-  room = omega (arith, h.room, room);
+  room = omega (arith, h.room, room, works_more event left);
   comes_to = ap (λ fs. fold flags_after fs left) is ∙ h.comes_to;
   same = same ∙ (λ k. record (h.same k) { flags = next.flags; room = next.room });
 }
+
+-- ---- changes and then events
+
+module _ (c middle end : ControlState) (changes : List Change) (events : List LaneEvent) (did : middle ≡ fold changed c changes) where
+  flags_kept : middle.flags ≡ c.flags
+  flags_kept = ap (λ (s : ControlState). s.flags) did ∙ (same_all c changes).flags
+
+  pub still_rising : IsRising c.flags → IsRising middle.flags
+  still_rising rising = subst IsRising (sym flags_kept) rising
+
+  pub still_room : (n : ℕ) → n ≤ c.room → n ≤ middle.room
+  still_room n le =
+      let same : middle.room ≡ c.room = ap (λ (s : ControlState). s.room) did ∙ (same_all c changes).room in
+      omega (arith, le, same)
+
+  module _ (same : end ≡ record middle { flags = end.flags; room = end.room }) where
+    pub applied_tables : end.tables ≡ fold after_change c.tables changes
+    applied_tables = ap (λ (s : ControlState). s.tables) same ∙ (ap (λ (s : ControlState). s.tables) did ∙ tables_changed c changes)
+
+    pub applied_grain : end.grain ≡ c.grain
+    applied_grain = ap (λ (s : ControlState). s.grain) same ∙ (ap (λ (s : ControlState). s.grain) did ∙ (same_all c changes).grain)
+
+    pub applied_books : end.flags ≡ fold flags_after middle.flags events → (view : SheetView) → books_of end view ≡ record (fold after_table_change (books_of c view) changes) { flags = fold flags_after c.flags events }
+    applied_books is view =
+        let flags : end.flags ≡ fold flags_after c.flags events = is ∙ ap (λ fs. fold flags_after fs events) flags_kept in
+        ap (λ s. books_of s view) same
+        ∙ ((λ k. record (books_of (did k) view) { flags = end.flags })
+        ∙ (λ k. record (all_changed c view changes k) { flags = flags k }))

@@ -1,5 +1,5 @@
 -- When a decision can be applied with no memory, and what it makes of the control part.
-use Rattle.std.specs.Prelude.{◌≡◌, ℕ, ◌+◌, ◌^◌, ◌<◌, ◌≤◌, Bool, true, false, if◌then◌else◌, List, [], ◌∷◌, filter, Option, Some, None, is_some}
+use Rattle.std.specs.Prelude.{◌≡◌, ℕ, ◌+◌, ◌^◌, ◌<◌, ◌≤◌, Bool, true, false, if◌then◌else◌, List, [], ◌∷◌, Option, Some, None, is_some}
 use Rattle.std.specs.List.{count_by}
 use Rattle.std.specs.Option.{ForSome}
 use Rattle.fc_base.specs.Tables.{Tables, Fits, after_change, room_asked}

@@ -14,7 +14,7 @@
 //! `chosen` (which mappings a command prepares or starts), `ready` (why not), `begin` (what it does to them), `starting`
 //! and `starting_groups` (the decisions), `start` (a start, with the background work that it sets), `startfcmap`; of stops
 //! `stopping` (what a stop does), `stop_work` (background work after stops), `stop_mapping`, `stop_group`; last `dispatch`
-//! (by the kind of command).
+//! (by the kind of command), `flags` (the flags in order of id) and `apply` (what a decision makes of the control part).
 #![tactic(auto)]
 
 mod apply;
@@ -37,11 +37,11 @@ mod rmfcconsistgrp;
 mod rmfcmap;
 mod rmvdisk;
 mod settle;
-mod stop_group;
 mod start;
 mod startfcmap;
 mod starting;
 mod starting_groups;
+mod stop_group;
 mod stop_mapping;
 mod stop_work;
 mod stopping;

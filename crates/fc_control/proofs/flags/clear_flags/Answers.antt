@@ -1,4 +1,4 @@
-use Rattle.std.proofs.Common.{sym, ◌∙◌, ◌≡◌, ◌+◌, ◌++◌, suc, take, drop, length, true, false, ap, arith}
+use Rattle.std.proofs.Common.{sym, ◌∙◌, ◌≡◌, length, true, false, ap, arith}
 use Rattle.fc_pick.specs.Flags.{before, has_mapping}
 use Rattle.fc_pick.proofs.Rows.{there_within}
 use Rattle.fc_control.proofs.Without.{taken_at, none_out}

@@ -1,5 +1,5 @@
 use Rattle.std.proofs.Common.{sym, ◌∙◌, ◌≡◌, length, true, false, ap, arith}
-use Rattle.fc_pick.specs.Flags.{before, has_mapping, with_row}
+use Rattle.fc_pick.specs.Flags.{before, has_mapping}
 use Rattle.fc_pick.proofs.Rows.{there_within, set_there, insert_there, place_within}
 use Rattle.std.specs.List.{insert}
 use Rattle.fc_control.proofs.Without.{inserted}
