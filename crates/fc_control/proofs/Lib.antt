@@ -34,3 +34,4 @@ pub mod StopGroup
 pub mod StopCode
 pub mod Without
 pub mod Applying
+pub mod Dispatched

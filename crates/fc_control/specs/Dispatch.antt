@@ -1,7 +1,7 @@
 -- Kinds of commands.
 use Rattle.std.specs.Prelude.{Bool, true, false}
 use Rattle.fc_base.specs.declared.command.Command.{Command}
-use Rattle.fc_base.specs.declared.command.Command.TheVariants.{Mkvdisk, Rmvdisk, Armfault, Advance, Rmfcmap, Mkfcconsistgrp, Rmfcconsistgrp, Lsfcmap, Lsfcconsistgrp, Lsvdisk, Lsfcmapprogress, Lsfcmapdependentmaps}
+use Rattle.fc_base.specs.declared.command.Command.TheVariants.{Mkvdisk, Rmvdisk, Write, Read, Armfault, Advance, Mkfcmap, Prestartfcmap, Startfcmap, Stopfcmap, Rmfcmap, Mkfcconsistgrp, Prestartfcconsistgrp, Startfcconsistgrp, Stopfcconsistgrp, Rmfcconsistgrp, Lsfcmap, Lsfcconsistgrp, Lsvdisk, Lsfcmapprogress, Lsfcmapdependentmaps}
 
 -- A report, or an `advance`.
 abbrev pub is_report : Command → Bool
@@ -22,3 +22,24 @@ is_object (Rmfcmap m force) = true
 is_object (Mkfcconsistgrp name) = true
 is_object (Rmfcconsistgrp group force) = true
 is_object command = false
+
+-- One that makes a mapping, or prepares or stops mappings.
+abbrev pub is_on_mappings : Command → Bool
+is_on_mappings (Mkfcmap source target name group copy_rate clean_rate grain_size incremental autodelete) = true
+is_on_mappings (Prestartfcmap m restore) = true
+is_on_mappings (Stopfcmap m way) = true
+is_on_mappings (Prestartfcconsistgrp group restore) = true
+is_on_mappings (Stopfcconsistgrp group way) = true
+is_on_mappings command = false
+
+-- One that starts mappings.
+abbrev pub is_start : Command → Bool
+is_start (Startfcmap m prep restore) = true
+is_start (Startfcconsistgrp group prep restore) = true
+is_start command = false
+
+-- Any but a line `read` or `write`, which are no commands.
+abbrev pub is_decided : Command → Bool
+is_decided (Write volume block count byte) = false
+is_decided (Read volume block count) = false
+is_decided command = true

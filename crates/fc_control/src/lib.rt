@@ -5,8 +5,8 @@
 //! `fc_books/specs/Deciding.antt`: `settle` is `settle`, and each `decide_..` is `decide` of its command. Want of memory
 //! alone is free, and changes nothing.
 //!
-//! All commands are decided. What a start decides also tells the loop of restores that it found: it is asked for exactly
-//! where nothing else refuses. One call for all commands, and `reserve` and `apply`, are to come.
+//! `decide` decides all commands. What a start decides also tells the loop of restores that it found: it is asked for exactly
+//! where nothing else refuses. `reserve` and `apply` are to come.
 //!
 //! In reading order: `draft` (a decision as it is put together), `ending` (how the copy of a mapping ends), `control`,
 //! `asking` (what is asked of a copy), `settle`, `work` (background work), `name`, `groups` (members of a group),

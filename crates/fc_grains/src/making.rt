@@ -109,7 +109,8 @@ impl<D: Mdisk> Grains<D> {
     /// Appends all disks as they are, those of the pool and those put aside too, to a list that has room for them.
     pub fn give_disks(self, into: &mut Vec<D>)
         requires { vec_len into.old + self.disks ≤ vec_capacity into.old }
-        ensures { (given : List D) × (into.new.items ≡ into.old.items ++ given) × AreAllOf self (map D.meaning given) }
+        ensures given { (given : List D) × (into.new.items ≡ into.old.items ++ given) × AreAllOf self (map D.meaning given) }
+        ensures room { vec_capacity into.old ≤ vec_capacity into.new }
     {
         let Grains {
             volumes,

@@ -68,7 +68,8 @@ impl<D: Mdisk> Lane<D> {
     /// Appends all disks as they are to a list that has room for them.
     pub fn give_disks(self, into: &mut Vec<D>)
         requires { vec_len into.old + self.grains.disks ≤ vec_capacity into.old }
-        ensures { (given : List D) × (into.new.items ≡ into.old.items ++ given) × AreAllOf self.grains (map_list D.meaning given) }
+        ensures given { (given : List D) × (into.new.items ≡ into.old.items ++ given) × AreAllOf self.grains (map_list D.meaning given) }
+        ensures room { vec_capacity into.old ≤ vec_capacity into.new }
     {
         self.body.grains.give_disks(into);
     }

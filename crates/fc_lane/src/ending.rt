@@ -10,6 +10,7 @@ use crate::lane::Lane;
 use crate::stop::Stop;
 use fc_base::ids::{GrainNo, MapId};
 use fc_base::list::List;
+use crate::roomy::RoomyPlan;
 use fc_base::move_plan::MovePlan;
 use fc_base::outcome::NoMemory;
 use fc_base::request::{Move, Place, Reply, Request, Torn, WritePart};
@@ -66,7 +67,7 @@ fn torn_of(stop: Option<Stop>) -> Option<Torn>
 }
 
 /// A plan with room for so many moves; where there is no memory for it, the spare one.
-pub(crate) fn room_for(alloc: Global, moves: usize, spare: &mut Option<MovePlan>) -> MovePlan
+pub(crate) fn room_for(alloc: Global, moves: usize, spare: &mut Option<RoomyPlan>) -> MovePlan
     requires some { 0 < room_of spare.old }
     requires room { moves ≤ room_of spare.old }
     ensures empty { result.moves ≡ [] }
@@ -75,7 +76,8 @@ pub(crate) fn room_for(alloc: Global, moves: usize, spare: &mut Option<MovePlan>
     match MovePlan::new(alloc, moves) {
         Ok(plan) => plan,
         Err(NoMemory) => match spare.take() {
-            Some(mut plan) => {
+            Some(spare) => {
+                let mut plan = spare.into_plan();
                 plan.clear();
                 plan
             }

@@ -33,9 +33,7 @@ impl<D: Mdisk> Lane<D> {
         ensures { HasFilled self.old slot.0 grain.0 result.moves result.end.calls result.end.stop self.new }
     {
         let place = grain.0 / self.lanes as u32;
-        self.body
-            .cascade
-            .plan(Planned::Fill { slot, grain }, &mut self.plan);
+        self.plan.plan(&self.body.cascade, Planned::Fill { slot, grain });
         let plan = self.plan.as_slice();
         let mut made = room_for(alloc, plan.len(), &mut self.spare);
         let end = self.body.make_moves(plan, place, &mut made);

@@ -2,7 +2,7 @@
 
 use crate::access::Accesses;
 use crate::body::Body;
-use fc_base::move_plan::MovePlan;
+use crate::roomy::RoomyPlan;
 use fc_mdisk::mdisk::Mdisk;
 use fc_pick::Work;
 use std::marker::Model;
@@ -16,8 +16,8 @@ pub struct Lane<D: Mdisk> {
     pub(crate) body: Body<D>,
     pub(crate) accesses: Accesses,
     pub(crate) work: Work,
-    pub(crate) plan: MovePlan,
-    pub(crate) spare: Option<MovePlan>,
+    pub(crate) plan: RoomyPlan,
+    pub(crate) spare: Option<RoomyPlan>,
 }
 
 impl<D: Mdisk> Model for Lane<D> {

@@ -26,6 +26,7 @@ mod parts;
 mod read;
 mod ready;
 mod rooms;
+mod roomy;
 mod steps;
 mod stop;
 mod write;

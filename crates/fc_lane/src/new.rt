@@ -9,7 +9,7 @@ ghost use Rattle.fc_lane.specs.Lane.{IsLaneOf, begun};
 use crate::access::Accesses;
 use crate::body::Body;
 use crate::lane::Lane;
-use fc_base::move_plan::MovePlan;
+use crate::roomy::RoomyPlan;
 use fc_base::outcome::NoMemory;
 use fc_base::size::GrainSize;
 use fc_chain::Cascade;
@@ -37,7 +37,7 @@ impl<D: Mdisk> Lane<D> {
         ensures stands { IfOk result (λ made. IsLaneOf made (begun (opened grain (map D.meaning disks.items)))) }
         ensures quiet { IfOk result (λ made. silent_of (map D.meaning disks.items) ≡ 0 → IsQuiet made.grains) }
     {
-        let plan = match MovePlan::new(alloc, 0) {
+        let plan = match RoomyPlan::new(alloc, 0) {
             Ok(plan) => plan,
             Err(NoMemory) => return Err(NoMemory),
         };

@@ -5,7 +5,7 @@ ghost use Rattle.fc_chain.specs.Planning.{volume_count};
 ghost use Rattle.fc_lane.specs.Lane.{IsReady, room_of};
 
 use crate::lane::Lane;
-use fc_base::move_plan::MovePlan;
+use crate::roomy::RoomyPlan;
 use fc_base::outcome::NoMemory;
 use fc_mdisk::mdisk::Mdisk;
 use std::alloc::Global;
@@ -14,7 +14,7 @@ use std::alloc::Global;
 const TOO_MANY: usize = 1_073_741_824;
 
 /// For how many moves there is room.
-fn room_in(spare: &Option<MovePlan>) -> usize
+fn room_in(spare: &Option<RoomyPlan>) -> usize
     ensures { result ≡ room_of spare.now }
 {
     match spare {
@@ -24,14 +24,14 @@ fn room_in(spare: &Option<MovePlan>) -> usize
 }
 
 /// Room for so many moves in the next plan.
-fn widen(alloc: Global, plan: &mut MovePlan, room: usize) -> Result<(), NoMemory>
+fn widen(alloc: Global, plan: &mut RoomyPlan, room: usize) -> Result<(), NoMemory>
     ensures ok { OnOk result (room ≤ plan.new.room) }
     ensures more { plan.old.room ≤ plan.new.room }
 {
     if room <= plan.room() {
         return Ok(());
     }
-    match MovePlan::new(alloc, room) {
+    match RoomyPlan::new(alloc, room) {
         Ok(wider) => {
             *plan = wider;
             Ok(())
@@ -41,14 +41,14 @@ fn widen(alloc: Global, plan: &mut MovePlan, room: usize) -> Result<(), NoMemory
 }
 
 /// Room for so many moves in the next entry.
-fn widen_spare(alloc: Global, spare: &mut Option<MovePlan>, room: usize) -> Result<(), NoMemory>
+fn widen_spare(alloc: Global, spare: &mut Option<RoomyPlan>, room: usize) -> Result<(), NoMemory>
     ensures ok { OnOk result (room ≤ room_of spare.new) }
     ensures more { room_of spare.old ≤ room_of spare.new }
 {
     if room <= room_in(spare) {
         return Ok(());
     }
-    match MovePlan::new(alloc, room) {
+    match RoomyPlan::new(alloc, room) {
         Ok(wider) => {
             *spare = Some(wider);
             Ok(())

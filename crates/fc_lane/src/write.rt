@@ -62,7 +62,7 @@ impl<D: Mdisk> Lane<D> {
             volume: part.volume,
             grain,
         };
-        self.body.cascade.plan(write, &mut self.plan);
+        self.plan.plan(&self.body.cascade, write);
         let plan = self.plan.as_slice();
         let mut made = room_for(alloc, plan.len(), &mut self.spare);
         let end = self.body.write_all(plan, part, grain, place, &mut made);

@@ -67,6 +67,7 @@ pub fn end_input<L: LineStore>(
         → SessionRead result before after (L.Stands store.new) (L.grain store.old) w history.new.entries }
     ensures actors { history.new.actors ≡ history.old.actors }
     ensures grain { L.grain store.new ≡ L.grain store.old }
+    ensures disks { L.disks store.new ≡ L.disks store.old }
     ensures limit { length history.new.entries ≤ 262144 }
 {
     match ending {

@@ -35,6 +35,7 @@ fn feed_byte<L: LineStore>(
     ensures actors { history.new.actors ≡ history.old.actors }
     ensures stays { StaysUp result (TellsSome (L.Stands store.new) history.new.entries) }
     ensures grain { L.grain store.new ≡ L.grain store.old }
+    ensures disks { L.disks store.new ≡ L.disks store.old }
     ensures limit { length history.new.entries ≤ 262144 }
 {
     if byte == b'\n' {
@@ -61,6 +62,7 @@ fn end_line<L: LineStore>(
     ensures actors { history.new.actors ≡ history.old.actors }
     ensures stays { StaysUp result (TellsSome (L.Stands store.new) history.new.entries) }
     ensures grain { L.grain store.new ≡ L.grain store.old }
+    ensures disks { L.disks store.new ≡ L.disks store.old }
     ensures limit { length history.new.entries ≤ 262144 }
 {
     take_return(line);
@@ -88,6 +90,7 @@ pub fn feed<L: LineStore>(
     ensures actors { history.new.actors ≡ history.old.actors }
     ensures stays { StaysUp result (TellsSome (L.Stands store.new) history.new.entries) }
     ensures grain { L.grain store.new ≡ L.grain store.old }
+    ensures disks { L.disks store.new ≡ L.disks store.old }
     ensures limit { length history.new.entries ≤ 262144 }
 {
     for byte in piece {

@@ -62,6 +62,7 @@ fn take_turn<S: Source, L: LineStore>(
     ensures actors { history.new.actors ≡ history.old.actors }
     ensures stands { StandsAfter result (TellsSome (L.Stands store.new) history.new.entries) }
     ensures grain { L.grain store.new ≡ L.grain store.old }
+    ensures disks { L.disks store.new ≡ L.disks store.old }
     ensures limit { length history.new.entries ≤ 262144 }
 {
     match source.take(buffer) {
@@ -111,6 +112,7 @@ pub fn read_pieces<S: Source, L: LineStore>(
     ensures stands { StandsAtEnd result (TellsSome (L.Stands store.new) history.new.entries) }
     ensures actors { history.new.actors ≡ history.old.actors }
     ensures grain { L.grain store.new ≡ L.grain store.old }
+    ensures disks { L.disks store.new ≡ L.disks store.old }
     ensures limit { length history.new.entries ≤ 262144 }
 {
     let mut taken = 0;

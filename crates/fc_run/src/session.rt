@@ -34,6 +34,7 @@ fn read_session<S: Source, L: LineStore>(
     ensures takes { EachGave (S.meaning source.old) (S.meaning source.new) }
     ensures actors { history.new.actors ≡ history.old.actors }
     ensures grain { L.grain store.new ≡ L.grain store.old }
+    ensures disks { L.disks store.new ≡ L.disks store.old }
     ensures limit { length history.new.entries ≤ 262144 }
 {
     let mut buffer = match zeros(alloc, PIECE_BYTES) {
@@ -64,6 +65,7 @@ pub fn run_session<S: Source, K: Sink, L: LineStore>(
     ensures actors { history.new.actors ≡ history.old.actors }
     ensures ran { result ≢ Status.Usage }
     ensures grain { L.grain store.new ≡ L.grain store.old }
+    ensures disks { L.disks store.new ≡ L.disks store.old }
     ensures limit { length history.new.entries ≤ 262144 }
 {
     let ending = read_session(alloc, source, store, history);

@@ -15,6 +15,9 @@ pub trait LineStore {
     /// The grain size of the run.
     ghost grain: { Self → GrainSize };
 
+    /// How many disks it has.
+    ghost disks: { Self → ℕ };
+
     /// The store stands for what a history tells.
     ghost Stands: { Self → Whole → Type 0 };
 
@@ -27,5 +30,6 @@ pub trait LineStore {
             Answered result (Stands self.new) (grain self.old) w (line_asks (grain self.old) reading w line.now) history.old history.new }
         ensures actors { history.new.actors ≡ history.old.actors }
         ensures grain { grain self.new ≡ grain self.old }
+        ensures disks { disks self.new ≡ disks self.old }
         ensures limit { length history.new.entries ≤ 262144 };
 }

@@ -1,24 +1,29 @@
 -- What lanes tell, taken together, is what the sheet of all grains tells.
-use Rattle.std.proofs.Common.{◌≡◌, ◌<◌, ℕ, ◌+◌, ◌≤◌, Option, List, [], ◌∷◌, length, map, take, get_or, refl, sym, ap, subst, ◌∙◌}
+use Rattle.std.proofs.Common.{◌≡◌, ◌<◌, ℕ, ◌+◌, ◌^◌, ◌≤◌, Option, List, [], ◌∷◌, length, map, take, get_or, refl, sym, ap, subst, ◌∙◌, Bool, Some, None, arith}
 use Rattle.std.specs.Prelude.{◌↔◌, slice_index_or, Result, IfOk, fold, min}
 use Rattle.std.specs.List.{sum_by}
 use mathlib.Core.List.{map-map}
-use Rattle.std.proofs.lemmas.List.{get_or-map, take_all}
-use Rattle.std.proofs.lemmas.List.Sums.{sum_by-cons}
-use Rattle.fc_base.specs.Counts.{UsedAt}
+use Rattle.std.proofs.lemmas.List.{get_or-map, take_all, length-map}
+use Rattle.std.proofs.lemmas.List.FromFn.{fill_by_all}
+use Rattle.std.proofs.lemmas.List.Sums.{sum_by-cons, count_by-le-length}
+use Rattle.fc_base.specs.Counts.{is_needed_at, UsedAt}
 use Rattle.fc_base.specs.Pools.{of_kind, least_of_kind}
-use Rattle.fc_base.specs.Sheet.{Sheet, no_slots, shape_of}
+use Rattle.fc_base.specs.Sheet.{slot_at, Sheet, no_slots, shape_of, mapping_place}
+use Rattle.fc_base.specs.SheetFacts.{IsSound}
 use Rattle.fc_base.specs.SheetStep.{triggered}
-use Rattle.fc_base.specs.SheetView.{held_of, needed_of, count_true, LoopAnswer}
+use Rattle.fc_base.specs.SheetView.{held_of, needed_of, count_true, LoopAnswer, held_at, needed_at}
 use Rattle.fc_base.specs.declared.disk.DiskKind.{DiskKind}
+use Rattle.fc_base.specs.declared.ids.SlotId.{SlotId}
 use Rattle.fc_base.specs.declared.ids.VolId.{VolId}
 use Rattle.fc_base.specs.declared.outcome.NoMemory.{NoMemory}
 use Rattle.fc_base.specs.declared.request.Pair.{Pair}
+use Rattle.fc_base.specs.declared.size.GrainSize.{GrainSize}
+use Rattle.fc_chain.proofs.Tallying.{count_le}
 use Rattle.fc_chain.specs.Chains.{Chains}
 use Rattle.fc_base.specs.Column.{Shape}
 use Rattle.fc_lane.specs.Lane.{LaneView}
 use Rattle.fc_sums.specs.Law.{SlotsLaw}
-use Rattle.fc_sums.specs.Parts.{part_of, parts_of, sheet_at, common_to, unneeded_in}
+use Rattle.fc_sums.specs.Parts.{part_of, parts_of, sheet_at, common_to, unneeded_in, joined}
 use Rattle.fc_sums.proofs.Lawful.{sum_law_holds}
 use Rattle.fc_store.specs.LaneSheet.{chains_of, pools_of, sheet_of, HaveSheet}
 
@@ -43,6 +48,21 @@ pub needed_by_lanes : (lanes : List LaneView) → HaveSheet lanes → (m : ℕ) 
 needed_by_lanes lanes h m =
     sum_of lanes h (λ (p : Sheet). needed_of p.slots m) (needed_of (sheet_of lanes).slots m)
     (λ x. (sum_law_holds.counts x.grain (length lanes) (sheet_of lanes) x.some).needed m)
+
+-- the sums can be counted
+held_few : (lanes : List LaneView) → HaveSheet lanes → (o : Option ℕ) → count_true (held_at (sheet_of lanes).slots o) < 2 ^ 32
+held_few lanes h None = omega arith
+held_few lanes h (Some k) = omega (arith, count_by-le-length (λ (b : Bool). b) (slot_at (sheet_of lanes).slots k).held, h.countable k)
+
+pub held_fits : (lanes : List LaneView) → HaveSheet lanes → (m : ℕ) → sum_by (λ (v : LaneView). count_true (held_of v.chains.sheet.slots m)) lanes < 2 ^ 32
+held_fits lanes h m = omega (arith, held_by_lanes lanes h m, held_few lanes h (mapping_place (sheet_of lanes).slots m))
+
+needed_few : (lanes : List LaneView) → HaveSheet lanes → (o : Option ℕ) → needed_at (sheet_of lanes).slots o < 2 ^ 32
+needed_few lanes h None = omega arith
+needed_few lanes h (Some k) = omega (arith, count_le (is_needed_at (sheet_of lanes).slots k) (length (slot_at (sheet_of lanes).slots k).held), h.countable k)
+
+pub needed_fits : (lanes : List LaneView) → HaveSheet lanes → (m : ℕ) → sum_by (λ (v : LaneView). needed_of v.chains.sheet.slots m) lanes < 2 ^ 32
+needed_fits lanes h m = omega (arith, needed_by_lanes lanes h m, needed_few lanes h (mapping_place (sheet_of lanes).slots m))
 
 -- ---- the first lane
 
@@ -84,6 +104,12 @@ unneeded_by_lanes lanes h =
     ∙ (ap (λ (z : List Sheet). common_to (map (λ (p : Sheet). unneeded_in p.slots) z)) h.parts
     ∙ (sum_law_holds.unneeded h.grain (length lanes) (sheet_of lanes) h.some h.sound.names).names)
 
+pub unneeded_answer : (lanes : List LaneView) → HaveSheet lanes → (r : Result (List SlotId) NoMemory) →
+    IfOk r (λ names. names ≡ common_to (map (λ (v : LaneView). unneeded_in v.chains.sheet.slots) lanes)) → IfOk r (λ names. names ≡ unneeded_in (sheet_of lanes).slots)
+unneeded_answer lanes h r answer =
+    let P : List SlotId → Type 0 = λ all. IfOk r (λ names. names ≡ all) in
+    subst P (unneeded_by_lanes lanes h) answer
+
 -- ---- pools
 
 fold_pools : (kind : DiskKind) (a : ℕ) (lanes : List LaneView) → fold (λ least (v : LaneView). min least (of_kind kind v.grains.pool)) a lanes ≡ fold (λ least p. min least (of_kind kind p)) a (pools_of lanes)
@@ -99,3 +125,30 @@ least_by_lanes kind lanes rest v first least i e f le q =
     ∙ (ap (λ a. fold (λ least p. min least (of_kind kind p)) a (pools_of rest)) f
     ∙ (sym (sum_law_holds.pools kind v.grains.pool (pools_of rest))
     ∙ ap (λ z. least_of_kind kind (pools_of z)) (sym e)))))
+
+-- ---- lanes that have the parts of a sheet
+
+chains_are : (grain : GrainSize) (s : Sheet) (lanes : List LaneView) → ((i : ℕ) (d : LaneView) → i < length lanes → (slice_index_or lanes i d).chains.sheet ≡ part_of grain (length lanes) s i) →
+    chains_of lanes ≡ parts_of grain (length lanes) s
+chains_are grain s [] each = refl
+chains_are grain s (v ∷ vs) each =
+    fill_by_all (part_of grain (length (v ∷ vs)) s) (chains_of (v ∷ vs)) (length (v ∷ vs)) no_slots (length-map (v ∷ vs) (λ (x : LaneView). x.chains.sheet))
+    (λ i lt. get_or-map (λ (x : LaneView). x.chains.sheet) (v ∷ vs) i v no_slots lt ∙ each i v lt)
+
+pub have_sheet : (grain : GrainSize) (s : Sheet) (lanes : List LaneView) → 0 < length lanes →
+    ((i : ℕ) (d : LaneView) → i < length lanes → (slice_index_or lanes i d).chains.sheet ≡ part_of grain (length lanes) s i) →
+    IsSound s → ((k : ℕ) → length (slot_at s.slots k).held < 2 ^ 32) → HaveSheet lanes × (sheet_of lanes ≡ s)
+have_sheet grain s lanes some each sound countable =
+    let are : chains_of lanes ≡ parts_of grain (length lanes) s = chains_are grain s lanes each in
+    let same : sheet_of lanes ≡ s = ap joined are ∙ sum_law_holds.joins grain (length lanes) s some in
+    let Sound : Sheet → Type 0 = λ z. IsSound z in
+    let Countable : Sheet → Type 0 = λ z. (k : ℕ) → length (slot_at z.slots k).held < 2 ^ 32 in (
+      record {
+        grain = grain;
+        some = some;
+        parts = are ∙ ap (parts_of grain (length lanes)) (sym same);
+        sound = subst Sound (sym same) sound;
+        countable = subst Countable (sym same) countable;
+      },
+      same,
+    )

@@ -7,3 +7,14 @@ pub mod Turning
 pub mod Parting
 pub mod LaneSheets
 pub mod Readers
+pub mod Dependents
+pub mod Dealing
+pub mod NewStore
+pub mod DealLists
+pub mod Giving
+pub mod PhaseStands
+pub mod PhaseLanes
+pub mod EffectRanges
+pub mod CommandSteps
+pub mod CommandLogs
+pub mod CommandSheet

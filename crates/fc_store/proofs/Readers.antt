@@ -1,8 +1,8 @@
 -- The mappings that read from a mapping's slot, told by the lanes.
-use Rattle.std.proofs.Common.{◌≡◌, ℕ, zero, suc, ◌+◌, ◌<◌, ◌≤◌, Bool, true, false, cond, ◌||◌, Option, Some, None, List, [], ◌∷◌, ◌++◌, length, map, get_or, refl, sym, ap, ap₂, subst, ◌∙◌, arith, inl, inr}
+use Rattle.std.proofs.Common.{◌≡◌, ℕ, zero, suc, ◌<◌, Bool, true, false, cond, ◌||◌, Option, Some, None, List, [], ◌∷◌, length, map, get_or, refl, sym, ap, ap₂, subst, ◌∙◌, arith}
 use Rattle.std.specs.Prelude.{◌↔◌, ◌==◌, slice_index_or, flat_map, filter, AllPairs, Contains, IsSome, Result, Ok, Err, IfOk}
-use Rattle.std.specs.List.{list_any, range_with_len}
-use Rattle.std.proofs.lemmas.Bool.{cases_Bool, both_ways}
+use Rattle.std.specs.List.{list_any}
+use Rattle.std.proofs.lemmas.Bool.{both_ways}
 use Rattle.std.proofs.lemmas.List.{get_or-map}
 use Rattle.std.proofs.lemmas.List.Elements.{filter_agree}
 use Rattle.std.proofs.lemmas.List.Folds.{list_any-append, flat_map-map}
@@ -15,12 +15,12 @@ use Rattle.fc_base.specs.declared.ids.SlotId.{SlotId}
 use Rattle.fc_base.specs.declared.outcome.NoMemory.{NoMemory}
 use Rattle.fc_base.specs.declared.size.GrainSize.{GrainSize}
 use Rattle.fc_base.specs.declared.volume.Mapping.{Mapping}
-use Rattle.fc_chain.specs.Chains.{Chains, IsThere, found}
+use Rattle.fc_chain.specs.Chains.{IsThere, found}
 use Rattle.fc_lane.specs.Lane.{LaneView}
 use Rattle.fc_parts.proofs.Views.{count_parts}
 use Rattle.fc_sheets.proofs.Finding.{mapping_place_at}
 use Rattle.fc_sums.specs.Law.{SlotsLaw}
-use Rattle.fc_sums.specs.Parts.{lane_of, part_of, parts_of, has_name}
+use Rattle.fc_sums.specs.Parts.{lane_of, part_of, has_name}
 use Rattle.fc_sums.proofs.Lawful.{sum_law_holds}
 use Rattle.fc_sums.proofs.Reading.{any_listed}
 use Rattle.fc_sums.proofs.Unneeded.{name_at, names_same}
@@ -88,7 +88,7 @@ owner_reads lanes h name m n k at from = owner_by lanes h name m n k at from (ma
 abbrev pub chosen : (ℕ → Bool) → List Mapping → List MapId
 chosen test mappings = map (λ (m : Mapping). m.id) (filter (λ (m : Mapping). test m.id.0) mappings)
 
-rising_ids : (ms : List Mapping) → AllPairs (λ (a b : Mapping). a.id.0 < b.id.0) ms → IsRisingIds (map (λ (m : Mapping). m.id) ms)
+pub rising_ids : (ms : List Mapping) → AllPairs (λ (a b : Mapping). a.id.0 < b.id.0) ms → IsRisingIds (map (λ (m : Mapping). m.id) ms)
 rising_ids [] rising i j d lt le = absurd (omega arith)
 rising_ids (m ∷ ms) rising i j d lt le =
     let count : length (map (λ (x : Mapping). x.id) (m ∷ ms)) ≡ length (m ∷ ms) = counted (m ∷ ms) in
@@ -118,7 +118,7 @@ chosen_here : (b : Bool) (x : Mapping) (xs : List Mapping) → b ≡ true → Co
 chosen_here true x xs e = here x.id (map (λ (m : Mapping). m.id) xs)
 chosen_here false x xs e = absurd cc
 
-is_chosen : (test : ℕ → Bool) (ms : List Mapping) (place : ℕ) (x : Mapping) → place < length ms → slice_index_or ms place x ≡ x → test x.id.0 ≡ true → Contains (chosen test ms) x.id
+pub is_chosen : (test : ℕ → Bool) (ms : List Mapping) (place : ℕ) (x : Mapping) → place < length ms → slice_index_or ms place x ≡ x → test x.id.0 ≡ true → Contains (chosen test ms) x.id
 is_chosen test [] place x lt e t = absurd (omega arith)
 is_chosen test (m ∷ ms) zero x lt e t =
     let P : Mapping → Type 0 = λ z. Contains (chosen test (m ∷ ms)) z.id in
@@ -130,7 +130,7 @@ front_or : (x y : MapId) (xs : List MapId) (P : MapId → Type 0) → P x → (C
 front_or x y xs P first rest (zero, lt, e) = subst P e first
 front_or x y xs P first rest (suc k, lt, e) = rest (k, (omega arith), e)
 
-chosen_only : (test : ℕ → Bool) (ms : List Mapping) (y : MapId) → Contains (chosen test ms) y → test y.0 ≡ true
+pub chosen_only : (test : ℕ → Bool) (ms : List Mapping) (y : MapId) → Contains (chosen test ms) y → test y.0 ≡ true
 chosen_only test [] y c = absurd (let lt = c.1 in omega arith)
 chosen_only test (m ∷ ms) y c = by (test m.id.0) refl (chosen_only test ms y) c
   where

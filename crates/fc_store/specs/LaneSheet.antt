@@ -1,10 +1,12 @@
 -- The chains of all lanes together, as the lanes tell them.
-use Rattle.std.specs.Prelude.{◌≡◌, ℕ, ◌<◌, ◌^◌, Bool, false, Option, Some, None, List, [], length, map, flat_map, AllPairs, Contains}
+use Rattle.std.specs.Prelude.{◌≡◌, ◌≢◌, nat_eq, fold, slice_index_or, ℕ, ◌<◌, ◌^◌, Bool, false, cond, ◌||◌, ◌==◌, Option, Some, None, List, [], ◌∷◌, ◌++◌, length, map, flat_map, AllPairs, Contains}
+use Rattle.std.specs.List.{list_any, IsDistinct}
 use Rattle.fc_base.specs.Counts.{names_below, is_direct}
 use Rattle.fc_base.specs.Pools.{Pool}
 use Rattle.fc_base.specs.Sheet.{Slot, Sheet, slot_at, birth_place, mapping_place}
 use Rattle.fc_base.specs.SheetFacts.{IsSound}
-use Rattle.fc_base.specs.SheetView.{SheetView}
+use Rattle.fc_base.specs.SheetView.{SheetView, AreMappings, ReadsMapping, DependsOn}
+use Rattle.fc_base.specs.declared.ids.MapId.{MapId}
 use Rattle.fc_base.specs.declared.ids.SlotId.{SlotId}
 use Rattle.fc_base.specs.declared.size.GrainSize.{GrainSize}
 use Rattle.fc_base.specs.declared.volume.Mapping.{Mapping}
@@ -44,6 +46,13 @@ is_slot_among names (Some name) = has_name names name
 abbrev pub is_owner_among : List SlotId → Sheet → ℕ → Bool
 is_owner_among names s m = is_slot_among names (found s.slots (mapping_place s.slots m))
 
+-- A mapping is among these; and these with one more, unless it is that one or among them.
+abbrev pub has_map : List MapId → MapId → Bool
+has_map maps m = list_any (λ (x : MapId). m.0 == x.0) maps
+
+abbrev pub with_map : MapId → List MapId → MapId → List MapId
+with_map but maps m = cond (m.0 == but.0 || has_map maps m) maps (maps ++ m ∷ [])
+
 -- Mappings by id, and each that has a slot.
 pub record AreListed (s : Sheet) (mappings : List Mapping) : Type 0 where
   pub rising : AllPairs (λ (a b : Mapping). a.id.0 < b.id.0) mappings
@@ -56,3 +65,25 @@ pub record HaveSheet (lanes : List LaneView) : Type 0 where
   pub parts : chains_of lanes ≡ parts_of grain (length lanes) (sheet_of lanes)
   pub sound : IsSound (sheet_of lanes)
   pub countable : (k : ℕ) → length (slot_at (sheet_of lanes).slots k).held < 2 ^ 32
+
+-- Mappings that depend on this one, each once, with all that read from it; and so many of them were asked who reads from
+-- them.
+abbrev pub ids_of : List MapId → List ℕ
+ids_of maps = map (λ (x : MapId). x.0) maps
+
+pub record Reached (s : Sheet) (m : MapId) (asked : ℕ) (maps : List MapId) : Type 0 where
+  pub distinct : IsDistinct nat_eq (ids_of maps)
+  pub only : (n : MapId) → Contains maps n → DependsOn s.slots m.0 n.0
+  pub first : (n : MapId) → ReadsMapping s.slots m.0 n.0 → Contains maps n
+  pub onward : (j : ℕ) (d n : MapId) → j < asked → j < length maps → ReadsMapping s.slots (slice_index_or maps j d).0 n.0 → n.0 ≢ m.0 → Contains maps n
+
+-- Those that read from a mapping's slot are added.
+pub record AddsReaders (s : Sheet) (but : MapId) (from : ℕ) (old new : List MapId) : Type 0 where
+  pub more : List MapId
+  pub readers : AreMappings (ReadsMapping s.slots from) more
+  pub added : new ≡ fold (with_map but) old more
+
+-- Lanes with one sheet, and the table of its mappings.
+pub record IsAsked (lanes : List LaneView) (mappings : List Mapping) : Type 0 where
+  pub have : HaveSheet lanes
+  pub listed : AreListed (sheet_of lanes) mappings

@@ -4,3 +4,6 @@ pub mod Answering
 pub mod Asking
 pub mod Apart
 pub mod LaneSheet
+pub mod Dealing
+pub mod Phase
+pub mod Effects

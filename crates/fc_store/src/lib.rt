@@ -2,8 +2,13 @@
 #![tactic(auto)]
 
 mod access;
+mod command;
+mod deal;
+mod effects;
 mod lines;
 mod log;
+mod new;
+mod phases;
 mod sheet;
 pub mod stop;
 pub mod store;

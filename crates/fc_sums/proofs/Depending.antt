@@ -57,11 +57,11 @@ dependent_mapping slots sizes maps k d (onward {e = e} dep r) =
 -- ---- mappings by their places
 
 -- one place
-place_same : (slots : List Slot) (m j k : ℕ) → mapping_place slots m ≡ Some j → mapping_place slots m ≡ Some k → j ≡ k
+pub place_same : (slots : List Slot) (m j k : ℕ) → mapping_place slots m ≡ Some j → mapping_place slots m ≡ Some k → j ≡ k
 place_same slots m j k e f = let q : Some j ≡ Some k = sym e ∙ f in cc
 
 -- one mapping
-mapping_same : (slots : List Slot) (m n k : ℕ) → mapping_place slots m ≡ Some k → mapping_place slots n ≡ Some k → n ≡ m
+pub mapping_same : (slots : List Slot) (m n k : ℕ) → mapping_place slots m ≡ Some k → mapping_place slots n ≡ Some k → n ≡ m
 mapping_same slots m n k e f =
     let a = mapping_place_at slots m k e in
     let b = mapping_place_at slots n k f in
@@ -101,7 +101,7 @@ reads_direct slots sizes m n from reader at there r =
 
 -- ---- dependents
 
-depends_first : (slots : List Slot) (m n : ℕ) → ReadsMapping slots m n → DependsOn slots m n
+pub depends_first : (slots : List Slot) (m n : ℕ) → ReadsMapping slots m n → DependsOn slots m n
 depends_first slots m n r = record {
   on = r.from;
   dependent = r.reader;
@@ -114,7 +114,7 @@ depends_first slots m n r = record {
 seen_from : (slots : List Slot) (j k h h' d : ℕ) → h ≡ h' → d ≢ k → ReadsAt slots j h d → ReadsAt slots k h' d
 seen_from slots j k h h' d e other r = record { grain = r.grain; there = r.there; is_live = r.is_live; other = other; reads = r.reads ∙ ap Some e }
 
-depends_onward : (slots : List Slot) (m e n : ℕ) → DependsOn slots m e → ReadsMapping slots e n → n ≢ m → DependsOn slots m n
+pub depends_onward : (slots : List Slot) (m e n : ℕ) → DependsOn slots m e → ReadsMapping slots e n → n ≢ m → DependsOn slots m n
 depends_onward slots m e n dep r apart = record {
   on = dep.on;
   dependent = r.reader;

@@ -26,5 +26,6 @@ returns-in_default g c = record {
       c.args.line.now c.args.history.now.entries c.in_default.not-End read;
   actors = refl;
   grain = refl;
+  disks = refl;
   limit = c.requires.room;
 }

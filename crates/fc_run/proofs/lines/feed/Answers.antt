@@ -24,6 +24,7 @@ loop-byte-preserved g c = record {
       c.loop-byte-test.true refl c.loop-byte.invariant.fed c.in-Ok.ensures.fed;
   actors = c.in-Ok.ensures.actors ∙ c.loop-byte.invariant.actors;
   grain = c.in-Ok.ensures.grain ∙ c.loop-byte.invariant.grain;
+  disks = c.in-Ok.ensures.disks ∙ c.loop-byte.invariant.disks;
 }
 
 pub returns-clause-fed : goal.returns-clause-fed

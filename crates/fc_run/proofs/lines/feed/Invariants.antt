@@ -16,4 +16,5 @@ invariant-loop-byte g l =
           Reached (g.L.LineStore.Stands l.store) l.history.entries (Progress grain w (bytes ++ take l.byte-index l.piece) l.line.items l.history.entries);
       actors : l.history.actors ≡ l.fn.history.actors;
       grain : g.L.LineStore.grain l.store ≡ grain;
+      disks : g.L.LineStore.disks l.store ≡ g.L.LineStore.disks l.fn.store;
     }

@@ -36,6 +36,7 @@ loop-taken-preserved g c =
       room = c.in-More.ensures.limit;
       actors = c.in-More.ensures.actors ∙ c.loop-taken.invariant.actors;
       grain = c.in-More.ensures.grain ∙ c.loop-taken.invariant.grain;
+      disks = c.in-More.ensures.disks ∙ c.loop-taken.invariant.disks;
     }
 
 pub returns-in-End-clause-read : goal.returns-in-End-clause-read

@@ -17,6 +17,7 @@ invariant-loop-taken g l =
       room : length l.history.entries ≤ 262144;
       actors : l.history.actors ≡ l.fn.history.actors;
       grain : g.L.LineStore.grain l.store ≡ grain;
+      disks : g.L.LineStore.disks l.store ≡ g.L.LineStore.disks l.fn.store;
     }
 
 abbrev pub decreases-loop-taken : goal.decreases-loop-taken

@@ -55,8 +55,8 @@ unreachable-requires g c =
       c.self.inside.aside.ok.0,
     )
 
-pub returns : goal.returns
-returns g c =
+pub returns-clause-given : goal.returns-clause-given
+returns-clause-given g c =
     let m = g.D.Mdisk.meaning in
     let first : List g.row.D.Denot = c.give_volumes.ensures.given.0 in
     let second : List g.row.D.Denot = c.give_disks.ensures.given.0 in

@@ -1,5 +1,5 @@
 -- The access fits the lane of its grain, and its entry is right.
-use Rattle.std.proofs.Common.{rules, arith, ◌≡◌, ◌<◌, ◌≤◌, ◌%◌, ℕ, [], length, slice_index_or, slice_set, ◌∷◌, subst, sym, refl, ◌∙◌, ap}
+use Rattle.std.proofs.Common.{arith, ◌≡◌, ◌%◌, [], length, slice_index_or, slice_set, ◌∷◌, subst, sym, ◌∙◌, ap}
 use Rattle.fc_store.specs.Store.{StandsFor}
 use Rattle.fc_store.specs.Asking.{part_of}
 use Rattle.fc_base.specs.Grain.{grain_blocks}

@@ -1,0 +1,46 @@
+-- What the lanes give back, lane by lane.
+use Rattle.std.proofs.Common.{◌≡◌, ℕ, suc, ◌+◌, ◌^◌, ◌<◌, List, [], ◌∷◌, ◌++◌, refl, sym, ap₂, ◌∙◌, arith}
+use Rattle.std.specs.List.{All}
+use Rattle.std.proofs.lemmas.List.{length-append}
+use Rattle.std.proofs.lemmas.List.Elements.{All-nil, All-cons}
+use Rattle.std.proofs.lemmas.List.Sums.{sum_by-append, sum_by_push}
+use Rattle.fc_grains.specs.Grains.{AreAllOf, one_if_silent, stopped}
+use Rattle.fc_lane.specs.Lane.{LaneView}
+use Rattle.fc_mdisk.specs.Disk.{DiskState}
+use Rattle.fc_store.specs.Dealing.{AreAllIn}
+
+all_but_last : {X : Type 0} → (P : X → Type 0) (xs : List X) (y : X) → All P (xs ++ y ∷ []) → All P xs
+all_but_last P [] y all = All-nil P
+all_but_last P (x ∷ xs) y all = All-cons P x xs (all 0 x (omega arith)) (all_but_last P xs y (λ k e lt. all (suc k) e (omega (arith, lt))))
+
+of_last : {X : Type 0} → (P : X → Type 0) (xs : List X) (y : X) → All P (xs ++ y ∷ []) → P y
+of_last P [] y all = all 0 y (omega arith)
+of_last P (x ∷ xs) y all = of_last P xs y (λ k e lt. all (suc k) e (omega (arith, lt)))
+
+counted : (n c : ℕ) → stopped n ≡ c → c + 1 < 2 ^ 64 → n ≡ c
+counted n c is below = grind (arith, is, below)
+
+pub nothing_given : AreAllIn [] []
+nothing_given = record { number = refl; silent = refl; calls = λ below. refl; faults = λ below. refl }
+
+pub lane_given : (done : List LaneView) (v : LaneView) (disks own : List DiskState) → AreAllIn done disks → AreAllOf v.grains own → AreAllIn (done ++ v ∷ []) (disks ++ own)
+lane_given done v disks own all more = record {
+  number =
+      length-append disks own
+      ∙ ap₂ (λ a b. a + b) all.number more.number
+      ∙ sym (sum_by_push (λ (x : LaneView). x.grains.disks) done v);
+  silent =
+      sum_by-append (λ (d : DiskState). one_if_silent d.due) disks own
+      ∙ ap₂ (λ a b. a + b) all.silent more.silent
+      ∙ sym (sum_by_push (λ (x : LaneView). x.grains.silent) done v);
+  calls = λ below.
+      let P : LaneView → Type 0 = λ x. x.grains.calls + 1 < 2 ^ 64 in
+      sum_by-append (λ (d : DiskState). d.calls) disks own
+      ∙ ap₂ (λ a b. a + b) (all.calls (all_but_last P done v below)) (counted _ v.grains.calls more.calls (of_last P done v below))
+      ∙ sym (sum_by_push (λ (x : LaneView). x.grains.calls) done v);
+  faults = λ below.
+      let P : LaneView → Type 0 = λ x. x.grains.faults + 1 < 2 ^ 64 in
+      sum_by-append (λ (d : DiskState). d.faults) disks own
+      ∙ ap₂ (λ a b. a + b) (all.faults (all_but_last P done v below)) (counted _ v.grains.faults more.faults (of_last P done v below))
+      ∙ sym (sum_by_push (λ (x : LaneView). x.grains.faults) done v);
+}

@@ -1,0 +1,7 @@
+use Rattle.fc_store.proofs.CommandLogs.{log_after_settling}
+use Rattle.fc_store.proofs.store.Store.log_settled.Goals as goal
+
+pub returns-clause-answered : goal.returns-clause-answered
+returns-clause-answered g c = λ decisions w same stands few told.
+    log_after_settling c.log_command.result c.args.self.now c.args.self.now.control.grain decisions w c.args.command c.args.effects c.args.history.now c.log_command.new.history
+    c.requires.decided c.log_command.ensures.answered same stands few told

@@ -1,0 +1,40 @@
+use Rattle.std.proofs.Common.{◌<◌, ◌^◌, ◌∙◌, List, length, map, sym, subst, arith}
+use Rattle.std.specs.List.{All}
+use Rattle.std.proofs.lemmas.List.{length-map}
+use Rattle.fc_mdisk.specs.Disk.{DiskState}
+use Rattle.fc_store.specs.Dealing.{Begin, FitLane, all_dealt}
+use Rattle.fc_store.proofs.DealLists.{begin_dealt, lists_count}
+use Rattle.fc_store.proofs.NewStore.{all_fit, number_made, quiet_made, silent_made, store_begins}
+use Rattle.fc_store.proofs.store.Store.new.Given as given
+use Rattle.fc_store.proofs.store.Store.new.Goals as goal
+
+made : (g : given.Over) (c : goal.After-new g) → Begin c.args.grain 4 (all_dealt 4 (map g.D.Mdisk.meaning c.args.disks.items)) c.in-Ok-make_lanes.lanes.items
+made g c =
+    begin_dealt c.args.grain _ 4 (map g.D.Mdisk.meaning c.args.disks.items) _ c.in-Ok-make_lanes.lanes.items
+    (c.in-Ok.lists.ok.0 ∙ lists_count g.D.Mdisk.meaning 4 (map g.D.Mdisk.meaning c.args.disks.items) c.in-Ok.lists.items c.in-Ok.ensures)
+    c.in-Ok.ensures
+    c.in-Ok-make_lanes.ensures
+
+pub make_lanes-requires-clause-fit : goal.make_lanes-requires-clause-fit
+make_lanes-requires-clause-fit g c =
+    let disks : List DiskState = map g.D.Mdisk.meaning c.args.disks.items in
+    let few : length disks < 2 ^ 30 = omega (arith, c.requires.few, c.args.disks.ok.0, length-map c.args.disks.items g.D.Mdisk.meaning) in
+    subst (λ (xs : List (List DiskState)). All FitLane xs) (sym c.in-Ok.ensures) (all_fit 4 disks few c.requires.fresh)
+
+pub returns-clause-stands : goal.returns-clause-stands
+returns-clause-stands g c =
+    store_begins c.args.grain 4 (map g.D.Mdisk.meaning c.args.disks.items) c.in-Ok-make_lanes.lanes.items (made g c) c.new.result c.new.ensures (omega arith) c.requires.fresh
+
+pub returns-clause-quiet : goal.returns-clause-quiet
+returns-clause-quiet g c told =
+    quiet_made c.args.grain 4 (map g.D.Mdisk.meaning c.args.disks.items) c.in-Ok-make_lanes.lanes.items (made g c) told (omega arith)
+
+pub returns-clause-disks : goal.returns-clause-disks
+returns-clause-disks g c =
+    number_made c.args.grain 4 (map g.D.Mdisk.meaning c.args.disks.items) c.in-Ok-make_lanes.lanes.items (made g c) (omega arith)
+    ∙ length-map c.args.disks.items g.D.Mdisk.meaning
+    ∙ sym c.args.disks.ok.0
+
+pub returns-clause-silent : goal.returns-clause-silent
+returns-clause-silent g c =
+    silent_made c.args.grain 4 (map g.D.Mdisk.meaning c.args.disks.items) c.in-Ok-make_lanes.lanes.items (made g c) (omega arith)

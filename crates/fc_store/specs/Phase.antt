@@ -1,0 +1,83 @@
+-- The two phases of a command: a settling and what is decided after it. Each is made ready, and then done.
+use Rattle.std.specs.Prelude.{◌≡◌, ℕ, ◌<◌, List, fold, length, slice_index_or, Option}
+use Rattle.fc_base.specs.SheetView.{SheetView}
+use Rattle.fc_base.specs.Tables.{after_change}
+use Rattle.fc_base.specs.declared.command.Command.{Command}
+use Rattle.fc_base.specs.declared.command.Command.TheVariants.{Read as ReadLine, Write as WriteLine}
+use Rattle.fc_base.specs.declared.decision.Decision.{Decision}
+use Rattle.fc_base.specs.declared.decision.LaneEvent.{LaneEvent}
+use Rattle.fc_base.specs.declared.ids.VolId.{VolId}
+use Rattle.fc_base.specs.declared.size.GrainSize.{GrainSize}
+use Rattle.fc_books.specs.Deciding.{settle, settled, decide}
+use Rattle.fc_books.specs.After.{after_table_change, flags_after}
+use Rattle.fc_control.specs.Control.{ControlState, books_of}
+use Rattle.fc_lane.specs.Lane.{LaneView, CanDoEvents, IsLaneOf, IsSameLane, of}
+use Rattle.fc_legal.specs.Lawful.{IsLawful, left_by}
+use Rattle.fc_legal.specs.Stands.{Stands}
+use Rattle.fc_legal.specs.Steps.{no_restarts}
+use Rattle.fc_legal.specs.Whole.{Whole, lanes}
+use Rattle.fc_rules.specs.LaneFits.{FitsLane}
+use Rattle.fc_rules.specs.LaneTold.{LaneTold, told_event}
+use Rattle.fc_store.specs.Store.{StoreView, IsControlOf, AreLanesOf, AreFewCalls}
+
+-- The store stands for what is told after so many decisions. Between the phases of a command there may be one more than its
+-- entries allow.
+pub record StandsAt (decisions : ℕ) (s : StoreView) (w : Whole) : Type 0 where
+  pub control : IsControlOf s.control w.books
+  pub count : length s.lanes ≡ lanes w
+  pub each : AreLanesOf s.control.grain w s.lanes
+  pub stands : Stands decisions w
+  pub calls : AreFewCalls w
+
+-- A decision that is lawful on what the store stands for.
+abbrev pub IsDecidedAt : StoreView → Decision → Type 0
+IsDecidedAt s d = (decisions : ℕ) × (w : Whole) × StandsAt decisions s w × IsLawful s.control.grain decisions w d
+
+-- ---- what is done
+
+-- The control part after a decision's changes and events.
+pub record IsControlAfter (old new : ControlState) (d : Decision) : Type 0 where
+  pub grain : new.grain ≡ old.grain
+  pub tables : new.tables ≡ fold after_change old.tables d.changes
+  pub next_volume : (view : SheetView) → new.next_volume ≡ (fold after_table_change (books_of old view) d.changes).next_volume
+  pub next_mapping : (view : SheetView) → new.next_mapping ≡ (fold after_table_change (books_of old view) d.changes).next_mapping
+  pub next_group : (view : SheetView) → new.next_group ≡ (fold after_table_change (books_of old view) d.changes).next_group
+  pub flags : new.flags ≡ fold flags_after old.flags d.events
+
+-- A lane after events that fit it.
+pub record IsLaneAfter (events : List LaneEvent) (old new : LaneView) : Type 0 where
+  pub same : IsSameLane old new
+  pub stands : (told : LaneTold) → IsLaneOf old told → FitsLane (of old) told events → IsLaneOf new (fold (told_event (of old)) told events)
+
+-- A lane that was made ready.
+pub record IsLaneReady (old new : LaneView) : Type 0 where
+  pub same : IsSameLane old new
+  pub stands : (told : LaneTold) → IsLaneOf old told → IsLaneOf new told
+
+-- Of each lane, from the one store to the other.
+pub record EachLane (P : LaneView → LaneView → Type 0) (old new : List LaneView) : Type 0 where
+  pub count : length new ≡ length old
+  pub each : (i : ℕ) (d : LaneView) → i < length old → P (slice_index_or old i d) (slice_index_or new i d)
+
+-- All lanes can do the events.
+abbrev pub CanAllDo : List LaneView → List LaneEvent → Type 0
+CanAllDo ls events = (i : ℕ) (d : LaneView) → i < length ls → CanDoEvents (slice_index_or ls i d) events
+
+-- The events fit what each lane is told.
+abbrev pub FitAll : List LaneView → List LaneEvent → Type 0
+FitAll ls events = (i : ℕ) (d : LaneView) → i < length ls → (told : LaneTold) × IsLaneOf (slice_index_or ls i d) told × FitsLane (of (slice_index_or ls i d)) told events
+
+-- ---- commands
+
+-- What is told after the settling, and what is decided of the command then.
+abbrev pub after_settling : GrainSize → Whole → Whole
+after_settling grain w = left_by grain w (settle w.books)
+
+abbrev pub decided_after : GrainSize → Whole → Command → Option (List VolId) → Decision
+decided_after grain w command loop = decide no_restarts grain (settled w.books) command loop
+
+-- A line that is a command of its own: no access.
+abbrev pub IsDecided : Command → Type 0
+IsDecided (ReadLine volume block count) = ⊥
+IsDecided (WriteLine volume block count byte) = ⊥
+IsDecided command = Unit {0}

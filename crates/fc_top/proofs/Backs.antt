@@ -1,0 +1,122 @@
+-- The counts of the lanes' disks are those that the entries tell.
+use Rattle.std.proofs.Common.{◌≡◌, ℕ, ◌+◌, ◌*◌, ◌^◌, ◌<◌, ◌≤◌, List, [], ◌∷◌, length, map, slice_index_or, sym, ◌∙◌, ap, subst, arith}
+use Rattle.std.specs.List.{All, sum}
+use Rattle.std.proofs.Math.Nat.{min-eq_left}
+use Rattle.std.proofs.lemmas.List.{ext_get_or, get_or-map, length-map}
+use Rattle.std.proofs.lemmas.List.Elements.{All-get_or, All-from_get_or}
+use Rattle.std.proofs.lemmas.List.Sums.{sum-map}
+use Rattle.fc_base.specs.declared.size.GrainSize.{GrainSize}
+use Rattle.fc_entry.specs.declared.entry.Entry.{Entry}
+use Rattle.fc_grains.specs.Grains.{stopped}
+use Rattle.fc_lane.specs.Lane.{LaneView}
+use Rattle.fc_legal.specs.Legal.{IsLegal}
+use Rattle.fc_legal.specs.Whole.{Whole, part_at}
+use Rattle.fc_mdisk.specs.Disk.{DiskState}
+use Rattle.fc_store.specs.Dealing.{AreAllIn, disks_in}
+use Rattle.fc_store.specs.Store.{StoreView, StandsFor, IsLaneAt}
+use Rattle.fc_top.specs.DisksBack.{AreBack, AreCounted}
+use Rattle.fc_top.proofs.Counting.{IsLegal-counts}
+
+few-counted : (n m : ℕ) → n ≤ m * 2 ^ 32 → m ≤ 262144 → n + 1 < 2 ^ 64
+few-counted n m few entries = omega (arith, few, entries)
+
+stopped-few : (n m : ℕ) → n ≤ m * 2 ^ 32 → m ≤ 262144 → stopped n ≡ n
+stopped-few n m few entries = min-eq_left (omega (arith, few-counted n m few entries))
+
+-- what each lane tells is what is told of it
+by_lanes :
+    (f : LaneView → ℕ) (ls : List LaneView) (counts : List ℕ) (d : LaneView) →
+    length ls ≡ length counts →
+    ((i : ℕ) → i < length ls → f (slice_index_or ls i d) ≡ slice_index_or counts i 0) →
+    map f ls ≡ counts
+by_lanes f ls counts d long each =
+    ext_get_or 0 (map f ls) counts (length-map ls f ∙ long)
+    (λ i inside.
+    let within : i < length ls = omega (arith, inside, length-map ls f) in
+    get_or-map f ls i d 0 within ∙ each i within)
+
+-- a fact on what all lanes tell
+All-of_map : (P : ℕ → Type 0) (f : LaneView → ℕ) (ls : List LaneView) (d : LaneView) → All P (map f ls) → All (λ v. P (f v)) ls
+All-of_map P f ls d all =
+    All-from_get_or (λ v. P (f v)) ls d
+    (λ i inside.
+    subst P (get_or-map f ls i d 0 inside)
+    (All-get_or P (map f ls) i 0 (omega (arith, inside, length-map ls f)) all))
+
+lane_calls :
+    (grain : GrainSize) (w : Whole) (i : ℕ) (v : LaneView) →
+    slice_index_or w.calls i 0 ≤ w.entries * 2 ^ 32 →
+    w.entries ≤ 262144 →
+    IsLaneAt grain w i v →
+    v.grains.calls ≡ slice_index_or w.calls i 0
+unfolding part_at
+lane_calls grain w i v few entries at =
+    at.stands.calls ∙ stopped-few (slice_index_or w.calls i 0) w.entries few entries
+
+lane_faults :
+    (grain : GrainSize) (w : Whole) (i : ℕ) (v : LaneView) →
+    IsLaneAt grain w i v →
+    v.grains.faults ≡ slice_index_or w.faults i 0
+unfolding part_at
+lane_faults grain w i v at = at.stands.faults
+
+calls_told : (s : StoreView) (w : Whole) (d : LaneView) → StandsFor s w → w.entries ≤ 262144 → map (λ (v : LaneView). v.grains.calls) s.lanes ≡ w.calls
+calls_told s w d stands entries =
+    by_lanes (λ (v : LaneView). v.grains.calls) s.lanes w.calls d (stands.count ∙ sym stands.stands.each_lane.calls)
+    (λ i within. lane_calls s.control.grain w i (slice_index_or s.lanes i d) (stands.calls i) entries (stands.each i d within))
+
+faults_told : (s : StoreView) (w : Whole) (d : LaneView) → StandsFor s w → map (λ (v : LaneView). v.grains.faults) s.lanes ≡ w.faults
+faults_told s w d stands =
+    by_lanes (λ (v : LaneView). v.grains.faults) s.lanes w.faults d stands.count
+    (λ i within. lane_faults s.control.grain w i (slice_index_or s.lanes i d) (stands.each i d within))
+
+-- the calls of each lane are counted
+calls_counted : (w : Whole) → ((i : ℕ) → slice_index_or w.calls i 0 ≤ w.entries * 2 ^ 32) → w.entries ≤ 262144 → AreCounted w.calls
+calls_counted w few entries =
+    All-from_get_or (λ n. n + 1 < 2 ^ 64) w.calls 0
+    (λ i inside. few-counted (slice_index_or w.calls i 0) w.entries (few i) entries)
+
+-- some lane
+lane_in : (s : StoreView) (w : Whole) → StandsFor s w → LaneView
+lane_in s w stands = first s.lanes (omega (arith, stands.count, stands.stands.each_lane.some))
+  where
+    first : (ls : List LaneView) → 0 < length ls → LaneView
+    first [] some = absurd (omega (arith, some))
+    first (v ∷ ls) some = v
+
+-- all disks that the lanes have, as many as were handed in
+pub AreBack-all :
+    (old given : List DiskState) (s : StoreView) (w : Whole) →
+    StandsFor s w →
+    w.entries ≤ 262144 →
+    disks_in s.lanes ≡ length old →
+    AreAllIn s.lanes given →
+    AreBack old given w
+AreBack-all old given s w stands entries many all =
+    let d : LaneView = lane_in s w stands in
+    let calls_are = calls_told s w d stands entries in
+    let faults_are = faults_told s w d stands in
+    let calls_of_lane : LaneView → ℕ = λ v. v.grains.calls in
+    let faults_of_lane : LaneView → ℕ = λ v. v.grains.faults in
+    record {
+      number = all.number ∙ many;
+      calls =
+          all.calls (All-of_map (λ n. n + 1 < 2 ^ 64) calls_of_lane s.lanes d (subst AreCounted (sym calls_are) (calls_counted w stands.calls entries)))
+          ∙ (sym (sum-map calls_of_lane s.lanes) ∙ ap sum calls_are);
+      faults = λ counted.
+          all.faults (All-of_map (λ n. n + 1 < 2 ^ 64) faults_of_lane s.lanes d (subst AreCounted (sym faults_are) counted))
+          ∙ (sym (sum-map faults_of_lane s.lanes) ∙ ap sum faults_are);
+    }
+
+-- after a legal history of no more than the greatest number of entries
+pub AreBack-legal :
+    (old given : List DiskState) (s : StoreView) (grain : GrainSize) (history : List Entry) (w last : Whole) →
+    w.entries ≡ 0 →
+    IsLegal grain w history last →
+    length history ≤ 262144 →
+    StandsFor s last →
+    disks_in s.lanes ≡ length old →
+    AreAllIn s.lanes given →
+    AreBack old given last
+AreBack-legal old given s grain history w last fresh legal few stands many all =
+    AreBack-all old given s last stands (omega (arith, fresh, few, IsLegal-counts grain w last history legal)) many all

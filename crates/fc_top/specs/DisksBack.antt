@@ -1,0 +1,39 @@
+-- What becomes of the disks.
+use Rattle.std.specs.Prelude.{◌≡◌, ℕ, ◌+◌, ◌<◌, ◌^◌, List, length, unwrap_or}
+use Rattle.std.specs.List.{All, sum}
+use Rattle.fc_base.specs.declared.limits.TheConstants.{LANES}
+use Rattle.fc_base.specs.declared.size.GrainSize.{GrainSize}
+use Rattle.fc_base.specs.declared.size.GrainSize.TheVariants.{K256}
+use Rattle.fc_legal.specs.Whole.{Whole, opened}
+use Rattle.fc_mdisk.specs.Disk.{DiskState}
+use Rattle.fc_mdisk.specs.Disks.{calls_of, faults_of}
+use Rattle.fc_run.specs.declared.status.Status.{Status}
+use Rattle.fc_run.specs.declared.status.Status.TheVariants as status
+use Rattle.fc_store.specs.Dealing.{pools_dealt}
+use Rattle.fc_top.specs.Words.{session_grain}
+
+-- The grain size of a session; without one in the words, grains are of 256 KiB.
+abbrev pub grain_of : List (List ℕ) → GrainSize
+grain_of words = unwrap_or (session_grain words) K256
+
+-- What is told before the first entry, with these disks, which are dealt to the lanes.
+abbrev pub begun : List DiskState → Whole
+begun disks = opened (pools_dealt LANES disks)
+
+-- No count has come to 2^64 - 1, where it would stand still.
+abbrev pub AreCounted : List ℕ → Type 0
+AreCounted counts = All (λ n. n + 1 < 2 ^ 64) counts
+
+-- As many disks are there as were handed in; their calls are those that the entries tell; and their faults too, where the
+-- lanes' are counted.
+pub record AreBack (old new : List DiskState) (last : Whole) : Type 0 where
+  pub number : length new ≡ length old
+  pub calls : calls_of new ≡ sum last.calls
+  pub faults : AreCounted last.faults → faults_of new ≡ sum last.faults
+
+-- What becomes of the disks, by status: without a session they stay as they are; where memory was wanted nothing is
+-- said of them.
+abbrev pub DisksAfter : Status → List DiskState → List DiskState → Whole → Type 0
+DisksAfter status.NoMemory old new last = Unit {0}
+DisksAfter status.Usage old new last = new ≡ old
+DisksAfter _ old new last = AreBack old new last

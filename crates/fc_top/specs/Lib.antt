@@ -1,0 +1,3 @@
+-- What a whole session means, one subject a file, to be read top to bottom.
+pub mod Words
+pub mod DisksBack

@@ -1,0 +1,73 @@
+//! The one owner of the store: reads each line by the grammar, and has the store answer it.
+
+ghost use Rattle.std.specs.Prelude.{◌≡◌, ◌≤◌, length, Ok};
+ghost use Rattle.fc_legal.specs.Asked.{asked};
+ghost use Rattle.fc_legal.specs.Run.{by_main};
+ghost use Rattle.fc_legal.specs.Whole.{Whole};
+ghost use Rattle.fc_run.specs.Reading.{as_built};
+ghost use Rattle.fc_store.specs.Answering.{Answered, IsTold, TellsSome};
+ghost use Rattle.fc_store.specs.Dealing.{disks_in};
+ghost use Rattle.fc_store.specs.Store.{StandsFor};
+
+use crate::built::is_built;
+use fc_base::command::{Line, Scope};
+use fc_base::fault::WordFault;
+use fc_entry::history::History;
+use fc_mdisk::mdisk::Mdisk;
+use fc_run::store::LineStore;
+use fc_store::stop::Stop;
+use fc_store::store::Store;
+use fc_words::line::read_line;
+use fc_words::refused::WordRefused;
+use std::alloc::Global;
+
+/// A store under one owner, with the allocator for the names of its lines.
+#[derive(Drop)]
+pub struct Owner<D: Mdisk> {
+    /// The allocator.
+    pub alloc: Global,
+    /// The store.
+    pub store: Store<D>,
+}
+
+impl<D: Mdisk> LineStore for Owner<D> {
+    ghost grain = { λ owner. owner.store.control.grain };
+
+    ghost disks = { λ owner. disks_in owner.store.lanes };
+
+    ghost Stands = { λ owner w. StandsFor owner.store w };
+
+    fn answer(&mut self, line: &[u8], history: &mut History) -> Result<(), Stop> {
+        match read_line(self.alloc, line, Scope::Free) {
+            Ok(line) => answer_line(&mut self.store, line, history),
+            Err(WordRefused::Fault(fault)) => self.store.push_unread(fault, history),
+            Err(WordRefused::NoMemory) => Err(Stop::NoMemory),
+        }
+    }
+}
+
+/// Answers a line that was read.
+fn answer_line<D: Mdisk>(
+    store: &mut Store<D>,
+    line: Line,
+    history: &mut History,
+) -> Result<(), Stop>
+    requires stands { TellsSome (StandsFor store.old) history.old.entries }
+    requires room { length history.old.entries ≤ 262144 }
+    ensures answered { (w : Whole) → IsTold (StandsFor store.old) history.old.entries w →
+        Answered result (StandsFor store.new) store.old.control.grain w
+        (by_main (asked store.old.control.grain w.books (as_built (Ok line)))) history.old history.new }
+    ensures grain { store.new.control.grain ≡ store.old.control.grain }
+    ensures disks { disks_in store.new.lanes ≡ disks_in store.old.lanes }
+    ensures limit { length history.new.entries ≤ 262144 }
+{
+    if is_built(&line) {
+        store.run_line(line, history)
+    } else {
+        let_go(line);
+        store.push_unread(WordFault::UnknownCommand, history)
+    }
+}
+
+/// Lets a line go.
+fn let_go(_line: Line) {}
