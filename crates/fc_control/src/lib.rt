@@ -6,7 +6,8 @@
 //! alone is free, and changes nothing.
 //!
 //! `decide` decides all commands. What a start decides also tells the loop of restores that it found: it is asked for exactly
-//! where nothing else refuses. `reserve` and `apply` are to come.
+//! where nothing else refuses. `reserve` takes all the memory that `apply` of a decision will need; `apply` makes of the
+//! tables, the next ids and the flags what the books say, and takes no memory.
 //!
 //! In reading order: `draft` (a decision as it is put together), `ending` (how the copy of a mapping ends), `control`,
 //! `asking` (what is asked of a copy), `settle`, `work` (background work), `name`, `groups` (members of a group),
