@@ -17,6 +17,8 @@ use Rattle.fc_books.specs.Books.{Books}
 use Rattle.fc_books.specs.Refused.{access_refused, of_one}
 use Rattle.fc_entry.specs.Refused.{blocks_refusal, first_of, where_}
 use Rattle.fc_legal.specs.Asked.{touched, access_by, command_asked, read_in, write_in}
+use Rattle.fc_legal.specs.Whole.{Whole}
+use Rattle.fc_store.specs.Apart.{IsRefusalOf}
 use Rattle.fc_store.specs.Asking.{command_of, part_of}
 use Rattle.fc_store.specs.declared.access.Access.{Access}
 use Rattle.fc_store.specs.declared.access.Access.TheVariants.{Read, Write}
@@ -79,3 +81,10 @@ is_taken grain b access volume block count v found passes =
       few = ltb-false 8192 count pass.0;
       there = ltb-false (v.grains * grain_blocks grain) (block + count) parts.1;
     }
+
+-- A refused access is a request that is refused.
+pub refusal_of : (grain : GrainSize) (w : Whole) (access : Access) (volume : Ref) (block count : ℕ) (refusal : Refusal)
+    → access_refused grain w.books volume block count ≡ Some refusal
+    → IsRefusalOf grain w (Asked (command_of access volume block count)) refusal
+refusal_of grain w Read volume block count refusal refused = refused
+refusal_of grain w (Write byte) volume block count refusal refused = refused

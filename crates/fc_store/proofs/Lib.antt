@@ -5,6 +5,7 @@ pub mod Places
 pub mod Asked
 pub mod Turning
 pub mod Parting
+pub mod Ranging
 pub mod LaneSheets
 pub mod Readers
 pub mod Dependents

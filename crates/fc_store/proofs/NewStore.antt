@@ -1,5 +1,5 @@
 -- A store that begins stands for what is told before the first entry.
-use Rattle.std.proofs.Common.{◌≡◌, ℕ, suc, zero, ◌+◌, ◌^◌, ◌<◌, List, [], ◌∷◌, length, map, get_or, replicate, refl, sym, ap, ap₂, subst, ◌∙◌, arith}
+use Rattle.std.proofs.Common.{◌≡◌, ℕ, suc, zero, ◌+◌, ◌^◌, ◌<◌, List, [], ◌∷◌, length, map, get_or, replicate, refl, sym, ap, ap₂, subst, ◌∙◌, arith, None}
 use Rattle.std.specs.List.{All, sum_by}
 use Rattle.std.proofs.lemmas.List.{get_or-map, length-map}
 use Rattle.std.proofs.lemmas.List.Elements.{All-nil}
@@ -169,7 +169,7 @@ module _ (grain : GrainSize) (n : ℕ) (disks : List DiskState) (ls : List LaneV
         stands = subst (λ (t : LaneTold). IsLaneOf v t) (ap (λ (g : GrainsState). begun g) (grains_at i d lt) ∙ sym (told_begun grain n disks i lt fresh)) begins.stands;
       }
 
-  pub store_begins : (c : ControlState) → c ≡ record { grain = grain; tables = no_tables; next_volume = 0; next_mapping = 0; next_group = 1; flags = [] } → 0 < n → All IsFresh disks →
+  pub store_begins : (c : ControlState) → c ≡ record { grain = grain; tables = no_tables; next_volume = 0; next_mapping = 0; next_group = 1; flags = []; reserved = None; room = 0 } → 0 < n → All IsFresh disks →
       StandsFor (record { control = c; lanes = ls }) (opened (pools_dealt n disks))
   store_begins c is some fresh =
       let count : length (pools_dealt n disks) ≡ n = length-map (all_dealt n disks) pool_of ∙ count_dealt n disks in

@@ -38,7 +38,7 @@ module _ (s : StoreView) (w : Whole) (g place : ℕ) (old ready : LaneView) (pla
   place_is : place ≡ lane_of_grain w g
   place_is = at ∙ ap (λ n. g % n) stands.count
 
-  inside : place < length s.lanes
+  pub inside : place < length s.lanes
   inside =
       let some : 0 < length s.lanes = omega (arith, stands.count, stands.stands.each_lane.some) in
       subst (λ p. p < length s.lanes) (sym at) (mod_below g (length s.lanes) some)

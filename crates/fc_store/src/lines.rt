@@ -1,32 +1,55 @@
 //! Reads and writes, refused accesses and unread lines: what they ask, entry by entry.
 
-ghost use Rattle.std.specs.Prelude.{◌≡◌, ◌+◌, ◌*◌, ◌<◌, ◌≤◌, ◌∷◌, [], length, Contains, Err};
+ghost use Rattle.std.specs.Prelude.{◌≡◌, ◌+◌, ◌*◌, ◌<◌, ◌≤◌, ◌∷◌, [], length, map, Contains, Some, None, Err, IfOk, IfErr};
 ghost use Rattle.fc_base.specs.Grain.{grain_blocks};
+ghost use Rattle.fc_base.specs.Tables.{volume_named};
 ghost use Rattle.fc_base.specs.declared.volume.Volume.{Volume};
-ghost use Rattle.fc_legal.specs.Asked.{asked};
+ghost use Rattle.fc_books.specs.Books.{Books};
+ghost use Rattle.fc_books.specs.Refused.{access_refused};
+ghost use Rattle.fc_entry.specs.Refused.{blocks_refusal};
+ghost use Rattle.fc_legal.specs.Asked.{asked, command_asked, touched};
 ghost use Rattle.fc_legal.specs.Run.{by_main};
 ghost use Rattle.fc_legal.specs.Whole.{Whole};
 ghost use Rattle.fc_store.specs.Answering.{Answered, IsTold, TellsSome};
 ghost use Rattle.fc_store.specs.Apart.{IsRefusalOf};
-ghost use Rattle.fc_store.specs.Asking.{part_of};
+ghost use Rattle.fc_store.specs.Asking.{command_of, part_of};
+ghost use Rattle.fc_store.specs.Dealing.{disks_in};
 ghost use Rattle.fc_store.specs.Store.{StandsFor};
 
 use crate::access::{Access, access_lane};
 use crate::log::{entry_apart, is_full, log};
 use crate::stop::Stop;
 use crate::store::Store;
-use fc_base::fault::{Refusal, WordFault};
+use fc_base::fault::{Kind, Refusal, ValueOf, WordFault};
 use fc_base::ids::VolId;
-use fc_base::limits::MAX_ENTRIES;
+use fc_base::limits::{MAX_BLOCKS, MAX_ENTRIES};
 use fc_base::list::List;
+use fc_base::name::Ref;
 use fc_base::outcome::NoMemory;
 use fc_base::request::{Place, Reply, Request};
+use fc_base::size::GrainSize;
+use fc_base::volume::Volume;
 use fc_entry::history::History;
 use fc_mdisk::mdisk::Mdisk;
 
+/// Why an access of so many blocks of a volume is refused, if it is: Limit for more than 8,192; BadValue for none, and for
+/// a block past the volume's end.
+fn blocks_refusal(grain: GrainSize, volume: &Volume, block: u32, count: u32) -> Option<Refusal>
+    ensures { result ≡ blocks_refusal grain volume.now block count }
+{
+    if count > MAX_BLOCKS {
+        return Some(Refusal::Limit(MAX_BLOCKS));
+    }
+    let end = volume.grains as u64 * grain.blocks() as u64;
+    if count == 0 || end < block as u64 + count as u64 {
+        return Some(Refusal::BadValue(ValueOf::Blocks));
+    }
+    None
+}
+
 impl<D: Mdisk> Store<D> {
     /// Does an access in one of its grains, and logs it.
-    pub(crate) fn run_part(
+    fn run_part(
         &mut self,
         access: Access,
         volume: VolId,
@@ -45,6 +68,7 @@ impl<D: Mdisk> Store<D> {
             Answered result (StandsFor self.new) self.old.control.grain w
             (by_main (part_of self.old.control.grain access volume block count grain ∷ [])) history.old history.new }
         ensures control { self.new.control ≡ self.old.control }
+        ensures disks { disks_in self.new.lanes ≡ disks_in self.old.lanes }
         ensures limit { length history.new.entries ≤ MAX_ENTRIES }
     {
         if is_full(history) {
@@ -70,6 +94,39 @@ impl<D: Mdisk> Store<D> {
             (end - first) as u32,
         );
         log(history, entry)
+    }
+
+    /// Does an access in all grains that it touches, rising.
+    fn run_parts(
+        &mut self,
+        access: Access,
+        volume: VolId,
+        block: u32,
+        count: u32,
+        history: &mut History,
+    ) -> Result<(), Stop>
+        requires stands { TellsSome (StandsFor self.old) history.old.entries }
+        requires room { length history.old.entries ≤ MAX_ENTRIES }
+        requires some { 0 < count }
+        requires few { count ≤ MAX_BLOCKS }
+        requires there { (v : Volume) × Contains self.old.control.tables.volumes v × (v.id ≡ volume) × (block + count ≤ v.grains * grain_blocks self.old.control.grain) }
+        ensures answered { (w : Whole) → IsTold (StandsFor self.old) history.old.entries w →
+            Answered result (StandsFor self.new) self.old.control.grain w
+            (by_main (map (part_of self.old.control.grain access volume block count) (touched self.old.control.grain block count))) history.old history.new }
+        ensures control { self.new.control ≡ self.old.control }
+        ensures disks { disks_in self.new.lanes ≡ disks_in self.old.lanes }
+        ensures limit { length history.new.entries ≤ MAX_ENTRIES }
+    {
+        let blocks = self.control.grain().blocks();
+        let first = block / blocks;
+        let last = ((block as u64 + count as u64 - 1) / blocks as u64) as u32;
+        for grain in first..last + 1 {
+            match self.run_part(access, volume, block, count, grain, history) {
+                Ok(()) => {}
+                Err(stop) => return Err(stop),
+            }
+        }
+        Ok(())
     }
 
     /// Logs a refused access or an unread line, which settles nothing and does nothing.
@@ -102,6 +159,47 @@ impl<D: Mdisk> Store<D> {
         log(history, entry)
     }
 
+    /// The volume that an access is to; or why it is refused: NoSuch without such a volume, and then its blocks.
+    fn taken(&self, volume: &Ref, block: u32, count: u32) -> Result<VolId, Refusal>
+        ensures taken { IfOk result (λ id. (v : Volume) × (volume_named self.now.control.tables volume.now ≡ Some v) × (v.id ≡ id) × (blocks_refusal self.now.control.grain v block count ≡ None)) }
+        ensures refused { IfErr result (λ refusal. (b : Books) → b.tables ≡ self.now.control.tables → access_refused self.now.control.grain b volume.now block count ≡ Some refusal) }
+    {
+        match self.control.registry().volume(volume) {
+            None => Err(Refusal::NoSuch(Kind::Vdisk)),
+            Some(found) => match blocks_refusal(self.control.grain(), found, block, count) {
+                Some(refusal) => Err(refusal),
+                None => Ok(found.id),
+            },
+        }
+    }
+
+    /// Does an access, or logs why it is refused.
+    pub(crate) fn run_access(
+        &mut self,
+        access: Access,
+        volume: Ref,
+        block: u32,
+        count: u32,
+        history: &mut History,
+    ) -> Result<(), Stop>
+        requires stands { TellsSome (StandsFor self.old) history.old.entries }
+        requires room { length history.old.entries ≤ MAX_ENTRIES }
+        ensures answered { (w : Whole) → IsTold (StandsFor self.old) history.old.entries w →
+            Answered result (StandsFor self.new) self.old.control.grain w
+            (by_main (command_asked self.old.control.grain w.books (command_of access volume block count))) history.old history.new }
+        ensures control { self.new.control ≡ self.old.control }
+        ensures disks { disks_in self.new.lanes ≡ disks_in self.old.lanes }
+        ensures limit { length history.new.entries ≤ MAX_ENTRIES }
+    {
+        match self.taken(&volume, block, count) {
+            Ok(volume) => self.run_parts(access, volume, block, count, history),
+            Err(refusal) => {
+                let request = Request::Command(access.command(volume, block, count));
+                self.log_refused(history, request, refusal)
+            }
+        }
+    }
+
     /// Logs a line with a fault in its words.
     pub fn push_unread(&mut self, fault: WordFault, history: &mut History) -> Result<(), Stop>
         requires stands { TellsSome (StandsFor self.old) history.old.entries }
@@ -109,6 +207,7 @@ impl<D: Mdisk> Store<D> {
         ensures answered { (w : Whole) → IsTold (StandsFor self.old) history.old.entries w →
             Answered result (StandsFor self.new) self.old.control.grain w (by_main (asked self.old.control.grain w.books (Err fault))) history.old history.new }
         ensures control { self.new.control ≡ self.old.control }
+        ensures disks { disks_in self.new.lanes ≡ disks_in self.old.lanes }
         ensures limit { length history.new.entries ≤ MAX_ENTRIES }
     {
         self.log_refused(history, Request::Unread(fault), Refusal::Words(fault))

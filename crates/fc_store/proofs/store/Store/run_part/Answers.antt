@@ -1,5 +1,5 @@
 -- The access fits the lane of its grain, and its entry is right.
-use Rattle.std.proofs.Common.{arith, ◌≡◌, ◌%◌, [], length, slice_index_or, slice_set, ◌∷◌, subst, sym, ◌∙◌, ap}
+use Rattle.std.proofs.Common.{arith, ◌≡◌, ◌%◌, [], length, slice_index_or, slice_set, ◌∷◌, subst, sym, ◌∙◌, ap, ◌<◌}
 use Rattle.fc_store.specs.Store.{StandsFor}
 use Rattle.fc_store.specs.Asking.{part_of}
 use Rattle.fc_base.specs.Grain.{grain_blocks}
@@ -9,7 +9,10 @@ use Rattle.fc_base.specs.declared.request.Request.{Request}
 use Rattle.fc_legal.specs.Run.{by_main}
 use Rattle.fc_store.specs.Answering.{Answered}
 use Rattle.fc_store.proofs.Places.{part_of-blocks}
-use Rattle.fc_store.proofs.Parting.{can_access, turn}
+use Rattle.fc_lane.specs.Lane.{LaneView}
+use Rattle.fc_store.specs.Dealing.{disks_in}
+use Rattle.fc_store.proofs.Ranging.{disks_stay}
+use Rattle.fc_store.proofs.Parting.{can_access, inside, turn}
 use Rattle.fc_store.proofs.Turning.{in_grain}
 use Rattle.fc_store.proofs.store.Store.run_part.Goals as goal
 
@@ -61,3 +64,31 @@ returns-clause-answered g c = λ w told.
     let Stands : StoreView → Type 0 = λ s. Answered c.log.result (StandsFor (record s { lanes = slice_set s.lanes (c.args.grain % c.len.result) c.access_lane-entry.new.lane })) c.args.self.now.control.grain w
     (by_main (part_of c.args.self.now.control.grain c.args.access c.args.volume c.args.block c.args.count c.args.grain ∷ [])) c.args.history.now c.log.new.history in
     subst Stands same asked
+
+pub returns-in-Err-clause-disks : goal.returns-in-Err-clause-disks
+returns-in-Err-clause-disks g c =
+    let same : c.args.self.now ≡ record { control = c.self.inside.control; lanes = c.self.inside.lanes.items } = sym c.self.view_is in
+    let many : c.len.result ≡ length c.self.inside.lanes.items = omega (arith, c.len.ensures) in
+    let there = subst (λ (s : StoreView). c.args.grain % c.len.result < length s.lanes) same
+    (inside c.args.self.now c.requires.stands.0 c.args.grain (c.args.grain % c.len.result) c.index_mut-lane.result.now c.make_room.new.self
+    c.make_room.new.self.plan_room c.make_room.new.self.entry_room c.requires.stands.1.0
+    (ap (λ n. c.args.grain % n) (many ∙ ap (λ (s : StoreView). length s.lanes) (sym same)))
+    (c.index_mut-lane.ensures.value ∙ ap (λ (s : StoreView). slice_index_or s.lanes (c.args.grain % c.len.result) c.index_mut-lane.result.now) (sym same))
+    c.in-Err.ensures.same) in
+    disks_stay c.self.inside.lanes.items (c.args.grain % c.len.result) c.index_mut-lane.result.now c.make_room.new.self there
+    c.index_mut-lane.ensures.value (ap (λ (v : LaneView). v.grains.disks) c.in-Err.ensures.same)
+    ∙ ap (λ (s : StoreView). disks_in s.lanes) (sym same)
+
+pub returns-clause-disks : goal.returns-clause-disks
+returns-clause-disks g c =
+    let same : c.args.self.now ≡ record { control = c.self.inside.control; lanes = c.self.inside.lanes.items } = sym c.self.view_is in
+    let many : c.len.result ≡ length c.self.inside.lanes.items = omega (arith, c.len.ensures) in
+    let there = subst (λ (s : StoreView). c.args.grain % c.len.result < length s.lanes) same
+    (inside c.args.self.now c.requires.stands.0 c.args.grain (c.args.grain % c.len.result) c.index_mut-lane.result.now c.make_room.new.self
+    c.make_room.new.self.plan_room c.make_room.new.self.entry_room c.requires.stands.1.0
+    (ap (λ n. c.args.grain % n) (many ∙ ap (λ (s : StoreView). length s.lanes) (sym same)))
+    (c.index_mut-lane.ensures.value ∙ ap (λ (s : StoreView). slice_index_or s.lanes (c.args.grain % c.len.result) c.index_mut-lane.result.now) (sym same))
+    c.in-Ok.ensures.same) in
+    disks_stay c.self.inside.lanes.items (c.args.grain % c.len.result) c.index_mut-lane.result.now c.access_lane-entry.new.lane there
+    c.index_mut-lane.ensures.value (c.access_lane-entry.ensures.same.disks ∙ ap (λ (v : LaneView). v.grains.disks) c.in-Ok.ensures.same)
+    ∙ ap (λ (s : StoreView). disks_in s.lanes) (sym same)
