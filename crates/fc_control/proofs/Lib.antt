@@ -32,4 +32,6 @@ pub mod StopSteps
 pub mod StopWhole
 pub mod StopGroup
 pub mod StopCode
+pub mod Without
+pub mod Applying
 pub mod Dispatched

@@ -1,8 +1,8 @@
 -- A start that is refused for nothing but a loop of restores.
-use Rattle.std.proofs.Common.{◌≡◌, ◌≢◌, ◌∙◌, sym, ap, subst, ℕ, ◌≤◌, Bool, true, false, cond, ◌||◌, ◌+◌, ◌==◌, nat_lt, List, [], ◌∷◌, map, Option, Some, None, refl, arith}
-use Rattle.std.specs.List.{Contains, count_by, find, filter, list_any}
+use Rattle.std.proofs.Common.{◌≡◌, ◌≢◌, ◌∙◌, sym, ap, subst, ℕ, Bool, true, false, cond, ◌||◌, ◌+◌, ◌==◌, nat_lt, List, [], ◌∷◌, map, Option, Some, None, refl}
+use Rattle.std.specs.List.{Contains, count_by, find}
 use Rattle.std.specs.Option.{option_map}
-use Rattle.std.proofs.lemmas.Bool.{eqb-true, eq-eqb}
+use Rattle.std.proofs.lemmas.Bool.{eqb-true}
 use Rattle.fc_base.specs.Sheet.{shape_of}
 use Rattle.fc_base.specs.SheetStep.{triggered}
 use Rattle.fc_base.specs.SheetView.{LoopAnswer}
@@ -24,7 +24,7 @@ use Rattle.fc_base.specs.declared.volume.Mapping.{Mapping}
 use Rattle.fc_books.specs.Accesses.{is_copying, is_stopping}
 use Rattle.fc_books.specs.Books.{Books, Deed, nothing}
 use Rattle.fc_books.specs.Deciding.{decide, answered, refused, done, replied, for_one, with_work, IsLoopOf, LoopTold, LoopAfter, pairs_of}
-use Rattle.fc_books.specs.Groups.{twice_targets, source_targets, has_target}
+use Rattle.fc_books.specs.Groups.{has_target}
 use Rattle.fc_books.specs.Refused.{of_one, refused_by}
 use Rattle.fc_books.specs.RefusedStarts.{in_group, by_state, not_ready, start_event, is_rival, target_active}
 use Rattle.fc_books.specs.Sound.{AreSound}

@@ -28,14 +28,14 @@ use Rattle.fc_books.specs.Deciding.{decide, answered, for_one, with_work}
 use Rattle.fc_books.specs.Ending.{in_state}
 use Rattle.fc_books.specs.Refused.{of_one, refused_by}
 use Rattle.fc_books.specs.RefusedStarts.{in_group, by_state, not_ready}
-use Rattle.fc_books.specs.Starting.{is_superseded, gives_way, supersedes, begins, prepare}
+use Rattle.fc_books.specs.Starting.{is_superseded, gives_way, begins, prepare}
 use Rattle.fc_books.specs.Work.{are_same, work_events}
 use Rattle.fc_control.proofs.Flagged.{flat_none, work_by_each, work_of_each, told_as}
 use Rattle.fc_control.proofs.Selecting.{chosen_deeds}
-use Rattle.fc_control.proofs.Setting.{set_one, set_in, with_maps, set_pointwise, fold_append, changes_set, flat_one, alone, set_kept, set_apart, IsAlone, first_there, later_there}
+use Rattle.fc_control.proofs.Setting.{set_one, set_in, with_maps, set_pointwise, fold_append, changes_set, flat_one, alone, set_kept, set_apart, IsAlone}
 use Rattle.fc_control.specs.Choosing.{for_chosen, is_chosen, chosen_of}
 use Rattle.fc_control.specs.Starts.{work_as, whole_in}
-use Rattle.fc_control.specs.Telling.{work_told, row_of}
+use Rattle.fc_control.specs.Telling.{work_told}
 use Rattle.fc_control.specs.declared.chosen.Chosen.{Chosen}
 use Rattle.fc_control.specs.declared.chosen.Chosen.TheVariants.{One}
 use Rattle.fc_entry.specs.Refused.{first_of}

@@ -1,13 +1,12 @@
 -- Mappings that start, and the flags after it.
-use Rattle.std.proofs.Common.{◌≡◌, ◌≢◌, ◌∙◌, sym, ap, subst, ℕ, zero, suc, ◌+◌, ◌<◌, ◌≤◌, Bool, true, false, cond, not, ◌&&◌, ◌||◌, ◌==◌, nat_le, nat_lt, List, [], ◌∷◌, ◌++◌, length, slice_index_or, map, fold, Option, Some, None, option_map, refl, arith}
-use Rattle.std.specs.List.{AllPairs, Contains, count_by, find, filter, flat_map, list_any}
+use Rattle.std.proofs.Common.{◌≡◌, ◌≢◌, ◌∙◌, sym, ap, subst, ℕ, zero, suc, ◌<◌, ◌≤◌, Bool, true, false, cond, not, ◌&&◌, ◌||◌, ◌==◌, nat_le, nat_lt, List, [], ◌∷◌, ◌++◌, length, slice_index_or, map, fold, Option, Some, None, option_map, refl, arith}
+use Rattle.std.specs.List.{Contains, count_by, find, filter, flat_map, list_any}
 use Rattle.std.specs.Option.{option_map_or, ForSome}
 use Rattle.std.specs.Prelude.{IsSome}
 use Rattle.std.proofs.lemmas.Bool.{eqb-true, eq-eqb, ltb-false}
-use Rattle.fc_base.specs.Sheet.{Slot, Sheet, slot_at, live_place, mapping_place}
+use Rattle.fc_base.specs.Sheet.{Slot, slot_at, live_place, mapping_place}
 use Rattle.fc_base.specs.SheetStep.{triggered}
 use Rattle.fc_base.specs.SheetView.{held_of, count_true}
-use Rattle.fc_base.specs.SheetFacts.{HasMappings}
 use Rattle.fc_base.specs.States.{access_of}
 use Rattle.fc_base.specs.Tables.{Tables, volume_with}
 use Rattle.fc_base.specs.declared.decision.Decision.{Decision}
@@ -27,16 +26,16 @@ use Rattle.fc_books.specs.Books.{Books, Deed, nothing, told, ◌then◌, all_dee
 use Rattle.fc_books.specs.Copies.{total}
 use Rattle.fc_books.specs.Deciding.{with_work}
 use Rattle.fc_books.specs.Ending.{in_state}
-use Rattle.fc_books.specs.Groups.{has_target, twice_targets, source_targets}
+use Rattle.fc_books.specs.Groups.{has_target}
 use Rattle.fc_books.specs.RefusedStarts.{is_rival}
-use Rattle.fc_books.specs.Sound.{AreSound, SlotByState, HasSlot, HasGrains}
-use Rattle.fc_books.specs.Starting.{is_superseded, gives_way, supersedes, begins, pair_of, triggers, start}
+use Rattle.fc_books.specs.Sound.{AreSound, SlotByState}
+use Rattle.fc_books.specs.Starting.{is_superseded, gives_way, begins, pair_of, triggers, start}
 use Rattle.fc_books.specs.Work.{work_events}
 use Rattle.fc_control.proofs.Deeds.{then-assoc}
 use Rattle.fc_control.proofs.Flagged.{flat_none, work_by_each, told_as}
-use Rattle.fc_control.proofs.Preparing.{set_twice, set_each, apart_by, accesses_keep, work_bits, quiet_as, stopped_quiet, superseded_stopped, chosen_stays, tail_rising, found_there}
+use Rattle.fc_control.proofs.Preparing.{set_twice, set_each, accesses_keep, quiet_as, stopped_quiet, superseded_stopped, chosen_stays}
 use Rattle.fc_control.proofs.Selecting.{chosen_deeds}
-use Rattle.fc_control.proofs.Setting.{set_one, set_in, with_maps, set_pointwise, changes_set, flat_one, alone, set_kept, IsAlone, first_there, later_there}
+use Rattle.fc_control.proofs.Setting.{set_one, with_maps, set_pointwise, changes_set, flat_one, alone, set_kept, IsAlone, first_there, later_there}
 use Rattle.fc_control.proofs.Slots.{is_of, is_live_of, held_in, mapping_found, live_found, held_found, held_same, found_passes}
 use Rattle.fc_control.proofs.Triggered.{Ready, AllReady, NoneOf, AllBegun, trigger_other, trigger_new, count_cons, count_of_length}
 use Rattle.fc_control.proofs.Vanishing.{slot_of_target}

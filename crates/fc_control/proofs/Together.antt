@@ -1,6 +1,6 @@
 -- The members of a group, refused or begun together.
-use Rattle.std.proofs.Common.{◌≡◌, ◌∙◌, sym, ap, subst, ℕ, zero, suc, ◌+◌, ◌<◌, Bool, true, false, cond, not, ◌&&◌, ◌||◌, ◌==◌, nat_lt, List, [], ◌∷◌, ◌++◌, length, take, slice_index_or, map, Option, Some, None, refl, arith}
-use Rattle.std.specs.List.{AllPairs, Contains, cons_option, count_by, find, filter, filter_map, list_any, list_all, reduce}
+use Rattle.std.proofs.Common.{◌≡◌, ◌∙◌, sym, ap, ℕ, zero, suc, ◌+◌, ◌<◌, Bool, true, false, cond, not, ◌&&◌, ◌||◌, ◌==◌, List, [], ◌∷◌, ◌++◌, length, take, slice_index_or, map, Option, Some, None, refl, arith}
+use Rattle.std.specs.List.{Contains, cons_option, find, filter, filter_map, list_any, list_all}
 use Rattle.std.specs.Option.{option_map}
 use Rattle.std.specs.Prelude.{IsOk, MatchOption, Result, Ok, Err}
 use Rattle.std.proofs.lemmas.Bool.{eqb-true, eq-eqb}
@@ -24,7 +24,7 @@ use Rattle.fc_base.specs.Sheet.{shape_of}
 use Rattle.fc_base.specs.SheetStep.{triggered}
 use Rattle.fc_base.specs.SheetView.{LoopAnswer}
 use Rattle.fc_books.specs.Accesses.{is_active, is_prepared, is_copying, is_stopping}
-use Rattle.fc_books.specs.Books.{Books, Deed}
+use Rattle.fc_books.specs.Books.{Books}
 use Rattle.fc_books.specs.Deciding.{LoopAfter, pairs_of, for_members}
 use Rattle.fc_books.specs.Groups.{is_in, members, group_state, some_in, is_none_of, least, twice_targets, source_targets, trigger_refusal}
 use Rattle.fc_books.specs.Refused.{of_one}
@@ -32,8 +32,8 @@ use Rattle.fc_books.specs.RefusedStarts.{empty_group, for_each, not_ready, start
 use Rattle.fc_books.specs.Starting.{start, pair_of}
 use Rattle.fc_control.proofs.Looped.{Answers, answers_looped, second_none, unmapped}
 use Rattle.fc_control.proofs.Preparing.{any_chosen}
-use Rattle.fc_control.proofs.Setting.{IsAlone, alone, first_there, later_there}
-use Rattle.fc_control.specs.Choosing.{is_chosen, chosen_of}
+use Rattle.fc_control.proofs.Setting.{alone, first_there, later_there}
+use Rattle.fc_control.specs.Choosing.{chosen_of}
 use Rattle.fc_control.specs.Looping.{looped}
 use Rattle.fc_control.specs.Starts.{IsStartable, AreApart}
 use Rattle.fc_control.specs.Volumes.{or_else}

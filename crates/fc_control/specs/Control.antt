@@ -1,13 +1,15 @@
 -- What contracts see of the control part, and the books that it decides by.
-use Rattle.std.specs.Prelude.{ℕ, List}
+use Rattle.std.specs.Prelude.{ℕ, List, Option}
 use Rattle.fc_base.specs.SheetView.{SheetView}
 use Rattle.fc_base.specs.Tables.{Tables}
 use Rattle.fc_base.specs.declared.size.GrainSize.{GrainSize}
+use Rattle.fc_base.specs.declared.volume.Change.{Change}
 use Rattle.fc_books.specs.Books.{Books}
 use Rattle.fc_pick.specs.declared.work.WorkFlags.{WorkFlags}
 
 -- The grain size of the run; the tables, and the id that the next volume, mapping and group will get; the mappings with
--- background work, by id.
+-- background work, by id; and beside them the new object that the registry keeps room for, and how many more mappings with
+-- background work fit with no memory.
 pub record ControlState : Type 0 where
   pub grain : GrainSize
   pub tables : Tables
@@ -15,6 +17,8 @@ pub record ControlState : Type 0 where
   pub next_mapping : ℕ
   pub next_group : ℕ
   pub flags : List WorkFlags
+  pub reserved : Option Change
+  pub room : ℕ
 
 -- The books: what the control part has, and the chains and disks that it asks for.
 abbrev pub books_of : ControlState → SheetView → Books

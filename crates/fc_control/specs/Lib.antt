@@ -12,3 +12,5 @@ pub mod Looping
 pub mod Dispatch
 pub mod Stops
 pub mod StopGroups
+pub mod Changes
+pub mod Applied

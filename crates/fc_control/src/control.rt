@@ -1,6 +1,6 @@
 //! The control part.
 
-ghost use Rattle.std.specs.Prelude.{◌≡◌, [], IfOk};
+ghost use Rattle.std.specs.Prelude.{◌≡◌, [], IfOk, None};
 ghost use Rattle.fc_base.specs.Tables.{no_tables};
 ghost use Rattle.fc_control.specs.Control.{books_of};
 
@@ -15,26 +15,27 @@ use std::marker::Model;
 /// The control part: the tables, the ids that come next, and which mappings have background work.
 #[derive(Drop)]
 pub struct Control {
-    registry: Registry,
+    pub(crate) registry: Registry,
     grain: GrainSize,
-    next_volume: u32,
-    next_mapping: u32,
-    next_group: u32,
-    flags: Vec<WorkFlags>,
+    pub(crate) next_volume: u32,
+    pub(crate) next_mapping: u32,
+    pub(crate) next_group: u32,
+    pub(crate) flags: Vec<WorkFlags>,
 }
 
 impl Model for Control {
+    ghost use Rattle.std.specs.Prelude.{◌-◌, vec_len, vec_capacity};
     ghost use Rattle.fc_control.specs.Control.{ControlState};
 
     ghost Value = { ControlState };
 
-    ghost view = { λ c. record { grain = c.grain; tables = c.registry.tables; next_volume = c.next_volume; next_mapping = c.next_mapping; next_group = c.next_group; flags = c.flags.items } };
+    ghost view = { λ c. record { grain = c.grain; tables = c.registry.tables; next_volume = c.next_volume; next_mapping = c.next_mapping; next_group = c.next_group; flags = c.flags.items; reserved = c.registry.reserved; room = vec_capacity c.flags - vec_len c.flags } };
 }
 
 impl Control {
     /// The control part of a run that begins: empty tables. Takes no memory.
     pub fn new(alloc: Global, grain: GrainSize) -> Self
-        ensures { result ≡ record { grain = grain; tables = no_tables; next_volume = 0; next_mapping = 0; next_group = 1; flags = [] } }
+        ensures { result ≡ record { grain = grain; tables = no_tables; next_volume = 0; next_mapping = 0; next_group = 1; flags = []; reserved = None; room = 0 } }
     {
         Control {
             registry: Registry::new(alloc),

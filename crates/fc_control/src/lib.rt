@@ -6,7 +6,8 @@
 //! alone is free, and changes nothing.
 //!
 //! `decide` decides all commands. What a start decides also tells the loop of restores that it found: it is asked for exactly
-//! where nothing else refuses. `reserve` and `apply` are to come.
+//! where nothing else refuses. `reserve` takes all the memory that `apply` of a decision will need; `apply` makes of the
+//! tables, the next ids and the flags what the books say, and takes no memory.
 //!
 //! In reading order: `draft` (a decision as it is put together), `ending` (how the copy of a mapping ends), `control`,
 //! `asking` (what is asked of a copy), `settle`, `work` (background work), `name`, `groups` (members of a group),
@@ -14,9 +15,10 @@
 //! `chosen` (which mappings a command prepares or starts), `ready` (why not), `begin` (what it does to them), `starting`
 //! and `starting_groups` (the decisions), `start` (a start, with the background work that it sets), `startfcmap`; of stops
 //! `stopping` (what a stop does), `stop_work` (background work after stops), `stop_mapping`, `stop_group`; last `dispatch`
-//! (by the kind of command).
+//! (by the kind of command), `flags` (the flags in order of id) and `apply` (what a decision makes of the control part).
 #![tactic(auto)]
 
+mod apply;
 mod asking;
 mod begin;
 mod chosen;
@@ -25,6 +27,7 @@ mod decide;
 mod dispatch;
 mod draft;
 mod ending;
+mod flags;
 mod groups;
 mod mkfcmap;
 mod mkvdisk;
