@@ -19,3 +19,5 @@ pub mod EffectRanges
 pub mod CommandSteps
 pub mod CommandLogs
 pub mod CommandSheet
+pub mod OneAdded
+pub mod PhaseAll

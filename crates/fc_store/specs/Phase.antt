@@ -1,5 +1,5 @@
 -- The two phases of a command: a settling and what is decided after it. Each is made ready, and then done.
-use Rattle.std.specs.Prelude.{◌≡◌, ℕ, ◌<◌, List, fold, length, slice_index_or, Option}
+use Rattle.std.specs.Prelude.{◌≡◌, ℕ, ◌+◌, ◌<◌, ◌≤◌, ◌^◌, List, filter, fold, length, slice_index_or, Option}
 use Rattle.fc_base.specs.SheetView.{SheetView}
 use Rattle.fc_base.specs.Tables.{after_change}
 use Rattle.fc_base.specs.declared.command.Command.{Command}
@@ -10,14 +10,17 @@ use Rattle.fc_base.specs.declared.ids.VolId.{VolId}
 use Rattle.fc_base.specs.declared.size.GrainSize.{GrainSize}
 use Rattle.fc_books.specs.Deciding.{settle, settled, decide}
 use Rattle.fc_books.specs.After.{after_table_change, flags_after}
+use Rattle.fc_control.specs.Changes.{FitChanges, AreCountable, CanApply, adds}
 use Rattle.fc_control.specs.Control.{ControlState, books_of}
 use Rattle.fc_lane.specs.Lane.{LaneView, CanDoEvents, IsLaneOf, IsSameLane, of}
 use Rattle.fc_legal.specs.Lawful.{IsLawful, left_by}
 use Rattle.fc_legal.specs.Stands.{Stands}
 use Rattle.fc_legal.specs.Steps.{no_restarts}
 use Rattle.fc_legal.specs.Whole.{Whole, lanes}
+use Rattle.fc_pick.specs.Flags.{IsRising}
 use Rattle.fc_rules.specs.LaneFits.{FitsLane}
 use Rattle.fc_rules.specs.LaneTold.{LaneTold, told_event}
+use Rattle.fc_store.specs.Dealing.{disks_in}
 use Rattle.fc_store.specs.Store.{StoreView, IsControlOf, AreLanesOf, AreFewCalls}
 
 -- The store stands for what is told after so many decisions. Between the phases of a command there may be one more than its
@@ -66,6 +69,40 @@ CanAllDo ls events = (i : ℕ) (d : LaneView) → i < length ls → CanDoEvents 
 -- The events fit what each lane is told.
 abbrev pub FitAll : List LaneView → List LaneEvent → Type 0
 FitAll ls events = (i : ℕ) (d : LaneView) → i < length ls → (told : LaneTold) × IsLaneOf (slice_index_or ls i d) told × FitsLane (of (slice_index_or ls i d)) told events
+
+-- ---- both parts
+
+-- The control part can do a decision with no memory.
+pub record CanControlDo (c : ControlState) (d : Decision) : Type 0 where
+  pub fits : FitChanges c.tables d.changes
+  pub countable : AreCountable d.changes
+  pub rising : IsRising c.flags
+  pub ready : CanApply c d
+
+-- The store can be made ready for a decision: it is lawful on what the store stands for, and one object comes at most, with an
+-- id that isn't the last.
+pub record CanPrepare (s : StoreView) (d : Decision) : Type 0 where
+  pub decided : IsDecidedAt s d
+  pub one : length (filter adds d.changes) ≤ 1
+  pub countable : AreCountable d.changes
+
+-- It is ready to do it with no memory.
+pub record IsReadyFor (s : StoreView) (d : Decision) : Type 0 where
+  pub can : CanPrepare s d
+  pub control : CanApply s.control d
+  pub lanes : CanAllDo s.lanes d.events
+
+-- Made ready or not, a store stands for what it did, over as many disks.
+pub record IsReserved (old new : StoreView) : Type 0 where
+  pub grain : new.control.grain ≡ old.control.grain
+  pub disks : disks_in new.lanes ≡ disks_in old.lanes
+  pub stands : (decisions : ℕ) (w : Whole) → StandsAt decisions old w → StandsAt decisions new w
+
+-- What is decided is done: the store stands for what that leaves.
+pub record IsDone (d : Decision) (old new : StoreView) : Type 0 where
+  pub grain : new.control.grain ≡ old.control.grain
+  pub disks : disks_in new.lanes ≡ disks_in old.lanes
+  pub stands : (decisions : ℕ) (w : Whole) → StandsAt decisions old w → IsLawful old.control.grain decisions w d → StandsAt (decisions + 1) new (left_by old.control.grain w d)
 
 -- ---- commands
 

@@ -1,15 +1,10 @@
 use Rattle.std.proofs.Common.{◌∙◌, ap}
 use Rattle.std.proofs.lemmas.List.{with_items_is}
+use Rattle.fc_store.specs.Phase.{IsLaneReady}
 use Rattle.fc_store.specs.Store.{StoreView}
-use Rattle.fc_store.proofs.PhaseStands.{fits_here, ready_here}
+use Rattle.fc_store.proofs.PhaseStands.{fits_here, done_here}
 use Rattle.fc_store.proofs.store.Store.reserve_in_lanes.Goals as goal
 
 pub reserve_lanes-requires-clause-fit : goal.reserve_lanes-requires-clause-fit
 reserve_lanes-requires-clause-fit g c =
     fits_here c.args.self.now c.args.decision.now c.as_mut_slice.result.now c.requires.decided (c.as_mut_slice.ensures.value ∙ ap (λ (s : StoreView). s.lanes) c.self.view_is)
-
-pub returns-clause-stands : goal.returns-clause-stands
-returns-clause-stands g c = λ decisions w stands.
-    ready_here decisions c.args.self.now _ w c.as_mut_slice.result.now c.reserve_lanes.new.lanes stands (ap (λ (s : StoreView). s.control) c.self.view_is)
-    (c.as_mut_slice.ensures.value ∙ ap (λ (s : StoreView). s.lanes) c.self.view_is)
-    (with_items_is c.self.inside.lanes c.reserve_lanes.new.lanes (c.reserve_lanes.ensures.ready.count ∙ c.as_mut_slice.ensures.len)) c.reserve_lanes.ensures.ready
