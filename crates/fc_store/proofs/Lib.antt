@@ -6,6 +6,7 @@ pub mod Asked
 pub mod Turning
 pub mod Parting
 pub mod LaneSheets
+pub mod HeldRanges
 pub mod Readers
 pub mod Dependents
 pub mod Dealing
