@@ -25,7 +25,7 @@ use Rattle.fc_lane.specs.Lane.{LaneView}
 use Rattle.fc_sums.specs.Law.{SlotsLaw}
 use Rattle.fc_sums.specs.Parts.{part_of, parts_of, sheet_at, common_to, unneeded_in, joined}
 use Rattle.fc_sums.proofs.Lawful.{sum_law_holds}
-use Rattle.fc_store.specs.LaneSheet.{chains_of, pools_of, sheet_of, HaveSheet}
+use Rattle.fc_store.specs.LaneSheet.{chains_of, pools_of, sheet_of, AreInOrder, HaveSheet}
 
 -- ---- sums over lanes
 
@@ -135,10 +135,10 @@ chains_are grain s (v ∷ vs) each =
     fill_by_all (part_of grain (length (v ∷ vs)) s) (chains_of (v ∷ vs)) (length (v ∷ vs)) no_slots (length-map (v ∷ vs) (λ (x : LaneView). x.chains.sheet))
     (λ i lt. get_or-map (λ (x : LaneView). x.chains.sheet) (v ∷ vs) i v no_slots lt ∙ each i v lt)
 
-pub have_sheet : (grain : GrainSize) (s : Sheet) (lanes : List LaneView) → 0 < length lanes →
+pub have_sheet : (grain : GrainSize) (s : Sheet) (lanes : List LaneView) → 0 < length lanes → AreInOrder lanes →
     ((i : ℕ) (d : LaneView) → i < length lanes → (slice_index_or lanes i d).chains.sheet ≡ part_of grain (length lanes) s i) →
     IsSound s → ((k : ℕ) → length (slot_at s.slots k).held < 2 ^ 32) → HaveSheet lanes × (sheet_of lanes ≡ s)
-have_sheet grain s lanes some each sound countable =
+have_sheet grain s lanes some in_order each sound countable =
     let are : chains_of lanes ≡ parts_of grain (length lanes) s = chains_are grain s lanes each in
     let same : sheet_of lanes ≡ s = ap joined are ∙ sum_law_holds.joins grain (length lanes) s some in
     let Sound : Sheet → Type 0 = λ z. IsSound z in
@@ -146,6 +146,7 @@ have_sheet grain s lanes some each sound countable =
       record {
         grain = grain;
         some = some;
+        in_order = in_order;
         parts = are ∙ ap (parts_of grain (length lanes)) (sym same);
         sound = subst Sound (sym same) sound;
         countable = subst Countable (sym same) countable;

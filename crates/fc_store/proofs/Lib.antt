@@ -7,6 +7,7 @@ pub mod Turning
 pub mod Parting
 pub mod Ranging
 pub mod LaneSheets
+pub mod HeldRanges
 pub mod Readers
 pub mod Dependents
 pub mod Dealing

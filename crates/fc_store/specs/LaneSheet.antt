@@ -58,10 +58,15 @@ pub record AreListed (s : Sheet) (mappings : List Mapping) : Type 0 where
   pub rising : AllPairs (λ (a b : Mapping). a.id.0 < b.id.0) mappings
   pub owned : (k n : ℕ) → k < length s.slots → (slot_at s.slots k).mapping ≡ Some n → (m : Mapping) × Contains mappings m × (m.id.0 ≡ n)
 
--- There are lanes, and their chains are the parts of one sound sheet, whose grains can be counted.
+-- The chains of each lane know which lane it is, of how many.
+abbrev pub AreInOrder : List LaneView → Type 0
+AreInOrder lanes = (i : ℕ) (d : LaneView) → i < length lanes → ((slice_index_or lanes i d).chains.lane ≡ i) × ((slice_index_or lanes i d).chains.lanes ≡ length lanes)
+
+-- There are lanes, in order, and their chains are the parts of one sound sheet, whose grains can be counted.
 pub record HaveSheet (lanes : List LaneView) : Type 0 where
   pub grain : GrainSize
   pub some : 0 < length lanes
+  pub in_order : AreInOrder lanes
   pub parts : chains_of lanes ≡ parts_of grain (length lanes) (sheet_of lanes)
   pub sound : IsSound (sheet_of lanes)
   pub countable : (k : ℕ) → length (slot_at (sheet_of lanes).slots k).held < 2 ^ 32

@@ -4,6 +4,7 @@ pub mod Answering
 pub mod Asking
 pub mod Apart
 pub mod LaneSheet
+pub mod HeldRanges
 pub mod Dealing
 pub mod Phase
 pub mod Effects

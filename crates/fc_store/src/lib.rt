@@ -5,6 +5,7 @@ mod access;
 mod command;
 mod deal;
 mod effects;
+mod kept;
 mod lines;
 mod log;
 mod new;

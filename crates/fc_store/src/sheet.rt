@@ -13,11 +13,14 @@ ghost use Rattle.fc_lane.specs.Lane.{LaneView};
 ghost use Rattle.fc_sums.specs.Parts.{has_name, common, common_to, unneeded_in};
 ghost use Rattle.fc_store.specs.LaneSheet.{sheet_of, pools_of, HaveSheet, direct_of, readers_in, is_owner_among, AreListed, has_map, with_map, AddsReaders, Reached, view_of, IsAsked};
 
+use crate::kept::kept_in;
 use fc_base::disk::DiskKind;
 use fc_base::ids::{MapId, SlotId, VolId};
 use fc_base::list::List;
 use fc_base::outcome::NoMemory;
+use fc_base::ranges::Ranges;
 use fc_base::request::Pair;
+use fc_base::sheet::Sheet;
 use fc_base::volume::Mapping;
 use fc_lane::lane::Lane;
 use fc_mdisk::mdisk::Mdisk;
@@ -415,60 +418,49 @@ impl<'a, D: Mdisk> LaneSheet<'a, D> {
     {
         LaneSheet { lanes, mappings }
     }
+}
 
-    /// How many grains the slot of a mapping holds; 0 where it has none.
-    pub fn held(&self, map: MapId) -> u32
-        ensures { result ≡ count_true (held_of (view_of self.now).sheet.slots map.0) }
-    {
+impl<'a, D: Mdisk> Sheet for LaneSheet<'a, D> {
+    ghost meaning = { view_of };
+
+    fn held(&self, map: MapId) -> u32 {
         held_in(self.lanes, map)
     }
 
-    /// At how many grains another slot needs the slot of a mapping; 0 where it has none.
-    pub fn needed(&self, map: MapId) -> u32
-        ensures { result ≡ needed_of (view_of self.now).sheet.slots map.0 }
-    {
-        needed_in(self.lanes, map)
+    fn kept(&self, alloc: Global, map: MapId) -> Result<Ranges, NoMemory> {
+        kept_in(self.lanes, alloc, map)
     }
 
-    /// Whether the volume is used as a source.
-    pub fn used(&self, volume: VolId) -> bool
-        ensures { IsTrue result ↔ UsedAt (view_of self.now).sheet.slots volume.0 }
-    {
-        used_in(self.lanes, volume)
-    }
-
-    /// The loop of the restore graph right after these pairs were triggered.
-    pub fn loop_of(&self, alloc: Global, pairs: &[Pair]) -> Result<Option<List<VolId>>, NoMemory>
-        ensures { IfOk result (λ found. LoopAnswer (shape_of (triggered pairs.now (view_of self.now).sheet).slots) found) }
-    {
-        loop_in(self.lanes, alloc, pairs)
-    }
-
-    /// The mappings, by id, whose live slots have the mapping's slot as holder at some grain.
-    pub fn direct(&self, alloc: Global, map: MapId) -> Result<List<MapId>, NoMemory>
-        ensures { IfOk result (λ maps. AreMappings (ReadsMapping (view_of self.now).sheet.slots map.0) maps) }
-    {
+    fn direct(&self, alloc: Global, map: MapId) -> Result<List<MapId>, NoMemory> {
         direct_in(self.lanes, self.mappings, alloc, map)
     }
 
-    /// The mappings, by id, whose slots are dependents of the mapping's slot.
-    pub fn dependents(&self, alloc: Global, map: MapId) -> Result<List<MapId>, NoMemory>
-        ensures { IfOk result (λ maps. AreMappings (DependsOn (view_of self.now).sheet.slots map.0) maps) }
-    {
+    fn needed(&self, map: MapId) -> u32 {
+        needed_in(self.lanes, map)
+    }
+
+    fn used(&self, volume: VolId) -> bool {
+        used_in(self.lanes, volume)
+    }
+
+    fn loop_of(&self, alloc: Global, pairs: &[Pair]) -> Result<Option<List<VolId>>, NoMemory> {
+        loop_in(self.lanes, alloc, pairs)
+    }
+
+    fn dependents(&self, alloc: Global, map: MapId) -> Result<List<MapId>, NoMemory> {
         dependents_in(self.lanes, self.mappings, alloc, map)
     }
 
-    /// The old slots that no slot needs at any grain, in order of their places.
-    pub fn unneeded(&self, alloc: Global) -> Result<List<SlotId>, NoMemory>
-        ensures { IfOk result (λ names. names ≡ unneeded_in (view_of self.now).sheet.slots) }
-    {
+    fn unneeded(&self, alloc: Global) -> Result<List<SlotId>, NoMemory> {
         unneeded_slots(self.lanes, alloc)
     }
 
-    /// The least number of disks of the kind that some lane has for new volumes.
-    pub fn pool(&self, kind: DiskKind) -> u32
-        ensures { result ≡ least_of_kind kind (view_of self.now).pools }
-    {
+    fn pool(&self, kind: DiskKind) -> u32 {
         pool_in(self.lanes, kind)
+    }
+
+    /// 0: lanes know of no restart set.
+    fn restart(&self, _map: MapId) -> u32 {
+        0
     }
 }
