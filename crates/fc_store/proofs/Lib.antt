@@ -20,3 +20,6 @@ pub mod CommandLogs
 pub mod CommandSheet
 pub mod OneAdded
 pub mod PhaseAll
+pub mod CommandPhases
+pub mod Planning
+pub mod CommandRuns

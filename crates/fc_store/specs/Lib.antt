@@ -7,3 +7,4 @@ pub mod LaneSheet
 pub mod Dealing
 pub mod Phase
 pub mod Effects
+pub mod Settling
