@@ -1,5 +1,5 @@
 -- The entry of a command is right after what was told: settled and decided, or left as it was or settled for want of memory.
-use Rattle.std.proofs.Common.{◌≡◌, ℕ, ◌+◌, ◌*◌, ◌^◌, ◌<◌, ◌≤◌, List, [], ◌∷◌, ◌++◌, Option, refl, sym, ◌∙◌, ap, subst, arith}
+use Rattle.std.proofs.Common.{◌≡◌, ℕ, ◌+◌, ◌*◌, ◌^◌, ◌<◌, ◌≤◌, List, [], ◌∷◌, ◌++◌, Option, refl, subst, arith}
 use Rattle.fc_base.specs.declared.command.Command.{Command}
 use Rattle.fc_base.specs.declared.command.Command.TheVariants.{Read as ReadLine, Write as WriteLine}
 use Rattle.fc_base.specs.declared.decision.Decision.{Decision}
@@ -11,14 +11,14 @@ use Rattle.fc_base.specs.declared.request.Reply.TheVariants.{NoMemory}
 use Rattle.fc_base.specs.declared.request.Request.TheVariants.{Command as Asked}
 use Rattle.fc_base.specs.declared.size.GrainSize.{GrainSize}
 use Rattle.fc_books.specs.Books.{Books}
-use Rattle.fc_books.specs.Deciding.{CommandLeaves, IsLoopOf, settle, settled, decide}
+use Rattle.fc_books.specs.Deciding.{CommandLeaves, IsLoopOf, settle, settled}
 use Rattle.fc_decided.proofs.Decided.{decision_law_holds}
 use Rattle.fc_entry.specs.Picture.{Picture}
 use Rattle.fc_entry.specs.PlainStep.{after_effect, after_effects}
 use Rattle.fc_entry.specs.declared.entry.Entry.{Entry}
 use Rattle.fc_legal.specs.Lawful.{IsLawful, left_by}
 use Rattle.fc_legal.specs.Stands.{Stands}
-use Rattle.fc_legal.specs.Steps.{IsApart, CommandStep, CommandIsRight, Step, no_restarts, one_more}
+use Rattle.fc_legal.specs.Steps.{CommandStep, CommandIsRight, Step, no_restarts, one_more}
 use Rattle.fc_legal.specs.Whole.{Whole}
 use Rattle.fc_store.specs.Apart.{entry_apart}
 use Rattle.fc_store.specs.Phase.{IsDecided, StandsAt, after_settling, decided_after}

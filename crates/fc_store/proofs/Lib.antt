@@ -22,3 +22,6 @@ pub mod CommandLogs
 pub mod CommandSheet
 pub mod OneAdded
 pub mod PhaseAll
+pub mod CommandPhases
+pub mod Planning
+pub mod CommandRuns

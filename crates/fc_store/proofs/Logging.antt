@@ -1,17 +1,16 @@
 -- Entries that are logged one after another.
-use Rattle.std.proofs.Common.{◌≡◌, ℕ, ◌+◌, ◌<◌, ◌≤◌, List, [], ◌∷◌, ◌++◌, length, map, append_assoc, Result, Ok, Err, OnOk, OnErr, IfErr, refl, sym, ◌∙◌, ap, subst, arith}
+use Rattle.std.proofs.Common.{◌≡◌, ℕ, ◌+◌, ◌<◌, ◌≤◌, List, [], ◌∷◌, ◌++◌, length, append_assoc, Result, Ok, Err, OnOk, OnErr, IfErr, refl, sym, ◌∙◌, ap, arith}
 use Rattle.std.proofs.lemmas.List.{append-nil, length-append, map-append}
 use Rattle.fc_base.specs.declared.request.Request.{Request}
 use Rattle.fc_base.specs.declared.size.GrainSize.{GrainSize}
 use Rattle.fc_entry.specs.declared.entry.Entry.{Entry}
 use Rattle.fc_entry.specs.HistoryState.{HistoryState}
 use Rattle.fc_legal.specs.Added.{AnswersAll, AnswersSome, AnswersToLimit}
-use Rattle.fc_legal.specs.Legal.{IsLegal}
 use Rattle.fc_legal.specs.Run.{asks, by_main}
 use Rattle.fc_legal.specs.Steps.{Step}
 use Rattle.fc_legal.specs.Whole.{Whole}
 use Rattle.fc_legal.proofs.Appending.{IsLegal-append}
-use Rattle.fc_store.specs.Answering.{Answered, IsTold, Reached}
+use Rattle.fc_store.specs.Answering.{Answered, IsTold}
 use Rattle.fc_store.specs.declared.stop.Stop.{Stop}
 use Rattle.fc_store.specs.declared.stop.Stop.TheVariants.{LogFull, NoMemory}
 

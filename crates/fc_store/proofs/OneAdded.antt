@@ -1,6 +1,7 @@
 -- A decision adds one object at most, and its id isn't the last that there is.
-use Rattle.std.proofs.Common.{◌≡◌, ℕ, ◌+◌, ◌^◌, ◌<◌, ◌≤◌, Bool, true, false, cond, List, [], ◌∷◌, ◌++◌, map, filter, flat_map, fold, length, Option, Some, None, Result, Ok, Err, refl, sym, ◌∙◌, ap, arith}
+use Rattle.std.proofs.Common.{◌≡◌, ℕ, ◌^◌, ◌<◌, ◌≤◌, Bool, true, false, cond, ◌&&◌, List, [], ◌∷◌, ◌++◌, map, filter, flat_map, fold, length, Option, Some, None, Result, Ok, Err, refl, ◌∙◌, ap, arith}
 use Rattle.std.proofs.lemmas.List.Elements.{filter-append}
+use Rattle.fc_base.specs.States.{next_state}
 use Rattle.fc_base.specs.Tables.{Tables, mapping_with, mapping_named, volume_named, group_named}
 use Rattle.fc_base.specs.declared.command.Command.{Command}
 use Rattle.fc_base.specs.declared.command.Command.TheVariants.{Mkvdisk, Rmvdisk, Armfault, Mkfcmap, Prestartfcmap, Startfcmap, Stopfcmap, Rmfcmap, Mkfcconsistgrp, Prestartfcconsistgrp, Startfcconsistgrp, Stopfcconsistgrp, Rmfcconsistgrp}
@@ -13,7 +14,7 @@ use Rattle.fc_base.specs.declared.ids.VolId.{VolId}
 use Rattle.fc_base.specs.declared.request.Effect.TheVariants.{Cut}
 use Rattle.fc_base.specs.declared.size.GrainSize.{GrainSize}
 use Rattle.fc_base.specs.declared.state.MapState.{MapState}
-use Rattle.fc_base.specs.declared.state.MapState.TheVariants.{Copying, Stopping}
+use Rattle.fc_base.specs.declared.state.MapState.TheVariants.{Copying, Stopping, Stopped, Prepared}
 use Rattle.fc_base.specs.declared.volume.Change.{Change}
 use Rattle.fc_base.specs.declared.volume.Change.TheVariants.{AddVolume, RemoveVolume, AddMapping, RemoveMapping, SetMapping, AddGroup, RemoveGroup}
 use Rattle.fc_base.specs.declared.volume.Group.{Group}
@@ -22,14 +23,15 @@ use Rattle.fc_base.specs.declared.volume.Volume.{Volume}
 use Rattle.fc_books.specs.Accesses.{is_idle}
 use Rattle.fc_books.specs.After.{after_deed, after_table_change}
 use Rattle.fc_books.specs.Books.{Books, Deed, nothing, all_deeds}
-use Rattle.fc_books.specs.Copies.{kept, is_whole, is_needed, dependents}
+use Rattle.fc_books.specs.Copies.{kept, is_whole, dependents}
 use Rattle.fc_books.specs.Deciding.{settle, decide, done, answered, for_one, for_members, refused}
 use Rattle.fc_books.specs.Ending.{ends_in, ends_by, goes_from, comes_to, cut_of, as_left, leaves_by}
 use Rattle.fc_books.specs.Groups.{members, acts_on}
+use Rattle.fc_books.specs.Making.{remove_volume, arm, new_mapping, make_mapping, remove_mapping, remove_group}
 use Rattle.fc_books.specs.Settling.{settling, settles_in, finishes}
 use Rattle.fc_books.specs.Starting.{prepare, start, supersedes, gives_way, begins, is_superseded}
-use Rattle.fc_books.specs.Stopping.{stops, stops_in, stops_with, stop_dependents, stops_member, one_by_one, stop_group}
-use Rattle.fc_control.specs.Changes.{adds, IsCountable, AreCountable}
+use Rattle.fc_books.specs.Stopping.{stop_event, stops, stops_in, stops_with, stop_dependents, stops_member, one_by_one, stop_group}
+use Rattle.fc_control.specs.Changes.{adds, AreCountable}
 use Rattle.fc_legal.specs.Steps.{no_restarts}
 
 -- ---- changes that add nothing
@@ -80,7 +82,7 @@ settling_none b = none_all Mapping (λ m. (settles_in m.state b m).changes) b.ta
 -- ---- stops
 
 stops_with_none : (b : Books) (d : Mapping) → NoAdd (stops_with b d).changes
-stops_with_none b d = none_append (cut_of b d).changes _ (cut_none b d) (ends_in_none _ (as_left b d))
+stops_with_none b d = none_append (cut_of b d).changes _ (cut_none b d) (ends_in_none Stopped (as_left b d))
 
 dependents_none : (way : StopWay) (b : Books) (m : Mapping) → NoAdd (stop_dependents way b m).changes
 dependents_none Force b m = none_all Mapping (λ d. (stops_with b d).changes) (dependents b m) (stops_with_none b)
@@ -89,7 +91,7 @@ dependents_none way b m = refl
 stops_in_none : (state : MapState) (way : StopWay) (b : Books) (m : Mapping) → NoAdd (stops_in state way b m).changes
 stops_in_none Copying way b m = none_append (leaves_by _ b m).changes (stop_dependents way b m).changes (leaves_none _ b m) (dependents_none way b m)
 stops_in_none Stopping way b m = none_append (ends_by _ m).changes (stop_dependents Force b m).changes (ends_by_none _ m) (dependents_none Force b m)
-stops_in_none state way b m = ends_by_none _ m
+stops_in_none state way b m = ends_by_none (next_state state (stop_event way) m.complete false) m
 
 stops_none : (way : StopWay) (b : Books) (m : Mapping) → NoAdd (stops way b m).changes
 unfolding stops
@@ -117,11 +119,11 @@ begins_none : (state : MapState) (restore : Bool) (maps : List Mapping) → NoAd
 begins_none state restore maps = none_all Mapping (λ m. (begins state restore m).changes) maps (λ m. refl)
 
 prepare_none : (restore : Bool) (t : Tables) (maps : List Mapping) → NoAdd (prepare restore t maps).changes
-prepare_none restore t maps = none_append (supersedes t maps).changes _ (supersedes_none t maps) (begins_none _ restore maps)
+prepare_none restore t maps = none_append (supersedes t maps).changes _ (supersedes_none t maps) (begins_none Prepared restore maps)
 
 start_none : (prep restore : Bool) (t : Tables) (maps : List Mapping) → NoAdd (start prep restore t maps).changes
 start_none prep restore t maps =
-    none_append (cond prep (supersedes t maps) nothing).changes _ (none_either prep (supersedes t maps) nothing (supersedes_none t maps) refl) (begins_none _ restore maps)
+    none_append (cond prep (supersedes t maps) nothing).changes _ (none_either prep (supersedes t maps) nothing (supersedes_none t maps) refl) (begins_none Copying restore maps)
 
 -- ---- groups
 
@@ -149,22 +151,26 @@ for_members_few : (t : Tables) (found : Option Group) (deed : List Mapping → D
 for_members_few t None deed each = none_is_few nothing refl
 for_members_few t (Some g) deed each = none_is_few (deed (members t g.id)) (each (members t g.id))
 
+make_mapping_few : (m : Mapping) → AddsOne (make_mapping m)
+make_mapping_few m = one_is_few (make_mapping m) (AddMapping m) refl
+
 done_few : (grain : GrainSize) (b : Books) (command : Command) → AddsOne (done grain b command)
 done_few grain b (Mkvdisk name size unit thin) = one_is_few (done grain b (Mkvdisk name size unit thin)) (AddVolume _) refl
-done_few grain b (Rmvdisk volume) = for_one_few Volume (volume_named b.tables volume) _ (λ v. none_is_few _ refl)
-done_few grain b (Armfault volume number calls) = for_one_few Volume (volume_named b.tables volume) _ (λ v. none_is_few _ refl)
+done_few grain b (Rmvdisk volume) = for_one_few Volume (volume_named b.tables volume) remove_volume (λ v. none_is_few (remove_volume v) refl)
+done_few grain b (Armfault volume number calls) = for_one_few Volume (volume_named b.tables volume) (λ v. arm v number calls) (λ v. none_is_few (arm v number calls) refl)
 done_few grain b (Mkfcmap source target name group copy_rate clean_rate grain_size incremental autodelete) =
-    for_one_few Volume (volume_named b.tables source) _ (λ s. for_one_few Volume (volume_named b.tables target) _ (λ t. one_is_few _ (AddMapping _) refl))
-done_few grain b (Prestartfcmap m restore) = for_one_few Mapping (mapping_named b.tables m) _ (λ found. none_is_few _ (prepare_none restore b.tables (found ∷ [])))
-done_few grain b (Startfcmap m prep restore) = for_one_few Mapping (mapping_named b.tables m) _ (λ found. none_is_few _ (start_none prep restore b.tables (found ∷ [])))
+    for_one_few Volume (volume_named b.tables source) _ (λ s. for_one_few Volume (volume_named b.tables target) _ (λ t.
+    make_mapping_few (new_mapping b s t name group copy_rate clean_rate incremental autodelete)))
+done_few grain b (Prestartfcmap m restore) = for_one_few Mapping (mapping_named b.tables m) _ (λ found. none_is_few (prepare restore b.tables (found ∷ [])) (prepare_none restore b.tables (found ∷ [])))
+done_few grain b (Startfcmap m prep restore) = for_one_few Mapping (mapping_named b.tables m) _ (λ found. none_is_few (start prep restore b.tables (found ∷ [])) (start_none prep restore b.tables (found ∷ [])))
 done_few grain b (Stopfcmap m way) = for_one_few Mapping (mapping_named b.tables m) (stops way b) (λ found. none_is_few (stops way b found) (stops_none way b found))
-done_few grain b (Rmfcmap m force) = for_one_few Mapping (mapping_named b.tables m) _ (λ found. none_is_few _ refl)
+done_few grain b (Rmfcmap m force) = for_one_few Mapping (mapping_named b.tables m) remove_mapping (λ found. none_is_few (remove_mapping found) refl)
 done_few grain b (Mkfcconsistgrp name) = one_is_few (done grain b (Mkfcconsistgrp name)) (AddGroup _) refl
 done_few grain b (Prestartfcconsistgrp group restore) = for_members_few b.tables (group_named b.tables group) (prepare restore b.tables) (prepare_none restore b.tables)
 done_few grain b (Startfcconsistgrp group prep restore) = for_members_few b.tables (group_named b.tables group) (start prep restore b.tables) (start_none prep restore b.tables)
 done_few grain b (Stopfcconsistgrp group way) = for_members_few b.tables (group_named b.tables group) (stop_group way b) (stop_group_none way b)
 done_few grain b (Rmfcconsistgrp group force) =
-    for_one_few Group (group_named b.tables group) _ (λ g. none_is_few _ (none_append (map (λ (m : Mapping). SetMapping (record m { group = None })) (members b.tables g.id)) (RemoveGroup g.id ∷ []) (sets_none (members b.tables g.id)) refl))
+    for_one_few Group (group_named b.tables group) _ (λ g. none_is_few (remove_group b.tables g.id) (none_append (map (λ (m : Mapping). SetMapping (record m { group = None })) (members b.tables g.id)) (RemoveGroup g.id ∷ []) (sets_none (members b.tables g.id)) refl))
 done_few grain b command = none_is_few nothing refl
 
 answered_few : (grain : GrainSize) (b : Books) (command : Command) (refusal : Option Refusal) (loop : Option (List VolId)) → length (filter adds (answered no_restarts grain b command refusal loop).changes) ≤ 1

@@ -1,5 +1,5 @@
 -- The control part and the lanes, made ready for a decision and after it.
-use Rattle.std.proofs.Common.{◌≡◌, ℕ, ◌+◌, ◌<◌, ◌≤◌, List, [], ◌∷◌, fold, filter, length, slice_index_or, Option, refl, sym, ◌∙◌, ap, subst, arith}
+use Rattle.std.proofs.Common.{◌≡◌, ℕ, ◌+◌, List, [], ◌∷◌, fold, length, refl, sym, ◌∙◌, ap, subst, arith}
 use Rattle.std.proofs.lemmas.List.Sums.{sum_by-cons}
 use Rattle.fc_base.specs.Sheet.{no_slots}
 use Rattle.fc_base.specs.SheetView.{SheetView}
@@ -9,10 +9,10 @@ use Rattle.fc_base.specs.declared.size.GrainSize.{GrainSize}
 use Rattle.fc_base.specs.declared.volume.Change.{Change}
 use Rattle.fc_books.specs.After.{after_table_change, flags_after}
 use Rattle.fc_books.specs.Books.{Books}
-use Rattle.fc_control.specs.Changes.{AreCountable, CanApply, adds, FitChanges}
+use Rattle.fc_control.specs.Changes.{CanApply, FitChanges}
 use Rattle.fc_control.specs.Control.{ControlState, books_of}
 use Rattle.fc_lane.specs.Lane.{LaneView}
-use Rattle.fc_legal.specs.Lawful.{IsLawful, left_by, FitChanges as FitTold}
+use Rattle.fc_legal.specs.Lawful.{IsLawful, FitChanges as FitTold}
 use Rattle.fc_legal.specs.Steps.{no_restarts}
 use Rattle.fc_legal.specs.Whole.{Whole}
 use Rattle.fc_pick.specs.Flags.{IsRising}

@@ -3,10 +3,10 @@ use Rattle.std.proofs.Common.{◌≡◌, ◌≢◌, ℕ, ◌+◌, ◌<◌, ◌�
 use Rattle.std.proofs.lemmas.Bool.{cases_eq}
 use Rattle.std.proofs.lemmas.List.{get_or-set_same, get_or-set_other, length-set}
 use Rattle.fc_base.specs.declared.decision.LaneEvent.{LaneEvent}
-use Rattle.fc_lane.specs.Lane.{LaneView, CanDoEvents, IsLaneOf, IsSameLane, of}
+use Rattle.fc_lane.specs.Lane.{LaneView, CanDoEvents, IsLaneOf, of}
 use Rattle.fc_rules.specs.LaneFits.{FitsLane}
-use Rattle.fc_rules.specs.LaneTold.{LaneTold, told_event}
-use Rattle.fc_store.specs.Phase.{EachLane, IsLaneAfter, IsLaneReady, CanAllDo, FitAll}
+use Rattle.fc_rules.specs.LaneTold.{LaneTold}
+use Rattle.fc_store.specs.Phase.{EachLane, IsLaneReady, CanAllDo, FitAll}
 
 -- The first so many did it, and the others are as they were.
 pub record EachBelow (P : LaneView → LaneView → Type 0) (n : ℕ) (old now : List LaneView) : Type 0 where

@@ -1,5 +1,5 @@
 -- A decision that the control part and the lanes have done: the store stands for what it leaves.
-use Rattle.std.proofs.Common.{◌≡◌, ℕ, ◌+◌, ◌*◌, ◌<◌, ◌≤◌, ◌^◌, List, [], ◌∷◌, fold, length, slice_index_or, refl, sym, ◌∙◌, ap, subst, arith}
+use Rattle.std.proofs.Common.{◌≡◌, ℕ, ◌+◌, ◌*◌, ◌<◌, ◌≤◌, List, [], ◌∷◌, fold, length, slice_index_or, refl, sym, ◌∙◌, ap, subst, arith}
 use Rattle.fc_base.specs.SheetView.{SheetView}
 use Rattle.fc_base.specs.Tables.{Tables, after_change}
 use Rattle.fc_base.specs.declared.decision.Decision.{Decision}
@@ -10,7 +10,7 @@ use Rattle.fc_base.specs.declared.volume.Change.TheVariants.{AddVolume, RemoveVo
 use Rattle.fc_books.specs.After.{after_table_change, after_event, after_all, flags_after}
 use Rattle.fc_books.specs.Books.{Books}
 use Rattle.fc_control.specs.Control.{ControlState, books_of}
-use Rattle.fc_lane.specs.Lane.{LaneView, IsLaneOf, IsSameLane, of}
+use Rattle.fc_lane.specs.Lane.{LaneView, IsLaneOf, of}
 use Rattle.fc_legal.specs.Lawful.{IsLawful, left_by}
 use Rattle.fc_legal.specs.Stands.{Stands}
 use Rattle.fc_legal.specs.Steps.{no_restarts, one_more}
@@ -20,7 +20,7 @@ use Rattle.fc_pick.specs.declared.work.WorkFlags.{WorkFlags}
 use Rattle.fc_rules.specs.LaneFits.{FitsLane}
 use Rattle.fc_rules.specs.LaneTold.{LaneOf, LaneTold, told_event}
 use Rattle.fc_store.specs.Phase.{StandsAt, IsDecidedAt, IsControlAfter, IsLaneAfter, IsLaneReady, EachLane, FitAll}
-use Rattle.fc_store.specs.Store.{StoreView, IsControlOf, IsLaneAt, AreLanesOf, AreFewCalls, StandsFor}
+use Rattle.fc_store.specs.Store.{StoreView, IsControlOf, IsLaneAt, StandsFor}
 
 -- ---- the control part
 
@@ -66,14 +66,14 @@ flags_through b [] = refl
 flags_through b (c ∷ cs) = flags_through (after_table_change b c) cs ∙ flags_stay b c
 
 -- Events change no table and no id that comes next, and flags one by one.
-record IsThrough (b after : Books) (flags : List WorkFlags) : Type 0 where
+pub record IsThrough (b after : Books) (flags : List WorkFlags) : Type 0 where
   pub tables : after.tables ≡ b.tables
   pub next_volume : after.next_volume ≡ b.next_volume
   pub next_mapping : after.next_mapping ≡ b.next_mapping
   pub next_group : after.next_group ≡ b.next_group
   pub flags_are : after.flags ≡ flags
 
-events_through : (b : Books) (events : List LaneEvent) → IsThrough b (fold (after_event no_restarts) b events) (fold flags_after b.flags events)
+pub events_through : (b : Books) (events : List LaneEvent) → IsThrough b (fold (after_event no_restarts) b events) (fold flags_after b.flags events)
 events_through b [] = record { tables = refl; next_volume = refl; next_mapping = refl; next_group = refl; flags_are = refl }
 events_through b (e ∷ es) =
     let rest = events_through (after_event no_restarts b e) es in

@@ -8,3 +8,4 @@ pub mod HeldRanges
 pub mod Dealing
 pub mod Phase
 pub mod Effects
+pub mod Settling

@@ -1,5 +1,5 @@
 -- The two phases of a command: a settling and what is decided after it. Each is made ready, and then done.
-use Rattle.std.specs.Prelude.{◌≡◌, ℕ, ◌+◌, ◌<◌, ◌≤◌, ◌^◌, List, filter, fold, length, slice_index_or, Option}
+use Rattle.std.specs.Prelude.{◌≡◌, ℕ, ◌+◌, ◌<◌, ◌≤◌, List, filter, fold, length, slice_index_or, Option}
 use Rattle.fc_base.specs.SheetView.{SheetView}
 use Rattle.fc_base.specs.Tables.{after_change}
 use Rattle.fc_base.specs.declared.command.Command.{Command}

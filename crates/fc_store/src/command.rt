@@ -1,6 +1,6 @@
 //! The entries of commands: settled and decided, or left as it was or settled alone for want of memory.
 
-ghost use Rattle.std.specs.Prelude.{◌≡◌, ℕ, ◌+◌, ◌*◌, ◌<◌, ◌≤◌, ◌∷◌, [], ◌++◌, length, Option, List as Items};
+ghost use Rattle.std.specs.Prelude.{◌≡◌, ℕ, ◌+◌, ◌*◌, ◌<◌, ◌≤◌, ◌∷◌, [], ◌++◌, length, Option, Err, List as Items};
 ghost use Rattle.fc_base.specs.declared.ids.VolId.{VolId};
 ghost use Rattle.fc_base.specs.declared.size.GrainSize.{GrainSize};
 ghost use Rattle.fc_books.specs.Deciding.{IsLoopOf, settle, settled};
@@ -8,22 +8,71 @@ ghost use Rattle.fc_legal.specs.Lawful.{left_by};
 ghost use Rattle.fc_legal.specs.Run.{by_main};
 ghost use Rattle.fc_legal.specs.Steps.{Step};
 ghost use Rattle.fc_legal.specs.Whole.{Whole};
-ghost use Rattle.fc_store.specs.Answering.{Answered};
+ghost use Rattle.fc_store.specs.Answering.{Answered, IsTold, TellsSome};
 ghost use Rattle.fc_store.specs.Apart.{entry_apart};
+ghost use Rattle.fc_store.specs.Dealing.{disks_in};
 ghost use Rattle.fc_store.specs.Phase.{IsDecided, StandsAt, after_settling, decided_after};
+ghost use Rattle.fc_store.specs.Settling.{CanDecide, IsSettled};
 ghost use Rattle.fc_store.specs.Store.{StandsFor};
 
-use crate::log::{entry_apart, log};
+use crate::log::{entry_apart, is_full, log};
 use crate::stop::Stop;
 use crate::store::Store;
 use fc_base::command::Command;
 use fc_base::limits::MAX_ENTRIES;
 use fc_base::list::List;
+use fc_base::outcome::NoMemory;
 use fc_base::request::{Effect, Place, Reply, Request};
 use fc_entry::history::History;
 use fc_mdisk::mdisk::Mdisk;
 
 impl<D: Mdisk> Store<D> {
+    /// Runs a command, which is no access: all is settled, and then it is decided and done. Want of memory is its answer.
+    pub(crate) fn run_command(
+        &mut self,
+        command: Command,
+        history: &mut History,
+    ) -> Result<(), Stop>
+        requires stands { TellsSome (StandsFor self.old) history.old.entries }
+        requires room { length history.old.entries ≤ MAX_ENTRIES }
+        requires decided { IsDecided command }
+        ensures answered { (w : Whole) → IsTold (StandsFor self.old) history.old.entries w →
+            Answered result (StandsFor self.new) self.old.control.grain w (by_main (Request.Command command ∷ [])) history.old history.new }
+        ensures grain { self.new.control.grain ≡ self.old.control.grain }
+        ensures disks { disks_in self.new.lanes ≡ disks_in self.old.lanes }
+        ensures limit { length history.new.entries ≤ MAX_ENTRIES }
+    {
+        if is_full(history) {
+            return full(command);
+        }
+        match self.settle_all() {
+            Ok(effects) => self.run_settled(command, effects, history),
+            Err(NoMemory) => self.log_unsettled(history, command),
+        }
+    }
+
+    /// Decides a command after the settling, with these effects, and logs it.
+    fn run_settled(
+        &mut self,
+        command: Command,
+        effects: List<Effect>,
+        history: &mut History,
+    ) -> Result<(), Stop>
+        requires stands { CanDecide self.old }
+        requires decided { IsDecided command }
+        requires room { length history.old.entries < MAX_ENTRIES }
+        ensures answered { (decisions : ℕ) (w : Whole) → IsSettled decisions self.old w → effects ≡ (settle w.books).effects → w.entries ≡ length history.old.entries →
+            Answered result (StandsFor self.new) self.old.control.grain w (by_main (Request.Command command ∷ [])) history.old history.new }
+        ensures grain { self.new.control.grain ≡ self.old.control.grain }
+        ensures disks { disks_in self.new.lanes ≡ disks_in self.old.lanes }
+        ensures limit { length history.new.entries ≤ MAX_ENTRIES }
+    {
+        match self.decide_all(&command, &effects) {
+            Ok((reply, all)) => self.log_decided(history, command, reply, all),
+            Err(NoMemory) => self.log_settled(history, command, effects),
+        }
+    }
+
     /// Logs a command, which was done under the turns of all.
     fn log_command(
         &self,
@@ -99,4 +148,11 @@ impl<D: Mdisk> Store<D> {
     {
         self.log_command(history, command, reply, effects)
     }
+}
+
+/// A command that no entry has room for.
+fn full(_command: Command) -> Result<(), Stop>
+    ensures { result ≡ Err Stop.LogFull }
+{
+    Err(Stop::LogFull)
 }

@@ -10,6 +10,8 @@ mod lines;
 mod log;
 mod new;
 mod phases;
+mod plan;
+mod settling;
 mod sheet;
 pub mod stop;
 pub mod store;

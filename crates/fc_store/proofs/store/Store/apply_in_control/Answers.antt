@@ -1,4 +1,4 @@
-use Rattle.std.proofs.Common.{◌≡◌, ◌∙◌, ap, subst}
+use Rattle.std.proofs.Common.{ap, subst}
 use Rattle.fc_control.specs.Control.{ControlState}
 use Rattle.fc_store.specs.Phase.{IsControlAfter}
 use Rattle.fc_store.specs.Store.{StoreView}

@@ -1,8 +1,6 @@
 use Rattle.std.proofs.Common.{◌∙◌, ap}
-use Rattle.std.proofs.lemmas.List.{with_items_is}
-use Rattle.fc_store.specs.Phase.{IsLaneReady}
 use Rattle.fc_store.specs.Store.{StoreView}
-use Rattle.fc_store.proofs.PhaseStands.{fits_here, done_here}
+use Rattle.fc_store.proofs.PhaseStands.{fits_here}
 use Rattle.fc_store.proofs.store.Store.reserve_in_lanes.Goals as goal
 
 pub reserve_lanes-requires-clause-fit : goal.reserve_lanes-requires-clause-fit

@@ -1,0 +1,69 @@
+-- What the control part decides by the chains of the lanes is decided of what the store stands for.
+use Rattle.std.proofs.Common.{◌≡◌, ℕ, ◌+◌, ◌<◌, ◌≤◌, List, [], length, Option, Result, Ok, Err, IfOk, IsTrue, refl, sym, ◌∙◌, ap, subst, arith}
+use Rattle.fc_base.specs.Pools.{Pool}
+use Rattle.fc_base.specs.SheetView.{SheetView}
+use Rattle.fc_base.specs.declared.command.Command.{Command}
+use Rattle.fc_base.specs.declared.command.Command.TheVariants.{Read as ReadLine, Write as WriteLine}
+use Rattle.fc_base.specs.declared.decision.Decision.{Decision}
+use Rattle.fc_base.specs.declared.ids.VolId.{VolId}
+use Rattle.fc_base.specs.declared.outcome.NoMemory.{NoMemory}
+use Rattle.fc_books.specs.Books.{Books}
+use Rattle.fc_books.specs.Copies.{total}
+use Rattle.fc_books.specs.Deciding.{IsLoopOf, settle, decide}
+use Rattle.fc_books.specs.Sound.{AreSound}
+use Rattle.fc_control.specs.Control.{ControlState, books_of}
+use Rattle.fc_control.specs.Dispatch.{is_decided}
+use Rattle.fc_control.specs.Starts.{HaveRoom}
+use Rattle.fc_legal.specs.Steps.{no_restarts}
+use Rattle.fc_legal.specs.Whole.{Whole}
+use Rattle.fc_store.specs.LaneSheet.{view_of}
+use Rattle.fc_store.specs.Phase.{StandsAt, IsDecided, after_settling}
+use Rattle.fc_store.specs.Settling.{IsSettling, IsSettled, CanDecide, IsDecisionOn}
+use Rattle.fc_store.specs.Store.{StoreView}
+use Rattle.fc_store.proofs.CommandSheet.{books_seen}
+
+pub settling_seen : (result : Result Decision NoMemory) (s : StoreView) (c : ControlState) (m : SheetView) → c ≡ s.control → m ≡ view_of s.lanes →
+    IfOk result (λ d. d ≡ settle (books_of c m)) → IfOk result (λ d. IsSettling s d)
+settling_seen (Ok d) s c m control view same = λ decisions w stands. same ∙ ap settle ((λ k. books_of (control k) (view k)) ∙ books_seen decisions s w stands)
+settling_seen (Err error) s c m control view same = tt
+
+-- What the decision needs of the control part and the chains.
+pub record MayDecide (c : ControlState) (m : SheetView) : Type 0 where
+  pub sound : AreSound (books_of c m)
+  pub lanes : 0 < length m.pools
+  pub room : HaveRoom (books_of c m) m.restarts
+
+zero_le : (n : ℕ) → 0 ≤ n
+zero_le n = omega arith
+
+may_decide_here : (s : StoreView) → CanDecide s → MayDecide s.control (view_of s.lanes)
+may_decide_here s can =
+    let w : Whole = after_settling s.control.grain can.1 in
+    let stands : StandsAt (can.0 + 1) s w = can.2.now in
+    let same : books_of s.control (view_of s.lanes) ≡ w.books = books_seen (can.0 + 1) s w stands in
+    record {
+      sound = subst (λ (b : Books). AreSound b) (sym same) stands.stands.sound;
+      lanes = subst (λ (pools : List Pool). 0 < length pools) (sym (ap (λ (b : Books). b.pools) same)) (omega (arith, stands.stands.each_lane.some, stands.stands.each_lane.pools));
+      room = λ x there. zero_le (total (books_of s.control (view_of s.lanes)) x);
+    }
+
+pub may_decide : (s : StoreView) (c : ControlState) (m : SheetView) → c ≡ s.control → m ≡ view_of s.lanes → CanDecide s → MayDecide c m
+may_decide s c m control view can = subst (λ (x : ControlState). MayDecide x m) (sym control) (subst (λ (x : SheetView). MayDecide s.control x) (sym view) (may_decide_here s can))
+
+-- A command that is no access is decided.
+pub is_a_command : (command : Command) → IsDecided command → IsTrue (is_decided command)
+is_a_command (ReadLine volume block count) decided = absurd decided
+is_a_command (WriteLine volume block count byte) decided = absurd decided
+is_a_command command decided = refl
+
+abbrev DecidedBy : ControlState → SheetView → Command → Decision → Type 0
+DecidedBy c m command d =
+    (loop : Option (List VolId)) × IsLoopOf c.grain (books_of c m) command loop × (d ≡ decide m.restarts c.grain (books_of c m) command loop)
+
+pub decision_seen : (result : Result Decision NoMemory) (s : StoreView) (command : Command) (c : ControlState) (m : SheetView) → c ≡ s.control → m ≡ view_of s.lanes →
+    IfOk result (λ d. (loop : Option (List VolId)) × IsLoopOf c.grain (books_of c m) command loop × (d ≡ decide m.restarts c.grain (books_of c m) command loop)) →
+    IfOk result (λ d. IsDecisionOn s command d)
+decision_seen (Ok d) s command c m control view by = λ decisions w stands.
+    let here : DecidedBy s.control (view_of s.lanes) command d = subst (λ (x : SheetView). DecidedBy s.control x command d) view (subst (λ (x : ControlState). DecidedBy x m command d) control by) in
+    subst (λ (b : Books). (loop : Option (List VolId)) × IsLoopOf s.control.grain b command loop × (d ≡ decide no_restarts s.control.grain b command loop)) (books_seen decisions s w stands) here
+decision_seen (Err error) s command c m control view by = tt

@@ -1,0 +1,10 @@
+use Rattle.fc_store.proofs.CommandPhases.{decision_can, decision_done}
+use Rattle.fc_store.proofs.store.Store.decide_all.Goals as goal
+
+pub reserve_all-requires : goal.reserve_all-requires
+reserve_all-requires g c = record { can = decision_can c.args.self.now c.args.command.now c.in-Ok.decision c.requires.stands c.in-Ok.ensures }
+
+pub returns-clause-decides : goal.returns-clause-decides
+returns-clause-decides g c =
+    decision_done c.args.self.now c.reserve_all.new.self c.apply_all.new.self c.args.command.now c.in-Ok.decision c.told.result.0 c.args.settled.now c.told.result.1 c.in-Ok.ensures
+    c.reserve_all.ensures.reserved c.apply_all.ensures.done c.told.ensures.reply (c.told.ensures.effects c.args.settled.now c.in-Ok-join.ensures)

@@ -1,0 +1,12 @@
+use Rattle.fc_store.proofs.CommandRuns.{ran_decided, ran_settled}
+use Rattle.fc_store.proofs.store.Store.run_settled.Goals as goal
+
+pub returns-in-Ok-clause-answered : goal.returns-in-Ok-clause-answered
+returns-in-Ok-clause-answered g c =
+    ran_decided c.log_decided.result c.args.self.now c.decide_all.new.self c.args.command c.in-Ok.reply c.in-Ok.all c.args.effects c.args.history.now c.log_decided.new.history
+    c.decide_all.ensures.grain c.log_decided.ensures.answered c.in-Ok.ensures.decides
+
+pub returns-in-Err-clause-answered : goal.returns-in-Err-clause-answered
+returns-in-Err-clause-answered g c =
+    ran_settled c.log_settled.result c.args.self.now c.decide_all.new.self c.args.command c.args.effects c.args.history.now c.log_settled.new.history
+    c.decide_all.ensures.grain c.log_settled.ensures.answered c.in-Err.ensures.decides
