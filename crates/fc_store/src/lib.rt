@@ -6,6 +6,7 @@ mod command;
 mod deal;
 mod effects;
 mod kept;
+mod line;
 mod lines;
 mod log;
 mod new;
