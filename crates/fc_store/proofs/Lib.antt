@@ -19,3 +19,4 @@ pub mod EffectRanges
 pub mod CommandSteps
 pub mod CommandLogs
 pub mod CommandSheet
+pub mod AskedSheet
