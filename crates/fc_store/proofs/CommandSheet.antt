@@ -1,11 +1,9 @@
 -- The books that a command is decided by: what the control part has, and what the lanes tell of their chains and disks.
-use Rattle.std.proofs.Common.{◌≡◌, ℕ, ◌<◌, List, [], ◌∷◌, length, map, slice_index_or, refl, sym, ◌∙◌, ap, arith}
+use Rattle.std.proofs.Common.{◌≡◌, ℕ, ◌<◌, List, [], ◌∷◌, length, slice_index_or, refl, sym, ◌∙◌, ap, arith}
 use Rattle.std.proofs.lemmas.List.{get_or-map, length-map}
 use Rattle.fc_base.specs.Pools.{Pool}
 use Rattle.fc_base.specs.Sheet.{Sheet, no_slots}
-use Rattle.fc_base.specs.SheetView.{SheetView}
 use Rattle.fc_base.specs.declared.size.GrainSize.{GrainSize}
-use Rattle.fc_books.specs.Books.{Books}
 use Rattle.fc_control.specs.Control.{books_of}
 use Rattle.fc_lane.specs.Lane.{LaneView}
 use Rattle.fc_legal.specs.Steps.{no_restarts}
@@ -25,7 +23,7 @@ same_list X d (x ∷ xs) [] n same = absurd (omega (arith, n))
 same_list X d (x ∷ xs) (y ∷ ys) n same =
     ap (λ (z : X). z ∷ xs) (same 0 (omega arith)) ∙ ap (λ (zs : List X). y ∷ zs) (same_list X d xs ys (omega (arith, n)) (λ i lt. same (ℕ.suc i) (omega (arith, lt))))
 
-sheet_of_part : (grain : GrainSize) (w : Whole) (i : ℕ) → (part_at grain w i).sheet ≡ part_of grain (lanes w) w.books.sheet i
+pub sheet_of_part : (grain : GrainSize) (w : Whole) (i : ℕ) → (part_at grain w i).sheet ≡ part_of grain (lanes w) w.books.sheet i
 unfolding part_at
 sheet_of_part grain w i = refl
 

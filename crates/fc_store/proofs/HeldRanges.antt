@@ -1,14 +1,13 @@
 -- Ranges that grow grain by grain, and what lanes hold of a slot.
-use Rattle.std.proofs.Common.{◌≡◌, ℕ, zero, suc, ◌+◌, ◌-◌, ◌<◌, ◌≤◌, ◌/◌, ◌%◌, ◌^◌, Bool, true, false, cond, ◌&&◌, ◌||◌, Option, Some, None, List, [], ◌∷◌, ◌++◌, length, get_or, drop, refl, sym, ap, ap₂, subst, ◌∙◌, arith}
+use Rattle.std.proofs.Common.{◌≡◌, ℕ, zero, suc, ◌+◌, ◌<◌, ◌≤◌, ◌/◌, ◌%◌, Bool, true, false, cond, ◌&&◌, ◌||◌, Option, Some, None, List, [], ◌∷◌, ◌++◌, length, get_or, refl, sym, ap, subst, ◌∙◌, arith}
 use Rattle.std.specs.Prelude.{slice_index_or, nat_le, ltb, eqb, IsSome, Result, Ok, Err, IfOk}
-use Rattle.std.specs.List.{list_any}
 use Rattle.std.proofs.lemmas.List.Folds.{list_any-append}
 use Rattle.fc_base.specs.Ranges.{IsRising, IsRisingFrom, StandsBehind, is_kept}
-use Rattle.fc_base.specs.Sheet.{Slot, Sheet, slot_at, slot_id, column, birth_place, mapping_place}
-use Rattle.fc_base.specs.SheetView.{held_at, held_of, count_true}
+use Rattle.fc_base.specs.Sheet.{Slot, Sheet, slot_at, column, birth_place, mapping_place}
+use Rattle.fc_base.specs.SheetView.{held_at, held_of}
 use Rattle.fc_base.specs.declared.ids.SlotId.{SlotId}
 use Rattle.fc_base.specs.declared.ranges.Range.{Range}
-use Rattle.fc_store.specs.HeldRanges.{held_by, with_last, EndsBefore, CanGrow, IsGrown, AreFound, held_from}
+use Rattle.fc_store.specs.HeldRanges.{held_by, with_last, CanGrow, IsGrown, AreFound, held_from}
 use Rattle.fc_base.proofs.RangeLemmas.{IsRising-push}
 use Rattle.std.proofs.lemmas.Bool.{both_ways, eqb-true, eq-eqb}
 use Rattle.std.proofs.lemmas.Bool.Decides.{nat_tests}

@@ -25,3 +25,4 @@ pub mod PhaseAll
 pub mod CommandPhases
 pub mod Planning
 pub mod CommandRuns
+pub mod AskedSheet

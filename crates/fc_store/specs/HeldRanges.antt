@@ -1,5 +1,5 @@
 -- The grains that a slot holds, as ranges that grow grain by grain.
-use Rattle.std.specs.Prelude.{◌≡◌, ℕ, ◌+◌, ◌<◌, Bool, ◌&&◌, ◌||◌, ltb, eqb, false, Option, Some, None, List, [], ◌∷◌, ◌++◌, drop, slice_index_or}
+use Rattle.std.specs.Prelude.{◌≡◌, ℕ, ◌<◌, Bool, ◌&&◌, ◌||◌, ltb, eqb, false, Option, Some, None, List, [], ◌∷◌, ◌++◌, drop, slice_index_or}
 use Rattle.fc_base.specs.Ranges.{IsRising, is_kept}
 use Rattle.fc_base.specs.Sheet.{birth_place}
 use Rattle.fc_base.specs.SheetView.{held_at, count_true}

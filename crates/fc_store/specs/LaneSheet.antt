@@ -10,6 +10,7 @@ use Rattle.fc_base.specs.declared.ids.MapId.{MapId}
 use Rattle.fc_base.specs.declared.ids.SlotId.{SlotId}
 use Rattle.fc_base.specs.declared.size.GrainSize.{GrainSize}
 use Rattle.fc_base.specs.declared.volume.Mapping.{Mapping}
+use Rattle.fc_base.specs.declared.volume.Volume.{Volume}
 use Rattle.fc_chain.specs.Chains.{found}
 use Rattle.fc_lane.specs.Lane.{LaneView}
 use Rattle.fc_sums.specs.Parts.{parts_of, joined, has_name}
@@ -87,6 +88,10 @@ pub record AddsReaders (s : Sheet) (but : MapId) (from : ℕ) (old new : List Ma
   pub more : List MapId
   pub readers : AreMappings (ReadsMapping s.slots from) more
   pub added : new ≡ fold (with_map but) old more
+
+-- The grains of each volume can be counted.
+abbrev pub AreCountable : List Volume → Type 0
+AreCountable volumes = (v : Volume) → Contains volumes v → v.grains < 2 ^ 32
 
 -- Lanes with one sheet, and the table of its mappings.
 pub record IsAsked (lanes : List LaneView) (mappings : List Mapping) : Type 0 where

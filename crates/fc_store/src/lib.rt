@@ -2,6 +2,7 @@
 #![tactic(auto)]
 
 mod access;
+mod chains;
 mod command;
 mod deal;
 mod effects;
