@@ -18,6 +18,9 @@ use Rattle.fc_books.specs.Refused.{access_refused, of_one}
 use Rattle.fc_entry.specs.Refused.{blocks_refusal, first_of, where_}
 use Rattle.fc_legal.specs.Asked.{touched, access_by, command_asked, read_in, write_in}
 use Rattle.fc_legal.specs.Whole.{Whole}
+use Rattle.fc_base.specs.declared.command.Command.{Command}
+use Rattle.fc_base.specs.declared.command.Command.TheVariants as command
+use Rattle.fc_store.specs.Phase.{IsDecided}
 use Rattle.fc_store.specs.Apart.{IsRefusalOf}
 use Rattle.fc_store.specs.Asking.{command_of, part_of}
 use Rattle.fc_store.specs.declared.access.Access.{Access}
@@ -88,3 +91,27 @@ pub refusal_of : (grain : GrainSize) (w : Whole) (access : Access) (volume : Ref
     → IsRefusalOf grain w (Asked (command_of access volume block count)) refusal
 refusal_of grain w Read volume block count refusal refused = refused
 refusal_of grain w (Write byte) volume block count refusal refused = refused
+
+-- A command that is no access asks for itself.
+pub asks_itself : (grain : GrainSize) (b : Books) (c : Command) → IsDecided c → command_asked grain b c ≡ Asked c ∷ []
+asks_itself grain b (command.Read p q r) decided = absurd decided
+asks_itself grain b (command.Write p q r s) decided = absurd decided
+asks_itself grain b (command.Mkvdisk p q r s) decided = refl
+asks_itself grain b (command.Rmvdisk p) decided = refl
+asks_itself grain b (command.Armfault p q r) decided = refl
+asks_itself grain b (command.Advance p) decided = refl
+asks_itself grain b (command.Mkfcmap p q r s t u v x y) decided = refl
+asks_itself grain b (command.Prestartfcmap p q) decided = refl
+asks_itself grain b (command.Startfcmap p q r) decided = refl
+asks_itself grain b (command.Stopfcmap p q) decided = refl
+asks_itself grain b (command.Rmfcmap p q) decided = refl
+asks_itself grain b (command.Mkfcconsistgrp p) decided = refl
+asks_itself grain b (command.Prestartfcconsistgrp p q) decided = refl
+asks_itself grain b (command.Startfcconsistgrp p q r) decided = refl
+asks_itself grain b (command.Stopfcconsistgrp p q) decided = refl
+asks_itself grain b (command.Rmfcconsistgrp p q) decided = refl
+asks_itself grain b (command.Lsfcmap p q) decided = refl
+asks_itself grain b (command.Lsfcconsistgrp p q) decided = refl
+asks_itself grain b (command.Lsvdisk p) decided = refl
+asks_itself grain b (command.Lsfcmapprogress p q) decided = refl
+asks_itself grain b (command.Lsfcmapdependentmaps p q) decided = refl

@@ -6,6 +6,7 @@ ghost use Rattle.fc_legal.specs.Run.{by_main};
 ghost use Rattle.fc_legal.specs.Whole.{Whole};
 ghost use Rattle.fc_store.specs.Answering.{Answered, IsTold, TellsSome};
 ghost use Rattle.fc_store.specs.Dealing.{disks_in};
+ghost use Rattle.fc_store.specs.Phase.{IsDecided};
 ghost use Rattle.fc_store.specs.Store.{StandsFor};
 
 use crate::access::Access;
@@ -18,6 +19,21 @@ use fc_entry::history::History;
 use fc_mdisk::mdisk::Mdisk;
 
 impl<D: Mdisk> Store<D> {
+    /// Answers a command that is no access: it asks for itself.
+    fn run_other(&mut self, command: Command, history: &mut History) -> Result<(), Stop>
+        requires stands { TellsSome (StandsFor self.old) history.old.entries }
+        requires room { length history.old.entries ≤ MAX_ENTRIES }
+        requires decided { IsDecided command }
+        ensures answered { (w : Whole) → IsTold (StandsFor self.old) history.old.entries w →
+            Answered result (StandsFor self.new) self.old.control.grain w
+            (by_main (command_asked self.old.control.grain w.books command)) history.old history.new }
+        ensures grain { self.new.control.grain ≡ self.old.control.grain }
+        ensures disks { disks_in self.new.lanes ≡ disks_in self.old.lanes }
+        ensures limit { length history.new.entries ≤ MAX_ENTRIES }
+    {
+        self.run_command(command, history)
+    }
+
     /// Answers a command line: an access grain by grain, and any other command by its entry.
     fn run_any(&mut self, command: Command, history: &mut History) -> Result<(), Stop>
         requires stands { TellsSome (StandsFor self.old) history.old.entries }
@@ -41,7 +57,7 @@ impl<D: Mdisk> Store<D> {
                 count,
                 byte,
             } => self.run_access(Access::Write(byte), volume, block, count, history),
-            other => self.run_command(other, history),
+            other => self.run_other(other, history),
         }
     }
 

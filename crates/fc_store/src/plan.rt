@@ -36,7 +36,7 @@ impl<D: Mdisk> Store<D> {
         requires stands { CanSettle self.now }
         ensures { IfOk result (λ decision. IsSettling self.now decision) }
     {
-        Err(NoMemory)
+        self.settling_by(&self.sheet())
     }
 
     /// What is decided of a command.
@@ -45,6 +45,6 @@ impl<D: Mdisk> Store<D> {
         requires decided { IsDecided command.now }
         ensures { IfOk result (λ decision. IsDecisionOn self.now command.now decision) }
     {
-        Err(NoMemory)
+        self.decision_by(command, &self.sheet())
     }
 }

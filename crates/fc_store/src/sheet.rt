@@ -393,6 +393,7 @@ pub(crate) fn dependents_in<D: Mdisk>(
 }
 
 /// The chains of all lanes together, as decisions on commands ask for them, beside the table of mappings.
+#[derive(Drop)]
 pub struct LaneSheet<'a, D: Mdisk> {
     lanes: &'a [Lane<D>],
     mappings: &'a [Mapping],
