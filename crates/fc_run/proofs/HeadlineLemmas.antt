@@ -13,7 +13,7 @@ use Rattle.fc_legal.specs.Legal.{IsLegal}
 use Rattle.fc_legal.proofs.Appending.{IsLegal-partial}
 use Rattle.fc_legal.specs.Seconds.{Agenda, Runs, stays, passes, fills, after_fill}
 use Rattle.fc_entry.specs.Lines.{ended_lines, all_lines}
-use Rattle.fc_legal.specs.Run.{Reading, asks, by_main, line_asks, IsLine, IsPartOfLine, LineWantsMore, IsRun, IsPartialRun, IsPartOfNext, WantsMore}
+use Rattle.fc_legal.specs.Run.{Reading, asks, by_main, IsLine, IsPartOfLine, LineWantsMore, IsRun, IsPartOfNext, WantsMore}
 use Rattle.fc_entry.specs.Text.{history_text, HasNames}
 use Rattle.fc_legal.specs.Whole.{Whole}
 use Rattle.fc_entry.specs.Written.{Written}

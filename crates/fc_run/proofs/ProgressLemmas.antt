@@ -8,7 +8,7 @@ use Rattle.fc_entry.specs.Lines.{Lined, line_step, lined, ended_lines, without_r
 use Rattle.fc_entry.proofs.LineLemmas.{lined-append, Grows, ended_lines-grow}
 use Rattle.fc_legal.proofs.Appending.{IsRun-append}
 use Rattle.fc_legal.specs.Added.{AddsLine, AddsSomeOfLine, AddsLineToLimit}
-use Rattle.fc_legal.specs.Run.{line_asks, IsRun, IsPartOfLine, IsPartialRun, IsPartOfNext, WantsMore}
+use Rattle.fc_legal.specs.Run.{line_asks, IsRun, IsPartOfLine, IsPartOfNext, WantsMore}
 use Rattle.fc_legal.specs.Whole.{Whole}
 use Rattle.fc_run.specs.Progress.{Progress, Filled, Broken, Fed}
 use Rattle.fc_run.specs.Reading.{reading}
