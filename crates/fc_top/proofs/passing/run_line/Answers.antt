@@ -8,7 +8,8 @@ pub returns-in-Ok-clause-answered : goal.returns-in-Ok-clause-answered
 returns-in-Ok-clause-answered g c = λ read bytes w is told.
     let own = c.in-Ok.ensures.answered w told in
     LineAnswered-due c.let_pass.result (StandsFor c.let_pass.new.store) c.args.store.now.control.grain
-    c.run_line.new.self.control.grain read w own.0 bytes c.args.line c.seconds_of-seconds.result c.seconds_due.result c.args.history.now c.run_line.new.history c.let_pass.new.history
+    c.run_line.new.self.control.grain read w own.0 bytes c.args.line c.seconds_of-seconds.result c.seconds_due.result
+    c.args.history.now c.run_line.new.history c.let_pass.new.history
     c.in-Ok.ensures.grain is own.2 c.seconds_of-seconds.ensures c.seconds_due.ensures
     (c.let_pass.ensures.advanced own.0 own.1)
 
