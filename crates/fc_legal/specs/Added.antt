@@ -5,7 +5,8 @@ use Rattle.fc_base.specs.declared.size.GrainSize.{GrainSize}
 use Rattle.fc_entry.specs.HistoryState.{HistoryState}
 use Rattle.fc_entry.specs.declared.entry.Entry.{Entry}
 use Rattle.fc_legal.specs.Legal.{IsLegal}
-use Rattle.fc_legal.specs.Run.{asks}
+use Rattle.fc_legal.specs.Run.{Reading, asks, IsLine, IsPartOfLine, LineWantsMore}
+use Rattle.fc_legal.specs.Seconds.{AreSeconds, ArePartOfSeconds, WantMoreSeconds}
 use Rattle.fc_legal.specs.Whole.{Whole}
 
 -- Entries that answer all that was asked.
@@ -35,3 +36,51 @@ pub record AnswersToLimit (grain : GrainSize) (w : Whole) (asked : List (ℕ × 
   pub some : asks more ++ wanted ∷ left ≡ asked
   pub full : length new.entries ≡ limit
   pub legal : IsLegal grain w more last
+
+-- ---- seconds
+
+-- The entries of so many seconds.
+pub record AddsSeconds (grain : GrainSize) (w : Whole) (seconds : ℕ) (old new : HistoryState) (last : Whole) : Type 0 where
+  pub more : List Entry
+  pub entries : new.entries ≡ old.entries ++ more
+  pub actors : new.actors ≡ old.actors
+  pub are : AreSeconds grain seconds w more last
+
+-- The first of them.
+pub record AddsSomeSeconds (grain : GrainSize) (w : Whole) (seconds : ℕ) (old new : HistoryState) (last : Whole) : Type 0 where
+  pub more : List Entry
+  pub entries : new.entries ≡ old.entries ++ more
+  pub actors : new.actors ≡ old.actors
+  pub are : ArePartOfSeconds grain seconds w more last
+
+-- The first of them, up to the greatest number of entries; one more is next.
+pub record AddsSecondsToLimit (grain : GrainSize) (w : Whole) (seconds limit : ℕ) (old new : HistoryState) (last : Whole) : Type 0 where
+  pub more : List Entry
+  pub entries : new.entries ≡ old.entries ++ more
+  pub actors : new.actors ≡ old.actors
+  pub full : length new.entries ≡ limit
+  pub are : WantMoreSeconds grain seconds w more last
+
+-- ---- lines
+
+-- The entries of a line.
+pub record AddsLine (grain : GrainSize) (read : Reading) (w : Whole) (line : List ℕ) (old new : HistoryState) (last : Whole) : Type 0 where
+  pub more : List Entry
+  pub entries : new.entries ≡ old.entries ++ more
+  pub actors : new.actors ≡ old.actors
+  pub are : IsLine grain read w line more last
+
+-- The first of them.
+pub record AddsSomeOfLine (grain : GrainSize) (read : Reading) (w : Whole) (line : List ℕ) (old new : HistoryState) (last : Whole) : Type 0 where
+  pub more : List Entry
+  pub entries : new.entries ≡ old.entries ++ more
+  pub actors : new.actors ≡ old.actors
+  pub are : IsPartOfLine grain read w line more last
+
+-- The first of them, up to the greatest number of entries; the line asks for one more.
+pub record AddsLineToLimit (grain : GrainSize) (read : Reading) (w : Whole) (line : List ℕ) (limit : ℕ) (old new : HistoryState) (last : Whole) : Type 0 where
+  pub more : List Entry
+  pub entries : new.entries ≡ old.entries ++ more
+  pub actors : new.actors ≡ old.actors
+  pub full : length new.entries ≡ limit
+  pub are : LineWantsMore grain read w line more last

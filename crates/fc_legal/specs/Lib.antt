@@ -5,5 +5,6 @@ pub mod Legal
 pub mod Stands
 pub mod Lawful
 pub mod Asked
+pub mod Seconds
 pub mod Run
 pub mod Added

@@ -8,7 +8,7 @@ use Rattle.fc_base.specs.declared.size.GrainSize.{GrainSize}
 use Rattle.fc_entry.specs.declared.entry.Entry.{Entry}
 use Rattle.fc_entry.specs.HistoryState.{HistoryState}
 use Rattle.fc_entry.specs.Lines.{lined, ended_lines, all_lines, last_line}
-use Rattle.fc_legal.specs.Run.{line_asks, IsRun}
+use Rattle.fc_legal.specs.Run.{IsRun}
 use Rattle.fc_legal.specs.Whole.{Whole}
 use Rattle.fc_entry.specs.Written.{Written}
 use Rattle.fc_entry.proofs.LineLemmas.{Grows}
@@ -19,7 +19,7 @@ use Rattle.fc_run.specs.Progress.{Progress, Filled, Broken, Fed}
 use Rattle.fc_run.specs.ReadTo.{ReadTo, EndsReading, IsAtEnd, Gave, input_limit}
 use Rattle.fc_run.specs.Reading.{reading}
 use Rattle.fc_run.specs.SessionRead.{SessionRead, EndsSession}
-use Rattle.fc_store.specs.Answering.{Answered, IsTold, Reached}
+use Rattle.fc_store.specs.Answering.{IsTold, LineAnswered, Reached}
 use Rattle.fc_run.proofs.ProgressLemmas.{LineEnds, LineEnds-answer, Filled-more, Broken-more}
 use Rattle.fc_run.specs.declared.reading.Ending.{Ending}
 use Rattle.fc_run.specs.declared.reading.Ending.TheVariants as ending
@@ -77,7 +77,7 @@ answered_all (Err NoMemory) before after Stands grain w bytes entries at_end wit
 pub SessionRead-answered :
     (answer : Result (Unit {0}) Stop) (before after : SourceState) (Before Stands : Whole → Type 0) (grain : GrainSize) (w : Whole) (line : List ℕ) (old new : HistoryState) →
     (line ≡ [] → ⊥) →
-    ((mid : Whole) → IsTold Before old.entries mid → Answered answer Stands grain mid (line_asks grain reading mid line) old new) →
+    ((mid : Whole) → IsTold Before old.entries mid → LineAnswered answer Stands grain reading mid line old new) →
     ReadTo ending.End before after Before grain w line old.entries →
     SessionRead (after_answer answer) before after Stands grain w new.entries
 SessionRead-answered answer before after Before Stands grain w line old new some answered read =

@@ -1,5 +1,5 @@
 -- From how a session was read and written to what its status says.
-use Rattle.std.proofs.Common.{◌≡◌, ◌≢◌, ℕ, ◌+◌, ◌<◌, ◌≤◌, Bool, true, false, List, [], ◌∷◌, ◌++◌, map, length, append_assoc, refl, sym, ◌∙◌, ap, subst, arith, length-append, is_some, Option, Some, None}
+use Rattle.std.proofs.Common.{◌≡◌, ◌≢◌, ℕ, ◌+◌, ◌<◌, ◌≤◌, Bool, true, false, List, [], ◌∷◌, ◌++◌, map, length, append_assoc, refl, sym, ◌∙◌, ap, subst, arith, length-append, is_some, Option, Some, None, inl, inr}
 use Rattle.std.proofs.lemmas.List.{append-nil}
 use Rattle.std.specs.List.{All}
 use Rattle.std.specs.Option.{option_map}
@@ -11,8 +11,9 @@ use Rattle.fc_entry.specs.declared.entry.Entry.{Entry}
 use Rattle.fc_entry.specs.HistoryState.{HistoryState}
 use Rattle.fc_legal.specs.Legal.{IsLegal}
 use Rattle.fc_legal.proofs.Appending.{IsLegal-partial}
+use Rattle.fc_legal.specs.Seconds.{Agenda, Runs, stays, passes, fills, after_fill}
 use Rattle.fc_entry.specs.Lines.{ended_lines, all_lines}
-use Rattle.fc_legal.specs.Run.{asks, by_main, line_asks, IsRun, IsPartialRun, IsPartOfNext, WantsMore}
+use Rattle.fc_legal.specs.Run.{Reading, asks, by_main, IsLine, IsPartOfLine, LineWantsMore, IsRun, IsPartOfNext, WantsMore}
 use Rattle.fc_entry.specs.Text.{history_text, HasNames}
 use Rattle.fc_legal.specs.Whole.{Whole}
 use Rattle.fc_entry.specs.Written.{Written}
@@ -49,6 +50,23 @@ Broken-complete grain w last lines history run = record {
   next = (refl, refl);
 }
 
+-- the entries of a line that asks for one more are the first of its entries
+LineWantsMore-part :
+    (grain : GrainSize) (read : Reading) (w last : Whole) (line : List ℕ) (entries : List Entry) →
+    LineWantsMore grain read w line entries last →
+    IsPartOfLine grain read w line entries last
+LineWantsMore-part grain read w last line entries (inl asks) =
+    inl record { left = asks.wanted ∷ asks.left; some = asks.some; legal = asks.legal }
+LineWantsMore-part grain read w last line entries (inr more) = inr record {
+  own = more.own;
+  more = more.more;
+  mid = more.mid;
+  entries_are = more.entries_are;
+  all = more.all;
+  legal = more.legal;
+  seconds = record { agenda = more.seconds.agenda; runs = more.seconds.runs };
+}
+
 Broken-filled :
     (grain : GrainSize) (w last : Whole) (lines : List (List ℕ)) (history : List Entry) →
     Filled grain w lines history last →
@@ -64,7 +82,7 @@ Broken-filled grain w last lines history filled =
       lines_are = wants.lines_are;
       entries_are = wants.entries_are;
       run = wants.run;
-      next = (wants.wanted ∷ wants.more, wants.next, wants.legal);
+      next = LineWantsMore-part grain reading wants.mid last wants.line wants.part wants.next;
     }
 
 -- however a session was read, its entries answer some first lines
@@ -184,19 +202,43 @@ ByMain-asked (entry ∷ entries) left (request ∷ requests) e =
     let first : Path (ℕ × Request) (entry.actor, entry.request) (0, request) = cc in
     (ap (λ (p : ℕ × Request). p.0) first, ByMain-asked entries left requests cc)
 
+ByMain-own : (entries : List Entry) (requests : List Request) → asks entries ≡ by_main requests → ByMain entries
+ByMain-own entries requests e = ByMain-asked entries [] requests (append-nil (asks entries) ∙ e)
+
+ByMain-runs : (grain : GrainSize) (a c : Agenda) (w last : Whole) (entries : List Entry) →
+    Runs grain a w entries c last → ByMain entries
+ByMain-runs grain a c w last entries stays = tt
+ByMain-runs grain a c w last entries (passes {b = b} idle goes run) = ByMain-runs grain b c w last entries run
+ByMain-runs grain a c w last entries (fills {next = next} {work = work} {entry = entry} {entries = rest} fill run) =
+    (fill.actor, ByMain-runs grain (after_fill grain next a work entry) c next last rest run)
+
+-- so are those of a line
+ByMain-line : (grain : GrainSize) (w last : Whole) (line : List ℕ) (entries : List Entry) →
+    IsLine grain reading w line entries last → ByMain entries
+ByMain-line grain w last line entries answered =
+    subst ByMain (sym answered.entries_are)
+    (ByMain-append answered.own answered.more (ByMain-own answered.own _ answered.all)
+    (ByMain-runs grain _ answered.seconds.agenda answered.mid last answered.more answered.seconds.runs))
+
+ByMain-part : (grain : GrainSize) (w last : Whole) (line : List ℕ) (entries : List Entry) →
+    IsPartOfLine grain reading w line entries last → ByMain entries
+ByMain-part grain w last line entries (inl part) = ByMain-asked entries part.left _ part.some
+ByMain-part grain w last line entries (inr part) =
+    subst ByMain (sym part.entries_are)
+    (ByMain-append part.own part.more (ByMain-own part.own _ part.all)
+    (ByMain-runs grain _ part.seconds.agenda part.mid last part.more part.seconds.runs))
+
 ByMain-run : (grain : GrainSize) (w last : Whole) (lines : List (List ℕ)) (entries : List Entry) →
     IsRun grain reading w lines entries last → ByMain entries
 ByMain-run grain w last [] entries run = subst ByMain (sym run.0) tt
 ByMain-run grain w last (line ∷ lines) entries run =
     subst ByMain (sym run.3)
-    (ByMain-append run.0 run.1
-    (ByMain-asked run.0 [] _ (append-nil (asks run.0) ∙ run.4))
-    (ByMain-run grain run.2 last lines run.1 run.6))
+    (ByMain-append run.0 run.1 (ByMain-line grain w run.2 line run.0 run.4) (ByMain-run grain run.2 last lines run.1 run.5))
 
 ByMain-next : (grain : GrainSize) (w last : Whole) (lines : List (List ℕ)) (entries : List Entry) →
     IsPartOfNext grain reading w lines entries last → ByMain entries
 ByMain-next grain w last [] entries next = subst ByMain (sym next.0) tt
-ByMain-next grain w last (line ∷ lines) entries next = ByMain-asked entries next.0 _ next.1
+ByMain-next grain w last (line ∷ lines) entries next = ByMain-part grain w last line entries next
 
 pub ByMain-broken : (grain : GrainSize) (w last : Whole) (lines : List (List ℕ)) (entries : List Entry) →
     Broken grain w lines entries last → ByMain entries

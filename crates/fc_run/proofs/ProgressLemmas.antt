@@ -1,20 +1,18 @@
 -- How a session goes on.
-use Rattle.std.proofs.Common.{◌≡◌, ◌≢◌, ℕ, Bool, true, false, ◌==◌, cond, List, [], ◌∷◌, ◌++◌, fold, length, take, drop, get_or, ◌+◌, ◌<◌, ◌≤◌, append_assoc, refl, sym, ◌∙◌, ap, subst, Result, Ok, Err, IsOk}
+use Rattle.std.proofs.Common.{◌≡◌, ◌≢◌, ℕ, Bool, true, false, ◌==◌, cond, List, [], ◌∷◌, ◌++◌, fold, length, take, drop, get_or, ◌+◌, ◌<◌, ◌≤◌, append_assoc, refl, sym, ◌∙◌, ap, subst, Result, Ok, Err, IsOk, inl}
 use Rattle.std.proofs.lemmas.List.{append-nil, drop_more, take_more, take_all, take-append-drop}
-use Rattle.fc_base.specs.declared.request.Request.{Request}
 use Rattle.fc_base.specs.declared.size.GrainSize.{GrainSize}
 use Rattle.fc_entry.specs.declared.entry.Entry.{Entry}
 use Rattle.fc_entry.specs.HistoryState.{HistoryState}
 use Rattle.fc_entry.specs.Lines.{Lined, line_step, lined, ended_lines, without_return}
 use Rattle.fc_entry.proofs.LineLemmas.{lined-append, Grows, ended_lines-grow}
 use Rattle.fc_legal.proofs.Appending.{IsRun-append}
-use Rattle.fc_legal.specs.Added.{AnswersAll, AnswersSome, AnswersToLimit}
-use Rattle.fc_legal.specs.Legal.{IsLegal}
-use Rattle.fc_legal.specs.Run.{line_asks, asks, IsRun, IsPartialRun, IsPartOfNext, WantsMore}
+use Rattle.fc_legal.specs.Added.{AddsLine, AddsSomeOfLine, AddsLineToLimit}
+use Rattle.fc_legal.specs.Run.{line_asks, IsRun, IsPartOfLine, IsPartOfNext, WantsMore}
 use Rattle.fc_legal.specs.Whole.{Whole}
 use Rattle.fc_run.specs.Progress.{Progress, Filled, Broken, Fed}
 use Rattle.fc_run.specs.Reading.{reading}
-use Rattle.fc_store.specs.Answering.{Answered, IsTold, Reached}
+use Rattle.fc_store.specs.Answering.{IsTold, LineAnswered, Reached}
 use Rattle.fc_store.specs.declared.stop.Stop.{Stop}
 use Rattle.fc_store.specs.declared.stop.Stop.TheVariants.{LogFull, NoMemory}
 
@@ -60,16 +58,16 @@ LineEnds (Err NoMemory) Stands grain w lines entries = (last : Whole) × Broken 
 pub LineEnds-answer :
     (answer : Result (Unit {0}) Stop) (Stands : Whole → Type 0) (grain : GrainSize) (w mid : Whole) (lines : List (List ℕ)) (line : List ℕ) (old new : HistoryState) →
     IsRun grain reading w lines old.entries mid →
-    Answered answer Stands grain mid (line_asks grain reading mid line) old new →
+    LineAnswered answer Stands grain reading mid line old new →
     LineEnds answer Stands grain w (lines ++ line ∷ []) new.entries
 LineEnds-answer (Ok done) Stands grain w mid lines line old new run answered =
     let last : Whole = answered.0 in
-    let more : AnswersAll grain mid (line_asks grain reading mid line) old new last = answered.2 in
+    let added : AddsLine grain reading mid line old new last = answered.2 in
     let P : List Entry → Type 0 = λ es. IsRun grain reading w (lines ++ line ∷ []) es last in
-    (last, answered.1, subst P (sym more.entries) (IsRun-append grain reading w mid last lines line old.entries more.more run more.all more.legal))
+    (last, answered.1, subst P (sym added.entries) (IsRun-append grain reading w mid last lines line old.entries added.more run added.are))
 LineEnds-answer (Err LogFull) Stands grain w mid lines line old new run answered =
     let last : Whole = answered.0 in
-    let more : AnswersToLimit grain mid (line_asks grain reading mid line) 262144 old new last = answered.2 in (
+    let added : AddsLineToLimit grain reading mid line 262144 old new last = answered.2 in (
       last,
       answered.1,
       record {
@@ -78,33 +76,30 @@ LineEnds-answer (Err LogFull) Stands grain w mid lines line old new run answered
           line = line;
           after = [];
           whole = old.entries;
-          part = more.more;
+          part = added.more;
           mid = mid;
-          wanted = more.wanted;
-          more = more.left;
           lines_are = refl;
-          entries_are = more.entries;
+          entries_are = added.entries;
           run = run;
-          next = more.some;
-          legal = more.legal;
+          next = added.are;
         };
-        full = more.full;
+        full = added.full;
       },
     )
 LineEnds-answer (Err NoMemory) Stands grain w mid lines line old new run answered =
     let last : Whole = answered.0 in
-    let more : AnswersSome grain mid (line_asks grain reading mid line) old new last = answered.1 in (
+    let added : AddsSomeOfLine grain reading mid line old new last = answered.1 in (
       last,
       record {
         before = lines;
         after = line ∷ [];
         whole = old.entries;
-        part = more.more;
+        part = added.more;
         mid = mid;
         lines_are = refl;
-        entries_are = more.entries;
+        entries_are = added.entries;
         run = run;
-        next = (more.left, more.some, more.legal);
+        next = added.are;
       },
     )
 
@@ -135,13 +130,13 @@ pub Fed-newline :
     (answer : Result (Unit {0}) Stop) (Before Stands : Whole → Type 0) (grain : GrainSize) (w : Whole) (bytes line asked rest : List ℕ) (old new : HistoryState) →
     asked ≡ without_return line →
     Reached Before old.entries (Progress grain w bytes line old.entries) →
-    ((mid : Whole) → IsTold Before old.entries mid → Answered answer Stands grain mid (line_asks grain reading mid asked) old new) →
+    ((mid : Whole) → IsTold Before old.entries mid → LineAnswered answer Stands grain reading mid asked old new) →
     (IsOk answer → rest ≡ []) →
     Fed answer Stands grain w (bytes ++ 10 ∷ []) rest new.entries
 Fed-newline answer Before Stands grain w bytes line asked rest old new asks before answered empty =
     let mid : Whole = before.0 in
     let progress : Progress grain w bytes line old.entries mid = before.2 in
-    let P : List ℕ → Type 0 = λ l. Answered answer Stands grain mid (line_asks grain reading mid l) old new in
+    let P : List ℕ → Type 0 = λ l. LineAnswered answer Stands grain reading mid l old new in
     Fed-ended answer Stands grain w bytes rest new.entries
     (LineEnds-answer answer Stands grain w mid (ended_lines bytes) (without_return (lined bytes).unended) old new
     progress.run (subst P (asks ∙ ap without_return progress.unended) (answered mid before.1)))
@@ -187,15 +182,12 @@ Filled-more grain w last lines all entries grows filled =
         whole = wants.whole;
         part = wants.part;
         mid = wants.mid;
-        wanted = wants.wanted;
-        more = wants.more;
         lines_are =
             grows.is ∙ ap (λ l. l ++ grows.more) wants.lines_are
             ∙ append_assoc wants.before (wants.line ∷ wants.after) grows.more;
         entries_are = wants.entries_are;
         run = wants.run;
         next = wants.next;
-        legal = wants.legal;
       };
       full = filled.full;
     }
@@ -206,8 +198,8 @@ part-more :
     IsPartOfNext grain reading w (after ++ more) part last
 part-more grain w last [] [] part next = next
 part-more grain w last [] (line ∷ more) part next =
-    let P : List Entry → Type 0 = λ es. (left : List (ℕ × Request)) × (asks es ++ left ≡ line_asks grain reading w line) × IsLegal grain w es last in
-    subst P (sym next.0) (line_asks grain reading w line, refl, next.1)
+    let P : List Entry → Type 0 = λ es. IsPartOfLine grain reading w line es last in
+    subst P (sym next.0) (inl record { left = line_asks grain reading w line; some = refl; legal = next.1 })
 part-more grain w last (line ∷ after) more part next = next
 
 pub Broken-more :

@@ -3,10 +3,9 @@
 ghost use Rattle.std.specs.Prelude.{◌≡◌, ◌≤◌, List, length};
 ghost use Rattle.fc_base.specs.Pools.{Pool};
 ghost use Rattle.fc_base.specs.declared.size.GrainSize.{GrainSize};
-ghost use Rattle.fc_legal.specs.Run.{line_asks};
 ghost use Rattle.fc_legal.specs.Whole.{Whole};
 ghost use Rattle.fc_run.specs.Reading.{reading};
-ghost use Rattle.fc_store.specs.Answering.{Answered, IsTold, TellsSome};
+ghost use Rattle.fc_store.specs.Answering.{IsTold, LineAnswered, TellsSome};
 
 use fc_entry::history::History;
 use fc_store::stop::Stop;
@@ -22,13 +21,13 @@ pub trait LineStore {
     /// The store stands for what a history tells.
     ghost Stands: { Self → Whole → Type 0 };
 
-    /// Answers a line: one entry or more at the history's end, or none. Stopped, the first of them are there; but for
-    /// want of memory the store goes on to stand for what is told.
+    /// Answers a line, and lets its seconds pass: one entry or more at the history's end, or none. Stopped, the first of
+    /// them are there; but for want of memory the store goes on to stand for what is told.
     fn answer(&mut self, line: &[u8], history: &mut History) -> Result<(), Stop>
         requires stands { TellsSome (Stands self.old) history.old.entries }
         requires room { length history.old.entries ≤ 262144 }
         ensures answered { (w : Whole) → IsTold (Stands self.old) history.old.entries w →
-            Answered result (Stands self.new) (grain self.old) w (line_asks (grain self.old) reading w line.now) history.old history.new }
+            LineAnswered result (Stands self.new) (grain self.old) reading w line.now history.old history.new }
         ensures actors { history.new.actors ≡ history.old.actors }
         ensures grain { grain self.new ≡ grain self.old }
         ensures disks { disks self.new ≡ disks self.old }

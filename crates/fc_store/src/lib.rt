@@ -2,6 +2,7 @@
 #![tactic(auto)]
 
 mod access;
+mod advance;
 mod chains;
 mod command;
 mod deal;

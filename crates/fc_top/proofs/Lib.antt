@@ -1,4 +1,5 @@
 -- Lemmas, one subject a file.
+pub mod PassingLemmas
 pub mod OwnerLemmas
 pub mod Counting
 pub mod Backs

@@ -11,8 +11,7 @@ fn is_built_command(command: &Command) -> bool
 {
     match command {
         Command::Mkfcmap { incremental, .. } => !*incremental,
-        Command::Advance { .. }
-        | Command::Lsfcmap { .. }
+        Command::Lsfcmap { .. }
         | Command::Lsfcconsistgrp { .. }
         | Command::Lsvdisk { .. }
         | Command::Lsfcmapprogress { .. }
@@ -22,6 +21,7 @@ fn is_built_command(command: &Command) -> bool
         | Command::Write { .. }
         | Command::Read { .. }
         | Command::Armfault { .. }
+        | Command::Advance { .. }
         | Command::Prestartfcmap { .. }
         | Command::Startfcmap { .. }
         | Command::Stopfcmap { .. }

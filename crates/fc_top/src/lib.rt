@@ -7,11 +7,12 @@
 //! in `specs/Words`, what becomes of the disks in `specs/DisksBack`, and what each status says in fc_run's
 //! `specs/Headline`.
 //!
-//! In reading order: `words`, `gate`, `built` and `owner` (the store answers a line), `flashcopy`.
+//! In reading order: `words`, `gate`, `built`, `passing` (lines whose seconds pass) and `owner` (the store answers a line), `flashcopy`.
 #![tactic(auto)]
 
 mod built;
 pub mod flashcopy;
 pub mod gate;
 mod owner;
+mod passing;
 pub mod words;

@@ -1,15 +1,14 @@
 //! The one owner of the store: reads each line by the grammar, and has the store answer it.
 
-ghost use Rattle.std.specs.Prelude.{◌≡◌, ◌≤◌, length, Ok};
-ghost use Rattle.fc_legal.specs.Asked.{asked};
-ghost use Rattle.fc_legal.specs.Run.{by_main};
+ghost use Rattle.std.specs.Prelude.{◌≡◌, ◌≤◌, ℕ, List, length, Ok};
 ghost use Rattle.fc_legal.specs.Whole.{Whole};
-ghost use Rattle.fc_run.specs.Reading.{as_built};
-ghost use Rattle.fc_store.specs.Answering.{Answered, IsTold, TellsSome};
+ghost use Rattle.fc_run.specs.Reading.{reading, as_built};
+ghost use Rattle.fc_store.specs.Answering.{IsTold, LineAnswered, TellsSome};
 ghost use Rattle.fc_store.specs.Dealing.{disks_in};
 ghost use Rattle.fc_store.specs.Store.{StandsFor};
 
 use crate::built::is_built;
+use crate::passing::run_line;
 use fc_base::command::{Line, Scope};
 use fc_base::fault::WordFault;
 use fc_entry::history::History;
@@ -54,15 +53,15 @@ fn answer_line<D: Mdisk>(
 ) -> Result<(), Stop>
     requires stands { TellsSome (StandsFor store.old) history.old.entries }
     requires room { length history.old.entries ≤ 262144 }
-    ensures answered { (w : Whole) → IsTold (StandsFor store.old) history.old.entries w →
-        Answered result (StandsFor store.new) store.old.control.grain w
-        (by_main (asked store.old.control.grain w.books (as_built (Ok line)))) history.old history.new }
+    ensures answered { (bytes : List ℕ) (w : Whole) → reading w.books bytes ≡ as_built (Ok line) →
+        IsTold (StandsFor store.old) history.old.entries w →
+        LineAnswered result (StandsFor store.new) store.old.control.grain reading w bytes history.old history.new }
     ensures grain { store.new.control.grain ≡ store.old.control.grain }
     ensures disks { disks_in store.new.lanes ≡ disks_in store.old.lanes }
     ensures limit { length history.new.entries ≤ 262144 }
 {
     if is_built(&line) {
-        store.run_line(line, history)
+        run_line(store, line, history)
     } else {
         let_go(line);
         store.push_unread(WordFault::UnknownCommand, history)
