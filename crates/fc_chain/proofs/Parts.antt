@@ -17,6 +17,7 @@ use Rattle.fc_sheets.proofs.Holding.{Regrained}
 use Rattle.fc_chain.proofs.Listed.{lists_map, places_fewer}
 use Rattle.fc_chain.proofs.Keeps.{view_of}
 use Rattle.fc_chain.proofs.Growing.{events_grow}
+use Rattle.fc_chain.proofs.Numbered.{wider_numbered}
 
 pub countable : (lane lanes : ℕ) (sheet : Sheet) → IsKept lane lanes sheet → Countable sheet.slots
 countable lane lanes sheet k = record { one_live = k.sound.one_live; one_size = k.sound.sizes.of_chain; together = k.together }
@@ -132,13 +133,6 @@ refused_parts lane lanes table ledger after d e room width p stay l w listed has
       places = has;
       numbered = p.numbered;
     }
-
-wider_numbered : (lane lanes a b : ℕ) → AreNumbered lane lanes a → AreNumbered lane lanes b → AreNumbered lane lanes (max a b)
-wider_numbered lane lanes a b p q =
-    elim (cases_lt a b) [
-      | inl lt ↦ subst (AreNumbered lane lanes) (omega arith) q
-      | inr ge ↦ subst (AreNumbered lane lanes) (omega arith) p
-    ]
 
 pub roomy_parts : (lane lanes : ℕ) (table new : Table) (ledger after : Ledger) (d dir : Directory) (room width slots new_width wider more : ℕ) → AreParts lane lanes table ledger d room width → wider ≡ max new_width table.width → AreNumbered lane lanes new_width → ((k : ℕ) → k < length ledger.tallies → tally_at after.tallies k ≡ tally_at ledger.tallies k) →
     length ledger.tallies ≤ length after.tallies → length table.sheet.slots + slots ≤ length after.tallies → words_for wider ≤ after.words →

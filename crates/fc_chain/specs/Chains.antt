@@ -47,7 +47,7 @@ IsThere slots name = IsSome (birth_place slots name.0)
 
 -- The numbers of so many grains of a lane are numbers of 32 bits.
 abbrev pub AreNumbered : ℕ → ℕ → ℕ → Type 0
-AreNumbered lane lanes count = count * lanes + lane < 2 ^ 32 + lanes
+AreNumbered lane lanes count = (p : ℕ) → p < count → p * lanes + lane < 2 ^ 32
 
 -- All that always holds of a cascade's parts.
 pub record AreParts (lane lanes : ℕ) (table : Table) (ledger : Ledger) (directory : Directory) (room width : ℕ) : Type 0 where
