@@ -1,12 +1,12 @@
 -- The next grain of a slot is the least that it lacks, or is needed at.
-use Rattle.std.proofs.Common.{◌≡◌, ◌≢◌, ℕ, ◌+◌, ◌<◌, ◌≤◌, Bool, true, false, not, ◌&&◌, Option, Some, None, IfSome, is_some, List, length, get_or, refl, sym, ap, subst, ◌∙◌, arith, inl, inr}
+use Rattle.std.proofs.Common.{◌≡◌, ◌≢◌, ℕ, ◌+◌, ◌<◌, ◌≤◌, Bool, true, false, not, ◌&&◌, Option, Some, None, IfSome, is_some, List, length, get_or, sym, ap, subst, ◌∙◌, arith, inl, inr}
 use Rattle.std.proofs.lemmas.Bool.{both_ways, cases_lt, cases_eq, false_from_ne_true}
 use Rattle.fc_bits.specs.Grains.{difference, has, least_clear, least_set}
 use Rattle.fc_bits.proofs.Grains.{least_clear-some, least_clear-none, least_set-some, least_set-none, has-difference, length-difference}
 use Rattle.fc_base.specs.Column.{first_below, needer}
 use Rattle.fc_base.specs.Counts.{LiveBehind, is_needed_at}
 use Rattle.fc_base.specs.Sheet.{Slot, slot_at, column}
-use Rattle.fc_chain.specs.Nexts.{IsNextLive, NextLive, lacks}
+use Rattle.fc_chain.specs.Nexts.{IsNextLive, lacks}
 use Rattle.fc_chain.specs.Tallies.{AreOneSize}
 use Rattle.fc_moves.proofs.Readers.{reader_is}
 use Rattle.fc_moves.proofs.Search.{IsFirst, first_is, first_is_none}

@@ -1,4 +1,4 @@
-use Rattle.std.proofs.Common.{ℕ, ◌+◌, ◌-◌, ◌<◌, ◌≤◌, ◌∙◌, sym, ap, length, arith}
+use Rattle.std.proofs.Common.{◌+◌, ◌-◌, ◌<◌, ◌≤◌, ◌∙◌, sym, ap, length, arith}
 use Rattle.fc_base.specs.Sheet.{Slot}
 use Rattle.fc_chain.proofs.Finds.{read_at}
 use Rattle.fc_chain.proofs.Nexts.{AreLeft, IsNextLeft, left_are, none_left, none_at_end, left_next, found_left, passed_left}

@@ -1,6 +1,5 @@
 use Rattle.std.proofs.Common.{◌∙◌, sym}
 use Rattle.fc_chain.proofs.Finds.{live_ends}
-use Rattle.fc_chain.proofs.Nexts.{live_next, live_none}
 use Rattle.fc_chain.proofs.next.next_live.Goals as goal
 
 pub returns-then-chain : goal.returns-then-chain

@@ -1,4 +1,3 @@
-use Rattle.std.proofs.Common.{◌∙◌, sym}
 use Rattle.fc_chain.proofs.Nexts.{none_needed}
 use Rattle.fc_chain.proofs.next.next_needed.Goals as goal
 

@@ -1,5 +1,4 @@
 use Rattle.fc_chain.proofs.Fitting.{plannable}
-use Rattle.fc_chain.proofs.Numbered.{slots_numbered}
 use Rattle.fc_chain.proofs.cascade.Cascade.slots.Goals as goal
 
 pub returns-clause-plannable : goal.returns-clause-plannable
