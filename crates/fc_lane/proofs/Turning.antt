@@ -77,8 +77,10 @@ needed_is chains l m slot number r el es e b n q =
     ∙ ap (least_at l chains.sheet.slots (needer_at chains.sheet.slots)) (sym p.1)))
 
 -- where it has none
-none_at : (l : LaneOf) (slots : List Slot) (filled : ℕ → Option ℕ) (o : Option ℕ) → None ≡ found slots o → None ≡ option_map (λ g. record { 0 = number_at l g }) (first_below (λ g. is_some (filled g)) (grains_of slots o))
-none_at l slots filled None e = sym (ap (option_map (λ g. record { 0 = number_at l g })) (first_is_none (λ g. is_some (filled g)) 0 (λ j lt. absurd (omega arith))))
+none_at : (l : LaneOf) (slots : List Slot) (filled : ℕ → Option ℕ) (o : Option ℕ) → None ≡ found slots o → None ≡ least_at l slots (λ place. filled) o
+none_at l slots filled None e =
+    let none : first_below (λ g. is_some (filled g)) 0 ≡ None = first_is_none (λ g. is_some (filled g)) 0 (λ j lt. absurd (omega arith)) in
+    sym (ap (λ (z : Option ℕ). option_map (λ g. record { 0 = number_at l g }) z) none)
 none_at l slots filled (Some k) e = absurd cc
 
 pub none_is : (l : LaneOf) (slots : List Slot) (filled : ℕ → Option ℕ) (m : ℕ) → None ≡ found slots (mapping_place slots m) → None ≡ least_grain l slots filled m
