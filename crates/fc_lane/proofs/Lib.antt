@@ -23,3 +23,4 @@ pub mod WriteEntry
 pub mod WriteLane
 pub mod FillLane
 pub mod FillEntry
+pub mod Turning
