@@ -1,0 +1,83 @@
+# What the benchmarks share. It is sourced, not run.
+#
+# Sets top, program and room (a folder that goes at the end), builds the program if there is none, and has:
+#   timed SESSION WORD..   runs the program on a session, puts its history into $room/history, and prints the seconds that
+#                          passed and the peak memory in MiB
+#   copies CALLS KIB       prints the seconds that so many calls take when each copies a grain of so many KiB
+#   disk_calls SESSION GRAIN   prints how many calls of disks the entries of a session tell
+set -eu
+
+top=$(cd -- "$(dirname -- "$(readlink -f -- "${BASH_SOURCE[0]}")")/.." && pwd)
+program=$top/crates/flashcopy/out/flashcopy
+traces=$top/crates/traces/out/traces
+"$top/bin/flashcopy" run </dev/null
+room=$(mktemp -d)
+trap 'rm -rf -- "$room"' EXIT
+
+cat >"$room/timed.c" <<'END'
+#include <stdio.h>
+#include <sys/resource.h>
+#include <sys/wait.h>
+#include <time.h>
+#include <unistd.h>
+
+int main(int argc, char **argv) {
+    struct timespec from, to;
+    struct rusage used;
+    int status;
+    if (argc < 2) return 1;
+    clock_gettime(CLOCK_MONOTONIC, &from);
+    pid_t child = fork();
+    if (child == 0) {
+        execv(argv[1], argv + 1);
+        _exit(127);
+    }
+    if (child < 0 || wait4(child, &status, 0, &used) < 0) return 1;
+    clock_gettime(CLOCK_MONOTONIC, &to);
+    fprintf(stderr, "%.3f %.0f\n",
+            (double)(to.tv_sec - from.tv_sec) + (double)(to.tv_nsec - from.tv_nsec) / 1e9, used.ru_maxrss / 1024.0);
+    return 0;
+}
+END
+cat >"$room/copies.c" <<'END'
+#include <stdio.h>
+#include <stdlib.h>
+#include <string.h>
+#include <time.h>
+
+int main(int argc, char **argv) {
+    if (argc != 3) return 1;
+    long calls = atol(argv[1]), bytes = atol(argv[2]) * 1024, grains = (576L * 65536) / bytes;
+    char *disks = calloc(grains, bytes), *grain = calloc(1, bytes);
+    struct timespec from, to;
+    unsigned long place = 12345;
+    if (!disks || !grain) return 1;
+    memset(disks, 1, grains * bytes);
+    clock_gettime(CLOCK_MONOTONIC, &from);
+    for (long i = 0; i < calls; i++) {
+        place = (place * 16807) % 2147483647;
+        memcpy(grain, disks + (long)(place % grains) * bytes, bytes);
+        __asm__ volatile("" : : "r"(grain) : "memory");
+    }
+    clock_gettime(CLOCK_MONOTONIC, &to);
+    printf("%.3f\n", (double)(to.tv_sec - from.tv_sec) + (double)(to.tv_nsec - from.tv_nsec) / 1e9);
+    return 0;
+}
+END
+"${CC:-cc}" -O2 -o "$room/timed" "$room/timed.c"
+"${CC:-cc}" -O2 -o "$room/copies" "$room/copies.c"
+
+timed() { # SESSION WORD..
+    local session=$1
+    shift
+    "$room/timed" "$program" "$@" <"$session" 2>&1 >"$room/history"
+}
+
+copies() { "$room/copies" "$1" "$2"; } # CALLS KIB
+
+disk_calls() { # SESSION GRAIN
+    { echo "== session $2 4096"; cat "$1"; } | "$traces" | awk '$1 == "+" && $2 == "calls" { n += $3 } END { print n + 0 }'
+}
+
+# The lesser of two numbers, of which the second may be none.
+lesser() { printf '%s\n' "$1" ${2:+"$2"} | sort -g | head -n 1; }
