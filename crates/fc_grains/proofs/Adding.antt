@@ -1,15 +1,17 @@
 -- What the disks of a lane add up to.
-use Rattle.std.proofs.Common.{◌≡◌, ℕ, ◌+◌, ◌-◌, ◌<◌, ◌≤◌, ◌^◌, Bool, true, false, List, ◌++◌, length, map, take, get_or, slice_set, sym, ◌∙◌, ap, inl, inr, arith}
+use Rattle.std.proofs.Common.{◌≡◌, ℕ, ◌+◌, ◌-◌, ◌<◌, ◌≤◌, ◌^◌, Bool, true, false, not, cond, List, ◌++◌, length, map, take, get_or, slice_set, sym, ◌∙◌, ap, inl, inr, arith}
 use Rattle.std.specs.List.{sum_by}
 use Rattle.std.proofs.lemmas.Bool.{cases_lt}
-use Rattle.std.proofs.lemmas.List.{map-set, get_or-map, length-map, length-set, length-append}
+use Rattle.std.proofs.lemmas.List.{map-set, get_or-map, length-map}
 use Rattle.std.proofs.lemmas.List.Sums.{sum_by-set, sum_by-append, sum_by_more, get_or-le-sum_by}
 use Rattle.fc_base.specs.Count.{one_more, HasRisen, FaultsAfter}
-use Rattle.fc_mdisk.specs.Disk.{DiskState}
-use Rattle.fc_grains.specs.Grains.{stopped}
+use Rattle.fc_base.specs.declared.disk.DiskKind.{DiskKind}
+use Rattle.fc_mdisk.specs.Disk.{DiskState, is_flat}
+use Rattle.fc_grains.specs.Grains.{pool_of, stopped}
 use Rattle.fc_grains.specs.Kept.{AddUp, all_disks}
 use Rattle.fc_grains.specs.Parts.{VolumeDiskState, PoolState, disks_of}
 use Rattle.fc_grains.specs.declared.sums.Sums.{Sums}
+use Rattle.fc_grains.proofs.KindCounts.{kinds_by, one_flat, one_thin}
 
 -- one volume's disk changed
 module _ (volumes : List VolumeDiskState) (pool : PoolState) (aside : List DiskState) (at : ℕ) (was now : VolumeDiskState) (within : at < length volumes)
@@ -48,13 +50,11 @@ module _ (volumes : List VolumeDiskState) (pool : PoolState) (aside : List DiskS
       let same : count (get_or disks at was.disk) ≡ count was.disk = ap count disk_read in
       omega arith
 
-  pub number-same : length (all_disks (slice_set volumes at now) pool aside) ≡ length (all_disks volumes pool aside)
-  number-same =
-      let rest : List DiskState = disks_of pool ++ aside in
-      ap (λ (ds : List DiskState). length (ds ++ rest)) disks_set
-      ∙ length-append (slice_set disks at now.disk) rest
-      ∙ ap (λ (n : ℕ). n + length rest) (length-set disks at now.disk)
-      ∙ sym (length-append disks rest)
+  pub kinds-same : now.disk.kind ≡ was.disk.kind → pool_of (all_disks (slice_set volumes at now) pool aside) ≡ pool_of (all_disks volumes pool aside)
+  kinds-same kind =
+      kinds_by (all_disks (slice_set volumes at now) pool aside) (all_disks volumes pool aside)
+      (total-same one_flat (ap (λ (k : DiskKind). cond (is_flat k) 1 0) kind))
+      (total-same one_thin (ap (λ (k : DiskKind). cond (not (is_flat k)) 1 0) kind))
 
 -- a sum of counts up to a last value, when one of them rose from a to b
 pub sum_rises : (all all' a b sum sum' : ℕ) → all' + a ≡ all + b → a ≤ b → sum ≡ stopped all → sum' ≡ stopped (sum + (b - a)) → sum' ≡ stopped all'

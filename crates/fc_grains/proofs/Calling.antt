@@ -11,8 +11,7 @@ use Rattle.fc_base.specs.declared.disk.DiskError.{DiskError}
 use Rattle.fc_base.specs.declared.disk.DiskError.TheVariants.{Failed, NoMemory}
 use Rattle.fc_base.specs.declared.size.GrainSize.{GrainSize}
 use Rattle.fc_mdisk.specs.Disk.{DiskState, AfterCall, AfterRead, AfterWrite, GrainAfter, MayAnswer, grain_at, write_failed, armed as disk_armed}
-use Rattle.fc_entry.specs.Picture.{Content, Bytes, Lost}
-use Rattle.fc_entry.specs.Right.{is_lost}
+use Rattle.fc_entry.specs.Picture.{Content, Bytes, Lost, is_lost}
 use Rattle.fc_grains.specs.Calls.{CallsOnce, HasRead, HasWritten}
 use Rattle.fc_grains.specs.Grains.{GrainsState, one_if_silent, stopped}
 use Rattle.fc_grains.specs.Kept.{AddUp, IsKept, all_disks, state_of}
@@ -152,7 +151,7 @@ module _ (grain : GrainSize) (volumes : List VolumeDiskState) (pool : PoolState)
       size = size;
       call = called_once now buffer' size sums' failed after.call calls faults _ refl refl;
       rest =
-          state_changed grain volumes pool aside buffer sums volume_room aside_room kept at within was read id found now buffer' sums' called seen_read
+          state_changed grain volumes pool aside buffer sums volume_room aside_room kept at within was read id found now buffer' sums' called seen_read after.call.kind
           (silent_by was.disk.due now.disk.due (λ n. n - 1) after.call.due)
           ∙ (λ k. record (state_of grain volumes pool aside buffer sums) {
             volumes = changed id called (map grains_of volumes);
@@ -206,7 +205,7 @@ module _ (grain : GrainSize) (volumes : List VolumeDiskState) (pool : PoolState)
               (after_write answer place buffer)
               (seen_written answer was now place bytes after (ap (λ (v : VolumeDiskState). v.volume) others) (ap (λ (v : VolumeDiskState). v.lost) others)
               ∙ ap (λ (b : List ℕ). after_write answer place b (grains_of was)) filled)
-              (silent_by was.disk.due now.disk.due (λ n. n - 1) after.call.due);
+              after.call.kind (silent_by was.disk.due now.disk.due (λ n. n - 1) after.call.due);
         }
 
   -- a fault is armed
@@ -223,7 +222,7 @@ module _ (grain : GrainSize) (volumes : List VolumeDiskState) (pool : PoolState)
         ≡ record (state_of grain volumes pool aside buffer sums) { volumes = changed id (armed steps) (map grains_of volumes) }
     state_armed =
         state_changed grain volumes pool aside buffer sums volume_room aside_room kept at within was read id found now buffer sums (armed steps)
-        (ap grains_of arms) (silent_by was.disk.due now.disk.due (λ _. steps) (ap (λ (v : VolumeDiskState). v.disk.due) arms))
+        (ap grains_of arms) (ap (λ (v : VolumeDiskState). v.disk.kind) arms) (silent_by was.disk.due now.disk.due (λ _. steps) (ap (λ (v : VolumeDiskState). v.disk.due) arms))
 
   -- a grain is marked as lost
   module _ (now : VolumeDiskState) (place : ℕ) (marks : now ≡ record was { lost = slice_set was.lost place true }) where
@@ -241,7 +240,7 @@ module _ (grain : GrainSize) (volumes : List VolumeDiskState) (pool : PoolState)
     state_lost =
         state_changed grain volumes pool aside buffer sums volume_room aside_room kept at within was read id found now buffer sums (holding place Lost)
         (ap grains_of marks ∙ (λ k. record (grains_of was) { contents = contents-lose was.lost was.disk.grains place k }))
-        (ap (λ (v : VolumeDiskState). one_if_silent v.disk.due) marks)
+        (ap (λ (v : VolumeDiskState). v.disk.kind) marks) (ap (λ (v : VolumeDiskState). one_if_silent v.disk.due) marks)
 
 -- a call leaves what grains hold
 pick : (b : Bool) (v v' rest rest' : VolumeGrains) → v'.contents ≡ v.contents → rest'.contents ≡ rest.contents → (cond b v' rest').contents ≡ (cond b v rest).contents

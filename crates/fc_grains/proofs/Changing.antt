@@ -13,7 +13,7 @@ use Rattle.fc_grains.specs.Kept.{AddUp, IsKept, all_disks, state_of}
 use Rattle.fc_grains.specs.Parts.{VolumeDiskState, PoolState, IsWhole, content, contents, grains_of}
 use Rattle.fc_grains.specs.Volumes.{VolumeGrains, volume_of, stored, changed}
 use Rattle.fc_grains.specs.declared.sums.Sums.{Sums}
-use Rattle.fc_grains.proofs.Adding.{total-same, number-same}
+use Rattle.fc_grains.proofs.Adding.{total-same, kinds-same}
 use Rattle.fc_grains.proofs.Contents.{has_bytes, has_mark, content_at-contents}
 use Rattle.fc_grains.proofs.Finding.{AreRising, volume_of-at, changed-at}
 
@@ -100,7 +100,7 @@ module _ (grain : GrainSize) (volumes : List VolumeDiskState) (pool : PoolState)
 
   -- what contracts see of it
   pub state_changed : (buffer' : List ℕ) (sums' : Sums) (change : VolumeGrains → VolumeGrains) → grains_of now ≡ change (grains_of was)
-      → one_if_silent now.disk.due ≡ one_if_silent was.disk.due
+      → now.disk.kind ≡ was.disk.kind → one_if_silent now.disk.due ≡ one_if_silent was.disk.due
       → state_of grain (slice_set volumes at now) pool aside buffer' sums' ≡ record (state_of grain volumes pool aside buffer sums) {
         volumes = changed id change (map grains_of volumes);
         buffer = buffer';
@@ -108,9 +108,9 @@ module _ (grain : GrainSize) (volumes : List VolumeDiskState) (pool : PoolState)
         faults = sums'.faults;
         write_faults = sums'.write_faults;
       }
-  state_changed buffer' sums' change changes as_silent = λ k. record (state_of grain volumes pool aside buffer' sums') {
+  state_changed buffer' sums' change changes same_kind as_silent = λ k. record (state_of grain volumes pool aside buffer' sums') {
     volumes = changed_is volumes kept.rising at within was read id found now change changes k;
-    disks = number-same volumes pool aside at was now within read k;
+    disks = kinds-same volumes pool aside at was now within read same_kind k;
     silent = total-same volumes pool aside at was now within read (λ (d : DiskState). one_if_silent d.due) as_silent k;
   }
 

@@ -1,5 +1,6 @@
 pub mod Contents
 pub mod Finding
+pub mod KindCounts
 pub mod Adding
 pub mod Changing
 pub mod Calling

@@ -22,6 +22,7 @@ use Rattle.fc_grains.specs.declared.sums.Sums.{Sums}
 use Rattle.fc_grains.proofs.Changing.{seen_rise}
 use Rattle.fc_grains.proofs.Contents.{contents-replicate}
 use Rattle.fc_grains.proofs.Finding.{AreRising, without-at}
+use Rattle.fc_grains.proofs.KindCounts.{same_kinds}
 
 -- as many disks, since each counts one
 ones : (disks : List DiskState) → sum_by (λ (d : DiskState). 1) disks ≡ length disks
@@ -41,12 +42,12 @@ add_up_by xs ys sums same add_up = record {
 pub same_silent : (xs ys : List DiskState) → SameDisks xs ys → silent_of xs ≡ silent_of ys
 same_silent xs ys same = same (λ (d : DiskState). one_if_silent d.due)
 
-pub all_of : (state : GrainsState) (all given : List DiskState) (sums : Sums) → SameDisks given all → state.disks ≡ length all → state.silent ≡ silent_of all
+pub all_of : (state : GrainsState) (all given : List DiskState) (sums : Sums) → SameDisks given all → state.disks ≡ pool_of all → state.silent ≡ silent_of all
     → state.calls ≡ sums.calls → state.faults ≡ sums.faults → state.write_faults ≡ sums.write_faults → AddUp all sums → AreAllOf state given
 all_of state all given sums same disks silent calls faults write_faults add_up =
     let by : AddUp given sums = add_up_by given all sums same add_up in
     record {
-      number = same_number given all same ∙ sym disks;
+      kinds = same_kinds given all same ∙ sym disks;
       silent = same_silent given all same ∙ sym silent;
       calls = sym (calls ∙ by.calls);
       faults = sym (faults ∙ by.faults);
@@ -142,7 +143,7 @@ module _ (grain : GrainSize) (volumes : List VolumeDiskState) (pool pool' : Pool
               pool = left k;
               reserved = (ap (map new_of) reserved ∙ sym (drop-map new_of 1 pool.reserved)) k;
               buffer = buffer;
-              disks = same_number (all_disks (volumes ++ v ∷ []) pool' aside) (all_disks volumes pool aside) (same_made volumes pool pool' aside v same) k;
+              disks = same_kinds (all_disks (volumes ++ v ∷ []) pool' aside) (all_disks volumes pool aside) (same_made volumes pool pool' aside v same) k;
               silent = same_silent (all_disks (volumes ++ v ∷ []) pool' aside) (all_disks volumes pool aside) (same_made volumes pool pool' aside v same) k;
               calls = sums.calls;
               faults = sums.faults;
@@ -204,7 +205,7 @@ module _ (grain : GrainSize) (volumes : List VolumeDiskState) (pool : PoolState)
       map-remove grains_of volumes at ∙ sym (without-at (map grains_of volumes) id at (seen_rise volumes kept.rising) inside id_at) in
       λ k. record (state_of grain volumes pool aside buffer sums) {
         volumes = seen k;
-        disks = same_number (all_disks (remove volumes at) pool aside') (all_disks volumes pool aside) same_after k;
+        disks = same_kinds (all_disks (remove volumes at) pool aside') (all_disks volumes pool aside) same_after k;
         silent = same_silent (all_disks (remove volumes at) pool aside') (all_disks volumes pool aside) same_after k;
       }
 
@@ -233,7 +234,7 @@ module _ (grain : GrainSize) (pool : PoolState) (buffer : List ℕ) (sums : Sums
     pool = left k;
     reserved = map new_of (reserved k);
     buffer = filled k;
-    disks = same_number (all_disks [] pool []) disks same_opened k;
+    disks = same_kinds (all_disks [] pool []) disks same_opened k;
     silent = same_silent (all_disks [] pool []) disks same_opened k;
     calls = add_up.calls k;
     faults = add_up.faults k;
@@ -291,7 +292,7 @@ module _ (grain : GrainSize) (volumes volumes' : List VolumeDiskState) (pool poo
     pool = left k;
     reserved = is k;
     buffer = buffer;
-    disks = same_number (all_disks volumes' pool' aside') (all_disks volumes pool aside) same_reserved k;
+    disks = same_kinds (all_disks volumes' pool' aside') (all_disks volumes pool aside) same_reserved k;
     silent = same_silent (all_disks volumes' pool' aside') (all_disks volumes pool aside) same_reserved k;
     calls = sums.calls;
     faults = sums.faults;

@@ -1,5 +1,5 @@
 -- All that contracts see of the grains of a lane.
-use Rattle.std.specs.Prelude.{◌≡◌, ℕ, ◌-◌, ◌^◌, min, Bool, not, List, [], ◌∷◌, length, replicate, count_by, Option, Some, None, IfSome}
+use Rattle.std.specs.Prelude.{◌≡◌, ℕ, ◌+◌, ◌-◌, ◌^◌, min, Bool, not, List, [], ◌∷◌, replicate, count_by, Option, Some, None, IfSome}
 use Rattle.std.specs.List.{sum_by}
 use Rattle.fc_base.specs.Grain.{grain_bytes}
 use Rattle.fc_base.specs.Pools.{Pool}
@@ -17,7 +17,7 @@ pub record NewVolume : Type 0 where
 
 -- The volumes that are there, in order of id; how many disks are left for new volumes; the new volumes that take no memory, in the
 -- order in which they are made; the bytes of the grain at hand; and of all disks together, those of the pool and those
--- put aside too: how many there are, how many of them don't tell their armed fault, and their counts, which stand still
+-- put aside too: how many of each kind there are, how many of them don't tell their armed fault, and their counts, which stand still
 -- at 2^64 - 1.
 pub record GrainsState : Type 0 where
   pub grain : GrainSize
@@ -25,7 +25,7 @@ pub record GrainsState : Type 0 where
   pub pool : Pool
   pub reserved : List NewVolume
   pub buffer : List ℕ
-  pub disks : ℕ
+  pub disks : Pool
   pub silent : ℕ
   pub calls : ℕ
   pub faults : ℕ
@@ -49,6 +49,10 @@ pool_of disks = record {
   flat = count_by (λ d. is_flat d.kind) disks;
   thin = count_by (λ d. not (is_flat d.kind)) disks;
 }
+
+-- How many disks of both kinds.
+abbrev pub total_of : Pool → ℕ
+total_of pool = pool.flat + pool.thin
 
 -- How many of the new volumes are of a kind.
 abbrev pub is_of_kind : DiskKind → NewVolume → Bool
@@ -75,7 +79,7 @@ opened grain disks = record {
   pool = pool_of disks;
   reserved = [];
   buffer = replicate (grain_bytes grain) 0;
-  disks = length disks;
+  disks = pool_of disks;
   silent = silent_of disks;
   calls = stopped (calls_of disks);
   faults = stopped (faults_of disks);
@@ -84,7 +88,7 @@ opened grain disks = record {
 
 -- These disks are all that there are, with their counts.
 pub record AreAllOf (state : GrainsState) (disks : List DiskState) : Type 0 where
-  pub number : length disks ≡ state.disks
+  pub kinds : pool_of disks ≡ state.disks
   pub silent : silent_of disks ≡ state.silent
   pub calls : stopped (calls_of disks) ≡ state.calls
   pub faults : stopped (faults_of disks) ≡ state.faults

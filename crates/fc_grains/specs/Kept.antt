@@ -5,7 +5,7 @@ use Rattle.fc_base.specs.Grain.{grain_bytes}
 use Rattle.fc_base.specs.declared.size.GrainSize.{GrainSize}
 use Rattle.fc_mdisk.specs.Disk.{DiskState}
 use Rattle.fc_mdisk.specs.Disks.{calls_of, faults_of, write_faults_of}
-use Rattle.fc_grains.specs.Grains.{GrainsState, silent_of, stopped}
+use Rattle.fc_grains.specs.Grains.{GrainsState, pool_of, silent_of, stopped}
 use Rattle.fc_grains.specs.Parts.{VolumeDiskState, PoolState, IsWhole, disks_of, grains_of, left_of, new_of}
 use Rattle.fc_grains.specs.declared.sums.Sums.{Sums}
 
@@ -21,7 +21,7 @@ state_of grain volumes pool aside buffer sums = record {
   pool = left_of pool;
   reserved = map new_of pool.reserved;
   buffer = buffer;
-  disks = length (all_disks volumes pool aside);
+  disks = pool_of (all_disks volumes pool aside);
   silent = silent_of (all_disks volumes pool aside);
   calls = sums.calls;
   faults = sums.faults;

@@ -4,7 +4,7 @@ ghost use Rattle.std.specs.Prelude.{◌≡◌, ◌+◌, ◌^◌, ◌<◌, ◌≤
 ghost use Rattle.std.specs.List.{All};
 ghost use Rattle.fc_base.specs.Pools.{of_kind};
 ghost use Rattle.fc_grains.specs.Calls.{HasMade};
-ghost use Rattle.fc_grains.specs.Grains.{AreAllOf, IsUnarmed, opened, reserved_of};
+ghost use Rattle.fc_grains.specs.Grains.{AreAllOf, IsUnarmed, opened, reserved_of, total_of};
 ghost use Rattle.fc_grains.specs.Parts.{SameDisks, VolumeDiskState};
 ghost use Rattle.fc_grains.specs.Volumes.{VolumeGrains, armed, changed, is_there, without};
 
@@ -108,7 +108,7 @@ impl<D: Mdisk> Grains<D> {
 
     /// Appends all disks as they are, those of the pool and those put aside too, to a list that has room for them.
     pub fn give_disks(self, into: &mut Vec<D>)
-        requires { vec_len into.old + self.disks ≤ vec_capacity into.old }
+        requires { vec_len into.old + total_of self.disks ≤ vec_capacity into.old }
         ensures given { (given : List D) × (into.new.items ≡ into.old.items ++ given) × AreAllOf self (map D.meaning given) }
         ensures room { vec_capacity into.old ≤ vec_capacity into.new }
     {

@@ -5,7 +5,7 @@ ghost use Rattle.fc_base.specs.Pools.{of_kind};
 ghost use Rattle.fc_base.specs.Sheet.{mapping_place};
 ghost use Rattle.fc_base.specs.SheetView.{count_true, held_of, needed_of};
 ghost use Rattle.fc_chain.specs.Chains.{found};
-ghost use Rattle.fc_grains.specs.Grains.{AreAllOf};
+ghost use Rattle.fc_grains.specs.Grains.{AreAllOf, total_of};
 
 use crate::lane::Lane;
 use fc_base::disk::DiskKind;
@@ -67,7 +67,7 @@ impl<D: Mdisk> Lane<D> {
 
     /// Appends all disks as they are to a list that has room for them.
     pub fn give_disks(self, into: &mut Vec<D>)
-        requires { vec_len into.old + self.grains.disks ≤ vec_capacity into.old }
+        requires { vec_len into.old + total_of self.grains.disks ≤ vec_capacity into.old }
         ensures given { (given : List D) × (into.new.items ≡ into.old.items ++ given) × AreAllOf self.grains (map_list D.meaning given) }
         ensures room { vec_capacity into.old ≤ vec_capacity into.new }
     {

@@ -1,6 +1,7 @@
 //! Who answers the lines of a session.
 
-ghost use Rattle.std.specs.Prelude.{◌≡◌, ◌≤◌, ℕ, List, length};
+ghost use Rattle.std.specs.Prelude.{◌≡◌, ◌≤◌, List, length};
+ghost use Rattle.fc_base.specs.Pools.{Pool};
 ghost use Rattle.fc_base.specs.declared.size.GrainSize.{GrainSize};
 ghost use Rattle.fc_legal.specs.Run.{line_asks};
 ghost use Rattle.fc_legal.specs.Whole.{Whole};
@@ -15,8 +16,8 @@ pub trait LineStore {
     /// The grain size of the run.
     ghost grain: { Self → GrainSize };
 
-    /// How many disks it has.
-    ghost disks: { Self → ℕ };
+    /// How many disks of each kind it has.
+    ghost disks: { Self → Pool };
 
     /// The store stands for what a history tells.
     ghost Stands: { Self → Whole → Type 0 };

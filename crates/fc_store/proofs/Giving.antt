@@ -1,13 +1,14 @@
 -- What the lanes give back, lane by lane.
-use Rattle.std.proofs.Common.{◌≡◌, ℕ, suc, ◌+◌, ◌^◌, ◌<◌, List, [], ◌∷◌, ◌++◌, refl, sym, ap₂, ◌∙◌, arith}
+use Rattle.std.proofs.Common.{◌≡◌, ℕ, suc, ◌+◌, ◌^◌, ◌<◌, List, [], ◌∷◌, ◌++◌, refl, sym, ap, ap₂, ◌∙◌, arith}
 use Rattle.std.specs.List.{All}
-use Rattle.std.proofs.lemmas.List.{length-append}
 use Rattle.std.proofs.lemmas.List.Elements.{All-nil, All-cons}
-use Rattle.std.proofs.lemmas.List.Sums.{sum_by-append, sum_by_push}
-use Rattle.fc_grains.specs.Grains.{AreAllOf, one_if_silent, stopped}
+use Rattle.std.proofs.lemmas.List.Sums.{sum_by-append, sum_by-cons, sum_by_push}
+use Rattle.fc_base.specs.Pools.{Pool}
+use Rattle.fc_grains.specs.Grains.{AreAllOf, one_if_silent, stopped, total_of}
+use Rattle.fc_grains.proofs.KindCounts.{flat-append, thin-append}
 use Rattle.fc_lane.specs.Lane.{LaneView}
 use Rattle.fc_mdisk.specs.Disk.{DiskState}
-use Rattle.fc_store.specs.Dealing.{AreAllIn}
+use Rattle.fc_store.specs.Dealing.{AreAllIn, disks_in}
 
 all_but_last : {X : Type 0} → (P : X → Type 0) (xs : List X) (y : X) → All P (xs ++ y ∷ []) → All P xs
 all_but_last P [] y all = All-nil P
@@ -20,15 +21,24 @@ of_last P (x ∷ xs) y all = of_last P xs y (λ k e lt. all (suc k) e (omega (ar
 counted : (n c : ℕ) → stopped n ≡ c → c + 1 < 2 ^ 64 → n ≡ c
 counted n c is below = grind (arith, is, below)
 
+-- the disks of one lane and of those behind it
+pub first_lane : (v : LaneView) (vs : List LaneView) → total_of (disks_in (v ∷ vs)) ≡ total_of v.grains.disks + total_of (disks_in vs)
+first_lane v vs =
+    omega (arith, sum_by-cons (λ (x : LaneView). x.grains.disks.flat) v vs, sum_by-cons (λ (x : LaneView). x.grains.disks.thin) v vs)
+
 pub nothing_given : AreAllIn [] []
-nothing_given = record { number = refl; silent = refl; calls = λ below. refl; faults = λ below. refl }
+nothing_given = record { kinds = refl; silent = refl; calls = λ below. refl; faults = λ below. refl }
 
 pub lane_given : (done : List LaneView) (v : LaneView) (disks own : List DiskState) → AreAllIn done disks → AreAllOf v.grains own → AreAllIn (done ++ v ∷ []) (disks ++ own)
 lane_given done v disks own all more = record {
-  number =
-      length-append disks own
-      ∙ ap₂ (λ a b. a + b) all.number more.number
-      ∙ sym (sum_by_push (λ (x : LaneView). x.grains.disks) done v);
+  kinds = λ k. record {
+    flat = (flat-append disks own
+        ∙ ap₂ (λ a b. a + b) (ap (λ (p : Pool). p.flat) all.kinds) (ap (λ (p : Pool). p.flat) more.kinds)
+        ∙ sym (sum_by_push (λ (x : LaneView). x.grains.disks.flat) done v)) k;
+    thin = (thin-append disks own
+        ∙ ap₂ (λ a b. a + b) (ap (λ (p : Pool). p.thin) all.kinds) (ap (λ (p : Pool). p.thin) more.kinds)
+        ∙ sym (sum_by_push (λ (x : LaneView). x.grains.disks.thin) done v)) k;
+  };
   silent =
       sum_by-append (λ (d : DiskState). one_if_silent d.due) disks own
       ∙ ap₂ (λ a b. a + b) all.silent more.silent

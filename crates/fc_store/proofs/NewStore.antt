@@ -22,6 +22,7 @@ use Rattle.fc_parts.proofs.Lawful.{part_law_holds}
 use Rattle.fc_rules.specs.LaneTold.{LaneTold, nothing_told}
 use Rattle.fc_sheets.proofs.Lawful.{none_sound}
 use Rattle.fc_decided.proofs.Lists.{none_in}
+use Rattle.fc_grains.proofs.KindCounts.{flat-cons, one_flat, one_thin, thin-cons}
 use Rattle.fc_sums.proofs.Sums.{sum_total}
 use Rattle.fc_store.specs.Dealing.{Begin, Begins, FitLane, all_dealt, dealt, disks_in, pools_dealt, silent_in}
 use Rattle.fc_store.specs.Store.{StandsFor, IsLaneAt}
@@ -207,11 +208,15 @@ module _ (grain : GrainSize) (n : ℕ) (disks : List DiskState) (ls : List LaneV
   sum_made : (f : GrainsState → ℕ) → sum_by (λ (v : LaneView). f v.grains) ls ≡ sum_by (λ (ds : List DiskState). f (opened_grains grain ds)) (all_dealt n disks)
   sum_made f = sum_grains f ls ∙ ap (sum_by f) made.grains ∙ sum_opened f (all_dealt n disks)
 
-  pub number_made : 0 < n → disks_in ls ≡ length disks
-  number_made some =
-      sum_made (λ (g : GrainsState). g.disks)
-      ∙ sum_total (λ (ds : List DiskState). length ds) (dealt n disks) n
-      ∙ total_dealt (λ d. 1) (λ (ds : List DiskState). length ds) refl (λ d ds. omega arith) n some disks
+  pub kinds_made : 0 < n → disks_in ls ≡ pool_of disks
+  kinds_made some = λ k. record {
+    flat = (sum_made (λ (g : GrainsState). g.disks.flat)
+        ∙ sum_total (λ (ds : List DiskState). (pool_of ds).flat) (dealt n disks) n
+        ∙ total_dealt one_flat (λ (ds : List DiskState). (pool_of ds).flat) refl flat-cons n some disks) k;
+    thin = (sum_made (λ (g : GrainsState). g.disks.thin)
+        ∙ sum_total (λ (ds : List DiskState). (pool_of ds).thin) (dealt n disks) n
+        ∙ total_dealt one_thin (λ (ds : List DiskState). (pool_of ds).thin) refl thin-cons n some disks) k;
+  }
 
   pub silent_made : 0 < n → silent_in ls ≡ silent_of disks
   silent_made some =

@@ -1,6 +1,8 @@
 -- The control part and the lanes, made ready for a decision and after it.
-use Rattle.std.proofs.Common.{◌≡◌, ℕ, ◌+◌, List, [], ◌∷◌, fold, length, refl, sym, ◌∙◌, ap, subst, arith}
+use Rattle.std.proofs.Common.{◌≡◌, ℕ, ◌+◌, List, [], ◌∷◌, fold, length, refl, sym, ◌∙◌, ap, ap₂, subst, arith}
+use Rattle.std.specs.List.{sum_by}
 use Rattle.std.proofs.lemmas.List.Sums.{sum_by-cons}
+use Rattle.fc_base.specs.Pools.{Pool}
 use Rattle.fc_base.specs.Sheet.{no_slots}
 use Rattle.fc_base.specs.SheetView.{SheetView}
 use Rattle.fc_base.specs.Tables.{Tables, after_change}
@@ -27,17 +29,19 @@ use Rattle.fc_store.proofs.PhaseStands.{ready_stands, decision_stands}
 abbrev HasSameDisks : LaneView → LaneView → Type 0
 HasSameDisks old new = new.grains.disks ≡ old.grains.disks
 
+same_sum : (f : Pool → ℕ) (old new : List LaneView) → EachLane HasSameDisks old new → sum_by (λ (v : LaneView). f v.grains.disks) new ≡ sum_by (λ (v : LaneView). f v.grains.disks) old
+same_sum f [] [] each = refl
+same_sum f [] (u ∷ us) each = absurd (omega (arith, each.count))
+same_sum f (v ∷ vs) [] each = absurd (omega (arith, each.count))
+same_sum f (v ∷ vs) (u ∷ us) each =
+    let first : f u.grains.disks ≡ f v.grains.disks = ap f (each.each 0 v (omega arith)) in
+    let rest = same_sum f vs us record { count = omega (arith, each.count); each = λ i d lt. each.each (ℕ.suc i) d (omega (arith, lt)) } in
+    sum_by-cons (λ (x : LaneView). f x.grains.disks) u us
+    ∙ ap₂ (λ a b. a + b) first rest
+    ∙ sym (sum_by-cons (λ (x : LaneView). f x.grains.disks) v vs)
+
 same_disks : (old new : List LaneView) → EachLane HasSameDisks old new → disks_in new ≡ disks_in old
-same_disks [] [] each = refl
-same_disks [] (u ∷ us) each = absurd (omega (arith, each.count))
-same_disks (v ∷ vs) [] each = absurd (omega (arith, each.count))
-same_disks (v ∷ vs) (u ∷ us) each =
-    let first : u.grains.disks ≡ v.grains.disks = each.each 0 v (omega arith) in
-    let rest : disks_in us ≡ disks_in vs = same_disks vs us record { count = omega (arith, each.count); each = λ i d lt. each.each (ℕ.suc i) d (omega (arith, lt)) } in
-    sum_by-cons (λ (x : LaneView). x.grains.disks) u us
-    ∙ ap (λ (n : ℕ). n + disks_in us) first
-    ∙ ap (λ (n : ℕ). v.grains.disks + n) rest
-    ∙ sym (sum_by-cons (λ (x : LaneView). x.grains.disks) v vs)
+same_disks old new each = λ k. record { flat = same_sum (λ (p : Pool). p.flat) old new each k; thin = same_sum (λ (p : Pool). p.thin) old new each k }
 
 -- ---- made ready
 

@@ -1,7 +1,9 @@
 -- The grains of an access, one after the other.
 use Rattle.std.proofs.Common.{◌≡◌, ◌≢◌, ℕ, ◌+◌, ◌-◌, ◌*◌, ◌/◌, ◌%◌, ◌<◌, ◌≤◌, List, length, slice_index_or, slice_set, refl, sym, ◌∙◌, ap, subst, arith}
+use Rattle.std.specs.List.{sum_by}
 use Rattle.std.proofs.lemmas.List.Sums.{sum_by-set}
 use Rattle.fc_base.specs.Grain.{grain_blocks}
+use Rattle.fc_base.specs.Pools.{Pool}
 use Rattle.fc_base.specs.declared.size.GrainSize.{GrainSize}
 use Rattle.fc_base.specs.declared.size.GrainSize.TheVariants.{K64, K256}
 use Rattle.fc_lane.specs.Lane.{LaneView}
@@ -31,6 +33,18 @@ is_touched K256 block count g width size is some above below within =
     record { inside = omega (arith, within); begins = omega (arith, from); ends = omega (arith, to) }
 
 -- A lane with as many disks in the place of one leaves as many disks in all.
+kind_stays :
+    (f : Pool → ℕ) (ls : List LaneView) (place : ℕ) (old new : LaneView) →
+    place < length ls →
+    old ≡ slice_index_or ls place old →
+    new.grains.disks ≡ old.grains.disks →
+    sum_by (λ (v : LaneView). f v.grains.disks) (slice_set ls place new) ≡ sum_by (λ (v : LaneView). f v.grains.disks) ls
+kind_stays f ls place old new inside is same =
+    let both = sum_by-set (λ (v : LaneView). f v.grains.disks) ls place new old inside in
+    let there : f (slice_index_or ls place old).grains.disks ≡ f old.grains.disks = ap (λ (v : LaneView). f v.grains.disks) (sym is) in
+    let kept : f new.grains.disks ≡ f old.grains.disks = ap f same in
+    omega (arith, both, there, kept)
+
 pub disks_stay :
     (ls : List LaneView) (place : ℕ) (old new : LaneView) →
     place < length ls →
@@ -38,9 +52,7 @@ pub disks_stay :
     new.grains.disks ≡ old.grains.disks →
     disks_in (slice_set ls place new) ≡ disks_in ls
 disks_stay ls place old new inside is same =
-    let both = sum_by-set (λ (v : LaneView). v.grains.disks) ls place new old inside in
-    let there : (slice_index_or ls place old).grains.disks ≡ old.grains.disks = ap (λ (v : LaneView). v.grains.disks) (sym is) in
-    omega (arith, both, there, same)
+    λ k. record { flat = kind_stays (λ (p : Pool). p.flat) ls place old new inside is same k; thin = kind_stays (λ (p : Pool). p.thin) ls place old new inside is same k }
 
 pub first_before : (grain : GrainSize) (block count width : ℕ) → width ≡ grain_blocks grain → 0 < count → block / width ≤ (block + count - 1) / width
 first_before K64 block count width is some = subst (λ n. block / n ≤ (block + count - 1) / n) (sym is) (omega arith)

@@ -48,9 +48,9 @@ pub record Begin (grain : GrainSize) (lanes : ℕ) (lists : List (List DiskState
   pub grains : map (λ (v : LaneView). v.grains) ls ≡ map (opened grain) lists
   pub each : All (Begins lanes) ls
 
--- How many disks all lanes have, and how many of them don't tell their armed fault.
-abbrev pub disks_in : List LaneView → ℕ
-disks_in ls = sum_by (λ (v : LaneView). v.grains.disks) ls
+-- How many disks of each kind all lanes have, and how many of them don't tell their armed fault.
+abbrev pub disks_in : List LaneView → Pool
+disks_in ls = record { flat = sum_by (λ (v : LaneView). v.grains.disks.flat) ls; thin = sum_by (λ (v : LaneView). v.grains.disks.thin) ls }
 
 abbrev pub silent_in : List LaneView → ℕ
 silent_in ls = sum_by (λ (v : LaneView). v.grains.silent) ls
@@ -64,7 +64,7 @@ faults_in ls = sum_by (λ (v : LaneView). v.grains.faults) ls
 
 -- These disks are all that the lanes have, with their calls and faults where no lane's count of them stands still.
 pub record AreAllIn (ls : List LaneView) (disks : List DiskState) : Type 0 where
-  pub number : length disks ≡ disks_in ls
+  pub kinds : pool_of disks ≡ disks_in ls
   pub silent : silent_of disks ≡ silent_in ls
   pub calls : All (λ (v : LaneView). v.grains.calls + 1 < 2 ^ 64) ls → calls_of disks ≡ calls_in ls
   pub faults : All (λ (v : LaneView). v.grains.faults + 1 < 2 ^ 64) ls → faults_of disks ≡ faults_in ls

@@ -2,7 +2,7 @@
 
 ghost use Rattle.std.specs.Prelude.{◌≡◌, ◌<◌, ◌≤◌, ◌^◌, ◌+◌, ◌++◌, IfOk, List, map, vec_len, vec_capacity};
 ghost use Rattle.std.specs.List.{All};
-ghost use Rattle.fc_grains.specs.Grains.{silent_of};
+ghost use Rattle.fc_grains.specs.Grains.{pool_of, silent_of, total_of};
 ghost use Rattle.fc_grains.specs.Quiet.{IsQuiet};
 ghost use Rattle.fc_lane.specs.Lane.{LaneView};
 ghost use Rattle.fc_legal.specs.Whole.{opened};
@@ -29,7 +29,7 @@ impl<D: Mdisk> Store<D> {
         ensures stands { IfOk result (λ s. StandsFor s (opened (pools_dealt LANES (map D.meaning disks.items)))) }
         ensures grain { IfOk result (λ s. s.control.grain ≡ grain) }
         ensures quiet { IfOk result (λ s. silent_of (map D.meaning disks.items) ≡ 0 → All (λ (v : LaneView). IsQuiet v.grains) s.lanes) }
-        ensures disks { IfOk result (λ s. disks_in s.lanes ≡ vec_len disks) }
+        ensures disks { IfOk result (λ s. disks_in s.lanes ≡ pool_of (map D.meaning disks.items)) }
         ensures silent { IfOk result (λ s. silent_in s.lanes ≡ silent_of (map D.meaning disks.items)) }
     {
         let lists = match deal(alloc, LANES as usize, disks) {
@@ -49,7 +49,7 @@ impl<D: Mdisk> Store<D> {
 
     /// Appends all disks as they are, lane by lane, to a list that has room for them.
     pub fn give_disks(self, into: &mut Vec<D>)
-        requires { vec_len into.old + disks_in self.lanes ≤ vec_capacity into.old }
+        requires { vec_len into.old + total_of (disks_in self.lanes) ≤ vec_capacity into.old }
         ensures { (given : List D) × (into.new.items ≡ into.old.items ++ given) × AreAllIn self.lanes (map D.meaning given) }
     {
         let Store { lanes, .. } = self;
@@ -59,7 +59,7 @@ impl<D: Mdisk> Store<D> {
 
 /// Appends the disks of lanes, in order.
 fn give_lanes<D: Mdisk>(mut lanes: VecDeque<Lane<D>>, into: &mut Vec<D>)
-    requires { vec_len into.old + disks_in lanes.items ≤ vec_capacity into.old }
+    requires { vec_len into.old + total_of (disks_in lanes.items) ≤ vec_capacity into.old }
     ensures { (given : List D) × (into.new.items ≡ into.old.items ++ given) × AreAllIn lanes.items (map D.meaning given) }
 {
     while let Some(lane) = lanes.pop_front() {

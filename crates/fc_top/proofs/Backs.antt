@@ -7,7 +7,7 @@ use Rattle.std.proofs.lemmas.List.Elements.{All-get_or, All-from_get_or}
 use Rattle.std.proofs.lemmas.List.Sums.{sum-map}
 use Rattle.fc_base.specs.declared.size.GrainSize.{GrainSize}
 use Rattle.fc_entry.specs.declared.entry.Entry.{Entry}
-use Rattle.fc_grains.specs.Grains.{stopped}
+use Rattle.fc_grains.specs.Grains.{pool_of, stopped}
 use Rattle.fc_lane.specs.Lane.{LaneView}
 use Rattle.fc_legal.specs.Legal.{IsLegal}
 use Rattle.fc_legal.specs.Whole.{Whole, part_at}
@@ -89,7 +89,7 @@ pub AreBack-all :
     (old given : List DiskState) (s : StoreView) (w : Whole) →
     StandsFor s w →
     w.entries ≤ 262144 →
-    disks_in s.lanes ≡ length old →
+    disks_in s.lanes ≡ pool_of old →
     AreAllIn s.lanes given →
     AreBack old given w
 AreBack-all old given s w stands entries many all =
@@ -99,7 +99,7 @@ AreBack-all old given s w stands entries many all =
     let calls_of_lane : LaneView → ℕ = λ v. v.grains.calls in
     let faults_of_lane : LaneView → ℕ = λ v. v.grains.faults in
     record {
-      number = all.number ∙ many;
+      kinds = all.kinds ∙ many;
       calls =
           all.calls (All-of_map (λ n. n + 1 < 2 ^ 64) calls_of_lane s.lanes d (subst AreCounted (sym calls_are) (calls_counted w stands.calls entries)))
           ∙ (sym (sum-map calls_of_lane s.lanes) ∙ ap sum calls_are);
@@ -115,7 +115,7 @@ pub AreBack-legal :
     IsLegal grain w history last →
     length history ≤ 262144 →
     StandsFor s last →
-    disks_in s.lanes ≡ length old →
+    disks_in s.lanes ≡ pool_of old →
     AreAllIn s.lanes given →
     AreBack old given last
 AreBack-legal old given s grain history w last fresh legal few stands many all =

@@ -3,6 +3,7 @@ use Rattle.std.proofs.Common.{◌≡◌, ◌≢◌, ◌≤◌, List, [], length,
 use Rattle.fc_base.specs.declared.size.GrainSize.{GrainSize}
 use Rattle.fc_entry.specs.HistoryState.{HistoryState}
 use Rattle.fc_entry.specs.declared.entry.Entry.{Entry}
+use Rattle.fc_grains.specs.Grains.{pool_of}
 use Rattle.fc_io.specs.Sink.{SinkState}
 use Rattle.fc_io.specs.Source.{SourceState}
 use Rattle.fc_legal.specs.Legal.{IsLegal}
@@ -26,7 +27,7 @@ pub DisksAfter-given :
     IsLegal grain w history last →
     length history ≤ 262144 →
     StandsUnlessStarved ended (StandsFor s last) →
-    disks_in s.lanes ≡ length old →
+    disks_in s.lanes ≡ pool_of old →
     AreAllIn s.lanes given →
     DisksAfter ended old given last
 DisksAfter-given status.Done old given s grain history w last ran fresh legal few stands many all =

@@ -1,9 +1,10 @@
 -- What becomes of the disks.
-use Rattle.std.specs.Prelude.{◌≡◌, ℕ, ◌+◌, ◌<◌, ◌^◌, List, length, unwrap_or}
+use Rattle.std.specs.Prelude.{◌≡◌, ℕ, ◌+◌, ◌<◌, ◌^◌, List, unwrap_or}
 use Rattle.std.specs.List.{All, sum}
 use Rattle.fc_base.specs.declared.limits.TheConstants.{LANES}
 use Rattle.fc_base.specs.declared.size.GrainSize.{GrainSize}
 use Rattle.fc_base.specs.declared.size.GrainSize.TheVariants.{K256}
+use Rattle.fc_grains.specs.Grains.{pool_of}
 use Rattle.fc_legal.specs.Whole.{Whole, opened}
 use Rattle.fc_mdisk.specs.Disk.{DiskState}
 use Rattle.fc_mdisk.specs.Disks.{calls_of, faults_of}
@@ -24,10 +25,10 @@ begun disks = opened (pools_dealt LANES disks)
 abbrev pub AreCounted : List ℕ → Type 0
 AreCounted counts = All (λ n. n + 1 < 2 ^ 64) counts
 
--- As many disks are there as were handed in; their calls are those that the entries tell; and their faults too, where the
+-- As many disks of each kind are there as were handed in; their calls are those that the entries tell; and their faults too, where the
 -- lanes' are counted.
 pub record AreBack (old new : List DiskState) (last : Whole) : Type 0 where
-  pub number : length new ≡ length old
+  pub kinds : pool_of new ≡ pool_of old
   pub calls : calls_of new ≡ sum last.calls
   pub faults : AreCounted last.faults → faults_of new ≡ sum last.faults
 

@@ -2,6 +2,7 @@
 
 ghost use Rattle.std.specs.Prelude.{◌≡◌, ◌≢◌, ◌≤◌, ◌<◌, ◌^◌, ◌↔◌, [], ◌∷◌, List, map, length, codes, vec_len, vec_capacity, None, OnOk, OnErr};
 ghost use Rattle.std.specs.List.{All};
+ghost use Rattle.fc_grains.specs.Grains.{pool_of, total_of};
 ghost use Rattle.fc_legal.specs.Legal.{IsLegal};
 ghost use Rattle.fc_legal.specs.Whole.{Whole};
 ghost use Rattle.fc_mdisk.specs.Disk.{DiskState, IsFresh};
@@ -57,8 +58,8 @@ fn run_store<S: Source, K: Sink, D: Mdisk>(
     requires stands { TellsSome (StandsFor store) [] }
     requires main { history.old ≡ record { actors = codes "main" ∷ []; entries = [] } }
     requires none { disks.old.items ≡ [] }
-    requires room { disks_in store.lanes ≤ vec_capacity disks.old }
-    ensures ends { (w : Whole) (old : List DiskState) → StandsFor store w → w.entries ≡ 0 → disks_in store.lanes ≡ length old → (last : Whole)
+    requires room { total_of (disks_in store.lanes) ≤ vec_capacity disks.old }
+    ensures ends { (w : Whole) (old : List DiskState) → StandsFor store w → w.entries ≡ 0 → disks_in store.lanes ≡ pool_of old → (last : Whole)
         × SessionEnds result store.control.grain w (S.meaning source.old) (S.meaning source.new)
         (K.meaning sink.old) (K.meaning sink.new) history.new last
         × IsLegal store.control.grain w history.new.entries last

@@ -1,11 +1,12 @@
 use Rattle.std.proofs.Common.{◌≡◌, ◌+◌, ◌∙◌, ◌∷◌, ◌++◌, [], List, length, map, ap, sym, subst, refl, arith}
 use Rattle.std.proofs.lemmas.List.{append-nil, append_assoc, length-append, length-map, map-append}
-use Rattle.std.proofs.lemmas.List.Sums.{sum_by-cons}
+use Rattle.fc_grains.specs.Grains.{total_of}
+use Rattle.fc_grains.proofs.KindCounts.{total-pool}
 use Rattle.fc_lane.specs.Lane.{LaneView}
 use Rattle.fc_mdisk.specs.Disk.{DiskState}
 use Rattle.fc_store.specs.Dealing.{AreAllIn, disks_in}
 use Rattle.fc_store.proofs.DealLists.{moved}
-use Rattle.fc_store.proofs.Giving.{lane_given, nothing_given}
+use Rattle.fc_store.proofs.Giving.{first_lane, lane_given, nothing_given}
 use Rattle.fc_store.proofs.new.give_lanes.Goals as goal
 
 pub loop-lane-init : goal.loop-lane-init
@@ -27,8 +28,8 @@ loop-lane-preserved g c =
     let rest : List LaneView = c.pop_front.new.self.items in
     let split : done ++ c.in-Some.lane ∷ rest ≡ c.args.lanes.items =
     ap (λ (ls : List LaneView). done ++ ls) (sym c.in-Some.ensures.items) ∙ c.loop-lane.invariant.split in
-    let left : disks_in c.loop-lane.lanes.items ≡ c.in-Some.lane.grains.disks + disks_in rest =
-    ap disks_in c.in-Some.ensures.items ∙ sum_by-cons (λ (v : LaneView). v.grains.disks) c.in-Some.lane rest in
+    let left : total_of (disks_in c.loop-lane.lanes.items) ≡ total_of c.in-Some.lane.grains.disks + total_of (disks_in rest) =
+    ap (λ (ls : List LaneView). total_of (disks_in ls)) c.in-Some.ensures.items ∙ first_lane c.in-Some.lane rest in
     record {
       done = done ++ c.in-Some.lane ∷ [];
       given = given ++ own;
@@ -43,7 +44,8 @@ loop-lane-preserved g c =
         c.loop-lane.invariant.room,
         left,
         c.give_disks.ensures.room,
-        c.give_disks.ensures.given.2.number,
+        ap total_of c.give_disks.ensures.given.2.kinds,
+        total-pool (map m own),
         length-map own m,
         ap length c.give_disks.ensures.given.1,
         length-append c.loop-lane.into.items own,

@@ -1,4 +1,5 @@
 use Rattle.std.proofs.Common.{◌≡◌, ◌+◌, ◌≤◌, ◌++◌, List, length, map, vec_len, vec_capacity}
+use Rattle.fc_grains.specs.Grains.{total_of}
 use Rattle.fc_lane.specs.Lane.{LaneView}
 use Rattle.fc_store.specs.Dealing.{AreAllIn, disks_in}
 use Rattle.fc_store.proofs.new.give_lanes.Given as goal
@@ -10,7 +11,7 @@ invariant-loop-lane g l = record {
   split : done ++ l.lanes.items ≡ l.fn.lanes.items;
   items : l.into.items ≡ l.fn.into.items ++ given;
   all : AreAllIn done (map g.D.Mdisk.meaning given);
-  room : vec_len l.into + disks_in l.lanes.items ≤ vec_capacity l.into;
+  room : vec_len l.into + total_of (disks_in l.lanes.items) ≤ vec_capacity l.into;
 }
 
 abbrev pub decreases-loop-lane : goal.decreases-loop-lane

@@ -2,6 +2,7 @@
 use Rattle.std.proofs.Common.{◌≡◌, [], List, ◌∙◌, ap, arith, length, map, refl, subst, sym, vec_len}
 use Rattle.std.proofs.lemmas.List.{length-map}
 use Rattle.fc_base.specs.declared.size.GrainSize.{GrainSize}
+use Rattle.fc_grains.specs.Grains.{pool_of}
 use Rattle.fc_legal.specs.Legal.{IsLegal}
 use Rattle.fc_legal.specs.Whole.{Whole}
 use Rattle.fc_mdisk.specs.Disk.{DiskState}
@@ -38,8 +39,8 @@ returns-in-Ok-new-clause-ends g c =
     let same = c.replace-taken.ensures.value in
     let stands : StandsFor c.in-Ok-new.store (begun old) =
     subst (λ v. StandsFor c.in-Ok-new.store (begun (map g.D.Mdisk.meaning v.items))) same c.in-Ok-new.ensures.stands in
-    let counted : disks_in c.in-Ok-new.store.lanes ≡ length old =
-    c.in-Ok-new.ensures.disks ∙ (ap (λ v. vec_len v) same ∙ (omega arith ∙ sym (length-map c.args.disks.now.items g.D.Mdisk.meaning))) in
+    let counted : disks_in c.in-Ok-new.store.lanes ≡ pool_of old =
+    c.in-Ok-new.ensures.disks ∙ ap (λ v. pool_of (map g.D.Mdisk.meaning v.items)) same in
     let P : GrainSize → Type 0 = λ grain. (last : Whole)
     × SessionEnds c.run_store.result grain (begun old) (g.S.Source.meaning c.args.source.now) (g.S.Source.meaning c.run_store.new.source)
     (g.K.Sink.meaning c.args.sink.now) (g.K.Sink.meaning c.run_store.new.sink) c.run_store.new.history last

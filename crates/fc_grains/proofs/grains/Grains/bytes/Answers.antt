@@ -1,6 +1,5 @@
-use Rattle.std.proofs.Common.{◌≡◌, ap, ◌∙◌}
+use Rattle.std.proofs.Common.{ap, ◌∙◌}
 use Rattle.fc_base.specs.Grain.{grain_bytes}
-use Rattle.fc_entry.specs.Picture.{Bytes}
 use Rattle.fc_grains.specs.Grains.{GrainsState}
 use Rattle.fc_grains.specs.Volumes.{stored}
 use Rattle.fc_grains.proofs.Whole.{stored_whole}

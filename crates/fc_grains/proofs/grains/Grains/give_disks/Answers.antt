@@ -1,19 +1,32 @@
 use Rattle.std.proofs.Common.{◌≡◌, ◌∙◌, ◌++◌, List, length, map, ap, refl, sym, subst, arith}
 use Rattle.std.proofs.lemmas.List.{map-append, append_assoc, length-append, length-map}
 use Rattle.fc_mdisk.specs.Disk.{DiskState}
-use Rattle.fc_grains.specs.Grains.{GrainsState, AreAllOf}
+use Rattle.fc_grains.specs.Grains.{GrainsState, AreAllOf, total_of}
 use Rattle.fc_grains.specs.Kept.{all_disks, state_of}
 use Rattle.fc_grains.specs.Parts.{QueuesState, SameDisks, VolumeDiskState, disks_in}
+use Rattle.fc_grains.proofs.KindCounts.{total-pool}
 use Rattle.fc_grains.proofs.Moving.{all_of, number_of, on_err_at, same_given, same_number}
 use Rattle.fc_grains.proofs.Readying.{joined}
 use Rattle.fc_grains.proofs.grains.Grains.give_disks.Goals as goal
+
+pub give_volumes-requires : goal.give_volumes-requires
+give_volumes-requires g c =
+    omega (
+      arith,
+      c.requires,
+      ap (λ (s : GrainsState). total_of s.disks) c.self.view_is,
+      total-pool (all_disks c.self.inside.volumes.items c.self.inside.pool (map g.D.Mdisk.meaning c.self.inside.aside.items)),
+      number_of c.self.inside.volumes.items c.self.inside.pool (map g.D.Mdisk.meaning c.self.inside.aside.items),
+      c.self.inside.volumes.ok.0,
+    )
 
 pub give_disks-requires : goal.give_disks-requires
 give_disks-requires g c =
     omega (
       arith,
       c.requires,
-      ap (λ (s : GrainsState). s.disks) c.self.view_is,
+      ap (λ (s : GrainsState). total_of s.disks) c.self.view_is,
+      total-pool (all_disks c.self.inside.volumes.items c.self.inside.pool (map g.D.Mdisk.meaning c.self.inside.aside.items)),
       number_of c.self.inside.volumes.items c.self.inside.pool (map g.D.Mdisk.meaning c.self.inside.aside.items),
       length-map c.self.inside.aside.items g.D.Mdisk.meaning,
       c.give_volumes.ensures.room,
@@ -34,7 +47,8 @@ unreachable-requires g c =
       arith,
       full,
       c.requires,
-      ap (λ (s : GrainsState). s.disks) c.self.view_is,
+      ap (λ (s : GrainsState). total_of s.disks) c.self.view_is,
+      total-pool (all_disks c.self.inside.volumes.items c.self.inside.pool (map g.D.Mdisk.meaning c.self.inside.aside.items)),
       number_of c.self.inside.volumes.items c.self.inside.pool (map g.D.Mdisk.meaning c.self.inside.aside.items),
       length-map c.self.inside.aside.items g.D.Mdisk.meaning,
       c.give_volumes.ensures.room,

@@ -4,7 +4,7 @@ use Rattle.std.proofs.lemmas.List.{length-map}
 use Rattle.fc_mdisk.specs.Disk.{DiskState}
 use Rattle.fc_store.specs.Dealing.{Begin, FitLane, all_dealt}
 use Rattle.fc_store.proofs.DealLists.{begin_dealt, lists_count}
-use Rattle.fc_store.proofs.NewStore.{all_fit, number_made, quiet_made, silent_made, store_begins}
+use Rattle.fc_store.proofs.NewStore.{all_fit, kinds_made, quiet_made, silent_made, store_begins}
 use Rattle.fc_store.proofs.store.Store.new.Given as given
 use Rattle.fc_store.proofs.store.Store.new.Goals as goal
 
@@ -31,9 +31,7 @@ returns-clause-quiet g c told =
 
 pub returns-clause-disks : goal.returns-clause-disks
 returns-clause-disks g c =
-    number_made c.args.grain 4 (map g.D.Mdisk.meaning c.args.disks.items) c.in-Ok-make_lanes.lanes.items (made g c) (omega arith)
-    ∙ length-map c.args.disks.items g.D.Mdisk.meaning
-    ∙ sym c.args.disks.ok.0
+    kinds_made c.args.grain 4 (map g.D.Mdisk.meaning c.args.disks.items) c.in-Ok-make_lanes.lanes.items (made g c) (omega arith)
 
 pub returns-clause-silent : goal.returns-clause-silent
 returns-clause-silent g c =
