@@ -13,7 +13,7 @@ use Rattle.fc_base.specs.declared.ids.VolId.{VolId}
 use Rattle.fc_base.specs.declared.name.Ref.TheVariants.{Id, Name}
 use Rattle.fc_base.specs.declared.request.Effect.TheVariants.{Make as Made, Remove as Removed, Trigger as Triggered, State, Gone}
 use Rattle.fc_base.specs.declared.request.Pair.{Pair}
-use Rattle.fc_base.specs.declared.request.Reply.TheVariants.{Done, Made as Answered, NoMemory, Refused}
+use Rattle.fc_base.specs.declared.request.Reply.TheVariants.{Done, Listed, Made as Answered, NoMemory, Refused}
 use Rattle.fc_base.specs.declared.size.GrainSize.TheVariants.{K64}
 use Rattle.fc_base.specs.declared.state.Access.TheVariants.{Online, Offline, NotAccessible}
 use Rattle.fc_base.specs.declared.state.MapState.{MapState}
@@ -23,6 +23,7 @@ use Rattle.fc_base.specs.declared.volume.Mapping.{Mapping}
 use Rattle.fc_base.specs.declared.volume.Volume.{Volume}
 use Rattle.fc_books.specs.Books.{Books}
 use Rattle.fc_books.specs.Deciding.{settle, decide}
+use Rattle.fc_books.specs.Reports.{report_rows}
 use Rattle.fc_books.specs.Settling.{settling}
 use Rattle.fc_books.specs.Stopping.{stops}
 use Rattle.fc_books.specs.Work.{work_events}
@@ -264,6 +265,13 @@ volume_is_removed :
 unfolding first_below last_below holder first_reader live_place mapping_place work_events
 volume_is_removed = refl
 
-report_is_done : decide no_restarts K64 idle (Lsvdisk None) None ≡ record { reply = Done; effects = []; events = []; changes = [] }
-unfolding first_below last_below holder first_reader live_place mapping_place work_events
+report_is_done :
+    decide no_restarts K64 idle (Lsvdisk (Some 58)) None
+    ≡ record {
+      reply = Listed (codes "id:name:status:capacity:fc_map_count" ∷ codes "0:A:online:131072:1" ∷ codes "1:B:online:131072:1" ∷ []);
+      effects = [];
+      events = [];
+      changes = [];
+    }
+unfolding first_below last_below holder first_reader live_place mapping_place work_events report_rows digits
 report_is_done = refl

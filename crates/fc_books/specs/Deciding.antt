@@ -13,7 +13,7 @@ use Rattle.fc_base.specs.declared.fault.Refusal.TheVariants.{RestoreLoop}
 use Rattle.fc_base.specs.declared.ids.VolId.{VolId}
 use Rattle.fc_base.specs.declared.request.Effect.{Effect}
 use Rattle.fc_base.specs.declared.request.Reply.{Reply}
-use Rattle.fc_base.specs.declared.request.Reply.TheVariants.{Done, Made, NoMemory, Refused}
+use Rattle.fc_base.specs.declared.request.Reply.TheVariants.{Done, Listed, Made, NoMemory, Refused}
 use Rattle.fc_base.specs.declared.size.GrainSize.{GrainSize}
 use Rattle.fc_base.specs.declared.volume.Group.{Group}
 use Rattle.fc_base.specs.declared.volume.Mapping.{Mapping}
@@ -23,6 +23,7 @@ use Rattle.fc_books.specs.Groups.{members}
 use Rattle.fc_books.specs.Making.{new_volume, make_volume, remove_volume, arm, new_mapping, make_mapping, remove_mapping, new_group, make_group, remove_group}
 use Rattle.fc_books.specs.Refused.{of_mapping, of_group, of_asked, mkvdisk_refused, rmvdisk_refused, access_refused, armfault_refused, advance_refused, mkfcmap_refused, rmfcmap_refused, mkfcconsistgrp_refused, rmfcconsistgrp_refused}
 use Rattle.fc_books.specs.RefusedStarts.{prestartfcmap_refused, startfcmap_refused, stopfcmap_refused, prestartfcconsistgrp_refused, startfcconsistgrp_refused, stopfcconsistgrp_refused}
+use Rattle.fc_books.specs.Reports.{report_rows}
 use Rattle.fc_books.specs.Settling.{settling}
 use Rattle.fc_books.specs.Starting.{prepare, start, pair_of}
 use Rattle.fc_books.specs.Stopping.{stops, stop_group}
@@ -93,12 +94,17 @@ done grain b (Stopfcconsistgrp group way) = for_members b.tables (group_named b.
 done grain b (Rmfcconsistgrp group force) = for_one (group_named b.tables group) (λ g. remove_group b.tables g.id)
 done grain b command = nothing
 
--- What is answered of it: the id of what was made, else `ok`. The rows of a report are put in the place of its `ok`.
-abbrev pub replied : Books → Command → Reply
-replied b (Mkvdisk name size unit thin) = Made Vdisk b.next_volume
-replied b (Mkfcmap source target name group copy_rate clean_rate grain_size incremental autodelete) = Made Fcmap b.next_mapping
-replied b (Mkfcconsistgrp name) = Made OfGroups b.next_group
-replied b command = Done
+-- What is answered of it: the id of what was made, the rows of a report, else `ok`.
+abbrev pub replied : GrainSize → Books → Command → Reply
+replied grain b (Mkvdisk name size unit thin) = Made Vdisk b.next_volume
+replied grain b (Mkfcmap source target name group copy_rate clean_rate grain_size incremental autodelete) = Made Fcmap b.next_mapping
+replied grain b (Mkfcconsistgrp name) = Made OfGroups b.next_group
+replied grain b (Lsfcmap m delim) = Listed (report_rows grain b (Lsfcmap m delim))
+replied grain b (Lsfcconsistgrp group delim) = Listed (report_rows grain b (Lsfcconsistgrp group delim))
+replied grain b (Lsvdisk delim) = Listed (report_rows grain b (Lsvdisk delim))
+replied grain b (Lsfcmapprogress m delim) = Listed (report_rows grain b (Lsfcmapprogress m delim))
+replied grain b (Lsfcmapdependentmaps m delim) = Listed (report_rows grain b (Lsfcmapdependentmaps m delim))
+replied grain b command = Done
 
 -- ---- the loop of restores
 
@@ -145,7 +151,7 @@ with_work restarts b reply deed =
 abbrev pub answered : (ℕ → List Bool) → GrainSize → Books → Command → Option Refusal → Option (List VolId) → Decision
 answered restarts grain b command (Some refusal) loop = with_work restarts b (Refused refusal) nothing
 answered restarts grain b command None (Some volumes) = with_work restarts b (Refused (RestoreLoop volumes)) nothing
-answered restarts grain b command None None = with_work restarts b (replied b command) (done grain b command)
+answered restarts grain b command None None = with_work restarts b (replied grain b command) (done grain b command)
 
 -- What is decided of a command on settled books, where the loop of restores is this one.
 abbrev pub decide : (ℕ → List Bool) → GrainSize → Books → Command → Option (List VolId) → Decision

@@ -12,5 +12,8 @@ pub mod Making
 pub mod Refused
 pub mod RefusedStarts
 pub mod Work
+pub mod Layout
+pub mod Columns
+pub mod Reports
 pub mod Deciding
 pub mod Sound

@@ -10,5 +10,6 @@
 //! In reading order, all in `specs/`: `Books`, `After` (what is left after a decision), `Copies` (what a mapping's copy
 //! holds, who needs it and who depends on it), `Accesses`, `Groups`; `Ending` and `Settling` (how copies end), `Stopping`,
 //! `Starting`, `Making` (what each command does); `Refused`, `RefusedStarts` (the first refusal of each);
-//! `Work` (background work), `Deciding` (all together), and `Sound` (what holds of all books that are reached).
+//! `Work` (background work); `Layout`, `Columns` and `Reports` (what reports tell); `Deciding` (all together), and `Sound`
+//! (what holds of all books that are reached).
 #![tactic(auto)]

@@ -35,3 +35,4 @@ pub mod StopCode
 pub mod Without
 pub mod Applying
 pub mod Dispatched
+pub mod Reporting

@@ -111,13 +111,13 @@ answers_refused restarts grain b command refusal decision is decision_is = (
   decision_is ∙ sym (ap (λ o. answered restarts grain b command o None) is),
 )
 
-answered_looped : (restarts : ℕ → List Bool) (grain : GrainSize) (b : Books) (command : Command) (loop : Option (List VolId)) → replied b command ≡ Done → answered restarts grain b command None loop ≡ looped restarts b loop (done grain b command)
+answered_looped : (restarts : ℕ → List Bool) (grain : GrainSize) (b : Books) (command : Command) (loop : Option (List VolId)) → replied grain b command ≡ Done → answered restarts grain b command None loop ≡ looped restarts b loop (done grain b command)
 answered_looped restarts grain b command None is = ap (λ reply. with_work restarts b reply (done grain b command)) is
 answered_looped restarts grain b command (Some volumes) is = refl
 
 pub answers_looped :
     (restarts : ℕ → List Bool) (grain : GrainSize) (b : Books) (command : Command) (maps : List Mapping) (deed : Deed) (loop : Option (List VolId)) (decision : Decision) →
-    refused grain b command ≡ None → replied b command ≡ Done → pairs_of b command ≡ maps → done grain b command ≡ deed → LoopAfter b maps loop → decision ≡ looped restarts b loop deed → Answers restarts grain b command decision
+    refused grain b command ≡ None → replied grain b command ≡ Done → pairs_of b command ≡ maps → done grain b command ≡ deed → LoopAfter b maps loop → decision ≡ looped restarts b loop deed → Answers restarts grain b command decision
 answers_looped restarts grain b command maps deed loop decision is replies pairs does loop_is decision_is = (
   loop,
   subst (λ (o : Option Refusal). LoopTold o b command loop) (sym is) (subst (λ (ms : List Mapping). LoopAfter b ms loop) (sym pairs) loop_is),

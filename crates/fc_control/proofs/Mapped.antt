@@ -40,11 +40,11 @@ use Rattle.fc_pick.specs.declared.work.WorkFlags.{WorkFlags}
 
 -- ---- any decision that asks for no loop
 
-by_refusal : (restarts : ℕ → List Bool) (grain : GrainSize) (b : Books) (command : Command) (found : Option Refusal) → answered restarts grain b command found None ≡ answered_by restarts b found (replied b command) (done grain b command)
+by_refusal : (restarts : ℕ → List Bool) (grain : GrainSize) (b : Books) (command : Command) (found : Option Refusal) → answered restarts grain b command found None ≡ answered_by restarts b found (replied grain b command) (done grain b command)
 by_refusal restarts grain b command None = refl
 by_refusal restarts grain b command (Some refusal) = refl
 
-pub decide-by : (restarts : ℕ → List Bool) (grain : GrainSize) (b : Books) (command : Command) → decide restarts grain b command None ≡ answered_by restarts b (refused grain b command) (replied b command) (done grain b command)
+pub decide-by : (restarts : ℕ → List Bool) (grain : GrainSize) (b : Books) (command : Command) → decide restarts grain b command None ≡ answered_by restarts b (refused grain b command) (replied grain b command) (done grain b command)
 decide-by restarts grain b command = by_refusal restarts grain b command (refused grain b command)
 
 -- ---- the refusals, in three parts

@@ -94,24 +94,6 @@ impl Control {
         }
     }
 
-    /// What is decided of a report on one mapping: NoSuch without it; else the rows take the place of the reply.
-    pub fn decide_progress<S: Sheet>(
-        &self,
-        alloc: Global,
-        sheet: &S,
-        map: &Ref,
-        delim: Option<u8>,
-    ) -> Result<Decision, NoMemory>
-        ensures progress { IfOk result (λ decision. decision ≡ decide (S.meaning sheet.now).restarts self.now.grain (books_of self.now (S.meaning sheet.now)) (Command.Lsfcmapprogress map.now delim) None) }
-        ensures dependents { IfOk result (λ decision. decision ≡ decide (S.meaning sheet.now).restarts self.now.grain (books_of self.now (S.meaning sheet.now)) (Command.Lsfcmapdependentmaps map.now delim) None) }
-    {
-        if self.registry().mapping(map).is_some() {
-            self.conclude(sheet, Draft::new(alloc), Reply::Done)
-        } else {
-            self.refuse(alloc, sheet, Refusal::NoSuch(Kind::Fcmap))
-        }
-    }
-
     /// What is decided of a `mkfcconsistgrp`: Limit for 64 groups; NameTaken; else the group is made.
     pub fn decide_mkfcconsistgrp<S: Sheet>(
         &self,

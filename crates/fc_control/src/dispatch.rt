@@ -61,32 +61,7 @@ impl Control {
         }
     }
 
-    /// What is decided of a report, or of an `advance`.
-    pub fn decide_report<S: Sheet>(
-        &self,
-        alloc: Global,
-        command: &Command,
-        sheet: &S,
-    ) -> Result<Decision, NoMemory>
-        requires report { IsTrue (is_report command.now) }
-        ensures { IfOk result (λ decision. decision ≡ decide (S.meaning sheet.now).restarts self.now.grain (books_of self.now (S.meaning sheet.now)) command.now None) }
-    {
-        match command {
-            Command::Advance { seconds } => self.decide_advance(alloc, sheet, *seconds),
-            Command::Lsfcmap { map, delim } => self.decide_lsfcmap(alloc, sheet, map, *delim),
-            Command::Lsfcconsistgrp { group, delim } => {
-                self.decide_lsfcconsistgrp(alloc, sheet, group, *delim)
-            }
-            Command::Lsvdisk { delim } => self.decide_lsvdisk(alloc, sheet, *delim),
-            Command::Lsfcmapprogress { map, delim }
-            | Command::Lsfcmapdependentmaps { map, delim } => {
-                self.decide_progress(alloc, sheet, map, *delim)
-            }
-            _ => unreachable!(),
-        }
-    }
-
-    /// What is decided of a command that makes or removes an object, or arms a fault.
+    /// What is decided of a command that makes or removes an object, or arms a fault; or of an `advance`.
     pub fn decide_object<S: Sheet>(
         &self,
         alloc: Global,
@@ -111,6 +86,7 @@ impl Control {
                 grain,
                 calls,
             } => self.decide_armfault(alloc, sheet, volume, *grain, *calls),
+            Command::Advance { seconds } => self.decide_advance(alloc, sheet, *seconds),
             Command::Rmfcmap { map, force } => self.decide_rmfcmap(alloc, sheet, map, *force),
             Command::Mkfcconsistgrp { name } => self.decide_mkfcconsistgrp(alloc, sheet, name),
             Command::Rmfcconsistgrp { group, force } => {
@@ -192,14 +168,13 @@ impl Control {
     }
 }
 
-/// Whether this is a report, or an `advance`.
+/// Whether this is a report.
 fn is_report(command: &Command) -> bool
     ensures { result ≡ is_report command.now }
 {
     matches!(
         command,
-        Command::Advance { .. }
-            | Command::Lsfcmap { .. }
+        Command::Lsfcmap { .. }
             | Command::Lsfcconsistgrp { .. }
             | Command::Lsvdisk { .. }
             | Command::Lsfcmapprogress { .. }
@@ -207,7 +182,7 @@ fn is_report(command: &Command) -> bool
     )
 }
 
-/// Whether it makes or removes an object, or arms a fault; but for the making of a mapping.
+/// Whether it makes or removes an object, or arms a fault, but for the making of a mapping; or is an `advance`.
 fn is_object(command: &Command) -> bool
     ensures { result ≡ is_object command.now }
 {
@@ -216,6 +191,7 @@ fn is_object(command: &Command) -> bool
         Command::Mkvdisk { .. }
             | Command::Rmvdisk { .. }
             | Command::Armfault { .. }
+            | Command::Advance { .. }
             | Command::Rmfcmap { .. }
             | Command::Mkfcconsistgrp { .. }
             | Command::Rmfcconsistgrp { .. }

@@ -16,7 +16,8 @@ use fc_base::ids::VolId;
 use fc_base::sheet::Sheet;
 use fc_base::state::{Access, MapEvent, MapState};
 use fc_base::volume::Mapping;
-use fc_states::{access, next};
+use fc_group::access_in;
+use fc_states::next;
 
 impl Control {
     /// Why a single mapping isn't prepared or started, if it is refused: for its group, its state, its source, its
@@ -107,30 +108,6 @@ fn is_rival(other: &Mapping, mapping: &Mapping) -> bool
     ensures { result ≡ is_rival mapping.now other.now }
 {
     other.target.0 == mapping.target.0 && (other.id.0 != mapping.id.0 && is_active(other.state))
-}
-
-/// How the volume is reached: the mapping with it as target that isn't idle decides.
-fn access_in(mappings: &[Mapping], volume: VolId) -> Access
-    ensures { result ≡ access_by (find (λ (m : Mapping). (m.target.0 == volume.0) && not (is_idle m.state)) mappings.now) }
-{
-    match find_deciding(mappings, volume) {
-        Some(mapping) => access(mapping.id, mapping.state, mapping.complete),
-        None => Access::Online,
-    }
-}
-
-/// The mapping with the volume as target that isn't idle.
-fn find_deciding(mappings: &[Mapping], volume: VolId) -> Option<&Mapping>
-    ensures { option_copied result ≡ find (λ (m : Mapping). (m.target.0 == volume.0) && not (is_idle m.state)) mappings.now }
-{
-    mappings.iter().find(|mapping| decides(mapping, volume))
-}
-
-/// Whether the mapping has the volume as target and isn't idle.
-fn decides(mapping: &Mapping, volume: VolId) -> bool
-    ensures { result ≡ ((mapping.now.target.0 == volume.0) && not (is_idle mapping.now.state)) }
-{
-    mapping.target.0 == volume.0 && !is_idle(mapping.state)
 }
 
 /// Whether a volume that is reached so is online.

@@ -156,7 +156,7 @@ module _ (grain : GrainSize) (decisions : ℕ) (w : Whole) (small : decisions < 
   pub answered_lawful : (command : Command) (o : Option Refusal) (loop : Option (List VolId)) → (o ≡ None → loop ≡ None → Suits grain decisions w (done grain w.books command)) → IsLawful grain decisions w (answered no_restarts grain w.books command o loop)
   answered_lawful command (Some refusal) loop suits = lawful_with_work grain decisions w (Refused refusal) nothing st (nothing_suits grain decisions w small st)
   answered_lawful command None (Some volumes) suits = lawful_with_work grain decisions w (Refused (RestoreLoop volumes)) nothing st (nothing_suits grain decisions w small st)
-  answered_lawful command None None suits = lawful_with_work grain decisions w (replied w.books command) (done grain w.books command) st (suits refl refl)
+  answered_lawful command None None suits = lawful_with_work grain decisions w (replied grain w.books command) (done grain w.books command) st (suits refl refl)
 
   -- Where a start isn't refused and no loop is told, none is there.
   pub no_loop_told : (command : Command) (o : Option Refusal) (loop : Option (List VolId)) → LoopTold o w.books command loop → o ≡ None → loop ≡ None → LoopAfter w.books (pairs_of w.books command) None

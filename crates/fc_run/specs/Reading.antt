@@ -1,7 +1,7 @@
 -- How a line of a session is read: by the grammar, as far as the lines are built.
 use Rattle.std.specs.Prelude.{ℕ, Bool, true, false, not, cond, List, Result, Ok, Err}
 use Rattle.fc_base.specs.declared.command.Command.{Command}
-use Rattle.fc_base.specs.declared.command.Command.TheVariants.{Mkfcmap, Lsfcmap, Lsfcconsistgrp, Lsvdisk, Lsfcmapprogress, Lsfcmapdependentmaps}
+use Rattle.fc_base.specs.declared.command.Command.TheVariants.{Mkfcmap}
 use Rattle.fc_base.specs.declared.command.Line.{Line}
 use Rattle.fc_base.specs.declared.command.Line.TheVariants.{Blank, Command as CommandLine}
 use Rattle.fc_base.specs.declared.command.Scope.TheVariants.{Free}
@@ -10,14 +10,9 @@ use Rattle.fc_base.specs.declared.fault.WordFault.TheVariants.{UnknownCommand}
 use Rattle.fc_legal.specs.Run.{Reading}
 use Rattle.fc_words.specs.Lines.{line_of}
 
--- The commands that are built so far: all but incremental mappings and reports.
+-- The commands that are built so far: all but incremental mappings.
 abbrev pub is_built_command : Command → Bool
 is_built_command (Mkfcmap source target name group copy_rate clean_rate grain_size incremental autodelete) = not incremental
-is_built_command (Lsfcmap m delim) = false
-is_built_command (Lsfcconsistgrp group delim) = false
-is_built_command (Lsvdisk delim) = false
-is_built_command (Lsfcmapprogress m delim) = false
-is_built_command (Lsfcmapdependentmaps m delim) = false
 is_built_command command = true
 
 -- The lines that are built so far: those of these commands, and blank ones.

@@ -11,11 +11,6 @@ fn is_built_command(command: &Command) -> bool
 {
     match command {
         Command::Mkfcmap { incremental, .. } => !*incremental,
-        Command::Lsfcmap { .. }
-        | Command::Lsfcconsistgrp { .. }
-        | Command::Lsvdisk { .. }
-        | Command::Lsfcmapprogress { .. }
-        | Command::Lsfcmapdependentmaps { .. } => false,
         Command::Mkvdisk { .. }
         | Command::Rmvdisk { .. }
         | Command::Write { .. }
@@ -30,7 +25,12 @@ fn is_built_command(command: &Command) -> bool
         | Command::Prestartfcconsistgrp { .. }
         | Command::Startfcconsistgrp { .. }
         | Command::Stopfcconsistgrp { .. }
-        | Command::Rmfcconsistgrp { .. } => true,
+        | Command::Rmfcconsistgrp { .. }
+        | Command::Lsfcmap { .. }
+        | Command::Lsfcconsistgrp { .. }
+        | Command::Lsvdisk { .. }
+        | Command::Lsfcmapprogress { .. }
+        | Command::Lsfcmapdependentmaps { .. } => true,
     }
 }
 

@@ -1,0 +1,115 @@
+-- The columns of reports. What there isn't has an empty field.
+use Rattle.std.specs.Prelude.{ℕ, ◌*◌, ◌/◌, ◌-◌, Bool, ◌||◌, ◌==◌, cond, List, [], ◌∷◌, count_by, Option, codes, decimal}
+use Rattle.std.specs.Option.{option_map_or, option_and_then}
+use Rattle.fc_base.specs.Grain.{grain_bytes}
+use Rattle.fc_base.specs.SheetView.{needed_of}
+use Rattle.fc_base.specs.Tables.{Tables, volume_with, mapping_with, group_with, partner_of}
+use Rattle.fc_base.specs.declared.ids.GroupId.{GroupId}
+use Rattle.fc_base.specs.declared.ids.MapId.{MapId}
+use Rattle.fc_base.specs.declared.ids.VolId.{VolId}
+use Rattle.fc_base.specs.declared.size.GrainSize.{GrainSize}
+use Rattle.fc_base.specs.declared.state.Access.{Access}
+use Rattle.fc_base.specs.declared.state.Access.TheVariants.{Offline}
+use Rattle.fc_base.specs.declared.state.MapState.{MapState}
+use Rattle.fc_base.specs.declared.state.MapState.TheVariants.{Preparing, Prepared, Copying, Stopping}
+use Rattle.fc_base.specs.declared.volume.Group.{Group}
+use Rattle.fc_base.specs.declared.volume.Mapping.{Mapping}
+use Rattle.fc_base.specs.declared.volume.Volume.{Volume}
+use Rattle.fc_books.specs.Accesses.{access_in}
+use Rattle.fc_books.specs.Books.{Books}
+use Rattle.fc_books.specs.Copies.{held, total}
+use Rattle.fc_books.specs.Groups.{group_state}
+use Rattle.fc_books.specs.Layout.{Column, column}
+use Rattle.fc_entry.specs.Text.{state_text}
+
+abbrev pub text_of : {X : Type 0} → (X → List ℕ) → Option X → List ℕ
+text_of text o = option_map_or text o []
+
+-- ---- a mapping
+
+-- In percent, rounded down.
+abbrev pub percent : ℕ → ℕ → ℕ
+percent part whole = 100 * part / whole
+
+-- How many grains are copied: those that the target holds now while it is copying, none while it is being prepared or
+-- prepared, else those that it held when the mapping last left copying.
+abbrev pub copied_in : MapState → Books → Mapping → ℕ
+copied_in Copying b m = held b m
+copied_in Preparing b m = 0
+copied_in Prepared b m = 0
+copied_in state b m = m.held_at_leave
+
+abbrev pub progress : Books → Mapping → ℕ
+progress b m = percent (copied_in m.state b m) (total b m)
+
+-- How much of the target nobody needs; all of it where the mapping is neither copying nor stopping.
+abbrev pub unneeded : Books → Mapping → ℕ
+unneeded b m = percent (total b m - needed_of b.sheet.slots m.id.0) (total b m)
+
+abbrev pub cleaned_in : MapState → Books → Mapping → ℕ
+cleaned_in Copying b m = unneeded b m
+cleaned_in Stopping b m = unneeded b m
+cleaned_in state b m = 100
+
+abbrev pub volume_name : Tables → VolId → List ℕ
+volume_name t v = text_of (λ (x : Volume). x.name) (volume_with t v)
+
+abbrev pub group_name : Tables → Option GroupId → List ℕ
+group_name t g = text_of (λ (x : Group). x.name) (option_and_then (group_with t) g)
+
+abbrev pub mapping_name : Tables → Option MapId → List ℕ
+mapping_name t m = text_of (λ (x : Mapping). x.name) (option_and_then (mapping_with t) m)
+
+abbrev pub mapping_columns : Books → List (Column Mapping)
+mapping_columns b =
+    column (codes "id") (λ m. decimal m.id.0)
+    ∷ column (codes "name") (λ m. m.name)
+    ∷ column (codes "source_vdisk_id") (λ m. decimal m.source.0)
+    ∷ column (codes "source_vdisk_name") (λ m. volume_name b.tables m.source)
+    ∷ column (codes "target_vdisk_id") (λ m. decimal m.target.0)
+    ∷ column (codes "target_vdisk_name") (λ m. volume_name b.tables m.target)
+    ∷ column (codes "group_id") (λ m. text_of (λ (g : GroupId). decimal g.0) m.group)
+    ∷ column (codes "group_name") (λ m. group_name b.tables m.group)
+    ∷ column (codes "status") (λ m. state_text m.state)
+    ∷ column (codes "progress") (λ m. decimal (progress b m))
+    ∷ column (codes "copy_rate") (λ m. decimal m.copy_rate)
+    ∷ column (codes "clean_progress") (λ m. decimal (cleaned_in m.state b m))
+    ∷ column (codes "incremental") (λ m. cond m.incremental (codes "on") (codes "off"))
+    ∷ column (codes "partner_FC_id") (λ m. text_of (λ (p : MapId). decimal p.0) (partner_of b.tables m.id))
+    ∷ column (codes "partner_FC_name") (λ m. mapping_name b.tables (partner_of b.tables m.id))
+    ∷ column (codes "restoring") (λ m. cond m.restoring (codes "yes") (codes "no"))
+    ∷ []
+
+abbrev pub progress_columns : Books → List (Column Mapping)
+progress_columns b = column (codes "id") (λ m. decimal m.id.0) ∷ column (codes "progress") (λ m. decimal (progress b m)) ∷ []
+
+abbrev pub dependent_columns : List (Column Mapping)
+dependent_columns = column (codes "fc_id") (λ m. decimal m.id.0) ∷ column (codes "fc_name") (λ m. m.name) ∷ []
+
+-- ---- a group
+
+abbrev pub group_columns : Tables → List (Column Group)
+group_columns t =
+    column (codes "id") (λ g. decimal g.id.0)
+    ∷ column (codes "name") (λ g. g.name)
+    ∷ column (codes "status") (λ g. state_text (group_state t g.id))
+    ∷ []
+
+-- ---- a volume
+
+abbrev pub access_text : Access → List ℕ
+access_text (Offline map state) = codes "offline"
+access_text access = codes "online"
+
+-- Whether the mapping has the volume as source or target.
+abbrev pub is_of : VolId → Mapping → Bool
+is_of v m = (m.source.0 == v.0) || (m.target.0 == v.0)
+
+abbrev pub volume_columns : GrainSize → Tables → List (Column Volume)
+volume_columns grain t =
+    column (codes "id") (λ v. decimal v.id.0)
+    ∷ column (codes "name") (λ v. v.name)
+    ∷ column (codes "status") (λ v. access_text (access_in t v.id))
+    ∷ column (codes "capacity") (λ v. decimal (v.grains * grain_bytes grain))
+    ∷ column (codes "fc_map_count") (λ v. decimal (count_by (is_of v.id) t.mappings))
+    ∷ []

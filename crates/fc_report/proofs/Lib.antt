@@ -1,0 +1,4 @@
+-- Steps of loops.
+pub mod Tables
+pub mod Cells
+pub mod Shown
