@@ -1,5 +1,5 @@
 -- A worker's turn in a lane.
-use Rattle.std.proofs.Common.{◌≡◌, ℕ, ◌+◌, ◌*◌, ◌/◌, ◌%◌, ◌<◌, ◌≤◌, Bool, true, IsTrue, IsSome, Option, Some, None, is_some, option_map, option_and_then, List, [], find, refl, sym, ap, subst, ◌∙◌, arith, inl, inr}
+use Rattle.std.proofs.Common.{◌≡◌, ℕ, ◌%◌, ◌<◌, Bool, true, IsSome, Option, Some, None, is_some, option_map, option_and_then, List, [], find, refl, sym, ap, subst, ◌∙◌, arith, inl, inr}
 use Rattle.std.proofs.lemmas.Nat.{div-mul-add, mod-mul-add}
 use Rattle.fc_base.specs.Column.{first_below}
 use Rattle.fc_base.specs.Sheet.{Slot, mapping_place}
@@ -24,7 +24,7 @@ use Rattle.fc_rules.specs.LaneRight.{IsRightInLane, LaneAnswers, MappingFill, Co
 use Rattle.fc_rules.specs.LaneTold.{LaneOf, LaneTold, place_of, number_at, told_past}
 use Rattle.fc_rules.specs.LaneTurn.{copied_slot, cleaned_slot, grains_of, least_grain, next_copy, next_clean, spot_at}
 use Rattle.fc_rules.specs.Spot.{Spot}
-use Rattle.fc_rules.specs.Steps.{HasDone, HasDoneNothing, HasFailed, HasNoMemory, Step as OneStep, StoppedAt, steps_of_fill}
+use Rattle.fc_rules.specs.Steps.{HasDoneNothing, Step as OneStep, StoppedAt, steps_of_fill}
 
 -- ---- the next piece of work
 
@@ -38,16 +38,16 @@ lane_same v told s = λ i. lane_of (s.parts.lane_is i) (s.parts.lanes_are i) v.g
 pub copy_next : (v : LaneView) (told : LaneTold) → IsLaneOf v told →
     next_work (λ (row : WorkFlags). row.copies) (λ (m : MapId). least_grain (chained v) v.chains.sheet.slots (copied_slot v.chains.sheet.slots m.0) m.0) v.work.flags ≡ next_copy (of v) told
 copy_next v told s = λ i.
-  next_work (λ (row : WorkFlags). row.copies)
-  (λ (m : MapId). least_grain (lane_same v told s i) (s.parts.sheet_is i).slots (copied_slot (s.parts.sheet_is i).slots m.0) m.0)
-  (s.parts.beside.flags_are i)
+    next_work (λ (row : WorkFlags). row.copies)
+    (λ (m : MapId). least_grain (lane_same v told s i) (s.parts.sheet_is i).slots (copied_slot (s.parts.sheet_is i).slots m.0) m.0)
+    (s.parts.beside.flags_are i)
 
 pub clean_next : (v : LaneView) (told : LaneTold) → IsLaneOf v told →
     next_work (λ (row : WorkFlags). row.cleans) (λ (m : MapId). least_grain (chained v) v.chains.sheet.slots (cleaned_slot v.chains.sheet.slots m.0) m.0) v.work.flags ≡ next_clean (of v) told
 clean_next v told s = λ i.
-  next_work (λ (row : WorkFlags). row.cleans)
-  (λ (m : MapId). least_grain (lane_same v told s i) (s.parts.sheet_is i).slots (cleaned_slot (s.parts.sheet_is i).slots m.0) m.0)
-  (s.parts.beside.flags_are i)
+    next_work (λ (row : WorkFlags). row.cleans)
+    (λ (m : MapId). least_grain (lane_same v told s i) (s.parts.sheet_is i).slots (cleaned_slot (s.parts.sheet_is i).slots m.0) m.0)
+    (s.parts.beside.flags_are i)
 
 -- ---- it can be done
 
