@@ -4,6 +4,7 @@ ghost use Rattle.std.specs.Prelude.{◌≡◌, option_map};
 ghost use Rattle.fc_base.specs.declared.request.Request.TheVariants.{CleanTurn, CopyTurn};
 ghost use Rattle.fc_lane.specs.Lane.{IsAsked, IsLaneOf, IsReady, IsSameLane, KeepsQuiet, of};
 ghost use Rattle.fc_lane.specs.Parts.{lane_of};
+ghost use Rattle.fc_lane.specs.Turns.{CanPick, clean_of, copy_of};
 ghost use Rattle.fc_rules.specs.LaneRight.{IsRightInLane, record_of};
 ghost use Rattle.fc_rules.specs.LaneTold.{LaneTold, told_past};
 ghost use Rattle.fc_rules.specs.LaneTurn.{cleaned_slot, copied_slot, least_grain, next_clean, next_copy};
@@ -11,7 +12,7 @@ ghost use Rattle.fc_rules.specs.LaneTurn.{cleaned_slot, copied_slot, least_grain
 use crate::body::Body;
 use crate::lane::Lane;
 use fc_base::ids::{GrainNo, MapId};
-use fc_base::request::{Reply, Request};
+use fc_base::request::{Pick, Reply, Request};
 use fc_entry::entry::Entry;
 use fc_mdisk::mdisk::Mdisk;
 use fc_pick::Grid;
@@ -88,9 +89,8 @@ impl<D: Mdisk> Lane<D> {
         self.work.next_clean(&self.body)
     }
 
-    /// A copier's turn: a copy of the first mapping by id that has one to make in the lane, at its least grain. Idle exactly
-    /// where none has. It stops at the first call of a disk that fails; what was done before stays done.
-    pub fn copy_turn(&mut self, alloc: Global, number: u64, actor: u32) -> Entry
+    /// A copy of the first mapping by id that has one to make in the lane, at its least grain. Idle exactly where none has.
+    fn copy_first(&mut self, alloc: Global, number: u64, actor: u32) -> Entry
         requires stands { (told : LaneTold) × IsLaneOf self.old told }
         requires ready { IsReady self.old }
         ensures right { (told : LaneTold) → IsLaneOf self.old told → IsRightInLane (of self.old) told result × IsLaneOf self.new (told_past (of self.old) told (record_of result)) }
@@ -106,9 +106,9 @@ impl<D: Mdisk> Lane<D> {
         }
     }
 
-    /// A cleaner's turn: a cleaning of the first mapping by id that has one to make in the lane, at its least grain. Idle
-    /// exactly where none has. It stops at the first call of a disk that fails; what was done before stays done.
-    pub fn clean_turn(&mut self, alloc: Global, number: u64, actor: u32) -> Entry
+    /// A cleaning of the first mapping by id that has one to make in the lane, at its least grain. Idle exactly where none
+    /// has.
+    fn clean_first(&mut self, alloc: Global, number: u64, actor: u32) -> Entry
         requires stands { (told : LaneTold) × IsLaneOf self.old told }
         requires ready { IsReady self.old }
         ensures right { (told : LaneTold) → IsLaneOf self.old told → IsRightInLane (of self.old) told result × IsLaneOf self.new (told_past (of self.old) told (record_of result)) }
@@ -121,6 +121,44 @@ impl<D: Mdisk> Lane<D> {
         match self.next_clean() {
             Some((map, grain)) => turned(self.clean(alloc, number, actor, map, grain), request),
             None => self.untouched(alloc, number, actor, request, Reply::Idle),
+        }
+    }
+
+    /// A copier's turn: a copy of the first mapping by id that has one to make in the lane, at its least grain, and Idle exactly
+    /// where none has; or the copy of a mapping's grain that is named. It stops at the first call of a disk that fails; what
+    /// was done before stays done.
+    pub fn copy_turn(&mut self, alloc: Global, number: u64, actor: u32, pick: Pick) -> Entry
+        requires can { (told : LaneTold) × IsLaneOf self.old told × CanPick (of self.old) (copied_slot told.sheet.slots) pick }
+        requires ready { IsReady self.old }
+        ensures right { (told : LaneTold) → IsLaneOf self.old told → CanPick (of self.old) (copied_slot told.sheet.slots) pick →
+            IsRightInLane (of self.old) told result × IsLaneOf self.new (told_past (of self.old) told (record_of result)) }
+        ensures asked { IsAsked number actor (copy_of self.old.lane pick) result }
+        ensures same { IsSameLane self.old self.new }
+        ensures quiet { KeepsQuiet self.old self.new }
+        ensures plan_room { self.new.plan_room ≡ self.old.plan_room }
+    {
+        match pick {
+            Pick::Any => self.copy_first(alloc, number, actor),
+            Pick::Grain { map, grain } => self.copy(alloc, number, actor, map, grain),
+        }
+    }
+
+    /// A cleaner's turn: a cleaning of the first mapping by id that has one to make in the lane, at its least grain, and Idle
+    /// exactly where none has; or the cleaning of a mapping's grain that is named. It stops at the first call of a disk that
+    /// fails; what was done before stays done.
+    pub fn clean_turn(&mut self, alloc: Global, number: u64, actor: u32, pick: Pick) -> Entry
+        requires can { (told : LaneTold) × IsLaneOf self.old told × CanPick (of self.old) (cleaned_slot told.sheet.slots) pick }
+        requires ready { IsReady self.old }
+        ensures right { (told : LaneTold) → IsLaneOf self.old told → CanPick (of self.old) (cleaned_slot told.sheet.slots) pick →
+            IsRightInLane (of self.old) told result × IsLaneOf self.new (told_past (of self.old) told (record_of result)) }
+        ensures asked { IsAsked number actor (clean_of self.old.lane pick) result }
+        ensures same { IsSameLane self.old self.new }
+        ensures quiet { KeepsQuiet self.old self.new }
+        ensures plan_room { self.new.plan_room ≡ self.old.plan_room }
+    {
+        match pick {
+            Pick::Any => self.clean_first(alloc, number, actor),
+            Pick::Grain { map, grain } => self.clean(alloc, number, actor, map, grain),
         }
     }
 }

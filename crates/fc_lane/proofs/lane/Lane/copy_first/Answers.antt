@@ -1,7 +1,7 @@
 use Rattle.std.proofs.Common.{◌<◌, sym, subst, ◌∙◌}
 use Rattle.fc_lane.specs.Lane.{LaneView}
 use Rattle.fc_lane.proofs.Turns.{copy_can, copy_turned}
-use Rattle.fc_lane.proofs.lane.Lane.copy_turn.Goals as goal
+use Rattle.fc_lane.proofs.lane.Lane.copy_first.Goals as goal
 
 pub copy-requires-clause-can : goal.copy-requires-clause-can
 copy-requires-clause-can g c =

@@ -1,7 +1,7 @@
 use Rattle.std.proofs.Common.{◌<◌, sym, subst, ◌∙◌}
 use Rattle.fc_lane.specs.Lane.{LaneView}
 use Rattle.fc_lane.proofs.Turns.{clean_can, clean_turned}
-use Rattle.fc_lane.proofs.lane.Lane.clean_turn.Goals as goal
+use Rattle.fc_lane.proofs.lane.Lane.clean_first.Goals as goal
 
 pub clean-requires-clause-can : goal.clean-requires-clause-can
 clean-requires-clause-can g c =
