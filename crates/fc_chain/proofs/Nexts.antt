@@ -81,15 +81,17 @@ needs_at slots k g e =
     let s = some_at (needer (column slots g) k) e in
     let r = reader_is (column slots g) k k s.0 s.1 in
     let le : k ≤ s.0 = r.reads.before in
-    let ne : s.0 ≢ k = r.other in
-    (s.0, record {
-      behind = omega arith;
-      there = r.there;
-      is_live = r.is_live;
-      one_chain = sym r.reads.one_chain;
-      holds = r.reads.holds;
-      none_holds = λ j kj ja q u. r.reads.nearest j kj ja (q ∙ r.reads.one_chain) u;
-    })
+    let ne : s.0 ≢ k = r.other in (
+      s.0,
+      record {
+        behind = omega arith;
+        there = r.there;
+        is_live = r.is_live;
+        one_chain = sym r.reads.one_chain;
+        holds = r.reads.holds;
+        none_holds = λ j kj ja q u. r.reads.nearest j kj ja (q ∙ r.reads.one_chain) u;
+      },
+    )
 
 pub none_needed : (slots : List Slot) (k : ℕ) → (LiveBehind slots k → ⊥) → IsAnswer (is_needed_at slots k) (length (slot_at slots k).held) None
 none_needed slots k none =
@@ -131,10 +133,10 @@ not_needed : (slots : List Slot) (k reader g : ℕ) (held lacking : List Bool) �
 not_needed slots k reader g held lacking w e =
     false_from_ne_true (is_needed_at slots k g)
     (λ t.
-      let both = held_not_lacked slots k reader g w.next t in
-      let same : has (difference held lacking) g ≡ (get_or (slot_at slots k).held g false && not (get_or (slot_at slots reader).held g false)) =
-          has-difference held lacking w.one_size g ∙ (ap (λ z. get_or z g false && not (get_or lacking g false)) w.held_is ∙ ap (λ z. get_or (slot_at slots k).held g false && not (get_or z g false)) w.lacking_is) in
-      both_ways (has (difference held lacking) g) e (same ∙ both))
+    let both = held_not_lacked slots k reader g w.next t in
+    let same : has (difference held lacking) g ≡ (get_or (slot_at slots k).held g false && not (get_or (slot_at slots reader).held g false)) =
+    has-difference held lacking w.one_size g ∙ (ap (λ z. get_or z g false && not (get_or lacking g false)) w.held_is ∙ ap (λ z. get_or (slot_at slots k).held g false && not (get_or z g false)) w.lacking_is) in
+    both_ways (has (difference held lacking) g) e (same ∙ both))
 
 abbrev pub NoneBelow : List Slot → ℕ → ℕ → Type 0
 NoneBelow slots k from = (g : ℕ) → g < from → is_needed_at slots k g ≡ false

@@ -24,3 +24,4 @@ pub mod WriteLane
 pub mod FillLane
 pub mod FillEntry
 pub mod Turning
+pub mod Turns
