@@ -1,6 +1,6 @@
 -- A turn of the store: a copy or cleaning in the lane of its grain.
 use Rattle.std.proofs.Common.{◌≡◌, ℕ, ◌+◌, ◌%◌, ◌^◌, ◌<◌, ◌≤◌, Bool, true, false, Option, Some, None, List, [], ◌∷◌, ◌++◌, length, slice_index_or, slice_set, Result, Ok, Err, OnOk, OnErr, IfErr, refl, sym, ◌∙◌, ap, subst, arith}
-use Rattle.std.specs.Prelude.{IsSome}
+use Rattle.std.specs.Prelude.{IsSome, IfOk}
 use Rattle.std.proofs.lemmas.List.{length-append}
 use Rattle.fc_base.specs.Sheet.{Sheet}
 use Rattle.fc_base.specs.declared.ids.GrainNo.{GrainNo}
@@ -104,7 +104,7 @@ module _ (s : StoreView) (w : Whole) (g : GrainNo) (place : ℕ) (old ready : La
 -- ---- what was logged
 
 -- An entry that was logged.
-pub is_filled :
+is_filled :
     (moved : Bool) (Stands : Whole → Type 0) (grain : GrainSize) (w next : Whole) (work : Work) (g : GrainNo) (before after : HistoryState) (entry : Entry) →
     IsTurn Stands grain w (fill_of work g) entry next →
     w.entries ≡ length before.entries →
@@ -122,14 +122,19 @@ is_filled moved Stands grain w next work g before after entry turn counted is pu
   told = (turn.stands, omega (arith, turn.counted, counted, ap (λ (h : HistoryState). length h.entries) pushed, length-append before.entries (entry ∷ [])));
 }
 
--- Or refused for want of memory.
-pub is_refused :
-    (stop : Stop) (Stands : Whole → Type 0) (grain : GrainSize) (w : Whole) (work : Work) (g : GrainNo) (before after : HistoryState) →
-    stop ≡ NoMemory →
-    after ≡ before →
-    Filled (Err stop) Stands grain w work g before after
-is_refused LogFull Stands grain w work g before after is same = let never : LogFull ≡ NoMemory = is in absurd cc
-is_refused NoMemory Stands grain w work g before after is same = same
+-- Or one that was refused for want of memory.
+pub filled_as :
+    (result : Result Bool Stop) (Stands : Whole → Type 0) (grain : GrainSize) (w next : Whole) (work : Work) (g : GrainNo) (before after : HistoryState) (entry : Entry) →
+    IsTurn Stands grain w (fill_of work g) entry next →
+    w.entries ≡ length before.entries →
+    IfOk result (λ moved. (moved ≡ has_moved entry.reply) × (after ≡ record before { entries = before.entries ++ entry ∷ [] })) →
+    OnErr result (after ≡ before) →
+    IfErr result (λ stop. stop ≡ NoMemory) →
+    Filled result Stands grain w work g before after
+filled_as (Ok moved) Stands grain w next work g before after entry turn counted ok err stop =
+    is_filled moved Stands grain w next work g before after entry turn counted ok.0 ok.1
+filled_as (Err LogFull) Stands grain w next work g before after entry turn counted ok err stop = let never : LogFull ≡ NoMemory = stop in absurd cc
+filled_as (Err NoMemory) Stands grain w next work g before after entry turn counted ok err stop = err
 
 -- A history that is full.
 pub history_full :

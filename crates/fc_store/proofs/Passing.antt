@@ -205,9 +205,12 @@ pub turn_moved :
     next_grain grain w old ≡ Some g →
     grain_kib grain ≤ old.credit →
     paid ≡ spent grain old →
-    IsFilled true Stands grain w paid g x y →
+    (moved : Bool) →
+    moved ≡ true →
+    IsFilled moved Stands grain w paid g x y →
     Passed {A = Bool} (Ok true) Stands grain w (at seconds over old left) (at seconds over paid left) x y
-turn_moved Stands grain w seconds over old paid left g x y next le is filled =
+turn_moved Stands grain w seconds over old paid left g x y next le is moved done of_moved =
+    let filled : IsFilled true Stands grain w paid g x y = subst (λ b. IsFilled b Stands grain w paid g x y) done of_moved in
     let P : Work → Type 0 = λ z. AddsRun grain (at seconds over old left) w x y (at seconds over z left) filled.next in
     (filled.next, filled.told, subst P (sym is) (filled_adds true Stands grain w seconds over old paid left g x y next le is filled))
 
@@ -217,10 +220,13 @@ pub turn_failed :
     next_grain grain w old ≡ Some g →
     grain_kib grain ≤ old.credit →
     paid ≡ spent grain old →
-    IsFilled false Stands grain w paid g x y →
-    ((next : Whole) → Stands next → new ≡ saved grain next paid) →
+    (moved : Bool) →
+    moved ≡ false →
+    IsFilled moved Stands grain w paid g x y →
+    ((last : Whole) → Stands last → new ≡ saved grain last paid) →
     Passed {A = Bool} (Ok false) Stands grain w (at seconds over old left) (between seconds (over ++ new ∷ []) left) x y
-turn_failed Stands grain w seconds over old paid new left g x y next le is filled saves =
+turn_failed Stands grain w seconds over old paid new left g x y next le is moved done of_moved saves =
+    let filled : IsFilled false Stands grain w paid g x y = subst (λ b. IsFilled b Stands grain w paid g x y) done of_moved in
     let P : Work → Type 0 = λ z. AddsRun grain (at seconds over old left) w x y (between seconds (over ++ z ∷ []) left) filled.next in
     let same : saved grain filled.next (spent grain old) ≡ new = ap (λ (z : Work). saved grain filled.next z) (sym is) ∙ sym (saves filled.next filled.told.0) in
     (filled.next, filled.told, subst P same (filled_adds false Stands grain w seconds over old paid left g x y next le is filled))
@@ -264,6 +270,11 @@ pub turn_stopped :
 turn_stopped LogFull Stands grain w seconds over old paid left g b x y next le full = turn_full Stands grain w seconds over old left g b x y next le full
 turn_stopped NoMemory Stands grain w seconds over old paid left g b x y next le same = passed_starved Bool Stands grain w (at seconds over old left) b x y same
 
+-- The next grain doesn't depend on the credit.
+pub same_next : (grain size : GrainSize) (w : Whole) (work : Work) → next_grain grain w (spent size work) ≡ next_grain grain w work
+unfolding next_grain
+same_next grain size w work = refl
+
 -- ---- a stop
 
 -- What stops has passed, whatever was wanted, and whatever a call would have returned.
@@ -274,19 +285,31 @@ pub passed_stopped :
 passed_stopped A B LogFull Stands grain w a b c x y passed = passed
 passed_stopped A B NoMemory Stands grain w a b c x y passed = passed
 
--- and what is done
-pub passed_as :
-    (A B : Type 0) (one : A) (other : B) (Stands : Whole → Type 0) (grain : GrainSize) (w : Whole) (a b : Agenda) (x y : HistoryState) →
-    Passed {A = A} (Ok one) Stands grain w a b x y →
-    Passed {A = B} (Ok other) Stands grain w a b x y
-passed_as A B one other Stands grain w a b x y passed = passed
+-- ---- turns, one after another
 
--- Something is told then.
-pub tells_then :
-    (A : Type 0) (done : A) (Stands : Whole → Type 0) (grain : GrainSize) (w : Whole) (a b : Agenda) (x y : HistoryState) →
-    Passed {A = A} (Ok done) Stands grain w a b x y →
-    TellsSome Stands y.entries
-tells_then A done Stands grain w a b x y passed = (passed.0, passed.1)
+module _ (Before Stands : Whole → Type 0) (grain size : GrainSize) (w : Whole) (a : Agenda) (seconds : ℕ) (over : List Work) (old new : Work) (left : List Work) (x y z : HistoryState)
+    (same : size ≡ grain) (first : Passed {A = Unit {0}} (Ok tt) Before grain w a (at seconds over old left) x y) where
+  -- The work goes on, or is over for this second.
+  pub turn_then : (goes wanted : Bool) → goes ≡ wanted →
+      ((mid : Whole) (seconds : ℕ) (over left : List Work) → IsTold Before y.entries mid →
+      Passed {A = Bool} (Ok goes) Stands size mid (at seconds over old left) (after_turn (Ok goes) seconds over new left) y z) →
+      Passed {A = Unit {0}} (Ok tt) Stands grain w a (after_turn (Ok wanted) seconds over new left) x z
+  turn_then goes wanted is second =
+      let P : Bool → Type 0 = λ b. Passed {A = Unit {0}} (Ok tt) Stands grain w a (after_turn (Ok b) seconds over new left) x z in
+      subst P is
+      (then_passed (Unit {0}) (Unit {0}) (Ok tt) tt Before Stands grain w a (at seconds over old left) (after_turn (Ok goes) seconds over new left) x y z first
+      (λ mid told. subst (λ n. Passed {A = Unit {0}} (Ok tt) Stands n mid (at seconds over old left) (after_turn (Ok goes) seconds over new left) y z) same (second mid seconds over left told)))
+
+  -- It is stopped.
+  pub turn_ended : (stop : Stop) (b : Agenda) →
+      ((mid : Whole) (seconds : ℕ) (over left : List Work) → IsTold Before y.entries mid →
+      Passed {A = Bool} (Err stop) Stands size mid (at seconds over old left) (after_turn (Err stop) seconds over new left) y z) →
+      Passed {A = Unit {0}} (Err stop) Stands grain w a b x z
+  turn_ended stop b second =
+      then_passed (Unit {0}) (Unit {0}) (Err stop) tt Before Stands grain w a (at seconds over old left) b x y z first
+      (λ mid told. subst (λ n. Passed {A = Unit {0}} (Err stop) Stands n mid (at seconds over old left) b y z) same
+      (passed_stopped Bool (Unit {0}) stop Stands size mid (at seconds over old left) (after_turn (Err stop) seconds over new left) b y z (second mid seconds over left told)))
+
 
 -- ---- all work, one after another
 
@@ -310,8 +333,8 @@ second_begins Stands grain w seconds works h told =
     (passed_nothing Stands grain w (between (suc seconds) works []) h told) (λ last told. refl) (λ last told. refl)
 
 -- And the work at a place gains it, and uses it.
-module _ (Before Stands : Whole → Type 0) (grain : GrainSize) (w : Whole) (a : Agenda) (seconds place : ℕ) (works : List Work) (old new : Work) (x y z : HistoryState)
-    (first : Passed {A = Unit {0}} (Ok tt) Before grain w a (between seconds (take place works) (drop place works)) x y)
+module _ (Before Stands : Whole → Type 0) (grain size : GrainSize) (w : Whole) (a : Agenda) (seconds place : ℕ) (works : List Work) (old new : Work) (x y z : HistoryState)
+    (same : size ≡ grain) (first : Passed {A = Unit {0}} (Ok tt) Before grain w a (between seconds (take place works) (drop place works)) x y)
     (there : place < length works) (is : old ≡ get_or works place old) where
   its_second : Passed {A = Unit {0}} (Ok tt) Before grain w a (at seconds (take place works) (gained old) (drop (place + 1) works)) x y
   its_second =
@@ -321,7 +344,7 @@ module _ (Before Stands : Whole → Type 0) (grain : GrainSize) (w : Whole) (a :
 
   pub one_passed : (A : Type 0) (result : Result A Stop) →
       ((mid : Whole) (seconds : ℕ) (over left : List Work) → IsTold Before y.entries mid →
-      Passed result Stands grain mid (at seconds over (gained old) left) (between seconds (over ++ new ∷ []) left) y z) →
+      Passed result Stands size mid (at seconds over (gained old) left) (between seconds (over ++ new ∷ []) left) y z) →
       Passed result Stands grain w a (between seconds (take (place + 1) (set works place new)) (drop (place + 1) (set works place new))) x z
   one_passed A result second =
       let P : Agenda → Type 0 = λ b. Passed result Stands grain w a b x z in
@@ -329,7 +352,8 @@ module _ (Before Stands : Whole → Type 0) (grain : GrainSize) (w : Whole) (a :
       (ap₂ (between seconds) (sym (take_more_set works place new there)) (sym (drop_past works place new)))
       (then_passed A (Unit {0}) result tt Before Stands grain w a (at seconds (take place works) (gained old) (drop (place + 1) works))
       (between seconds (take place works ++ new ∷ []) (drop (place + 1) works)) x y z its_second
-      (λ mid told. second mid seconds (take place works) (drop (place + 1) works) told))
+      (λ mid told. subst (λ n. Passed result Stands n mid (at seconds (take place works) (gained old) (drop (place + 1) works)) (between seconds (take place works ++ new ∷ []) (drop (place + 1) works)) y z) same
+      (second mid seconds (take place works) (drop (place + 1) works) told)))
 
 -- All have.
 pub all_passed :
@@ -343,18 +367,19 @@ all_passed Stands grain w a seconds place works x y past passed =
 
 -- ---- all seconds
 
--- One second more.
+-- One second less is left.
 pub second_passed :
-    (A : Type 0) (result : Result A Stop) (Before Stands : Whole → Type 0) (grain : GrainSize) (w : Whole) (a : Agenda) (seconds passed : ℕ) (old new : List Work) (x y z : HistoryState) →
-    passed < seconds →
-    Passed {A = Unit {0}} (Ok tt) Before grain w a (between (seconds - passed) old []) x y →
-    ((mid : Whole) (left : ℕ) → IsTold Before y.entries mid → Passed result Stands grain mid (between (suc left) old []) (between left new []) y z) →
-    Passed result Stands grain w a (between (seconds - (passed + 1)) new []) x z
-second_passed A result Before Stands grain w a seconds passed old new x y z lt first second =
-    let left : ℕ = seconds - (passed + 1) in
-    let is : seconds - passed ≡ suc left = omega (arith, lt) in
+    (A : Type 0) (result : Result A Stop) (Before Stands : Whole → Type 0) (grain size : GrainSize) (w : Whole) (a : Agenda) (left : ℕ) (old new : List Work) (x y z : HistoryState) →
+    size ≡ grain →
+    0 < left →
+    Passed {A = Unit {0}} (Ok tt) Before grain w a (between left old []) x y →
+    ((mid : Whole) (seconds : ℕ) → IsTold Before y.entries mid → Passed result Stands size mid (between (suc seconds) old []) (between seconds new []) y z) →
+    Passed result Stands grain w a (between (left - 1) new []) x z
+second_passed A result Before Stands grain size w a left old new x y z same lt first second =
+    let is : left ≡ suc (left - 1) = omega (arith, lt) in
     let P : ℕ → Type 0 = λ n. Passed {A = Unit {0}} (Ok tt) Before grain w a (between n old []) x y in
-    then_passed A (Unit {0}) result tt Before Stands grain w a (between (suc left) old []) (between left new []) x y z (subst P is first) (λ mid told. second mid left told)
+    then_passed A (Unit {0}) result tt Before Stands grain w a (between (suc (left - 1)) old []) (between (left - 1) new []) x y z (subst P is first)
+    (λ mid told. subst (λ n. Passed result Stands n mid (between (suc (left - 1)) old []) (between (left - 1) new []) y z) same (second mid (left - 1) told))
 
 is_over : (grain : GrainSize) (works : List Work) (last : Whole) → IsOver grain (between 0 works []) last
 is_over grain works last = record { no_fill = refl; ends = refl }

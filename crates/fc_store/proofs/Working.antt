@@ -1,6 +1,7 @@
 -- The list of background work, and the least grain over the lanes of a store that stands.
-use Rattle.std.proofs.Common.{◌≡◌, ℕ, ◌<◌, Bool, List, ◌++◌, map, filter, length, Option, Result, Ok, Err, slice_index_or, refl, sym, ◌∙◌, ap, ap₂, subst, arith}
-use Rattle.std.specs.Prelude.{IfOk}
+use Rattle.std.proofs.Common.{◌≡◌, ℕ, ◌+◌, ◌<◌, ◌≤◌, Bool, true, false, cond, List, [], ◌∷◌, ◌++◌, append_assoc, map, filter, take, get_or, length, Option, Result, Ok, Err, slice_index_or, refl, sym, ◌∙◌, ap, ap₂, subst, arith}
+use Rattle.std.proofs.lemmas.List.{map-append, take_all, take_more}
+use Rattle.std.proofs.lemmas.List.Elements.{filter-append}
 use Rattle.fc_base.specs.Sheet.{Sheet}
 use Rattle.fc_base.specs.Tables.{Tables}
 use Rattle.fc_base.specs.declared.ids.GrainNo.{GrainNo}
@@ -30,10 +31,15 @@ unfolding all_work
 listed_all b = refl
 
 -- What is listed by the control part is all work by the books.
-pub all_listed : (c : ControlState) (b : Books) (flags : List WorkFlags) (mappings : List Mapping) → IsControlOf c b → flags ≡ c.flags → mappings ≡ c.tables.mappings →
-    listed_by flags mappings ≡ all_work b
-all_listed c b flags mappings is same table =
-    ap₂ listed_by (same ∙ is.flags) (table ∙ ap (λ (t : Tables). t.mappings) is.tables) ∙ listed_all b
+pub all_listed : (c : ControlState) (b : Books) (flags : List WorkFlags) (mappings : List Mapping) (none some all : List Work) → IsControlOf c b → flags ≡ c.flags → mappings ≡ c.tables.mappings →
+    none ≡ [] →
+    some ≡ none ++ map copies_of (filter (does_copy flags) mappings) →
+    all ≡ some ++ map cleanings_of (filter (does_clean flags) mappings) →
+    all ≡ all_work b
+all_listed c b flags mappings none some all is same table begins copied cleaned =
+    cleaned
+    ∙ (ap (λ (ws : List Work). ws ++ map cleanings_of (filter (does_clean flags) mappings)) (copied ∙ ap (λ (ws : List Work). ws ++ map copies_of (filter (does_copy flags) mappings)) begins)
+    ∙ (ap₂ listed_by (same ∙ is.flags) (table ∙ ap (λ (t : Tables). t.mappings) is.tables) ∙ listed_all b))
 
 -- ---- the least grain
 

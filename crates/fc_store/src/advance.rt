@@ -29,9 +29,12 @@ impl<D: Mdisk> Store<D> {
         ensures disks { disks_in self.new.lanes ≡ disks_in self.old.lanes }
         ensures limit { length history.new.entries ≤ MAX_ENTRIES }
     {
-        let Some(grain) = self.next_grain(work) else {
-            work.lose();
-            return Ok(false);
+        let grain = match self.next_grain(work) {
+            Some(grain) => grain,
+            None => {
+                work.lose();
+                return Ok(false);
+            }
         };
         if !work.pay(self.control.grain()) {
             return Ok(false);
@@ -100,9 +103,10 @@ impl<D: Mdisk> Store<D> {
             Ok(works) => works,
             Err(NoMemory) => return Err(Stop::NoMemory),
         };
-        for second in 0..seconds {
+        let mut left = seconds;
+        while left > 0 {
             match self.pass_all(&mut works, history) {
-                Ok(()) => {}
+                Ok(()) => left -= 1,
                 Err(stop) => return Err(stop),
             }
         }

@@ -1,6 +1,6 @@
 //! The next grain of background work, and its copy or cleaning.
 
-ghost use Rattle.std.specs.Prelude.{◌≡◌, ◌≤◌, ◌%◌, IsSome, length};
+ghost use Rattle.std.specs.Prelude.{◌≡◌, ◌≤◌, ◌%◌, ◌++◌, ◌∷◌, [], IfErr, IfOk, IsSome, OnErr, length};
 ghost use Rattle.std.specs.Prelude.{Some as GhostSome};
 ghost use Rattle.fc_lane.specs.Lane.{IsAsked, IsLaneOf, IsReady, IsSameLane, KeepsQuiet, of};
 ghost use Rattle.fc_legal.specs.Seconds.{fill_of, filled_by, has_moved, next_grain, saved};
@@ -63,6 +63,20 @@ fn has_moved(entry: &Entry) -> bool
     match entry.reply {
         Reply::Moved { .. } => true,
         _ => false,
+    }
+}
+
+/// Logs the entry of a copy or cleaning: whether the grain was moved.
+fn log_fill(history: &mut History, entry: Entry) -> Result<bool, Stop>
+    requires { entry.number ≡ length history.old.entries }
+    ensures ok { IfOk result (λ moved. (moved ≡ has_moved entry.reply) × (history.new ≡ record history.old { entries = history.old.entries ++ entry ∷ [] })) }
+    ensures err { OnErr result (history.new ≡ history.old) }
+    ensures stop { IfErr result (λ stop. stop ≡ Stop.NoMemory) }
+{
+    let moved = has_moved(&entry);
+    match log(history, entry) {
+        Ok(()) => Ok(moved),
+        Err(stop) => Err(stop),
     }
 }
 
@@ -137,10 +151,6 @@ impl<D: Mdisk> Store<D> {
         }
         let number = history.len() as u64;
         let entry = fill_lane(self.alloc, lane, number, work, grain);
-        let moved = has_moved(&entry);
-        match log(history, entry) {
-            Ok(()) => Ok(moved),
-            Err(stop) => Err(stop),
-        }
+        log_fill(history, entry)
     }
 }

@@ -1,8 +1,9 @@
 //! Background work: the copies or the cleanings of a mapping, and the credit that they save up.
 
-ghost use Rattle.std.specs.Prelude.{◌≡◌, ◌++◌, ◌<◌, ◌≤◌, IfOk, filter, map};
+ghost use Rattle.std.specs.Prelude.{◌≡◌, ◌++◌, ◌∷◌, [], ◌<◌, ◌≤◌, IfOk, OnOk, cond, filter, map};
 ghost use Rattle.std.specs.Bool.{OnFalse, OnTrue};
 ghost use Rattle.fc_base.specs.Grain.{grain_kib};
+ghost use Rattle.fc_base.specs.Rates.{kib_of_rate};
 ghost use Rattle.fc_books.specs.Books.{Books};
 ghost use Rattle.fc_lane.specs.Lane.{IsLaneOf};
 ghost use Rattle.fc_legal.specs.Seconds.{all_work, cleanings_of, copies_of, gained, spent};
@@ -19,7 +20,7 @@ use fc_lane::lane::Lane;
 use fc_mdisk::mdisk::Mdisk;
 use fc_pick::WorkFlags;
 use fc_rates::{Credits, kib_per_second};
-use std::alloc::{AllocError, Global};
+use std::alloc::Global;
 use std::marker::Model;
 
 /// The copies or the cleanings of a mapping: what a second is worth to them, in KiB, and their credit.
@@ -40,28 +41,30 @@ impl Model for Work {
 }
 
 impl Work {
-    /// The copies of a mapping, without credit.
-    fn copies(mapping: &Mapping) -> Self
-        ensures { result ≡ copies_of mapping.now }
+    /// Work of a mapping at this rate, without credit.
+    fn new(map: MapId, cleans: bool, rate: u8) -> Self
+        ensures { result ≡ record { map = map; cleans = cleans; gain = kib_of_rate rate; credit = 0 } }
     {
         Work {
-            map: mapping.id,
-            cleans: false,
-            gain: kib_per_second(mapping.copy_rate),
+            map,
+            cleans,
+            gain: kib_per_second(rate),
             credit: Credits::new(),
         }
     }
 
-    /// The cleanings of a mapping, without credit.
+    /// The copies of a mapping.
+    fn copies(mapping: &Mapping) -> Self
+        ensures { result ≡ copies_of mapping.now }
+    {
+        Work::new(mapping.id, false, mapping.copy_rate)
+    }
+
+    /// The cleanings of a mapping.
     fn cleanings(mapping: &Mapping) -> Self
         ensures { result ≡ cleanings_of mapping.now }
     {
-        Work {
-            map: mapping.id,
-            cleans: true,
-            gain: kib_per_second(mapping.clean_rate),
-            credit: Credits::new(),
-        }
+        Work::new(mapping.id, true, mapping.clean_rate)
     }
 
     /// The mapping.
@@ -113,29 +116,66 @@ impl Work {
     }
 }
 
-/// All background work, by the flags: all copies by mapping id, and then all cleanings. All credits are 0.
-pub(crate) fn all_work(alloc: Global, control: &Control) -> Result<Vec<Work>, NoMemory>
-    ensures { (b : Books) → IsControlOf control.now b → IfOk result (λ works. works.items ≡ all_work b) }
+/// Adds the work, if it is wanted.
+fn push_if(works: &mut Vec<Work>, wanted: bool, work: Work) -> Result<(), NoMemory>
+    ensures { OnOk result (works.new.items ≡ works.old.items ++ cond wanted (work ∷ []) []) }
 {
-    let flags = control.flags();
-    let mappings = control.registry().all_mappings();
-    match listed(alloc, flags, mappings) {
-        Ok(works) => Ok(works),
+    if !wanted {
+        return Ok(());
+    }
+    match works.push(work) {
+        Ok(()) => Ok(()),
         Err(_) => Err(NoMemory),
     }
 }
 
-/// The copies of the mappings that have the flag for copies, and the cleanings of those that have the one for cleanings.
-fn listed(alloc: Global, flags: &[WorkFlags], mappings: &[Mapping]) -> Result<Vec<Work>, AllocError>
-    ensures { IfOk result (λ works. works.items ≡ map copies_of (filter (does_copy flags.now) mappings.now) ++ map cleanings_of (filter (does_clean flags.now) mappings.now)) }
+/// Adds the copies of the mappings that have the flag for them.
+fn push_copies(
+    works: &mut Vec<Work>,
+    flags: &[WorkFlags],
+    mappings: &[Mapping],
+) -> Result<(), NoMemory>
+    ensures { OnOk result (works.new.items ≡ works.old.items ++ map copies_of (filter (does_copy flags.now) mappings.now)) }
 {
-    let copies = mappings
-        .iter()
-        .filter(|mapping| has_copies(flags, mapping))
-        .map(|mapping| Work::copies(mapping));
-    let cleanings = mappings
-        .iter()
-        .filter(|mapping| has_cleans(flags, mapping))
-        .map(|mapping| Work::cleanings(mapping));
-    copies.chain(cleanings).collect(alloc)
+    for mapping in mappings {
+        match push_if(works, has_copies(flags, mapping), Work::copies(mapping)) {
+            Ok(()) => {}
+            Err(NoMemory) => return Err(NoMemory),
+        }
+    }
+    Ok(())
+}
+
+/// Adds the cleanings of the mappings that have the flag for them.
+fn push_cleanings(
+    works: &mut Vec<Work>,
+    flags: &[WorkFlags],
+    mappings: &[Mapping],
+) -> Result<(), NoMemory>
+    ensures { OnOk result (works.new.items ≡ works.old.items ++ map cleanings_of (filter (does_clean flags.now) mappings.now)) }
+{
+    for mapping in mappings {
+        match push_if(works, has_cleans(flags, mapping), Work::cleanings(mapping)) {
+            Ok(()) => {}
+            Err(NoMemory) => return Err(NoMemory),
+        }
+    }
+    Ok(())
+}
+
+/// All background work, by the flags: all copies by mapping id, and then all cleanings. All credits are 0.
+pub(crate) fn all_work(alloc: Global, control: &Control) -> Result<Vec<Work>, NoMemory>
+    ensures { IfOk result (λ works. (b : Books) → IsControlOf control.now b → works.items ≡ all_work b) }
+{
+    let flags = control.flags();
+    let mappings = control.registry().all_mappings();
+    let mut works = Vec::new(alloc);
+    match push_copies(&mut works, flags, mappings) {
+        Ok(()) => {}
+        Err(NoMemory) => return Err(NoMemory),
+    }
+    match push_cleanings(&mut works, flags, mappings) {
+        Ok(()) => Ok(works),
+        Err(NoMemory) => Err(NoMemory),
+    }
 }
