@@ -19,6 +19,8 @@ pub mod Together
 pub mod Touched
 pub mod Retally
 pub mod Growing
+pub mod Numbered
+pub mod Nexts
 pub mod Parts
 pub mod Sorting
 pub mod Listed

@@ -6,7 +6,7 @@ use Rattle.fc_base.specs.declared.decision.LaneEvent.{LaneEvent}
 use Rattle.fc_base.specs.Sheet.{Slot, Sheet, slot_at}
 use Rattle.fc_base.specs.SheetStep.{sheet_step}
 use Rattle.fc_base.specs.SheetFits.{FitsTaken, FitsLost}
-use Rattle.fc_chain.specs.Chains.{Chains, IsKept, AreParts, in_lane, lane_grains}
+use Rattle.fc_chain.specs.Chains.{Chains, IsKept, AreNumbered, AreParts, in_lane, lane_grains}
 use Rattle.fc_chain.specs.Room.{slots_made, HasRoomFor}
 use Rattle.fc_chain.specs.Table.{Table}
 use Rattle.fc_chain.specs.Ledger.{Ledger, IsCounted}
@@ -17,6 +17,7 @@ use Rattle.fc_sheets.proofs.Holding.{Regrained}
 use Rattle.fc_chain.proofs.Listed.{lists_map, places_fewer}
 use Rattle.fc_chain.proofs.Keeps.{view_of}
 use Rattle.fc_chain.proofs.Growing.{events_grow}
+use Rattle.fc_chain.proofs.Numbered.{wider_numbered}
 
 pub countable : (lane lanes : ℕ) (sheet : Sheet) → IsKept lane lanes sheet → Countable sheet.slots
 countable lane lanes sheet k = record { one_live = k.sound.one_live; one_size = k.sound.sizes.of_chain; together = k.together }
@@ -53,6 +54,7 @@ mapped_parts f regrained lane lanes table new ledger after d room width p k e t 
       };
       listed = subst (λ (z : List Slot). ListsSlots z d) (sym (ap (λ (z : Table). z.sheet.slots) e)) (lists_map f regrained table.sheet.slots d p.listed);
       places = places_fewer (length new.sheet.slots + room) (length table.sheet.slots + room) d (omega arith) p.places;
+      numbered = subst (AreNumbered lane lanes) (sym wide) p.numbered;
     }
 
 -- events happen: there is room for all that they make
@@ -95,6 +97,7 @@ applied_parts lane lanes table new ledger after old dir room width now again p k
       };
       listed = subst (λ (z : List Slot). ListsSlots z dir) ea listed;
       places = (let s : length again ≡ length new.sheet.slots = ap length ea in places_fewer (length new.sheet.slots + 0) (length again) dir (omega arith) has);
+      numbered = subst (AreNumbered lane lanes) (sym d) p.numbered;
     }
 
 -- there are places for all that events make
@@ -128,13 +131,14 @@ refused_parts lane lanes table ledger after d e room width p stay l w listed has
       };
       listed = listed;
       places = has;
+      numbered = p.numbered;
     }
 
-pub roomy_parts : (lane lanes : ℕ) (table new : Table) (ledger after : Ledger) (d dir : Directory) (room width slots wider more : ℕ) → AreParts lane lanes table ledger d room width → ((k : ℕ) → k < length ledger.tallies → tally_at after.tallies k ≡ tally_at ledger.tallies k) →
+pub roomy_parts : (lane lanes : ℕ) (table new : Table) (ledger after : Ledger) (d dir : Directory) (room width slots new_width wider more : ℕ) → AreParts lane lanes table ledger d room width → wider ≡ max new_width table.width → AreNumbered lane lanes new_width → ((k : ℕ) → k < length ledger.tallies → tally_at after.tallies k ≡ tally_at ledger.tallies k) →
     length ledger.tallies ≤ length after.tallies → length table.sheet.slots + slots ≤ length after.tallies → words_for wider ≤ after.words →
     new.sheet ≡ table.sheet → table.room ≤ new.room → slots ≤ new.room → table.width ≤ wider → wider ≤ new.width → new.width ≤ max table.width wider → more ≡ max room slots →
     ListsSlots table.sheet.slots dir → HasPlaces (length table.sheet.slots + room) dir → HasPlaces (length table.sheet.slots + slots) dir → AreParts lane lanes new after dir more wider
-roomy_parts lane lanes table new ledger after d dir room width slots wider more p stay l ls w e r rs dw dn dm em listed has wants =
+roomy_parts lane lanes table new ledger after d dir room width slots new_width wider more p we few stay l ls w e r rs dw dn dm em listed has wants =
     let c : IsCounted table ledger room width = p.counted in
     let f : length table.sheet.slots + room ≤ length ledger.tallies = c.fits in
     let s : room ≤ table.room = c.spare in
@@ -154,4 +158,5 @@ roomy_parts lane lanes table new ledger after d dir room width slots wider more 
         | inl lt ↦ places_fewer (length new.sheet.slots + more) (length table.sheet.slots + slots) dir (omega arith) wants
         | inr ge ↦ places_fewer (length new.sheet.slots + more) (length table.sheet.slots + room) dir (omega arith) has
       ];
+      numbered = subst (AreNumbered lane lanes) (sym top) (subst (AreNumbered lane lanes) (sym we) (wider_numbered lane lanes new_width table.width few p.numbered));
     }

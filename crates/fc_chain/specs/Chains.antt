@@ -1,5 +1,5 @@
 -- The chains of one lane.
-use Rattle.std.specs.Prelude.{length, ◌≡◌, ℕ, ◌+◌, ◌-◌, ◌/◌, ◌%◌, ◌<◌, Option, IsSome, List, option_map}
+use Rattle.std.specs.Prelude.{length, ◌≡◌, ℕ, ◌+◌, ◌-◌, ◌*◌, ◌/◌, ◌%◌, ◌^◌, ◌<◌, Option, IsSome, List, option_map}
 use Rattle.fc_base.specs.SheetFacts.{IsSound}
 use Rattle.fc_chain.specs.Contiguous.{IsContiguous}
 use Rattle.fc_chain.specs.Table.{Table}
@@ -24,6 +24,10 @@ IsOfLane c g = g % c.lanes ≡ c.lane
 abbrev pub in_lane : Chains → ℕ → ℕ
 in_lane c g = g / c.lanes
 
+-- The number of the grain at a place among the lane's.
+abbrev pub number_in : Chains → ℕ → ℕ
+number_in c place = place * c.lanes + c.lane
+
 -- How many of a volume's grains the lane has.
 abbrev pub lane_grains : ℕ → ℕ → ℕ → ℕ
 lane_grains lane lanes grains = (grains + lanes - 1 - lane) / lanes
@@ -41,9 +45,14 @@ pub record IsKept (lane lanes : ℕ) (sheet : Sheet) : Type 0 where
 abbrev pub IsThere : List Slot → SlotId → Type 0
 IsThere slots name = IsSome (birth_place slots name.0)
 
+-- The numbers of so many grains of a lane are numbers of 32 bits.
+abbrev pub AreNumbered : ℕ → ℕ → ℕ → Type 0
+AreNumbered lane lanes count = (p : ℕ) → p < count → p * lanes + lane < 2 ^ 32
+
 -- All that always holds of a cascade's parts.
 pub record AreParts (lane lanes : ℕ) (table : Table) (ledger : Ledger) (directory : Directory) (room width : ℕ) : Type 0 where
   pub kept : IsKept lane lanes table.sheet
   pub counted : IsCounted table ledger room width
   pub listed : ListsSlots table.sheet.slots directory
   pub places : HasPlaces (length table.sheet.slots + room) directory
+  pub numbered : AreNumbered lane lanes table.width

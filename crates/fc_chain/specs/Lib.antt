@@ -1,6 +1,7 @@
 -- What contracts of the chains cite.
 pub mod Chains
 pub mod Walks
+pub mod Nexts
 pub mod Found
 pub mod Births
 pub mod Planning

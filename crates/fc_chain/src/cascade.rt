@@ -1,18 +1,19 @@
 //! The chains of copies of one lane.
 
-ghost use Rattle.std.specs.Prelude.{◌≡◌, ℕ, ◌<◌, ◌≤◌, ◌/◌, ◌↔◌, ◌++◌, length, OnOk, OnErr, IfOk, IsTrue, IfSome, Some, false, fold};
+ghost use Rattle.std.specs.Prelude.{◌≡◌, ℕ, ◌+◌, ◌*◌, ◌^◌, ◌<◌, ◌≤◌, ◌/◌, ◌↔◌, ◌++◌, length, option_map, OnOk, OnErr, IfOk, IsTrue, IfSome, Some, false, fold};
 ghost use Rattle.fc_base.specs.Sheet.{no_slots, slot_at, shape_of, column, live_place, mapping_place, birth_place};
-ghost use Rattle.fc_base.specs.Column.{holder, needer};
+ghost use Rattle.fc_base.specs.Column.{first_below, holder, needer};
 ghost use Rattle.fc_base.specs.declared.request.Side.TheVariants.{Under};
 ghost use Rattle.fc_base.specs.SheetFits.{FitsTaken, FitsLost, FitsEvents};
 ghost use Rattle.fc_base.specs.SheetStep.{sheet_moved, sheet_written, sheet_torn, triggered, sheet_step};
 ghost use Rattle.fc_base.specs.SheetView.{LoopAnswer};
-ghost use Rattle.fc_chain.specs.Chains.{IsOfLane, in_lane, lane_grains, found, IsThere};
+ghost use Rattle.fc_chain.specs.Chains.{IsOfLane, in_lane, lane_grains, number_in, found, IsThere};
 ghost use Rattle.fc_chain.specs.Contiguous.{IsContiguous};
+ghost use Rattle.fc_chain.specs.Nexts.{lacks};
 ghost use Rattle.fc_chain.specs.Tallies.{AreOneSize};
 ghost use Rattle.fc_chain.specs.Room.{HasRoomFor};
 ghost use Rattle.fc_bits.specs.Grains.{count_set};
-ghost use Rattle.fc_base.specs.Counts.{need_count_of, UsedAt, names_below, is_direct, is_unneeded};
+ghost use Rattle.fc_base.specs.Counts.{is_needed_at, need_count_of, UsedAt, names_below, is_direct, is_unneeded};
 ghost use Rattle.fc_chain.specs.Planning.{CanPlan, Plannable, planned_moves, volume_count};
 
 use crate::count::{add_direct, add_unneeded};
@@ -20,6 +21,7 @@ use crate::directory::Directory;
 use crate::events::step_all;
 use crate::find::name_of;
 use crate::links::loop_of_rows;
+use crate::next::{self, number_of};
 use crate::plan::{LaneGrain, plan_fill, plan_write};
 use crate::room::{slots_made, widest};
 use crate::rows::{copy_rows, trigger_rows};
@@ -83,6 +85,7 @@ impl Cascade {
         ensures plannable { Plannable result.now }
         ensures together { IsContiguous result.now }
         ensures sizes { AreOneSize result.now }
+        ensures numbered { (k g : ℕ) → k < length result.now → g < length (slot_at result.now k).held → g * self.now.lanes + self.now.lane < 2 ^ 32 }
     {
         self.table.as_slice()
     }
@@ -211,6 +214,26 @@ impl Cascade {
             slots,
             first_reader_of(slots, place, place, grain / self.lanes as u32),
         )
+    }
+
+    /// The least grain of the lane, by its number, that the slot lacks, and None exactly where it lacks none. An old slot lacks
+    /// none.
+    pub fn next_lacking(&self, slot: SlotId) -> Option<u32>
+        requires { IsThere self.now.sheet.slots slot }
+        ensures { (k : ℕ) → birth_place self.now.sheet.slots slot.0 ≡ Some k → result ≡ option_map (number_in self.now) (first_below (lacks (slot_at self.now.sheet.slots k)) (length (slot_at self.now.sheet.slots k).held)) }
+    {
+        let place = next::next_lacking(self.slots(), self.place_of(slot));
+        number_of(self.lane, self.lanes, place)
+    }
+
+    /// The least grain of the lane, by its number, at which another slot needs the slot, and None exactly where there is
+    /// none.
+    pub fn next_needed(&self, slot: SlotId) -> Option<u32>
+        requires { IsThere self.now.sheet.slots slot }
+        ensures { (k : ℕ) → birth_place self.now.sheet.slots slot.0 ≡ Some k → result ≡ option_map (number_in self.now) (first_below (is_needed_at self.now.sheet.slots k) (length (slot_at self.now.sheet.slots k).held)) }
+    {
+        let place = next::next_needed(self.slots(), self.place_of(slot));
+        number_of(self.lane, self.lanes, place)
     }
 
     /// The slot got its own copy of the grain; in place its volume's physical grain was the copy already.

@@ -3,8 +3,8 @@
 //!
 //! A `Cascade` is seen as the lane's sheet of slots (`fc_base`, `specs/Sheet`), which always has the facts
 //! of `specs/SheetFacts`, with each chain in one place (`specs/Contiguous`), so that a walk ends with its chain.
-//! Each call is its definition: `holder`, `needer`, `held_count`, `need_count`, `direct`, `unneeded` and `used`
-//! are those of `specs/Column`, `specs/Counts` and `specs/RestoreGraph`; `plan` gives the moves of `specs/Moves` in
+//! Each call is its definition: `holder`, `needer`, `next_lacking`, `next_needed`, `held_count`, `need_count`, `direct`,
+//! `unneeded` and `used` are those of `specs/Column`, `specs/Counts` and `specs/RestoreGraph`; `plan` gives the moves of `specs/Moves` in
 //! their order, each once, and needs room for one move a volume; `moved`, `written` and `torn` change the pairs
 //! as `specs/SheetStep` says. `reserve` makes room for the slots that the events of a command can make
 //! (`specs/Room`); `apply` then does the events, one after the other, as `specs/SheetStep` says; `loop_of` tells the loop of
@@ -19,7 +19,7 @@
 //!
 //! To read: `slot` (one slot), `table` (all slots, with room for more), `split` (a chain in two), `room` and `events`
 //! (what commands do), `find` and `walk` (where slots stand, and who holds for whom), `index` and `directory` (where
-//! slots stand, in order), `plan` (what must move), `hold` (pairs), `waiting`, `tally`, `pairs` and `tallies` (counts),
+//! slots stand, in order), `next` (the next grain that a slot lacks or is needed at), `plan` (what must move), `hold` (pairs), `waiting`, `tally`, `pairs` and `tallies` (counts),
 //! `count`, `rows` (a trigger tried on a copy), `links` (which volumes are joined) and `loops` (the loop that is told), and
 //! `cascade`, which has the calls.
 #![tactic(auto)]
@@ -33,6 +33,7 @@ mod hold;
 mod index;
 mod links;
 mod loops;
+mod next;
 mod pairs;
 mod plan;
 mod room;

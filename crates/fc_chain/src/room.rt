@@ -1,7 +1,7 @@
 //! How many slots the events of a command can make, and of how many grains.
 
 ghost use Rattle.std.specs.Prelude.{◌≡◌, ◌<◌, ◌≤◌, IfSome, sum_by, All};
-ghost use Rattle.fc_chain.specs.Chains.{lane_grains};
+ghost use Rattle.fc_chain.specs.Chains.{AreNumbered, lane_grains};
 ghost use Rattle.fc_chain.specs.Room.{slots_made as made_by, grains_come};
 
 use fc_base::decision::LaneEvent;
@@ -9,7 +9,8 @@ use fc_base::decision::LaneEvent;
 /// How many of a volume's grains the lane has.
 pub(crate) fn grains_of_lane(lane: u8, lanes: u8, grains: u32) -> u32
     requires { lane < lanes }
-    ensures { result ≡ lane_grains lane lanes grains }
+    ensures value { result ≡ lane_grains lane lanes grains }
+    ensures numbered { AreNumbered lane lanes result }
 {
     let lanes = lanes as u64;
     ((grains as u64 + lanes - 1 - lane as u64) / lanes) as u32
@@ -41,7 +42,8 @@ pub(crate) fn slots_made(events: &[LaneEvent]) -> Option<usize>
 /// How many grains of the lane the volume has that comes with the event.
 fn grains_with(event: &LaneEvent, lane: u8, lanes: u8) -> u32
     requires { lane < lanes }
-    ensures { result ≡ grains_come (lane_grains lane lanes) event.now }
+    ensures value { result ≡ grains_come (lane_grains lane lanes) event.now }
+    ensures numbered { AreNumbered lane lanes result }
 {
     match event {
         LaneEvent::Make { grains, .. } => grains_of_lane(lane, lanes, *grains),
@@ -52,7 +54,8 @@ fn grains_with(event: &LaneEvent, lane: u8, lanes: u8) -> u32
 /// How many grains of the lane the largest volume has that comes with the events.
 pub(crate) fn widest(events: &[LaneEvent], lane: u8, lanes: u8) -> u32
     requires { lane < lanes }
-    ensures { All (λ e. grains_come (lane_grains lane lanes) e ≤ result) events.now }
+    ensures come { All (λ e. grains_come (lane_grains lane lanes) e ≤ result) events.now }
+    ensures numbered { AreNumbered lane lanes result }
 {
     let mut most = 0;
     for event in events {

@@ -23,3 +23,5 @@ pub mod WriteEntry
 pub mod WriteLane
 pub mod FillLane
 pub mod FillEntry
+pub mod Turning
+pub mod Turns

@@ -8,3 +8,4 @@ pub mod Reading
 pub mod StepsEnd
 pub mod WriteStep
 pub mod Entering
+pub mod Turns

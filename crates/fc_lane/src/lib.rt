@@ -10,7 +10,7 @@
 //! (one move of a grain: its slot gets its own copy, and what stands where a disk fails in the middle), `steps` (moves one
 //! after the other), `write_step` (the write after them), and `ending` (the entry that tells of them). Then the calls of
 //! `lane`, by file: `new` (a lane begins), `rooms` (memory for the next entry), `events` (a command), `read`, `write`,
-//! `fill` (copies and cleanings), and `asking` (what a lane tells).
+//! `fill` (copies and cleanings), `turn` (background work), and `asking` (what a lane tells).
 #![tactic(auto)]
 
 mod access;
@@ -29,5 +29,6 @@ mod rooms;
 mod roomy;
 mod steps;
 mod stop;
+mod turn;
 mod write;
 mod write_step;

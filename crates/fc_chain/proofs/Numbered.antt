@@ -1,0 +1,43 @@
+-- The numbers of a lane's grains are numbers of 32 bits.
+use Rattle.std.proofs.Common.{◌≡◌, ℕ, ◌+◌, ◌-◌, ◌*◌, ◌/◌, ◌%◌, ◌^◌, ◌<◌, ◌≤◌, Option, Some, None, IfSome, List, length, max, sym, subst, arith, inl, inr}
+use Rattle.std.proofs.lemmas.Bool.{cases_lt}
+use Rattle.std.proofs.lemmas.Nat.{mul-le, div-add-mod'}
+use Rattle.fc_base.specs.Sheet.{Slot, slot_at}
+use Rattle.fc_chain.specs.Chains.{Chains, AreNumbered, lane_grains}
+
+row_more : (p n : ℕ) → (p + 1) * n ≡ p * n + n
+row_more p n = grind arith
+
+number_below : (i n p x : ℕ) → i < n → p < (x + n - 1 - i) / n → p * n + i < x
+number_below i n p x lt h =
+    let a : (p + 1) * n ≤ (x + n - 1 - i) / n * n = mul-le (p + 1) n ((x + n - 1 - i) / n) n (omega arith) (omega arith) in
+    let b : (x + n - 1 - i) / n * n + (x + n - 1 - i) % n ≡ x + n - 1 - i = div-add-mod' (x + n - 1 - i) n in
+    let c : (p + 1) * n ≡ p * n + n = row_more p n in
+    omega arith
+
+pub grains_numbered : (lane lanes grains r : ℕ) → lane < lanes → grains < 2 ^ 32 → r ≡ lane_grains lane lanes grains → AreNumbered lane lanes r
+grains_numbered lane lanes grains r i few e p lt =
+    let b : p < (grains + lanes - 1 - lane) / lanes = subst (λ z. p < z) e lt in
+    let h : p * lanes + lane < grains = number_below lane lanes p grains i b in
+    omega arith
+
+pub none_numbered : (lane lanes : ℕ) → AreNumbered lane lanes 0
+none_numbered lane lanes p lt = absurd (omega arith)
+
+pub wider_numbered : (lane lanes a b : ℕ) → AreNumbered lane lanes a → AreNumbered lane lanes b → AreNumbered lane lanes (max a b)
+wider_numbered lane lanes a b few more p lt =
+    elim (cases_lt p a) [
+      | inl low ↦ few p low
+      | inr high ↦ more p (omega arith)
+    ]
+
+pub slots_numbered : (lane lanes width : ℕ) (slots : List Slot) → AreNumbered lane lanes width → ((k : ℕ) → k < length slots → length (slot_at slots k).held ≤ width) →
+    (k g : ℕ) → k < length slots → g < length (slot_at slots k).held → g * lanes + lane < 2 ^ 32
+slots_numbered lane lanes width slots few wide k g kl lt = few g (let w : length (slot_at slots k).held ≤ width = wide k kl in omega arith)
+
+pub number_fits : (value : Chains) (lane lanes : ℕ) (slots : List Slot) (k : ℕ) (r : Option ℕ) → slots ≡ value.sheet.slots → k < length value.sheet.slots → lane ≡ value.lane → lanes ≡ value.lanes →
+    ((k g : ℕ) → k < length slots → g < length (slot_at slots k).held → g * value.lanes + value.lane < 2 ^ 32) → IfSome r (λ g. g < length (slot_at slots k).held) → IfSome r (λ g. g * lanes + lane < 2 ^ 32)
+number_fits value lane lanes slots k None e kl el es few lt = tt
+number_fits value lane lanes slots k (Some g) e kl el es few lt =
+    let at : k < length slots = subst (λ (z : List Slot). k < length z) (sym e) kl in
+    subst (λ z. g * lanes + z < 2 ^ 32) (sym el) (subst (λ z. g * z + value.lane < 2 ^ 32) (sym es) (few k g at lt))
