@@ -49,6 +49,7 @@ mod stopping;
 mod work;
 
 pub use control::Control;
+pub use work::{has_cleans, has_copies};
 
 #[cfg(test)]
 mod tests;

@@ -1,7 +1,7 @@
 //! Rates of background work: how many KiB a second a copy rate or a clean rate means, and the credit that a
 //! mapping saves up from second to second until it is worth a grain.
 //!
-//! `kib_per_second` is the table of rates, row for row; the table stands in `fc_base/specs/Rates.antt`.
+//! `kib_per_second` is the table of rates, row for row, and 0 past its last row; the table stands in `fc_base/specs/Rates.antt`.
 //! A `Credits` is a number of KiB: a second adds to it and never wraps, a grain is spent exactly where the credit
 //! reaches it, and clearing makes it 0. Nothing here takes memory.
 //!
@@ -13,13 +13,15 @@ ghost use Rattle.fc_base.specs.Rates.{kib_of_rate};
 
 use std::marker::Model;
 
-/// The KiB per second that a copy rate or clean rate of 0 to 150 means: none at 0, 128 for rates 1 to 10, and twice
-/// as much for each further ten.
+/// The last rate of the table.
+const LAST_RATE: u8 = 150;
+
+/// The KiB per second that a copy rate or clean rate means: none at 0, 128 for rates 1 to 10, and twice as much for each
+/// further ten; none past 150, the last rate.
 pub fn kib_per_second(rate: u8) -> u32
-    requires { rate ≤ 150 }
     ensures { result ≡ kib_of_rate rate }
 {
-    if rate == 0 {
+    if rate == 0 || LAST_RATE < rate {
         return 0;
     }
     let doublings = (rate - 1) / 10;
@@ -99,9 +101,10 @@ mod tests {
             (140, 1_048_576),
             (141, 2_097_152),
             (150, 2_097_152),
+            (151, 0),
+            (255, 0),
         ];
         for (rate, kib) in table {
-            assert!(rt; rate <= 150);
             assert_eq!(rt; kib_per_second(rate), kib, "at {rate}");
         }
     }

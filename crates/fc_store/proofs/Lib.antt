@@ -26,3 +26,8 @@ pub mod CommandPhases
 pub mod Planning
 pub mod CommandRuns
 pub mod AskedSheet
+pub mod LeastNumbers
+pub mod LeastGrain
+pub mod Passing
+pub mod Working
+pub mod Filling

@@ -35,7 +35,7 @@ roomy v plan entry = record v { plan_room = plan; entry_room = entry }
 -- The lane of a grain, at its place, with some room.
 module _ (s : StoreView) (w : Whole) (g place : ℕ) (old ready : LaneView) (plan entry_room : ℕ)
     (stands : StandsFor s w) (at : place ≡ g % length s.lanes) (is_old : old ≡ slice_index_or s.lanes place old) (is_ready : ready ≡ roomy old plan entry_room) where
-  place_is : place ≡ lane_of_grain w g
+  pub place_is : place ≡ lane_of_grain w g
   place_is = at ∙ ap (λ n. g % n) stands.count
 
   pub inside : place < length s.lanes

@@ -9,3 +9,5 @@ pub mod Dealing
 pub mod Phase
 pub mod Effects
 pub mod Settling
+pub mod Working
+pub mod Passing

@@ -1,0 +1,54 @@
+-- The grain has something to do in its lane, and its entry is right.
+use Rattle.std.proofs.Common.{◌≡◌, ◌%◌, ◌<◌, length, slice_index_or, slice_set, subst, sym, ◌∙◌, ap, arith}
+use Rattle.fc_lane.specs.Lane.{LaneView}
+use Rattle.fc_legal.specs.Seconds.{next_grain}
+use Rattle.fc_store.specs.Dealing.{disks_in}
+use Rattle.fc_store.specs.Passing.{Filled}
+use Rattle.fc_store.specs.Store.{StandsFor, StoreView}
+use Rattle.fc_store.proofs.Filling.{can_fill, of_lane, fill_turn, filled_as, history_full}
+use Rattle.fc_store.proofs.Parting.{inside}
+use Rattle.fc_store.proofs.Ranging.{disks_stay}
+use Rattle.fc_store.proofs.store.Store.fill.Goals as goal
+
+pub returns-then-is_full-clause-filled : goal.returns-then-is_full-clause-filled
+returns-then-is_full-clause-filled g c = λ w told.
+    history_full (StandsFor c.args.self.now) w c.args.history.now told c.requires.room (omega (arith, c.if-is_full.ensures.full))
+
+pub fill_lane-entry-requires-clause-can : goal.fill_lane-entry-requires-clause-can
+fill_lane-entry-requires-clause-can g c =
+    let same : c.args.self.now ≡ record { control = c.self.inside.control; lanes = c.self.inside.lanes.items } = sym c.self.view_is in
+    let many : c.len.result ≡ length c.self.inside.lanes.items = omega (arith, c.len.ensures) in
+    can_fill c.args.self.now c.requires.stands.0 c.args.grain (c.args.grain.0 % c.len.result) c.index_mut-lane.result.now c.make_room.new.self
+    c.make_room.new.self.plan_room c.make_room.new.self.entry_room c.requires.stands.1.0
+    (ap (λ n. c.args.grain.0 % n) (many ∙ ap (λ (s : StoreView). length s.lanes) (sym same)))
+    (c.index_mut-lane.ensures.value ∙ ap (λ (s : StoreView). slice_index_or s.lanes (c.args.grain.0 % c.len.result) c.index_mut-lane.result.now) (sym same))
+    c.in-Ok.ensures.same
+    c.args.work.now (c.requires.next c.requires.stands.0 c.requires.stands.1.0)
+
+pub fill_lane-entry-requires-clause-of_lane : goal.fill_lane-entry-requires-clause-of_lane
+fill_lane-entry-requires-clause-of_lane g c =
+    let same : c.args.self.now ≡ record { control = c.self.inside.control; lanes = c.self.inside.lanes.items } = sym c.self.view_is in
+    let many : c.len.result ≡ length c.self.inside.lanes.items = omega (arith, c.len.ensures) in
+    of_lane c.args.self.now c.requires.stands.0 c.args.grain (c.args.grain.0 % c.len.result) c.index_mut-lane.result.now c.make_room.new.self
+    c.make_room.new.self.plan_room c.make_room.new.self.entry_room c.requires.stands.1.0
+    (ap (λ n. c.args.grain.0 % n) (many ∙ ap (λ (s : StoreView). length s.lanes) (sym same)))
+    (c.index_mut-lane.ensures.value ∙ ap (λ (s : StoreView). slice_index_or s.lanes (c.args.grain.0 % c.len.result) c.index_mut-lane.result.now) (sym same))
+    c.in-Ok.ensures.same
+
+pub returns-clause-filled : goal.returns-clause-filled
+returns-clause-filled g c = λ w told.
+    let same : c.args.self.now ≡ record { control = c.self.inside.control; lanes = c.self.inside.lanes.items } = sym c.self.view_is in
+    let many : c.len.result ≡ length c.self.inside.lanes.items = omega (arith, c.len.ensures) in
+    let left = fill_turn c.args.self.now w c.args.grain (c.args.grain.0 % c.len.result) c.index_mut-lane.result.now c.make_room.new.self
+    c.make_room.new.self.plan_room c.make_room.new.self.entry_room told.0
+    (ap (λ n. c.args.grain.0 % n) (many ∙ ap (λ (s : StoreView). length s.lanes) (sym same)))
+    (c.index_mut-lane.ensures.value ∙ ap (λ (s : StoreView). slice_index_or s.lanes (c.args.grain.0 % c.len.result) c.index_mut-lane.result.now) (sym same))
+    c.in-Ok.ensures.same
+    c.args.work.now _ c.fill_lane-entry.result c.fill_lane-entry.new.lane (c.requires.next w told.0)
+    c.fill_lane-entry.ensures.right c.fill_lane-entry.ensures.asked c.fill_lane-entry.ensures.same
+    (omega arith) (told.1 ∙ sym c.len-number.ensures) in
+    let Stands : StoreView → Type 0 = λ s. Filled c.log_fill.result (StandsFor (record s { lanes = slice_set s.lanes (c.args.grain.0 % c.len.result) c.fill_lane-entry.new.lane })) c.args.self.now.control.grain w
+    c.args.work.now c.args.grain c.args.history.now c.log_fill.new.history in
+    subst Stands same
+    (filled_as c.log_fill.result (StandsFor (record c.args.self.now { lanes = slice_set c.args.self.now.lanes (c.args.grain.0 % c.len.result) c.fill_lane-entry.new.lane }))
+    c.args.self.now.control.grain w _ c.args.work.now c.args.grain c.args.history.now c.log_fill.new.history c.fill_lane-entry.result left told.1 c.log_fill.ensures.ok c.log_fill.ensures.err c.log_fill.ensures.stop)
