@@ -1,11 +1,12 @@
 //! The one owner of the store: reads each line by the grammar, and has the store answer it.
 
 ghost use Rattle.std.specs.Prelude.{◌≡◌, ◌≤◌, length, Ok};
+ghost use Rattle.fc_store.specs.Quiet.{QuietBy};
 ghost use Rattle.fc_legal.specs.Asked.{asked};
 ghost use Rattle.fc_legal.specs.Run.{by_main};
 ghost use Rattle.fc_legal.specs.Whole.{Whole};
 ghost use Rattle.fc_run.specs.Reading.{as_built};
-ghost use Rattle.fc_store.specs.Answering.{Answered, IsTold, TellsSome};
+ghost use Rattle.fc_store.specs.Answering.{Answered, IsTold, TellsSome, StaysUp};
 ghost use Rattle.fc_store.specs.Dealing.{disks_in};
 ghost use Rattle.fc_store.specs.Store.{StandsFor};
 
@@ -35,6 +36,8 @@ impl<D: Mdisk> LineStore for Owner<D> {
 
     ghost disks = { λ owner. disks_in owner.store.lanes };
 
+    ghost Quiet = { λ owner entries. QuietBy entries owner.store.lanes };
+
     ghost Stands = { λ owner w. StandsFor owner.store w };
 
     fn answer(&mut self, line: &[u8], history: &mut History) -> Result<(), Stop> {
@@ -59,6 +62,7 @@ fn answer_line<D: Mdisk>(
         (by_main (asked store.old.control.grain w.books (as_built (Ok line)))) history.old history.new }
     ensures grain { store.new.control.grain ≡ store.old.control.grain }
     ensures disks { disks_in store.new.lanes ≡ disks_in store.old.lanes }
+    ensures quiet { QuietBy history.old.entries store.old.lanes → StaysUp result (QuietBy history.new.entries store.new.lanes) }
     ensures limit { length history.new.entries ≤ 262144 }
 {
     if is_built(&line) {
