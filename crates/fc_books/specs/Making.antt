@@ -17,7 +17,7 @@ use Rattle.fc_base.specs.declared.volume.Volume.{Volume}
 use Rattle.fc_books.specs.Accesses.{is_stopped}
 use Rattle.fc_books.specs.Books.{Books, Deed, told}
 use Rattle.fc_books.specs.Groups.{members}
-use Rattle.fc_entry.specs.Told.{unit_bytes, kind_of, volume_name}
+use Rattle.fc_entry.specs.Volumes.{unit_bytes, kind_of, volume_name}
 
 -- ---- volumes
 

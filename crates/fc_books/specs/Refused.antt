@@ -23,7 +23,7 @@ use Rattle.fc_books.specs.Copies.{is_used}
 use Rattle.fc_books.specs.Groups.{members, group_state, is_none_of, some_in}
 use Rattle.fc_books.specs.Making.{mapping_name, group_name}
 use Rattle.fc_entry.specs.Refused.{first_of, where_, taken_by, lacks_disk, all_grains, blocks_refusal}
-use Rattle.fc_entry.specs.Told.{unit_bytes, kind_of, volume_name}
+use Rattle.fc_entry.specs.Volumes.{unit_bytes, kind_of, volume_name}
 
 -- ---- what a reference names
 

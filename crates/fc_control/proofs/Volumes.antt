@@ -28,7 +28,7 @@ use Rattle.fc_books.specs.Work.{work_events}
 use Rattle.fc_control.specs.Names.{name_or}
 use Rattle.fc_control.specs.Volumes.{volume_refused, size_refused, or_else}
 use Rattle.fc_entry.specs.Refused.{first_of, where_, lacks_disk, all_grains}
-use Rattle.fc_entry.specs.Told.{unit_bytes, kind_of, volume_name}
+use Rattle.fc_entry.specs.Volumes.{unit_bytes, kind_of, volume_name}
 
 -- ---- disks
 

@@ -10,7 +10,7 @@ use Rattle.fc_base.specs.declared.size.GrainSize.{GrainSize}
 use Rattle.fc_books.specs.Books.{Books}
 use Rattle.fc_books.specs.Refused.{name_taken}
 use Rattle.fc_entry.specs.Refused.{first_of, where_, lacks_disk, all_grains}
-use Rattle.fc_entry.specs.Told.{kind_of}
+use Rattle.fc_entry.specs.Volumes.{kind_of}
 
 -- For its size.
 abbrev pub size_refused : GrainSize → Tables → ℕ → Option Refusal

@@ -9,7 +9,7 @@ ghost use Rattle.fc_books.specs.Making.{make_volume};
 ghost use Rattle.fc_control.specs.Control.{books_of};
 ghost use Rattle.fc_control.specs.Volumes.{volume_refused, size_refused};
 ghost use Rattle.fc_entry.specs.Refused.{all_grains, lacks_disk, where_};
-ghost use Rattle.fc_entry.specs.Told.{unit_bytes, kind_of};
+ghost use Rattle.fc_entry.specs.Volumes.{unit_bytes, kind_of};
 
 use crate::control::Control;
 use crate::draft::Draft;

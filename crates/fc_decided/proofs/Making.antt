@@ -29,7 +29,7 @@ use Rattle.fc_books.specs.Refused.{mkvdisk_refused, name_taken}
 use Rattle.fc_books.specs.Sound.{AreTables, Agree, IsOfTables, HasGrains}
 use Rattle.fc_entry.specs.Picture.{PlainVolume, Picture, zeros}
 use Rattle.fc_entry.specs.Refused.{where_, lacks_disk, all_grains}
-use Rattle.fc_entry.specs.Told.{unit_bytes, kind_of, volume_name}
+use Rattle.fc_entry.specs.Volumes.{unit_bytes, kind_of, volume_name}
 use Rattle.fc_legal.specs.Stands.{ArePlain, Stands}
 use Rattle.fc_legal.specs.Whole.{Whole, volume_told}
 use Rattle.fc_rules.specs.LaneTold.{LaneVolume}

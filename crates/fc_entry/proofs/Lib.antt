@@ -1,7 +1,5 @@
--- Lemmas, one subject a file.
-pub mod Appending
-pub mod LineLemmas
 -- Lemmas and closed examples, one subject a file.
+pub mod LineLemmas
 pub mod TextExamples
 pub mod WrittenLemmas
 pub mod JoinLemmas

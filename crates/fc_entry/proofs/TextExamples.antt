@@ -1,5 +1,5 @@
 -- The texts of replies, refusals and faults, and of a whole history, on closed examples written by hand.
-use Rattle.std.proofs.Common.{◌≡◌, ℕ, List, [], ◌∷◌, ◌++◌, map, true, false, Some, None, codes, refl}
+use Rattle.std.proofs.Common.{◌≡◌, ℕ, List, [], ◌∷◌, ◌++◌, map, false, Some, None, codes, refl}
 use Rattle.std.specs.Fmt.{digits}
 use Rattle.fc_base.specs.declared.command.Command.TheVariants.{Mkvdisk, Lsvdisk}
 use Rattle.fc_base.specs.declared.fault.Kind.TheVariants.{Vdisk, Fcmap, Group}

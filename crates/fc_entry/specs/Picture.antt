@@ -1,5 +1,5 @@
 -- What plain volumes hold: whole volumes as lists of grains, without chains and bitmaps.
-use Rattle.std.specs.Prelude.{ℕ, ◌+◌, ◌*◌, ◌/◌, ◌%◌, ◌==◌, cond, List, [], ◌∷◌, ◌++◌, take, drop, map, replicate, slice_index_or, Option, Some, None}
+use Rattle.std.specs.Prelude.{ℕ, ◌+◌, ◌*◌, ◌/◌, ◌%◌, Bool, true, false, ◌==◌, cond, List, [], ◌∷◌, ◌++◌, take, drop, map, replicate, slice_index_or, Option, Some, None}
 use Rattle.fc_base.specs.Grain.{block_bytes, grain_bytes, grain_blocks}
 use Rattle.fc_base.specs.declared.ids.VolId.{VolId}
 use Rattle.fc_base.specs.declared.size.GrainSize.{GrainSize}
@@ -8,6 +8,11 @@ use Rattle.fc_base.specs.declared.size.GrainSize.{GrainSize}
 pub data Content : Type 0 where
   Bytes : List ℕ → Content
   Lost : Content
+
+-- whether a grain is lost
+abbrev pub is_lost : Content → Bool
+is_lost (Bytes _) = false
+is_lost Lost = true
 
 -- a volume: what it holds now, and what it held before its last trigger as a target
 pub record PlainVolume : Type 0 where

@@ -1,6 +1,5 @@
 -- What an entry does to plain volumes.
-use Rattle.std.specs.Prelude.{ℕ, ◌+◌, ◌*◌, Bool, ◌==◌, ◌&&◌, not, nat_le, cond, List, [], ◌∷◌, ◌++◌, map, filter, replicate, slice_set, Option, Some, None}
-use Rattle.std.specs.List.{list_any}
+use Rattle.std.specs.Prelude.{ℕ, ◌+◌, ◌*◌, ◌==◌, not, cond, List, [], ◌∷◌, ◌++◌, map, filter, replicate, slice_set, Option, Some, None}
 use Rattle.fc_base.specs.Grain.{block_bytes}
 use Rattle.fc_base.specs.Ranges.{is_kept}
 use Rattle.fc_base.specs.declared.ids.VolId.{VolId}
@@ -94,11 +93,3 @@ after_loss picture (Some torn) = changed_at torn.volume (after_torn torn) pictur
 abbrev pub plain_step : GrainSize → Picture → Entry → Picture
 plain_step grain picture entry =
     after_effects grain (after_loss (after_request grain picture entry.request entry.reply) entry.torn) entry.effects
-
--- what plain volumes hold after these entries, from no volumes
-abbrev pub plain_from : GrainSize → Picture → List Entry → Picture
-plain_from grain picture [] = picture
-plain_from grain picture (entry ∷ entries) = plain_from grain (plain_step grain picture entry) entries
-
-abbrev pub plain_after : GrainSize → List Entry → Picture
-plain_after grain entries = plain_from grain [] entries

@@ -1,10 +1,10 @@
 //! Entries, the history that holds them in order of number, and their text.
 //!
 //! An entry is one atomic step: what was asked by whom, what was answered, and what it cost. The history only
-//! grows. Beside them, in `specs/`, stand the definitions that the main theorem is made of: what plain volumes
-//! hold after a history (`Picture`, `PlainStep`), what a read may answer (`Reads`), what a history tells
-//! (`Told`), when an entry is right after what was told (`Right`), when a history is legal (`Legal`), what the
-//! lines of a session ask (`Lines`, `Asked`, `Run`), and how an entry is printed (`Text`).
+//! grows. Beside them, in `specs/`, stand the definitions of what histories hold: what plain volumes hold after an
+//! entry (`Picture`, `PlainStep`), what a read may answer (`Reads`), the calls of a write (`Writes`), what a new
+//! volume is (`Volumes`), refusals (`Refused`), the lines of a session's bytes (`Lines`), and how an entry is printed
+//! (`Text`). When a history is legal is said in fc_legal.
 //!
 //! `put_entry`, `put_history` and `put_command` write exactly that text to a sink, without memory; where a call of
 //! the sink fails, a front of the text was written, and they answer so (`Written`).

@@ -11,8 +11,7 @@ use Rattle.fc_base.specs.declared.disk.DiskError.{DiskError}
 use Rattle.fc_base.specs.declared.disk.DiskError.TheVariants.{Failed, NoMemory}
 use Rattle.fc_base.specs.declared.size.GrainSize.{GrainSize}
 use Rattle.fc_mdisk.specs.Disk.{DiskState, AfterCall, AfterRead, AfterWrite, GrainAfter, MayAnswer, grain_at, write_failed, armed as disk_armed}
-use Rattle.fc_entry.specs.Picture.{Content, Bytes, Lost}
-use Rattle.fc_entry.specs.Right.{is_lost}
+use Rattle.fc_entry.specs.Picture.{Content, Bytes, Lost, is_lost}
 use Rattle.fc_grains.specs.Calls.{CallsOnce, HasRead, HasWritten}
 use Rattle.fc_grains.specs.Grains.{GrainsState, one_if_silent, stopped}
 use Rattle.fc_grains.specs.Kept.{AddUp, IsKept, all_disks, state_of}

@@ -1,8 +1,7 @@
 -- What the grains of a disk hold, with their marks.
 use Rattle.std.proofs.Common.{◌≡◌, ℕ, zero, suc, ◌<◌, Bool, true, false, List, [], ◌∷◌, length, replicate, slice_set, slice_index_or, refl, ap, arith}
 use Rattle.fc_mdisk.specs.Disk.{grain_at}
-use Rattle.fc_entry.specs.Picture.{Content, Bytes, Lost, content_at}
-use Rattle.fc_entry.specs.Right.{is_lost}
+use Rattle.fc_entry.specs.Picture.{Content, Bytes, Lost, content_at, is_lost}
 use Rattle.fc_grains.specs.Parts.{content, contents}
 
 pub length-contents : (lost : List Bool) (grains : List (List ℕ)) → length lost ≡ length grains → length (contents lost grains) ≡ length lost

@@ -1,8 +1,7 @@
 //! Reads, writes and copies of grains.
 
 ghost use Rattle.std.specs.Prelude.{◌≡◌, ◌<◌, false, length, is_err};
-ghost use Rattle.fc_entry.specs.Picture.{Lost};
-ghost use Rattle.fc_entry.specs.Right.{is_lost};
+ghost use Rattle.fc_entry.specs.Picture.{Lost, is_lost};
 ghost use Rattle.fc_grains.specs.Calls.{HasRead, HasWritten, HasCopied};
 ghost use Rattle.fc_grains.specs.Volumes.{volume_of, stored, changed, holding};
 

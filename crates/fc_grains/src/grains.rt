@@ -3,8 +3,7 @@
 ghost use Rattle.std.specs.Prelude.{◌≡◌, ◌+◌, ◌^◌, ◌<◌, ◌≤◌, ◌++◌, ℕ, List, true, length, take, drop, replicate};
 ghost use Rattle.fc_base.specs.Grain.{grain_bytes};
 ghost use Rattle.fc_base.specs.Pools.{of_kind};
-ghost use Rattle.fc_entry.specs.Picture.{Bytes};
-ghost use Rattle.fc_entry.specs.Right.{is_lost};
+ghost use Rattle.fc_entry.specs.Picture.{Bytes, is_lost};
 ghost use Rattle.fc_grains.specs.Volumes.{is_there, volume_of, stored};
 
 use crate::find::place_of;

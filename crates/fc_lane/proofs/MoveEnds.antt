@@ -10,8 +10,7 @@ use Rattle.fc_base.specs.declared.request.Move.{Move}
 use Rattle.fc_base.specs.declared.request.Side.TheVariants.{Under}
 use Rattle.fc_base.specs.declared.request.Torn.{Torn}
 use Rattle.fc_chain.specs.Chains.{Chains}
-use Rattle.fc_entry.specs.Picture.{Content, Bytes, Lost}
-use Rattle.fc_entry.specs.Right.{is_lost}
+use Rattle.fc_entry.specs.Picture.{Content, Bytes, Lost, is_lost}
 use Rattle.fc_grains.specs.Grains.{GrainsState}
 use Rattle.fc_grains.specs.declared.copy_error.CopyError.{CopyError}
 use Rattle.fc_grains.specs.Calls.{HasRead, HasWritten, HasCopied}

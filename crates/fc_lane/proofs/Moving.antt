@@ -8,8 +8,7 @@ use Rattle.fc_base.specs.Sheet.{Sheet, slot_at, column}
 use Rattle.fc_base.specs.SheetFacts.{IsSound}
 use Rattle.fc_base.specs.declared.disk.DiskError.{DiskError}
 use Rattle.fc_base.specs.declared.disk.DiskError.TheVariants.{Failed, NoMemory}
-use Rattle.fc_entry.specs.Picture.{Content, Bytes, Lost}
-use Rattle.fc_entry.specs.Right.{is_lost}
+use Rattle.fc_entry.specs.Picture.{Content, Bytes, Lost, is_lost}
 use Rattle.fc_grains.specs.Calls.{HasRead, HasWritten}
 use Rattle.fc_grains.specs.Grains.{GrainsState}
 use Rattle.fc_grains.proofs.Quiet.{quiet_read, quiet_written}

@@ -7,7 +7,7 @@ use Rattle.fc_base.specs.declared.request.Torn.{Torn}
 use Rattle.fc_base.specs.declared.request.WritePart.{WritePart}
 use Rattle.fc_chain.specs.Chains.{Chains}
 use Rattle.fc_entry.specs.Picture.{grain_of_block}
-use Rattle.fc_entry.specs.Right.{calls_of_write}
+use Rattle.fc_entry.specs.Writes.{calls_of_write}
 use Rattle.fc_grains.specs.Grains.{GrainsState}
 use Rattle.fc_lane.specs.Standing.{Stands}
 use Rattle.fc_lane.specs.StepsEnd.{CanMakeMoves, StepsEnd, StepsStand, StoppedIn, torn_in}

@@ -19,8 +19,8 @@ use Rattle.fc_base.specs.declared.state.Access.TheVariants.{Online}
 use Rattle.fc_chain.specs.Chains.{Chains}
 use Rattle.fc_chain.specs.Planning.{volume_count}
 use Rattle.fc_chain.proofs.Whole.{fits_short}
-use Rattle.fc_entry.specs.Picture.{grain_of_block}
-use Rattle.fc_entry.specs.Right.{is_lost, is_whole}
+use Rattle.fc_entry.specs.Picture.{grain_of_block, is_lost}
+use Rattle.fc_entry.specs.Writes.{is_whole}
 use Rattle.fc_entry.specs.declared.entry.Entry.{Entry}
 use Rattle.fc_entry.specs.declared.entry.Past.{Past}
 use Rattle.fc_entry.specs.declared.entry.Past.TheVariants.{Step}

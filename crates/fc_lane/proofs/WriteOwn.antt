@@ -18,8 +18,8 @@ use Rattle.fc_base.specs.declared.request.Torn.{Torn}
 use Rattle.fc_base.specs.declared.request.WritePart.{WritePart}
 use Rattle.fc_base.specs.declared.size.GrainSize.{GrainSize}
 use Rattle.fc_chain.specs.Chains.{Chains, found}
-use Rattle.fc_entry.specs.Picture.{Content, Bytes, Lost, byte_in_grain, grain_of_block, written}
-use Rattle.fc_entry.specs.Right.{calls_of_write, is_lost, is_whole}
+use Rattle.fc_entry.specs.Picture.{Content, Bytes, Lost, byte_in_grain, grain_of_block, written, is_lost}
+use Rattle.fc_entry.specs.Writes.{calls_of_write, is_whole}
 use Rattle.fc_grains.specs.Calls.{HasWritten}
 use Rattle.fc_grains.specs.Grains.{GrainsState}
 use Rattle.fc_grains.specs.Volumes.{is_there, volume_of, stored}

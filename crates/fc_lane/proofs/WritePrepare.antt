@@ -7,7 +7,7 @@ use Rattle.fc_base.specs.declared.request.WritePart.{WritePart}
 use Rattle.fc_base.specs.declared.size.GrainSize.{GrainSize}
 use Rattle.fc_base.specs.declared.size.GrainSize.TheVariants.{K64, K256}
 use Rattle.fc_entry.specs.Picture.{Content, Bytes, Lost, byte_in_grain, written}
-use Rattle.fc_entry.specs.Right.{is_whole}
+use Rattle.fc_entry.specs.Writes.{is_whole}
 use Rattle.fc_grains.specs.Calls.{HasRead}
 use Rattle.fc_grains.specs.Grains.{GrainsState}
 use Rattle.fc_grains.specs.Volumes.{is_there, stored}

@@ -11,7 +11,7 @@ use Rattle.fc_base.specs.declared.request.Move.{Move}
 use Rattle.fc_base.specs.declared.request.Side.TheVariants.{Under}
 use Rattle.fc_base.specs.declared.request.Torn.{Torn}
 use Rattle.fc_chain.specs.Chains.{Chains}
-use Rattle.fc_entry.specs.Picture.{Lost}
+use Rattle.fc_entry.specs.Picture.{Lost, is_lost}
 use Rattle.fc_grains.specs.Grains.{GrainsState}
 use Rattle.fc_grains.specs.Quiet.{IsQuiet}
 use Rattle.fc_grains.specs.Volumes.{VolumeGrains, is_there, volume_of, stored}
@@ -19,7 +19,6 @@ use Rattle.fc_lane.specs.Parts.{kind_of_grains}
 use Rattle.fc_lane.specs.declared.stop.Stop.{Stop}
 use Rattle.fc_lane.specs.declared.stop.Stop.TheVariants.{Failed, NoMemory}
 use Rattle.fc_pictures.specs.Law.{StoredAt, StoredMoved}
-use Rattle.fc_entry.specs.Right.{is_lost}
 
 -- ---- counts
 

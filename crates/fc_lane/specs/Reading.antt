@@ -8,7 +8,7 @@ use Rattle.fc_base.specs.declared.request.ReadPart.{ReadPart}
 use Rattle.fc_base.specs.declared.request.Reply.{Reply}
 use Rattle.fc_base.specs.declared.request.Request.TheVariants.{Read}
 use Rattle.fc_chain.specs.Chains.{Chains}
-use Rattle.fc_entry.specs.Right.{is_lost}
+use Rattle.fc_entry.specs.Picture.{is_lost}
 use Rattle.fc_entry.specs.declared.entry.Entry.{Entry}
 use Rattle.fc_grains.specs.Calls.{HasRead}
 use Rattle.fc_grains.specs.Grains.{GrainsState}

@@ -11,7 +11,7 @@ use Rattle.fc_base.specs.declared.request.WritePart.{WritePart}
 use Rattle.fc_base.specs.declared.size.GrainSize.{GrainSize}
 use Rattle.fc_chain.specs.Chains.{Chains}
 use Rattle.fc_entry.specs.Picture.{Content, Bytes, written, byte_in_grain, grain_of_block}
-use Rattle.fc_entry.specs.Right.{calls_of_write, is_whole}
+use Rattle.fc_entry.specs.Writes.{calls_of_write, is_whole}
 use Rattle.fc_grains.specs.Grains.{GrainsState}
 use Rattle.fc_grains.specs.Volumes.{stored}
 use Rattle.fc_lane.specs.Moving.{Counted, SameLane}

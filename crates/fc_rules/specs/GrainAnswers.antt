@@ -11,7 +11,7 @@ use Rattle.fc_base.specs.declared.state.Access.{Access}
 use Rattle.fc_base.specs.declared.state.Access.TheVariants.{Online, Offline as IsOffline, NotAccessible as IsNotAccessible}
 use Rattle.fc_entry.specs.Picture.{byte_in_grain}
 use Rattle.fc_entry.specs.Reads.{IsRightIn}
-use Rattle.fc_entry.specs.Right.{is_whole}
+use Rattle.fc_entry.specs.Writes.{is_whole}
 use Rattle.fc_entry.specs.declared.entry.Entry.{Entry}
 use Rattle.fc_rules.specs.Spot.{Spot, is_lost}
 use Rattle.fc_rules.specs.Steps.{HasDone, HasDoneNothing, HasFailed, HasNoMemory, steps_of_fill, steps_of_write}

@@ -9,7 +9,7 @@ use Rattle.fc_base.specs.declared.request.Side.TheVariants.{Now, Under}
 use Rattle.fc_base.specs.declared.request.Torn.{Torn}
 use Rattle.fc_base.specs.declared.request.WritePart.{WritePart}
 use Rattle.fc_base.specs.declared.size.GrainSize.{GrainSize}
-use Rattle.fc_entry.specs.Right.{calls_of_write}
+use Rattle.fc_entry.specs.Writes.{calls_of_write}
 use Rattle.fc_entry.specs.declared.entry.Entry.{Entry}
 use Rattle.fc_rules.specs.Spot.{Spot, is_lost, move_in}
 

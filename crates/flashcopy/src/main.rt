@@ -13,8 +13,8 @@ use fc_io::std_source::StdSource;
 use fc_mdisk::mdisk::Mdisk;
 use fc_mdisk::mem::MemDisk;
 use fc_mdisk::thin::ThinDisk;
-use fc_session::flashcopy::flashcopy;
-use fc_session::gate::FreeGate;
+use fc_top::flashcopy::flashcopy;
+use fc_top::gate::FreeGate;
 use std::env;
 use std::process::ExitCode;
 

@@ -1,14 +1,17 @@
 //! A session over memory.
 
-ghost use Rattle.std.specs.Prelude.{◌<◌};
+ghost use Rattle.std.specs.Prelude.{◌<◌, ◌^◌, map, vec_len};
+ghost use Rattle.std.specs.List.{All};
+ghost use Rattle.fc_mdisk.specs.Disk.{IsFresh};
 
 use fc_entry::history::History;
 use fc_io::mem_sink::MemSink;
 use fc_io::mem_source::MemSource;
+use fc_mdisk::mdisk::Mdisk;
 use fc_mdisk::mem::MemDisk;
-use fc_session::flashcopy::flashcopy_over;
-use fc_session::gate::FreeGate;
-use fc_session::status::Status;
+use fc_run::status::Status;
+use fc_top::flashcopy::flashcopy_over;
+use fc_top::gate::FreeGate;
 use std::alloc::{AllocError, Global};
 
 /// What came of a session.
@@ -24,20 +27,21 @@ pub struct Outcome {
     pub disks: usize,
 }
 
-/// Runs a session over one flat disk at grain 64, read in pieces of so many bytes, with failing calls.
-pub fn run(
+/// Runs a session over these disks at grain 64, read in pieces of so many bytes, with failing calls.
+pub fn run_over(
     alloc: Global,
+    mut disks: Vec<MemDisk>,
     session: &[u8],
     piece: usize,
     failing_takes: Vec<u64>,
     failing_puts: Vec<u64>,
 ) -> Result<Outcome, AllocError>
-    requires { 0 < piece }
+    requires piece { 0 < piece }
+    requires few { vec_len disks < 2 ^ 30 }
+    requires fresh { All IsFresh (map ⟦<MemDisk as Mdisk>⟧.meaning disks.items) }
 {
     let mut source = MemSource::new(Vec::from_slice(alloc, session)?, piece, failing_takes);
     let mut sink = MemSink::new(alloc, failing_puts);
-    let mut disks: Vec<MemDisk> = Vec::new(alloc);
-    disks.push(MemDisk::new(alloc))?;
     let mut history = History::new(alloc);
     let words = ["run", "--grain", "64"];
     let status = flashcopy_over(
@@ -55,4 +59,23 @@ pub fn run(
         entries: history.len(),
         disks: disks.len(),
     })
+}
+
+/// Runs a session over one flat disk for each of the four lanes.
+pub fn run(
+    alloc: Global,
+    session: &[u8],
+    piece: usize,
+    failing_takes: Vec<u64>,
+    failing_puts: Vec<u64>,
+) -> Result<Outcome, AllocError>
+    requires { 0 < piece }
+{
+    let disks = vec![in alloc;
+        MemDisk::new(alloc),
+        MemDisk::new(alloc),
+        MemDisk::new(alloc),
+        MemDisk::new(alloc),
+    ]?;
+    run_over(alloc, disks, session, piece, failing_takes, failing_puts)
 }

@@ -1,8 +1,8 @@
 //! Sessions that end as they should, and such whose calls fail.
 
 use crate::longer::{all_answers, answers_within, first_lines, lines, session};
-use crate::sessions::run;
-use fc_session::status::Status;
+use crate::sessions::{run, run_over};
+use fc_run::status::Status;
 use std::alloc::AllocError;
 
 const FIRST_VOLUME: &[u8] = b"mkvdisk -name A -size 1\nwrite A 0 1 5a\nread A 0 2\n";
@@ -11,6 +11,41 @@ const TEXT: &[u8] = b"0 main mkvdisk -name A -size 1 -> Virtual Disk, id [0], su
 1 main write 0 0 1 5a -> ok
 2 main read 0 0 2 -> data 512*5a,512*00
 ";
+
+/// Faults that are armed and disarmed, and a second volume where the first has taken all disks.
+const ONE_VOLUME: &[u8] = b"mkvdisk -name A -size 64 -unit kb
+write A 0 1 11
+armfault A 1 1
+armfault A 0 1
+read A 0 1
+read A 0 1
+armfault A 0 1
+armfault A 0 0
+read A 0 1
+mkvdisk -size 1
+rmvdisk A
+mkvdisk -size 1
+";
+
+const ONE_VOLUME_TEXT: &[u8] =
+    b"0 main mkvdisk -name A -size 64 -unit kb -> Virtual Disk, id [0], successfully created
+1 main write 0 0 1 11 -> ok
+2 main armfault A 1 1 -> refused bad value of grain
+3 main armfault A 0 1 -> ok
+4 main read 0 0 1 -> disk fault
+5 main read 0 0 1 -> data 512*11
+6 main armfault A 0 1 -> ok
+7 main armfault A 0 0 -> ok
+8 main read 0 0 1 -> data 512*11
+9 main mkvdisk -size 1 -> refused no disk
+10 main rmvdisk A -> ok
+11 main mkvdisk -size 1 -> refused no disk
+";
+
+const NO_DISK_TEXT: &[u8] = b"0 main mkvdisk -size 1 -> refused no disk\n";
+
+/// How many disks there are: one for each lane.
+const DISKS: usize = 4;
 
 /// How many bytes of the longer session a `take` gives at most.
 const PIECE: usize = 211;
@@ -27,7 +62,7 @@ fn the_first_volume_is_made_written_and_read(rt: HostRuntime) -> Result<(), Allo
     )?;
     assert!(rt; outcome.status == Status::Done);
     assert!(rt; outcome.written.as_slice() == TEXT);
-    assert_eq!(rt; (outcome.entries, outcome.disks), (3, 1));
+    assert_eq!(rt; (outcome.entries, outcome.disks), (3, DISKS));
     Ok(())
 }
 
@@ -38,8 +73,35 @@ fn nothing_comes_of_nothing(rt: HostRuntime) -> Result<(), AllocError> {
     assert!(rt; outcome.status == Status::Done);
     assert_eq!(rt;
         (outcome.written.len(), outcome.entries, outcome.disks),
-        (0, 0, 1)
+        (0, 0, DISKS)
     );
+    Ok(())
+}
+
+#[test]
+fn a_volume_takes_its_disks_for_good(rt: HostRuntime) -> Result<(), AllocError> {
+    let alloc = rt.alloc();
+    let outcome = run(alloc, ONE_VOLUME, 65_536, Vec::new(alloc), Vec::new(alloc))?;
+    assert!(rt; outcome.status == Status::Done);
+    assert!(rt; outcome.written.as_slice() == ONE_VOLUME_TEXT);
+    assert_eq!(rt; (outcome.entries, outcome.disks), (12, DISKS));
+    Ok(())
+}
+
+#[test]
+fn no_volume_is_made_without_disks(rt: HostRuntime) -> Result<(), AllocError> {
+    let alloc = rt.alloc();
+    let outcome = run_over(
+        alloc,
+        Vec::new(alloc),
+        b"mkvdisk -size 1\n",
+        65_536,
+        Vec::new(alloc),
+        Vec::new(alloc),
+    )?;
+    assert!(rt; outcome.status == Status::Done);
+    assert!(rt; outcome.written.as_slice() == NO_DISK_TEXT);
+    assert_eq!(rt; (outcome.entries, outcome.disks), (1, 0));
     Ok(())
 }
 
@@ -52,7 +114,7 @@ fn the_fourth_take_fails_before_the_first_line_has_ended(
     assert!(rt; outcome.status == Status::ReadFault);
     assert_eq!(rt;
         (outcome.written.len(), outcome.entries, outcome.disks),
-        (0, 0, 1)
+        (0, 0, DISKS)
     );
     Ok(())
 }
@@ -69,7 +131,7 @@ fn the_first_put_fails(rt: HostRuntime) -> Result<(), AllocError> {
     )?;
     assert!(rt; outcome.status == Status::WriteFault);
     assert!(rt; outcome.written.len() < TEXT.len() && TEXT.starts_with(outcome.written.as_slice()));
-    assert_eq!(rt; (outcome.entries, outcome.disks), (3, 1));
+    assert_eq!(rt; (outcome.entries, outcome.disks), (3, DISKS));
     Ok(())
 }
 
@@ -84,7 +146,7 @@ fn pieces_of_any_size_give_one_history(rt: HostRuntime) -> Result<(), AllocError
         let outcome = run(alloc, &bytes, piece, Vec::new(alloc), Vec::new(alloc))?;
         assert!(rt; outcome.status == Status::Done);
         assert!(rt; outcome.written.as_slice() == wanted.text.as_slice());
-        assert_eq!(rt; (outcome.entries, outcome.disks), (wanted.entries, 1));
+        assert_eq!(rt; (outcome.entries, outcome.disks), (wanted.entries, DISKS));
     }
     Ok(())
 }
@@ -101,7 +163,7 @@ fn each_take_fails_once(rt: HostRuntime) -> Result<(), AllocError> {
         let outcome = run(alloc, &bytes, PIECE, failing, Vec::new(alloc))?;
         let wanted = answers_within(alloc, &lines, PIECE.saturating_mul(before))?;
         assert!(rt; outcome.status == Status::ReadFault);
-        assert_eq!(rt; (outcome.entries, outcome.disks), (wanted.entries, 1));
+        assert_eq!(rt; (outcome.entries, outcome.disks), (wanted.entries, DISKS));
         assert!(rt; outcome.written.as_slice() == wanted.text.as_slice());
     }
     let failing = vec![in alloc; takes as u64 + 2]?;
@@ -128,7 +190,7 @@ fn each_put_fails_once_until_none_is_left(rt: HostRuntime) -> Result<(), AllocEr
         )?;
         assert!(rt; wanted.text.starts_with(outcome.written.as_slice()));
         assert!(rt; outcome.written.len() >= longest);
-        assert_eq!(rt; (outcome.entries, outcome.disks), (wanted.entries, 1));
+        assert_eq!(rt; (outcome.entries, outcome.disks), (wanted.entries, DISKS));
         longest = outcome.written.len();
         if outcome.status == Status::Done {
             // at least one `put` an entry, and the `flush`

@@ -5,7 +5,7 @@ use Rattle.fc_base.specs.Pools.{Pool, least_of_kind}
 use Rattle.fc_base.specs.declared.disk.DiskKind.{DiskKind}
 use Rattle.fc_base.specs.declared.fault.Refusal.TheVariants.{NoDisk}
 use Rattle.fc_entry.specs.Refused.{where_, lacks_disk}
-use Rattle.fc_entry.specs.Told.{kind_of}
+use Rattle.fc_entry.specs.Volumes.{kind_of}
 use Rattle.fc_control.proofs.Volumes.{least_zero}
 use Rattle.fc_control.proofs.mkvdisk.disk_refusal.Goals as goal
 

@@ -2,7 +2,7 @@
 use Rattle.std.proofs.Common.{arith}
 use Rattle.fc_control.specs.Control.{books_of}
 use Rattle.fc_control.proofs.Volumes.{made_volume}
-use Rattle.fc_entry.specs.Told.{kind_of}
+use Rattle.fc_entry.specs.Volumes.{kind_of}
 use Rattle.fc_base.specs.declared.fault.Kind.TheVariants.{Vdisk}
 use Rattle.fc_base.specs.declared.request.Reply.TheVariants.{Made}
 use Rattle.fc_control.proofs.control.Control.make_volume.Goals as goal

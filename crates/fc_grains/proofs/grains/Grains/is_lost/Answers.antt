@@ -1,5 +1,5 @@
 use Rattle.std.proofs.Common.{◌<◌, length, map, ap, sym, ◌∙◌}
-use Rattle.fc_entry.specs.Right.{is_lost}
+use Rattle.fc_entry.specs.Picture.{is_lost}
 use Rattle.fc_grains.specs.Parts.{grains_of}
 use Rattle.fc_grains.specs.Volumes.{volume_of}
 use Rattle.fc_grains.proofs.Changing.{mark_there, stored_is}

@@ -1,5 +1,5 @@
 use Rattle.std.proofs.Common.{◌≡◌, ◌<◌, ◌+◌, ◌-◌, ◌++◌, false, take, drop, length, map, is_err, ap, sym, ◌∙◌, arith}
-use Rattle.fc_entry.specs.Right.{is_lost}
+use Rattle.fc_entry.specs.Picture.{is_lost}
 use Rattle.fc_base.specs.Grain.{grain_bytes}
 use Rattle.fc_grains.specs.Grains.{stopped}
 use Rattle.fc_grains.specs.Parts.{grains_of}

@@ -1,5 +1,5 @@
 use Rattle.std.proofs.Common.{◌≡◌, ◌∙◌, true, false, refl, sym, ap, is_err}
-use Rattle.fc_entry.specs.Right.{is_lost}
+use Rattle.fc_entry.specs.Picture.{is_lost}
 use Rattle.fc_grains.specs.Volumes.{stored}
 use Rattle.fc_lane.specs.declared.read.GrainRead.TheVariants.{Done, IsLost, Failed}
 use Rattle.fc_lane.proofs.Reading.{shown, from_inside, read_ended, read_was}

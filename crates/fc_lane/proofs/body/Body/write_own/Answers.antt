@@ -1,7 +1,7 @@
 use Rattle.std.proofs.Common.{ℕ, Some, None, ap, sym, subst, ◌∙◌, refl}
 use Rattle.fc_base.specs.declared.disk.DiskError.TheVariants.{Failed as Fails, NoMemory as NoRoom}
 use Rattle.fc_base.specs.declared.size.GrainSize.{GrainSize}
-use Rattle.fc_entry.specs.Right.{calls_of_write}
+use Rattle.fc_entry.specs.Writes.{calls_of_write}
 use Rattle.fc_lane.specs.WriteStep.{OwnEnds}
 use Rattle.fc_lane.specs.declared.stop.Stop.TheVariants.{Failed, NoMemory}
 use Rattle.fc_lane.proofs.WriteOwn.{own_held, own_from, own_there, own_inside, own_readable, own_unread, own_done, own_torn, own_refused, own_side, own_fits, own_fits_lost, own_ends_as, written_as, target_mid}

@@ -1,0 +1,13 @@
+-- How many calls of disks a write makes.
+use Rattle.std.specs.Prelude.{ℕ, Bool, ◌==◌, cond}
+use Rattle.fc_base.specs.Grain.{grain_blocks}
+use Rattle.fc_base.specs.declared.request.WritePart.{WritePart}
+use Rattle.fc_base.specs.declared.size.GrainSize.{GrainSize}
+
+-- whether a write covers its whole grain
+abbrev pub is_whole : GrainSize → WritePart → Bool
+is_whole grain part = part.count == grain_blocks grain
+
+-- a write of a part of a grain reads the rest first
+abbrev pub calls_of_write : GrainSize → WritePart → ℕ
+calls_of_write grain part = cond (is_whole grain part) 1 2

@@ -1,7 +1,0 @@
--- Lemmas, one subject a file.
-pub mod ProgressLemmas
-pub mod TakesLemmas
-pub mod ReadingLemmas
-pub mod EndingLemmas
-pub mod HeadlineLemmas
-pub mod OwnerLemmas

@@ -1,8 +1,0 @@
-//! The store of one volume.
-#![tactic(auto)]
-
-mod access;
-mod lines;
-mod refusal;
-pub mod single;
-pub mod stop;
