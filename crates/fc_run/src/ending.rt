@@ -68,6 +68,7 @@ pub fn end_input<L: LineStore>(
     ensures actors { history.new.actors ≡ history.old.actors }
     ensures grain { L.grain store.new ≡ L.grain store.old }
     ensures disks { L.disks store.new ≡ L.disks store.old }
+    ensures quiet { StandsAtEnd ending (L.Quiet store.old history.old.entries) → StandsAtEnd result (L.Quiet store.new history.new.entries) }
     ensures limit { length history.new.entries ≤ 262144 }
 {
     match ending {

@@ -36,6 +36,7 @@ fn feed_byte<L: LineStore>(
     ensures stays { StaysUp result (TellsSome (L.Stands store.new) history.new.entries) }
     ensures grain { L.grain store.new ≡ L.grain store.old }
     ensures disks { L.disks store.new ≡ L.disks store.old }
+    ensures quiet { L.Quiet store.old history.old.entries → StaysUp result (L.Quiet store.new history.new.entries) }
     ensures limit { length history.new.entries ≤ 262144 }
 {
     if byte == b'\n' {
@@ -63,6 +64,7 @@ fn end_line<L: LineStore>(
     ensures stays { StaysUp result (TellsSome (L.Stands store.new) history.new.entries) }
     ensures grain { L.grain store.new ≡ L.grain store.old }
     ensures disks { L.disks store.new ≡ L.disks store.old }
+    ensures quiet { L.Quiet store.old history.old.entries → StaysUp result (L.Quiet store.new history.new.entries) }
     ensures limit { length history.new.entries ≤ 262144 }
 {
     take_return(line);
@@ -91,6 +93,7 @@ pub fn feed<L: LineStore>(
     ensures stays { StaysUp result (TellsSome (L.Stands store.new) history.new.entries) }
     ensures grain { L.grain store.new ≡ L.grain store.old }
     ensures disks { L.disks store.new ≡ L.disks store.old }
+    ensures quiet { L.Quiet store.old history.old.entries → StaysUp result (L.Quiet store.new history.new.entries) }
     ensures limit { length history.new.entries ≤ 262144 }
 {
     for byte in piece {

@@ -63,6 +63,7 @@ fn take_turn<S: Source, L: LineStore>(
     ensures stands { StandsAfter result (TellsSome (L.Stands store.new) history.new.entries) }
     ensures grain { L.grain store.new ≡ L.grain store.old }
     ensures disks { L.disks store.new ≡ L.disks store.old }
+    ensures quiet { L.Quiet store.old history.old.entries → StandsAfter result (L.Quiet store.new history.new.entries) }
     ensures limit { length history.new.entries ≤ 262144 }
 {
     match source.take(buffer) {
@@ -113,6 +114,7 @@ pub fn read_pieces<S: Source, L: LineStore>(
     ensures actors { history.new.actors ≡ history.old.actors }
     ensures grain { L.grain store.new ≡ L.grain store.old }
     ensures disks { L.disks store.new ≡ L.disks store.old }
+    ensures quiet { L.Quiet store.old history.old.entries → StandsAtEnd result (L.Quiet store.new history.new.entries) }
     ensures limit { length history.new.entries ≤ 262144 }
 {
     let mut taken = 0;

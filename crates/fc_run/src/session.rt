@@ -35,6 +35,7 @@ fn read_session<S: Source, L: LineStore>(
     ensures actors { history.new.actors ≡ history.old.actors }
     ensures grain { L.grain store.new ≡ L.grain store.old }
     ensures disks { L.disks store.new ≡ L.disks store.old }
+    ensures quiet { L.Quiet store.old history.old.entries → StandsAtEnd result (L.Quiet store.new history.new.entries) }
     ensures limit { length history.new.entries ≤ 262144 }
 {
     let mut buffer = match zeros(alloc, PIECE_BYTES) {
@@ -66,6 +67,7 @@ pub fn run_session<S: Source, K: Sink, L: LineStore>(
     ensures ran { result ≢ Status.Usage }
     ensures grain { L.grain store.new ≡ L.grain store.old }
     ensures disks { L.disks store.new ≡ L.disks store.old }
+    ensures quiet { L.Quiet store.old history.old.entries → StandsUnlessStarved result (L.Quiet store.new history.new.entries) }
     ensures limit { length history.new.entries ≤ 262144 }
 {
     let ending = read_session(alloc, source, store, history);

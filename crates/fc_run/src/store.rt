@@ -1,11 +1,12 @@
 //! Who answers the lines of a session.
 
 ghost use Rattle.std.specs.Prelude.{◌≡◌, ◌≤◌, List, length};
+ghost use Rattle.fc_entry.specs.declared.entry.Entry.{Entry};
 ghost use Rattle.fc_base.specs.Pools.{Pool};
 ghost use Rattle.fc_base.specs.declared.size.GrainSize.{GrainSize};
 ghost use Rattle.fc_legal.specs.Whole.{Whole};
 ghost use Rattle.fc_run.specs.Reading.{reading};
-ghost use Rattle.fc_store.specs.Answering.{IsTold, LineAnswered, TellsSome};
+ghost use Rattle.fc_store.specs.Answering.{IsTold, LineAnswered, StaysUp, TellsSome};
 
 use fc_entry::history::History;
 use fc_store::stop::Stop;
@@ -17,6 +18,9 @@ pub trait LineStore {
 
     /// How many disks of each kind it has.
     ghost disks: { Self → Pool };
+
+    /// Unless one of these entries armed a fault, none of its disks fails.
+    ghost Quiet: { Self → List Entry → Type 0 };
 
     /// The store stands for what a history tells.
     ghost Stands: { Self → Whole → Type 0 };
@@ -31,5 +35,6 @@ pub trait LineStore {
         ensures actors { history.new.actors ≡ history.old.actors }
         ensures grain { grain self.new ≡ grain self.old }
         ensures disks { disks self.new ≡ disks self.old }
+        ensures quiet { Quiet self.old history.old.entries → StaysUp result (Quiet self.new history.new.entries) }
         ensures limit { length history.new.entries ≤ 262144 };
 }

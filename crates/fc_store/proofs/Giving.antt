@@ -10,11 +10,11 @@ use Rattle.fc_lane.specs.Lane.{LaneView}
 use Rattle.fc_mdisk.specs.Disk.{DiskState}
 use Rattle.fc_store.specs.Dealing.{AreAllIn, disks_in}
 
-all_but_last : {X : Type 0} → (P : X → Type 0) (xs : List X) (y : X) → All P (xs ++ y ∷ []) → All P xs
+pub all_but_last : {X : Type 0} → (P : X → Type 0) (xs : List X) (y : X) → All P (xs ++ y ∷ []) → All P xs
 all_but_last P [] y all = All-nil P
 all_but_last P (x ∷ xs) y all = All-cons P x xs (all 0 x (omega arith)) (all_but_last P xs y (λ k e lt. all (suc k) e (omega (arith, lt))))
 
-of_last : {X : Type 0} → (P : X → Type 0) (xs : List X) (y : X) → All P (xs ++ y ∷ []) → P y
+pub of_last : {X : Type 0} → (P : X → Type 0) (xs : List X) (y : X) → All P (xs ++ y ∷ []) → P y
 of_last P [] y all = all 0 y (omega arith)
 of_last P (x ∷ xs) y all = of_last P xs y (λ k e lt. all (suc k) e (omega (arith, lt)))
 

@@ -14,6 +14,8 @@ pub mod Dealing
 pub mod NewStore
 pub mod DealLists
 pub mod Giving
+pub mod Arming
+pub mod Quieting
 pub mod PhaseStands
 pub mod PhaseLanes
 pub mod EffectRanges

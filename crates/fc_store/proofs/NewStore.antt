@@ -12,7 +12,6 @@ use Rattle.fc_books.specs.Books.{opened as opened_books}
 use Rattle.fc_books.specs.Sound.{AreSound}
 use Rattle.fc_control.specs.Control.{ControlState}
 use Rattle.fc_grains.specs.Grains.{GrainsState, opened as opened_grains, one_if_silent, pool_of, silent_of, stopped}
-use Rattle.fc_grains.specs.Quiet.{IsQuiet}
 use Rattle.fc_lane.specs.Lane.{LaneView, IsLaneOf, begun}
 use Rattle.fc_legal.specs.Stands.{Stands}
 use Rattle.fc_legal.specs.Whole.{lanes, opened, part_at, pool_at}
@@ -25,6 +24,7 @@ use Rattle.fc_decided.proofs.Lists.{none_in}
 use Rattle.fc_grains.proofs.KindCounts.{flat-cons, one_flat, one_thin, thin-cons}
 use Rattle.fc_sums.proofs.Sums.{sum_total}
 use Rattle.fc_store.specs.Dealing.{Begin, Begins, FitLane, all_dealt, dealt, disks_in, pools_dealt, silent_in}
+use Rattle.fc_store.specs.Quiet.{AreQuiet}
 use Rattle.fc_store.specs.Store.{StandsFor, IsLaneAt}
 use Rattle.fc_store.proofs.Dealing.{all_of_dealt, few_dealt, total_dealt}
 
@@ -224,9 +224,14 @@ module _ (grain : GrainSize) (n : ℕ) (disks : List DiskState) (ls : List LaneV
       ∙ sum_total (λ (ds : List DiskState). silent_of ds) (dealt n disks) n
       ∙ total_dealt (λ d. one_if_silent d.due) (λ (ds : List DiskState). silent_of ds) refl (λ d ds. sum_by-cons (λ (x : DiskState). one_if_silent x.due) d ds) n some disks
 
-  pub quiet_made : silent_of disks ≡ 0 → 0 < n → All (λ (v : LaneView). IsQuiet v.grains) ls
-  quiet_made told some i d lt =
-      (made.each i d lt).quiet (none_of ls (silent_made some ∙ told) i d lt)
+  pub quiet_made : silent_of disks ≡ 0 → 0 < n → All IsFresh disks → AreQuiet ls
+  quiet_made told some fresh i d lt =
+      let within : i < n = omega (arith, lt, count_made) in
+      let own : List DiskState = dealt n disks i in
+      record {
+        quiet = (made.each i d lt).quiet (none_of ls (silent_made some ∙ told) i d lt);
+        faults = ap (λ (g : GrainsState). g.faults) (grains_at i d within) ∙ ap stopped (no_faults own (all_of_dealt IsFresh n disks i fresh));
+      }
     where
       none_of : (vs : List LaneView) → silent_in vs ≡ 0 → (k : ℕ) (e : LaneView) → k < length vs → (get_or vs k e).grains.silent ≡ 0
       none_of [] none k e kl = absurd (omega (arith, kl))

@@ -21,8 +21,10 @@ use Rattle.fc_pick.specs.Flags.{IsRising}
 use Rattle.fc_pick.specs.declared.work.WorkFlags.{WorkFlags}
 use Rattle.fc_store.specs.Dealing.{disks_in}
 use Rattle.fc_store.specs.Phase.{StandsAt, IsDecidedAt, IsControlAfter, IsLaneAfter, IsLaneReady, EachLane, CanAllDo, CanControlDo, CanPrepare, IsReadyFor, IsReserved, IsDone}
+use Rattle.fc_store.specs.Quiet.{AreQuiet}
 use Rattle.fc_store.specs.Store.{StoreView, AreLanesOf}
 use Rattle.fc_store.proofs.PhaseStands.{ready_stands, decision_stands}
+use Rattle.fc_store.proofs.Quieting.{each_keeps}
 
 -- ---- disks
 
@@ -84,6 +86,7 @@ half_reserved old new same lanes = record {
   grain = ap (λ (c : ControlState). c.grain) same;
   disks = ap disks_in lanes;
   stands = λ decisions w. control_reserved decisions old new w same lanes;
+  quiet = λ q. subst AreQuiet (sym lanes) q;
 }
 
 -- The control part, and then the lanes.
@@ -92,6 +95,7 @@ all_reserved old mid new same lanes control ready = record {
   grain = ap (λ (c : ControlState). c.grain) control ∙ ap (λ (c : ControlState). c.grain) same;
   disks = same_disks mid.lanes new.lanes record { count = ready.count; each = λ i d lt. (ready.each i d lt).same.disks } ∙ ap disks_in lanes;
   stands = λ decisions w stands. ready_stands decisions mid new w (control_reserved decisions old mid w same lanes stands) control ready;
+  quiet = λ q. each_keeps mid.lanes new.lanes record { count = ready.count; each = λ i d lt. (ready.each i d lt).quiet } (subst AreQuiet (sym lanes) q);
 }
 
 pub ready_for : (old new : StoreView) (d : Decision) → CanPrepare old d → IsReserved old new → CanApply new.control d → CanAllDo new.lanes d.events → IsReadyFor new d
@@ -143,4 +147,5 @@ all_done old mid new d control each after lanes =
       grain = done.grain;
       disks = same_disks old.lanes new.lanes record { count = all.count; each = λ i v lt. (all.each i v lt).same.disks };
       stands = λ decisions w stands lawful. decision_stands decisions old new w d stands lawful done all;
+      quiet = λ none q. each_keeps old.lanes new.lanes record { count = all.count; each = λ i v lt. (all.each i v lt).quiet none } q;
     }

@@ -59,7 +59,7 @@ abbrev pub IsMadeReady : List LaneEvent → LaneView → LaneView → Type 0
 IsMadeReady events old new = IsLaneReady old new × CanDoEvents new events
 
 as_it_was : (v : LaneView) → IsLaneReady v v
-as_it_was v = record { same = record { lane = refl; lanes = refl; grain = refl; disks = refl; silent = refl }; stands = λ told is. is }
+as_it_was v = record { same = record { lane = refl; lanes = refl; grain = refl; disks = refl; silent = refl }; stands = λ told is. is; quiet = λ q. (q, refl) }
 
 -- So far, where the next finds no memory.
 pub ready_so_far : (events : List LaneEvent) (n : ℕ) (old now : List LaneView) (v e : LaneView) → EachBelow (IsMadeReady events) n old now → n < length old →

@@ -6,6 +6,8 @@ pub mod Apart
 pub mod LaneSheet
 pub mod HeldRanges
 pub mod Dealing
+pub mod Arming
+pub mod Quiet
 pub mod Phase
 pub mod Effects
 pub mod Settling

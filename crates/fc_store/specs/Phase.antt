@@ -12,7 +12,7 @@ use Rattle.fc_books.specs.Deciding.{settle, settled, decide}
 use Rattle.fc_books.specs.After.{after_table_change, flags_after}
 use Rattle.fc_control.specs.Changes.{FitChanges, AreCountable, CanApply, adds}
 use Rattle.fc_control.specs.Control.{ControlState, books_of}
-use Rattle.fc_lane.specs.Lane.{LaneView, CanDoEvents, IsLaneOf, IsSameLane, of}
+use Rattle.fc_lane.specs.Lane.{LaneView, ArmsNone, CanDoEvents, IsLaneOf, IsSameLane, KeepsQuiet, of}
 use Rattle.fc_legal.specs.Lawful.{IsLawful, left_by}
 use Rattle.fc_legal.specs.Stands.{Stands}
 use Rattle.fc_legal.specs.Steps.{no_restarts}
@@ -21,6 +21,7 @@ use Rattle.fc_pick.specs.Flags.{IsRising}
 use Rattle.fc_rules.specs.LaneFits.{FitsLane}
 use Rattle.fc_rules.specs.LaneTold.{LaneTold, told_event}
 use Rattle.fc_store.specs.Dealing.{disks_in}
+use Rattle.fc_store.specs.Quiet.{AreQuiet}
 use Rattle.fc_store.specs.Store.{StoreView, IsControlOf, AreLanesOf, AreFewCalls}
 
 -- The store stands for what is told after so many decisions. Between the phases of a command there may be one more than its
@@ -51,11 +52,13 @@ pub record IsControlAfter (old new : ControlState) (d : Decision) : Type 0 where
 pub record IsLaneAfter (events : List LaneEvent) (old new : LaneView) : Type 0 where
   pub same : IsSameLane old new
   pub stands : (told : LaneTold) → IsLaneOf old told → FitsLane (of old) told events → IsLaneOf new (fold (told_event (of old)) told events)
+  pub quiet : ArmsNone events → KeepsQuiet old new
 
 -- A lane that was made ready.
 pub record IsLaneReady (old new : LaneView) : Type 0 where
   pub same : IsSameLane old new
   pub stands : (told : LaneTold) → IsLaneOf old told → IsLaneOf new told
+  pub quiet : KeepsQuiet old new
 
 -- Of each lane, from the one store to the other.
 pub record EachLane (P : LaneView → LaneView → Type 0) (old new : List LaneView) : Type 0 where
@@ -92,17 +95,19 @@ pub record IsReadyFor (s : StoreView) (d : Decision) : Type 0 where
   pub control : CanApply s.control d
   pub lanes : CanAllDo s.lanes d.events
 
--- Made ready or not, a store stands for what it did, over as many disks.
+-- Made ready or not, a store stands for what it did, over as many disks, and as quiet as they were.
 pub record IsReserved (old new : StoreView) : Type 0 where
   pub grain : new.control.grain ≡ old.control.grain
   pub disks : disks_in new.lanes ≡ disks_in old.lanes
   pub stands : (decisions : ℕ) (w : Whole) → StandsAt decisions old w → StandsAt decisions new w
+  pub quiet : AreQuiet old.lanes → AreQuiet new.lanes
 
--- What is decided is done: the store stands for what that leaves.
+-- What is decided is done: the store stands for what that leaves. Where no fault was armed, quiet disks stay so.
 pub record IsDone (d : Decision) (old new : StoreView) : Type 0 where
   pub grain : new.control.grain ≡ old.control.grain
   pub disks : disks_in new.lanes ≡ disks_in old.lanes
   pub stands : (decisions : ℕ) (w : Whole) → StandsAt decisions old w → IsLawful old.control.grain decisions w d → StandsAt (decisions + 1) new (left_by old.control.grain w d)
+  pub quiet : ArmsNone d.events → AreQuiet old.lanes → AreQuiet new.lanes
 
 -- ---- commands
 

@@ -1,6 +1,8 @@
 //! The entries of commands: settled and decided, or left as it was or settled alone for want of memory.
 
-ghost use Rattle.std.specs.Prelude.{◌≡◌, ℕ, ◌+◌, ◌*◌, ◌<◌, ◌≤◌, ◌∷◌, [], ◌++◌, length, Option, Err, List as Items};
+ghost use Rattle.std.specs.Prelude.{◌≡◌, ℕ, ◌+◌, ◌*◌, ◌<◌, ◌≤◌, ◌∷◌, [], ◌++◌, length, Option, Err, List as Items, false};
+ghost use Rattle.fc_store.specs.Arming.{ArmNothing, arms};
+ghost use Rattle.fc_store.specs.Quiet.{QuietBy, AreQuiet};
 ghost use Rattle.fc_base.specs.declared.ids.VolId.{VolId};
 ghost use Rattle.fc_base.specs.declared.size.GrainSize.{GrainSize};
 ghost use Rattle.fc_books.specs.Deciding.{IsLoopOf, settle, settled};
@@ -8,7 +10,7 @@ ghost use Rattle.fc_legal.specs.Lawful.{left_by};
 ghost use Rattle.fc_legal.specs.Run.{by_main};
 ghost use Rattle.fc_legal.specs.Steps.{Step};
 ghost use Rattle.fc_legal.specs.Whole.{Whole};
-ghost use Rattle.fc_store.specs.Answering.{Answered, IsTold, TellsSome};
+ghost use Rattle.fc_store.specs.Answering.{Answered, IsTold, TellsSome, StaysUp};
 ghost use Rattle.fc_store.specs.Apart.{entry_apart};
 ghost use Rattle.fc_store.specs.Dealing.{disks_in};
 ghost use Rattle.fc_store.specs.Phase.{IsDecided, StandsAt, after_settling, decided_after};
@@ -40,6 +42,7 @@ impl<D: Mdisk> Store<D> {
             Answered result (StandsFor self.new) self.old.control.grain w (by_main (Request.Command command ∷ [])) history.old history.new }
         ensures grain { self.new.control.grain ≡ self.old.control.grain }
         ensures disks { disks_in self.new.lanes ≡ disks_in self.old.lanes }
+        ensures quiet { QuietBy history.old.entries self.old.lanes → StaysUp result (QuietBy history.new.entries self.new.lanes) }
         ensures limit { length history.new.entries ≤ MAX_ENTRIES }
     {
         if is_full(history) {
@@ -65,6 +68,7 @@ impl<D: Mdisk> Store<D> {
             Answered result (StandsFor self.new) self.old.control.grain w (by_main (Request.Command command ∷ [])) history.old history.new }
         ensures grain { self.new.control.grain ≡ self.old.control.grain }
         ensures disks { disks_in self.new.lanes ≡ disks_in self.old.lanes }
+        ensures quiet { QuietBy history.old.entries self.old.lanes → StaysUp result (QuietBy history.new.entries self.new.lanes) }
         ensures limit { length history.new.entries ≤ MAX_ENTRIES }
     {
         match self.decide_all(&command, &effects) {
@@ -86,6 +90,8 @@ impl<D: Mdisk> Store<D> {
             Step grain w (entry_apart (length history.old.entries) Place.Every (Request.Command command) reply effects) next →
             next.entries ≡ w.entries + 1 → StandsFor self.now next → w.entries ≡ length history.old.entries →
             Answered result (StandsFor self.now) grain w (by_main (Request.Command command ∷ [])) history.old history.new }
+        ensures quiet { (ArmNothing history.old.entries → arms (Request.Command command) reply ≡ false → AreQuiet self.now.lanes) →
+            StaysUp result (QuietBy history.new.entries self.now.lanes) }
         ensures limit { length history.new.entries ≤ MAX_ENTRIES }
     {
         let request = Request::Command(command);
@@ -106,6 +112,7 @@ impl<D: Mdisk> Store<D> {
         requires room { length history.old.entries < MAX_ENTRIES }
         ensures answered { (decisions : ℕ) (w : Whole) → StandsAt decisions self.now w → decisions ≤ 2 * w.entries → w.entries ≡ length history.old.entries →
             Answered result (StandsFor self.now) self.now.control.grain w (by_main (Request.Command command ∷ [])) history.old history.new }
+        ensures quiet { QuietBy history.old.entries self.now.lanes → StaysUp result (QuietBy history.new.entries self.now.lanes) }
         ensures limit { length history.new.entries ≤ MAX_ENTRIES }
     {
         self.log_command(history, command, Reply::NoMemory, List::new(self.alloc))
@@ -123,6 +130,7 @@ impl<D: Mdisk> Store<D> {
         ensures answered { (decisions : ℕ) (w : Whole) → effects ≡ (settle w.books).effects →
             StandsAt (decisions + 1) self.now (after_settling self.now.control.grain w) → decisions ≤ 2 * w.entries → w.entries ≡ length history.old.entries →
             Answered result (StandsFor self.now) self.now.control.grain w (by_main (Request.Command command ∷ [])) history.old history.new }
+        ensures quiet { QuietBy history.old.entries self.now.lanes → StaysUp result (QuietBy history.new.entries self.now.lanes) }
         ensures limit { length history.new.entries ≤ MAX_ENTRIES }
     {
         self.log_command(history, command, Reply::NoMemory, effects)
@@ -144,6 +152,8 @@ impl<D: Mdisk> Store<D> {
             StandsAt (decisions + 1 + 1) self.now (left_by self.now.control.grain (after_settling self.now.control.grain w) (decided_after self.now.control.grain w command loop)) →
             decisions ≤ 2 * w.entries → w.entries ≡ length history.old.entries →
             Answered result (StandsFor self.now) self.now.control.grain w (by_main (Request.Command command ∷ [])) history.old history.new }
+        ensures quiet { (ArmNothing history.old.entries → arms (Request.Command command) reply ≡ false → AreQuiet self.now.lanes) →
+            StaysUp result (QuietBy history.new.entries self.now.lanes) }
         ensures limit { length history.new.entries ≤ MAX_ENTRIES }
     {
         self.log_command(history, command, reply, effects)

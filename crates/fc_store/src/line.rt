@@ -1,10 +1,11 @@
 //! A line of `main`.
 
 ghost use Rattle.std.specs.Prelude.{◌≡◌, ◌≤◌, length, Ok};
+ghost use Rattle.fc_store.specs.Quiet.{QuietBy};
 ghost use Rattle.fc_legal.specs.Asked.{asked, command_asked};
 ghost use Rattle.fc_legal.specs.Run.{by_main};
 ghost use Rattle.fc_legal.specs.Whole.{Whole};
-ghost use Rattle.fc_store.specs.Answering.{Answered, IsTold, TellsSome};
+ghost use Rattle.fc_store.specs.Answering.{Answered, IsTold, TellsSome, StaysUp};
 ghost use Rattle.fc_store.specs.Dealing.{disks_in};
 ghost use Rattle.fc_store.specs.Phase.{IsDecided};
 ghost use Rattle.fc_store.specs.Store.{StandsFor};
@@ -29,6 +30,7 @@ impl<D: Mdisk> Store<D> {
             (by_main (command_asked self.old.control.grain w.books command)) history.old history.new }
         ensures grain { self.new.control.grain ≡ self.old.control.grain }
         ensures disks { disks_in self.new.lanes ≡ disks_in self.old.lanes }
+        ensures quiet { QuietBy history.old.entries self.old.lanes → StaysUp result (QuietBy history.new.entries self.new.lanes) }
         ensures limit { length history.new.entries ≤ MAX_ENTRIES }
     {
         self.run_command(command, history)
@@ -43,6 +45,7 @@ impl<D: Mdisk> Store<D> {
             (by_main (command_asked self.old.control.grain w.books command)) history.old history.new }
         ensures grain { self.new.control.grain ≡ self.old.control.grain }
         ensures disks { disks_in self.new.lanes ≡ disks_in self.old.lanes }
+        ensures quiet { QuietBy history.old.entries self.old.lanes → StaysUp result (QuietBy history.new.entries self.new.lanes) }
         ensures limit { length history.new.entries ≤ MAX_ENTRIES }
     {
         match command {
@@ -71,6 +74,7 @@ impl<D: Mdisk> Store<D> {
             (by_main (asked self.old.control.grain w.books (Ok line))) history.old history.new }
         ensures grain { self.new.control.grain ≡ self.old.control.grain }
         ensures disks { disks_in self.new.lanes ≡ disks_in self.old.lanes }
+        ensures quiet { QuietBy history.old.entries self.old.lanes → StaysUp result (QuietBy history.new.entries self.new.lanes) }
         ensures limit { length history.new.entries ≤ MAX_ENTRIES }
     {
         match line {

@@ -1,6 +1,7 @@
 //! Reads and writes, refused accesses and unread lines: what they ask, entry by entry.
 
 ghost use Rattle.std.specs.Prelude.{◌≡◌, ◌+◌, ◌*◌, ◌<◌, ◌≤◌, ◌∷◌, [], length, map, Contains, Some, None, Err, IfOk, IfErr};
+ghost use Rattle.fc_store.specs.Quiet.{QuietBy};
 ghost use Rattle.fc_base.specs.Grain.{grain_blocks};
 ghost use Rattle.fc_base.specs.Tables.{volume_named};
 ghost use Rattle.fc_base.specs.declared.volume.Volume.{Volume};
@@ -10,7 +11,7 @@ ghost use Rattle.fc_entry.specs.Refused.{blocks_refusal};
 ghost use Rattle.fc_legal.specs.Asked.{asked, command_asked, touched};
 ghost use Rattle.fc_legal.specs.Run.{by_main};
 ghost use Rattle.fc_legal.specs.Whole.{Whole};
-ghost use Rattle.fc_store.specs.Answering.{Answered, IsTold, TellsSome};
+ghost use Rattle.fc_store.specs.Answering.{Answered, IsTold, TellsSome, StaysUp};
 ghost use Rattle.fc_store.specs.Apart.{IsRefusalOf};
 ghost use Rattle.fc_store.specs.Asking.{command_of, part_of};
 ghost use Rattle.fc_store.specs.Dealing.{disks_in};
@@ -69,6 +70,7 @@ impl<D: Mdisk> Store<D> {
             (by_main (part_of self.old.control.grain access volume block count grain ∷ [])) history.old history.new }
         ensures control { self.new.control ≡ self.old.control }
         ensures disks { disks_in self.new.lanes ≡ disks_in self.old.lanes }
+        ensures quiet { QuietBy history.old.entries self.old.lanes → StaysUp result (QuietBy history.new.entries self.new.lanes) }
         ensures limit { length history.new.entries ≤ MAX_ENTRIES }
     {
         if is_full(history) {
@@ -115,6 +117,7 @@ impl<D: Mdisk> Store<D> {
             (by_main (map (part_of self.old.control.grain access volume block count) (touched self.old.control.grain block count))) history.old history.new }
         ensures control { self.new.control ≡ self.old.control }
         ensures disks { disks_in self.new.lanes ≡ disks_in self.old.lanes }
+        ensures quiet { QuietBy history.old.entries self.old.lanes → StaysUp result (QuietBy history.new.entries self.new.lanes) }
         ensures limit { length history.new.entries ≤ MAX_ENTRIES }
     {
         let blocks = self.control.grain().blocks();
@@ -141,6 +144,7 @@ impl<D: Mdisk> Store<D> {
         requires refused { (w : Whole) → IsTold (StandsFor self.now) history.old.entries w → IsRefusalOf self.now.control.grain w request refusal }
         ensures answered { (w : Whole) → IsTold (StandsFor self.now) history.old.entries w →
             Answered result (StandsFor self.now) self.now.control.grain w (by_main (request ∷ [])) history.old history.new }
+        ensures quiet { QuietBy history.old.entries self.now.lanes → StaysUp result (QuietBy history.new.entries self.now.lanes) }
         ensures limit { length history.new.entries ≤ MAX_ENTRIES }
     {
         if is_full(history) {
@@ -189,6 +193,7 @@ impl<D: Mdisk> Store<D> {
             (by_main (command_asked self.old.control.grain w.books (command_of access volume block count))) history.old history.new }
         ensures control { self.new.control ≡ self.old.control }
         ensures disks { disks_in self.new.lanes ≡ disks_in self.old.lanes }
+        ensures quiet { QuietBy history.old.entries self.old.lanes → StaysUp result (QuietBy history.new.entries self.new.lanes) }
         ensures limit { length history.new.entries ≤ MAX_ENTRIES }
     {
         match self.taken(&volume, block, count) {
@@ -208,6 +213,7 @@ impl<D: Mdisk> Store<D> {
             Answered result (StandsFor self.new) self.old.control.grain w (by_main (asked self.old.control.grain w.books (Err fault))) history.old history.new }
         ensures control { self.new.control ≡ self.old.control }
         ensures disks { disks_in self.new.lanes ≡ disks_in self.old.lanes }
+        ensures quiet { QuietBy history.old.entries self.old.lanes → StaysUp result (QuietBy history.new.entries self.new.lanes) }
         ensures limit { length history.new.entries ≤ MAX_ENTRIES }
     {
         self.log_refused(history, Request::Unread(fault), Refusal::Words(fault))

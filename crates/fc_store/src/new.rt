@@ -2,9 +2,8 @@
 
 ghost use Rattle.std.specs.Prelude.{◌≡◌, ◌<◌, ◌≤◌, ◌^◌, ◌+◌, ◌++◌, IfOk, List, map, vec_len, vec_capacity};
 ghost use Rattle.std.specs.List.{All};
+ghost use Rattle.fc_store.specs.Quiet.{AreQuiet};
 ghost use Rattle.fc_grains.specs.Grains.{pool_of, silent_of, total_of};
-ghost use Rattle.fc_grains.specs.Quiet.{IsQuiet};
-ghost use Rattle.fc_lane.specs.Lane.{LaneView};
 ghost use Rattle.fc_legal.specs.Whole.{opened};
 ghost use Rattle.fc_mdisk.specs.Disk.{IsFresh};
 ghost use Rattle.fc_store.specs.Dealing.{AreAllIn, disks_in, pools_dealt, silent_in};
@@ -28,7 +27,7 @@ impl<D: Mdisk> Store<D> {
         requires fresh { All IsFresh (map D.meaning disks.items) }
         ensures stands { IfOk result (λ s. StandsFor s (opened (pools_dealt LANES (map D.meaning disks.items)))) }
         ensures grain { IfOk result (λ s. s.control.grain ≡ grain) }
-        ensures quiet { IfOk result (λ s. silent_of (map D.meaning disks.items) ≡ 0 → All (λ (v : LaneView). IsQuiet v.grains) s.lanes) }
+        ensures quiet { IfOk result (λ s. silent_of (map D.meaning disks.items) ≡ 0 → AreQuiet s.lanes) }
         ensures disks { IfOk result (λ s. disks_in s.lanes ≡ pool_of (map D.meaning disks.items)) }
         ensures silent { IfOk result (λ s. silent_in s.lanes ≡ silent_of (map D.meaning disks.items)) }
     {

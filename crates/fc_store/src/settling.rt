@@ -1,6 +1,7 @@
 //! The two phases of a command: all is settled, and then what the command asks is decided and done.
 
 ghost use Rattle.std.specs.Prelude.{◌≡◌, ◌++◌, List as Items};
+ghost use Rattle.fc_store.specs.Quiet.{AnswersUnarmed, AreQuiet};
 ghost use Rattle.fc_base.specs.declared.request.Effect.{Effect};
 ghost use Rattle.fc_store.specs.Dealing.{disks_in};
 ghost use Rattle.fc_store.specs.Effects.{IsJoined};
@@ -23,6 +24,7 @@ impl<D: Mdisk> Store<D> {
         ensures settles { Settles result self.old self.new }
         ensures grain { self.new.control.grain ≡ self.old.control.grain }
         ensures disks { disks_in self.new.lanes ≡ disks_in self.old.lanes }
+        ensures quiet { AreQuiet self.old.lanes → AreQuiet self.new.lanes }
     {
         let decision = match self.plan_settling() {
             Ok(decision) => decision,
@@ -48,6 +50,7 @@ impl<D: Mdisk> Store<D> {
         ensures decides { Decides result self.old self.new command.now settled.now }
         ensures grain { self.new.control.grain ≡ self.old.control.grain }
         ensures disks { disks_in self.new.lanes ≡ disks_in self.old.lanes }
+        ensures quiet { AnswersUnarmed result command.now → AreQuiet self.old.lanes → AreQuiet self.new.lanes }
     {
         let decision = match self.plan_command(command) {
             Ok(decision) => decision,

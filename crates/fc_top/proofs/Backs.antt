@@ -1,20 +1,22 @@
 -- The counts of the lanes' disks are those that the entries tell.
-use Rattle.std.proofs.Common.{◌≡◌, ℕ, ◌+◌, ◌*◌, ◌^◌, ◌<◌, ◌≤◌, List, [], ◌∷◌, length, map, slice_index_or, sym, ◌∙◌, ap, subst, arith}
+use Rattle.std.proofs.Common.{◌≡◌, ℕ, ◌+◌, ◌*◌, ◌^◌, ◌<◌, ◌≤◌, List, [], ◌∷◌, length, map, slice_index_or, sym, ◌∙◌, ap, subst, arith, suc, refl}
 use Rattle.std.specs.List.{All, sum}
 use Rattle.std.proofs.Math.Nat.{min-eq_left}
 use Rattle.std.proofs.lemmas.List.{ext_get_or, get_or-map, length-map}
 use Rattle.std.proofs.lemmas.List.Elements.{All-get_or, All-from_get_or}
-use Rattle.std.proofs.lemmas.List.Sums.{sum-map}
+use Rattle.std.proofs.lemmas.List.Sums.{sum-map, sum_by-cons}
 use Rattle.fc_base.specs.declared.size.GrainSize.{GrainSize}
 use Rattle.fc_entry.specs.declared.entry.Entry.{Entry}
-use Rattle.fc_grains.specs.Grains.{pool_of, stopped}
+use Rattle.fc_grains.specs.Grains.{pool_of, stopped, silent_of}
 use Rattle.fc_lane.specs.Lane.{LaneView}
 use Rattle.fc_legal.specs.Legal.{IsLegal}
 use Rattle.fc_legal.specs.Whole.{Whole, part_at}
 use Rattle.fc_mdisk.specs.Disk.{DiskState}
-use Rattle.fc_store.specs.Dealing.{AreAllIn, disks_in}
+use Rattle.fc_store.specs.Dealing.{AreAllIn, disks_in, faults_in}
 use Rattle.fc_store.specs.Store.{StoreView, StandsFor, IsLaneAt}
 use Rattle.fc_top.specs.DisksBack.{AreBack, AreCounted}
+use Rattle.fc_store.specs.Arming.{ArmNothing}
+use Rattle.fc_store.specs.Quiet.{AreQuiet}
 use Rattle.fc_top.proofs.Counting.{IsLegal-counts}
 
 few-counted : (n m : ℕ) → n ≤ m * 2 ^ 32 → m ≤ 262144 → n + 1 < 2 ^ 64
@@ -84,15 +86,26 @@ lane_in s w stands = first s.lanes (omega (arith, stands.count, stands.stands.ea
     first [] some = absurd (omega (arith, some))
     first (v ∷ ls) some = v
 
+-- lanes none of whose disks ever failed
+counted-quiet : (ls : List LaneView) → AreQuiet ls → All (λ (v : LaneView). v.grains.faults + 1 < 2 ^ 64) ls
+counted-quiet ls quiet i d within = omega (arith, (quiet i d within).faults)
+
+faults-quiet : (ls : List LaneView) → AreQuiet ls → faults_in ls ≡ 0
+faults-quiet [] quiet = refl
+faults-quiet (v ∷ vs) quiet =
+    let rest : faults_in vs ≡ 0 = faults-quiet vs (λ i d within. quiet (suc i) d (omega (arith, within))) in
+    omega (arith, sum_by-cons (λ (x : LaneView). x.grains.faults) v vs, (quiet 0 v (omega arith)).faults, rest)
+
 -- all disks that the lanes have, as many as were handed in
 pub AreBack-all :
-    (old given : List DiskState) (s : StoreView) (w : Whole) →
+    (old given : List DiskState) (s : StoreView) (history : List Entry) (w : Whole) →
     StandsFor s w →
     w.entries ≤ 262144 →
     disks_in s.lanes ≡ pool_of old →
     AreAllIn s.lanes given →
-    AreBack old given w
-AreBack-all old given s w stands entries many all =
+    (ArmNothing history → silent_of old ≡ 0 → AreQuiet s.lanes) →
+    AreBack old given history w
+AreBack-all old given s history w stands entries many all quiet =
     let d : LaneView = lane_in s w stands in
     let calls_are = calls_told s w d stands entries in
     let faults_are = faults_told s w d stands in
@@ -106,6 +119,7 @@ AreBack-all old given s w stands entries many all =
       faults = λ counted.
           all.faults (All-of_map (λ n. n + 1 < 2 ^ 64) faults_of_lane s.lanes d (subst AreCounted (sym faults_are) counted))
           ∙ (sym (sum-map faults_of_lane s.lanes) ∙ ap sum faults_are);
+      quiet = λ none told. let q = quiet none told in all.faults (counted-quiet s.lanes q) ∙ faults-quiet s.lanes q;
     }
 
 -- after a legal history of no more than the greatest number of entries
@@ -117,6 +131,7 @@ pub AreBack-legal :
     StandsFor s last →
     disks_in s.lanes ≡ pool_of old →
     AreAllIn s.lanes given →
-    AreBack old given last
-AreBack-legal old given s grain history w last fresh legal few stands many all =
-    AreBack-all old given s last stands (omega (arith, fresh, few, IsLegal-counts grain w last history legal)) many all
+    (ArmNothing history → silent_of old ≡ 0 → AreQuiet s.lanes) →
+    AreBack old given history last
+AreBack-legal old given s grain history w last fresh legal few stands many all quiet =
+    AreBack-all old given s history last stands (omega (arith, fresh, few, IsLegal-counts grain w last history legal)) many all quiet

@@ -3,7 +3,7 @@ use Rattle.std.proofs.Common.{◌≡◌, ◌≢◌, ◌≤◌, List, [], length,
 use Rattle.fc_base.specs.declared.size.GrainSize.{GrainSize}
 use Rattle.fc_entry.specs.HistoryState.{HistoryState}
 use Rattle.fc_entry.specs.declared.entry.Entry.{Entry}
-use Rattle.fc_grains.specs.Grains.{pool_of}
+use Rattle.fc_grains.specs.Grains.{pool_of, silent_of}
 use Rattle.fc_io.specs.Sink.{SinkState}
 use Rattle.fc_io.specs.Source.{SourceState}
 use Rattle.fc_legal.specs.Legal.{IsLegal}
@@ -17,6 +17,7 @@ use Rattle.fc_run.proofs.HeadlineLemmas.{SessionEnds-starved}
 use Rattle.fc_store.specs.Dealing.{AreAllIn, disks_in}
 use Rattle.fc_store.specs.Store.{StoreView, StandsFor}
 use Rattle.fc_top.specs.DisksBack.{DisksAfter}
+use Rattle.fc_store.specs.Quiet.{QuietBy}
 use Rattle.fc_top.proofs.Backs.{AreBack-legal}
 
 -- the disks that a store gave after a session
@@ -29,21 +30,22 @@ pub DisksAfter-given :
     StandsUnlessStarved ended (StandsFor s last) →
     disks_in s.lanes ≡ pool_of old →
     AreAllIn s.lanes given →
-    DisksAfter ended old given last
-DisksAfter-given status.Done old given s grain history w last ran fresh legal few stands many all =
-    AreBack-legal old given s grain history w last fresh legal few stands many all
-DisksAfter-given status.Usage old given s grain history w last ran fresh legal few stands many all = absurd (ran refl)
-DisksAfter-given status.ReadFault old given s grain history w last ran fresh legal few stands many all =
-    AreBack-legal old given s grain history w last fresh legal few stands many all
-DisksAfter-given status.WriteFault old given s grain history w last ran fresh legal few stands many all =
-    AreBack-legal old given s grain history w last fresh legal few stands many all
-DisksAfter-given status.NoMemory old given s grain history w last ran fresh legal few stands many all = tt
-DisksAfter-given status.LogFull old given s grain history w last ran fresh legal few stands many all =
-    AreBack-legal old given s grain history w last fresh legal few stands many all
-DisksAfter-given status.TooLong old given s grain history w last ran fresh legal few stands many all =
-    AreBack-legal old given s grain history w last fresh legal few stands many all
-DisksAfter-given status.Unended old given s grain history w last ran fresh legal few stands many all =
-    AreBack-legal old given s grain history w last fresh legal few stands many all
+    (silent_of old ≡ 0 → StandsUnlessStarved ended (QuietBy history s.lanes)) →
+    DisksAfter ended old given history last
+DisksAfter-given status.Done old given s grain history w last ran fresh legal few stands many all quiet =
+    AreBack-legal old given s grain history w last fresh legal few stands many all (λ none told. quiet told none)
+DisksAfter-given status.Usage old given s grain history w last ran fresh legal few stands many all quiet = absurd (ran refl)
+DisksAfter-given status.ReadFault old given s grain history w last ran fresh legal few stands many all quiet =
+    AreBack-legal old given s grain history w last fresh legal few stands many all (λ none told. quiet told none)
+DisksAfter-given status.WriteFault old given s grain history w last ran fresh legal few stands many all quiet =
+    AreBack-legal old given s grain history w last fresh legal few stands many all (λ none told. quiet told none)
+DisksAfter-given status.NoMemory old given s grain history w last ran fresh legal few stands many all quiet = tt
+DisksAfter-given status.LogFull old given s grain history w last ran fresh legal few stands many all quiet =
+    AreBack-legal old given s grain history w last fresh legal few stands many all (λ none told. quiet told none)
+DisksAfter-given status.TooLong old given s grain history w last ran fresh legal few stands many all quiet =
+    AreBack-legal old given s grain history w last fresh legal few stands many all (λ none told. quiet told none)
+DisksAfter-given status.Unended old given s grain history w last ran fresh legal few stands many all quiet =
+    AreBack-legal old given s grain history w last fresh legal few stands many all (λ none told. quiet told none)
 
 -- memory was wanted before anything was read
 pub ends-starved :
@@ -52,7 +54,7 @@ pub ends-starved :
     (last : Whole)
     × SessionEnds status.NoMemory grain w source source sink sink history last
     × IsLegal grain w history.entries last
-    × DisksAfter status.NoMemory old new last
+    × DisksAfter status.NoMemory old new history.entries last
 ends-starved grain w source sink history old new none =
     let P : List Entry → Type 0 = λ es. IsLegal grain w es w in
     (w, SessionEnds-starved grain w source sink history none, subst P (sym none) refl, tt)

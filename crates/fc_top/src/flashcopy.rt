@@ -2,7 +2,8 @@
 
 ghost use Rattle.std.specs.Prelude.{◌≡◌, ◌≢◌, ◌≤◌, ◌<◌, ◌^◌, ◌↔◌, [], ◌∷◌, List, map, length, codes, vec_len, vec_capacity, None, OnOk, OnErr};
 ghost use Rattle.std.specs.List.{All};
-ghost use Rattle.fc_grains.specs.Grains.{pool_of, total_of};
+ghost use Rattle.fc_store.specs.Quiet.{AreQuiet};
+ghost use Rattle.fc_grains.specs.Grains.{pool_of, total_of, silent_of};
 ghost use Rattle.fc_legal.specs.Legal.{IsLegal};
 ghost use Rattle.fc_legal.specs.Whole.{Whole};
 ghost use Rattle.fc_mdisk.specs.Disk.{DiskState, IsFresh};
@@ -59,11 +60,11 @@ fn run_store<S: Source, K: Sink, D: Mdisk>(
     requires main { history.old ≡ record { actors = codes "main" ∷ []; entries = [] } }
     requires none { disks.old.items ≡ [] }
     requires room { total_of (disks_in store.lanes) ≤ vec_capacity disks.old }
-    ensures ends { (w : Whole) (old : List DiskState) → StandsFor store w → w.entries ≡ 0 → disks_in store.lanes ≡ pool_of old → (last : Whole)
+    ensures ends { (w : Whole) (old : List DiskState) → StandsFor store w → w.entries ≡ 0 → disks_in store.lanes ≡ pool_of old → (silent_of old ≡ 0 → AreQuiet store.lanes) → (last : Whole)
         × SessionEnds result store.control.grain w (S.meaning source.old) (S.meaning source.new)
         (K.meaning sink.old) (K.meaning sink.new) history.new last
         × IsLegal store.control.grain w history.new.entries last
-        × DisksAfter result old (map D.meaning disks.new.items) last }
+        × DisksAfter result old (map D.meaning disks.new.items) history.new.entries last }
     ensures takes { EachGave (S.meaning source.old) (S.meaning source.new) }
     ensures limit { length history.new.entries ≤ 262144 }
     ensures ran { result ≢ Status.Usage }
@@ -91,7 +92,7 @@ fn run_grain<S: Source, K: Sink, D: Mdisk>(
         × SessionEnds result grain (begun old) (S.meaning source.old) (S.meaning source.new)
         (K.meaning sink.old) (K.meaning sink.new) history.new last
         × IsLegal grain (begun old) history.new.entries last
-        × DisksAfter result old (map D.meaning disks.new.items) last }
+        × DisksAfter result old (map D.meaning disks.new.items) history.new.entries last }
     ensures takes { EachGave (S.meaning source.old) (S.meaning source.new) }
     ensures limit { length history.new.entries ≤ 262144 }
     ensures ran { result ≢ Status.Usage }
@@ -129,7 +130,7 @@ pub fn flashcopy_over<S: Source, K: Sink, G: Gate, D: Mdisk>(
         × SessionEnds result grain (begun old) (S.meaning source.old) (S.meaning source.new)
         (K.meaning sink.old) (K.meaning sink.new) history.new last
         × IsLegal grain (begun old) history.new.entries last
-        × DisksAfter result old (map D.meaning disks.new.items) last }
+        × DisksAfter result old (map D.meaning disks.new.items) history.new.entries last }
     ensures takes { EachGave (S.meaning source.old) (S.meaning source.new) }
     ensures limit { length history.new.entries ≤ 262144 }
 {
@@ -168,7 +169,7 @@ pub fn flashcopy<S: Source, K: Sink, G: Gate>(
         × SessionEnds result grain (begun old) (S.meaning source.old) (S.meaning source.new)
         (K.meaning sink.old) (K.meaning sink.new) history.new last
         × IsLegal grain (begun old) history.new.entries last
-        × DisksAfter result old (map ⟦<BoxedDisk as Mdisk>⟧.meaning disks.new.items) last }
+        × DisksAfter result old (map ⟦<BoxedDisk as Mdisk>⟧.meaning disks.new.items) history.new.entries last }
     ensures takes { EachGave (S.meaning source.old) (S.meaning source.new) }
     ensures limit { length history.new.entries ≤ 262144 }
 {

@@ -3,7 +3,8 @@
 ghost use Rattle.std.specs.Prelude.{◌≡◌, ◌≤◌, ℕ, List, length, Ok};
 ghost use Rattle.fc_legal.specs.Whole.{Whole};
 ghost use Rattle.fc_run.specs.Reading.{reading, as_built};
-ghost use Rattle.fc_store.specs.Answering.{IsTold, LineAnswered, TellsSome};
+ghost use Rattle.fc_store.specs.Answering.{IsTold, LineAnswered, StaysUp, TellsSome};
+ghost use Rattle.fc_store.specs.Quiet.{QuietBy};
 ghost use Rattle.fc_store.specs.Dealing.{disks_in};
 ghost use Rattle.fc_store.specs.Store.{StandsFor};
 
@@ -34,6 +35,8 @@ impl<D: Mdisk> LineStore for Owner<D> {
 
     ghost disks = { λ owner. disks_in owner.store.lanes };
 
+    ghost Quiet = { λ owner entries. QuietBy entries owner.store.lanes };
+
     ghost Stands = { λ owner w. StandsFor owner.store w };
 
     fn answer(&mut self, line: &[u8], history: &mut History) -> Result<(), Stop> {
@@ -58,6 +61,7 @@ fn answer_line<D: Mdisk>(
         LineAnswered result (StandsFor store.new) store.old.control.grain reading w bytes history.old history.new }
     ensures grain { store.new.control.grain ≡ store.old.control.grain }
     ensures disks { disks_in store.new.lanes ≡ disks_in store.old.lanes }
+    ensures quiet { QuietBy history.old.entries store.old.lanes → StaysUp result (QuietBy history.new.entries store.new.lanes) }
     ensures limit { length history.new.entries ≤ 262144 }
 {
     if is_built(&line) {

@@ -1,6 +1,7 @@
 -- The end of input ends a line, or none is open; another ending is left as it is.
 use Rattle.std.proofs.Common.{rules, Ok, Err, refl}
 use Rattle.fc_run.proofs.EndingLemmas.{SessionRead-answered, SessionRead-other, ReadTo-at_end, some_line}
+use Rattle.fc_run.proofs.Staying.{StandsAtEnd-end, StandsAtEnd-stopped}
 use Rattle.fc_run.proofs.ending.end_input.Goals as goal
 
 pub returns-in-Ok-clause-read : goal.returns-in-Ok-clause-read
@@ -27,5 +28,19 @@ returns-in_default g c = record {
   actors = refl;
   grain = refl;
   disks = refl;
+  quiet = λ q. q;
   limit = c.requires.room;
 }
+
+pub returns-then-is_empty-clause-quiet : goal.returns-then-is_empty-clause-quiet
+returns-then-is_empty-clause-quiet g c = λ q.
+    StandsAtEnd-end c.args.ending (g.L.LineStore.Quiet c.args.store.now c.args.history.now.entries) c.in-End.is q
+
+pub returns-in-Ok-clause-quiet : goal.returns-in-Ok-clause-quiet
+returns-in-Ok-clause-quiet g c = λ q.
+    c.in-Ok.ensures.quiet (StandsAtEnd-end c.args.ending (g.L.LineStore.Quiet c.args.store.now c.args.history.now.entries) c.in-End.is q)
+
+pub returns-in-Err-clause-quiet : goal.returns-in-Err-clause-quiet
+returns-in-Err-clause-quiet g c = λ q.
+    StandsAtEnd-stopped c.in-Err.stop (g.L.LineStore.Quiet c.answer.new.self c.answer.new.history.entries)
+    (c.in-Err.ensures.quiet (StandsAtEnd-end c.args.ending (g.L.LineStore.Quiet c.args.store.now c.args.history.now.entries) c.in-End.is q))

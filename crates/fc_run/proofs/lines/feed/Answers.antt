@@ -25,6 +25,7 @@ loop-byte-preserved g c = record {
   actors = c.in-Ok.ensures.actors ∙ c.loop-byte.invariant.actors;
   grain = c.in-Ok.ensures.grain ∙ c.loop-byte.invariant.grain;
   disks = c.in-Ok.ensures.disks ∙ c.loop-byte.invariant.disks;
+  quiet = λ q. c.in-Ok.ensures.quiet (c.loop-byte.invariant.quiet q);
 }
 
 pub returns-clause-fed : goal.returns-clause-fed
@@ -32,3 +33,6 @@ returns-clause-fed g c = λ w bytes before.
     Fed-whole (g.L.LineStore.Stands c.loop-byte.store) (g.L.LineStore.grain c.args.store.now) w bytes c.args.piece.now
     c.loop-byte.line.items c.loop-byte.byte-index c.loop-byte.history.entries (omega (arith, c.loop-byte-test.false))
     (c.loop-byte.invariant.fed w bytes before)
+
+pub returns-in-Err-clause-quiet : goal.returns-in-Err-clause-quiet
+returns-in-Err-clause-quiet g c = λ q. c.in-Err.ensures.quiet (c.loop-byte.invariant.quiet q)

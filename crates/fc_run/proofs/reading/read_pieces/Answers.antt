@@ -3,6 +3,7 @@ use Rattle.std.proofs.Common.{arith, ◌≡◌, ◌∙◌, ◌≤◌, length, ta
 use Rattle.fc_legal.specs.Whole.{Whole}
 use Rattle.fc_run.specs.declared.reading.Turn.TheVariants as turn
 use Rattle.fc_run.proofs.ReadingLemmas.{ReadTo-past, ReadTo-end, ReadTo-fault, ReadTo-stopped, SoFar-more, SoFar-start, Turned-here, within-limit}
+use Rattle.fc_run.proofs.Staying.{StandsAtEnd-always, StandsAtEnd-turned}
 use Rattle.fc_run.proofs.reading.read_pieces.Goals as goal
 
 pub returns-clause-read : goal.returns-clause-read
@@ -37,6 +38,7 @@ loop-taken-preserved g c =
       actors = c.in-More.ensures.actors ∙ c.loop-taken.invariant.actors;
       grain = c.in-More.ensures.grain ∙ c.loop-taken.invariant.grain;
       disks = c.in-More.ensures.disks ∙ c.loop-taken.invariant.disks;
+      quiet = λ q. c.in-More.ensures.quiet (c.loop-taken.invariant.quiet q);
     }
 
 pub returns-in-End-clause-read : goal.returns-in-End-clause-read
@@ -89,3 +91,18 @@ returns-in-Stopped-clause-read g c = λ w stands fresh.
 
 pub loop-taken-smaller : goal.loop-taken-smaller
 loop-taken-smaller g c = omega (arith, c.in-More.ensures.within.0, c.loop-taken-test.true)
+
+pub returns-clause-quiet : goal.returns-clause-quiet
+returns-clause-quiet g c = λ q.
+    StandsAtEnd-always c.ask_past_limit.result (g.L.LineStore.Quiet c.loop-taken.store c.loop-taken.history.entries) (c.loop-taken.invariant.quiet q)
+
+pub returns-in-End-clause-quiet : goal.returns-in-End-clause-quiet
+returns-in-End-clause-quiet g c = λ q. c.in-End.ensures.quiet (c.loop-taken.invariant.quiet q)
+
+pub returns-in-Fault-clause-quiet : goal.returns-in-Fault-clause-quiet
+returns-in-Fault-clause-quiet g c = λ q. c.in-Fault.ensures.quiet (c.loop-taken.invariant.quiet q)
+
+pub returns-in-Stopped-clause-quiet : goal.returns-in-Stopped-clause-quiet
+returns-in-Stopped-clause-quiet g c = λ q.
+    StandsAtEnd-turned c.in-Stopped.field-0 c.in-Stopped.stop (g.L.LineStore.Quiet c.take_turn.new.store c.take_turn.new.history.entries)
+    (c.in-Stopped.ensures.quiet (c.loop-taken.invariant.quiet q))

@@ -18,6 +18,7 @@ invariant-loop-taken g l =
       actors : l.history.actors ≡ l.fn.history.actors;
       grain : g.L.LineStore.grain l.store ≡ grain;
       disks : g.L.LineStore.disks l.store ≡ g.L.LineStore.disks l.fn.store;
+      quiet : g.L.LineStore.Quiet l.fn.store l.fn.history.entries → g.L.LineStore.Quiet l.store l.history.entries;
     }
 
 abbrev pub decreases-loop-taken : goal.decreases-loop-taken

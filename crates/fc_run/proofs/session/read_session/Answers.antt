@@ -7,3 +7,6 @@ pub returns-in-Err-clause-read : goal.returns-in-Err-clause-read
 returns-in-Err-clause-read g c = λ w stands fresh.
     SessionRead-starved (g.S.Source.meaning c.args.source.now) (g.L.LineStore.Stands c.args.store.now)
     (g.L.LineStore.grain c.args.store.now) w c.args.history.now.entries c.requires.first_entry
+
+pub returns-clause-quiet : goal.returns-clause-quiet
+returns-clause-quiet g c = λ q. c.end_input.ensures.quiet (c.read_pieces-ending.ensures.quiet q)

@@ -2,6 +2,7 @@
 use Rattle.fc_run.proofs.HeadlineLemmas.{HasNames-read, SessionEnds-status, status_for-ran}
 use Rattle.std.proofs.Common.{codes, ◌∙◌, ◌≡◌, ap, is_err, List, length}
 use Rattle.fc_entry.specs.declared.entry.Entry.{Entry}
+use Rattle.fc_run.proofs.Staying.{Stands-status}
 use Rattle.fc_run.proofs.session.run_session.Goals as goal
 
 pub write_text-written-requires : goal.write_text-written-requires
@@ -26,3 +27,9 @@ returns-clause-ends g c = λ w stands fresh.
 pub returns-clause-ran : goal.returns-clause-ran
 returns-clause-ran g c =
     status_for-ran c.status_of.result c.read_session-ending.result (is_err c.write_text-written.result) c.status_of.ensures
+
+pub returns-clause-quiet : goal.returns-clause-quiet
+returns-clause-quiet g c = λ q.
+    Stands-status c.status_of.result c.read_session-ending.result (is_err c.write_text-written.result)
+    (g.L.LineStore.Quiet c.read_session-ending.new.store c.read_session-ending.new.history.entries)
+    c.status_of.ensures (c.read_session-ending.ensures.quiet q)

@@ -11,12 +11,12 @@ reserve-requires-clause-fit g c =
 pub returns-in-Err-clause-ready : goal.returns-in-Err-clause-ready
 returns-in-Err-clause-ready g c =
     ready_so_far c.args.events.now c.loop-place.place c.args.lanes.now c.loop-place.lanes c.reserve.new.self c.index-lanes-place.result c.loop-place.invariant c.loop-place-test.true
-    (record { same = c.in-Err.ensures.same; stands = c.in-Err.ensures.stands })
+    (record { same = c.in-Err.ensures.same; stands = c.in-Err.ensures.stands; quiet = λ q. (c.in-Err.ensures.quiet q, c.in-Err.ensures.faults) })
 
 pub loop-place-preserved : goal.loop-place-preserved
 loop-place-preserved g c =
     one_more_lane (IsMadeReady c.args.events.now) c.loop-place.place c.args.lanes.now c.loop-place.lanes c.reserve.new.self c.index-lanes-place.result c.loop-place.invariant c.loop-place-test.true
-    (record { same = c.in-Ok.ensures.same; stands = c.in-Ok.ensures.stands }, c.in-Ok.ensures.ok)
+    (record { same = c.in-Ok.ensures.same; stands = c.in-Ok.ensures.stands; quiet = λ q. (c.in-Ok.ensures.quiet q, c.in-Ok.ensures.faults) }, c.in-Ok.ensures.ok)
 
 pub returns-clause-ok : goal.returns-clause-ok
 returns-clause-ok g c = all_can c.args.events.now c.loop-place.place c.args.lanes.now c.loop-place.lanes c.loop-place.invariant c.loop-place-test.false

@@ -2,7 +2,7 @@
 use Rattle.std.proofs.Common.{◌≡◌, [], List, ◌∙◌, ap, arith, length, map, refl, subst, sym, vec_len}
 use Rattle.std.proofs.lemmas.List.{length-map}
 use Rattle.fc_base.specs.declared.size.GrainSize.{GrainSize}
-use Rattle.fc_grains.specs.Grains.{pool_of}
+use Rattle.fc_grains.specs.Grains.{pool_of, silent_of}
 use Rattle.fc_legal.specs.Legal.{IsLegal}
 use Rattle.fc_legal.specs.Whole.{Whole}
 use Rattle.fc_mdisk.specs.Disk.{DiskState}
@@ -45,5 +45,5 @@ returns-in-Ok-new-clause-ends g c =
     × SessionEnds c.run_store.result grain (begun old) (g.S.Source.meaning c.args.source.now) (g.S.Source.meaning c.run_store.new.source)
     (g.K.Sink.meaning c.args.sink.now) (g.K.Sink.meaning c.run_store.new.sink) c.run_store.new.history last
     × IsLegal grain (begun old) c.run_store.new.history.entries last
-    × DisksAfter c.run_store.result old (map g.D.Mdisk.meaning c.run_store.new.disks.items) last in
-    subst P c.in-Ok-new.ensures.grain (c.run_store.ensures.ends (begun old) old stands refl counted)
+    × DisksAfter c.run_store.result old (map g.D.Mdisk.meaning c.run_store.new.disks.items) c.run_store.new.history.entries last in
+    subst P c.in-Ok-new.ensures.grain (c.run_store.ensures.ends (begun old) old stands refl counted (λ told. c.in-Ok-new.ensures.quiet (ap (λ v. silent_of (map g.D.Mdisk.meaning v.items)) same ∙ told)))

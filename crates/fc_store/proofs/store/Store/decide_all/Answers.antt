@@ -1,4 +1,5 @@
 use Rattle.fc_store.proofs.CommandPhases.{decision_can, decision_done}
+use Rattle.fc_store.proofs.Quieting.{decided_quiet}
 use Rattle.fc_store.proofs.store.Store.decide_all.Goals as goal
 
 pub reserve_all-requires : goal.reserve_all-requires
@@ -8,3 +9,8 @@ pub returns-clause-decides : goal.returns-clause-decides
 returns-clause-decides g c =
     decision_done c.args.self.now c.reserve_all.new.self c.apply_all.new.self c.args.command.now c.in-Ok.decision c.told.result.0 c.args.settled.now c.told.result.1 c.in-Ok.ensures
     c.reserve_all.ensures.reserved c.apply_all.ensures.done c.told.ensures.reply (c.told.ensures.effects c.args.settled.now c.in-Ok-join.ensures)
+
+pub returns-clause-quiet : goal.returns-clause-quiet
+returns-clause-quiet g c =
+    decided_quiet c.args.self.now c.reserve_all.new.self c.apply_all.new.self c.args.command.now c.in-Ok.decision c.told.result.0 c.requires.stands c.in-Ok.ensures
+    c.reserve_all.ensures.reserved c.apply_all.ensures.done c.told.ensures.reply

@@ -9,6 +9,7 @@ use Rattle.fc_legal.specs.Steps.{one_more}
 use Rattle.fc_store.specs.Store.{StandsFor}
 use Rattle.fc_store.proofs.Logging.{IsTurn, is_full, is_logged}
 use Rattle.fc_store.proofs.Turning.{refused_turn}
+use Rattle.fc_store.proofs.Quieting.{quiet_logged}
 use Rattle.fc_store.proofs.store.Store.log_refused.Goals as goal
 
 pub returns-then-is_full-clause-answered : goal.returns-then-is_full-clause-answered
@@ -26,3 +27,7 @@ returns-clause-answered g c = λ w told.
     (subst Turn (sym entry_is)
     (refused_turn c.args.self.now w c.len.result c.args.request c.args.refusal told.0 (told.1 ∙ sym c.len.ensures) (c.requires.refused w told)))
     told.1 c.log.ensures.ok c.log.ensures.err c.log.ensures.stop
+
+pub returns-clause-quiet : goal.returns-clause-quiet
+returns-clause-quiet g c = λ quiet.
+    quiet_logged c.log.result c.args.self.now.lanes c.args.history.now c.log.new.history c.entry_apart-entry.result (λ none unarmed. quiet none) c.log.ensures.ok c.log.ensures.stop

@@ -27,7 +27,7 @@ returns-clause-stands g c =
 
 pub returns-clause-quiet : goal.returns-clause-quiet
 returns-clause-quiet g c told =
-    quiet_made c.args.grain 4 (map g.D.Mdisk.meaning c.args.disks.items) c.in-Ok-make_lanes.lanes.items (made g c) told (omega arith)
+    quiet_made c.args.grain 4 (map g.D.Mdisk.meaning c.args.disks.items) c.in-Ok-make_lanes.lanes.items (made g c) told (omega arith) c.requires.fresh
 
 pub returns-clause-disks : goal.returns-clause-disks
 returns-clause-disks g c =

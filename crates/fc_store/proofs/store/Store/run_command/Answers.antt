@@ -4,6 +4,8 @@ use Rattle.fc_store.specs.Store.{StandsFor}
 use Rattle.fc_store.specs.declared.stop.Stop.{Stop}
 use Rattle.fc_store.proofs.CommandRuns.{AnswersCommand, can_settle, can_decide, ran_whole, ran_unsettled}
 use Rattle.fc_store.proofs.Logging.{is_full}
+use Rattle.fc_store.specs.Answering.{StaysUp}
+use Rattle.fc_store.specs.Quiet.{QuietBy}
 use Rattle.fc_store.proofs.store.Store.run_command.Goals as goal
 
 pub returns-then-is_full-clause-answered : goal.returns-then-is_full-clause-answered
@@ -28,3 +30,14 @@ pub returns-in-Err-clause-answered : goal.returns-in-Err-clause-answered
 returns-in-Err-clause-answered g c =
     ran_unsettled c.log_unsettled.result c.args.self.now c.settle_all.new.self c.args.command c.args.history.now c.log_unsettled.new.history
     c.settle_all.ensures.grain c.log_unsettled.ensures.answered c.in-Err.ensures.settles
+
+pub returns-then-is_full-clause-quiet : goal.returns-then-is_full-clause-quiet
+returns-then-is_full-clause-quiet g c = λ quiet.
+    let P : Result (Unit {0}) Stop → Type 0 = λ result. StaysUp result (QuietBy c.args.history.now.entries c.args.self.now.lanes) in
+    subst P (sym c.full.ensures) quiet
+
+pub returns-in-Ok-clause-quiet : goal.returns-in-Ok-clause-quiet
+returns-in-Ok-clause-quiet g c = λ quiet. c.run_settled.ensures.quiet (λ none. c.settle_all.ensures.quiet (quiet none))
+
+pub returns-in-Err-clause-quiet : goal.returns-in-Err-clause-quiet
+returns-in-Err-clause-quiet g c = λ quiet. c.log_unsettled.ensures.quiet (λ none. c.settle_all.ensures.quiet (quiet none))

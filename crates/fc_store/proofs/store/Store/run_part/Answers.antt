@@ -14,6 +14,8 @@ use Rattle.fc_store.specs.Dealing.{disks_in}
 use Rattle.fc_store.proofs.Ranging.{disks_stay}
 use Rattle.fc_store.proofs.Parting.{can_access, inside, turn}
 use Rattle.fc_store.proofs.Turning.{in_grain}
+use Rattle.fc_store.proofs.Quieting.{keeps_roomy, one_keeps, quiet_logged}
+use Rattle.fc_store.specs.Quiet.{AreQuiet}
 use Rattle.fc_store.proofs.store.Store.run_part.Goals as goal
 
 pub returns-then-is_full-clause-answered : goal.returns-then-is_full-clause-answered
@@ -92,3 +94,20 @@ returns-clause-disks g c =
     disks_stay c.self.inside.lanes.items (c.args.grain % c.len.result) c.index_mut-lane.result.now c.access_lane-entry.new.lane there
     c.index_mut-lane.ensures.value (c.access_lane-entry.ensures.same.disks ∙ ap (λ (v : LaneView). v.grains.disks) c.in-Ok.ensures.same)
     ∙ ap (λ (s : StoreView). disks_in s.lanes) (sym same)
+
+pub returns-clause-quiet : goal.returns-clause-quiet
+returns-clause-quiet g c = λ quiet.
+    let same : c.args.self.now ≡ record { control = c.self.inside.control; lanes = c.self.inside.lanes.items } = sym c.self.view_is in
+    let many : c.len.result ≡ length c.self.inside.lanes.items = omega (arith, c.len.ensures) in
+    let there = subst (λ (s : StoreView). c.args.grain % c.len.result < length s.lanes) same
+    (inside c.args.self.now c.requires.stands.0 c.args.grain (c.args.grain % c.len.result) c.index_mut-lane.result.now c.make_room.new.self
+    c.make_room.new.self.plan_room c.make_room.new.self.entry_room c.requires.stands.1.0
+    (ap (λ n. c.args.grain % n) (many ∙ ap (λ (s : StoreView). length s.lanes) (sym same)))
+    (c.index_mut-lane.ensures.value ∙ ap (λ (s : StoreView). slice_index_or s.lanes (c.args.grain % c.len.result) c.index_mut-lane.result.now) (sym same))
+    c.in-Ok.ensures.same) in
+    quiet_logged c.log.result (slice_set c.self.inside.lanes.items (c.args.grain % c.len.result) c.access_lane-entry.new.lane) c.args.history.now c.log.new.history c.access_lane-entry.result
+    (λ none unarmed.
+    one_keeps c.self.inside.lanes.items (c.args.grain % c.len.result) c.index_mut-lane.result.now c.access_lane-entry.new.lane there c.index_mut-lane.ensures.value
+    (keeps_roomy c.index_mut-lane.result.now c.make_room.new.self c.access_lane-entry.new.lane (ap (λ (v : LaneView). v.grains) c.in-Ok.ensures.same) c.access_lane-entry.ensures.quiet)
+    (subst (λ (s : StoreView). AreQuiet s.lanes) same (quiet none)))
+    c.log.ensures.ok c.log.ensures.stop

@@ -43,6 +43,7 @@ loop-grain-preserved g c =
       room = c.in-Ok.ensures.limit;
       control = c.in-Ok.ensures.control ∙ c.loop-grain.invariant.control;
       disks = c.in-Ok.ensures.disks ∙ c.loop-grain.invariant.disks;
+      quiet = λ q. c.in-Ok.ensures.quiet (c.loop-grain.invariant.quiet q);
     }
 
 pub loop-grain-init : goal.loop-grain-init
@@ -58,6 +59,7 @@ loop-grain-init g c =
       room = c.requires.room;
       control = refl;
       disks = refl;
+      quiet = λ q. q;
     }
 
 pub returns-clause-answered : goal.returns-clause-answered
@@ -73,3 +75,9 @@ returns-clause-answered g c = λ w told.
     c.args.history.now c.loop-grain.history in
     subst Q (c.blocks-blocks.ensures ∙ ap grain_blocks (c.grain.ensures ∙ ap (λ (s : StoreView). s.control.grain) c.self.view_is))
     (subst P all (c.loop-grain.invariant.answered w told))
+
+pub returns-in-Err-clause-quiet : goal.returns-in-Err-clause-quiet
+returns-in-Err-clause-quiet g c = λ q. c.in-Err.ensures.quiet (c.loop-grain.invariant.quiet q)
+
+pub returns-clause-quiet : goal.returns-clause-quiet
+returns-clause-quiet g c = c.loop-grain.invariant.quiet

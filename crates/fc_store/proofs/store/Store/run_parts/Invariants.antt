@@ -6,6 +6,7 @@ use Rattle.fc_legal.specs.Whole.{Whole}
 use Rattle.fc_store.specs.Answering.{Answered, IsTold, TellsSome}
 use Rattle.fc_store.specs.Asking.{part_of}
 use Rattle.fc_store.specs.Dealing.{disks_in}
+use Rattle.fc_store.specs.Quiet.{QuietBy}
 use Rattle.fc_store.specs.Store.{StandsFor}
 use Rattle.fc_store.proofs.store.Store.run_parts.Given as goal
 
@@ -20,4 +21,5 @@ invariant-loop-grain g l = record {
   room : length l.history.entries ≤ MAX_ENTRIES;
   control : l.self.control ≡ l.initial.self.control;
   disks : disks_in l.self.lanes ≡ disks_in l.initial.self.lanes;
+  quiet : QuietBy l.initial.history.entries l.initial.self.lanes → QuietBy l.history.entries l.self.lanes;
 }

@@ -1,4 +1,5 @@
 use Rattle.fc_store.proofs.CommandPhases.{settling_can, settling_done}
+use Rattle.fc_store.proofs.Quieting.{settled_quiet}
 use Rattle.fc_store.proofs.store.Store.settle_all.Goals as goal
 
 pub reserve_all-requires : goal.reserve_all-requires
@@ -8,3 +9,7 @@ pub returns-clause-settles : goal.returns-clause-settles
 returns-clause-settles g c =
     settling_done c.args.self.now c.reserve_all.new.self c.apply_all.new.self c.in-Ok.decision c.effects_of.result c.effects_of.ensures c.in-Ok.ensures c.reserve_all.ensures.reserved
     c.apply_all.ensures.done
+
+pub returns-clause-quiet : goal.returns-clause-quiet
+returns-clause-quiet g c =
+    settled_quiet c.args.self.now c.reserve_all.new.self c.apply_all.new.self c.in-Ok.decision c.requires.stands c.in-Ok.ensures c.reserve_all.ensures.reserved c.apply_all.ensures.done
