@@ -72,8 +72,7 @@ then_passed A B (Ok _) done Before Stands grain w a b c x y z first second =
     (next.0, next.1, adds_more grain a b c w first.0 next.0 x y z first.2 next.2)
 then_passed A B (Err LogFull) done Before Stands grain w a b c x y z first second =
     let next = second first.0 first.1 in
-    let more : AddsRunToLimit grain b first.0 y z next.0 = next.2 in
-    (
+    let more : AddsRunToLimit grain b first.0 y z next.0 = next.2 in (
       next.0,
       next.1,
       record {
@@ -138,7 +137,7 @@ turn_over Stands grain w seconds over old new left h told idle is = (
   w,
   told,
   adds_pass grain (at seconds over old left) (at seconds over old left) (between seconds (over ++ new ∷ []) left) w w h h
-  (adds_nothing grain (at seconds over old left) w h) idle (ap (λ (x : Work). Some (between seconds (over ++ x ∷ []) left)) (sym is)),
+      (adds_nothing grain (at seconds over old left) w h) idle (ap (λ (x : Work). Some (between seconds (over ++ x ∷ []) left)) (sym is)),
 )
 
 -- without anything to do
@@ -239,8 +238,7 @@ pub turn_full :
     IsFull Stands w x y →
     Passed {A = Bool} (Err LogFull) Stands grain w (at seconds over old left) b x y
 turn_full Stands grain w seconds over old left g b x y next le full =
-    let P : HistoryState → Type 0 = λ h. AddsRun grain (at seconds over old left) w x h (at seconds over old left) w in
-    (
+    let P : HistoryState → Type 0 = λ h. AddsRun grain (at seconds over old left) w x h (at seconds over old left) w in (
       w,
       full.told,
       record {
@@ -309,7 +307,6 @@ module _ (Before Stands : Whole → Type 0) (grain size : GrainSize) (w : Whole)
       then_passed (Unit {0}) (Unit {0}) (Err stop) tt Before Stands grain w a (at seconds over old left) b x y z first
       (λ mid told. subst (λ n. Passed {A = Unit {0}} (Err stop) Stands n mid (at seconds over old left) b y z) same
       (passed_stopped Bool (Unit {0}) stop Stands size mid (at seconds over old left) (after_turn (Err stop) seconds over new left) b y z (second mid seconds over left told)))
-
 
 -- ---- all work, one after another
 

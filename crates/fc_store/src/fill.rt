@@ -34,13 +34,7 @@ fn lesser(a: Option<GrainNo>, b: Option<GrainNo>) -> Option<GrainNo>
     match (a, b) {
         (None, b) => b,
         (Some(a), None) => Some(a),
-        (Some(a), Some(b)) => {
-            if b.0 < a.0 {
-                Some(b)
-            } else {
-                Some(a)
-            }
-        }
+        (Some(a), Some(b)) => { if b.0 < a.0 { Some(b) } else { Some(a) } }
     }
 }
 
