@@ -1,20 +1,19 @@
 -- What the chains answer of dependents is what the definitions say.
-use Rattle.std.proofs.Common.{◌≡◌, ◌∙◌, sym, ap, subst, ℕ, zero, suc, ◌<◌, Bool, true, false, cond, ◌||◌, ◌==◌, List, [], ◌∷◌, map, length, Option, Some, None, Contains, refl, arith}
-use Rattle.std.specs.List.{list_any, filter}
-use Rattle.std.specs.Option.{option_map_or, ForSome}
+use Rattle.std.proofs.Common.{◌≡◌, ◌∙◌, sym, ap, subst, ℕ, ◌<◌, Bool, true, false, cond, ◌||◌, ◌==◌, List, [], ◌∷◌, map, length, Option, Some, None, Contains, refl, arith}
+use Rattle.std.specs.List.{list_any}
+use Rattle.std.specs.Option.{ForSome}
 use Rattle.std.proofs.lemmas.Bool.{eqb-true, eq-eqb, or_left, or_right}
 use Rattle.std.proofs.lemmas.Bool.Decides.{nat_tests}
 use Rattle.fc_base.specs.Column.{is_at}
 use Rattle.fc_base.specs.Need.{IsDependent, direct, onward}
 use Rattle.fc_base.specs.Sheet.{Slot, slot_at, mapping_place}
-use Rattle.fc_base.specs.SheetFacts.{HasSizes}
 use Rattle.fc_base.specs.SheetView.{AreMappings, DependsOn}
 use Rattle.fc_base.specs.declared.ids.MapId.{MapId}
 use Rattle.fc_base.specs.declared.volume.Mapping.{Mapping}
 use Rattle.fc_books.specs.Books.{Books}
-use Rattle.fc_books.specs.Copies.{places_behind, has_slot_among, dependents}
+use Rattle.fc_books.specs.Copies.{dependents}
 use Rattle.fc_books.specs.Sound.{AreSound}
-pub use Rattle.fc_books.proofs.DependentMaps.{any_in, any_of, same_tests, filter_by, id_found, id_there, has_slot, slot_has, those_are}
+pub use Rattle.fc_books.proofs.DependentMaps.{any_in, any_of, same_tests, id_found, id_there, has_slot, slot_has, those_are}
 use Rattle.fc_registry.proofs.Places.{IsAbove, Rises, rises}
 use Rattle.fc_control.proofs.StopEnds.{AreKnown}
 use Rattle.fc_control.proofs.StopHeld.{place_at}

@@ -1,18 +1,17 @@
 //! Why mappings aren't prepared or started.
 
-ghost use Rattle.std.specs.Prelude.{◌≡◌, ◌∷◌, ◌&&◌, ◌==◌, not, true, false, find, option_map, option_copied};
+ghost use Rattle.std.specs.Prelude.{◌≡◌, ◌∷◌, ◌&&◌, ◌==◌, true, false, find, option_map, option_copied};
 ghost use Rattle.fc_base.specs.States.{next_state};
-ghost use Rattle.fc_books.specs.Accesses.{is_idle, is_online, access_by};
+ghost use Rattle.fc_books.specs.Accesses.{is_online};
 ghost use Rattle.fc_books.specs.Refused.{refused_by};
 ghost use Rattle.fc_books.specs.RefusedStarts.{in_group, by_state, not_ready, is_rival};
 ghost use Rattle.fc_control.specs.Control.{books_of};
 ghost use Rattle.fc_entry.specs.Refused.{first_of};
 
 use crate::control::Control;
-use crate::ending::{is_active, is_idle};
+use crate::ending::is_active;
 use crate::rmvdisk::is_used;
 use fc_base::fault::Refusal;
-use fc_base::ids::VolId;
 use fc_base::sheet::Sheet;
 use fc_base::state::{Access, MapEvent, MapState};
 use fc_base::volume::Mapping;

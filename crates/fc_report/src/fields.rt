@@ -1,6 +1,6 @@
 //! Rows of fields, as they grow.
 
-ghost use Rattle.std.specs.Prelude.{◌≡◌, [], ◌∷◌, ◌++◌, map, take, decimal, IfOk, OnOk};
+ghost use Rattle.std.specs.Prelude.{◌≡◌, [], ◌∷◌, ◌++◌, map, decimal, IfOk, OnOk};
 
 use fc_base::list::List;
 use fc_base::outcome::NoMemory;

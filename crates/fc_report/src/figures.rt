@@ -1,7 +1,6 @@
 //! What reports count.
 
 ghost use Rattle.std.specs.Prelude.{◌≡◌, ◌-◌, count_by};
-ghost use Rattle.fc_base.specs.SheetView.{needed_of};
 ghost use Rattle.fc_base.specs.Tables.{Tables};
 ghost use Rattle.fc_books.specs.Columns.{percent, copied_in, progress, unneeded, cleaned_in, is_of};
 ghost use Rattle.fc_books.specs.Copies.{total};

@@ -6,7 +6,7 @@ ghost use Rattle.std.specs.Option.{unwrap_or};
 ghost use Rattle.fc_books.specs.Layout.{width_at, widths, fill, filled, laid_out};
 ghost use Rattle.fc_report.specs.Beside.{beside};
 
-use crate::fields::{Fields, text_of};
+use crate::fields::Fields;
 use fc_base::list::List;
 use fc_base::outcome::NoMemory;
 use fc_base::request::Rows;

@@ -1,7 +1,6 @@
 //! The fields of mappings.
 
-ghost use Rattle.std.specs.Prelude.{◌≡◌, [], ◌∷◌, ◌++◌, cond, codes, decimal, map, filter, Option, IfOk, OnOk, option_copied};
-ghost use Rattle.std.specs.Option.{option_and_then};
+ghost use Rattle.std.specs.Prelude.{◌≡◌, [], ◌∷◌, ◌++◌, cond, codes, decimal, map, filter, Option, IfOk, OnOk};
 ghost use Rattle.fc_base.specs.Tables.{partner_of, mapping_with};
 ghost use Rattle.fc_base.specs.declared.ids.GroupId.{GroupId};
 ghost use Rattle.fc_base.specs.declared.ids.MapId.{MapId};

@@ -1,6 +1,6 @@
 //! The fields of groups and volumes.
 
-ghost use Rattle.std.specs.Prelude.{◌≡◌, [], ◌∷◌, ◌++◌, ◌*◌, map, find, Option, IfOk, OnOk, option_copied};
+ghost use Rattle.std.specs.Prelude.{◌≡◌, ◌*◌, IfOk};
 ghost use Rattle.fc_base.specs.Grain.{grain_bytes};
 ghost use Rattle.fc_base.specs.Tables.{Tables};
 ghost use Rattle.fc_books.specs.Columns.{access_text, group_columns, volume_columns};
