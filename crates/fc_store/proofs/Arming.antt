@@ -2,12 +2,12 @@
 use Rattle.std.proofs.Common.{◌≡◌, ℕ, Bool, true, false, cond, ◌&&◌, List, [], ◌∷◌, ◌++◌, map, filter, flat_map, Option, Some, None, Result, Ok, Err, refl, true≢false}
 use Rattle.std.specs.List.{All}
 use Rattle.std.proofs.lemmas.List.Elements.{All-append, All-cons, All-contains, All-nil}
-use Rattle.fc_base.specs.States.{next_state}
+use Rattle.fc_base.specs.States.{access_of, next_state}
 use Rattle.fc_base.specs.Tables.{Tables, mapping_with, mapping_named, volume_named, group_named}
 use Rattle.fc_base.specs.declared.command.Command.{Command}
 use Rattle.fc_base.specs.declared.command.Command.TheVariants.{Mkvdisk, Rmvdisk, Armfault, Mkfcmap, Prestartfcmap, Startfcmap, Stopfcmap, Rmfcmap, Mkfcconsistgrp, Prestartfcconsistgrp, Startfcconsistgrp, Stopfcconsistgrp, Rmfcconsistgrp}
 use Rattle.fc_base.specs.declared.command.StopWay.{StopWay}
-use Rattle.fc_base.specs.declared.command.StopWay.TheVariants.{Plain, Force, SplitOff}
+use Rattle.fc_base.specs.declared.command.StopWay.TheVariants.{Plain, Force, Split as SplitOff}
 use Rattle.fc_base.specs.declared.decision.LaneEvent.{LaneEvent}
 use Rattle.fc_base.specs.declared.decision.LaneEvent.TheVariants.{Access, Detach, Drop, Forget, Make, NoteCut, Retire, Trigger, Work, Arm}
 use Rattle.fc_base.specs.declared.fault.Refusal.{Refusal}
@@ -76,7 +76,7 @@ comes_unarmed state m = one_event _ tt
 ends_in_unarmed : (state : MapState) (m : Mapping) → Unarmed (ends_in state m).events
 ends_in_unarmed state m =
     either (m.autodelete && is_idle state) (goes_from state m) (comes_to state m)
-    (All-cons ArmsNot _ _ tt (one_event (Forget m.id) tt)) (comes_unarmed state m)
+    (All-cons ArmsNot (Access m.target (access_of m.id state m.complete)) (Forget m.id ∷ []) tt (one_event (Forget m.id) tt)) (comes_unarmed state m)
 
 ends_by_unarmed : (next : Result MapState Refusal) (m : Mapping) → Unarmed (ends_by next m).events
 ends_by_unarmed (Ok state) m = ends_in_unarmed state m
@@ -158,7 +158,7 @@ supersedes_unarmed : (t : Tables) (maps : List Mapping) → Unarmed (supersedes 
 supersedes_unarmed t maps = of_each (λ (s : Mapping). (gives_way s).events) (filter (is_superseded maps) t.mappings) (λ s. no_events)
 
 begins_unarmed : (state : MapState) (restore : Bool) (maps : List Mapping) → Unarmed (all_deeds (begins state restore) maps).events
-begins_unarmed state restore maps = of_each (λ (m : Mapping). (begins state restore m).events) maps (λ m. comes_unarmed state _)
+begins_unarmed state restore maps = of_each (λ (m : Mapping). (begins state restore m).events) maps (λ m. comes_unarmed state (record m { restoring = restore }))
 
 prepare_unarmed : (restore : Bool) (t : Tables) (maps : List Mapping) → Unarmed (prepare restore t maps).events
 prepare_unarmed restore t maps = both (supersedes t maps).events _ (supersedes_unarmed t maps) (begins_unarmed Prepared restore maps)
