@@ -1,5 +1,5 @@
 -- Lanes stay quiet, unless an entry tells of an armed fault.
-use Rattle.std.proofs.Common.{◌≡◌, ℕ, ◌+◌, ◌<◌, false, List, [], ◌∷◌, ◌++◌, length, slice_index_or, slice_set, Result, Ok, Err, OnOk, IfErr, sym, ◌∙◌, ap, subst, arith}
+use Rattle.std.proofs.Common.{◌≡◌, ℕ, ◌+◌, ◌<◌, Bool, false, List, [], ◌∷◌, ◌++◌, length, slice_index_or, slice_set, Result, Ok, Err, OnOk, IfOk, IfErr, sym, ◌∙◌, ap, subst, arith}
 use Rattle.std.proofs.lemmas.List.Elements.{All-set}
 use Rattle.fc_base.specs.declared.command.Command.{Command}
 use Rattle.fc_base.specs.declared.decision.Decision.{Decision}
@@ -77,3 +77,17 @@ quiet_logged (Ok done) ls before after entry quiet ok stop = λ none.
     quiet (all_but_last P before.entries entry all) (of_last P before.entries entry all)
 quiet_logged (Err LogFull) ls before after entry quiet ok stop = let never : LogFull ≡ NoMemory = stop in cc
 quiet_logged (Err NoMemory) ls before after entry quiet ok stop = tt
+
+-- Likewise of a copy or cleaning, with what its entry says.
+pub quiet_filled :
+    (result : Result Bool Stop) (ls : List LaneView) (before after : HistoryState) (entry : Entry) (said : Bool) →
+    (ArmNothing before.entries → AreQuiet ls) →
+    IfOk result (λ moved. (moved ≡ said) × (after ≡ record before { entries = before.entries ++ entry ∷ [] })) →
+    IfErr result (λ stop. stop ≡ NoMemory) →
+    StaysUp result (QuietBy after.entries ls)
+quiet_filled (Ok moved) ls before after entry said quiet ok stop = λ none.
+    let P : Entry → Type 0 = λ e. arms e.request e.reply ≡ false in
+    let all : ArmNothing (before.entries ++ entry ∷ []) = subst ArmNothing (ap (λ (h : HistoryState). h.entries) ok.1) none in
+    quiet (all_but_last P before.entries entry all)
+quiet_filled (Err LogFull) ls before after entry said quiet ok stop = let never : LogFull ≡ NoMemory = stop in cc
+quiet_filled (Err NoMemory) ls before after entry said quiet ok stop = tt

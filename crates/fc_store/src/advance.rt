@@ -4,8 +4,9 @@ ghost use Rattle.std.specs.Prelude.{◌≡◌, ◌<◌, ◌≤◌, ◌++◌, ◌
 ghost use Rattle.std.specs.Bool.{OnTrue};
 ghost use Rattle.fc_legal.specs.Seconds.{Work as WorkState, gained};
 ghost use Rattle.fc_legal.specs.Whole.{Whole};
-ghost use Rattle.fc_store.specs.Answering.{Advanced, IsTold, TellsSome};
+ghost use Rattle.fc_store.specs.Answering.{Advanced, IsTold, StaysUp, TellsSome};
 ghost use Rattle.fc_store.specs.Dealing.{disks_in};
+ghost use Rattle.fc_store.specs.Quiet.{QuietBy};
 ghost use Rattle.fc_store.specs.Store.{StandsFor};
 ghost use Rattle.fc_store.specs.Passing.{Passed, after_turn, at, between};
 
@@ -27,6 +28,7 @@ impl<D: Mdisk> Store<D> {
         ensures less { IfOk result (λ goes. OnTrue goes (work.new.credit < work.old.credit)) }
         ensures control { self.new.control ≡ self.old.control }
         ensures disks { disks_in self.new.lanes ≡ disks_in self.old.lanes }
+        ensures quiet { QuietBy history.old.entries self.old.lanes → StaysUp result (QuietBy history.new.entries self.new.lanes) }
         ensures limit { length history.new.entries ≤ MAX_ENTRIES }
     {
         let grain = match self.next_grain(work) {
@@ -57,6 +59,7 @@ impl<D: Mdisk> Store<D> {
             Passed result (StandsFor self.new) self.old.control.grain w (at seconds over (gained work.old) left) (between seconds (over ++ work.new ∷ []) left) history.old history.new }
         ensures control { self.new.control ≡ self.old.control }
         ensures disks { disks_in self.new.lanes ≡ disks_in self.old.lanes }
+        ensures quiet { QuietBy history.old.entries self.old.lanes → StaysUp result (QuietBy history.new.entries self.new.lanes) }
         ensures limit { length history.new.entries ≤ MAX_ENTRIES }
     {
         work.gain();
@@ -77,6 +80,7 @@ impl<D: Mdisk> Store<D> {
             Passed result (StandsFor self.new) self.old.control.grain w (between (suc seconds) works.old []) (between seconds works.new []) history.old history.new }
         ensures control { self.new.control ≡ self.old.control }
         ensures disks { disks_in self.new.lanes ≡ disks_in self.old.lanes }
+        ensures quiet { QuietBy history.old.entries self.old.lanes → StaysUp result (QuietBy history.new.entries self.new.lanes) }
         ensures limit { length history.new.entries ≤ MAX_ENTRIES }
     {
         for place in 0..works.len() {
@@ -97,6 +101,7 @@ impl<D: Mdisk> Store<D> {
             Advanced result (StandsFor self.new) self.old.control.grain w seconds history.old history.new }
         ensures grain { self.new.control.grain ≡ self.old.control.grain }
         ensures disks { disks_in self.new.lanes ≡ disks_in self.old.lanes }
+        ensures quiet { QuietBy history.old.entries self.old.lanes → StaysUp result (QuietBy history.new.entries self.new.lanes) }
         ensures limit { length history.new.entries ≤ MAX_ENTRIES }
     {
         let mut works = match all_work(self.alloc, &self.control) {

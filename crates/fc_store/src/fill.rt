@@ -7,8 +7,9 @@ ghost use Rattle.fc_legal.specs.Seconds.{fill_of, filled_by, has_moved, next_gra
 ghost use Rattle.fc_legal.specs.Whole.{Whole};
 ghost use Rattle.fc_rules.specs.LaneRight.{IsRightInLane, record_of};
 ghost use Rattle.fc_rules.specs.LaneTold.{LaneTold, place_of, told_past};
-ghost use Rattle.fc_store.specs.Answering.{IsTold, TellsSome};
+ghost use Rattle.fc_store.specs.Answering.{IsTold, StaysUp, TellsSome};
 ghost use Rattle.fc_store.specs.Dealing.{disks_in};
+ghost use Rattle.fc_store.specs.Quiet.{QuietBy};
 ghost use Rattle.fc_store.specs.Store.{StandsFor};
 ghost use Rattle.fc_store.specs.Passing.{Filled};
 ghost use Rattle.fc_store.specs.Working.{AllStand, least_of, lesser};
@@ -132,6 +133,7 @@ impl<D: Mdisk> Store<D> {
             Filled result (StandsFor self.new) self.old.control.grain w work.now grain history.old history.new }
         ensures control { self.new.control ≡ self.old.control }
         ensures disks { disks_in self.new.lanes ≡ disks_in self.old.lanes }
+        ensures quiet { QuietBy history.old.entries self.old.lanes → StaysUp result (QuietBy history.new.entries self.new.lanes) }
         ensures limit { length history.new.entries ≤ MAX_ENTRIES }
     {
         if is_full(history) {

@@ -3,8 +3,9 @@
 ghost use Rattle.std.specs.Prelude.{◌≡◌, ◌≤◌, ℕ, List, length, Ok};
 ghost use Rattle.fc_legal.specs.Run.{Reading, is_done, line_seconds};
 ghost use Rattle.fc_legal.specs.Whole.{Whole};
-ghost use Rattle.fc_store.specs.Answering.{Advanced, IsTold, LineAnswered, TellsSome};
+ghost use Rattle.fc_store.specs.Answering.{Advanced, IsTold, LineAnswered, StaysUp, TellsSome};
 ghost use Rattle.fc_store.specs.Dealing.{disks_in};
+ghost use Rattle.fc_store.specs.Quiet.{QuietBy};
 ghost use Rattle.fc_store.specs.Store.{StandsFor};
 ghost use Rattle.fc_top.specs.Passing.{seconds_due};
 
@@ -55,6 +56,7 @@ fn let_pass<D: Mdisk>(store: &mut Store<D>, seconds: u32, history: &mut History)
         Advanced result (StandsFor store.new) store.old.control.grain w seconds history.old history.new }
     ensures grain { store.new.control.grain ≡ store.old.control.grain }
     ensures disks { disks_in store.new.lanes ≡ disks_in store.old.lanes }
+    ensures quiet { QuietBy history.old.entries store.old.lanes → StaysUp result (QuietBy history.new.entries store.new.lanes) }
     ensures limit { length history.new.entries ≤ 262144 }
 {
     match seconds {
@@ -76,6 +78,7 @@ pub fn run_line<D: Mdisk>(
         LineAnswered result (StandsFor store.new) store.old.control.grain read w bytes history.old history.new }
     ensures grain { store.new.control.grain ≡ store.old.control.grain }
     ensures disks { disks_in store.new.lanes ≡ disks_in store.old.lanes }
+    ensures quiet { QuietBy history.old.entries store.old.lanes → StaysUp result (QuietBy history.new.entries store.new.lanes) }
     ensures limit { length history.new.entries ≤ 262144 }
 {
     let seconds = seconds_of(&line);

@@ -13,6 +13,7 @@ loop-left-init g c = record {
   room = c.requires.room;
   control = refl;
   disks = refl;
+  quiet = λ q. q;
 }
 
 pub loop-left-preserved : goal.loop-left-preserved
@@ -27,4 +28,5 @@ loop-left-preserved g c =
       room = c.in-Ok-pass_all.ensures.limit;
       control = c.in-Ok-pass_all.ensures.control ∙ c.loop-left.invariant.control;
       disks = c.in-Ok-pass_all.ensures.disks ∙ c.loop-left.invariant.disks;
+      quiet = λ q. c.in-Ok-pass_all.ensures.quiet (c.loop-left.invariant.quiet q);
     }

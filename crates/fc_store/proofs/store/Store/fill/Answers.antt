@@ -7,7 +7,9 @@ use Rattle.fc_store.specs.Passing.{Filled}
 use Rattle.fc_store.specs.Store.{StandsFor, StoreView}
 use Rattle.fc_store.proofs.Filling.{can_fill, of_lane, fill_turn, filled_as, history_full}
 use Rattle.fc_store.proofs.Parting.{inside}
+use Rattle.fc_store.proofs.Quieting.{keeps_roomy, one_keeps, quiet_filled}
 use Rattle.fc_store.proofs.Ranging.{disks_stay}
+use Rattle.fc_store.specs.Quiet.{AreQuiet}
 use Rattle.fc_store.proofs.store.Store.fill.Goals as goal
 
 pub returns-then-is_full-clause-filled : goal.returns-then-is_full-clause-filled
@@ -52,3 +54,20 @@ returns-clause-filled g c = λ w told.
     subst Stands same
     (filled_as c.log_fill.result (StandsFor (record c.args.self.now { lanes = slice_set c.args.self.now.lanes (c.args.grain.0 % c.len.result) c.fill_lane-entry.new.lane }))
     c.args.self.now.control.grain w _ c.args.work.now c.args.grain c.args.history.now c.log_fill.new.history c.fill_lane-entry.result left told.1 c.log_fill.ensures.ok c.log_fill.ensures.err c.log_fill.ensures.stop)
+
+pub returns-clause-quiet : goal.returns-clause-quiet
+returns-clause-quiet g c = λ quiet.
+    let same : c.args.self.now ≡ record { control = c.self.inside.control; lanes = c.self.inside.lanes.items } = sym c.self.view_is in
+    let many : c.len.result ≡ length c.self.inside.lanes.items = omega (arith, c.len.ensures) in
+    let there = subst (λ (s : StoreView). c.args.grain.0 % c.len.result < length s.lanes) same
+    (inside c.args.self.now c.requires.stands.0 c.args.grain.0 (c.args.grain.0 % c.len.result) c.index_mut-lane.result.now c.make_room.new.self
+    c.make_room.new.self.plan_room c.make_room.new.self.entry_room c.requires.stands.1.0
+    (ap (λ n. c.args.grain.0 % n) (many ∙ ap (λ (s : StoreView). length s.lanes) (sym same)))
+    (c.index_mut-lane.ensures.value ∙ ap (λ (s : StoreView). slice_index_or s.lanes (c.args.grain.0 % c.len.result) c.index_mut-lane.result.now) (sym same))
+    c.in-Ok.ensures.same) in
+    quiet_filled c.log_fill.result (slice_set c.self.inside.lanes.items (c.args.grain.0 % c.len.result) c.fill_lane-entry.new.lane) c.args.history.now c.log_fill.new.history c.fill_lane-entry.result _
+    (λ none.
+    one_keeps c.self.inside.lanes.items (c.args.grain.0 % c.len.result) c.index_mut-lane.result.now c.fill_lane-entry.new.lane there c.index_mut-lane.ensures.value
+    (keeps_roomy c.index_mut-lane.result.now c.make_room.new.self c.fill_lane-entry.new.lane (ap (λ (v : LaneView). v.grains) c.in-Ok.ensures.same) c.fill_lane-entry.ensures.quiet)
+    (subst (λ (s : StoreView). AreQuiet s.lanes) same (quiet none)))
+    c.log_fill.ensures.ok c.log_fill.ensures.stop

@@ -13,6 +13,7 @@ loop-place-init g c = record {
   room = c.requires.room;
   control = refl;
   disks = refl;
+  quiet = λ q. q;
 }
 
 pub loop-place-preserved : goal.loop-place-preserved
@@ -29,6 +30,7 @@ loop-place-preserved g c =
       room = c.in-Ok.ensures.limit;
       control = c.in-Ok.ensures.control ∙ c.loop-place.invariant.control;
       disks = c.in-Ok.ensures.disks ∙ c.loop-place.invariant.disks;
+      quiet = λ q. c.in-Ok.ensures.quiet (c.loop-place.invariant.quiet q);
     }
 
 pub returns-in-Err-clause-passed : goal.returns-in-Err-clause-passed
@@ -47,3 +49,9 @@ pub returns-clause-passed : goal.returns-clause-passed
 returns-clause-passed g c = λ w seconds told.
     all_passed (StandsFor c.loop-place.self) c.args.self.now.control.grain w (between (suc seconds) c.args.works.now []) seconds c.loop-place.place c.loop-place.works
     c.args.history.now c.loop-place.history (omega (arith, c.loop-place-test.false, c.loop-place.auto.works)) (c.loop-place.invariant.passed w seconds told)
+
+pub returns-in-Err-clause-quiet : goal.returns-in-Err-clause-quiet
+returns-in-Err-clause-quiet g c = λ q. c.in-Err.ensures.quiet (c.loop-place.invariant.quiet q)
+
+pub returns-clause-quiet : goal.returns-clause-quiet
+returns-clause-quiet g c = c.loop-place.invariant.quiet

@@ -14,6 +14,7 @@ turns-init g c = record {
   room = c.requires.room;
   control = refl;
   disks = refl;
+  quiet = λ q. q;
 }
 
 pub turns-preserved : goal.turns-preserved
@@ -29,6 +30,7 @@ turns-preserved g c =
       room = c.in-Ok-true.ensures.limit;
       control = c.in-Ok-true.ensures.control ∙ c.turns.invariant.control;
       disks = c.in-Ok-true.ensures.disks ∙ c.turns.invariant.disks;
+      quiet = λ q. c.in-Ok-true.ensures.quiet (c.turns.invariant.quiet q);
     }
 
 pub returns-in-Ok-false-clause-passed : goal.returns-in-Ok-false-clause-passed
@@ -50,3 +52,9 @@ returns-in-Err-clause-passed g c = λ w seconds over left told.
     seconds over c.turns.work c.take_turn.new.work left c.args.history.now c.turns.history c.take_turn.new.history
     (ap (λ (s : ControlState). s.grain) c.turns.invariant.control) (c.turns.invariant.passed w seconds over left told)
     c.in-Err.stop _ c.in-Err.ensures.passed)
+
+pub returns-in-Ok-false-clause-quiet : goal.returns-in-Ok-false-clause-quiet
+returns-in-Ok-false-clause-quiet g c = λ q. c.in-Ok-false.ensures.quiet (c.turns.invariant.quiet q)
+
+pub returns-in-Err-clause-quiet : goal.returns-in-Err-clause-quiet
+returns-in-Err-clause-quiet g c = λ q. c.in-Err.ensures.quiet (c.turns.invariant.quiet q)

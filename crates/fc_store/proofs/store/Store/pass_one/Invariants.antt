@@ -5,6 +5,7 @@ use Rattle.fc_legal.specs.Whole.{Whole}
 use Rattle.fc_store.specs.Answering.{IsTold, TellsSome}
 use Rattle.fc_store.specs.Dealing.{disks_in}
 use Rattle.fc_store.specs.Passing.{Passed, at}
+use Rattle.fc_store.specs.Quiet.{QuietBy}
 use Rattle.fc_store.specs.Store.{StandsFor}
 use Rattle.fc_store.proofs.store.Store.pass_one.Given as goal
 
@@ -17,6 +18,7 @@ invariant-turns g l = record {
   room : length l.history.entries ≤ MAX_ENTRIES;
   control : l.self.control ≡ l.initial.self.control;
   disks : disks_in l.self.lanes ≡ disks_in l.initial.self.lanes;
+  quiet : QuietBy l.initial.history.entries l.initial.self.lanes → QuietBy l.history.entries l.self.lanes;
 }
 
 abbrev pub decreases-turns : goal.decreases-turns
