@@ -378,6 +378,14 @@ second_passed A result Before Stands grain size w a left old new x y z same lt f
     then_passed A (Unit {0}) result tt Before Stands grain w a (between (suc (left - 1)) old []) (between (left - 1) new []) x y z (subst P is first)
     (λ mid told. subst (λ n. Passed result Stands n mid (between (suc (left - 1)) old []) (between (left - 1) new []) y z) same (second mid (left - 1) told))
 
+-- The work of a list that is written back, as long as it was.
+pub kept : (n : ℕ) (new old : List Work) → length new ≡ length old → n ≡ length old → take n (new ++ drop (length new) old) ≡ new
+kept n new old same is =
+    let none : drop (length new) old ≡ [] = drop_all (length new) old (omega (arith, same)) in
+    ap (λ (rest : List Work). take n (new ++ rest)) none
+    ∙ (ap (take n) (append-nil new)
+    ∙ take_all n new (omega (arith, same, is)))
+
 is_over : (grain : GrainSize) (works : List Work) (last : Whole) → IsOver grain (between 0 works []) last
 is_over grain works last = record { no_fill = refl; ends = refl }
 

@@ -1,5 +1,6 @@
 -- Work by work.
-use Rattle.std.proofs.Common.{[], ◌+◌, suc, take, drop, length, slice_set, ap, ◌∙◌, refl, Ok, Err, arith}
+use Rattle.std.proofs.Common.{[], ◌+◌, ◌<◌, suc, take, drop, get_or, length, slice_set, ap, ◌∙◌, refl, Ok, Err, arith}
+use Rattle.std.proofs.lemmas.List.{get_or_default}
 use Rattle.fc_control.specs.Control.{ControlState}
 use Rattle.fc_store.specs.Passing.{between}
 use Rattle.fc_store.specs.Store.{StandsFor}
@@ -18,13 +19,14 @@ loop-place-init g c = record {
 
 pub loop-place-preserved : goal.loop-place-preserved
 loop-place-preserved g c =
+    let there : c.loop-place.place < length c.loop-place.works = omega (arith, c.loop-place-test.true, c.loop-place.auto.works) in
     let next = c.in-Ok.ensures.passed c.loop-place.invariant.stands.0 0 [] [] c.loop-place.invariant.stands.1 in
     record {
       passed = λ w seconds told.
           one_passed (StandsFor c.loop-place.self) (StandsFor c.pass_one.new.self) c.args.self.now.control.grain c.loop-place.self.control.grain w (between (suc seconds) c.args.works.now [])
-          seconds c.loop-place.place c.loop-place.works c.index-works-place.result c.pass_one.new.work c.args.history.now c.loop-place.history c.pass_one.new.history
+          seconds c.loop-place.place c.loop-place.works (get_or c.loop-place.works c.loop-place.place c.index-works-place.result) c.pass_one.new.work c.args.history.now c.loop-place.history c.pass_one.new.history
           (ap (λ (s : ControlState). s.grain) c.loop-place.invariant.control) (c.loop-place.invariant.passed w seconds told)
-          (omega (arith, c.loop-place-test.true, c.loop-place.auto.works)) c.index-works-place.is
+          there (get_or_default c.loop-place.works c.loop-place.place c.index-works-place.result (get_or c.loop-place.works c.loop-place.place c.index-works-place.result) there)
           (Unit {0}) (Ok c.in-Ok.field-0) c.in-Ok.ensures.passed;
       stands = (next.0, next.1);
       room = c.in-Ok.ensures.limit;
@@ -35,14 +37,15 @@ loop-place-preserved g c =
 
 pub returns-in-Err-clause-passed : goal.returns-in-Err-clause-passed
 returns-in-Err-clause-passed g c = λ w seconds told.
+    let there : c.loop-place.place < length c.loop-place.works = omega (arith, c.loop-place-test.true, c.loop-place.auto.works) in
     passed_stopped (Unit {0}) (Unit {0}) c.in-Err.stop (StandsFor c.pass_one.new.self) c.args.self.now.control.grain w (between (suc seconds) c.args.works.now [])
     (between seconds (take (c.loop-place.place + 1) (slice_set c.loop-place.works c.loop-place.place c.pass_one.new.work))
     (drop (c.loop-place.place + 1) (slice_set c.loop-place.works c.loop-place.place c.pass_one.new.work)))
     _ c.args.history.now c.pass_one.new.history
     (one_passed (StandsFor c.loop-place.self) (StandsFor c.pass_one.new.self) c.args.self.now.control.grain c.loop-place.self.control.grain w (between (suc seconds) c.args.works.now [])
-    seconds c.loop-place.place c.loop-place.works c.index-works-place.result c.pass_one.new.work c.args.history.now c.loop-place.history c.pass_one.new.history
+    seconds c.loop-place.place c.loop-place.works (get_or c.loop-place.works c.loop-place.place c.index-works-place.result) c.pass_one.new.work c.args.history.now c.loop-place.history c.pass_one.new.history
     (ap (λ (s : ControlState). s.grain) c.loop-place.invariant.control) (c.loop-place.invariant.passed w seconds told)
-    (omega (arith, c.loop-place-test.true, c.loop-place.auto.works)) c.index-works-place.is
+    there (get_or_default c.loop-place.works c.loop-place.place c.index-works-place.result (get_or c.loop-place.works c.loop-place.place c.index-works-place.result) there)
     (Unit {0}) (Err c.in-Err.stop) c.in-Err.ensures.passed)
 
 pub returns-clause-passed : goal.returns-clause-passed
