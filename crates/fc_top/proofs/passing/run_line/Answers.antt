@@ -4,6 +4,11 @@ use Rattle.fc_store.specs.Store.{StandsFor}
 use Rattle.fc_top.proofs.PassingLemmas.{LineAnswered-due, LineAnswered-stopped}
 use Rattle.fc_top.proofs.passing.run_line.Goals as goal
 
+pub let_pass-requires-clause-stands : goal.let_pass-requires-clause-stands
+let_pass-requires-clause-stands g c =
+    let own = c.in-Ok.ensures.answered c.requires.stands.0 c.requires.stands.1 in
+    (own.0, own.1)
+
 pub returns-in-Ok-clause-answered : goal.returns-in-Ok-clause-answered
 returns-in-Ok-clause-answered g c = λ read bytes w is told.
     let own = c.in-Ok.ensures.answered w told in
