@@ -1,8 +1,9 @@
 -- Memory was wanted before anything was read.
-use Rattle.std.proofs.Common.{◌≡◌, [], List, ◌∙◌, ap, arith, length, map, refl, subst, sym, vec_len}
+use Rattle.std.proofs.Common.{◌≡◌, [], List, ◌∙◌, ap, arith, length, map, refl, subst, sym, vec_capacity, vec_len}
 use Rattle.std.proofs.lemmas.List.{length-map}
 use Rattle.fc_base.specs.declared.size.GrainSize.{GrainSize}
-use Rattle.fc_grains.specs.Grains.{pool_of, silent_of}
+use Rattle.fc_grains.proofs.KindCounts.{total-pool}
+use Rattle.fc_grains.specs.Grains.{pool_of, silent_of, total_of}
 use Rattle.fc_legal.specs.Legal.{IsLegal}
 use Rattle.fc_legal.specs.Whole.{Whole}
 use Rattle.fc_mdisk.specs.Disk.{DiskState}
@@ -47,3 +48,13 @@ returns-in-Ok-new-clause-ends g c =
     × IsLegal grain (begun old) c.run_store.new.history.entries last
     × DisksAfter c.run_store.result old (map g.D.Mdisk.meaning c.run_store.new.disks.items) c.run_store.new.history.entries last in
     subst P c.in-Ok-new.ensures.grain (c.run_store.ensures.ends (begun old) old stands refl counted (λ told. c.in-Ok-new.ensures.quiet (ap (λ v. silent_of (map g.D.Mdisk.meaning v.items)) same ∙ told)))
+
+pub run_store-requires-clause-room : goal.run_store-requires-clause-room
+run_store-requires-clause-room g c =
+    let old : List DiskState = map g.D.Mdisk.meaning c.args.disks.now.items in
+    let counted : disks_in c.in-Ok-new.store.lanes ≡ pool_of old =
+    c.in-Ok-new.ensures.disks ∙ ap (λ v. pool_of (map g.D.Mdisk.meaning v.items)) c.replace-taken.ensures.value in
+    let total : total_of (disks_in c.in-Ok-new.store.lanes) ≡ length old = ap total_of counted ∙ total-pool old in
+    let long : length old ≡ length c.args.disks.now.items = length-map c.args.disks.now.items g.D.Mdisk.meaning in
+    let room : vec_capacity c.replace-taken.new.dest ≡ vec_capacity c.in-Ok-with_capacity.room = ap (λ v. vec_capacity v) c.replace-taken.ensures.after in
+    omega (arith, total, long, room, c.len.ensures, c.in-Ok-with_capacity.ensures.capacity)
