@@ -1,19 +1,19 @@
 -- The least grain at which background work has something to do is the least of those that the lanes tell.
-use Rattle.std.proofs.Common.{◌≡◌, ℕ, zero, suc, ◌+◌, ◌*◌, ◌/◌, ◌%◌, ◌<◌, ◌≤◌, Bool, true, false, cond, Option, Some, None, List, [], ◌∷◌, fold, take, length, get_or, refl, sym, ap, ap₂, ◌∙◌, subst, arith}
+use Rattle.std.proofs.Common.{◌≡◌, ℕ, zero, suc, ◌+◌, ◌*◌, ◌%◌, ◌<◌, ◌≤◌, Bool, true, false, cond, Option, Some, None, List, [], ◌∷◌, fold, take, length, refl, sym, ap, ap₂, ◌∙◌, subst, arith}
 use Rattle.std.specs.Prelude.{nat_lt, is_some, option_map, slice_index_or, IsSome}
 use Rattle.std.proofs.lemmas.List.{take_all, take_more}
 use Rattle.std.proofs.lemmas.List.Sums.{fold_push}
 use Rattle.fc_base.specs.Column.{Column, first_below, needer}
-use Rattle.fc_base.specs.Sheet.{Slot, Sheet, slot_at, column, mapping_place}
+use Rattle.fc_base.specs.Sheet.{Slot, mapping_place}
 use Rattle.fc_base.specs.declared.ids.GrainNo.{GrainNo}
 use Rattle.fc_base.specs.declared.size.GrainSize.{GrainSize}
 use Rattle.fc_legal.specs.Seconds.{filled_by}
 use Rattle.fc_legal.specs.Whole.{all_grains}
 use Rattle.fc_moves.proofs.Search.{IsFirst, first_some}
-use Rattle.fc_parts.proofs.Numbers.{IsLane, number_below, place_below, none_in, number_of_place, part_at}
+use Rattle.fc_parts.proofs.Numbers.{IsLane, number_below, place_below, none_in, number_of_place}
 use Rattle.fc_parts.proofs.Views.{parts, slot_parts, held_parts, column_parts, mapping_parts, size_parts}
 use Rattle.fc_rules.specs.LaneTold.{LaneOf, number_at, place_of, grains_in}
-use Rattle.fc_rules.specs.LaneTurn.{lacks_at, copied_slot, needer_at, cleaned_slot, grains_of, least_grain}
+use Rattle.fc_rules.specs.LaneTurn.{lacks_at, needer_at, grains_of, least_grain}
 use Rattle.fc_store.specs.Working.{lesser}
 use Rattle.fc_sums.specs.Parts.{lane_of}
 use Rattle.fc_store.proofs.LeastNumbers.{AreCounted, among, lesser_of, first_among_more, first_among_none, first_among_all}

@@ -1,5 +1,5 @@
 -- Seconds that pass: entries bring an agenda on, one after another.
-use Rattle.std.proofs.Common.{◌≡◌, ◌⊎◌, inl, inr, ℕ, zero, suc, ◌+◌, ◌-◌, ◌<◌, ◌≤◌, Bool, true, false, cond, Option, Some, None, List, [], ◌∷◌, ◌++◌, length, take, drop, get_or, set, append_assoc, Result, Ok, Err, refl, sym, ◌∙◌, ap, ap₂, subst, arith}
+use Rattle.std.proofs.Common.{◌≡◌, ℕ, zero, suc, ◌+◌, ◌-◌, ◌<◌, ◌≤◌, Bool, true, false, cond, Option, Some, None, List, [], ◌∷◌, ◌++◌, length, take, drop, get_or, set, append_assoc, Result, Ok, Err, refl, sym, ◌∙◌, ap, ap₂, subst, arith}
 use Rattle.std.specs.Prelude.{nat_le, option_map, is_some}
 use Rattle.std.proofs.lemmas.Bool.{le-leb, lt-leb}
 use Rattle.std.proofs.lemmas.List.{append-nil, drop_more, take_more_set, take_all, drop_all}
@@ -9,11 +9,11 @@ use Rattle.fc_base.specs.declared.size.GrainSize.{GrainSize}
 use Rattle.fc_entry.specs.HistoryState.{HistoryState}
 use Rattle.fc_entry.specs.declared.entry.Entry.{Entry}
 use Rattle.fc_legal.specs.Added.{AddsSeconds, AddsSomeSeconds, AddsSecondsToLimit}
-use Rattle.fc_legal.specs.Seconds.{Work, Agenda, Runs, stays, passes, fills, IsNextFill, IsOver, all_work, begun, gained, spent, saved, next_grain, next_fill, fill_at_hand, goes_on, next_work, after_fill, has_moved, fill_of}
+use Rattle.fc_legal.specs.Seconds.{Work, Agenda, Runs, stays, fills, IsNextFill, IsOver, all_work, begun, gained, spent, saved, next_grain, next_fill, fill_at_hand, goes_on, next_work, after_fill, has_moved, fill_of}
 use Rattle.fc_legal.specs.Whole.{Whole}
-use Rattle.fc_legal.proofs.Appending.{Runs-append, Runs-pass, Runs-fill}
-use Rattle.fc_store.specs.Answering.{IsTold, Reached, Advanced, TellsSome}
-use Rattle.fc_store.specs.Passing.{IsFilled, IsFull, Filled, at, between, after_turn, AddsRun, AddsSomeRun, AddsRunToLimit, Passed}
+use Rattle.fc_legal.proofs.Appending.{Runs-append, Runs-pass}
+use Rattle.fc_store.specs.Answering.{IsTold, Advanced}
+use Rattle.fc_store.specs.Passing.{IsFilled, IsFull, Filled, at, between, after_turn, AddsRun, AddsRunToLimit, Passed}
 use Rattle.fc_store.specs.declared.stop.Stop.{Stop}
 use Rattle.fc_store.specs.declared.stop.Stop.TheVariants.{LogFull, NoMemory}
 

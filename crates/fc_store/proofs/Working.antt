@@ -1,18 +1,15 @@
 -- The list of background work, and the least grain over the lanes of a store that stands.
-use Rattle.std.proofs.Common.{◌≡◌, ℕ, ◌+◌, ◌<◌, ◌≤◌, Bool, true, false, cond, List, [], ◌∷◌, ◌++◌, append_assoc, map, filter, take, get_or, length, Option, Result, Ok, Err, slice_index_or, refl, sym, ◌∙◌, ap, ap₂, subst, arith}
-use Rattle.std.proofs.lemmas.List.{map-append, take_all, take_more}
-use Rattle.std.proofs.lemmas.List.Elements.{filter-append}
+use Rattle.std.proofs.Common.{◌≡◌, ℕ, ◌+◌, ◌<◌, List, [], ◌++◌, map, filter, length, slice_index_or, refl, sym, ◌∙◌, ap, ap₂, arith}
 use Rattle.fc_base.specs.Sheet.{Sheet}
 use Rattle.fc_base.specs.Tables.{Tables}
-use Rattle.fc_base.specs.declared.ids.GrainNo.{GrainNo}
 use Rattle.fc_base.specs.declared.volume.Mapping.{Mapping}
 use Rattle.fc_books.specs.Books.{Books}
 use Rattle.fc_control.specs.Control.{ControlState}
-use Rattle.fc_lane.specs.Lane.{LaneView, IsLaneOf, of}
+use Rattle.fc_lane.specs.Lane.{LaneView}
 use Rattle.fc_legal.specs.Seconds.{Work, all_work, copies_of, cleanings_of, filled_by, next_grain}
-use Rattle.fc_legal.specs.Whole.{Whole, lane_at, part_at, lanes}
+use Rattle.fc_legal.specs.Whole.{Whole, part_at, lanes}
 use Rattle.fc_pick.specs.declared.work.WorkFlags.{WorkFlags}
-use Rattle.fc_rules.specs.LaneTold.{LaneOf, LaneTold}
+use Rattle.fc_rules.specs.LaneTold.{LaneOf}
 use Rattle.fc_rules.specs.LaneTurn.{least_grain}
 use Rattle.fc_sums.specs.Parts.{lane_of, part_of}
 use Rattle.fc_store.specs.Store.{IsControlOf, IsLaneAt, StoreView, StandsFor}

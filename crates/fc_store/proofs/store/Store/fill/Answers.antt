@@ -1,14 +1,11 @@
 -- The grain has something to do in its lane, and its entry is right.
-use Rattle.std.proofs.Common.{◌≡◌, ◌%◌, ◌<◌, length, slice_index_or, slice_set, subst, sym, ◌∙◌, ap, arith}
+use Rattle.std.proofs.Common.{◌≡◌, ◌%◌, length, slice_index_or, slice_set, subst, sym, ◌∙◌, ap, arith}
 use Rattle.fc_lane.specs.Lane.{LaneView}
-use Rattle.fc_legal.specs.Seconds.{next_grain}
-use Rattle.fc_store.specs.Dealing.{disks_in}
 use Rattle.fc_store.specs.Passing.{Filled}
 use Rattle.fc_store.specs.Store.{StandsFor, StoreView}
 use Rattle.fc_store.proofs.Filling.{can_fill, of_lane, fill_turn, filled_as, history_full}
 use Rattle.fc_store.proofs.Parting.{inside}
 use Rattle.fc_store.proofs.Quieting.{keeps_roomy, one_keeps, quiet_filled}
-use Rattle.fc_store.proofs.Ranging.{disks_stay}
 use Rattle.fc_store.specs.Quiet.{AreQuiet}
 use Rattle.fc_store.proofs.store.Store.fill.Goals as goal
 

@@ -1,5 +1,5 @@
 -- Turn by turn.
-use Rattle.std.proofs.Common.{◌∷◌, [], ◌++◌, ap, subst, sym, ◌∙◌, refl, true, false, Ok, Err}
+use Rattle.std.proofs.Common.{◌∷◌, [], ◌++◌, ap, subst, ◌∙◌, refl, true, false, Ok, Err}
 use Rattle.fc_control.specs.Control.{ControlState}
 use Rattle.fc_legal.specs.Seconds.{Work}
 use Rattle.fc_store.specs.Passing.{Passed, at, between}
