@@ -1,5 +1,5 @@
 -- The grain has something to do in its lane, and its entry is right.
-use Rattle.std.proofs.Common.{◌≡◌, ◌%◌, length, slice_index_or, slice_set, subst, sym, ◌∙◌, ap, arith}
+use Rattle.std.proofs.Common.{◌≡◌, ◌%◌, ◌<◌, length, slice_index_or, slice_set, subst, sym, ◌∙◌, ap, arith}
 use Rattle.fc_lane.specs.Lane.{LaneView}
 use Rattle.fc_store.specs.Passing.{Filled}
 use Rattle.fc_store.specs.Store.{StandsFor, StoreView}
