@@ -187,7 +187,7 @@ for_members_unarmed : (t : Tables) (found : Option Group) (deed : List Mapping �
 for_members_unarmed t None deed each = no_events
 for_members_unarmed t (Some g) deed each = each (members t g.id)
 
-done_unarmed : (grain : GrainSize) (b : Books) (command : Command) → arms (Asked command) (replied b command) ≡ false → Unarmed (done grain b command).events
+done_unarmed : (grain : GrainSize) (b : Books) (command : Command) → arms (Asked command) (replied grain b command) ≡ false → Unarmed (done grain b command).events
 done_unarmed grain b (Mkvdisk name size unit thin) unarmed = one_event _ tt
 done_unarmed grain b (Rmvdisk volume) unarmed = for_one_unarmed Volume (volume_named b.tables volume) remove_volume (λ v. one_event _ tt)
 done_unarmed grain b (Armfault volume number calls) unarmed = absurd (true≢false unarmed)

@@ -71,3 +71,6 @@ returns-clause-advanced g c = λ w told.
     let none : c.loop-left.left ≡ 0 = omega (arith, c.loop-left-test.false) in
     advanced (Unit {0}) (Ok tt) (StandsFor c.loop-left.self) c.args.self.now.control.grain w c.args.seconds c.in-Ok.works.items c.loop-left.works.items c.args.history.now c.loop-left.history begins
     (subst P none (c.loop-left.invariant.passed w told))
+
+pub returns-in-Err-pass_all-clause-quiet : goal.returns-in-Err-pass_all-clause-quiet
+returns-in-Err-pass_all-clause-quiet g c = λ q. c.in-Err-pass_all.ensures.quiet (c.loop-left.invariant.quiet q)
