@@ -18,7 +18,7 @@ pub fn sound_disks(alloc: Global, count: u32) -> Result<Vec<MemDisk>, AllocError
     ensures fresh { IfOk result (λ disks. All IsFresh (map ⟦<MemDisk as Mdisk>⟧.meaning disks.items)) }
 {
     let mut disks: Vec<MemDisk> = Vec::new(alloc);
-    for _ in 0..count {
+    for made in 0..count {
         disks.push(MemDisk::new(alloc))?;
     }
     Ok(disks)
@@ -30,7 +30,7 @@ pub fn failing_disks(alloc: Global, count: u32) -> Result<Vec<FailDisk>, AllocEr
     ensures fresh { IfOk result (λ disks. All IsFresh (map ⟦<FailDisk as Mdisk>⟧.meaning disks.items)) }
 {
     let mut disks: Vec<FailDisk> = Vec::new(alloc);
-    for _ in 0..count {
+    for made in 0..count {
         let failing = Vec::from_slice(alloc, &FAILING_CALLS)?;
         disks.push(FailDisk::new(alloc, failing))?;
     }

@@ -14,7 +14,7 @@ pub fn flat_disks(alloc: Global, count: u32) -> Result<Vec<MemDisk>, AllocError>
     ensures fresh { IfOk result (λ disks. All IsFresh (map ⟦<MemDisk as Mdisk>⟧.meaning disks.items)) }
 {
     let mut disks: Vec<MemDisk> = Vec::new(alloc);
-    for _ in 0..count {
+    for made in 0..count {
         disks.push(MemDisk::new(alloc))?;
     }
     Ok(disks)

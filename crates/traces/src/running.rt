@@ -63,7 +63,7 @@ pub fn session_of(alloc: Global, line: &str) -> Result<Option<Session>, AllocErr
     let name = owned(alloc, words.next())?;
     let grain = owned(alloc, words.next())?;
     let disks = match words.next() {
-        Some(count) => count.parse::<u32>().unwrap_or(0).min(MOST_DISKS),
+        Some(count) => count.parse::<u32>().unwrap_or(0),
         None => 0,
     };
     Ok(Some(Session {
@@ -83,7 +83,7 @@ pub fn print_session<R: Print>(rt: &R, alloc: Global, session: &Session) -> io::
     let lines = Vec::from_slice(alloc, session.lines.as_slice())?;
     let mut source = MemSource::new(lines, PIECE, Vec::new(alloc));
     let mut sink = MemSink::new(alloc, Vec::new(alloc));
-    let mut disks = flat_disks(alloc, session.disks)?;
+    let mut disks = flat_disks(alloc, session.disks.min(MOST_DISKS))?;
     let mut history = History::new(alloc);
     let words = ["run", "--grain", session.grain.as_str()];
     let _status = flashcopy_over(
