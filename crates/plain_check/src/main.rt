@@ -29,7 +29,7 @@ use std::alloc::Global;
 use std::io;
 
 /// The numbers of the sessions.
-const SESSIONS: u64 = 4;
+const SESSIONS: u64 = 3;
 
 /// The greatest number of disks.
 const DISKS: u32 = 64;
