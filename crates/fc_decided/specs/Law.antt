@@ -6,10 +6,10 @@ use Rattle.fc_base.specs.declared.command.Command.{Command}
 use Rattle.fc_base.specs.declared.ids.VolId.{VolId}
 use Rattle.fc_base.specs.declared.size.GrainSize.{GrainSize}
 use Rattle.fc_books.specs.Books.{Books}
-use Rattle.fc_books.specs.Deciding.{settle, decide, IsLoopOf}
-use Rattle.fc_legal.specs.Lawful.{IsLawful, left_by}
+use Rattle.fc_books.specs.Deciding.{settle, IsLoopOf}
+use Rattle.fc_legal.specs.Lawful.{IsLawful}
 use Rattle.fc_legal.specs.Stands.{Stands}
-use Rattle.fc_legal.specs.Steps.{no_restarts}
+use Rattle.fc_legal.specs.Steps.{after_settling, decided_on}
 use Rattle.fc_legal.specs.Whole.{Whole}
 
 -- Settled: every old slot is needed.
@@ -19,7 +19,7 @@ AreSettled b = (k : ℕ) → k < length b.sheet.slots → (slot_at b.sheet.slots
 pub record DecisionLaw : Type 0 where
   -- of a settling
   pub settled : (grain : GrainSize) (decisions : ℕ) (w : Whole) → decisions < 2 ^ 32 → Stands decisions w → IsLawful grain decisions w (settle w.books)
-  pub settles : (grain : GrainSize) (decisions : ℕ) (w : Whole) → decisions < 2 ^ 32 → Stands decisions w → AreSettled (left_by grain w (settle w.books)).books
+  pub settles : (grain : GrainSize) (decisions : ℕ) (w : Whole) → decisions < 2 ^ 32 → Stands decisions w → AreSettled (after_settling grain w).books
   -- of a command, which begins on settled books
   pub decided : (grain : GrainSize) (decisions : ℕ) (w : Whole) (command : Command) (loop : Option (List VolId)) → decisions < 2 ^ 32 → Stands decisions w → AreSettled w.books →
-      IsLoopOf grain w.books command loop → IsLawful grain decisions w (decide no_restarts grain w.books command loop)
+      IsLoopOf grain w.books command loop → IsLawful grain decisions w (decided_on grain w command loop)

@@ -1,13 +1,12 @@
 -- More entries behind a history, and more lines behind a run.
-use Rattle.std.proofs.Common.{◌≡◌, ◌⊎◌, inl, inr, ℕ, ◌+◌, List, [], ◌∷◌, ◌++◌, length, append_assoc, refl, sym, ◌∙◌, ap, subst, arith}
+use Rattle.std.proofs.Common.{◌≡◌, inl, inr, ℕ, List, [], ◌∷◌, ◌++◌, append_assoc, refl, sym, ◌∙◌, ap, subst}
 use Rattle.std.proofs.lemmas.List.{append-nil}
-use Rattle.std.specs.Prelude.{Option, Some, None}
+use Rattle.std.specs.Prelude.{Some, None}
 use Rattle.fc_base.specs.declared.size.GrainSize.{GrainSize}
 use Rattle.fc_entry.specs.declared.entry.Entry.{Entry}
 use Rattle.fc_legal.specs.Legal.{IsLegal}
 use Rattle.fc_legal.specs.Run.{Reading, IsLine, IsPartOfLine, LineWantsMore, IsRun, IsPartialRun, IsPartOfNext, WantsMore}
-use Rattle.fc_legal.specs.Seconds.{Agenda, Runs, stays, passes, fills, AreSeconds, IsNextFill, after_fill, goes_on, next_fill, Work}
-use Rattle.fc_legal.specs.Steps.{Step}
+use Rattle.fc_legal.specs.Seconds.{Agenda, Runs, stays, passes, fills, IsNextFill, after_fill, goes_on, next_fill, Work}
 use Rattle.fc_legal.specs.Whole.{Whole}
 
 -- A legal history, and entries that are legal after it.

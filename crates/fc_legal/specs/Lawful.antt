@@ -1,26 +1,19 @@
 -- What decisions keep to, so that lanes and tables can do them.
-use Rattle.std.specs.Prelude.{◌≡◌, ℕ, ◌+◌, ◌*◌, ◌^◌, ◌<◌, ◌≤◌, All, List, [], ◌∷◌, length, fold, Option, None}
+use Rattle.std.specs.Prelude.{◌≡◌, ℕ, ◌+◌, ◌^◌, ◌<◌, All, List, [], ◌∷◌, fold}
 use Rattle.fc_base.specs.Pools.{Pool, of_kind}
-use Rattle.fc_base.specs.SheetFits.{FitsEvents}
+use Rattle.fc_base.specs.SheetFits.{FitsEvent}
 use Rattle.fc_base.specs.Tables.{Tables, Fits, after_change}
-use Rattle.fc_base.specs.declared.command.Command.{Command}
 use Rattle.fc_base.specs.declared.decision.Decision.{Decision}
 use Rattle.fc_base.specs.declared.decision.LaneEvent.{LaneEvent}
 use Rattle.fc_base.specs.declared.decision.LaneEvent.TheVariants.{Make}
-use Rattle.fc_base.specs.declared.ids.VolId.{VolId}
 use Rattle.fc_base.specs.declared.size.GrainSize.{GrainSize}
 use Rattle.fc_base.specs.declared.volume.Change.{Change}
-use Rattle.fc_base.specs.declared.volume.Volume.{Volume}
 use Rattle.fc_books.specs.After.{pools_after}
-use Rattle.fc_books.specs.Books.{Books}
-use Rattle.fc_books.specs.Deciding.{settle, decide, IsLoopOf, after_decision}
-use Rattle.fc_books.specs.Sound.{AreSound}
-use Rattle.fc_entry.specs.Picture.{PlainVolume, Picture}
-use Rattle.fc_entry.specs.PlainStep.{after_effects}
-use Rattle.fc_legal.specs.Steps.{no_restarts}
-use Rattle.fc_legal.specs.Whole.{Whole, all_grains, as_one, volumes_told}
+use Rattle.fc_follow.specs.Following.{Followed, FitsRows, TriggersFirst, followed_event}
+use Rattle.fc_legal.specs.Steps.{left_by}
+use Rattle.fc_legal.specs.Whole.{Whole, all_grains, all_followed, volumes_told}
 use Rattle.fc_rules.specs.LaneFits.{WorksFirst}
-use Rattle.fc_rules.specs.LaneTold.{LaneVolume, told_event, volumes_event}
+use Rattle.fc_rules.specs.LaneTold.{LaneVolume, volumes_event}
 use Rattle.fc_legal.specs.Stands.{Stands}
 
 -- A volume that comes has an id above those that are there, and each lane has a disk for it.
@@ -38,17 +31,19 @@ abbrev pub FitChanges : Tables → List Change → Type 0
 FitChanges t [] = Unit {0}
 FitChanges t (change ∷ changes) = Fits t change × FitChanges (after_change t change) changes
 
--- What is told after a decision: the books by its events and changes, plain volumes by its effects.
-abbrev pub left_by : GrainSize → Whole → Decision → Whole
-left_by grain w d =
-    record w { books = after_decision no_restarts w.books d; picture = after_effects grain w.picture d.effects }
+-- Events fit the chains and what is kept of incremental mappings, each after those before it, with the births after them below
+-- 2^64.
+abbrev pub FitAsOne : GrainSize → Followed → List LaneEvent → Type 0
+FitAsOne grain f [] = f.told.sheet.births < 2 ^ 64
+FitAsOne grain f (e ∷ es) = FitsEvent f.told.sheet e × FitsRows f.rows e × FitAsOne grain (followed_event (all_grains grain) f e) es
 
 -- A decision on what is told: its events fit the chains, disks and background work, and tell the lane of all grains what the
 -- decision leaves; its changes fit the tables; and all still stands.
 pub record IsLawful (grain : GrainSize) (decisions : ℕ) (w : Whole) (d : Decision) : Type 0 where
-  pub events : FitsEvents (λ grains. grains) w.books.sheet d.events
+  pub events : FitAsOne grain (all_followed w) d.events
   pub disks : HaveDisks w.books.pools (volumes_told w.books.tables) d.events
   pub works : WorksFirst d.events
+  pub triggers : TriggersFirst d.events
   pub changes : FitChanges w.books.tables d.changes
-  pub told : fold (told_event (all_grains grain)) (as_one w) d.events ≡ as_one (left_by grain w d)
+  pub told : fold (followed_event (all_grains grain)) (all_followed w) d.events ≡ all_followed (left_by grain w d)
   pub stands : Stands (decisions + 1) (left_by grain w d)

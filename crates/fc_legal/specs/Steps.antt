@@ -1,21 +1,27 @@
 -- When an entry is right after what was told, and what is told after it.
-use Rattle.std.specs.Prelude.{◌≡◌, ℕ, ◌+◌, ◌≤◌, Bool, Option, Some, None, List, [], slice_index_or, slice_set}
+use Rattle.std.specs.Prelude.{◌≡◌, ℕ, ◌+◌, ◌≤◌, Option, Some, None, List, [], ◌++◌, fold, slice_index_or, slice_set}
 use Rattle.fc_base.specs.declared.command.Command.{Command}
 use Rattle.fc_base.specs.declared.command.Command.TheVariants.{Read as ReadLine, Write as WriteLine}
+use Rattle.fc_base.specs.declared.decision.Decision.{Decision}
+use Rattle.fc_base.specs.declared.decision.LaneEvent.{LaneEvent}
 use Rattle.fc_base.specs.declared.fault.Refusal.{Refusal}
 use Rattle.fc_base.specs.declared.fault.Refusal.TheVariants.{Words}
+use Rattle.fc_base.specs.declared.ids.VolId.{VolId}
+use Rattle.fc_base.specs.declared.request.Effect.{Effect}
 use Rattle.fc_base.specs.declared.request.Place.TheVariants.{Lane, Every, Control}
-use Rattle.fc_base.specs.declared.request.Reply.TheVariants.{Refused}
+use Rattle.fc_base.specs.declared.request.Reply.{Reply}
+use Rattle.fc_base.specs.declared.request.Reply.TheVariants.{NoMemory, Refused}
 use Rattle.fc_base.specs.declared.request.Request.{Request}
 use Rattle.fc_base.specs.declared.request.Request.TheVariants.{Command as Asked, Unread, Read, Write, Copy, Clean}
 use Rattle.fc_base.specs.declared.size.GrainSize.{GrainSize}
-use Rattle.fc_books.specs.Books.{Books}
-use Rattle.fc_books.specs.Deciding.{CommandLeaves}
+use Rattle.fc_books.specs.Deciding.{settle, decide, after_decision, IsLoopOf}
 use Rattle.fc_books.specs.Refused.{access_refused}
+use Rattle.fc_changed.specs.Row.{Row}
 use Rattle.fc_entry.specs.Picture.{grain_of_block}
 use Rattle.fc_entry.specs.PlainStep.{plain_step, after_effects}
 use Rattle.fc_entry.specs.declared.entry.Entry.{Entry}
-use Rattle.fc_legal.specs.Whole.{Whole, lane_of_grain, all_grains, as_one}
+use Rattle.fc_follow.specs.Following.{followed_event, restarts, rows_entry}
+use Rattle.fc_legal.specs.Whole.{Whole, lane_of_grain, all_grains, as_one, all_followed}
 use Rattle.fc_rules.specs.LaneRight.{LaneAnswers, done_write}
 use Rattle.fc_rules.specs.LaneTold.{sheet_entry}
 
@@ -45,17 +51,43 @@ abbrev pub AccessIsRefused : Option Refusal → Whole → Entry → Whole → Ty
 AccessIsRefused None w entry next = ⊥
 AccessIsRefused (Some refusal) w entry next = IsRefused refusal w entry next
 
--- Any other command: the settling and what is decided of it. The plain volumes follow its effects. No restart set is known
--- while no mapping is incremental.
-abbrev pub no_restarts : ℕ → List Bool
-no_restarts m = []
+-- What is told after a decision: the books by its events and changes, where the slot of a mapping that starts again holds its
+-- restart set; plain volumes by its effects; and what is kept of incremental mappings by its events.
+abbrev pub rows_after : GrainSize → Whole → List LaneEvent → List Row
+rows_after grain w events = (fold (followed_event (all_grains grain)) (all_followed w) events).rows
+
+abbrev pub left_by : GrainSize → Whole → Decision → Whole
+left_by grain w d =
+    record w {
+      books = after_decision (restarts w.rows) w.books d;
+      picture = after_effects grain w.picture d.effects;
+      rows = rows_after grain w d.events;
+    }
+
+-- Any other command settles, and then is decided. For want of memory it leaves all as it was, or leaves it settled; then no flag
+-- of background work is set.
+abbrev pub after_settling : GrainSize → Whole → Whole
+after_settling grain w = left_by grain w (settle w.books)
+
+abbrev pub decided_on : GrainSize → Whole → Command → Option (List VolId) → Decision
+decided_on grain w command loop = decide (restarts w.rows) grain w.books command loop
+
+-- The reply and the effects of its entry, and what is told after it.
+pub data CommandLeft (grain : GrainSize) (w : Whole) (command : Command) : Reply → List Effect → Whole → Type 0 where
+  decided : (loop : Option (List VolId)) → IsLoopOf grain (after_settling grain w).books command loop →
+      CommandLeft grain w command
+      (decided_on grain (after_settling grain w) command loop).reply
+      ((settle w.books).effects ++ (decided_on grain (after_settling grain w) command loop).effects)
+      (left_by grain (after_settling grain w) (decided_on grain (after_settling grain w) command loop))
+  unsettled : CommandLeft grain w command NoMemory [] w
+  settled_alone : CommandLeft grain w command NoMemory (settle w.books).effects (after_settling grain w)
 
 pub record CommandStep (grain : GrainSize) (w : Whole) (command : Command) (entry : Entry) (next : Whole) : Type 0 where
   pub place : entry.place ≡ Every
   pub apart : IsApart entry
-  pub books : Books
-  pub leaves : CommandLeaves no_restarts grain w.books command entry.reply entry.effects books
-  pub next_is : next ≡ one_more (record w { books = books; picture = after_effects grain w.picture entry.effects })
+  pub left : Whole
+  pub leaves : CommandLeft grain w command entry.reply entry.effects left
+  pub next_is : next ≡ one_more left
 
 abbrev pub CommandIsRight : GrainSize → Whole → Command → Entry → Whole → Type 0
 CommandIsRight grain w (ReadLine volume block count) entry next = AccessIsRefused (access_refused grain w.books volume block count) w entry next
@@ -72,6 +104,7 @@ after_access grain w i entry =
         sheet = sheet_entry (all_grains grain) w.books.sheet (done_write entry.request entry.reply) entry.moves entry.torn;
       };
       picture = plain_step grain w.picture entry;
+      rows = rows_entry (all_grains grain) w.rows entry;
       faults = slice_set w.faults i entry.faults_after;
       calls = slice_set w.calls i (slice_index_or w.calls i 0 + entry.calls);
       entries = w.entries + 1;

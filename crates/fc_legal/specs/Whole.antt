@@ -8,14 +8,17 @@ use Rattle.fc_base.specs.declared.size.GrainSize.{GrainSize}
 use Rattle.fc_base.specs.declared.volume.Volume.{Volume}
 use Rattle.fc_books.specs.Accesses.{access_in}
 use Rattle.fc_books.specs.Books.{Books, opened as opened_books}
+use Rattle.fc_changed.specs.Row.{Row}
 use Rattle.fc_entry.specs.Picture.{Lost, PlainVolume, Picture}
+use Rattle.fc_follow.specs.Following.{Followed}
 use Rattle.fc_rules.specs.LaneTold.{LaneOf, LaneVolume, LaneTold, grains_in, number_at}
 
--- The books that decide commands; what plain volumes hold; for each lane the faults of all disks that it ever had, and how
--- many calls its entries made on them; and how many entries there are.
+-- The books that decide commands; what plain volumes hold; what is kept of the changed grains of incremental mappings; for each
+-- lane the faults of all disks that it ever had, and how many calls its entries made on them; and how many entries there are.
 pub record Whole : Type 0 where
   pub books : Books
   pub picture : Picture
+  pub rows : List Row
   pub faults : List ℕ
   pub calls : List ℕ
   pub entries : ℕ
@@ -26,6 +29,7 @@ opened pools =
     record {
       books = opened_books pools;
       picture = [];
+      rows = [];
       faults = replicate (length pools) 0;
       calls = replicate (length pools) 0;
       entries = 0;
@@ -64,6 +68,10 @@ as_one w =
       calls = 0;
     }
 
+-- With what is kept of incremental mappings.
+abbrev pub all_followed : Whole → Followed
+all_followed w = record { told = as_one w; rows = w.rows }
+
 -- ---- the part of a lane
 
 -- Of a list by grains those of a lane, by their places there.
@@ -81,6 +89,12 @@ part_of_volume l v = record { volume = v.volume; now = part l Lost v.now; under 
 
 abbrev pub part_of_picture : LaneOf → Picture → Picture
 part_of_picture l picture = map (part_of_volume l) picture
+
+abbrev pub part_of_row : LaneOf → Row → Row
+part_of_row l row = record row { same = part l Bool.false row.same }
+
+abbrev pub part_of_rows : LaneOf → List Row → List Row
+part_of_rows l rows = map (part_of_row l) rows
 
 -- The lane of a number, among so many.
 abbrev pub lane_at : GrainSize → Whole → ℕ → LaneOf
@@ -103,3 +117,7 @@ part_at grain w i =
       faults = slice_index_or w.faults i 0;
       calls = slice_index_or w.calls i 0;
     }
+
+-- With what is kept of incremental mappings, at the lane's grains.
+abbrev pub followed_at : GrainSize → Whole → ℕ → Followed
+followed_at grain w i = record { told = part_at grain w i; rows = part_of_rows (lane_at grain w i) w.rows }

@@ -9,13 +9,14 @@ use Rattle.fc_base.specs.declared.request.Request.TheVariants.{Read, Write, Copy
 use Rattle.fc_base.specs.declared.size.GrainSize.{GrainSize}
 use Rattle.fc_entry.specs.Picture.{grain_of_block}
 use Rattle.fc_entry.specs.declared.entry.Entry.{Entry}
-use Rattle.fc_legal.specs.Steps.{AccessStep, after_access}
-use Rattle.fc_legal.specs.Lawful.{IsLawful, left_by}
+use Rattle.fc_follow.specs.Following.{FitsFollowed, followed_event, followed_entry}
+use Rattle.fc_legal.specs.Steps.{AccessStep, after_access, left_by}
+use Rattle.fc_legal.specs.Lawful.{IsLawful}
 use Rattle.fc_legal.specs.Stands.{Stands}
-use Rattle.fc_legal.specs.Whole.{Whole, opened, lanes, lane_of_grain, lane_at, part_at, pool_at}
-use Rattle.fc_rules.specs.LaneFits.{FitsLane, FitsPart}
-use Rattle.fc_rules.specs.LaneRight.{IsRightInLane, record_of}
-use Rattle.fc_rules.specs.LaneTold.{nothing_told, told_event, told_past}
+use Rattle.fc_legal.specs.Whole.{Whole, opened, lanes, lane_of_grain, lane_at, part_at, followed_at, pool_at}
+use Rattle.fc_rules.specs.LaneFits.{FitsPart}
+use Rattle.fc_rules.specs.LaneRight.{IsRightInLane}
+use Rattle.fc_rules.specs.LaneTold.{nothing_told}
 
 -- An access is at this grain.
 abbrev pub IsAt : GrainSize → ℕ → Request → Type 0
@@ -31,8 +32,8 @@ pub record PartLaw : Type 0 where
       part_at grain (opened pools) i ≡ record nothing_told { pool = pool_at pools i }
   -- a decision that is lawful fits each lane, and tells it its part of what the decision leaves
   pub decision : (grain : GrainSize) (decisions : ℕ) (w : Whole) (d : Decision) (i : ℕ) → Stands decisions w → IsLawful grain decisions w d → i < lanes w →
-      FitsLane (lane_at grain w i) (part_at grain w i) d.events
-      × (fold (told_event (lane_at grain w i)) (part_at grain w i) d.events ≡ part_at grain (left_by grain w d) i)
+      FitsFollowed (lane_at grain w i) (followed_at grain w i) d.events
+      × (fold (followed_event (lane_at grain w i)) (followed_at grain w i) d.events ≡ followed_at grain (left_by grain w d) i)
   -- an entry that is right in its lane is right by all grains
   pub access : (grain : GrainSize) (decisions : ℕ) (w : Whole) (number : ℕ) (entry : Entry) → Stands decisions w → IsAt grain number entry.request →
       IsRightInLane (lane_at grain w (lane_of_grain w number)) (part_at grain w (lane_of_grain w number)) entry →
@@ -40,12 +41,12 @@ pub record PartLaw : Type 0 where
   -- it tells its lane its part of what it leaves, and other lanes nothing
   pub told : (grain : GrainSize) (decisions : ℕ) (w : Whole) (number : ℕ) (entry : Entry) → Stands decisions w → IsAt grain number entry.request →
       IsRightInLane (lane_at grain w (lane_of_grain w number)) (part_at grain w (lane_of_grain w number)) entry →
-      part_at grain (after_access grain w (lane_of_grain w number) entry) (lane_of_grain w number)
-      ≡ told_past (lane_at grain w (lane_of_grain w number)) (part_at grain w (lane_of_grain w number)) (record_of entry)
+      followed_at grain (after_access grain w (lane_of_grain w number) entry) (lane_of_grain w number)
+      ≡ followed_entry (lane_at grain w (lane_of_grain w number)) (followed_at grain w (lane_of_grain w number)) entry
   pub others : (grain : GrainSize) (decisions : ℕ) (w : Whole) (number : ℕ) (entry : Entry) (j : ℕ) → Stands decisions w → IsAt grain number entry.request →
       IsRightInLane (lane_at grain w (lane_of_grain w number)) (part_at grain w (lane_of_grain w number)) entry →
       j < lanes w → j ≢ lane_of_grain w number →
-      part_at grain (after_access grain w (lane_of_grain w number) entry) j ≡ part_at grain w j
+      followed_at grain (after_access grain w (lane_of_grain w number) entry) j ≡ followed_at grain w j
   -- and what stood still stands
   pub stands : (grain : GrainSize) (decisions : ℕ) (w : Whole) (number : ℕ) (entry : Entry) → Stands decisions w → IsAt grain number entry.request →
       IsRightInLane (lane_at grain w (lane_of_grain w number)) (part_at grain w (lane_of_grain w number)) entry →

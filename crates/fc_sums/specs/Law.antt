@@ -13,7 +13,8 @@ use Rattle.fc_base.specs.declared.ids.MapId.{MapId}
 use Rattle.fc_base.specs.declared.ids.SlotId.{SlotId}
 use Rattle.fc_base.specs.declared.request.Pair.{Pair}
 use Rattle.fc_base.specs.declared.size.GrainSize.{GrainSize}
-use Rattle.fc_sums.specs.Parts.{part_of, parts_of, sheet_at, joined, has_name, unneeded_in, common_to}
+use Rattle.fc_changed.specs.Row.{Row, restart_in}
+use Rattle.fc_sums.specs.Parts.{part_of, parts_of, sheet_at, joined, has_name, unneeded_in, common_to, parts_of_rows, joined_rows}
 
 -- The parts of so many lanes, by their numbers.
 pub record PartsLaw (grain : GrainSize) (lanes : ℕ) (s : Sheet) : Type 0 where
@@ -97,6 +98,11 @@ pub record SumLaw : Type 0 where
   pub has_name : (names : List SlotId) (name : SlotId) → (has_name names name ≡ true) ↔ Contains names name
   -- the sheet of all is found again from its parts
   pub joins : (grain : GrainSize) (lanes : ℕ) (s : Sheet) → 0 < lanes → joined (parts_of grain lanes s) ≡ s
+  -- the grains with which a mapping would begin again are counted lane by lane, and the rows of all are found again from their
+  -- parts
+  pub restarts : (grain : GrainSize) (lanes m : ℕ) (rows : List Row) → 0 < lanes →
+      sum_by (λ (part : List Row). count_true (restart_in m part)) (parts_of_rows grain lanes rows) ≡ count_true (restart_in m rows)
+  pub rows_join : (grain : GrainSize) (lanes : ℕ) (rows : List Row) → 0 < lanes → joined_rows (parts_of_rows grain lanes rows) ≡ rows
   -- the least pool, lane by lane
   pub pools : (kind : DiskKind) (pool : Pool) (pools : List Pool) →
       least_of_kind kind (pool ∷ pools) ≡ fold (λ least p. min least (of_kind kind p)) (of_kind kind pool) pools

@@ -5,7 +5,8 @@ use Rattle.fc_base.specs.Counts.{names_below, is_unneeded}
 use Rattle.fc_base.specs.Sheet.{Slot, Sheet, no_slots, slot_at}
 use Rattle.fc_base.specs.declared.ids.SlotId.{SlotId}
 use Rattle.fc_base.specs.declared.size.GrainSize.{GrainSize}
-use Rattle.fc_legal.specs.Whole.{part_of_sheet}
+use Rattle.fc_changed.specs.Row.{Row}
+use Rattle.fc_legal.specs.Whole.{part_of_sheet, part_of_rows}
 use Rattle.fc_rules.specs.LaneTold.{LaneOf}
 
 -- A lane of so many.
@@ -63,3 +64,27 @@ common_to (names ∷ more) = fold common names more
 -- The old slots that no slot needs at any grain, by name, in order of their places.
 abbrev pub unneeded_in : List Slot → List SlotId
 unneeded_in slots = names_below slots (is_unneeded slots) (length slots)
+
+-- ---- what is kept of incremental mappings
+
+-- The rows of the parts, and the rows that they are parts of: those of the first part, with the grains of all.
+abbrev pub parts_of_rows : GrainSize → ℕ → List Row → List (List Row)
+parts_of_rows grain lanes rows = map (λ i. part_of_rows (lane_of grain lanes i) rows) (range_with_len 0 lanes)
+
+abbrev pub rows_at : List (List Row) → ℕ → List Row
+rows_at parts i = slice_index_or parts i []
+
+abbrev pub row_at : List Row → ℕ → Row
+row_at rows k = slice_index_or rows k (record { map = 0; source = 0; target = 0; into = 0; same = [] })
+
+abbrev pub same_at : List (List Row) → ℕ → ℕ → Bool
+same_at parts k g = slice_index_or (row_at (rows_at parts (g % length parts)) k).same (g / length parts) false
+
+abbrev pub joined_same : List (List Row) → ℕ → List Bool
+joined_same parts k = map (same_at parts k) (range_with_len 0 (sum_by (λ (rows : List Row). length (row_at rows k).same) parts))
+
+abbrev pub joined_row : List (List Row) → ℕ → Row
+joined_row parts k = record (row_at (rows_at parts 0) k) { same = joined_same parts k }
+
+abbrev pub joined_rows : List (List Row) → List Row
+joined_rows parts = map (joined_row parts) (range_with_len 0 (length (rows_at parts 0)))

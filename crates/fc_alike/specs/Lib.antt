@@ -1,0 +1,2 @@
+-- What the law of following says.
+pub mod Law

@@ -1,0 +1,3 @@
+-- A lane that follows its incremental mappings.
+pub mod Following
+pub mod Alike
