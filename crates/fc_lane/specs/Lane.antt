@@ -1,14 +1,21 @@
 -- A lane as contracts see it, and when it stands for what is told.
-use Rattle.std.specs.Prelude.{◌≡◌, ℕ, ◌<◌, ◌≤◌, ◌^◌, Option, Some, None, List, Contains}
+use Rattle.std.specs.Prelude.{◌≡◌, ℕ, ◌<◌, ◌≤◌, ◌^◌, cond, not, ◌&&◌, Option, Some, None, List, [], ◌∷◌, Contains}
+use Rattle.std.specs.List.{list_any}
 use Rattle.fc_base.specs.MovePlan.{PlannedMoves}
 use Rattle.fc_base.specs.declared.decision.LaneEvent.{LaneEvent}
-use Rattle.fc_base.specs.declared.decision.LaneEvent.TheVariants.{Arm}
+use Rattle.fc_base.specs.Sheet.{Slot, volume_grains}
+use Rattle.fc_base.specs.declared.decision.LaneEvent.TheVariants.{Arm, Trigger}
 use Rattle.fc_base.specs.declared.ids.GrainNo.{GrainNo}
 use Rattle.fc_base.specs.declared.ids.VolId.{VolId}
+use Rattle.fc_base.specs.declared.request.Pair.{Pair}
 use Rattle.fc_base.specs.declared.request.Request.{Request}
+use Rattle.fc_changed.specs.Row.{Row, is_of}
 use Rattle.fc_chain.specs.Chains.{Chains}
 use Rattle.fc_chain.specs.Planning.{volume_count}
+use Rattle.fc_diff.specs.State.{ChangesState, NewRow}
 use Rattle.fc_entry.specs.declared.entry.Entry.{Entry}
+use Rattle.fc_follow.specs.Alike.{AreAlike}
+use Rattle.fc_follow.specs.Following.{Followed}
 use Rattle.fc_grains.specs.Grains.{GrainsState, stopped}
 use Rattle.fc_grains.specs.Quiet.{IsQuiet}
 use Rattle.fc_pick.specs.Flags.{WorkState}
@@ -16,8 +23,9 @@ use Rattle.fc_lane.specs.Accesses.{AccessState}
 use Rattle.fc_lane.specs.Parts.{StandsFor, IsReadyFor, lane_of}
 use Rattle.fc_rules.specs.LaneTold.{LaneOf, LaneTold, nothing_told}
 
--- Which lane it is, of how many; its chains, the physical grains of its volumes, how hosts reach each volume, and the background
--- work; and for how many moves there is room in the next plan and in the next entry.
+-- Which lane it is, of how many; its chains, the physical grains of its volumes, how hosts reach each volume, the background
+-- work, and the changed grains of incremental mappings; and for how many moves there is room in the next plan and in the next
+-- entry.
 pub record LaneView : Type 0 where
   pub lane : ℕ
   pub lanes : ℕ
@@ -25,6 +33,7 @@ pub record LaneView : Type 0 where
   pub grains : GrainsState
   pub accesses : AccessState
   pub work : WorkState
+  pub changes : ChangesState
   pub plan_room : ℕ
   pub entry_room : ℕ
 
@@ -41,6 +50,12 @@ pub record IsLaneOf (v : LaneView) (told : LaneTold) : Type 0 where
   pub faults : v.grains.faults ≡ told.faults
   pub calls : v.grains.calls ≡ stopped told.calls
 
+-- It stands for what it is told, with what is kept of incremental mappings, and at their rows' grains both volumes are alike.
+pub record IsFollowing (v : LaneView) (f : Followed) : Type 0 where
+  pub lane : IsLaneOf v f.told
+  pub rows : v.changes.rows ≡ f.rows
+  pub alike : AreAlike f
+
 -- The next entry takes no memory: there is room for one move per volume, in the plan and in the entry; and the calls of so many
 -- moves can be counted.
 pub record IsReady (v : LaneView) : Type 0 where
@@ -48,9 +63,24 @@ pub record IsReady (v : LaneView) : Type 0 where
   pub plan : volume_count v.chains.sheet.slots ≤ v.plan_room
   pub entry : volume_count v.chains.sheet.slots ≤ v.entry_room
 
+-- The rows of the mappings that are followed from a trigger on: those of incremental mappings that aren't followed yet.
+abbrev pub new_row : List Slot → Pair → NewRow
+new_row slots p = record { map = p.map.0; source = p.source.0; target = p.target.0; grains = volume_grains slots p.target.0 }
+
+abbrev pub new_rows : List Slot → List Row → List Pair → List NewRow
+new_rows slots rows [] = []
+new_rows slots rows (p ∷ ps) =
+    cond (p.incremental && not (list_any (is_of p.map.0) rows)) (new_row slots p ∷ new_rows slots rows ps) (new_rows slots rows ps)
+
+-- They are ready, where the events begin with a trigger.
+abbrev pub AreRowsReady : LaneView → List LaneEvent → Type 0
+AreRowsReady v (Trigger pairs ∷ events) = v.changes.ready ≡ new_rows v.chains.sheet.slots v.changes.rows pairs
+AreRowsReady v events = Unit {0}
+
 -- Events can be done without taking memory.
-abbrev pub CanDoEvents : LaneView → List LaneEvent → Type 0
-CanDoEvents v events = IsReadyFor (of v) v.chains v.grains v.accesses v.work events
+pub record CanDoEvents (v : LaneView) (events : List LaneEvent) : Type 0 where
+  pub parts : IsReadyFor (of v) v.chains v.grains v.accesses v.work events
+  pub rows : AreRowsReady v events
 
 -- Which lane it is stays.
 pub record IsSameLane (old new : LaneView) : Type 0 where

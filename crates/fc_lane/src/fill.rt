@@ -46,7 +46,7 @@ impl<D: Mdisk> Lane<D> {
 
     /// Copies a grain of a mapping in the background: its target gets its own copy, after all moves that this asks for. It
     /// stops at the first call of a disk that fails; what was done before stays done.
-    pub fn copy(
+    pub(crate) fn copy_told(
         &mut self,
         alloc: Global,
         number: u64,
@@ -75,7 +75,7 @@ impl<D: Mdisk> Lane<D> {
 
     /// Hands on a grain of a mapping's target to the copy that needs it, after all moves that this asks for. It stops at
     /// the first call of a disk that fails; what was done before stays done.
-    pub fn clean(
+    pub(crate) fn clean_told(
         &mut self,
         alloc: Global,
         number: u64,

@@ -3,6 +3,7 @@
 use crate::access::Accesses;
 use crate::body::Body;
 use crate::roomy::RoomyPlan;
+use fc_diff::Changes;
 use fc_mdisk::mdisk::Mdisk;
 use fc_pick::Work;
 use std::marker::Model;
@@ -16,6 +17,7 @@ pub struct Lane<D: Mdisk> {
     pub(crate) body: Body<D>,
     pub(crate) accesses: Accesses,
     pub(crate) work: Work,
+    pub(crate) changes: Changes,
     pub(crate) plan: RoomyPlan,
     pub(crate) spare: Option<RoomyPlan>,
 }
@@ -26,7 +28,7 @@ impl<D: Mdisk> Model for Lane<D> {
 
     ghost Value = { LaneView };
 
-    ghost view = { λ l. record { lane = l.lane; lanes = l.lanes; chains = l.body.cascade; grains = l.body.grains; accesses = l.accesses; work = l.work; plan_room = l.plan.room; entry_room = room_of l.spare } };
+    ghost view = { λ l. record { lane = l.lane; lanes = l.lanes; chains = l.body.cascade; grains = l.body.grains; accesses = l.accesses; work = l.work; changes = l.changes; plan_room = l.plan.room; entry_room = room_of l.spare } };
 
     ghost invariant = { λ l. l.lane < l.lanes };
 }

@@ -20,6 +20,7 @@ mod copy;
 mod ending;
 mod events;
 mod fill;
+mod following;
 pub mod lane;
 mod new;
 mod parts;

@@ -1,10 +1,10 @@
 //! A lane that begins.
 
-ghost use Rattle.std.specs.Prelude.{◌≡◌, ◌<◌, ◌^◌, IfOk, map, vec_len};
+ghost use Rattle.std.specs.Prelude.{◌≡◌, ◌<◌, ◌^◌, IfOk, [], map, vec_len};
 ghost use Rattle.std.specs.List.{All};
 ghost use Rattle.fc_grains.specs.Grains.{IsUnarmed, opened, silent_of};
 ghost use Rattle.fc_grains.specs.Quiet.{IsQuiet};
-ghost use Rattle.fc_lane.specs.Lane.{IsLaneOf, begun};
+ghost use Rattle.fc_lane.specs.Lane.{IsFollowing, begun};
 
 use crate::access::Accesses;
 use crate::body::Body;
@@ -13,6 +13,7 @@ use crate::roomy::RoomyPlan;
 use fc_base::outcome::NoMemory;
 use fc_base::size::GrainSize;
 use fc_chain::Cascade;
+use fc_diff::Changes;
 use fc_grains::grains::Grains;
 use fc_mdisk::mdisk::Mdisk;
 use fc_pick::Work;
@@ -34,7 +35,7 @@ impl<D: Mdisk> Lane<D> {
         ensures lane { IfOk result (λ made. made.lane ≡ lane) }
         ensures lanes { IfOk result (λ made. made.lanes ≡ lanes) }
         ensures grains { IfOk result (λ made. made.grains ≡ opened grain (map D.meaning disks.items)) }
-        ensures stands { IfOk result (λ made. IsLaneOf made (begun (opened grain (map D.meaning disks.items)))) }
+        ensures stands { IfOk result (λ made. IsFollowing made (record { told = begun (opened grain (map D.meaning disks.items)); rows = [] })) }
         ensures quiet { IfOk result (λ made. silent_of (map D.meaning disks.items) ≡ 0 → IsQuiet made.grains) }
     {
         let plan = match RoomyPlan::new(alloc, 0) {
@@ -54,6 +55,7 @@ impl<D: Mdisk> Lane<D> {
             },
             accesses: Accesses::new(alloc),
             work: Work::new(alloc),
+            changes: Changes::new(alloc),
             plan,
             spare: None,
         })

@@ -101,7 +101,7 @@ impl<D: Mdisk> Lane<D> {
     {
         let request = Request::CopyTurn { lane: self.lane };
         match self.next_copy() {
-            Some((map, grain)) => turned(self.copy(alloc, number, actor, map, grain), request),
+            Some((map, grain)) => turned(self.copy_told(alloc, number, actor, map, grain), request),
             None => self.untouched(alloc, number, actor, request, Reply::Idle),
         }
     }
@@ -119,7 +119,7 @@ impl<D: Mdisk> Lane<D> {
     {
         let request = Request::CleanTurn { lane: self.lane };
         match self.next_clean() {
-            Some((map, grain)) => turned(self.clean(alloc, number, actor, map, grain), request),
+            Some((map, grain)) => turned(self.clean_told(alloc, number, actor, map, grain), request),
             None => self.untouched(alloc, number, actor, request, Reply::Idle),
         }
     }
@@ -127,7 +127,7 @@ impl<D: Mdisk> Lane<D> {
     /// A copier's turn: a copy of the first mapping by id that has one to make in the lane, at its least grain, and Idle exactly
     /// where none has; or the copy of a mapping's grain that is named. It stops at the first call of a disk that fails; what
     /// was done before stays done.
-    pub fn copy_turn(&mut self, alloc: Global, number: u64, actor: u32, pick: Pick) -> Entry
+    pub(crate) fn copy_turn_told(&mut self, alloc: Global, number: u64, actor: u32, pick: Pick) -> Entry
         requires can { (told : LaneTold) × IsLaneOf self.old told × CanPick (of self.old) (copied_slot told.sheet.slots) pick }
         requires ready { IsReady self.old }
         ensures right { (told : LaneTold) → IsLaneOf self.old told → CanPick (of self.old) (copied_slot told.sheet.slots) pick →
@@ -139,14 +139,14 @@ impl<D: Mdisk> Lane<D> {
     {
         match pick {
             Pick::Any => self.copy_first(alloc, number, actor),
-            Pick::Grain { map, grain } => self.copy(alloc, number, actor, map, grain),
+            Pick::Grain { map, grain } => self.copy_told(alloc, number, actor, map, grain),
         }
     }
 
     /// A cleaner's turn: a cleaning of the first mapping by id that has one to make in the lane, at its least grain, and Idle
     /// exactly where none has; or the cleaning of a mapping's grain that is named. It stops at the first call of a disk that
     /// fails; what was done before stays done.
-    pub fn clean_turn(&mut self, alloc: Global, number: u64, actor: u32, pick: Pick) -> Entry
+    pub(crate) fn clean_turn_told(&mut self, alloc: Global, number: u64, actor: u32, pick: Pick) -> Entry
         requires can { (told : LaneTold) × IsLaneOf self.old told × CanPick (of self.old) (cleaned_slot told.sheet.slots) pick }
         requires ready { IsReady self.old }
         ensures right { (told : LaneTold) → IsLaneOf self.old told → CanPick (of self.old) (cleaned_slot told.sheet.slots) pick →
@@ -158,7 +158,7 @@ impl<D: Mdisk> Lane<D> {
     {
         match pick {
             Pick::Any => self.clean_first(alloc, number, actor),
-            Pick::Grain { map, grain } => self.clean(alloc, number, actor, map, grain),
+            Pick::Grain { map, grain } => self.clean_told(alloc, number, actor, map, grain),
         }
     }
 }

@@ -1,0 +1,185 @@
+//! Reads, writes, copies and cleanings of a lane, with what they change for incremental mappings.
+
+ghost use Rattle.std.specs.Prelude.{◌≡◌, ◌<◌, ◌^◌, ◌%◌, IsSome};
+ghost use Rattle.fc_base.specs.declared.request.Request.TheVariants.{Clean, Copy, Read, Write};
+ghost use Rattle.fc_bits.specs.Grains.{count_set};
+ghost use Rattle.fc_changed.specs.Row.{restart_in};
+ghost use Rattle.fc_entry.specs.Picture.{grain_of_block};
+ghost use Rattle.fc_follow.specs.Following.{Followed, followed_entry, rows_entry};
+ghost use Rattle.fc_lane.specs.Lane.{IsAsked, IsFollowing, IsReady, IsSameLane, KeepsQuiet, of};
+ghost use Rattle.fc_lane.specs.Turns.{CanPick, clean_of, copy_of};
+ghost use Rattle.fc_rules.specs.LaneFits.{FitsPart};
+ghost use Rattle.fc_rules.specs.LaneRight.{IsRightInLane};
+ghost use Rattle.fc_rules.specs.LaneTold.{place_of};
+ghost use Rattle.fc_rules.specs.LaneTurn.{cleaned_slot, copied_slot};
+
+use crate::lane::Lane;
+use fc_base::ids::{GrainNo, MapId};
+use fc_base::request::{Pick, ReadPart, Reply, Request, Side, Torn, WritePart};
+use fc_entry::entry::Entry;
+use fc_mdisk::mdisk::Mdisk;
+use std::alloc::Global;
+
+impl<D: Mdisk> Lane<D> {
+    /// Notes what the entry changed: the grain that it wrote, or spoiled of what a volume shows. Takes no memory.
+    fn note(&mut self, entry: &Entry)
+        ensures { self.new ≡ record self.old { changes = record self.old.changes { rows = rows_entry (of self.old) self.old.changes.rows entry.now } } }
+    {
+        if self.changes.is_empty() {
+            return;
+        }
+        if let (Request::Write(part), Reply::Done) = (&entry.request, &entry.reply) {
+            self.note_write(*part);
+        }
+        if let Some(torn) = entry.torn {
+            self.note_torn(torn);
+        }
+    }
+
+    /// Notes a write that was done.
+    fn note_write(&mut self, part: WritePart) {
+        let grain = (part.block / self.body.grains.grain().blocks() as u64) as u32;
+        self.changes.wrote(part.volume, grain / self.lanes as u32);
+    }
+
+    /// Notes what a failed write spoiled of what the volume shows.
+    fn note_torn(&mut self, torn: Torn) {
+        match torn.side {
+            Side::Now => self
+                .changes
+                .wrote(torn.volume, torn.grain.0 / self.lanes as u32),
+            Side::Under => {}
+        }
+    }
+
+    /// With how many of the lane's grains the mapping's next copy would begin: its restart set. 0 of a mapping that isn't
+    /// incremental, or that never began.
+    pub fn restart(&self, map: MapId) -> u32
+        ensures { result ≡ count_set (restart_in map.0 self.now.changes.rows) }
+    {
+        self.changes.restart_count(map)
+    }
+
+    /// Reads blocks of one grain of a volume: the bytes that the volume's holder has there. A volume that isn't online
+    /// answers how it may be reached, and a lost grain a medium error.
+    pub fn read(&mut self, alloc: Global, number: u64, actor: u32, part: ReadPart) -> Entry
+        requires can { (f : Followed) × IsFollowing self.old f × FitsPart (of self.old) f.told part.volume part.block part.count }
+        requires number { grain_of_block self.old.grains.grain part.block < 2 ^ 32 }
+        ensures right { (f : Followed) → IsFollowing self.old f → FitsPart (of self.old) f.told part.volume part.block part.count →
+            IsRightInLane (of self.old) f.told result × IsFollowing self.new (followed_entry (of self.old) f result) }
+        ensures asked { IsAsked number actor (Read part) result }
+        ensures same { IsSameLane self.old self.new }
+        ensures quiet { KeepsQuiet self.old self.new }
+        ensures plan_room { self.new.plan_room ≡ self.old.plan_room }
+        ensures entry_room { self.new.entry_room ≡ self.old.entry_room }
+    {
+        let entry = self.read_told(alloc, number, actor, part);
+        self.note(&entry);
+        entry
+    }
+
+    /// Writes blocks of one grain of a volume, with all moves that this owes before it. A volume that isn't online answers how
+    /// it may be reached; a part of a lost grain can't be written. It stops at the first call of a disk that fails; what was
+    /// done before stays done.
+    pub fn write(&mut self, alloc: Global, number: u64, actor: u32, part: WritePart) -> Entry
+        requires can { (f : Followed) × IsFollowing self.old f × FitsPart (of self.old) f.told part.volume part.block part.count }
+        requires number { grain_of_block self.old.grains.grain part.block < 2 ^ 32 }
+        requires ready { IsReady self.old }
+        ensures right { (f : Followed) → IsFollowing self.old f → FitsPart (of self.old) f.told part.volume part.block part.count →
+            IsRightInLane (of self.old) f.told result × IsFollowing self.new (followed_entry (of self.old) f result) }
+        ensures asked { IsAsked number actor (Write part) result }
+        ensures same { IsSameLane self.old self.new }
+        ensures quiet { KeepsQuiet self.old self.new }
+        ensures plan_room { self.new.plan_room ≡ self.old.plan_room }
+    {
+        let entry = self.write_told(alloc, number, actor, part);
+        self.note(&entry);
+        entry
+    }
+
+    /// Copies a grain of a mapping in the background: its target gets its own copy, after all moves that this asks for. It
+    /// stops at the first call of a disk that fails; what was done before stays done.
+    pub fn copy(
+        &mut self,
+        alloc: Global,
+        number: u64,
+        actor: u32,
+        map: MapId,
+        grain: GrainNo,
+    ) -> Entry
+        requires can { (f : Followed) × IsFollowing self.old f × IsSome (copied_slot f.told.sheet.slots map.0 (place_of (of self.old) grain.0)) }
+        requires of_lane { grain.0 % self.old.lanes ≡ self.old.lane }
+        requires ready { IsReady self.old }
+        ensures right { (f : Followed) → IsFollowing self.old f → IsSome (copied_slot f.told.sheet.slots map.0 (place_of (of self.old) grain.0)) →
+            IsRightInLane (of self.old) f.told result × IsFollowing self.new (followed_entry (of self.old) f result) }
+        ensures asked { IsAsked number actor (Copy map grain) result }
+        ensures same { IsSameLane self.old self.new }
+        ensures quiet { KeepsQuiet self.old self.new }
+        ensures plan_room { self.new.plan_room ≡ self.old.plan_room }
+    {
+        let entry = self.copy_told(alloc, number, actor, map, grain);
+        self.note(&entry);
+        entry
+    }
+
+    /// Hands on a grain of a mapping's target to the copy that needs it, after all moves that this asks for. It stops at
+    /// the first call of a disk that fails; what was done before stays done.
+    pub fn clean(
+        &mut self,
+        alloc: Global,
+        number: u64,
+        actor: u32,
+        map: MapId,
+        grain: GrainNo,
+    ) -> Entry
+        requires can { (f : Followed) × IsFollowing self.old f × IsSome (cleaned_slot f.told.sheet.slots map.0 (place_of (of self.old) grain.0)) }
+        requires of_lane { grain.0 % self.old.lanes ≡ self.old.lane }
+        requires ready { IsReady self.old }
+        ensures right { (f : Followed) → IsFollowing self.old f → IsSome (cleaned_slot f.told.sheet.slots map.0 (place_of (of self.old) grain.0)) →
+            IsRightInLane (of self.old) f.told result × IsFollowing self.new (followed_entry (of self.old) f result) }
+        ensures asked { IsAsked number actor (Clean map grain) result }
+        ensures same { IsSameLane self.old self.new }
+        ensures quiet { KeepsQuiet self.old self.new }
+        ensures plan_room { self.new.plan_room ≡ self.old.plan_room }
+    {
+        let entry = self.clean_told(alloc, number, actor, map, grain);
+        self.note(&entry);
+        entry
+    }
+
+    /// A copier's turn: a copy of the first mapping by id that has one to make in the lane, at its least grain, and Idle exactly
+    /// where none has; or the copy of a mapping's grain that is named. It stops at the first call of a disk that fails; what
+    /// was done before stays done.
+    pub fn copy_turn(&mut self, alloc: Global, number: u64, actor: u32, pick: Pick) -> Entry
+        requires can { (f : Followed) × IsFollowing self.old f × CanPick (of self.old) (copied_slot f.told.sheet.slots) pick }
+        requires ready { IsReady self.old }
+        ensures right { (f : Followed) → IsFollowing self.old f → CanPick (of self.old) (copied_slot f.told.sheet.slots) pick →
+            IsRightInLane (of self.old) f.told result × IsFollowing self.new (followed_entry (of self.old) f result) }
+        ensures asked { IsAsked number actor (copy_of self.old.lane pick) result }
+        ensures same { IsSameLane self.old self.new }
+        ensures quiet { KeepsQuiet self.old self.new }
+        ensures plan_room { self.new.plan_room ≡ self.old.plan_room }
+    {
+        let entry = self.copy_turn_told(alloc, number, actor, pick);
+        self.note(&entry);
+        entry
+    }
+
+    /// A cleaner's turn: a cleaning of the first mapping by id that has one to make in the lane, at its least grain, and Idle
+    /// exactly where none has; or the cleaning of a mapping's grain that is named. It stops at the first call of a disk that
+    /// fails; what was done before stays done.
+    pub fn clean_turn(&mut self, alloc: Global, number: u64, actor: u32, pick: Pick) -> Entry
+        requires can { (f : Followed) × IsFollowing self.old f × CanPick (of self.old) (cleaned_slot f.told.sheet.slots) pick }
+        requires ready { IsReady self.old }
+        ensures right { (f : Followed) → IsFollowing self.old f → CanPick (of self.old) (cleaned_slot f.told.sheet.slots) pick →
+            IsRightInLane (of self.old) f.told result × IsFollowing self.new (followed_entry (of self.old) f result) }
+        ensures asked { IsAsked number actor (clean_of self.old.lane pick) result }
+        ensures same { IsSameLane self.old self.new }
+        ensures quiet { KeepsQuiet self.old self.new }
+        ensures plan_room { self.new.plan_room ≡ self.old.plan_room }
+    {
+        let entry = self.clean_turn_told(alloc, number, actor, pick);
+        self.note(&entry);
+        entry
+    }
+}
