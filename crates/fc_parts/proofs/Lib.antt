@@ -1,11 +1,15 @@
 pub mod Numbers
 pub mod Views
+pub mod Sets
+pub mod Rows
 pub mod Events
+pub mod Beginning
 pub mod Fitting
 pub mod Pictures
 pub mod Told
 pub mod Decisions
 pub mod Grains
+pub mod Noting
 pub mod Outcomes
 pub mod Spots
 pub mod Accesses
