@@ -1,7 +1,7 @@
 -- What the new slots of a trigger hold, in a lane's part: the part of what they hold of all grains.
-use Rattle.std.proofs.Common.{◌≡◌, ℕ, Bool, false, List, length, set, map, fold, refl, sym, ap, ap₂, ◌∙◌}
+use Rattle.std.proofs.Common.{◌≡◌, ℕ, Bool, false, List, length, set, fold, sym, ap, ◌∙◌}
 use Rattle.std.proofs.lemmas.List.{map-set}
-use Rattle.fc_base.specs.Sheet.{Slot, Sheet, slot_at, mapping_place}
+use Rattle.fc_base.specs.Sheet.{Slot, Sheet, slot_at}
 use Rattle.fc_base.specs.declared.request.Pair.{Pair}
 use Rattle.fc_books.specs.After.{of_length, holding, begun}
 use Rattle.fc_legal.specs.Whole.{part, part_of_slot, part_of_sheet}

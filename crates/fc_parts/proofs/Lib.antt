@@ -6,14 +6,15 @@ pub mod Events
 pub mod Beginning
 pub mod Fitting
 pub mod Pictures
-pub mod Told
-pub mod Decisions
 pub mod Grains
 pub mod Noting
+pub mod Told
+pub mod Decisions
 pub mod Outcomes
 pub mod Spots
 pub mod Accesses
 pub mod Staying
+pub mod RowsStaying
 pub mod Outside
 pub mod Soundness
 pub mod Standing

@@ -11,15 +11,15 @@ use Rattle.fc_base.specs.declared.request.Side.TheVariants.{Now, Under}
 use Rattle.fc_base.specs.declared.request.Torn.{Torn}
 use Rattle.fc_base.specs.declared.request.WritePart.{WritePart}
 use Rattle.fc_changed.specs.Notes.{Note}
-use Rattle.fc_changed.specs.Notes.Note.{Began, Wrote, Left, Cut, Forgotten}
+use Rattle.fc_changed.specs.Notes.Note.{Began, Wrote, Left}
 use Rattle.fc_changed.specs.Row.{Row, after_note}
 use Rattle.fc_entry.specs.Picture.{grain_of_block}
 use Rattle.fc_follow.specs.Following.{slot_leaves, leaving, beginning, event_notes, rows_event, write_notes, side_notes, torn_notes}
 use Rattle.fc_legal.specs.Whole.{part, part_of_slot, part_of_rows, all_grains}
 use Rattle.fc_rules.specs.LaneTold.{LaneOf, place_of, grains_in}
-use Rattle.fc_parts.proofs.Grains.{WriteAt, TornAt}
+use Rattle.fc_parts.proofs.Grains.{WriteAt, TornAt, away_same}
 use Rattle.fc_parts.proofs.Numbers.{IsLane, IsOf, of_same, all_place}
-use Rattle.fc_parts.proofs.Rows.{note_part, IsNoteOf, AreNotesOf, notes_of_both, all_note_parts, write_unseen}
+use Rattle.fc_parts.proofs.Rows.{note_part, AreNotesOf, notes_of_both, all_note_parts, write_unseen}
 use Rattle.fc_parts.proofs.Views.{parts, slot_parts, mapping_parts, grains_parts}
 
 -- ---- a slot that leaves, and a mapping that begins
@@ -184,15 +184,12 @@ unseen l i rows [] are = refl
 unseen l i rows (Wrote volume grain ∷ notes) are = unseen l i (after_note rows (Wrote volume grain)) notes are.1 ∙ write_unseen l i volume grain are.0 rows
 unseen l i rows (note ∷ notes) are = absurd are
 
-all_is_away : (l : LaneOf) (x number : ℕ) → x ≡ number → number % l.lanes ≢ l.lane → place_of (all_grains l.grain) x % l.lanes ≢ l.lane
-all_is_away l x number e other q = other (sym (ap (λ z. z % l.lanes) (all_place l.grain x ∙ e)) ∙ q)
-
 written_away : (l : LaneOf) (number : ℕ) → number % l.lanes ≢ l.lane → (write : Option WritePart) → WriteAt l.grain number write → AreAway l (write_notes (all_grains l.grain) write)
 written_away l number other None at = tt
-written_away l number other (Some part) at = (all_is_away l (grain_of_block l.grain part.block) number at other, tt)
+written_away l number other (Some part) at = (away_same l (grain_of_block l.grain part.block) number at other, tt)
 
 side_away : (l : LaneOf) (number : ℕ) → number % l.lanes ≢ l.lane → (torn : Torn) (side : Side) → torn.grain.0 ≡ number → AreAway l (side_notes (all_grains l.grain) torn side)
-side_away l number other torn Now at = (all_is_away l torn.grain.0 number at other, tt)
+side_away l number other torn Now at = (away_same l torn.grain.0 number at other, tt)
 side_away l number other torn Under at = tt
 
 torn_away : (l : LaneOf) (number : ℕ) → number % l.lanes ≢ l.lane → (torn : Option Torn) → TornAt number torn → AreAway l (torn_notes (all_grains l.grain) torn)

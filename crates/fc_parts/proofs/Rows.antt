@@ -86,6 +86,7 @@ new_part l i m source target (Some grains) rows =
   where
     new : List Bool → Row
     new same = record { map = m; source = source; target = target; into = target; same = same }
+
     by_test : (b : Bool) → part_of_rows l (if b then rows else (rows ++ new (replicate grains true) ∷ []))
         ≡ (if b then part_of_rows l rows else (part_of_rows l rows ++ new (replicate (grains_in l grains) true) ∷ []))
     by_test true = refl
