@@ -1,15 +1,13 @@
 -- What an access answers is determined, where nothing failed.
-use Rattle.std.proofs.Common.{◌≡◌, ◌≢◌, ℕ, ◌*◌, Bool, true, false, inl, inr, ◌⊎◌, Option, Some, None, List, [], take, drop, refl, sym, ap, subst, ◌∙◌, true≢false}
+use Rattle.std.proofs.Common.{◌≡◌, ℕ, ◌*◌, true, false, inl, inr, ◌⊎◌, Option, Some, None, List, refl, sym, ap, ◌∙◌, true≢false}
 use Rattle.fc_base.specs.Grain.{block_bytes}
-use Rattle.fc_base.specs.Runs.{expanded, IsCanonical}
 use Rattle.fc_base.specs.Sheet.{live_place}
 use Rattle.fc_base.specs.declared.ids.GrainNo.{GrainNo}
 use Rattle.fc_base.specs.declared.ids.MapId.{MapId}
 use Rattle.fc_base.specs.declared.request.ReadPart.{ReadPart}
 use Rattle.fc_base.specs.declared.request.Reply.{Reply}
 use Rattle.fc_base.specs.declared.request.Reply.TheVariants as reply
-use Rattle.fc_base.specs.declared.request.Request.{Request}
-use Rattle.fc_base.specs.declared.request.Request.TheVariants.{Command as Asked, Unread, Read, Write, Copy, Clean, CopyTurn, CleanTurn}
+use Rattle.fc_base.specs.declared.request.Request.TheVariants.{Read, Write, Copy, Clean}
 use Rattle.fc_base.specs.declared.request.WritePart.{WritePart}
 use Rattle.fc_base.specs.declared.runs.Run.{Run}
 use Rattle.fc_base.specs.declared.size.GrainSize.{GrainSize}

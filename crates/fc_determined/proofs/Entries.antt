@@ -1,11 +1,10 @@
 -- One entry, and what is told after it, are determined by what was told before it and by what was asked, where nothing failed.
-use Rattle.std.proofs.Common.{◌≡◌, ℕ, ◌+◌, ◌%◌, Option, Some, None, List, [], length, slice_index_or, slice_set, refl, sym, ap, subst, ◌∙◌, length-set}
+use Rattle.std.proofs.Common.{◌≡◌, ℕ, ◌+◌, ◌%◌, Option, Some, None, List, slice_index_or, slice_set, refl, sym, ap, subst, ◌∙◌, length-set}
 use Rattle.fc_base.specs.declared.command.Command.{Command}
 use Rattle.fc_base.specs.declared.command.Command.TheVariants.{Mkvdisk, Rmvdisk, Write as WriteLine, Read as ReadLine, Armfault, Advance, Mkfcmap, Prestartfcmap, Startfcmap, Stopfcmap, Rmfcmap, Mkfcconsistgrp, Prestartfcconsistgrp, Startfcconsistgrp, Stopfcconsistgrp, Rmfcconsistgrp, Lsfcmap, Lsfcconsistgrp, Lsvdisk, Lsfcmapprogress, Lsfcmapdependentmaps}
 use Rattle.fc_base.specs.declared.fault.Refusal.{Refusal}
 use Rattle.fc_base.specs.declared.fault.Refusal.TheVariants.{Words}
 use Rattle.fc_base.specs.declared.request.Place.TheVariants.{Lane}
-use Rattle.fc_base.specs.declared.request.Reply.TheVariants.{Refused}
 use Rattle.fc_base.specs.declared.request.Request.{Request}
 use Rattle.fc_base.specs.declared.request.Request.TheVariants.{Command as Asked, Unread, Read, Write, Copy, Clean, CopyTurn, CleanTurn}
 use Rattle.fc_base.specs.declared.size.GrainSize.{GrainSize}

@@ -4,4 +4,6 @@ pub mod Loops
 pub mod Answers
 pub mod Commands
 pub mod Entries
+pub mod Histories
+pub mod Passing
 pub mod Determined

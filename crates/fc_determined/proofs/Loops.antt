@@ -1,7 +1,7 @@
 -- The loop of restores that is told is determined.
-use Rattle.std.proofs.Common.{◌≡◌, ◌≢◌, ℕ, ◌<◌, ◌≤◌, inl, inr, Option, Some, None, List, [], ◌∷◌, length, map, refl, sym, ap, ap₂, subst, ◌∙◌, arith}
+use Rattle.std.proofs.Common.{◌≡◌, ℕ, ◌≤◌, inl, inr, Option, Some, None, List, [], ◌∷◌, length, map, refl, sym, ap, ap₂, subst, ◌∙◌, arith}
 use Rattle.fc_base.specs.Column.{Shape}
-use Rattle.fc_base.specs.RestoreGraph.{Edge, Way, IsRoute, IsNoLater, IsToldLoop}
+use Rattle.fc_base.specs.RestoreGraph.{Way, IsRoute, IsNoLater, IsToldLoop}
 use Rattle.fc_base.specs.RestoreGraph.Way.{last_edge, next_edge}
 use Rattle.fc_base.specs.Sheet.{shape_of}
 use Rattle.fc_base.specs.SheetStep.{triggered}
