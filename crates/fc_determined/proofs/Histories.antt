@@ -52,7 +52,7 @@ back_smooth all xs ys e h = (split_smooth xs ys (subst AreSmooth e h)).back
 
 -- ---- one outcome
 
-told_by-append : (xs ys : List Entry) → told_by (xs ++ ys) ≡ told_by xs ++ told_by ys
+pub told_by-append : (xs ys : List Entry) → told_by (xs ++ ys) ≡ told_by xs ++ told_by ys
 told_by-append [] ys = refl
 told_by-append (x ∷ xs) ys = ap (λ rest. but_for_faults x ∷ rest) (told_by-append xs ys)
 

@@ -6,4 +6,8 @@ pub mod Commands
 pub mod Entries
 pub mod Histories
 pub mod Passing
+pub mod Lines
+pub mod Fronts
+pub mod EarlyLines
+pub mod EarlyRuns
 pub mod Determined

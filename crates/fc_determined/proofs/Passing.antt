@@ -52,7 +52,7 @@ filled grain a work done r =
     (record a { at_hand = Some (spent grain work) })
     (record a { over = a.over ++ done ∷ []; at_hand = None })
 
-after_fill_one :
+pub after_fill_one :
     (grain : GrainSize) (w v : Whole) (a : Agenda) (work : Work) (x y : Entry) →
     v.books ≡ w.books →
     but_for_faults y ≡ but_for_faults x →
@@ -65,29 +65,29 @@ after_fill_one grain w v a work x y e same =
 -- ---- the next fill
 
 -- a fill is next in the one and none in the other: not where they tell the same
-no_other_fill :
+pub no_other_fill :
     (grain : GrainSize) (w v : Whole) (a : Agenda) (fill : Work × GrainNo) →
     v.books ≡ w.books → next_fill grain w a ≡ None → next_fill grain v a ≡ Some fill → ⊥
 no_other_fill grain w v a fill e h k =
     let q : None ≡ Some fill = sym h ∙ sym (next_fill_one grain w v a e) ∙ k in absurd cc
 
-no_other_agenda :
+pub no_other_agenda :
     (grain : GrainSize) (w v : Whole) (a b : Agenda) →
     v.books ≡ w.books → goes_on grain w a ≡ None → goes_on grain v a ≡ Some b → ⊥
 no_other_agenda grain w v a b e h k =
     let q : None ≡ Some b = sym h ∙ sym (goes_on_one grain w v a e) ∙ k in absurd cc
 
-one_agenda :
+pub one_agenda :
     (grain : GrainSize) (w v : Whole) (a b c : Agenda) →
     v.books ≡ w.books → goes_on grain w a ≡ Some b → goes_on grain v a ≡ Some c → c ≡ b
 one_agenda grain w v a b c e h k =
     let q : Some c ≡ Some b = sym k ∙ goes_on_one grain w v a e ∙ h in cc
 
-record AreOneFill (work other : Work) (g h : GrainNo) : Type 0 where
+pub record AreOneFill (work other : Work) (g h : GrainNo) : Type 0 where
   pub work_is : other ≡ work
   pub grain_is : h ≡ g
 
-one_fill :
+pub one_fill :
     (grain : GrainSize) (w v : Whole) (a : Agenda) (work other : Work) (g h : GrainNo) →
     v.books ≡ w.books →
     next_fill grain w a ≡ Some (work, g) →
@@ -101,13 +101,13 @@ one_fill grain w v a work other g h e n m =
 -- ---- runs of seconds
 
 -- an agenda by another name
-by_agenda :
+pub by_agenda :
     (grain : GrainSize) (a b c : Agenda) (v other : Whole) (ys : List Entry) →
     b ≡ a → Runs grain b v ys c other → Runs grain a v ys c other
 by_agenda grain a b c v other ys e run =
     let P : Agenda → Type 0 = λ z. Runs grain z v ys c other in subst P e run
 
-fill_step :
+pub fill_step :
     (grain : GrainSize) (a : Agenda) (w v : Whole) (work others : Work) (x y : Entry) (next next' : Whole) (g h : GrainNo) →
     TellTheSame w v →
     AreOneFill work others g h →

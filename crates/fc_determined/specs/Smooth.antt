@@ -5,7 +5,7 @@ use Rattle.fc_base.specs.declared.request.Reply.TheVariants.{DiskFault, NoMemory
 use Rattle.fc_entry.specs.declared.entry.Entry.{Entry}
 use Rattle.fc_legal.specs.Whole.{Whole, lanes}
 
--- No disk failed, and memory was not wanted in vain.
+-- An answer where no disk failed and no memory was missing.
 abbrev pub IsSmooth : Reply → Type 0
 IsSmooth DiskFault = ⊥
 IsSmooth NoMemory = ⊥
