@@ -1,5 +1,5 @@
 -- Deeds of ends one after the other, each on the books that the last left.
-use Rattle.std.proofs.Common.{◌≡◌, ℕ, Bool, ◌+◌, ◌<◌, ◌≤◌, ◌^◌, List, [], ◌∷◌, ◌++◌, length, fold, refl, sym, ap, subst, ◌∙◌, arith, Contains}
+use Rattle.std.proofs.Common.{◌≡◌, ℕ, Bool, ◌+◌, ◌≤◌, List, [], ◌∷◌, ◌++◌, length, fold, refl, sym, ap, subst, ◌∙◌, arith, Contains}
 use Rattle.fc_base.specs.Pools.{Pool}
 use Rattle.fc_base.specs.Sheet.{Slot, Sheet}
 use Rattle.fc_base.specs.SheetFacts.{IsSound}
@@ -22,7 +22,7 @@ use Rattle.fc_decided.proofs.Ends.{Rows}
 use Rattle.fc_decided.proofs.Frame.{tabled, left_books, all_leave_plain}
 use Rattle.fc_decided.proofs.Keeping.{Stay}
 use Rattle.fc_decided.proofs.Plain.{effects_append}
-use Rattle.fc_decided.proofs.Quiet.{FitAll, fit_all_append, fits_from_all, Standing}
+use Rattle.fc_decided.proofs.Quiet.{FitAll, fit_all_append, Standing}
 use Rattle.fc_decided.proofs.Stops.{Sound, Goes}
 use Rattle.fc_decided.proofs.TableSteps.{TableStep, table_then, calm_sparing}
 use Rattle.fc_decided.proofs.Working.{AreGone}
