@@ -1,3 +1,4 @@
 pub mod Sets
 pub mod Slots
 pub mod Holding
+pub mod Keeping
