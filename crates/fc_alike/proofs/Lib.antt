@@ -2,3 +2,4 @@ pub mod Sets
 pub mod Slots
 pub mod Holding
 pub mod Keeping
+pub mod Starting
