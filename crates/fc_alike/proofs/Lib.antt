@@ -3,3 +3,4 @@ pub mod Slots
 pub mod Holding
 pub mod Keeping
 pub mod Starting
+pub mod Rows
