@@ -4,3 +4,4 @@ pub mod Holding
 pub mod Keeping
 pub mod Starting
 pub mod Rows
+pub mod Leaving
