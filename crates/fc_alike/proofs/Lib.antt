@@ -5,3 +5,4 @@ pub mod Keeping
 pub mod Starting
 pub mod Rows
 pub mod Leaving
+pub mod Triggers
