@@ -86,7 +86,7 @@ cut_row picture v held row a =
 
 -- ---- slots that leave
 
-abbrev noted : List Note → List Row → List Row
+abbrev pub noted : List Note → List Row → List Row
 noted notes rows = fold after_note rows notes
 
 -- by the place of the slot
@@ -106,7 +106,7 @@ place_leaves slots picture rows (Some k) a = by (slot_at slots k).is_live
 pub one_leaves : (slots : List Slot) (picture : Picture) (rows : List Row) (m : MapId) → AreAlikeIn picture rows → AreAlikeIn (leaves slots picture m) (noted (leaving slots m) rows)
 one_leaves slots picture rows m a = place_leaves slots picture rows (mapping_place slots m.0) a
 
-noted_append : (xs ys : List Note) (rows : List Row) → noted (xs ++ ys) rows ≡ noted ys (noted xs rows)
+pub noted_append : (xs ys : List Note) (rows : List Row) → noted (xs ++ ys) rows ≡ noted ys (noted xs rows)
 noted_append [] ys rows = refl
 noted_append (x ∷ xs) ys rows = noted_append xs ys (after_note rows x)
 
