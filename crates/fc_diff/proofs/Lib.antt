@@ -4,3 +4,4 @@ pub mod Naming
 pub mod Events
 pub mod Telling
 pub mod Found
+pub mod States
