@@ -82,12 +82,13 @@ any_told m event (row ∷ rows) = λ k. nat_eq m (same_map event row k) || any_t
 
 any_false : (p : Row → Bool) (rows : List Row) (k : ℕ) (d : Row) → list_any p rows ≡ false → k < length rows → p (get_or rows k d) ≡ false
 any_false p [] k d e within = absurd (omega arith)
-any_false p (row ∷ rows) k d e within = by (p row) (list_any p rows) k refl refl e within
+any_false p (row ∷ rows) k d e within = by (p row) (list_any p rows) k refl refl e within (λ j f inside. any_false p rows j d f inside)
   where
-    by : (a b : Bool) (j : ℕ) → p row ≡ a → list_any p rows ≡ b → (a || b) ≡ false → j < length (row ∷ rows) → p (get_or (row ∷ rows) j d) ≡ false
-    by true b j f g h inside = cc
-    by false b zero f g h inside = f
-    by false b (suc j) f g h inside = any_false p rows j d (g ∙ h) (omega arith)
+    by : (a b : Bool) (j : ℕ) → p row ≡ a → list_any p rows ≡ b → (a || b) ≡ false → j < length (row ∷ rows)
+        → ((i : ℕ) → list_any p rows ≡ false → i < length rows → p (get_or rows i d) ≡ false) → p (get_or (row ∷ rows) j d) ≡ false
+    by true b j f g h inside rest = cc
+    by false b zero f g h inside rest = f
+    by false b (suc j) f g h inside rest = rest j (g ∙ h) (omega arith)
 
 other : (a b : ℕ) → nat_eq a b ≡ false → b ≢ a
 other a b e same = grind (arith, nat_tests)

@@ -1,4 +1,4 @@
-use Rattle.std.proofs.Common.{◌≡◌, List, sym, subst, take, length}
+use Rattle.std.proofs.Common.{◌≡◌, [], refl, List, sym, subst, take, length}
 use Rattle.fc_changed.specs.Row.{Row}
 use Rattle.fc_diff.specs.Index.{map_numbers}
 use Rattle.fc_diff.proofs.Found.{first_ids}
@@ -11,6 +11,9 @@ tell_named-requires-clause-beside c =
 
 pub invariant_of-self : goal.invariant_of-self
 invariant_of-self c = ?
+
+probe : (c : goal.After-self-1) → c.self-1.given.items ≡ []
+probe c = refl
 
 pub returns : goal.returns
 returns c = ?
