@@ -1,14 +1,13 @@
 -- One note more at the end of the list.
-use Rattle.std.proofs.Common.{◌≡◌, ℕ, ◌<◌, Bool, true, false, ◌&&◌, ◌||◌, cond, List, [], ◌∷◌, ◌++◌, map, reverse, length, find, set, replicate, get_or, nat_eq, Some, is_some, refl, ap, sym, ◌∙◌, arith}
+use Rattle.std.proofs.Common.{◌≡◌, ℕ, Bool, true, false, ◌&&◌, ◌||◌, cond, List, [], ◌∷◌, ◌++◌, reverse, find, nat_eq, Option, Some, None, is_some, refl, ap, sym, ◌∙◌}
 use Rattle.std.specs.List.{list_any}
 use Rattle.std.specs.Option.{option_and_then}
-use Rattle.std.proofs.lemmas.List.{reverse-append, same_lists, length-replicate, length-set, get_or-replicate, get_or-set_same, get_or-set_other}
+use Rattle.std.proofs.lemmas.List.{reverse-append}
 use Rattle.std.proofs.lemmas.List.Folds.{list_any-append}
 use Rattle.std.proofs.lemmas.Bool.{true≢false}
-use Rattle.std.proofs.lemmas.Bool.Decides.{nat_tests}
-use Rattle.fc_diff.specs.Changed.{Note, behind_last, last, follows, forgets, story, joins, joins_them, begins, has_begun, source_of, last_source, grains_with}
-use Rattle.fc_diff.specs.Changed.Note.{Tracked, Forgotten, Began, Wrote, Cut, Left}
-use Rattle.fc_diff.proofs.Sets.{length-grains_with, get_or-grains_with}
+use Rattle.fc_changed.specs.Notes.{Note, joins}
+use Rattle.fc_changed.specs.Notes.Note.{Began, Wrote, Left, Cut, Forgotten}
+use Rattle.fc_changed.specs.Changed.{behind_last, last, follows, forgets, story, joins_them, target_of, is_volume, is_last_target}
 
 pub or_false : (b : Bool) → (b || false) ≡ b
 or_false true = refl
@@ -49,12 +48,11 @@ longer_story m note [] = cond (follows m note) (note ∷ []) []
 longer_story m note (n ∷ notes) = n ∷ (notes ++ note ∷ [])
 
 not_both : (m : ℕ) (note : Note) → forgets m note ≡ true → follows m note ≡ false
-not_both m (Tracked map source target grains) e = cc
-not_both m (Forgotten map) e = refl
-not_both m (Began map source target) e = refl
+not_both m (Began map source target followed) e = cc
 not_both m (Wrote volume grain) e = refl
-not_both m (Cut volume source) e = refl
-not_both m (Left source target held) e = refl
+not_both m (Left target held) e = refl
+not_both m (Cut target) e = refl
+not_both m (Forgotten map) e = refl
 
 pub story_push : (m : ℕ) (notes : List Note) (note : Note) → story m (notes ++ note ∷ []) ≡ cond (forgets m note) [] (longer_story m note (story m notes))
 story_push m [] note = by (forgets m note) refl
@@ -97,49 +95,29 @@ story_shape m (n ∷ notes) = by (list_any (forgets m) notes) refl (follows m n)
     by false e true f rest = rw (e, f) f
     by false e false f rest = rw (e, f) rest
 
--- ---- a mapping that has begun has a trigger behind it that joins its volumes
+-- ---- the target of the last trigger that joined the two volumes
 
-and_second : (a b : Bool) → (a && b) ≡ true → b ≡ true
-and_second true b e = e
-and_second false b e = cc
+-- 0 where none did
+abbrev pub or_none : Option ℕ → ℕ
+or_none None = 0
+or_none (Some target) = target
 
-begins_joins : (m a b : ℕ) (note : Note) → begins m a b note ≡ true → joins_them a b note ≡ true
-begins_joins m a b (Tracked map source target grains) e = cc
-begins_joins m a b (Forgotten map) e = cc
-begins_joins m a b (Began map source target) e = and_second (nat_eq m map) (joins a b source target) e
-begins_joins m a b (Wrote volume grain) e = cc
-begins_joins m a b (Cut volume source) e = cc
-begins_joins m a b (Left source target held) e = cc
+abbrev pub last_target : (a b : ℕ) → List Note → ℕ
+last_target a b notes = or_none (option_and_then target_of (last (joins_them a b) notes))
 
-pub not_joining : (m a b : ℕ) (note : Note) → joins_them a b note ≡ false → begins m a b note ≡ false
-not_joining m a b note e = by (begins m a b note) refl
+joining_target : (a b : ℕ) (note : Note) → joins_them a b note ≡ true → is_some (target_of note) ≡ true
+joining_target a b (Began map source target followed) e = refl
+joining_target a b (Wrote volume grain) e = cc
+joining_target a b (Left target held) e = cc
+joining_target a b (Cut target) e = cc
+joining_target a b (Forgotten map) e = cc
+
+found_target : (a b : ℕ) (notes : List Note) → list_any (joins_them a b) notes ≡ true → is_some (option_and_then target_of (find (joins_them a b) notes)) ≡ true
+found_target a b [] e = cc
+found_target a b (n ∷ notes) e = by (joins_them a b n) refl e (found_target a b notes)
   where
-    by : (c : Bool) → begins m a b note ≡ c → begins m a b note ≡ false
-    by true f = absurd (true≢false (sym (begins_joins m a b note f) ∙ e))
-    by false f = f
-
-pub begun_joined : (m a b : ℕ) (notes : List Note) → has_begun m a b notes ≡ true → list_any (joins_them a b) notes ≡ true
-begun_joined m a b [] e = cc
-begun_joined m a b (n ∷ notes) e = by (begins m a b n) refl e (begun_joined m a b notes)
-  where
-    by : (c : Bool) → begins m a b n ≡ c → (c || has_begun m a b notes) ≡ true → (has_begun m a b notes ≡ true → list_any (joins_them a b) notes ≡ true) → list_any (joins_them a b) (n ∷ notes) ≡ true
-    by true f g rest = rw (begins_joins m a b n f) refl
-    by false f g rest = ap (λ z. joins_them a b n || z) (rest g) ∙ or_true (joins_them a b n)
-
-joining_source : (a b : ℕ) (note : Note) → joins_them a b note ≡ true → is_some (source_of note) ≡ true
-joining_source a b (Tracked map source target grains) e = cc
-joining_source a b (Forgotten map) e = cc
-joining_source a b (Began map source target) e = refl
-joining_source a b (Wrote volume grain) e = cc
-joining_source a b (Cut volume source) e = cc
-joining_source a b (Left source target held) e = cc
-
-found_source : (a b : ℕ) (notes : List Note) → list_any (joins_them a b) notes ≡ true → is_some (option_and_then source_of (find (joins_them a b) notes)) ≡ true
-found_source a b [] e = cc
-found_source a b (n ∷ notes) e = by (joins_them a b n) refl e (found_source a b notes)
-  where
-    by : (c : Bool) → joins_them a b n ≡ c → (c || list_any (joins_them a b) notes) ≡ true → (list_any (joins_them a b) notes ≡ true → is_some (option_and_then source_of (find (joins_them a b) notes)) ≡ true) → is_some (option_and_then source_of (find (joins_them a b) (n ∷ notes))) ≡ true
-    by true f g rest = rw f (joining_source a b n f)
+    by : (c : Bool) → joins_them a b n ≡ c → (c || list_any (joins_them a b) notes) ≡ true → (list_any (joins_them a b) notes ≡ true → is_some (option_and_then target_of (find (joins_them a b) notes)) ≡ true) → is_some (option_and_then target_of (find (joins_them a b) (n ∷ notes))) ≡ true
+    by true f g rest = rw f (joining_target a b n f)
     by false f g rest = rw f (rest g)
 
 any_reverse : (p : Note → Bool) (notes : List Note) → list_any p notes ≡ true → list_any p (reverse notes) ≡ true
@@ -151,36 +129,9 @@ any_reverse p (n ∷ notes) e = ap (list_any p) (reverse-append (n ∷ []) notes
     by false true f g rest = ap (λ z. z || false) (rest f)
     by false false f g rest = cc
 
-pub begun_source : (m a b : ℕ) (notes : List Note) → has_begun m a b notes ≡ true → is_some (last_source a b notes) ≡ true
-begun_source m a b notes e = found_source a b (reverse notes) (any_reverse (joins_them a b) notes (begun_joined m a b notes e))
-
--- ---- sets of a test
-
-pub grains_same : (n : ℕ) (p q : ℕ → Bool) → ((g : ℕ) → p g ≡ q g) → grains_with p n ≡ grains_with q n
-grains_same n p q same = λ k. grains_with (λ g. same g k) n
-
-pub grains_all : (n k : ℕ) (p : ℕ → Bool) (b : Bool) → n ≡ k → ((g : ℕ) → p g ≡ b) → grains_with p n ≡ replicate k b
-grains_all n k p b e all =
-    same_lists (grains_with p n) (replicate k b) (length-grains_with p n ∙ (e ∙ sym (length-replicate k b)))
-    (λ g d within. let below : g < n = rw (sym (length-grains_with p n)) within in
-    get_or-grains_with p n g d below ∙ (all g ∙ sym (get_or-replicate k g b d (rw (sym e) below))))
-
-eq_here : (g h : ℕ) → nat_eq g h ≡ true → g ≡ h
-eq_here g h e = grind (arith, nat_tests)
-
-eq_away : (g h : ℕ) → nat_eq g h ≡ false → g ≡ h → ⊥
-eq_away g h e same = grind (arith, nat_tests)
-
-pub grains_set : (n h : ℕ) (p : ℕ → Bool) → grains_with (λ g. p g || nat_eq g h) n ≡ set (grains_with p n) h true
-grains_set n h p =
-    same_lists (grains_with (λ g. p g || nat_eq g h) n) (set (grains_with p n) h true)
-    (length-grains_with (λ g. p g || nat_eq g h) n ∙ (sym (length-grains_with p n) ∙ sym (length-set (grains_with p n) h true)))
-    (λ g d within. let below : g < n = rw (sym (length-grains_with (λ j. p j || nat_eq j h) n)) within in
-    get_or-grains_with (λ j. p j || nat_eq j h) n g d below ∙ by g d below (nat_eq g h) refl)
+pub own_is : (a b : ℕ) (notes : List Note) (volume : ℕ) → list_any (joins_them a b) notes ≡ true → is_last_target a b notes volume ≡ nat_eq (last_target a b notes) volume
+own_is a b notes volume e = by (option_and_then target_of (last (joins_them a b) notes)) (found_target a b (reverse notes) (any_reverse (joins_them a b) notes e))
   where
-    by : (g : ℕ) (d : Bool) → g < n → (b : Bool) → nat_eq g h ≡ b → (p g || nat_eq g h) ≡ get_or (set (grains_with p n) h true) g d
-    by g d below true e =
-        let inside : g < length (grains_with p n) = rw length-grains_with below in
-        ap (λ z. p g || z) e ∙ (or_true (p g) ∙ (sym (get_or-set_same (grains_with p n) g true d inside) ∙ ap (λ z. get_or (set (grains_with p n) z true) g d) (eq_here g h e)))
-    by g d below false e =
-        ap (λ z. p g || z) e ∙ (or_false (p g) ∙ (sym (get_or-grains_with p n g d below) ∙ sym (get_or-set_other (grains_with p n) h g true d (eq_away g h e))))
+    by : (o : Option ℕ) → is_some o ≡ true → is_volume o volume ≡ nat_eq (or_none o) volume
+    by None f = cc
+    by (Some target) f = refl
