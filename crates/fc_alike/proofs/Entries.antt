@@ -1,9 +1,9 @@
 -- Rows after an entry: a write and a failed write take their grain from each row that names the volume.
-use Rattle.std.proofs.Common.{◌≡◌, ◌≢◌, ℕ, ◌+◌, Bool, true, false, cond, ◌++◌, Option, Some, None, IsSome, List, [], ◌∷◌, length, get_or, slice_set, map, fold, All, refl, sym, ap, subst, ◌∙◌, arith, ◌⊎◌, inl, inr, length-set, get_or-set_other}
+use Rattle.std.proofs.Common.{◌≡◌, ◌≢◌, ℕ, Bool, true, false, ◌++◌, Option, Some, None, IsSome, List, [], ◌∷◌, length, get_or, slice_set, map, fold, All, refl, sym, ap, subst, ◌∙◌, ◌⊎◌, inl, inr, length-set, get_or-set_other}
 use Rattle.std.proofs.lemmas.Bool.{both_ways, cases_eq, cond_both}
 use Rattle.std.proofs.lemmas.List.Elements.{All-weaker, All-map}
-use Rattle.fc_base.specs.Sheet.{Slot, Sheet, live_place}
-use Rattle.fc_base.specs.SheetStep.{grain_taken, sheet_moved, sheet_torn}
+use Rattle.fc_base.specs.Sheet.{Slot, Sheet}
+use Rattle.fc_base.specs.SheetStep.{sheet_moved, sheet_torn}
 use Rattle.fc_base.specs.declared.ids.VolId.{VolId}
 use Rattle.fc_base.specs.declared.request.Move.{Move}
 use Rattle.fc_base.specs.declared.request.Side.{Side}
@@ -129,15 +129,15 @@ row_wrote_alike slots picture next v g row but a =
           but row.source y (inr ne) ∙ a.alike y before ∙ sym (but row.target y (inr ne));
     })
     (λ e.
-        let u = unnamed row v e in
-        record {
-          apart = a.apart;
-          source_there = a.source_there;
-          target_there = a.target_there;
-          source_size = a.source_size;
-          target_size = a.target_size;
-          alike = λ y h. but row.source y (inl (λ f. u.0 (sym f))) ∙ a.alike y h ∙ sym (but row.target y (inl (λ f. u.1 (sym f))));
-        })
+    let u = unnamed row v e in
+    record {
+      apart = a.apart;
+      source_there = a.source_there;
+      target_there = a.target_there;
+      source_size = a.source_size;
+      target_size = a.target_size;
+      alike = λ y h. but row.source y (inl (λ f. u.0 (sym f))) ∙ a.alike y h ∙ sym (but row.target y (inl (λ f. u.1 (sym f))));
+    })
 
 wrote_map : (v g : ℕ) (row : Row) → (row_wrote v g row).map ≡ row.map
 wrote_map v g row = cond_both (row_names row v) (with_same row (slice_set row.same g false)) row (λ (z : Row). z.map ≡ row.map) (λ e. refl) (λ e. refl)

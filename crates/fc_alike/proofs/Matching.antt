@@ -1,10 +1,9 @@
 -- At the grains of its restart set a target's own grain is what it shows after the trigger; so its new slot may begin with them.
-use Rattle.std.proofs.Common.{◌≡◌, ◌≢◌, ℕ, zero, suc, ◌<◌, Bool, true, false, cond, Option, Some, None, List, [], ◌∷◌, length, get_or, map, fold, find, All, Contains, refl, sym, ap, subst, ◌∙◌, arith, ◌⊎◌, inl, inr}
+use Rattle.std.proofs.Common.{◌≡◌, ◌≢◌, ℕ, zero, suc, ◌<◌, Bool, true, false, Option, Some, None, List, [], ◌∷◌, length, get_or, map, fold, find, All, Contains, refl, sym, ap, subst, ◌∙◌, arith, ◌⊎◌, inl, inr}
 use Rattle.std.specs.Option.{ForSome}
 use Rattle.std.proofs.lemmas.Bool.{cases_Bool, cond-true, cond-false}
 use Rattle.std.proofs.lemmas.List.Elements.{All-head, All-tail, All-contains}
 use Rattle.fc_base.specs.Sheet.{Slot, Sheet, slot_at, column, volume_grains}
-use Rattle.fc_base.specs.SheetFacts.{IsSound}
 use Rattle.fc_base.specs.SheetFits.{FitsPair, FitsTrigger}
 use Rattle.fc_base.specs.declared.ids.VolId.{VolId}
 use Rattle.fc_base.specs.declared.request.Pair.{Pair}
@@ -124,8 +123,8 @@ pub all_match : (s : Sheet) (picture : Picture) (stored after : Stored) (pairs :
 all_match s picture stored after pairs rows w f apart a fits same =
     match_from (restarts rows) after (map (after_trigger picture pairs) picture) pairs
     (λ p c g e. same p.target.0 g
-        ∙ pair_matches s.slots picture stored pairs p rows w (f.each p c) (f.apart p p c c) apart c a
-        (All-contains (λ (q : Pair). ForSome (find (is_of q.map.0) rows) (IsOfPair q)) pairs p fits c) g e)
+    ∙ pair_matches s.slots picture stored pairs p rows w (f.each p c) (f.apart p p c c) apart c a
+    (All-contains (λ (q : Pair). ForSome (find (is_of q.map.0) rows) (IsOfPair q)) pairs p fits c) g e)
 
 -- ---- the slots begin
 
