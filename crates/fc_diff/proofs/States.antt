@@ -136,9 +136,12 @@ first_there m source target n rows first = by (drop n rows) refl first
 -- The trigger is the first: the mapping that stands ready first is followed.
 pub began_first : (old : ChangesState) (n : ℕ) (rows : List Row) (m source target : ℕ) → state_of n rows ≡ record old { rows = map (row_began source target) old.rows }
     → list_any (is_of m) old.rows ≡ false → list_any (is_of m) (map (row_began source target) old.rows) ≡ false → IsFirstReady m source target old.ready
-    → state_of (suc n) (begun_at n rows) ≡ after_beginning old m source target true
-began_first old n rows m source target told unfollowed unfollowed_still first = by (drop n rows) refl old.ready refl first
+    → state_of (n + 1) (begun_at n rows) ≡ after_beginning old m source target true
+began_first old n rows m source target told unfollowed unfollowed_still first = ap (λ k. state_of k (begun_at n rows)) (behind n) ∙ by (drop n rows) refl old.ready refl first
   where
+    behind : (k : ℕ) → k + 1 ≡ suc k
+    behind k = omega arith
+
     now : List Row
     now = map (row_began source target) old.rows
 
@@ -189,3 +192,7 @@ began_later old m source target true e same =
     twice_not : (b : Bool) → not b ≡ false → b ≡ true
     twice_not true f = refl
     twice_not false f = cc
+
+pub not_taken : (a b : Bool) → b ≡ true → (a && not b) ≡ false
+not_taken true b e = ap not e
+not_taken false b e = refl
