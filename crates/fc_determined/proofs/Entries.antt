@@ -1,0 +1,266 @@
+-- One entry, and what is told after it, are determined by what was told before it and by what was asked, where nothing failed.
+use Rattle.std.proofs.Common.{◌≡◌, ℕ, ◌+◌, ◌%◌, Option, Some, None, List, slice_index_or, slice_set, refl, sym, ap, subst, ◌∙◌, length-set}
+use Rattle.fc_base.specs.declared.command.Command.{Command}
+use Rattle.fc_base.specs.declared.command.Command.TheVariants.{Mkvdisk, Rmvdisk, Write as WriteLine, Read as ReadLine, Armfault, Advance, Mkfcmap, Prestartfcmap, Startfcmap, Stopfcmap, Rmfcmap, Mkfcconsistgrp, Prestartfcconsistgrp, Startfcconsistgrp, Stopfcconsistgrp, Rmfcconsistgrp, Lsfcmap, Lsfcconsistgrp, Lsvdisk, Lsfcmapprogress, Lsfcmapdependentmaps}
+use Rattle.fc_base.specs.declared.fault.Refusal.{Refusal}
+use Rattle.fc_base.specs.declared.fault.Refusal.TheVariants.{Words}
+use Rattle.fc_base.specs.declared.request.Place.TheVariants.{Lane}
+use Rattle.fc_base.specs.declared.request.Request.{Request}
+use Rattle.fc_base.specs.declared.request.Request.TheVariants.{Command as Asked, Unread, Read, Write, Copy, Clean, CopyTurn, CleanTurn}
+use Rattle.fc_base.specs.declared.size.GrainSize.{GrainSize}
+use Rattle.fc_books.specs.Refused.{access_refused}
+use Rattle.fc_determined.proofs.Answers.{DidTheSame, read_did, write_did, copy_did, clean_did}
+use Rattle.fc_determined.proofs.Commands.{with_faults, LeaveTheSame, command_one}
+use Rattle.fc_determined.specs.Smooth.{IsSmooth, TellTheSame, but_for_faults}
+use Rattle.fc_entry.specs.Picture.{grain_of_block}
+use Rattle.fc_entry.specs.PlainStep.{plain_step}
+use Rattle.fc_entry.specs.declared.entry.Entry.{Entry}
+use Rattle.fc_follow.specs.Following.{rows_entry}
+use Rattle.fc_legal.specs.Steps.{Step, RequestStep, AccessStep, CommandStep, CommandIsRight, IsRefused, AccessIsRefused, IsApart, one_more, after_access}
+use Rattle.fc_legal.specs.Whole.{Whole, lanes, lane_of_grain, all_grains, as_one}
+use Rattle.fc_rules.specs.LaneRight.{LaneAnswers, done_write}
+use Rattle.fc_rules.specs.LaneTold.{sheet_entry}
+
+-- Two entries tell the same, and so do the wholes after them.
+pub record AreOneStep (x y : Entry) (next other : Whole) : Type 0 where
+  pub same : but_for_faults y ≡ but_for_faults x
+  pub told : TellTheSame next other
+
+-- What is known of two entries before what they answered: who asked what, and as which entry.
+pub record AskTheSame (x y : Entry) : Type 0 where
+  pub number : y.number ≡ x.number
+  pub actor : y.actor ≡ x.actor
+  pub request : y.request ≡ x.request
+
+same_entry : (x y : Entry) → AskTheSame x y → y.place ≡ x.place → DidTheSame x y → y.effects ≡ x.effects → but_for_faults y ≡ but_for_faults x
+same_entry x y asked place did effects =
+    ap (λ n. record (but_for_faults y) { number = n }) asked.number
+    ∙ ap (λ a. record (but_for_faults y) { number = x.number; actor = a }) asked.actor
+    ∙ ap (λ p. record (but_for_faults y) { number = x.number; actor = x.actor; place = p }) place
+    ∙ ap (λ q. record (but_for_faults y) { number = x.number; actor = x.actor; place = x.place; request = q }) asked.request
+    ∙ ap (λ r. record (but_for_faults y) { number = x.number; actor = x.actor; place = x.place; request = x.request; reply = r }) did.reply
+    ∙ ap (λ m. record (but_for_faults x) { moves = m; effects = y.effects; torn = y.torn; calls = y.calls }) did.moves
+    ∙ ap (λ e. record (but_for_faults x) { effects = e; torn = y.torn; calls = y.calls }) effects
+    ∙ ap (λ t. record (but_for_faults x) { torn = t; calls = y.calls }) did.torn
+    ∙ ap (λ c. record (but_for_faults x) { calls = c }) did.calls
+
+-- ---- entries that no lane makes
+
+both_apart : (x y : Entry) → y.reply ≡ x.reply → IsApart x → IsApart y → DidTheSame x y
+both_apart x y reply h k =
+    record {
+      reply = reply;
+      moves = k.no_moves ∙ sym h.no_moves;
+      torn = k.untorn ∙ sym h.untorn;
+      calls = k.no_calls ∙ sym h.no_calls;
+    }
+
+one_more_same :
+    (w v next other : Whole) → TellTheSame w v → next ≡ one_more w → other ≡ one_more v → TellTheSame next other
+one_more_same w v next other same e f =
+    record {
+      books = ap (λ (x : Whole). x.books) f ∙ same.books ∙ sym (ap (λ (x : Whole). x.books) e);
+      picture = ap (λ (x : Whole). x.picture) f ∙ same.picture ∙ sym (ap (λ (x : Whole). x.picture) e);
+      rows = ap (λ (x : Whole). x.rows) f ∙ same.rows ∙ sym (ap (λ (x : Whole). x.rows) e);
+      calls = ap (λ (x : Whole). x.calls) f ∙ same.calls ∙ sym (ap (λ (x : Whole). x.calls) e);
+      entries =
+          ap (λ (x : Whole). x.entries) f ∙ ap (λ n. n + 1) same.entries ∙ sym (ap (λ (x : Whole). x.entries) e);
+      lanes_are = ap lanes f ∙ same.lanes_are ∙ sym (ap lanes e);
+    }
+
+faults_alone : (w : Whole) (faults : List ℕ) → lanes (with_faults w faults) ≡ lanes w → TellTheSame w (with_faults w faults)
+faults_alone w faults same =
+    record { books = refl; picture = refl; rows = refl; calls = refl; entries = refl; lanes_are = same }
+
+module _ (grain : GrainSize) (w : Whole) (faults : List ℕ) (same : lanes (with_faults w faults) ≡ lanes w) (x y : Entry) (next other : Whole) (asked : AskTheSame x y) where
+  refused_one :
+      (refusal : Refusal) →
+      IsRefused refusal w x next →
+      IsRefused refusal (with_faults w faults) y other →
+      AreOneStep x y next other
+  refused_one refusal h k =
+      record {
+        same =
+            same_entry x y asked (k.place ∙ sym h.place)
+            (both_apart x y (k.reply ∙ sym h.reply) h.apart k.apart)
+            (k.no_effects ∙ sym h.no_effects);
+        told = one_more_same w (with_faults w faults) next other (faults_alone w faults same) h.next_is k.next_is;
+      }
+
+  access_refused_one :
+      (refusal : Option Refusal) →
+      AccessIsRefused refusal w x next →
+      AccessIsRefused refusal (with_faults w faults) y other →
+      AreOneStep x y next other
+  access_refused_one None h k = absurd h
+  access_refused_one (Some refusal) h k = refused_one refusal h k
+
+  module _ (smooth : IsSmooth x.reply) (smooth_other : IsSmooth y.reply) where
+    step_one :
+        (command : Command) →
+        CommandStep grain w command x next →
+        CommandStep grain (with_faults w faults) command y other →
+        AreOneStep x y next other
+    step_one command h k =
+        let leave : LeaveTheSame x.reply y.reply x.effects y.effects h.left k.left =
+        command_one grain w faults command x.reply y.reply x.effects y.effects h.left k.left same h.leaves k.leaves smooth smooth_other in
+        record {
+          same =
+              same_entry x y asked (k.place ∙ sym h.place) (both_apart x y leave.reply h.apart k.apart) leave.effects_are;
+          told = one_more_same h.left k.left next other leave.told h.next_is k.next_is;
+        }
+
+    command_step_one :
+        (command : Command) →
+        CommandIsRight grain w command x next →
+        CommandIsRight grain (with_faults w faults) command y other →
+        AreOneStep x y next other
+    command_step_one (ReadLine volume block count) h k = access_refused_one (access_refused grain w.books volume block count) h k
+    command_step_one (WriteLine volume block count byte) h k = access_refused_one (access_refused grain w.books volume block count) h k
+    command_step_one (Mkvdisk name size unit thin) h k = step_one (Mkvdisk name size unit thin) h k
+    command_step_one (Rmvdisk volume) h k = step_one (Rmvdisk volume) h k
+    command_step_one (Armfault volume number calls) h k = step_one (Armfault volume number calls) h k
+    command_step_one (Advance seconds) h k = step_one (Advance seconds) h k
+    command_step_one (Mkfcmap source target name group copy_rate clean_rate grain_size incremental autodelete) h k =
+        step_one (Mkfcmap source target name group copy_rate clean_rate grain_size incremental autodelete) h k
+    command_step_one (Prestartfcmap m restore) h k = step_one (Prestartfcmap m restore) h k
+    command_step_one (Startfcmap m prep restore) h k = step_one (Startfcmap m prep restore) h k
+    command_step_one (Stopfcmap m way) h k = step_one (Stopfcmap m way) h k
+    command_step_one (Rmfcmap m force) h k = step_one (Rmfcmap m force) h k
+    command_step_one (Mkfcconsistgrp name) h k = step_one (Mkfcconsistgrp name) h k
+    command_step_one (Prestartfcconsistgrp group restore) h k = step_one (Prestartfcconsistgrp group restore) h k
+    command_step_one (Startfcconsistgrp group prep restore) h k = step_one (Startfcconsistgrp group prep restore) h k
+    command_step_one (Stopfcconsistgrp group way) h k = step_one (Stopfcconsistgrp group way) h k
+    command_step_one (Rmfcconsistgrp group force) h k = step_one (Rmfcconsistgrp group force) h k
+    command_step_one (Lsfcmap m delim) h k = step_one (Lsfcmap m delim) h k
+    command_step_one (Lsfcconsistgrp group delim) h k = step_one (Lsfcconsistgrp group delim) h k
+    command_step_one (Lsvdisk delim) h k = step_one (Lsvdisk delim) h k
+    command_step_one (Lsfcmapprogress m delim) h k = step_one (Lsfcmapprogress m delim) h k
+    command_step_one (Lsfcmapdependentmaps m delim) h k = step_one (Lsfcmapdependentmaps m delim) h k
+
+    -- ---- entries of lanes
+
+    after_same :
+        (i j : ℕ) →
+        j ≡ i →
+        but_for_faults y ≡ but_for_faults x →
+        next ≡ after_access grain w i x →
+        other ≡ after_access grain (with_faults w faults) j y →
+        TellTheSame next other
+    after_same i j place entry e f =
+        record {
+          books =
+              ap (λ (v : Whole). v.books) f
+              ∙ ap (λ (z : Entry). record w.books { sheet = sheet_entry (all_grains grain) w.books.sheet (done_write z.request z.reply) z.moves z.torn }) entry
+              ∙ sym (ap (λ (v : Whole). v.books) e);
+          picture =
+              ap (λ (v : Whole). v.picture) f
+              ∙ ap (λ (z : Entry). plain_step grain w.picture z) entry
+              ∙ sym (ap (λ (v : Whole). v.picture) e);
+          rows =
+              ap (λ (v : Whole). v.rows) f
+              ∙ ap (λ (z : Entry). rows_entry (all_grains grain) w.rows z) entry
+              ∙ sym (ap (λ (v : Whole). v.rows) e);
+          calls =
+              ap (λ (v : Whole). v.calls) f
+              ∙ ap (λ at. slice_set w.calls at (slice_index_or w.calls at 0 + y.calls)) place
+              ∙ ap (λ (z : Entry). slice_set w.calls i (slice_index_or w.calls i 0 + z.calls)) entry
+              ∙ sym (ap (λ (v : Whole). v.calls) e);
+          entries = ap (λ (v : Whole). v.entries) f ∙ sym (ap (λ (v : Whole). v.entries) e);
+          lanes_are =
+              ap lanes f
+              ∙ length-set faults j y.faults_after
+              ∙ same
+              ∙ sym (length-set w.faults i x.faults_after)
+              ∙ sym (ap lanes e);
+        }
+
+    access_one :
+        (number : ℕ) →
+        AccessStep grain w number x next →
+        AccessStep grain (with_faults w faults) number y other →
+        DidTheSame x y →
+        AreOneStep x y next other
+    access_one number h k did =
+        let lane : lane_of_grain (with_faults w faults) number ≡ lane_of_grain w number = ap (λ n. number % n) same in
+        let entry : but_for_faults y ≡ but_for_faults x =
+        same_entry x y asked (k.place ∙ ap (λ n. Lane n) lane ∙ sym h.place) did (k.no_effects ∙ sym h.no_effects) in
+        record {
+          same = entry;
+          told = after_same (lane_of_grain w number) (lane_of_grain (with_faults w faults) number) lane entry h.next_is k.next_is;
+        }
+
+    -- ---- all
+
+    at_request : (request : Request) → x.request ≡ request → LaneAnswers (all_grains grain) (as_one w) x.request x → LaneAnswers (all_grains grain) (as_one w) request x
+    at_request request e h =
+        let P : Request → Type 0 = λ r. LaneAnswers (all_grains grain) (as_one w) r x in
+        subst P e h
+
+    at_request_other : (request : Request) → y.request ≡ request → LaneAnswers (all_grains grain) (as_one w) y.request y → LaneAnswers (all_grains grain) (as_one w) request y
+    at_request_other request e h =
+        let P : Request → Type 0 = λ r. LaneAnswers (all_grains grain) (as_one w) r y in
+        subst P e h
+
+    request_one :
+        (request : Request) →
+        x.request ≡ request →
+        y.request ≡ request →
+        RequestStep grain w request x next →
+        RequestStep grain (with_faults w faults) request y other →
+        AreOneStep x y next other
+    request_one (Asked command) e f h k = command_step_one command h k
+    request_one (Unread fault) e f h k = refused_one (Words fault) h k
+    request_one (Read part) e f h k =
+        access_one (grain_of_block grain part.block) h k
+        (read_did (all_grains grain) (as_one w) part x y (at_request (Read part) e h.answers) (at_request_other (Read part) f k.answers) smooth smooth_other)
+    request_one (Write part) e f h k =
+        access_one (grain_of_block grain part.block) h k
+        (write_did (all_grains grain) (as_one w) part x y (at_request (Write part) e h.answers) (at_request_other (Write part) f k.answers) smooth smooth_other)
+    request_one (Copy m g) e f h k =
+        access_one g.0 h k
+        (copy_did (all_grains grain) (as_one w) m g x y (at_request (Copy m g) e h.answers) (at_request_other (Copy m g) f k.answers) smooth smooth_other)
+    request_one (Clean m g) e f h k =
+        access_one g.0 h k
+        (clean_did (all_grains grain) (as_one w) m g x y (at_request (Clean m g) e h.answers) (at_request_other (Clean m g) f k.answers) smooth smooth_other)
+    request_one (CopyTurn lane) e f h k = absurd h
+    request_one (CleanTurn lane) e f h k = absurd h
+
+-- where only the faults may differ
+faults_one :
+    (grain : GrainSize) (w : Whole) (faults : List ℕ) (x y : Entry) (next other : Whole) →
+    lanes (with_faults w faults) ≡ lanes w →
+    y.actor ≡ x.actor →
+    y.request ≡ x.request →
+    Step grain w x next →
+    Step grain (with_faults w faults) y other →
+    IsSmooth x.reply →
+    IsSmooth y.reply →
+    AreOneStep x y next other
+faults_one grain w faults x y next other same actor request h k smooth smooth_other =
+    let P : Request → Type 0 = λ r. RequestStep grain (with_faults w faults) r y other in
+    request_one grain w faults same x y next other (record { number = k.number ∙ sym h.number; actor = actor; request = request }) smooth smooth_other
+    x.request refl request h.right (subst P request k.right)
+
+same_is : (w v : Whole) → TellTheSame w v → v ≡ with_faults w v.faults
+same_is w v same =
+    ap (λ b. record v { books = b }) same.books
+    ∙ ap (λ p. record v { books = w.books; picture = p }) same.picture
+    ∙ ap (λ rs. record v { books = w.books; picture = w.picture; rows = rs }) same.rows
+    ∙ ap (λ cs. record v { books = w.books; picture = w.picture; rows = w.rows; calls = cs }) same.calls
+    ∙ ap (λ n. record v { books = w.books; picture = w.picture; rows = w.rows; calls = w.calls; entries = n }) same.entries
+
+-- An entry after what tells the same.
+pub step_one_outcome :
+    (grain : GrainSize) (w v : Whole) (x y : Entry) (next other : Whole) →
+    TellTheSame w v →
+    y.actor ≡ x.actor →
+    y.request ≡ x.request →
+    Step grain w x next →
+    Step grain v y other →
+    IsSmooth x.reply →
+    IsSmooth y.reply →
+    AreOneStep x y next other
+step_one_outcome grain w v x y next other same actor request h k smooth smooth_other =
+    let P : Whole → Type 0 = λ u. Step grain u y other in
+    faults_one grain w v.faults x y next other same.lanes_are actor request h (subst P (same_is w v same) k) smooth smooth_other

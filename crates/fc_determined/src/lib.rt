@@ -1,0 +1,21 @@
+//! The law of one outcome: where nothing failed, the lines of a session determine its history.
+//!
+//! What an entry may answer is a relation (`fc_legal`): a disk may fail, and memory may be missing. The law says that nothing
+//! else is left open. Two runs of the same lines over disks of the same kinds, in which no entry answers a disk fault or
+//! missing memory, have the same entries, but for the faults that their disks count, and tell the same at their ends; so the
+//! text that is written of them is the same. A session that ended early, since the history was full, memory was missing or
+//! nothing more could be written, has the first entries of the whole one.
+//!
+//! To read: `specs/Smooth` and `specs/Law`; then `proofs/`. `Canonical` (the runs of equal bytes that a read answers) and `Loops`
+//! (the loop of restores that a refusal tells) show that these are determined; then `Answers` (what an access answers),
+//! `Commands` (what a command leaves) and `Entries` (one entry and what is told after it); `Histories` (the entries of what was
+//! asked), `Passing` (those of seconds) and `Lines`; `Fronts`, `EarlyLines` and `EarlyRuns` (sessions that ended early); and
+//! `Determined` all together.
+#![tactic(auto)]
+
+ghost use Rattle.fc_determined.specs.Law.{DeterminedLaw};
+
+/// The law of one outcome. It does nothing; a caller learns the law.
+pub fn determined_law()
+    ensures { DeterminedLaw }
+{}
