@@ -18,7 +18,7 @@ pub record IsBlockOf (grain : GrainSize) (t : Tables) (volume : VolId) (block : 
   pub id_is : of.id ≡ volume
   pub inside : grain_of_block grain block < of.grains
 
--- Whether it reads or writes a block, that is one of its volume's.
+-- What a request reads or writes begins in a grain of a volume of the table; other requests read and write no block.
 abbrev pub IsWithin : GrainSize → Tables → Request → Type 0
 IsWithin grain t (Read part) = IsBlockOf grain t part.volume part.block
 IsWithin grain t (Write part) = IsBlockOf grain t part.volume part.block
