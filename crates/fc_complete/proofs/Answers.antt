@@ -1,0 +1,139 @@
+-- What an access answers where no call of a disk failed and its grain isn't lost.
+use Rattle.std.proofs.Common.{◌≡◌, ◌⊎◌, inl, inr, ℕ, ◌*◌, false, ◌&&◌, not, Option, Some, None, List, refl, sym, ap, subst, ◌∙◌, true≢false}
+use Rattle.fc_base.specs.Count.{HasRisen}
+use Rattle.fc_base.specs.Grain.{block_bytes}
+use Rattle.fc_base.specs.declared.request.ReadPart.{ReadPart}
+use Rattle.fc_base.specs.declared.request.Reply.{Reply}
+use Rattle.fc_base.specs.declared.request.Reply.TheVariants as reply
+use Rattle.fc_base.specs.declared.request.WritePart.{WritePart}
+use Rattle.fc_base.specs.declared.runs.Run.{Run}
+use Rattle.fc_base.specs.declared.size.GrainSize.{GrainSize}
+use Rattle.fc_base.specs.declared.state.Access.{Access}
+use Rattle.fc_base.specs.declared.state.Access.TheVariants.{Online, Offline, NotAccessible}
+use Rattle.fc_complete.specs.Served.{IsServedReply, IsServed}
+use Rattle.fc_entry.specs.Picture.{byte_in_grain, grain_of_block}
+use Rattle.fc_entry.specs.Reads.{IsRightIn}
+use Rattle.fc_entry.specs.Writes.{is_whole}
+use Rattle.fc_entry.specs.declared.entry.Entry.{Entry}
+use Rattle.fc_rules.specs.GrainAnswers.{ByAccess, ReadAnswers, WriteAnswers, FillAnswers, cannot_write}
+use Rattle.fc_rules.specs.LaneRight.{VolumeWrite, MappingFill}
+use Rattle.fc_rules.specs.LaneTold.{LaneOf, LaneTold}
+use Rattle.fc_rules.specs.LaneTurn.{spot_at}
+use Rattle.fc_rules.specs.Spot.{Spot, is_lost}
+
+-- ---- what is served
+
+-- An answer is served, where it is this one.
+record IsServedBy (entry : Entry) (r : Reply) : Type 0 where
+  answered : IsServedReply r
+  untorn : entry.torn ≡ None
+
+as_served : (entry : Entry) → IsServedBy entry entry.reply → IsServed entry
+as_served entry h = record { answered = h.answered; untorn = h.untorn }
+
+module _ (entry : Entry) (quiet : HasRisen entry.faults_before entry.faults_after → ⊥) where
+  read_by : (grain : GrainSize) (spot : Spot) (part : ReadPart) (r : Reply) → is_lost (spot.now part.volume.0) ≡ false → ReadAnswers grain spot part entry r → IsServedBy entry r
+  read_by grain spot part (reply.Bytes runs) there h = record { answered = tt; untorn = h.1.untorn }
+  read_by grain spot part reply.MediumError there h = absurd (true≢false (sym h.0 ∙ there))
+  read_by grain spot part reply.DiskFault there h = absurd (quiet h.2)
+  read_by grain spot part reply.NoMemory there h = record { answered = tt; untorn = h.3.untorn }
+  read_by grain spot part reply.Done there h = absurd h
+  read_by grain spot part (reply.Made kind id) there h = absurd h
+  read_by grain spot part (reply.Listed rows) there h = absurd h
+  read_by grain spot part (reply.Moved map g) there h = absurd h
+  read_by grain spot part reply.Idle there h = absurd h
+  read_by grain spot part (reply.Offline map state) there h = absurd h
+  read_by grain spot part (reply.NotAccessible map) there h = absurd h
+  read_by grain spot part (reply.Refused refusal) there h = absurd h
+
+  pub read_served : (grain : GrainSize) (spot : Spot) (part : ReadPart) → is_lost (spot.now part.volume.0) ≡ false → ReadAnswers grain spot part entry entry.reply → IsServed entry
+  read_served grain spot part there h = as_served entry (read_by grain spot part entry.reply there h)
+
+  can_write : (grain : GrainSize) (spot : Spot) (part : WritePart) → is_lost (spot.now part.volume.0) ≡ false → cannot_write grain spot part ≡ false
+  can_write grain spot part there = ap (λ b. b && not (is_whole grain part)) there
+
+  write_by : (grain : GrainSize) (spot : Spot) (part : WritePart) (t : ℕ) (r : Reply) → is_lost (spot.now part.volume.0) ≡ false → WriteAnswers grain spot part t entry r → IsServedBy entry r
+  write_by grain spot part t reply.Done there h = record { answered = tt; untorn = h.1.untorn }
+  write_by grain spot part t reply.MediumError there h = absurd (true≢false (sym h.0 ∙ can_write grain spot part there))
+  write_by grain spot part t reply.DiskFault there h = absurd (quiet h.1.risen)
+  write_by grain spot part t reply.NoMemory there h = record { answered = tt; untorn = h.1.untorn }
+  write_by grain spot part t (reply.Made kind id) there h = absurd h
+  write_by grain spot part t (reply.Bytes runs) there h = absurd h
+  write_by grain spot part t (reply.Listed rows) there h = absurd h
+  write_by grain spot part t (reply.Moved map g) there h = absurd h
+  write_by grain spot part t reply.Idle there h = absurd h
+  write_by grain spot part t (reply.Offline map state) there h = absurd h
+  write_by grain spot part t (reply.NotAccessible map) there h = absurd h
+  write_by grain spot part t (reply.Refused refusal) there h = absurd h
+
+  pub write_served :
+      (l : LaneOf) (told : LaneTold) (part : WritePart) (live : Option ℕ) →
+      is_lost ((spot_at l told (grain_of_block l.grain part.block)).now part.volume.0) ≡ false →
+      VolumeWrite l told part live entry →
+      IsServed entry
+  write_served l told part None there h = absurd h
+  write_served l told part (Some t) there h = as_served entry (write_by l.grain (spot_at l told (grain_of_block l.grain part.block)) part t entry.reply there h)
+
+  fill_by : (spot : Spot) (m k : ℕ) (r : Reply) → FillAnswers spot m k entry r → IsServedBy entry r
+  fill_by spot m k (reply.Moved map g) h = record { answered = tt; untorn = h.2.untorn }
+  fill_by spot m k reply.DiskFault h = absurd (quiet h.risen)
+  fill_by spot m k reply.NoMemory h = record { answered = tt; untorn = h.untorn }
+  fill_by spot m k reply.Done h = absurd h
+  fill_by spot m k (reply.Made kind id) h = absurd h
+  fill_by spot m k (reply.Bytes runs) h = absurd h
+  fill_by spot m k (reply.Listed rows) h = absurd h
+  fill_by spot m k reply.MediumError h = absurd h
+  fill_by spot m k reply.Idle h = absurd h
+  fill_by spot m k (reply.Offline map state) h = absurd h
+  fill_by spot m k (reply.NotAccessible map) h = absurd h
+  fill_by spot m k (reply.Refused refusal) h = absurd h
+
+  pub fill_served : (l : LaneOf) (told : LaneTold) (m number : ℕ) (filled : Option ℕ) → MappingFill l told m number filled entry → IsServed entry
+  fill_served l told m number None h = absurd h
+  fill_served l told m number (Some k) h = as_served entry (fill_by (spot_at l told number) m k entry.reply h)
+
+  -- A volume that isn't online says so.
+  pub access_served : (access : Access) (P : Type 0) → (P → IsServed entry) → ByAccess access entry P → IsServed entry
+  access_served Online P one h = one h
+  access_served (Offline map state) P one h = record { answered = subst IsServedReply (sym h.0) tt; untorn = h.1.untorn }
+  access_served (NotAccessible map) P one h = record { answered = subst IsServedReply (sym h.0) tt; untorn = h.1.untorn }
+
+-- ---- what a volume that is online answers
+
+-- An answer of bytes, which are right.
+pub record AreBytes (grain : GrainSize) (spot : Spot) (part : ReadPart) (r : Reply) : Type 0 where
+  pub runs : List Run
+  pub reply : r ≡ reply.Bytes runs
+  pub right : IsRightIn (byte_in_grain grain part.block) (block_bytes * part.count) (spot.now part.volume.0) runs
+
+pub read_gives : (grain : GrainSize) (spot : Spot) (part : ReadPart) (entry : Entry) (r : Reply) → ReadAnswers grain spot part entry r → IsServedReply r → AreBytes grain spot part r ⊎ (r ≡ reply.NoMemory)
+read_gives grain spot part entry (reply.Bytes runs) h served = inl (record { runs = runs; reply = refl; right = h.0 })
+read_gives grain spot part entry reply.NoMemory h served = inr refl
+read_gives grain spot part entry reply.MediumError h served = absurd served
+read_gives grain spot part entry reply.DiskFault h served = absurd served
+read_gives grain spot part entry reply.Done h served = absurd h
+read_gives grain spot part entry (reply.Made kind id) h served = absurd h
+read_gives grain spot part entry (reply.Listed rows) h served = absurd h
+read_gives grain spot part entry (reply.Moved map g) h served = absurd h
+read_gives grain spot part entry reply.Idle h served = absurd h
+read_gives grain spot part entry (reply.Offline map state) h served = absurd h
+read_gives grain spot part entry (reply.NotAccessible map) h served = absurd h
+read_gives grain spot part entry (reply.Refused refusal) h served = absurd h
+
+write_by_slot : (grain : GrainSize) (spot : Spot) (part : WritePart) (t : ℕ) (entry : Entry) (r : Reply) → WriteAnswers grain spot part t entry r → IsServedReply r → (r ≡ reply.Done) ⊎ (r ≡ reply.NoMemory)
+write_by_slot grain spot part t entry reply.Done h served = inl refl
+write_by_slot grain spot part t entry reply.NoMemory h served = inr refl
+write_by_slot grain spot part t entry reply.MediumError h served = absurd served
+write_by_slot grain spot part t entry reply.DiskFault h served = absurd served
+write_by_slot grain spot part t entry (reply.Made kind id) h served = absurd h
+write_by_slot grain spot part t entry (reply.Bytes runs) h served = absurd h
+write_by_slot grain spot part t entry (reply.Listed rows) h served = absurd h
+write_by_slot grain spot part t entry (reply.Moved map g) h served = absurd h
+write_by_slot grain spot part t entry reply.Idle h served = absurd h
+write_by_slot grain spot part t entry (reply.Offline map state) h served = absurd h
+write_by_slot grain spot part t entry (reply.NotAccessible map) h served = absurd h
+write_by_slot grain spot part t entry (reply.Refused refusal) h served = absurd h
+
+pub write_does : (l : LaneOf) (told : LaneTold) (part : WritePart) (live : Option ℕ) (entry : Entry) → VolumeWrite l told part live entry → IsServedReply entry.reply → (entry.reply ≡ reply.Done) ⊎ (entry.reply ≡ reply.NoMemory)
+write_does l told part None entry h served = absurd h
+write_does l told part (Some t) entry h served = write_by_slot l.grain (spot_at l told (grain_of_block l.grain part.block)) part t entry entry.reply h served
