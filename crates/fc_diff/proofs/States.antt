@@ -1,14 +1,14 @@
 -- What changes of the rows make of what is kept: those that are followed, and those that stand ready.
-use Rattle.std.proofs.Common.{◌≡◌, ◌≢◌, ℕ, zero, suc, ◌+◌, ◌-◌, ◌<◌, ◌≤◌, Bool, true, false, not, ◌&&◌, ◌||◌, cond, List, [], ◌∷◌, ◌++◌, map, length, get_or, take, drop, find, nat_eq, position, replicate, Option, Some, None, is_some, refl, ap, sym, subst, ◌∙◌, arith, All, ⊎_elim}
+use Rattle.std.proofs.Common.{◌≡◌, ◌≢◌, ℕ, zero, suc, ◌+◌, ◌-◌, ◌<◌, ◌≤◌, Bool, true, false, not, ◌&&◌, ◌||◌, List, [], ◌∷◌, ◌++◌, map, length, get_or, take, drop, nat_eq, position, replicate, Option, Some, None, is_some, refl, ap, sym, ◌∙◌, arith, All, ⊎_elim}
 use Rattle.std.specs.List.{list_any}
-use Rattle.std.proofs.lemmas.List.{get_or-map, length-map, map-append, take_at, take_all, take-append-le, take-append-drop, length-take-le, length-take, length-drop, get_or-take, get_or-drop, get_or_default}
+use Rattle.std.proofs.lemmas.List.{get_or-map, length-map, map-append, take_at, take_all, take-append-le, length-take-le, length-take, length-drop, get_or-take, get_or-drop, get_or_default}
 use Rattle.std.proofs.lemmas.List.Quantifiers.{position-Some}
 use Rattle.std.proofs.lemmas.Bool.{cases_lt}
 use Rattle.std.proofs.lemmas.Bool.Decides.{nat_tests}
-use Rattle.fc_changed.specs.Row.{Row, is_of, row_began, row_restart, restart_in, with_new}
+use Rattle.fc_changed.specs.Row.{Row, is_of, row_began, row_restart, restart_in}
 use Rattle.fc_diff.specs.declared.tracked.Event.{Event}
 use Rattle.fc_diff.specs.Told.{row_after}
-use Rattle.fc_diff.specs.State.{NewRow, ChangesState, IsFirstReady, CanBegin, after_beginning, followed_with, ready_grains, behind_first, takes_ready}
+use Rattle.fc_diff.specs.State.{NewRow, ChangesState, IsFirstReady, after_beginning, takes_ready}
 use Rattle.fc_diff.specs.Index.{new_of, state_of, begun, begun_at}
 use Rattle.fc_diff.proofs.Places.{find-found, find-missed, any_found}
 use Rattle.fc_diff.proofs.Found.{place_any}
