@@ -56,12 +56,12 @@ countable b sound few k = by (order k (length b.sheet.slots))
 in_order : (decisions : ℕ) (s : StoreView) (w : Whole) → StandsAt decisions s w → AreInOrder s.lanes
 in_order decisions s w stands i d lt =
     let lane = stands.each i d lt in
-    (lane.stands.parts.lane_is ∙ lane.lane, lane.stands.parts.lanes_are ∙ (lane.lanes_are ∙ sym stands.count))
+    (lane.stands.lane.parts.lane_is ∙ lane.lane, lane.stands.lane.parts.lanes_are ∙ (lane.lanes_are ∙ sym stands.count))
 
 lane_sheet : (decisions : ℕ) (s : StoreView) (w : Whole) → StandsAt decisions s w → (i : ℕ) (d : LaneView) → i < length s.lanes →
     (slice_index_or s.lanes i d).chains.sheet ≡ part_of s.control.grain (length s.lanes) w.books.sheet i
 lane_sheet decisions s w stands i d lt =
-    (stands.each i d lt).stands.parts.sheet_is
+    (stands.each i d lt).stands.lane.parts.sheet_is
     ∙ (sheet_of_part s.control.grain w i
     ∙ ap (λ n. part_of s.control.grain n w.books.sheet i) (sym stands.count))
 

@@ -47,7 +47,7 @@ chains_are grain w ls count each =
     at i lt =
         let there : i < length ls = omega (arith, lt, length-map ls (λ (v : LaneView). v.chains.sheet)) in
         get_or-map (λ (v : LaneView). v.chains.sheet) ls i (one ls i there) no_slots there
-        ∙ (each i (one ls i there) there).stands.parts.sheet_is
+        ∙ (each i (one ls i there) there).stands.lane.parts.sheet_is
         ∙ sheet_of_part grain w i
         ∙ sym (law.part i (omega (arith, there, count)))
 
@@ -63,7 +63,7 @@ pools_are grain w ls count pools each =
     at i lt =
         let there : i < length ls = omega (arith, lt, length-map ls (λ (v : LaneView). v.grains.pool)) in
         get_or-map (λ (v : LaneView). v.grains.pool) ls i (one ls i there) (record { flat = 0; thin = 0 }) there
-        ∙ (each i (one ls i there) there).stands.parts.beside.pool_is
+        ∙ (each i (one ls i there) there).stands.lane.parts.beside.pool_is
         ∙ pool_of_part grain w i
 
 -- What the lanes tell together is what is told.
