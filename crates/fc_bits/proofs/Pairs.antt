@@ -109,6 +109,9 @@ bit_in-either a b g = is_set-or (get_or a (g / 64) 0) (get_or b (g / 64) 0) (g %
 pub bit_of-added : (a b c : List ℕ) → ((k : ℕ) → get_or c k 0 ≡ bit_or (get_or a k 0) (get_or b k 0)) → (g : ℕ) → bit_of c g ≡ (bit_of a g || bit_of b g)
 bit_of-added a b c made g = bit_of-row c _ made g ∙ bit_in-either a b g
 
+pub bit_of-kept : (a b c : List ℕ) → ((k : ℕ) → get_or c k 0 ≡ bit_and (get_or a k 0) (get_or b k 0)) → (g : ℕ) → bit_of c g ≡ (bit_of a g && bit_of b g)
+bit_of-kept a b c made g = bit_of-row c _ made g ∙ bit_in-both a b g
+
 -- ---- two sets grain by grain, where no grain comes of none
 
 module _ (pick : Bool → Bool → Bool) (none : pick false false ≡ false) where

@@ -6,7 +6,7 @@ ghost use Rattle.fc_bits.specs.Words.{bit_of, bits_of, words_for};
 
 use crate::words::{
     clear_others, count_words, first_clear, first_in_difference, first_set, first_shared,
-    set_others,
+    keep_others, set_others,
 };
 use fc_base::outcome::NoMemory;
 use std::alloc::Global;
@@ -186,6 +186,14 @@ impl GrainSet {
         ensures { self.new ≡ difference self.old other.now }
     {
         clear_others(&mut self.words, &other.words);
+    }
+
+    /// Keeps of the grains those that the other set, which has as many grains, has too.
+    pub fn keep_all(&mut self, other: &GrainSet)
+        requires { length self.old ≡ length other.now }
+        ensures { self.new ≡ common self.old other.now }
+    {
+        keep_others(&mut self.words, &other.words);
     }
 
     /// The words that hold the set, as few as have room for it: bit `g mod 64` of word `g / 64` is grain `g`, and the bits

@@ -195,6 +195,10 @@ fn assert_pair(
             "shared from {from}"
         );
     }
+    let mut kept = set_of(alloc, grains, left)?;
+    assert_eq!(rt; kept.len(), other.len());
+    kept.keep_all(&other);
+    assert_same(rt, &kept, &together.common);
     set.add_all(&other);
     assert_same(rt, &set, &together.union);
     assert_eq!(rt; set.len(), other.len());

@@ -78,3 +78,13 @@ pub(crate) fn clear_others(words: &mut [u64], others: &[u64])
         words[index] &= !others[index];
     }
 }
+
+/// Clears each bit of the words that is clear in the others, a row of the same length.
+pub(crate) fn keep_others(words: &mut [u64], others: &[u64])
+    requires { length words.old ≡ length others.now }
+    ensures { (g : ℕ) → bit_of words.new g ≡ (bit_of words.old g && bit_of others.now g) }
+{
+    for index in 0..words.len() {
+        words[index] &= others[index];
+    }
+}

@@ -1,13 +1,8 @@
--- What is kept beside the table: of each row the restart set, and how the rows are found.
-use Rattle.std.specs.Prelude.{◌≡◌, ◌≢◌, ℕ, Bool, true, ◌==◌, if◌then◌else◌, List, [], ◌∷◌, map, length, All, AllPairs, Vec}
+-- How the rows are found, those that stand ready among them.
+use Rattle.std.specs.Prelude.{◌≡◌, ◌≢◌, ℕ, zero, suc, Bool, true, ◌==◌, if◌then◌else◌, List, [], ◌∷◌, map, take, drop, length, replicate, All, AllPairs, Vec}
 use Rattle.std.specs.List.{list_any}
-use Rattle.fc_bits.specs.Grains.{difference}
-use Rattle.fc_diff.specs.Row.{Row}
-
--- The restart set stands ready beside the changed grains and the kept ones.
-pub record IsRestart (changed kept restart : List Bool) : Type 0 where
-  pub same_length : length changed ≡ length kept
-  pub is : restart ≡ difference kept changed
+use Rattle.fc_changed.specs.Row.{Row}
+use Rattle.fc_diff.specs.State.{NewRow, ChangesState}
 
 -- ---- The mappings that name a volume
 
@@ -35,6 +30,23 @@ is_listed m list = list_any (λ k. m == k) list
 
 abbrev pub map_numbers : List Row → List ℕ
 map_numbers rows = map (λ row. row.map) rows
+
+-- what counts of a row that stands ready
+abbrev pub new_of : Row → NewRow
+new_of row = record { map = row.map; source = row.source; target = row.target; grains = length row.same }
+
+-- The first so many of the rows are followed; the others stand ready.
+abbrev pub state_of : ℕ → List Row → ChangesState
+state_of followed rows = record { rows = take followed rows; ready = map new_of (drop followed rows) }
+
+-- the row at this place has its first trigger
+abbrev pub begun : Row → Row
+begun row = record row { into = row.target; same = replicate (length row.same) true }
+
+abbrev pub begun_at : ℕ → List Row → List Row
+begun_at place [] = []
+begun_at zero (row ∷ rows) = begun row ∷ rows
+begun_at (suc place) (row ∷ rows) = row ∷ begun_at place rows
 
 -- The numbers of the mappings stand beside the rows, no two rows are of one mapping, and each is listed with both volumes
 -- that it names.

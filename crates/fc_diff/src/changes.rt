@@ -1,59 +1,63 @@
 //! The mappings that are followed, and what is noted of their volumes.
 
-ghost use Rattle.std.specs.Prelude.{◌≡◌, ◌≢◌, [], map, find, length, OnOk, OnErr, true, All, AllPairs, position, option_map};
-ghost use Rattle.std.specs.Option.{ForSome};
+ghost use Rattle.std.specs.Prelude.{◌≡◌, ◌≢◌, ◌↔◌, [], map, length, OnOk, OnErr, IsTrue, IfSome, true, All, is_some};
+ghost use Rattle.std.specs.List.{list_any};
 ghost use Rattle.fc_bits.specs.Grains.{count_set};
-ghost use Rattle.fc_diff.specs.Changed.{was_from};
-ghost use Rattle.fc_diff.specs.Changed.Note.{Tracked as Followed, Forgotten, Began, Wrote, Cut, Left};
-ghost use Rattle.fc_diff.specs.Table.{after_note, row_after, row_names, volume_of, is_of, restart_in, restart_or_none, FitsRow};
-ghost use Rattle.fc_diff.specs.Index.{is_listed, map_numbers};
+ghost use Rattle.fc_changed.specs.Notes.Note.{Wrote, Left, Cut, Forgotten};
+ghost use Rattle.fc_changed.specs.Row.{after_note, row_names, is_of, restart_in};
+ghost use Rattle.fc_diff.specs.State.{with_ready, after_beginning, CanBegin};
+ghost use Rattle.fc_diff.specs.Told.{row_after, FitsRow};
 
-use crate::namers::Namers;
-use crate::tracked::{Event, Tracked};
+use crate::table::Table;
+use crate::tracked::Event;
 use fc_base::ids::{MapId, VolId};
 use fc_base::outcome::NoMemory;
 use fc_bits::GrainSet;
-use indexmap::IndexSet;
 use std::alloc::Global;
 use std::marker::Model;
 
-/// The incremental mappings that one lane follows, with what it knows of their grains: those that have changed since the
-/// last trigger that joined a mapping's two volumes, and those that were kept. Contracts see the table of them, a row for
-/// each mapping, in the order in which they came; grains are those of the lane, counted from 0.
+/// The incremental mappings that one lane follows, and at which grains the two volumes of each show the same. Contracts see
+/// a row for each, in the order of their first triggers, and those that stand ready for theirs: room for their rows is taken
+/// beforehand. Grains are those of the lane, counted from 0.
 #[derive(Drop)]
 pub struct Changes {
-    ids: IndexSet<u32>,
-    rows: Vec<Tracked>,
-    namers: Namers,
+    table: Table,
+    followed: usize,
 }
 
 impl Model for Changes {
-    ghost use Rattle.std.specs.Prelude.{List};
-    ghost use Rattle.fc_diff.specs.Row.{Row};
-    ghost use Rattle.fc_diff.specs.Index.{IsFound};
+    ghost use Rattle.std.specs.Prelude.{◌≤◌, length};
+    ghost use Rattle.fc_diff.specs.State.{ChangesState};
+    ghost use Rattle.fc_diff.specs.Index.{state_of};
 
-    ghost Value = { List Row };
+    ghost Value = { ChangesState };
 
-    ghost view = { λ c. c.rows.items };
+    ghost view = { λ c. state_of c.followed c.table };
 
-    ghost invariant = { λ c. IsFound c.ids.keys c.namers c.rows.items };
+    ghost invariant = { λ c. c.followed ≤ length c.table };
 }
 
 impl Changes {
-    /// No mapping is followed. Takes no memory.
+    /// No mapping is followed, and none stands ready. Takes no memory.
     pub fn new(alloc: Global) -> Changes
-        ensures { result ≡ [] }
+        ensures { result ≡ record { rows = []; ready = [] } }
     {
         Changes {
-            ids: IndexSet::new(alloc),
-            rows: Vec::new(alloc),
-            namers: Namers::new(alloc),
+            table: Table::new(alloc),
+            followed: 0,
         }
     }
 
-    /// Follows the mapping from here on, whose volumes have so many grains in the lane. One that is followed already
-    /// stays as it is. Refused, all is as it was; want of memory is the only cause.
-    pub fn track(
+    /// Lets go of the mappings that stand ready. Takes no memory.
+    pub fn release(&mut self)
+        ensures { self.new ≡ record self.old { ready = [] } }
+    {
+        self.table.truncate(self.followed);
+    }
+
+    /// Makes the mapping ready for its first trigger, whose volumes have so many grains in the lane. One that is followed
+    /// already stays as it is. Refused, all is as it was; want of memory is the only cause.
+    pub fn make_ready(
         &mut self,
         alloc: Global,
         map: MapId,
@@ -61,56 +65,37 @@ impl Changes {
         target: VolId,
         grains: u32,
     ) -> Result<(), NoMemory>
-        ensures ok { OnOk result (self.new ≡ after_note self.old (Followed map.0 source.0 target.0 grains)) }
+        requires fresh { All (λ new. new.map ≢ map.0) self.old.ready }
+        ensures ok { OnOk result (self.new ≡ record self.old { ready = with_ready self.old.rows (record { map = map.0; source = source.0; target = target.0; grains = grains }) self.old.ready }) }
         ensures err { OnErr result (self.new ≡ self.old) }
     {
-        if place_of(&self.ids, self.rows.as_slice(), map.0).is_some() {
+        if self.is_following(map) {
             return Ok(());
         }
-        let row = Tracked::new(alloc, map.0, source.0, target.0, grains)?;
-        self.namers.add(alloc, source.0, map.0)?;
-        self.namers.add(alloc, target.0, map.0)?;
-        match self.rows.reserve(1) {
-            Ok(()) => {}
-            Err(_) => return Err(NoMemory),
-        }
-        match self.ids.insert(map.0) {
-            Ok(_) => {}
-            Err(_) => return Err(NoMemory),
-        }
-        self.rows.push(row).unwrap();
-        Ok(())
+        self.table.add(alloc, map.0, source.0, target.0, grains)
     }
 
-    /// Follows the mapping no more. Takes no memory.
-    pub fn forget(&mut self, map: MapId)
-        ensures { self.new ≡ after_note self.old (Forgotten map.0) }
-    {
-        if let Some(place) = place_of(&self.ids, self.rows.as_slice(), map.0) {
-            let row = self.rows.remove(place);
-            let _ = self.ids.shift_remove_index(place);
-            self.namers.remove(row.source(), map.0);
-            self.namers.remove(row.target(), map.0);
-        }
-    }
-
-    /// A trigger made the target a copy of the source, by this mapping, which may be one that isn't followed. Each
-    /// mapping that joins the two volumes and has begun, by this trigger too, has nothing changed and all kept; for
-    /// each other one that names the target all grains have changed. Takes no memory.
-    pub fn began(&mut self, map: MapId, source: VolId, target: VolId)
-        ensures { self.new ≡ after_note self.old (Began map.0 source.0 target.0) }
+    /// A trigger of the mapping made the target a copy of the source. The volumes of each mapping that joins the two are the
+    /// same; those of each other one that names the target differ. An incremental mapping is followed from its first trigger
+    /// on; it is the first of those that stand ready. Takes no memory.
+    pub fn began(&mut self, map: MapId, source: VolId, target: VolId, incremental: bool)
+        requires { CanBegin self.old map.0 source.0 target.0 incremental }
+        ensures { self.new ≡ after_beginning self.old map.0 source.0 target.0 incremental }
     {
         self.tell(Event::Began {
-            map: map.0,
             source: source.0,
             target: target.0,
         });
+        if incremental && !self.is_following(map) {
+            self.table.begin(self.followed);
+            self.followed += 1;
+        }
     }
 
     /// The grain of the volume was written, or a failed write spoiled it. Takes no memory, and changes one bit of each
     /// mapping that names the volume.
-    pub fn note_write(&mut self, volume: VolId, grain: u32)
-        ensures { self.new ≡ after_note self.old (Wrote volume.0 grain) }
+    pub fn wrote(&mut self, volume: VolId, grain: u32)
+        ensures { self.new ≡ record self.old { rows = after_note self.old.rows (Wrote volume.0 grain) } }
     {
         self.tell(Event::Wrote {
             volume: volume.0,
@@ -118,93 +103,77 @@ impl Changes {
         });
     }
 
-    /// The volume was cut: for each mapping that names it all grains have changed. Where the cut came as the mapping
-    /// from `source` to the volume left copying, those are spared whose volumes its trigger was the last to join.
-    /// Takes no memory.
-    pub fn note_all(&mut self, volume: VolId, source: Option<VolId>)
-        ensures { self.new ≡ after_note self.old (Cut volume.0 (option_map (λ v. v.0) source)) }
-    {
-        self.tell(Event::Cut {
-            volume: volume.0,
-            source: number_of(source),
-        });
-    }
-
-    /// The mapping from source to target left copying, when its slot held these grains. They are what each mapping has
-    /// kept whose volumes its trigger was the last to join; these have as many grains. Takes no memory.
-    pub fn left(&mut self, source: VolId, target: VolId, held: &GrainSet)
-        requires { All (λ row. was_from row.source row.target row.from source.0 target.0 ≡ true → length row.kept ≡ length held.now) self.old }
-        ensures { self.new ≡ after_note self.old (Left source.0 target.0 held.now) }
+    /// A copy to the target left its chain, when its slot held these grains. Where it didn't hold the grain, the volumes of
+    /// each mapping that names the target differ. Such a mapping has as many grains. Takes no memory.
+    pub fn left(&mut self, target: VolId, held: &GrainSet)
+        requires sizes { All (λ row. row_names row target.0 ≡ true → length row.same ≡ length held.now) self.old.rows }
+        ensures { self.new ≡ record self.old { rows = after_note self.old.rows (Left target.0 held.now) } }
     {
         self.tell(Event::Left {
-            source: source.0,
             target: target.0,
             held,
         });
     }
 
-    /// Puts into `out` the grains with which the mapping would begin again: those that were kept and haven't changed.
-    /// None, where it isn't followed; else `out` has as many grains as it. Takes no memory.
-    pub fn restart_set(&self, map: MapId, out: &mut GrainSet)
-        requires { ForSome (find (is_of map.0) self.now) (λ row. length row.kept ≡ length out.old) }
-        ensures { out.new ≡ restart_or_none (length out.old) (find (is_of map.0) self.now) }
+    /// The target was cut, since a copy to it left incomplete. The volumes of each mapping that names it differ, but for one
+    /// whose volumes were last joined by a trigger into this target. Takes no memory.
+    pub fn cut(&mut self, target: VolId)
+        ensures { self.new ≡ record self.old { rows = after_note self.old.rows (Cut target.0) } }
     {
-        match place_of(&self.ids, self.rows.as_slice(), map.0) {
-            Some(place) => out.copy_from(self.rows[place].restart()),
-            None => out.clear_all(),
+        self.tell(Event::Cut { target: target.0 });
+    }
+
+    /// Follows the mapping no more. Takes no memory.
+    pub fn forget(&mut self, map: MapId)
+        ensures { self.new ≡ record self.old { rows = after_note self.old.rows (Forgotten map.0) } }
+    {
+        if let Some(place) = self.table.place_of(self.followed, map.0) {
+            self.table.remove(place);
+            self.followed -= 1;
         }
     }
 
-    /// With how many grains the mapping would begin again; 0 where it isn't followed.
-    pub fn restart_count(&self, map: MapId) -> u32
-        ensures { result ≡ count_set (restart_in map.0 self.now) }
+    /// The grains that the mapping needn't copy where it starts again. None exactly where it isn't followed.
+    pub fn restart(&self, map: MapId) -> Option<&GrainSet>
+        ensures followed { is_some result ≡ list_any (is_of map.0) self.now.rows }
+        ensures grains { IfSome result (λ same. same.now ≡ restart_in map.0 self.now.rows) }
     {
-        match place_of(&self.ids, self.rows.as_slice(), map.0) {
-            Some(place) => self.rows[place].restart().count(),
+        match self.table.place_of(self.followed, map.0) {
+            Some(place) => Some(self.table.same(place)),
+            None => None,
+        }
+    }
+
+    /// How many grains the mapping needn't copy where it starts again; 0 where it isn't followed.
+    pub fn restart_count(&self, map: MapId) -> u32
+        ensures { result ≡ count_set (restart_in map.0 self.now.rows) }
+    {
+        match self.table.place_of(self.followed, map.0) {
+            Some(place) => self.table.same(place).count(),
             None => 0,
         }
     }
 
-    /// Tells each mapping of an event that names its volume.
-    fn tell(&mut self, event: Event)
-        requires { All (FitsRow event) self.old }
-        ensures { self.new ≡ map (row_after event.entry) self.old }
+    /// Whether no mapping is followed: then there is nothing to note.
+    pub fn is_empty(&self) -> bool
+        ensures { IsTrue result ↔ (self.now.rows ≡ []) }
     {
-        let named = self.namers.of(event.volume());
-        tell_named(&self.ids, &mut self.rows, named, event);
+        self.followed == 0
     }
-}
 
-/// Tells each of the named mappings of the event. All that name its volume are among them.
-fn tell_named(ids: &IndexSet<u32>, rows: &mut [Tracked], named: &[u32], event: Event)
-    requires beside { ids.now.keys ≡ map_numbers rows.old }
-    requires distinct { AllPairs (λ x y. x.map ≢ y.map) rows.old }
-    requires complete { All (λ row. row_names row (volume_of event) ≡ true → is_listed row.map named.now ≡ true) rows.old }
-    requires fits { All (FitsRow event) rows.old }
-    ensures { rows.new ≡ map (row_after event.entry) rows.old }
-{
-    for number in named {
-        if let Some(place) = place_of(ids, rows, *number) {
-            rows[place].take(event);
-        }
+    /// Whether the mapping is followed.
+    fn is_following(&self, map: MapId) -> bool
+        ensures { result ≡ list_any (is_of map.0) self.now.rows }
+    {
+        self.table.place_of(self.followed, map.0).is_some()
     }
-}
 
-/// The place of the mapping's row.
-fn place_of(ids: &IndexSet<u32>, rows: &[Tracked], map: u32) -> Option<usize>
-    requires { ids.now.keys ≡ map_numbers rows.now }
-    ensures { result ≡ position (is_of map) rows.now }
-{
-    ids.get_index_of(&map)
-}
-
-/// The number of the volume, if there is one.
-fn number_of(volume: Option<VolId>) -> Option<u32>
-    ensures { result ≡ option_map (λ v. v.0) volume }
-{
-    match volume {
-        Some(volume) => Some(volume.0),
-        None => None,
+    /// Tells each mapping that is followed of an event that names its volume.
+    fn tell(&mut self, event: Event)
+        requires { All (FitsRow event) self.old.rows }
+        ensures { self.new ≡ record self.old { rows = map (row_after event.entry) self.old.rows } }
+    {
+        self.table.tell(self.followed, event);
     }
 }
 

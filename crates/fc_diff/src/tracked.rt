@@ -1,9 +1,9 @@
-//! One mapping that is followed, and what it knows of its grains.
+//! One mapping that is followed, and at which grains its volumes show the same.
 
-ghost use Rattle.std.specs.Prelude.{◌≡◌, IfOk, length, true};
-ghost use Rattle.fc_bits.specs.Grains.{difference};
-ghost use Rattle.fc_diff.specs.Changed.{joins, was_from};
-ghost use Rattle.fc_diff.specs.Table.{new_row, row_began, row_wrote, row_cut, row_left, row_after, all_changed, FitsRow, volume_of};
+ghost use Rattle.std.specs.Prelude.{◌≡◌, IfOk, length, replicate, true, false};
+ghost use Rattle.fc_changed.specs.Notes.{joins};
+ghost use Rattle.fc_changed.specs.Row.{row_names, row_began, row_wrote, row_left, row_cut};
+ghost use Rattle.fc_diff.specs.Told.{row_after, volume_of, FitsRow};
 
 use fc_base::outcome::NoMemory;
 use fc_bits::GrainSet;
@@ -13,52 +13,32 @@ use std::marker::Model;
 /// What happens to the mappings that name a volume.
 #[derive(Clone, Copy)]
 pub(crate) enum Event<'a> {
-    /// A trigger of the mapping, from source to target.
-    Began {
-        map: u32,
-        source: u32,
-        target: u32,
-    },
+    /// A trigger from source to target.
+    Began { source: u32, target: u32 },
     /// The volume's grain was written, or spoiled.
-    Wrote {
-        volume: u32,
-        grain: u32,
-    },
-    /// The volume was cut; as the mapping from this source left copying, if one is told.
-    Cut {
-        volume: u32,
-        source: Option<u32>,
-    },
-    /// The mapping from source to target left copying, when its slot held these grains.
-    Left {
-        source: u32,
-        target: u32,
-        held: &'a GrainSet,
-    },
+    Wrote { volume: u32, grain: u32 },
+    /// A copy to the target left, when its slot held these grains.
+    Left { target: u32, held: &'a GrainSet },
+    /// The target was cut: a copy to it left incomplete.
+    Cut { target: u32 },
 }
 
-/// A mapping that is followed.
+/// A mapping that is followed, or stands ready to be.
 #[derive(Drop)]
 pub(crate) struct Tracked {
     map: u32,
     source: u32,
     target: u32,
-    from: Option<u32>,
-    changed: GrainSet,
-    kept: GrainSet,
-    restart: GrainSet,
+    into: u32,
+    same: GrainSet,
 }
 
 impl Model for Tracked {
-    ghost use Rattle.std.specs.Prelude.{◌≡◌};
-    ghost use Rattle.fc_diff.specs.Row.{Row};
-    ghost use Rattle.fc_diff.specs.Index.{IsRestart};
+    ghost use Rattle.fc_changed.specs.Row.{Row};
 
     ghost Value = { Row };
 
-    ghost view = { λ t. record { map = t.map; source = t.source; target = t.target; from = t.from; changed = t.changed; kept = t.kept } };
-
-    ghost invariant = { λ t. IsRestart t.changed t.kept t.restart };
+    ghost view = { λ t. record { map = t.map; source = t.source; target = t.target; into = t.into; same = t.same } };
 }
 
 impl Event<'_> {
@@ -69,14 +49,14 @@ impl Event<'_> {
         match self {
             Event::Began { target, .. } => *target,
             Event::Wrote { volume, .. } => *volume,
-            Event::Cut { volume, .. } => *volume,
             Event::Left { target, .. } => *target,
+            Event::Cut { target } => *target,
         }
     }
 }
 
 impl Tracked {
-    /// A mapping that hasn't begun: all grains are changed. Want of memory is the only other answer.
+    /// A mapping that isn't followed yet. Want of memory is the only other answer.
     pub(crate) fn new(
         alloc: Global,
         map: u32,
@@ -84,19 +64,22 @@ impl Tracked {
         target: u32,
         grains: u32,
     ) -> Result<Tracked, NoMemory>
-        ensures { IfOk result (λ row. row ≡ new_row map source target grains) }
+        ensures { IfOk result (λ row. row ≡ record { map = map; source = source; target = target; into = target; same = replicate grains false }) }
     {
-        let mut changed = GrainSet::new(alloc, grains)?;
-        changed.set_all();
         Ok(Tracked {
             map,
             source,
             target,
-            from: None,
-            changed,
-            kept: GrainSet::new(alloc, grains)?,
-            restart: GrainSet::new(alloc, grains)?,
+            into: target,
+            same: GrainSet::new(alloc, grains)?,
         })
+    }
+
+    /// Its id.
+    pub(crate) fn map(&self) -> u32
+        ensures { result ≡ self.now.map }
+    {
+        self.map
     }
 
     /// Its source.
@@ -113,12 +96,19 @@ impl Tracked {
         self.target
     }
 
-    /// The grains with which the mapping would begin again.
-    pub(crate) fn restart(&self) -> &GrainSet
-        ensures grains { result.now ≡ difference self.now.kept self.now.changed }
-        ensures size { length result.now ≡ length self.now.kept }
+    /// The grains at which both volumes show the same.
+    pub(crate) fn same(&self) -> &GrainSet
+        ensures { result.now ≡ self.now.same }
     {
-        &self.restart
+        &self.same
+    }
+
+    /// Its first trigger made the target a copy of the source: both show the same at all grains.
+    pub(crate) fn begin(&mut self)
+        ensures { self.new ≡ record self.old { into = self.old.target; same = replicate (length self.old.same) true } }
+    {
+        self.into = self.target;
+        self.same.set_all();
     }
 
     /// The event happens, which may be to other volumes than the mapping's.
@@ -127,86 +117,59 @@ impl Tracked {
         ensures { self.new ≡ row_after event.entry self.old }
     {
         match event {
-            Event::Began {
-                map,
-                source,
-                target,
-            } => self.take_trigger(map, source, target),
+            Event::Began { source, target } => self.take_trigger(source, target),
             Event::Wrote { volume, grain } => self.take_write(volume, grain),
-            Event::Cut { volume, source } => self.take_cut(volume, source),
-            Event::Left {
-                source,
-                target,
-                held,
-            } => self.take_leaving(source, target, held),
+            Event::Left { target, held } => self.take_leaving(target, held),
+            Event::Cut { target } => self.take_cut(target),
         }
     }
 
-    /// A trigger that joins the two volumes makes them alike, once the mapping has begun; another one that has
-    /// either as target changes all.
-    fn take_trigger(&mut self, map: u32, source: u32, target: u32)
-        ensures { self.new ≡ row_began map source target self.old }
+    /// A trigger that joins the two volumes makes them the same; another one to either makes them differ.
+    fn take_trigger(&mut self, source: u32, target: u32)
+        ensures { self.new ≡ row_began source target self.old }
     {
-        let is_joined = is_joining(self.source, self.target, source, target);
-        if is_joined && (self.from.is_some() || self.map == map) {
-            self.from = Some(source);
-            self.changed.clear_all();
-            self.kept.set_all();
-            self.restart.set_all();
-        } else if self.source == target || self.target == target {
-            self.change_all();
+        if is_joining(self.source, self.target, source, target) {
+            self.into = target;
+            self.same.set_all();
+        } else if self.names(target) {
+            self.same.clear_all();
         }
     }
 
-    /// A write to either volume changes its grain.
+    /// A write to either volume makes them differ at its grain.
     fn take_write(&mut self, volume: u32, grain: u32)
         ensures { self.new ≡ row_wrote volume grain self.old }
     {
-        if (self.source == volume || self.target == volume) && grain < self.changed.len() {
-            self.changed.set(grain);
-            self.restart.clear(grain);
+        if self.names(volume) && grain < self.same.len() {
+            self.same.clear(grain);
         }
     }
 
-    /// A cut of either volume changes all, but for the cut of its own target as the mapping of the last trigger
-    /// left copying.
-    fn take_cut(&mut self, volume: u32, source: Option<u32>)
-        ensures { self.new ≡ row_cut volume source self.old }
+    /// A copy to either volume left: they are the same only where it held the grain.
+    fn take_leaving(&mut self, target: u32, held: &GrainSet)
+        requires { row_names self.old target ≡ true → length self.old.same ≡ length held.now }
+        ensures { self.new ≡ row_left target held.now self.old }
     {
-        let is_own = match source {
-            Some(source) => self.was_from(source, volume),
-            None => false,
-        };
-        if (self.source == volume || self.target == volume) && !is_own {
-            self.change_all();
+        if self.names(target) {
+            self.same.keep_all(held);
         }
     }
 
-    /// The mapping of the last trigger left copying, when its slot held these grains.
-    fn take_leaving(&mut self, source: u32, target: u32, held: &GrainSet)
-        requires { was_from self.old.source self.old.target self.old.from source target ≡ true → length self.old.kept ≡ length held.now }
-        ensures { self.new ≡ row_left source target held.now self.old }
+    /// A cut of either volume makes them differ, but for the cut of the last trigger's target: of that copy the grains are
+    /// told as it leaves.
+    fn take_cut(&mut self, target: u32)
+        ensures { self.new ≡ row_cut target self.old }
     {
-        if self.was_from(source, target) {
-            self.kept.copy_from(held);
-            self.restart.copy_from(held);
-            self.restart.remove_all(&self.changed);
+        if self.names(target) && self.into != target {
+            self.same.clear_all();
         }
     }
 
-    /// Whether the last trigger that joined the two volumes was from this source to this target.
-    fn was_from(&self, source: u32, target: u32) -> bool
-        ensures { result ≡ was_from self.now.source self.now.target self.now.from source target }
+    /// Whether the volume is one of the two.
+    fn names(&self, volume: u32) -> bool
+        ensures { result ≡ row_names self.now volume }
     {
-        self.from == Some(source) && is_joining(self.source, self.target, source, target)
-    }
-
-    /// Takes all grains as changed.
-    fn change_all(&mut self)
-        ensures { self.new ≡ all_changed self.old }
-    {
-        self.changed.set_all();
-        self.restart.clear_all();
+        volume == self.source || volume == self.target
     }
 }
 
