@@ -51,7 +51,7 @@ pub fn do_event(
     let mut events = List::new(alloc);
     events.push(event)?;
     chains.reserve(&events)?;
-    chains.apply(&events);
+    chains.apply_event(&events.as_slice()[0]);
     *plain = next;
     Ok(true)
 }

@@ -111,10 +111,3 @@ step_grows local (NoteCut m source target) s = omega arith
 step_grows local (Access volume access) s = omega arith
 step_grows local (Work m copies cleans) s = omega arith
 step_grows local (Arm volume grain calls) s = omega arith
-
-pub events_grow : (local : ℕ → ℕ) (es : List LaneEvent) (s : Sheet) → length (fold (sheet_step local) s es).slots ≤ length s.slots + sum_by slots_made es
-events_grow local [] s = omega arith
-events_grow local (e ∷ es) s =
-    let a : length (sheet_step local s e).slots ≤ length s.slots + slots_made e = step_grows local e s in
-    let b : length (fold (sheet_step local) (sheet_step local s e) es).slots ≤ length (sheet_step local s e).slots + sum_by slots_made es = events_grow local es (sheet_step local s e) in
-    omega (arith, sum_by-cons slots_made e es)

@@ -1,18 +1,17 @@
 -- What is always kept is kept by moves and writes.
-use Rattle.std.proofs.Common.{◌≡◌, ℕ, ◌/◌, Bool, false, true, Option, Some, None, IsSome, List, fold, refl, sym, subst}
+use Rattle.std.proofs.Common.{◌≡◌, ℕ, ◌/◌, Bool, false, true, Option, Some, None, IsSome, List, refl, sym, subst}
 use Rattle.fc_base.specs.declared.ids.SlotId.{SlotId}
 use Rattle.fc_base.specs.declared.request.Side.TheVariants.{Under}
 use Rattle.fc_base.specs.Sheet.{Slot, Sheet, slot_at, birth_place}
 use Rattle.fc_base.specs.SheetStep.{sheet_written, sheet_moved, sheet_torn, sheet_step, grain_taken, grain_kept, grain_lost}
 use Rattle.fc_base.specs.SheetFacts.{IsSound}
-use Rattle.fc_base.specs.SheetFits.{FitsTaken, FitsLost, FitsEvents}
+use Rattle.fc_base.specs.SheetFits.{FitsTaken, FitsLost, FitsEvent}
 use Rattle.fc_chain.specs.Chains.{Chains, IsKept, in_lane, lane_grains, IsThere}
 use Rattle.fc_chain.specs.Table.{Table}
 use Rattle.fc_base.specs.declared.decision.LaneEvent.{LaneEvent}
 use Rattle.fc_chain.specs.Contiguous.{IsContiguous}
-use Rattle.fc_chain.specs.Room.{BirthsFit}
-use Rattle.fc_chain.proofs.Rising.{births_after, events_sound}
-use Rattle.fc_chain.proofs.Together.{events_together, map_together}
+use Rattle.fc_chain.proofs.Together.{step_together, map_together}
+use Rattle.fc_sheets.proofs.Lawful.{event_sound}
 use Rattle.fc_sheets.proofs.Holding.{written_sound, kept_sound, lost_sound, regrained, bit_taken, bit_kept, bit_lost}
 
 abbrev pub view_of : ℕ → ℕ → Table → ℕ → ℕ → Chains
@@ -40,20 +39,13 @@ kept_lost value lane lanes room width v g table new view k fits e =
     (kept_as lane lanes table.sheet (sheet_torn v (g / lanes) Under table.sheet) k (lost_sound table.sheet v (g / lanes) k.sound (subst (λ (c : Chains). FitsLost c.sheet.slots v (in_lane c g)) (sym view) fits))
     (map_together (grain_lost v (g / lanes)) (regrained (grain_lost v (g / lanes)) (g / lanes) (bit_lost v (g / lanes))) table.sheet.slots k.together))
 
-pub births_kept : (value : Chains) (lane lanes room width : ℕ) (table : Table) (es now : List LaneEvent) → view_of lane lanes table room width ≡ value → FitsEvents (lane_grains value.lane value.lanes) value.sheet es → now ≡ es →
-    BirthsFit (fold (sheet_step (lane_grains lane lanes)) table.sheet now)
-births_kept value lane lanes room width table es now view fit e =
-    births_after (lane_grains lane lanes) table.sheet now
-    (subst (λ (z : List LaneEvent). FitsEvents (lane_grains lane lanes) table.sheet z) (sym e) (subst (λ (c : Chains). FitsEvents (lane_grains c.lane c.lanes) c.sheet es) (sym view) fit))
-
-pub kept_applied : (value : Chains) (lane lanes room width : ℕ) (table new : Table) (es now : List LaneEvent) → view_of lane lanes table room width ≡ value → IsKept lane lanes table.sheet → FitsEvents (lane_grains value.lane value.lanes) value.sheet es →
-    now ≡ es → new.sheet ≡ fold (sheet_step (lane_grains lane lanes)) table.sheet now → IsKept lane lanes new.sheet
-kept_applied value lane lanes room width table new es now view k fit e q =
+pub kept_stepped : (value : Chains) (lane lanes room width : ℕ) (table new : Table) (e : LaneEvent) → view_of lane lanes table room width ≡ value → IsKept lane lanes table.sheet → FitsEvent value.sheet e →
+    new.sheet ≡ sheet_step (lane_grains lane lanes) table.sheet e → IsKept lane lanes new.sheet
+kept_stepped value lane lanes room width table new e view k fit q =
     let local : ℕ → ℕ = lane_grains lane lanes in
-    let f : FitsEvents local table.sheet now =
-    subst (λ (z : List LaneEvent). FitsEvents local table.sheet z) (sym e) (subst (λ (c : Chains). FitsEvents (lane_grains c.lane c.lanes) c.sheet es) (sym view) fit) in
+    let f : FitsEvent table.sheet e = subst (λ (c : Chains). FitsEvent c.sheet e) (sym view) fit in
     subst (λ (s : Sheet). IsKept lane lanes s) (sym q)
-    (kept_as lane lanes table.sheet (fold (sheet_step local) table.sheet now) k (events_sound local table.sheet now k.sound f) (events_together local table.sheet now k.sound f k.together))
+    (kept_as lane lanes table.sheet (sheet_step local table.sheet e) k (event_sound local table.sheet e k.sound f) (step_together local table.sheet e k.sound f k.together))
 
 place_there : (o : Option ℕ) → IsSome o → (k : ℕ) × (o ≡ Some k)
 place_there None t = absurd cc

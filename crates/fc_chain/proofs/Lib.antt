@@ -19,6 +19,7 @@ pub mod Together
 pub mod Touched
 pub mod Retally
 pub mod Growing
+pub mod RoomLeft
 pub mod Numbered
 pub mod Nexts
 pub mod Parts

@@ -1,13 +1,12 @@
 -- What always holds of a cascade's parts is kept by each call.
-use Rattle.std.proofs.Common.{◌≡◌, ℕ, ◌+◌, ◌/◌, ◌<◌, ◌≤◌, suc, List, [], ◌∷◌, length, map, max, fold, refl, sym, ap, subst, ◌∙◌, arith, inl, inr}
-use Rattle.std.specs.List.{sum_by}
+use Rattle.std.proofs.Common.{◌≡◌, ℕ, ◌+◌, ◌/◌, ◌<◌, ◌≤◌, suc, List, [], ◌∷◌, length, map, max, refl, sym, ap, subst, ◌∙◌, arith, inl, inr}
 use Rattle.fc_bits.specs.Words.{words_for}
 use Rattle.fc_base.specs.declared.decision.LaneEvent.{LaneEvent}
 use Rattle.fc_base.specs.Sheet.{Slot, Sheet, slot_at}
 use Rattle.fc_base.specs.SheetStep.{sheet_step}
 use Rattle.fc_base.specs.SheetFits.{FitsTaken, FitsLost}
 use Rattle.fc_chain.specs.Chains.{Chains, IsKept, AreNumbered, AreParts, in_lane, lane_grains}
-use Rattle.fc_chain.specs.Room.{slots_made, HasRoomFor}
+use Rattle.fc_chain.specs.Room.{slots_made}
 use Rattle.fc_chain.specs.Table.{Table}
 use Rattle.fc_chain.specs.Ledger.{Ledger, IsCounted}
 use Rattle.fc_chain.specs.Tallies.{tally_at, AreTallies, Countable}
@@ -16,7 +15,7 @@ use Rattle.std.proofs.lemmas.Bool.{cases_lt}
 use Rattle.fc_sheets.proofs.Holding.{Regrained}
 use Rattle.fc_chain.proofs.Listed.{lists_map, places_fewer}
 use Rattle.fc_chain.proofs.Keeps.{view_of}
-use Rattle.fc_chain.proofs.Growing.{events_grow}
+use Rattle.fc_chain.proofs.Growing.{step_grows}
 use Rattle.fc_chain.proofs.Numbered.{wider_numbered}
 
 pub countable : (lane lanes : ℕ) (sheet : Sheet) → IsKept lane lanes sheet → Countable sheet.slots
@@ -57,15 +56,13 @@ mapped_parts f regrained lane lanes table new ledger after d room width p k e t 
       numbered = subst (AreNumbered lane lanes) (sym wide) p.numbered;
     }
 
--- events happen: there is room for all that they make
-pub room_after : (value : Chains) (lane lanes room width : ℕ) (table new : Table) (ledger : Ledger) (es now : List LaneEvent) → view_of lane lanes table room width ≡ value → IsCounted table ledger room width → HasRoomFor value es → now ≡ es →
-    new.sheet ≡ fold (sheet_step (lane_grains lane lanes)) table.sheet now → length new.sheet.slots ≤ length ledger.tallies
-room_after value lane lanes room width table new ledger es now view c has e q =
-    let h : HasRoomFor (view_of lane lanes table room width) es = subst (λ (z : Chains). HasRoomFor z es) (sym view) has in
-    let made : sum_by slots_made es ≤ room = h.slots in
-    let same : sum_by slots_made now ≡ sum_by slots_made es = ap (sum_by slots_made) e in
-    let grows : length (fold (sheet_step (lane_grains lane lanes)) table.sheet now).slots ≤ length table.sheet.slots + sum_by slots_made now = events_grow (lane_grains lane lanes) now table.sheet in
-    let size : length new.sheet.slots ≡ length (fold (sheet_step (lane_grains lane lanes)) table.sheet now).slots = ap (λ (s : Sheet). length s.slots) q in
+-- an event happens: there is room for all that it makes
+pub room_after : (value : Chains) (lane lanes room width : ℕ) (table new : Table) (ledger : Ledger) (e : LaneEvent) → view_of lane lanes table room width ≡ value → IsCounted table ledger room width → slots_made e ≤ value.room →
+    new.sheet ≡ sheet_step (lane_grains lane lanes) table.sheet e → length new.sheet.slots ≤ length ledger.tallies
+room_after value lane lanes room width table new ledger e view c has q =
+    let made : slots_made e ≤ room = subst (λ (z : Chains). slots_made e ≤ z.room) (sym view) has in
+    let grows : length (sheet_step (lane_grains lane lanes) table.sheet e).slots ≤ length table.sheet.slots + slots_made e = step_grows (lane_grains lane lanes) e table.sheet in
+    let size : length new.sheet.slots ≡ length (sheet_step (lane_grains lane lanes) table.sheet e).slots = ap (λ (s : Sheet). length s.slots) q in
     let f : length table.sheet.slots + room ≤ length ledger.tallies = c.fits in
     omega arith
 
@@ -80,35 +77,36 @@ words_after table new ledger room width now c e wide k lt =
     let d : words_for new.width ≡ words_for table.width = ap words_for e in
     omega arith
 
-pub applied_parts : (lane lanes : ℕ) (table new : Table) (ledger after : Ledger) (old dir : Directory) (room width : ℕ) (now again : List Slot) → AreParts lane lanes table ledger old room width → IsKept lane lanes new.sheet → now ≡ new.sheet.slots → length now ≤ length ledger.tallies →
-    new.width ≡ table.width → AreTallies now after.tallies → length after.tallies ≡ length ledger.tallies → after.words ≡ ledger.words →
-    again ≡ new.sheet.slots → ListsSlots again dir → HasPlaces (length again) dir → AreParts lane lanes new after dir 0 width
-applied_parts lane lanes table new ledger after old dir room width now again p k e fit d t l w ea listed has =
+pub stepped_parts : (value : Chains) (lane lanes room width left : ℕ) (table new : Table) (ledger after : Ledger) (old dir : Directory) (e : LaneEvent) (now again : List Slot) → view_of lane lanes table room width ≡ value → AreParts lane lanes table ledger old room width →
+    IsKept lane lanes new.sheet → slots_made e ≤ value.room → new.sheet ≡ sheet_step (lane_grains lane lanes) table.sheet e → left + slots_made e ≡ room → table.room ≤ new.room + slots_made e → new.width ≡ table.width →
+    now ≡ new.sheet.slots → AreTallies now after.tallies → length after.tallies ≡ length ledger.tallies → after.words ≡ ledger.words →
+    again ≡ new.sheet.slots → ListsSlots again dir → HasPlaces (length table.sheet.slots + room) dir → AreParts lane lanes new after dir left width
+stepped_parts value lane lanes room width left table new ledger after old dir e now again view p k has q rest spare d en t l w ea listed places =
     let c : IsCounted table ledger room width = p.counted in
-    let size : length new.sheet.slots ≡ length now = ap length (sym e) in
+    let made : slots_made e ≤ room = subst (λ (z : Chains). slots_made e ≤ z.room) (sym view) has in
+    let grows : length (sheet_step (lane_grains lane lanes) table.sheet e).slots ≤ length table.sheet.slots + slots_made e = step_grows (lane_grains lane lanes) e table.sheet in
+    let size : length new.sheet.slots ≡ length (sheet_step (lane_grains lane lanes) table.sheet e).slots = ap (λ (s : Sheet). length s.slots) q in
     record {
       kept = k;
       counted = record {
-        tallied = subst (λ (z : List Slot). AreTallies z after.tallies) e t;
-        fits = omega arith;
-        spare = omega arith;
+        tallied = subst (λ (z : List Slot). AreTallies z after.tallies) en t;
+        fits = (let a : length table.sheet.slots + room ≤ length ledger.tallies = c.fits in omega arith);
+        spare = (let a : room ≤ table.room = c.spare in omega arith);
         wide = (let a : width ≤ table.width = c.wide in omega arith);
         words = (let a : words_for table.width ≤ ledger.words = c.words in let b : words_for new.width ≡ words_for table.width = ap words_for d in omega arith);
       };
       listed = subst (λ (z : List Slot). ListsSlots z dir) ea listed;
-      places = (let s : length again ≡ length new.sheet.slots = ap length ea in places_fewer (length new.sheet.slots + 0) (length again) dir (omega arith) has);
+      places = places_fewer (length new.sheet.slots + left) (length table.sheet.slots + room) dir (omega arith) places;
       numbered = subst (AreNumbered lane lanes) (sym d) p.numbered;
     }
 
--- there are places for all that events make
-pub places_after : (value : Chains) (lane lanes room width : ℕ) (table new : Table) (d : Directory) (es now : List LaneEvent) → view_of lane lanes table room width ≡ value → HasPlaces (length table.sheet.slots + room) d → HasRoomFor value es → now ≡ es →
-    new.sheet ≡ fold (sheet_step (lane_grains lane lanes)) table.sheet now → HasPlaces (length new.sheet.slots) d
-places_after value lane lanes room width table new d es now view h has e q =
-    let r : HasRoomFor (view_of lane lanes table room width) es = subst (λ (z : Chains). HasRoomFor z es) (sym view) has in
-    let made : sum_by slots_made es ≤ room = r.slots in
-    let same : sum_by slots_made now ≡ sum_by slots_made es = ap (sum_by slots_made) e in
-    let grows : length (fold (sheet_step (lane_grains lane lanes)) table.sheet now).slots ≤ length table.sheet.slots + sum_by slots_made now = events_grow (lane_grains lane lanes) now table.sheet in
-    let size : length new.sheet.slots ≡ length (fold (sheet_step (lane_grains lane lanes)) table.sheet now).slots = ap (λ (s : Sheet). length s.slots) q in
+-- there are places for all that an event makes
+pub places_after : (value : Chains) (lane lanes room width : ℕ) (table new : Table) (d : Directory) (e : LaneEvent) → view_of lane lanes table room width ≡ value → HasPlaces (length table.sheet.slots + room) d → slots_made e ≤ value.room →
+    new.sheet ≡ sheet_step (lane_grains lane lanes) table.sheet e → HasPlaces (length new.sheet.slots) d
+places_after value lane lanes room width table new d e view h has q =
+    let made : slots_made e ≤ room = subst (λ (z : Chains). slots_made e ≤ z.room) (sym view) has in
+    let grows : length (sheet_step (lane_grains lane lanes) table.sheet e).slots ≤ length table.sheet.slots + slots_made e = step_grows (lane_grains lane lanes) e table.sheet in
+    let size : length new.sheet.slots ≡ length (sheet_step (lane_grains lane lanes) table.sheet e).slots = ap (λ (s : Sheet). length s.slots) q in
     places_fewer (length new.sheet.slots) (length table.sheet.slots + room) d (omega arith) h
 
 -- more room

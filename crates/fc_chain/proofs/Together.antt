@@ -8,13 +8,12 @@ use Rattle.fc_base.specs.declared.decision.LaneEvent.TheVariants.{Make, Remove, 
 use Rattle.fc_base.specs.Sheet.{Slot, Sheet, slot_at, live_place, mapping_place, birth_place}
 use Rattle.fc_base.specs.SheetStep.{at_place, has_after, with_chain, without, aged, left_place, placed, started_empty, retired_at, detached_at, split_at, forced_at, forced_map, sheet_step}
 use Rattle.fc_base.specs.SheetFacts.{IsSound}
-use Rattle.fc_base.specs.SheetFits.{FitsEvent, FitsEvents}
+use Rattle.fc_base.specs.SheetFits.{FitsEvent}
 use Rattle.fc_sheets.proofs.Places.{Removed, up, up_rises, up_in, removed_at, remove_is, insert_is, insert_here, push_is, push_here}
 use Rattle.fc_sheets.proofs.Aging.{aged_is}
 use Rattle.fc_sheets.proofs.Splitting.{split_list, split_chain, split_count}
 use Rattle.fc_sheets.proofs.Finding.{live_place_at, mapping_place_at, birth_place_at}
 use Rattle.fc_sheets.proofs.Holding.{Regrained, at_map}
-use Rattle.fc_sheets.proofs.Lawful.{event_sound}
 use Rattle.fc_chain.specs.Contiguous.{IsContiguous}
 
 -- The labels of chains are births that were given, and chains stand together.
@@ -253,7 +252,7 @@ pub triggered_together : (pairs : List Pair) (s : Sheet) → IsContiguous s.slot
 triggered_together [] s c = c
 triggered_together (p ∷ ps) s c = triggered_together ps (started_empty s p) (started_spread s p c)
 
-step_together : (local : ℕ → ℕ) (s : Sheet) (e : LaneEvent) → IsSound s → FitsEvent s e → Spread s → Spread (sheet_step local s e)
+pub step_together : (local : ℕ → ℕ) (s : Sheet) (e : LaneEvent) → IsSound s → FitsEvent s e → Spread s → Spread (sheet_step local s e)
 step_together local s e i f c = by_event local s e i f (record { labels = i.names.chains; one_place = c })
   where
     by_event : (local : ℕ → ℕ) (s : Sheet) (e : LaneEvent) → IsSound s → FitsEvent s e → SheetTogether s → Spread (sheet_step local s e)
@@ -280,10 +279,6 @@ step_together local s e i f c = by_event local s e i f (record { labels = i.name
     by_event local s (Access volume access) i f t = t.one_place
     by_event local s (Work m copies cleans) i f t = t.one_place
     by_event local s (Arm volume grain calls) i f t = t.one_place
-
-pub events_together : (local : ℕ → ℕ) (s : Sheet) (es : List LaneEvent) → IsSound s → FitsEvents local s es → IsContiguous s.slots → IsContiguous (fold (sheet_step local) s es).slots
-events_together local s [] i f c = c
-events_together local s (e ∷ es) i f c = events_together local (sheet_step local s e) es (event_sound local s e i f.0) f.1 (step_together local s e i f.0 c)
 
 -- ---- moves and writes
 

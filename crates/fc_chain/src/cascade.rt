@@ -1,40 +1,41 @@
 //! The chains of copies of one lane.
 
-ghost use Rattle.std.specs.Prelude.{◌≡◌, ℕ, ◌+◌, ◌*◌, ◌^◌, ◌<◌, ◌≤◌, ◌/◌, ◌↔◌, ◌++◌, length, option_map, OnOk, OnErr, IfOk, IsTrue, IfSome, Some, false, fold};
-ghost use Rattle.fc_base.specs.Sheet.{no_slots, slot_at, shape_of, column, live_place, mapping_place, birth_place};
+ghost use Rattle.std.specs.Prelude.{◌≡◌, ℕ, ◌+◌, ◌*◌, ◌^◌, ◌<◌, ◌≤◌, ◌/◌, ◌↔◌, ◌++◌, length, option_map, OnOk, OnErr, IfOk, IsTrue, IfSome, Some, false};
+ghost use Rattle.fc_base.specs.Sheet.{no_slots, slot_at, shape_of, column, live_place, mapping_place, birth_place, volume_grains};
 ghost use Rattle.fc_base.specs.Column.{first_below, holder, needer};
 ghost use Rattle.fc_base.specs.declared.request.Side.TheVariants.{Under};
-ghost use Rattle.fc_base.specs.SheetFits.{FitsTaken, FitsLost, FitsEvents};
+ghost use Rattle.fc_base.specs.SheetFits.{FitsTaken, FitsLost, FitsEvent};
 ghost use Rattle.fc_base.specs.SheetStep.{sheet_moved, sheet_written, sheet_torn, triggered, sheet_step};
 ghost use Rattle.fc_base.specs.SheetView.{LoopAnswer};
 ghost use Rattle.fc_chain.specs.Chains.{IsOfLane, in_lane, lane_grains, number_in, found, IsThere};
 ghost use Rattle.fc_chain.specs.Contiguous.{IsContiguous};
 ghost use Rattle.fc_chain.specs.Nexts.{lacks};
 ghost use Rattle.fc_chain.specs.Tallies.{AreOneSize};
-ghost use Rattle.fc_chain.specs.Room.{HasRoomFor};
+ghost use Rattle.fc_chain.specs.Room.{HasRoomFor, BirthsFit, slots_made, grains_come};
 ghost use Rattle.fc_bits.specs.Grains.{count_set};
 ghost use Rattle.fc_base.specs.Counts.{is_needed_at, need_count_of, UsedAt, names_below, is_direct, is_unneeded};
 ghost use Rattle.fc_chain.specs.Planning.{CanPlan, Plannable, planned_moves, volume_count};
 
 use crate::count::{add_direct, add_unneeded};
 use crate::directory::Directory;
-use crate::events::step_all;
+use crate::events::{changes_chains, step};
 use crate::find::name_of;
 use crate::links::loop_of_rows;
 use crate::next::{self, number_of};
 use crate::plan::{LaneGrain, plan_fill, plan_write};
-use crate::room::{slots_made, widest};
+use crate::room::{slots_made, slots_made_by, widest};
 use crate::rows::{copy_rows, trigger_rows};
 use crate::slot::Slot;
 use crate::table::SlotTable;
 use crate::tallies::Tallies;
 use crate::walk::{first_reader_of, holder_of};
-use fc_base::decision::LaneEvents;
+use fc_base::decision::{LaneEvent, LaneEvents};
 use fc_base::ids::{MapId, SlotId, VolId};
 use fc_base::list::List;
 use fc_base::move_plan::MovePlan;
 use fc_base::outcome::NoMemory;
 use fc_base::request::{Pair, Planned, Side};
+use fc_bits::GrainSet;
 use std::alloc::Global;
 use std::marker::Model;
 
@@ -118,8 +119,8 @@ impl Cascade {
         self.directory.slot_of(self.table.as_slice(), map.0)
     }
 
-    /// Makes room for the slots that the events can make, so that `apply` of them takes no memory. Room that was there
-    /// stays. Refused, all is as it was.
+    /// Makes room for the slots that the events can make, so that `apply_event` of each takes no memory. Room that was
+    /// there stays. Refused, all is as it was.
     pub fn reserve(&mut self, events: &LaneEvents) -> Result<(), NoMemory>
         ensures ok { OnOk result (HasRoomFor self.new events.now) }
         ensures same { self.new ≡ record self.old { room = self.new.room; width = self.new.width } }
@@ -144,16 +145,26 @@ impl Cascade {
         Ok(())
     }
 
-    /// Does what the events say to the chains, in order. They fit, and there is room for them. Takes no memory.
-    pub fn apply(&mut self, events: &LaneEvents)
-        requires fit { FitsEvents (lane_grains self.old.lane self.old.lanes) self.old.sheet events.now }
-        requires room { HasRoomFor self.old events.now }
-        ensures { self.new ≡ record self.old { sheet = fold (sheet_step (lane_grains self.old.lane self.old.lanes)) self.old.sheet events.now; room = self.new.room } }
+    /// Does what one event says to the chains. It fits, and there is room for it. One that isn't about chains does nothing,
+    /// and nothing is counted anew. Takes no memory.
+    pub fn apply_event(&mut self, event: &LaneEvent)
+        requires fit { FitsEvent self.old.sheet event.now }
+        requires births { BirthsFit (sheet_step (lane_grains self.old.lane self.old.lanes) self.old.sheet event.now) }
+        requires room { slots_made event.now ≤ self.old.room }
+        requires grains { grains_come (lane_grains self.old.lane self.old.lanes) event.now ≤ self.old.width }
+        ensures value { self.new ≡ record self.old { sheet = sheet_step (lane_grains self.old.lane self.old.lanes) self.old.sheet event.now; room = self.new.room } }
+        ensures room { self.old.room ≤ self.new.room + slots_made event.now }
     {
-        step_all(&mut self.table, events.as_slice(), self.lane, self.lanes);
+        if !changes_chains(event) {
+            return;
+        }
+        match slots_made_by(event) {
+            Some(slots) => self.room -= slots,
+            None => unreachable!(),
+        }
+        step(&mut self.table, event, self.lane, self.lanes);
         self.tallies.recount(self.table.as_slice());
         self.directory.rebuild(self.table.as_slice());
-        self.room = 0;
     }
 
     /// How many volumes there are. Looks at none of them.
@@ -169,6 +180,16 @@ impl Cascade {
         ensures there { IfSome result (λ slot. birth_place self.now.sheet.slots slot.0 ≡ live_place self.now.sheet.slots volume.0) }
     {
         name_of(self.slots(), self.place_of_live(volume))
+    }
+
+    /// How many of the lane's grains the volume has: none where there is no such volume.
+    pub fn grains(&self, volume: VolId) -> u32
+        ensures { result ≡ volume_grains self.now.sheet.slots volume.0 }
+    {
+        match self.place_of_live(volume) {
+            Some(place) => self.table.at(place).grains(),
+            None => 0,
+        }
     }
 
     /// The volume whose slot it is.
@@ -321,6 +342,22 @@ impl Cascade {
                 }
             }
         }
+    }
+
+    /// Whether the slot is its volume as hosts see it.
+    pub fn is_live(&self, slot: SlotId) -> bool
+        requires { IsThere self.now.sheet.slots slot }
+        ensures { (k : ℕ) → birth_place self.now.sheet.slots slot.0 ≡ Some k → result ≡ (slot_at self.now.sheet.slots k).is_live }
+    {
+        self.slots()[self.place_of(slot)].is_live()
+    }
+
+    /// The grains of the lane that the slot holds.
+    pub fn held(&self, slot: SlotId) -> &GrainSet
+        requires { IsThere self.now.sheet.slots slot }
+        ensures { (k : ℕ) → birth_place self.now.sheet.slots slot.0 ≡ Some k → result.now ≡ (slot_at self.now.sheet.slots k).held }
+    {
+        self.slots()[self.place_of(slot)].held()
     }
 
     /// How many of the lane's grains the slot holds.

@@ -1,7 +1,7 @@
 //! What the events of a command do to the slots.
 
-ghost use Rattle.std.specs.Prelude.{◌≡◌, ◌+◌, ◌^◌, ◌<◌, ◌≤◌, length, fold, sum_by, replicate, false, All};
-ghost use Rattle.fc_base.specs.Sheet.{live_place, mapping_place, volume_grains};
+ghost use Rattle.std.specs.Prelude.{◌≡◌, ℕ, ◌+◌, ◌^◌, ◌<◌, ◌≤◌, length, fold, replicate, false};
+ghost use Rattle.fc_base.specs.Sheet.{Sheet, live_place, mapping_place, volume_grains};
 ghost use Rattle.fc_base.specs.SheetStep.{at_place, has_after, removed, left_place, placed, started_empty, triggered, retired_at, detached_at, split_at, forced_at, forced_map, dropped, sheet_step};
 ghost use Rattle.fc_chain.specs.Chains.{lane_grains};
 ghost use Rattle.fc_chain.specs.Room.{slots_made, grains_come, BirthsFit};
@@ -239,8 +239,29 @@ fn force(table: &mut SlotTable, map: MapId, dependents: &[MapId])
     force_all(table, dependents);
 }
 
+/// Whether the event is about chains.
+pub(crate) fn changes_chains(event: &LaneEvent) -> bool
+    ensures { result ≡ false → (local : ℕ → ℕ) (sheet : Sheet) → sheet_step local sheet event.now ≡ sheet }
+{
+    match event {
+        LaneEvent::Make { .. }
+        | LaneEvent::Remove { .. }
+        | LaneEvent::Trigger { .. }
+        | LaneEvent::Retire { .. }
+        | LaneEvent::Detach { .. }
+        | LaneEvent::Split { .. }
+        | LaneEvent::Force { .. }
+        | LaneEvent::Drop { .. } => true,
+        LaneEvent::Forget { .. }
+        | LaneEvent::NoteCut { .. }
+        | LaneEvent::Access { .. }
+        | LaneEvent::Work { .. }
+        | LaneEvent::Arm { .. } => false,
+    }
+}
+
 /// Does what one event says to the slots.
-fn step(table: &mut SlotTable, event: &LaneEvent, lane: u8, lanes: u8)
+pub(crate) fn step(table: &mut SlotTable, event: &LaneEvent, lane: u8, lanes: u8)
     requires lane_in { lane < lanes }
     requires births { BirthsFit (sheet_step (lane_grains lane lanes) table.old.sheet event.now) }
     requires room { slots_made event.now ≤ table.old.room }
@@ -265,19 +286,5 @@ fn step(table: &mut SlotTable, event: &LaneEvent, lane: u8, lanes: u8)
         | LaneEvent::Access { .. }
         | LaneEvent::Work { .. }
         | LaneEvent::Arm { .. } => {}
-    }
-}
-
-/// Does what the events say to the slots, in order.
-pub(crate) fn step_all(table: &mut SlotTable, events: &[LaneEvent], lane: u8, lanes: u8)
-    requires lane_in { lane < lanes }
-    requires births { BirthsFit (fold (sheet_step (lane_grains lane lanes)) table.old.sheet events.now) }
-    requires room { sum_by slots_made events.now ≤ table.old.room }
-    requires grains { All (λ e. grains_come (lane_grains lane lanes) e ≤ table.old.width) events.now }
-    ensures sheet { table.new.sheet ≡ fold (sheet_step (lane_grains lane lanes)) table.old.sheet events.now }
-    ensures width { table.new.width ≡ table.old.width }
-{
-    for event in events {
-        step(table, event, lane, lanes);
     }
 }

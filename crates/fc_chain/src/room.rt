@@ -1,6 +1,6 @@
 //! How many slots the events of a command can make, and of how many grains.
 
-ghost use Rattle.std.specs.Prelude.{◌≡◌, ◌<◌, ◌≤◌, IfSome, sum_by, All};
+ghost use Rattle.std.specs.Prelude.{◌≡◌, ◌^◌, ◌<◌, ◌≤◌, IfSome, IsSome, sum_by, All};
 ghost use Rattle.fc_chain.specs.Chains.{AreNumbered, lane_grains};
 ghost use Rattle.fc_chain.specs.Room.{slots_made as made_by, grains_come};
 
@@ -17,8 +17,9 @@ pub(crate) fn grains_of_lane(lane: u8, lanes: u8, grains: u32) -> u32
 }
 
 /// How many slots the event can make, unless they are too many to count.
-fn slots_made_by(event: &LaneEvent) -> Option<usize>
-    ensures { IfSome result (λ n. n ≡ made_by event.now) }
+pub(crate) fn slots_made_by(event: &LaneEvent) -> Option<usize>
+    ensures value { IfSome result (λ n. n ≡ made_by event.now) }
+    ensures few { made_by event.now < 2 ^ 64 → IsSome result }
 {
     match event {
         LaneEvent::Make { .. } | LaneEvent::Retire { .. } | LaneEvent::Detach { .. } => Some(1),

@@ -5,7 +5,7 @@ ghost use Rattle.std.specs.Prelude.{◌+◌, ◌^◌, ◌<◌, ◌≤◌};
 ghost use Rattle.fc_chain.specs.Room.{slots_made as made_by};
 
 use crate::Cascade;
-use crate::events::step_all;
+use crate::events::step;
 use crate::room::{slots_made, widest};
 use crate::table::SlotTable;
 use fc_base::decision::{LaneEvent, LaneEvents};
@@ -34,7 +34,7 @@ fn apply(rt: &impl Abort, table: &mut SlotTable, event: LaneEvent)
     table
         .make_room(slots, widest(&events, 0, 1))
         .expect(rt, "memory");
-    step_all(table, &events, 0, 1);
+    step(table, &events[0], 0, 1);
 }
 
 fn make(volume: u32) -> LaneEvent
@@ -143,7 +143,7 @@ fn a_volume_comes(rt: HostRuntime) -> Result<(), Fail> {
     })?;
     assert!(rt; chains.reserve(&events).is_ok());
     assert_eq!(rt; chains.live(VolId(A)), None);
-    chains.apply(&events);
+    chains.apply_event(&events.as_slice()[0]);
     assert_eq!(rt; chains.live(VolId(A)), Some(SlotId(0)));
     assert_eq!(rt; chains.live(VolId(B)), None);
     // each target in turn becomes the source's newest copy, and its older slot stays ahead of it

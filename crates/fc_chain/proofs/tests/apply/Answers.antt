@@ -13,8 +13,8 @@ two_more local s t e same few =
     let b : t.births ≡ s.births = ap (λ (z : Sheet). z.births) same in
     omega arith
 
-pub step_all-requires-clause-births : goal.step_all-requires-clause-births
-step_all-requires-clause-births g c =
+pub step-requires-clause-births : goal.step-requires-clause-births
+step-requires-clause-births g c =
     let a : (sheet_step (lane_grains 0 1) c.make_room.new.self.sheet c.args.event).births ≤ c.args.table.now.sheet.births + 2 =
     two_more (lane_grains 0 1) c.args.table.now.sheet c.make_room.new.self.sheet c.args.event c.make_room.ensures.same c.requires.few in
     let b : c.args.table.now.sheet.births + 2 < 2 ^ 64 = c.requires.births in
@@ -24,5 +24,5 @@ pub returns : goal.returns
 returns g c =
     let a : (sheet_step (lane_grains 0 1) c.make_room.new.self.sheet c.args.event).births ≤ c.args.table.now.sheet.births + 2 =
     two_more (lane_grains 0 1) c.args.table.now.sheet c.make_room.new.self.sheet c.args.event c.make_room.ensures.same c.requires.few in
-    let e : c.step_all.new.table.sheet.births ≡ (sheet_step (lane_grains 0 1) c.make_room.new.self.sheet c.args.event).births = ap (λ (z : Sheet). z.births) c.step_all.ensures.sheet in
+    let e : c.step.new.table.sheet.births ≡ (sheet_step (lane_grains 0 1) c.make_room.new.self.sheet c.args.event).births = ap (λ (z : Sheet). z.births) c.step.ensures.sheet in
     omega arith
