@@ -16,9 +16,10 @@ use Rattle.fc_base.specs.declared.volume.Volume.{Volume}
 use Rattle.fc_entry.specs.Picture.{Picture, grain_of_block}
 use Rattle.fc_entry.specs.PlainStep.{after_request, after_loss, after_effects, plain_step}
 use Rattle.fc_entry.specs.declared.entry.Entry.{Entry}
+use Rattle.fc_follow.specs.Following.{followed_entry}
 use Rattle.fc_legal.specs.Stands.{Stands}
 use Rattle.fc_legal.specs.Steps.{AccessStep, after_access}
-use Rattle.fc_legal.specs.Whole.{Whole, lanes, lane_of_grain, lane_at, part_at, part_of_picture, as_one}
+use Rattle.fc_legal.specs.Whole.{Whole, lanes, lane_of_grain, lane_at, part_at, part_of_picture, part_of_rows, followed_at, as_one}
 use Rattle.fc_rules.specs.GrainAnswers.{ByAccess}
 use Rattle.fc_rules.specs.LaneFits.{FitsPart}
 use Rattle.fc_rules.specs.LaneRight.{VolumeWrite, MappingFill, LaneAnswers, IsRightInLane, done_write, record_of}
@@ -28,8 +29,9 @@ use Rattle.fc_parts.specs.Law.{IsAt}
 use Rattle.fc_parts.proofs.Numbers.{grain_below}
 use Rattle.fc_parts.proofs.Views.{live_parts, grains_parts}
 use Rattle.fc_parts.proofs.Told.{part_told, part_is, same_told}
-use Rattle.fc_parts.proofs.Decisions.{part_follows, faults_of_part, calls_of_part}
+use Rattle.fc_parts.proofs.Decisions.{part_follows, faults_of_part, calls_of_part, same_followed}
 use Rattle.fc_parts.proofs.Grains.{WriteAt, sheet_here, sheet_away, picture_here, picture_away}
+use Rattle.fc_parts.proofs.Noting.{rows_here, rows_away}
 use Rattle.fc_parts.proofs.Outcomes.{fill_outcome, write_outcome, read_nothing, AllAt, nothing_at, outcome_at}
 use Rattle.fc_parts.proofs.Spots.{answers_by_all}
 
@@ -95,6 +97,9 @@ access grain decisions w number entry stands at right =
 pub plain_is : (grain : GrainSize) (picture : Picture) (entry : Entry) → entry.effects ≡ [] → plain_step grain picture entry ≡ after_loss (after_request grain picture entry.request entry.reply) entry.torn
 plain_is grain picture entry e = ap (λ (z : List Effect). after_effects grain (after_loss (after_request grain picture entry.request entry.reply) entry.torn) z) e
 
+same_lane : (grain : GrainSize) (w : Whole) (i : ℕ) (entry : Entry) (j : ℕ) → lane_at grain (after_access grain w i entry) j ≡ lane_at grain w j
+same_lane grain w i entry j = ap (λ (n : ℕ). let l : LaneOf = record { lane = j; lanes = n; grain = grain } in l) (length-set w.faults i entry.faults_after)
+
 -- a lane's part after an entry, by its fields
 part_after : (grain : GrainSize) (w : Whole) (i : ℕ) (entry : Entry) (j : ℕ) →
     let next = after_access grain w i entry in
@@ -108,8 +113,8 @@ part_after grain w i entry j =
 
 pub told : (grain : GrainSize) (decisions : ℕ) (w : Whole) (number : ℕ) (entry : Entry) → Stands decisions w → IsAt grain number entry.request →
     IsRightInLane (lane_at grain w (lane_of_grain w number)) (part_at grain w (lane_of_grain w number)) entry →
-    part_at grain (after_access grain w (lane_of_grain w number) entry) (lane_of_grain w number)
-    ≡ told_past (lane_at grain w (lane_of_grain w number)) (part_at grain w (lane_of_grain w number)) (record_of entry)
+    followed_at grain (after_access grain w (lane_of_grain w number) entry) (lane_of_grain w number)
+    ≡ followed_entry (lane_at grain w (lane_of_grain w number)) (followed_at grain w (lane_of_grain w number)) entry
 told grain decisions w number entry stands at right =
     let j : ℕ = lane_of_grain w number in
     let l : LaneOf = lane_at grain w j in
@@ -121,7 +126,9 @@ told grain decisions w number entry stands at right =
     let a = answers_at l small number entry.request entry at right.answers in
     let write = done_write entry.request entry.reply in
     let d = done_at grain number entry.request entry.reply at in
-    part_after grain w j entry j
+    let same : lane_at grain next j ≡ l = same_lane grain w j entry j in
+    same_followed (followed_at grain next j) (followed_entry l (followed_at grain w j) entry)
+    (part_after grain w j entry j
     ∙ same_told (part_told l next.books.sheet next.picture small.volumes small.flags small.pool (get_or next.faults j 0) (get_or next.calls j 0)) (told_past l small (record_of entry))
     (sheet_here l i number refl w.books.sheet write entry.moves entry.torn d a.moves a.torn ∙ ap (λ (s : Sheet). sheet_entry l s write entry.moves entry.torn) (sym f.sheet))
     (ap (part_of_picture l) (plain_is grain w.picture entry right.no_effects)
@@ -130,11 +137,12 @@ told grain decisions w number entry stands at right =
     refl
     refl
     (get_or-set_same w.faults j entry.faults_after 0 i)
-    (get_or-set_same w.calls j (get_or w.calls j 0 + entry.calls) 0 (omega arith) ∙ ap (λ n. n + entry.calls) (sym (calls_of_part grain w j)))
+    (get_or-set_same w.calls j (get_or w.calls j 0 + entry.calls) 0 (omega arith) ∙ ap (λ n. n + entry.calls) (sym (calls_of_part grain w j))))
+    (ap (λ (z : LaneOf). part_of_rows z next.rows) same ∙ rows_here l i number refl w.rows write entry.torn d a.torn)
 
 pub others : (grain : GrainSize) (decisions : ℕ) (w : Whole) (number : ℕ) (entry : Entry) (j : ℕ) → Stands decisions w → IsAt grain number entry.request →
     IsRightInLane (lane_at grain w (lane_of_grain w number)) (part_at grain w (lane_of_grain w number)) entry →
-    j < lanes w → j ≢ lane_of_grain w number → part_at grain (after_access grain w (lane_of_grain w number) entry) j ≡ part_at grain w j
+    j < lanes w → j ≢ lane_of_grain w number → followed_at grain (after_access grain w (lane_of_grain w number) entry) j ≡ followed_at grain w j
 others grain decisions w number entry j stands at right lt other =
     let k : ℕ = lane_of_grain w number in
     let l : LaneOf = lane_at grain w j in
@@ -145,7 +153,9 @@ others grain decisions w number entry j stands at right lt other =
     let write = done_write entry.request entry.reply in
     let d = done_at grain number entry.request entry.reply at in
     let away : number % lanes w ≢ j = λ e. other (sym e) in
-    part_after grain w k entry j
+    let same : lane_at grain next j ≡ l = same_lane grain w k entry j in
+    same_followed (followed_at grain next j) (followed_at grain w j)
+    (part_after grain w k entry j
     ∙ same_told (part_told l next.books.sheet next.picture small.volumes small.flags small.pool (get_or next.faults j 0) (get_or next.calls j 0)) small
     (sheet_away l lt number away w.books.sheet write entry.moves entry.torn d a.moves a.torn ∙ sym f.sheet)
     (ap (part_of_picture l) (plain_is grain w.picture entry right.no_effects) ∙ (picture_away l lt number away w.picture entry.request entry.reply entry.torn d a.torn ∙ sym f.picture))
@@ -153,7 +163,8 @@ others grain decisions w number entry j stands at right lt other =
     refl
     refl
     (get_or-set_other w.faults k j entry.faults_after 0 other ∙ sym (faults_of_part grain w j))
-    (get_or-set_other w.calls k j (get_or w.calls k 0 + entry.calls) 0 other ∙ sym (calls_of_part grain w j))
+    (get_or-set_other w.calls k j (get_or w.calls k 0 + entry.calls) 0 other ∙ sym (calls_of_part grain w j)))
+    (ap (λ (z : LaneOf). part_of_rows z next.rows) same ∙ rows_away l lt number away w.rows write entry.torn d a.torn)
 
 -- ---- an access that isn't refused
 

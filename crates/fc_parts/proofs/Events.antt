@@ -28,7 +28,7 @@ part_cond l false s t = refl
 -- ---- parts of the steps
 
 -- a step that does to the part what it does to all
-abbrev Agrees : LaneOf → (Sheet → Sheet) → (Sheet → Sheet) → Sheet → Type 0
+abbrev pub Agrees : LaneOf → (Sheet → Sheet) → (Sheet → Sheet) → Sheet → Type 0
 Agrees l f f' s = part_of_sheet l (f s) ≡ f' (part_of_sheet l s)
 
 chain_agrees : (l : LaneOf) → IsLane l → (v grains : ℕ) (s : Sheet) → Agrees l (with_chain v grains) (with_chain v (grains_in l grains)) s
@@ -67,7 +67,7 @@ placed_agrees l i target m k held s =
     ∙ ap (λ (t : Slot). insert (parts l s.slots) (k + 1) (new t.chain (part l false held))) (sym (slot_parts l i s.slots k)))
 
 -- at the place that is found
-found_agrees : (l : LaneOf) (f f' : ℕ → Sheet → Sheet) → ((k : ℕ) (s : Sheet) → Agrees l (f k) (f' k) s) → (o o' : Option ℕ) (s : Sheet) → o' ≡ o → part_of_sheet l (at_place f o s) ≡ at_place f' o' (part_of_sheet l s)
+pub found_agrees : (l : LaneOf) (f f' : ℕ → Sheet → Sheet) → ((k : ℕ) (s : Sheet) → Agrees l (f k) (f' k) s) → (o o' : Option ℕ) (s : Sheet) → o' ≡ o → part_of_sheet l (at_place f o s) ≡ at_place f' o' (part_of_sheet l s)
 found_agrees l f f' agrees o o' s e = at_found o ∙ ap (λ z. at_place f' z (part_of_sheet l s)) (sym e)
   where
     at_found : (o : Option ℕ) → part_of_sheet l (at_place f o s) ≡ at_place f' o (part_of_sheet l s)
@@ -88,12 +88,12 @@ pair_agrees l i s p =
     (sym (part_replicate l i false (volume_grains s.slots p.target.0) false) ∙ ap (λ n. replicate n false) (sym (grains_parts l i s.slots p.target.0)))
 
 -- one after the other
-fold_agrees : {X : Type 0} → (l : LaneOf) (f : Sheet → X → Sheet) → ((s : Sheet) (x : X) → part_of_sheet l (f s x) ≡ f (part_of_sheet l s) x) → (s : Sheet) (xs : List X) → part_of_sheet l (fold f s xs) ≡ fold f (part_of_sheet l s) xs
-fold_agrees l f agrees s [] = refl
-fold_agrees l f agrees s (x ∷ xs) = fold_agrees l f agrees (f s x) xs ∙ ap (λ z. fold f z xs) (agrees s x)
+pub fold_agrees : {X : Type 0} → (l : LaneOf) (f f' : Sheet → X → Sheet) → ((s : Sheet) (x : X) → part_of_sheet l (f s x) ≡ f' (part_of_sheet l s) x) → (s : Sheet) (xs : List X) → part_of_sheet l (fold f s xs) ≡ fold f' (part_of_sheet l s) xs
+fold_agrees l f f' agrees s [] = refl
+fold_agrees l f f' agrees s (x ∷ xs) = fold_agrees l f f' agrees (f s x) xs ∙ ap (λ z. fold f' z xs) (agrees s x)
 
 pub triggered_agrees : (l : LaneOf) → IsLane l → (pairs : List Pair) (s : Sheet) → Agrees l (triggered pairs) (triggered pairs) s
-triggered_agrees l i pairs s = fold_agrees l started_empty (pair_agrees l i) s pairs
+triggered_agrees l i pairs s = fold_agrees l started_empty started_empty (pair_agrees l i) s pairs
 
 retired_agrees : (l : LaneOf) → IsLane l → (k : ℕ) (s : Sheet) → Agrees l (retired_at k) (retired_at k) s
 retired_agrees l i k s =
@@ -148,7 +148,7 @@ step_agrees l i s (Retire m) = found_agrees l retired_at retired_at (retired_agr
 step_agrees l i s (Detach m) = found_agrees l detached_at detached_at (detached_agrees l i) _ _ s (mapping_parts l i s.slots m.0)
 step_agrees l i s (Split m) = found_agrees l split_at split_at (split_agrees l i) _ _ s (mapping_parts l i s.slots m.0)
 step_agrees l i s (Force m dependents) =
-    fold_agrees l forced_map (forced_map_agrees l i) (forced_map s m) dependents ∙ ap (λ z. fold forced_map z dependents) (forced_map_agrees l i s m)
+    fold_agrees l forced_map forced_map (forced_map_agrees l i) (forced_map s m) dependents ∙ ap (λ z. fold forced_map z dependents) (forced_map_agrees l i s m)
 step_agrees l i s (Drop slot) = found_agrees l without without (without_agrees l) _ _ s (birth_parts l i s.slots slot.0)
 step_agrees l i s (Forget m) = refl
 step_agrees l i s (NoteCut m source target) = refl

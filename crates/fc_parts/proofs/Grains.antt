@@ -150,7 +150,7 @@ torn_away l i v number Now s other = all_unseen l _ (taken_away l i v number oth
 torn_away l i v number Under s other = all_unseen l _ (lost_away l i v number other) s.births s.slots
 
 -- so is a number that is the same by way of the lane of all grains
-away_same : (l : LaneOf) (x number : ℕ) → x ≡ number → number % l.lanes ≢ l.lane → place_of (all_grains l.grain) x % l.lanes ≢ l.lane
+pub away_same : (l : LaneOf) (x number : ℕ) → x ≡ number → number % l.lanes ≢ l.lane → place_of (all_grains l.grain) x % l.lanes ≢ l.lane
 away_same l x number e other q = other (sym (ap (λ z. z % l.lanes) (all_place l.grain x ∙ e)) ∙ q)
 
 moves_away : (l : LaneOf) → IsLane l → (number : ℕ) → number % l.lanes ≢ l.lane → (s : Sheet) (moves : List Move) → MovesAt number moves → part_of_sheet l (fold (sheet_move (all_grains l.grain)) s moves) ≡ part_of_sheet l s

@@ -10,6 +10,7 @@ use Rattle.fc_legal.specs.Whole.{Whole, lanes, lane_of_grain, lane_at, part_at, 
 use Rattle.fc_rules.specs.LaneRight.{IsRightInLane, done_write}
 use Rattle.fc_parts.specs.Law.{IsAt}
 use Rattle.fc_parts.proofs.Accesses.{access, plain_is}
+use Rattle.fc_parts.proofs.RowsStaying.{rows_stay}
 use Rattle.fc_parts.proofs.Soundness.{entry_sound}
 use Rattle.fc_parts.proofs.Staying.{entry_stay, books_stay, firsts_stay, plain_stay}
 
@@ -41,4 +42,5 @@ stands grain decisions w number entry before at right =
         calls = length-set w.calls (lane_of_grain w number) _ ∙ (before.each_lane.calls ∙ sym same);
       };
       firsts = firsts_stay w.books.sheet next.books.sheet s before.firsts;
+      rows = rows_stay all w.books.tables w.rows entry before.rows;
     }

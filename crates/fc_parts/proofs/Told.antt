@@ -1,25 +1,33 @@
 -- What a lane is told of events, beside what the lane of all grains is told.
-use Rattle.std.proofs.Common.{◌≡◌, ℕ, ◌^◌, ◌<◌, Bool, List, [], ◌∷◌, length, get_or, fold, All, refl, sym, ap, ap₂, subst, ◌∙◌, arith}
+use Rattle.std.proofs.Common.{◌≡◌, ℕ, ◌^◌, ◌<◌, Bool, false, Option, Some, None, List, [], ◌∷◌, length, get_or, find, fold, option_map, All, refl, sym, ap, ap₂, subst, ◌∙◌, arith}
 use Rattle.std.proofs.lemmas.List.{get_or-map, length-map}
+use Rattle.std.proofs.lemmas.List.Elements.{All-map}
+use Rattle.std.specs.Option.{unwrap_or, ForSome}
 use Rattle.fc_base.specs.Pools.{Pool, of_kind, pool_without}
 use Rattle.fc_base.specs.Sheet.{Sheet}
-use Rattle.fc_base.specs.SheetFits.{FitsEvent, FitsEvents}
+use Rattle.fc_base.specs.SheetFits.{FitsEvent}
 use Rattle.fc_base.specs.SheetStep.{sheet_step}
 use Rattle.fc_base.specs.declared.decision.LaneEvent.{LaneEvent}
-use Rattle.fc_base.specs.declared.decision.LaneEvent.TheVariants.{Make}
+use Rattle.fc_base.specs.declared.decision.LaneEvent.TheVariants.{Make, Remove, Trigger}
 use Rattle.fc_base.specs.declared.volume.Change.{Change}
-use Rattle.fc_books.specs.After.{after_event, after_table_change, pools_after, after_all}
+use Rattle.fc_base.specs.declared.request.Pair.{Pair}
+use Rattle.fc_books.specs.After.{begun, after_event, after_table_change, pools_after, after_all}
 use Rattle.fc_books.specs.Books.{Books}
 use Rattle.fc_entry.specs.Picture.{Picture}
-use Rattle.fc_legal.specs.Lawful.{HasDisks, HaveDisks}
-use Rattle.fc_legal.specs.Whole.{Whole, part_of_sheet, part_of_picture, all_grains, lane_at, part_at, pool_at, volumes_told}
+use Rattle.fc_changed.specs.Row.{Row, is_of, row_names, restart_in}
+use Rattle.fc_follow.specs.Following.{Followed, rows_event, restarts, told_with, followed_event, IsOfPair, FitsRows, FitsFollowed}
+use Rattle.fc_legal.specs.Lawful.{HasDisks, HaveDisks, FitAsOne}
+use Rattle.fc_legal.specs.Whole.{Whole, part_of_sheet, part_of_picture, part_of_row, part_of_rows, all_grains, lane_at, part_at, pool_at, volumes_told}
 use Rattle.fc_pick.specs.declared.work.WorkFlags.{WorkFlags}
-use Rattle.fc_rules.specs.LaneFits.{HasDisk, FitsLane}
+use Rattle.fc_rules.specs.LaneFits.{HasDisk}
 use Rattle.fc_rules.specs.LaneTold.{LaneOf, LaneVolume, LaneTold, grains_in, picture_event, volumes_event, flags_event, pool_event, told_event}
 use Rattle.fc_parts.proofs.Numbers.{IsLane, all_in}
 use Rattle.fc_parts.proofs.Events.{step_agrees}
+use Rattle.fc_parts.proofs.Beginning.{ArePartsOf, all_begun}
 use Rattle.fc_parts.proofs.Fitting.{fits_event}
 use Rattle.fc_parts.proofs.Pictures.{picture_agrees}
+use Rattle.fc_parts.proofs.Noting.{rows_agree}
+use Rattle.fc_parts.proofs.Rows.{find_part, restart_part}
 
 -- ---- all that is told, by its fields
 
@@ -55,9 +63,38 @@ follows_event l i big small e f =
       flags = ap (λ (z : List WorkFlags). flags_event z e) f.flags;
     }
 
-pub follows_all : (l : LaneOf) → IsLane l → (events : List LaneEvent) (big small : LaneTold) → Follows l big small → Follows l (fold (told_event (all_grains l.grain)) big events) (fold (told_event l) small events)
+-- new slots of a trigger hold restart sets
+follows_with : (l : LaneOf) → IsLane l → (whole some : ℕ → List Bool) → ArePartsOf l whole some → (big small : LaneTold) (e : LaneEvent) → Follows l big small →
+    Follows l (told_with whole (all_grains l.grain) big e) (told_with some l small e)
+follows_with l i whole some are big small (Trigger pairs) f =
+    let after = follows_event l i big small (Trigger pairs) f in
+    record {
+      sheet = ap (λ (s : Sheet). fold (begun some) s pairs) after.sheet ∙ sym (all_begun l i whole some are (told_event (all_grains l.grain) big (Trigger pairs)).sheet pairs);
+      picture = after.picture;
+      volumes = after.volumes;
+      flags = after.flags;
+    }
+follows_with l i whole some are big small e f = follows_event l i big small e f
+
+-- The rows are the lane's part of those of all grains.
+pub record FollowsRows (l : LaneOf) (big small : Followed) : Type 0 where
+  pub told : Follows l big.told small.told
+  pub rows : small.rows ≡ part_of_rows l big.rows
+
+restarts_part : (l : LaneOf) → IsLane l → (big small : Followed) → FollowsRows l big small → ArePartsOf l (restarts big.rows) (restarts small.rows)
+restarts_part l i big small f m = ap (restart_in m) f.rows ∙ restart_part l i m big.rows
+
+follows_one : (l : LaneOf) → IsLane l → (big small : Followed) (e : LaneEvent) → FollowsRows l big small → FollowsRows l (followed_event (all_grains l.grain) big e) (followed_event l small e)
+follows_one l i big small e f =
+    record {
+      told = follows_with l i (restarts big.rows) (restarts small.rows) (restarts_part l i big small f) big.told small.told e f.told;
+      rows = ap₂ (λ (s : Sheet) (rows : List Row). rows_event s.slots rows e) f.told.sheet f.rows ∙ sym (rows_agree l i big.told.sheet.slots big.rows e);
+    }
+
+pub follows_all : (l : LaneOf) → IsLane l → (events : List LaneEvent) (big small : Followed) → FollowsRows l big small →
+    FollowsRows l (fold (followed_event (all_grains l.grain)) big events) (fold (followed_event l) small events)
 follows_all l i [] big small f = f
-follows_all l i (e ∷ es) big small f = follows_all l i es (told_event (all_grains l.grain) big e) (told_event l small e) (follows_event l i big small e f)
+follows_all l i (e ∷ es) big small f = follows_all l i es (followed_event (all_grains l.grain) big e) (followed_event l small e) (follows_one l i big small e f)
 
 -- ---- disks
 
@@ -69,16 +106,36 @@ pools_left : (pools : List Pool) (e : LaneEvent) → length (pools_after pools e
 pools_left pools (Make volume grains kind) = length-map pools (pool_without kind)
 pools_left pools e = refl
 
-pub pool_all : (l : LaneOf) (events : List LaneEvent) (small : LaneTold) (pools : List Pool) → small.pool ≡ pool_at pools l.lane → l.lane < length pools →
-    (fold (told_event l) small events).pool ≡ pool_at (fold pools_after pools events) l.lane
+-- what an event does but for the chains doesn't ask for restart sets
+volumes_with : (sets : ℕ → List Bool) (l : LaneOf) (told : LaneTold) (e : LaneEvent) → (told_with sets l told e).volumes ≡ volumes_event told.volumes e
+volumes_with sets l told (Trigger pairs) = refl
+volumes_with sets l told e = refl
+
+pool_with : (sets : ℕ → List Bool) (l : LaneOf) (told : LaneTold) (e : LaneEvent) → (told_with sets l told e).pool ≡ pool_event told.pool e
+pool_with sets l told (Trigger pairs) = refl
+pool_with sets l told e = refl
+
+counts_with : (sets : ℕ → List Bool) (l : LaneOf) (told : LaneTold) (e : LaneEvent) → ((told_with sets l told e).faults ≡ told.faults) × ((told_with sets l told e).calls ≡ told.calls)
+counts_with sets l told (Trigger pairs) = (refl, refl)
+counts_with sets l told e = (refl, refl)
+
+pool_one : (l : LaneOf) (small : Followed) (pools : List Pool) (e : LaneEvent) → small.told.pool ≡ pool_at pools l.lane → l.lane < length pools →
+    (followed_event l small e).told.pool ≡ pool_at (pools_after pools e) l.lane
+pool_one l small pools e pool lt = pool_with (restarts small.rows) l small.told e ∙ (ap (λ z. pool_event z e) pool ∙ pool_agrees pools l.lane e lt)
+
+pub pool_all : (l : LaneOf) (events : List LaneEvent) (small : Followed) (pools : List Pool) → small.told.pool ≡ pool_at pools l.lane → l.lane < length pools →
+    (fold (followed_event l) small events).told.pool ≡ pool_at (fold pools_after pools events) l.lane
 pool_all l [] small pools e lt = e
 pool_all l (event ∷ events) small pools e lt =
     let n : length (pools_after pools event) ≡ length pools = pools_left pools event in
-    pool_all l events (told_event l small event) (pools_after pools event) (ap (λ z. pool_event z event) e ∙ pool_agrees pools l.lane event lt) (omega arith)
+    pool_all l events (followed_event l small event) (pools_after pools event) (pool_one l small pools event e lt) (omega arith)
 
-pub faults_all : (l : LaneOf) (events : List LaneEvent) (small : LaneTold) → ((fold (told_event l) small events).faults ≡ small.faults) × ((fold (told_event l) small events).calls ≡ small.calls)
+pub faults_all : (l : LaneOf) (events : List LaneEvent) (small : Followed) →
+    ((fold (followed_event l) small events).told.faults ≡ small.told.faults) × ((fold (followed_event l) small events).told.calls ≡ small.told.calls)
 faults_all l [] small = (refl, refl)
-faults_all l (e ∷ es) small = faults_all l es (told_event l small e)
+faults_all l (e ∷ es) small =
+    let rest = faults_all l es (followed_event l small e) in
+    let one = counts_with (restarts small.rows) l small.told e in (rest.0 ∙ one.0, rest.1 ∙ one.1)
 
 has_disk : (k : ℕ) (pools : List Pool) (big small : LaneTold) (e : LaneEvent) → HasDisks pools big.volumes e → small.volumes ≡ big.volumes → small.pool ≡ pool_at pools k → k < length pools → HasDisk small e
 has_disk k pools big small (Make volume grains kind) d v p lt = (
@@ -89,17 +146,29 @@ has_disk k pools big small e d v p lt = tt
 
 -- ---- all events fit
 
-pub fits_lane : (l : LaneOf) → IsLane l → (events : List LaneEvent) (big small : LaneTold) (pools : List Pool) → Follows l big small → FitsEvents (λ g. g) big.sheet events →
-    HaveDisks pools big.volumes events → small.pool ≡ pool_at pools l.lane → l.lane < length pools → FitsLane l small events
-fits_lane l i [] big small pools f fits disks pool lt = subst (λ (s : Sheet). s.births < 2 ^ 64) (sym f.sheet) fits
-fits_lane l i (e ∷ es) big small pools f fits disks pool lt =
+pair_part : (l : LaneOf) (p : Pair) (o : Option Row) → ForSome o (IsOfPair p) → ForSome (option_map (part_of_row l) o) (IsOfPair p)
+pair_part l p None fits row e = absurd (let never : None ≡ Some row = e in cc)
+pair_part l p (Some whole) fits row e = subst (IsOfPair p) (ap (λ (o : Option Row). unwrap_or o row) e) (fits whole refl)
+
+fits_rows : (l : LaneOf) (rows : List Row) (e : LaneEvent) → FitsRows rows e → FitsRows (part_of_rows l rows) e
+fits_rows l rows (Trigger pairs) fits =
+    λ k d lt. subst (λ (o : Option Row). ForSome o (IsOfPair (get_or pairs k d))) (sym (find_part l (get_or pairs k d).map.0 rows))
+    (pair_part l (get_or pairs k d) (find (is_of (get_or pairs k d).map.0) rows) (fits k d lt))
+fits_rows l rows (Remove volume) fits = All-map (λ (row : Row). row_names row volume.0 ≡ false) (part_of_row l) rows fits
+fits_rows l rows e fits = tt
+
+pub fits_all : (l : LaneOf) → IsLane l → (events : List LaneEvent) (big small : Followed) (pools : List Pool) → FollowsRows l big small → FitAsOne l.grain big events →
+    HaveDisks pools big.told.volumes events → small.told.pool ≡ pool_at pools l.lane → l.lane < length pools → FitsFollowed l small events
+fits_all l i [] big small pools f fits disks pool lt = subst (λ (s : Sheet). s.births < 2 ^ 64) (sym f.told.sheet) fits
+fits_all l i (e ∷ es) big small pools f fits disks pool lt =
     let n : length (pools_after pools e) ≡ length pools = pools_left pools e in (
-      subst (λ (s : Sheet). FitsEvent s e) (sym f.sheet) (fits_event l i big.sheet e fits.0),
-      has_disk l.lane pools big small e disks.0 f.volumes pool lt,
-      fits_lane l i es (told_event (all_grains l.grain) big e) (told_event l small e) (pools_after pools e) (follows_event l i big small e f)
-          (subst (λ (local : ℕ → ℕ). FitsEvents (λ g. g) (sheet_step local big.sheet e) es) (sym (all_in l.grain)) fits.1)
-          disks.1
-          (ap (λ z. pool_event z e) pool ∙ pool_agrees pools l.lane e lt)
+      subst (λ (s : Sheet). FitsEvent s e) (sym f.told.sheet) (fits_event l i big.told.sheet e fits.0),
+      has_disk l.lane pools big.told small.told e disks.0 f.told.volumes pool lt,
+      subst (λ (rows : List Row). FitsRows rows e) (sym f.rows) (fits_rows l big.rows e fits.1),
+      fits_all l i es (followed_event (all_grains l.grain) big e) (followed_event l small e) (pools_after pools e) (follows_one l i big small e f)
+          fits.2
+          (subst (λ (volumes : List LaneVolume). HaveDisks (pools_after pools e) volumes es) (sym (volumes_with (restarts big.rows) (all_grains l.grain) big.told e)) disks.1)
+          (pool_one l small pools e pool lt)
           (omega arith),
     )
 

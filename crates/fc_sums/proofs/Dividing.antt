@@ -38,7 +38,7 @@ held_at_part l i slots (Some k) = ap (λ (z : Slot). z.held) (slot_parts l i slo
 pub held_part : (l : LaneOf) → IsLane l → (slots : List Slot) (m : ℕ) → held_of (parts l slots) m ≡ part l false (held_of slots m)
 held_part l i slots m = ap (held_at (parts l slots)) (mapping_parts l i slots m) ∙ held_at_part l i slots (mapping_place slots m)
 
-count_part : (l : LaneOf) → IsLane l → (bits : List Bool) → count_true (part l false bits) ≡ count_below (λ p. get_or bits (number_at l p) false) (grains_in l (length bits))
+pub count_part : (l : LaneOf) → IsLane l → (bits : List Bool) → count_true (part l false bits) ≡ count_below (λ p. get_or bits (number_at l p) false) (grains_in l (length bits))
 count_part l i bits =
     counted (part l false bits)
     ∙ (ap (count_below (λ g. get_or (part l false bits) g false)) (part_length l false bits)

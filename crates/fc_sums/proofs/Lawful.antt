@@ -3,6 +3,7 @@ use Rattle.fc_sums.specs.Law.{SumLaw}
 use Rattle.fc_sums.proofs.Depending.{depends_law}
 use Rattle.fc_sums.proofs.Dividing.{parts_law, counts_law}
 use Rattle.fc_sums.proofs.Joining.{joined_parts}
+use Rattle.fc_sums.proofs.JoiningRows.{restarts_sum, joined_rows_parts}
 use Rattle.fc_sums.proofs.Reading.{reads_law}
 use Rattle.fc_sums.proofs.Pooling.{least_by_lanes}
 use Rattle.fc_sums.proofs.Slots.{slots_law}
@@ -18,5 +19,7 @@ sum_law_holds = record {
   unneeded = unneeded_law;
   has_name = has_name_contains;
   joins = joined_parts;
+  restarts = restarts_sum;
+  rows_join = joined_rows_parts;
   pools = least_by_lanes;
 }

@@ -5,5 +5,6 @@ pub mod Reading
 pub mod Depending
 pub mod Unneeded
 pub mod Joining
+pub mod JoiningRows
 pub mod Pooling
 pub mod Lawful
