@@ -13,12 +13,10 @@ use Rattle.fc_base.specs.declared.size.GrainSize.{GrainSize}
 use Rattle.fc_books.specs.After.{sheet_after, flags_after, pools_after, after_event}
 use Rattle.fc_books.specs.Books.{Books}
 use Rattle.fc_entry.specs.Picture.{Picture}
-use Rattle.fc_legal.specs.Steps.{no_restarts}
 use Rattle.fc_legal.specs.Whole.{all_grains}
 use Rattle.fc_pick.specs.declared.work.WorkFlags.{WorkFlags}
 use Rattle.fc_rules.specs.LaneTold.{LaneTold, grains_in, picture_event, volumes_event, flags_event, pool_event, told_event}
 use Rattle.fc_sheets.proofs.Lawful.{event_sound}
-use Rattle.fc_decided.proofs.Restarting.{sheet_after-plain}
 
 -- ---- lists of events
 
@@ -96,7 +94,8 @@ flags_alike flags (e ∷ es) = ap (λ (rows : List WorkFlags). fold flags_event 
 
 -- ---- the books
 
-after_apart : (restarts : ℕ → List Bool) (b : Books) (events : List LaneEvent) →
+-- The books after events.
+pub after_apart : (restarts : ℕ → List Bool) (b : Books) (events : List LaneEvent) →
     fold (after_event restarts) b events ≡ record b {
       sheet = fold (sheet_after restarts) b.sheet events;
       flags = fold flags_after b.flags events;
@@ -104,23 +103,6 @@ after_apart : (restarts : ℕ → List Bool) (b : Books) (events : List LaneEven
     }
 after_apart restarts b [] = refl
 after_apart restarts b (e ∷ es) = after_apart restarts (after_event restarts b e) es
-
-sheet_alike : (s : Sheet) (events : List LaneEvent) → FitsEvents (λ grains. grains) s events → fold (sheet_after no_restarts) s events ≡ sheet_through s events
-sheet_alike s [] fits = refl
-sheet_alike s (e ∷ es) fits =
-    ap (λ (t : Sheet). fold (sheet_after no_restarts) t es) (sheet_after-plain s e fits.0)
-    ∙ sheet_alike (sheet_step (λ grains. grains) s e) es fits.1
-
--- The books after events that fit.
-pub after_through : (b : Books) (events : List LaneEvent) → FitsEvents (λ grains. grains) b.sheet events →
-    fold (after_event no_restarts) b events ≡ record b {
-      sheet = sheet_through b.sheet events;
-      flags = fold flags_after b.flags events;
-      pools = fold pools_after b.pools events;
-    }
-after_through b events fits =
-    after_apart no_restarts b events
-    ∙ ap (λ (s : Sheet). record b { sheet = s; flags = fold flags_after b.flags events; pools = fold pools_after b.pools events }) (sheet_alike b.sheet events fits)
 
 same_count : (pools : List Pool) (e : LaneEvent) → length (pools_after pools e) ≡ length pools
 same_count pools (Make volume grains kind) = length-map pools (pool_without kind)

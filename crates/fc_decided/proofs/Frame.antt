@@ -1,32 +1,45 @@
 -- From what a deed does to a lawful decision: work follows, and all that nobody touched still stands.
+use Rattle.std.specs.Prelude.{Bool, Option, Some, None, IsSome, ◌==◌}
+use Rattle.std.proofs.lemmas.Bool.{eqb-true}
+use Rattle.fc_changed.specs.Row.{Row}
 use Rattle.std.proofs.Common.{◌≡◌, ℕ, ◌+◌, ◌*◌, ◌<◌, ◌≤◌, ◌^◌, List, [], ◌∷◌, ◌++◌, fold, refl, sym, ap, subst, ◌∙◌, arith, Contains}
 use Rattle.std.proofs.lemmas.List.Elements.{All-contains, All-weaker}
 use Rattle.fc_base.specs.declared.request.Effect.{Effect}
 use Rattle.fc_base.specs.declared.volume.Change.TheVariants.{AddVolume, RemoveVolume, AddMapping, RemoveMapping, SetMapping, AddGroup, RemoveGroup}
 use Rattle.fc_decided.proofs.Firsts.{firsts_through}
-use Rattle.fc_decided.proofs.Lists.{all_from}
+use Rattle.fc_decided.proofs.Lists.{all_from, find_from}
+use Rattle.fc_decided.proofs.Following.{told_alone, sheet_led, led_fuller, all_still_picture, begun_led, led_rows, fit_begun}
+use Rattle.fc_decided.proofs.Fuller.{AreFuller, fuller_sound, fuller_firsts, fuller_agree}
+use Rattle.fc_decided.proofs.Keeping.{Keeps, keeps_more}
+use Rattle.fc_decided.proofs.Noting.{HaveSizes}
+use Rattle.fc_decided.proofs.Sparing.{AreSparing, AreStill, Begins, sparing, starting, still_sparing, begins_still, triggers_first}
 use Rattle.fc_base.specs.Pools.{Pool}
-use Rattle.fc_base.specs.Sheet.{Sheet}
+use Rattle.fc_base.specs.Sheet.{Sheet, volume_grains, grains_at}
 use Rattle.fc_base.specs.SheetFits.{FitsEvents}
+use Rattle.fc_base.specs.SheetStep.{triggered}
+use Rattle.fc_base.specs.Tables.{Tables, volume_with}
 use Rattle.fc_base.specs.declared.decision.Decision.{Decision}
 use Rattle.fc_base.specs.declared.decision.LaneEvent.{LaneEvent}
+use Rattle.fc_base.specs.declared.decision.LaneEvent.TheVariants.{Trigger}
 use Rattle.fc_base.specs.declared.request.Reply.{Reply}
 use Rattle.fc_base.specs.declared.size.GrainSize.{GrainSize}
 use Rattle.fc_base.specs.declared.volume.Change.{Change}
 use Rattle.fc_base.specs.declared.volume.Mapping.{Mapping}
-use Rattle.fc_books.specs.After.{flags_after, pools_after, after_table_change, after_deed, after_all}
+use Rattle.fc_base.specs.declared.volume.Volume.{Volume}
+use Rattle.fc_books.specs.After.{sheet_after, flags_after, pools_after, after_table_change, after_deed, after_all}
 use Rattle.fc_books.specs.Books.{Books, Deed}
 use Rattle.fc_books.specs.Deciding.{with_work}
-use Rattle.fc_books.specs.Sound.{AreTables, Agree}
+use Rattle.fc_books.specs.Sound.{AreTables, Agree, HasGrains}
 use Rattle.fc_entry.specs.PlainStep.{after_effects}
 use Rattle.fc_legal.specs.Lawful.{HaveDisks, FitChanges, IsLawful}
 use Rattle.fc_legal.specs.Stands.{ArePlain, AreFew, Stands}
-use Rattle.fc_legal.specs.Steps.{no_restarts}
-use Rattle.fc_legal.specs.Whole.{Whole, all_grains, volumes_told, as_one}
+use Rattle.fc_follow.specs.Following.{followed_event, restarts}
+use Rattle.fc_legal.specs.Steps.{rows_after}
+use Rattle.fc_legal.specs.Whole.{Whole, all_grains, volumes_told, as_one, all_followed}
 use Rattle.fc_pick.specs.declared.work.WorkFlags.{WorkFlags}
 use Rattle.fc_rules.specs.LaneFits.{WorksFirst}
-use Rattle.fc_rules.specs.LaneTold.{LaneVolume, told_event, volumes_event}
-use Rattle.fc_decided.proofs.Apart.{fold_append, sheet_through, picture_through, picture_append, told_apart, no_pool, flags_alike, after_through, pools_count, fits_append, fits_end, fits_sound}
+use Rattle.fc_rules.specs.LaneTold.{LaneVolume, LaneTold, picture_event, volumes_event}
+use Rattle.fc_decided.proofs.Apart.{fold_append, sheet_through, picture_through, picture_append, told_apart, no_pool, flags_alike, after_apart, pools_count, fits_append, fits_end, fits_sound}
 use Rattle.fc_decided.proofs.Working.{AreNoted, noted_through, AllWorkBelow, NoWork, none_below, AreGone, works_of, works_last, works_first, works_sheet, works_picture, works_volumes, works_fit, works_disks, works_below, worked, worked_among, works_are}
 
 -- The tables after changes, with the ids that come next; and with the chains after events.
@@ -77,7 +90,25 @@ tabled_pools : (b : Books) (changes : List Change) → (tabled b changes).pools 
 tabled_pools b [] = refl
 tabled_pools b (c ∷ cs) = tabled_pools (after_table_change b c) cs ∙ pools_same b c
 
--- The books after changes and events.
+-- The books after changes and events, where the new slots of a trigger hold restart sets.
+abbrev pub led_books : (ℕ → List Bool) → Books → List LaneEvent → List Change → Books
+led_books restarts b events changes =
+    record (tabled b changes) {
+      sheet = fold (sheet_after restarts) b.sheet events;
+      flags = fold flags_after b.flags events;
+      pools = fold pools_after b.pools events;
+    }
+
+pub all_leave : (restarts : ℕ → List Bool) (b : Books) (events : List LaneEvent) (changes : List Change) → after_all restarts events changes b ≡ led_books restarts b events changes
+all_leave restarts b events changes =
+    after_apart restarts (tabled b changes) events
+    ∙ (λ k. record (tabled b changes) {
+      sheet = fold (sheet_after restarts) (tabled_sheet b changes k) events;
+      flags = fold flags_after (tabled_flags b changes k) events;
+      pools = fold pools_after (tabled_pools b changes k) events;
+    })
+
+-- And where nothing is triggered.
 abbrev pub left_books : Books → List LaneEvent → List Change → Books
 left_books b events changes =
     record (tabled b changes) {
@@ -86,14 +117,10 @@ left_books b events changes =
       pools = fold pools_after b.pools events;
     }
 
-pub all_leave : (b : Books) (events : List LaneEvent) (changes : List Change) → FitsEvents (λ grains. grains) b.sheet events → after_all no_restarts events changes b ≡ left_books b events changes
-all_leave b events changes fits =
-    after_through (tabled b changes) events (subst (λ (s : Sheet). FitsEvents (λ grains. grains) s events) (sym (tabled_sheet b changes)) fits)
-    ∙ (λ k. record (tabled b changes) {
-      sheet = sheet_through (tabled_sheet b changes k) events;
-      flags = fold flags_after (tabled_flags b changes k) events;
-      pools = fold pools_after (tabled_pools b changes k) events;
-    })
+pub all_leave_plain : (t : Tables) (restarts : ℕ → List Bool) (b : Books) (events : List LaneEvent) (changes : List Change) → AreSparing t events → after_all restarts events changes b ≡ left_books b events changes
+all_leave_plain t restarts b events changes all =
+    all_leave restarts b events changes
+    ∙ ap (λ (s : Sheet). record (tabled b changes) { sheet = s; flags = fold flags_after b.flags events; pools = fold pools_after b.pools events }) (sheet_led t restarts b.sheet events all)
 
 -- ---- what there is to show
 
@@ -111,17 +138,35 @@ pub record Does (grain : GrainSize) (decisions : ℕ) (w : Whole) (effects : Lis
   pub agree : Agree (sheeted w.books events changes)
   pub few : AreFew (sheeted w.books events changes) (decisions + 1)
   pub plain : ArePlain (tabled w.books changes).tables.volumes (after_effects grain w.picture effects)
+  pub begins : Begins w.books.tables events
+  pub keeps : Keeps w.books.tables (tabled w.books changes).tables events
 
-abbrev whole_left : GrainSize → Whole → List Effect → Books → Whole
-whole_left grain w effects b = record w { books = b; picture = after_effects grain w.picture effects }
+abbrev whole_left : GrainSize → Whole → List Effect → List Row → Books → Whole
+whole_left grain w effects rows b = record w { books = b; picture = after_effects grain w.picture effects; rows = rows }
 
 still_noted : (n m : ℕ) (rows : List WorkFlags) → n ≤ m → AreNoted n rows → AreNoted m rows
 still_noted n m rows le noted = (noted.0, All-weaker (λ (row : WorkFlags). row.map.0 < n) (λ (row : WorkFlags). row.map.0 < m) (λ row lt. omega arith) rows noted.1)
 
-stands_after : (grain : GrainSize) (decisions : ℕ) (w : Whole) (effects : List Effect) (events : List LaneEvent) (changes : List Change) → Stands decisions w → Does grain decisions w effects events changes → Stands (decisions + 1) (whole_left grain w effects (left_books w.books events changes))
+-- Every mapping's target has as many grains in the chains as in the table.
+have_sizes : (b : Books) → Agree b → HaveSizes b.tables b.sheet.slots
+have_sizes b a m found = by (volume_with b.tables m.target) refl (a.mappings m found).target
+  where
+    by : (o : Option Volume) → volume_with b.tables m.target ≡ o → IsSome o → HasGrains o (volume_grains b.sheet.slots m.target.0)
+    by None e some = absurd cc
+    by (Some v) e some =
+        let f = find_from (λ (x : Volume). m.target.0 == x.id.0) b.tables.volumes v e in
+        let l = a.volumes v f.0 in
+        sym (ap (volume_grains b.sheet.slots) (eqb-true m.target.0 v.id.0 f.1) ∙ ap (grains_at b.sheet.slots) l.1 ∙ l.2)
+
+stands_after : (grain : GrainSize) (decisions : ℕ) (w : Whole) (effects : List Effect) (events : List LaneEvent) (changes : List Change) → Stands decisions w → Does grain decisions w effects events changes →
+    Stands (decisions + 1) (whole_left grain w effects (rows_after grain w events) (led_books (restarts w.rows) w.books events changes))
 stands_after grain decisions w effects events changes st does =
     let n = (tabled w.books changes).next_mapping in
     let noted = noted_through n w.books.flags events does.below (still_noted w.books.next_mapping n w.books.flags does.later (st.sound.flags.rising, st.sound.flags.given)) in
+    let s = sheet_through w.books.sheet events in
+    let t = fold (sheet_after (restarts w.rows)) w.books.sheet events in
+    let f : AreFuller s t = led_fuller w.books.tables (restarts w.rows) w.books.sheet events does.begins does.fits in
+    let agree = fuller_agree s t f (tabled w.books changes) does.agree in
     record {
       sound = record {
         tables = record {
@@ -133,21 +178,21 @@ stands_after grain decisions w effects events changes st does =
           new_group = does.tables.new_group;
         };
         flags = record { rising = noted.0; given = noted.1 };
-        sheet = fits_sound (λ grains. grains) w.books.sheet events st.sound.sheet does.fits;
+        sheet = fuller_sound s t f (fits_sound (λ grains. grains) w.books.sheet events st.sound.sheet does.fits);
         agree = record {
-          volumes = does.agree.volumes;
-          slots = does.agree.slots;
-          owned = does.agree.owned;
-          mappings = does.agree.mappings;
-          by_state = does.agree.by_state;
-          one_busy = does.agree.one_busy;
+          volumes = agree.volumes;
+          slots = agree.slots;
+          owned = agree.owned;
+          mappings = agree.mappings;
+          by_state = agree.by_state;
+          one_busy = agree.one_busy;
         };
       };
       few = record {
         volumes = does.few.volumes;
         mappings = does.few.mappings;
         groups = does.few.groups;
-        births = does.few.births;
+        births = subst (λ (k : ℕ). k ≤ (decisions + 1) * 2 ^ 20) (sym f.births) does.few.births;
         at_once = does.few.at_once;
         volumes_at_once = does.few.volumes_at_once;
       };
@@ -157,33 +202,80 @@ stands_after grain decisions w effects events changes st does =
         pools = pools_count w.books.pools events ∙ st.each_lane.pools;
         calls = st.each_lane.calls;
       };
-      firsts = firsts_through w.books.sheet events st.sound.sheet does.fits st.firsts;
+      firsts = fuller_firsts s t f (firsts_through w.books.sheet events st.sound.sheet does.fits st.firsts);
+      rows = led_rows w.books.tables (tabled w.books changes).tables (rows_after grain w events) events does.keeps
+          (begun_led w.books.tables grain (all_followed w) events does.begins (have_sizes w.books st.sound.agree) st.rows);
     }
 
-told_after : (grain : GrainSize) (decisions : ℕ) (w : Whole) (effects : List Effect) (events : List LaneEvent) (changes : List Change) → Does grain decisions w effects events changes →
-    fold (told_event (all_grains grain)) (as_one w) events ≡ as_one (whole_left grain w effects (left_books w.books events changes))
-told_after grain decisions w effects events changes does =
-    told_apart grain (as_one w) events
+-- What the lane of all grains is told.
+pub record IsTold (grain : GrainSize) (w : Whole) (effects : List Effect) (events : List LaneEvent) (after : Tables) : Type 0 where
+  pub picture : picture_through grain w.books.sheet w.picture events ≡ after_effects grain w.picture effects
+  pub volumes : fold volumes_event (volumes_told w.books.tables) events ≡ volumes_told after
+
+abbrev told_left : GrainSize → Whole → List Effect → List LaneEvent → Tables → LaneTold
+told_left grain w effects events after =
+    record {
+      sheet = fold (sheet_after (restarts w.rows)) w.books.sheet events;
+      picture = after_effects grain w.picture effects;
+      volumes = volumes_told after;
+      flags = fold flags_after w.books.flags events;
+      pool = record { flat = 0; thin = 0 };
+      faults = 0;
+      calls = 0;
+    }
+
+told_led : (grain : GrainSize) (w : Whole) (effects : List Effect) (events : List LaneEvent) (after : Tables) → Begins w.books.tables events → IsTold grain w effects events after →
+    (fold (followed_event (all_grains grain)) (all_followed w) events).told ≡ told_left grain w effects events after
+told_led grain w effects es after (sparing all) does =
+    told_alone w.books.tables grain (all_followed w) es all
+    ∙ told_apart grain (as_one w) es
     ∙ (λ k. record {
-      sheet = sheet_through w.books.sheet events;
+      sheet = sym (sheet_led w.books.tables (restarts w.rows) w.books.sheet es all) k;
       picture = does.picture k;
       volumes = does.volumes k;
-      flags = flags_alike w.books.flags events k;
-      pool = no_pool events k;
+      flags = flags_alike w.books.flags es k;
+      pool = no_pool es k;
+      faults = 0;
+      calls = 0;
+    })
+told_led grain w effects events after (starting {pairs} {rest} are still) does =
+    let t = w.books.tables in
+    let f = followed_event (all_grains grain) (all_followed w) (Trigger pairs) in
+    let next = sheet_after (restarts w.rows) w.books.sheet (Trigger pairs) in
+    let all = still_sparing t rest still in
+    let copied = picture_event (all_grains grain) w.books.sheet.slots w.picture (Trigger pairs) in
+    let picture : picture_through grain next copied rest ≡ after_effects grain w.picture effects =
+    all_still_picture grain next copied rest still ∙ sym (all_still_picture grain (triggered pairs w.books.sheet) copied rest still) ∙ does.picture in
+    told_alone t grain f rest all
+    ∙ told_apart grain f.told rest
+    ∙ (λ k. record {
+      sheet = sym (sheet_led t (restarts w.rows) next rest all) k;
+      picture = picture k;
+      volumes = does.volumes k;
+      flags = flags_alike w.books.flags rest k;
+      pool = no_pool rest k;
       faults = 0;
       calls = 0;
     })
 
+told_after : (grain : GrainSize) (decisions : ℕ) (w : Whole) (effects : List Effect) (events : List LaneEvent) (changes : List Change) → Does grain decisions w effects events changes →
+    fold (followed_event (all_grains grain)) (all_followed w) events ≡ all_followed (whole_left grain w effects (rows_after grain w events) (led_books (restarts w.rows) w.books events changes))
+told_after grain decisions w effects events changes does =
+    ap (λ (told : LaneTold). record { told = told; rows = rows_after grain w events })
+    (told_led grain w effects events (tabled w.books changes).tables does.begins (record { picture = does.picture; volumes = does.volumes }))
+
 pub lawful_from : (grain : GrainSize) (decisions : ℕ) (w : Whole) (d : Decision) → Stands decisions w → Does grain decisions w d.effects d.events d.changes → IsLawful grain decisions w d
 lawful_from grain decisions w d st does =
-    let leaves = all_leave w.books d.events d.changes does.fits in
+    let leaves = all_leave (restarts w.rows) w.books d.events d.changes in
+    let rows = rows_after grain w d.events in
     record {
-      events = does.fits;
+      events = fit_begun w.books.tables grain (all_followed w) d.events st.sound.tables.mappings does.begins (have_sizes w.books st.sound.agree) does.fits st.rows;
       disks = does.disks;
       works = does.works;
+      triggers = triggers_first w.books.tables d.events does.begins;
       changes = does.fit_changes;
-      told = told_after grain decisions w d.effects d.events d.changes does ∙ ap (λ (b : Books). as_one (whole_left grain w d.effects b)) (sym leaves);
-      stands = subst (λ (b : Books). Stands (decisions + 1) (whole_left grain w d.effects b)) (sym leaves) (stands_after grain decisions w d.effects d.events d.changes st does);
+      told = told_after grain decisions w d.effects d.events d.changes does ∙ ap (λ (b : Books). all_followed (whole_left grain w d.effects rows b)) (sym leaves);
+      stands = subst (λ (b : Books). Stands (decisions + 1) (whole_left grain w d.effects rows b)) (sym leaves) (stands_after grain decisions w d.effects d.events d.changes st does);
     }
 
 -- ---- deeds
@@ -202,6 +294,8 @@ pub record Suits (grain : GrainSize) (decisions : ℕ) (w : Whole) (deed : Deed)
   pub agree : Agree (sheeted w.books deed.events deed.changes)
   pub few : AreFew (sheeted w.books deed.events deed.changes) (decisions + 1)
   pub plain : ArePlain (tabled w.books deed.changes).tables.volumes (after_effects grain w.picture deed.effects)
+  pub begins : Begins w.books.tables deed.events
+  pub keeps : Keeps w.books.tables (tabled w.books deed.changes).tables deed.events
 
 -- A deed alone, as a settling.
 pub does_alone : (grain : GrainSize) (decisions : ℕ) (w : Whole) (deed : Deed) → Suits grain decisions w deed → Does grain decisions w deed.effects deed.events deed.changes
@@ -219,7 +313,13 @@ does_alone grain decisions w deed s =
       agree = s.agree;
       few = s.few;
       plain = s.plain;
+      begins = s.begins;
+      keeps = s.keeps;
     }
+
+works_still : (b : Books) (ms : List Mapping) → AreStill (works_of b ms)
+works_still b [] = tt
+works_still b (m ∷ ms) = (tt, works_still b ms)
 
 disks_append : (b : Books) (ms : List Mapping) (pools : List Pool) (volumes : List LaneVolume) (es : List LaneEvent) → HaveDisks pools volumes es → HaveDisks pools volumes (es ++ works_of b ms)
 disks_append b ms pools volumes [] have = works_disks b ms pools volumes
@@ -253,18 +353,20 @@ does_with_work grain decisions w deed c ms s among =
       agree = subst (λ (t : Sheet). Agree (record (tabled w.books deed.changes) { sheet = t })) (sym same) s.agree;
       few = subst (λ (t : Sheet). AreFew (record (tabled w.books deed.changes) { sheet = t }) (decisions + 1)) (sym same) s.few;
       plain = s.plain;
+      begins = begins_still w.books.tables deed.events works s.begins (works_still c ms);
+      keeps = keeps_more w.books.tables (tabled w.books deed.changes).tables deed.events works s.keeps;
     }
 
-mappings_left : (b : Books) (deed : Deed) → FitsEvents (λ grains. grains) b.sheet deed.events → (after_deed no_restarts b deed).tables.mappings ≡ (tabled b deed.changes).tables.mappings
-mappings_left b deed fits = ap (λ (x : Books). x.tables.mappings) (all_leave b deed.events deed.changes fits)
+mappings_left : (restarts : ℕ → List Bool) (b : Books) (deed : Deed) → (after_deed restarts b deed).tables.mappings ≡ (tabled b deed.changes).tables.mappings
+mappings_left restarts b deed = ap (λ (x : Books). x.tables.mappings) (all_leave restarts b deed.events deed.changes)
 
 -- A command's decision, with whatever reply.
-pub lawful_with_work : (grain : GrainSize) (decisions : ℕ) (w : Whole) (reply : Reply) (deed : Deed) → Stands decisions w → Suits grain decisions w deed → IsLawful grain decisions w (with_work no_restarts w.books reply deed)
+pub lawful_with_work : (grain : GrainSize) (decisions : ℕ) (w : Whole) (reply : Reply) (deed : Deed) → Stands decisions w → Suits grain decisions w deed → IsLawful grain decisions w (with_work (restarts w.rows) w.books reply deed)
 lawful_with_work grain decisions w reply deed st s =
-    let c = after_deed no_restarts w.books deed in
+    let c = after_deed (restarts w.rows) w.books deed in
     let among : (m : Mapping) → Contains (worked c) m → Contains (tabled w.books deed.changes).tables.mappings m =
-    λ m found. subst (λ (maps : List Mapping). Contains maps m) (mappings_left w.books deed s.fits) (worked_among c m found) in
-    lawful_from grain decisions w (with_work no_restarts w.books reply deed) st
+    λ m found. subst (λ (maps : List Mapping). Contains maps m) (mappings_left (restarts w.rows) w.books deed) (worked_among c m found) in
+    lawful_from grain decisions w (with_work (restarts w.rows) w.books reply deed) st
     (subst (λ (works : List LaneEvent). Does grain decisions w deed.effects (deed.events ++ works) deed.changes) (sym (works_are c)) (does_with_work grain decisions w deed c (worked c) s among))
 
 pub lawful_alone : (grain : GrainSize) (decisions : ℕ) (w : Whole) (reply : Reply) (deed : Deed) → Stands decisions w → Suits grain decisions w deed →
@@ -286,6 +388,8 @@ pub record SuitsAs (grain : GrainSize) (decisions : ℕ) (w : Whole) (deed : Dee
   pub agree : Agree (record after { sheet = sheet_through w.books.sheet deed.events })
   pub few : AreFew (record after { sheet = sheet_through w.books.sheet deed.events }) (decisions + 1)
   pub plain : ArePlain after.tables.volumes (after_effects grain w.picture deed.effects)
+  pub begins : Begins w.books.tables deed.events
+  pub keeps : Keeps w.books.tables after.tables deed.events
 
 suits_same : (grain : GrainSize) (decisions : ℕ) (w : Whole) (deed : Deed) → SuitsAs grain decisions w deed (tabled w.books deed.changes) → Suits grain decisions w deed
 suits_same grain decisions w deed s =
@@ -302,6 +406,8 @@ suits_same grain decisions w deed s =
       agree = s.agree;
       few = s.few;
       plain = s.plain;
+      begins = s.begins;
+      keeps = s.keeps;
     }
 
 pub suits_as : (grain : GrainSize) (decisions : ℕ) (w : Whole) (deed : Deed) (after : Books) → tabled w.books deed.changes ≡ after → SuitsAs grain decisions w deed after → Suits grain decisions w deed

@@ -4,12 +4,17 @@ pub mod Splitting
 pub mod Free
 pub mod Cutting
 pub mod Counting
+pub mod Keeping
+pub mod Sparing
+pub mod Fuller
 pub mod Restarting
 pub mod Lists
 pub mod Ordered
 pub mod Unrefused
 pub mod Apart
 pub mod Working
+pub mod Noting
+pub mod Following
 pub mod Frame
 pub mod Rows
 pub mod TableSteps

@@ -1,13 +1,18 @@
--- Without restart sets the new slots of a trigger hold nothing, so the chains after it are as the step of chains says.
-use Rattle.std.proofs.Common.{◌≡◌, ℕ, zero, suc, ◌+◌, ◌<◌, Bool, true, false, cond, List, [], ◌∷◌, length, fold, take, set, replicate, Option, Some, None, refl, sym, ap, subst, ◌∙◌, arith, Contains}
+-- The new slots of a trigger hold nothing until restart sets are put in, so that the chains after it are only fuller than
+-- those that the step of chains leaves.
+use Rattle.std.proofs.Common.{◌≡◌, ◌≢◌, ℕ, zero, suc, ◌+◌, ◌<◌, Bool, true, false, cond, List, [], ◌∷◌, ◌++◌, length, fold, set, replicate, Option, Some, None, refl, sym, ap, subst, ◌∙◌, arith, Contains, ◌⊎◌, inl, inr, length-set, length-append, get_or-set_same, get_or-set_other}
+use Rattle.std.proofs.lemmas.Bool.{cases_eq}
+use Rattle.std.proofs.lemmas.List.{length-take-le, length-replicate}
 use Rattle.fc_base.specs.declared.decision.LaneEvent.{LaneEvent}
 use Rattle.fc_base.specs.declared.decision.LaneEvent.TheVariants.{Make, Remove, Trigger, Retire, Detach, Split, Force, Drop, Forget, NoteCut, Access, Work, Arm}
 use Rattle.fc_base.specs.declared.request.Pair.{Pair}
-use Rattle.fc_base.specs.Sheet.{Slot, Sheet, slot_at, live_place, mapping_place, volume_grains}
-use Rattle.fc_base.specs.SheetFits.{FitsEvent}
+use Rattle.fc_base.specs.Sheet.{Slot, Sheet, slot_at, no_slot, live_place, mapping_place, volume_grains}
+use Rattle.fc_base.specs.SheetFits.{FitsTrigger}
 use Rattle.fc_base.specs.SheetStep.{sheet_step, at_place, without, aged, left_place, has_after, placed, started_empty, triggered}
+use Rattle.fc_base.specs.Tables.{Tables}
 use Rattle.fc_books.specs.After.{of_length, holding, begun, sheet_after}
-use Rattle.fc_legal.specs.Steps.{no_restarts}
+use Rattle.fc_decided.proofs.Fuller.{IsFuller, AreFuller, all_same}
+use Rattle.fc_decided.proofs.Sparing.{Spares}
 use Rattle.fc_sheets.proofs.Places.{remove_is, insert_is, insert_here, all_of_big, all_of_small}
 use Rattle.fc_sheets.proofs.Aging.{aged_is, length_full}
 use Rattle.fc_sheets.proofs.Finding.{live_place_at, mapping_place_at, mapping_place_none}
@@ -61,51 +66,83 @@ blank_triggered : (pairs more : List Pair) (s : Sheet) → AreBlank pairs s.slot
 blank_triggered pairs [] s blank = blank
 blank_triggered pairs (p ∷ ps) s blank = blank_triggered pairs ps (started_empty s p) (blank_started pairs p s blank)
 
--- ---- nothing is put in
+-- ---- what is put in
 
-take_whole : (n : ℕ) → take n (replicate n false) ≡ replicate n false
-take_whole zero = refl
-take_whole (suc n) = ap (λ xs. false ∷ xs) (take_whole n)
+take_sized : (n : ℕ) (set : List Bool) → length (of_length n set) ≡ n
+take_sized n held = length-take-le n (held ++ replicate n false) (let a = length-append held (replicate n false) in let b = length-replicate n false in omega (arith, a, b))
 
-put_back : (slots : List Slot) (k : ℕ) (t : Slot) → k < length slots → t ≡ slot_at slots k → set slots k t ≡ slots
-put_back [] k t kl e = absurd (omega arith)
-put_back (x ∷ xs) zero t kl e = ap (λ z. z ∷ xs) e
-put_back (x ∷ xs) (suc k) t kl e = ap (λ zs. x ∷ zs) (put_back xs k t (omega arith) e)
+-- The slot at a place holds a set.
+pub filled : List Bool → Slot → Slot
+filled held t = record t { held = of_length (length t.held) held }
 
-holding_none : (k : ℕ) (s : Sheet) → k < length s.slots → (slot_at s.slots k).held ≡ replicate (length (slot_at s.slots k).held) false → holding [] k s ≡ s
-holding_none k s kl blank =
-    let slot = slot_at s.slots k in
-    let same : (record slot { held = of_length (length slot.held) [] }) ≡ slot =
-    ap (λ h. record slot { held = h }) (take_whole (length slot.held) ∙ sym blank) in
-    ap (λ z. record s { slots = z }) (put_back s.slots k _ kl same)
+filled_at : (held : List Bool) (slots : List Slot) (k j : ℕ) → k < length slots → (slot_at (set slots k (filled held (slot_at slots k))) j ≡ slot_at slots j) ⊎ ((j ≡ k) × (slot_at (set slots k (filled held (slot_at slots k))) j ≡ filled held (slot_at slots j)))
+filled_at held slots k j lt =
+    elim (cases_eq j k) [
+      | inl e ↦ inr (e, (let P : ℕ → Type 0 = λ z. slot_at (set slots k (filled held (slot_at slots k))) z ≡ filled held (slot_at slots z) in subst P (sym e) (get_or-set_same slots k (filled held (slot_at slots k)) no_slot lt)))
+      | inr ne ↦ inl (let ne' : j ≢ k = ne in rw get_or-set_other refl)
+    ]
 
-begun_none : (pairs : List Pair) (p : Pair) (s : Sheet) → Contains pairs p → AreBlank pairs s.slots → begun no_restarts s p ≡ s
-begun_none pairs p s found blank = by (mapping_place s.slots p.map.0) (λ k e. mapping_place_at s.slots p.map.0 k e)
+-- a slot that was blank, and one that became fuller already
+refilled : (old new : Slot) (held : List Bool) (m : ℕ) → old.mapping ≡ Some m → old.held ≡ replicate (length old.held) false → IsFuller old new → IsFuller old (filled held new)
+unfolding filled
+refilled old new held m mine blank f =
+    record {
+      birth = f.birth;
+      chain = f.chain;
+      volume = f.volume;
+      is_live = f.is_live;
+      mapping = f.mapping;
+      size = take_sized (length new.held) held ∙ f.size;
+      held = inr (m, mine, blank);
+    }
+
+holding_fuller : (pairs : List Pair) (p : Pair) (held : List Bool) (k : ℕ) (s t : Sheet) → Contains pairs p → AreBlank pairs s.slots → AreFuller s t → k < length t.slots → (slot_at t.slots k).mapping ≡ Some p.map.0 → AreFuller s (holding held k t)
+unfolding filled
+holding_fuller pairs p held k s t found blank f kl mine =
+    let c = f.count in
+    let was : (slot_at s.slots k).mapping ≡ Some p.map.0 = sym (f.each k).mapping ∙ mine in
+    let put : IsFuller (slot_at s.slots k) (filled held (slot_at t.slots k)) = refilled (slot_at s.slots k) (slot_at t.slots k) held p.map.0 was (blank k (omega (arith, kl, c)) p found was) (f.each k) in
+    record {
+      births = f.births;
+      count = length-set t.slots k (filled held (slot_at t.slots k)) ∙ f.count;
+      each = λ j. elim (filled_at held t.slots k j kl) [
+        | inl same ↦ subst (IsFuller (slot_at s.slots j)) (sym same) (f.each j)
+        | inr here ↦ subst (IsFuller (slot_at s.slots j)) (sym here.1) (subst (λ (i : ℕ). IsFuller (slot_at s.slots i) (filled held (slot_at t.slots i))) (sym here.0) put)
+      ];
+    }
+
+begun_fuller : (restarts : ℕ → List Bool) (pairs : List Pair) (p : Pair) (s t : Sheet) → Contains pairs p → AreBlank pairs s.slots → AreFuller s t → AreFuller s (begun restarts t p)
+begun_fuller restarts pairs p s t found blank f = by (mapping_place t.slots p.map.0) (λ k e. mapping_place_at t.slots p.map.0 k e)
   where
-    by : (o : Option ℕ) → ((k : ℕ) → o ≡ Some k → (k < length s.slots) × ((slot_at s.slots k).mapping ≡ Some p.map.0)) → at_place (holding []) o s ≡ s
-    by None at = refl
-    by (Some k) at = let f = at k refl in holding_none k s f.0 (blank k f.0 p found f.1)
+    by : (o : Option ℕ) → ((k : ℕ) → o ≡ Some k → (k < length t.slots) × ((slot_at t.slots k).mapping ≡ Some p.map.0)) → AreFuller s (at_place (holding (restarts p.map.0)) o t)
+    by None at = f
+    by (Some k) at = let a = at k refl in holding_fuller pairs p (restarts p.map.0) k s t found blank f a.0 a.1
 
-begun_all : (pairs more : List Pair) (s : Sheet) → ((p : Pair) → Contains more p → Contains pairs p) → AreBlank pairs s.slots → fold (begun no_restarts) s more ≡ s
-begun_all pairs [] s among blank = refl
-begun_all pairs (p ∷ ps) s among blank =
-    ap (λ z. fold (begun no_restarts) z ps) (begun_none pairs p s (among p (0, omega arith, refl)) blank)
-    ∙ begun_all pairs ps s (λ q found. among q (suc found.0, omega (arith, found.1), found.2)) blank
+all_begun : (restarts : ℕ → List Bool) (pairs more : List Pair) (s t : Sheet) → ((p : Pair) → Contains more p → Contains pairs p) → AreBlank pairs s.slots → AreFuller s t → AreFuller s (fold (begun restarts) t more)
+all_begun restarts pairs [] s t among blank f = f
+all_begun restarts pairs (p ∷ ps) s t among blank f =
+    all_begun restarts pairs ps s (begun restarts t p) (λ q found. among q (suc found.0, omega (arith, found.1), found.2)) blank
+    (begun_fuller restarts pairs p s t (among p (0, omega arith, refl)) blank f)
 
--- The chains of all grains after an event that fits, while no restart set is known.
-pub sheet_after-plain : (s : Sheet) (e : LaneEvent) → FitsEvent s e → sheet_after no_restarts s e ≡ sheet_step (λ grains. grains) s e
-sheet_after-plain s (Trigger pairs) f =
-    begun_all pairs pairs (triggered pairs s) (λ p found. found)
+-- The chains of all grains after a trigger that fits are fuller than those where the new slots hold nothing.
+pub triggered_fuller : (restarts : ℕ → List Bool) (s : Sheet) (pairs : List Pair) → FitsTrigger s pairs → AreFuller (triggered pairs s) (sheet_after restarts s (Trigger pairs))
+triggered_fuller restarts s pairs f =
+    all_begun restarts pairs pairs (triggered pairs s) (triggered pairs s) (λ p found. found)
     (blank_triggered pairs pairs s (λ k kl p found e. absurd (mapping_place_none s.slots p.map.0 (f.each p found).no_slot_yet k kl e)))
-sheet_after-plain s (Make volume grains kind) f = refl
-sheet_after-plain s (Remove volume) f = refl
-sheet_after-plain s (Retire m) f = refl
-sheet_after-plain s (Detach m) f = refl
-sheet_after-plain s (Split m) f = refl
-sheet_after-plain s (Force m dependents) f = refl
-sheet_after-plain s (Drop slot) f = refl
-sheet_after-plain s (Forget m) f = refl
-sheet_after-plain s (NoteCut m source target) f = refl
-sheet_after-plain s (Access volume access) f = refl
-sheet_after-plain s (Work m copies cleans) f = refl
-sheet_after-plain s (Arm volume grain calls) f = refl
+    (all_same (triggered pairs s))
+
+-- After any other event they are as the step of chains says.
+pub sheet_after-plain : (t : Tables) (restarts : ℕ → List Bool) (s : Sheet) (e : LaneEvent) → Spares t e → sheet_after restarts s e ≡ sheet_step (λ grains. grains) s e
+sheet_after-plain t restarts s (Trigger pairs) f = absurd f
+sheet_after-plain t restarts s (Make volume grains kind) f = refl
+sheet_after-plain t restarts s (Remove volume) f = refl
+sheet_after-plain t restarts s (Retire m) f = refl
+sheet_after-plain t restarts s (Detach m) f = refl
+sheet_after-plain t restarts s (Split m) f = refl
+sheet_after-plain t restarts s (Force m dependents) f = refl
+sheet_after-plain t restarts s (Drop slot) f = refl
+sheet_after-plain t restarts s (Forget m) f = refl
+sheet_after-plain t restarts s (NoteCut m source target) f = refl
+sheet_after-plain t restarts s (Access volume access) f = refl
+sheet_after-plain t restarts s (Work m copies cleans) f = refl
+sheet_after-plain t restarts s (Arm volume grain calls) f = refl

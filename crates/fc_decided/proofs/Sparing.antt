@@ -1,0 +1,103 @@
+-- Events that change what is kept of incremental mappings in known ways: a trigger comes first, and a volume that goes is no
+-- mapping's.
+use Rattle.std.proofs.Common.{◌≡◌, ◌≢◌, ℕ, List, [], ◌∷◌, ◌++◌, refl, sym, ap, subst, Contains, All, inl, inr}
+use Rattle.std.proofs.lemmas.List.Elements.{All-nil, All-cons}
+use Rattle.fc_base.specs.Tables.{Tables}
+use Rattle.fc_base.specs.declared.decision.LaneEvent.{LaneEvent}
+use Rattle.fc_base.specs.declared.decision.LaneEvent.TheVariants.{Make, Remove, Trigger, Retire, Detach, Split, Force, Drop, Forget, NoteCut, Access, Work, Arm}
+use Rattle.fc_base.specs.declared.request.Pair.{Pair}
+use Rattle.fc_base.specs.declared.volume.Mapping.{Mapping}
+use Rattle.fc_books.specs.Starting.{pair_of}
+use Rattle.fc_follow.specs.Following.{IsNoTrigger, TriggersFirst}
+
+-- It triggers nothing, and no mapping of the table names a volume that goes.
+abbrev pub Spares : Tables → LaneEvent → Type 0
+Spares t (Trigger pairs) = ⊥
+Spares t (Remove volume) = (m : Mapping) → Contains t.mappings m → (m.source.0 ≢ volume.0) × (m.target.0 ≢ volume.0)
+Spares t event = Unit {0}
+
+abbrev pub AreSparing : Tables → List LaneEvent → Type 0
+AreSparing t [] = Unit {0}
+AreSparing t (e ∷ es) = Spares t e × AreSparing t es
+
+pub sparing_append : (t : Tables) (es fs : List LaneEvent) → AreSparing t es → AreSparing t fs → AreSparing t (es ++ fs)
+sparing_append t [] fs first second = second
+sparing_append t (e ∷ es) fs first second = (first.0, sparing_append t es fs first.1 second)
+
+-- ---- still
+
+-- It changes neither chains nor rows.
+abbrev pub IsStill : LaneEvent → Type 0
+IsStill (Access volume access) = Unit {0}
+IsStill (Work m copies cleans) = Unit {0}
+IsStill event = ⊥
+
+abbrev pub AreStill : List LaneEvent → Type 0
+AreStill [] = Unit {0}
+AreStill (e ∷ es) = IsStill e × AreStill es
+
+pub still_append : (es fs : List LaneEvent) → AreStill es → AreStill fs → AreStill (es ++ fs)
+still_append [] fs first second = second
+still_append (e ∷ es) fs first second = (first.0, still_append es fs first.1 second)
+
+still_spares : (t : Tables) (e : LaneEvent) → IsStill e → Spares t e
+still_spares t (Access volume access) still = tt
+still_spares t (Work m copies cleans) still = tt
+still_spares t (Make volume grains kind) still = absurd still
+still_spares t (Remove volume) still = absurd still
+still_spares t (Trigger pairs) still = absurd still
+still_spares t (Retire m) still = absurd still
+still_spares t (Detach m) still = absurd still
+still_spares t (Split m) still = absurd still
+still_spares t (Force m dependents) still = absurd still
+still_spares t (Drop slot) still = absurd still
+still_spares t (Forget m) still = absurd still
+still_spares t (NoteCut m source target) still = absurd still
+still_spares t (Arm volume grain calls) still = absurd still
+
+pub still_sparing : (t : Tables) (es : List LaneEvent) → AreStill es → AreSparing t es
+still_sparing t [] still = tt
+still_sparing t (e ∷ es) still = (still_spares t e still.0, still_sparing t es still.1)
+
+-- ---- a trigger comes first
+
+-- Each pair is a mapping of the table.
+abbrev pub ArePairs : Tables → List Pair → Type 0
+ArePairs t pairs = (p : Pair) → Contains pairs p → (m : Mapping) × Contains t.mappings m × (pair_of m ≡ p)
+
+pub data Begins (t : Tables) : List LaneEvent → Type 0 where
+  sparing : {es : List LaneEvent} → AreSparing t es → Begins t es
+  starting : {pairs : List Pair} → {rest : List LaneEvent} → ArePairs t pairs → AreStill rest → Begins t (Trigger pairs ∷ rest)
+
+pub begins_still : (t : Tables) (es fs : List LaneEvent) → Begins t es → AreStill fs → Begins t (es ++ fs)
+begins_still t es fs (sparing all) last = sparing (sparing_append t es fs all (still_sparing t fs last))
+begins_still t es fs (starting {pairs} {rest} are still) last = starting are (still_append rest fs still last)
+
+-- ---- no trigger comes later
+
+pub no_trigger : (t : Tables) (e : LaneEvent) → Spares t e → IsNoTrigger e
+no_trigger t (Trigger pairs) none = absurd none
+no_trigger t (Make volume grains kind) none = tt
+no_trigger t (Remove volume) none = tt
+no_trigger t (Retire m) none = tt
+no_trigger t (Detach m) none = tt
+no_trigger t (Split m) none = tt
+no_trigger t (Force m dependents) none = tt
+no_trigger t (Drop slot) none = tt
+no_trigger t (Forget m) none = tt
+no_trigger t (NoteCut m source target) none = tt
+no_trigger t (Access volume access) none = tt
+no_trigger t (Work m copies cleans) none = tt
+no_trigger t (Arm volume grain calls) none = tt
+
+no_triggers : (t : Tables) (es : List LaneEvent) → AreSparing t es → All IsNoTrigger es
+no_triggers t [] all = All-nil IsNoTrigger
+no_triggers t (e ∷ es) all = All-cons IsNoTrigger e es (no_trigger t e all.0) (no_triggers t es all.1)
+
+sparing_first : (t : Tables) (es : List LaneEvent) → AreSparing t es → TriggersFirst es
+sparing_first t [] all = tt
+sparing_first t (e ∷ es) all = no_triggers t es all.1
+
+pub triggers_first : (t : Tables) (es : List LaneEvent) → Begins t es → TriggersFirst es
+triggers_first t es (sparing all) = sparing_first t es all
+triggers_first t es (starting {pairs} {rest} are still) = no_triggers t rest (still_sparing t rest still)
