@@ -1,8 +1,9 @@
 -- How the rows are found: what holds again after a row came, went or was told.
-use Rattle.std.proofs.Common.{◌≡◌, ◌≢◌, ℕ, zero, suc, ◌+◌, ◌<◌, ◌≤◌, Bool, true, false, not, ◌||◌, cond, List, [], ◌∷◌, ◌++◌, map, length, get_or, set, take, drop, remove, filter, find, nat_eq, position, Option, Some, None, is_some, refl, ap, sym, subst, ◌∙◌, arith, All, AllPairs}
+use Rattle.std.proofs.Common.{◌≡◌, ◌≢◌, ℕ, zero, suc, ◌+◌, ◌-◌, ◌<◌, ◌≤◌, min, Bool, true, false, not, ◌||◌, cond, List, [], ◌∷◌, ◌++◌, map, length, get_or, set, take, drop, remove, filter, find, nat_eq, position, Option, Some, None, is_some, refl, ap, sym, subst, ◌∙◌, arith, All, AllPairs}
 use Rattle.std.specs.List.{list_any}
-use Rattle.std.proofs.lemmas.List.{get_or-map, length-map, map-append, take-append-le, take_all, take-map, take-append-drop, length-take-le, length-drop, length-replicate, get_or-take, get_or-drop, get_or_default}
-use Rattle.std.proofs.lemmas.List.Elements.{All-tail, All-push, All-map, All-weaker, All-filter, filter_passes}
+use Rattle.std.proofs.lemmas.List.{get_or-map, length-map, map-append, take-append-le, take_all, take-map, take-append-drop, length-take-le, length-drop, length-replicate, length-take, take_min, get_or-take, get_or-drop, get_or_default}
+use Rattle.std.proofs.lemmas.List.Edits.{length-remove, remove-append_left}
+use Rattle.std.proofs.lemmas.List.Elements.{All-push, All-map, All-weaker, All-filter, filter_passes}
 use Rattle.std.proofs.lemmas.List.Quantifiers.{position-Some, all_pairs_push, all_pairs_remove}
 use Rattle.std.proofs.lemmas.Bool.Decides.{nat_tests}
 use Rattle.fc_diff.specs.declared.tracked.Event.{Event}
@@ -10,7 +11,7 @@ use Rattle.fc_diff.specs.State.{NewRow}
 use Rattle.fc_diff.specs.Index.{IsFound, Listing, named_by, is_listed, map_numbers, new_of, begun, begun_at}
 use Rattle.fc_changed.specs.Row.{Row, is_of}
 use Rattle.fc_diff.specs.Told.{row_after}
-use Rattle.fc_diff.proofs.Places.{find-found, find-missed, all_fail, any_found, position_nowhere}
+use Rattle.fc_diff.proofs.Places.{find-found, find-missed, all_fail, any_found, position_here, position_nowhere}
 use Rattle.fc_diff.proofs.Events.{same_map, same_source, same_target, same_size}
 
 equal : (a b : ℕ) → nat_eq a b ≡ true → a ≡ b
@@ -202,14 +203,47 @@ begun_is (r ∷ rows) (suc place) row new within is e = ap (λ rs. r ∷ rs) (be
 pub put_back : (rows new : List Row) (n : ℕ) → n ≡ length rows → length new ≡ length rows → take n (new ++ drop (length new) rows) ≡ new
 put_back rows new n e f = take-append-le n new (drop (length new) rows) (omega arith) ∙ take_all n new (omega arith)
 
--- ---- what holds of each row holds of the one that is found
-some_is : (x y : Row) → Some x ≡ Some y → x ≡ y
-some_is x y e = cc
+-- ---- the first so many rows
 
-pub found_among : (p : Row → Bool) (P : Row → Type 0) (rows : List Row) (row : Row) → All P rows → find p rows ≡ Some row → P row
-found_among p P [] row all e = cc
-found_among p P (r ∷ rows) row all e = by (p r) refl e (found_among p P rows row (All-tail P r rows all))
+pub first_ids : (ids : List ℕ) (rows : List Row) (n : ℕ) → ids ≡ map_numbers rows → take (length (take n rows)) ids ≡ map_numbers (take n rows)
+first_ids ids rows n e =
+    ap (λ k. take k ids) (length-take n rows ∙ ap (min n) (sym (length-map rows (λ (r : Row). r.map)) ∙ ap (λ xs. length xs) (sym e)))
+    ∙ (take_min n ids ∙ (ap (take n) e ∙ take-map (λ (r : Row). r.map) n rows))
+
+pairs_take : (rows : List Row) (n : ℕ) → AllPairs (λ x y. x.map ≢ y.map) rows → AllPairs (λ x y. x.map ≢ y.map) (take n rows)
+pairs_take rows n distinct i j d less within same =
+    let below : j < n = omega (arith, length-take n rows) in
+    distinct i j d less (omega (arith, length-take n rows))
+    (ap (λ (r : Row). r.map) (sym (get_or-take n rows i d (omega arith))) ∙ (same ∙ ap (λ (r : Row). r.map) (get_or-take n rows j d below)))
+
+pub place_in_all : (m : ℕ) (rows : List Row) (n place : ℕ) (d : Row) → position (is_of m) (take n rows) ≡ Some place → position (is_of m) rows ≡ Some place
+place_in_all m rows n place d found =
+    let s = position-Some (is_of m) (take n rows) place d found in
+    let below : place < n = omega (arith, length-take n rows, s.0) in
+    position_here (is_of m) rows place d (omega (arith, length-take n rows, s.0))
+    (λ k before. ap (is_of m) (sym (get_or-take n rows k d (omega arith))) ∙ s.2 k before)
+    (ap (is_of m) (sym (get_or-take n rows place d below)) ∙ s.1)
+
+-- a row of them goes
+pub forgot : (m : ℕ) (rows : List Row) (n place : ℕ) (d : Row) → AllPairs (λ x y. x.map ≢ y.map) rows → position (is_of m) (take n rows) ≡ Some place
+    → remove rows place ≡ filter (λ row. not (is_of m row)) (take n rows) ++ drop n rows
+forgot m rows n place d distinct found =
+    ap (λ xs. remove xs place) (sym (take-append-drop n rows))
+    ∙ (remove-append_left (take n rows) (drop n rows) place (position-Some (is_of m) (take n rows) place d found).0
+    ∙ ap (λ xs. xs ++ drop n rows) (sym (filter_found m (take n rows) place d found (pairs_take rows n distinct))))
+
+pub forgot_left : (m : ℕ) (rows : List Row) (n place : ℕ) (d : Row) → n ≤ length rows → AllPairs (λ x y. x.map ≢ y.map) rows → position (is_of m) (take n rows) ≡ Some place
+    → n - 1 ≡ length (filter (λ row. not (is_of m row)) (take n rows))
+forgot_left m rows n place d fits distinct found =
+    let gone : filter (λ row. not (is_of m row)) (take n rows) ≡ remove (take n rows) place = filter_found m (take n rows) place d found (pairs_take rows n distinct) in
+    let size = length-remove (take n rows) place (position-Some (is_of m) (take n rows) place d found).0 in
+    ap (λ k. k - 1) (sym (length-take-le n rows fits) ∙ sym size) ∙ (less_one (length (remove (take n rows) place)) ∙ ap (λ xs. length xs) (sym gone))
   where
-    by : (b : Bool) → p r ≡ b → cond b (Some r) (find p rows) ≡ Some row → (find p rows ≡ Some row → P row) → P row
-    by true here f rest = subst P (some_is r row f) (all 0 r (omega arith))
-    by false other f rest = rest f
+    less_one : (k : ℕ) → k + 1 - 1 ≡ k
+    less_one k = omega arith
+
+pub stayed : (m : ℕ) (rows : List Row) (n : ℕ) → position (is_of m) (take n rows) ≡ None → rows ≡ filter (λ row. not (is_of m row)) (take n rows) ++ drop n rows
+stayed m rows n missed = sym (take-append-drop n rows) ∙ ap (λ xs. xs ++ drop n rows) (sym (filter_missed m (take n rows) missed))
+
+pub stayed_left : (m : ℕ) (rows : List Row) (n : ℕ) → n ≤ length rows → position (is_of m) (take n rows) ≡ None → n ≡ length (filter (λ row. not (is_of m row)) (take n rows))
+stayed_left m rows n fits missed = sym (length-take-le n rows fits) ∙ ap (λ xs. length xs) (sym (filter_missed m (take n rows) missed))

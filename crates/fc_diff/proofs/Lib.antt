@@ -4,3 +4,7 @@ pub mod Naming
 pub mod Events
 pub mod Telling
 pub mod Found
+pub mod States
+pub mod Ends
+pub mod Notes
+pub mod Law
