@@ -4,6 +4,4 @@ pub mod Naming
 pub mod Events
 pub mod Telling
 pub mod Found
-pub mod Ends
-pub mod Law
-pub mod Examples
+pub mod States

@@ -1,11 +1,14 @@
 -- The first place in a list that passes a test.
-use Rattle.std.proofs.Common.{◌≡◌, ℕ, zero, suc, ◌+◌, ◌<◌, ◌≤◌, Bool, true, false, not, cond, List, [], ◌∷◌, map, length, get_or, find, position, slice_get, nat_lt, Option, Some, None, refl, ap, ◌∙◌, arith, if◌then◌else◌}
+use Rattle.std.proofs.Common.{◌≡◌, ℕ, zero, suc, ◌+◌, ◌<◌, ◌≤◌, Bool, true, false, not, cond, List, [], ◌∷◌, map, length, get_or, take, min, nat_eq, find, position, slice_get, nat_lt, Option, Some, None, refl, ap, sym, ◌∙◌, arith, if◌then◌else◌}
 use Rattle.std.specs.List.{position_or_len, prefix_len, list_any}
-use Rattle.std.proofs.lemmas.List.{length-map}
+use Rattle.std.proofs.lemmas.List.{length-map, length-take, get_or-take}
 use Rattle.std.proofs.lemmas.List.Folds.{find_at}
 use Rattle.std.proofs.lemmas.List.Quantifiers.{position-Some}
+use Rattle.std.proofs.lemmas.List.Sums.{position_or_len_is}
 use Rattle.std.proofs.lemmas.Option.{slice_get_past, slice_get-get_or}
 use Rattle.std.proofs.lemmas.Bool.Decides.{nat_tests}
+use Rattle.fc_changed.specs.Row.{Row, is_of}
+use Rattle.fc_diff.specs.Index.{map_numbers}
 
 prefix_len-map : {A B : Type 0} (test : B → Bool) (f : A → B) (xs : List A) → prefix_len test (map f xs) ≡ prefix_len (λ x. test (f x)) xs
 prefix_len-map test f [] = refl
@@ -54,3 +57,50 @@ any_found test [] none = refl
 any_found test (x ∷ xs) none =
     let parts = not_found (test x) x (find test xs) none in
     rw parts.0 (any_found test xs parts.1)
+
+-- ---- the place, by what passes and what doesn't
+
+less : (i n : ℕ) → i < n → nat_lt i n ≡ true
+less i n e = grind (arith, nat_tests, e)
+
+not_less : (n : ℕ) → nat_lt n n ≡ false
+not_less n = grind (arith, nat_tests)
+
+pub position_here : {X : Type 0} (test : X → Bool) (xs : List X) (i : ℕ) (d : X) → i < length xs → ((k : ℕ) → k < i → test (get_or xs k d) ≡ false) → test (get_or xs i d) ≡ true → position test xs ≡ Some i
+position_here test xs i d within before here =
+    let at : position_or_len test xs ≡ i = position_or_len_is test xs i d (omega arith) before (λ w. here) in
+    rw at (ap (λ b. cond b (Some i) None) (less i (length xs) within))
+
+pub position_nowhere : {X : Type 0} (test : X → Bool) (xs : List X) (d : X) → ((k : ℕ) → k < length xs → test (get_or xs k d) ≡ false) → position test xs ≡ None
+position_nowhere test xs d fails =
+    let at : position_or_len test xs ≡ length xs = position_or_len_is test xs (length xs) d (omega arith) fails (λ w. absurd (omega arith)) in
+    rw at (ap (λ b. cond b (Some (length xs)) None) (not_less (length xs)))
+
+-- ---- the row of a mapping, by numbers of which the first stand beside the rows
+module _ (m : ℕ) (ids : List ℕ) (rows : List Row) (beside : take (length rows) ids ≡ map_numbers rows) where
+  size : length (take (length rows) ids) ≡ length rows
+  size = ap (λ xs. length xs) beside ∙ length-map rows (λ (row : Row). row.map)
+
+  as_row : position (nat_eq m) (take (length rows) ids) ≡ position (is_of m) rows
+  as_row = ap (position (nat_eq m)) beside ∙ position-map (nat_eq m) (λ (row : Row). row.map) rows
+
+  pub place_among : (p : ℕ) → position (nat_eq m) ids ≡ Some p → p < length rows → position (is_of m) rows ≡ Some p
+  place_among p found within =
+      let s = position-Some (nat_eq m) ids p 0 found in
+      sym as_row ∙ position_here (nat_eq m) (take (length rows) ids) p 0 (omega (arith, size))
+      (λ k before. ap (nat_eq m) (get_or-take (length rows) ids k 0 (omega arith)) ∙ s.2 k before)
+      (ap (nat_eq m) (get_or-take (length rows) ids p 0 within) ∙ s.1)
+
+  pub place_behind : (p : ℕ) → position (nat_eq m) ids ≡ Some p → length rows ≤ p → position (is_of m) rows ≡ None
+  place_behind p found past =
+      let s = position-Some (nat_eq m) ids p 0 found in
+      sym as_row ∙ position_nowhere (nat_eq m) (take (length rows) ids) 0
+      (λ k within. let below : k < length rows = omega (arith, size) in
+      ap (nat_eq m) (get_or-take (length rows) ids k 0 below) ∙ s.2 k (omega arith))
+
+  pub place_nowhere : position (nat_eq m) ids ≡ None → position (is_of m) rows ≡ None
+  place_nowhere missed =
+      sym as_row ∙ position_nowhere (nat_eq m) (take (length rows) ids) 0
+      (λ k within. let below : k < length rows = omega (arith, size) in
+      let long : k < length ids = omega (arith, length-take (length rows) ids) in
+      ap (nat_eq m) (get_or-take (length rows) ids k 0 below) ∙ all_fail (nat_eq m) ids (find-missed (nat_eq m) ids missed) k 0 long)

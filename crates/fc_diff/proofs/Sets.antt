@@ -1,86 +1,11 @@
--- Restart sets: what stands beside the changed grains and the kept ones after each change.
-use Rattle.std.proofs.Common.{◌≡◌, ℕ, zero, suc, ◌<◌, Bool, true, false, not, ◌&&◌, List, [], ◌∷◌, length, set, replicate, get_or, refl, ap, sym, subst, ◌∙◌, arith}
-use Rattle.std.proofs.lemmas.List.{length-replicate, length-set, same_lists, get_or_default}
+-- Sets of grains that are made of a test.
+use Rattle.std.proofs.Common.{◌≡◌, ℕ, ◌<◌, Bool, true, false, ◌&&◌, ◌||◌, not, List, length, set, replicate, get_or, nat_eq, refl, ap, sym, ◌∙◌, arith}
+use Rattle.std.proofs.lemmas.List.{length-replicate, length-set, same_lists, get_or_default, get_or-replicate, get_or-set_same, get_or-set_other}
 use Rattle.std.proofs.lemmas.List.FromFn.{get_or-map-range_with_len, length-map-range_with_len}
-use Rattle.fc_bits.specs.Grains.{has, difference}
-use Rattle.fc_bits.proofs.Grains.{length-difference}
-use Rattle.fc_diff.specs.Index.{IsRestart}
-use Rattle.fc_diff.specs.Changed.{grains_with, was_from}
-use Rattle.fc_diff.specs.Row.{Row}
-use Rattle.fc_diff.specs.Table.{row_left}
-
-pub restart_length : (changed kept restart : List Bool) → IsRestart changed kept restart → length restart ≡ length kept
-restart_length changed kept restart is = ap (λ xs. length xs) is.is ∙ length-difference kept changed (sym is.same_length)
-
-and_false : (b : Bool) → (b && false) ≡ false
-and_false true = refl
-and_false false = refl
-
-and_true : (b : Bool) → (b && true) ≡ b
-and_true true = refl
-and_true false = refl
-
-minus_all : (kept : List Bool) (n : ℕ) → n ≡ length kept → difference kept (replicate n true) ≡ replicate n false
-minus_all [] zero e = refl
-minus_all [] (suc n) e = absurd (omega arith)
-minus_all (b ∷ kept) zero e = absurd (omega arith)
-minus_all (b ∷ kept) (suc n) e = λ k. and_false b k ∷ minus_all kept n (omega arith) k
-
-minus_none : (n : ℕ) (b : Bool) → difference (replicate n b) (replicate n false) ≡ replicate n b
-minus_none zero b = refl
-minus_none (suc n) b = λ k. and_true b k ∷ minus_none n b k
-
-pub minus_one : (kept changed : List Bool) (g : ℕ) → length changed ≡ length kept → difference kept (set changed g true) ≡ set (difference kept changed) g false
-minus_one [] [] g e = refl
-minus_one [] (c ∷ changed) g e = absurd (omega arith)
-minus_one (b ∷ kept) [] g e = absurd (omega arith)
-minus_one (b ∷ kept) (c ∷ changed) zero e = λ k. and_false b k ∷ difference kept changed
-minus_one (b ∷ kept) (c ∷ changed) (suc g) e = ap (λ xs. (b && not c) ∷ xs) (minus_one kept changed g (omega arith))
-
--- nothing is alike
-pub restart_none : (changed kept restart : List Bool) → IsRestart changed kept restart → (all none : List Bool) → all ≡ replicate (length changed) true → none ≡ replicate (length restart) false → IsRestart all kept none
-restart_none changed kept restart is all none e f = record {
-  same_length = ap (λ xs. length xs) e ∙ (length-replicate (length changed) true ∙ is.same_length);
-  is = f ∙ (ap (λ n. replicate n false) (restart_length changed kept restart is ∙ sym is.same_length)
-      ∙ (sym (minus_all kept (length changed) is.same_length) ∙ ap (difference kept) (sym e)));
-}
-
--- all is alike
-pub restart_all : (changed kept restart : List Bool) → IsRestart changed kept restart → (none all same : List Bool) → none ≡ replicate (length changed) false → all ≡ replicate (length kept) true → same ≡ replicate (length restart) true → IsRestart none all same
-restart_all changed kept restart is none all same e f h =
-    let n : length changed ≡ length kept = is.same_length in
-    let m : length restart ≡ length kept = restart_length changed kept restart is in
-    record {
-      same_length = ap (λ xs. length xs) e ∙ (length-replicate (length changed) false ∙ (n ∙ (sym (length-replicate (length kept) true) ∙ ap (λ xs. length xs) (sym f))));
-      is = h ∙ (ap (λ k. replicate k true) m ∙ (sym (minus_none (length kept) true) ∙ (λ k. difference (sym f k) ((ap (λ j. replicate j false) (sym n) ∙ sym e) k))));
-    }
-
--- one grain more has changed
-pub restart_one : (changed kept restart : List Bool) (g : ℕ) → IsRestart changed kept restart → (more less : List Bool) → more ≡ set changed g true → less ≡ set restart g false → IsRestart more kept less
-restart_one changed kept restart g is more less e f = record {
-  same_length = ap (λ xs. length xs) e ∙ (length-set changed g true ∙ is.same_length);
-  is = f ∙ (ap (λ xs. set xs g false) is.is ∙ (sym (minus_one kept changed g is.same_length) ∙ ap (difference kept) (sym e)));
-}
-
--- other grains were kept
-pub restart_kept : (changed kept restart : List Bool) → IsRestart changed kept restart → (held new same : List Bool) → length kept ≡ length held → new ≡ held → same ≡ difference held changed → IsRestart changed new same
-restart_kept changed kept restart is held new same e f h = record {
-  same_length = is.same_length ∙ (e ∙ ap (λ xs. length xs) (sym f));
-  is = h ∙ ap (λ xs. difference xs changed) (sym f);
-}
-
--- a mapping that hasn't begun
-pub restart_new : (n : ℕ) (clear all kept restart : List Bool) → clear ≡ replicate n false → all ≡ replicate (length clear) true → kept ≡ replicate n false → restart ≡ replicate n false → IsRestart all kept restart
-restart_new n clear all kept restart a b c d =
-    let m : length clear ≡ n = ap (λ xs. length xs) a ∙ length-replicate n false in
-    let full : all ≡ replicate n true = b ∙ ap (λ k. replicate k true) m in
-    let size : n ≡ length kept = sym (length-replicate n false) ∙ ap (λ xs. length xs) (sym c) in
-    record {
-      same_length = ap (λ xs. length xs) full ∙ (length-replicate n true ∙ size);
-      is = d ∙ (sym (minus_all kept n size) ∙ ap (difference kept) (sym full));
-    }
-
--- ---- sets made of a test
+use Rattle.std.proofs.lemmas.Bool.Decides.{nat_tests}
+use Rattle.std.proofs.lemmas.Simd.{get_or-zip2, length-zip2}
+use Rattle.fc_bits.specs.Grains.{common}
+use Rattle.fc_changed.specs.Notes.{has, grains_with}
 
 pub length-grains_with : (test : ℕ → Bool) (n : ℕ) → length (grains_with test n) ≡ n
 length-grains_with test n = length-map-range_with_len test 0 n
@@ -88,14 +13,64 @@ length-grains_with test n = length-map-range_with_len test 0 n
 pub get_or-grains_with : (test : ℕ → Bool) (n g : ℕ) (d : Bool) → g < n → get_or (grains_with test n) g d ≡ test g
 get_or-grains_with test n g d within = get_or-map-range_with_len test 0 n g g d within (omega arith)
 
-pub grains_with-has : (grains : List Bool) (n : ℕ) → n ≡ length grains → grains_with (has grains) n ≡ grains
-grains_with-has grains n e =
-    same_lists (grains_with (has grains) n) grains (length-grains_with (has grains) n ∙ e)
-    (λ g d within. let below : g < n = rw (sym (length-grains_with (has grains) n)) within in
-    get_or-grains_with (has grains) n g d below ∙ get_or_default grains g false d (rw (sym e) below))
+-- only the grains below the size count
+pub grains_same : (n : ℕ) (p q : ℕ → Bool) → ((g : ℕ) → g < n → p g ≡ q g) → grains_with p n ≡ grains_with q n
+grains_same n p q same =
+    same_lists (grains_with p n) (grains_with q n) (length-grains_with p n ∙ sym (length-grains_with q n))
+    (λ g d within. let below : g < n = rw (sym (length-grains_with p n)) within in
+    get_or-grains_with p n g d below ∙ (same g below ∙ sym (get_or-grains_with q n g d below)))
 
-pub left_row : (seen now : Row) → seen ≡ now → (source target : ℕ) (held new : List Bool) → new ≡ held → was_from now.source now.target now.from source target ≡ true → length now.kept ≡ length held → record seen { kept = new } ≡ row_left source target held now
-left_row seen now same source target held new is from size =
-    subst (λ row. was_from row.source row.target row.from source target ≡ true → length row.kept ≡ length held → record seen { kept = new } ≡ row_left source target held row) same
-    (λ f s. rw f (ap (λ xs. record seen { kept = xs }) (is ∙ sym (grains_with-has held (length seen.kept) s))))
-    from size
+pub grains_all : (n k : ℕ) (p : ℕ → Bool) (b : Bool) → n ≡ k → ((g : ℕ) → p g ≡ b) → grains_with p n ≡ replicate k b
+grains_all n k p b e all =
+    same_lists (grains_with p n) (replicate k b) (length-grains_with p n ∙ (e ∙ sym (length-replicate k b)))
+    (λ g d within. let below : g < n = rw (sym (length-grains_with p n)) within in
+    get_or-grains_with p n g d below ∙ (all g ∙ sym (get_or-replicate k g b d (rw (sym e) below))))
+
+eq_here : (g h : ℕ) → nat_eq g h ≡ true → g ≡ h
+eq_here g h e = grind (arith, nat_tests)
+
+eq_away : (g h : ℕ) → nat_eq g h ≡ false → g ≡ h → ⊥
+eq_away g h e same = grind (arith, nat_tests)
+
+-- one grain less
+pub grains_cleared : (n h : ℕ) (p : ℕ → Bool) → grains_with (λ g. p g && not (nat_eq g h)) n ≡ set (grains_with p n) h false
+grains_cleared n h p =
+    same_lists (grains_with (λ g. p g && not (nat_eq g h)) n) (set (grains_with p n) h false)
+    (length-grains_with (λ g. p g && not (nat_eq g h)) n ∙ (sym (length-grains_with p n) ∙ sym (length-set (grains_with p n) h false)))
+    (λ g d within. let below : g < n = rw (sym (length-grains_with (λ j. p j && not (nat_eq j h)) n)) within in
+    get_or-grains_with (λ j. p j && not (nat_eq j h)) n g d below ∙ by g d below (nat_eq g h) refl)
+  where
+    and_false : (b : Bool) → (b && false) ≡ false
+    and_false true = refl
+    and_false false = refl
+
+    and_true : (b : Bool) → (b && true) ≡ b
+    and_true true = refl
+    and_true false = refl
+
+    by : (g : ℕ) (d : Bool) → g < n → (b : Bool) → nat_eq g h ≡ b → (p g && not (nat_eq g h)) ≡ get_or (set (grains_with p n) h false) g d
+    by g d below true e =
+        let inside : g < length (grains_with p n) = rw length-grains_with below in
+        ap (λ z. p g && not z) e ∙ (and_false (p g) ∙ (sym (get_or-set_same (grains_with p n) g false d inside) ∙ ap (λ z. get_or (set (grains_with p n) z false) g d) (eq_here g h e)))
+    by g d below false e =
+        ap (λ z. p g && not z) e ∙ (and_true (p g) ∙ (sym (get_or-grains_with p n g d below) ∙ sym (get_or-set_other (grains_with p n) h g false d (eq_away g h e))))
+
+-- what two sets have both
+pub common_is : (same held : List Bool) → length same ≡ length held → common same held ≡ grains_with (λ g. has same g && has held g) (length same)
+common_is same held e =
+    same_lists (common same held) (grains_with (λ g. has same g && has held g) (length same))
+    (length-zip2 (λ x y. x && y) same held e ∙ sym (length-grains_with (λ g. has same g && has held g) (length same)))
+    (λ g d within. let below : g < length same = rw (sym (length-zip2 (λ x y. x && y) same held e)) within in
+    get_or-zip2 (λ x y. x && y) same held g false false d below (omega arith) ∙ sym (get_or-grains_with (λ j. has same j && has held j) (length same) g d below))
+
+-- kept twice
+pub kept_twice : (same held : List Bool) → grains_with (λ g. has (grains_with (λ j. has same j && has held j) (length same)) g && has held g) (length (grains_with (λ j. has same j && has held j) (length same))) ≡ grains_with (λ g. has same g && has held g) (length same)
+kept_twice same held =
+    ap (grains_with (λ g. has (grains_with (λ j. has same j && has held j) (length same)) g && has held g)) (length-grains_with (λ j. has same j && has held j) (length same))
+    ∙ grains_same (length same) (λ g. has (grains_with (λ j. has same j && has held j) (length same)) g && has held g) (λ g. has same g && has held g)
+    (λ g below. ap (λ z. z && has held g) (get_or-grains_with (λ j. has same j && has held j) (length same) g false below) ∙ twice (has same g) (has held g))
+  where
+    twice : (a b : Bool) → ((a && b) && b) ≡ (a && b)
+    twice true true = refl
+    twice true false = refl
+    twice false b = refl

@@ -6,9 +6,9 @@ use Rattle.std.proofs.lemmas.List.Folds.{list_any-append}
 use Rattle.std.proofs.lemmas.Bool.Decides.{nat_tests}
 use Rattle.std.proofs.lemmas.Bool.{cases_lt}
 use Rattle.fc_diff.specs.declared.tracked.Event.{Event}
-use Rattle.fc_diff.specs.Row.{Row}
 use Rattle.fc_diff.specs.Index.{is_listed, map_numbers}
-use Rattle.fc_diff.specs.Table.{row_names, row_after, volume_of, is_of, FitsRow}
+use Rattle.fc_changed.specs.Row.{Row, row_names, is_of}
+use Rattle.fc_diff.specs.Told.{row_after, volume_of, FitsRow}
 use Rattle.fc_diff.proofs.Places.{all_fail, find-missed}
 use Rattle.fc_diff.proofs.Events.{same_map, only_named, twice, fits_after}
 
@@ -41,7 +41,7 @@ module _ (event : Event) (before : List Row) (named : List ℕ) (now : List Row)
     where
       by : (k d : ℕ) → k < length now → get_or (map_numbers now) k d ≡ get_or (map_numbers before) k d
       by k d within =
-          let no_row : Row = record { map = 0; source = 0; target = 0; from = None; changed = []; kept = [] } in
+          let no_row : Row = record { map = 0; source = 0; target = 0; into = 0; same = [] } in
           let below : k < length before = rw (sym told.same_length) within in
           get_or-map (λ row. row.map) now k no_row d within
           ∙ (ap (λ row. row.map) (told.row k no_row below)

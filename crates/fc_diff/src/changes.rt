@@ -127,10 +127,7 @@ impl Changes {
     pub fn forget(&mut self, map: MapId)
         ensures { self.new ≡ record self.old { rows = after_note self.old.rows (Forgotten map.0) } }
     {
-        if let Some(place) = self.table.place_of(self.followed, map.0) {
-            self.table.remove(place);
-            self.followed -= 1;
-        }
+        self.followed = self.table.forget(self.followed, map.0);
     }
 
     /// The grains that the mapping needn't copy where it starts again. None exactly where it isn't followed.

@@ -1,6 +1,6 @@
 //! The rows of mappings, and how they are found: by their ids, and by the volumes that they name.
 
-ghost use Rattle.std.specs.Prelude.{◌≡◌, ◌≢◌, ◌<◌, ◌≤◌, [], ◌∷◌, ◌++◌, map, take, drop, remove, set, length, replicate, OnOk, OnErr, None, true, false, All, AllPairs, position, slice_index_or};
+ghost use Rattle.std.specs.Prelude.{◌≡◌, ◌≢◌, ℕ, ◌<◌, ◌≤◌, [], ◌∷◌, ◌++◌, map, take, drop, filter, not, length, replicate, OnOk, OnErr, None, true, false, All, AllPairs, position, slice_index_or};
 ghost use Rattle.fc_changed.specs.Row.{Row, is_of, row_names};
 ghost use Rattle.fc_diff.specs.Told.{row_after, volume_of, FitsRow};
 ghost use Rattle.fc_diff.specs.Index.{is_listed, named_by, map_numbers, begun_at};
@@ -43,13 +43,6 @@ impl Table {
             rows: Vec::new(alloc),
             namers: Namers::new(alloc),
         }
-    }
-
-    /// How many rows there are.
-    pub(crate) fn len(&self) -> usize
-        ensures { result ≡ length self.now }
-    {
-        self.rows.len()
     }
 
     /// Puts a row at the end, for a mapping that has none. Refused, all is as it was; want of memory is the only cause.
@@ -96,15 +89,22 @@ impl Table {
         self.rows[place].same()
     }
 
-    /// Takes the row out. Takes no memory.
-    pub(crate) fn remove(&mut self, place: usize)
-        requires { place < length self.old }
-        ensures { self.new ≡ remove self.old place }
+    /// Takes out the mapping's row, if it is among the first so many, and answers how many of these are left. Takes no memory.
+    pub(crate) fn forget(&mut self, first: usize, map: u32) -> usize
+        requires { first ≤ length self.old }
+        ensures rows { self.new ≡ filter (λ row. not (is_of map row)) (take first self.old) ++ drop first self.old }
+        ensures left { result ≡ length (filter (λ row. not (is_of map row)) (take first self.old)) }
     {
-        let row = self.rows.remove(place);
-        let _ = self.ids.shift_remove_index(place);
-        self.namers.remove(row.source(), row.map());
-        self.namers.remove(row.target(), row.map());
+        match find_place(&self.ids, &self.rows[..first], map) {
+            Some(place) => {
+                let row = self.rows.remove(place);
+                let _ = self.ids.shift_remove_index(place);
+                self.namers.remove(row.source(), map);
+                self.namers.remove(row.target(), map);
+                first - 1
+            }
+            None => first,
+        }
     }
 
     /// Takes out all rows behind the first so many. Takes no memory.

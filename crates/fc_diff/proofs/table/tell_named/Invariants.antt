@@ -1,6 +1,6 @@
 use Rattle.std.proofs.Common.{take}
 use Rattle.fc_diff.proofs.Telling.{IsTold}
-use Rattle.fc_diff.proofs.changes.tell_named.Given as goal
+use Rattle.fc_diff.proofs.table.tell_named.Given as goal
 
 -- those named so far are told
 abbrev pub invariant-loop-number : goal.invariant-loop-number

@@ -1,0 +1,10 @@
+use Rattle.std.proofs.Common.{◌≡◌, List, sym, subst, take, length}
+use Rattle.fc_changed.specs.Row.{Row}
+use Rattle.fc_diff.specs.Index.{map_numbers}
+use Rattle.fc_diff.proofs.Found.{first_ids}
+use Rattle.fc_diff.proofs.table.Table.place_of.Goals as goal
+
+pub find_place-requires : goal.find_place-requires
+find_place-requires c =
+    subst (λ (rows : List Row). take (length (take c.args.first rows)) c.self.inside.ids.keys ≡ map_numbers (take c.args.first rows)) (sym c.deref.ensures.value)
+    (first_ids c.self.inside.ids.keys c.self.inside.rows.items c.args.first c.self.invariant.beside)
