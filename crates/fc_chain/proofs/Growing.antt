@@ -1,8 +1,7 @@
 -- How many slots the events of a command leave.
 use Rattle.std.proofs.Common.{◌≡◌, ℕ, zero, suc, ◌+◌, ◌≤◌, Bool, true, false, Option, Some, None, List, [], ◌∷◌, length, map, take, drop, fold, replicate, refl, ap, arith, inl, inr, length-append, length-take, length-drop, length-set}
-use Rattle.std.specs.List.{sum_by, remove, insert}
+use Rattle.std.specs.List.{remove, insert}
 use Rattle.std.proofs.lemmas.Bool.{cases_Bool}
-use Rattle.std.proofs.lemmas.List.Sums.{sum_by-cons}
 use Rattle.fc_base.specs.declared.ids.MapId.{MapId}
 use Rattle.fc_base.specs.declared.request.Pair.{Pair}
 use Rattle.fc_base.specs.declared.decision.LaneEvent.{LaneEvent}

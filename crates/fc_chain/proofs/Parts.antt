@@ -1,5 +1,5 @@
 -- What always holds of a cascade's parts is kept by each call.
-use Rattle.std.proofs.Common.{◌≡◌, ℕ, ◌+◌, ◌/◌, ◌<◌, ◌≤◌, suc, List, [], ◌∷◌, length, map, max, refl, sym, ap, subst, ◌∙◌, arith, inl, inr}
+use Rattle.std.proofs.Common.{◌≡◌, ℕ, ◌+◌, ◌-◌, ◌/◌, ◌<◌, ◌≤◌, suc, List, [], ◌∷◌, length, map, max, refl, sym, ap, subst, ◌∙◌, arith, inl, inr}
 use Rattle.fc_bits.specs.Words.{words_for}
 use Rattle.fc_base.specs.declared.decision.LaneEvent.{LaneEvent}
 use Rattle.fc_base.specs.Sheet.{Slot, Sheet, slot_at}
@@ -64,6 +64,11 @@ room_after value lane lanes room width table new ledger e view c has q =
     let grows : length (sheet_step (lane_grains lane lanes) table.sheet e).slots ≤ length table.sheet.slots + slots_made e = step_grows (lane_grains lane lanes) e table.sheet in
     let size : length new.sheet.slots ≡ length (sheet_step (lane_grains lane lanes) table.sheet e).slots = ap (λ (s : Sheet). length s.slots) q in
     let f : length table.sheet.slots + room ≤ length ledger.tallies = c.fits in
+    omega arith
+
+pub left_after : (value : Chains) (lane lanes room width : ℕ) (table : Table) (e : LaneEvent) (slots : ℕ) → view_of lane lanes table room width ≡ value → slots_made e ≤ value.room → slots ≡ slots_made e → room - slots + slots_made e ≡ room
+left_after value lane lanes room width table e slots view has s =
+    let made : slots_made e ≤ room = subst (λ (z : Chains). slots_made e ≤ z.room) (sym view) has in
     omega arith
 
 words_more : (n m : ℕ) → n ≤ m → words_for n ≤ words_for m

@@ -7,7 +7,6 @@ use Rattle.fc_base.specs.declared.decision.LaneEvent.{LaneEvent}
 use Rattle.fc_base.specs.declared.decision.LaneEvent.TheVariants.{Make, Remove, Trigger, Retire, Detach, Split, Force, Drop, Forget, NoteCut, Access, Work, Arm}
 use Rattle.fc_base.specs.Sheet.{Sheet, slot_at, live_place, mapping_place, birth_place}
 use Rattle.fc_base.specs.SheetStep.{at_place, has_after, without, left_place, placed, started_empty, retired_at, detached_at, split_at, forced_at, forced_map, sheet_step}
-use Rattle.fc_base.specs.SheetFits.{FitsEvents}
 use Rattle.fc_chain.specs.Room.{BirthsFit, slots_made}
 
 abbrev pub Rises : (Sheet → Sheet) → Type 0
@@ -170,7 +169,3 @@ events_rise local es s = all_rise (sheet_step local) (step_rises local) es s
 -- those after the first event fit where those after all do
 pub event_fits : (local : ℕ → ℕ) (s : Sheet) (e : LaneEvent) (es : List LaneEvent) → BirthsFit (fold (sheet_step local) (sheet_step local s e) es) → BirthsFit (sheet_step local s e)
 event_fits local s e es fit = first_fits (sheet_step local) (step_rises local) s e es fit
-
-pub births_after : (local : ℕ → ℕ) (s : Sheet) (es : List LaneEvent) → FitsEvents local s es → BirthsFit (fold (sheet_step local) s es)
-births_after local s [] f = f
-births_after local s (e ∷ es) f = births_after local (sheet_step local s e) es f.1

@@ -1,5 +1,5 @@
 -- Room for events, done one after the other.
-use Rattle.std.proofs.Common.{◌≡◌, ℕ, zero, suc, ◌+◌, ◌<◌, ◌≤◌, List, [], ◌∷◌, length, get_or, refl, sym, ap, subst, arith}
+use Rattle.std.proofs.Common.{◌≡◌, ℕ, suc, ◌+◌, ◌≤◌, List, ◌∷◌, get_or, sym, subst, arith}
 use Rattle.std.specs.List.{sum_by}
 use Rattle.std.proofs.lemmas.List.Sums.{sum_by-cons}
 use Rattle.fc_base.specs.declared.decision.LaneEvent.{LaneEvent}
@@ -18,7 +18,7 @@ pub room_left : (c d : Chains) (e : LaneEvent) (es : List LaneEvent) → HasRoom
 room_left c d e es has lane lanes width room = record {
   slots = (let a : sum_by slots_made (e ∷ es) ≤ c.room = has.slots in omega (arith, sum_by-cons slots_made e es));
   grains = λ k x lt. (let a : grains_come (lane_grains c.lane c.lanes) (get_or es k x) ≤ c.width = has.grains (suc k) x (omega arith) in
-    subst (λ (z : ℕ). grains_come (lane_grains z d.lanes) (get_or es k x) ≤ d.width) (sym lane)
-    (subst (λ (z : ℕ). grains_come (lane_grains c.lane z) (get_or es k x) ≤ d.width) (sym lanes)
-    (subst (λ (z : ℕ). grains_come (lane_grains c.lane c.lanes) (get_or es k x) ≤ z) (sym width) a)));
+      subst (λ (z : ℕ). grains_come (lane_grains z d.lanes) (get_or es k x) ≤ d.width) (sym lane)
+      (subst (λ (z : ℕ). grains_come (lane_grains c.lane z) (get_or es k x) ≤ d.width) (sym lanes)
+      (subst (λ (z : ℕ). grains_come (lane_grains c.lane c.lanes) (get_or es k x) ≤ z) (sym width) a)));
 }

@@ -7,13 +7,13 @@
 //! `unneeded` and `used` are those of `specs/Column`, `specs/Counts` and `specs/RestoreGraph`; `plan` gives the moves of `specs/Moves` in
 //! their order, each once, and needs room for one move a volume; `moved`, `written` and `torn` change the pairs
 //! as `specs/SheetStep` says. `reserve` makes room for the slots that the events of a command can make
-//! (`specs/Room`); `apply` then does the events, one after the other, as `specs/SheetStep` says; `loop_of` tells the loop of
+//! (`specs/Room`); `apply_event` then does one event after the other, as `specs/SheetStep` says; `loop_of` tells the loop of
 //! the restore graph that a trigger would leave, tried on a copy without what slots hold. Only `reserve`, `direct`,
 //! `unneeded` and `loop_of` take memory. That the planned moves are safe, one after the other, is the law of
 //! `fc_moves`; that every step keeps the facts is the law of `fc_sheets`.
 //!
-//! How many grains each slot holds, and at how many it is needed, is counted in one pass over words after the events
-//! of a command, and kept through moves and writes; slots are found in sorted lists of places. A move or a write changes
+//! How many grains each slot holds, and at how many it is needed, is counted in one pass over words after each
+//! event, and kept through moves and writes; slots are found in sorted lists of places. A move or a write changes
 //! the slots of its volume alone, from their part of such a list, and counts for them and one holder. No clause tells
 //! of this.
 //!
