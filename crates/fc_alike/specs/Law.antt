@@ -1,26 +1,59 @@
 -- The law of following: rows keep telling what is alike, and slots that begin with their grains show what plain volumes hold.
-use Rattle.std.specs.Prelude.{◌≡◌, ◌≢◌, ℕ, ◌<◌, true, false, fold, List, [], ◌∷◌, ◌++◌, length, Option, None, Some, find}
-use Rattle.fc_base.specs.Sheet.{Slot, Sheet, slot_at, mapping_place}
-use Rattle.fc_base.specs.SheetFits.{FitsEvent}
-use Rattle.fc_base.specs.SheetStep.{sheet_moved}
+use Rattle.std.specs.Prelude.{◌≡◌, ℕ, ◌+◌, ◌<◌, ◌≤◌, Bool, true, false, fold, List, [], ◌∷◌, ◌++◌, length, take, replicate, Some}
+use Rattle.fc_base.specs.Sheet.{Slot, Sheet, slot_at, live_place, mapping_place, birth_place, volume_grains}
+use Rattle.fc_base.specs.SheetFacts.{IsSound}
+use Rattle.fc_base.specs.SheetFits.{FitsEvent, FitsTrigger}
+use Rattle.fc_base.specs.SheetStep.{sheet_moved, triggered}
 use Rattle.fc_base.specs.declared.decision.LaneEvent.{LaneEvent}
-use Rattle.fc_base.specs.declared.decision.LaneEvent.TheVariants.{Trigger}
 use Rattle.fc_base.specs.declared.request.Pair.{Pair}
 use Rattle.fc_books.specs.After.{begun, holding}
 use Rattle.fc_changed.specs.Notes.{has}
-use Rattle.fc_changed.specs.Row.{Row, restart_in}
 use Rattle.fc_entry.specs.declared.entry.Entry.{Entry}
 use Rattle.fc_follow.specs.Alike.{AreAlike}
-use Rattle.fc_follow.specs.Following.{Followed, FitsRows, followed_event, followed_entry, restarts}
+use Rattle.fc_follow.specs.Following.{Followed, FitsRows, followed_event, followed_entry}
 use Rattle.fc_pictures.specs.Law.{StoredAfter}
 use Rattle.fc_pictures.specs.LaneLaw.{Agrees}
-use Rattle.fc_rules.specs.LaneTold.{LaneOf, LaneTold, nothing_told, told_event}
+use Rattle.fc_rules.specs.LaneTold.{LaneOf, LaneTold}
 use Rattle.fc_rules.specs.Shows.{Stored}
 
 -- What is told agrees with what is stored, and its rows are alike.
 pub record Follows (f : Followed) (stored : Stored) : Type 0 where
   pub agrees : Agrees f.told.sheet f.told.picture stored
   pub alike : AreAlike f
+
+-- ---- how the new slots of a trigger begin
+
+-- The slot of a pair, at a place: the live slot of the pair's target, with so many grains, of which it holds none yet.
+pub record NewSlot (slots : List Slot) (p : Pair) (grains k : ℕ) : Type 0 where
+  pub there : k < length slots
+  pub of_mapping : mapping_place slots p.map.0 ≡ Some k
+  pub of_target : live_place slots p.target.0 ≡ Some k
+  pub is_live : (slot_at slots k).is_live ≡ true
+  pub volume : (slot_at slots k).volume ≡ p.target.0
+  pub nothing : (slot_at slots k).held ≡ replicate grains false
+
+-- A slot begins with the grains of a set by moves in place, grain after grain: it holds the first grains of the set, then one
+-- more of them, or as many more as aren't in the set. Slots keep their names all the while.
+pub record Keeps (s : Sheet) (k : ℕ) (set : List Bool) : Type 0 where
+  pub none : holding (take 0 set) k s ≡ s
+  pub past : (n m : ℕ) → n ≤ m → ((g : ℕ) → n ≤ g → g < m → has set g ≡ false) → holding (take n set) k s ≡ holding (take m set) k s
+  pub one_more : (g : ℕ) → has set g ≡ true → sheet_moved (slot_at s.slots k).volume g true (holding (take g set) k s) ≡ holding (take (g + 1) set) k s
+  pub all : (n : ℕ) → length set ≤ n → holding (take n set) k s ≡ holding set k s
+  pub sound : (n : ℕ) → IsSound (holding (take n set) k s)
+  pub birth : (n j : ℕ) → (slot_at (holding (take n set) k s).slots j).birth ≡ (slot_at s.slots j).birth
+  pub volume : (n j : ℕ) → (slot_at (holding (take n set) k s).slots j).volume ≡ (slot_at s.slots j).volume
+  pub births : (n b : ℕ) → birth_place (holding (take n set) k s).slots b ≡ birth_place s.slots b
+  pub mappings : (n m : ℕ) → mapping_place (holding (take n set) k s).slots m ≡ mapping_place s.slots m
+  pub lives : (n v : ℕ) → live_place (holding (take n set) k s).slots v ≡ live_place s.slots v
+
+-- The chains after a trigger, when the slots of the first pairs have begun and a pair is next.
+pub record IsNext (restarts : ℕ → List Bool) (s t : Sheet) (p : Pair) : Type 0 where
+  pub sound : IsSound t
+  pub place : ℕ
+  pub slot : NewSlot t.slots p (volume_grains s.slots p.target.0) place
+  pub begins : begun restarts t p ≡ holding (restarts p.map.0) place t
+
+-- ---- the law
 
 pub record FollowLaw : Type 0 where
   -- with no rows
@@ -30,3 +63,9 @@ pub record FollowLaw : Type 0 where
       StoredAfter l stored e after → Follows (followed_event l f e) after
   -- after an entry, however it changed the chains
   pub entry : (l : LaneOf) (f : Followed) (entry : Entry) → AreAlike f → AreAlike (followed_entry l f entry)
+  -- after a trigger each pair has its new slot, whichever restart sets those before it began with; and all leave the chains sound
+  pub new_slot : (restarts : ℕ → List Bool) (s : Sheet) (before rest : List Pair) (p : Pair) → IsSound s → FitsTrigger s (before ++ p ∷ rest) →
+      IsNext restarts s (fold (begun restarts) (triggered (before ++ p ∷ rest) s) before) p
+  pub begun_sound : (restarts : ℕ → List Bool) (s : Sheet) (pairs : List Pair) → IsSound s → FitsTrigger s pairs → IsSound (fold (begun restarts) (triggered pairs s) pairs)
+  -- and it begins by moves in place
+  pub keeps : (s : Sheet) (p : Pair) (grains k : ℕ) (set : List Bool) → IsSound s → NewSlot s.slots p grains k → Keeps s k set
