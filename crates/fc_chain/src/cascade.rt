@@ -367,6 +367,10 @@ impl Cascade {
         ensures of_lane { IsOfLane self.now result }
         ensures place { in_lane self.now result ≡ place }
     {
+        let slots = self.slots();
+        if place >= slots[self.place_of(slot)].grains() {
+            unreachable!()
+        }
         place * self.lanes as u32 + self.lane as u32
     }
 
