@@ -24,26 +24,26 @@ use Rattle.fc_pictures.proofs.Leaving.{others_stay}
 
 -- ---- the picture
 
-trigger_none : (old : Picture) (pairs : List Pair) (v : PlainVolume) → source_in pairs v.volume ≡ None → after_trigger old pairs v ≡ v
+pub trigger_none : (old : Picture) (pairs : List Pair) (v : PlainVolume) → source_in pairs v.volume ≡ None → after_trigger old pairs v ≡ v
 trigger_none old pairs v e = rw e refl
 
-abbrev copied_from : List Content → PlainVolume → PlainVolume
+abbrev pub copied_from : List Content → PlainVolume → PlainVolume
 copied_from now v = record v { now = now; under = v.now }
 
-trigger_some : (old : Picture) (pairs : List Pair) (v : PlainVolume) (source : VolId) → source_in pairs v.volume ≡ Some source → after_trigger old pairs v ≡ copied_from (now_in old source) v
+pub trigger_some : (old : Picture) (pairs : List Pair) (v : PlainVolume) (source : VolId) → source_in pairs v.volume ≡ Some source → after_trigger old pairs v ≡ copied_from (now_in old source) v
 trigger_some old pairs v source e = rw e refl
 
-trigger_keeps : (old : Picture) (pairs : List Pair) → KeepsIds (after_trigger old pairs)
+pub trigger_keeps : (old : Picture) (pairs : List Pair) → KeepsIds (after_trigger old pairs)
 trigger_keeps old pairs v =
     elim (cases_option (source_in pairs v.volume)) [
       | inl none ↦ ap (λ (z : PlainVolume). z.volume.0) (trigger_none old pairs v none)
       | inr some ↦ ap (λ (z : PlainVolume). z.volume.0) (trigger_some old pairs v some.0 some.1)
     ]
 
-source_here : (p : Pair) (ps : List Pair) (v : VolId) → p.target.0 ≡ v.0 → source_in (p ∷ ps) v ≡ Some p.source
+pub source_here : (p : Pair) (ps : List Pair) (v : VolId) → p.target.0 ≡ v.0 → source_in (p ∷ ps) v ≡ Some p.source
 source_here p ps v e = ap (λ z. cond z (Some p.source) (source_in ps v)) (eq-eqb p.target.0 v.0 e)
 
-source_later : (p : Pair) (ps : List Pair) (v : VolId) → p.target.0 ≢ v.0 → source_in (p ∷ ps) v ≡ source_in ps v
+pub source_later : (p : Pair) (ps : List Pair) (v : VolId) → p.target.0 ≢ v.0 → source_in (p ∷ ps) v ≡ source_in ps v
 source_later p ps v ne = ap (λ z. cond z (Some p.source) (source_in ps v)) (ne_eqb p.target.0 v.0 ne)
 
 -- the target of a pair is no target of the others, and none of their sources
@@ -59,20 +59,20 @@ source_not p (q ∷ qs) v source a e f =
       | inr ne ↦ source_not p qs v source a.1 (sym (source_later q qs v ne) ∙ e) f
     ]
 
-now_some : (picture : Picture) (id : VolId) (p : PlainVolume) → volume_in picture id ≡ Some p → now_in picture id ≡ p.now
+pub now_some : (picture : Picture) (id : VolId) (p : PlainVolume) → volume_in picture id ≡ Some p → now_in picture id ≡ p.now
 now_some picture id p e = rw e refl
 
 now_none : (picture : Picture) (id : VolId) → volume_in picture id ≡ None → now_in picture id ≡ []
 now_none picture id e = rw e refl
 
 -- the first pair
-abbrev first_pair : Picture → Pair → PlainVolume → PlainVolume
+abbrev pub first_pair : Picture → Pair → PlainVolume → PlainVolume
 first_pair old p = after_trigger old (p ∷ [])
 
-first_here : (old : Picture) (p : Pair) (v : PlainVolume) → p.target.0 ≡ v.volume.0 → first_pair old p v ≡ copied_from (now_in old p.source) v
+pub first_here : (old : Picture) (p : Pair) (v : PlainVolume) → p.target.0 ≡ v.volume.0 → first_pair old p v ≡ copied_from (now_in old p.source) v
 first_here old p v e = trigger_some old (p ∷ []) v p.source (source_here p [] v.volume e)
 
-first_other : (old : Picture) (p : Pair) (v : PlainVolume) → p.target.0 ≢ v.volume.0 → first_pair old p v ≡ v
+pub first_other : (old : Picture) (p : Pair) (v : PlainVolume) → p.target.0 ≢ v.volume.0 → first_pair old p v ≡ v
 first_other old p v ne = trigger_none old (p ∷ []) v (source_later p [] v.volume ne)
 
 now_kept : (old : Picture) (p : Pair) (id : VolId) → p.target.0 ≢ id.0 → now_in (map (first_pair old p) old) id ≡ now_in old id
@@ -85,7 +85,7 @@ now_kept old p id ne =
     ]
 
 -- the first pair and then the others are all at once
-one_then_all : (old : Picture) (p : Pair) (ps : List Pair) → ApartFrom p ps → (v : PlainVolume) →
+pub one_then_all : (old : Picture) (p : Pair) (ps : List Pair) → ApartFrom p ps → (v : PlainVolume) →
     after_trigger (map (first_pair old p) old) ps (first_pair old p v) ≡ after_trigger old (p ∷ ps) v
 one_then_all old p ps a v =
     let next : Picture = map (first_pair old p) old in
