@@ -14,6 +14,7 @@ use Rattle.fc_base.specs.SheetFits.{FitsRemove}
 use Rattle.fc_base.specs.SheetFacts.{IsSound}
 use Rattle.fc_base.specs.SheetStep.{removed, without, at_place}
 use Rattle.fc_base.specs.Tables.{Tables, volume_with, after_change}
+use Rattle.fc_base.specs.declared.decision.LaneEvent.TheVariants.{Remove}
 use Rattle.fc_base.specs.declared.fault.Refusal.TheVariants.{InUse}
 use Rattle.fc_base.specs.declared.ids.VolId.{VolId}
 use Rattle.fc_base.specs.declared.size.GrainSize.{GrainSize}
@@ -40,6 +41,8 @@ use Rattle.fc_decided.specs.Law.{AreSettled}
 use Rattle.fc_decided.proofs.Agreeing.{some_is}
 use Rattle.fc_decided.proofs.Carrying.{StaysIn, live_carried, slot_carried}
 use Rattle.fc_decided.proofs.Frame.{Suits}
+use Rattle.fc_decided.proofs.Keeping.{AreAsLarge, stay_all}
+use Rattle.fc_decided.proofs.Sparing.{sparing}
 use Rattle.fc_decided.proofs.Lists.{find_there, find_filtered, filter_from, any_in}
 use Rattle.fc_decided.proofs.Ordered.{filter_ordered}
 use Rattle.fc_decided.proofs.Resting.{births_fit}
@@ -254,6 +257,10 @@ module _ (grain : GrainSize) (decisions : ℕ) (w : Whole) (v : Volume) (st : St
         one_busy = a.one_busy;
       }
 
+  sizes_stay : AreAsLarge w.books.tables new_tables
+  unfolding new_tables
+  sizes_stay m found grains has = subst (λ (o : Option Volume). HasGrains o grains) (sym (other_volume m.target (can.unnamed m found).1)) has
+
   pub remove_volume_suits : decisions < 2 ^ 32 → Suits grain decisions w (remove_volume v)
   unfolding new_tables new_sheet
   remove_volume_suits few =
@@ -291,4 +298,6 @@ module _ (grain : GrainSize) (decisions : ℕ) (w : Whole) (v : Volume) (st : St
           volumes_at_once = omega (arith, shorter, least, most);
         };
         plain = plain_without v.id b.tables.volumes w.picture st.plain;
+        begins = sparing (can.unnamed, tt);
+        keeps = record { stay = stay_all b.tables.mappings (Remove v.id ∷ []); as_large = sizes_stay };
       }

@@ -23,7 +23,7 @@ use Rattle.fc_books.specs.Groups.{members, is_none_of}
 use Rattle.fc_books.specs.Starting.{pair_of}
 use Rattle.fc_legal.specs.Lawful.{IsLawful}
 use Rattle.fc_legal.specs.Stands.{Stands}
-use Rattle.fc_legal.specs.Steps.{no_restarts}
+use Rattle.fc_follow.specs.Following.{restarts}
 use Rattle.fc_legal.specs.Whole.{Whole}
 use Rattle.fc_decided.proofs.Allowed.{one_prepares, one_starts, group_prepares, group_starts, group_trigger, no_source, few_members}
 use Rattle.fc_decided.specs.Law.{AreSettled}
@@ -153,7 +153,7 @@ module _ (grain : GrainSize) (decisions : ℕ) (w : Whole) (small : decisions < 
   -- ---- the decision
 
   -- A refused command does nothing.
-  pub answered_lawful : (command : Command) (o : Option Refusal) (loop : Option (List VolId)) → (o ≡ None → loop ≡ None → Suits grain decisions w (done grain w.books command)) → IsLawful grain decisions w (answered no_restarts grain w.books command o loop)
+  pub answered_lawful : (command : Command) (o : Option Refusal) (loop : Option (List VolId)) → (o ≡ None → loop ≡ None → Suits grain decisions w (done grain w.books command)) → IsLawful grain decisions w (answered (restarts w.rows) grain w.books command o loop)
   answered_lawful command (Some refusal) loop suits = lawful_with_work grain decisions w (Refused refusal) nothing st (nothing_suits grain decisions w small st)
   answered_lawful command None (Some volumes) suits = lawful_with_work grain decisions w (Refused (RestoreLoop volumes)) nothing st (nothing_suits grain decisions w small st)
   answered_lawful command None None suits = lawful_with_work grain decisions w (replied grain w.books command) (done grain w.books command) st (suits refl refl)

@@ -4,10 +4,10 @@ use Rattle.fc_base.specs.declared.command.Command.{Command}
 use Rattle.fc_base.specs.declared.command.Command.TheVariants.{Mkvdisk, Rmvdisk, Write, Read, Armfault, Advance, Mkfcmap, Prestartfcmap, Startfcmap, Stopfcmap, Rmfcmap, Mkfcconsistgrp, Prestartfcconsistgrp, Startfcconsistgrp, Stopfcconsistgrp, Rmfcconsistgrp, Lsfcmap, Lsfcconsistgrp, Lsvdisk, Lsfcmapprogress, Lsfcmapdependentmaps}
 use Rattle.fc_base.specs.declared.ids.VolId.{VolId}
 use Rattle.fc_base.specs.declared.size.GrainSize.{GrainSize}
-use Rattle.fc_books.specs.Deciding.{refused, done, decide, IsLoopOf}
+use Rattle.fc_books.specs.Deciding.{refused, done, IsLoopOf}
 use Rattle.fc_legal.specs.Lawful.{IsLawful}
 use Rattle.fc_legal.specs.Stands.{Stands}
-use Rattle.fc_legal.specs.Steps.{no_restarts}
+use Rattle.fc_legal.specs.Steps.{decided_on}
 use Rattle.fc_legal.specs.Whole.{Whole}
 use Rattle.fc_decided.specs.Law.{AreSettled, DecisionLaw}
 use Rattle.fc_decided.proofs.Commands.{Goes, mkvdisk_goes, rmvdisk_goes, armfault_goes, mkfcmap_goes, rmfcmap_goes, mkfcconsistgrp_goes, rmfcconsistgrp_goes, prestartfcmap_goes, prestartfcconsistgrp_goes, startfcmap_goes, startfcconsistgrp_goes, answered_lawful, no_loop_told}
@@ -46,7 +46,7 @@ suits grain decisions w small st settled (Lsfcmapprogress m delim) loop told e f
 suits grain decisions w small st settled (Lsfcmapdependentmaps m delim) loop told e f = nothing_suits grain decisions w small st
 
 -- Every decision on a command.
-decided_lawful : (grain : GrainSize) (decisions : ℕ) (w : Whole) (command : Command) (loop : Option (List VolId)) → decisions < 2 ^ 32 → Stands decisions w → AreSettled w.books → IsLoopOf grain w.books command loop → IsLawful grain decisions w (decide no_restarts grain w.books command loop)
+decided_lawful : (grain : GrainSize) (decisions : ℕ) (w : Whole) (command : Command) (loop : Option (List VolId)) → decisions < 2 ^ 32 → Stands decisions w → AreSettled w.books → IsLoopOf grain w.books command loop → IsLawful grain decisions w (decided_on grain w command loop)
 decided_lawful grain decisions w command loop small st settled told =
     answered_lawful grain decisions w small st command (refused grain w.books command) loop (λ e f. suits grain decisions w small st settled command loop told e f)
 

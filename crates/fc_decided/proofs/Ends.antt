@@ -25,6 +25,7 @@ use Rattle.fc_decided.proofs.Lists.{all_from}
 use Rattle.fc_decided.proofs.Rows.{row_found, set_rows, set_ordered, set_from, set_in, set_others, drop_rows, drop_ordered, drop_from, drop_others, drop_count, find_set, find_drop}
 use Rattle.fc_decided.proofs.Reaching.{decides, OneBusy, access_is, access_online}
 use Rattle.fc_decided.proofs.Setting.{AreOrdered, one_mapping, with_mappings}
+use Rattle.fc_decided.proofs.Keeping.{IsSame, same_itself}
 use Rattle.fc_decided.proofs.TableSteps.{TableStep}
 
 -- ---- rows that stand
@@ -42,6 +43,7 @@ pub record Follows (b : Books) (old r : Mapping) : Type 0 where
   pub name : r.name ≡ old.name
   pub source : r.source ≡ old.source
   pub target : r.target ≡ old.target
+  pub incremental : r.incremental ≡ old.incremental
   pub group : r.group ≡ old.group
   pub state : r.state ≢ Empty
   pub busy : is_idle old.state ≡ false
@@ -173,6 +175,13 @@ ids_ended b maps old r f ended m found =
       | inr there ↦ (m, there.0, refl)
     ]
 
+-- the new row tells the same of the mapping
+same_row : (b : Books) (old r m : Mapping) → Rows b → Follows b old r → Contains b.tables.mappings m → m.id.0 ≡ r.id.0 → IsSame m r
+same_row b old r m rows f found e =
+    let same : m ≡ old = one_mapping b.tables.mappings m old rows.tables.mappings found f.found (e ∙ same_id b old r f) in
+    subst (λ (x : Mapping). IsSame x r) (sym same)
+    (record { id = same_id b old r f; source = ap (λ (v : VolId). v.0) f.source; target = ap (λ (v : VolId). v.0) f.target; incremental = f.incremental })
+
 -- A mapping comes to a state: what is left of it.
 pub record EndsWell (b c : Books) (r : Mapping) : Type 0 where
   pub rows : Rows c
@@ -188,6 +197,10 @@ comes_step b old m state rows f =
       calm = (tt, tt);
       gone = (tt, tt);
       ids = ids_ended b maps old r f ended;
+      stay = λ x found. elim (cases_eq x.id.0 r.id.0) [
+        | inl same ↦ inl (r, set_in r old b.tables.mappings f.found (same_id b old r f), same_row b old r x rows f found same)
+        | inr other ↦ inl (x, ended.others x found other, same_itself x)
+      ];
       fit_changes = (ap (option_map (λ (x : Mapping). x.name)) (row_found b.tables.mappings old r.id rows.tables.mappings f.found (same_id b old r f)) ∙ ap Some (sym f.name), tt);
       volumes = told_by b.tables (with_mappings b maps).tables r.target (access_of r.id r.state r.complete) b.tables.volumes
           (λ v e. own_access b maps old r v rows f ended after e)
@@ -226,6 +239,7 @@ goes_step b old m state rows f idle =
       calm = (tt, (tt, tt));
       gone = (tt, ((λ n found e. (drop_from r.id n b.tables.mappings found).1 e), tt));
       ids = ids_ended b maps old r f ended;
+      stay = λ x found. elim (cases_eq x.id.0 r.id.0) [ inl same ↦ inr (inr (inl (sym same))) | inr other ↦ inl (x, ended.others x found other, same_itself x) ];
       fit_changes = (ap is_some (row_found b.tables.mappings old r.id rows.tables.mappings f.found (same_id b old r f)), tt);
       volumes = told_by b.tables (with_mappings b maps).tables r.target (access_of r.id r.state r.complete) b.tables.volumes
           (λ v e. own_access b maps old r v rows f ended after e)

@@ -1,19 +1,15 @@
 -- What the lane of all grains is told with its rows, event by event: as without rows, but for what the new slots of a trigger
 -- hold.
-use Rattle.std.proofs.Common.{◌≡◌, ◌≢◌, ℕ, ◌<◌, ◌^◌, Bool, List, [], ◌∷◌, fold, refl, sym, ap, subst, ◌∙◌, Contains, All, ◌⊎◌, inl, inr}
-use Rattle.std.specs.Prelude.{find, IsSome}
+use Rattle.std.proofs.Common.{◌≡◌, ◌≢◌, ℕ, ◌<◌, ◌^◌, Bool, List, [], ◌∷◌, fold, refl, sym, ap, subst, ◌∙◌, inl, inr}
 use Rattle.std.proofs.lemmas.List.Elements.{All-contains}
-use Rattle.fc_base.specs.Sheet.{Slot, Sheet, slot_at, live_place, grains_at}
+use Rattle.fc_base.specs.Sheet.{Slot, Sheet}
 use Rattle.fc_base.specs.SheetFits.{FitsEvent, FitsEvents}
 use Rattle.fc_base.specs.SheetStep.{sheet_step, triggered}
 use Rattle.fc_base.specs.Tables.{Tables, volume_with}
 use Rattle.fc_base.specs.declared.decision.LaneEvent.{LaneEvent}
 use Rattle.fc_base.specs.declared.decision.LaneEvent.TheVariants.{Make, Remove, Trigger, Retire, Detach, Split, Force, Drop, Forget, NoteCut, Access, Work, Arm}
-use Rattle.fc_base.specs.declared.request.Pair.{Pair}
 use Rattle.fc_base.specs.declared.size.GrainSize.{GrainSize}
-use Rattle.fc_base.specs.declared.volume.Mapping.{Mapping}
-use Rattle.fc_base.specs.declared.volume.Volume.{Volume}
-use Rattle.fc_books.specs.After.{begun, sheet_after}
+use Rattle.fc_books.specs.After.{sheet_after}
 use Rattle.fc_books.specs.Sound.{HasGrains}
 use Rattle.fc_changed.specs.Row.{Row}
 use Rattle.fc_decided.proofs.Apart.{sheet_through, picture_through, step_alike}
@@ -23,7 +19,7 @@ use Rattle.fc_decided.proofs.Noting.{AreById, Lack, HaveSizes, spared_rows, spar
 use Rattle.fc_decided.proofs.Restarting.{triggered_fuller, sheet_after-plain}
 use Rattle.fc_decided.proofs.Sparing.{Spares, AreSparing, AreStill, IsStill, Begins, sparing, starting, still_sparing}
 use Rattle.fc_entry.specs.Picture.{Picture}
-use Rattle.fc_follow.specs.Following.{Followed, FitsRows, told_with, followed_event, restarts}
+use Rattle.fc_follow.specs.Following.{Followed, told_with, followed_event, restarts}
 use Rattle.fc_legal.specs.Lawful.{FitAsOne}
 use Rattle.fc_legal.specs.Stands.{IsOfMapping, AreRows}
 use Rattle.fc_legal.specs.Whole.{all_grains}

@@ -1,12 +1,12 @@
 -- Chains where slots that held nothing hold something: all that stood still stands.
-use Rattle.std.proofs.Common.{◌≡◌, ◌≢◌, ℕ, zero, suc, ◌+◌, ◌<◌, Bool, true, false, eqb, ◌&&◌, List, [], ◌∷◌, length, get_or, replicate, Option, Some, None, refl, sym, ap, subst, ◌∙◌, arith, Contains, ◌⊎◌, inl, inr}
+use Rattle.std.proofs.Common.{◌≡◌, ℕ, zero, suc, ◌+◌, ◌<◌, Bool, true, false, eqb, ◌&&◌, List, length, get_or, replicate, Some, None, refl, sym, ap, subst, ◌∙◌, arith, ◌⊎◌, inl, inr}
 use Rattle.std.specs.Prelude.{IsSome}
 use Rattle.std.specs.List.{list_all}
 use Rattle.std.proofs.lemmas.Bool.{both_ways, and_parts, and_from}
 use Rattle.fc_base.specs.Column.{Shape, last_below, first_below, holder, is_at}
 use Rattle.fc_base.specs.Need.{is_complete}
 use Rattle.fc_base.specs.RestoreGraph.{HasNoLoop, HasOneLive}
-use Rattle.fc_base.specs.Sheet.{Slot, Sheet, slot_at, shape_of, column, live_place, mapping_place}
+use Rattle.fc_base.specs.Sheet.{Slot, Sheet, slot_at, shape_of, live_place, mapping_place}
 use Rattle.fc_base.specs.SheetFacts.{HasNames, HasSizes, HasMappings, HasLives, HasAllHolders, IsSound}
 use Rattle.fc_base.specs.Tables.{volume_with}
 use Rattle.fc_base.specs.declared.state.MapState.{MapState}

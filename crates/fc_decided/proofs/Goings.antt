@@ -1,5 +1,5 @@
 -- Deeds of ends one after the other, each on the books that the last left.
-use Rattle.std.proofs.Common.{◌≡◌, ℕ, ◌+◌, ◌<◌, ◌≤◌, ◌^◌, List, [], ◌∷◌, ◌++◌, length, fold, refl, sym, ap, subst, ◌∙◌, arith, Contains}
+use Rattle.std.proofs.Common.{◌≡◌, ℕ, Bool, ◌+◌, ◌≤◌, List, [], ◌∷◌, ◌++◌, length, fold, refl, sym, ap, subst, ◌∙◌, arith, Contains}
 use Rattle.fc_base.specs.Pools.{Pool}
 use Rattle.fc_base.specs.Sheet.{Slot, Sheet}
 use Rattle.fc_base.specs.SheetFacts.{IsSound}
@@ -14,17 +14,17 @@ use Rattle.fc_books.specs.Books.{Books, Deed, ◌then◌}
 use Rattle.fc_entry.specs.Picture.{Picture}
 use Rattle.fc_entry.specs.PlainStep.{after_effects}
 use Rattle.fc_legal.specs.Stands.{ArePlain}
-use Rattle.fc_legal.specs.Steps.{no_restarts}
 use Rattle.fc_legal.specs.Whole.{volumes_told}
 use Rattle.fc_pick.specs.declared.work.WorkFlags.{WorkFlags}
 use Rattle.fc_sheets.proofs.Steps.{Nobody}
 use Rattle.fc_decided.proofs.Apart.{fold_append, sheet_through, picture_through, picture_append}
 use Rattle.fc_decided.proofs.Ends.{Rows}
-use Rattle.fc_decided.proofs.Frame.{tabled, left_books, all_leave}
+use Rattle.fc_decided.proofs.Frame.{tabled, left_books, all_leave_plain}
+use Rattle.fc_decided.proofs.Keeping.{Stay}
 use Rattle.fc_decided.proofs.Plain.{effects_append}
-use Rattle.fc_decided.proofs.Quiet.{FitAll, fit_all_append, fits_from_all, Standing}
+use Rattle.fc_decided.proofs.Quiet.{FitAll, fit_all_append, Standing}
 use Rattle.fc_decided.proofs.Stops.{Sound, Goes}
-use Rattle.fc_decided.proofs.TableSteps.{TableStep, table_then}
+use Rattle.fc_decided.proofs.TableSteps.{TableStep, table_then, calm_sparing}
 use Rattle.fc_decided.proofs.Working.{AreGone}
 
 -- ---- books with other chains, background work and disks
@@ -69,6 +69,7 @@ step_by b s flags pools events changes last e f t =
       calm = t.calm;
       gone = subst (λ (x : Books). AreGone x.tables.mappings events) same t.gone;
       ids = λ m found. t.ids m (subst (λ (x : Books). Contains x.tables.mappings m) (sym same) found);
+      stay = subst (λ (x : Books). Stay b.tables.mappings x.tables.mappings events) same t.stay;
       fit_changes = t.fit_changes;
       volumes = t.volumes ∙ ap (λ (x : Books). volumes_told x.tables) same;
       same_volumes = ap (λ (x : Books). x.tables.volumes) (sym same) ∙ t.same_volumes;
@@ -93,10 +94,8 @@ standing_back b s flags pools changes slots pending st =
 abbrev pub left_by : Books → Deed → Books
 left_by b d = left_books b d.events d.changes
 
-pub after_is : (grain : GrainSize) (b : Books) (picture : Picture) (d : Deed) (births : ℕ) → Goes grain b picture d births → b.sheet.births + births < 2 ^ 64 → after_deed no_restarts b d ≡ left_by b d
-after_is grain b picture d births g few =
-    let n : (sheet_through b.sheet d.events).births ≤ b.sheet.births + births = g.few in
-    all_leave b d.events d.changes (fits_from_all b.sheet d.events g.fit (omega arith))
+pub after_is : (grain : GrainSize) (restarts : ℕ → List Bool) (b : Books) (picture : Picture) (d : Deed) (births : ℕ) → Goes grain b picture d births → after_deed restarts b d ≡ left_by b d
+after_is grain restarts b picture d births g = all_leave_plain b.tables restarts b d.events d.changes (calm_sparing b.tables d.events g.table.calm)
 
 pub goes_sound : (grain : GrainSize) (b : Books) (picture : Picture) (d : Deed) (births : ℕ) → Goes grain b picture d births → Sound (left_by b d) (after_effects grain picture d.effects)
 goes_sound grain b picture d births g =

@@ -36,7 +36,6 @@ use Rattle.fc_entry.specs.Picture.{Picture}
 use Rattle.fc_entry.specs.PlainStep.{after_effects}
 use Rattle.fc_entry.specs.Refused.{first_of, where_}
 use Rattle.fc_legal.specs.Stands.{Stands}
-use Rattle.fc_legal.specs.Steps.{no_restarts}
 use Rattle.fc_legal.specs.Whole.{Whole}
 use Rattle.fc_moves.proofs.Search.{cases_option}
 use Rattle.fc_decided.proofs.Allowed.{few_members}
@@ -158,11 +157,15 @@ member_deed way b id = stops_member way b (mapping_with b.tables id)
 ids_same : (id m : MapId) → id.0 ≡ m.0 → id ≡ m
 ids_same id m e = λ k. record { 0 = e k }
 
-many_goes : (grain : GrainSize) (way : StopWay) (ids : List MapId) (b : Books) (picture : Picture) → Sound b picture → length b.tables.mappings ≤ 512 → b.sheet.births + length ids * 513 < 2 ^ 64 → AreApart ids → AreWhole way b ids →
-    Goes grain b picture (one_by_one no_restarts (member_deed way) b ids) (length ids * 513)
+-- no stop asks for restart sets
+abbrev none_known : ℕ → List Bool
+none_known m = []
+
+many_goes : (grain : GrainSize) (way : StopWay) (ids : List MapId) (b : Books) (picture : Picture) → Sound b picture → length b.tables.mappings ≤ 512 → AreApart ids → AreWhole way b ids →
+    Goes grain b picture (one_by_one none_known (member_deed way) b ids) (length ids * 513)
 unfolding member_deed
-many_goes grain way [] b picture s few births apart whole = nothing_goes grain b picture 0 s
-many_goes grain way (id ∷ ids) b picture s few births apart whole =
+many_goes grain way [] b picture s few apart whole = nothing_goes grain b picture 0 s
+many_goes grain way (id ∷ ids) b picture s few apart whole =
     let first : Deed = member_deed way b id in
     let one : MemberGoes grain way b picture id first = member_goes grain way b picture id s few
     (λ e m found same copying. whole e m found (subst (λ (x : MapId). Contains (id ∷ ids) x) (ids_same id m.id same) (first_in id ids)) copying)
@@ -170,18 +173,17 @@ many_goes grain way (id ∷ ids) b picture s few births apart whole =
     let next : Books = left_by b first in
     let vols : next.tables.volumes ≡ b.tables.volumes = one.goes.table.same_volumes in
     let fewer : length next.tables.mappings ≤ length b.tables.mappings = one.goes.table.fewer in
-    let taken : next.sheet.births ≤ b.sheet.births + 513 = one.goes.few in
-    let after : after_deed no_restarts b first ≡ next = after_is grain b picture first 513 one.goes (omega arith) in
-    let rest : Goes grain next (after_effects grain picture first.effects) (one_by_one no_restarts (member_deed way) next ids) (length ids * 513) =
-    many_goes grain way ids next (after_effects grain picture first.effects) (goes_sound grain b picture first 513 one.goes) (omega arith) (omega arith) apart.1
+    let after : after_deed none_known b first ≡ next = after_is grain none_known b picture first 513 one.goes in
+    let rest : Goes grain next (after_effects grain picture first.effects) (one_by_one none_known (member_deed way) next ids) (length ids * 513) =
+    many_goes grain way ids next (after_effects grain picture first.effects) (goes_sound grain b picture first 513 one.goes) (omega arith) apart.1
     (λ e m found among copying.
     let ne : m.id.0 ≢ id.0 = apart.0 m.id among in
     let others = one.others e in
     let there : Contains b.tables.mappings m = others.rows m found ne in
     whole_same b next m vols (others.slots m.id.0 ne) ∙ whole e m there (later_in id m.id ids among) copying) in
-    let whole_deed : Goes grain b picture (first then one_by_one no_restarts (member_deed way) next ids) (513 + length ids * 513) = goes_then grain b picture first (one_by_one no_restarts (member_deed way) next ids) 513 (length ids * 513) one.goes rest in
-    more_births grain b picture (first then one_by_one no_restarts (member_deed way) (after_deed no_restarts b first) ids) (513 + length ids * 513) (suc (length ids) * 513) (omega arith)
-    (subst (λ (x : Books). Goes grain b picture (first then one_by_one no_restarts (member_deed way) x ids) (513 + length ids * 513)) (sym after) whole_deed)
+    let whole_deed : Goes grain b picture (first then one_by_one none_known (member_deed way) next ids) (513 + length ids * 513) = goes_then grain b picture first (one_by_one none_known (member_deed way) next ids) 513 (length ids * 513) one.goes rest in
+    more_births grain b picture (first then one_by_one none_known (member_deed way) (after_deed none_known b first) ids) (513 + length ids * 513) (suc (length ids) * 513) (omega arith)
+    (subst (λ (x : Books). Goes grain b picture (first then one_by_one none_known (member_deed way) x ids) (513 + length ids * 513)) (sym after) whole_deed)
 
 -- ---- the group
 
@@ -219,7 +221,7 @@ members_ordered b g o =
       distinct = AllPairs-filter (λ (x y : Mapping). x.name ≢ y.name) (is_in g) b.tables.mappings o.distinct;
     }
 
-stop_group_is : (way : StopWay) (b : Books) (ms : List Mapping) → stop_group way b ms ≡ one_by_one no_restarts (member_deed way) b (map (λ (m : Mapping). m.id) ms)
+stop_group_is : (way : StopWay) (b : Books) (ms : List Mapping) → stop_group way b ms ≡ one_by_one none_known (member_deed way) b (map (λ (m : Mapping). m.id) ms)
 unfolding member_deed
 stop_group_is way b ms = refl
 
@@ -241,10 +243,9 @@ stop_group_suits grain decisions w r way small st e =
     let count : length ids ≡ length ms = length-map ms (λ (m : Mapping). m.id) in
     let at_once : length b.tables.mappings ≤ 512 = st.few.at_once in
     let le : length ms ≤ 512 = few_members b g.id at_once in
-    let births : b.sheet.births ≤ decisions * 2 ^ 20 = st.few.births in
-    let goes : Goes grain b w.picture (one_by_one no_restarts (member_deed way) b ids) (length ids * 513) =
-    many_goes grain way ids b w.picture (sound_of decisions w st) at_once (omega arith) (apart_ids ms (members_ordered b g.id rows))
+    let goes : Goes grain b w.picture (one_by_one none_known (member_deed way) b ids) (length ids * 513) =
+    many_goes grain way ids b w.picture (sound_of decisions w st) at_once (apart_ids ms (members_ordered b g.id rows))
     (group_whole way b ms rows (λ m found. (filter_from (is_in g.id) b.tables.mappings m found).0) none.1.1.0) in
     subst (λ (o : Option Group). Suits grain decisions w (for_members b.tables o (stop_group way b))) (sym one.1)
     (subst (λ (d : Deed). Suits grain decisions w d) (sym (stop_group_is way b ms))
-    (goes_suits grain decisions w (one_by_one no_restarts (member_deed way) b ids) (length ids * 513) small st goes (omega arith)))
+    (goes_suits grain decisions w (one_by_one none_known (member_deed way) b ids) (length ids * 513) small st goes (omega arith)))

@@ -41,7 +41,9 @@ use Rattle.fc_base.specs.declared.state.Access.{Access}
 use Rattle.fc_legal.specs.Whole.{volume_told}
 use Rattle.std.specs.Prelude.{◌&&◌}
 use Rattle.std.proofs.lemmas.Bool.{false_from_ne_true}
-use Rattle.fc_decided.proofs.Setting.{AreOrdered, Restated, AreRestated, sets, set_in, set_cases, itself, one_mapping, tables_set, tabled_sets, fit_sets, fit_append, with_mappings}
+use Rattle.fc_decided.proofs.Keeping.{keeps_all, as_large_same}
+use Rattle.fc_decided.proofs.Sparing.{sparing}
+use Rattle.fc_decided.proofs.Setting.{sets_stay, AreOrdered, Restated, AreRestated, sets, set_in, set_cases, itself, one_mapping, tables_set, tabled_sets, fit_sets, fit_append, with_mappings}
 use Rattle.fc_decided.proofs.Unrefused.{none_of, none_taken}
 use Rattle.fc_base.specs.declared.fault.Refusal.TheVariants.{Limit}
 use Rattle.fc_entry.specs.Refused.{where_}
@@ -104,6 +106,8 @@ make_group_suits grain decisions w name small st free =
         volumes_at_once = st.few.volumes_at_once;
       };
       plain = st.plain;
+      begins = sparing tt;
+      keeps = keeps_all b.tables _ [] refl refl;
     }
 
 -- ---- a group goes
@@ -117,7 +121,7 @@ singles_are [] = refl
 singles_are (m ∷ ms) = ap (λ (cs : List Change). SetMapping (single m) ∷ cs) (singles_are ms)
 
 single_restated : (m : Mapping) → Restated m (single m)
-single_restated m = record { id = refl; name = refl; source = refl; target = refl; group = λ g e. absurd cc }
+single_restated m = record { id = refl; name = refl; source = refl; target = refl; incremental = refl; group = λ g e. absurd cc }
 
 leavers : Tables → GroupId → List Mapping
 leavers t g = map single (members t g)
@@ -275,4 +279,6 @@ remove_group_suits grain decisions w g small st found =
         volumes_at_once = st.few.volumes_at_once;
       };
       plain = st.plain;
+      begins = sparing tt;
+      keeps = record { stay = sets_stay b.tables.mappings (leavers b.tables g.id) [] o (all_restated b.tables g.id); as_large = as_large_same b.tables (ungrouped b g.id).tables refl };
     })

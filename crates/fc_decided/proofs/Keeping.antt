@@ -1,5 +1,5 @@
 -- The mappings of tables that stay in others, or are forgotten by events.
-use Rattle.std.proofs.Common.{◌≡◌, ℕ, List, [], ◌∷◌, ◌++◌, refl, sym, ap, subst, ◌∙◌, Contains, ◌⊎◌, inl, inr}
+use Rattle.std.proofs.Common.{◌≡◌, ℕ, List, [], ◌∷◌, ◌++◌, refl, sym, subst, ◌∙◌, Contains, ◌⊎◌, inl, inr}
 use Rattle.std.specs.Prelude.{find, ◌==◌}
 use Rattle.fc_base.specs.Tables.{Tables, volume_with}
 use Rattle.fc_base.specs.declared.decision.LaneEvent.{LaneEvent}

@@ -1,6 +1,6 @@
 -- A volume comes.
 use Rattle.std.proofs.Common.{◌≡◌, ◌≢◌, ℕ, ◌+◌, ◌*◌, ◌/◌, ◌%◌, ◌<◌, ◌≤◌, ◌^◌, Bool, true, false, not, ◌||◌, List, [], ◌∷◌, ◌++◌, length, map, replicate, Option, Some, None, refl, sym, ap, subst, ◌∙◌, arith, Contains, inl, inr, All, length-append}
-use Rattle.std.specs.Prelude.{◌==◌, nat_le, nat_lt, IsSome}
+use Rattle.std.specs.Prelude.{◌==◌, nat_le, nat_lt, find, IsSome}
 use Rattle.std.specs.Option.{ForSome}
 use Rattle.std.proofs.lemmas.Bool.Decides.{nat_tests}
 use Rattle.std.proofs.lemmas.List.{map-append, length-replicate}
@@ -40,6 +40,8 @@ use Rattle.fc_sheets.proofs.Places.{Removed, push_is, push_here, all_of_big}
 use Rattle.fc_decided.proofs.Agreeing.{some_from, volume_there, volume_from}
 use Rattle.fc_decided.proofs.Apart.{one_lane}
 use Rattle.fc_decided.proofs.Carrying.{StaysIn, live_carried, slot_carried}
+use Rattle.fc_decided.proofs.Keeping.{stay_all}
+use Rattle.fc_decided.proofs.Sparing.{sparing}
 use Rattle.fc_decided.proofs.Frame.{Suits, tabled, sheeted, few_births}
 use Rattle.fc_decided.proofs.Lists.{find_longer, any_in, all_from}
 use Rattle.fc_decided.proofs.Agreeing.{is_none}
@@ -61,6 +63,14 @@ pub record CanCome (w : Whole) (v : Volume) : Type 0 where
   pub room : length w.books.tables.volumes < 512
   pub free : volume_named w.books.tables (Name v.name) ≡ None
   pub disks : All (λ (pool : Pool). 0 < of_kind v.kind pool) w.books.pools
+
+-- a volume that was found is found among more
+longer_has : (vs : List Volume) (p : Volume → Bool) (v : Volume) (grains : ℕ) → HasGrains (find p vs) grains → HasGrains (find p (vs ++ v ∷ [])) grains
+longer_has vs p v grains has = by (find p vs) refl has
+  where
+    by : (o : Option Volume) → find p vs ≡ o → HasGrains o grains → HasGrains (find p (vs ++ v ∷ [])) grains
+    by None e none = absurd none
+    by (Some x) e is = subst (λ (o : Option Volume). HasGrains o grains) (sym (find_longer p vs (v ∷ []) x e)) is
 
 module _ (grain : GrainSize) (decisions : ℕ) (w : Whole) (v : Volume) where
   new_tables : Tables
@@ -211,6 +221,8 @@ module _ (grain : GrainSize) (decisions : ℕ) (w : Whole) (v : Volume) where
           at_once = st.few.at_once;
           volumes_at_once = (let room = can.room in omega (arith, n, room));
         };
+        begins = sparing (tt, tt);
+        keeps = record { stay = stay_all b.tables.mappings (Make v.id v.grains v.kind ∷ []); as_large = λ m found grains has. longer_has b.tables.volumes (λ (x : Volume). m.target.0 == x.id.0) v grains has };
         plain = plain_push b.tables.volumes w.picture v (record { volume = v.id; now = replicate v.grains (zeros grain); under = replicate v.grains (zeros grain) }) st.plain refl (length-replicate v.grains (zeros grain)) (length-replicate v.grains (zeros grain));
       }
 

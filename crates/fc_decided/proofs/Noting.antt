@@ -1,14 +1,14 @@
 -- What is kept of incremental mappings, through notes and events: each row stays one of a mapping of the table.
-use Rattle.std.proofs.Common.{◌≡◌, ◌≢◌, ℕ, zero, suc, ◌+◌, ◌<◌, Bool, true, false, not, cond, List, [], ◌∷◌, ◌++◌, length, get_or, map, fold, set, filter, replicate, Option, Some, None, refl, sym, ap, subst, ◌∙◌, Contains, All, AllPairs, ◌⊎◌, inl, inr, arith, length-set}
+use Rattle.std.proofs.Common.{◌≡◌, ◌≢◌, ℕ, zero, suc, ◌+◌, ◌<◌, Bool, true, false, not, cond, List, [], ◌∷◌, ◌++◌, length, get_or, map, fold, filter, replicate, Option, Some, None, refl, sym, ap, subst, ◌∙◌, Contains, All, arith, length-set}
 use Rattle.std.specs.Prelude.{◌&&◌, ◌||◌, ◌==◌, find, flat_map}
 use Rattle.std.specs.List.{list_any, range_with_len}
 use Rattle.std.specs.Option.{ForSome}
-use Rattle.std.proofs.lemmas.Bool.{cases_Bool, eqb-true, eq-eqb, ne_eqb, both_ways}
+use Rattle.std.proofs.lemmas.Bool.{eqb-true, eq-eqb, ne_eqb, both_ways}
 use Rattle.std.proofs.lemmas.List.{get_or-map, length-map, length-replicate}
 use Rattle.std.proofs.lemmas.List.Elements.{All-contains, All-map, All-push, All-filter, Contains-get_or}
 use Rattle.std.proofs.lemmas.List.Kept.{AllPairs-filter}
 use Rattle.std.proofs.lemmas.List.Quantifiers.{all_pairs_push}
-use Rattle.fc_base.specs.Sheet.{Slot, slot_at, mapping_place, live_place, volume_grains, grains_at}
+use Rattle.fc_base.specs.Sheet.{Slot, slot_at, mapping_place, volume_grains}
 use Rattle.fc_base.specs.Tables.{Tables, IsOrdered, volume_with}
 use Rattle.fc_base.specs.declared.decision.LaneEvent.{LaneEvent}
 use Rattle.fc_base.specs.declared.decision.LaneEvent.TheVariants.{Make, Remove, Trigger, Retire, Detach, Split, Force, Drop, Forget, NoteCut, Access, Work, Arm}
@@ -17,7 +17,7 @@ use Rattle.fc_base.specs.declared.request.Pair.{Pair}
 use Rattle.fc_base.specs.declared.volume.Mapping.{Mapping}
 use Rattle.fc_books.specs.Sound.{HasGrains}
 use Rattle.fc_books.specs.Starting.{pair_of}
-use Rattle.fc_changed.specs.Notes.{Note, has, grains_with, names, joins}
+use Rattle.fc_changed.specs.Notes.{Note, has, joins}
 use Rattle.fc_changed.specs.Notes.Note.{Began, Wrote, Left, Cut, Forgotten}
 use Rattle.fc_changed.specs.Row.{Row, is_of, row_names, with_all, with_none, row_began, row_wrote, row_left, row_cut, with_new, after_note}
 use Rattle.fc_decided.proofs.Keeping.{IsForgotten}
@@ -43,15 +43,12 @@ like_if : (b : Bool) (r x y : Row) → IsLike r x → IsLike r y → IsLike r (c
 like_if true r x y first second = first
 like_if false r x y first second = second
 
-like_all : (r : Row) → IsLike r (with_all r)
-like_all r = record { map_is = refl; source_is = refl; target_is = refl; size = length-replicate (length r.same) true }
-
 like_none : (r : Row) → IsLike r (with_none r)
 like_none r = record { map_is = refl; source_is = refl; target_is = refl; size = length-replicate (length r.same) false }
 
 like_began : (source target : ℕ) (r : Row) → IsLike r (row_began source target r)
 like_began source target r =
-    like_if (joins r.source r.target source target) r _ _
+    like_if (joins r.source r.target source target) r (record (with_all r) { into = target }) (cond (row_names r target) (with_none r) r)
     (record { map_is = refl; source_is = refl; target_is = refl; size = length-replicate (length r.same) true })
     (like_if (row_names r target) r (with_none r) r (like_none r) (like_itself r))
 

@@ -1,7 +1,7 @@
 -- Mappings come and go.
 use Rattle.std.proofs.Common.{◌≡◌, ◌≢◌, ℕ, ◌+◌, ◌<◌, ◌≤◌, ◌^◌, Bool, true, false, cond, not, ◌&&◌, List, [], ◌∷◌, ◌++◌, length, fold, Option, Some, None, refl, sym, ap, subst, ◌∙◌, arith, Contains, ◌⊎◌, inl, inr, length-append}
 use Rattle.std.specs.Prelude.{◌==◌, nat_le, filter, IsSome, count_by, option_map}
-use Rattle.std.proofs.lemmas.Bool.{cases_Bool, eqb-true, eq-eqb, both_ways, false_from_ne_true}
+use Rattle.std.proofs.lemmas.Bool.{cases_Bool, cases_eq, eqb-true, eq-eqb, ne_eqb, both_ways, false_from_ne_true}
 use Rattle.std.proofs.lemmas.Bool.Decides.{nat_tests}
 use Rattle.std.proofs.lemmas.List.Elements.{All-push, All-filter, All-weaker, All-contains, Contains-append_left, Contains-push_cases}
 use Rattle.std.proofs.lemmas.List.Sums.{length-filter, count_by-le-length}
@@ -38,6 +38,8 @@ use Rattle.fc_legal.specs.Stands.{AreFew, Stands}
 use Rattle.fc_legal.specs.Whole.{Whole, volume_told}
 use Rattle.fc_sheets.proofs.Finding.{mapping_place_none, no_mapping_place}
 use Rattle.fc_decided.proofs.Agreeing.{some_is, volume_there, group_there, has_grains, of_tables_same}
+use Rattle.fc_decided.proofs.Keeping.{AreForgotten, Keeps, same_itself, as_large_same}
+use Rattle.fc_decided.proofs.Sparing.{sparing}
 use Rattle.fc_decided.proofs.Frame.{Suits, tabled, sheeted}
 use Rattle.fc_decided.proofs.Lists.{find_from, find_there, find_short, find_filtered, filter_from, filter_in, map_alike}
 use Rattle.fc_decided.proofs.Agreeing.{is_none}
@@ -170,6 +172,8 @@ module _ (grain : GrainSize) (decisions : ℕ) (w : Whole) (s t : Volume) (name 
           volumes_at_once = st.few.volumes_at_once;
         };
         plain = st.plain;
+        begins = sparing tt;
+        keeps = record { stay = λ m found. inl (m, Contains-append_left w.books.tables.mappings (made ∷ []) m found, same_itself m); as_large = as_large_same w.books.tables (after_change w.books.tables (AddMapping made)) refl };
       }
 
   -- in the stated order
@@ -371,6 +375,18 @@ module _ (grain : GrainSize) (decisions : ℕ) (w : Whole) (m : Mapping) (found 
         volumes_at_once = st.few.volumes_at_once;
       }
 
+  -- every other mapping stays
+  gone_keeps : (es : List LaneEvent) → ((i : ℕ) → m.id.0 ≡ i → AreForgotten i es) → Keeps w.books.tables without_books.tables es
+  unfolding without_books left stays
+  gone_keeps es gone =
+      record {
+        stay = λ x there. elim (cases_eq m.id.0 x.id.0) [
+          | inl same ↦ inr (gone x.id.0 same)
+          | inr other ↦ inl (x, filter_in stays w.books.tables.mappings x there (ap not (ne_eqb m.id.0 x.id.0 other)), same_itself x)
+        ];
+        as_large = as_large_same w.books.tables without_books.tables refl;
+      }
+
   abbrev gone_deed : Bool → Deed
   gone_deed b = record { effects = Gone m.id ∷ []; events = going b; changes = RemoveMapping m.id ∷ [] }
 
@@ -390,6 +406,8 @@ module _ (grain : GrainSize) (decisions : ℕ) (w : Whole) (m : Mapping) (found 
         agree = removed_agree st;
         few = removed_few st;
         plain = st.plain;
+        begins = sparing (tt, (tt, tt));
+        keeps = gone_keeps (going true) (λ i e. inr (inl e));
       }
   going_suits small st false running =
       record {
@@ -405,6 +423,8 @@ module _ (grain : GrainSize) (decisions : ℕ) (w : Whole) (m : Mapping) (found 
         agree = removed_agree st;
         few = removed_few st;
         plain = st.plain;
+        begins = sparing (tt, tt);
+        keeps = gone_keeps (going false) (λ i e. inl e);
       }
 
   pub remove_mapping_suits : decisions < 2 ^ 32 → Stands decisions w → Suits grain decisions w (remove_mapping m)

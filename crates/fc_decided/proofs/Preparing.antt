@@ -14,14 +14,15 @@ use Rattle.fc_legal.specs.Stands.{ArePlain, AreFew, Stands}
 use Rattle.fc_legal.specs.Whole.{Whole}
 use Rattle.fc_sheets.proofs.Finding.{mapping_place_at}
 use Rattle.fc_decided.proofs.Copying.{AreQuiet, quiet_effects, quiet_append}
+use Rattle.fc_decided.proofs.Sparing.{sparing, still_sparing}
 use Rattle.fc_decided.proofs.Frame.{Suits, SuitsAs, suits_as}
 use Rattle.fc_decided.proofs.Reaching.{volumes_through}
 use Rattle.fc_decided.proofs.Receiving.{Receives, told_accesses, accesses_within, accesses_are, turned_agree, then_books, fresh}
 use Rattle.fc_decided.proofs.Resting.{births_fit}
-use Rattle.fc_decided.proofs.Setting.{sets, set_in, tables_set, tabled_sets, fit_sets}
+use Rattle.fc_decided.proofs.Setting.{sets_keep, sets, set_in, tables_set, tabled_sets, fit_sets}
 use Rattle.fc_decided.proofs.Triggering.{ready_no_slot}
 use Rattle.fc_decided.proofs.Turning.{CanTurn, all_restated}
-use Rattle.fc_decided.proofs.Turns.{giving, turn_events, turn_changes, give_effects, begin_effects, accesses_sheet, accesses_picture, accesses_fit, accesses_disks, accesses_no_work, accesses_gone}
+use Rattle.fc_decided.proofs.Turns.{accesses_still, giving, turn_events, turn_changes, give_effects, begin_effects, accesses_sheet, accesses_picture, accesses_fit, accesses_disks, accesses_no_work, accesses_gone}
 
 module _ (grain : GrainSize) (decisions : ℕ) (w : Whole) (maps : List Mapping) (restore : Bool) (small : decisions < 2 ^ 32) (st : Stands decisions w) (can : CanTurn w.books.tables maps true) where
   abbrev now_books : Books
@@ -80,6 +81,8 @@ module _ (grain : GrainSize) (decisions : ℕ) (w : Whole) (maps : List Mapping)
           at_once = subst (λ (n : ℕ). n ≤ 512) (sym (length-map b.tables.mappings (set_in now_new))) st.few.at_once;
           volumes_at_once = st.few.volumes_at_once;
         });
+        begins = sparing (still_sparing b.tables (told_accesses Prepared maps) (accesses_still Prepared maps));
+        keeps = sets_keep b now_new (told_accesses Prepared maps) t.mappings from;
         plain = subst (λ (p : Picture). ArePlain b.tables.volumes p) (sym (quiet_effects grain w.picture effects quiet)) st.plain;
       }
 

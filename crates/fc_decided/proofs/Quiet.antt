@@ -197,6 +197,7 @@ all_stop (d ∷ ds) b c s before after st ordered there busy none p =
       name = refl;
       source = refl;
       target = refl;
+      incremental = refl;
       group = refl;
       state = λ e. absurd cc;
       busy = busy d (first_in d ds);

@@ -8,6 +8,8 @@ use Rattle.fc_books.specs.Books.{Books, nothing, told}
 use Rattle.fc_legal.specs.Stands.{AreFew, Stands}
 use Rattle.fc_legal.specs.Whole.{Whole}
 use Rattle.fc_decided.proofs.Frame.{Suits, few_births}
+use Rattle.fc_decided.proofs.Keeping.{keeps_all}
+use Rattle.fc_decided.proofs.Sparing.{sparing}
 
 pub few_more : (b : Books) (decisions : ℕ) → AreFew b decisions → AreFew b (decisions + 1)
 few_more b decisions few =
@@ -38,6 +40,8 @@ nothing_suits grain decisions w small st =
       agree = st.sound.agree;
       few = few_more w.books decisions st.few;
       plain = st.plain;
+      begins = sparing tt;
+      keeps = keeps_all w.books.tables w.books.tables [] refl refl;
     }
 
 pub arm_suits : (grain : GrainSize) (decisions : ℕ) (w : Whole) (volume : VolId) (place : GrainNo) (calls : ℕ) → decisions < 2 ^ 32 → Stands decisions w → Suits grain decisions w (told (Arm volume place calls ∷ []))
@@ -55,4 +59,6 @@ arm_suits grain decisions w volume place calls small st =
       agree = st.sound.agree;
       few = few_more w.books decisions st.few;
       plain = st.plain;
+      begins = sparing (tt, tt);
+      keeps = keeps_all w.books.tables w.books.tables (Arm volume place calls ∷ []) refl refl;
     }

@@ -4,7 +4,9 @@ use Rattle.std.specs.Prelude.{if◌then◌else◌, ◌==◌, find, option_map}
 use Rattle.std.proofs.lemmas.Bool.{cases_Bool, eqb-true, eq-eqb, both_ways}
 use Rattle.std.proofs.lemmas.List.Elements.{All-contains}
 use Rattle.fc_base.specs.Tables.{Tables, IsOrdered, after_change, Fits}
+use Rattle.fc_base.specs.declared.decision.LaneEvent.{LaneEvent}
 use Rattle.fc_base.specs.declared.ids.GroupId.{GroupId}
+use Rattle.fc_base.specs.declared.ids.VolId.{VolId}
 use Rattle.fc_base.specs.declared.volume.Change.{Change}
 use Rattle.fc_base.specs.declared.volume.Change.TheVariants.{SetMapping}
 use Rattle.fc_base.specs.declared.volume.Mapping.{Mapping}
@@ -12,6 +14,7 @@ use Rattle.fc_books.specs.Books.{Books}
 use Rattle.fc_books.specs.Sound.{AreTables}
 use Rattle.fc_legal.specs.Lawful.{FitChanges}
 use Rattle.fc_decided.proofs.Frame.{tabled}
+use Rattle.fc_decided.proofs.Keeping.{Stay, Keeps, as_large_same}
 use Rattle.fc_decided.proofs.Lists.{first_in, later_in, in_cases, none_in, map_in, map_from, all_from}
 use Rattle.fc_decided.proofs.Ordered.{one_of_id, map_ordered, found_by_id}
 
@@ -85,10 +88,11 @@ pub record Restated (m n : Mapping) : Type 0 where
   pub name : n.name ≡ m.name
   pub source : n.source ≡ m.source
   pub target : n.target ≡ m.target
+  pub incremental : n.incremental ≡ m.incremental
   pub group : (g : GroupId) → n.group ≡ Some g → m.group ≡ Some g
 
 pub itself : (m : Mapping) → Restated m m
-itself m = record { id = refl; name = refl; source = refl; target = refl; group = λ g e. e }
+itself m = record { id = refl; name = refl; source = refl; target = refl; incremental = refl; group = λ g e. e }
 
 -- All that is set is of mappings that are there.
 abbrev pub AreRestated : List Mapping → List Mapping → Type 0
@@ -101,6 +105,19 @@ restated_in maps news m o from found = elim (set_cases news m) [
       let r = from (set_in news m) there.0 in
       subst (λ (x : Mapping). Restated x (set_in news m)) (one_mapping maps r.0 m o r.1 found (sym r.2.id ∙ there.1)) r.2
 ]
+
+-- They stay, whatever the events.
+pub sets_stay : (maps news : List Mapping) (es : List LaneEvent) → AreOrdered maps → AreRestated maps news → Stay maps (map (set_in news) maps) es
+sets_stay maps news es o from m found =
+    let r = restated_in maps news m o from found in
+    inl (set_in news m, map_in (set_in news) maps m found, record { id = r.id; source = ap (λ (v : VolId). v.0) r.source; target = ap (λ (v : VolId). v.0) r.target; incremental = r.incremental })
+
+pub sets_keep : (b : Books) (news : List Mapping) (es : List LaneEvent) → AreOrdered b.tables.mappings → AreRestated b.tables.mappings news → Keeps b.tables (with_mappings b (map (set_in news) b.tables.mappings)).tables es
+sets_keep b news es o from =
+    record {
+      stay = sets_stay b.tables.mappings news es o from;
+      as_large = as_large_same b.tables (with_mappings b (map (set_in news) b.tables.mappings)).tables refl;
+    }
 
 -- ---- the tables after it
 

@@ -22,7 +22,8 @@ use Rattle.fc_books.specs.Deciding.{settle}
 use Rattle.fc_books.specs.Settling.{drops, settles_in, settling}
 use Rattle.fc_entry.specs.Picture.{Picture}
 use Rattle.fc_entry.specs.PlainStep.{after_effects}
-use Rattle.fc_legal.specs.Lawful.{IsLawful, left_by as left_whole}
+use Rattle.fc_legal.specs.Lawful.{IsLawful}
+use Rattle.fc_legal.specs.Steps.{after_settling}
 use Rattle.fc_decided.specs.Law.{AreSettled}
 use Rattle.fc_legal.specs.Stands.{ArePlain, Stands}
 use Rattle.fc_legal.specs.Whole.{Whole}
@@ -31,7 +32,7 @@ use Rattle.fc_sheets.proofs.Steps.{Nobody}
 use Rattle.fc_decided.proofs.Apart.{fold_append, sheet_through}
 use Rattle.fc_decided.proofs.Counting.{old_uncounted, not_counted}
 use Rattle.fc_decided.proofs.Dropping.{needed_or_named, Drops, drop_events, unneeded_names, settling_drops, not_named, old_named}
-use Rattle.fc_decided.proofs.Frame.{all_leave, tabled, Suits, lawful_alone}
+use Rattle.fc_decided.proofs.Frame.{all_leave_plain, tabled, Suits, lawful_alone}
 use Rattle.fc_decided.proofs.Goings.{left_by, rows_parts, Part, goes_after}
 use Rattle.fc_decided.proofs.Joint.{HasSeen, StateSeen}
 use Rattle.fc_decided.proofs.Lists.{first_in, later_in, none_in}
@@ -43,7 +44,8 @@ use Rattle.fc_decided.proofs.Seen.{Seen, seen}
 use Rattle.fc_decided.proofs.Settles.{Ready, still_ready, SettlesOne, settles_one}
 use Rattle.fc_decided.proofs.Stops.{Sound, Goes, At, slot_of, not_needed}
 use Rattle.fc_decided.proofs.Suiting.{sound_of, goes_suits}
-use Rattle.fc_decided.proofs.TableSteps.{TableStep, table_none, table_then, table_apart}
+use Rattle.fc_decided.proofs.TableSteps.{TableStep, table_none, table_then, table_apart, calm_sparing}
+use Rattle.fc_follow.specs.Following.{restarts}
 
 -- ---- mapping by mapping
 
@@ -219,8 +221,10 @@ pub settle_lawful : (grain : GrainSize) (decisions : ℕ) (w : Whole) → decisi
 settle_lawful grain decisions w small st = lawful_alone grain decisions w NoMemory (settling w.books) st (settling_suits grain decisions w small st)
 
 -- After it the books are settled.
-pub settle_settles : (grain : GrainSize) (decisions : ℕ) (w : Whole) → decisions < 2 ^ 32 → Stands decisions w → AreSettled (left_whole grain w (settle w.books)).books
+pub settle_settles : (grain : GrainSize) (decisions : ℕ) (w : Whole) → decisions < 2 ^ 32 → Stands decisions w → AreSettled (after_settling grain w).books
 settle_settles grain decisions w small st =
     let d = settling w.books in
-    let suits = settling_suits grain decisions w small st in
-    subst (λ (b : Books). AreNeeded b.sheet.slots) (sym (all_leave w.books d.events d.changes suits.fits)) (settling_olds grain w.books w.picture (sound_of decisions w st))
+    let goes = settling_goes grain w.books w.picture (sound_of decisions w st) in
+    subst (λ (b : Books). AreNeeded b.sheet.slots)
+    (sym (all_leave_plain w.books.tables (restarts w.rows) w.books d.events d.changes (calm_sparing w.books.tables d.events goes.table.calm)))
+    (settling_olds grain w.books w.picture (sound_of decisions w st))

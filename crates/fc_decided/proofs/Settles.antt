@@ -169,7 +169,7 @@ stays_settled grain c picture m rest i st found sees =
 ends_settled : (grain : GrainSize) (c : Books) (picture : Picture) (m : Mapping) (rest : List Mapping) (state : MapState) → IsSound c.sheet → Standing c c.sheet.slots (IsIdOf (m ∷ rest)) → Contains c.tables.mappings m →
     is_idle m.state ≡ false → state ≢ Empty → StateSeen state (seen c.sheet.slots m.id.0) m.target.0 → SettlesOne grain c picture m rest (ends_in state m)
 ends_settled grain c picture m rest state i st found busy ok sees =
-    let f : Follows c m (in_state state m) = record { found = found; id = refl; name = refl; source = refl; target = refl; group = refl; state = ok; busy = busy } in
+    let f : Follows c m (in_state state m) = record { found = found; id = refl; name = refl; source = refl; target = refl; incremental = refl; group = refl; state = ok; busy = busy } in
     let one = one_ends c c.sheet m m state (IsIdOf (m ∷ rest)) (IsIdOf rest) st f sees (fewer_pending m rest) in
     let d = ends_in state m in
     let q : Quietly c.sheet d.events = quiet c.sheet d.events one.ends.quiet in
@@ -206,7 +206,7 @@ detach_settled grain b c picture m rest i st found busy whole copy =
       joint = joint_kept c.tables slots next.slots (Only m.id.0) (IsIdOf (m ∷ rest)) (IsIdOf (m ∷ rest)) (kept_left slots next.slots (Only m.id.0) d.left)
           (λ n e. record { d = m; among = first_in m rest; is = sym e }) (λ n p. p) st.joint;
     } in
-    let f : Follows c m (in_state IdleOrCopied (as_left b m)) = record { found = found; id = refl; name = refl; source = refl; target = refl; group = refl; state = λ e. absurd cc; busy = busy } in
+    let f : Follows c m (in_state IdleOrCopied (as_left b m)) = record { found = found; id = refl; name = refl; source = refl; target = refl; incremental = refl; group = refl; state = λ e. absurd cc; busy = busy } in
     let one = cut_ends c b next m (ends_in IdleOrCopied (as_left b m)) m.id.0 (IsIdOf rest)
     (one_ends c next m (as_left b m) IdleOrCopied (IsIdOf (m ∷ rest)) (IsIdOf rest) st' f (d.left.went m.id.0 refl) (fewer_pending m rest)) in
     let q : Quietly next own.events = quiet next own.events one.ends.quiet in

@@ -21,15 +21,16 @@ use Rattle.fc_entry.specs.PlainStep.{after_trigger, after_effects}
 use Rattle.fc_legal.specs.Stands.{ArePlain, AreFew, Stands}
 use Rattle.fc_legal.specs.Whole.{Whole}
 use Rattle.fc_decided.proofs.Copying.{effects_append, quiet_effects, AsLarge, plain_size, plain_triggered}
+use Rattle.fc_decided.proofs.Sparing.{starting}
 use Rattle.fc_decided.proofs.Frame.{Suits, SuitsAs, suits_as, few_births}
 use Rattle.fc_decided.proofs.Lists.{map_from}
 use Rattle.fc_decided.proofs.Ordered.{one_of_id}
 use Rattle.fc_decided.proofs.Reaching.{volumes_through}
 use Rattle.fc_decided.proofs.Receiving.{told_accesses, accesses_within, accesses_are, turned_agree, then_books, fresh}
-use Rattle.fc_decided.proofs.Setting.{sets, set_in, tables_set, tabled_sets, fit_sets}
+use Rattle.fc_decided.proofs.Setting.{sets_keep, sets, set_in, tables_set, tabled_sets, fit_sets}
 use Rattle.fc_decided.proofs.Triggering.{ends_of, fits_trigger, through, receives}
 use Rattle.fc_decided.proofs.Turning.{CanTurn, all_restated}
-use Rattle.fc_decided.proofs.Turns.{giving, turn_events, turn_changes, give_effects, begin_effects, accesses_sheet, accesses_picture, accesses_fit, accesses_disks, accesses_no_work, accesses_gone}
+use Rattle.fc_decided.proofs.Turns.{accesses_still, giving, turn_events, turn_changes, give_effects, begin_effects, accesses_sheet, accesses_picture, accesses_fit, accesses_disks, accesses_no_work, accesses_gone}
 
 module _ (grain : GrainSize) (decisions : ℕ) (w : Whole) (maps : List Mapping) (gives restore : Bool) (small : decisions < 2 ^ 32) (st : Stands decisions w) (can : CanTurn w.books.tables maps gives)
     (apart : (m n : Mapping) → Contains maps m → Contains maps n → m.target.0 ≢ n.source.0) (no_loop : HasNoLoop (shape_of (triggered (map pair_of maps) w.books.sheet).slots)) (few_pairs : length maps ≤ 512) where
@@ -114,6 +115,8 @@ module _ (grain : GrainSize) (decisions : ℕ) (w : Whole) (maps : List Mapping)
           at_once = subst (λ (n : ℕ). n ≤ 512) (sym (length-map b.tables.mappings (set_in now_new))) st.few.at_once;
           volumes_at_once = st.few.volumes_at_once;
         });
+        begins = starting (λ p found. let r = map_from pair_of maps p found in (r.0, can.among r.0 r.1, r.2)) (accesses_still Copying maps);
+        keeps = sets_keep b now_new (Trigger copies ∷ told_accesses Copying maps) t.mappings from;
         plain = subst (λ (p : Picture). ArePlain b.tables.volumes p) (sym are) (plain_triggered b.tables.volumes w.picture copies as_large st.plain);
       }
 

@@ -114,10 +114,10 @@ pub busy_copying : (m : Mapping) → m.state ≡ Copying → is_idle m.state ≡
 busy_copying m e = ap is_idle e
 
 pub follows : (b : Books) (m : Mapping) (state : MapState) → Contains b.tables.mappings m → is_idle m.state ≡ false → state ≢ Empty → Follows b m (in_state state (as_left b m))
-follows b m state found busy ok = record { found = found; id = refl; name = refl; source = refl; target = refl; group = refl; state = ok; busy = busy }
+follows b m state found busy ok = record { found = found; id = refl; name = refl; source = refl; target = refl; incremental = refl; group = refl; state = ok; busy = busy }
 
 pub same_follows : (b : Books) (m : Mapping) (state : MapState) → Contains b.tables.mappings m → is_idle m.state ≡ false → state ≢ Empty → Follows b m (in_state state m)
-same_follows b m state found busy ok = record { found = found; id = refl; name = refl; source = refl; target = refl; group = refl; state = ok; busy = busy }
+same_follows b m state found busy ok = record { found = found; id = refl; name = refl; source = refl; target = refl; incremental = refl; group = refl; state = ok; busy = busy }
 
 -- what its end says of plain volumes
 left_effects : (grain : GrainSize) (b : Books) (m : Mapping) (picture : Picture) (state : MapState) (more : Deed) →

@@ -27,11 +27,13 @@ use Rattle.fc_decided.proofs.Apart.{sheet_through}
 use Rattle.fc_decided.proofs.Ends.{Rows}
 use Rattle.fc_decided.proofs.ForceStops.{MayStop, stops_goes}
 use Rattle.fc_decided.proofs.Frame.{tabled, sheeted, Suits, few_births}
+use Rattle.fc_decided.proofs.Keeping.{as_large_same}
+use Rattle.fc_decided.proofs.Sparing.{sparing}
 use Rattle.fc_decided.proofs.Joint.{joint_from, agree_from}
 use Rattle.fc_decided.proofs.Lists.{find_from}
 use Rattle.fc_decided.proofs.Quiet.{fits_from_all}
 use Rattle.fc_decided.proofs.Stops.{Sound, Goes}
-use Rattle.fc_decided.proofs.TableSteps.{calm_disks, calm_no_work}
+use Rattle.fc_decided.proofs.TableSteps.{calm_disks, calm_no_work, calm_sparing}
 use Rattle.fc_decided.proofs.Unrefused.{none_of, none_where, some_one}
 
 -- ---- what stands
@@ -93,6 +95,8 @@ goes_suits grain decisions w deed births small st g few =
         volumes_at_once = (let e : length (tabled b deed.changes).tables.volumes ≡ length b.tables.volumes = ap length vols in omega (arith, st.few.volumes_at_once, e));
       };
       plain = subst (λ (vs : List Volume). ArePlain vs (after_effects grain w.picture deed.effects)) (sym vols) g.plain;
+      begins = sparing (calm_sparing b.tables deed.events g.table.calm);
+      keeps = record { stay = g.table.stay; as_large = as_large_same b.tables (tabled b deed.changes).tables vols };
     }
 
 -- ---- a stop of a mapping

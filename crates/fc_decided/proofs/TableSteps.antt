@@ -14,13 +14,16 @@ use Rattle.fc_legal.specs.Whole.{volumes_told}
 use Rattle.fc_rules.specs.LaneTold.{LaneVolume, volumes_event}
 use Rattle.fc_decided.proofs.Apart.{fold_append}
 use Rattle.fc_decided.proofs.Frame.{tabled}
+use Rattle.fc_decided.proofs.Keeping.{Stay, stay_all, stay_then}
+use Rattle.fc_decided.proofs.Sparing.{Spares, AreSparing}
 use Rattle.fc_decided.proofs.Working.{NoWork, IsGone, AreGone, gone_append}
 
--- ---- events that are about no whole volume and no work
+-- ---- events that are about no whole volume and no work, and trigger nothing
 
 abbrev pub IsCalm : LaneEvent → Type 0
 IsCalm (Make volume grains kind) = ⊥
 IsCalm (Remove volume) = ⊥
+IsCalm (Trigger pairs) = ⊥
 IsCalm (Work m copies cleans) = ⊥
 IsCalm event = Unit {0}
 
@@ -37,7 +40,7 @@ calm_disks pools volumes [] calm = tt
 calm_disks pools volumes (Make volume grains kind ∷ es) calm = absurd calm.0
 calm_disks pools volumes (Remove volume ∷ es) calm = absurd calm.0
 calm_disks pools volumes (Work m copies cleans ∷ es) calm = absurd calm.0
-calm_disks pools volumes (Trigger pairs ∷ es) calm = (tt, calm_disks pools volumes es calm.1)
+calm_disks pools volumes (Trigger pairs ∷ es) calm = absurd calm.0
 calm_disks pools volumes (Retire m ∷ es) calm = (tt, calm_disks pools volumes es calm.1)
 calm_disks pools volumes (Detach m ∷ es) calm = (tt, calm_disks pools volumes es calm.1)
 calm_disks pools volumes (Split m ∷ es) calm = (tt, calm_disks pools volumes es calm.1)
@@ -53,7 +56,7 @@ calm_no_work [] calm = tt
 calm_no_work (Make volume grains kind ∷ es) calm = absurd calm.0
 calm_no_work (Remove volume ∷ es) calm = absurd calm.0
 calm_no_work (Work m copies cleans ∷ es) calm = absurd calm.0
-calm_no_work (Trigger pairs ∷ es) calm = (tt, calm_no_work es calm.1)
+calm_no_work (Trigger pairs ∷ es) calm = absurd calm.0
 calm_no_work (Retire m ∷ es) calm = (tt, calm_no_work es calm.1)
 calm_no_work (Detach m ∷ es) calm = (tt, calm_no_work es calm.1)
 calm_no_work (Split m ∷ es) calm = (tt, calm_no_work es calm.1)
@@ -63,6 +66,25 @@ calm_no_work (Forget m ∷ es) calm = (tt, calm_no_work es calm.1)
 calm_no_work (NoteCut m source target ∷ es) calm = (tt, calm_no_work es calm.1)
 calm_no_work (Access volume access ∷ es) calm = (tt, calm_no_work es calm.1)
 calm_no_work (Arm volume grain calls ∷ es) calm = (tt, calm_no_work es calm.1)
+
+calm_spares : (t : Tables) (e : LaneEvent) → IsCalm e → Spares t e
+calm_spares t (Make volume grains kind) calm = absurd calm
+calm_spares t (Remove volume) calm = absurd calm
+calm_spares t (Trigger pairs) calm = absurd calm
+calm_spares t (Work m copies cleans) calm = absurd calm
+calm_spares t (Retire m) calm = tt
+calm_spares t (Detach m) calm = tt
+calm_spares t (Split m) calm = tt
+calm_spares t (Force m dependents) calm = tt
+calm_spares t (Drop slot) calm = tt
+calm_spares t (Forget m) calm = tt
+calm_spares t (NoteCut m source target) calm = tt
+calm_spares t (Access volume access) calm = tt
+calm_spares t (Arm volume grain calls) calm = tt
+
+pub calm_sparing : (t : Tables) (es : List LaneEvent) → AreCalm es → AreSparing t es
+calm_sparing t [] calm = tt
+calm_sparing t (e ∷ es) calm = (calm_spares t e calm.0, calm_sparing t es calm.1)
 
 -- ---- tables after changes
 
@@ -114,6 +136,7 @@ pub record TableStep (b : Books) (events : List LaneEvent) (changes : List Chang
   pub calm : AreCalm events
   pub gone : AreGone (tabled b changes).tables.mappings events
   pub ids : (m : Mapping) → Contains (tabled b changes).tables.mappings m → (n : Mapping) × Contains b.tables.mappings n × (n.id.0 ≡ m.id.0)
+  pub stay : Stay b.tables.mappings (tabled b changes).tables.mappings events
   pub fit_changes : FitChanges b.tables changes
   pub volumes : fold volumes_event (volumes_told b.tables) events ≡ volumes_told (tabled b changes).tables
   pub same_volumes : (tabled b changes).tables.volumes ≡ b.tables.volumes
@@ -128,6 +151,7 @@ table_none b =
       calm = tt;
       gone = tt;
       ids = λ m found. (m, found, refl);
+      stay = stay_all b.tables.mappings [];
       fit_changes = tt;
       volumes = refl;
       same_volumes = refl;
@@ -155,6 +179,8 @@ then_by b es fs cs ds all e f first second =
           let x = second.ids m (subst (λ (y : Books). Contains y.tables.mappings m) (sym same) found) in
           let y = first.ids x.0 x.1 in
           (y.0, y.1, y.2 ∙ x.2);
+      stay = subst (λ (x : Books). Stay b.tables.mappings x.tables.mappings (es ++ fs)) same
+          (stay_then b.tables.mappings (tabled b cs).tables.mappings (tabled (tabled b cs) ds).tables.mappings es fs first.stay second.stay);
       fit_changes = fit_append b cs ds first.fit_changes second.fit_changes;
       volumes = fold_append volumes_event (volumes_told b.tables) es fs
           ∙ ap (λ z. fold volumes_event z fs) first.volumes
@@ -182,6 +208,7 @@ table_apart b e apart =
       calm = (calm_of e apart, tt);
       gone = (gone_of e apart, tt);
       ids = λ m found. (m, found, refl);
+      stay = stay_all b.tables.mappings (e ∷ []);
       fit_changes = tt;
       volumes = volumes_of e apart;
       same_volumes = refl;
@@ -197,7 +224,7 @@ table_apart b e apart =
     calm_of (Work m copies cleans) apart = absurd apart
     calm_of (Forget m) apart = absurd apart
     calm_of (Access volume access) apart = absurd apart
-    calm_of (Trigger pairs) apart = tt
+    calm_of (Trigger pairs) apart = absurd apart
     calm_of (Retire m) apart = tt
     calm_of (Detach m) apart = tt
     calm_of (Split m) apart = tt
@@ -212,7 +239,7 @@ table_apart b e apart =
     gone_of (Work m copies cleans) apart = absurd apart
     gone_of (Forget m) apart = absurd apart
     gone_of (Access volume access) apart = absurd apart
-    gone_of (Trigger pairs) apart = tt
+    gone_of (Trigger pairs) apart = absurd apart
     gone_of (Retire m) apart = tt
     gone_of (Detach m) apart = tt
     gone_of (Split m) apart = tt
@@ -227,7 +254,7 @@ table_apart b e apart =
     volumes_of (Work m copies cleans) apart = absurd apart
     volumes_of (Forget m) apart = absurd apart
     volumes_of (Access volume access) apart = absurd apart
-    volumes_of (Trigger pairs) apart = refl
+    volumes_of (Trigger pairs) apart = absurd apart
     volumes_of (Retire m) apart = refl
     volumes_of (Detach m) apart = refl
     volumes_of (Split m) apart = refl

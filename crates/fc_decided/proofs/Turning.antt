@@ -115,10 +115,10 @@ module _ (t : Tables) (maps : List Mapping) (gives : Bool) (state : MapState) (r
   -- ---- the tables
 
   turned_restated : (m : Mapping) → Restated m (turned state restore m)
-  turned_restated m = record { id = refl; name = refl; source = refl; target = refl; group = λ g e. e }
+  turned_restated m = record { id = refl; name = refl; source = refl; target = refl; incremental = refl; group = λ g e. e }
 
   idled_restated : (m : Mapping) → Restated m (idled m)
-  idled_restated m = record { id = refl; name = refl; source = refl; target = refl; group = λ g e. e }
+  idled_restated m = record { id = refl; name = refl; source = refl; target = refl; incremental = refl; group = λ g e. e }
 
   pub all_restated : AreRestated t.mappings news
   all_restated x found = elim (Contains-append_cases given (map (turned state restore) maps) x found) [

@@ -24,6 +24,7 @@ use Rattle.fc_decided.proofs.Apart.{sheet_through, picture_through}
 use Rattle.fc_decided.proofs.Copying.{AreQuiet}
 use Rattle.fc_decided.proofs.Receiving.{told_accesses}
 use Rattle.fc_decided.proofs.Setting.{sets}
+use Rattle.fc_decided.proofs.Sparing.{AreStill}
 use Rattle.fc_decided.proofs.Turning.{turned, idled}
 use Rattle.fc_decided.proofs.Working.{NoWork, AreGone}
 
@@ -114,6 +115,10 @@ accesses_fit state (m ∷ ms) s few = (tt, accesses_fit state ms s few)
 pub accesses_disks : (state : MapState) (maps : List Mapping) (pools : List Pool) (volumes : List LaneVolume) → HaveDisks pools volumes (told_accesses state maps)
 accesses_disks state [] pools volumes = tt
 accesses_disks state (m ∷ ms) pools volumes = (tt, accesses_disks state ms pools _)
+
+pub accesses_still : (state : MapState) (maps : List Mapping) → AreStill (told_accesses state maps)
+accesses_still state [] = tt
+accesses_still state (m ∷ ms) = (tt, accesses_still state ms)
 
 pub accesses_no_work : (state : MapState) (maps : List Mapping) → NoWork (told_accesses state maps)
 accesses_no_work state [] = tt

@@ -4,13 +4,15 @@
 //! says that a settling, and every decision on settled books, is lawful: its events fit the chains and the disks, its changes
 //! fit the tables, the lane of all grains is told what the decision leaves, and all that stood before it stands after it.
 //!
-//! To read: `specs/Law`; then `proofs/`. First what all deeds share: `Lists`, `Ordered` and `Unrefused` (plain facts), `Restarting`
-//! and `Apart` (events, part by part), `Working` (background work), `Firsts` (the first of each chain), `Frame` (what a deed has
-//! to show), `Setting`, `Reaching`, `Agreeing` and `Carrying` (tables, accesses and slots). Then the commands: `Resting`, `Making`
-//! and `Clearing` (volumes), `Pairing` (mappings), `Grouping` (groups); `Beginning`, `Turning`, `Receiving`, `Copying`, `Turns`,
-//! `Triggering`, `Preparing`, `Starting` and `Allowed` (what prepares and starts). `Seen` to `Stops`, `ForceStops`, `Suiting`,
-//! `Goings` and `GroupStops` are the stops; `Free`, `Olds`, `Dropping`, `Settles` and `Settled` the settling; `Commands` and
-//! `Decided` all together.
+//! To read: `specs/Law`; then `proofs/`. First what all deeds share: `Lists`, `Ordered` and `Unrefused` (plain facts), `Apart`
+//! (events, part by part), `Working` (background work), `Firsts` (the first of each chain), `Sparing` and `Keeping` (what events
+//! and changes leave of incremental mappings), `Fuller` and `Restarting` (chains where new slots hold restart sets), `Noting` and
+//! `Following` (rows), `Frame` (what a deed has to show: deeds are proved on chains where new slots hold nothing, and restart
+//! sets and rows are put in there), `Setting`, `Reaching`, `Agreeing` and `Carrying` (tables, accesses and slots). Then the
+//! commands: `Resting`, `Making` and `Clearing` (volumes), `Pairing` (mappings), `Grouping` (groups); `Beginning`, `Turning`,
+//! `Receiving`, `Copying`, `Turns`, `Triggering`, `Preparing`, `Starting` and `Allowed` (what prepares and starts). `Seen` to
+//! `Stops`, `ForceStops`, `Suiting`, `Goings` and `GroupStops` are the stops; `Free`, `Olds`, `Dropping`, `Settles` and `Settled`
+//! the settling; `Commands` and `Decided` all together.
 #![tactic(auto)]
 
 ghost use Rattle.fc_decided.specs.Law.{DecisionLaw};
