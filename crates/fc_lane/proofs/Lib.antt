@@ -25,3 +25,4 @@ pub mod FillLane
 pub mod FillEntry
 pub mod Turning
 pub mod Turns
+pub mod Noting

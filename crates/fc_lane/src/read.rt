@@ -139,6 +139,7 @@ impl<D: Mdisk> Lane<D> {
         ensures same { IsSameLane self.old self.new }
         ensures quiet { KeepsQuiet self.old self.new }
         ensures plan_room { self.new.plan_room ≡ self.old.plan_room }
+        ensures changes { self.new.changes ≡ self.old.changes }
         ensures entry_room { self.new.entry_room ≡ self.old.entry_room }
     {
         match self.accesses.access(part.volume) {

@@ -98,6 +98,7 @@ impl<D: Mdisk> Lane<D> {
         ensures same { IsSameLane self.old self.new }
         ensures quiet { KeepsQuiet self.old self.new }
         ensures plan_room { self.new.plan_room ≡ self.old.plan_room }
+        ensures changes { self.new.changes ≡ self.old.changes }
     {
         let request = Request::CopyTurn { lane: self.lane };
         match self.next_copy() {
@@ -116,6 +117,7 @@ impl<D: Mdisk> Lane<D> {
         ensures same { IsSameLane self.old self.new }
         ensures quiet { KeepsQuiet self.old self.new }
         ensures plan_room { self.new.plan_room ≡ self.old.plan_room }
+        ensures changes { self.new.changes ≡ self.old.changes }
     {
         let request = Request::CleanTurn { lane: self.lane };
         match self.next_clean() {
@@ -136,6 +138,7 @@ impl<D: Mdisk> Lane<D> {
         ensures same { IsSameLane self.old self.new }
         ensures quiet { KeepsQuiet self.old self.new }
         ensures plan_room { self.new.plan_room ≡ self.old.plan_room }
+        ensures changes { self.new.changes ≡ self.old.changes }
     {
         match pick {
             Pick::Any => self.copy_first(alloc, number, actor),
@@ -155,6 +158,7 @@ impl<D: Mdisk> Lane<D> {
         ensures same { IsSameLane self.old self.new }
         ensures quiet { KeepsQuiet self.old self.new }
         ensures plan_room { self.new.plan_room ≡ self.old.plan_room }
+        ensures changes { self.new.changes ≡ self.old.changes }
     {
         match pick {
             Pick::Any => self.clean_first(alloc, number, actor),

@@ -113,6 +113,7 @@ impl<D: Mdisk> Lane<D> {
         ensures same { IsSameLane self.old self.new }
         ensures quiet { KeepsQuiet self.old self.new }
         ensures plan_room { self.new.plan_room ≡ self.old.plan_room }
+        ensures changes { self.new.changes ≡ self.old.changes }
     {
         match self.accesses.access(part.volume) {
             Access::Online => self.write_online(alloc, number, actor, part),
