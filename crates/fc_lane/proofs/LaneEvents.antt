@@ -53,7 +53,7 @@ same_apart v v' lane lanes e = record {
   silent = ap (λ (g : GrainsState). g.silent) e;
 }
 
-of_same : (v v' : LaneView) → IsSameLane v v' → of v ≡ of v'
+pub of_same : (v v' : LaneView) → IsSameLane v v' → of v ≡ of v'
 of_same v v' s = sym (λ k. record { lane = s.lane k; lanes = s.lanes k; grain = s.grain k })
 
 -- a lane whose parts stand for what is told, where its counts stay
