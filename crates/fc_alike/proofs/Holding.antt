@@ -1,10 +1,10 @@
 -- A live slot that held nothing begins with a set of grains: the chains stay sound, and show what they showed where its volume's
 -- own grains are what it shows.
-use Rattle.std.proofs.Common.{◌≡◌, ◌≢◌, ℕ, ◌+◌, ◌<◌, ◌≤◌, Bool, true, false, Some, None, IsSome, List, length, get_or, set, replicate, take, map, refl, sym, ap, subst, ◌∙◌, arith, ◌⊎◌, inl, inr}
+use Rattle.std.proofs.Common.{◌≡◌, ◌≢◌, ℕ, ◌<◌, ◌≤◌, Bool, true, false, Some, None, IsSome, List, length, get_or, set, replicate, refl, sym, ap, subst, ◌∙◌, arith, ◌⊎◌, inl, inr}
 use Rattle.std.proofs.lemmas.Bool.{both_ways, cases_eq, cases_lt, cases_Bool, false_from_ne_true}
-use Rattle.std.proofs.lemmas.List.{length-set, get_or-set_same, get_or-set_other, set-get_or}
+use Rattle.std.proofs.lemmas.List.{length-set, get_or-set_same, get_or-set_other}
 use Rattle.fc_base.specs.Need.{is_complete}
-use Rattle.fc_base.specs.Sheet.{Slot, Sheet, no_slot, slot_at, column, live_place}
+use Rattle.fc_base.specs.Sheet.{Slot, Sheet, no_slot, slot_at, column}
 use Rattle.fc_base.specs.SheetFacts.{HasAllHolders, IsSound}
 use Rattle.fc_books.specs.After.{of_length, holding}
 use Rattle.fc_entry.specs.Picture.{Picture, volume_in, content_at, now_at}
@@ -12,7 +12,7 @@ use Rattle.fc_pictures.proofs.Volumes.{id_of}
 use Rattle.fc_pictures.specs.Law.{now_of}
 use Rattle.fc_rules.specs.Shows.{Stored, Shows}
 use Rattle.fc_moves.proofs.Readers.{IsHolder, holder_is, is_holder, holder_from, holder_between}
-use Rattle.fc_alike.proofs.Sets.{none_held, length_of, held_of}
+use Rattle.fc_alike.proofs.Sets.{none_held, length_of}
 use Rattle.fc_alike.proofs.Slots.{Stay, live_stay, below_stay, stay_sound}
 
 -- All slots stay but for what the one at `k` holds, and it holds more.
@@ -100,10 +100,13 @@ holder_begun old new k g j h b i =
       | inl t ↦ inl (record { before = i.before; one_chain = one; holds = t; nearest = λ y hy yj q u. i.nearest y hy yj (s.chain y ∙ q ∙ sym (s.chain j)) (grows old new k b g y u) })
       | inr f ↦ elim (cases_eq h k) [
         | inr ne ↦ absurd (both_ways (get_or (slot_at old h).held g false) f (ap (λ (z : Slot). get_or z.held g false) (sym (b.other h ne)) ∙ i.holds))
-        | inl e ↦ inr (e, λ o io. elim (cases_lt h o) [
-          | inl lt ↦ absurd (i.nearest o lt io.before (s.chain o ∙ io.one_chain ∙ sym (s.chain j)) (grows old new k b g o io.holds))
-          | inr le ↦ subst (λ (z : ℕ). IsHolder (column old g) z o) e (holder_between (column old g) j o h io le i.before one)
-        ])
+        | inl e ↦ inr (
+          e,
+          λ o io. elim (cases_lt h o) [
+            | inl lt ↦ absurd (i.nearest o lt io.before (s.chain o ∙ io.one_chain ∙ sym (s.chain j)) (grows old new k b g o io.holds))
+            | inr le ↦ subst (λ (z : ℕ). IsHolder (column old g) z o) e (holder_between (column old g) j o h io le i.before one)
+          ],
+        )
       ]
     ]
 

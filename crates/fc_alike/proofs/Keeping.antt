@@ -1,6 +1,6 @@
 -- A new slot begins with its grains by moves in place, one after the other.
-use Rattle.std.proofs.Common.{◌≡◌, ◌≢◌, ℕ, ◌+◌, ◌<◌, ◌≤◌, Bool, true, false, ◌&&◌, eqb, Some, List, [], length, get_or, set, replicate, take, map, refl, sym, ap, subst, ◌∙◌, arith, inl, inr}
-use Rattle.std.proofs.lemmas.Bool.{both_ways, cases_eq, and_parts, and_from, eqb-true, eq-eqb, false_from_ne_true}
+use Rattle.std.proofs.Common.{◌≡◌, ℕ, ◌+◌, ◌<◌, Bool, true, false, ◌&&◌, eqb, List, [], length, get_or, set, replicate, take, map, refl, sym, ap, ◌∙◌, arith, inl, inr}
+use Rattle.std.proofs.lemmas.Bool.{cases_eq, and_parts, and_from, eqb-true, eq-eqb, false_from_ne_true}
 use Rattle.std.proofs.lemmas.List.{length-set, length-replicate, set-get_or, ext_get_or, take_all}
 use Rattle.fc_base.specs.RestoreGraph.{HasOneLive}
 use Rattle.fc_base.specs.Sheet.{Slot, Sheet, no_slot, slot_at, shape_of}
@@ -10,9 +10,9 @@ use Rattle.fc_base.specs.declared.request.Pair.{Pair}
 use Rattle.fc_books.specs.After.{of_length, holding}
 use Rattle.fc_sheets.proofs.Finding.{mapping_place_at}
 use Rattle.fc_sheets.proofs.Holding.{length_map, at_map, regrained, bit_kept}
-use Rattle.fc_alike.specs.Law.{NewSlot, Keeps}
+use Rattle.fc_alike.specs.Law.{NewSlot, Keeps, with_first}
 use Rattle.fc_alike.proofs.Sets.{of_none, of_more, of_past}
-use Rattle.fc_alike.proofs.Slots.{Stay, live_stay, mapping_stay, birth_stay}
+use Rattle.fc_alike.proofs.Slots.{Stay, slots_stay}
 use Rattle.fc_alike.proofs.Holding.{begins_at, begins_other, holding_stay, holding_begins, begins_sound}
 
 -- two sets that are the same when filled up
@@ -80,12 +80,8 @@ new_slot_keeps s p grains k set sound new =
     record {
       none = nothing_more s k grains new.nothing;
       past = λ n m le none. same_holding s k (take n set) (take m set) (of_past (length t.held) n m set le none);
-      one_more = λ g e. one_more s k g set sound.one_live new.there new.is_live e;
+      one_more = λ g e. ap (λ v. sheet_moved v g true (with_first g set k s)) ((stay g).volume k) ∙ one_more s k g set sound.one_live new.there new.is_live e;
       all = λ n le. ap (λ z. holding z k s) (take_all n set le);
       sound = λ n. begins_sound s k p.map.0 (holding (take n set) k s).slots (holding_begins s k grains (take n set) new.there new.nothing) sound (mapping_place_at s.slots p.map.0 k new.of_mapping).1;
-      birth = λ n j. (stay n).birth j;
-      volume = λ n j. (stay n).volume j;
-      births = λ n b. birth_stay s.slots (holding (take n set) k s).slots (stay n) b;
-      mappings = λ n m. mapping_stay s.slots (holding (take n set) k s).slots (stay n) m;
-      lives = λ n v. live_stay s.slots (holding (take n set) k s).slots (stay n) v;
+      stays = λ n. slots_stay s (with_first n set k s) refl (stay n);
     }

@@ -1,6 +1,6 @@
 -- Rows after events other than triggers: what leaves a chain, comes, goes or is forgotten.
-use Rattle.std.proofs.Common.{◌≡◌, ◌≢◌, ℕ, Bool, true, false, cond, not, Option, Some, None, List, [], ◌∷◌, ◌++◌, length, get_or, map, filter, fold, flat_map, All, refl, sym, ap, subst, ◌∙◌, inl, inr}
-use Rattle.std.proofs.lemmas.Bool.{cases_Bool, cases_eq, cond_both}
+use Rattle.std.proofs.Common.{◌≡◌, ℕ, Bool, true, false, cond, Option, Some, None, List, [], ◌∷◌, ◌++◌, length, get_or, fold, flat_map, All, refl, sym, subst, ◌∙◌, inl, inr}
+use Rattle.std.proofs.lemmas.Bool.{cases_eq, cond_both}
 use Rattle.fc_base.specs.Sheet.{Slot, slot_at, mapping_place}
 use Rattle.fc_base.specs.declared.ids.MapId.{MapId}
 use Rattle.fc_base.specs.declared.ids.VolId.{VolId}
@@ -66,27 +66,27 @@ cut_row picture v held row a =
     let next : Picture = changed_at (id_of v) (cut_volume held) picture in
     cond_both (row_names row v) (with_same row (held_too row held)) row (AlikeIn next)
     (λ e.
-        let s = cut_one picture v row.source held a.source a.source_there in
-        let t = cut_one picture v row.target held a.target a.target_there in
-        record {
-          apart = a.apart;
-          source = s.plain;
-          target = t.plain;
-          source_there = s.there;
-          target_there = t.there;
-          source_size = s.size ∙ a.source_size ∙ sym (size_held row held);
-          target_size = t.size ∙ a.target_size ∙ sym (size_held row held);
-          alike = λ g h. let p = held_parts row held g h in s.same g p.1 ∙ a.alike g p.0 ∙ sym (t.same g p.1);
-        })
+    let s = cut_one picture v row.source held a.source a.source_there in
+    let t = cut_one picture v row.target held a.target a.target_there in
+    record {
+      apart = a.apart;
+      source = s.plain;
+      target = t.plain;
+      source_there = s.there;
+      target_there = t.there;
+      source_size = s.size ∙ a.source_size ∙ sym (size_held row held);
+      target_size = t.size ∙ a.target_size ∙ sym (size_held row held);
+      alike = λ g h. let p = held_parts row held g h in s.same g p.1 ∙ a.alike g p.0 ∙ sym (t.same g p.1);
+    })
     (λ e.
-        let u = unnamed row v e in
-        row_stays picture next row
-        (λ p q. changed_other (id_of v) (cut_volume held) (cut_keeps held) picture (id_of row.source) p q (λ f. u.0 (sym f)))
-        (λ p q. changed_other (id_of v) (cut_volume held) (cut_keeps held) picture (id_of row.target) p q (λ f. u.1 (sym f))) a)
+    let u = unnamed row v e in
+    row_stays picture next row
+    (λ p q. changed_other (id_of v) (cut_volume held) (cut_keeps held) picture (id_of row.source) p q (λ f. u.0 (sym f)))
+    (λ p q. changed_other (id_of v) (cut_volume held) (cut_keeps held) picture (id_of row.target) p q (λ f. u.1 (sym f))) a)
 
 -- ---- slots that leave
 
-abbrev noted : List Note → List Row → List Row
+abbrev pub noted : List Note → List Row → List Row
 noted notes rows = fold after_note rows notes
 
 -- by the place of the slot
@@ -106,7 +106,7 @@ place_leaves slots picture rows (Some k) a = by (slot_at slots k).is_live
 pub one_leaves : (slots : List Slot) (picture : Picture) (rows : List Row) (m : MapId) → AreAlikeIn picture rows → AreAlikeIn (leaves slots picture m) (noted (leaving slots m) rows)
 one_leaves slots picture rows m a = place_leaves slots picture rows (mapping_place slots m.0) a
 
-noted_append : (xs ys : List Note) (rows : List Row) → noted (xs ++ ys) rows ≡ noted ys (noted xs rows)
+pub noted_append : (xs ys : List Note) (rows : List Row) → noted (xs ++ ys) rows ≡ noted ys (noted xs rows)
 noted_append [] ys rows = refl
 noted_append (x ∷ xs) ys rows = noted_append xs ys (after_note rows x)
 
@@ -129,6 +129,7 @@ split_leaves slots picture rows m a = by (mapping_place slots m.0)
     by_live : (k : ℕ) (live : Bool) → AreAlikeIn picture (noted (cond live (Left (slot_at slots k).volume (slot_at slots k).held ∷ []) []) rows)
     by_live k true = left_less picture rows (slot_at slots k).volume (slot_at slots k).held a
     by_live k false = a
+
     by : (o : Option ℕ) → AreAlikeIn picture (noted (slot_leaves slots o) rows)
     by None = a
     by (Some k) = by_live k (slot_at slots k).is_live

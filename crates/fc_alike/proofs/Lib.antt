@@ -6,3 +6,6 @@ pub mod Starting
 pub mod Rows
 pub mod Leaving
 pub mod Triggers
+pub mod Matching
+pub mod Entries
+pub mod Lawful

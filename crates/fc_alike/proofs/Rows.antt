@@ -1,13 +1,12 @@
 -- Rows by what plain volumes hold alone: what notes do to a row, and how the chains come in.
-use Rattle.std.proofs.Common.{◌≡◌, ◌≢◌, ℕ, ◌<◌, Bool, true, false, cond, not, ◌&&◌, ◌||◌, ◌==◌, eqb, Option, Some, None, IsSome, is_some, List, [], ◌∷◌, length, get_or, slice_set, replicate, map, filter, All, AllPairs, refl, sym, ap, subst, ◌∙◌, arith, ◌⊎◌, inl, inr}
-use Rattle.std.proofs.lemmas.Bool.{both_ways, cases_eq, and_parts, or_cases, or_parts, eqb-true, eqb-false, cond_both}
-use Rattle.std.proofs.lemmas.List.{length-replicate, length-map, length-set}
+use Rattle.std.proofs.Common.{◌≡◌, ◌≢◌, ℕ, ◌<◌, Bool, true, false, not, ◌&&◌, ◌==◌, Some, IsSome, is_some, List, [], ◌∷◌, length, get_or, replicate, map, filter, All, AllPairs, refl, sym, ap, subst, ◌∙◌, arith, ◌⊎◌, inl, inr}
+use Rattle.std.proofs.lemmas.Bool.{both_ways, and_parts, or_cases, or_parts, eqb-true, eqb-false, cond_both}
+use Rattle.std.proofs.lemmas.List.{length-replicate, length-map}
 use Rattle.std.proofs.lemmas.List.Elements.{All-weaker, All-map, All-filter}
 use Rattle.std.proofs.lemmas.List.Kept.{AllPairs-filter}
-use Rattle.fc_base.specs.Sheet.{Slot, slot_at, live_place, volume_grains, grains_at}
-use Rattle.fc_changed.specs.Notes.{Note, has, grains_with, names}
-use Rattle.fc_changed.specs.Notes.Note.{Began, Wrote, Left, Cut, Forgotten}
-use Rattle.fc_changed.specs.Row.{Row, is_of, row_names, with_none, row_left, row_cut}
+use Rattle.fc_base.specs.Sheet.{Slot, live_place, volume_grains, grains_at}
+use Rattle.fc_changed.specs.Notes.{has, grains_with}
+use Rattle.fc_changed.specs.Row.{Row, row_names, with_none, row_left, row_cut}
 use Rattle.fc_entry.specs.Picture.{PlainVolume, Picture, volume_in, content_at, now_at}
 use Rattle.fc_follow.specs.Alike.{IsAlike}
 use Rattle.fc_moves.proofs.Search.{cases_option}

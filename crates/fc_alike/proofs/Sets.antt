@@ -1,5 +1,5 @@
 -- Sets of grains: filled up to a length, the first grains of one, and those of a test.
-use Rattle.std.proofs.Common.{◌≡◌, ◌≢◌, ℕ, zero, suc, ◌+◌, ◌<◌, ◌≤◌, Bool, true, false, List, [], ◌∷◌, ◌++◌, length, get_or, set, take, replicate, refl, sym, ap, ◌∙◌, arith, inl, inr}
+use Rattle.std.proofs.Common.{◌≡◌, ℕ, zero, suc, ◌+◌, ◌<◌, ◌≤◌, Bool, true, false, List, [], ◌∷◌, ◌++◌, length, get_or, set, take, replicate, refl, sym, ap, ◌∙◌, arith, inl, inr}
 use Rattle.std.proofs.lemmas.Bool.{both_ways, cases_eq, cases_lt}
 use Rattle.std.proofs.lemmas.List.{length-set, length-append, length-replicate, length-take-le, get_or-take, get_or-set_same, get_or-set_other, ext_get_or, get_or_past, take_all}
 use Rattle.std.proofs.lemmas.List.FromFn.{length-map-range_with_len, get_or-map-range_with_len}
@@ -60,20 +60,20 @@ of_more n g xs e =
     let size = length-set before g true ∙ length_of n (take g xs) in
     ext_get_or false (set before g true) (of_length n (take (g + 1) xs)) (size ∙ sym (length_of n (take (g + 1) xs)))
     (λ y yl.
-        let below : y < n = omega (arith, size, yl) in
-        let long : length before ≡ n = length_of n (take g xs) in
-        let right = at_of n y (take (g + 1) xs) below in
-        elim (cases_eq y g) [
-          | inl same ↦
-              ap (λ (z : ℕ). get_or (set before g true) z false) same
-              ∙ get_or-set_same before g true false (omega (arith, same, below, long))
-              ∙ sym e ∙ ap (λ (z : ℕ). get_or xs z false) (sym same)
-              ∙ sym (at_first (g + 1) y xs (omega (arith, same))) ∙ sym right
-          | inr ne ↦ get_or-set_other before g y true false ne ∙ at_of n y (take g xs) below ∙ (elim (cases_lt y g) [
-            | inl lt ↦ at_first g y xs lt ∙ sym (at_first (g + 1) y xs (omega (arith, lt)))
-            | inr ge ↦ past_first g y xs ge ∙ sym (past_first (g + 1) y xs (omega (arith, ge, ne)))
-          ]) ∙ sym right
-        ])
+    let below : y < n = omega (arith, size, yl) in
+    let long : length before ≡ n = length_of n (take g xs) in
+    let right = at_of n y (take (g + 1) xs) below in
+    elim (cases_eq y g) [
+      | inl same ↦
+          ap (λ (z : ℕ). get_or (set before g true) z false) same
+          ∙ get_or-set_same before g true false (omega (arith, same, below, long))
+          ∙ sym e ∙ ap (λ (z : ℕ). get_or xs z false) (sym same)
+          ∙ sym (at_first (g + 1) y xs (omega (arith, same))) ∙ sym right
+      | inr ne ↦ get_or-set_other before g y true false ne ∙ at_of n y (take g xs) below ∙ (elim (cases_lt y g) [
+        | inl lt ↦ at_first g y xs lt ∙ sym (at_first (g + 1) y xs (omega (arith, lt)))
+        | inr ge ↦ past_first g y xs ge ∙ sym (past_first (g + 1) y xs (omega (arith, ge, ne)))
+      ]) ∙ sym right
+    ])
 
 -- more of them, of which none is in the set
 pub of_past : (n g h : ℕ) (xs : List Bool) → g ≤ h → ((y : ℕ) → g ≤ y → y < h → get_or xs y false ≡ false) → of_length n (take g xs) ≡ of_length n (take h xs)

@@ -1,13 +1,13 @@
 -- Slots that stay as they are but for what they hold: their places, and what a sheet needs to stay sound.
 use mathlib.Core.Path.{fun_ext}
-use Rattle.std.proofs.Common.{◌≡◌, ℕ, ◌<◌, Bool, true, ◌&&◌, eqb, None, List, length, map, refl, sym, ap, ap₂, subst, ◌∙◌, arith}
+use Rattle.std.proofs.Common.{◌≡◌, ℕ, ◌<◌, Bool, true, ◌&&◌, eqb, Option, Some, None, List, length, map, refl, sym, ap, ap₂, subst, ◌∙◌, arith}
 use Rattle.fc_base.specs.Column.{Shape, first_below, is_at}
 use Rattle.fc_base.specs.Need.{is_complete}
 use Rattle.fc_base.specs.RestoreGraph.{HasNoLoop}
 use Rattle.fc_base.specs.Sheet.{Slot, Sheet, slot_at, shape_of, live_place, mapping_place, birth_place, volume_grains, grains_at}
 use Rattle.fc_base.specs.SheetFacts.{HasAllHolders, IsSound}
-use Rattle.std.proofs.Common.{Option, Some}
 use Rattle.fc_sheets.proofs.Holding.{length_map, at_map, IsBit, regrained}
+use Rattle.fc_alike.specs.Law.{SlotsStay}
 
 -- Slots by their places, but for what they hold.
 pub record Stay (old new : List Slot) : Type 0 where
@@ -68,6 +68,23 @@ grains_stay old new s v = ap (grains_at new) (live_stay old new s v) ∙ by (liv
     by : (o : Option ℕ) → grains_at new o ≡ grains_at old o
     by None = refl
     by (Some k) = s.size k
+
+pub slots_stay : (old new : Sheet) → new.births ≡ old.births → Stay old.slots new.slots → SlotsStay old new
+slots_stay old new births s =
+    record {
+      births = births;
+      count = s.count;
+      birth = s.birth;
+      chain = s.chain;
+      volume = s.volume;
+      is_live = s.is_live;
+      mapping = s.mapping;
+      size = s.size;
+      of_birth = birth_stay old.slots new.slots s;
+      of_mapping = mapping_stay old.slots new.slots s;
+      of_volume = live_stay old.slots new.slots s;
+      grains = grains_stay old.slots new.slots s;
+    }
 
 -- ---- soundness
 

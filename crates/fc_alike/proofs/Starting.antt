@@ -1,18 +1,20 @@
 -- After a trigger each pair has a new slot, also once the slots of other pairs have begun.
-use Rattle.std.proofs.Common.{◌≡◌, ◌≢◌, ℕ, zero, suc, ◌+◌, ◌<◌, Bool, true, false, Some, List, [], ◌∷◌, ◌++◌, length, fold, insert, replicate, refl, sym, ap, subst, ◌∙◌, arith}
+use Rattle.std.proofs.Common.{◌≡◌, ◌≢◌, ℕ, ◌+◌, ◌<◌, Bool, true, false, Some, List, [], ◌∷◌, ◌++◌, length, get_or, take, drop, fold, insert, replicate, refl, sym, ap, subst, ◌∙◌, arith, inl, inr}
+use Rattle.std.proofs.lemmas.List.{drop_more, take-append-drop}
 use Rattle.fc_base.specs.Sheet.{Slot, Sheet, slot_at, live_place, mapping_place, volume_grains, grains_at}
 use Rattle.fc_base.specs.SheetFacts.{IsSound}
 use Rattle.fc_base.specs.SheetFits.{FitsPair, FitsTrigger}
 use Rattle.fc_base.specs.SheetStep.{at_place, left_place, placed, started_empty, triggered}
 use Rattle.fc_base.specs.declared.request.Pair.{Pair}
 use Rattle.fc_books.specs.After.{begun, holding}
+use Rattle.fc_moves.proofs.Search.{cases_option}
 use Rattle.fc_sheets.proofs.Finding.{live_place_at, live_place_is, mapping_place_at, mapping_place_is}
 use Rattle.fc_sheets.proofs.Places.{insert_is, insert_here}
 use Rattle.fc_sheets.proofs.Starting.{left_is, new_slot, Placed, started_placed, Apart, AllFit, ApartFrom, AllApart, HoldsSheet, all_later, all_fit, all_apart, triggered_sound}
 use Rattle.fc_sheets.proofs.Steps.{holds_from}
-use Rattle.fc_alike.specs.Law.{NewSlot, IsNext}
-use Rattle.fc_alike.proofs.Slots.{live_stay, mapping_stay}
-use Rattle.fc_alike.proofs.Holding.{Begins, holding_begins, begins_sound}
+use Rattle.fc_alike.specs.Law.{NewSlot, IsNext, SlotsStay}
+use Rattle.fc_alike.proofs.Slots.{Stay, all_stay, stay_then, live_stay, mapping_stay, slots_stay}
+use Rattle.fc_alike.proofs.Holding.{Begins, holding_stay, holding_begins, begins_sound}
 
 -- ---- the slot of a pair
 
@@ -102,8 +104,7 @@ all_own [] s h f a = tt
 all_own (p ∷ ps) s h f a =
     let pl = started_placed s p h f.0 f.1 in
     let next : Sheet = started_empty s p in
-    let later = all_later s next p ps pl a.0 f.2 in
-    (
+    let later = all_later s next p ps pl a.0 f.2 in (
       own_through ps next p (volume_grains s.slots p.target.0) pl.holds later a.1 a.0 (own_started s p h f.0 f.1),
       all_same_grains s next p (triggered ps next).slots ps pl a.0 f.2 (all_own ps next pl.holds later a.1),
     )
@@ -116,14 +117,17 @@ AllNew slots grains (p ∷ ps) = ((k : ℕ) × NewSlot slots p (grains p) k) × 
 all_new_from : (t : Sheet) (grains : Pair → ℕ) (ps : List Pair) → IsSound t → AllOwn t.slots grains ps → AllNew t.slots grains ps
 all_new_from t grains [] sound own = tt
 all_new_from t grains (p ∷ ps) sound (own, rest) = (
-  (own.place, record {
-    there = own.there;
-    of_mapping = mapping_place_is t.slots p.map.0 own.place sound.mappings own.there own.mapping;
-    of_target = live_place_is t.slots p.target.0 own.place sound.one_live (record { there = own.there; is_live = own.is_live; of_volume = own.volume });
-    is_live = own.is_live;
-    volume = own.volume;
-    nothing = own.nothing;
-  }),
+  (
+    own.place,
+    record {
+      there = own.there;
+      of_mapping = mapping_place_is t.slots p.map.0 own.place sound.mappings own.there own.mapping;
+      of_target = live_place_is t.slots p.target.0 own.place sound.one_live (record { there = own.there; is_live = own.is_live; of_volume = own.volume });
+      is_live = own.is_live;
+      volume = own.volume;
+      nothing = own.nothing;
+    },
+  ),
   all_new_from t grains ps sound rest,
 )
 
@@ -148,6 +152,28 @@ pub begun_sound : (restarts : ℕ → List Bool) (t : Sheet) (p : Pair) (grains 
 begun_sound restarts t p grains k sound new =
     subst IsSound (sym (begun_is restarts t p grains k new))
     (begins_sound t k p.map.0 (holding (restarts p.map.0) k t).slots (begun_begins restarts t p grains k new) sound (mapping_place_at t.slots p.map.0 k new.of_mapping).1)
+
+-- slots stay where they are
+abbrev Stays : Sheet → Sheet → Type 0
+Stays t u = (u.births ≡ t.births) × Stay t.slots u.slots
+
+one_stays : (restarts : ℕ → List Bool) (t : Sheet) (p : Pair) → Stays t (begun restarts t p)
+one_stays restarts t p =
+    elim (cases_option (mapping_place t.slots p.map.0)) [
+      | inl none ↦ subst (Stays t) (sym (ap (λ o. at_place (holding (restarts p.map.0)) o t) none)) (refl, all_stay t.slots)
+      | inr k ↦ subst (Stays t) (sym (ap (λ o. at_place (holding (restarts p.map.0)) o t) k.1)) (refl, holding_stay t k.0 (restarts p.map.0) (mapping_place_at t.slots p.map.0 k.0 k.1).0)
+    ]
+
+all_stays : (restarts : ℕ → List Bool) (pairs : List Pair) (t : Sheet) → Stays t (fold (begun restarts) t pairs)
+all_stays restarts [] t = (refl, all_stay t.slots)
+all_stays restarts (p ∷ ps) t =
+    let next : Sheet = begun restarts t p in
+    let one = one_stays restarts t p in
+    let rest = all_stays restarts ps next in
+    (rest.0 ∙ one.0, stay_then t.slots next.slots (fold (begun restarts) next ps).slots one.1 rest.1)
+
+pub begun_stays : (restarts : ℕ → List Bool) (s : Sheet) (pairs : List Pair) → SlotsStay s (fold (begun restarts) s pairs)
+begun_stays restarts s pairs = let all = all_stays restarts pairs s in slots_stay s (fold (begun restarts) s pairs) all.0 all.1
 
 -- the slot of another pair stays new
 other_new : (old new : List Slot) (p q : Pair) (n m k j : ℕ) → Begins old new k → NewSlot old p n k → p.map.0 ≢ q.map.0 → NewSlot old q m j → NewSlot new q m j
@@ -198,6 +224,14 @@ is_next restarts s before rest p sound f =
       slot = own.1;
       begins = begun_is restarts (fold (begun restarts) t before) p (grains_of s p) own.0 own.1;
     }
+
+pub is_next_at : (restarts : ℕ → List Bool) (s : Sheet) (pairs : List Pair) (i : ℕ) (d : Pair) → IsSound s → FitsTrigger s pairs → i < length pairs →
+    IsNext restarts s (fold (begun restarts) (triggered pairs s) (take i pairs)) (get_or pairs i d)
+is_next_at restarts s pairs i d sound f lt =
+    let p : Pair = get_or pairs i d in
+    let split : take i pairs ++ p ∷ drop (i + 1) pairs ≡ pairs = ap (λ (z : List Pair). take i pairs ++ z) (sym (drop_more pairs i d lt)) ∙ take-append-drop i pairs in
+    subst (λ (z : List Pair). IsNext restarts s (fold (begun restarts) (triggered z s) (take i pairs)) p) split
+    (is_next restarts s (take i pairs) (drop (i + 1) pairs) p sound (subst (FitsTrigger s) (sym split) f))
 
 all_begun : (restarts : ℕ → List Bool) (grains : Pair → ℕ) (pairs : List Pair) (t : Sheet) → IsSound t → AllNew t.slots grains pairs → AllApart pairs → IsSound (fold (begun restarts) t pairs)
 all_begun restarts grains [] t sound own apart = sound

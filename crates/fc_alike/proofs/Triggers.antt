@@ -1,15 +1,14 @@
 -- Rows after a trigger: pair by pair, as its picture can be taken.
-use Rattle.std.proofs.Common.{◌≡◌, ◌≢◌, ℕ, zero, suc, ◌<◌, Bool, true, false, cond, ◌&&◌, ◌||◌, ◌==◌, if◌then◌else◌, Option, Some, None, List, [], ◌∷◌, ◌++◌, length, get_or, replicate, map, fold, All, Contains, refl, sym, ap, subst, ◌∙◌, arith, ◌⊎◌, inl, inr}
+use Rattle.std.proofs.Common.{◌≡◌, ◌≢◌, ℕ, zero, suc, ◌<◌, Bool, true, false, cond, ◌&&◌, ◌==◌, Some, None, List, [], ◌∷◌, ◌++◌, length, get_or, replicate, map, fold, refl, sym, ap, subst, ◌∙◌, arith, inl, inr}
 use Rattle.std.specs.List.{list_any}
 use Rattle.std.proofs.lemmas.Bool.{cases_eq, and_parts, or_cases, or_parts, eqb-true, eqb-false, cond_both}
 use Rattle.std.proofs.lemmas.List.{length-replicate}
 use Rattle.std.proofs.lemmas.List.Elements.{All-push}
 use Rattle.std.proofs.lemmas.List.Quantifiers.{all_pairs_push}
 use Rattle.fc_base.specs.Sheet.{Slot, Sheet, slot_at, volume_grains, grains_at}
-use Rattle.fc_base.specs.SheetFits.{FitsPair, FitsTrigger}
-use Rattle.fc_base.specs.declared.ids.VolId.{VolId}
+use Rattle.fc_base.specs.SheetFits.{FitsPair}
 use Rattle.fc_base.specs.declared.request.Pair.{Pair}
-use Rattle.fc_changed.specs.Notes.{has, joins}
+use Rattle.fc_changed.specs.Notes.{joins}
 use Rattle.fc_changed.specs.Row.{Row, is_of, row_names, with_all, with_none, row_began, with_new, after_note}
 use Rattle.fc_entry.specs.Picture.{PlainVolume, Picture, volume_in, content_at}
 use Rattle.fc_entry.specs.PlainStep.{after_trigger}
@@ -18,8 +17,8 @@ use Rattle.fc_pictures.proofs.Triggers.{copied_from, first_pair, trigger_keeps, 
 use Rattle.fc_pictures.proofs.Volumes.{id_of, found, map_in, map_same, map_twice}
 use Rattle.fc_rules.specs.Shows.{Stored, Shows}
 use Rattle.fc_sheets.proofs.Finding.{live_place_at}
-use Rattle.fc_sheets.proofs.Starting.{Apart, AllFit, ApartFrom, AllApart}
-use Rattle.fc_alike.proofs.Rows.{AlikeIn, AreAlikeIn, AreDistinct, unnamed, nothing_alike, map_alike}
+use Rattle.fc_sheets.proofs.Starting.{AllFit, AllApart}
+use Rattle.fc_alike.proofs.Rows.{AlikeIn, AreAlikeIn, unnamed, nothing_alike, map_alike}
 use Rattle.fc_alike.proofs.Leaving.{row_stays}
 
 -- ---- one pair
@@ -130,13 +129,13 @@ row_after picture p grains row x a =
       | inr y ↦ let z = and_parts (s == row.target) (t == row.source) y in backward picture p grains row x a (eqb-true s row.target z.0) (eqb-true t row.source z.1)
     ])
     (λ e. cond_both (row_names row t) (with_none row) row (AlikeIn next)
-        (λ f.
-            let y = size_after picture p grains row.source a.source x a.source_there in
-            let z = size_after picture p grains row.target a.target x a.target_there in
-            nothing_alike next row y.0 z.0 a.apart y.1 z.1 (y.2 ∙ a.source_size) (z.2 ∙ a.target_size))
-        (λ f.
-            let u = unnamed row t f in
-            row_stays picture next row (λ q g. other_after picture p row.source q u.0 g) (λ q g. other_after picture p row.target q u.1 g) a))
+    (λ f.
+    let y = size_after picture p grains row.source a.source x a.source_there in
+    let z = size_after picture p grains row.target a.target x a.target_there in
+    nothing_alike next row y.0 z.0 a.apart y.1 z.1 (y.2 ∙ a.source_size) (z.2 ∙ a.target_size))
+    (λ f.
+    let u = unnamed row t f in
+    row_stays picture next row (λ q g. other_after picture p row.source q u.0 g) (λ q g. other_after picture p row.target q u.1 g) a))
 
 began_map : (s t : ℕ) (row : Row) → (row_began s t row).map ≡ row.map
 began_map s t row =
