@@ -43,12 +43,12 @@ target_of (Began map source target followed) = Some target
 target_of note = None
 
 -- whether that trigger's target was this volume
+abbrev pub is_volume : Option ℕ → ℕ → Bool
+is_volume None volume = false
+is_volume (Some target) volume = target == volume
+
 abbrev pub is_last_target : (a b : ℕ) → List Note → ℕ → Bool
-is_last_target a b notes volume = is_it (option_and_then target_of (last (joins_them a b) notes))
-  where
-    is_it : Option ℕ → Bool
-    is_it None = false
-    is_it (Some target) = target == volume
+is_last_target a b notes volume = is_volume (option_and_then target_of (last (joins_them a b) notes)) volume
 
 -- Whether a note tells that the two volumes may differ at the grain: one of them was written there; it became the target of
 -- another; a copy to it left that didn't hold the grain; or it was cut, but not by the copy of the last trigger, whose grains

@@ -194,6 +194,9 @@ begun_same place [] = refl
 begun_same zero (row ∷ rows) = λ k. record { map = row.map; source = row.source; target = row.target; grains = length-replicate (length row.same) true k } ∷ map new_of rows
 begun_same (suc place) (row ∷ rows) = ap (λ ns. new_of row ∷ ns) (begun_same place rows)
 
+pub begun_size : (place : ℕ) (rows : List Row) → length (begun_at place rows) ≡ length rows
+begun_size place rows = sym (length-map (begun_at place rows) new_of) ∙ (ap (λ ns. length ns) (begun_same place rows) ∙ length-map rows new_of)
+
 pub begun_is : (rows : List Row) (place : ℕ) (row new : Row) → place < length rows → row ≡ get_or rows place row → new ≡ begun row → set rows place new ≡ begun_at place rows
 begun_is [] place row new within is e = absurd (omega arith)
 begun_is (r ∷ rows) zero row new within is e = ap (λ x. x ∷ rows) (e ∙ ap begun is)
@@ -210,7 +213,7 @@ first_ids ids rows n e =
     ap (λ k. take k ids) (length-take n rows ∙ ap (min n) (sym (length-map rows (λ (r : Row). r.map)) ∙ ap (λ xs. length xs) (sym e)))
     ∙ (take_min n ids ∙ (ap (take n) e ∙ take-map (λ (r : Row). r.map) n rows))
 
-pairs_take : (rows : List Row) (n : ℕ) → AllPairs (λ x y. x.map ≢ y.map) rows → AllPairs (λ x y. x.map ≢ y.map) (take n rows)
+pub pairs_take : (rows : List Row) (n : ℕ) → AllPairs (λ x y. x.map ≢ y.map) rows → AllPairs (λ x y. x.map ≢ y.map) (take n rows)
 pairs_take rows n distinct i j d less within same =
     let below : j < n = omega (arith, length-take n rows) in
     distinct i j d less (omega (arith, length-take n rows))

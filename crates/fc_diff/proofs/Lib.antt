@@ -5,3 +5,6 @@ pub mod Events
 pub mod Telling
 pub mod Found
 pub mod States
+pub mod Ends
+pub mod Notes
+pub mod Law

@@ -82,12 +82,13 @@ any_told m event (row ∷ rows) = λ k. nat_eq m (same_map event row k) || any_t
 
 any_false : (p : Row → Bool) (rows : List Row) (k : ℕ) (d : Row) → list_any p rows ≡ false → k < length rows → p (get_or rows k d) ≡ false
 any_false p [] k d e within = absurd (omega arith)
-any_false p (row ∷ rows) k d e within = by (p row) (list_any p rows) k refl refl e within
+any_false p (row ∷ rows) k d e within = by (p row) (list_any p rows) k refl refl e within (λ j f inside. any_false p rows j d f inside)
   where
-    by : (a b : Bool) (j : ℕ) → p row ≡ a → list_any p rows ≡ b → (a || b) ≡ false → j < length (row ∷ rows) → p (get_or (row ∷ rows) j d) ≡ false
-    by true b j f g h inside = cc
-    by false b zero f g h inside = f
-    by false b (suc j) f g h inside = any_false p rows j d (g ∙ h) (omega arith)
+    by : (a b : Bool) (j : ℕ) → p row ≡ a → list_any p rows ≡ b → (a || b) ≡ false → j < length (row ∷ rows)
+        → ((i : ℕ) → list_any p rows ≡ false → i < length rows → p (get_or rows i d) ≡ false) → p (get_or (row ∷ rows) j d) ≡ false
+    by true b j f g h inside rest = cc
+    by false b zero f g h inside rest = f
+    by false b (suc j) f g h inside rest = rest j (g ∙ h) (omega arith)
 
 other : (a b : ℕ) → nat_eq a b ≡ false → b ≢ a
 other a b e same = grind (arith, nat_tests)
@@ -135,9 +136,12 @@ first_there m source target n rows first = by (drop n rows) refl first
 -- The trigger is the first: the mapping that stands ready first is followed.
 pub began_first : (old : ChangesState) (n : ℕ) (rows : List Row) (m source target : ℕ) → state_of n rows ≡ record old { rows = map (row_began source target) old.rows }
     → list_any (is_of m) old.rows ≡ false → list_any (is_of m) (map (row_began source target) old.rows) ≡ false → IsFirstReady m source target old.ready
-    → state_of (suc n) (begun_at n rows) ≡ after_beginning old m source target true
-began_first old n rows m source target told unfollowed unfollowed_still first = by (drop n rows) refl old.ready refl first
+    → state_of (n + 1) (begun_at n rows) ≡ after_beginning old m source target true
+began_first old n rows m source target told unfollowed unfollowed_still first = ap (λ k. state_of k (begun_at n rows)) (behind n) ∙ by (drop n rows) refl old.ready refl first
   where
+    behind : (k : ℕ) → k + 1 ≡ suc k
+    behind k = omega arith
+
     now : List Row
     now = map (row_began source target) old.rows
 
@@ -188,3 +192,7 @@ began_later old m source target true e same =
     twice_not : (b : Bool) → not b ≡ false → b ≡ true
     twice_not true f = refl
     twice_not false f = cc
+
+pub not_taken : (a b : Bool) → b ≡ true → (a && not b) ≡ false
+not_taken true b e = ap not e
+not_taken false b e = refl

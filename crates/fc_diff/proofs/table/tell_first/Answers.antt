@@ -1,0 +1,9 @@
+use Rattle.std.proofs.Common.{◌≡◌}
+use Rattle.fc_diff.proofs.Found.{first_ids, pairs_take}
+use Rattle.fc_diff.proofs.table.tell_first.Goals as goal
+
+pub tell_named-requires-clause-beside : goal.tell_named-requires-clause-beside
+tell_named-requires-clause-beside c = first_ids c.args.ids.now.keys c.args.rows.now c.args.first c.requires.beside
+
+pub returns : goal.returns
+returns c = ?
