@@ -31,7 +31,7 @@ rows_can_begin : (slots : List Slot) (s : ChangesState) (f : Followed) (e : Lane
 rows_can_begin slots s f (Trigger pairs) es at rows alike fits ready = (
   ready,
   subst (λ (z : List Slot). All (λ p. length (restart_in p.map.0 s.rows) ≤ volume_grains z p.target.0) pairs) (sym at)
-  (subst (λ (z : List Row). All (λ p. length (restart_in p.map.0 z) ≤ volume_grains f.told.sheet.slots p.target.0) pairs) (sym rows) (restarts_fit f pairs alike fits)),
+      (subst (λ (z : List Row). All (λ p. length (restart_in p.map.0 z) ≤ volume_grains f.told.sheet.slots p.target.0) pairs) (sym rows) (restarts_fit f pairs alike fits)),
 )
 rows_can_begin slots s f (Make volume grains kind) es at rows alike fits ready = tt
 rows_can_begin slots s f (Remove volume) es at rows alike fits ready = tt
