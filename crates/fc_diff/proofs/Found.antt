@@ -213,7 +213,7 @@ first_ids ids rows n e =
     ap (λ k. take k ids) (length-take n rows ∙ ap (min n) (sym (length-map rows (λ (r : Row). r.map)) ∙ ap (λ xs. length xs) (sym e)))
     ∙ (take_min n ids ∙ (ap (take n) e ∙ take-map (λ (r : Row). r.map) n rows))
 
-pub pairs_take : (rows : List Row) (n : ℕ) → AllPairs (λ x y. x.map ≢ y.map) rows → AllPairs (λ x y. x.map ≢ y.map) (take n rows)
+pairs_take : (rows : List Row) (n : ℕ) → AllPairs (λ x y. x.map ≢ y.map) rows → AllPairs (λ x y. x.map ≢ y.map) (take n rows)
 pairs_take rows n distinct i j d less within same =
     let below : j < n = omega (arith, length-take n rows) in
     distinct i j d less (omega (arith, length-take n rows))

@@ -1,6 +1,6 @@
 //! The rows of mappings, and how they are found: by their ids, and by the volumes that they name.
 
-ghost use Rattle.std.specs.Prelude.{◌≡◌, ◌≢◌, ℕ, ◌+◌, ◌<◌, ◌≤◌, [], ◌∷◌, ◌++◌, map, take, drop, filter, not, length, replicate, OnOk, OnErr, None, true, false, All, AllPairs, position, slice_index_or};
+ghost use Rattle.std.specs.Prelude.{◌≡◌, ◌≢◌, ℕ, ◌+◌, ◌<◌, ◌≤◌, [], ◌∷◌, ◌++◌, map, take, drop, filter, not, length, replicate, IsTrue, OnOk, OnErr, None, true, false, All, AllPairs, position, slice_index_or};
 ghost use Rattle.fc_changed.specs.Row.{Row, is_of, row_names};
 ghost use Rattle.fc_diff.specs.Told.{row_after, volume_of, FitsRow};
 ghost use Rattle.fc_diff.specs.Index.{is_listed, named_by, map_numbers, begun_at};
@@ -79,6 +79,17 @@ impl Table {
         ensures { result ≡ position (is_of map) (take first self.now) }
     {
         find_place(&self.ids, &self.rows[..first], map)
+    }
+
+    /// Whether each of the first so many mappings has so many grains.
+    #[cfg(test)]
+    pub(crate) fn all_have(&self, first: usize, grains: u32) -> bool
+        requires { first ≤ length self.now }
+        ensures { IsTrue result → All (λ row. length row.same ≡ grains) (take first self.now) }
+    {
+        self.rows[..first]
+            .iter()
+            .all(|row| row.same().len() == grains)
     }
 
     /// At which grains the volumes of the mapping with this row are the same.
