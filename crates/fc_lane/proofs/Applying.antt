@@ -19,7 +19,7 @@ use Rattle.fc_lane.specs.Applying.{CanApply, HasApplied}
 use Rattle.fc_lane.specs.Events.{CanBeginRows, CanFollow, IsSized, chains_after}
 use Rattle.fc_lane.specs.Lane.{LaneView, AreRowsReady, ArmsNone, CanDoEvents, IsFollowing, IsSameLane, KeepsQuiet, of}
 use Rattle.fc_lane.specs.Parts.{IsReadyBeside, SameCounts, StandsFor, BesideFor, CanDo, kind_of_told, kind_of_grains}
-use Rattle.fc_lane.proofs.Following.{event_followed, first_births, restarts_fit, rows_sized, told_counts, told_sheet}
+use Rattle.fc_lane.proofs.Followed.{event_followed, first_births, restarts_fit, rows_sized, told_counts, told_sheet}
 use Rattle.fc_lane.proofs.LaneEvents.{of_same, same_counts}
 use Rattle.fc_lane.proofs.Telling.{arms_first, arms_rest, can_do, counts_same, counts_then, still_ready}
 

@@ -1,8 +1,8 @@
 -- The new slots of a trigger begin with restart sets, grain after grain.
-use Rattle.std.proofs.Common.{◌≡◌, ℕ, zero, suc, ◌+◌, ◌<◌, ◌≤◌, Bool, true, false, ◌||◌, eqb, Option, Some, None, IsSome, List, [], ◌∷◌, length, get_or, take, fold, find, replicate, All, refl, sym, ap, subst, ◌∙◌, arith, inl, inr}
+use Rattle.std.proofs.Common.{◌≡◌, ℕ, suc, ◌+◌, ◌-◌, ◌<◌, ◌≤◌, Bool, true, false, ◌||◌, Option, Some, None, IsSome, List, [], ◌∷◌, length, get_or, take, fold, find, replicate, All, refl, sym, ap, subst, ◌∙◌, arith, inl, inr}
 use Rattle.std.specs.List.{list_any}
 use Rattle.std.proofs.lemmas.Bool.{cases_Bool}
-use Rattle.std.proofs.lemmas.List.{length-replicate}
+use Rattle.std.proofs.lemmas.List.{get_or_default, length-replicate}
 use Rattle.std.proofs.lemmas.List.Sums.{fold_more}
 use Rattle.fc_alike.proofs.Lawful.{follow_law_holds}
 use Rattle.fc_alike.specs.Law.{IsNext, Keeps, NewSlot, with_first}
@@ -59,8 +59,9 @@ module _ (c : Chains) (p : Pair) (set : List Bool) (b : IsBeginning c.sheet p se
     pub begin_there : IsThere now.sheet.slots slot
     begin_there = some_there (birth_place now.sheet.slots slot.0) b.place named_now
 
-    pub begin_inside : (place : ℕ) → place < length set → (k : ℕ) → birth_place now.sheet.slots slot.0 ≡ Some k → place < length (slot_at now.sheet.slots k).held
-    begin_inside place lt k at =
+    pub begin_inside : (place : ℕ) → least_set set n ≡ Some place → (k : ℕ) → birth_place now.sheet.slots slot.0 ≡ Some k → place < length (slot_at now.sheet.slots k).held
+    begin_inside place found k at =
+        let inside : place < length set = (least_set-some set n place found).1 in
         let same : b.place ≡ k = same_place b.place k (sym named_now ∙ at) in
         let size : length (slot_at now.sheet.slots k).held ≡ b.grains =
         ap (λ (z : Chains). length (slot_at z.sheet.slots k).held) (is_now n now h)
@@ -91,7 +92,7 @@ none_found : (m : ℕ) (rows : List Row) → list_any (is_of m) rows ≡ false �
 none_found m [] none = refl
 none_found m (row ∷ rows) none =
     elim (cases_Bool (is_of m row)) [
-      | inl yes ↦ absurd (let t : true ≡ false = sym (ap (λ b. b || list_any (is_of m) rows) yes) ∙ none in cc)
+      | inl own ↦ absurd (let t : true ≡ false = sym (ap (λ b. b || list_any (is_of m) rows) own) ∙ none in cc)
       | inr other ↦ rw other (none_found m rows (ap (λ b. b || list_any (is_of m) rows) (sym other) ∙ none))
     ]
 
@@ -103,7 +104,7 @@ begin_none c p rows b none =
     let keeps : Keeps c.sheet b.place [] = follow_law_holds.keeps c.sheet p b.grains b.place [] b.sound b.slot in
     ap (with_sheet c)
     (sym keeps.none
-    ∙ ((λ i. holding (not_followed p.map.0 rows none (~ i)) b.place c.sheet) ∙ sym (ap (λ o. at_place (holding (restart_in p.map.0 rows)) o c.sheet) b.slot.of_mapping)))
+    ∙ (ap (λ z. holding z b.place c.sheet) (sym (not_followed p.map.0 rows none)) ∙ sym (ap (λ o. at_place (holding (restart_in p.map.0 rows)) o c.sheet) b.slot.of_mapping)))
 
 -- ---- all of them
 
@@ -112,7 +113,7 @@ abbrev pub IsTriggered : Sheet → List Pair → List Row → Type 0
 IsTriggered sheet pairs rows =
     (s : Sheet) × IsSound s × FitsTrigger s pairs × (sheet ≡ triggered pairs s) × All (λ (p : Pair). length (restart_in p.map.0 rows) ≤ volume_grains s.slots p.target.0) pairs
 
-pub next_begins : (c now : Chains) (pairs : List Pair) (rows : List Row) (i : ℕ) (p : Pair) → IsTriggered c.sheet pairs rows → now ≡ record c { sheet = fold (begun (restarts rows)) c.sheet (take i pairs) } → i < length pairs →
+next_begins : (c now : Chains) (pairs : List Pair) (rows : List Row) (i : ℕ) (p : Pair) → IsTriggered c.sheet pairs rows → now ≡ record c { sheet = fold (begun (restarts rows)) c.sheet (take i pairs) } → i < length pairs →
     get_or pairs i p ≡ p → IsBeginning now.sheet p (restart_in p.map.0 rows)
 next_begins c now pairs rows i p (s, sound, fits, is, small) at lt here =
     let t : Sheet = fold (begun (restarts rows)) (triggered pairs s) (take i pairs) in
@@ -126,9 +127,21 @@ next_begins c now pairs rows i p (s, sound, fits, is, small) at lt here =
       size = subst (λ (z : Pair). length (restart_in z.map.0 rows) ≤ volume_grains s.slots z.target.0) here (small i p lt);
     })
 
-pub next_begun : (c now new : Chains) (pairs : List Pair) (rows : List Row) (i : ℕ) (p : Pair) → now ≡ record c { sheet = fold (begun (restarts rows)) c.sheet (take i pairs) } → i < length pairs → get_or pairs i p ≡ p →
+next_begun : (c now new : Chains) (pairs : List Pair) (rows : List Row) (i : ℕ) (p : Pair) → now ≡ record c { sheet = fold (begun (restarts rows)) c.sheet (take i pairs) } → i < length pairs → get_or pairs i p ≡ p →
     new ≡ record now { sheet = begun (restarts rows) now.sheet p } → new ≡ record c { sheet = fold (begun (restarts rows)) c.sheet (take (i + 1) pairs) }
 next_begun c now new pairs rows i p at lt here is =
     is
-    ∙ ((λ k. record (at k) { sheet = begun (restarts rows) (at k).sheet (here (~ k)) })
+    ∙ ((λ k. record (at k) { sheet = begun (restarts rows) (at k).sheet (sym here k) })
     ∙ ap (with_sheet c) (sym (fold_more (begun (restarts rows)) c.sheet pairs i p lt)))
+
+-- the grains that are left get fewer
+pub fewer_left : (set : List Bool) (n place : ℕ) → least_set set n ≡ Some place → length set - (place + 1) < length set - n
+fewer_left set n place found = let f = least_set-some set n place found in omega (arith, f.0, f.1)
+
+pub next_begins_at : (c now : Chains) (pairs : List Pair) (rows : List Row) (i : ℕ) (d : Pair) → IsTriggered c.sheet pairs rows → now ≡ record c { sheet = fold (begun (restarts rows)) c.sheet (take i pairs) } → i < length pairs →
+    IsBeginning now.sheet (get_or pairs i d) (restart_in (get_or pairs i d).map.0 rows)
+next_begins_at c now pairs rows i d t at lt = next_begins c now pairs rows i (get_or pairs i d) t at lt (get_or_default pairs i (get_or pairs i d) d lt)
+
+pub next_begun_at : (c now new : Chains) (pairs : List Pair) (rows : List Row) (i : ℕ) (d : Pair) → now ≡ record c { sheet = fold (begun (restarts rows)) c.sheet (take i pairs) } → i < length pairs →
+    new ≡ record now { sheet = begun (restarts rows) now.sheet (get_or pairs i d) } → new ≡ record c { sheet = fold (begun (restarts rows)) c.sheet (take (i + 1) pairs) }
+next_begun_at c now new pairs rows i d at lt is = next_begun c now new pairs rows i (get_or pairs i d) at lt (get_or_default pairs i (get_or pairs i d) d lt) is

@@ -1,5 +1,5 @@
 -- The events of a command: the parts beside the chains stand for what is told after each, and each can be done.
-use Rattle.std.proofs.Common.{◌≡◌, ℕ, zero, suc, ◌+◌, ◌<◌, ◌≤◌, true, List, [], ◌∷◌, ◌++◌, length, drop, get_or, map, fold, All, refl, sym, ap, subst, ◌∙◌, arith}
+use Rattle.std.proofs.Common.{◌≡◌, ℕ, zero, suc, ◌+◌, ◌<◌, ◌≤◌, true, List, [], ◌∷◌, ◌++◌, length, drop, drop-cons, get_or, map, fold, All, refl, sym, ap, subst, ◌∙◌, arith}
 use Rattle.fc_base.specs.Pools.{Pool}
 use Rattle.fc_base.specs.Sheet.{Sheet}
 use Rattle.fc_base.specs.SheetFits.{FitsEvent, FitsEvents}
@@ -18,7 +18,7 @@ use Rattle.fc_lane.specs.Accesses.{AccessState}
 use Rattle.fc_rules.specs.LaneFits.{HasDisk, FitsLane}
 use Rattle.fc_grains.specs.Quiet.{IsQuiet}
 use Rattle.fc_lane.specs.Lane.{ArmsNone}
-use Rattle.fc_lane.specs.Parts.{ArmsNot, BesideFor, SameVolumes, CanDo, HasDone, IsReadyBeside, KnowsAll, SameCounts, FitBeside, FitParts, StandsFor, lane_of, kind_of_told, new_of, new_volumes}
+use Rattle.fc_lane.specs.Parts.{ArmsNot, BesideFor, SameVolumes, CanDo, HasDone, IsReadyBeside, KnowsAll, SameCounts, new_of, new_volumes}
 use Rattle.fc_lane.specs.Standing.{HasGrains}
 use Rattle.fc_lane.proofs.Eventing.{event_stands, event_volumes}
 use Rattle.fc_lane.proofs.Volumes.{newest_of}
@@ -113,18 +113,7 @@ arms_rest e es none volume grain calls c = none volume grain calls (suc c.0, ome
 
 -- ---- the events that are left
 
-pub drop_at : (xs : List LaneEvent) (i : ℕ) (d : LaneEvent) → i < length xs → drop i xs ≡ get_or xs i d ∷ drop (suc i) xs
-drop_at [] i d lt = absurd (omega arith)
-drop_at (x ∷ xs) zero d lt = refl
-drop_at (x ∷ xs) (suc i) d lt = drop_at xs i d (omega arith)
-
-pub drop_past : (xs : List LaneEvent) (i : ℕ) → length xs ≤ i → drop i xs ≡ []
-drop_past [] zero le = refl
-drop_past [] (suc i) le = refl
-drop_past (x ∷ xs) zero le = absurd (omega arith)
-drop_past (x ∷ xs) (suc i) le = drop_past xs i (omega arith)
-
-pub next_left : (xs : List LaneEvent) (i : ℕ) (e : LaneEvent) → i < length xs → get_or xs i e ≡ e → drop i xs ≡ e ∷ drop (i + 1) xs
-next_left xs i e lt is =
+pub next_left : {X : Type 0} (xs : List X) (i : ℕ) (x : X) → i < length xs → get_or xs i x ≡ x → drop i xs ≡ x ∷ drop (i + 1) xs
+next_left xs i x lt is =
     let next : suc i ≡ i + 1 = omega arith in
-    drop_at xs i e lt ∙ (λ k. is k ∷ drop (next k) xs)
+    drop-cons xs i x lt ∙ (λ k. is k ∷ drop (next k) xs)
