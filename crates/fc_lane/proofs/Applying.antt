@@ -1,5 +1,5 @@
 -- The events of a command, one after the other: each can be done, and leaves a lane that follows what is told after it.
-use Rattle.std.proofs.Common.{◌≡◌, ◌≢◌, ℕ, zero, suc, ◌+◌, ◌<◌, ◌≤◌, ◌^◌, List, [], ◌∷◌, length, get_or, map, fold, All, refl, sym, ap, subst, ◌∙◌, arith}
+use Rattle.std.proofs.Common.{◌≡◌, ◌≢◌, ℕ, zero, suc, ◌+◌, ◌<◌, ◌≤◌, ◌^◌, List, [], ◌∷◌, length, get_or, drop, map, fold, All, refl, sym, ap, subst, ◌∙◌, arith}
 use Rattle.fc_base.specs.Sheet.{Slot, Sheet, volume_grains}
 use Rattle.fc_base.specs.SheetFacts.{IsSound}
 use Rattle.fc_base.specs.SheetFits.{FitsEvent}
@@ -21,7 +21,7 @@ use Rattle.fc_lane.specs.Lane.{LaneView, AreRowsReady, ArmsNone, CanDoEvents, Is
 use Rattle.fc_lane.specs.Parts.{IsReadyBeside, SameCounts, StandsFor, BesideFor, CanDo, kind_of_told, kind_of_grains}
 use Rattle.fc_lane.proofs.Followed.{event_followed, first_births, restarts_fit, rows_sized, told_counts, told_sheet}
 use Rattle.fc_lane.proofs.LaneEvents.{of_same, same_counts}
-use Rattle.fc_lane.proofs.Telling.{arms_first, arms_rest, can_do, counts_same, counts_then, still_ready}
+use Rattle.fc_lane.proofs.Telling.{arms_first, arms_rest, can_do, counts_same, counts_then, next_left, still_ready}
 
 -- ---- one event
 
@@ -65,7 +65,7 @@ rows_then_ready slots s (Arm volume grain calls ∷ es) none = tt
 
 triggers_then : (es : List LaneEvent) → All IsNoTrigger es → TriggersFirst es
 triggers_then [] none = tt
-triggers_then (e ∷ es) none i d lt = none (suc i) d (omega arith)
+triggers_then (e ∷ es) none = λ i d lt. none (suc i) d (omega arith)
 
 module _ (v : LaneView) (f : Followed) (e : LaneEvent) (es : List LaneEvent) (i : IsFollowing v f) (fits : FitsFollowed (of v) f (e ∷ es)) where
   own : StandsFor (of v) v.chains v.grains v.accesses v.work f.told
@@ -192,3 +192,9 @@ module _ (v v' : LaneView) (events : List LaneEvent) where
 
   pub doing_quiet : (rest : List LaneEvent) → Doing v events v' rest → ArmsNone events → KeepsQuiet v v'
   doing_quiet rest d none q = ((d.quiet q none).0, d.kept.faults)
+
+  pub doing_can_at : (i : ℕ) (e : LaneEvent) → (f : Followed) × IsFollowing v f × FitsFollowed (of v) f events → i < length events → get_or events i e ≡ e → Doing v events v' (drop i events) → CanApply v' e
+  doing_can_at i e fit lt here d = doing_can e (drop (i + 1) events) fit (subst (λ (z : List LaneEvent). Doing v events v' z) (next_left events i e lt here) d)
+
+  pub doing_next_at : (i : ℕ) (e : LaneEvent) (v'' : LaneView) → i < length events → get_or events i e ≡ e → Doing v events v' (drop i events) → HasApplied v' e v'' → Doing v events v'' (drop (i + 1) events)
+  doing_next_at i e v'' lt here d done = doing_next e (drop (i + 1) events) v'' (subst (λ (z : List LaneEvent). Doing v events v' z) (next_left events i e lt here) d) done

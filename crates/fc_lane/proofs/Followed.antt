@@ -1,5 +1,5 @@
 -- A lane that follows its incremental mappings keeps standing for what it is told, after an event and after an entry.
-use Rattle.std.proofs.Common.{◌≡◌, ℕ, ◌<◌, ◌≤◌, ◌^◌, Bool, true, false, eqb, ◌||◌, Option, Some, None, IsSome, List, [], ◌∷◌, length, get_or, fold, find, All, refl, sym, ap, subst, ◌∙◌, arith, inl, inr}
+use Rattle.std.proofs.Common.{◌≡◌, ℕ, suc, ◌<◌, ◌≤◌, ◌^◌, Bool, true, false, eqb, ◌||◌, Option, Some, None, IsSome, List, [], ◌∷◌, length, get_or, fold, find, All, refl, sym, ap, subst, ◌∙◌, arith, inl, inr}
 use Rattle.std.specs.Option.{ForSome}
 use Rattle.std.proofs.lemmas.Bool.{cases_Bool, eqb-true}
 use Rattle.fc_alike.proofs.Lawful.{follow_law_holds}
@@ -146,7 +146,7 @@ sized_at : (slots : List Slot) (v n k : ℕ) → HasSizes slots → IsSome (live
 sized_at slots v n k sizes there size kl of_volume = by (live_place slots v) refl
   where
     by : (o : Option ℕ) → live_place slots v ≡ o → n ≡ length (slot_at slots k).held
-    by None none = absurd (subst IsSome none there)
+    by None none = absurd (let f : false ≡ true = subst IsSome none there in cc)
     by (Some j) some =
         let at = live_place_at slots v j some in
         sym size ∙ ap (grains_at slots) some ∙ sizes.of_volume j k at.there kl (at.of_volume ∙ sym of_volume)
@@ -179,7 +179,7 @@ restart_fits f p alike of_pair = by (find (is_of p.map.0) f.rows) refl
     by None none = let e : length (restart_in p.map.0 f.rows) ≡ 0 = ap (λ o. length (row_restart o)) none in omega (arith, e)
     by (Some row) some =
         let own : IsAlike f.told.sheet.slots f.told.picture row = found_has (IsAlike f.told.sheet.slots f.told.picture) (is_of p.map.0) f.rows row alike.each some in
-        let is : IsOfPair p row = subst (λ o. ForSome o (IsOfPair p)) some of_pair in
+        let is : IsOfPair p row = of_pair row some in
         let e : length (restart_in p.map.0 f.rows) ≡ volume_grains f.told.sheet.slots p.target.0 =
         ap (λ o. length (row_restart o)) some ∙ (sym own.target_size ∙ ap (volume_grains f.told.sheet.slots) is.1) in
         omega (arith, e)
@@ -191,7 +191,7 @@ restarts_fit f pairs alike fits i d lt = restart_fits f (get_or pairs i d) alike
 
 module _ (old mid new : LaneView) (f : Followed) (entry : Entry) (i : IsFollowing old f) (same : IsSameLane old mid) (changes : mid.changes ≡ old.changes)
     (noted : new ≡ record mid { changes = record mid.changes { rows = rows_entry (of mid) mid.changes.rows entry } }) where
-  own : LaneView
+  abbrev own : LaneView
   own = record mid { changes = record mid.changes { rows = rows_entry (of mid) mid.changes.rows entry } }
 
   lane_as : (told : LaneTold) → IsLaneOf mid told → IsLaneOf own told
