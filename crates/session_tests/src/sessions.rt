@@ -1,6 +1,6 @@
-//! A session over memory.
+//! A session over memory, and the disks for it.
 
-ghost use Rattle.std.specs.Prelude.{◌<◌, ◌^◌, map, vec_len};
+ghost use Rattle.std.specs.Prelude.{◌<◌, ◌≤◌, ◌^◌, map, vec_len, IfOk};
 ghost use Rattle.std.specs.List.{All};
 ghost use Rattle.fc_mdisk.specs.Disk.{IsFresh};
 
@@ -27,10 +27,11 @@ pub struct Outcome {
     pub disks: usize,
 }
 
-/// Runs a session over these disks at grain 64, read in pieces of so many bytes, with failing calls.
-pub fn run_over(
+/// Runs a session over these disks at this grain, read in pieces of so many bytes, with failing calls.
+pub fn run_over<D: Mdisk>(
     alloc: Global,
-    mut disks: Vec<MemDisk>,
+    mut disks: Vec<D>,
+    grain: &str,
     session: &[u8],
     piece: usize,
     failing_takes: Vec<u64>,
@@ -38,12 +39,12 @@ pub fn run_over(
 ) -> Result<Outcome, AllocError>
     requires piece { 0 < piece }
     requires few { vec_len disks < 2 ^ 30 }
-    requires fresh { All IsFresh (map ⟦<MemDisk as Mdisk>⟧.meaning disks.items) }
+    requires fresh { All IsFresh (map D.meaning disks.items) }
 {
     let mut source = MemSource::new(Vec::from_slice(alloc, session)?, piece, failing_takes);
     let mut sink = MemSink::new(alloc, failing_puts);
     let mut history = History::new(alloc);
-    let words = ["run", "--grain", "64"];
+    let words = ["run", "--grain", grain];
     let status = flashcopy_over(
         alloc,
         &words,
@@ -61,7 +62,7 @@ pub fn run_over(
     })
 }
 
-/// Runs a session over one flat disk for each of the four lanes.
+/// Runs a session at grain 64 over one flat disk for each of the four lanes.
 pub fn run(
     alloc: Global,
     session: &[u8],
@@ -77,5 +78,25 @@ pub fn run(
         MemDisk::new(alloc),
         MemDisk::new(alloc),
     ]?;
-    run_over(alloc, disks, session, piece, failing_takes, failing_puts)
+    run_over(
+        alloc,
+        disks,
+        "64",
+        session,
+        piece,
+        failing_takes,
+        failing_puts,
+    )
+}
+
+/// So many flat disks that never failed.
+pub fn flat_disks(alloc: Global, count: u32) -> Result<Vec<MemDisk>, AllocError>
+    ensures count { IfOk result (λ disks. vec_len disks ≤ count) }
+    ensures fresh { IfOk result (λ disks. All IsFresh (map ⟦<MemDisk as Mdisk>⟧.meaning disks.items)) }
+{
+    let mut disks: Vec<MemDisk> = Vec::new(alloc);
+    for made in 0..count {
+        disks.push(MemDisk::new(alloc))?;
+    }
+    Ok(disks)
 }
