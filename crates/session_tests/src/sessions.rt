@@ -4,6 +4,7 @@ ghost use Rattle.std.specs.Prelude.{◌<◌, ◌≤◌, ◌^◌, map, vec_len, I
 ghost use Rattle.std.specs.List.{All};
 ghost use Rattle.fc_mdisk.specs.Disk.{IsFresh};
 
+use fc_base::request::Reply;
 use fc_entry::history::History;
 use fc_io::mem_sink::MemSink;
 use fc_io::mem_source::MemSource;
@@ -25,6 +26,22 @@ pub struct Outcome {
     pub entries: usize,
     /// How many disks came back.
     pub disks: usize,
+    /// How many entries tell what their settling changed, and that memory was wanted then.
+    pub settled: usize,
+}
+
+/// How many entries tell what their settling changed, and that memory was wanted then.
+fn settled_in(history: &History) -> usize {
+    let mut settled = 0usize;
+    for index in 0..history.len() {
+        let entry = history.entry(index);
+        if let Reply::NoMemory = &entry.reply
+            && !entry.effects.as_slice().is_empty()
+        {
+            settled = settled.saturating_add(1);
+        }
+    }
+    settled
 }
 
 /// Runs a session over these disks at this grain, read in pieces of so many bytes, with failing calls.
@@ -59,6 +76,7 @@ pub fn run_over<D: Mdisk>(
         written: Vec::from_slice(alloc, sink.bytes())?,
         entries: history.len(),
         disks: disks.len(),
+        settled: settled_in(&history),
     })
 }
 

@@ -161,12 +161,22 @@ advance -seconds 1
 startfcconsistgrp -prep g
 write A 0 1 22
 read B 0 1
-stopfcconsistgrp g
 lsfcmap -delim :
 ",
     text: b"0 main mkvdisk -name A -size 64 -unit kb -> Virtual Disk, id [0], successfully created
 1 main mkvdisk -name B -size 64 -unit kb -> Virtual Disk, id [1], successfully created
 2 main write 0 0 1 11 -> ok
+3 main mkfcconsistgrp -name g -> FlashCopy Consistency Group, id [1], successfully created
+4 main mkfcmap -source A -target B -consistgrp g -copyrate 50 -> FlashCopy Mapping, id [0], successfully created
+5 main startfcconsistgrp -prep g -> ok
+6 main advance -seconds 1 -> ok
+7 main copy 0 0 -> moved 0 0
+8 main startfcconsistgrp -prep g -> ok
+9 main write 0 0 1 22 -> ok
+10 main read 1 0 1 -> data 512*11
+11 main lsfcmap -delim : -> rows 2
+id:name:source_vdisk_id:source_vdisk_name:target_vdisk_id:target_vdisk_name:group_id:group_name:status:progress:copy_rate:clean_progress:incremental:partner_FC_id:partner_FC_name:restoring
+0:fcmap0:0:A:1:B:1:g:idle_or_copied:100:50:100:off:::no
 ",
 };
 
@@ -187,5 +197,19 @@ read C 0 1
 advance -seconds 1
 read B 0 1
 ",
-    text: b"",
+    text: b"0 main mkvdisk -name A -size 128 -unit kb -thin -> Virtual Disk, id [0], successfully created
+1 main mkvdisk -name B -size 128 -unit kb -thin -> Virtual Disk, id [1], successfully created
+2 main mkvdisk -name C -size 128 -unit kb -thin -> Virtual Disk, id [2], successfully created
+3 main write 0 0 1 11 -> ok
+4 main mkfcmap -source A -target B -copyrate 50 -> FlashCopy Mapping, id [0], successfully created
+5 main mkfcmap -source B -target C -copyrate 0 -> FlashCopy Mapping, id [1], successfully created
+6 main startfcmap -prep 0 -> ok
+7 main startfcmap -prep 1 -> ok
+8 main write 0 0 1 22 -> ok
+9 main write 1 128 128 33 -> ok
+10 main read 2 0 1 -> data 512*11
+11 main advance -seconds 1 -> ok
+12 main clean 0 0 -> moved 0 0
+13 main read 1 0 1 -> data 512*11
+",
 };
