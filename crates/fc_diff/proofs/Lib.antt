@@ -8,3 +8,4 @@ pub mod States
 pub mod Ends
 pub mod Notes
 pub mod Law
+pub mod Examples

@@ -87,8 +87,7 @@ impl Changes {
             target: target.0,
         });
         if incremental && !self.is_following(map) {
-            self.table.begin(self.followed);
-            self.followed += 1;
+            self.followed = self.table.begin(self.followed);
         }
     }
 

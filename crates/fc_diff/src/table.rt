@@ -1,6 +1,6 @@
 //! The rows of mappings, and how they are found: by their ids, and by the volumes that they name.
 
-ghost use Rattle.std.specs.Prelude.{◌≡◌, ◌≢◌, ℕ, ◌<◌, ◌≤◌, [], ◌∷◌, ◌++◌, map, take, drop, filter, not, length, replicate, OnOk, OnErr, None, true, false, All, AllPairs, position, slice_index_or};
+ghost use Rattle.std.specs.Prelude.{◌≡◌, ◌≢◌, ℕ, ◌+◌, ◌<◌, ◌≤◌, [], ◌∷◌, ◌++◌, map, take, drop, filter, not, length, replicate, IsTrue, OnOk, OnErr, None, true, false, All, AllPairs, position, slice_index_or};
 ghost use Rattle.fc_changed.specs.Row.{Row, is_of, row_names};
 ghost use Rattle.fc_diff.specs.Told.{row_after, volume_of, FitsRow};
 ghost use Rattle.fc_diff.specs.Index.{is_listed, named_by, map_numbers, begun_at};
@@ -81,6 +81,17 @@ impl Table {
         find_place(&self.ids, &self.rows[..first], map)
     }
 
+    /// Whether each of the first so many mappings has so many grains.
+    #[cfg(test)]
+    pub(crate) fn all_have(&self, first: usize, grains: u32) -> bool
+        requires { first ≤ length self.now }
+        ensures { IsTrue result → All (λ row. length row.same ≡ grains) (take first self.now) }
+    {
+        self.rows[..first]
+            .iter()
+            .all(|row| row.same().len() == grains)
+    }
+
     /// At which grains the volumes of the mapping with this row are the same.
     pub(crate) fn same(&self, place: usize) -> &GrainSet
         requires { place < length self.now }
@@ -117,12 +128,14 @@ impl Table {
         self.rows.truncate(first);
     }
 
-    /// The mapping with this row has its first trigger. Takes no memory.
-    pub(crate) fn begin(&mut self, place: usize)
+    /// The mapping with this row has its first trigger. Answers the place behind it. Takes no memory.
+    pub(crate) fn begin(&mut self, place: usize) -> usize
         requires { place < length self.old }
-        ensures { self.new ≡ begun_at place self.old }
+        ensures rows { self.new ≡ begun_at place self.old }
+        ensures behind { result ≡ place + 1 }
     {
         self.rows[place].begin();
+        place + 1
     }
 
     /// Tells each of the first so many mappings of an event that names its volume, and the others nothing. Takes no memory.
@@ -132,8 +145,21 @@ impl Table {
         ensures { self.new ≡ map (row_after event.entry) (take first self.old) ++ drop first self.old }
     {
         let named = self.namers.of(event.volume());
-        tell_named(&self.ids, &mut self.rows[..first], named, event);
+        tell_first(&self.ids, &mut self.rows, first, named, event);
     }
+}
+
+/// Tells the event to those of the named mappings that have one of the first so many rows. All that name its volume are among
+/// the named ones.
+fn tell_first(ids: &IndexSet<u32>, rows: &mut [Tracked], first: usize, named: &[u32], event: Event)
+    requires within { first ≤ length rows.old }
+    requires beside { ids.now.keys ≡ map_numbers rows.old }
+    requires distinct { AllPairs (λ x y. x.map ≢ y.map) rows.old }
+    requires complete { All (λ row. row_names row (volume_of event) ≡ true → is_listed row.map named.now ≡ true) rows.old }
+    requires fits { All (FitsRow event) (take first rows.old) }
+    ensures { rows.new ≡ map (row_after event.entry) (take first rows.old) ++ drop first rows.old }
+{
+    tell_named(ids, &mut rows[..first], named, event);
 }
 
 /// Tells each of the named mappings with one of these rows of the event. All that name its volume are among them.

@@ -107,8 +107,7 @@ impl Tracked {
     pub(crate) fn begin(&mut self)
         ensures { self.new ≡ record self.old { into = self.old.target; same = replicate (length self.old.same) true } }
     {
-        self.into = self.target;
-        self.same.set_all();
+        self.join(self.target);
     }
 
     /// The event happens, which may be to other volumes than the mapping's.
@@ -129,8 +128,7 @@ impl Tracked {
         ensures { self.new ≡ row_began source target self.old }
     {
         if is_joining(self.source, self.target, source, target) {
-            self.into = target;
-            self.same.set_all();
+            self.join(target);
         } else if self.names(target) {
             self.same.clear_all();
         }
@@ -163,6 +161,14 @@ impl Tracked {
         if self.names(target) && self.into != target {
             self.same.clear_all();
         }
+    }
+
+    /// The volume became a copy of the other one: both show the same at all grains.
+    fn join(&mut self, into: u32)
+        ensures { self.new ≡ record self.old { into = into; same = replicate (length self.old.same) true } }
+    {
+        self.into = into;
+        self.same.set_all();
     }
 
     /// Whether the volume is one of the two.

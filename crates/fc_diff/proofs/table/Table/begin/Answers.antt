@@ -13,5 +13,5 @@ pub invariant_of-self : goal.invariant_of-self
 invariant_of-self c =
     found_same c.self.inside.ids.keys c.self.inside.namers c.self.inside.rows.items _ (ap (map new_of) (is_begun c) ∙ begun_same c.args.place c.self.inside.rows.items) c.self.invariant
 
-pub returns : goal.returns
-returns c = is_begun c ∙ ap (begun_at c.args.place) c.self.view_is
+pub returns-clause-rows : goal.returns-clause-rows
+returns-clause-rows c = is_begun c ∙ ap (begun_at c.args.place) c.self.view_is
