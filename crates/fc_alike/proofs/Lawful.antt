@@ -22,7 +22,7 @@ use Rattle.fc_alike.proofs.Keeping.{new_slot_keeps}
 use Rattle.fc_alike.proofs.Leaving.{one_leaves, force_leaves, split_leaves, come_alike, go_alike}
 use Rattle.fc_alike.proofs.Matching.{all_match, all_begin}
 use Rattle.fc_alike.proofs.Rows.{AlikeIn, AreAlikeIn, row_in, row_out, filter_alike, cut_less}
-use Rattle.fc_alike.proofs.Starting.{grains_of, all_new, is_next, all_begun_sound, begun_stays}
+use Rattle.fc_alike.proofs.Starting.{grains_of, all_new, is_next, is_next_at, all_begun_sound, begun_stays}
 use Rattle.fc_alike.proofs.Triggers.{trigger_alike, pairs_in}
 
 none_alike : (told : LaneTold) → AreAlike record { told = told; rows = [] }
@@ -95,6 +95,7 @@ follow_law_holds =
       event = λ l f e stored after follows fits fit st. event_follows l f stored after follows e fits fit st;
       entry = entry_alike;
       new_slot = is_next;
+      new_slot_at = is_next_at;
       begun_sound = all_begun_sound;
       begun_stays = begun_stays;
       keeps = new_slot_keeps;

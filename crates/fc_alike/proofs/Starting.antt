@@ -1,5 +1,6 @@
 -- After a trigger each pair has a new slot, also once the slots of other pairs have begun.
-use Rattle.std.proofs.Common.{◌≡◌, ◌≢◌, ℕ, ◌+◌, ◌<◌, Bool, true, false, Some, List, [], ◌∷◌, ◌++◌, length, fold, insert, replicate, refl, sym, ap, subst, ◌∙◌, arith, inl, inr}
+use Rattle.std.proofs.Common.{◌≡◌, ◌≢◌, ℕ, ◌+◌, ◌<◌, Bool, true, false, Some, List, [], ◌∷◌, ◌++◌, length, get_or, take, drop, fold, insert, replicate, refl, sym, ap, subst, ◌∙◌, arith, inl, inr}
+use Rattle.std.proofs.lemmas.List.{drop_more, take-append-drop}
 use Rattle.fc_base.specs.Sheet.{Slot, Sheet, slot_at, live_place, mapping_place, volume_grains, grains_at}
 use Rattle.fc_base.specs.SheetFacts.{IsSound}
 use Rattle.fc_base.specs.SheetFits.{FitsPair, FitsTrigger}
@@ -223,6 +224,14 @@ is_next restarts s before rest p sound f =
       slot = own.1;
       begins = begun_is restarts (fold (begun restarts) t before) p (grains_of s p) own.0 own.1;
     }
+
+pub is_next_at : (restarts : ℕ → List Bool) (s : Sheet) (pairs : List Pair) (i : ℕ) (d : Pair) → IsSound s → FitsTrigger s pairs → i < length pairs →
+    IsNext restarts s (fold (begun restarts) (triggered pairs s) (take i pairs)) (get_or pairs i d)
+is_next_at restarts s pairs i d sound f lt =
+    let p : Pair = get_or pairs i d in
+    let split : take i pairs ++ p ∷ drop (i + 1) pairs ≡ pairs = ap (λ (z : List Pair). take i pairs ++ z) (sym (drop_more pairs i d lt)) ∙ take-append-drop i pairs in
+    subst (λ (z : List Pair). IsNext restarts s (fold (begun restarts) (triggered z s) (take i pairs)) p) split
+    (is_next restarts s (take i pairs) (drop (i + 1) pairs) p sound (subst (FitsTrigger s) (sym split) f))
 
 all_begun : (restarts : ℕ → List Bool) (grains : Pair → ℕ) (pairs : List Pair) (t : Sheet) → IsSound t → AllNew t.slots grains pairs → AllApart pairs → IsSound (fold (begun restarts) t pairs)
 all_begun restarts grains [] t sound own apart = sound

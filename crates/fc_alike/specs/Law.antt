@@ -1,5 +1,5 @@
 -- The law of following: rows keep telling what is alike, and slots that begin with their grains show what plain volumes hold.
-use Rattle.std.specs.Prelude.{◌≡◌, ℕ, ◌+◌, ◌<◌, ◌≤◌, Bool, true, false, fold, List, [], ◌∷◌, ◌++◌, length, take, replicate, Some}
+use Rattle.std.specs.Prelude.{◌≡◌, ℕ, ◌+◌, ◌<◌, ◌≤◌, Bool, true, false, fold, List, [], ◌∷◌, ◌++◌, length, take, replicate, slice_index_or, Some}
 use Rattle.fc_base.specs.Sheet.{Slot, Sheet, slot_at, live_place, mapping_place, birth_place, volume_grains}
 use Rattle.fc_base.specs.SheetFacts.{IsSound}
 use Rattle.fc_base.specs.SheetFits.{FitsEvent, FitsTrigger}
@@ -82,6 +82,8 @@ pub record FollowLaw : Type 0 where
   -- after a trigger each pair has its new slot, whichever restart sets those before it began with; and all leave the chains sound
   pub new_slot : (restarts : ℕ → List Bool) (s : Sheet) (before rest : List Pair) (p : Pair) → IsSound s → FitsTrigger s (before ++ p ∷ rest) →
       IsNext restarts s (fold (begun restarts) (triggered (before ++ p ∷ rest) s) before) p
+  pub new_slot_at : (restarts : ℕ → List Bool) (s : Sheet) (pairs : List Pair) (i : ℕ) (d : Pair) → IsSound s → FitsTrigger s pairs → i < length pairs →
+      IsNext restarts s (fold (begun restarts) (triggered pairs s) (take i pairs)) (slice_index_or pairs i d)
   pub begun_sound : (restarts : ℕ → List Bool) (s : Sheet) (pairs : List Pair) → IsSound s → FitsTrigger s pairs → IsSound (fold (begun restarts) (triggered pairs s) pairs)
   -- slots that begin stay where they are
   pub begun_stays : (restarts : ℕ → List Bool) (s : Sheet) (pairs : List Pair) → SlotsStay s (fold (begun restarts) s pairs)

@@ -366,6 +366,7 @@ impl Cascade {
         requires inside { (k : ℕ) → birth_place self.now.sheet.slots slot.0 ≡ Some k → place < length (slot_at self.now.sheet.slots k).held }
         ensures of_lane { IsOfLane self.now result }
         ensures place { in_lane self.now result ≡ place }
+        ensures below { place + 1 < 2 ^ 32 }
     {
         let slots = self.slots();
         if place >= slots[self.place_of(slot)].grains() {

@@ -26,3 +26,6 @@ pub mod FillEntry
 pub mod Turning
 pub mod Turns
 pub mod Noting
+pub mod Followed
+pub mod Applying
+pub mod Beginning

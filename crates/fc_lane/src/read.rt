@@ -130,7 +130,13 @@ impl<D: Mdisk> Lane<D> {
 
     /// Reads blocks of one grain of a volume: the bytes that the volume's holder has there. A volume that isn't online
     /// answers how it may be reached, and a lost grain a medium error.
-    pub(crate) fn read_told(&mut self, alloc: Global, number: u64, actor: u32, part: ReadPart) -> Entry
+    pub(crate) fn read_told(
+        &mut self,
+        alloc: Global,
+        number: u64,
+        actor: u32,
+        part: ReadPart,
+    ) -> Entry
         requires can { (told : LaneTold) × IsLaneOf self.old told × FitsPart (of self.old) told part.volume part.block part.count }
         requires number { grain_of_block self.old.grains.grain part.block < 2 ^ 32 }
         ensures right { (told : LaneTold) → IsLaneOf self.old told → FitsPart (of self.old) told part.volume part.block part.count →

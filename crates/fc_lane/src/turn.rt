@@ -121,7 +121,10 @@ impl<D: Mdisk> Lane<D> {
     {
         let request = Request::CleanTurn { lane: self.lane };
         match self.next_clean() {
-            Some((map, grain)) => turned(self.clean_told(alloc, number, actor, map, grain), request),
+            Some((map, grain)) => turned(
+                self.clean_told(alloc, number, actor, map, grain),
+                request,
+            ),
             None => self.untouched(alloc, number, actor, request, Reply::Idle),
         }
     }
@@ -129,7 +132,13 @@ impl<D: Mdisk> Lane<D> {
     /// A copier's turn: a copy of the first mapping by id that has one to make in the lane, at its least grain, and Idle exactly
     /// where none has; or the copy of a mapping's grain that is named. It stops at the first call of a disk that fails; what
     /// was done before stays done.
-    pub(crate) fn copy_turn_told(&mut self, alloc: Global, number: u64, actor: u32, pick: Pick) -> Entry
+    pub(crate) fn copy_turn_told(
+        &mut self,
+        alloc: Global,
+        number: u64,
+        actor: u32,
+        pick: Pick,
+    ) -> Entry
         requires can { (told : LaneTold) × IsLaneOf self.old told × CanPick (of self.old) (copied_slot told.sheet.slots) pick }
         requires ready { IsReady self.old }
         ensures right { (told : LaneTold) → IsLaneOf self.old told → CanPick (of self.old) (copied_slot told.sheet.slots) pick →
@@ -149,7 +158,13 @@ impl<D: Mdisk> Lane<D> {
     /// A cleaner's turn: a cleaning of the first mapping by id that has one to make in the lane, at its least grain, and Idle
     /// exactly where none has; or the cleaning of a mapping's grain that is named. It stops at the first call of a disk that
     /// fails; what was done before stays done.
-    pub(crate) fn clean_turn_told(&mut self, alloc: Global, number: u64, actor: u32, pick: Pick) -> Entry
+    pub(crate) fn clean_turn_told(
+        &mut self,
+        alloc: Global,
+        number: u64,
+        actor: u32,
+        pick: Pick,
+    ) -> Entry
         requires can { (told : LaneTold) × IsLaneOf self.old told × CanPick (of self.old) (cleaned_slot told.sheet.slots) pick }
         requires ready { IsReady self.old }
         ensures right { (told : LaneTold) → IsLaneOf self.old told → CanPick (of self.old) (cleaned_slot told.sheet.slots) pick →
