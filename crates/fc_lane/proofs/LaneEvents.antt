@@ -1,5 +1,5 @@
 -- A lane through the events of a command.
-use Rattle.std.proofs.Common.{◌≡◌, List, [], ◌∷◌, fold, refl, sym, ap, subst, ◌∙◌}
+use Rattle.std.proofs.Common.{◌≡◌, List, [], sym, ap, subst, ◌∙◌}
 use Rattle.fc_base.specs.declared.decision.LaneEvent.{LaneEvent}
 use Rattle.fc_chain.specs.Chains.{Chains}
 use Rattle.fc_grains.specs.Grains.{GrainsState, stopped}

@@ -1,5 +1,5 @@
 -- What is noted of incremental mappings as slots leave and triggers begin.
-use Rattle.std.proofs.Common.{◌≡◌, ◌≢◌, ℕ, zero, suc, ◌+◌, ◌<◌, ◌≤◌, Bool, true, false, not, cond, ◌&&◌, ◌||◌, eqb, Option, Some, None, List, [], ◌∷◌, ◌++◌, length, get_or, take, drop, map, fold, flat_map, All, append-nil, Result, Ok, Err, OnOk, is_err, refl, sym, ap, subst, ◌∙◌, arith, inl, inr}
+use Rattle.std.proofs.Common.{◌≡◌, ◌≢◌, ℕ, zero, suc, ◌+◌, ◌<◌, Bool, true, false, not, cond, ◌&&◌, ◌||◌, eqb, Option, Some, None, List, [], ◌∷◌, ◌++◌, length, get_or, take, drop, map, fold, flat_map, All, append-nil, Result, Ok, Err, OnOk, is_err, refl, sym, ap, subst, ◌∙◌, arith, inl, inr}
 use Rattle.std.specs.List.{list_any}
 use Rattle.std.proofs.lemmas.Bool.{cases_Bool, ne_eqb}
 use Rattle.std.proofs.lemmas.List.{get_or-take, get_or-drop, get_or_default, length-take, length-drop}
@@ -10,7 +10,7 @@ use Rattle.fc_base.specs.Sheet.{Slot, slot_at, mapping_place, volume_grains}
 use Rattle.fc_base.specs.declared.ids.MapId.{MapId}
 use Rattle.fc_base.specs.declared.outcome.NoMemory.{NoMemory}
 use Rattle.fc_base.specs.declared.request.Pair.{Pair}
-use Rattle.fc_changed.specs.Notes.{Note, has, joins}
+use Rattle.fc_changed.specs.Notes.{has, joins}
 use Rattle.fc_changed.specs.Notes.Note.{Began, Left}
 use Rattle.fc_changed.specs.Row.{Row, after_note, is_of, row_began, row_left, row_names, with_new}
 use Rattle.fc_diff.specs.State.{CanBegin, ChangesState, NewRow, after_beginning, with_ready}
