@@ -1,11 +1,11 @@
 -- One note more at the end of the list.
-use Rattle.std.proofs.Common.{◌≡◌, ℕ, Bool, true, false, ◌&&◌, ◌||◌, cond, List, [], ◌∷◌, ◌++◌, reverse, find, nat_eq, Option, Some, None, is_some, refl, ap, sym, ◌∙◌}
+use Rattle.std.proofs.Common.{◌≡◌, ℕ, Bool, true, false, ◌||◌, cond, List, [], ◌∷◌, ◌++◌, reverse, find, nat_eq, Option, Some, None, is_some, refl, ap, sym, ◌∙◌}
 use Rattle.std.specs.List.{list_any}
 use Rattle.std.specs.Option.{option_and_then}
 use Rattle.std.proofs.lemmas.List.{reverse-append}
 use Rattle.std.proofs.lemmas.List.Folds.{list_any-append}
 use Rattle.std.proofs.lemmas.Bool.{true≢false}
-use Rattle.fc_changed.specs.Notes.{Note, joins}
+use Rattle.fc_changed.specs.Notes.{Note}
 use Rattle.fc_changed.specs.Notes.Note.{Began, Wrote, Left, Cut, Forgotten}
 use Rattle.fc_changed.specs.Changed.{behind_last, last, follows, forgets, story, joins_them, target_of, is_volume, is_last_target}
 

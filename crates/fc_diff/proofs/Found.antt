@@ -1,9 +1,9 @@
 -- How the rows are found: what holds again after a row came, went or was told.
-use Rattle.std.proofs.Common.{◌≡◌, ◌≢◌, ℕ, zero, suc, ◌+◌, ◌-◌, ◌<◌, ◌≤◌, min, Bool, true, false, not, ◌||◌, cond, List, [], ◌∷◌, ◌++◌, map, length, get_or, set, take, drop, remove, filter, find, nat_eq, position, Option, Some, None, is_some, refl, ap, sym, subst, ◌∙◌, arith, All, AllPairs}
+use Rattle.std.proofs.Common.{◌≡◌, ◌≢◌, ℕ, zero, suc, ◌+◌, ◌-◌, ◌<◌, ◌≤◌, min, Bool, true, false, not, ◌||◌, List, [], ◌∷◌, ◌++◌, map, length, get_or, set, take, drop, remove, filter, nat_eq, position, Option, Some, None, is_some, refl, ap, sym, subst, ◌∙◌, arith, All, AllPairs}
 use Rattle.std.specs.List.{list_any}
 use Rattle.std.proofs.lemmas.List.{get_or-map, length-map, map-append, take-append-le, take_all, take-map, take-append-drop, length-take-le, length-drop, length-replicate, length-take, take_min, get_or-take, get_or-drop, get_or_default}
 use Rattle.std.proofs.lemmas.List.Edits.{length-remove, remove-append_left}
-use Rattle.std.proofs.lemmas.List.Elements.{All-push, All-map, All-weaker, All-filter, filter_passes}
+use Rattle.std.proofs.lemmas.List.Elements.{All-push, All-weaker, All-filter, filter_passes}
 use Rattle.std.proofs.lemmas.List.Quantifiers.{position-Some, all_pairs_push, all_pairs_remove}
 use Rattle.std.proofs.lemmas.Bool.Decides.{nat_tests}
 use Rattle.fc_diff.specs.declared.tracked.Event.{Event}
@@ -11,7 +11,7 @@ use Rattle.fc_diff.specs.State.{NewRow}
 use Rattle.fc_diff.specs.Index.{IsFound, Listing, named_by, is_listed, map_numbers, new_of, begun, begun_at}
 use Rattle.fc_changed.specs.Row.{Row, is_of}
 use Rattle.fc_diff.specs.Told.{row_after}
-use Rattle.fc_diff.proofs.Places.{find-found, find-missed, all_fail, any_found, position_here, position_nowhere}
+use Rattle.fc_diff.proofs.Places.{find-missed, all_fail, position_here, position_nowhere}
 use Rattle.fc_diff.proofs.Events.{same_map, same_source, same_target, same_size}
 
 equal : (a b : ℕ) → nat_eq a b ≡ true → a ≡ b
@@ -22,11 +22,6 @@ unequal a b e same = grind (arith, nat_tests)
 
 eq_false : (a b : ℕ) → b ≢ a → nat_eq a b ≡ false
 eq_false a b other = grind (arith, nat_tests, other)
-
--- ---- one row
-
-pub row_found : (m : ℕ) (rows : List Row) (place : ℕ) (row : Row) → position (is_of m) rows ≡ Some place → row ≡ get_or rows place row → find (is_of m) rows ≡ Some row
-row_found m rows place row found is = find-found (is_of m) rows place row found ∙ ap Some (sym is)
 
 any_at : {X : Type 0} (test : X → Bool) (xs : List X) (i : ℕ) (d : X) → i < length xs → test (get_or xs i d) ≡ true → list_any test xs ≡ true
 any_at test [] i d within here = absurd (omega arith)

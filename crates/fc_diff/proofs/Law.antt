@@ -1,15 +1,15 @@
 -- The rows are what the definition says over all that was noted.
-use Rattle.std.proofs.Common.{◌≡◌, ℕ, Bool, true, false, not, ◌&&◌, ◌||◌, cond, List, [], ◌∷◌, ◌++◌, map, filter, fold, length, find, set, replicate, nat_eq, Option, Some, None, is_some, option_map, refl, ap, sym, ◌∙◌, arith, append-nil, append_assoc}
+use Rattle.std.proofs.Common.{◌≡◌, ℕ, Bool, true, false, not, ◌&&◌, ◌||◌, cond, List, [], ◌∷◌, ◌++◌, map, filter, fold, length, find, set, nat_eq, Option, Some, None, is_some, option_map, refl, ap, sym, ◌∙◌, arith, append-nil, append_assoc}
 use Rattle.std.specs.List.{list_any}
 use Rattle.std.proofs.lemmas.Bool.{true≢false}
 use Rattle.std.proofs.lemmas.Bool.Decides.{nat_tests}
 use Rattle.fc_changed.specs.Notes.{Note, has, grains_with, joins}
 use Rattle.fc_changed.specs.Notes.Note.{Began, Wrote, Left, Cut, Forgotten}
-use Rattle.fc_changed.specs.Changed.{story, restart_told, restart_set}
-use Rattle.fc_changed.specs.Row.{Row, row_names, row_began, row_wrote, row_left, row_cut, with_all, with_none, is_of, with_new, after_note, row_restart, restart_in}
+use Rattle.fc_changed.specs.Changed.{story, restart_told}
+use Rattle.fc_changed.specs.Row.{Row, row_names, row_began, row_wrote, row_left, row_cut, with_all, with_none, is_of, with_new, after_note, row_restart}
 use Rattle.fc_diff.specs.Law.{rows_of, RestartLaw}
 use Rattle.fc_diff.proofs.Ends.{story_push, story_shape}
-use Rattle.fc_diff.proofs.Notes.{row_told, row_step, new_row, new_step, told_push}
+use Rattle.fc_diff.proofs.Notes.{row_told, row_step, new_row, told_push}
 
 -- ---- the row that is found in the table
 

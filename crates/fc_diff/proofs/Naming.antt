@@ -4,7 +4,6 @@ use Rattle.std.specs.List.{list_any}
 use Rattle.std.proofs.lemmas.List.{get_or-map, length-map, length-set, length-append, map-append}
 use Rattle.indexmap.specs.IndexSet.{insert_key}
 use Rattle.std.proofs.lemmas.List.Quantifiers.{position-Some}
-use Rattle.std.proofs.lemmas.List.Folds.{list_any-append}
 use Rattle.std.proofs.lemmas.Bool.Decides.{nat_tests}
 use Rattle.std.proofs.lemmas.Bool.{true≢false}
 use Rattle.fc_diff.specs.Index.{Listing, named_by, numbers, list_of, is_listed}
@@ -102,9 +101,6 @@ list_pushed (k ∷ volumes) (l ∷ lists) v list same new =
     rw fails (list_pushed volumes lists v list (omega arith) (λ j d within. new (suc j) d (omega arith)))
 
 -- ---- numbers in a list
-pub listed_push : (m n : ℕ) (list : List ℕ) → is_listed m list ≡ true → is_listed m (list ++ n ∷ []) ≡ true
-listed_push m n list there = list_any-append (λ k. nat_eq m k) list (n ∷ []) ∙ rw there refl
-
 pub listed_last : (m : ℕ) (list : List ℕ) → is_listed m (list ++ m ∷ []) ≡ true
 listed_last m [] = rw (eq_same m) refl
 listed_last m (k ∷ list) = by (nat_eq m k) (listed_last m list)

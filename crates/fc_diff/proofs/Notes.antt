@@ -1,15 +1,15 @@
 -- What one note does to the row of one mapping, that is what the notes tell of it.
-use Rattle.std.proofs.Common.{◌≡◌, ℕ, ◌<◌, Bool, true, false, not, ◌&&◌, ◌||◌, cond, List, [], ◌∷◌, ◌++◌, length, set, replicate, nat_eq, Option, Some, None, is_some, option_map, refl, ap, sym, ◌∙◌, arith}
+use Rattle.std.proofs.Common.{◌≡◌, ℕ, Bool, true, false, not, ◌&&◌, ◌||◌, cond, List, [], ◌∷◌, ◌++◌, length, replicate, nat_eq, Option, Some, None, option_map, refl, ap, sym, ◌∙◌, arith}
 use Rattle.std.specs.List.{list_any}
 use Rattle.std.specs.Option.{option_and_then}
 use Rattle.std.proofs.lemmas.Bool.{true≢false}
 use Rattle.std.proofs.lemmas.Bool.Decides.{nat_tests}
 use Rattle.fc_changed.specs.Notes.{Note, has, grains_with, joins, names}
 use Rattle.fc_changed.specs.Notes.Note.{Began, Wrote, Left, Cut, Forgotten}
-use Rattle.fc_changed.specs.Changed.{behind_last, last, follows, forgets, joins_them, target_of, is_volume, is_last_target, differs, is_same}
-use Rattle.fc_changed.specs.Row.{Row, row_names, row_began, row_wrote, row_left, row_cut, with_all, with_none}
+use Rattle.fc_changed.specs.Changed.{behind_last, last, forgets, joins_them, target_of, is_volume, is_last_target, differs, is_same}
+use Rattle.fc_changed.specs.Row.{Row, row_began, row_wrote, row_left, row_cut, with_all, with_none}
 use Rattle.fc_diff.proofs.Sets.{length-grains_with, get_or-grains_with, grains_same, grains_all, grains_cleared}
-use Rattle.fc_diff.proofs.Ends.{or_false, any_push, last_push, behind_push_yes, behind_push_no, longer_story, IsStory, or_none, last_target, own_is}
+use Rattle.fc_diff.proofs.Ends.{any_push, last_push, behind_push_yes, behind_push_no, longer_story, IsStory, or_none, last_target, own_is}
 
 -- what the notes tell of the row of a mapping, from its first trigger on
 abbrev pub row_of : (m a b n : ℕ) → List Note → Row

@@ -1,14 +1,14 @@
 -- What changes of the rows make of what is kept: those that are followed, and those that stand ready.
-use Rattle.std.proofs.Common.{◌≡◌, ◌≢◌, ℕ, zero, suc, ◌+◌, ◌-◌, ◌<◌, ◌≤◌, Bool, true, false, not, ◌&&◌, ◌||◌, cond, List, [], ◌∷◌, ◌++◌, map, length, get_or, take, drop, find, nat_eq, position, replicate, Option, Some, None, is_some, refl, ap, sym, subst, ◌∙◌, arith, All, ⊎_elim}
+use Rattle.std.proofs.Common.{◌≡◌, ◌≢◌, ℕ, zero, suc, ◌+◌, ◌-◌, ◌<◌, ◌≤◌, Bool, true, false, not, ◌&&◌, ◌||◌, List, [], ◌∷◌, ◌++◌, map, length, get_or, take, drop, nat_eq, position, replicate, Option, Some, None, is_some, refl, ap, sym, ◌∙◌, arith, All, ⊎_elim}
 use Rattle.std.specs.List.{list_any}
-use Rattle.std.proofs.lemmas.List.{get_or-map, length-map, map-append, take_at, take_all, take-append-le, take-append-drop, length-take-le, length-take, length-drop, get_or-take, get_or-drop, get_or_default}
+use Rattle.std.proofs.lemmas.List.{get_or-map, length-map, length-take-le, length-take, length-drop, get_or-take, get_or-drop, get_or_default}
 use Rattle.std.proofs.lemmas.List.Quantifiers.{position-Some}
 use Rattle.std.proofs.lemmas.Bool.{cases_lt}
 use Rattle.std.proofs.lemmas.Bool.Decides.{nat_tests}
-use Rattle.fc_changed.specs.Row.{Row, is_of, row_began, row_restart, restart_in, with_new}
+use Rattle.fc_changed.specs.Row.{Row, is_of, row_began, row_restart, restart_in}
 use Rattle.fc_diff.specs.declared.tracked.Event.{Event}
 use Rattle.fc_diff.specs.Told.{row_after}
-use Rattle.fc_diff.specs.State.{NewRow, ChangesState, IsFirstReady, CanBegin, after_beginning, followed_with, ready_grains, behind_first, takes_ready}
+use Rattle.fc_diff.specs.State.{NewRow, ChangesState, IsFirstReady, after_beginning, takes_ready}
 use Rattle.fc_diff.specs.Index.{new_of, state_of, begun, begun_at}
 use Rattle.fc_diff.proofs.Places.{find-found, find-missed, any_found}
 use Rattle.fc_diff.proofs.Found.{place_any}
@@ -19,40 +19,6 @@ no_row = record { map = 0; source = 0; target = 0; into = 0; same = [] }
 
 abbrev state : List Row → List NewRow → ChangesState
 state rows ready = record { rows = rows; ready = ready }
-
-drop_at : {X : Type 0} (xs ys : List X) (n : ℕ) → length xs ≡ n → drop n (xs ++ ys) ≡ ys
-drop_at [] ys zero e = refl
-drop_at [] ys (suc n) e = absurd (omega arith)
-drop_at (x ∷ xs) ys zero e = absurd (omega arith)
-drop_at (x ∷ xs) ys (suc n) e = drop_at xs ys n (omega arith)
-
-drop_past : {X : Type 0} (xs : List X) (n : ℕ) → length xs ≡ n → drop n xs ≡ []
-drop_past [] zero e = refl
-drop_past [] (suc n) e = absurd (omega arith)
-drop_past (x ∷ xs) zero e = absurd (omega arith)
-drop_past (x ∷ xs) (suc n) e = drop_past xs n (omega arith)
-
-drop_push : {X : Type 0} (xs : List X) (x : X) (n : ℕ) → n ≤ length xs → drop n (xs ++ x ∷ []) ≡ drop n xs ++ x ∷ []
-drop_push xs x zero e = refl
-drop_push [] x (suc n) e = absurd (omega arith)
-drop_push (y ∷ xs) x (suc n) e = drop_push xs x n (omega arith)
-
--- other rows are followed
-pub state_with : (followed : List Row) (rows : List Row) (k n : ℕ) → length followed ≡ k → state_of k (followed ++ drop n rows) ≡ record (state_of n rows) { rows = followed }
-state_with followed rows k n e = λ i. state (take_at followed (drop n rows) k e i) (map new_of (drop_at followed (drop n rows) k e i))
-
-pub state_told : (event : Event) (rows : List Row) (n : ℕ) → n ≤ length rows → state_of n (map (row_after event) (take n rows) ++ drop n rows) ≡ record (state_of n rows) { rows = map (row_after event) (take n rows) }
-state_told event rows n fits = state_with (map (row_after event) (take n rows)) rows n n (length-map (take n rows) (row_after event) ∙ length-take-le n rows fits)
-
--- a row more stands ready
-pub state_pushed : (rows : List Row) (row : Row) (n : ℕ) → n ≤ length rows → state_of n (rows ++ row ∷ []) ≡ record (state_of n rows) { ready = map new_of (drop n rows) ++ new_of row ∷ [] }
-state_pushed rows row n fits = λ i.
-    state (take-append-le n rows (row ∷ []) fits i) ((ap (map new_of) (drop_push rows row n fits) ∙ map-append new_of (drop n rows) (row ∷ [])) i)
-
--- none stands ready any more
-pub state_released : (rows : List Row) (n : ℕ) → n ≤ length rows → state_of n (take n rows) ≡ record (state_of n rows) { ready = [] }
-state_released rows n fits = λ i.
-    state (take_all n (take n rows) (omega (arith, length-take-le n rows fits)) i) (map new_of (drop_past (take n rows) n (length-take-le n rows fits) i))
 
 -- the first that stands ready is followed
 state_begun : (n : ℕ) (rows : List Row) (row : Row) (rest : List Row) → drop n rows ≡ row ∷ rest → state_of (suc n) (begun_at n rows) ≡ state (take n rows ++ begun row ∷ []) (map new_of rest)

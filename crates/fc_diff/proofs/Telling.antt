@@ -21,9 +21,6 @@ pub record IsTold (event : Event) (before : List Row) (named : List ℕ) (now : 
   pub same_length : length now ≡ length before
   pub row : (k : ℕ) (d : Row) → k < length before → get_or now k d ≡ told_row event named (get_or before k d)
 
-pub told_none : (event : Event) (rows : List Row) → IsTold event rows [] rows
-told_none event rows = record { same_length = refl; row = λ k d within. refl }
-
 told_map : (event : Event) (named : List ℕ) (row : Row) → (told_row event named row).map ≡ row.map
 told_map event named row = by (is_listed row.map named)
   where

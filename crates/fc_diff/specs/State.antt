@@ -1,5 +1,5 @@
 -- What is kept: the rows of the mappings that are followed, and those that stand ready to be.
-use Rattle.std.specs.Prelude.{◌≡◌, ℕ, Bool, true, false, not, ◌&&◌, if◌then◌else◌, List, [], ◌∷◌, ◌++◌, Option, Some, None}
+use Rattle.std.specs.Prelude.{◌≡◌, ℕ, Bool, true, not, ◌&&◌, if◌then◌else◌, List, [], ◌∷◌, ◌++◌, Some, None}
 use Rattle.std.specs.List.{list_any}
 use Rattle.fc_changed.specs.Notes.Note.{Began}
 use Rattle.fc_changed.specs.Row.{Row, is_of, after_note}
@@ -35,14 +35,10 @@ abbrev pub behind_first : List NewRow → List NewRow
 behind_first [] = []
 behind_first (new ∷ ready) = ready
 
--- what is noted of the grains of a mapping that is followed
-abbrev pub followed_with : ℕ → Bool → Option ℕ
-followed_with grains true = Some grains
-followed_with grains false = None
-
+-- Of an incremental mapping the grains are noted.
 abbrev pub after_beginning : ChangesState → (m source target : ℕ) → Bool → ChangesState
 after_beginning s m source target incremental = record {
-  rows = after_note s.rows (Began m source target (followed_with (ready_grains s.ready) incremental));
+  rows = after_note s.rows (Began m source target (if incremental then Some (ready_grains s.ready) else None));
   ready = if takes_ready s m incremental then behind_first s.ready else s.ready;
 }
 

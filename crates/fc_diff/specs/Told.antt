@@ -1,5 +1,5 @@
 -- What an event does to a row, as the code tells it.
-use Rattle.std.specs.Prelude.{◌≡◌, ℕ, Bool, true, length}
+use Rattle.std.specs.Prelude.{◌≡◌, ℕ, true, length}
 use Rattle.fc_changed.specs.Row.{Row, row_names, row_began, row_wrote, row_left, row_cut}
 use Rattle.fc_diff.specs.declared.tracked.Event.{Event}
 use Rattle.fc_diff.specs.declared.tracked.Event.TheVariants.{Began, Wrote, Left, Cut}

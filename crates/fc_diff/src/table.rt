@@ -151,13 +151,7 @@ impl Table {
 
 /// Tells the event to those of the named mappings that have one of the first so many rows. All that name its volume are among
 /// the named ones.
-fn tell_first(
-    ids: &IndexSet<u32>,
-    rows: &mut [Tracked],
-    first: usize,
-    named: &[u32],
-    event: Event,
-)
+fn tell_first(ids: &IndexSet<u32>, rows: &mut [Tracked], first: usize, named: &[u32], event: Event)
     requires within { first ≤ length rows.old }
     requires beside { ids.now.keys ≡ map_numbers rows.old }
     requires distinct { AllPairs (λ x y. x.map ≢ y.map) rows.old }

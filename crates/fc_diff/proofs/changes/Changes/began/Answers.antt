@@ -1,4 +1,4 @@
-use Rattle.std.proofs.Common.{◌≡◌, ◌+◌, true, false, not, ◌&&◌, sym, ◌∙◌, ap, subst, map, length, arith}
+use Rattle.std.proofs.Common.{◌≡◌, true, false, not, ◌&&◌, sym, ◌∙◌, ap, subst, map, length, arith}
 use Rattle.std.specs.List.{list_any}
 use Rattle.fc_changed.specs.Row.{is_of, row_began}
 use Rattle.fc_diff.specs.declared.tracked.Event.TheVariants.{Began}

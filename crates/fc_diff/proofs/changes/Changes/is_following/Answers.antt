@@ -1,4 +1,4 @@
-use Rattle.std.proofs.Common.{sym, ◌∙◌, ap, take, is_some}
+use Rattle.std.proofs.Common.{◌∙◌, ap, take, is_some}
 use Rattle.std.specs.List.{list_any}
 use Rattle.fc_changed.specs.Row.{is_of}
 use Rattle.fc_diff.specs.State.{ChangesState}

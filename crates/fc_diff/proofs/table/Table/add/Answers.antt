@@ -1,4 +1,4 @@
-use Rattle.std.proofs.Common.{◌≡◌, sym, ◌∙◌, ap, position, None, [], ◌∷◌, ◌++◌, nat_eq, replicate, false}
+use Rattle.std.proofs.Common.{◌≡◌, ◌∙◌, ap, position, None, [], ◌∷◌, ◌++◌, nat_eq, replicate, false}
 use Rattle.fc_changed.specs.Row.{Row, is_of}
 use Rattle.fc_diff.proofs.Places.{position-map}
 use Rattle.fc_diff.proofs.Naming.{inserted}

@@ -10,5 +10,5 @@ invariant_of-self c =
     found_take c.self.inside.ids.keys c.self.inside.namers c.unlist.new.namers rows c.args.first
     (subst (λ (rs : List Row). c.args.first ≤ length rs) (sym c.self.view_is) c.requires) c.self.invariant
     (λ w m others there. c.unlist.ensures w m (subst (λ (rs : List Row). All (λ row. m ≢ row.map) (take (length rs - c.args.first) (drop c.args.first rs))) (sym c.deref.ensures.value)
-        (subst (All (λ (row : Row). m ≢ row.map)) (sym (take_rest rows c.args.first)) others)) there)
+    (subst (All (λ (row : Row). m ≢ row.map)) (sym (take_rest rows c.args.first)) others)) there)
     c.truncate.new.self.keys c.truncate-2.new.self.items c.truncate.ensures.keys c.truncate-2.ensures.items

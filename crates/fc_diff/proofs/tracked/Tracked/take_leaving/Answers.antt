@@ -1,5 +1,4 @@
 use Rattle.std.proofs.Common.{sym, ◌∙◌}
-use Rattle.fc_changed.specs.Row.{Row}
 use Rattle.fc_diff.proofs.Events.{left_row}
 use Rattle.fc_diff.proofs.tracked.Tracked.take_leaving.Goals as goal
 
