@@ -6,7 +6,7 @@
 //! Each call is its definition: `holder`, `needer`, `next_lacking`, `next_needed`, `held_count`, `need_count`, `direct`,
 //! `unneeded` and `used` are those of `specs/Column`, `specs/Counts` and `specs/RestoreGraph`; `plan` gives the moves of `specs/Moves` in
 //! their order, each once, and needs room for one move a volume; `moved`, `written` and `torn` change the pairs
-//! as `specs/SheetStep` says. `reserve` makes room for the slots that the events of a command can make
+//! as `specs/SheetStep` says; `grains`, `is_live` and `held` tell what the sheet has. `reserve` makes room for the slots that the events of a command can make
 //! (`specs/Room`); `apply_event` then does one event after the other, as `specs/SheetStep` says; `loop_of` tells the loop of
 //! the restore graph that a trigger would leave, tried on a copy without what slots hold. Only `reserve`, `direct`,
 //! `unneeded` and `loop_of` take memory. That the planned moves are safe, one after the other, is the law of
