@@ -1,5 +1,5 @@
 -- The first volume fits a lane that begins, and its blocks can be read.
-use Rattle.std.proofs.Common.{◌≡◌, ℕ, ◌<◌, Option, Some, IsSome, List, [], ◌∷◌, fold, refl, sym, ap, subst, ◌∙◌, arith}
+use Rattle.std.proofs.Common.{◌≡◌, ℕ, ◌<◌, Option, Some, IsSome, List, fold, refl, sym, ap, subst, ◌∙◌, arith}
 use Rattle.std.proofs.lemmas.List.Elements.{All-nil}
 use Rattle.fc_base.specs.declared.decision.LaneEvent.{LaneEvent}
 use Rattle.fc_base.specs.Column.{first_below}
