@@ -3,7 +3,9 @@
 use crate::sessions::{DISKS, run_flat, run_thin};
 use fc_run::status::Status;
 use session_tests::sessions::Outcome;
-use session_tests::texts::{COMPLETE_STOPPED, FIRST_VOLUME, STARTED_AGAIN, Session, THIN_WRITTEN};
+use session_tests::texts::{
+    COMPLETE_STOPPED, FIRST_VOLUME, INCREMENTAL, STARTED_AGAIN, Session, THIN_WRITTEN,
+};
 use std::alloc::AllocError;
 use std::process::Abort;
 
@@ -40,6 +42,11 @@ fn a_copy_that_is_stopped(rt: HostRuntime) -> Result<(), AllocError> {
 #[test]
 fn a_copy_that_is_started_again(rt: HostRuntime) -> Result<(), AllocError> {
     is_ample(&rt, run_flat(rt.alloc(), STARTED_AGAIN), STARTED_AGAIN)
+}
+
+#[test]
+fn an_incremental_copy(rt: HostRuntime) -> Result<(), AllocError> {
+    is_ample(&rt, run_flat(rt.alloc(), INCREMENTAL), INCREMENTAL)
 }
 
 #[test]

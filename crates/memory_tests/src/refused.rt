@@ -3,7 +3,9 @@
 use crate::answers::is_right;
 use crate::sessions::{DISKS, run_flat, run_thin};
 use session_tests::sessions::Outcome;
-use session_tests::texts::{COMPLETE_STOPPED, FIRST_VOLUME, STARTED_AGAIN, Session, THIN_WRITTEN};
+use session_tests::texts::{
+    COMPLETE_STOPPED, FIRST_VOLUME, INCREMENTAL, STARTED_AGAIN, Session, THIN_WRITTEN,
+};
 use std::alloc::AllocError;
 use std::process::Abort;
 
@@ -32,6 +34,11 @@ fn a_copy_that_is_stopped(rt: HostRuntime) {
 #[test]
 fn a_copy_that_is_started_again(rt: HostRuntime) {
     passes(&rt, run_flat(rt.alloc(), STARTED_AGAIN), STARTED_AGAIN);
+}
+
+#[test]
+fn an_incremental_copy(rt: HostRuntime) {
+    passes(&rt, run_flat(rt.alloc(), INCREMENTAL), INCREMENTAL);
 }
 
 #[test]

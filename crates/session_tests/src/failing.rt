@@ -2,7 +2,7 @@
 
 use crate::longer::{all_answers, first_lines, session};
 use crate::sessions::{Outcome, flat_disks, run_over};
-use crate::texts::{COMPLETE_STOPPED, RESTORED_WRITE, Session};
+use crate::texts::{COMPLETE_STOPPED, NIGHTS_WORK, RESTORED_WRITE, Session};
 use fc_run::status::Status;
 use std::alloc::{AllocError, Global};
 use std::process::Abort;
@@ -128,7 +128,7 @@ fn each_put_fails(
 
 #[test]
 fn each_take_of_a_session_fails_once(rt: HostRuntime) -> Result<(), AllocError> {
-    for session in [COMPLETE_STOPPED, RESTORED_WRITE] {
+    for session in [COMPLETE_STOPPED, RESTORED_WRITE, NIGHTS_WORK] {
         each_take_fails(&rt, rt.alloc(), session)?;
     }
     Ok(())
@@ -136,7 +136,7 @@ fn each_take_of_a_session_fails_once(rt: HostRuntime) -> Result<(), AllocError> 
 
 #[test]
 fn each_put_of_a_session_fails_once(rt: HostRuntime) -> Result<(), AllocError> {
-    for session in [COMPLETE_STOPPED, RESTORED_WRITE] {
+    for session in [COMPLETE_STOPPED, RESTORED_WRITE, NIGHTS_WORK] {
         each_put_fails(&rt, rt.alloc(), session.grain, session.lines, session.text)?;
     }
     Ok(())

@@ -213,3 +213,160 @@ read B 0 1
 13 main read 1 0 1 -> data 512*11
 ",
 };
+
+/// An incremental copy is done, both volumes are written, and it is started again.
+pub const INCREMENTAL: Session = Session {
+    grain: "64",
+    lines: b"mkvdisk -name A -size 256 -unit kb
+mkvdisk -name B -size 256 -unit kb
+mkfcmap -source A -target B -incremental -copyrate 50
+startfcmap -prep fcmap0
+advance -seconds 1
+lsfcmapprogress -delim : 0
+write A 0 1 22
+write B 384 1 33
+startfcmap -prep 0
+lsfcmapprogress -delim : 0
+read B 0 1
+read B 384 1
+",
+    text: b"0 main mkvdisk -name A -size 256 -unit kb -> Virtual Disk, id [0], successfully created
+1 main mkvdisk -name B -size 256 -unit kb -> Virtual Disk, id [1], successfully created
+2 main mkfcmap -source A -target B -copyrate 50 -incremental -> FlashCopy Mapping, id [0], successfully created
+3 main startfcmap -prep fcmap0 -> ok
+4 main advance -seconds 1 -> ok
+5 main copy 0 0 -> moved 0 0
+6 main copy 0 1 -> moved 0 1
+7 main copy 0 2 -> moved 0 2
+8 main copy 0 3 -> moved 0 3
+9 main lsfcmapprogress -delim : 0 -> rows 2
+id:progress
+0:100
+10 main write 0 0 1 22 -> ok
+11 main write 1 384 1 33 -> ok
+12 main startfcmap -prep 0 -> ok
+13 main lsfcmapprogress -delim : 0 -> rows 2
+id:progress
+0:50
+14 main read 1 0 1 -> data 512*22
+15 main read 1 384 1 -> data 512*00
+",
+};
+
+/// A night's work: a backup, a change, a restore, and the next backup, which is incremental.
+pub const NIGHTS_WORK: Session = Session {
+    grain: "256",
+    lines: b"mkvdisk -name DB -size 8
+mkvdisk -name DB_bk -size 8
+write DB 0 8192 aa
+mkfcmap -source DB -target DB_bk -name nightly -incremental
+startfcmap -prep nightly
+advance -seconds 60
+lsfcmap -delim :
+write DB 0 1 bb
+mkfcmap -source DB_bk -target DB -name back -copyrate 50
+startfcmap -prep -restore back
+read DB 0 1
+advance -seconds 60
+startfcmap -prep nightly
+lsfcmapprogress -delim : nightly
+",
+    text: b"0 main mkvdisk -name DB -size 8 -> Virtual Disk, id [0], successfully created
+1 main mkvdisk -name DB_bk -size 8 -> Virtual Disk, id [1], successfully created
+2 main write 0 0 512 aa -> ok
+3 main write 0 512 512 aa -> ok
+4 main write 0 1024 512 aa -> ok
+5 main write 0 1536 512 aa -> ok
+6 main write 0 2048 512 aa -> ok
+7 main write 0 2560 512 aa -> ok
+8 main write 0 3072 512 aa -> ok
+9 main write 0 3584 512 aa -> ok
+10 main write 0 4096 512 aa -> ok
+11 main write 0 4608 512 aa -> ok
+12 main write 0 5120 512 aa -> ok
+13 main write 0 5632 512 aa -> ok
+14 main write 0 6144 512 aa -> ok
+15 main write 0 6656 512 aa -> ok
+16 main write 0 7168 512 aa -> ok
+17 main write 0 7680 512 aa -> ok
+18 main mkfcmap -source DB -target DB_bk -name nightly -incremental -> FlashCopy Mapping, id [0], successfully created
+19 main startfcmap -prep nightly -> ok
+20 main advance -seconds 60 -> ok
+21 main copy 0 0 -> moved 0 0
+22 main copy 0 1 -> moved 0 1
+23 main copy 0 2 -> moved 0 2
+24 main copy 0 3 -> moved 0 3
+25 main copy 0 4 -> moved 0 4
+26 main copy 0 5 -> moved 0 5
+27 main copy 0 6 -> moved 0 6
+28 main copy 0 7 -> moved 0 7
+29 main copy 0 8 -> moved 0 8
+30 main copy 0 9 -> moved 0 9
+31 main copy 0 10 -> moved 0 10
+32 main copy 0 11 -> moved 0 11
+33 main copy 0 12 -> moved 0 12
+34 main copy 0 13 -> moved 0 13
+35 main copy 0 14 -> moved 0 14
+36 main copy 0 15 -> moved 0 15
+37 main copy 0 16 -> moved 0 16
+38 main copy 0 17 -> moved 0 17
+39 main copy 0 18 -> moved 0 18
+40 main copy 0 19 -> moved 0 19
+41 main copy 0 20 -> moved 0 20
+42 main copy 0 21 -> moved 0 21
+43 main copy 0 22 -> moved 0 22
+44 main copy 0 23 -> moved 0 23
+45 main copy 0 24 -> moved 0 24
+46 main copy 0 25 -> moved 0 25
+47 main copy 0 26 -> moved 0 26
+48 main copy 0 27 -> moved 0 27
+49 main copy 0 28 -> moved 0 28
+50 main copy 0 29 -> moved 0 29
+51 main copy 0 30 -> moved 0 30
+52 main copy 0 31 -> moved 0 31
+53 main lsfcmap -delim : -> rows 2
+id:name:source_vdisk_id:source_vdisk_name:target_vdisk_id:target_vdisk_name:group_id:group_name:status:progress:copy_rate:clean_progress:incremental:partner_FC_id:partner_FC_name:restoring
+0:nightly:0:DB:1:DB_bk:::idle_or_copied:100:50:100:on:::no
+54 main write 0 0 1 bb -> ok
+55 main mkfcmap -source DB_bk -target DB -name back -copyrate 50 -> FlashCopy Mapping, id [1], successfully created
+56 main startfcmap -prep -restore back -> ok
+57 main read 0 0 1 -> data 512*aa
+58 main advance -seconds 60 -> ok
+59 main copy 1 0 -> moved 1 0
+60 main copy 1 1 -> moved 1 1
+61 main copy 1 2 -> moved 1 2
+62 main copy 1 3 -> moved 1 3
+63 main copy 1 4 -> moved 1 4
+64 main copy 1 5 -> moved 1 5
+65 main copy 1 6 -> moved 1 6
+66 main copy 1 7 -> moved 1 7
+67 main copy 1 8 -> moved 1 8
+68 main copy 1 9 -> moved 1 9
+69 main copy 1 10 -> moved 1 10
+70 main copy 1 11 -> moved 1 11
+71 main copy 1 12 -> moved 1 12
+72 main copy 1 13 -> moved 1 13
+73 main copy 1 14 -> moved 1 14
+74 main copy 1 15 -> moved 1 15
+75 main copy 1 16 -> moved 1 16
+76 main copy 1 17 -> moved 1 17
+77 main copy 1 18 -> moved 1 18
+78 main copy 1 19 -> moved 1 19
+79 main copy 1 20 -> moved 1 20
+80 main copy 1 21 -> moved 1 21
+81 main copy 1 22 -> moved 1 22
+82 main copy 1 23 -> moved 1 23
+83 main copy 1 24 -> moved 1 24
+84 main copy 1 25 -> moved 1 25
+85 main copy 1 26 -> moved 1 26
+86 main copy 1 27 -> moved 1 27
+87 main copy 1 28 -> moved 1 28
+88 main copy 1 29 -> moved 1 29
+89 main copy 1 30 -> moved 1 30
+90 main copy 1 31 -> moved 1 31
+91 main startfcmap -prep nightly -> ok
+92 main lsfcmapprogress -delim : nightly -> rows 2
+id:progress
+0:100
+",
+};
