@@ -14,7 +14,7 @@ use Rattle.fc_legal.proofs.Appending.{IsLegal-partial}
 use Rattle.fc_legal.specs.Seconds.{Agenda, Runs, stays, passes, fills, after_fill}
 use Rattle.fc_entry.specs.Lines.{ended_lines, all_lines}
 use Rattle.fc_legal.specs.Run.{Reading, asks, by_main, IsLine, IsPartOfLine, LineWantsMore, IsRun, IsPartOfNext, WantsMore}
-use Rattle.fc_entry.specs.Text.{history_text, HasNames}
+use Rattle.fc_entry.specs.Text.{HasNames}
 use Rattle.fc_legal.specs.Whole.{Whole}
 use Rattle.fc_entry.specs.Written.{Written}
 use Rattle.fc_entry.proofs.LineLemmas.{Grows, all_lines-grow}
@@ -24,11 +24,13 @@ use Rattle.fc_run.specs.Headline.{SessionEnds, EndsAs}
 use Rattle.fc_run.specs.Progress.{Filled, Broken}
 use Rattle.fc_run.specs.ReadTo.{Gave, IsAtEnd, input_limit}
 use Rattle.fc_run.specs.Reading.{reading}
+use Rattle.fc_run.specs.Summary.{told_text}
 use Rattle.fc_run.specs.SessionRead.{SessionRead, EndsSession, status_for, StandsUnlessStarved}
 use Rattle.fc_run.specs.declared.reading.Ending.{Ending}
 use Rattle.fc_run.specs.declared.reading.Ending.TheVariants as ending
 use Rattle.fc_run.specs.declared.status.Status.{Status}
 use Rattle.fc_run.specs.declared.status.Status.TheVariants as status
+use Rattle.fc_run.specs.declared.telling.Telling.{Telling}
 use Rattle.fc_run.proofs.EndingLemmas.{Grows-all}
 use Rattle.fc_run.proofs.ProgressLemmas.{Broken-more}
 use Rattle.fc_store.specs.declared.stop.Stop.TheVariants.{LogFull, NoMemory}
@@ -119,11 +121,11 @@ IsLegal-read ended before after Stands grain w entries read =
     IsLegal-partial grain reading w read.last (all_lines read.bytes) entries (Broken-read ended before after Stands grain w entries read).0
 
 WriteFault-ends :
-    (ended : Ending) (before after : SourceState) (sink sink' : SinkState) (Stands : Whole → Type 0) (grain : GrainSize) (w : Whole) (history : HistoryState) →
+    (telling : Telling) (ended : Ending) (before after : SourceState) (sink sink' : SinkState) (Stands : Whole → Type 0) (grain : GrainSize) (w : Whole) (history : HistoryState) →
     (read : SessionRead ended before after Stands grain w history.entries) →
-    Written sink (history_text history) true sink' →
-    SessionEnds status.WriteFault grain w before after sink sink' history read.last
-WriteFault-ends ended before after sink sink' Stands grain w history read written =
+    Written sink (told_text telling history) true sink' →
+    SessionEnds status.WriteFault telling grain w before after sink sink' history read.last
+WriteFault-ends telling ended before after sink sink' Stands grain w history read written =
     let broken : (Broken grain w (all_lines read.bytes) history.entries read.last × (length read.bytes ≤ input_limit + 1)) =
     Broken-read ended before after Stands grain w history.entries read in
     record {
@@ -134,41 +136,41 @@ WriteFault-ends ended before after sink sink' Stands grain w history read writte
 
 -- what was put, whole or not, begins with a front of the text
 front_put :
-    (failed : Bool) (sink sink' : SinkState) (history : HistoryState) →
-    Written sink (history_text history) failed sink' →
-    AddsFront sink.held (history_text history) sink'.held
-front_put true sink sink' history written = written.front
-front_put false sink sink' history written =
-    record { front = history_text history; rest = []; split = sym (append-nil (history_text history)); added = written.held }
+    (telling : Telling) (failed : Bool) (sink sink' : SinkState) (history : HistoryState) →
+    Written sink (told_text telling history) failed sink' →
+    AddsFront sink.held (told_text telling history) sink'.held
+front_put telling true sink sink' history written = written.front
+front_put telling false sink sink' history written =
+    record { front = told_text telling history; rest = []; split = sym (append-nil (told_text telling history)); added = written.held }
 
 -- the status of a session that was read and written
 pub SessionEnds-written :
-    (ended : Ending) (failed : Bool) (before after : SourceState) (sink sink' : SinkState) (Stands : Whole → Type 0) (grain : GrainSize) (w : Whole) (history : HistoryState) →
+    (telling : Telling) (ended : Ending) (failed : Bool) (before after : SourceState) (sink sink' : SinkState) (Stands : Whole → Type 0) (grain : GrainSize) (w : Whole) (history : HistoryState) →
     (read : SessionRead ended before after Stands grain w history.entries) →
-    Written sink (history_text history) failed sink' →
-    SessionEnds (status_for ended failed) grain w before after sink sink' history read.last
-SessionEnds-written ending.End true before after sink sink' Stands grain w history read written =
-    WriteFault-ends ending.End before after sink sink' Stands grain w history read written
-SessionEnds-written ending.End false before after sink sink' Stands grain w history read written =
+    Written sink (told_text telling history) failed sink' →
+    SessionEnds (status_for ended failed) telling grain w before after sink sink' history read.last
+SessionEnds-written telling ending.End true before after sink sink' Stands grain w history read written =
+    WriteFault-ends telling ending.End before after sink sink' Stands grain w history read written
+SessionEnds-written telling ending.End false before after sink sink' Stands grain w history read written =
     record { bytes = read.bytes; gave = read.gave; ends = (read.ends.0, read.ends.1, read.ends.3, written.held) }
-SessionEnds-written ending.ReadFault true before after sink sink' Stands grain w history read written =
-    WriteFault-ends ending.ReadFault before after sink sink' Stands grain w history read written
-SessionEnds-written ending.ReadFault false before after sink sink' Stands grain w history read written =
+SessionEnds-written telling ending.ReadFault true before after sink sink' Stands grain w history read written =
+    WriteFault-ends telling ending.ReadFault before after sink sink' Stands grain w history read written
+SessionEnds-written telling ending.ReadFault false before after sink sink' Stands grain w history read written =
     record { bytes = read.bytes; gave = read.gave; ends = (read.ends.0, read.ends.1, read.ends.3, written.held) }
-SessionEnds-written ending.TooLong true before after sink sink' Stands grain w history read written =
-    WriteFault-ends ending.TooLong before after sink sink' Stands grain w history read written
-SessionEnds-written ending.TooLong false before after sink sink' Stands grain w history read written = record {
+SessionEnds-written telling ending.TooLong true before after sink sink' Stands grain w history read written =
+    WriteFault-ends telling ending.TooLong before after sink sink' Stands grain w history read written
+SessionEnds-written telling ending.TooLong false before after sink sink' Stands grain w history read written = record {
   bytes = read.bytes;
   gave = read.gave;
   ends = (read.ends.0, read.ends.1, read.ends.2, read.ends.3, read.ends.5, written.held);
 }
-SessionEnds-written (ending.Stopped LogFull) true before after sink sink' Stands grain w history read written =
-    WriteFault-ends (ending.Stopped LogFull) before after sink sink' Stands grain w history read written
-SessionEnds-written (ending.Stopped LogFull) false before after sink sink' Stands grain w history read written =
+SessionEnds-written telling (ending.Stopped LogFull) true before after sink sink' Stands grain w history read written =
+    WriteFault-ends telling (ending.Stopped LogFull) before after sink sink' Stands grain w history read written
+SessionEnds-written telling (ending.Stopped LogFull) false before after sink sink' Stands grain w history read written =
     let filled : Filled grain w (all_lines read.bytes) history.entries read.last = read.ends.2 in
     record { bytes = read.bytes; gave = read.gave; ends = (read.ends.0, filled.wants, filled.full, written.held) }
-SessionEnds-written (ending.Stopped NoMemory) failed before after sink sink' Stands grain w history read written =
-    record { bytes = read.bytes; gave = read.gave; ends = (read.ends.0, read.ends.1, front_put failed sink sink' history written) }
+SessionEnds-written telling (ending.Stopped NoMemory) failed before after sink sink' Stands grain w history read written =
+    record { bytes = read.bytes; gave = read.gave; ends = (read.ends.0, read.ends.1, front_put telling failed sink sink' history written) }
 
 -- but for want of memory the store stands for what is told at the end
 pub Stands-read :
@@ -268,19 +270,19 @@ HasNames-read ended before after Stands grain w history name read actors =
 
 -- the status that was computed is that of the ending
 pub SessionEnds-status :
-    (status : Status) (ended : Ending) (failed : Bool) (before after : SourceState) (sink sink' : SinkState) (Stands : Whole → Type 0) (grain : GrainSize) (w : Whole) (history : HistoryState) →
+    (status : Status) (telling : Telling) (ended : Ending) (failed : Bool) (before after : SourceState) (sink sink' : SinkState) (Stands : Whole → Type 0) (grain : GrainSize) (w : Whole) (history : HistoryState) →
     status ≡ status_for ended failed →
     SessionRead ended before after Stands grain w history.entries →
-    Written sink (history_text history) failed sink' →
+    Written sink (told_text telling history) failed sink' →
     (last : Whole)
-    × SessionEnds status grain w before after sink sink' history last
+    × SessionEnds status telling grain w before after sink sink' history last
     × IsLegal grain w history.entries last
     × StandsUnlessStarved status (Stands last)
-SessionEnds-status status ended failed before after sink sink' Stands grain w history is read written =
-    let P : Status → Type 0 = λ s. SessionEnds s grain w before after sink sink' history read.last in
+SessionEnds-status status telling ended failed before after sink sink' Stands grain w history is read written =
+    let P : Status → Type 0 = λ s. SessionEnds s telling grain w before after sink sink' history read.last in
     let Q : Status → Type 0 = λ s. StandsUnlessStarved s (Stands read.last) in (
       read.last,
-      subst P (sym is) (SessionEnds-written ended failed before after sink sink' Stands grain w history read written),
+      subst P (sym is) (SessionEnds-written telling ended failed before after sink sink' Stands grain w history read written),
       IsLegal-read ended before after Stands grain w history.entries read,
       subst Q (sym is) (Stands-read ended failed before after Stands grain w history.entries read),
     )
@@ -307,10 +309,10 @@ held_nothing (Some bytes) = ap Some (sym (append-nil bytes))
 
 -- memory was wanted before anything was read
 pub SessionEnds-starved :
-    (grain : GrainSize) (w : Whole) (source : SourceState) (sink : SinkState) (history : HistoryState) →
+    (telling : Telling) (grain : GrainSize) (w : Whole) (source : SourceState) (sink : SinkState) (history : HistoryState) →
     history.entries ≡ [] →
-    SessionEnds status.NoMemory grain w source source sink sink history w
-SessionEnds-starved grain w source sink history none = record {
+    SessionEnds status.NoMemory telling grain w source source sink sink history w
+SessionEnds-starved telling grain w source sink history none = record {
   bytes = [];
   gave = gave_nothing source.left;
   ends = (
@@ -326,6 +328,6 @@ SessionEnds-starved grain w source sink history none = record {
       run = (refl, refl);
       next = (refl, refl);
     },
-    record { front = []; rest = history_text history; split = refl; added = held_nothing sink.held },
+    record { front = []; rest = told_text telling history; split = refl; added = held_nothing sink.held },
   );
 }

@@ -4,4 +4,5 @@ pub mod TakesLemmas
 pub mod Staying
 pub mod ReadingLemmas
 pub mod EndingLemmas
+pub mod SummaryLemmas
 pub mod HeadlineLemmas

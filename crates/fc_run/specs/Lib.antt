@@ -6,4 +6,6 @@ pub mod Takes
 pub mod Taking
 pub mod ReadTo
 pub mod SessionRead
+pub mod Summary
+pub mod Tallies
 pub mod Headline

@@ -2,28 +2,30 @@
 
 ghost use Rattle.std.specs.Prelude.{◌≡◌, ◌≤◌, ℕ, List, [], length, is_err, IsTrue};
 ghost use Rattle.fc_io.specs.Source.{SourceState};
-ghost use Rattle.fc_entry.specs.Text.{HasNames, history_text};
+ghost use Rattle.fc_entry.specs.Text.{HasNames};
 ghost use Rattle.fc_entry.specs.Written.{Written};
 ghost use Rattle.fc_run.specs.ReadTo.{ReadTo, StandsAtEnd};
 ghost use Rattle.fc_run.specs.SessionRead.{SessionRead, status_for, written_or};
+ghost use Rattle.fc_run.specs.Summary.{told_text};
 ghost use Rattle.fc_store.specs.Answering.{TellsSome};
 ghost use Rattle.fc_legal.specs.Whole.{Whole};
 
 use crate::reading::Ending;
 use crate::status::Status;
 use crate::store::LineStore;
+use crate::telling::{Telling, put_told};
 use fc_base::outcome::Failed;
 use fc_entry::history::History;
-use fc_entry::text::put_history;
 use fc_io::sink::Sink;
 use fc_store::stop::Stop;
 
 /// Writes the whole text, and sends on what waits.
-pub fn write_text<K: Sink>(history: &History, sink: &mut K) -> Result<(), Failed>
-    requires { HasNames history.now }
-    ensures { Written (K.meaning sink.old) (history_text history.now) (is_err result) (K.meaning sink.new) }
+pub fn write_text<K: Sink>(telling: Telling, history: &History, sink: &mut K) -> Result<(), Failed>
+    requires names { HasNames history.now }
+    requires limit { length history.now.entries ≤ 262144 }
+    ensures { Written (K.meaning sink.old) (told_text telling history.now) (is_err result) (K.meaning sink.new) }
 {
-    match put_history(history, sink) {
+    match put_told(telling, history, sink) {
         Ok(()) => sink.flush(),
         Err(failed) => Err(failed),
     }

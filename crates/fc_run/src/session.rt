@@ -14,6 +14,7 @@ use crate::ending::{end_input, status_of, write_text};
 use crate::reading::{Ending, PIECE_BYTES, read_pieces, zeros};
 use crate::status::Status;
 use crate::store::LineStore;
+use crate::telling::Telling;
 use fc_entry::history::History;
 use fc_io::sink::Sink;
 use fc_io::source::Source;
@@ -47,9 +48,11 @@ fn read_session<S: Source, L: LineStore>(
     end_input(ending, line.as_slice(), store, history)
 }
 
-/// Runs a session over a store without a history: reads it to its end, answers its lines and writes the text.
+/// Runs a session over a store without a history: reads it to its end, answers its lines and writes what is told of the
+/// history.
 pub fn run_session<S: Source, K: Sink, L: LineStore>(
     alloc: Global,
+    telling: Telling,
     source: &mut S,
     sink: &mut K,
     store: &mut L,
@@ -59,7 +62,7 @@ pub fn run_session<S: Source, K: Sink, L: LineStore>(
     requires first_entry { history.old.entries ≡ [] }
     requires main { history.old.actors ≡ codes "main" ∷ [] }
     ensures ends { (w : Whole) → L.Stands store.old w → w.entries ≡ 0 → (last : Whole)
-        × SessionEnds result (L.grain store.old) w (S.meaning source.old) (S.meaning source.new) (K.meaning sink.old) (K.meaning sink.new) history.new last
+        × SessionEnds result telling (L.grain store.old) w (S.meaning source.old) (S.meaning source.new) (K.meaning sink.old) (K.meaning sink.new) history.new last
         × IsLegal (L.grain store.old) w history.new.entries last
         × StandsUnlessStarved result (L.Stands store.new last) }
     ensures takes { EachGave (S.meaning source.old) (S.meaning source.new) }
@@ -71,6 +74,6 @@ pub fn run_session<S: Source, K: Sink, L: LineStore>(
     ensures limit { length history.new.entries ≤ 262144 }
 {
     let ending = read_session(alloc, source, store, history);
-    let written = write_text(history, sink);
+    let written = write_text(telling, history, sink);
     status_of(ending, &written)
 }

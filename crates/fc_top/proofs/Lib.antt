@@ -1,4 +1,8 @@
 -- Lemmas, one subject a file.
+pub mod WordLemmas
+pub mod SessionLength
+pub mod QuietSource
+pub mod DrillLemmas
 pub mod PassingLemmas
 pub mod OwnerLemmas
 pub mod Counting

@@ -13,6 +13,7 @@ use Rattle.fc_run.specs.Headline.{SessionEnds}
 use Rattle.fc_run.specs.SessionRead.{StandsUnlessStarved}
 use Rattle.fc_run.specs.declared.status.Status.{Status}
 use Rattle.fc_run.specs.declared.status.Status.TheVariants as status
+use Rattle.fc_run.specs.declared.telling.Telling.{Telling}
 use Rattle.fc_run.proofs.HeadlineLemmas.{SessionEnds-starved}
 use Rattle.fc_store.specs.Dealing.{AreAllIn, disks_in}
 use Rattle.fc_store.specs.Store.{StoreView, StandsFor}
@@ -49,12 +50,12 @@ DisksAfter-given status.Unended old given s grain history w last ran fresh legal
 
 -- memory was wanted before anything was read
 pub ends-starved :
-    (grain : GrainSize) (w : Whole) (source : SourceState) (sink : SinkState) (history : HistoryState) (old new : List DiskState) →
+    (telling : Telling) (grain : GrainSize) (w : Whole) (source : SourceState) (sink : SinkState) (history : HistoryState) (old new : List DiskState) →
     history.entries ≡ [] →
     (last : Whole)
-    × SessionEnds status.NoMemory grain w source source sink sink history last
+    × SessionEnds status.NoMemory telling grain w source source sink sink history last
     × IsLegal grain w history.entries last
     × DisksAfter status.NoMemory old new history.entries last
-ends-starved grain w source sink history old new none =
+ends-starved telling grain w source sink history old new none =
     let P : List Entry → Type 0 = λ es. IsLegal grain w es w in
-    (w, SessionEnds-starved grain w source sink history none, subst P (sym none) refl, tt)
+    (w, SessionEnds-starved telling grain w source sink history none, subst P (sym none) refl, tt)

@@ -1,9 +1,7 @@
 -- What becomes of the disks.
-use Rattle.std.specs.Prelude.{◌≡◌, ℕ, ◌+◌, ◌<◌, ◌^◌, List, unwrap_or}
+use Rattle.std.specs.Prelude.{◌≡◌, ℕ, ◌+◌, ◌<◌, ◌^◌, List}
 use Rattle.std.specs.List.{All, sum}
 use Rattle.fc_base.specs.declared.limits.TheConstants.{LANES}
-use Rattle.fc_base.specs.declared.size.GrainSize.{GrainSize}
-use Rattle.fc_base.specs.declared.size.GrainSize.TheVariants.{K256}
 use Rattle.fc_grains.specs.Grains.{pool_of, silent_of}
 use Rattle.fc_legal.specs.Whole.{Whole, opened}
 use Rattle.fc_mdisk.specs.Disk.{DiskState}
@@ -13,11 +11,6 @@ use Rattle.fc_run.specs.declared.status.Status.TheVariants as status
 use Rattle.fc_store.specs.Dealing.{pools_dealt}
 use Rattle.fc_store.specs.Arming.{ArmNothing}
 use Rattle.fc_entry.specs.declared.entry.Entry.{Entry}
-use Rattle.fc_top.specs.Words.{session_grain}
-
--- The grain size of a session; without one in the words, grains are of 256 KiB.
-abbrev pub grain_of : List (List ℕ) → GrainSize
-grain_of words = unwrap_or (session_grain words) K256
 
 -- What is told before the first entry, with these disks, which are dealt to the lanes.
 abbrev pub begun : List DiskState → Whole

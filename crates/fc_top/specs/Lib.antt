@@ -2,3 +2,4 @@
 pub mod Words
 pub mod Passing
 pub mod DisksBack
+pub mod Endings

@@ -12,24 +12,31 @@ ghost use Rattle.fc_run.specs.Takes.{EachGave};
 ghost use Rattle.fc_store.specs.Answering.{TellsSome};
 ghost use Rattle.fc_store.specs.Dealing.{disks_in};
 ghost use Rattle.fc_store.specs.Store.{StandsFor};
-ghost use Rattle.fc_top.specs.DisksBack.{grain_of, begun, DisksAfter};
-ghost use Rattle.fc_top.specs.Words.{session_grain};
+ghost use Rattle.fc_top.specs.DisksBack.{begun, DisksAfter};
+ghost use Rattle.fc_top.specs.Endings.{grain_of, AskedEnds, DrillEnds};
+ghost use Rattle.fc_top.specs.Words.{asked_by};
 
 use crate::gate::Gate;
 use crate::owner::Owner;
-use crate::words::grain_of_words;
+use crate::words::{Asked, asked_by};
 use fc_base::name::Name;
 use fc_base::outcome::NoMemory;
 use fc_base::size::GrainSize;
 use fc_entry::history::History;
+use fc_gen::session;
+use fc_io::mem_source::MemSource;
 use fc_io::sink::Sink;
 use fc_io::source::Source;
 use fc_mdisk::mdisk::Mdisk;
 use fc_run::session::run_session;
 use fc_run::status::Status;
+use fc_run::telling::Telling;
 use fc_store::store::Store;
 use std::alloc::Global;
 use std::mem;
+
+/// The greatest piece that a drill takes of its session.
+const PIECE_BYTES: usize = 65_536;
 
 /// Gives `main` its name: actor 0.
 fn add_main(alloc: Global, history: &mut History) -> Result<(), NoMemory>
@@ -50,6 +57,7 @@ fn add_main(alloc: Global, history: &mut History) -> Result<(), NoMemory>
 /// Runs a session over a store, and gives its disks into room that was taken for them.
 fn run_store<S: Source, K: Sink, D: Mdisk>(
     alloc: Global,
+    telling: Telling,
     store: Store<D>,
     source: &mut S,
     sink: &mut K,
@@ -61,7 +69,7 @@ fn run_store<S: Source, K: Sink, D: Mdisk>(
     requires none { disks.old.items ≡ [] }
     requires room { total_of (disks_in store.lanes) ≤ vec_capacity disks.old }
     ensures ends { (w : Whole) (old : List DiskState) → StandsFor store w → w.entries ≡ 0 → disks_in store.lanes ≡ pool_of old → (silent_of old ≡ 0 → AreQuiet store.lanes) → (last : Whole)
-        × SessionEnds result store.control.grain w (S.meaning source.old) (S.meaning source.new)
+        × SessionEnds result telling store.control.grain w (S.meaning source.old) (S.meaning source.new)
         (K.meaning sink.old) (K.meaning sink.new) history.new last
         × IsLegal store.control.grain w history.new.entries last
         × DisksAfter result old (map D.meaning disks.new.items) history.new.entries last }
@@ -70,15 +78,16 @@ fn run_store<S: Source, K: Sink, D: Mdisk>(
     ensures ran { result ≢ Status.Usage }
 {
     let mut owner = Owner { alloc, store };
-    let status = run_session(alloc, source, sink, &mut owner, history);
+    let status = run_session(alloc, telling, source, sink, &mut owner, history);
     let Owner { alloc: _, store } = owner;
     store.give_disks(disks);
     status
 }
 
-/// Runs a session with this grain size.
+/// Runs a session with this grain size, and tells so of its history.
 fn run_grain<S: Source, K: Sink, D: Mdisk>(
     alloc: Global,
+    telling: Telling,
     grain: GrainSize,
     source: &mut S,
     sink: &mut K,
@@ -89,7 +98,7 @@ fn run_grain<S: Source, K: Sink, D: Mdisk>(
     requires few { vec_len disks.old < 2 ^ 30 }
     requires fresh { All IsFresh (map D.meaning disks.old.items) }
     ensures ends { let old = map D.meaning disks.old.items in (last : Whole)
-        × SessionEnds result grain (begun old) (S.meaning source.old) (S.meaning source.new)
+        × SessionEnds result telling grain (begun old) (S.meaning source.old) (S.meaning source.new)
         (K.meaning sink.old) (K.meaning sink.new) history.new last
         × IsLegal grain (begun old) history.new.entries last
         × DisksAfter result old (map D.meaning disks.new.items) history.new.entries last }
@@ -107,9 +116,43 @@ fn run_grain<S: Source, K: Sink, D: Mdisk>(
     };
     let taken = mem::replace(disks, room);
     match Store::new(alloc, grain, taken) {
-        Ok(store) => run_store(alloc, store, source, sink, disks, history),
+        Ok(store) => run_store(alloc, telling, store, source, sink, disks, history),
         Err(NoMemory) => Status::NoMemory,
     }
+}
+
+/// Runs the generated session of a number, and tells the summary of its history.
+fn run_drill<K: Sink, D: Mdisk>(
+    alloc: Global,
+    number: u64,
+    sink: &mut K,
+    disks: &mut Vec<D>,
+    history: &mut History,
+) -> Status
+    requires empty { history.old ≡ record { actors = []; entries = [] } }
+    requires few { vec_len disks.old < 2 ^ 30 }
+    requires fresh { All IsFresh (map D.meaning disks.old.items) }
+    ensures ends { let old = map D.meaning disks.old.items in (last : Whole)
+        × DrillEnds number result (begun old) (K.meaning sink.old) (K.meaning sink.new) history.new last
+        × IsLegal GrainSize.K64 (begun old) history.new.entries last
+        × DisksAfter result old (map D.meaning disks.new.items) history.new.entries last }
+    ensures limit { length history.new.entries ≤ 262144 }
+    ensures ran { result ≢ Status.Usage }
+{
+    let bytes = match session(alloc, number) {
+        Ok(bytes) => bytes,
+        Err(NoMemory) => return Status::NoMemory,
+    };
+    let mut source = MemSource::new(bytes, PIECE_BYTES, Vec::new(alloc));
+    run_grain(
+        alloc,
+        Telling::Summary,
+        GrainSize::K64,
+        &mut source,
+        sink,
+        disks,
+        history,
+    )
 }
 
 /// `flashcopy` over any disks.
@@ -125,18 +168,27 @@ pub fn flashcopy_over<S: Source, K: Sink, G: Gate, D: Mdisk>(
     requires empty { history.old ≡ record { actors = []; entries = [] } }
     requires few { vec_len disks.old < 2 ^ 30 }
     requires fresh { All IsFresh (map D.meaning disks.old.items) }
-    ensures usage { (result ≡ Status.Usage) ↔ (session_grain (map (λ word. word.now) words.now) ≡ None) }
-    ensures ends { let grain = grain_of (map (λ word. word.now) words.now) in let old = map D.meaning disks.old.items in (last : Whole)
-        × SessionEnds result grain (begun old) (S.meaning source.old) (S.meaning source.new)
+    ensures usage { (result ≡ Status.Usage) ↔ (asked_by (map (λ word. word.now) words.now) ≡ None) }
+    ensures ends { let asked = asked_by (map (λ word. word.now) words.now) in let old = map D.meaning disks.old.items in (last : Whole)
+        × AskedEnds asked result (begun old) (S.meaning source.old) (S.meaning source.new)
         (K.meaning sink.old) (K.meaning sink.new) history.new last
-        × IsLegal grain (begun old) history.new.entries last
+        × IsLegal (grain_of asked) (begun old) history.new.entries last
         × DisksAfter result old (map D.meaning disks.new.items) history.new.entries last }
     ensures takes { EachGave (S.meaning source.old) (S.meaning source.new) }
     ensures limit { length history.new.entries ≤ 262144 }
 {
-    match grain_of_words(words) {
+    match asked_by(words) {
         None => Status::Usage,
-        Some(grain) => run_grain(alloc, grain, source, sink, disks, history),
+        Some(Asked::Run(grain)) => run_grain(
+            alloc,
+            Telling::History,
+            grain,
+            source,
+            sink,
+            disks,
+            history,
+        ),
+        Some(Asked::Drill(number)) => run_drill(alloc, number, sink, disks, history),
     }
 }
 
@@ -144,14 +196,16 @@ pub fn flashcopy_over<S: Source, K: Sink, G: Gate, D: Mdisk>(
 pub type BoxedDisk = Box<dyn Mdisk + Send>;
 
 /// Runs a session: reads it from the source to its end, answers its lines over the disks, and writes the text of the
-/// history to the sink.
+/// history to the sink. For a drill the session is the generated one of a number, the source isn't touched, and the
+/// summary of the history is written.
 ///
 /// The words are those of docs/MANUAL.md; where they aren't in the grammar the answer is Usage and nothing is done. The
 /// history has to be empty, and the disks fresh: no calls, no faults, nothing armed, and fewer than 2^30 of them. For
 /// every status the history that is left is legal, from what is told before the first entry to what is told after the
-/// last. What else each status says of the bytes that were taken, of the entries and of the written bytes is said in
-/// fc_run's specs/Headline, and what becomes of the disks in specs/DisksBack. Each call of the source but the last gives
-/// a byte or more (fc_run's specs/Takes). The gate only delays, and isn't reached before there are blocks.
+/// last. What the words ask for is said in specs/Words, and how a call ends by it in specs/Endings; what each status
+/// says of the bytes that were taken, of the entries and of the written bytes in fc_run's specs/Headline, and what becomes
+/// of the disks in specs/DisksBack. Each call of the source but the last gives a byte or more (fc_run's specs/Takes). The
+/// gate only delays, and isn't reached before there are blocks.
 pub fn flashcopy<S: Source, K: Sink, G: Gate>(
     alloc: Global,
     words: &[&str],
@@ -164,11 +218,11 @@ pub fn flashcopy<S: Source, K: Sink, G: Gate>(
     requires empty { history.old ≡ record { actors = []; entries = [] } }
     requires few { vec_len disks.old < 2 ^ 30 }
     requires fresh { All IsFresh (map ⟦<BoxedDisk as Mdisk>⟧.meaning disks.old.items) }
-    ensures usage { (result ≡ Status.Usage) ↔ (session_grain (map (λ word. word.now) words.now) ≡ None) }
-    ensures ends { let grain = grain_of (map (λ word. word.now) words.now) in let old = map ⟦<BoxedDisk as Mdisk>⟧.meaning disks.old.items in (last : Whole)
-        × SessionEnds result grain (begun old) (S.meaning source.old) (S.meaning source.new)
+    ensures usage { (result ≡ Status.Usage) ↔ (asked_by (map (λ word. word.now) words.now) ≡ None) }
+    ensures ends { let asked = asked_by (map (λ word. word.now) words.now) in let old = map ⟦<BoxedDisk as Mdisk>⟧.meaning disks.old.items in (last : Whole)
+        × AskedEnds asked result (begun old) (S.meaning source.old) (S.meaning source.new)
         (K.meaning sink.old) (K.meaning sink.new) history.new last
-        × IsLegal grain (begun old) history.new.entries last
+        × IsLegal (grain_of asked) (begun old) history.new.entries last
         × DisksAfter result old (map ⟦<BoxedDisk as Mdisk>⟧.meaning disks.new.items) history.new.entries last }
     ensures takes { EachGave (S.meaning source.old) (S.meaning source.new) }
     ensures limit { length history.new.entries ≤ 262144 }

@@ -1,11 +1,12 @@
 //! The top call: from the bytes of a session to the bytes of its history.
 //!
 //! `flashcopy` (in `flashcopy`) reads a session from a source, answers its lines over the disks, keeps the history and
-//! writes its text to a sink. Its contract is the main theorem: for every source, sink and set of fresh disks, failing
-//! ones included, the history is legal; by the status it is known which bytes were taken, which of their lines are
-//! answered, and what the sink got; and the disks come back with the sums of their calls and faults. The words are
-//! in `specs/Words`, what becomes of the disks in `specs/DisksBack`, and what each status says in fc_run's
-//! `specs/Headline`.
+//! writes its text to a sink; or it drills: the session is the generated one of a number, and the summary of its history
+//! is written. Its contract is the main theorem: for every source, sink and set of fresh disks, failing ones included,
+//! the history is legal; by the status it is known which bytes were taken, which of their lines are answered, and what
+//! the sink got; and the disks come back with the sums of their calls and faults. The words are in `specs/Words`, how a
+//! call ends by what they ask for in `specs/Endings`, what becomes of the disks in `specs/DisksBack`, and what each
+//! status says in fc_run's `specs/Headline`.
 //!
 //! In reading order: `words`, `gate`, `built`, `passing` (lines whose seconds pass) and `owner` (the store answers a line), `flashcopy`.
 #![tactic(auto)]

@@ -5,8 +5,8 @@ use Rattle.fc_entry.specs.declared.entry.Entry.{Entry}
 use Rattle.fc_run.proofs.Staying.{Stands-status}
 use Rattle.fc_run.proofs.session.run_session.Goals as goal
 
-pub write_text-written-requires : goal.write_text-written-requires
-write_text-written-requires g c =
+pub write_text-written-requires-clause-names : goal.write_text-written-requires-clause-names
+write_text-written-requires-clause-names g c =
     let fresh : c.requires.stands.0.entries ≡ 0 =
     c.requires.stands.1.1 ∙ ap (λ (es : List Entry). length es) c.requires.first_entry in
     HasNames-read c.read_session-ending.result (g.S.Source.meaning c.args.source.now)
@@ -17,7 +17,7 @@ write_text-written-requires g c =
 
 pub returns-clause-ends : goal.returns-clause-ends
 returns-clause-ends g c = λ w stands fresh.
-    SessionEnds-status c.status_of.result c.read_session-ending.result (is_err c.write_text-written.result)
+    SessionEnds-status c.status_of.result c.args.telling c.read_session-ending.result (is_err c.write_text-written.result)
     (g.S.Source.meaning c.args.source.now) (g.S.Source.meaning c.read_session-ending.new.source)
     (g.K.Sink.meaning c.args.sink.now) (g.K.Sink.meaning c.write_text-written.new.sink)
     (g.L.LineStore.Stands c.read_session-ending.new.store)

@@ -18,19 +18,19 @@ use Rattle.fc_top.proofs.flashcopy.run_grain.Goals as goal
 
 pub returns-in-Err-clause-ends : goal.returns-in-Err-clause-ends
 returns-in-Err-clause-ends g c =
-    ends-starved c.args.grain (begun (map g.D.Mdisk.meaning c.args.disks.now.items)) (g.S.Source.meaning c.args.source.now)
+    ends-starved c.args.telling c.args.grain (begun (map g.D.Mdisk.meaning c.args.disks.now.items)) (g.S.Source.meaning c.args.source.now)
     (g.K.Sink.meaning c.args.sink.now) c.add_main.new.history (map g.D.Mdisk.meaning c.args.disks.now.items) []
     (ap (λ (h : HistoryState). h.entries) (c.in-Err.ensures.err ∙ c.requires.empty))
 
 pub returns-in-Err-with_capacity-clause-ends : goal.returns-in-Err-with_capacity-clause-ends
 returns-in-Err-with_capacity-clause-ends g c =
-    ends-starved c.args.grain (begun (map g.D.Mdisk.meaning c.args.disks.now.items)) (g.S.Source.meaning c.args.source.now)
+    ends-starved c.args.telling c.args.grain (begun (map g.D.Mdisk.meaning c.args.disks.now.items)) (g.S.Source.meaning c.args.source.now)
     (g.K.Sink.meaning c.args.sink.now) c.add_main.new.history (map g.D.Mdisk.meaning c.args.disks.now.items) []
     (ap (λ (h : HistoryState). h.entries) c.in-Ok.ensures.ok)
 
 pub returns-in-Err-new-clause-ends : goal.returns-in-Err-new-clause-ends
 returns-in-Err-new-clause-ends g c =
-    ends-starved c.args.grain (begun (map g.D.Mdisk.meaning c.args.disks.now.items)) (g.S.Source.meaning c.args.source.now)
+    ends-starved c.args.telling c.args.grain (begun (map g.D.Mdisk.meaning c.args.disks.now.items)) (g.S.Source.meaning c.args.source.now)
     (g.K.Sink.meaning c.args.sink.now) c.add_main.new.history (map g.D.Mdisk.meaning c.args.disks.now.items) []
     (ap (λ (h : HistoryState). h.entries) c.in-Ok.ensures.ok)
 
@@ -43,7 +43,7 @@ returns-in-Ok-new-clause-ends g c =
     let counted : disks_in c.in-Ok-new.store.lanes ≡ pool_of old =
     c.in-Ok-new.ensures.disks ∙ ap (λ v. pool_of (map g.D.Mdisk.meaning v.items)) same in
     let P : GrainSize → Type 0 = λ grain. (last : Whole)
-    × SessionEnds c.run_store.result grain (begun old) (g.S.Source.meaning c.args.source.now) (g.S.Source.meaning c.run_store.new.source)
+    × SessionEnds c.run_store.result c.args.telling grain (begun old) (g.S.Source.meaning c.args.source.now) (g.S.Source.meaning c.run_store.new.source)
     (g.K.Sink.meaning c.args.sink.now) (g.K.Sink.meaning c.run_store.new.sink) c.run_store.new.history last
     × IsLegal grain (begun old) c.run_store.new.history.entries last
     × DisksAfter c.run_store.result old (map g.D.Mdisk.meaning c.run_store.new.disks.items) c.run_store.new.history.entries last in
