@@ -1,7 +1,6 @@
 -- From how a session was read and written to what its status says.
-use Rattle.std.proofs.Common.{◌≡◌, ◌≢◌, ℕ, ◌+◌, ◌<◌, ◌≤◌, Bool, true, false, List, [], ◌∷◌, ◌++◌, map, length, append_assoc, refl, sym, ◌∙◌, ap, subst, arith, length-append, is_some, Option, Some, None, inl, inr}
+use Rattle.std.proofs.Common.{◌≡◌, ◌≢◌, ℕ, ◌+◌, ◌<◌, ◌≤◌, Bool, true, false, List, [], ◌∷◌, ◌++◌, length, refl, sym, ◌∙◌, ap, subst, arith, length-append, Option, Some, None, inl, inr}
 use Rattle.std.proofs.lemmas.List.{append-nil}
-use Rattle.std.specs.List.{All}
 use Rattle.std.specs.Option.{option_map}
 use Rattle.std.proofs.lemmas.List.Elements.{All-from_recursion}
 use Rattle.std.specs.List.{AllByRecursion as ByRecursion}
@@ -17,15 +16,15 @@ use Rattle.fc_legal.specs.Run.{Reading, asks, by_main, IsLine, IsPartOfLine, Lin
 use Rattle.fc_entry.specs.Text.{HasNames}
 use Rattle.fc_legal.specs.Whole.{Whole}
 use Rattle.fc_entry.specs.Written.{Written}
-use Rattle.fc_entry.proofs.LineLemmas.{Grows, all_lines-grow}
+use Rattle.fc_entry.proofs.LineLemmas.{all_lines-grow}
 use Rattle.fc_io.specs.Sink.{SinkState, AddsFront}
 use Rattle.fc_io.specs.Source.{SourceState}
-use Rattle.fc_run.specs.Headline.{SessionEnds, EndsAs}
+use Rattle.fc_run.specs.Headline.{SessionEnds}
 use Rattle.fc_run.specs.Progress.{Filled, Broken}
-use Rattle.fc_run.specs.ReadTo.{Gave, IsAtEnd, input_limit}
+use Rattle.fc_run.specs.ReadTo.{input_limit}
 use Rattle.fc_run.specs.Reading.{reading}
 use Rattle.fc_run.specs.Summary.{told_text}
-use Rattle.fc_run.specs.SessionRead.{SessionRead, EndsSession, status_for, StandsUnlessStarved}
+use Rattle.fc_run.specs.SessionRead.{SessionRead, status_for, StandsUnlessStarved}
 use Rattle.fc_run.specs.declared.reading.Ending.{Ending}
 use Rattle.fc_run.specs.declared.reading.Ending.TheVariants as ending
 use Rattle.fc_run.specs.declared.status.Status.{Status}

@@ -65,3 +65,15 @@ DrillEnds-read number ended w left sink sink' history last ends gave =
       no_fault = λ is. no_fault number w left sink sink' history last (subst P is ends) gave;
       fits = λ is. fits number w left sink sink' history last (subst P is ends);
     }
+
+-- the source over the bytes that were made
+pub drill_source-made :
+    (source : SourceState) (bytes failing : List ℕ) (number : ℕ) →
+    source ≡ record { left = Some bytes; failing = Some failing; faults = 0 } →
+    bytes ≡ session_text number →
+    failing ≡ [] →
+    source ≡ drill_source number
+drill_source-made source bytes failing number made text none =
+    let Bytes : List ℕ → Type 0 = λ b. source ≡ record { left = Some b; failing = Some failing; faults = 0 } in
+    let None : List ℕ → Type 0 = λ f. source ≡ record { left = Some (session_text number); failing = Some f; faults = 0 } in
+    subst None none (subst Bytes text made)

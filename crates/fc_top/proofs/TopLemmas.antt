@@ -1,6 +1,7 @@
 -- What becomes of the disks at the end, and a session for which memory is wanted before it begins.
-use Rattle.std.proofs.Common.{◌≡◌, ◌≢◌, ◌≤◌, List, [], length, refl, sym, subst}
+use Rattle.std.proofs.Common.{◌≡◌, ◌≢◌, ◌≤◌, List, [], length, Option, None, refl, sym, subst}
 use Rattle.fc_base.specs.declared.size.GrainSize.{GrainSize}
+use Rattle.fc_base.specs.declared.size.GrainSize.TheVariants.{K256}
 use Rattle.fc_entry.specs.HistoryState.{HistoryState}
 use Rattle.fc_entry.specs.declared.entry.Entry.{Entry}
 use Rattle.fc_grains.specs.Grains.{pool_of, silent_of}
@@ -17,7 +18,9 @@ use Rattle.fc_run.specs.declared.telling.Telling.{Telling}
 use Rattle.fc_run.proofs.HeadlineLemmas.{SessionEnds-starved}
 use Rattle.fc_store.specs.Dealing.{AreAllIn, disks_in}
 use Rattle.fc_store.specs.Store.{StoreView, StandsFor}
-use Rattle.fc_top.specs.DisksBack.{DisksAfter}
+use Rattle.fc_top.specs.DisksBack.{begun, DisksAfter}
+use Rattle.fc_top.specs.Endings.{grain_of, AskedEnds}
+use Rattle.fc_top.specs.declared.words.Asked.{Asked}
 use Rattle.fc_store.specs.Quiet.{QuietBy}
 use Rattle.fc_top.proofs.Backs.{AreBack-legal}
 
@@ -59,3 +62,20 @@ pub ends-starved :
 ends-starved telling grain w source sink history old new none =
     let P : List Entry → Type 0 = λ es. IsLegal grain w es w in
     (w, SessionEnds-starved telling grain w source sink history none, subst P (sym none) refl, tt)
+
+-- nothing was asked for
+pub ends-unasked :
+    (asked : Option Asked) (source : SourceState) (sink : SinkState) (history : HistoryState) (old : List DiskState) →
+    asked ≡ None →
+    history.entries ≡ [] →
+    (last : Whole)
+    × AskedEnds asked status.Usage (begun old) source source sink sink history last
+    × IsLegal (grain_of asked) (begun old) history.entries last
+    × DisksAfter status.Usage old old history.entries last
+ends-unasked asked source sink history old none empty =
+    let P : List Entry → Type 0 = λ es. IsLegal K256 (begun old) es (begun old) in
+    let Q : Option Asked → Type 0 = λ a. (last : Whole)
+    × AskedEnds a status.Usage (begun old) source source sink sink history last
+    × IsLegal (grain_of a) (begun old) history.entries last
+    × DisksAfter status.Usage old old history.entries last in
+    subst Q (sym none) (begun old, (refl, refl, empty, refl), subst P (sym empty) refl, refl)
