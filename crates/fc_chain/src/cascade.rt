@@ -360,6 +360,21 @@ impl Cascade {
         self.slots()[self.place_of(slot)].held()
     }
 
+    /// The number of the grain of a slot at a place among the lane's.
+    pub fn number(&self, slot: SlotId, place: u32) -> u32
+        requires there { IsThere self.now.sheet.slots slot }
+        requires inside { (k : ℕ) → birth_place self.now.sheet.slots slot.0 ≡ Some k → place < length (slot_at self.now.sheet.slots k).held }
+        ensures of_lane { IsOfLane self.now result }
+        ensures place { in_lane self.now result ≡ place }
+        ensures below { place + 1 < 2 ^ 32 }
+    {
+        let slots = self.slots();
+        if place >= slots[self.place_of(slot)].grains() {
+            unreachable!()
+        }
+        place * self.lanes as u32 + self.lane as u32
+    }
+
     /// How many of the lane's grains the slot holds.
     pub fn held_count(&self, slot: SlotId) -> u32
         requires { IsThere self.now.sheet.slots slot }

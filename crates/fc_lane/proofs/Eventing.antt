@@ -163,6 +163,17 @@ unchanged l s picture old new e st fits same after from =
     event_by l s picture old new e st fits (after (λ w g. ap (λ vs. stored vs w g) same))
     (λ q c. subst (λ (vs : List VolumeGrains). Sized vs q) (sym same) (same_sized s picture old st q (from q c)))
 
+-- what is stored after a volume came
+made_stored : (l : LaneOf) (old : List VolumeGrains) (volume : VolId) (grains : ℕ) (kind : DiskKind) (due : Option ℕ) → All (λ (v : VolumeGrains). v.volume.0 < volume.0) old →
+    StoredAfter l (stored old) (Make volume grains kind) (stored (old ++ record { volume = volume; kind = kind; contents = replicate (grains_in l grains) (zeros l.grain); due = due } ∷ []))
+made_stored l old volume grains kind due newest =
+    let n : ℕ = grains_in l grains in
+    let come : VolumeGrains = record { volume = volume; kind = kind; contents = replicate n (zeros l.grain); due = due } in
+    let here : volume_of (old ++ come ∷ []) volume.0 ≡ come = push_here old come newest in (
+      λ g lt. ap (λ (v : VolumeGrains). content_at v.contents g) here ∙ get_or-replicate n g (zeros l.grain) _ lt,
+      λ w g ne. ap (λ (v : VolumeGrains). content_at v.contents g) (push_other old come w ne),
+    )
+
 made_stands : (l : LaneOf) (s : Sheet) (picture : Picture) (old new : List VolumeGrains) (volume : VolId) (grains : ℕ) (kind : DiskKind) → Stands s picture old → FitsEvent s (Make volume grains kind) →
     All (λ (v : VolumeGrains). v.volume.0 < volume.0) old → GrainsAfter l old (Make volume grains kind) new →
     Stands (sheet_step (grains_in l) s (Make volume grains kind)) (picture_event l s.slots picture (Make volume grains kind)) new
@@ -170,10 +181,7 @@ made_stands l s picture old new volume grains kind st fits newest (due, is) =
     let n : ℕ = grains_in l grains in
     let come : VolumeGrains = record { volume = volume; kind = kind; contents = replicate n (zeros l.grain); due = due } in
     let here : volume_of (old ++ come ∷ []) volume.0 ≡ come = push_here old come newest in
-    let after : StoredAfter l (stored old) (Make volume grains kind) (stored (old ++ come ∷ [])) = (
-      λ g lt. ap (λ (v : VolumeGrains). content_at v.contents g) here ∙ get_or-replicate n g (zeros l.grain) _ lt,
-      λ w g ne. ap (λ (v : VolumeGrains). content_at v.contents g) (push_other old come w ne),
-    ) in
+    let after : StoredAfter l (stored old) (Make volume grains kind) (stored (old ++ come ∷ [])) = made_stored l old volume grains kind due newest in
     let plain : PlainVolume = record { volume = volume; now = replicate n (zeros l.grain); under = replicate n (zeros l.grain) } in
     subst (λ (vs : List VolumeGrains). Stands (sheet_step (grains_in l) s (Make volume grains kind)) (picture ++ plain ∷ []) vs) (sym is)
     (event_by l s picture old (old ++ come ∷ []) (Make volume grains kind) st fits after (λ q c. elim (pushed picture plain q c) [
@@ -240,6 +248,39 @@ event_stands l told old new (Forget m) st same fits disk is = subst (λ (vs : Li
 event_stands l told old new (NoteCut m source target) st same fits disk is = subst (λ (vs : List VolumeGrains). Stands told.sheet told.picture vs) (sym is) st
 event_stands l told old new (Access volume access) st same fits disk is = subst (λ (vs : List VolumeGrains). Stands told.sheet told.picture vs) (sym is) st
 event_stands l told old new (Work m copies cleans) st same fits disk is = subst (λ (vs : List VolumeGrains). Stands told.sheet told.picture vs) (sym is) st
+
+armed_stored : (old new : List VolumeGrains) (volume : VolId) (calls : ℕ) (b : Bool) → new ≡ cond b (changed volume.0 (armed calls) old) old → (w g : ℕ) → stored new w g ≡ stored old w g
+armed_stored old new volume calls true is w g = ap (λ vs. stored vs w g) is ∙ ap (λ (cs : List Content). content_at cs g) (armed_contents old volume.0 w calls)
+armed_stored old new volume calls false is w g = ap (λ vs. stored vs w g) is
+
+still_stored : (old new : List VolumeGrains) → new ≡ old → (w g : ℕ) → stored new w g ≡ stored old w g
+still_stored old new is w g = ap (λ vs. stored vs w g) is
+
+-- what is stored after an event
+pub event_stored : (l : LaneOf) (told : LaneTold) (old new : List VolumeGrains) (e : LaneEvent) → SameVolumes old told.volumes → HasDisk told e → GrainsAfter l old e new → StoredAfter l (stored old) e (stored new)
+event_stored l told old new (Make volume grains kind) same disk (due, is) =
+    subst (λ (vs : List VolumeGrains). StoredAfter l (stored old) (Make volume grains kind) (stored vs)) (sym is) (made_stored l old volume grains kind due (newest_of volume.0 old told.volumes same disk.1))
+event_stored l told old new (Remove volume) same disk is = λ w g ne. ap (λ vs. stored vs w g) is ∙ ap (λ (v : VolumeGrains). content_at v.contents g) (without_other old volume.0 w ne)
+event_stored l told old new (Arm volume grain calls) same disk is = armed_stored old new volume calls (grain.0 % l.lanes == l.lane) is
+event_stored l told old new (Trigger pairs) same disk is = still_stored old new is
+event_stored l told old new (Retire m) same disk is = still_stored old new is
+event_stored l told old new (Detach m) same disk is = still_stored old new is
+event_stored l told old new (Split m) same disk is = still_stored old new is
+event_stored l told old new (Force m dependents) same disk is = still_stored old new is
+event_stored l told old new (Drop slot) same disk is = still_stored old new is
+event_stored l told old new (Forget m) same disk is = still_stored old new is
+event_stored l told old new (NoteCut m source target) same disk is = still_stored old new is
+event_stored l told old new (Access volume access) same disk is = still_stored old new is
+event_stored l told old new (Work m copies cleans) same disk is = still_stored old new is
+
+-- chains that show what plain volumes hold after a trigger have their grains
+pub trigger_sized : (told : LaneTold) (pairs : List Pair) (s : Sheet) (old new : List VolumeGrains) → Stands told.sheet told.picture old → new ≡ old → IsSound s →
+    Shows s.slots (map (after_trigger told.picture pairs) told.picture) (stored new) → AllSized s new
+trigger_sized told pairs s old new st is sound shows =
+    sized_from s (map (after_trigger told.picture pairs) told.picture) (stored new) new sound shows
+    (λ q c. let m = map_from (after_trigger told.picture pairs) told.picture q c in
+    let t = triggered_from told.picture pairs m.0 q m.2 in
+    subst (λ (vs : List VolumeGrains). Sized vs q) (sym is) (same_sized told.sheet told.picture old st q (m.0, m.1, t.0, t.1)))
 
 same_kinds : (old new : List VolumeGrains) (volumes : List LaneVolume) → new ≡ old → SameVolumes old volumes → SameVolumes new volumes
 same_kinds old new volumes is same = ap (map kind_of_grains) is ∙ same

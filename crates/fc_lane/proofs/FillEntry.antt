@@ -169,6 +169,7 @@ module _ (v new : LaneView) (slot : SlotId) (m : MapId) (grain : GrainNo) (numbe
         same = same_after v new f.beside x.1.same;
         quiet = x.1.same.quiet;
         plan_room = f.plan_room;
+        changes = f.beside.changes;
       }
 
   pub copy_entered : (entry : Entry) → grain.0 % v.lanes ≡ v.lane → (told : LaneTold) × IsLaneOf v told × IsSome (copied_slot told.sheet.slots m.0 at) →

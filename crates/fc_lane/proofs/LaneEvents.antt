@@ -5,10 +5,10 @@ use Rattle.fc_chain.specs.Chains.{Chains}
 use Rattle.fc_grains.specs.Grains.{GrainsState, stopped}
 use Rattle.fc_grains.specs.Quiet.{IsQuiet}
 use Rattle.fc_pick.specs.Flags.{WorkState}
-use Rattle.fc_rules.specs.LaneFits.{FitsLane}
-use Rattle.fc_rules.specs.LaneTold.{LaneOf, LaneTold, told_event}
+use Rattle.fc_follow.specs.Following.{FitsFollowed, Followed}
+use Rattle.fc_rules.specs.LaneTold.{LaneOf, LaneTold}
 use Rattle.fc_lane.specs.Accesses.{AccessState}
-use Rattle.fc_lane.specs.Lane.{LaneView, IsLaneOf, IsSameLane, of}
+use Rattle.fc_lane.specs.Lane.{LaneView, IsFollowing, IsLaneOf, IsSameLane, of}
 use Rattle.fc_lane.specs.Parts.{FitParts, SameCounts, StandsFor}
 
 -- other new volumes are ready
@@ -38,11 +38,11 @@ parts_apart l chains g g' a w told e s =
     })
 
 pub fit_apart : (l : LaneOf) (chains : Chains) (g g' : GrainsState) (a : AccessState) (w : WorkState) (events : List LaneEvent) → ReadyApart g g' → FitParts l chains g a w events → FitParts l chains g' a w events
-fit_apart l chains g g' a w events e (told, s, f) = (told, parts_apart l chains g g' a w told e s, f)
+fit_apart l chains g g' a w events e (f, s, fits) = (f, parts_apart l chains g g' a w f.told e s, fits)
 
 -- a lane that fits has parts that fit
-pub parts_fit : (v : LaneView) (events : List LaneEvent) → (told : LaneTold) × IsLaneOf v told × FitsLane (of v) told events → FitParts (of v) v.chains v.grains v.accesses v.work events
-parts_fit v events (told, i, f) = (told, i.parts, f)
+pub parts_fit : (v : LaneView) (events : List LaneEvent) → (f : Followed) × IsFollowing v f × FitsFollowed (of v) f events → FitParts (of v) v.chains v.grains v.accesses v.work events
+parts_fit v events (f, i, fits) = (f, i.lane.parts, fits)
 
 pub same_apart : (v v' : LaneView) → v'.lane ≡ v.lane → v'.lanes ≡ v.lanes → ReadyApart v.grains v'.grains → IsSameLane v v'
 same_apart v v' lane lanes e = record {
@@ -53,7 +53,7 @@ same_apart v v' lane lanes e = record {
   silent = ap (λ (g : GrainsState). g.silent) e;
 }
 
-of_same : (v v' : LaneView) → IsSameLane v v' → of v ≡ of v'
+pub of_same : (v v' : LaneView) → IsSameLane v v' → of v ≡ of v'
 of_same v v' s = sym (λ k. record { lane = s.lane k; lanes = s.lanes k; grain = s.grain k })
 
 -- a lane whose parts stand for what is told, where its counts stay
@@ -70,19 +70,3 @@ quiet_apart g g' e q = subst IsQuiet (sym e) (record { told = q.told; unarmed = 
 
 pub same_counts : (v v' : LaneView) → v'.lane ≡ v.lane → v'.lanes ≡ v.lanes → SameCounts v.grains v'.grains → IsSameLane v v'
 same_counts v v' lane lanes s = record { lane = lane; lanes = lanes; grain = s.grain; disks = s.disks; silent = s.silent }
-
--- events leave the counts of disks
-pub faults_told : (l : LaneOf) (events : List LaneEvent) (told : LaneTold) → (fold (told_event l) told events).faults ≡ told.faults
-faults_told l [] told = refl
-faults_told l (e ∷ es) told = faults_told l es (told_event l told e)
-
-pub calls_told : (l : LaneOf) (events : List LaneEvent) (told : LaneTold) → (fold (told_event l) told events).calls ≡ told.calls
-calls_told l [] told = refl
-calls_told l (e ∷ es) told = calls_told l es (told_event l told e)
-
-module _ (v w v' : LaneView) (events : List LaneEvent) (is : v ≡ w) (lane : v'.lane ≡ v.lane) (lanes : v'.lanes ≡ v.lanes) (counts : SameCounts v.grains v'.grains)
-    (stands : (told : LaneTold) → StandsFor (of v) v.chains v.grains v.accesses v.work told → FitsLane (of v) told events → StandsFor (of v) v'.chains v'.grains v'.accesses v'.work (fold (told_event (of v)) told events)) where
-  pub applied_stands : (told : LaneTold) → IsLaneOf w told → FitsLane (of w) told events → IsLaneOf v' (fold (told_event (of w)) told events)
-  applied_stands =
-      subst (λ (x : LaneView). (told : LaneTold) → IsLaneOf x told → FitsLane (of x) told events → IsLaneOf v' (fold (told_event (of x)) told events)) is
-      (λ told i f. stands_again v v' told (fold (told_event (of v)) told events) (same_counts v v' lane lanes counts) counts.faults counts.calls (faults_told (of v) events told) (calls_told (of v) events told) i (stands told i.parts f))

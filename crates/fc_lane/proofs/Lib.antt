@@ -25,3 +25,7 @@ pub mod FillLane
 pub mod FillEntry
 pub mod Turning
 pub mod Turns
+pub mod Noting
+pub mod Followed
+pub mod Applying
+pub mod Beginning

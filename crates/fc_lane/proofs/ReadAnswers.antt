@@ -79,6 +79,7 @@ pub record ReadLane (v v' : LaneView) : Type 0 where
   pub accesses : v'.accesses ≡ v.accesses
   pub work : v'.work ≡ v.work
   pub plan_room : v'.plan_room ≡ v.plan_room
+  pub changes : v'.changes ≡ v.changes
 
 module _ (v v' : LaneView) (same : ReadLane v v') where
   of_read : v'.grains.grain ≡ v.grains.grain → of v ≡ of v'
@@ -230,6 +231,7 @@ module _ (v w v' : LaneView) (number actor : ℕ) (part : ReadPart) (is : v ≡ 
     same = record { lane = same.lane; lanes = same.lanes; grain = e.grain; disks = e.disks; silent = e.silent };
     quiet = e.quiet;
     plan_room = same.plan_room;
+    changes = same.changes;
   }
 
   pub answered : Entered number actor part w entry v'

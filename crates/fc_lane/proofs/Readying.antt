@@ -17,9 +17,10 @@ use Rattle.fc_grains.specs.Volumes.{VolumeGrains}
 use Rattle.fc_lane.specs.Standing.{Stands}
 use Rattle.fc_grains.specs.Grains.{GrainsState, NewVolume, is_of_kind, reserved_of}
 use Rattle.fc_pick.specs.Flags.{WorkState, is_known, with_number, without_number}
-use Rattle.fc_rules.specs.LaneTold.{LaneOf, LaneTold, grains_in, told_event}
+use Rattle.fc_follow.specs.Following.{FitsFollowed, Followed, followed_event}
+use Rattle.fc_rules.specs.LaneTold.{LaneOf, LaneTold, grains_in}
 use Rattle.fc_lane.specs.Accesses.{AccessState}
-use Rattle.fc_rules.specs.LaneFits.{FitsLane, IsNotGone, WorksFirst}
+use Rattle.fc_rules.specs.LaneFits.{IsNotGone, WorksFirst}
 use Rattle.fc_lane.specs.Parts.{FitParts, IsReadyFor, StandsFor, kind_of_grains, lane_of, HasDisks, AreKnown, KnowsMore, KnowsOf, KnowsAll, known_event, new_of, new_volumes}
 use Rattle.fc_lane.proofs.Telling.{length_both}
 
@@ -199,25 +200,25 @@ made_adds left pool reserved grains Thin some sum Thin = omega (arith, sum Thin,
 same_adds : (left pool : Pool) (reserved : List NewVolume) → AddsUp left reserved pool → AddsUp left (reserved ++ []) pool
 same_adds left pool reserved sum = subst (λ (z : List NewVolume). AddsUp left z pool) (sym (append-nil reserved)) sum
 
-pub disks_fit : (l : LaneOf) (es : List LaneEvent) (told : LaneTold) (pool : Pool) (reserved : List NewVolume) → FitsLane l told es → AddsUp told.pool reserved pool → HasDisks l pool reserved es
-disks_fit l [] told pool reserved f sum = tt
-disks_fit l (Make volume grains kind ∷ es) told pool reserved f sum =
-    (omega (arith, sum kind, f.1.0), disks_fit l es (told_event l told (Make volume grains kind)) pool (reserved ++ record { kind = kind; grains = grains_in l grains } ∷ []) f.2 (made_adds told.pool pool reserved (grains_in l grains) kind f.1.0 sum))
-disks_fit l (Remove volume ∷ es) told pool reserved f sum = (tt, disks_fit l es (told_event l told (Remove volume)) pool (reserved ++ []) f.2 (same_adds told.pool pool reserved sum))
-disks_fit l (Trigger pairs ∷ es) told pool reserved f sum = (tt, disks_fit l es (told_event l told (Trigger pairs)) pool (reserved ++ []) f.2 (same_adds told.pool pool reserved sum))
-disks_fit l (Retire m ∷ es) told pool reserved f sum = (tt, disks_fit l es (told_event l told (Retire m)) pool (reserved ++ []) f.2 (same_adds told.pool pool reserved sum))
-disks_fit l (Detach m ∷ es) told pool reserved f sum = (tt, disks_fit l es (told_event l told (Detach m)) pool (reserved ++ []) f.2 (same_adds told.pool pool reserved sum))
-disks_fit l (Split m ∷ es) told pool reserved f sum = (tt, disks_fit l es (told_event l told (Split m)) pool (reserved ++ []) f.2 (same_adds told.pool pool reserved sum))
-disks_fit l (Force m dependents ∷ es) told pool reserved f sum = (tt, disks_fit l es (told_event l told (Force m dependents)) pool (reserved ++ []) f.2 (same_adds told.pool pool reserved sum))
-disks_fit l (Drop slot ∷ es) told pool reserved f sum = (tt, disks_fit l es (told_event l told (Drop slot)) pool (reserved ++ []) f.2 (same_adds told.pool pool reserved sum))
-disks_fit l (Forget m ∷ es) told pool reserved f sum = (tt, disks_fit l es (told_event l told (Forget m)) pool (reserved ++ []) f.2 (same_adds told.pool pool reserved sum))
-disks_fit l (NoteCut m source target ∷ es) told pool reserved f sum = (tt, disks_fit l es (told_event l told (NoteCut m source target)) pool (reserved ++ []) f.2 (same_adds told.pool pool reserved sum))
-disks_fit l (Access volume access ∷ es) told pool reserved f sum = (tt, disks_fit l es (told_event l told (Access volume access)) pool (reserved ++ []) f.2 (same_adds told.pool pool reserved sum))
-disks_fit l (Work m copies cleans ∷ es) told pool reserved f sum = (tt, disks_fit l es (told_event l told (Work m copies cleans)) pool (reserved ++ []) f.2 (same_adds told.pool pool reserved sum))
-disks_fit l (Arm volume grain calls ∷ es) told pool reserved f sum = (tt, disks_fit l es (told_event l told (Arm volume grain calls)) pool (reserved ++ []) f.2 (same_adds told.pool pool reserved sum))
+pub disks_fit : (l : LaneOf) (es : List LaneEvent) (f : Followed) (pool : Pool) (reserved : List NewVolume) → FitsFollowed l f es → AddsUp f.told.pool reserved pool → HasDisks l pool reserved es
+disks_fit l [] f pool reserved fit sum = tt
+disks_fit l (Make volume grains kind ∷ es) f pool reserved fit sum =
+    (omega (arith, sum kind, fit.1.0), disks_fit l es (followed_event l f (Make volume grains kind)) pool (reserved ++ record { kind = kind; grains = grains_in l grains } ∷ []) fit.3 (made_adds f.told.pool pool reserved (grains_in l grains) kind fit.1.0 sum))
+disks_fit l (Remove volume ∷ es) f pool reserved fit sum = (tt, disks_fit l es (followed_event l f (Remove volume)) pool (reserved ++ []) fit.3 (same_adds f.told.pool pool reserved sum))
+disks_fit l (Trigger pairs ∷ es) f pool reserved fit sum = (tt, disks_fit l es (followed_event l f (Trigger pairs)) pool (reserved ++ []) fit.3 (same_adds f.told.pool pool reserved sum))
+disks_fit l (Retire m ∷ es) f pool reserved fit sum = (tt, disks_fit l es (followed_event l f (Retire m)) pool (reserved ++ []) fit.3 (same_adds f.told.pool pool reserved sum))
+disks_fit l (Detach m ∷ es) f pool reserved fit sum = (tt, disks_fit l es (followed_event l f (Detach m)) pool (reserved ++ []) fit.3 (same_adds f.told.pool pool reserved sum))
+disks_fit l (Split m ∷ es) f pool reserved fit sum = (tt, disks_fit l es (followed_event l f (Split m)) pool (reserved ++ []) fit.3 (same_adds f.told.pool pool reserved sum))
+disks_fit l (Force m dependents ∷ es) f pool reserved fit sum = (tt, disks_fit l es (followed_event l f (Force m dependents)) pool (reserved ++ []) fit.3 (same_adds f.told.pool pool reserved sum))
+disks_fit l (Drop slot ∷ es) f pool reserved fit sum = (tt, disks_fit l es (followed_event l f (Drop slot)) pool (reserved ++ []) fit.3 (same_adds f.told.pool pool reserved sum))
+disks_fit l (Forget m ∷ es) f pool reserved fit sum = (tt, disks_fit l es (followed_event l f (Forget m)) pool (reserved ++ []) fit.3 (same_adds f.told.pool pool reserved sum))
+disks_fit l (NoteCut m source target ∷ es) f pool reserved fit sum = (tt, disks_fit l es (followed_event l f (NoteCut m source target)) pool (reserved ++ []) fit.3 (same_adds f.told.pool pool reserved sum))
+disks_fit l (Access volume access ∷ es) f pool reserved fit sum = (tt, disks_fit l es (followed_event l f (Access volume access)) pool (reserved ++ []) fit.3 (same_adds f.told.pool pool reserved sum))
+disks_fit l (Work m copies cleans ∷ es) f pool reserved fit sum = (tt, disks_fit l es (followed_event l f (Work m copies cleans)) pool (reserved ++ []) fit.3 (same_adds f.told.pool pool reserved sum))
+disks_fit l (Arm volume grain calls ∷ es) f pool reserved fit sum = (tt, disks_fit l es (followed_event l f (Arm volume grain calls)) pool (reserved ++ []) fit.3 (same_adds f.told.pool pool reserved sum))
 
 pub disks_there : (l : LaneOf) (c : Chains) (g : GrainsState) (a : AccessState) (w : WorkState) (events : List LaneEvent) → FitParts l c g a w events → HasDisks l g.pool [] events
-disks_there l c g a w events (told, st, f) = disks_fit l events told g.pool [] f (λ k. let same : of_kind k told.pool ≡ of_kind k g.pool = ap (of_kind k) (sym st.beside.pool_is) in omega (arith, same))
+disks_there l c g a w events (f, st, fit) = disks_fit l events f g.pool [] fit (λ k. let same : of_kind k f.told.pool ≡ of_kind k g.pool = ap (of_kind k) (sym st.beside.pool_is) in omega (arith, same))
 
 -- ---- all parts
 

@@ -108,6 +108,7 @@ module _ (v : LaneView) (part : WritePart) (grain place : ℕ) (w : IsWritable v
         same = same_after v new b x.1.same;
         quiet = x.1.same.quiet;
         plan_room = room;
+        changes = b.changes;
       }
 
 -- ---- a write for which nothing is done
@@ -123,6 +124,7 @@ untouched_entered v part number actor reply entry answers none is = record {
   same = record { lane = refl; lanes = refl; grain = refl; disks = refl; silent = refl };
   quiet = λ q. (q, refl);
   plan_room = refl;
+  changes = refl;
 }
 
 -- how the volume may be reached, as it is told

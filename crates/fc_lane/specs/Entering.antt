@@ -65,6 +65,7 @@ pub record HasEntered (old : LaneView) (Fits : LaneTold → Type 0) (number acto
   pub same : IsSameLane old new
   pub quiet : KeepsQuiet old new
   pub plan_room : new.plan_room ≡ old.plan_room
+  pub changes : new.changes ≡ old.changes
 
 -- A write that fits; `t` is the place of the volume's live slot.
 pub record FitsWrite (l : LaneOf) (told : LaneTold) (part : WritePart) (t : ℕ) : Type 0 where
@@ -79,6 +80,7 @@ pub record SameBeside (old new : LaneView) : Type 0 where
   pub lanes : new.lanes ≡ old.lanes
   pub volumes : new.accesses.volumes ≡ old.accesses.volumes
   pub flags : new.work.flags ≡ old.work.flags
+  pub changes : new.changes ≡ old.changes
 
 -- A fill of the live slot at place `k`, which has this name, and lacks the grain of this number in the lane.
 pub record IsFill (l : LaneOf) (told : LaneTold) (slot number k : ℕ) : Type 0 where

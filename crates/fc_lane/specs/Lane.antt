@@ -73,14 +73,14 @@ new_rows slots rows (p ∷ ps) =
     cond (p.incremental && not (list_any (is_of p.map.0) rows)) (new_row slots p ∷ new_rows slots rows ps) (new_rows slots rows ps)
 
 -- They are ready, where the events begin with a trigger.
-abbrev pub AreRowsReady : LaneView → List LaneEvent → Type 0
-AreRowsReady v (Trigger pairs ∷ events) = v.changes.ready ≡ new_rows v.chains.sheet.slots v.changes.rows pairs
-AreRowsReady v events = Unit {0}
+abbrev pub AreRowsReady : List Slot → ChangesState → List LaneEvent → Type 0
+AreRowsReady slots s (Trigger pairs ∷ events) = s.ready ≡ new_rows slots s.rows pairs
+AreRowsReady slots s events = Unit {0}
 
 -- Events can be done without taking memory.
 pub record CanDoEvents (v : LaneView) (events : List LaneEvent) : Type 0 where
   pub parts : IsReadyFor (of v) v.chains v.grains v.accesses v.work events
-  pub rows : AreRowsReady v events
+  pub rows : AreRowsReady v.chains.sheet.slots v.changes events
 
 -- Which lane it is stays.
 pub record IsSameLane (old new : LaneView) : Type 0 where

@@ -2,6 +2,7 @@
 pub mod Accesses
 pub mod Parts
 pub mod Lane
+pub mod Events
 pub mod Standing
 pub mod Moving
 pub mod Reading
@@ -9,3 +10,4 @@ pub mod StepsEnd
 pub mod WriteStep
 pub mod Entering
 pub mod Turns
+pub mod Applying

@@ -9,13 +9,13 @@ use Rattle.fc_base.specs.declared.ids.VolId.{VolId}
 use Rattle.fc_base.specs.declared.size.GrainSize.{GrainSize}
 use Rattle.fc_chain.specs.Chains.{Chains}
 use Rattle.fc_entry.specs.Picture.{zeros}
+use Rattle.fc_follow.specs.Following.{FitsFollowed, Followed}
 use Rattle.fc_chain.specs.Room.{HasRoomFor}
 use Rattle.fc_grains.specs.Grains.{GrainsState, NewVolume, next_of, reserved_of}
 use Rattle.fc_grains.specs.Volumes.{VolumeGrains, is_there, changed, without, armed}
 use Rattle.fc_pick.specs.Flags.{WorkState, is_known, with_number, without_number}
 use Rattle.fc_rules.specs.LaneTold.{LaneOf, LaneTold, LaneVolume, grains_in, volumes_event, flags_event, pool_event}
 use Rattle.fc_lane.specs.Accesses.{AccessState}
-use Rattle.fc_rules.specs.LaneFits.{FitsLane}
 use Rattle.fc_lane.specs.Standing.{Stands}
 
 -- A lane, of so many, with grains of this size.
@@ -71,13 +71,9 @@ GrainsAfter l old (NoteCut m source target) new = new ≡ old
 GrainsAfter l old (Access volume access) new = new ≡ old
 GrainsAfter l old (Work m copies cleans) new = new ≡ old
 
--- For something that could be told the parts beside the chains stand, and the events fit it.
-abbrev pub FitBeside : LaneOf → GrainsState → AccessState → WorkState → List LaneEvent → Type 0
-FitBeside l grains accesses work events = (told : LaneTold) × BesideFor l grains accesses work told × FitsLane l told events
-
--- And the chains too.
+-- For something that could be told the parts stand, and the events fit it.
 abbrev pub FitParts : LaneOf → Chains → GrainsState → AccessState → WorkState → List LaneEvent → Type 0
-FitParts l chains grains accesses work events = (told : LaneTold) × StandsFor l chains grains accesses work told × FitsLane l told events
+FitParts l chains grains accesses work events = (f : Followed) × StandsFor l chains grains accesses work f.told × FitsFollowed l f events
 
 -- ---- room
 

@@ -3,12 +3,14 @@
 ghost use Rattle.std.specs.Prelude.{◌≡◌, [], OnOk, fold};
 ghost use Rattle.fc_grains.specs.Quiet.{IsQuiet};
 ghost use Rattle.fc_follow.specs.Following.{FitsFollowed, Followed, TriggersFirst, followed_event};
+ghost use Rattle.fc_lane.specs.Applying.{CanApply, HasApplied};
 ghost use Rattle.fc_lane.specs.Lane.{ArmsNone, CanDoEvents, IsFollowing, IsSameLane, KeepsQuiet, of};
 ghost use Rattle.fc_rules.specs.LaneFits.{WorksFirst};
 
+use crate::chains::{follow_event, ready_rows};
 use crate::lane::Lane;
-use crate::parts::{apply_events, reserve_events};
-use fc_base::decision::LaneEvents;
+use crate::parts::{do_event, reserve_events};
+use fc_base::decision::{LaneEvent, LaneEvents};
 use fc_base::outcome::NoMemory;
 use fc_mdisk::mdisk::Mdisk;
 
@@ -28,6 +30,16 @@ impl<D: Mdisk> Lane<D> {
         ensures entry_room { self.new.entry_room ≡ self.old.entry_room }
     {
         self.body.grains.release();
+        self.changes.release();
+        let ready = ready_rows(
+            self.alloc,
+            &self.body.cascade,
+            &mut self.changes,
+            events.as_slice(),
+        );
+        if ready.is_err() {
+            return Err(NoMemory);
+        }
         reserve_events(
             self.lane,
             self.lanes,
@@ -52,14 +64,24 @@ impl<D: Mdisk> Lane<D> {
         ensures plan_room { self.new.plan_room ≡ self.old.plan_room }
         ensures entry_room { self.new.entry_room ≡ self.old.entry_room }
     {
-        apply_events(
+        for event in events.as_slice() {
+            self.apply_event(event);
+        }
+    }
+
+    /// Does what one event says. It fits, and all is ready for it. Takes no memory and calls no disk.
+    fn apply_event(&mut self, event: &LaneEvent)
+        requires { CanApply self.old event.now }
+        ensures { HasApplied self.old event.now self.new }
+    {
+        follow_event(&mut self.body.cascade, &mut self.changes, event);
+        do_event(
             self.lane,
             self.lanes,
-            &mut self.body.cascade,
             &mut self.body.grains,
             &mut self.accesses,
             &mut self.work,
-            events,
+            event,
         );
     }
 }

@@ -1,21 +1,22 @@
 //! Reads, writes, copies and cleanings of a lane, with what they change for incremental mappings.
 
-ghost use Rattle.std.specs.Prelude.{◌≡◌, ◌<◌, ◌^◌, ◌%◌, IsSome};
+ghost use Rattle.std.specs.Prelude.{◌≡◌, ◌<◌, ◌^◌, ◌%◌, IsSome, fold};
 ghost use Rattle.fc_base.specs.declared.request.Request.TheVariants.{Clean, Copy, Read, Write};
 ghost use Rattle.fc_bits.specs.Grains.{count_set};
-ghost use Rattle.fc_changed.specs.Row.{restart_in};
+ghost use Rattle.fc_base.specs.declared.request.WritePart.{WritePart};
+ghost use Rattle.fc_changed.specs.Row.{after_note, restart_in};
 ghost use Rattle.fc_entry.specs.Picture.{grain_of_block};
-ghost use Rattle.fc_follow.specs.Following.{Followed, followed_entry, rows_entry};
+ghost use Rattle.fc_follow.specs.Following.{Followed, followed_entry, rows_entry, torn_notes, write_notes};
 ghost use Rattle.fc_lane.specs.Lane.{IsAsked, IsFollowing, IsReady, IsSameLane, KeepsQuiet, of};
 ghost use Rattle.fc_lane.specs.Turns.{CanPick, clean_of, copy_of};
 ghost use Rattle.fc_rules.specs.LaneFits.{FitsPart};
-ghost use Rattle.fc_rules.specs.LaneRight.{IsRightInLane};
+ghost use Rattle.fc_rules.specs.LaneRight.{IsRightInLane, done_write};
 ghost use Rattle.fc_rules.specs.LaneTold.{place_of};
 ghost use Rattle.fc_rules.specs.LaneTurn.{cleaned_slot, copied_slot};
 
 use crate::lane::Lane;
 use fc_base::ids::{GrainNo, MapId};
-use fc_base::request::{Pick, ReadPart, Reply, Request, Side, Torn, WritePart};
+use fc_base::request::{Pick, ReadPart, Reply, Request, Side, WritePart};
 use fc_entry::entry::Entry;
 use fc_mdisk::mdisk::Mdisk;
 use std::alloc::Global;
@@ -23,27 +24,38 @@ use std::alloc::Global;
 impl<D: Mdisk> Lane<D> {
     /// Notes what the entry changed: the grain that it wrote, or spoiled of what a volume shows. Takes no memory.
     fn note(&mut self, entry: &Entry)
+        requires number { (part : WritePart) → entry.now.request ≡ Write part → grain_of_block self.old.grains.grain part.block < 2 ^ 32 }
         ensures { self.new ≡ record self.old { changes = record self.old.changes { rows = rows_entry (of self.old) self.old.changes.rows entry.now } } }
     {
         if self.changes.is_empty() {
             return;
         }
-        if let (Request::Write(part), Reply::Done) = (&entry.request, &entry.reply) {
-            self.note_write(*part);
-        }
-        if let Some(torn) = entry.torn {
-            self.note_torn(torn);
-        }
+        self.note_done(entry);
+        self.note_torn(entry);
     }
 
-    /// Notes a write that was done.
-    fn note_write(&mut self, part: WritePart) {
+    /// Notes the write that the entry did.
+    fn note_done(&mut self, entry: &Entry)
+        requires number { (part : WritePart) → entry.now.request ≡ Write part → grain_of_block self.old.grains.grain part.block < 2 ^ 32 }
+        ensures { self.new ≡ record self.old { changes = record self.old.changes { rows = fold after_note self.old.changes.rows (write_notes (of self.old) (done_write entry.now.request entry.now.reply)) } } }
+    {
+        let Request::Write(part) = entry.request else {
+            return;
+        };
+        let Reply::Done = entry.reply else {
+            return;
+        };
         let grain = (part.block / self.body.grains.grain().blocks() as u64) as u32;
         self.changes.wrote(part.volume, grain / self.lanes as u32);
     }
 
-    /// Notes what a failed write spoiled of what the volume shows.
-    fn note_torn(&mut self, torn: Torn) {
+    /// Notes the grain that the entry left torn, if the volume showed it.
+    fn note_torn(&mut self, entry: &Entry)
+        ensures { self.new ≡ record self.old { changes = record self.old.changes { rows = fold after_note self.old.changes.rows (torn_notes (of self.old) entry.now.torn) } } }
+    {
+        let Some(torn) = entry.torn else {
+            return;
+        };
         match torn.side {
             Side::Now => self
                 .changes

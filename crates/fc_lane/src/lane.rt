@@ -6,12 +6,14 @@ use crate::roomy::RoomyPlan;
 use fc_diff::Changes;
 use fc_mdisk::mdisk::Mdisk;
 use fc_pick::Work;
+use std::alloc::Global;
 use std::marker::Model;
 
 /// One lane of the store: the chains of its grains, their physical grains on disks, how hosts reach each volume, and
 /// the background work.
 #[derive(Drop)]
 pub struct Lane<D: Mdisk> {
+    pub(crate) alloc: Global,
     pub(crate) lane: u8,
     pub(crate) lanes: u8,
     pub(crate) body: Body<D>,

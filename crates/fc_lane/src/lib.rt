@@ -16,6 +16,7 @@
 mod access;
 mod asking;
 mod body;
+mod chains;
 mod copy;
 mod ending;
 mod events;

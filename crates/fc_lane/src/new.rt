@@ -47,6 +47,7 @@ impl<D: Mdisk> Lane<D> {
             Err(NoMemory) => return Err(NoMemory),
         };
         Ok(Lane {
+            alloc,
             lane,
             lanes,
             body: Body {

@@ -1,13 +1,12 @@
 //! What the events of a command do to the parts of a lane: its chains, grains, accesses and background work.
 
-ghost use Rattle.std.specs.Prelude.{◌≡◌, ◌<◌, [], OnOk, OnErr, fold, ◌%◌, ◌==◌, cond, IsTrue};
+ghost use Rattle.std.specs.Prelude.{◌≡◌, ◌<◌, [], OnOk, OnErr, ◌%◌, ◌==◌, cond, IsTrue};
 ghost use Rattle.fc_grains.specs.Volumes.{armed, changed};
 ghost use Rattle.fc_pick.specs.Flags.{is_known, with_flags, with_number};
 ghost use Rattle.fc_rules.specs.LaneFits.{FitsLane, WorksFirst};
 ghost use Rattle.fc_grains.specs.Quiet.{IsQuiet};
-ghost use Rattle.fc_lane.specs.Lane.{ArmsNone};
-ghost use Rattle.fc_lane.specs.Parts.{ArmsNot, BesideFor, CanDo, FitBeside, FitParts, HasDone, IsReadyBeside, IsReadyFor, SameCounts, SameVolumes, StandsFor, lane_of};
-ghost use Rattle.fc_rules.specs.LaneTold.{LaneTold, told_event};
+ghost use Rattle.fc_lane.specs.Parts.{ArmsNot, CanDo, FitParts, HasDone, IsReadyFor, SameVolumes, StandsFor, lane_of};
+ghost use Rattle.fc_rules.specs.LaneTold.{LaneTold};
 
 use crate::access::Accesses;
 use crate::ready::{reserve_volumes, track_all};
@@ -19,7 +18,7 @@ use fc_grains::grains::Grains;
 use fc_mdisk::mdisk::Mdisk;
 use fc_pick::Work;
 
-/// Makes ready for events that fit, so that `apply_events` takes no memory. No new volume is ready before. Refused, nothing
+/// Makes ready for events that fit, so that they take no memory. No new volume is ready before. Refused, nothing
 /// is told otherwise, and no new volume is ready.
 pub(crate) fn reserve_events<D: Mdisk>(
     lane: u8,
@@ -49,28 +48,6 @@ pub(crate) fn reserve_events<D: Mdisk>(
         return Err(NoMemory);
     }
     reserve_volumes(lane, lanes, grains, events.as_slice())
-}
-
-/// Does what the events say, in order. They fit, and all is ready for them. Takes no memory and calls no disk.
-pub(crate) fn apply_events<D: Mdisk>(
-    lane: u8,
-    lanes: u8,
-    cascade: &mut Cascade,
-    grains: &mut Grains<D>,
-    accesses: &mut Accesses,
-    work: &mut Work,
-    events: &LaneEvents,
-)
-    requires lane_in { lane < lanes }
-    requires ready { IsReadyFor (lane_of lane lanes grains.old.grain) cascade.old grains.old accesses.old work.old events.now }
-    requires fit { FitParts (lane_of lane lanes grains.old.grain) cascade.old grains.old accesses.old work.old events.now }
-    ensures stands { (told : LaneTold) → StandsFor (lane_of lane lanes grains.old.grain) cascade.old grains.old accesses.old work.old told → FitsLane (lane_of lane lanes grains.old.grain) told events.now → StandsFor (lane_of lane lanes grains.old.grain) cascade.new grains.new accesses.new work.new (fold (told_event (lane_of lane lanes grains.old.grain)) told events.now) }
-    ensures kept { SameCounts grains.old grains.new }
-    ensures made { grains.new.reserved ≡ [] }
-    ensures quiet { IsQuiet grains.old → ArmsNone events.now → IsQuiet grains.new }
-{
-    cascade.apply(events);
-    do_events(lane, lanes, grains, accesses, work, events.as_slice());
 }
 
 /// Gives a known mapping its flags.
@@ -107,7 +84,7 @@ fn arm<D: Mdisk>(
 }
 
 /// Does what one event says to the parts beside the chains. Takes no memory and calls no disk.
-fn do_event<D: Mdisk>(
+pub(crate) fn do_event<D: Mdisk>(
     lane: u8,
     lanes: u8,
     grains: &mut Grains<D>,
@@ -149,27 +126,5 @@ fn do_event<D: Mdisk>(
         | LaneEvent::Force { .. }
         | LaneEvent::Drop { .. }
         | LaneEvent::NoteCut { .. } => {}
-    }
-}
-
-/// Does what the events say to the parts beside the chains, in order. Takes no memory and calls no disk.
-fn do_events<D: Mdisk>(
-    lane: u8,
-    lanes: u8,
-    grains: &mut Grains<D>,
-    accesses: &mut Accesses,
-    work: &mut Work,
-    events: &[LaneEvent],
-)
-    requires lane_in { lane < lanes }
-    requires ready { IsReadyBeside (lane_of lane lanes grains.old.grain) grains.old accesses.old work.old events.now }
-    requires fit { FitBeside (lane_of lane lanes grains.old.grain) grains.old accesses.old work.old events.now }
-    ensures stands { (told : LaneTold) → BesideFor (lane_of lane lanes grains.old.grain) grains.old accesses.old work.old told → FitsLane (lane_of lane lanes grains.old.grain) told events.now → BesideFor (lane_of lane lanes grains.old.grain) grains.new accesses.new work.new (fold (told_event (lane_of lane lanes grains.old.grain)) told events.now) }
-    ensures kept { SameCounts grains.old grains.new }
-    ensures made { grains.new.reserved ≡ [] }
-    ensures quiet { IsQuiet grains.old → ArmsNone events.now → IsQuiet grains.new }
-{
-    for event in events {
-        do_event(lane, lanes, grains, accesses, work, event);
     }
 }

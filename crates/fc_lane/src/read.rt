@@ -130,7 +130,13 @@ impl<D: Mdisk> Lane<D> {
 
     /// Reads blocks of one grain of a volume: the bytes that the volume's holder has there. A volume that isn't online
     /// answers how it may be reached, and a lost grain a medium error.
-    pub(crate) fn read_told(&mut self, alloc: Global, number: u64, actor: u32, part: ReadPart) -> Entry
+    pub(crate) fn read_told(
+        &mut self,
+        alloc: Global,
+        number: u64,
+        actor: u32,
+        part: ReadPart,
+    ) -> Entry
         requires can { (told : LaneTold) × IsLaneOf self.old told × FitsPart (of self.old) told part.volume part.block part.count }
         requires number { grain_of_block self.old.grains.grain part.block < 2 ^ 32 }
         ensures right { (told : LaneTold) → IsLaneOf self.old told → FitsPart (of self.old) told part.volume part.block part.count →
@@ -139,6 +145,7 @@ impl<D: Mdisk> Lane<D> {
         ensures same { IsSameLane self.old self.new }
         ensures quiet { KeepsQuiet self.old self.new }
         ensures plan_room { self.new.plan_room ≡ self.old.plan_room }
+        ensures changes { self.new.changes ≡ self.old.changes }
         ensures entry_room { self.new.entry_room ≡ self.old.entry_room }
     {
         match self.accesses.access(part.volume) {

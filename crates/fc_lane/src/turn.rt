@@ -98,6 +98,7 @@ impl<D: Mdisk> Lane<D> {
         ensures same { IsSameLane self.old self.new }
         ensures quiet { KeepsQuiet self.old self.new }
         ensures plan_room { self.new.plan_room ≡ self.old.plan_room }
+        ensures changes { self.new.changes ≡ self.old.changes }
     {
         let request = Request::CopyTurn { lane: self.lane };
         match self.next_copy() {
@@ -116,10 +117,14 @@ impl<D: Mdisk> Lane<D> {
         ensures same { IsSameLane self.old self.new }
         ensures quiet { KeepsQuiet self.old self.new }
         ensures plan_room { self.new.plan_room ≡ self.old.plan_room }
+        ensures changes { self.new.changes ≡ self.old.changes }
     {
         let request = Request::CleanTurn { lane: self.lane };
         match self.next_clean() {
-            Some((map, grain)) => turned(self.clean_told(alloc, number, actor, map, grain), request),
+            Some((map, grain)) => turned(
+                self.clean_told(alloc, number, actor, map, grain),
+                request,
+            ),
             None => self.untouched(alloc, number, actor, request, Reply::Idle),
         }
     }
@@ -127,7 +132,13 @@ impl<D: Mdisk> Lane<D> {
     /// A copier's turn: a copy of the first mapping by id that has one to make in the lane, at its least grain, and Idle exactly
     /// where none has; or the copy of a mapping's grain that is named. It stops at the first call of a disk that fails; what
     /// was done before stays done.
-    pub(crate) fn copy_turn_told(&mut self, alloc: Global, number: u64, actor: u32, pick: Pick) -> Entry
+    pub(crate) fn copy_turn_told(
+        &mut self,
+        alloc: Global,
+        number: u64,
+        actor: u32,
+        pick: Pick,
+    ) -> Entry
         requires can { (told : LaneTold) × IsLaneOf self.old told × CanPick (of self.old) (copied_slot told.sheet.slots) pick }
         requires ready { IsReady self.old }
         ensures right { (told : LaneTold) → IsLaneOf self.old told → CanPick (of self.old) (copied_slot told.sheet.slots) pick →
@@ -136,6 +147,7 @@ impl<D: Mdisk> Lane<D> {
         ensures same { IsSameLane self.old self.new }
         ensures quiet { KeepsQuiet self.old self.new }
         ensures plan_room { self.new.plan_room ≡ self.old.plan_room }
+        ensures changes { self.new.changes ≡ self.old.changes }
     {
         match pick {
             Pick::Any => self.copy_first(alloc, number, actor),
@@ -146,7 +158,13 @@ impl<D: Mdisk> Lane<D> {
     /// A cleaner's turn: a cleaning of the first mapping by id that has one to make in the lane, at its least grain, and Idle
     /// exactly where none has; or the cleaning of a mapping's grain that is named. It stops at the first call of a disk that
     /// fails; what was done before stays done.
-    pub(crate) fn clean_turn_told(&mut self, alloc: Global, number: u64, actor: u32, pick: Pick) -> Entry
+    pub(crate) fn clean_turn_told(
+        &mut self,
+        alloc: Global,
+        number: u64,
+        actor: u32,
+        pick: Pick,
+    ) -> Entry
         requires can { (told : LaneTold) × IsLaneOf self.old told × CanPick (of self.old) (cleaned_slot told.sheet.slots) pick }
         requires ready { IsReady self.old }
         ensures right { (told : LaneTold) → IsLaneOf self.old told → CanPick (of self.old) (cleaned_slot told.sheet.slots) pick →
@@ -155,6 +173,7 @@ impl<D: Mdisk> Lane<D> {
         ensures same { IsSameLane self.old self.new }
         ensures quiet { KeepsQuiet self.old self.new }
         ensures plan_room { self.new.plan_room ≡ self.old.plan_room }
+        ensures changes { self.new.changes ≡ self.old.changes }
     {
         match pick {
             Pick::Any => self.clean_first(alloc, number, actor),

@@ -103,7 +103,13 @@ impl<D: Mdisk> Lane<D> {
     /// Writes blocks of one grain of a volume, after the moves that this owes, so that every copy keeps what it shows. A
     /// volume that isn't online answers how it may be reached, a part of a lost grain a medium error. It stops at the
     /// first call of a disk that fails; what was done before stays done.
-    pub(crate) fn write_told(&mut self, alloc: Global, number: u64, actor: u32, part: WritePart) -> Entry
+    pub(crate) fn write_told(
+        &mut self,
+        alloc: Global,
+        number: u64,
+        actor: u32,
+        part: WritePart,
+    ) -> Entry
         requires can { (told : LaneTold) × IsLaneOf self.old told × FitsPart (of self.old) told part.volume part.block part.count }
         requires number { grain_of_block self.old.grains.grain part.block < 2 ^ 32 }
         requires ready { IsReady self.old }
@@ -113,6 +119,7 @@ impl<D: Mdisk> Lane<D> {
         ensures same { IsSameLane self.old self.new }
         ensures quiet { KeepsQuiet self.old self.new }
         ensures plan_room { self.new.plan_room ≡ self.old.plan_room }
+        ensures changes { self.new.changes ≡ self.old.changes }
     {
         match self.accesses.access(part.volume) {
             Access::Online => self.write_online(alloc, number, actor, part),

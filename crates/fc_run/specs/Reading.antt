@@ -1,7 +1,5 @@
 -- How a line of a session is read: by the grammar, as far as the lines are built.
-use Rattle.std.specs.Prelude.{ℕ, Bool, true, false, not, cond, List, Result, Ok, Err}
-use Rattle.fc_base.specs.declared.command.Command.{Command}
-use Rattle.fc_base.specs.declared.command.Command.TheVariants.{Mkfcmap}
+use Rattle.std.specs.Prelude.{ℕ, Bool, true, false, cond, List, Result, Ok, Err}
 use Rattle.fc_base.specs.declared.command.Line.{Line}
 use Rattle.fc_base.specs.declared.command.Line.TheVariants.{Blank, Command as CommandLine}
 use Rattle.fc_base.specs.declared.command.Scope.TheVariants.{Free}
@@ -10,15 +8,10 @@ use Rattle.fc_base.specs.declared.fault.WordFault.TheVariants.{UnknownCommand}
 use Rattle.fc_legal.specs.Run.{Reading}
 use Rattle.fc_words.specs.Lines.{line_of}
 
--- The commands that are built so far: all but incremental mappings.
-abbrev pub is_built_command : Command → Bool
-is_built_command (Mkfcmap source target name group copy_rate clean_rate grain_size incremental autodelete) = not incremental
-is_built_command command = true
-
--- The lines that are built so far: those of these commands, and blank ones.
+-- The lines that are built so far: commands and blank ones, but no blocks of actors.
 abbrev pub is_built : Line → Bool
 is_built Blank = true
-is_built (CommandLine command) = is_built_command command
+is_built (CommandLine command) = true
 is_built _ = false
 
 -- A line that isn't built yet is told as one that there isn't.

@@ -5,14 +5,14 @@ use Rattle.fc_base.specs.declared.request.Request.TheVariants.{Read, Write, Copy
 use Rattle.fc_base.specs.declared.size.GrainSize.{GrainSize}
 use Rattle.fc_control.specs.Control.{ControlState}
 use Rattle.fc_entry.specs.declared.entry.Entry.{Entry}
-use Rattle.fc_lane.specs.Lane.{LaneView, IsLaneOf, IsSameLane, of}
+use Rattle.fc_follow.specs.Following.{Followed, followed_entry}
+use Rattle.fc_lane.specs.Lane.{LaneView, IsFollowing, IsSameLane, of}
 use Rattle.fc_legal.specs.Legal.{IsLegal}
 use Rattle.fc_legal.specs.Stands.{Stands}
 use Rattle.fc_legal.specs.Steps.{Step, RequestStep, AccessStep, after_access}
-use Rattle.fc_legal.specs.Whole.{Whole, lanes, lane_of_grain, lane_at, part_at}
+use Rattle.fc_legal.specs.Whole.{Whole, lanes, lane_of_grain, lane_at, part_at, followed_at}
 use Rattle.fc_parts.specs.Law.{IsAt}
-use Rattle.fc_rules.specs.LaneRight.{IsRightInLane, record_of}
-use Rattle.fc_rules.specs.LaneTold.{LaneTold, told_past}
+use Rattle.fc_rules.specs.LaneRight.{IsRightInLane}
 use Rattle.fc_store.specs.Store.{StoreView, IsLaneAt, AreLanesOf, AreFewCalls, StandsFor}
 use Rattle.std.proofs.lemmas.Bool.{cases_eq}
 use Rattle.std.proofs.lemmas.List.{get_or-set_same, get_or-set_other, length-set}
@@ -79,7 +79,7 @@ each_stands :
     IsAt grain number entry.request →
     IsRightInLane (lane_at grain w (lane_of_grain w number)) (part_at grain w (lane_of_grain w number)) entry →
     IsLane grain w (lane_of_grain w number) v →
-    IsLaneOf v (told_past (lane_at grain w (lane_of_grain w number)) (part_at grain w (lane_of_grain w number)) (record_of entry)) →
+    IsFollowing v (followed_entry (lane_at grain w (lane_of_grain w number)) (followed_at grain w (lane_of_grain w number)) entry) →
     AreLanesOf grain (after_access grain w (lane_of_grain w number) entry) (slice_set ls (lane_of_grain w number) v)
 each_stands grain decisions w number entry ls v stands count each at right same now j d inside = by (cases_eq j (lane_of_grain w number))
   where
@@ -90,7 +90,7 @@ each_stands grain decisions w number entry ls v stands count each at right same 
     by (inl here) =
         let P : ℕ → Type 0 = λ k. IsLaneAt grain (after_access grain w (lane_of_grain w number) entry) k (slice_index_or (slice_set ls (lane_of_grain w number) v) k d) in
         let Q : LaneView → Type 0 = λ x. IsLaneAt grain (after_access grain w (lane_of_grain w number) entry) (lane_of_grain w number) x in
-        let R : LaneTold → Type 0 = λ told. IsLaneOf v told in
+        let R : Followed → Type 0 = λ f. IsFollowing v f in
         subst P (sym here)
         (subst Q (sym (get_or-set_same ls (lane_of_grain w number) v d (subst (λ k. k < length ls) here within)))
         record {
@@ -102,7 +102,7 @@ each_stands grain decisions w number entry ls v stands count each at right same 
     by (inr other) =
         let old : IsLaneAt grain w j (slice_index_or ls j d) = each j d within in
         let Q : LaneView → Type 0 = λ x. IsLaneAt grain (after_access grain w (lane_of_grain w number) entry) j x in
-        let R : LaneTold → Type 0 = λ told. IsLaneOf (slice_index_or ls j d) told in
+        let R : Followed → Type 0 = λ f. IsFollowing (slice_index_or ls j d) f in
         subst Q (sym (get_or-set_other ls (lane_of_grain w number) j v d other))
         record {
           lane = old.lane;
@@ -143,7 +143,7 @@ pub access_stands :
     IsAt s.control.grain number entry.request →
     IsRightInLane (lane_at s.control.grain w (lane_of_grain w number)) (part_at s.control.grain w (lane_of_grain w number)) entry →
     IsLane s.control.grain w (lane_of_grain w number) v →
-    IsLaneOf v (told_past (lane_at s.control.grain w (lane_of_grain w number)) (part_at s.control.grain w (lane_of_grain w number)) (record_of entry)) →
+    IsFollowing v (followed_entry (lane_at s.control.grain w (lane_of_grain w number)) (followed_at s.control.grain w (lane_of_grain w number)) entry) →
     entry.calls ≤ 2 ^ 32 →
     StandsFor (record s { lanes = slice_set s.lanes (lane_of_grain w number) v }) (after_access s.control.grain w (lane_of_grain w number) entry)
 access_stands s w number entry v stands at right same now few = record {

@@ -40,7 +40,6 @@ use Rattle.fc_books.specs.Work.{changes_work, cleans, copies, work_events}
 use Rattle.fc_lane.specs.Lane.{ArmsNone}
 use Rattle.fc_lane.specs.Parts.{ArmsNot}
 use Rattle.fc_store.specs.Arming.{arms}
-use Rattle.fc_legal.specs.Steps.{no_restarts}
 
 -- ---- events that arm nothing
 
@@ -208,12 +207,12 @@ work_unarmed : (b : Books) → Unarmed (work_events b)
 unfolding work_events
 work_unarmed b = one_of_each (λ (m : Mapping). Work m.id (copies b m) (cleans b m)) (filter (changes_work b) b.tables.mappings) (λ m. tt)
 
-answered_unarmed : (grain : GrainSize) (b : Books) (command : Command) (refusal : Option Refusal) (loop : Option (List VolId)) →
-    arms (Asked command) (answered no_restarts grain b command refusal loop).reply ≡ false → Unarmed (answered no_restarts grain b command refusal loop).events
-answered_unarmed grain b command (Some refusal) loop unarmed = work_unarmed (after_deed no_restarts b nothing)
-answered_unarmed grain b command None (Some volumes) unarmed = work_unarmed (after_deed no_restarts b nothing)
-answered_unarmed grain b command None None unarmed =
-    both (done grain b command).events _ (done_unarmed grain b command unarmed) (work_unarmed (after_deed no_restarts b (done grain b command)))
+answered_unarmed : (sets : ℕ → List Bool) (grain : GrainSize) (b : Books) (command : Command) (refusal : Option Refusal) (loop : Option (List VolId)) →
+    arms (Asked command) (answered sets grain b command refusal loop).reply ≡ false → Unarmed (answered sets grain b command refusal loop).events
+answered_unarmed sets grain b command (Some refusal) loop unarmed = work_unarmed (after_deed sets b nothing)
+answered_unarmed sets grain b command None (Some volumes) unarmed = work_unarmed (after_deed sets b nothing)
+answered_unarmed sets grain b command None None unarmed =
+    both (done grain b command).events _ (done_unarmed grain b command unarmed) (work_unarmed (after_deed sets b (done grain b command)))
 
 -- ---- in all
 
@@ -223,10 +222,10 @@ arms_none events all volume grain calls there = All-contains ArmsNot events (Arm
 pub settling_arms : (b : Books) → ArmsNone (settle b).events
 settling_arms b = arms_none (settle b).events (settling_unarmed b)
 
-pub command_arms : (grain : GrainSize) (b : Books) (command : Command) (loop : Option (List VolId)) →
-    arms (Asked command) (decide no_restarts grain b command loop).reply ≡ false → ArmsNone (decide no_restarts grain b command loop).events
-command_arms grain b command loop unarmed =
-    arms_none (decide no_restarts grain b command loop).events (answered_unarmed grain b command (refused grain b command) loop unarmed)
+pub command_arms : (sets : ℕ → List Bool) (grain : GrainSize) (b : Books) (command : Command) (loop : Option (List VolId)) →
+    arms (Asked command) (decide sets grain b command loop).reply ≡ false → ArmsNone (decide sets grain b command loop).events
+command_arms sets grain b command loop unarmed =
+    arms_none (decide sets grain b command loop).events (answered_unarmed sets grain b command (refused grain b command) loop unarmed)
 
 -- A command for which memory was wanted arms nothing.
 pub starved_arms : (command : Command) → arms (Asked command) NoMemory ≡ false

@@ -7,16 +7,15 @@ use Rattle.fc_base.specs.declared.request.Place.TheVariants.{Every}
 use Rattle.fc_base.specs.declared.request.Reply.{Reply}
 use Rattle.fc_base.specs.declared.request.Request.TheVariants.{Command as Asked}
 use Rattle.fc_base.specs.declared.size.GrainSize.{GrainSize}
-use Rattle.fc_books.specs.Deciding.{IsLoopOf, settle, settled}
+use Rattle.fc_books.specs.Deciding.{IsLoopOf, settle}
 use Rattle.fc_entry.specs.HistoryState.{HistoryState}
 use Rattle.fc_entry.specs.declared.entry.Entry.{Entry}
-use Rattle.fc_legal.specs.Lawful.{left_by}
 use Rattle.fc_legal.specs.Run.{by_main}
-use Rattle.fc_legal.specs.Steps.{Step, one_more}
+use Rattle.fc_legal.specs.Steps.{Step, after_settling, decided_on, left_by, one_more}
 use Rattle.fc_legal.specs.Whole.{Whole}
 use Rattle.fc_store.specs.Answering.{Answered}
 use Rattle.fc_store.specs.Apart.{entry_apart}
-use Rattle.fc_store.specs.Phase.{IsDecided, StandsAt, after_settling, decided_after}
+use Rattle.fc_store.specs.Phase.{IsDecided, StandsAt}
 use Rattle.fc_store.specs.Store.{StoreView, StandsFor}
 use Rattle.fc_store.specs.declared.stop.Stop.{Stop}
 use Rattle.fc_store.specs.declared.stop.Stop.TheVariants.{NoMemory}
@@ -56,16 +55,16 @@ log_after_settling result s grain decisions w command effects before after decid
 
 pub log_after_both : (result : Result (Unit {0}) Stop) (s : StoreView) (grain : GrainSize) (decisions : ℕ) (w : Whole) (command : Command) (loop : Option (List VolId)) (reply : Reply) (effects : List Effect) (before after : HistoryState) →
     IsDecided command → LogsAny result s command reply effects before after →
-    IsLoopOf grain (settled w.books) command loop → reply ≡ (decided_after grain w command loop).reply →
-    effects ≡ (settle w.books).effects ++ (decided_after grain w command loop).effects →
-    StandsAt (decisions + 1 + 1) s (left_by grain (after_settling grain w) (decided_after grain w command loop)) → decisions ≤ 2 * w.entries → w.entries ≡ length before.entries →
+    IsLoopOf grain (after_settling grain w).books command loop → reply ≡ (decided_on grain (after_settling grain w) command loop).reply →
+    effects ≡ (settle w.books).effects ++ (decided_on grain (after_settling grain w) command loop).effects →
+    StandsAt (decisions + 1 + 1) s (left_by grain (after_settling grain w) (decided_on grain (after_settling grain w) command loop)) → decisions ≤ 2 * w.entries → w.entries ≡ length before.entries →
     Answered result (StandsFor s) grain w (by_main (Asked command ∷ [])) before after
 log_after_both result s grain decisions w command loop reply effects before after decided logs loops replied same stands few told =
-    let next : Whole = one_more (left_by grain (after_settling grain w) (decided_after grain w command loop)) in
+    let next : Whole = one_more (left_by grain (after_settling grain w) (decided_on grain (after_settling grain w) command loop)) in
     let turn = decided_turn s grain decisions w command loop (length before.entries) decided (sym told) loops few stands in
     logs grain w next
     (subst (λ (r : Reply). Step grain w (entry_apart (length before.entries) Every (Asked command) r effects) next) (sym replied)
-    (subst (λ (es : List Effect). Step grain w (entry_apart (length before.entries) Every (Asked command) (decided_after grain w command loop).reply es) next) (sym same) turn.step))
+    (subst (λ (es : List Effect). Step grain w (entry_apart (length before.entries) Every (Asked command) (decided_on grain (after_settling grain w) command loop).reply es) next) (sym same) turn.step))
     turn.counted turn.stands told
 
 pub log_before_settling : (result : Result (Unit {0}) Stop) (s : StoreView) (grain : GrainSize) (decisions : ℕ) (w : Whole) (command : Command) (effects : List Effect) (before after : HistoryState) →

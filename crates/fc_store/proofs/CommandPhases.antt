@@ -8,11 +8,13 @@ use Rattle.fc_base.specs.declared.request.Reply.{Reply}
 use Rattle.fc_base.specs.declared.size.GrainSize.{GrainSize}
 use Rattle.fc_books.specs.After.{after_table_change, flags_after}
 use Rattle.fc_books.specs.Books.{Books}
-use Rattle.fc_books.specs.Deciding.{IsLoopOf, settle, settled}
+use Rattle.fc_books.specs.Deciding.{IsLoopOf, settle}
 use Rattle.fc_control.specs.Changes.{AreCountable, adds}
-use Rattle.fc_legal.specs.Lawful.{IsLawful, left_by}
+use Rattle.fc_follow.specs.Following.{restarts}
+use Rattle.fc_legal.specs.Lawful.{IsLawful}
+use Rattle.fc_legal.specs.Steps.{after_settling, decided_on, left_by}
 use Rattle.fc_legal.specs.Whole.{Whole}
-use Rattle.fc_store.specs.Phase.{StandsAt, CanPrepare, IsDone, IsReserved, after_settling, decided_after}
+use Rattle.fc_store.specs.Phase.{StandsAt, CanPrepare, IsDone, IsReserved}
 use Rattle.fc_store.specs.Settling.{AreFew, CanSettle, IsSettling, IsSettled, CanDecide, IsDecisionOn, IsDoneAfter}
 use Rattle.fc_store.specs.Store.{StoreView}
 use Rattle.fc_store.proofs.CommandSteps.{settling_lawful, command_lawful}
@@ -23,7 +25,7 @@ use Rattle.fc_store.proofs.PhaseStands.{IsThrough, events_through}
 lawful_countable : (grain : GrainSize) (decisions : ℕ) (w : Whole) (d : Decision) → decisions ≤ 524289 → IsLawful grain decisions w d → length (filter adds d.changes) ≤ 1 → AreCountable d.changes
 lawful_countable grain decisions w d few lawful one =
     let mid : Books = fold after_table_change w.books d.changes in
-    let through : IsThrough mid (left_by grain w d).books (fold flags_after mid.flags d.events) = events_through mid d.events in
+    let through : IsThrough mid (left_by grain w d).books (fold flags_after mid.flags d.events) = events_through (restarts w.rows) mid d.events in
     countable w.books d.changes one
     record {
       volume = omega (arith, few, through.next_volume, lawful.stands.few.volumes);
@@ -61,16 +63,16 @@ settling_done old mid new d effects are settling reserved done decisions w few s
 -- What is decided of a settled store's command.
 record IsLawfulAfter (s : StoreView) (decisions : ℕ) (w : Whole) (command : Command) (d : Decision) : Type 0 where
   pub loop : Option (List VolId)
-  pub told : IsLoopOf s.control.grain (settled w.books) command loop
-  pub same : d ≡ decided_after s.control.grain w command loop
+  pub told : IsLoopOf s.control.grain (after_settling s.control.grain w).books command loop
+  pub same : d ≡ decided_on s.control.grain (after_settling s.control.grain w) command loop
   pub lawful : IsLawful s.control.grain (decisions + 1) (after_settling s.control.grain w) d
 
 lawful_after : (s : StoreView) (decisions : ℕ) (w : Whole) (command : Command) (d : Decision) → IsSettled decisions s w → IsDecisionOn s command d → IsLawfulAfter s decisions w command d
 lawful_after s decisions w command d is decision =
     let found = decision (decisions + 1) (after_settling s.control.grain w) is.now in
     let loop : Option (List VolId) = found.0 in
-    let told : IsLoopOf s.control.grain (settled w.books) command loop = found.1 in
-    let same : d ≡ decided_after s.control.grain w command loop = found.2 in
+    let told : IsLoopOf s.control.grain (after_settling s.control.grain w).books command loop = found.1 in
+    let same : d ≡ decided_on s.control.grain (after_settling s.control.grain w) command loop = found.2 in
     record {
       loop = loop;
       told = told;
@@ -86,7 +88,7 @@ decision_can s command d can decision =
     let is : IsSettled decisions s w = can.2 in
     let after : IsLawfulAfter s decisions w command d = lawful_after s decisions w command d is decision in
     can_prepare s (decisions + 1) (after_settling s.control.grain w) d (omega (arith, is.few.0, is.few.1)) is.now after.lawful
-    (subst (λ (x : Decision). length (filter adds x.changes) ≤ 1) (sym after.same) (command_adds s.control.grain (settled w.books) command after.loop))
+    (subst (λ (x : Decision). length (filter adds x.changes) ≤ 1) (sym after.same) (command_adds (restarts (after_settling s.control.grain w).rows) s.control.grain (after_settling s.control.grain w).books command after.loop))
 
 pub decision_done : (old mid new : StoreView) (command : Command) (d : Decision) (reply : Reply) (before effects : List Effect) → IsDecisionOn old command d → IsReserved old mid → IsDone d mid new →
     reply ≡ d.reply → effects ≡ before ++ d.effects → (decisions : ℕ) (w : Whole) → IsSettled decisions old w → before ≡ (settle w.books).effects →
@@ -103,6 +105,6 @@ decision_done old mid new command d reply before effects decision reserved done 
       replied = answer ∙ ap (λ (x : Decision). x.reply) after.same;
       effects_are = joined ∙ ap (λ (es : List Effect). es ++ d.effects) same ∙ ap (λ (x : Decision). (settle w.books).effects ++ x.effects) after.same;
       stands =
-          subst (λ (g : GrainSize). StandsAt (decisions + 1 + 1) new (left_by g w1 (decided_after grain w command after.loop))) reserved.grain
+          subst (λ (g : GrainSize). StandsAt (decisions + 1 + 1) new (left_by g w1 (decided_on grain w1 command after.loop))) reserved.grain
           (subst (λ (x : Decision). StandsAt (decisions + 1 + 1) new (left_by mid.control.grain w1 x)) after.same stands);
     }

@@ -6,14 +6,14 @@ use Rattle.fc_base.specs.declared.request.Effect.{Effect}
 use Rattle.fc_base.specs.declared.request.Reply.{Reply}
 use Rattle.fc_base.specs.declared.request.Request.TheVariants.{Command as Asked}
 use Rattle.fc_base.specs.declared.size.GrainSize.{GrainSize}
-use Rattle.fc_books.specs.Deciding.{IsLoopOf, settle, settled}
+use Rattle.fc_books.specs.Deciding.{IsLoopOf, settle}
 use Rattle.fc_entry.specs.HistoryState.{HistoryState}
 use Rattle.fc_entry.specs.declared.entry.Entry.{Entry}
-use Rattle.fc_legal.specs.Lawful.{left_by}
 use Rattle.fc_legal.specs.Run.{by_main}
+use Rattle.fc_legal.specs.Steps.{after_settling, decided_on, left_by}
 use Rattle.fc_legal.specs.Whole.{Whole}
 use Rattle.fc_store.specs.Answering.{Answered, IsTold, TellsSome}
-use Rattle.fc_store.specs.Phase.{StandsAt, after_settling, decided_after}
+use Rattle.fc_store.specs.Phase.{StandsAt}
 use Rattle.fc_store.specs.Settling.{AreFew, CanSettle, IsSettled, CanDecide, IsDoneAfter}
 use Rattle.fc_store.specs.Store.{StoreView, StandsFor}
 use Rattle.fc_store.specs.declared.stop.Stop.{Stop}
@@ -27,10 +27,10 @@ AnswersCommand result s grain w command before after = Answered result (StandsFo
 
 abbrev pub LogsBoth : Result (Unit {0}) Stop → StoreView → GrainSize → Command → Reply → List Effect → HistoryState → HistoryState → Type 0
 LogsBoth result s grain command reply effects before after =
-    (decisions : ℕ) (w : Whole) (loop : Option (List VolId)) → IsLoopOf grain (settled w.books) command loop →
-    reply ≡ (decided_after grain w command loop).reply →
-    effects ≡ (settle w.books).effects ++ (decided_after grain w command loop).effects →
-    StandsAt (decisions + 1 + 1) s (left_by grain (after_settling grain w) (decided_after grain w command loop)) →
+    (decisions : ℕ) (w : Whole) (loop : Option (List VolId)) → IsLoopOf grain (after_settling grain w).books command loop →
+    reply ≡ (decided_on grain (after_settling grain w) command loop).reply →
+    effects ≡ (settle w.books).effects ++ (decided_on grain (after_settling grain w) command loop).effects →
+    StandsAt (decisions + 1 + 1) s (left_by grain (after_settling grain w) (decided_on grain (after_settling grain w) command loop)) →
     decisions ≤ 2 * w.entries → w.entries ≡ length before.entries → AnswersCommand result s grain w command before after
 
 pub ran_decided : (result : Result (Unit {0}) Stop) (old new : StoreView) (command : Command) (reply : Reply) (all effects : List Effect) (before after : HistoryState) →

@@ -1,17 +1,18 @@
--- The books that a command is decided by: what the control part has, and what the lanes tell of their chains and disks.
+-- The books that a command is decided by: what the control part has, and what the lanes tell of their chains, restart sets and disks.
 use Rattle.std.proofs.Common.{◌≡◌, ℕ, ◌<◌, List, [], ◌∷◌, length, slice_index_or, refl, sym, ◌∙◌, ap, arith}
 use Rattle.std.proofs.lemmas.List.{get_or-map, length-map}
+use Rattle.std.proofs.lemmas.List.FromFn.{get_or-map-range_with_len, length-map-range_with_len}
 use Rattle.fc_base.specs.Pools.{Pool}
 use Rattle.fc_base.specs.Sheet.{Sheet, no_slots}
 use Rattle.fc_base.specs.declared.size.GrainSize.{GrainSize}
+use Rattle.fc_changed.specs.Row.{Row, restart_in}
 use Rattle.fc_control.specs.Control.{books_of}
 use Rattle.fc_lane.specs.Lane.{LaneView}
-use Rattle.fc_legal.specs.Steps.{no_restarts}
-use Rattle.fc_legal.specs.Whole.{Whole, lanes, part_at, pool_at}
+use Rattle.fc_legal.specs.Whole.{Whole, lanes, part_at, part_of_rows, pool_at}
 use Rattle.fc_sums.specs.Law.{PartsLaw}
-use Rattle.fc_sums.specs.Parts.{part_of, parts_of, joined}
+use Rattle.fc_sums.specs.Parts.{lane_of, part_of, parts_of, joined, parts_of_rows, joined_rows}
 use Rattle.fc_sums.proofs.Lawful.{sum_law_holds}
-use Rattle.fc_store.specs.LaneSheet.{chains_of, pools_of, sheet_of, view_of}
+use Rattle.fc_store.specs.LaneSheet.{chains_of, pools_of, rows_of, all_rows, sheet_of, view_of}
 use Rattle.fc_store.specs.Phase.{StandsAt}
 use Rattle.fc_store.specs.Store.{StoreView, AreLanesOf}
 use Rattle.fc_store.proofs.PhaseStands.{view_in, books_are}
@@ -47,9 +48,34 @@ chains_are grain w ls count each =
     at i lt =
         let there : i < length ls = omega (arith, lt, length-map ls (λ (v : LaneView). v.chains.sheet)) in
         get_or-map (λ (v : LaneView). v.chains.sheet) ls i (one ls i there) no_slots there
-        ∙ (each i (one ls i there) there).stands.parts.sheet_is
+        ∙ (each i (one ls i there) there).stands.lane.parts.sheet_is
         ∙ sheet_of_part grain w i
         ∙ sym (law.part i (omega (arith, there, count)))
+
+-- What they keep of incremental mappings is the parts of the one list of rows.
+pub rows_are : (grain : GrainSize) (w : Whole) (ls : List LaneView) → length ls ≡ lanes w → AreLanesOf grain w ls → rows_of ls ≡ parts_of_rows grain (lanes w) w.rows
+rows_are grain w ls count each = same_list (List Row) [] (rows_of ls) (parts_of_rows grain (lanes w) w.rows) (length-map ls (λ (v : LaneView). v.changes.rows) ∙ count ∙ sym many) at
+  where
+    own : ℕ → List Row
+    own i = part_of_rows (lane_of grain (lanes w) i) w.rows
+
+    many : length (parts_of_rows grain (lanes w) w.rows) ≡ lanes w
+    many = length-map-range_with_len own 0 (lanes w)
+
+    one : (vs : List LaneView) (i : ℕ) → i < length vs → LaneView
+    one [] i lt = absurd (omega (arith, lt))
+    one (v ∷ vs) i lt = v
+
+    at : (i : ℕ) → i < length (rows_of ls) → slice_index_or (rows_of ls) i [] ≡ slice_index_or (parts_of_rows grain (lanes w) w.rows) i []
+    at i lt =
+        let there : i < length ls = omega (arith, lt, length-map ls (λ (v : LaneView). v.changes.rows)) in
+        get_or-map (λ (v : LaneView). v.changes.rows) ls i (one ls i there) [] there
+        ∙ (each i (one ls i there) there).stands.rows
+        ∙ sym (get_or-map-range_with_len own 0 (lanes w) i i [] (omega (arith, there, count)) (omega arith))
+
+pub all_rows_are : (decisions : ℕ) (s : StoreView) (w : Whole) → StandsAt decisions s w → all_rows s.lanes ≡ w.rows
+all_rows_are decisions s w stands =
+    ap joined_rows (rows_are s.control.grain w s.lanes stands.count stands.each) ∙ sum_law_holds.rows_join s.control.grain (lanes w) w.rows stands.stands.each_lane.some
 
 pools_are : (grain : GrainSize) (w : Whole) (ls : List LaneView) → length ls ≡ lanes w → length w.books.pools ≡ lanes w → AreLanesOf grain w ls → pools_of ls ≡ w.books.pools
 pools_are grain w ls count pools each =
@@ -63,12 +89,12 @@ pools_are grain w ls count pools each =
     at i lt =
         let there : i < length ls = omega (arith, lt, length-map ls (λ (v : LaneView). v.grains.pool)) in
         get_or-map (λ (v : LaneView). v.grains.pool) ls i (one ls i there) (record { flat = 0; thin = 0 }) there
-        ∙ (each i (one ls i there) there).stands.parts.beside.pool_is
+        ∙ (each i (one ls i there) there).stands.lane.parts.beside.pool_is
         ∙ pool_of_part grain w i
 
 -- What the lanes tell together is what is told.
 pub view_is : (decisions : ℕ) (s : StoreView) (w : Whole) → StandsAt decisions s w → view_of s.lanes ≡ view_in w
-view_is decisions s w stands = λ k. record { sheet = sheet_is k; restarts = no_restarts; pools = pools_is k }
+view_is decisions s w stands = λ k. record { sheet = sheet_is k; restarts = λ m. restart_in m (all_rows_are decisions s w stands k); pools = pools_is k }
   where
     sheet_is : sheet_of s.lanes ≡ w.books.sheet
     sheet_is = ap joined (chains_are s.control.grain w s.lanes stands.count stands.each) ∙ sum_law_holds.joins s.control.grain (lanes w) w.books.sheet stands.stands.each_lane.some

@@ -10,25 +10,18 @@ use Rattle.fc_base.specs.declared.request.Reply.{Reply}
 use Rattle.fc_base.specs.declared.request.Reply.TheVariants.{NoMemory}
 use Rattle.fc_base.specs.declared.request.Request.TheVariants.{Command as Asked}
 use Rattle.fc_base.specs.declared.size.GrainSize.{GrainSize}
-use Rattle.fc_books.specs.Books.{Books}
-use Rattle.fc_books.specs.Deciding.{CommandLeaves, IsLoopOf, settle, settled}
+use Rattle.fc_books.specs.Deciding.{IsLoopOf, settle}
 use Rattle.fc_decided.proofs.Decided.{decision_law_holds}
-use Rattle.fc_entry.specs.Picture.{Picture}
-use Rattle.fc_entry.specs.PlainStep.{after_effect, after_effects}
 use Rattle.fc_entry.specs.declared.entry.Entry.{Entry}
-use Rattle.fc_legal.specs.Lawful.{IsLawful, left_by}
+use Rattle.fc_legal.specs.Lawful.{IsLawful}
 use Rattle.fc_legal.specs.Stands.{Stands}
-use Rattle.fc_legal.specs.Steps.{CommandStep, CommandIsRight, Step, no_restarts, one_more}
+use Rattle.fc_legal.specs.Steps.{CommandLeft, CommandStep, CommandIsRight, Step, after_settling, decided_on, left_by, one_more}
 use Rattle.fc_legal.specs.Whole.{Whole}
 use Rattle.fc_store.specs.Apart.{entry_apart}
-use Rattle.fc_store.specs.Phase.{IsDecided, StandsAt, after_settling, decided_after}
+use Rattle.fc_store.specs.Phase.{IsDecided, StandsAt}
 use Rattle.fc_store.specs.Store.{StoreView, StandsFor}
 use Rattle.fc_store.proofs.Logging.{IsTurn}
 use Rattle.fc_store.proofs.PhaseStands.{entry_stands}
-
-effects_append : (grain : GrainSize) (picture : Picture) (first second : List Effect) → after_effects grain picture (first ++ second) ≡ after_effects grain (after_effects grain picture first) second
-effects_append grain picture [] second = refl
-effects_append grain picture (e ∷ es) second = effects_append grain (after_effect grain picture e) es second
 
 -- Of a command that is no line `read` or `write`.
 right : (grain : GrainSize) (w : Whole) (command : Command) (entry : Entry) (next : Whole) → IsDecided command → CommandStep grain w command entry next → CommandIsRight grain w command entry next
@@ -36,16 +29,16 @@ right grain w (ReadLine volume block count) entry next decided step = absurd dec
 right grain w (WriteLine volume block count byte) entry next decided step = absurd decided
 right grain w command entry next decided step = step
 
-stepped : (grain : GrainSize) (w : Whole) (command : Command) (reply : Reply) (effects : List Effect) (books : Books) (number : ℕ) → IsDecided command → number ≡ w.entries →
-    CommandLeaves no_restarts grain w.books command reply effects books →
-    Step grain w (entry_apart number Every (Asked command) reply effects) (one_more (record w { books = books; picture = after_effects grain w.picture effects }))
-stepped grain w command reply effects books number decided counted leaves = record {
+stepped : (grain : GrainSize) (w left : Whole) (command : Command) (reply : Reply) (effects : List Effect) (number : ℕ) → IsDecided command → number ≡ w.entries →
+    CommandLeft grain w command reply effects left →
+    Step grain w (entry_apart number Every (Asked command) reply effects) (one_more left)
+stepped grain w left command reply effects number decided counted leaves = record {
   number = counted;
-  right = right grain w command (entry_apart number Every (Asked command) reply effects) (one_more (record w { books = books; picture = after_effects grain w.picture effects })) decided
+  right = right grain w command (entry_apart number Every (Asked command) reply effects) (one_more left) decided
       record {
         place = refl;
         apart = record { no_moves = refl; untorn = refl; no_calls = refl; no_faults_before = refl; no_faults_after = refl };
-        books = books;
+        left = left;
         leaves = leaves;
         next_is = refl;
       };
@@ -55,43 +48,39 @@ stepped grain w command reply effects books number decided counted leaves = reco
 
 -- Settled and decided.
 pub decided_step : (grain : GrainSize) (w : Whole) (command : Command) (loop : Option (List VolId)) (number : ℕ) → IsDecided command → number ≡ w.entries →
-    IsLoopOf grain (settled w.books) command loop →
+    IsLoopOf grain (after_settling grain w).books command loop →
     Step grain w
-    (entry_apart number Every (Asked command) (decided_after grain w command loop).reply ((settle w.books).effects ++ (decided_after grain w command loop).effects))
-    (one_more (left_by grain (after_settling grain w) (decided_after grain w command loop)))
+    (entry_apart number Every (Asked command) (decided_on grain (after_settling grain w) command loop).reply ((settle w.books).effects ++ (decided_on grain (after_settling grain w) command loop).effects))
+    (one_more (left_by grain (after_settling grain w) (decided_on grain (after_settling grain w) command loop)))
 decided_step grain w command loop number decided counted told =
-    let d : Decision = decided_after grain w command loop in
-    let entry : Entry = entry_apart number Every (Asked command) d.reply ((settle w.books).effects ++ d.effects) in
-    subst (λ (p : Picture). Step grain w entry (one_more (record w { books = (left_by grain (after_settling grain w) d).books; picture = p })))
-    (effects_append grain w.picture (settle w.books).effects d.effects)
-    (stepped grain w command d.reply ((settle w.books).effects ++ d.effects) (left_by grain (after_settling grain w) d).books number decided counted
-    (CommandLeaves.decided loop told))
+    let d : Decision = decided_on grain (after_settling grain w) command loop in
+    stepped grain w (left_by grain (after_settling grain w) d) command d.reply ((settle w.books).effects ++ d.effects) number decided counted (CommandLeft.decided loop told)
 
 -- Nothing was done.
 pub unsettled_step : (grain : GrainSize) (w : Whole) (command : Command) (number : ℕ) → IsDecided command → number ≡ w.entries →
     Step grain w (entry_apart number Every (Asked command) NoMemory []) (one_more w)
-unsettled_step grain w command number decided counted = stepped grain w command NoMemory [] w.books number decided counted CommandLeaves.unsettled
+unsettled_step grain w command number decided counted = stepped grain w w command NoMemory [] number decided counted CommandLeft.unsettled
 
 -- Settled alone.
 pub settled_step : (grain : GrainSize) (w : Whole) (command : Command) (number : ℕ) → IsDecided command → number ≡ w.entries →
     Step grain w (entry_apart number Every (Asked command) NoMemory (settle w.books).effects) (one_more (after_settling grain w))
 settled_step grain w command number decided counted =
-    stepped grain w command NoMemory (settle w.books).effects (settled w.books) number decided counted CommandLeaves.settled_alone
+    stepped grain w (after_settling grain w) command NoMemory (settle w.books).effects number decided counted CommandLeft.settled_alone
 
 -- ---- the turns
 
 pub decided_turn : (s : StoreView) (grain : GrainSize) (decisions : ℕ) (w : Whole) (command : Command) (loop : Option (List VolId)) (number : ℕ) → IsDecided command → number ≡ w.entries →
-    IsLoopOf grain (settled w.books) command loop → decisions ≤ 2 * w.entries →
-    StandsAt (decisions + 1 + 1) s (left_by grain (after_settling grain w) (decided_after grain w command loop)) →
+    IsLoopOf grain (after_settling grain w).books command loop → decisions ≤ 2 * w.entries →
+    StandsAt (decisions + 1 + 1) s (left_by grain (after_settling grain w) (decided_on grain (after_settling grain w) command loop)) →
     IsTurn (StandsFor s) grain w (Asked command)
-    (entry_apart number Every (Asked command) (decided_after grain w command loop).reply ((settle w.books).effects ++ (decided_after grain w command loop).effects))
-    (one_more (left_by grain (after_settling grain w) (decided_after grain w command loop)))
+    (entry_apart number Every (Asked command) (decided_on grain (after_settling grain w) command loop).reply ((settle w.books).effects ++ (decided_on grain (after_settling grain w) command loop).effects))
+    (one_more (left_by grain (after_settling grain w) (decided_on grain (after_settling grain w) command loop)))
 decided_turn s grain decisions w command loop number decided counted told few stands = record {
   by_main = refl;
   asked = refl;
   step = decided_step grain w command loop number decided counted told;
   counted = refl;
-  stands = entry_stands (decisions + 1 + 1) s (left_by grain (after_settling grain w) (decided_after grain w command loop)) stands (omega (arith, few));
+  stands = entry_stands (decisions + 1 + 1) s (left_by grain (after_settling grain w) (decided_on grain (after_settling grain w) command loop)) stands (omega (arith, few));
 }
 
 pub unsettled_turn : (s : StoreView) (grain : GrainSize) (decisions : ℕ) (w : Whole) (command : Command) (number : ℕ) → IsDecided command → number ≡ w.entries → decisions ≤ 2 * w.entries →
@@ -121,7 +110,7 @@ pub settling_lawful : (grain : GrainSize) (decisions : ℕ) (w : Whole) → deci
 settling_lawful grain decisions w few room stands = decision_law_holds.settled grain decisions w (omega (arith, few, room)) stands
 
 pub command_lawful : (grain : GrainSize) (decisions : ℕ) (w : Whole) (command : Command) (loop : Option (List VolId)) → decisions ≤ 2 * w.entries → w.entries ≤ 262144 → Stands decisions w →
-    IsLoopOf grain (settled w.books) command loop → IsLawful grain (decisions + 1) (after_settling grain w) (decided_after grain w command loop)
+    IsLoopOf grain (after_settling grain w).books command loop → IsLawful grain (decisions + 1) (after_settling grain w) (decided_on grain (after_settling grain w) command loop)
 command_lawful grain decisions w command loop few room stands told =
     let small : decisions < 2 ^ 32 = omega (arith, few, room) in
     decision_law_holds.decided grain (decisions + 1) (after_settling grain w) command loop (omega (arith, few, room)) (decision_law_holds.settled grain decisions w small stands).stands

@@ -7,13 +7,14 @@ use Rattle.fc_base.specs.declared.ids.GrainNo.{GrainNo}
 use Rattle.fc_base.specs.declared.size.GrainSize.{GrainSize}
 use Rattle.fc_entry.specs.HistoryState.{HistoryState}
 use Rattle.fc_entry.specs.declared.entry.Entry.{Entry}
-use Rattle.fc_lane.specs.Lane.{LaneView, IsAsked, IsLaneOf, IsSameLane, of}
+use Rattle.fc_follow.specs.Following.{Followed, followed_entry}
+use Rattle.fc_lane.specs.Lane.{LaneView, IsAsked, IsFollowing, IsSameLane, of}
 use Rattle.fc_legal.specs.Seconds.{Work, filled_by, fill_of, has_moved, next_grain}
 use Rattle.fc_legal.specs.Steps.{after_access}
-use Rattle.fc_legal.specs.Whole.{Whole, lanes, lane_of_grain, lane_at, part_at}
+use Rattle.fc_legal.specs.Whole.{Whole, lanes, lane_of_grain, lane_at, part_at, followed_at}
 use Rattle.fc_parts.specs.Law.{IsAt}
-use Rattle.fc_rules.specs.LaneRight.{IsRightInLane, record_of}
-use Rattle.fc_rules.specs.LaneTold.{LaneOf, LaneTold, place_of, told_past}
+use Rattle.fc_rules.specs.LaneRight.{IsRightInLane}
+use Rattle.fc_rules.specs.LaneTold.{LaneOf, place_of}
 use Rattle.fc_store.specs.Answering.{IsTold}
 use Rattle.fc_store.specs.Passing.{IsFilled, IsFull, Filled}
 use Rattle.fc_store.specs.Store.{StoreView, IsLaneAt, StandsFor}
@@ -65,15 +66,15 @@ module _ (s : StoreView) (w : Whole) (g : GrainNo) (place : ℕ) (old ready : La
       subst P (sym (same_lane s.control.grain w (lane_of_grain w g.0) ready here)) (work_in_part s.control.grain w work g stands.stands.each_lane.some next)
 
   pub can_fill : (work : Work) → next_grain s.control.grain w work ≡ Some g →
-      (told : LaneTold) × IsLaneOf ready told × IsSome (filled_by work.cleans told.sheet.slots work.map.0 (place_of (of ready) g.0))
-  can_fill work next = (part_at s.control.grain w (lane_of_grain w g.0), here.stands, fits_fill work next)
+      (f : Followed) × IsFollowing ready f × IsSome (filled_by work.cleans f.told.sheet.slots work.map.0 (place_of (of ready) g.0))
+  can_fill work next = (followed_at s.control.grain w (lane_of_grain w g.0), here.stands, fits_fill work next)
 
   pub of_lane : g.0 % ready.lanes ≡ ready.lane
   of_lane = ap (λ n. g.0 % n) here.lanes_are ∙ sym here.lane
 
   pub fill_turn : (work : Work) (number : ℕ) (entry : Entry) (new : LaneView) → next_grain s.control.grain w work ≡ Some g →
-      ((told : LaneTold) → IsLaneOf ready told → IsSome (filled_by work.cleans told.sheet.slots work.map.0 (place_of (of ready) g.0)) →
-      IsRightInLane (of ready) told entry × IsLaneOf new (told_past (of ready) told (record_of entry))) →
+      ((f : Followed) → IsFollowing ready f → IsSome (filled_by work.cleans f.told.sheet.slots work.map.0 (place_of (of ready) g.0)) →
+      IsRightInLane (of ready) f.told entry × IsFollowing new (followed_entry (of ready) f entry)) →
       IsAsked number 0 (fill_of work g) entry →
       IsSameLane ready new →
       entry.calls < 2 ^ 32 →
@@ -83,11 +84,11 @@ module _ (s : StoreView) (w : Whole) (g : GrainNo) (place : ℕ) (old ready : La
   fill_turn work number entry new next right asked same few counted =
       let grain : GrainSize = s.control.grain in
       let i : ℕ = lane_of_grain w g.0 in
-      let both = right (part_at grain w i) here.stands (fits_fill work next) in
+      let both = right (followed_at grain w i) here.stands (fits_fill work next) in
       let same_of : of ready ≡ lane_at grain w i = same_lane grain w i ready here in
       let is_right : IsRightInLane (lane_at grain w i) (part_at grain w i) entry = subst (λ (l : LaneOf). IsRightInLane l (part_at grain w i) entry) same_of both.0 in
-      let now : IsLaneOf new (told_past (lane_at grain w i) (part_at grain w i) (record_of entry)) =
-      subst (λ (l : LaneOf). IsLaneOf new (told_past l (part_at grain w i) (record_of entry))) same_of both.1 in
+      let now : IsFollowing new (followed_entry (lane_at grain w i) (followed_at grain w i) entry) =
+      subst (λ (l : LaneOf). IsFollowing new (followed_entry l (followed_at grain w i) entry)) same_of both.1 in
       let at_g : IsAt grain g.0 entry.request = subst (λ r. IsAt grain g.0 r) (sym asked.request_is) (at_fill grain work.cleans work g refl) in
       let left : StandsFor (record s { lanes = slice_set s.lanes i new }) (after_access grain w i entry) =
       access_stands s w g.0 entry new stands at_g is_right (same.lane ∙ here.lane, same.lanes ∙ here.lanes_are, same.grain ∙ here.grain_is) now (omega (arith, few)) in

@@ -18,14 +18,15 @@ use Rattle.fc_base.specs.declared.ids.VolId.{VolId}
 use Rattle.fc_base.specs.declared.outcome.NoMemory.{NoMemory}
 use Rattle.fc_base.specs.declared.request.Pair.{Pair}
 use Rattle.fc_base.specs.declared.size.GrainSize.{GrainSize}
+use Rattle.fc_changed.specs.Row.{Row, restart_in}
 use Rattle.fc_chain.proofs.Tallying.{count_le}
 use Rattle.fc_chain.specs.Chains.{Chains}
 use Rattle.fc_base.specs.Column.{Shape}
 use Rattle.fc_lane.specs.Lane.{LaneView}
 use Rattle.fc_sums.specs.Law.{SlotsLaw}
-use Rattle.fc_sums.specs.Parts.{part_of, parts_of, sheet_at, common_to, unneeded_in, joined}
+use Rattle.fc_sums.specs.Parts.{part_of, parts_of, sheet_at, common_to, unneeded_in, joined, parts_of_rows, joined_rows}
 use Rattle.fc_sums.proofs.Lawful.{sum_law_holds}
-use Rattle.fc_store.specs.LaneSheet.{chains_of, pools_of, sheet_of, AreInOrder, HaveSheet}
+use Rattle.fc_store.specs.LaneSheet.{chains_of, pools_of, rows_of, all_rows, restart_of, sheet_of, AreInOrder, HaveSheet}
 
 -- ---- sums over lanes
 
@@ -63,6 +64,23 @@ needed_few lanes h (Some k) = omega (arith, count_le (is_needed_at (sheet_of lan
 
 pub needed_fits : (lanes : List LaneView) → HaveSheet lanes → (m : ℕ) → sum_by (λ (v : LaneView). needed_of v.chains.sheet.slots m) lanes < 2 ^ 32
 needed_fits lanes h m = omega (arith, needed_by_lanes lanes h m, needed_few lanes h (mapping_place (sheet_of lanes).slots m))
+
+-- ---- restart sets
+
+sum_rows : (f : List Row → ℕ) (lanes : List LaneView) → sum_by (λ (v : LaneView). f v.changes.rows) lanes ≡ sum_by f (rows_of lanes)
+sum_rows f [] = refl
+sum_rows f (v ∷ vs) =
+    sum_by-cons (λ (x : LaneView). f x.changes.rows) v vs
+    ∙ (ap (λ z. f v.changes.rows + z) (sum_rows f vs)
+    ∙ sym (sum_by-cons f v.changes.rows (rows_of vs)))
+
+pub restart_by_lanes : (lanes : List LaneView) → HaveSheet lanes → (m : ℕ) → sum_by (λ (v : LaneView). count_true (restart_in m v.changes.rows)) lanes ≡ count_true (restart_of lanes m)
+restart_by_lanes lanes h m =
+    let count : List Row → ℕ = λ rows. count_true (restart_in m rows) in
+    sum_rows count lanes ∙ (ap (sum_by count) h.row_parts ∙ sum_law_holds.restarts h.grain (length lanes) m (all_rows lanes) h.some)
+
+pub restart_fits : (lanes : List LaneView) → HaveSheet lanes → (m : ℕ) → sum_by (λ (v : LaneView). count_true (restart_in m v.changes.rows)) lanes < 2 ^ 32
+restart_fits lanes h m = omega (arith, restart_by_lanes lanes h m, count_by-le-length (λ (b : Bool). b) (restart_of lanes m), h.few_restart m)
 
 -- ---- the first lane
 
@@ -126,7 +144,7 @@ least_by_lanes kind lanes rest v first least i e f le q =
     ∙ (sym (sum_law_holds.pools kind v.grains.pool (pools_of rest))
     ∙ ap (λ z. least_of_kind kind (pools_of z)) (sym e)))))
 
--- ---- lanes that have the parts of a sheet
+-- ---- lanes that have the parts of a sheet, and of rows
 
 chains_are : (grain : GrainSize) (s : Sheet) (lanes : List LaneView) → ((i : ℕ) (d : LaneView) → i < length lanes → (slice_index_or lanes i d).chains.sheet ≡ part_of grain (length lanes) s i) →
     chains_of lanes ≡ parts_of grain (length lanes) s
@@ -135,12 +153,15 @@ chains_are grain s (v ∷ vs) each =
     fill_by_all (part_of grain (length (v ∷ vs)) s) (chains_of (v ∷ vs)) (length (v ∷ vs)) no_slots (length-map (v ∷ vs) (λ (x : LaneView). x.chains.sheet))
     (λ i lt. get_or-map (λ (x : LaneView). x.chains.sheet) (v ∷ vs) i v no_slots lt ∙ each i v lt)
 
-pub have_sheet : (grain : GrainSize) (s : Sheet) (lanes : List LaneView) → 0 < length lanes → AreInOrder lanes →
+pub have_sheet : (grain : GrainSize) (s : Sheet) (rows : List Row) (lanes : List LaneView) → 0 < length lanes → AreInOrder lanes →
     ((i : ℕ) (d : LaneView) → i < length lanes → (slice_index_or lanes i d).chains.sheet ≡ part_of grain (length lanes) s i) →
-    IsSound s → ((k : ℕ) → length (slot_at s.slots k).held < 2 ^ 32) → HaveSheet lanes × (sheet_of lanes ≡ s)
-have_sheet grain s lanes some in_order each sound countable =
+    rows_of lanes ≡ parts_of_rows grain (length lanes) rows →
+    IsSound s → ((k : ℕ) → length (slot_at s.slots k).held < 2 ^ 32) → ((m : ℕ) → length (restart_in m rows) < 2 ^ 32) → HaveSheet lanes × (sheet_of lanes ≡ s)
+have_sheet grain s rows lanes some in_order each parts sound countable few =
     let are : chains_of lanes ≡ parts_of grain (length lanes) s = chains_are grain s lanes each in
     let same : sheet_of lanes ≡ s = ap joined are ∙ sum_law_holds.joins grain (length lanes) s some in
+    let all : all_rows lanes ≡ rows = ap joined_rows parts ∙ sum_law_holds.rows_join grain (length lanes) rows some in
+    let Few : List Row → Type 0 = λ z. (m : ℕ) → length (restart_in m z) < 2 ^ 32 in
     let Sound : Sheet → Type 0 = λ z. IsSound z in
     let Countable : Sheet → Type 0 = λ z. (k : ℕ) → length (slot_at z.slots k).held < 2 ^ 32 in (
       record {
@@ -150,6 +171,8 @@ have_sheet grain s lanes some in_order each sound countable =
         parts = are ∙ ap (parts_of grain (length lanes)) (sym same);
         sound = subst Sound (sym same) sound;
         countable = subst Countable (sym same) countable;
+        row_parts = parts ∙ ap (parts_of_rows grain (length lanes)) (sym all);
+        few_restart = subst Few (sym all) few;
       },
       same,
     )

@@ -22,6 +22,7 @@ pub mod EffectRanges
 pub mod CommandSteps
 pub mod CommandLogs
 pub mod CommandSheet
+pub mod Restarts
 pub mod OneAdded
 pub mod PhaseAll
 pub mod CommandPhases

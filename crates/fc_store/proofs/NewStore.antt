@@ -12,7 +12,8 @@ use Rattle.fc_books.specs.Books.{opened as opened_books}
 use Rattle.fc_books.specs.Sound.{AreSound}
 use Rattle.fc_control.specs.Control.{ControlState}
 use Rattle.fc_grains.specs.Grains.{GrainsState, opened as opened_grains, one_if_silent, pool_of, silent_of, stopped}
-use Rattle.fc_lane.specs.Lane.{LaneView, IsLaneOf, begun}
+use Rattle.fc_follow.specs.Following.{Followed}
+use Rattle.fc_lane.specs.Lane.{LaneView, IsFollowing, begun}
 use Rattle.fc_legal.specs.Stands.{Stands}
 use Rattle.fc_legal.specs.Whole.{lanes, opened, part_at, pool_at}
 use Rattle.fc_mdisk.specs.Disk.{DiskState, IsFresh}
@@ -88,6 +89,7 @@ opening_stands pools some = record {
     calls = refl;
   };
   firsts = λ j k jl kl live mapping chain. absurd (omega arith);
+  rows = record { each = All-nil _; distinct = λ i j x ij jl. absurd (omega arith) };
 }
 
 -- ---- the lists that were dealt
@@ -167,7 +169,7 @@ module _ (grain : GrainSize) (n : ℕ) (disks : List DiskState) (ls : List LaneV
         lane = number_at i d lt;
         lanes_are = begins.lanes_are ∙ sym (lanes_told (pools_dealt n disks) ∙ length-map (all_dealt n disks) pool_of ∙ count_dealt n disks);
         grain_is = ap (λ (g : GrainsState). g.grain) (grains_at i d lt);
-        stands = subst (λ (t : LaneTold). IsLaneOf v t) (ap (λ (g : GrainsState). begun g) (grains_at i d lt) ∙ sym (told_begun grain n disks i lt fresh)) begins.stands;
+        stands = subst (λ (t : LaneTold). IsFollowing v (record { told = t; rows = [] })) (ap (λ (g : GrainsState). begun g) (grains_at i d lt) ∙ sym (told_begun grain n disks i lt fresh)) begins.stands;
       }
 
   pub store_begins : (c : ControlState) → c ≡ record { grain = grain; tables = no_tables; next_volume = 0; next_mapping = 0; next_group = 1; flags = []; reserved = None; room = 0 } → 0 < n → All IsFresh disks →

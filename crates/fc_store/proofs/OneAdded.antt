@@ -32,7 +32,6 @@ use Rattle.fc_books.specs.Settling.{settling, settles_in, finishes}
 use Rattle.fc_books.specs.Starting.{prepare, start, supersedes, gives_way, begins, is_superseded}
 use Rattle.fc_books.specs.Stopping.{stop_event, stops, stops_in, stops_with, stop_dependents, stops_member, one_by_one, stop_group}
 use Rattle.fc_control.specs.Changes.{adds, AreCountable}
-use Rattle.fc_legal.specs.Steps.{no_restarts}
 
 -- ---- changes that add nothing
 
@@ -173,16 +172,16 @@ done_few grain b (Rmfcconsistgrp group force) =
     for_one_few Group (group_named b.tables group) _ (λ g. none_is_few (remove_group b.tables g.id) (none_append (map (λ (m : Mapping). SetMapping (record m { group = None })) (members b.tables g.id)) (RemoveGroup g.id ∷ []) (sets_none (members b.tables g.id)) refl))
 done_few grain b command = none_is_few nothing refl
 
-answered_few : (grain : GrainSize) (b : Books) (command : Command) (refusal : Option Refusal) (loop : Option (List VolId)) → length (filter adds (answered no_restarts grain b command refusal loop).changes) ≤ 1
-answered_few grain b command (Some refusal) loop = none_is_few nothing refl
-answered_few grain b command None (Some volumes) = none_is_few nothing refl
-answered_few grain b command None None = done_few grain b command
+answered_few : (sets : ℕ → List Bool) (grain : GrainSize) (b : Books) (command : Command) (refusal : Option Refusal) (loop : Option (List VolId)) → length (filter adds (answered sets grain b command refusal loop).changes) ≤ 1
+answered_few sets grain b command (Some refusal) loop = none_is_few nothing refl
+answered_few sets grain b command None (Some volumes) = none_is_few nothing refl
+answered_few sets grain b command None None = done_few grain b command
 
 pub settling_adds : (b : Books) → length (filter adds (settle b).changes) ≤ 1
 settling_adds b = none_is_few (settling b) (settling_none b)
 
-pub command_adds : (grain : GrainSize) (b : Books) (command : Command) (loop : Option (List VolId)) → length (filter adds (decide no_restarts grain b command loop).changes) ≤ 1
-command_adds grain b command loop = answered_few grain b command (refused grain b command) loop
+pub command_adds : (sets : ℕ → List Bool) (grain : GrainSize) (b : Books) (command : Command) (loop : Option (List VolId)) → length (filter adds (decide sets grain b command loop).changes) ≤ 1
+command_adds sets grain b command loop = answered_few sets grain b command (refused grain b command) loop
 
 -- ---- ids
 

@@ -9,15 +9,16 @@ use Rattle.fc_control.specs.Control.{ControlState}
 use Rattle.fc_entry.specs.HistoryState.{HistoryState}
 use Rattle.fc_entry.specs.Picture.{grain_of_block}
 use Rattle.fc_entry.specs.declared.entry.Entry.{Entry}
-use Rattle.fc_lane.specs.Lane.{LaneView, IsAsked, IsLaneOf, IsSameLane, of}
+use Rattle.fc_follow.specs.Following.{Followed, followed_entry}
+use Rattle.fc_lane.specs.Lane.{LaneView, IsAsked, IsFollowing, IsSameLane, of}
 use Rattle.fc_legal.specs.Legal.{IsLegal}
 use Rattle.fc_legal.specs.Run.{by_main}
 use Rattle.fc_legal.specs.Steps.{after_access}
-use Rattle.fc_legal.specs.Whole.{Whole, lanes, lane_of_grain, lane_at, part_at}
+use Rattle.fc_legal.specs.Whole.{Whole, lanes, lane_of_grain, lane_at, part_at, followed_at}
 use Rattle.fc_parts.specs.Law.{IsAt}
 use Rattle.fc_rules.specs.LaneFits.{FitsPart}
-use Rattle.fc_rules.specs.LaneRight.{IsRightInLane, record_of}
-use Rattle.fc_rules.specs.LaneTold.{LaneOf, LaneTold, told_past}
+use Rattle.fc_rules.specs.LaneRight.{IsRightInLane}
+use Rattle.fc_rules.specs.LaneTold.{LaneOf}
 use Rattle.fc_store.specs.Answering.{Answered, IsTold}
 use Rattle.fc_store.specs.Asking.{request_of}
 use Rattle.fc_store.specs.Store.{StoreView, IsLaneAt, StandsFor}
@@ -51,7 +52,7 @@ module _ (s : StoreView) (w : Whole) (g place : ℕ) (old ready : LaneView) (pla
       let P : LaneView → Type 0 = λ v. IsLaneAt s.control.grain w place v in
       let here : IsLaneAt s.control.grain w place old = subst P (sym is_old) (stands.each place old inside) in
       let roomed : IsLaneAt s.control.grain w place (roomy old plan entry_room) =
-      record { lane = here.lane; lanes_are = here.lanes_are; grain_is = here.grain_is; stands = record { parts = here.stands.parts; faults = here.stands.faults; calls = here.stands.calls } } in
+      record { lane = here.lane; lanes_are = here.lanes_are; grain_is = here.grain_is; stands = record { lane = record { parts = here.stands.lane.parts; faults = here.stands.lane.faults; calls = here.stands.lane.calls }; rows = here.stands.rows; alike = here.stands.alike } } in
       subst (λ p. IsLaneAt s.control.grain w p ready) place_is (subst P (sym is_ready) roomed)
 
   -- The access fits it.
@@ -63,15 +64,15 @@ module _ (s : StoreView) (w : Whole) (g place : ℕ) (old ready : LaneView) (pla
       subst (λ (l : LaneOf). FitsPart l (part_at s.control.grain w (lane_of_grain w g)) volume first count) (sym (same_lane s.control.grain w (lane_of_grain w g) ready is_lane)) fits
 
   pub can_access : (v : Volume) (volume : VolId) (first count : ℕ) → Contains s.control.tables.volumes v → v.id ≡ volume → IsInGrain s.control.grain first count g → g < v.grains →
-      (told : LaneTold) × IsLaneOf ready told × FitsPart (of ready) told volume first count
+      (f : Followed) × IsFollowing ready f × FitsPart (of ready) f.told volume first count
   can_access v volume first count there named in_ within =
-      (part_at s.control.grain w (lane_of_grain w g), is_lane.stands, fits_lane v volume first count there named in_ within)
+      (followed_at s.control.grain w (lane_of_grain w g), is_lane.stands, fits_lane v volume first count there named in_ within)
 
   -- And its entry is a turn.
   pub turn : (v : Volume) (volume : VolId) (access : Access) (first count number : ℕ) (entry : Entry) (new : LaneView) →
       Contains s.control.tables.volumes v → v.id ≡ volume → IsInGrain s.control.grain first count g → g < v.grains →
-      ((told : LaneTold) → IsLaneOf ready told → FitsPart (of ready) told volume first count →
-      IsRightInLane (of ready) told entry × IsLaneOf new (told_past (of ready) told (record_of entry))) →
+      ((f : Followed) → IsFollowing ready f → FitsPart (of ready) f.told volume first count →
+      IsRightInLane (of ready) f.told entry × IsFollowing new (followed_entry (of ready) f entry)) →
       IsAsked number 0 (request_of access volume first count) entry →
       IsSameLane ready new →
       entry.calls < 2 ^ 32 →
@@ -81,11 +82,11 @@ module _ (s : StoreView) (w : Whole) (g place : ℕ) (old ready : LaneView) (pla
   turn v volume access first count number entry new there named in_ within right asked same few counted =
       let grain : GrainSize = s.control.grain in
       let i : ℕ = lane_of_grain w g in
-      let both = right (part_at grain w i) is_lane.stands (fits_lane v volume first count there named in_ within) in
+      let both = right (followed_at grain w i) is_lane.stands (fits_lane v volume first count there named in_ within) in
       let same_of : of ready ≡ lane_at grain w i = same_lane grain w i ready is_lane in
       let is_right : IsRightInLane (lane_at grain w i) (part_at grain w i) entry = subst (λ (l : LaneOf). IsRightInLane l (part_at grain w i) entry) same_of both.0 in
-      let now : IsLaneOf new (told_past (lane_at grain w i) (part_at grain w i) (record_of entry)) =
-      subst (λ (l : LaneOf). IsLaneOf new (told_past l (part_at grain w i) (record_of entry))) same_of both.1 in
+      let now : IsFollowing new (followed_entry (lane_at grain w i) (followed_at grain w i) entry) =
+      subst (λ (l : LaneOf). IsFollowing new (followed_entry l (followed_at grain w i) entry)) same_of both.1 in
       let at_g : IsAt grain g entry.request = subst (λ r. IsAt grain g r) (sym asked.request_is) (at_grain grain access volume first count g in_.of_grain) in
       let left : StandsFor (record s { lanes = slice_set s.lanes i new }) (after_access grain w i entry) =
       access_stands s w g entry new stands at_g is_right (same.lane ∙ is_lane.lane, same.lanes ∙ is_lane.lanes_are, same.grain ∙ is_lane.grain_is) now (omega (arith, few)) in

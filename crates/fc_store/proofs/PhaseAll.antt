@@ -15,7 +15,6 @@ use Rattle.fc_control.specs.Changes.{CanApply, FitChanges}
 use Rattle.fc_control.specs.Control.{ControlState, books_of}
 use Rattle.fc_lane.specs.Lane.{LaneView}
 use Rattle.fc_legal.specs.Lawful.{IsLawful, FitChanges as FitTold}
-use Rattle.fc_legal.specs.Steps.{no_restarts}
 use Rattle.fc_legal.specs.Whole.{Whole}
 use Rattle.fc_pick.specs.Flags.{IsRising}
 use Rattle.fc_pick.specs.declared.work.WorkFlags.{WorkFlags}
@@ -125,7 +124,7 @@ control_can s d c ready same =
     }
 
 no_view : SheetView
-no_view = record { sheet = no_slots; restarts = no_restarts; pools = [] }
+no_view = record { sheet = no_slots; restarts = λ m. []; pools = [] }
 
 pub control_done : (old new : ControlState) (d : Decision) → new.grain ≡ old.grain → new.tables ≡ fold after_change old.tables d.changes →
     ((view : SheetView) → books_of new view ≡ record (fold after_table_change (books_of old view) d.changes) { flags = fold flags_after old.flags d.events }) → IsControlAfter old new d

@@ -3,9 +3,8 @@ use Rattle.std.proofs.Common.{◌≡◌, ◌≢◌, ℕ, ◌+◌, ◌<◌, ◌�
 use Rattle.std.proofs.lemmas.Bool.{cases_eq}
 use Rattle.std.proofs.lemmas.List.{get_or-set_same, get_or-set_other, length-set}
 use Rattle.fc_base.specs.declared.decision.LaneEvent.{LaneEvent}
-use Rattle.fc_lane.specs.Lane.{LaneView, CanDoEvents, IsLaneOf, of}
-use Rattle.fc_rules.specs.LaneFits.{FitsLane}
-use Rattle.fc_rules.specs.LaneTold.{LaneTold}
+use Rattle.fc_follow.specs.Following.{Followed, FitsFollowed}
+use Rattle.fc_lane.specs.Lane.{LaneView, CanDoEvents, IsFollowing, of}
 use Rattle.fc_store.specs.Phase.{EachLane, IsLaneReady, CanAllDo, FitAll}
 
 -- The first so many did it, and the others are as they were.
@@ -49,9 +48,9 @@ pub can_next : (P : LaneView → LaneView → Type 0) (n : ℕ) (old now : List 
 can_next P n old now events d b can lt = subst (λ (v : LaneView). CanDoEvents v events) (sym (b.rest n d (omega arith))) (can n d lt)
 
 pub fits_next : (P : LaneView → LaneView → Type 0) (n : ℕ) (old now : List LaneView) (events : List LaneEvent) (d : LaneView) → EachBelow P n old now → FitAll old events → n < length old →
-    (told : LaneTold) × IsLaneOf (slice_index_or now n d) told × FitsLane (of (slice_index_or now n d)) told events
+    (f : Followed) × IsFollowing (slice_index_or now n d) f × FitsFollowed (of (slice_index_or now n d)) f events
 fits_next P n old now events d b fit lt =
-    subst (λ (v : LaneView). (told : LaneTold) × IsLaneOf v told × FitsLane (of v) told events) (sym (b.rest n d (omega arith))) (fit n d lt)
+    subst (λ (v : LaneView). (f : Followed) × IsFollowing v f × FitsFollowed (of v) f events) (sym (b.rest n d (omega arith))) (fit n d lt)
 
 -- ---- made ready
 

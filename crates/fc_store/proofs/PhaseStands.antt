@@ -1,5 +1,5 @@
 -- A decision that the control part and the lanes have done: the store stands for what it leaves.
-use Rattle.std.proofs.Common.{◌≡◌, ℕ, ◌+◌, ◌*◌, ◌<◌, ◌≤◌, List, [], ◌∷◌, fold, length, slice_index_or, refl, sym, ◌∙◌, ap, subst, arith}
+use Rattle.std.proofs.Common.{◌≡◌, ℕ, ◌+◌, ◌*◌, ◌<◌, ◌≤◌, Bool, List, [], ◌∷◌, fold, length, slice_index_or, refl, sym, ◌∙◌, ap, subst, arith}
 use Rattle.fc_base.specs.SheetView.{SheetView}
 use Rattle.fc_base.specs.Tables.{Tables, after_change}
 use Rattle.fc_base.specs.declared.decision.Decision.{Decision}
@@ -10,23 +10,23 @@ use Rattle.fc_base.specs.declared.volume.Change.TheVariants.{AddVolume, RemoveVo
 use Rattle.fc_books.specs.After.{after_table_change, after_event, after_all, flags_after}
 use Rattle.fc_books.specs.Books.{Books}
 use Rattle.fc_control.specs.Control.{ControlState, books_of}
-use Rattle.fc_lane.specs.Lane.{LaneView, IsLaneOf, of}
-use Rattle.fc_legal.specs.Lawful.{IsLawful, left_by}
+use Rattle.fc_follow.specs.Following.{Followed, FitsFollowed, followed_event, restarts}
+use Rattle.fc_lane.specs.Lane.{LaneView, IsFollowing, of}
+use Rattle.fc_legal.specs.Lawful.{IsLawful}
 use Rattle.fc_legal.specs.Stands.{Stands}
-use Rattle.fc_legal.specs.Steps.{no_restarts, one_more}
-use Rattle.fc_legal.specs.Whole.{Whole, lanes, lane_at, part_at}
+use Rattle.fc_legal.specs.Steps.{left_by, one_more}
+use Rattle.fc_legal.specs.Whole.{Whole, lanes, lane_at, part_at, followed_at}
 use Rattle.fc_parts.proofs.Lawful.{part_law_holds}
 use Rattle.fc_pick.specs.declared.work.WorkFlags.{WorkFlags}
-use Rattle.fc_rules.specs.LaneFits.{FitsLane}
-use Rattle.fc_rules.specs.LaneTold.{LaneOf, LaneTold, told_event}
+use Rattle.fc_rules.specs.LaneTold.{LaneOf}
 use Rattle.fc_store.specs.Phase.{StandsAt, IsDecidedAt, IsControlAfter, IsLaneAfter, IsLaneReady, EachLane, FitAll}
 use Rattle.fc_store.specs.Store.{StoreView, IsControlOf, IsLaneAt, StandsFor}
 
 -- ---- the control part
 
--- The books are what the control part has, with the chains and disks of the lanes.
+-- The books are what the control part has, with the chains, restart sets and disks of the lanes.
 abbrev pub view_in : Whole → SheetView
-view_in w = record { sheet = w.books.sheet; restarts = no_restarts; pools = w.books.pools }
+view_in w = record { sheet = w.books.sheet; restarts = restarts w.rows; pools = w.books.pools }
 
 pub books_are : (c : ControlState) (w : Whole) → IsControlOf c w.books → books_of c (view_in w) ≡ w.books
 books_are c w is = λ k. record {
@@ -73,10 +73,10 @@ pub record IsThrough (b after : Books) (flags : List WorkFlags) : Type 0 where
   pub next_group : after.next_group ≡ b.next_group
   pub flags_are : after.flags ≡ flags
 
-pub events_through : (b : Books) (events : List LaneEvent) → IsThrough b (fold (after_event no_restarts) b events) (fold flags_after b.flags events)
-events_through b [] = record { tables = refl; next_volume = refl; next_mapping = refl; next_group = refl; flags_are = refl }
-events_through b (e ∷ es) =
-    let rest = events_through (after_event no_restarts b e) es in
+pub events_through : (sets : ℕ → List Bool) (b : Books) (events : List LaneEvent) → IsThrough b (fold (after_event sets) b events) (fold flags_after b.flags events)
+events_through sets b [] = record { tables = refl; next_volume = refl; next_mapping = refl; next_group = refl; flags_are = refl }
+events_through sets b (e ∷ es) =
+    let rest = events_through sets (after_event sets b e) es in
     record {
       tables = rest.tables;
       next_volume = rest.next_volume;
@@ -90,7 +90,7 @@ pub control_after : (grain : GrainSize) (old new : ControlState) (w : Whole) (d 
 control_after grain old new w d is after =
     let same : books_of old (view_in w) ≡ w.books = books_are old w is in
     let mid : Books = fold after_table_change w.books d.changes in
-    let through : IsThrough mid (after_all no_restarts d.events d.changes w.books) (fold flags_after mid.flags d.events) = events_through mid d.events in
+    let through : IsThrough mid (after_all (restarts w.rows) d.events d.changes w.books) (fold flags_after mid.flags d.events) = events_through (restarts w.rows) mid d.events in
     record {
       tables = after.tables ∙ ap (λ (t : Tables). fold after_change t d.changes) is.tables ∙ sym (through.tables ∙ tables_through w.books d.changes);
       next_volume = after.next_volume (view_in w) ∙ ap (λ (b : Books). (fold after_table_change b d.changes).next_volume) same ∙ sym through.next_volume;
@@ -111,25 +111,25 @@ lane_after : (grain : GrainSize) (decisions : ℕ) (w : Whole) (d : Decision) (i
 lane_after grain decisions w d i old new stands lawful inside at after =
     let law = part_law_holds.decision grain decisions w d i stands lawful inside in
     let is : of old ≡ lane_at grain w i = lane_is grain w i old at in
-    let fits : FitsLane (of old) (part_at grain w i) d.events = subst (λ (l : LaneOf). FitsLane l (part_at grain w i) d.events) (sym is) law.0 in
-    let done : IsLaneOf new (fold (told_event (of old)) (part_at grain w i) d.events) = after.stands (part_at grain w i) at.stands fits in
-    let told : IsLaneOf new (fold (told_event (lane_at grain w i)) (part_at grain w i) d.events) =
-    subst (λ (l : LaneOf). IsLaneOf new (fold (told_event l) (part_at grain w i) d.events)) is done in
+    let fits : FitsFollowed (of old) (followed_at grain w i) d.events = subst (λ (l : LaneOf). FitsFollowed l (followed_at grain w i) d.events) (sym is) law.0 in
+    let done : IsFollowing new (fold (followed_event (of old)) (followed_at grain w i) d.events) = after.stands (followed_at grain w i) at.stands fits in
+    let told : IsFollowing new (fold (followed_event (lane_at grain w i)) (followed_at grain w i) d.events) =
+    subst (λ (l : LaneOf). IsFollowing new (fold (followed_event l) (followed_at grain w i) d.events)) is done in
     record {
       lane = after.same.lane ∙ at.lane;
       lanes_are = after.same.lanes ∙ at.lanes_are;
       grain_is = after.same.grain ∙ at.grain_is;
-      stands = subst (λ (t : LaneTold). IsLaneOf new t) law.1 told;
+      stands = subst (λ (f : Followed). IsFollowing new f) law.1 told;
     }
 
 -- What each lane needs to make ready for the events, and to do them.
 pub lane_fits : (decisions : ℕ) (s : StoreView) (w : Whole) (d : Decision) (i : ℕ) (v : LaneView) → StandsAt decisions s w → IsLawful s.control.grain decisions w d → i < lanes w →
-    IsLaneAt s.control.grain w i v → (told : LaneTold) × IsLaneOf v told × FitsLane (of v) told d.events
+    IsLaneAt s.control.grain w i v → (f : Followed) × IsFollowing v f × FitsFollowed (of v) f d.events
 lane_fits decisions s w d i v stands lawful inside at =
     let law = part_law_holds.decision s.control.grain decisions w d i stands.stands lawful inside in (
-      part_at s.control.grain w i,
+      followed_at s.control.grain w i,
       at.stands,
-      subst (λ (l : LaneOf). FitsLane l (part_at s.control.grain w i) d.events) (sym (lane_is s.control.grain w i v at)) law.0,
+      subst (λ (l : LaneOf). FitsFollowed l (followed_at s.control.grain w i) d.events) (sym (lane_is s.control.grain w i v at)) law.0,
     )
 
 -- ---- the store
@@ -164,7 +164,7 @@ ready_stands decisions old new w stands same ready = record {
         lane = one.same.lane ∙ at.lane;
         lanes_are = one.same.lanes ∙ at.lanes_are;
         grain_is = one.same.grain ∙ at.grain_is;
-        stands = one.stands (part_at old.control.grain w i) at.stands;
+        stands = one.stands (followed_at old.control.grain w i) at.stands;
       };
   stands = stands.stands;
   calls = stands.calls;
@@ -182,7 +182,7 @@ fit_all decisions s w d stands lawful = λ i v inside.
     lane_fits decisions s w d i (slice_index_or s.lanes i v) stands lawful (omega (arith, inside, stands.count)) (stands.each i v inside)
 
 -- One more entry, which no lane made, tells lanes nothing.
-same_part : (grain : GrainSize) (w : Whole) (i : ℕ) → part_at grain (one_more w) i ≡ part_at grain w i
+same_part : (grain : GrainSize) (w : Whole) (i : ℕ) → followed_at grain (one_more w) i ≡ followed_at grain w i
 unfolding part_at
 same_part grain w i = refl
 
@@ -202,11 +202,11 @@ entry_stands decisions s w stands few = record {
         lane = at.lane;
         lanes_are = at.lanes_are;
         grain_is = at.grain_is;
-        stands = subst (λ (t : LaneTold). IsLaneOf (slice_index_or s.lanes i v) t) (sym (same_part s.control.grain w i)) at.stands;
+        stands = subst (λ (f : Followed). IsFollowing (slice_index_or s.lanes i v) f) (sym (same_part s.control.grain w i)) at.stands;
       };
   decisions = decisions;
   few = few;
-  stands = record { sound = stands.stands.sound; few = stands.stands.few; plain = stands.stands.plain; each_lane = record { some = stands.stands.each_lane.some; pools = stands.stands.each_lane.pools; calls = stands.stands.each_lane.calls }; firsts = stands.stands.firsts };
+  stands = record { sound = stands.stands.sound; few = stands.stands.few; plain = stands.stands.plain; each_lane = record { some = stands.stands.each_lane.some; pools = stands.stands.each_lane.pools; calls = stands.stands.each_lane.calls }; firsts = stands.stands.firsts; rows = record { each = stands.stands.rows.each; distinct = stands.stands.rows.distinct } };
   calls = λ i. omega (arith, stands.calls i);
 }
 

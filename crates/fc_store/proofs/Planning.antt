@@ -8,19 +8,20 @@ use Rattle.fc_base.specs.declared.decision.Decision.{Decision}
 use Rattle.fc_base.specs.declared.ids.VolId.{VolId}
 use Rattle.fc_base.specs.declared.outcome.NoMemory.{NoMemory}
 use Rattle.fc_books.specs.Books.{Books}
-use Rattle.fc_books.specs.Copies.{total}
 use Rattle.fc_books.specs.Deciding.{IsLoopOf, settle, decide}
 use Rattle.fc_books.specs.Sound.{AreSound}
 use Rattle.fc_control.specs.Control.{ControlState, books_of}
 use Rattle.fc_control.specs.Dispatch.{is_decided}
 use Rattle.fc_control.specs.Starts.{HaveRoom}
-use Rattle.fc_legal.specs.Steps.{no_restarts}
+use Rattle.fc_legal.specs.Steps.{after_settling}
 use Rattle.fc_legal.specs.Whole.{Whole}
 use Rattle.fc_store.specs.LaneSheet.{view_of}
-use Rattle.fc_store.specs.Phase.{StandsAt, IsDecided, after_settling}
+use Rattle.fc_store.specs.Phase.{StandsAt, IsDecided}
 use Rattle.fc_store.specs.Settling.{IsSettling, IsSettled, CanDecide, IsDecisionOn}
 use Rattle.fc_store.specs.Store.{StoreView}
-use Rattle.fc_store.proofs.CommandSheet.{books_seen}
+use Rattle.fc_store.proofs.CommandSheet.{books_seen, view_is}
+use Rattle.fc_store.proofs.PhaseStands.{view_in, books_are}
+use Rattle.fc_store.proofs.Restarts.{have_room}
 
 pub settling_seen : (result : Result Decision NoMemory) (s : StoreView) (c : ControlState) (m : SheetView) → c ≡ s.control → m ≡ view_of s.lanes →
     IfOk result (λ d. d ≡ settle (books_of c m)) → IfOk result (λ d. IsSettling s d)
@@ -33,18 +34,18 @@ pub record MayDecide (c : ControlState) (m : SheetView) : Type 0 where
   pub lanes : 0 < length m.pools
   pub room : HaveRoom (books_of c m) m.restarts
 
-zero_le : (n : ℕ) → 0 ≤ n
-zero_le n = omega arith
-
 may_decide_here : (s : StoreView) → CanDecide s → MayDecide s.control (view_of s.lanes)
 may_decide_here s can =
     let w : Whole = after_settling s.control.grain can.1 in
     let stands : StandsAt (can.0 + 1) s w = can.2.now in
     let same : books_of s.control (view_of s.lanes) ≡ w.books = books_seen (can.0 + 1) s w stands in
+    let Room : SheetView → Type 0 = λ m. HaveRoom (books_of s.control m) m.restarts in
+    let here : Room (view_in w) =
+    subst (λ (b : Books). HaveRoom b (view_in w).restarts) (sym (books_are s.control w stands.control)) (have_room w.books w.rows stands.stands.sound stands.stands.rows) in
     record {
       sound = subst (λ (b : Books). AreSound b) (sym same) stands.stands.sound;
       lanes = subst (λ (pools : List Pool). 0 < length pools) (sym (ap (λ (b : Books). b.pools) same)) (omega (arith, stands.stands.each_lane.some, stands.stands.each_lane.pools));
-      room = λ x there. zero_le (total (books_of s.control (view_of s.lanes)) x);
+      room = subst Room (sym (view_is (can.0 + 1) s w stands)) here;
     }
 
 pub may_decide : (s : StoreView) (c : ControlState) (m : SheetView) → c ≡ s.control → m ≡ view_of s.lanes → CanDecide s → MayDecide c m
@@ -65,5 +66,6 @@ pub decision_seen : (result : Result Decision NoMemory) (s : StoreView) (command
     IfOk result (λ d. IsDecisionOn s command d)
 decision_seen (Ok d) s command c m control view by = λ decisions w stands.
     let here : DecidedBy s.control (view_of s.lanes) command d = subst (λ (x : SheetView). DecidedBy s.control x command d) view (subst (λ (x : ControlState). DecidedBy x m command d) control by) in
-    subst (λ (b : Books). (loop : Option (List VolId)) × IsLoopOf s.control.grain b command loop × (d ≡ decide no_restarts s.control.grain b command loop)) (books_seen decisions s w stands) here
+    let told : DecidedBy s.control (view_in w) command d = subst (λ (x : SheetView). DecidedBy s.control x command d) (view_is decisions s w stands) here in
+    subst (λ (b : Books). (loop : Option (List VolId)) × IsLoopOf s.control.grain b command loop × (d ≡ decide (view_in w).restarts s.control.grain b command loop)) (books_are s.control w stands.control) told
 decision_seen (Err error) s command c m control view by = tt

@@ -9,10 +9,12 @@ use Rattle.fc_entry.specs.HistoryState.{HistoryState}
 use Rattle.fc_entry.specs.declared.entry.Entry.{Entry}
 use Rattle.fc_grains.specs.Grains.{GrainsState}
 use Rattle.fc_grains.specs.Quiet.{IsQuiet}
+use Rattle.fc_follow.specs.Following.{restarts}
 use Rattle.fc_lane.specs.Lane.{LaneView, ArmsNone, KeepsQuiet}
+use Rattle.fc_legal.specs.Steps.{after_settling}
 use Rattle.fc_store.specs.Arming.{ArmNothing, arms}
 use Rattle.fc_store.specs.Answering.{StaysUp}
-use Rattle.fc_store.specs.Phase.{EachLane, IsDone, IsReserved, after_settling}
+use Rattle.fc_store.specs.Phase.{EachLane, IsDone, IsReserved}
 use Rattle.fc_store.specs.Quiet.{AreQuiet, NeverFails, QuietBy}
 use Rattle.fc_store.specs.Settling.{CanDecide, CanSettle, IsDecisionOn, IsSettling}
 use Rattle.fc_store.specs.Store.{StoreView}
@@ -58,7 +60,7 @@ decided_quiet old mid new command d reply can decision reserved done replied una
     let Q : Reply → Type 0 = λ r. arms (Asked command) r ≡ false in
     done.quiet
     (subst P (sym found.2)
-    (command_arms old.control.grain (after_settling old.control.grain can.1).books command found.0
+    (command_arms (restarts (after_settling old.control.grain can.1).rows) old.control.grain (after_settling old.control.grain can.1).books command found.0
     (subst Q (replied ∙ ap (λ (x : Decision). x.reply) found.2) unarmed)))
     (reserved.quiet quiet)
 

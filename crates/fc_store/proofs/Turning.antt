@@ -16,10 +16,11 @@ use Rattle.fc_base.specs.declared.size.GrainSize.TheVariants.{K64, K256}
 use Rattle.fc_base.specs.declared.volume.Volume.{Volume}
 use Rattle.fc_entry.specs.Picture.{grain_of_block}
 use Rattle.fc_entry.specs.declared.entry.Entry.{Entry}
-use Rattle.fc_lane.specs.Lane.{LaneView, IsLaneOf, of}
+use Rattle.fc_follow.specs.Following.{Followed}
+use Rattle.fc_lane.specs.Lane.{LaneView, IsFollowing, of}
 use Rattle.fc_legal.specs.Stands.{Stands}
 use Rattle.fc_legal.specs.Steps.{Step, RequestStep, IsRefused, AccessIsRefused, one_more}
-use Rattle.fc_legal.specs.Whole.{Whole, lanes, lane_of_grain, lane_at, part_at}
+use Rattle.fc_legal.specs.Whole.{Whole, lanes, lane_of_grain, lane_at, part_at, followed_at}
 use Rattle.fc_parts.proofs.Lawful.{part_law_holds}
 use Rattle.fc_parts.specs.Law.{IsAt}
 use Rattle.fc_rules.specs.LaneFits.{FitsPart}
@@ -128,7 +129,7 @@ by_request grain w entry (CopyTurn lane) refusal is refused = absurd is
 by_request grain w entry (CleanTurn lane) refusal is refused = absurd is
 
 -- One entry more tells lanes nothing.
-same_part : (grain : GrainSize) (w : Whole) (i : ℕ) → part_at grain (one_more w) i ≡ part_at grain w i
+same_part : (grain : GrainSize) (w : Whole) (i : ℕ) → followed_at grain (one_more w) i ≡ followed_at grain w i
 unfolding part_at
 same_part grain w i = refl
 
@@ -142,7 +143,7 @@ one_more_stands s w stands = record {
         lane = is.lane;
         lanes_are = is.lanes_are;
         grain_is = is.grain_is;
-        stands = subst (λ told. IsLaneOf (slice_index_or s.lanes i d) told) (sym (same_part s.control.grain w i)) is.stands;
+        stands = subst (λ (f : Followed). IsFollowing (slice_index_or s.lanes i d) f) (sym (same_part s.control.grain w i)) is.stands;
       };
   decisions = stands.decisions;
   few = omega (arith, stands.few);
@@ -156,6 +157,7 @@ one_more_stands s w stands = record {
       calls = stands.stands.each_lane.calls;
     };
     firsts = stands.stands.firsts;
+    rows = record { each = stands.stands.rows.each; distinct = stands.stands.rows.distinct };
   };
   calls = λ i. omega (arith, stands.calls i);
 }

@@ -42,7 +42,7 @@ all_listed c b flags mappings none some all is same table begins copied cleaned 
 
 -- The lanes stand for their parts.
 pub all_stand : (s : StoreView) (w : Whole) → StandsFor s w → AllStand s.lanes
-all_stand s w stands i d lt = (part_at s.control.grain w i, (stands.each i d lt).stands)
+all_stand s w stands i d lt = (part_at s.control.grain w i, (stands.each i d lt).stands.lane)
 
 least_at : (s : StoreView) (w : Whole) (work : Work) → StandsFor s w → (i : ℕ) (d : LaneView) → i < length s.lanes →
     least_in work (slice_index_or s.lanes i d)
@@ -53,7 +53,7 @@ least_at s w work stands i d lt =
     let count : lanes w ≡ length s.lanes = sym stands.count in
     ap₂ (λ (l : LaneOf) (z : Sheet). least_grain l z.slots (filled_by work.cleans z.slots work.map.0) work.map.0)
     (same_lane s.control.grain w i (slice_index_or s.lanes i d) lane ∙ ap (λ n. lane_of s.control.grain n i) count)
-    (lane.stands.parts.sheet_is ∙ (sheet_of_part s.control.grain w i ∙ ap (λ n. part_of s.control.grain n w.books.sheet i) count))
+    (lane.stands.lane.parts.sheet_is ∙ (sheet_of_part s.control.grain w i ∙ ap (λ n. part_of s.control.grain n w.books.sheet i) count))
 
 pub least_is_next : (s : StoreView) (w : Whole) (work : Work) → StandsFor s w → least_of work s.lanes ≡ next_grain s.control.grain w work
 unfolding next_grain

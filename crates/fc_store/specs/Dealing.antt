@@ -5,7 +5,7 @@ use Rattle.fc_base.specs.Pools.{Pool}
 use Rattle.fc_base.specs.declared.size.GrainSize.{GrainSize}
 use Rattle.fc_grains.specs.Grains.{IsUnarmed, opened, pool_of, silent_of}
 use Rattle.fc_grains.specs.Quiet.{IsQuiet}
-use Rattle.fc_lane.specs.Lane.{LaneView, IsLaneOf, begun}
+use Rattle.fc_lane.specs.Lane.{LaneView, IsFollowing, begun}
 use Rattle.fc_mdisk.specs.Disk.{DiskState}
 use Rattle.fc_mdisk.specs.Disks.{calls_of, faults_of}
 
@@ -39,7 +39,7 @@ pub record FitLane (disks : List DiskState) : Type 0 where
 -- A lane that begins, among so many.
 pub record Begins (lanes : ℕ) (v : LaneView) : Type 0 where
   pub lanes_are : v.lanes ≡ lanes
-  pub stands : IsLaneOf v (begun v.grains)
+  pub stands : IsFollowing v (record { told = begun v.grains; rows = [] })
   pub quiet : v.grains.silent ≡ 0 → IsQuiet v.grains
 
 -- Lanes that begin, the first of them the lane 0, each over its list of disks.

@@ -11,9 +11,10 @@ use Rattle.fc_base.specs.declared.ids.SlotId.{SlotId}
 use Rattle.fc_base.specs.declared.size.GrainSize.{GrainSize}
 use Rattle.fc_base.specs.declared.volume.Mapping.{Mapping}
 use Rattle.fc_base.specs.declared.volume.Volume.{Volume}
+use Rattle.fc_changed.specs.Row.{Row, restart_in}
 use Rattle.fc_chain.specs.Chains.{found}
 use Rattle.fc_lane.specs.Lane.{LaneView}
-use Rattle.fc_sums.specs.Parts.{parts_of, joined, has_name}
+use Rattle.fc_sums.specs.Parts.{parts_of, joined, has_name, parts_of_rows, joined_rows}
 
 abbrev pub chains_of : List LaneView → List Sheet
 chains_of lanes = map (λ (v : LaneView). v.chains.sheet) lanes
@@ -21,12 +22,22 @@ chains_of lanes = map (λ (v : LaneView). v.chains.sheet) lanes
 abbrev pub pools_of : List LaneView → List Pool
 pools_of lanes = map (λ (v : LaneView). v.grains.pool) lanes
 
--- The sheet of which the lanes have the parts; no restart sets; the disks that each lane has for new volumes.
+abbrev pub rows_of : List LaneView → List (List Row)
+rows_of lanes = map (λ (v : LaneView). v.changes.rows) lanes
+
+-- The sheet of which the lanes have the parts; the restart sets by the rows of which they have the parts; the disks that each lane
+-- has for new volumes.
 abbrev pub sheet_of : List LaneView → Sheet
 sheet_of lanes = joined (chains_of lanes)
 
+abbrev pub all_rows : List LaneView → List Row
+all_rows lanes = joined_rows (rows_of lanes)
+
+abbrev pub restart_of : List LaneView → ℕ → List Bool
+restart_of lanes m = restart_in m (all_rows lanes)
+
 abbrev pub view_of : List LaneView → SheetView
-view_of lanes = record { sheet = sheet_of lanes; restarts = λ m. []; pools = pools_of lanes }
+view_of lanes = record { sheet = sheet_of lanes; restarts = restart_of lanes; pools = pools_of lanes }
 
 -- The slots that have the slot with this name as holder at some grain of a lane; and of all lanes, one after another.
 abbrev pub direct_at : List Slot → Option ℕ → List SlotId
@@ -63,7 +74,8 @@ pub record AreListed (s : Sheet) (mappings : List Mapping) : Type 0 where
 abbrev pub AreInOrder : List LaneView → Type 0
 AreInOrder lanes = (i : ℕ) (d : LaneView) → i < length lanes → ((slice_index_or lanes i d).chains.lane ≡ i) × ((slice_index_or lanes i d).chains.lanes ≡ length lanes)
 
--- There are lanes, in order, and their chains are the parts of one sound sheet, whose grains can be counted.
+-- There are lanes, in order; their chains are the parts of one sound sheet, and what they keep of incremental mappings the parts
+-- of one list of rows; and grains can be counted.
 pub record HaveSheet (lanes : List LaneView) : Type 0 where
   pub grain : GrainSize
   pub some : 0 < length lanes
@@ -71,6 +83,8 @@ pub record HaveSheet (lanes : List LaneView) : Type 0 where
   pub parts : chains_of lanes ≡ parts_of grain (length lanes) (sheet_of lanes)
   pub sound : IsSound (sheet_of lanes)
   pub countable : (k : ℕ) → length (slot_at (sheet_of lanes).slots k).held < 2 ^ 32
+  pub row_parts : rows_of lanes ≡ parts_of_rows grain (length lanes) (all_rows lanes)
+  pub few_restart : (m : ℕ) → length (restart_of lanes m) < 2 ^ 32
 
 -- Mappings that depend on this one, each once, with all that read from it; and so many of them were asked who reads from
 -- them.

@@ -1,25 +1,21 @@
 -- The two phases of a command: a settling and what is decided after it. Each is made ready, and then done.
-use Rattle.std.specs.Prelude.{◌≡◌, ℕ, ◌+◌, ◌<◌, ◌≤◌, List, filter, fold, length, slice_index_or, Option}
+use Rattle.std.specs.Prelude.{◌≡◌, ℕ, ◌+◌, ◌<◌, ◌≤◌, List, filter, fold, length, slice_index_or}
 use Rattle.fc_base.specs.SheetView.{SheetView}
 use Rattle.fc_base.specs.Tables.{after_change}
 use Rattle.fc_base.specs.declared.command.Command.{Command}
 use Rattle.fc_base.specs.declared.command.Command.TheVariants.{Read as ReadLine, Write as WriteLine}
 use Rattle.fc_base.specs.declared.decision.Decision.{Decision}
 use Rattle.fc_base.specs.declared.decision.LaneEvent.{LaneEvent}
-use Rattle.fc_base.specs.declared.ids.VolId.{VolId}
-use Rattle.fc_base.specs.declared.size.GrainSize.{GrainSize}
-use Rattle.fc_books.specs.Deciding.{settle, settled, decide}
 use Rattle.fc_books.specs.After.{after_table_change, flags_after}
 use Rattle.fc_control.specs.Changes.{FitChanges, AreCountable, CanApply, adds}
 use Rattle.fc_control.specs.Control.{ControlState, books_of}
-use Rattle.fc_lane.specs.Lane.{LaneView, ArmsNone, CanDoEvents, IsLaneOf, IsSameLane, KeepsQuiet, of}
-use Rattle.fc_legal.specs.Lawful.{IsLawful, left_by}
+use Rattle.fc_follow.specs.Following.{Followed, FitsFollowed, followed_event}
+use Rattle.fc_lane.specs.Lane.{LaneView, ArmsNone, CanDoEvents, IsFollowing, IsSameLane, KeepsQuiet, of}
+use Rattle.fc_legal.specs.Lawful.{IsLawful}
 use Rattle.fc_legal.specs.Stands.{Stands}
-use Rattle.fc_legal.specs.Steps.{no_restarts}
+use Rattle.fc_legal.specs.Steps.{left_by}
 use Rattle.fc_legal.specs.Whole.{Whole, lanes}
 use Rattle.fc_pick.specs.Flags.{IsRising}
-use Rattle.fc_rules.specs.LaneFits.{FitsLane}
-use Rattle.fc_rules.specs.LaneTold.{LaneTold, told_event}
 use Rattle.fc_store.specs.Dealing.{disks_in}
 use Rattle.fc_store.specs.Quiet.{AreQuiet}
 use Rattle.fc_store.specs.Store.{StoreView, IsControlOf, AreLanesOf, AreFewCalls}
@@ -51,13 +47,13 @@ pub record IsControlAfter (old new : ControlState) (d : Decision) : Type 0 where
 -- A lane after events that fit it.
 pub record IsLaneAfter (events : List LaneEvent) (old new : LaneView) : Type 0 where
   pub same : IsSameLane old new
-  pub stands : (told : LaneTold) → IsLaneOf old told → FitsLane (of old) told events → IsLaneOf new (fold (told_event (of old)) told events)
+  pub stands : (f : Followed) → IsFollowing old f → FitsFollowed (of old) f events → IsFollowing new (fold (followed_event (of old)) f events)
   pub quiet : ArmsNone events → KeepsQuiet old new
 
 -- A lane that was made ready.
 pub record IsLaneReady (old new : LaneView) : Type 0 where
   pub same : IsSameLane old new
-  pub stands : (told : LaneTold) → IsLaneOf old told → IsLaneOf new told
+  pub stands : (f : Followed) → IsFollowing old f → IsFollowing new f
   pub quiet : KeepsQuiet old new
 
 -- Of each lane, from the one store to the other.
@@ -69,9 +65,9 @@ pub record EachLane (P : LaneView → LaneView → Type 0) (old new : List LaneV
 abbrev pub CanAllDo : List LaneView → List LaneEvent → Type 0
 CanAllDo ls events = (i : ℕ) (d : LaneView) → i < length ls → CanDoEvents (slice_index_or ls i d) events
 
--- The events fit what each lane is told.
+-- The events fit what each lane is told, and what it keeps of incremental mappings.
 abbrev pub FitAll : List LaneView → List LaneEvent → Type 0
-FitAll ls events = (i : ℕ) (d : LaneView) → i < length ls → (told : LaneTold) × IsLaneOf (slice_index_or ls i d) told × FitsLane (of (slice_index_or ls i d)) told events
+FitAll ls events = (i : ℕ) (d : LaneView) → i < length ls → (f : Followed) × IsFollowing (slice_index_or ls i d) f × FitsFollowed (of (slice_index_or ls i d)) f events
 
 -- ---- both parts
 
@@ -110,13 +106,6 @@ pub record IsDone (d : Decision) (old new : StoreView) : Type 0 where
   pub quiet : ArmsNone d.events → AreQuiet old.lanes → AreQuiet new.lanes
 
 -- ---- commands
-
--- What is told after the settling, and what is decided of the command then.
-abbrev pub after_settling : GrainSize → Whole → Whole
-after_settling grain w = left_by grain w (settle w.books)
-
-abbrev pub decided_after : GrainSize → Whole → Command → Option (List VolId) → Decision
-decided_after grain w command loop = decide no_restarts grain (settled w.books) command loop
 
 -- A line that is a command of its own: no access.
 abbrev pub IsDecided : Command → Type 0

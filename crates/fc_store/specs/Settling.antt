@@ -7,12 +7,11 @@ use Rattle.fc_base.specs.declared.outcome.NoMemory.{NoMemory}
 use Rattle.fc_base.specs.declared.request.Effect.{Effect}
 use Rattle.fc_base.specs.declared.request.Reply.{Reply}
 use Rattle.fc_base.specs.declared.size.GrainSize.{GrainSize}
-use Rattle.fc_books.specs.Deciding.{IsLoopOf, settle, settled, decide}
-use Rattle.fc_legal.specs.Lawful.{left_by}
+use Rattle.fc_books.specs.Deciding.{IsLoopOf, settle}
 use Rattle.fc_legal.specs.Stands.{Stands}
-use Rattle.fc_legal.specs.Steps.{no_restarts}
+use Rattle.fc_legal.specs.Steps.{left_by, after_settling, decided_on}
 use Rattle.fc_legal.specs.Whole.{Whole}
-use Rattle.fc_store.specs.Phase.{StandsAt, after_settling, decided_after}
+use Rattle.fc_store.specs.Phase.{StandsAt}
 use Rattle.fc_store.specs.Store.{StoreView}
 
 -- So few decisions were made before a command, two for each entry.
@@ -51,15 +50,15 @@ CanDecide s = (decisions : ℕ) × (w : Whole) × IsSettled decisions s w
 abbrev pub IsDecisionOn : StoreView → Command → Decision → Type 0
 IsDecisionOn s command d =
     (decisions : ℕ) (w : Whole) → StandsAt decisions s w →
-    (loop : Option (List VolId)) × IsLoopOf s.control.grain w.books command loop × (d ≡ decide no_restarts s.control.grain w.books command loop)
+    (loop : Option (List VolId)) × IsLoopOf s.control.grain w.books command loop × (d ≡ decided_on s.control.grain w command loop)
 
 -- What was decided of the command after the settling is done, with this reply; the effects are those of both.
 pub record IsDoneAfter (decisions : ℕ) (grain : GrainSize) (w : Whole) (command : Command) (reply : Reply) (effects : List Effect) (new : StoreView) : Type 0 where
   pub loop : Option (List VolId)
-  pub told : IsLoopOf grain (settled w.books) command loop
-  pub replied : reply ≡ (decided_after grain w command loop).reply
-  pub effects_are : effects ≡ (settle w.books).effects ++ (decided_after grain w command loop).effects
-  pub stands : StandsAt (decisions + 1 + 1) new (left_by grain (after_settling grain w) (decided_after grain w command loop))
+  pub told : IsLoopOf grain (after_settling grain w).books command loop
+  pub replied : reply ≡ (decided_on grain (after_settling grain w) command loop).reply
+  pub effects_are : effects ≡ (settle w.books).effects ++ (decided_on grain (after_settling grain w) command loop).effects
+  pub stands : StandsAt (decisions + 1 + 1) new (left_by grain (after_settling grain w) (decided_on grain (after_settling grain w) command loop))
 
 -- It is done; or for want of memory the store is as it was.
 abbrev pub Decides : Result (Reply × List Effect) NoMemory → StoreView → StoreView → Command → List Effect → Type 0

@@ -3,9 +3,9 @@ use Rattle.std.specs.Prelude.{◌≡◌, ℕ, ◌*◌, ◌^◌, ◌<◌, ◌≤�
 use Rattle.fc_base.specs.declared.size.GrainSize.{GrainSize}
 use Rattle.fc_books.specs.Books.{Books}
 use Rattle.fc_control.specs.Control.{ControlState}
-use Rattle.fc_lane.specs.Lane.{LaneView, IsLaneOf}
+use Rattle.fc_lane.specs.Lane.{LaneView, IsFollowing}
 use Rattle.fc_legal.specs.Stands.{Stands}
-use Rattle.fc_legal.specs.Whole.{Whole, lanes, part_at}
+use Rattle.fc_legal.specs.Whole.{Whole, lanes, followed_at}
 
 -- The control part, and the lanes in order.
 pub record StoreView : Type 0 where
@@ -20,12 +20,12 @@ pub record IsControlOf (c : ControlState) (b : Books) : Type 0 where
   pub next_group : c.next_group ≡ b.next_group
   pub flags : c.flags ≡ b.flags
 
--- A lane has its part of what is told.
+-- A lane has its part of what is told, and of what is kept of incremental mappings.
 pub record IsLaneAt (grain : GrainSize) (w : Whole) (i : ℕ) (v : LaneView) : Type 0 where
   pub lane : v.lane ≡ i
   pub lanes_are : v.lanes ≡ lanes w
   pub grain_is : v.grains.grain ≡ grain
-  pub stands : IsLaneOf v (part_at grain w i)
+  pub stands : IsFollowing v (followed_at grain w i)
 
 -- All lanes do.
 abbrev pub AreLanesOf : GrainSize → Whole → List LaneView → Type 0

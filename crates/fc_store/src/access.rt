@@ -2,10 +2,10 @@
 
 ghost use Rattle.std.specs.Prelude.{◌≡◌, ◌<◌, ◌^◌};
 ghost use Rattle.fc_entry.specs.Picture.{grain_of_block};
-ghost use Rattle.fc_lane.specs.Lane.{IsAsked, IsLaneOf, IsReady, IsSameLane, KeepsQuiet, of};
+ghost use Rattle.fc_follow.specs.Following.{Followed, followed_entry};
+ghost use Rattle.fc_lane.specs.Lane.{IsAsked, IsFollowing, IsReady, IsSameLane, KeepsQuiet, of};
 ghost use Rattle.fc_rules.specs.LaneFits.{FitsPart};
-ghost use Rattle.fc_rules.specs.LaneRight.{IsRightInLane, record_of};
-ghost use Rattle.fc_rules.specs.LaneTold.{LaneTold, told_past};
+ghost use Rattle.fc_rules.specs.LaneRight.{IsRightInLane};
 ghost use Rattle.fc_store.specs.Asking.{command_of, request_of};
 
 use fc_base::command::Command;
@@ -57,11 +57,11 @@ pub(crate) fn access_lane<D: Mdisk>(
     block: u64,
     count: u32,
 ) -> Entry
-    requires can { (told : LaneTold) × IsLaneOf lane.old told × FitsPart (of lane.old) told volume block count }
+    requires can { (f : Followed) × IsFollowing lane.old f × FitsPart (of lane.old) f.told volume block count }
     requires ready { IsReady lane.old }
     requires number { grain_of_block lane.old.grains.grain block < 2 ^ 32 }
-    ensures right { (told : LaneTold) → IsLaneOf lane.old told → FitsPart (of lane.old) told volume block count →
-        IsRightInLane (of lane.old) told result × IsLaneOf lane.new (told_past (of lane.old) told (record_of result)) }
+    ensures right { (f : Followed) → IsFollowing lane.old f → FitsPart (of lane.old) f.told volume block count →
+        IsRightInLane (of lane.old) f.told result × IsFollowing lane.new (followed_entry (of lane.old) f result) }
     ensures asked { IsAsked number 0 (request_of access volume block count) result }
     ensures same { IsSameLane lane.old lane.new }
     ensures quiet { KeepsQuiet lane.old lane.new }

@@ -5,15 +5,14 @@ ghost use Rattle.fc_store.specs.Arming.{ArmNothing, arms};
 ghost use Rattle.fc_store.specs.Quiet.{QuietBy, AreQuiet};
 ghost use Rattle.fc_base.specs.declared.ids.VolId.{VolId};
 ghost use Rattle.fc_base.specs.declared.size.GrainSize.{GrainSize};
-ghost use Rattle.fc_books.specs.Deciding.{IsLoopOf, settle, settled};
-ghost use Rattle.fc_legal.specs.Lawful.{left_by};
+ghost use Rattle.fc_books.specs.Deciding.{IsLoopOf, settle};
 ghost use Rattle.fc_legal.specs.Run.{by_main};
-ghost use Rattle.fc_legal.specs.Steps.{Step};
+ghost use Rattle.fc_legal.specs.Steps.{Step, after_settling, decided_on, left_by};
 ghost use Rattle.fc_legal.specs.Whole.{Whole};
 ghost use Rattle.fc_store.specs.Answering.{Answered, IsTold, TellsSome, StaysUp};
 ghost use Rattle.fc_store.specs.Apart.{entry_apart};
 ghost use Rattle.fc_store.specs.Dealing.{disks_in};
-ghost use Rattle.fc_store.specs.Phase.{IsDecided, StandsAt, after_settling, decided_after};
+ghost use Rattle.fc_store.specs.Phase.{IsDecided, StandsAt};
 ghost use Rattle.fc_store.specs.Settling.{CanDecide, IsSettled};
 ghost use Rattle.fc_store.specs.Store.{StandsFor};
 
@@ -146,10 +145,10 @@ impl<D: Mdisk> Store<D> {
     ) -> Result<(), Stop>
         requires decided { IsDecided command }
         requires room { length history.old.entries < MAX_ENTRIES }
-        ensures answered { (decisions : ℕ) (w : Whole) (loop : Option (Items VolId)) → IsLoopOf self.now.control.grain (settled w.books) command loop →
-            reply ≡ (decided_after self.now.control.grain w command loop).reply →
-            effects ≡ (settle w.books).effects ++ (decided_after self.now.control.grain w command loop).effects →
-            StandsAt (decisions + 1 + 1) self.now (left_by self.now.control.grain (after_settling self.now.control.grain w) (decided_after self.now.control.grain w command loop)) →
+        ensures answered { (decisions : ℕ) (w : Whole) (loop : Option (Items VolId)) → IsLoopOf self.now.control.grain (after_settling self.now.control.grain w).books command loop →
+            reply ≡ (decided_on self.now.control.grain (after_settling self.now.control.grain w) command loop).reply →
+            effects ≡ (settle w.books).effects ++ (decided_on self.now.control.grain (after_settling self.now.control.grain w) command loop).effects →
+            StandsAt (decisions + 1 + 1) self.now (left_by self.now.control.grain (after_settling self.now.control.grain w) (decided_on self.now.control.grain (after_settling self.now.control.grain w) command loop)) →
             decisions ≤ 2 * w.entries → w.entries ≡ length history.old.entries →
             Answered result (StandsFor self.now) self.now.control.grain w (by_main (Request.Command command ∷ [])) history.old history.new }
         ensures quiet { (ArmNothing history.old.entries → arms (Request.Command command) reply ≡ false → AreQuiet self.now.lanes) →

@@ -2,11 +2,12 @@
 
 ghost use Rattle.std.specs.Prelude.{◌≡◌, ◌≤◌, ◌%◌, ◌++◌, ◌∷◌, [], IfErr, IfOk, IsSome, OnErr, length};
 ghost use Rattle.std.specs.Prelude.{Some as GhostSome};
-ghost use Rattle.fc_lane.specs.Lane.{IsAsked, IsLaneOf, IsReady, IsSameLane, KeepsQuiet, of};
+ghost use Rattle.fc_follow.specs.Following.{Followed, followed_entry};
+ghost use Rattle.fc_lane.specs.Lane.{IsAsked, IsFollowing, IsReady, IsSameLane, KeepsQuiet, of};
 ghost use Rattle.fc_legal.specs.Seconds.{fill_of, filled_by, has_moved, next_grain, saved};
 ghost use Rattle.fc_legal.specs.Whole.{Whole};
-ghost use Rattle.fc_rules.specs.LaneRight.{IsRightInLane, record_of};
-ghost use Rattle.fc_rules.specs.LaneTold.{LaneTold, place_of, told_past};
+ghost use Rattle.fc_rules.specs.LaneRight.{IsRightInLane};
+ghost use Rattle.fc_rules.specs.LaneTold.{place_of};
 ghost use Rattle.fc_store.specs.Answering.{IsTold, StaysUp, TellsSome};
 ghost use Rattle.fc_store.specs.Dealing.{disks_in};
 ghost use Rattle.fc_store.specs.Quiet.{QuietBy};
@@ -83,11 +84,11 @@ fn fill_lane<D: Mdisk>(
     work: &Work,
     grain: GrainNo,
 ) -> Entry
-    requires can { (told : LaneTold) × IsLaneOf lane.old told × IsSome (filled_by work.now.cleans told.sheet.slots work.now.map.0 (place_of (of lane.old) grain.0)) }
+    requires can { (f : Followed) × IsFollowing lane.old f × IsSome (filled_by work.now.cleans f.told.sheet.slots work.now.map.0 (place_of (of lane.old) grain.0)) }
     requires of_lane { grain.0 % lane.old.lanes ≡ lane.old.lane }
     requires ready { IsReady lane.old }
-    ensures right { (told : LaneTold) → IsLaneOf lane.old told → IsSome (filled_by work.now.cleans told.sheet.slots work.now.map.0 (place_of (of lane.old) grain.0)) →
-        IsRightInLane (of lane.old) told result × IsLaneOf lane.new (told_past (of lane.old) told (record_of result)) }
+    ensures right { (f : Followed) → IsFollowing lane.old f → IsSome (filled_by work.now.cleans f.told.sheet.slots work.now.map.0 (place_of (of lane.old) grain.0)) →
+        IsRightInLane (of lane.old) f.told result × IsFollowing lane.new (followed_entry (of lane.old) f result) }
     ensures asked { IsAsked number 0 (fill_of work.now grain) result }
     ensures same { IsSameLane lane.old lane.new }
     ensures quiet { KeepsQuiet lane.old lane.new }

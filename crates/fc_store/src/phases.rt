@@ -2,6 +2,7 @@
 
 ghost use Rattle.std.specs.Prelude.{◌≡◌, ◌≤◌, filter, length, OnOk};
 ghost use Rattle.fc_control.specs.Changes.{adds, CanApply};
+ghost use Rattle.fc_follow.specs.Following.{TriggersFirst};
 ghost use Rattle.fc_rules.specs.LaneFits.{WorksFirst};
 ghost use Rattle.fc_store.specs.Phase.{CanAllDo, CanControlDo, CanPrepare, EachLane, FitAll, IsControlAfter, IsDecidedAt, IsDone, IsLaneAfter, IsLaneReady, IsReadyFor, IsReserved};
 
@@ -15,6 +16,7 @@ use fc_mdisk::mdisk::Mdisk;
 fn reserve_lanes<D: Mdisk>(lanes: &mut [Lane<D>], events: &LaneEvents) -> Result<(), NoMemory>
     requires fit { FitAll lanes.old events.now }
     requires works { WorksFirst events.now }
+    requires triggers { TriggersFirst events.now }
     ensures ok { OnOk result (CanAllDo lanes.new events.now) }
     ensures ready { EachLane IsLaneReady lanes.old lanes.new }
 {
@@ -31,6 +33,7 @@ fn reserve_lanes<D: Mdisk>(lanes: &mut [Lane<D>], events: &LaneEvents) -> Result
 fn apply_lanes<D: Mdisk>(lanes: &mut [Lane<D>], events: &LaneEvents)
     requires ready { CanAllDo lanes.old events.now }
     requires fit { FitAll lanes.old events.now }
+    requires triggers { TriggersFirst events.now }
     ensures { EachLane (IsLaneAfter events.now) lanes.old lanes.new }
 {
     for place in 0..lanes.len() {

@@ -8,10 +8,11 @@ ghost use Rattle.fc_base.specs.Sheet.{shape_of};
 ghost use Rattle.fc_base.specs.SheetStep.{triggered};
 ghost use Rattle.fc_base.specs.SheetView.{count_true, held_of, needed_of, AreMappings, ReadsMapping, DependsOn, LoopAnswer};
 ghost use Rattle.fc_base.specs.declared.volume.Mapping.{Mapping};
+ghost use Rattle.fc_changed.specs.Row.{restart_in};
 ghost use Rattle.fc_chain.specs.Chains.{IsThere};
 ghost use Rattle.fc_lane.specs.Lane.{LaneView};
 ghost use Rattle.fc_sums.specs.Parts.{has_name, common, common_to, unneeded_in};
-ghost use Rattle.fc_store.specs.LaneSheet.{sheet_of, pools_of, HaveSheet, direct_of, readers_in, is_owner_among, AreListed, has_map, with_map, AddsReaders, Reached, view_of, IsAsked};
+ghost use Rattle.fc_store.specs.LaneSheet.{sheet_of, pools_of, restart_of, HaveSheet, direct_of, readers_in, is_owner_among, AreListed, has_map, with_map, AddsReaders, Reached, view_of, IsAsked};
 
 use crate::kept::kept_in;
 use fc_base::disk::DiskKind;
@@ -51,6 +52,18 @@ fn sum_needed<D: Mdisk>(lanes: &[Lane<D>], map: MapId) -> u32
     needed
 }
 
+/// With how many grains of the lanes a mapping would begin again.
+fn sum_restart<D: Mdisk>(lanes: &[Lane<D>], map: MapId) -> u32
+    requires { sum_by (λ (v : LaneView). count_true (restart_in map.0 v.changes.rows)) lanes.now < 2 ^ 32 }
+    ensures { result ≡ sum_by (λ (v : LaneView). count_true (restart_in map.0 v.changes.rows)) lanes.now }
+{
+    let mut grains: u32 = 0;
+    for lane in lanes {
+        grains += lane.restart(map);
+    }
+    grains
+}
+
 /// How many grains the slot of a mapping holds; 0 where it has none.
 pub(crate) fn held_in<D: Mdisk>(lanes: &[Lane<D>], map: MapId) -> u32
     requires { HaveSheet lanes.now }
@@ -65,6 +78,14 @@ pub(crate) fn needed_in<D: Mdisk>(lanes: &[Lane<D>], map: MapId) -> u32
     ensures { result ≡ needed_of (sheet_of lanes.now).slots map.0 }
 {
     sum_needed(lanes, map)
+}
+
+/// With how many grains a mapping would begin again: the size of its restart set.
+pub(crate) fn restart_size<D: Mdisk>(lanes: &[Lane<D>], map: MapId) -> u32
+    requires { HaveSheet lanes.now }
+    ensures { result ≡ count_true (restart_of lanes.now map.0) }
+{
+    sum_restart(lanes, map)
 }
 
 /// Whether a volume is used as a source.
@@ -460,8 +481,7 @@ impl<'a, D: Mdisk> Sheet for LaneSheet<'a, D> {
         pool_in(self.lanes, kind)
     }
 
-    /// 0: lanes know of no restart set.
-    fn restart(&self, _map: MapId) -> u32 {
-        0
+    fn restart(&self, map: MapId) -> u32 {
+        restart_size(self.lanes, map)
     }
 }

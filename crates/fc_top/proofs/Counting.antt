@@ -1,15 +1,17 @@
 -- A legal history tells how many entries it has.
-use Rattle.std.proofs.Common.{◌≡◌, ◌+◌, List, [], ◌∷◌, length, Option, Some, None, ap, arith}
+use Rattle.std.proofs.Common.{◌≡◌, ◌+◌, List, [], ◌∷◌, length, Option, Some, None, refl, ◌∙◌, ap, arith}
 use Rattle.fc_base.specs.declared.command.Command.{Command}
 use Rattle.fc_base.specs.declared.command.Command.TheVariants.{Mkvdisk, Rmvdisk, Write as WriteLine, Read as ReadLine, Armfault, Advance, Mkfcmap, Prestartfcmap, Startfcmap, Stopfcmap, Rmfcmap, Mkfcconsistgrp, Prestartfcconsistgrp, Startfcconsistgrp, Stopfcconsistgrp, Rmfcconsistgrp, Lsfcmap, Lsfcconsistgrp, Lsvdisk, Lsfcmapprogress, Lsfcmapdependentmaps}
 use Rattle.fc_base.specs.declared.fault.Refusal.{Refusal}
+use Rattle.fc_base.specs.declared.request.Effect.{Effect}
+use Rattle.fc_base.specs.declared.request.Reply.{Reply}
 use Rattle.fc_base.specs.declared.request.Request.{Request}
 use Rattle.fc_base.specs.declared.request.Request.TheVariants.{Command as Asked, Unread, Read, Write, Copy, Clean, CopyTurn, CleanTurn}
 use Rattle.fc_base.specs.declared.size.GrainSize.{GrainSize}
 use Rattle.fc_books.specs.Refused.{access_refused}
 use Rattle.fc_entry.specs.declared.entry.Entry.{Entry}
 use Rattle.fc_legal.specs.Legal.{IsLegal}
-use Rattle.fc_legal.specs.Steps.{RequestStep, CommandIsRight, CommandStep, AccessIsRefused}
+use Rattle.fc_legal.specs.Steps.{RequestStep, CommandIsRight, CommandLeft, CommandStep, AccessIsRefused}
 use Rattle.fc_legal.specs.Whole.{Whole}
 
 refused_counts :
@@ -19,11 +21,21 @@ refused_counts :
 refused_counts None w entry next step = absurd step
 refused_counts (Some refusal) w entry next step = ap (λ (x : Whole). x.entries) step.next_is
 
+-- what a command leaves tells of as many entries
+left_counts :
+    (grain : GrainSize) (w left : Whole) (command : Command) (reply : Reply) (effects : List Effect) →
+    CommandLeft grain w command reply effects left →
+    left.entries ≡ w.entries
+left_counts grain w left command reply effects (CommandLeft.decided loop told) = refl
+left_counts grain w left command reply effects CommandLeft.unsettled = refl
+left_counts grain w left command reply effects CommandLeft.settled_alone = refl
+
 decided_counts :
     (grain : GrainSize) (w : Whole) (command : Command) (entry : Entry) (next : Whole) →
     CommandStep grain w command entry next →
     next.entries ≡ w.entries + 1
-decided_counts grain w command entry next step = ap (λ (x : Whole). x.entries) step.next_is
+decided_counts grain w command entry next step =
+    ap (λ (x : Whole). x.entries) step.next_is ∙ ap (λ n. n + 1) (left_counts grain w step.left command entry.reply entry.effects step.leaves)
 
 command_counts :
     (grain : GrainSize) (w : Whole) (command : Command) (entry : Entry) (next : Whole) →

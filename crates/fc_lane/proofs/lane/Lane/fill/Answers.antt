@@ -28,10 +28,10 @@ pub returns : goal.returns
 returns g c =
     let w = subst (λ (z : LaneView). CanFillHere z c.args.slot.0 c.args.grain.0 (c.args.grain.0 / c.self.inside.lanes)) (sym c.self.view_is)
     (record { can = c.requires.can; ready = c.requires.ready; place_is = ap (λ (z : LaneView). c.args.grain.0 / z.lanes) c.self.view_is }) in
-    let old : LaneView = record { lane = c.self.inside.lane; lanes = c.self.inside.lanes; chains = c.self.inside.body.cascade; grains = c.self.inside.body.grains; accesses = c.self.inside.accesses; work = c.self.inside.work; plan_room = c.self.inside.plan.room; entry_room = room_of c.self.inside.spare } in
-    let new : LaneView = record { lane = c.self.inside.lane; lanes = c.self.inside.lanes; chains = c.make_moves-end.new.self.cascade; grains = c.make_moves-end.new.self.grains; accesses = c.self.inside.accesses; work = c.self.inside.work; plan_room = c.plan.new.self.room; entry_room = room_of c.room_for-made.new.spare } in
+    let old : LaneView = record { lane = c.self.inside.lane; lanes = c.self.inside.lanes; chains = c.self.inside.body.cascade; grains = c.self.inside.body.grains; accesses = c.self.inside.accesses; work = c.self.inside.work; changes = c.self.inside.changes; plan_room = c.self.inside.plan.room; entry_room = room_of c.self.inside.spare } in
+    let new : LaneView = record { lane = c.self.inside.lane; lanes = c.self.inside.lanes; chains = c.make_moves-end.new.self.cascade; grains = c.make_moves-end.new.self.grains; accesses = c.self.inside.accesses; work = c.self.inside.work; changes = c.self.inside.changes; plan_room = c.plan.new.self.room; entry_room = room_of c.room_for-made.new.spare } in
     subst (λ (z : LaneView). HasFilled z c.args.slot.0 c.args.grain.0 c.into_moves.result c.make_moves-end.result.calls c.make_moves-end.result.stop new) c.self.view_is
     (subst (λ (m : List Move). HasFilled old c.args.slot.0 c.args.grain.0 m c.make_moves-end.result.calls c.make_moves-end.result.stop new) (sym c.into_moves.ensures)
     (has_filled old c.args.slot.0 c.args.grain.0 (c.args.grain.0 / c.self.inside.lanes) w c.as_slice-plan.result.now (c.as_slice-plan.ensures ∙ ap (λ (z : PlannedMoves). z.moves) c.plan.ensures) new
-    c.make_moves-end.new.made.moves c.make_moves-end.result.calls c.make_moves-end.result.stop (record { lane = refl; lanes = refl; volumes = refl; flags = refl }) (ap (λ (z : PlannedMoves). z.room) c.plan.ensures)
+    c.make_moves-end.new.made.moves c.make_moves-end.result.calls c.make_moves-end.result.stop (record { lane = refl; lanes = refl; volumes = refl; flags = refl; changes = refl }) (ap (λ (z : PlannedMoves). z.room) c.plan.ensures)
     c.make_moves-end.ensures.ends))

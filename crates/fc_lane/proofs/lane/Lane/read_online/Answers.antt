@@ -16,26 +16,26 @@ pub returns-in-IsLost-clause-entered : goal.returns-in-IsLost-clause-entered
 returns-in-IsLost-clause-entered g c =
     let at = place_is c.self.inside.body.grains.grain c.grain.result c.args.part.block c.blocks-blocks.result c.self.inside.lanes c.blocks-blocks.ensures c.grain.ensures in
     let ends = ends_as _ _ _ _ c.read_shown.result IsLost _ c.in-IsLost.is c.read_shown.ensures.ends in
-    answered_lost _ c.args.self.now _ c.args.number c.args.actor c.args.part c.self.view_is (record { lane = refl; lanes = refl; chains = c.read_shown.ensures.chains; accesses = refl; work = refl; plan_room = refl })
+    answered_lost _ c.args.self.now _ c.args.number c.args.actor c.args.part c.self.view_is (record { lane = refl; lanes = refl; chains = c.read_shown.ensures.chains; accesses = refl; work = refl; changes = refl; plan_room = refl })
     c.requires.online _ at c.faults-before.result c.read_entry.result c.faults-before.ensures ends c.read_entry.ensures
 
 pub returns-in-Failed-clause-entered : goal.returns-in-Failed-clause-entered
 returns-in-Failed-clause-entered g c =
     let at = place_is c.self.inside.body.grains.grain c.grain.result c.args.part.block c.blocks-blocks.result c.self.inside.lanes c.blocks-blocks.ensures c.grain.ensures in
     let ends = ends_as _ _ _ _ c.read_shown.result Failed _ c.in-Failed.is c.read_shown.ensures.ends in
-    answered_failed _ c.args.self.now _ c.args.number c.args.actor c.args.part c.self.view_is (record { lane = refl; lanes = refl; chains = c.read_shown.ensures.chains; accesses = refl; work = refl; plan_room = refl })
+    answered_failed _ c.args.self.now _ c.args.number c.args.actor c.args.part c.self.view_is (record { lane = refl; lanes = refl; chains = c.read_shown.ensures.chains; accesses = refl; work = refl; changes = refl; plan_room = refl })
     c.requires.online _ at c.faults-before.result c.read_entry-in-Failed.result c.faults-before.ensures ends c.read_entry-in-Failed.ensures
 
 pub returns-in-Ok-clause-entered : goal.returns-in-Ok-clause-entered
 returns-in-Ok-clause-entered g c =
     let at = place_is c.self.inside.body.grains.grain c.grain.result c.args.part.block c.blocks-blocks.result c.self.inside.lanes c.blocks-blocks.ensures c.grain.ensures in
     let ends = ends_as _ _ _ _ c.read_shown.result Done _ c.in-Done.is c.read_shown.ensures.ends in
-    answered_bytes _ c.args.self.now _ c.args.number c.args.actor c.args.part c.self.view_is (record { lane = refl; lanes = refl; chains = c.read_shown.ensures.chains; accesses = refl; work = refl; plan_room = refl })
+    answered_bytes _ c.args.self.now _ c.args.number c.args.actor c.args.part c.self.view_is (record { lane = refl; lanes = refl; chains = c.read_shown.ensures.chains; accesses = refl; work = refl; changes = refl; plan_room = refl })
     c.requires.online _ at c.faults-before.result c.read_entry-in-Ok.result c.faults-before.ensures ends c.in-Ok.runs c.in-Ok.ensures.canonical c.in-Ok.ensures.expands c.read_entry-in-Ok.ensures
 
 pub returns-in-Err-clause-entered : goal.returns-in-Err-clause-entered
 returns-in-Err-clause-entered g c =
     let at = place_is c.self.inside.body.grains.grain c.grain.result c.args.part.block c.blocks-blocks.result c.self.inside.lanes c.blocks-blocks.ensures c.grain.ensures in
     let ends = ends_as _ _ _ _ c.read_shown.result Done _ c.in-Done.is c.read_shown.ensures.ends in
-    answered_no_memory _ c.args.self.now _ c.args.number c.args.actor c.args.part c.self.view_is (record { lane = refl; lanes = refl; chains = c.read_shown.ensures.chains; accesses = refl; work = refl; plan_room = refl })
+    answered_no_memory _ c.args.self.now _ c.args.number c.args.actor c.args.part c.self.view_is (record { lane = refl; lanes = refl; chains = c.read_shown.ensures.chains; accesses = refl; work = refl; changes = refl; plan_room = refl })
     c.requires.online _ at c.faults-before.result c.read_entry-in-Err.result c.faults-before.ensures ends c.read_entry-in-Err.ensures
