@@ -1,5 +1,5 @@
 -- The events of a command, one after the other: each can be done, and leaves a lane that follows what is told after it.
-use Rattle.std.proofs.Common.{◌≡◌, ◌≢◌, ℕ, zero, suc, ◌+◌, ◌<◌, ◌≤◌, ◌^◌, List, [], ◌∷◌, length, get_or, drop, map, fold, All, refl, sym, ap, subst, ◌∙◌, arith}
+use Rattle.std.proofs.Common.{◌≡◌, ℕ, suc, ◌+◌, ◌<◌, ◌≤◌, ◌^◌, List, [], ◌∷◌, length, get_or, drop, map, fold, All, refl, sym, ap, subst, ◌∙◌, arith}
 use Rattle.fc_base.specs.Sheet.{Slot, Sheet, volume_grains}
 use Rattle.fc_base.specs.SheetFacts.{IsSound}
 use Rattle.fc_base.specs.SheetFits.{FitsEvent}
@@ -12,13 +12,13 @@ use Rattle.fc_changed.specs.Row.{Row, restart_in}
 use Rattle.fc_diff.specs.State.{ChangesState}
 use Rattle.fc_follow.specs.Alike.{AreAlike}
 use Rattle.fc_follow.specs.Following.{FitsFollowed, FitsRows, Followed, IsNoTrigger, TriggersFirst, followed_event, restarts, rows_event}
-use Rattle.fc_grains.specs.Grains.{GrainsState, stopped}
+use Rattle.fc_grains.specs.Grains.{stopped}
 use Rattle.fc_grains.specs.Quiet.{IsQuiet}
-use Rattle.fc_rules.specs.LaneTold.{LaneOf, LaneTold, LaneVolume, grains_in}
+use Rattle.fc_rules.specs.LaneTold.{LaneOf, grains_in}
 use Rattle.fc_lane.specs.Applying.{CanApply, HasApplied}
-use Rattle.fc_lane.specs.Events.{CanBeginRows, CanFollow, IsSized, chains_after}
+use Rattle.fc_lane.specs.Events.{CanBeginRows, IsSized, chains_after}
 use Rattle.fc_lane.specs.Lane.{LaneView, AreRowsReady, ArmsNone, CanDoEvents, IsFollowing, IsSameLane, KeepsQuiet, of}
-use Rattle.fc_lane.specs.Parts.{IsReadyBeside, SameCounts, StandsFor, BesideFor, CanDo, kind_of_told, kind_of_grains}
+use Rattle.fc_lane.specs.Parts.{IsReadyBeside, SameCounts, StandsFor, kind_of_told}
 use Rattle.fc_lane.proofs.Followed.{event_followed, first_births, restarts_fit, rows_sized, told_counts, told_sheet}
 use Rattle.fc_lane.proofs.LaneEvents.{of_same, same_counts}
 use Rattle.fc_lane.proofs.Telling.{arms_first, arms_rest, can_do, counts_same, counts_then, next_left, still_ready}

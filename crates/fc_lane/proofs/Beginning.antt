@@ -1,12 +1,12 @@
 -- The new slots of a trigger begin with restart sets, grain after grain.
-use Rattle.std.proofs.Common.{◌≡◌, ℕ, suc, ◌+◌, ◌-◌, ◌<◌, ◌≤◌, Bool, true, false, ◌||◌, Option, Some, None, IsSome, List, [], ◌∷◌, length, get_or, take, fold, find, replicate, All, refl, sym, ap, subst, ◌∙◌, arith, inl, inr}
+use Rattle.std.proofs.Common.{◌≡◌, ℕ, ◌+◌, ◌-◌, ◌<◌, ◌≤◌, Bool, true, false, ◌||◌, Option, Some, None, IsSome, List, [], ◌∷◌, length, get_or, take, fold, find, All, refl, sym, ap, subst, ◌∙◌, arith, inl, inr}
 use Rattle.std.specs.List.{list_any}
 use Rattle.std.proofs.lemmas.Bool.{cases_Bool}
 use Rattle.std.proofs.lemmas.List.{get_or_default, length-replicate}
 use Rattle.std.proofs.lemmas.List.Sums.{fold_more}
 use Rattle.fc_alike.proofs.Lawful.{follow_law_holds}
-use Rattle.fc_alike.specs.Law.{IsNext, Keeps, NewSlot, with_first}
-use Rattle.fc_base.specs.Sheet.{Slot, Sheet, slot_at, birth_place, mapping_place, volume_grains}
+use Rattle.fc_alike.specs.Law.{IsNext, Keeps, with_first}
+use Rattle.fc_base.specs.Sheet.{Sheet, slot_at, birth_place, mapping_place, volume_grains}
 use Rattle.fc_base.specs.SheetFacts.{IsSound}
 use Rattle.fc_base.specs.SheetFits.{FitsTrigger}
 use Rattle.fc_base.specs.SheetStep.{at_place, sheet_moved, triggered}

@@ -1,5 +1,5 @@
 -- A lane that follows its incremental mappings keeps standing for what it is told, after an event and after an entry.
-use Rattle.std.proofs.Common.{◌≡◌, ℕ, suc, ◌<◌, ◌≤◌, ◌^◌, Bool, true, false, eqb, ◌||◌, Option, Some, None, IsSome, List, [], ◌∷◌, length, get_or, fold, find, All, refl, sym, ap, subst, ◌∙◌, arith, inl, inr}
+use Rattle.std.proofs.Common.{◌≡◌, ℕ, suc, ◌<◌, ◌≤◌, ◌^◌, Bool, true, false, eqb, ◌||◌, Option, Some, None, IsSome, List, [], ◌∷◌, length, get_or, find, All, refl, sym, ap, subst, ◌∙◌, arith, inl, inr}
 use Rattle.std.specs.Option.{ForSome}
 use Rattle.std.proofs.lemmas.Bool.{cases_Bool, eqb-true}
 use Rattle.fc_alike.proofs.Lawful.{follow_law_holds}
@@ -13,12 +13,12 @@ use Rattle.fc_base.specs.declared.decision.LaneEvent.TheVariants.{Make, Remove, 
 use Rattle.fc_base.specs.declared.request.Pair.{Pair}
 use Rattle.fc_books.specs.After.{begun, holding}
 use Rattle.fc_chain.proofs.Rising.{all_rise, step_rises}
-use Rattle.fc_changed.specs.Row.{Row, is_of, restart_in, row_names, row_restart}
+use Rattle.fc_changed.specs.Row.{Row, is_of, restart_in, row_restart}
 use Rattle.fc_entry.specs.declared.entry.Entry.{Entry}
 use Rattle.fc_follow.specs.Alike.{AreAlike, IsAlike}
-use Rattle.fc_follow.specs.Following.{FitsFollowed, FitsRows, Followed, IsOfPair, followed_entry, followed_event, restarts, rows_entry, told_with}
+use Rattle.fc_follow.specs.Following.{FitsFollowed, FitsRows, Followed, IsOfPair, followed_entry, followed_event, restarts, rows_entry}
 use Rattle.fc_grains.specs.Grains.{GrainsState}
-use Rattle.fc_grains.specs.Volumes.{VolumeGrains, stored}
+use Rattle.fc_grains.specs.Volumes.{stored}
 use Rattle.fc_pick.specs.Flags.{WorkState}
 use Rattle.fc_pictures.specs.LaneLaw.{Agrees}
 use Rattle.fc_rules.specs.LaneFits.{HasDisk}

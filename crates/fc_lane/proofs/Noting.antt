@@ -1,5 +1,5 @@
 -- What is noted of incremental mappings as slots leave and triggers begin.
-use Rattle.std.proofs.Common.{◌≡◌, ◌≢◌, ℕ, zero, suc, ◌+◌, ◌<◌, ◌≤◌, Bool, true, false, not, cond, ◌&&◌, ◌||◌, eqb, Option, Some, None, List, [], ◌∷◌, ◌++◌, length, get_or, take, drop, map, fold, flat_map, All, append-nil, Result, Ok, Err, OnOk, is_err, refl, sym, ap, subst, ◌∙◌, arith, inl, inr}
+use Rattle.std.proofs.Common.{◌≡◌, ◌≢◌, ℕ, zero, suc, ◌+◌, ◌<◌, Bool, true, false, not, cond, ◌&&◌, ◌||◌, eqb, Option, Some, None, List, [], ◌∷◌, ◌++◌, length, get_or, take, drop, map, fold, flat_map, All, append-nil, Result, Ok, Err, OnOk, is_err, refl, sym, ap, subst, ◌∙◌, arith, inl, inr}
 use Rattle.std.specs.List.{list_any}
 use Rattle.std.proofs.lemmas.Bool.{cases_Bool, ne_eqb}
 use Rattle.std.proofs.lemmas.List.{get_or-take, get_or-drop, get_or_default, length-take, length-drop}
@@ -10,7 +10,7 @@ use Rattle.fc_base.specs.Sheet.{Slot, slot_at, mapping_place, volume_grains}
 use Rattle.fc_base.specs.declared.ids.MapId.{MapId}
 use Rattle.fc_base.specs.declared.outcome.NoMemory.{NoMemory}
 use Rattle.fc_base.specs.declared.request.Pair.{Pair}
-use Rattle.fc_changed.specs.Notes.{Note, has, joins}
+use Rattle.fc_changed.specs.Notes.{has, joins}
 use Rattle.fc_changed.specs.Notes.Note.{Began, Left}
 use Rattle.fc_changed.specs.Row.{Row, after_note, is_of, row_began, row_left, row_names, with_new}
 use Rattle.fc_diff.specs.State.{CanBegin, ChangesState, NewRow, after_beginning, with_ready}
@@ -237,9 +237,6 @@ pub record BeginsRest (slots : List Slot) (s : ChangesState) (pairs : List Pair)
   pub ready : now.ready ≡ new_rows slots now.rows rest
   pub rows : fold after_note now.rows (map (beginning slots) rest) ≡ fold after_note s.rows (map (beginning slots) pairs)
 
-pub begins_first : (slots : List Slot) (s : ChangesState) (pairs : List Pair) → s.ready ≡ new_rows slots s.rows pairs → BeginsRest slots s pairs s pairs
-begins_first slots s pairs ready = record { ready = ready; rows = refl }
-
 pub begins_can : (slots : List Slot) (s : ChangesState) (pairs : List Pair) (now : ChangesState) (i : ℕ) (d : Pair) → i < length pairs → BeginsRest slots s pairs now (drop i pairs) →
     CanBegin now (get_or pairs i d).map.0 (get_or pairs i d).source.0 (get_or pairs i d).target.0 (get_or pairs i d).incremental
 begins_can slots s pairs now i d lt b =
@@ -259,16 +256,10 @@ begins_next_at slots s pairs now now' i d others lt b is =
     let here : get_or pairs i p ≡ p = get_or_default pairs i p d lt in
     begins_next slots s pairs now now' p (drop (i + 1) pairs) (drop_apart pairs i p others lt here) (subst (λ z. BeginsRest slots s pairs now z) (next_left pairs i p lt here) b) is
 
-pub begins_last : (slots : List Slot) (s : ChangesState) (pairs : List Pair) (now : ChangesState) → BeginsRest slots s pairs now [] → now.rows ≡ fold after_note s.rows (map (beginning slots) pairs)
-begins_last slots s pairs now b = b.rows
-
 -- It is noted that some mappings leave, and these are left.
 pub record LeavesRest (slots : List Slot) (s : ChangesState) (maps : List MapId) (now : ChangesState) (rest : List MapId) : Type 0 where
   pub sized : All (IsSized slots) now.rows
   pub rows : record now { rows = fold after_note now.rows (flat_map (leaving slots) rest) } ≡ record s { rows = fold after_note s.rows (flat_map (leaving slots) maps) }
-
-pub leaves_first : (slots : List Slot) (s : ChangesState) (maps : List MapId) → All (IsSized slots) s.rows → LeavesRest slots s maps s maps
-leaves_first slots s maps sized = record { sized = sized; rows = refl }
 
 leaves_next : (slots : List Slot) (s : ChangesState) (maps : List MapId) (now now' : ChangesState) (m : MapId) (rest : List MapId) → LeavesRest slots s maps now (m ∷ rest) →
     now' ≡ record now { rows = fold after_note now.rows (leaving slots m) } → LeavesRest slots s maps now' rest

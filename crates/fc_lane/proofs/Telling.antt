@@ -1,13 +1,9 @@
 -- The events of a command: the parts beside the chains stand for what is told after each, and each can be done.
-use Rattle.std.proofs.Common.{◌≡◌, ℕ, zero, suc, ◌+◌, ◌<◌, ◌≤◌, true, List, [], ◌∷◌, ◌++◌, length, drop, drop-cons, get_or, map, fold, All, refl, sym, ap, subst, ◌∙◌, arith}
+use Rattle.std.proofs.Common.{◌≡◌, ℕ, suc, ◌+◌, ◌<◌, true, List, [], ◌∷◌, ◌++◌, length, drop, drop-cons, get_or, All, refl, sym, ap, subst, ◌∙◌, arith}
 use Rattle.fc_base.specs.Pools.{Pool}
-use Rattle.fc_base.specs.Sheet.{Sheet}
-use Rattle.fc_base.specs.SheetFits.{FitsEvent, FitsEvents}
-use Rattle.fc_base.specs.SheetStep.{sheet_step}
+use Rattle.fc_base.specs.SheetFits.{FitsEvent}
 use Rattle.fc_base.specs.declared.decision.LaneEvent.{LaneEvent}
 use Rattle.fc_base.specs.declared.decision.LaneEvent.TheVariants.{Make, Remove, Trigger, Retire, Detach, Split, Force, Drop, Forget, NoteCut, Access, Work, Arm}
-use Rattle.fc_base.specs.declared.size.GrainSize.{GrainSize}
-use Rattle.fc_chain.specs.Chains.{Chains, lane_grains}
 use Rattle.fc_grains.specs.Grains.{GrainsState, NewVolume, next_of}
 use Rattle.fc_grains.specs.Volumes.{is_there}
 use Rattle.fc_pick.specs.Flags.{WorkState}
@@ -15,10 +11,9 @@ use Rattle.fc_pick.specs.declared.work.WorkFlags.{WorkFlags}
 use Rattle.fc_rules.specs.LaneTold.{LaneOf, LaneTold, LaneVolume, grains_in, told_event, volumes_event, flags_event, pool_event}
 use Rattle.fc_sheets.proofs.Finding.{live_place_at}
 use Rattle.fc_lane.specs.Accesses.{AccessState}
-use Rattle.fc_rules.specs.LaneFits.{HasDisk, FitsLane}
-use Rattle.fc_grains.specs.Quiet.{IsQuiet}
+use Rattle.fc_rules.specs.LaneFits.{HasDisk}
 use Rattle.fc_lane.specs.Lane.{ArmsNone}
-use Rattle.fc_lane.specs.Parts.{ArmsNot, BesideFor, SameVolumes, CanDo, HasDone, IsReadyBeside, KnowsAll, SameCounts, new_of, new_volumes}
+use Rattle.fc_lane.specs.Parts.{ArmsNot, BesideFor, CanDo, HasDone, IsReadyBeside, KnowsAll, SameCounts, new_of, new_volumes}
 use Rattle.fc_lane.specs.Standing.{HasGrains}
 use Rattle.fc_lane.proofs.Eventing.{event_stands, event_volumes}
 use Rattle.fc_lane.proofs.Volumes.{newest_of}

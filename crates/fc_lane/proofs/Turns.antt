@@ -185,7 +185,7 @@ idle_right : (v : LaneView) (told : LaneTold) (number actor : ℕ) (request : Re
 idle_right v told number actor request s answers none = (
   record { place = refl; faults_before = s.faults; faults_kept = omega arith; no_effects = refl; answers = answers },
   subst (λ o. IsLaneOf v (told_past (of v) told (Step number o [] None v.grains.faults 0))) (sym none)
-      (lane_after v v told number None [] 0 None s (record { lane = refl; lanes = refl; volumes = refl; flags = refl }) (nothing_stands v told s)),
+      (lane_after v v told number None [] 0 None s (record { lane = refl; lanes = refl; volumes = refl; flags = refl; changes = refl }) (nothing_stands v told s)),
 )
 
 idle : (v : LaneView) (number actor : ℕ) (request : Request) → (◌≡◌ {A = Reply} (idle_entry v number actor request).reply Idle) × HasDoneNothing (idle_entry v number actor request)

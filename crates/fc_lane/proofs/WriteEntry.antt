@@ -220,7 +220,7 @@ untouched_right v told part number actor reply entry s answers none is =
         answers = answers plain refl (record { moves = refl; calls = refl; untorn = refl });
       },
       subst (λ (o : Option WritePart). IsLaneOf v (told_past (of v) told (Step number o [] None v.grains.faults 0))) (sym none)
-          (lane_after v v told number None [] 0 None s (record { lane = refl; lanes = refl; volumes = refl; flags = refl }) (nothing_stands v told s)),
+          (lane_after v v told number None [] 0 None s (record { lane = refl; lanes = refl; volumes = refl; flags = refl; changes = refl }) (nothing_stands v told s)),
     )
 
 -- a volume that isn't online answers how it may be reached

@@ -1,5 +1,5 @@
 -- What an event needs of a lane, and what it leaves.
-use Rattle.std.specs.Prelude.{◌≡◌, ℕ, ◌+◌, ◌≤◌}
+use Rattle.std.specs.Prelude.{◌≡◌, ◌+◌, ◌≤◌}
 use Rattle.fc_base.specs.declared.decision.LaneEvent.{LaneEvent}
 use Rattle.fc_chain.specs.Chains.{lane_grains}
 use Rattle.fc_chain.specs.Room.{slots_made}

@@ -4,11 +4,12 @@ use Rattle.fc_base.specs.declared.decision.LaneEvent.{LaneEvent}
 use Rattle.fc_base.specs.declared.decision.LaneEvent.TheVariants.{Make}
 use Rattle.fc_base.specs.declared.disk.DiskKind.TheVariants.{Flat}
 use Rattle.fc_base.specs.declared.size.GrainSize.TheVariants.{K64}
+use Rattle.fc_follow.specs.Following.{Followed, followed_event}
 use Rattle.fc_grains.specs.Grains.{opened}
 use Rattle.fc_lane.specs.Lane.{begun}
 use Rattle.fc_lane.specs.Parts.{lane_of}
 use Rattle.fc_mdisk.specs.Disk.{DiskState}
-use Rattle.fc_rules.specs.LaneTold.{LaneOf, LaneTold, told_event}
+use Rattle.fc_rules.specs.LaneTold.{LaneOf}
 
 abbrev pub the_lane : LaneOf
 the_lane = lane_of 0 1 K64
@@ -17,5 +18,8 @@ the_lane = lane_of 0 1 K64
 abbrev pub first : List LaneEvent
 first = Make record { 0 = 0 } 2 Flat ∷ []
 
-abbrev pub told_first : List DiskState → LaneTold
-told_first disks = fold (told_event the_lane) (begun (opened K64 disks)) first
+abbrev pub told_begun : List DiskState → Followed
+told_begun disks = record { told = begun (opened K64 disks); rows = [] }
+
+abbrev pub told_first : List DiskState → Followed
+told_first disks = fold (followed_event the_lane) (told_begun disks) first

@@ -2,10 +2,9 @@
 
 ghost use Rattle.std.specs.Prelude.{◌≡◌, ◌<◌, ◌^◌, map, vec_len};
 ghost use Rattle.std.specs.List.{All};
-ghost use Rattle.fc_base.specs.declared.size.GrainSize.TheVariants.{K64};
-ghost use Rattle.fc_grains.specs.Grains.{IsUnarmed, opened, pool_of};
-ghost use Rattle.fc_lane.specs.Lane.{IsLaneOf, begun, of};
-ghost use Rattle.lane_tests.specs.First.{first, the_lane, told_first};
+ghost use Rattle.fc_grains.specs.Grains.{IsUnarmed, pool_of};
+ghost use Rattle.fc_lane.specs.Lane.{IsFollowing, of};
+ghost use Rattle.lane_tests.specs.First.{first, the_lane, told_begun, told_first};
 
 use fc_base::decision::{LaneEvent, LaneEvents};
 use fc_base::disk::DiskKind;
@@ -41,7 +40,7 @@ fn new_lane<D: Mdisk>(rt: &impl Abort, alloc: Global, disks: Vec<D>) -> Lane<D>
     requires few { vec_len disks < 2 ^ 30 }
     requires unarmed { All IsUnarmed (map D.meaning disks.items) }
     ensures of { of result ≡ the_lane }
-    ensures stands { IsLaneOf result (begun (opened K64 (map D.meaning disks.items))) }
+    ensures stands { IsFollowing result (told_begun (map D.meaning disks.items)) }
 {
     Lane::new(alloc, 0, 1, GrainSize::K64, disks).expect(rt, "memory")
 }
@@ -52,7 +51,7 @@ fn lane_over<D: Mdisk>(rt: &impl Abort, alloc: Global, disks: Vec<D>) -> Lane<D>
     requires unarmed { All IsUnarmed (map D.meaning disks.items) }
     requires flat { 0 < (pool_of (map D.meaning disks.items)).flat }
     ensures of { of result ≡ the_lane }
-    ensures stands { IsLaneOf result (told_first (map D.meaning disks.items)) }
+    ensures stands { IsFollowing result (told_first (map D.meaning disks.items)) }
 {
     let mut lane = new_lane(rt, alloc, disks);
     let events = first_volume(rt, alloc);

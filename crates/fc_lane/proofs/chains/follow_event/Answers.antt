@@ -1,4 +1,4 @@
-use Rattle.std.proofs.Common.{All, subst, sym, ap}
+use Rattle.std.proofs.Common.{All, subst, sym}
 use Rattle.fc_diff.specs.State.{ChangesState}
 use Rattle.fc_lane.specs.Events.{IsSized}
 use Rattle.fc_lane.proofs.Noting.{sized_leaving}

@@ -1,7 +1,5 @@
-use Rattle.std.proofs.Common.{◌≡◌, List, drop, fold, map}
+use Rattle.std.proofs.Common.{◌≡◌, List, drop}
 use Rattle.fc_base.specs.Sheet.{Slot}
-use Rattle.fc_changed.specs.Row.{after_note}
-use Rattle.fc_follow.specs.Following.{beginning}
 use Rattle.fc_lane.specs.Lane.{new_rows}
 use Rattle.fc_lane.proofs.Noting.{BeginsRest}
 use Rattle.fc_lane.proofs.chains.note_beginnings.Given as goal

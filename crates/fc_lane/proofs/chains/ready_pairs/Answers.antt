@@ -1,6 +1,4 @@
-use Rattle.std.proofs.Common.{◌≡◌, ◌≢◌, All, List, OnOk, Ok, Err, ap, sym, subst, ◌∙◌}
-use Rattle.fc_base.specs.declared.request.Pair.{Pair}
-use Rattle.fc_diff.specs.State.{ChangesState, NewRow}
+use Rattle.std.proofs.Common.{sym, ◌∙◌}
 use Rattle.fc_lane.proofs.Noting.{made_ready, now_apart, plain_ready}
 use Rattle.fc_lane.proofs.chains.ready_pairs.Goals as goal
 

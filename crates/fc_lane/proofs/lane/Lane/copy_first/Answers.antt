@@ -3,15 +3,15 @@ use Rattle.fc_lane.specs.Lane.{LaneView}
 use Rattle.fc_lane.proofs.Turns.{copy_can, copy_turned}
 use Rattle.fc_lane.proofs.lane.Lane.copy_first.Goals as goal
 
-pub copy-requires-clause-can : goal.copy-requires-clause-can
-copy-requires-clause-can g c =
+pub copy_told-requires-clause-can : goal.copy_told-requires-clause-can
+copy_told-requires-clause-can g c =
     let told = c.requires.stands.0 in
     let inside = subst (λ (z : LaneView). z.lane < z.lanes) c.self.view_is c.self.invariant in
     let can = copy_can c.args.self.now told c.in-Some.map c.in-Some.grain inside (sym (c.next_copy.ensures told c.requires.stands.1) ∙ c.in-Some.is) in
     (told, c.requires.stands.1, can.0)
 
-pub copy-requires-clause-of_lane : goal.copy-requires-clause-of_lane
-copy-requires-clause-of_lane g c =
+pub copy_told-requires-clause-of_lane : goal.copy_told-requires-clause-of_lane
+copy_told-requires-clause-of_lane g c =
     let told = c.requires.stands.0 in
     let inside = subst (λ (z : LaneView). z.lane < z.lanes) c.self.view_is c.self.invariant in
     (copy_can c.args.self.now told c.in-Some.map c.in-Some.grain inside (sym (c.next_copy.ensures told c.requires.stands.1) ∙ c.in-Some.is)).1
@@ -21,4 +21,4 @@ returns-in-Some-clause-right g c told s =
     let inside = subst (λ (z : LaneView). z.lane < z.lanes) c.self.view_is c.self.invariant in
     let next = sym (c.next_copy.ensures told s) ∙ c.in-Some.is in
     let can = copy_can c.args.self.now told c.in-Some.map c.in-Some.grain inside next in
-    copy_turned c.args.self.now c.copy.new.self told c.in-Some.map c.in-Some.grain c.copy.result c.turned.result c.self.inside.lane next c.copy.ensures.asked.request_is c.turned.ensures (c.copy.ensures.right told s can.0)
+    copy_turned c.args.self.now c.copy_told.new.self told c.in-Some.map c.in-Some.grain c.copy_told.result c.turned.result c.self.inside.lane next c.copy_told.ensures.asked.request_is c.turned.ensures (c.copy_told.ensures.right told s can.0)

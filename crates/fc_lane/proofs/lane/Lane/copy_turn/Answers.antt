@@ -1,0 +1,7 @@
+use Rattle.fc_lane.proofs.Followed.{entry_followed}
+use Rattle.fc_lane.proofs.lane.Lane.copy_turn.Goals as goal
+
+pub returns-clause-right : goal.returns-clause-right
+returns-clause-right g c f i fits =
+    entry_followed c.args.self.now c.copy_turn_told-entry.new.self c.note.new.self f c.copy_turn_told-entry.result i c.copy_turn_told-entry.ensures.same c.copy_turn_told-entry.ensures.changes c.note.ensures
+    (c.copy_turn_told-entry.ensures.right f.told i.lane fits)
