@@ -53,14 +53,14 @@ lane_calls :
     v.grains.calls ≡ slice_index_or w.calls i 0
 unfolding part_at
 lane_calls grain w i v few entries at =
-    at.stands.calls ∙ stopped-few (slice_index_or w.calls i 0) w.entries few entries
+    at.stands.lane.calls ∙ stopped-few (slice_index_or w.calls i 0) w.entries few entries
 
 lane_faults :
     (grain : GrainSize) (w : Whole) (i : ℕ) (v : LaneView) →
     IsLaneAt grain w i v →
     v.grains.faults ≡ slice_index_or w.faults i 0
 unfolding part_at
-lane_faults grain w i v at = at.stands.faults
+lane_faults grain w i v at = at.stands.lane.faults
 
 calls_told : (s : StoreView) (w : Whole) (d : LaneView) → StandsFor s w → w.entries ≤ 262144 → map (λ (v : LaneView). v.grains.calls) s.lanes ≡ w.calls
 calls_told s w d stands entries =
