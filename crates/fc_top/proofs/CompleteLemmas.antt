@@ -1,5 +1,5 @@
 -- A call of the program is complete, by how it ends and by the law of completeness.
-use Rattle.std.proofs.Common.{◌≡◌, ◌≢◌, ◌⊎◌, ℕ, ◌<◌, ◌≤◌, List, [], ◌∷◌, length, Option, Some, None, refl, sym, subst, arith, ap, ◌∙◌, inl, inr, length-append}
+use Rattle.std.proofs.Common.{◌≡◌, ◌≢◌, ◌⊎◌, ◌≤◌, List, [], ◌∷◌, length, Option, Some, None, refl, subst, arith, ap, ◌∙◌, inl, inr, length-append}
 use Rattle.std.specs.List.{All}
 use Rattle.std.proofs.lemmas.List.{length-map, length-replicate}
 use Rattle.std.proofs.lemmas.List.Elements.{All-head, All-tail}
@@ -29,7 +29,7 @@ use Rattle.fc_run.specs.declared.status.Status.TheVariants as status
 use Rattle.fc_run.specs.declared.telling.Telling.{Telling}
 use Rattle.fc_run.specs.declared.telling.Telling.TheVariants.{History, Summary}
 use Rattle.fc_store.specs.Dealing.{all_dealt, dealt, pools_dealt}
-use Rattle.fc_top.specs.Complete.{NoneFailed, IsShort, IsReadable, AnswersOnline, IsAnswered, IsWhole, Completes}
+use Rattle.fc_top.specs.Complete.{NoneFailed, IsShort, IsReadable, AnswersOnline, IsAnswered, Completes}
 use Rattle.fc_top.specs.DisksBack.{begun}
 use Rattle.fc_top.specs.Endings.{grain_of, AskedEnds}
 use Rattle.fc_top.specs.declared.words.Asked.{Asked as AskedFor}

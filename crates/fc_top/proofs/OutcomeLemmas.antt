@@ -1,5 +1,5 @@
 -- Calls that are done have one outcome, by the law of one outcome.
-use Rattle.std.proofs.Common.{◌≡◌, ℕ, ◌+◌, ◌%◌, ◌^◌, Bool, cond, List, [], ◌∷◌, ◌++◌, length, map, Option, Some, None, IfSome, refl, sym, subst, arith, ap, ◌∙◌, append-nil}
+use Rattle.std.proofs.Common.{◌≡◌, ℕ, ◌+◌, ◌%◌, ◌^◌, Bool, cond, List, [], ◌∷◌, ◌++◌, length, Option, Some, None, IfSome, refl, sym, subst, ap, ◌∙◌, append-nil}
 use Rattle.std.specs.List.{count_by, sum_by}
 use Rattle.std.specs.Option.{option_map}
 use Rattle.std.proofs.lemmas.List.{length-map}
@@ -10,14 +10,14 @@ use Rattle.fc_base.specs.declared.size.GrainSize.{GrainSize}
 use Rattle.fc_base.specs.declared.size.GrainSize.TheVariants.{K64}
 use Rattle.fc_determined.proofs.Determined.{determined_law_holds}
 use Rattle.fc_determined.specs.Law.{IsOneOutcome}
-use Rattle.fc_determined.specs.Smooth.{AreSmooth, but_for_faults, told_by}
+use Rattle.fc_determined.specs.Smooth.{but_for_faults, told_by}
 use Rattle.fc_entry.specs.HistoryState.{HistoryState}
 use Rattle.fc_entry.specs.Lines.{all_lines}
 use Rattle.fc_entry.specs.declared.entry.Entry.{Entry}
 use Rattle.fc_gen.specs.Session.{session_text}
 use Rattle.fc_io.specs.Sink.{SinkState, held_with}
 use Rattle.fc_legal.specs.Run.{IsRun}
-use Rattle.fc_legal.specs.Whole.{Whole, opened}
+use Rattle.fc_legal.specs.Whole.{opened}
 use Rattle.fc_mdisk.specs.Disk.{DiskState}
 use Rattle.fc_run.specs.Reading.{reading}
 use Rattle.fc_run.specs.Summary.{gives_bytes, is_done_write, refuses, bytes_sum, reads_of, writes_of, moves_of, refused_of, sum_of, summary_text, told_text}

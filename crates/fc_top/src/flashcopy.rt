@@ -236,9 +236,10 @@ pub type BoxedDisk = Box<dyn Mdisk + Send>;
 /// every status the history that is left is legal, from what is told before the first entry to what is told after the
 /// last. What the words ask for is said in specs/Words, and how a call ends by it in specs/Endings; what each status
 /// says of the bytes that were taken, of the entries and of the written bytes in fc_run's specs/Headline, and what becomes
-/// of the disks in specs/DisksBack. Where nothing failed it is done and its accesses are answered, but for want of memory
-/// (specs/Complete), and then two calls that ask for the same write the same (specs/OneOutcome). Each call of the source but the last gives a byte or more (fc_run's specs/Takes). The
-/// gate only delays, and isn't reached before there are blocks.
+/// of the disks in specs/DisksBack. Where no call failed and there is room it is done, and where no disk failed its accesses
+/// are answered, but for want of memory (specs/Complete). Two calls that ask for the same, and in which nothing failed, write
+/// the same (specs/OneOutcome). Each call of the source but the last gives a byte or more (fc_run's specs/Takes). The gate only
+/// delays, and isn't reached before there are blocks.
 pub fn flashcopy<S: Source, K: Sink, G: Gate>(
     alloc: Global,
     words: &[&str],

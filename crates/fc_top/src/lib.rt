@@ -9,8 +9,8 @@
 //! status says in fc_run's `specs/Headline`. Two more follow from it: where nothing failed all is done and served, but for
 //! want of memory (`specs/Complete`), and then there is one outcome (`specs/OneOutcome`, the contract of `outcome_law`).
 //!
-//! In reading order: `words`, `gate`, `built`, `passing` (lines whose seconds pass) and `owner` (the store answers a line), `flashcopy`,
-//! `outcome`.
+//! In reading order: `words`, `gate`, `built`, `passing` (lines whose seconds pass) and `owner` (the store answers a line),
+//! `flashcopy`, `outcome`.
 #![tactic(auto)]
 
 mod built;

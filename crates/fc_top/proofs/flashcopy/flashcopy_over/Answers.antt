@@ -1,5 +1,5 @@
 -- The call is complete, by how what was asked for ends.
-use Rattle.std.proofs.Common.{List, Option, map, sym, subst}
+use Rattle.std.proofs.Common.{List, Option, map, subst}
 use Rattle.fc_legal.specs.Legal.{IsLegal}
 use Rattle.fc_legal.specs.Whole.{Whole}
 use Rattle.fc_mdisk.specs.Disk.{DiskState}
