@@ -8,10 +8,16 @@
 #[cfg(test)]
 mod both;
 #[cfg(test)]
+mod drawn;
+#[cfg(test)]
 mod draws;
 #[cfg(test)]
 mod fits;
 #[cfg(test)]
+mod list;
+#[cfg(test)]
 mod taken;
+#[cfg(test)]
+mod tally;
 #[cfg(test)]
 mod tests;

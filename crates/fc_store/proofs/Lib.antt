@@ -34,3 +34,4 @@ pub mod LeastGrain
 pub mod Passing
 pub mod Working
 pub mod Filling
+pub mod StoreParts

@@ -13,3 +13,4 @@ pub mod Effects
 pub mod Settling
 pub mod Working
 pub mod Passing
+pub mod StoreParts

@@ -1,4 +1,7 @@
 //! The store: the control part and all lanes under one owner.
+//!
+//! `store_part` takes a store apart into the control part and the lanes in order, and puts such parts together again;
+//! `specs/StoreParts` says which parts a store has.
 #![tactic(auto)]
 
 mod access;
@@ -19,4 +22,5 @@ mod settling;
 mod sheet;
 pub mod stop;
 pub mod store;
+pub mod store_part;
 mod work;

@@ -1,9 +1,10 @@
-//! A session over memory.
+//! A session over memory, and the disks for it.
 
-ghost use Rattle.std.specs.Prelude.{◌<◌, ◌^◌, map, vec_len};
+ghost use Rattle.std.specs.Prelude.{◌<◌, ◌≤◌, ◌^◌, map, vec_len, IfOk};
 ghost use Rattle.std.specs.List.{All};
 ghost use Rattle.fc_mdisk.specs.Disk.{IsFresh};
 
+use fc_base::request::Reply;
 use fc_entry::history::History;
 use fc_io::mem_sink::MemSink;
 use fc_io::mem_source::MemSource;
@@ -25,12 +26,29 @@ pub struct Outcome {
     pub entries: usize,
     /// How many disks came back.
     pub disks: usize,
+    /// How many entries tell what their settling changed, and that memory was wanted then.
+    pub settled: usize,
 }
 
-/// Runs a session over these disks at grain 64, read in pieces of so many bytes, with failing calls.
-pub fn run_over(
+/// How many entries tell what their settling changed, and that memory was wanted then.
+fn settled_in(history: &History) -> usize {
+    let mut settled = 0usize;
+    for index in 0..history.len() {
+        let entry = history.entry(index);
+        if let Reply::NoMemory = &entry.reply
+            && !entry.effects.as_slice().is_empty()
+        {
+            settled = settled.saturating_add(1);
+        }
+    }
+    settled
+}
+
+/// Runs a session over these disks at this grain, read in pieces of so many bytes, with failing calls.
+pub fn run_over<D: Mdisk>(
     alloc: Global,
-    mut disks: Vec<MemDisk>,
+    mut disks: Vec<D>,
+    grain: &str,
     session: &[u8],
     piece: usize,
     failing_takes: Vec<u64>,
@@ -38,12 +56,12 @@ pub fn run_over(
 ) -> Result<Outcome, AllocError>
     requires piece { 0 < piece }
     requires few { vec_len disks < 2 ^ 30 }
-    requires fresh { All IsFresh (map ⟦<MemDisk as Mdisk>⟧.meaning disks.items) }
+    requires fresh { All IsFresh (map D.meaning disks.items) }
 {
     let mut source = MemSource::new(Vec::from_slice(alloc, session)?, piece, failing_takes);
     let mut sink = MemSink::new(alloc, failing_puts);
     let mut history = History::new(alloc);
-    let words = ["run", "--grain", "64"];
+    let words = ["run", "--grain", grain];
     let status = flashcopy_over(
         alloc,
         &words,
@@ -58,10 +76,11 @@ pub fn run_over(
         written: Vec::from_slice(alloc, sink.bytes())?,
         entries: history.len(),
         disks: disks.len(),
+        settled: settled_in(&history),
     })
 }
 
-/// Runs a session over one flat disk for each of the four lanes.
+/// Runs a session at grain 64 over one flat disk for each of the four lanes.
 pub fn run(
     alloc: Global,
     session: &[u8],
@@ -77,5 +96,25 @@ pub fn run(
         MemDisk::new(alloc),
         MemDisk::new(alloc),
     ]?;
-    run_over(alloc, disks, session, piece, failing_takes, failing_puts)
+    run_over(
+        alloc,
+        disks,
+        "64",
+        session,
+        piece,
+        failing_takes,
+        failing_puts,
+    )
+}
+
+/// So many flat disks that never failed.
+pub fn flat_disks(alloc: Global, count: u32) -> Result<Vec<MemDisk>, AllocError>
+    ensures count { IfOk result (λ disks. vec_len disks ≤ count) }
+    ensures fresh { IfOk result (λ disks. All IsFresh (map ⟦<MemDisk as Mdisk>⟧.meaning disks.items)) }
+{
+    let mut disks: Vec<MemDisk> = Vec::new(alloc);
+    for made in 0..count {
+        disks.push(MemDisk::new(alloc))?;
+    }
+    Ok(disks)
 }

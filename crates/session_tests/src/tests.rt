@@ -1,16 +1,10 @@
 //! Sessions that end as they should, and such whose calls fail.
 
-use crate::longer::{all_answers, answers_within, first_lines, lines, session};
-use crate::sessions::{run, run_over};
+use crate::longer::{all_answers, answers_within, lines, session};
+use crate::sessions::{flat_disks, run, run_over};
+use crate::texts::FIRST_VOLUME;
 use fc_run::status::Status;
 use std::alloc::AllocError;
-
-const FIRST_VOLUME: &[u8] = b"mkvdisk -name A -size 1\nwrite A 0 1 5a\nread A 0 2\n";
-
-const TEXT: &[u8] = b"0 main mkvdisk -name A -size 1 -> Virtual Disk, id [0], successfully created
-1 main write 0 0 1 5a -> ok
-2 main read 0 0 2 -> data 512*5a,512*00
-";
 
 /// Faults that are armed and disarmed, and a second volume where the first has taken all disks.
 const ONE_VOLUME: &[u8] = b"mkvdisk -name A -size 64 -unit kb
@@ -55,13 +49,13 @@ fn the_first_volume_is_made_written_and_read(rt: HostRuntime) -> Result<(), Allo
     let alloc = rt.alloc();
     let outcome = run(
         alloc,
-        FIRST_VOLUME,
+        FIRST_VOLUME.lines,
         65_536,
         Vec::new(alloc),
         Vec::new(alloc),
     )?;
     assert!(rt; outcome.status == Status::Done);
-    assert!(rt; outcome.written.as_slice() == TEXT);
+    assert!(rt; outcome.written.as_slice() == FIRST_VOLUME.text);
     assert_eq!(rt; (outcome.entries, outcome.disks), (3, DISKS));
     Ok(())
 }
@@ -93,7 +87,8 @@ fn no_volume_is_made_without_disks(rt: HostRuntime) -> Result<(), AllocError> {
     let alloc = rt.alloc();
     let outcome = run_over(
         alloc,
-        Vec::new(alloc),
+        flat_disks(alloc, 0)?,
+        "64",
         b"mkvdisk -size 1\n",
         65_536,
         Vec::new(alloc),
@@ -110,7 +105,13 @@ fn the_fourth_take_fails_before_the_first_line_has_ended(
     rt: HostRuntime,
 ) -> Result<(), AllocError> {
     let alloc = rt.alloc();
-    let outcome = run(alloc, FIRST_VOLUME, 5, vec![in alloc; 4]?, Vec::new(alloc))?;
+    let outcome = run(
+        alloc,
+        FIRST_VOLUME.lines,
+        5,
+        vec![in alloc; 4]?,
+        Vec::new(alloc),
+    )?;
     assert!(rt; outcome.status == Status::ReadFault);
     assert_eq!(rt;
         (outcome.written.len(), outcome.entries, outcome.disks),
@@ -124,13 +125,16 @@ fn the_first_put_fails(rt: HostRuntime) -> Result<(), AllocError> {
     let alloc = rt.alloc();
     let outcome = run(
         alloc,
-        FIRST_VOLUME,
+        FIRST_VOLUME.lines,
         65_536,
         Vec::new(alloc),
         vec![in alloc; 1]?,
     )?;
     assert!(rt; outcome.status == Status::WriteFault);
-    assert!(rt; outcome.written.len() < TEXT.len() && TEXT.starts_with(outcome.written.as_slice()));
+    assert!(rt;
+        outcome.written.len() < FIRST_VOLUME.text.len()
+            && FIRST_VOLUME.text.starts_with(outcome.written.as_slice())
+    );
     assert_eq!(rt; (outcome.entries, outcome.disks), (3, DISKS));
     Ok(())
 }
@@ -170,35 +174,5 @@ fn each_take_fails_once(rt: HostRuntime) -> Result<(), AllocError> {
     let outcome = run(alloc, &bytes, PIECE, failing, Vec::new(alloc))?;
     assert!(rt; outcome.status == Status::Done);
     assert_eq!(rt; outcome.entries, 14);
-    Ok(())
-}
-
-#[test]
-fn each_put_fails_once_until_none_is_left(rt: HostRuntime) -> Result<(), AllocError> {
-    let alloc = rt.alloc();
-    let lines = first_lines(alloc)?;
-    let bytes = session(alloc, &lines)?;
-    let wanted = all_answers(alloc, &lines)?;
-    let mut longest = 0;
-    for number in 1..1_000u64 {
-        let outcome = run(
-            alloc,
-            &bytes,
-            65_536,
-            Vec::new(alloc),
-            vec![in alloc; number]?,
-        )?;
-        assert!(rt; wanted.text.starts_with(outcome.written.as_slice()));
-        assert!(rt; outcome.written.len() >= longest);
-        assert_eq!(rt; (outcome.entries, outcome.disks), (wanted.entries, DISKS));
-        longest = outcome.written.len();
-        if outcome.status == Status::Done {
-            // at least one `put` an entry, and the `flush`
-            assert!(rt; number > 12 && longest == wanted.text.len());
-            return Ok(());
-        }
-        assert!(rt; outcome.status == Status::WriteFault);
-    }
-    assert!(rt; false);
     Ok(())
 }

@@ -1,0 +1,40 @@
+//! Sessions that come out as they should, whichever allocation is refused.
+
+use crate::answers::is_right;
+use crate::sessions::{DISKS, run_flat, run_thin};
+use session_tests::sessions::Outcome;
+use session_tests::texts::{COMPLETE_STOPPED, FIRST_VOLUME, STARTED_AGAIN, Session, THIN_WRITTEN};
+use std::alloc::AllocError;
+use std::process::Abort;
+
+/// A session came out as it should, one allocation refused or not. Where making it ready was refused there is nothing to
+/// say.
+fn passes(rt: &impl Abort, ran: Result<Outcome, AllocError>, session: Session) {
+    if let Ok(outcome) = ran {
+        assert!(rt; is_right(&outcome, session, DISKS as usize));
+    }
+}
+
+#[test]
+fn a_volume(rt: HostRuntime) {
+    passes(&rt, run_flat(rt.alloc(), FIRST_VOLUME), FIRST_VOLUME);
+}
+
+#[test]
+fn a_copy_that_is_stopped(rt: HostRuntime) {
+    passes(
+        &rt,
+        run_flat(rt.alloc(), COMPLETE_STOPPED),
+        COMPLETE_STOPPED,
+    );
+}
+
+#[test]
+fn a_copy_that_is_started_again(rt: HostRuntime) {
+    passes(&rt, run_flat(rt.alloc(), STARTED_AGAIN), STARTED_AGAIN);
+}
+
+#[test]
+fn thin_volumes(rt: HostRuntime) {
+    passes(&rt, run_thin(rt.alloc(), THIN_WRITTEN), THIN_WRITTEN);
+}

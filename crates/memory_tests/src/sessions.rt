@@ -1,0 +1,45 @@
+//! Sessions over few disks in memory.
+
+ghost use Rattle.std.specs.Prelude.{◌<◌, ◌^◌, map, vec_len};
+ghost use Rattle.std.specs.List.{All};
+ghost use Rattle.fc_mdisk.specs.Disk.{IsFresh};
+
+use crate::disks::thin_disks;
+use fc_mdisk::mdisk::Mdisk;
+use session_tests::sessions::{Outcome, flat_disks, run_over};
+use session_tests::texts::Session;
+use std::alloc::{AllocError, Global};
+
+/// How many disks there are: eight for each lane.
+pub const DISKS: u32 = 32;
+
+/// So many bytes are read at once.
+const PIECE: usize = 4_096;
+
+/// Runs a session over these disks.
+fn run<D: Mdisk>(alloc: Global, disks: Vec<D>, session: Session) -> Result<Outcome, AllocError>
+    requires few { vec_len disks < 2 ^ 30 }
+    requires fresh { All IsFresh (map D.meaning disks.items) }
+{
+    run_over(
+        alloc,
+        disks,
+        session.grain,
+        session.lines,
+        PIECE,
+        Vec::new(alloc),
+        Vec::new(alloc),
+    )
+}
+
+/// Runs a session over flat disks.
+pub fn run_flat(alloc: Global, session: Session) -> Result<Outcome, AllocError> {
+    let disks = flat_disks(alloc, DISKS)?;
+    run(alloc, disks, session)
+}
+
+/// Runs a session over thin disks.
+pub fn run_thin(alloc: Global, session: Session) -> Result<Outcome, AllocError> {
+    let disks = thin_disks(alloc, DISKS)?;
+    run(alloc, disks, session)
+}

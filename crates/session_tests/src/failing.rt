@@ -1,0 +1,152 @@
+//! Each call of the source and of the sink fails once, over whole sessions.
+
+use crate::longer::{all_answers, first_lines, session};
+use crate::sessions::{Outcome, flat_disks, run_over};
+use crate::texts::{COMPLETE_STOPPED, RESTORED_WRITE, Session};
+use fc_run::status::Status;
+use std::alloc::{AllocError, Global};
+use std::process::Abort;
+
+/// How many disks there are: eight for each lane.
+const DISKS: u32 = 32;
+
+/// How many bytes of a session a `take` gives at most.
+const PIECE: usize = 16;
+
+/// No session makes so many calls of its source or of its sink.
+const MOST_CALLS: u64 = 5_000;
+
+/// Runs a session with failing calls.
+fn run(
+    alloc: Global,
+    grain: &str,
+    lines: &[u8],
+    failing_takes: Vec<u64>,
+    failing_puts: Vec<u64>,
+) -> Result<Outcome, AllocError> {
+    let disks = flat_disks(alloc, DISKS)?;
+    run_over(
+        alloc,
+        disks,
+        grain,
+        lines,
+        PIECE,
+        failing_takes,
+        failing_puts,
+    )
+}
+
+/// How many entries a text has: each begins a line with its number and the name of its actor.
+fn entries_in(alloc: Global, text: &[u8]) -> Result<usize, AllocError> {
+    let mut entries = 0usize;
+    for line in text.split(|byte| *byte == b'\n') {
+        let head = format!(in alloc; "{entries} main ")?;
+        if line.starts_with(head.as_bytes()) {
+            entries = entries.saturating_add(1);
+        }
+    }
+    Ok(entries)
+}
+
+/// How many lines ended in the first so many bytes.
+fn ended_lines(lines: &[u8], bytes: usize) -> usize {
+    let mut ended = 0usize;
+    for byte in lines.iter().take(bytes) {
+        if *byte == b'\n' {
+            ended = ended.saturating_add(1);
+        }
+    }
+    ended
+}
+
+/// Each take fails once, in a session each line of which has an entry at least: then the entries are the first of all,
+/// and their text is whole. The take behind the end of the session is never made.
+fn each_take_fails(rt: &impl Abort, alloc: Global, session: Session) -> Result<(), AllocError> {
+    let mut most = 0usize;
+    for number in 1..MOST_CALLS {
+        let outcome = run(
+            alloc,
+            session.grain,
+            session.lines,
+            vec![in alloc; number]?,
+            Vec::new(alloc),
+        )?;
+        let ended = ended_lines(session.lines, PIECE.saturating_mul(number as usize - 1));
+        assert!(rt; session.text.starts_with(outcome.written.as_slice()));
+        assert_eq!(rt;
+            entries_in(alloc, outcome.written.as_slice())?,
+            outcome.entries
+        );
+        assert!(rt; outcome.entries >= ended && outcome.entries >= most);
+        assert!(rt; outcome.disks == DISKS as usize);
+        most = outcome.entries;
+        if outcome.status == Status::Done {
+            // so many takes give bytes, and one more finds the end
+            assert_eq!(rt; number as usize, session.lines.len().div_ceil(PIECE) + 2);
+            assert!(rt; outcome.written.as_slice() == session.text);
+            return Ok(());
+        }
+        assert!(rt; outcome.status == Status::ReadFault);
+        assert!(rt; outcome.written.is_empty() || outcome.written.ends_with(b"\n"));
+    }
+    assert!(rt; false);
+    Ok(())
+}
+
+/// Each put fails once: then all lines are answered, and the sink got a front of the text. So does the flush behind them.
+fn each_put_fails(
+    rt: &impl Abort,
+    alloc: Global,
+    grain: &str,
+    lines: &[u8],
+    text: &[u8],
+) -> Result<(), AllocError> {
+    let entries = entries_in(alloc, text)?;
+    let mut longest = 0usize;
+    for number in 1..MOST_CALLS {
+        let outcome = run(
+            alloc,
+            grain,
+            lines,
+            Vec::new(alloc),
+            vec![in alloc; number]?,
+        )?;
+        assert!(rt; text.starts_with(outcome.written.as_slice()));
+        assert!(rt; outcome.written.len() >= longest);
+        assert!(rt; outcome.entries == entries && outcome.disks == DISKS as usize);
+        longest = outcome.written.len();
+        if outcome.status == Status::Done {
+            // at least one `put` an entry, and the `flush`
+            assert!(rt; number as usize > entries && longest == text.len());
+            return Ok(());
+        }
+        assert!(rt; outcome.status == Status::WriteFault);
+    }
+    assert!(rt; false);
+    Ok(())
+}
+
+#[test]
+fn each_take_of_a_session_fails_once(rt: HostRuntime) -> Result<(), AllocError> {
+    for session in [COMPLETE_STOPPED, RESTORED_WRITE] {
+        each_take_fails(&rt, rt.alloc(), session)?;
+    }
+    Ok(())
+}
+
+#[test]
+fn each_put_of_a_session_fails_once(rt: HostRuntime) -> Result<(), AllocError> {
+    for session in [COMPLETE_STOPPED, RESTORED_WRITE] {
+        each_put_fails(&rt, rt.alloc(), session.grain, session.lines, session.text)?;
+    }
+    Ok(())
+}
+
+#[test]
+fn each_put_of_short_lines_fails_once(rt: HostRuntime) -> Result<(), AllocError> {
+    let alloc = rt.alloc();
+    let lines = first_lines(alloc)?;
+    let bytes = session(alloc, &lines)?;
+    let wanted = all_answers(alloc, &lines)?;
+    each_put_fails(&rt, alloc, "64", bytes.as_slice(), wanted.text.as_slice())
+}
