@@ -96,6 +96,15 @@ faults-quiet (v ∷ vs) quiet =
     let rest : faults_in vs ≡ 0 = faults-quiet vs (λ i d within. quiet (suc i) d (omega (arith, within))) in
     omega (arith, sum_by-cons (λ (x : LaneView). x.grains.faults) v vs, (quiet 0 v (omega arith)).faults, rest)
 
+-- and what is told of the lanes
+faults_told-none :
+    (s : StoreView) (w : Whole) (d : LaneView) → StandsFor s w → AreQuiet s.lanes → All (λ faults. faults ≡ 0) w.faults
+faults_told-none s w d stands quiet =
+    All-from_get_or (λ faults. faults ≡ 0) w.faults 0
+    (λ i inside.
+    let within : i < length s.lanes = omega (arith, inside, stands.count) in
+    sym (lane_faults s.control.grain w i (slice_index_or s.lanes i d) (stands.each i d within)) ∙ (quiet i d within).faults)
+
 -- all disks that the lanes have, as many as were handed in
 pub AreBack-all :
     (old given : List DiskState) (s : StoreView) (history : List Entry) (w : Whole) →
@@ -120,6 +129,7 @@ AreBack-all old given s history w stands entries many all quiet =
           all.faults (All-of_map (λ n. n + 1 < 2 ^ 64) faults_of_lane s.lanes d (subst AreCounted (sym faults_are) counted))
           ∙ (sym (sum-map faults_of_lane s.lanes) ∙ ap sum faults_are);
       quiet = λ none told. let q = quiet none told in all.faults (counted-quiet s.lanes q) ∙ faults-quiet s.lanes q;
+      unfailing = λ none told. faults_told-none s w d stands (quiet none told);
     }
 
 -- after a legal history of no more than the greatest number of entries

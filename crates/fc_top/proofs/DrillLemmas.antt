@@ -1,5 +1,5 @@
 -- A drill ends as a session that is read from memory.
-use Rattle.std.proofs.Common.{◌≡◌, ◌≢◌, ℕ, ◌<◌, ◌≤◌, List, [], ◌∷◌, ◌++◌, length, Option, Some, None, refl, subst, arith, ap, length-append, inl, inr}
+use Rattle.std.proofs.Common.{◌≡◌, ℕ, ◌≤◌, List, [], ◌∷◌, ◌++◌, length, Option, Some, None, refl, subst, arith, ap, length-append, inl, inr}
 use Rattle.std.specs.Option.{option_map}
 use Rattle.fc_base.specs.Count.{HasRisen}
 use Rattle.fc_base.specs.declared.size.GrainSize.TheVariants.{K64}

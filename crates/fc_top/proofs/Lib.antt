@@ -8,3 +8,6 @@ pub mod OwnerLemmas
 pub mod Counting
 pub mod Backs
 pub mod TopLemmas
+pub mod Lanes
+pub mod CompleteLemmas
+pub mod OutcomeLemmas

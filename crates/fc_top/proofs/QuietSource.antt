@@ -1,12 +1,11 @@
 -- A source of which no call fails.
-use Rattle.std.proofs.Common.{◌≡◌, ℕ, Bool, true, false, List, [], ◌∷◌, Result, Option, Some, is_err, is_some, IfSome, map, refl, sym, ap, subst, ◌∙◌}
-use Rattle.std.specs.Bool.{OnTrue, OnFalse}
+use Rattle.std.proofs.Common.{◌≡◌, ℕ, Bool, true, false, List, [], ◌∷◌, Result, Option, Some, is_err, is_some, IfSome, ap, subst, ◌∙◌}
 use Rattle.std.specs.Option.{option_map}
 use Rattle.fc_base.specs.Count.{FaultsAfter}
 use Rattle.fc_base.specs.declared.outcome.Failed.{Failed}
 use Rattle.fc_io.specs.Calls.{fails_now, one_call_on}
 use Rattle.fc_io.specs.Source.{SourceState, AfterTake}
-use Rattle.fc_run.specs.Takes.{TookOnce, Took, EachGave}
+use Rattle.fc_run.specs.Takes.{Took, EachGave}
 
 -- a call that doesn't fail leaves the count of faults
 still : (told failed : Bool) (before after : ℕ) → told ≡ true → failed ≡ false → FaultsAfter told failed before after → after ≡ before

@@ -1,5 +1,5 @@
 -- A generated session is shorter than the greatest input.
-use Rattle.std.proofs.Common.{◌≡◌, ℕ, zero, suc, ◌+◌, ◌-◌, ◌*◌, ◌/◌, ◌%◌, ◌^◌, ◌<◌, ◌≤◌, ◌==◌, min, Bool, true, false, if◌then◌else◌, nat_lt, List, [], ◌∷◌, ◌++◌, length, codes, decimal, refl, sym, ap, subst, ◌∙◌, arith, length-append}
+use Rattle.std.proofs.Common.{ℕ, zero, suc, ◌+◌, ◌*◌, ◌/◌, ◌^◌, ◌<◌, ◌≤◌, ◌==◌, Bool, true, false, if◌then◌else◌, nat_lt, List, ◌++◌, length, codes, decimal, ap, arith, length-append}
 use Rattle.std.proofs.lemmas.Fmt.{length-decimal-le}
 use Rattle.std.proofs.lemmas.Nat.{mod_below}
 use Rattle.std.proofs.lemmas.Grind.{flat_map-append}
@@ -9,7 +9,7 @@ use Rattle.fc_base.specs.declared.command.Command.TheVariants.{Write, Read, Adva
 use Rattle.fc_base.specs.declared.command.StopWay.{StopWay}
 use Rattle.fc_base.specs.declared.command.StopWay.TheVariants.{Plain, Force, Split}
 use Rattle.fc_base.specs.declared.name.Ref.TheVariants.{Id}
-use Rattle.fc_gen.specs.Session.{Drawn, draw, draw_by, draw_write, draw_read, draw_start, draw_stop, draw_advance, way_of, drawn_of, next_state, volume, blocks_from, drawn_commands, first_commands, lines_of, session_text}
+use Rattle.fc_gen.specs.Session.{draw, draw_write, draw_read, draw_start, draw_stop, draw_advance, way_of, drawn_of, next_state, volume, blocks_from, drawn_commands, first_commands, lines_of, session_text}
 use Rattle.fc_gen.proofs.DrawLemmas.{first_lines}
 
 -- the line of a command

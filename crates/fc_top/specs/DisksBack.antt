@@ -27,6 +27,7 @@ pub record AreBack (old new : List DiskState) (entries : List Entry) (last : Who
   pub calls : calls_of new ≡ sum last.calls
   pub faults : AreCounted last.faults → faults_of new ≡ sum last.faults
   pub quiet : ArmNothing entries → silent_of old ≡ 0 → faults_of new ≡ 0
+  pub unfailing : ArmNothing entries → silent_of old ≡ 0 → All (λ faults. faults ≡ 0) last.faults
 
 -- What becomes of the disks, by status: without a session they stay as they are; where memory was wanted nothing is
 -- said of them.

@@ -1,5 +1,5 @@
 -- How a call of the program ends, by what its words ask for.
-use Rattle.std.specs.Prelude.{◌≡◌, ◌≢◌, ℕ, List, [], Option, Some, None}
+use Rattle.std.specs.Prelude.{◌≡◌, ◌≢◌, ℕ, [], Option, Some, None}
 use Rattle.fc_base.specs.declared.size.GrainSize.{GrainSize}
 use Rattle.fc_base.specs.declared.size.GrainSize.TheVariants.{K64, K256}
 use Rattle.fc_entry.specs.HistoryState.{HistoryState}

@@ -3,3 +3,5 @@ pub mod Words
 pub mod Passing
 pub mod DisksBack
 pub mod Endings
+pub mod Complete
+pub mod OneOutcome

@@ -12,6 +12,7 @@ ghost use Rattle.fc_run.specs.Takes.{EachGave};
 ghost use Rattle.fc_store.specs.Answering.{TellsSome};
 ghost use Rattle.fc_store.specs.Dealing.{disks_in};
 ghost use Rattle.fc_store.specs.Store.{StandsFor};
+ghost use Rattle.fc_top.specs.Complete.{Completes};
 ghost use Rattle.fc_top.specs.DisksBack.{begun, DisksAfter};
 ghost use Rattle.fc_top.specs.Endings.{grain_of, AskedEnds, DrillEnds};
 ghost use Rattle.fc_top.specs.Words.{asked_by};
@@ -75,6 +76,7 @@ fn run_store<S: Source, K: Sink, D: Mdisk>(
         × DisksAfter result old (map D.meaning disks.new.items) history.new.entries last }
     ensures takes { EachGave (S.meaning source.old) (S.meaning source.new) }
     ensures limit { length history.new.entries ≤ 262144 }
+    ensures actors { history.new.actors ≡ codes "main" ∷ [] }
     ensures ran { result ≢ Status.Usage }
 {
     let mut owner = Owner { alloc, store };
@@ -104,6 +106,7 @@ fn run_grain<S: Source, K: Sink, D: Mdisk>(
         × DisksAfter result old (map D.meaning disks.new.items) history.new.entries last }
     ensures takes { EachGave (S.meaning source.old) (S.meaning source.new) }
     ensures limit { length history.new.entries ≤ 262144 }
+    ensures actors { result ≢ Status.NoMemory → history.new.actors ≡ codes "main" ∷ [] }
     ensures ran { result ≢ Status.Usage }
 {
     match add_main(alloc, history) {
@@ -137,6 +140,7 @@ fn run_drill<K: Sink, D: Mdisk>(
         × IsLegal GrainSize.K64 (begun old) history.new.entries last
         × DisksAfter result old (map D.meaning disks.new.items) history.new.entries last }
     ensures limit { length history.new.entries ≤ 262144 }
+    ensures actors { result ≢ Status.NoMemory → history.new.actors ≡ codes "main" ∷ [] }
     ensures ran { result ≢ Status.Usage }
 {
     let bytes = match session(alloc, number) {
@@ -153,6 +157,43 @@ fn run_drill<K: Sink, D: Mdisk>(
         disks,
         history,
     )
+}
+
+/// Runs what is asked for, over any disks.
+fn run_asked<S: Source, K: Sink, D: Mdisk>(
+    alloc: Global,
+    asked: Option<Asked>,
+    source: &mut S,
+    sink: &mut K,
+    disks: &mut Vec<D>,
+    history: &mut History,
+) -> Status
+    requires empty { history.old ≡ record { actors = []; entries = [] } }
+    requires few { vec_len disks.old < 2 ^ 30 }
+    requires fresh { All IsFresh (map D.meaning disks.old.items) }
+    ensures usage { (result ≡ Status.Usage) ↔ (asked ≡ None) }
+    ensures ends { let old = map D.meaning disks.old.items in (last : Whole)
+        × AskedEnds asked result (begun old) (S.meaning source.old) (S.meaning source.new)
+        (K.meaning sink.old) (K.meaning sink.new) history.new last
+        × IsLegal (grain_of asked) (begun old) history.new.entries last
+        × DisksAfter result old (map D.meaning disks.new.items) history.new.entries last }
+    ensures takes { EachGave (S.meaning source.old) (S.meaning source.new) }
+    ensures actors { result ≢ Status.NoMemory → result ≢ Status.Usage → history.new.actors ≡ codes "main" ∷ [] }
+    ensures limit { length history.new.entries ≤ 262144 }
+{
+    match asked {
+        None => Status::Usage,
+        Some(Asked::Run(grain)) => run_grain(
+            alloc,
+            Telling::History,
+            grain,
+            source,
+            sink,
+            disks,
+            history,
+        ),
+        Some(Asked::Drill(number)) => run_drill(alloc, number, sink, disks, history),
+    }
 }
 
 /// `flashcopy` over any disks.
@@ -173,23 +214,14 @@ pub fn flashcopy_over<S: Source, K: Sink, G: Gate, D: Mdisk>(
         × AskedEnds asked result (begun old) (S.meaning source.old) (S.meaning source.new)
         (K.meaning sink.old) (K.meaning sink.new) history.new last
         × IsLegal (grain_of asked) (begun old) history.new.entries last
+        × Completes asked result (begun old) (S.meaning source.old) (S.meaning source.new)
+        (K.meaning sink.old) (K.meaning sink.new) history.new.entries last
         × DisksAfter result old (map D.meaning disks.new.items) history.new.entries last }
     ensures takes { EachGave (S.meaning source.old) (S.meaning source.new) }
+    ensures actors { result ≢ Status.NoMemory → result ≢ Status.Usage → history.new.actors ≡ codes "main" ∷ [] }
     ensures limit { length history.new.entries ≤ 262144 }
 {
-    match asked_by(words) {
-        None => Status::Usage,
-        Some(Asked::Run(grain)) => run_grain(
-            alloc,
-            Telling::History,
-            grain,
-            source,
-            sink,
-            disks,
-            history,
-        ),
-        Some(Asked::Drill(number)) => run_drill(alloc, number, sink, disks, history),
-    }
+    run_asked(alloc, asked_by(words), source, sink, disks, history)
 }
 
 /// The disks as the program has them: of any kind, each in a box of its own.
@@ -204,8 +236,10 @@ pub type BoxedDisk = Box<dyn Mdisk + Send>;
 /// every status the history that is left is legal, from what is told before the first entry to what is told after the
 /// last. What the words ask for is said in specs/Words, and how a call ends by it in specs/Endings; what each status
 /// says of the bytes that were taken, of the entries and of the written bytes in fc_run's specs/Headline, and what becomes
-/// of the disks in specs/DisksBack. Each call of the source but the last gives a byte or more (fc_run's specs/Takes). The
-/// gate only delays, and isn't reached before there are blocks.
+/// of the disks in specs/DisksBack. Where no call failed and there is room it is done, and where no disk failed its accesses
+/// are answered, but for want of memory (specs/Complete). Two calls that ask for the same, and in which nothing failed, write
+/// the same (specs/OneOutcome). Each call of the source but the last gives a byte or more (fc_run's specs/Takes). The gate only
+/// delays, and isn't reached before there are blocks.
 pub fn flashcopy<S: Source, K: Sink, G: Gate>(
     alloc: Global,
     words: &[&str],
@@ -223,8 +257,11 @@ pub fn flashcopy<S: Source, K: Sink, G: Gate>(
         × AskedEnds asked result (begun old) (S.meaning source.old) (S.meaning source.new)
         (K.meaning sink.old) (K.meaning sink.new) history.new last
         × IsLegal (grain_of asked) (begun old) history.new.entries last
+        × Completes asked result (begun old) (S.meaning source.old) (S.meaning source.new)
+        (K.meaning sink.old) (K.meaning sink.new) history.new.entries last
         × DisksAfter result old (map ⟦<BoxedDisk as Mdisk>⟧.meaning disks.new.items) history.new.entries last }
     ensures takes { EachGave (S.meaning source.old) (S.meaning source.new) }
+    ensures actors { result ≢ Status.NoMemory → result ≢ Status.Usage → history.new.actors ≡ codes "main" ∷ [] }
     ensures limit { length history.new.entries ≤ 262144 }
 {
     flashcopy_over(alloc, words, source, sink, disks, gate, history)

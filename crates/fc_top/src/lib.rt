@@ -6,14 +6,17 @@
 //! the history is legal; by the status it is known which bytes were taken, which of their lines are answered, and what
 //! the sink got; and the disks come back with the sums of their calls and faults. The words are in `specs/Words`, how a
 //! call ends by what they ask for in `specs/Endings`, what becomes of the disks in `specs/DisksBack`, and what each
-//! status says in fc_run's `specs/Headline`.
+//! status says in fc_run's `specs/Headline`. Two more follow from it: where nothing failed all is done and served, but for
+//! want of memory (`specs/Complete`), and then there is one outcome (`specs/OneOutcome`, the contract of `outcome_law`).
 //!
-//! In reading order: `words`, `gate`, `built`, `passing` (lines whose seconds pass) and `owner` (the store answers a line), `flashcopy`.
+//! In reading order: `words`, `gate`, `built`, `passing` (lines whose seconds pass) and `owner` (the store answers a line),
+//! `flashcopy`, `outcome`.
 #![tactic(auto)]
 
 mod built;
 pub mod flashcopy;
 pub mod gate;
+pub mod outcome;
 mod owner;
 mod passing;
 pub mod words;

@@ -1,6 +1,7 @@
-//! The program: a session on standard input, its history on standard output.
+//! The program: a session on standard input, its history on standard output; or a drill, and its summary.
 //!
-//! Its words are those of `flashcopy` (docs/MANUAL.md). It prints the history alone, and ends with the status's code.
+//! Its words are those of `flashcopy` (docs/MANUAL.md). It prints the history or its summary alone, and ends with the
+//! status's code.
 #![tactic(auto)]
 
 mod disks;

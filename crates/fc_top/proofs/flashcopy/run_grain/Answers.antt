@@ -1,5 +1,5 @@
 -- Memory was wanted before anything was read.
-use Rattle.std.proofs.Common.{◌≡◌, [], List, ◌∙◌, ap, arith, length, map, refl, subst, sym, vec_capacity, vec_len}
+use Rattle.std.proofs.Common.{◌≡◌, [], List, ◌∙◌, ap, arith, length, map, refl, subst, vec_capacity}
 use Rattle.std.proofs.lemmas.List.{length-map}
 use Rattle.fc_base.specs.declared.size.GrainSize.{GrainSize}
 use Rattle.fc_grains.proofs.KindCounts.{total-pool}
