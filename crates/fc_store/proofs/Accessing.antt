@@ -1,13 +1,11 @@
 -- An access in the lane of its grain: the entry is right, and the store stands for what it leaves.
-use Rattle.std.proofs.Common.{◌≡◌, ◌≢◌, ℕ, ◌+◌, ◌*◌, ◌^◌, ◌<◌, ◌≤◌, ◌%◌, List, length, slice_index_or, slice_set, refl, sym, ◌∙◌, ap, subst, arith, ◌⊎◌, inl, inr, [], ◌∷◌}
+use Rattle.std.proofs.Common.{◌≡◌, ◌≢◌, ℕ, ◌+◌, ◌*◌, ◌^◌, ◌<◌, ◌≤◌, List, length, slice_index_or, slice_set, sym, ◌∙◌, subst, arith, ◌⊎◌, inl, inr, [], ◌∷◌}
 use Rattle.fc_base.specs.declared.request.Request.{Request}
 use Rattle.fc_base.specs.declared.request.Request.TheVariants.{Read, Write, Copy, Clean}
 use Rattle.fc_base.specs.declared.size.GrainSize.{GrainSize}
-use Rattle.fc_control.specs.Control.{ControlState}
 use Rattle.fc_entry.specs.declared.entry.Entry.{Entry}
 use Rattle.fc_follow.specs.Following.{Followed, followed_entry}
-use Rattle.fc_lane.specs.Lane.{LaneView, IsFollowing, IsSameLane, of}
-use Rattle.fc_legal.specs.Legal.{IsLegal}
+use Rattle.fc_lane.specs.Lane.{LaneView, IsFollowing}
 use Rattle.fc_legal.specs.Stands.{Stands}
 use Rattle.fc_legal.specs.Steps.{Step, RequestStep, AccessStep, after_access}
 use Rattle.fc_legal.specs.Whole.{Whole, lanes, lane_of_grain, lane_at, part_at, followed_at}
@@ -16,10 +14,7 @@ use Rattle.fc_rules.specs.LaneRight.{IsRightInLane}
 use Rattle.fc_store.specs.Store.{StoreView, IsLaneAt, AreLanesOf, AreFewCalls, StandsFor}
 use Rattle.std.proofs.lemmas.Bool.{cases_eq}
 use Rattle.std.proofs.lemmas.List.{get_or-set_same, get_or-set_other, length-set}
-use Rattle.fc_base.specs.declared.command.Command.{Command}
-use Rattle.fc_base.specs.declared.fault.WordFault.{WordFault}
 use Rattle.fc_base.specs.declared.request.Request.TheVariants.{Command as Asked, Unread, CopyTurn, CleanTurn}
-use Rattle.fc_entry.specs.Picture.{grain_of_block}
 use Rattle.fc_parts.proofs.Lawful.{part_law_holds}
 
 -- ---- the entry

@@ -1,5 +1,5 @@
 -- A turn of the store: a copy or cleaning in the lane of its grain.
-use Rattle.std.proofs.Common.{◌≡◌, ℕ, ◌+◌, ◌%◌, ◌^◌, ◌<◌, ◌≤◌, Bool, true, false, Some, [], ◌∷◌, ◌++◌, length, slice_index_or, slice_set, Result, Ok, Err, OnErr, IfErr, refl, sym, ◌∙◌, ap, subst, arith}
+use Rattle.std.proofs.Common.{◌≡◌, ℕ, ◌%◌, ◌^◌, ◌<◌, ◌≤◌, Bool, true, false, Some, [], ◌∷◌, ◌++◌, length, slice_index_or, slice_set, Result, Ok, Err, OnErr, IfErr, refl, sym, ◌∙◌, ap, subst, arith}
 use Rattle.std.specs.Prelude.{IsSome, IfOk}
 use Rattle.std.proofs.lemmas.List.{length-append}
 use Rattle.fc_base.specs.Sheet.{Sheet}

@@ -12,7 +12,6 @@ use Rattle.fc_books.specs.Books.{opened as opened_books}
 use Rattle.fc_books.specs.Sound.{AreSound}
 use Rattle.fc_control.specs.Control.{ControlState}
 use Rattle.fc_grains.specs.Grains.{GrainsState, opened as opened_grains, one_if_silent, pool_of, silent_of, stopped}
-use Rattle.fc_follow.specs.Following.{Followed}
 use Rattle.fc_lane.specs.Lane.{LaneView, IsFollowing, begun}
 use Rattle.fc_legal.specs.Stands.{Stands}
 use Rattle.fc_legal.specs.Whole.{lanes, opened, part_at, pool_at}

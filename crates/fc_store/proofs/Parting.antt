@@ -1,30 +1,20 @@
 -- A turn of the store: one access in the lane of its grain.
-use Rattle.std.proofs.Common.{◌≡◌, ℕ, ◌+◌, ◌-◌, ◌*◌, ◌%◌, ◌^◌, ◌<◌, ◌≤◌, max, min, List, [], ◌∷◌, ◌++◌, length, slice_index_or, slice_set, Contains, Result, Ok, Err, OnOk, OnErr, IfErr, refl, sym, ◌∙◌, ap, subst, arith}
-use Rattle.fc_base.specs.Grain.{grain_blocks}
+use Rattle.std.proofs.Common.{◌≡◌, ℕ, ◌%◌, ◌^◌, ◌<◌, length, slice_index_or, slice_set, Contains, refl, sym, ◌∙◌, ap, subst, arith}
 use Rattle.fc_base.specs.declared.ids.VolId.{VolId}
-use Rattle.fc_base.specs.declared.request.Request.{Request}
 use Rattle.fc_base.specs.declared.size.GrainSize.{GrainSize}
 use Rattle.fc_base.specs.declared.volume.Volume.{Volume}
-use Rattle.fc_control.specs.Control.{ControlState}
-use Rattle.fc_entry.specs.HistoryState.{HistoryState}
-use Rattle.fc_entry.specs.Picture.{grain_of_block}
 use Rattle.fc_entry.specs.declared.entry.Entry.{Entry}
 use Rattle.fc_follow.specs.Following.{Followed, followed_entry}
 use Rattle.fc_lane.specs.Lane.{LaneView, IsAsked, IsFollowing, IsSameLane, of}
-use Rattle.fc_legal.specs.Legal.{IsLegal}
-use Rattle.fc_legal.specs.Run.{by_main}
 use Rattle.fc_legal.specs.Steps.{after_access}
-use Rattle.fc_legal.specs.Whole.{Whole, lanes, lane_of_grain, lane_at, part_at, followed_at}
+use Rattle.fc_legal.specs.Whole.{Whole, lane_of_grain, lane_at, part_at, followed_at}
 use Rattle.fc_parts.specs.Law.{IsAt}
 use Rattle.fc_rules.specs.LaneFits.{FitsPart}
 use Rattle.fc_rules.specs.LaneRight.{IsRightInLane}
 use Rattle.fc_rules.specs.LaneTold.{LaneOf}
-use Rattle.fc_store.specs.Answering.{Answered, IsTold}
 use Rattle.fc_store.specs.Asking.{request_of}
 use Rattle.fc_store.specs.Store.{StoreView, IsLaneAt, StandsFor}
 use Rattle.fc_store.specs.declared.access.Access.{Access}
-use Rattle.fc_store.specs.declared.stop.Stop.{Stop}
-use Rattle.fc_store.specs.declared.stop.Stop.TheVariants.{NoMemory}
 use Rattle.fc_store.proofs.Accessing.{access_step, access_stands}
 use Rattle.fc_store.proofs.Logging.{IsTurn}
 use Rattle.fc_store.proofs.Turning.{IsInGrain, at_grain, part_fits, same_lane}

@@ -1,5 +1,5 @@
 -- What the control part decides by the chains of the lanes is decided of what the store stands for.
-use Rattle.std.proofs.Common.{◌≡◌, ℕ, ◌+◌, ◌<◌, ◌≤◌, List, [], length, Option, Result, Ok, Err, IfOk, IsTrue, refl, sym, ◌∙◌, ap, subst, arith}
+use Rattle.std.proofs.Common.{◌≡◌, ◌+◌, ◌<◌, List, length, Option, Result, Ok, Err, IfOk, IsTrue, refl, sym, ◌∙◌, ap, subst, arith}
 use Rattle.fc_base.specs.Pools.{Pool}
 use Rattle.fc_base.specs.SheetView.{SheetView}
 use Rattle.fc_base.specs.declared.command.Command.{Command}
@@ -17,7 +17,7 @@ use Rattle.fc_legal.specs.Steps.{after_settling}
 use Rattle.fc_legal.specs.Whole.{Whole}
 use Rattle.fc_store.specs.LaneSheet.{view_of}
 use Rattle.fc_store.specs.Phase.{StandsAt, IsDecided}
-use Rattle.fc_store.specs.Settling.{IsSettling, IsSettled, CanDecide, IsDecisionOn}
+use Rattle.fc_store.specs.Settling.{IsSettling, CanDecide, IsDecisionOn}
 use Rattle.fc_store.specs.Store.{StoreView}
 use Rattle.fc_store.proofs.CommandSheet.{books_seen, view_is}
 use Rattle.fc_store.proofs.PhaseStands.{view_in, books_are}

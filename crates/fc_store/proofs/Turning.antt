@@ -1,11 +1,8 @@
 -- What one access asks of the lane of its grain, and what a refusal leaves.
-use Rattle.std.proofs.Common.{◌≡◌, ◌≢◌, ℕ, ◌+◌, ◌-◌, ◌*◌, ◌/◌, ◌%◌, ◌^◌, ◌<◌, ◌≤◌, max, min, List, [], ◌∷◌, length, slice_index_or, Option, Some, None, Contains, refl, sym, ◌∙◌, ap, subst, arith}
+use Rattle.std.proofs.Common.{◌≡◌, ℕ, ◌+◌, ◌-◌, ◌*◌, ◌%◌, ◌<◌, ◌≤◌, max, min, [], slice_index_or, Option, Contains, refl, sym, ◌∙◌, ap, subst, arith}
 use Rattle.fc_base.specs.Grain.{grain_blocks}
-use Rattle.fc_base.specs.Tables.{volume_with}
-use Rattle.fc_base.specs.declared.command.Command.{Command}
 use Rattle.fc_base.specs.declared.command.Command.TheVariants as command
 use Rattle.fc_base.specs.declared.fault.Refusal.{Refusal}
-use Rattle.fc_base.specs.declared.fault.Refusal.TheVariants.{Words}
 use Rattle.fc_base.specs.declared.ids.VolId.{VolId}
 use Rattle.fc_base.specs.declared.request.Place.TheVariants.{Control}
 use Rattle.fc_base.specs.declared.request.Reply.TheVariants.{Refused}
@@ -19,15 +16,14 @@ use Rattle.fc_entry.specs.declared.entry.Entry.{Entry}
 use Rattle.fc_follow.specs.Following.{Followed}
 use Rattle.fc_lane.specs.Lane.{LaneView, IsFollowing, of}
 use Rattle.fc_legal.specs.Stands.{Stands}
-use Rattle.fc_legal.specs.Steps.{Step, RequestStep, IsRefused, AccessIsRefused, one_more}
+use Rattle.fc_legal.specs.Steps.{RequestStep, IsRefused, AccessIsRefused, one_more}
 use Rattle.fc_legal.specs.Whole.{Whole, lanes, lane_of_grain, lane_at, part_at, followed_at}
 use Rattle.fc_parts.proofs.Lawful.{part_law_holds}
 use Rattle.fc_parts.specs.Law.{IsAt}
 use Rattle.fc_rules.specs.LaneFits.{FitsPart}
-use Rattle.fc_rules.specs.LaneTold.{LaneOf}
 use Rattle.fc_store.specs.Apart.{entry_apart, IsRefusalOf}
 use Rattle.fc_store.specs.Asking.{request_of}
-use Rattle.fc_store.specs.Store.{StoreView, IsLaneAt, AreLanesOf, AreFewCalls, StandsFor}
+use Rattle.fc_store.specs.Store.{StoreView, IsLaneAt, StandsFor}
 use Rattle.fc_store.specs.declared.access.Access.{Access}
 use Rattle.fc_store.specs.declared.access.Access.TheVariants as access
 use Rattle.fc_store.proofs.Logging.{IsTurn}

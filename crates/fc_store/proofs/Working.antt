@@ -1,5 +1,5 @@
 -- The list of background work, and the least grain over the lanes of a store that stands.
-use Rattle.std.proofs.Common.{◌≡◌, ℕ, ◌+◌, ◌<◌, List, [], ◌++◌, map, filter, length, slice_index_or, refl, sym, ◌∙◌, ap, ap₂, arith}
+use Rattle.std.proofs.Common.{◌≡◌, ℕ, ◌<◌, List, [], ◌++◌, map, filter, length, slice_index_or, refl, sym, ◌∙◌, ap, ap₂, arith}
 use Rattle.fc_base.specs.Sheet.{Sheet}
 use Rattle.fc_base.specs.Tables.{Tables}
 use Rattle.fc_base.specs.declared.volume.Mapping.{Mapping}

@@ -1,5 +1,5 @@
 -- A refusal leaves one entry more.
-use Rattle.std.proofs.Common.{rules, arith, ◌≡◌, List, [], ap, subst, sym, ◌∙◌}
+use Rattle.std.proofs.Common.{arith, ◌≡◌, List, [], ap, subst, sym, ◌∙◌}
 use Rattle.fc_base.specs.declared.request.Effect.{Effect}
 use Rattle.fc_base.specs.declared.request.Place.TheVariants.{Control}
 use Rattle.fc_base.specs.declared.request.Reply.TheVariants.{Refused}

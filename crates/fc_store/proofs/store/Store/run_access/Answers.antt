@@ -1,5 +1,5 @@
 -- An access that isn't refused asks for its grains, and a refused one for itself.
-use Rattle.std.proofs.Common.{◌≡◌, ℕ, ◌∷◌, [], List, map, Some, Contains, subst, sym, ap, ◌∙◌}
+use Rattle.std.proofs.Common.{◌≡◌, ◌∷◌, [], List, map, Some, subst, sym}
 use Rattle.fc_base.specs.Tables.{Tables, refers_to, volume_named}
 use Rattle.fc_base.specs.declared.command.Command.{Command}
 use Rattle.fc_base.specs.declared.ids.VolId.{VolId}

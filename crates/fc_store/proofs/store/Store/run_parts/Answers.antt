@@ -1,9 +1,6 @@
 -- One grain more, and a grain at which it stops.
-use Rattle.std.proofs.Common.{◌≡◌, ℕ, ◌+◌, ◌-◌, ◌/◌, ◌<◌, ◌≤◌, List, [], ◌∷◌, map, Result, Ok, Err, length, sym, ◌∙◌, ap, subst, arith, refl}
+use Rattle.std.proofs.Common.{◌≡◌, ℕ, ◌+◌, ◌-◌, ◌/◌, map, Ok, Err, sym, ◌∙◌, ap, subst, arith, refl}
 use Rattle.fc_base.specs.Grain.{grain_blocks}
-use Rattle.fc_base.specs.Tables.{Tables}
-use Rattle.fc_base.specs.declared.size.GrainSize.{GrainSize}
-use Rattle.fc_base.specs.declared.volume.Volume.{Volume}
 use Rattle.fc_control.specs.Control.{ControlState}
 use Rattle.fc_legal.specs.Asked.{numbers}
 use Rattle.fc_legal.specs.Run.{by_main}
