@@ -28,7 +28,6 @@ for ((round = 0; round < rounds; round++)); do
     plain=$(lesser "$(copies 8192 256)" "$plain")
 done
 copied=$(grep -c ' copy 0 ' "$room/history" || true)
-awk -v t="$fastest" -v b="$before" -v k="$plain" -v m="$memory" -v n="$copied" 'BEGIN {
-    printf "%d grains of 256 KiB copied in the background: %.3f s (the whole session %.3f s, %d MiB)\n", n, t - b, t, m
-    printf "8192 plain copies of a grain: %.3f s; the one over the other %.2f\n", k, (t - b) / (k > 0 ? k : 0.001)
-}'
+printf '%-12s %9s %9s %10s %9s %9s\n' shape seconds MiB calls copies ratio
+awk -v t="$fastest" -v b="$before" -v k="$plain" -v m="$memory" -v n="$copied" \
+    'BEGIN { printf "%-12s %9.3f %9d %10d %9.3f %9.2f\n", "background", t - b, m, 2 * n, k, (t - b) / (k > 0 ? k : 0.001) }'
