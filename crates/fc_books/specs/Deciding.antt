@@ -161,18 +161,3 @@ decide restarts grain b command loop = answered restarts grain b command (refuse
 
 abbrev pub after_decision : (ℕ → List Bool) → Books → Decision → Books
 after_decision restarts b d = after_all restarts d.events d.changes b
-
-abbrev pub settled : Books → Books
-settled b = after_decision (λ m. []) b (settle b)
-
--- The reply and the effects of a command's entry, and the books after it. A command settles, and then is decided. For want of
--- memory it leaves all as it was, or leaves it settled; then no flag is set. `restarts` are the restart sets after the
--- settling.
-pub data CommandLeaves (restarts : ℕ → List Bool) (grain : GrainSize) (b : Books) (command : Command) : Reply → List Effect → Books → Type 0 where
-  decided : (loop : Option (List VolId)) → IsLoopOf grain (settled b) command loop →
-      CommandLeaves restarts grain b command
-      (decide restarts grain (settled b) command loop).reply
-      ((settle b).effects ++ (decide restarts grain (settled b) command loop).effects)
-      (after_decision restarts (settled b) (decide restarts grain (settled b) command loop))
-  unsettled : CommandLeaves restarts grain b command NoMemory [] b
-  settled_alone : CommandLeaves restarts grain b command NoMemory (settle b).effects (settled b)

@@ -24,7 +24,7 @@ fn kind_word(kind: Kind) -> &'static [u8]
 }
 
 /// The state of a mapping or a group, as replies and refusals name it.
-pub(crate) fn state_word(state: MapState) -> &'static [u8]
+pub fn state_word(state: MapState) -> &'static [u8]
     ensures { result.now ≡ state_text state }
 {
     match state {

@@ -17,8 +17,8 @@ use fc_base::ids::{GroupId, MapId, VolId};
 use fc_base::list::List;
 use fc_base::outcome::NoMemory;
 use fc_base::sheet::Sheet;
-use fc_base::state::MapState;
 use fc_base::volume::Mapping;
+use fc_entry::refusal_text::state_word;
 use fc_registry::Registry;
 use std::alloc::Global;
 
@@ -140,26 +140,11 @@ fn put_figures<S: Sheet>(
 ) -> Result<(), NoMemory>
     ensures { OnOk result (row.new ≡ row.old ++ state_text mapping.now.state ∷ decimal (progress (asked registry.now.tables (S.meaning sheet.now).sheet) mapping.now) ∷ decimal mapping.now.copy_rate ∷ decimal (cleaned_in mapping.now.state (asked registry.now.tables (S.meaning sheet.now).sheet) mapping.now) ∷ cond mapping.now.incremental (codes "on") (codes "off") ∷ []) }
 {
-    put_text(alloc, row, status(mapping.state))?;
+    put_text(alloc, row, state_word(mapping.state))?;
     put_number(alloc, row, progress(registry, sheet, mapping))?;
     put_number(alloc, row, u64::from(mapping.copy_rate))?;
     put_number(alloc, row, cleaned(registry, sheet, mapping))?;
     put_text(alloc, row, choice(mapping.incremental, b"on", b"off"))
-}
-
-/// The state of a mapping or of a group.
-pub fn status(state: MapState) -> &'static [u8]
-    ensures { result.now ≡ state_text state }
-{
-    match state {
-        MapState::Empty => b"empty",
-        MapState::IdleOrCopied => b"idle_or_copied",
-        MapState::Preparing => b"preparing",
-        MapState::Prepared => b"prepared",
-        MapState::Copying => b"copying",
-        MapState::Stopping => b"stopping",
-        MapState::Stopped => b"stopped",
-    }
 }
 
 /// The one text or the other.

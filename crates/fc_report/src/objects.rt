@@ -8,12 +8,12 @@ ghost use Rattle.fc_books.specs.Layout.{headings, fields, table};
 
 use crate::fields::{Fields, Table, put_number, put_text, row_of};
 use crate::figures::mappings_of;
-use crate::mappings::status;
 use fc_base::list::List;
 use fc_base::outcome::NoMemory;
 use fc_base::size::GrainSize;
 use fc_base::state::Access;
 use fc_base::volume::{Group, Volume};
+use fc_entry::refusal_text::state_word;
 use fc_group::{access_in, group_state};
 use fc_registry::Registry;
 use std::alloc::Global;
@@ -32,7 +32,7 @@ pub fn group_fields(alloc: Global, registry: &Registry, group: &Group) -> Result
     let mut row = List::new(alloc);
     put_number(alloc, &mut row, u64::from(group.id.0))?;
     put_text(alloc, &mut row, group.name.as_bytes())?;
-    put_text(alloc, &mut row, status(group_state(registry, group.id)))?;
+    put_text(alloc, &mut row, state_word(group_state(registry, group.id)))?;
     Ok(row)
 }
 
