@@ -13,7 +13,8 @@ use fc_base::outcome::{Failed, NoMemory};
 use std::alloc::Global;
 use std::marker::Model;
 
-/// A flat disk of which the calls with given numbers fail. It tells no armed fault, and `arm` does nothing.
+/// A flat disk of which the calls with given numbers fail; no call changes the numbers. It tells no armed fault, and
+/// `arm` does nothing.
 #[derive(Drop)]
 pub struct FailDisk {
     grains: FlatGrains,
@@ -91,7 +92,11 @@ impl Mdisk for FailDisk {
         self.counts.write_faults
     }
 
-    fn format(&mut self, grains: u32, bytes: u32) -> Result<(), NoMemory> {
+    fn format(&mut self, grains: u32, bytes: u32) -> Result<(), NoMemory>
+        ensures ok { OnOk result (self.new.disk ≡ formatted self.old.disk grains bytes) }
+        ensures err { OnErr result (self.new.disk ≡ self.old.disk) }
+        ensures failing { self.new.failing ≡ self.old.failing }
+    {
         self.grains.format(grains, bytes)
     }
 
@@ -129,12 +134,18 @@ impl Mdisk for FailDisk {
         Ok(())
     }
 
-    fn arm(&mut self, _calls: u32) {
+    fn arm(&mut self, calls: u32)
+        ensures disk { self.new.disk ≡ armed self.old.disk calls }
+        ensures failing { self.new.failing ≡ self.old.failing }
+    {
         // Shows the proof the fields, which tell no armed fault.
-        let _ = &self.counts;
+        let _ = (self.counts, calls);
     }
 
-    fn clear(&mut self) {
+    fn clear(&mut self)
+        ensures disk { self.new.disk ≡ cleared self.old.disk }
+        ensures failing { self.new.failing ≡ self.old.failing }
+    {
         self.grains.clear();
     }
 }
