@@ -1,7 +1,7 @@
 -- Words joined by spaces part into the same words.
-use Rattle.std.proofs.Common.{◌≡◌, ◌≢◌, ℕ, ◌+◌, ◌*◌, ◌^◌, ◌<◌, ◌≤◌, Bool, true, false, ◌&&◌, not, nat_le, List, [], ◌∷◌, ◌++◌, length, length-append, decimal, ◌/◌, ◌%◌, refl, sym, ap, ◌∙◌, arith, lit<}
+use Rattle.std.proofs.Common.{◌≡◌, ℕ, ◌*◌, ◌^◌, ◌<◌, ◌≤◌, Bool, true, false, ◌&&◌, not, nat_le, List, [], ◌∷◌, length, length-append, decimal, ◌/◌, ◌%◌, refl, ap, ◌∙◌, arith, lit<}
 use Rattle.std.specs.Char.{is_digit}
-use Rattle.std.specs.List.{All, AllPass, filter, join_with_byte, list_all, slice_split}
+use Rattle.std.specs.List.{All, filter, join_with_byte, list_all, slice_split}
 use Rattle.std.proofs.lemmas.Bool.{false≢true, le-leb, leb-true}
 use Rattle.std.proofs.lemmas.Bool.Decides.{nat_tests}
 use Rattle.std.proofs.lemmas.Fmt.{decimal_is_IsNumeral, length-decimal-le}

@@ -1,11 +1,10 @@
 -- Each canonical line reads back.
-use Rattle.std.proofs.Common.{◌≡◌, ℕ, ◌+◌, ◌*◌, ◌≤◌, ◌^◌, Bool, true, false, ◌&&◌, ltb, List, [], ◌∷◌, ◌++◌, length, Option, Some, None, Result, Ok, codes, decimal, refl, sym, ap, ◌∙◌, subst, arith, append_assoc, append-nil}
+use Rattle.std.proofs.Common.{◌≡◌, ℕ, ◌≤◌, Bool, true, false, List, ◌∷◌, length, Option, Some, Ok, codes, refl, subst, arith, append_assoc, append-nil}
 use Rattle.std.specs.List.{list_all, join_with_byte}
 use Rattle.std.proofs.lemmas.Bool.{le-ltb}
-use Rattle.fc_base.specs.CommandText.{command_text, command_words, name_word, ref_word, unit_word, grain_size_word, byte_word, delim_word, option_words, given_words, flag_words, delim_words}
+use Rattle.fc_base.specs.CommandText.{command_text, command_words}
 use Rattle.fc_base.specs.declared.command.Command.{Command}
 use Rattle.fc_base.specs.declared.command.Command.TheVariants.{Mkvdisk, Rmvdisk, Write, Read, Armfault, Advance, Mkfcmap, Prestartfcmap, Startfcmap, Stopfcmap, Rmfcmap, Mkfcconsistgrp, Prestartfcconsistgrp, Startfcconsistgrp, Stopfcconsistgrp, Rmfcconsistgrp, Lsfcmap, Lsfcconsistgrp, Lsvdisk, Lsfcmapprogress, Lsfcmapdependentmaps}
-use Rattle.fc_base.specs.declared.command.Line.{Line}
 use Rattle.fc_base.specs.declared.command.Line.TheVariants.{Command as OfCommand}
 use Rattle.fc_base.specs.declared.command.Scope.TheVariants.{Free}
 use Rattle.fc_base.specs.declared.command.StopWay.{StopWay}
@@ -13,24 +12,16 @@ use Rattle.fc_base.specs.declared.command.StopWay.TheVariants.{Plain, Force as B
 use Rattle.fc_base.specs.declared.command.Unit.{Unit as SizeUnit}
 use Rattle.fc_base.specs.declared.name.Ref.{Ref}
 use Rattle.fc_base.specs.declared.size.GrainSize.{GrainSize}
-use Rattle.fc_base.specs.declared.fault.WordFault.{WordFault}
-use Rattle.fc_words.specs.declared.given.Flags.{Flags}
-use Rattle.fc_words.specs.declared.given.Operands.{Operands}
-use Rattle.fc_words.specs.declared.given.Settings.{Settings}
-use Rattle.fc_words.specs.declared.grammar.Flag.{Flag}
-use Rattle.fc_words.specs.declared.grammar.LineOption.TheVariants.{Flag as OfFlag}
 use Rattle.fc_words.specs.declared.grammar.Flag.TheVariants.{Thin, Incremental, Autodelete, Restore, Prep, Force, Split}
 use Rattle.fc_words.specs.declared.grammar.Verb.{Verb}
 use Rattle.fc_words.specs.declared.grammar.Verb.TheVariants.{MakeVolume, RemoveVolume, WriteBlocks, ReadBlocks, ArmFault, PassTime, MakeMapping, PrepareMapping, StartMapping, StopMapping, RemoveMapping, MakeGroup, PrepareGroup, StartGroup, StopGroup, RemoveGroup, ListMappings, ListGroups, ListVolumes, ShowProgress, ListDependents}
-use Rattle.fc_words.specs.Canonical.{IsCommand, IsName, IsObject}
-use Rattle.fc_words.specs.Given.{no_settings, no_flags, no_operands, raise, is_raised}
-use Rattle.fc_words.specs.Grammar.{verb_of, family_of, scope_has, option_of, option_spelling}
+use Rattle.fc_words.specs.Canonical.{IsCommand}
+use Rattle.fc_words.specs.Given.{no_settings, no_flags, no_operands}
+use Rattle.fc_words.specs.Grammar.{verb_of, family_of, scope_has}
 use Rattle.fc_words.specs.Lines.{begins_with, is_prefix, line_of}
-use Rattle.fc_words.specs.Words.{words_of}
-use Rattle.fc_words.proofs.JoinLemmas.{is_word, words_of-join, length-join, is_word-decimal, is_word-name, is_word-ref}
+use Rattle.fc_words.proofs.JoinLemmas.{is_word, words_of-join, length-join}
 use Rattle.fc_words.proofs.OptionsBack.{always, Reads-name, Reads-size, Reads-unit, Reads-source, Reads-target, Reads-group, Reads-copy_rate, Reads-clean_rate, Reads-grain_size, Reads-seconds, Reads-delim, Reads-object, Reads-maybe_object, Reads-block, Reads-count, Reads-byte, Reads-grain, Reads-calls}
 use Rattle.fc_words.proofs.ReadsBack.{Reads, Reads-end, Reads-flag, Reads-raised}
-use Rattle.fc_words.proofs.ValueLemmas.{number_of-decimal, name_of-name, ref_at-word, begins_with-ref}
 
 -- a line of these words makes the command, where the words behind the first do
 line_back : (verb : Verb) (first : List ℕ) {words : List (List ℕ)} {most : ℕ} (command : Command) (canonical : List (List ℕ)) →
@@ -50,18 +41,6 @@ line_back verb first {words} {most} command canonical same word no_comment no_pr
     let Line : List (List ℕ) → Type 0 = λ ws. line_of Free (join_with_byte 32 ws) ≡ Ok (OfCommand command) in
     subst Line same (rw (le-ltb 4096 (length (join_with_byte 32 (first ∷ words))) fits, words_of-join (first ∷ words) all, no_comment, no_prefix, named, here) (reads.reads 2))
 
--- an option without a value that may be given, behind what is given
-Reads-raise : (verb : Verb) (flag : Flag) (put : Bool → Flags) (given : Bool) {s : Settings} {o : Operands} {words : List (List ℕ)} {most : ℕ} {command : Command} →
-    begins_with 45 (option_spelling (OfFlag flag)) ≡ true →
-    is_word (option_spelling (OfFlag flag)) ≡ true →
-    option_of verb (option_spelling (OfFlag flag)) ≡ Some (OfFlag flag) →
-    is_raised flag (put false) ≡ false →
-    raise flag (put false) ≡ put true →
-    Reads verb s (put given) o words most command →
-    Reads verb s (put false) o (flag_words (option_spelling (OfFlag flag)) given ++ words) (most + 1) command
-Reads-raise verb flag put given {s} {o} {words} {most} {command} dash option named fresh raises rest =
-    Reads-raised verb flag put given s o words most command dash option named fresh raises rest
-
 -- `mkvdisk`
 mkvdisk_back : (name : Option (List ℕ)) (size : ℕ) (unit : Option SizeUnit) (thin : Bool) → IsCommand (Mkvdisk name size unit thin) → line_of Free (command_text (Mkvdisk name size unit thin)) ≡ Ok (OfCommand (Mkvdisk name size unit thin))
 mkvdisk_back name size unit thin good =
@@ -70,7 +49,7 @@ mkvdisk_back name size unit thin good =
     (Reads-name MakeVolume no_settings name refl good.0
     (Reads-size MakeVolume (record no_settings { name = name }) size refl good.1
     (Reads-unit MakeVolume (record no_settings { name = name; size = Some size }) unit refl (always unit)
-    (Reads-raise MakeVolume Thin (λ v. record no_flags { thin = v }) thin refl refl refl refl refl
+    (Reads-raised MakeVolume Thin (λ v. record no_flags { thin = v }) thin refl refl refl refl refl
     (Reads-end MakeVolume (record no_settings { name = name; size = Some size; unit = unit }) (record no_flags { thin = thin }) no_operands c (λ at. refl))))))
 
 -- `rmvdisk`
@@ -132,8 +111,8 @@ mkfcmap_back source target name group copy_rate clean_rate grain_size incrementa
     (Reads-copy_rate MakeMapping (record no_settings { source = Some source; target = Some target; name = name; group = group }) copy_rate refl good.4
     (Reads-clean_rate MakeMapping (record no_settings { source = Some source; target = Some target; name = name; group = group; copy_rate = copy_rate }) clean_rate refl good.5
     (Reads-grain_size MakeMapping (record no_settings { source = Some source; target = Some target; name = name; group = group; copy_rate = copy_rate; clean_rate = clean_rate }) grain_size refl (always grain_size)
-    (Reads-raise MakeMapping Incremental (λ v. record no_flags { incremental = v }) incremental refl refl refl refl refl
-    (Reads-raise MakeMapping Autodelete (λ v. record no_flags { incremental = incremental; autodelete = v }) autodelete refl refl refl refl refl
+    (Reads-raised MakeMapping Incremental (λ v. record no_flags { incremental = v }) incremental refl refl refl refl refl
+    (Reads-raised MakeMapping Autodelete (λ v. record no_flags { incremental = incremental; autodelete = v }) autodelete refl refl refl refl refl
     (Reads-end MakeMapping (record no_settings { source = Some source; target = Some target; name = name; group = group; copy_rate = copy_rate; clean_rate = clean_rate; grain_size = grain_size }) (record no_flags { incremental = incremental; autodelete = autodelete }) no_operands c (λ at. refl)))))))))))
 
 -- `prestartfcmap`
@@ -141,7 +120,7 @@ prestartfcmap_back : (map : Ref) (restore : Bool) → IsCommand (Prestartfcmap m
 prestartfcmap_back map restore good =
     let c : Command = Prestartfcmap map restore in
     line_back PrepareMapping (codes "prestartfcmap") c (command_words c) refl refl refl refl refl refl (omega arith)
-    (Reads-raise PrepareMapping Restore (λ v. record no_flags { restore = v }) restore refl refl refl refl refl
+    (Reads-raised PrepareMapping Restore (λ v. record no_flags { restore = v }) restore refl refl refl refl refl
     (Reads-object PrepareMapping map no_operands refl good
     (Reads-end PrepareMapping no_settings (record no_flags { restore = restore }) (record no_operands { object = Some map }) c (λ at. refl))))
 
@@ -150,8 +129,8 @@ startfcmap_back : (map : Ref) (prep : Bool) (restore : Bool) → IsCommand (Star
 startfcmap_back map prep restore good =
     let c : Command = Startfcmap map prep restore in
     line_back StartMapping (codes "startfcmap") c (command_words c) (simp (append_assoc, append-nil)) refl refl refl refl refl (omega arith)
-    (Reads-raise StartMapping Prep (λ v. record no_flags { prep = v }) prep refl refl refl refl refl
-    (Reads-raise StartMapping Restore (λ v. record no_flags { prep = prep; restore = v }) restore refl refl refl refl refl
+    (Reads-raised StartMapping Prep (λ v. record no_flags { prep = v }) prep refl refl refl refl refl
+    (Reads-raised StartMapping Restore (λ v. record no_flags { prep = prep; restore = v }) restore refl refl refl refl refl
     (Reads-object StartMapping map no_operands refl good
     (Reads-end StartMapping no_settings (record no_flags { prep = prep; restore = restore }) (record no_operands { object = Some map }) c (λ at. refl)))))
 
@@ -160,7 +139,7 @@ rmfcmap_back : (map : Ref) (force : Bool) → IsCommand (Rmfcmap map force) → 
 rmfcmap_back map force good =
     let c : Command = Rmfcmap map force in
     line_back RemoveMapping (codes "rmfcmap") c (command_words c) refl refl refl refl refl refl (omega arith)
-    (Reads-raise RemoveMapping Force (λ v. record no_flags { force = v }) force refl refl refl refl refl
+    (Reads-raised RemoveMapping Force (λ v. record no_flags { force = v }) force refl refl refl refl refl
     (Reads-object RemoveMapping map no_operands refl good
     (Reads-end RemoveMapping no_settings (record no_flags { force = force }) (record no_operands { object = Some map }) c (λ at. refl))))
 
@@ -197,7 +176,7 @@ prestartfcconsistgrp_back : (group : Ref) (restore : Bool) → IsCommand (Presta
 prestartfcconsistgrp_back group restore good =
     let c : Command = Prestartfcconsistgrp group restore in
     line_back PrepareGroup (codes "prestartfcconsistgrp") c (command_words c) refl refl refl refl refl refl (omega arith)
-    (Reads-raise PrepareGroup Restore (λ v. record no_flags { restore = v }) restore refl refl refl refl refl
+    (Reads-raised PrepareGroup Restore (λ v. record no_flags { restore = v }) restore refl refl refl refl refl
     (Reads-object PrepareGroup group no_operands refl good
     (Reads-end PrepareGroup no_settings (record no_flags { restore = restore }) (record no_operands { object = Some group }) c (λ at. refl))))
 
@@ -206,8 +185,8 @@ startfcconsistgrp_back : (group : Ref) (prep : Bool) (restore : Bool) → IsComm
 startfcconsistgrp_back group prep restore good =
     let c : Command = Startfcconsistgrp group prep restore in
     line_back StartGroup (codes "startfcconsistgrp") c (command_words c) (simp (append_assoc, append-nil)) refl refl refl refl refl (omega arith)
-    (Reads-raise StartGroup Prep (λ v. record no_flags { prep = v }) prep refl refl refl refl refl
-    (Reads-raise StartGroup Restore (λ v. record no_flags { prep = prep; restore = v }) restore refl refl refl refl refl
+    (Reads-raised StartGroup Prep (λ v. record no_flags { prep = v }) prep refl refl refl refl refl
+    (Reads-raised StartGroup Restore (λ v. record no_flags { prep = prep; restore = v }) restore refl refl refl refl refl
     (Reads-object StartGroup group no_operands refl good
     (Reads-end StartGroup no_settings (record no_flags { prep = prep; restore = restore }) (record no_operands { object = Some group }) c (λ at. refl)))))
 
@@ -216,7 +195,7 @@ rmfcconsistgrp_back : (group : Ref) (force : Bool) → IsCommand (Rmfcconsistgrp
 rmfcconsistgrp_back group force good =
     let c : Command = Rmfcconsistgrp group force in
     line_back RemoveGroup (codes "rmfcconsistgrp") c (command_words c) refl refl refl refl refl refl (omega arith)
-    (Reads-raise RemoveGroup Force (λ v. record no_flags { force = v }) force refl refl refl refl refl
+    (Reads-raised RemoveGroup Force (λ v. record no_flags { force = v }) force refl refl refl refl refl
     (Reads-object RemoveGroup group no_operands refl good
     (Reads-end RemoveGroup no_settings (record no_flags { force = force }) (record no_operands { object = Some group }) c (λ at. refl))))
 

@@ -1,7 +1,7 @@
 -- Each option of a canonical line, read back.
-use Rattle.std.proofs.Common.{◌≡◌, ℕ, ◌+◌, ◌^◌, ◌<◌, Bool, true, false, List, [], ◌∷◌, ◌++◌, Option, Some, None, Ok, IfSome, codes, decimal, refl}
+use Rattle.std.proofs.Common.{◌≡◌, ℕ, ◌+◌, ◌<◌, true, List, ◌∷◌, ◌++◌, Option, Some, None, Ok, IfSome, codes, decimal, refl}
 use Rattle.std.specs.Prelude.{⊤}
-use Rattle.fc_base.specs.CommandText.{name_word, ref_word, unit_word, grain_size_word, byte_word, delim_word, option_words, given_words, flag_words, object_words}
+use Rattle.fc_base.specs.CommandText.{name_word, ref_word, unit_word, grain_size_word, byte_word, delim_word, option_words, given_words, object_words}
 use Rattle.fc_base.specs.declared.command.Command.{Command}
 use Rattle.fc_base.specs.declared.command.Unit.{Unit as SizeUnit}
 use Rattle.fc_base.specs.declared.command.Unit.TheVariants.{Kb, Mb, Gb}
@@ -16,7 +16,7 @@ use Rattle.fc_words.specs.declared.grammar.Operand.TheVariants.{Object, Block, C
 use Rattle.fc_words.specs.declared.grammar.Setting.TheVariants.{Name, Size, Unit as UnitSetting, Source, Target, Group, CopyRate, CleanRate, GrainSize as GrainSetting, Seconds, Delim}
 use Rattle.fc_words.specs.declared.grammar.Verb.{Verb}
 use Rattle.fc_words.specs.Canonical.{IsName, IsNumber, IsObject, IsDelim}
-use Rattle.fc_words.specs.Given.{set, take, is_wanted}
+use Rattle.fc_words.specs.Given.{set, is_wanted}
 use Rattle.fc_words.specs.Grammar.{option_of, operands_of}
 use Rattle.std.specs.List.{find}
 use Rattle.fc_words.proofs.JoinLemmas.{is_word, is_word-decimal, is_word-name, is_word-ref, is_word-byte, is_word-delim}

@@ -1,18 +1,14 @@
 -- The words of a canonical line, read from the left, give the command.
-use Rattle.std.proofs.Common.{◌≡◌, ℕ, ◌+◌, ◌≤◌, ◌^◌, Bool, true, false, ◌&&◌, cond, List, [], ◌∷◌, ◌++◌, length, Option, Some, None, Result, Ok, IfSome, codes, decimal, refl, sym, ap, ◌∙◌, subst, arith}
+use Rattle.std.proofs.Common.{◌≡◌, ℕ, ◌+◌, ◌≤◌, Bool, true, false, List, [], ◌∷◌, ◌++◌, length, Option, Some, None, Ok, IfSome, refl, sym, subst, arith}
 use Rattle.std.specs.List.{list_all, find}
-use Rattle.std.specs.Option.{ok_or}
-use Rattle.fc_base.specs.CommandText.{name_word, ref_word, unit_word, grain_size_word, byte_word, delim_word, option_words, given_words, flag_words, delim_words}
+use Rattle.fc_base.specs.CommandText.{given_words, flag_words}
 use Rattle.fc_base.specs.declared.command.Command.{Command}
-use Rattle.fc_base.specs.declared.command.Line.{Line}
 use Rattle.fc_base.specs.declared.command.Line.TheVariants.{Command as OfCommand}
-use Rattle.fc_base.specs.declared.fault.WordFault.{WordFault}
 use Rattle.fc_words.specs.declared.given.Flags.{Flags}
 use Rattle.fc_words.specs.declared.given.Given.{Given}
 use Rattle.fc_words.specs.declared.given.Operands.{Operands}
 use Rattle.fc_words.specs.declared.given.Settings.{Settings}
 use Rattle.fc_words.specs.declared.grammar.Flag.{Flag}
-use Rattle.fc_words.specs.declared.grammar.LineOption.{LineOption}
 use Rattle.fc_words.specs.declared.grammar.LineOption.TheVariants.{Flag as OfFlag, Setting as OfSetting}
 use Rattle.fc_words.specs.declared.grammar.Operand.{Operand}
 use Rattle.fc_words.specs.declared.grammar.Setting.{Setting}
@@ -107,8 +103,8 @@ Reads-given verb setting put word Good None f o words most command dash option n
 Reads-given verb setting put word Good (Some x) f o words most command dash option named fresh is sets good rest =
     Reads-setting verb setting (put None) (put (Some x)) f o (word x) words most command dash option named fresh (is x good) (sets x good) rest
 
--- an option without a value that may be given
-pub Reads-raised : (verb : Verb) (flag : Flag) (put : Bool → Flags) (given : Bool) (s : Settings) (o : Operands) (words : List (List ℕ)) (most : ℕ) (command : Command) →
+-- an option without a value that may be given, behind what is given
+pub Reads-raised : (verb : Verb) (flag : Flag) (put : Bool → Flags) (given : Bool) {s : Settings} {o : Operands} {words : List (List ℕ)} {most : ℕ} {command : Command} →
     begins_with 45 (option_spelling (OfFlag flag)) ≡ true →
     is_word (option_spelling (OfFlag flag)) ≡ true →
     option_of verb (option_spelling (OfFlag flag)) ≡ Some (OfFlag flag) →
@@ -116,8 +112,8 @@ pub Reads-raised : (verb : Verb) (flag : Flag) (put : Bool → Flags) (given : B
     raise flag (put false) ≡ put true →
     Reads verb s (put given) o words most command →
     Reads verb s (put false) o (flag_words (option_spelling (OfFlag flag)) given ++ words) (most + 1) command
-Reads-raised verb flag put false s o words most command dash option named fresh raises rest =
+Reads-raised verb flag put false {s} {o} {words} {most} {command} dash option named fresh raises rest =
     Reads-more verb s (put false) o words most 1 command rest
-Reads-raised verb flag put true s o words most command dash option named fresh raises rest =
+Reads-raised verb flag put true {s} {o} {words} {most} {command} dash option named fresh raises rest =
     let At : Flags → Type 0 = λ f. Reads verb s f o words most command in
     Reads-flag verb flag s (put false) o words most command dash option named fresh (subst At (sym raises) rest)

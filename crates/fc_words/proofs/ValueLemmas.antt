@@ -1,20 +1,19 @@
 -- Values, read back from their canonical words.
-use Rattle.std.proofs.Common.{◌≡◌, ◌≢◌, ℕ, ◌+◌, ◌*◌, ◌/◌, ◌%◌, ◌^◌, ◌<◌, ◌≤◌, Bool, true, false, ◌&&◌, ◌||◌, not, cond, ltb, nat_le, eqb, List, [], ◌∷◌, length, Option, Some, None, Ok, decimal, refl, sym, ap, ◌∙◌, subst, arith, lit<}
+use Rattle.std.proofs.Common.{◌≡◌, ℕ, ◌+◌, ◌*◌, ◌/◌, ◌%◌, ◌^◌, ◌<◌, ◌≤◌, Bool, true, false, ◌&&◌, nat_le, eqb, List, [], ◌∷◌, length, Some, Ok, decimal, refl, ap, ◌∙◌, arith}
 use Rattle.std.specs.Char.{digit_value, is_digit}
 use Rattle.std.specs.Fmt.{digit_glyph}
 use Rattle.std.specs.List.{list_all}
-use Rattle.std.specs.Option.{ok_or}
 use Rattle.std.specs.Str.Parse.{AllDigits, digits_value}
 use Rattle.std.proofs.lemmas.Bool.{lt-ltb, false≢true}
 use Rattle.std.proofs.lemmas.Bool.Decides.{nat_tests}
-use Rattle.std.proofs.lemmas.Fmt.{decimal_is_IsNumeral, length-decimal-le}
+use Rattle.std.proofs.lemmas.Fmt.{decimal_is_IsNumeral}
 use Rattle.fc_base.specs.CommandText.{byte_word, ref_word}
 use Rattle.fc_base.specs.Names.{starts_name, continues_name, is_name}
 use Rattle.fc_base.specs.declared.name.Ref.{Ref}
 use Rattle.fc_base.specs.declared.name.Ref.TheVariants.{Id, Name}
 use Rattle.fc_words.specs.Canonical.{IsObject}
 use Rattle.fc_words.specs.Lines.{begins_with}
-use Rattle.fc_words.specs.Values.{number_of, is_numeral, byte_of, hex_of, delim_of, name_of, ref_at}
+use Rattle.fc_words.specs.Values.{number_of, is_numeral, byte_of, delim_of, name_of, ref_at}
 use Rattle.fc_words.specs.Words.{is_blank}
 
 -- both of two tests

@@ -1,5 +1,5 @@
 -- Words of a line, from its front.
-use Rattle.std.proofs.Common.{◌≡◌, ◌≢◌, ℕ, ◌+◌, ◌<◌, ◌≤◌, Bool, true, false, not, cond, List, [], ◌∷◌, ◌++◌, length, get_or, suc, zero, take, drop, Option, Some, None, refl, sym, ap, subst, add-one, drop-cons, ◌∙◌, arith}
+use Rattle.std.proofs.Common.{◌≡◌, ◌≢◌, ℕ, ◌+◌, ◌<◌, ◌≤◌, Bool, true, false, not, List, [], ◌∷◌, length, get_or, suc, zero, take, drop, Some, None, refl, sym, ap, subst, add-one, drop-cons, ◌∙◌, arith}
 use Rattle.std.specs.List.{All, slice_split, position, position_or_len, filter}
 use Rattle.std.proofs.lemmas.List.Splits.{slice_split_none, slice_split_first, length-slice_split}
 use Rattle.std.proofs.lemmas.List.Quantifiers.{position-Some}

@@ -1,5 +1,5 @@
 -- What the words of a line have given so far, and what one more word adds.
-use Rattle.std.specs.Prelude.{ℕ, Bool, true, false, not, ◌&&◌, ◌||◌, List, Option, Some, None, Result, Ok, Err, is_some, is_none}
+use Rattle.std.specs.Prelude.{ℕ, Bool, true, false, ◌&&◌, ◌||◌, List, Option, Some, None, Result, is_some, is_none}
 use Rattle.std.specs.Option.{ok_or}
 use Rattle.fc_base.specs.declared.fault.WordFault.{WordFault}
 use Rattle.fc_base.specs.declared.fault.WordFault.TheVariants.{BadNumber, BadName}
@@ -7,7 +7,7 @@ use Rattle.fc_words.specs.declared.given.Flags.{Flags}
 use Rattle.fc_words.specs.declared.given.Given.{Given}
 use Rattle.fc_words.specs.declared.given.Operands.{Operands}
 use Rattle.fc_words.specs.declared.given.RoleWord.{RoleWord}
-use Rattle.fc_words.specs.declared.given.RoleWord.TheVariants.{Host, Admin, Copier, Cleaner}
+use Rattle.fc_words.specs.declared.given.RoleWord.TheVariants.{Copier, Cleaner}
 use Rattle.fc_words.specs.declared.given.Settings.{Settings}
 use Rattle.fc_words.specs.declared.grammar.Flag.{Flag}
 use Rattle.fc_words.specs.declared.grammar.Flag.TheVariants.{Thin, Incremental, Autodelete, Restore, Prep, Force, Split}

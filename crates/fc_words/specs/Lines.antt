@@ -5,10 +5,9 @@ use Rattle.fc_base.specs.declared.command.Command.{Command}
 use Rattle.fc_base.specs.declared.command.Command.TheVariants.{Mkvdisk, Rmvdisk, Write, Read, Armfault, Advance, Mkfcmap, Prestartfcmap, Startfcmap, Stopfcmap, Rmfcmap, Mkfcconsistgrp, Prestartfcconsistgrp, Startfcconsistgrp, Stopfcconsistgrp, Rmfcconsistgrp, Lsfcmap, Lsfcconsistgrp, Lsvdisk, Lsfcmapprogress, Lsfcmapdependentmaps}
 use Rattle.fc_base.specs.declared.command.Line.{Line}
 use Rattle.fc_base.specs.declared.command.Line.TheVariants.{Blank, Command as OfCommand, Together, Actor as OfActor, End}
-use Rattle.fc_base.specs.declared.command.Role.{Role}
 use Rattle.fc_base.specs.declared.command.Role.TheVariants.{Host as HostRole, Admin as AdminRole, Copier as CopierRole, Cleaner as CleanerRole}
 use Rattle.fc_base.specs.declared.command.Scope.{Scope}
-use Rattle.fc_base.specs.declared.command.Scope.TheVariants.{Free, Host, Admin, Worker, NoActor}
+use Rattle.fc_base.specs.declared.command.Scope.TheVariants.{NoActor}
 use Rattle.fc_base.specs.declared.command.StopWay.{StopWay}
 use Rattle.fc_base.specs.declared.command.StopWay.TheVariants.{Plain, Force, Split}
 use Rattle.fc_base.specs.declared.fault.RequiredOption.TheVariants.{Size, Seconds, Source, Target}

@@ -1,4 +1,4 @@
-use Rattle.std.proofs.Common.{◌≡◌, Result, Ok, ap, ◌∙◌, subst}
+use Rattle.std.proofs.Common.{Result, ap, ◌∙◌, subst}
 use Rattle.fc_base.specs.declared.command.Line.{Line}
 use Rattle.fc_base.specs.declared.command.Scope.TheVariants.{Free}
 use Rattle.fc_base.specs.declared.fault.WordFault.{WordFault}

@@ -1,4 +1,4 @@
-use Rattle.std.proofs.Common.{◌≡◌, ◌<◌, length, get_or, refl, sym, ◌∙◌, arith}
+use Rattle.std.proofs.Common.{◌<◌, length, sym, ◌∙◌, arith}
 use Rattle.std.proofs.lemmas.Bool.Decides.{nat_tests}
 use Rattle.fc_words.proofs.DigitLemmas.{pushed_all-number, pushed_all-end, pushed_all-stop}
 use Rattle.fc_words.proofs.values.number.Goals as goal

@@ -1,4 +1,4 @@
-use Rattle.std.proofs.Common.{◌≡◌, ◌≢◌, length, arith, sym, ◌∙◌}
+use Rattle.std.proofs.Common.{◌≢◌, length, arith, sym, ◌∙◌}
 use Rattle.std.proofs.lemmas.Bool.Decides.{nat_tests}
 use Rattle.fc_words.proofs.WordLemmas.{words_of-split, words_of-whole}
 use Rattle.fc_words.proofs.words.split_word.Goals as goal
