@@ -3,7 +3,7 @@ use Rattle.std.proofs.Common.{◌≡◌, ◌≢◌, ℕ, zero, suc, ◌+◌, ◌
 use Rattle.std.specs.List.{list_any}
 use Rattle.std.proofs.lemmas.List.{get_or-map, length-map, map-append, take-append-le, take_all, take-map, take-append-drop, length-take-le, length-drop, length-replicate, length-take, take_min, get_or-take, get_or-drop, get_or_default}
 use Rattle.std.proofs.lemmas.List.Edits.{length-remove, remove-append_left}
-use Rattle.std.proofs.lemmas.List.Elements.{All-push, All-weaker, All-filter, filter_passes}
+use Rattle.std.proofs.lemmas.List.Elements.{All-push, All-filter, filter_passes}
 use Rattle.std.proofs.lemmas.List.Quantifiers.{position-Some, all_pairs_push, all_pairs_remove}
 use Rattle.std.proofs.lemmas.Bool.Decides.{nat_tests}
 use Rattle.fc_diff.specs.declared.tracked.Event.{Event}
@@ -73,17 +73,25 @@ filter_found m rows place d found distinct = let s = position-Some (is_of m) row
 
 -- ---- the rows after a change
 
-pub found_push : (ids : List ℕ) (namers namers' : Listing) (rows : List Row) (row : Row) → IsFound ids namers rows → position (is_of row.map) rows ≡ None
-    → ((w m : ℕ) → is_listed m (named_by namers w) ≡ true → is_listed m (named_by namers' w) ≡ true)
-    → is_listed row.map (named_by namers' row.source) ≡ true → is_listed row.map (named_by namers' row.target) ≡ true
-    → (ids' : List ℕ) (rows' : List Row) → ids' ≡ ids ++ row.map ∷ [] → rows' ≡ rows ++ row ∷ [] → IsFound ids' namers' rows'
-found_push ids namers namers' rows row old missed kept source target ids' rows' e f =
-    subst (λ rs. IsFound ids' namers' rs) (sym f) (record {
+-- The lists change, and keep all numbers but one, of which there is no row.
+pub found_still : (ids : List ℕ) (namers namers' : Listing) (rows : List Row) (m : ℕ) → All (λ row. row.map ≢ m) rows
+    → ((w n : ℕ) → n ≢ m → is_listed n (named_by namers w) ≡ true → is_listed n (named_by namers' w) ≡ true) → IsFound ids namers rows → IsFound ids namers' rows
+found_still ids namers namers' rows m others kept old = record {
+  beside = old.beside;
+  distinct = old.distinct;
+  by_source = λ k d within. kept (get_or rows k d).source (get_or rows k d).map (others k d within) (old.by_source k d within);
+  by_target = λ k d within. kept (get_or rows k d).target (get_or rows k d).map (others k d within) (old.by_target k d within);
+}
+
+pub found_push : (ids : List ℕ) (namers : Listing) (rows : List Row) (row : Row) → IsFound ids namers rows → All (λ r. r.map ≢ row.map) rows
+    → is_listed row.map (named_by namers row.source) ≡ true → is_listed row.map (named_by namers row.target) ≡ true
+    → (ids' : List ℕ) (rows' : List Row) → ids' ≡ ids ++ row.map ∷ [] → rows' ≡ rows ++ row ∷ [] → IsFound ids' namers rows'
+found_push ids namers rows row old others source target ids' rows' e f =
+    subst (λ rs. IsFound ids' namers rs) (sym f) (record {
       beside = e ∙ (ap (λ xs. xs ++ row.map ∷ []) old.beside ∙ sym (map-append (λ r. r.map) rows (row ∷ [])));
-      distinct = all_pairs_push (λ x y. x.map ≢ y.map) rows row old.distinct
-          (λ k d within. unequal row.map (get_or rows k d).map (all_fail (is_of row.map) rows (find-missed (is_of row.map) rows missed) k d within));
-      by_source = All-push (λ r. is_listed r.map (named_by namers' r.source) ≡ true) rows row (All-weaker (λ r. is_listed r.map (named_by namers r.source) ≡ true) (λ r. is_listed r.map (named_by namers' r.source) ≡ true) (λ r there. kept r.source r.map there) rows old.by_source) source;
-      by_target = All-push (λ r. is_listed r.map (named_by namers' r.target) ≡ true) rows row (All-weaker (λ r. is_listed r.map (named_by namers r.target) ≡ true) (λ r. is_listed r.map (named_by namers' r.target) ≡ true) (λ r there. kept r.target r.map there) rows old.by_target) target;
+      distinct = all_pairs_push (λ x y. x.map ≢ y.map) rows row old.distinct others;
+      by_source = All-push (λ r. is_listed r.map (named_by namers r.source) ≡ true) rows row old.by_source source;
+      by_target = All-push (λ r. is_listed r.map (named_by namers r.target) ≡ true) rows row old.by_target target;
     })
 
 map-remove : (rows : List Row) (place : ℕ) → map_numbers (remove rows place) ≡ remove (map_numbers rows) place

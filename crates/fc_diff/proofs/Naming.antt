@@ -1,7 +1,7 @@
 -- Lists beside volumes: what a change of one list, a new one and one that goes leave.
 use Rattle.std.proofs.Common.{◌≡◌, ◌≢◌, ℕ, zero, suc, ◌+◌, ◌<◌, Bool, true, false, not, ◌||◌, cond, List, [], ◌∷◌, ◌++◌, length, get_or, set, remove, filter, nat_eq, position, Some, None, refl, ap, sym, subst, ◌∙◌, arith, Vec}
 use Rattle.std.specs.List.{list_any}
-use Rattle.std.proofs.lemmas.List.{get_or-map, length-map, length-set, length-append, map-append}
+use Rattle.std.proofs.lemmas.List.{get_or-map, length-map, length-set, length-append, map-append, set-get_or}
 use Rattle.indexmap.specs.IndexSet.{insert_key}
 use Rattle.std.proofs.lemmas.List.Quantifiers.{position-Some}
 use Rattle.std.proofs.lemmas.Bool.Decides.{nat_tests}
@@ -175,14 +175,21 @@ module _ {Z : Type 0} (volumes : List ℕ) (lists : List (Vec ℕ Z)) (state : L
     first : IsFirst v volumes p
     first = is_first v volumes p found
 
-    here : (list : Vec ℕ Z) → list ≡ get_or lists p list → list.items ≡ list_of volumes (numbers lists) v
-    here list is =
+    place : (list : Vec ℕ Z) → list ≡ get_or lists p list → list.items ≡ get_or (numbers lists) p []
+    place list is =
         let within : p < length lists = rw (sym same) (first_within v volumes p first) in
-        ap (λ l. l.items) is
-        ∙ (sym (get_or-map (λ l. l.items) lists p list [] within) ∙ sym (list_first v volumes (numbers lists) p [] beside first))
+        ap (λ l. l.items) is ∙ sym (get_or-map (λ l. l.items) lists p list [] within)
+
+    here : (list : Vec ℕ Z) → list ≡ get_or lists p list → list.items ≡ list_of volumes (numbers lists) v
+    here list is = place list is ∙ sym (list_first v volumes (numbers lists) p [] beside first)
 
     pub of_here : (list : Vec ℕ Z) → list ≡ get_or lists p list → list.items ≡ named_by state v
     of_here list is = here list is ∙ sym (view_of v)
+
+    -- a list stays as it was
+    pub same_by_change : (old new : Vec ℕ Z) → old ≡ get_or lists p old → new.items ≡ old.items → listing_of volumes (numbers (set lists p new)) ≡ state
+    same_by_change old new is stays =
+        ap (listing_of volumes) (numbers-set lists p new ∙ (ap (set (numbers lists) p) (stays ∙ place old is) ∙ set-get_or (numbers lists) p [])) ∙ seen
 
     -- a list changes, and keeps a number
     pub kept_by_change : (old new : Vec ℕ Z) → old ≡ get_or lists p old → (w m : ℕ) → (is_listed m old.items ≡ true → is_listed m new.items ≡ true) → is_listed m (named_by state w) ≡ true → is_listed m (list_of volumes (numbers (set lists p new)) w) ≡ true

@@ -7,6 +7,7 @@ use Rattle.std.proofs.lemmas.Bool.{cases_lt}
 use Rattle.std.proofs.lemmas.Bool.Decides.{nat_tests}
 use Rattle.fc_changed.specs.Row.{Row, is_of, row_began, row_restart, restart_in}
 use Rattle.fc_diff.specs.declared.tracked.Event.{Event}
+use Rattle.fc_diff.specs.declared.tracked.Event.TheVariants.{Began}
 use Rattle.fc_diff.specs.Told.{row_after}
 use Rattle.fc_diff.specs.State.{NewRow, ChangesState, IsFirstReady, after_beginning, takes_ready}
 use Rattle.fc_diff.specs.Index.{new_of, state_of, begun, begun_at}
@@ -98,6 +99,15 @@ first_there m source target n rows first = by (drop n rows) refl first
     by : (xs : List Row) → drop n rows ≡ xs → IsFirstReady m source target (map new_of xs) → n < length rows
     by [] e f = absurd f
     by (x ∷ xs) e f = let size = ap (λ ys. length ys) e in omega (arith, length-drop n rows)
+
+-- A mapping that isn't followed after the trigger was noted wasn't before either: where it is incremental, this is its first.
+pub first_trigger : (old noted : ChangesState) (m source target : ℕ) (following incremental : Bool) → noted ≡ record old { rows = map (row_began source target) old.rows }
+    → following ≡ list_any (is_of m) noted.rows → following ≡ false → incremental ≡ true
+    → (list_any (is_of m) old.rows ≡ false) × (list_any (is_of m) (map (row_began source target) old.rows) ≡ false) × (takes_ready old m incremental ≡ true)
+first_trigger old noted m source target following incremental told is unfollowed first =
+    let still : list_any (is_of m) (map (row_began source target) old.rows) ≡ false = ap (λ (x : ChangesState). list_any (is_of m) x.rows) (sym told) ∙ (sym is ∙ unfollowed) in
+    let before : list_any (is_of m) old.rows ≡ false = sym (any_told m (Began source target) old.rows) ∙ still in
+    (before, still, λ k. first k && not (before k))
 
 -- The trigger is the first: the mapping that stands ready first is followed.
 pub began_first : (old : ChangesState) (n : ℕ) (rows : List Row) (m source target : ℕ) → state_of n rows ≡ record old { rows = map (row_began source target) old.rows }

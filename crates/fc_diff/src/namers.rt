@@ -1,6 +1,6 @@
 //! For each volume the mappings that name it, so that a note on a volume reaches them alone.
 
-ghost use Rattle.std.specs.Prelude.{◌≡◌, ◌≢◌, ℕ, ◌<◌, [], OnOk, IsTrue, true, length, position, nat_eq, None};
+ghost use Rattle.std.specs.Prelude.{◌≡◌, ◌≢◌, ℕ, ◌<◌, [], OnOk, OnErr, IsTrue, true, length, position, nat_eq, None};
 ghost use Rattle.fc_diff.specs.Index.{is_listed, named_by};
 
 use fc_base::outcome::NoMemory;
@@ -48,10 +48,33 @@ impl Namers {
         }
     }
 
-    /// The mapping names the volume. Refused, no list is shorter than it was.
-    pub(crate) fn add(&mut self, alloc: Global, volume: u32, map: u32) -> Result<(), NoMemory>
+    /// The mapping, which names no volume yet, names both. Refused, it names neither.
+    pub(crate) fn add_both(
+        &mut self,
+        alloc: Global,
+        one: u32,
+        other: u32,
+        map: u32,
+    ) -> Result<(), NoMemory>
+        ensures one { OnOk result (is_listed map (named_by self.new one) ≡ true) }
+        ensures other { OnOk result (is_listed map (named_by self.new other) ≡ true) }
+        ensures kept { (v m : ℕ) → m ≢ map → is_listed m (named_by self.old v) ≡ true → is_listed m (named_by self.new v) ≡ true }
+    {
+        self.add(alloc, one, map)?;
+        match self.add(alloc, other, map) {
+            Ok(()) => Ok(()),
+            Err(NoMemory) => {
+                self.remove(one, map);
+                Err(NoMemory)
+            }
+        }
+    }
+
+    /// The mapping names the volume. Refused, all is as it was.
+    fn add(&mut self, alloc: Global, volume: u32, map: u32) -> Result<(), NoMemory>
         ensures added { OnOk result (is_listed map (named_by self.new volume) ≡ true) }
         ensures kept { (v m : ℕ) → is_listed m (named_by self.old v) ≡ true → is_listed m (named_by self.new v) ≡ true }
+        ensures err { OnErr result (self.new ≡ self.old) }
     {
         match self.volumes.get_index_of(&volume) {
             Some(place) => add_number(&mut self.lists[place], map),
@@ -59,11 +82,12 @@ impl Namers {
         }
     }
 
-    /// A volume that no mapping named is named by this one.
+    /// A volume that no mapping named is named by this one. Refused, all is as it was.
     fn add_volume(&mut self, alloc: Global, volume: u32, map: u32) -> Result<(), NoMemory>
         requires { position (nat_eq volume) self.old.volumes ≡ None }
         ensures added { OnOk result (is_listed map (named_by self.new volume) ≡ true) }
         ensures kept { (v m : ℕ) → is_listed m (named_by self.old v) ≡ true → is_listed m (named_by self.new v) ≡ true }
+        ensures err { OnErr result (self.new ≡ self.old) }
     {
         let mut list = Vec::new(alloc);
         match list.push(map) {
@@ -102,6 +126,7 @@ impl Namers {
 fn add_number(list: &mut Vec<u32>, number: u32) -> Result<(), NoMemory>
     ensures added { OnOk result (is_listed number list.new.items ≡ true) }
     ensures kept { (m : ℕ) → is_listed m list.old.items ≡ true → is_listed m list.new.items ≡ true }
+    ensures err { OnErr result (list.new.items ≡ list.old.items) }
 {
     if list.contains(&number) {
         return Ok(());

@@ -59,16 +59,16 @@ impl Table {
         ensures err { OnErr result (self.new ≡ self.old) }
     {
         let row = Tracked::new(alloc, map, source, target, grains)?;
-        self.namers.add(alloc, source, map)?;
-        self.namers.add(alloc, target, map)?;
         match self.rows.reserve(1) {
             Ok(()) => {}
             Err(_) => return Err(NoMemory),
         }
-        match self.ids.insert(map) {
-            Ok(_) => {}
+        match self.ids.reserve(1) {
+            Ok(()) => {}
             Err(_) => return Err(NoMemory),
         }
+        self.namers.add_both(alloc, source, target, map)?;
+        let _ = self.ids.insert(map).unwrap();
         self.rows.push(row).unwrap();
         Ok(())
     }

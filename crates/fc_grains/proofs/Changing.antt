@@ -14,7 +14,7 @@ use Rattle.fc_grains.specs.Parts.{VolumeDiskState, PoolState, IsWhole, content, 
 use Rattle.fc_grains.specs.Volumes.{VolumeGrains, volume_of, stored, changed}
 use Rattle.fc_grains.specs.declared.sums.Sums.{Sums}
 use Rattle.fc_grains.proofs.Adding.{total-same, kinds-same}
-use Rattle.fc_grains.proofs.Contents.{has_bytes, has_mark, content_at-contents}
+use Rattle.fc_grains.proofs.Contents.{both_there, content_at-contents}
 use Rattle.fc_grains.proofs.Finding.{AreRising, volume_of-at, changed-at}
 
 -- the volumes as contracts see them rise too
@@ -55,10 +55,10 @@ module _ (volumes : List VolumeDiskState) (rising : AreRising volumes) (at : ℕ
       subst P volume_is there
 
   pub mark_there : (place : ℕ) → place < length (volume_of (map grains_of volumes) id).contents → place < length was.lost
-  mark_there place there = has_mark was.lost was.disk.grains place (contents_there place there)
+  mark_there place there = (both_there was.lost was.disk.grains place (contents_there place there)).0
 
   pub grain_there : (place : ℕ) → place < length (volume_of (map grains_of volumes) id).contents → place < length was.disk.grains
-  grain_there place there = has_bytes was.lost was.disk.grains place (contents_there place there)
+  grain_there place there = (both_there was.lost was.disk.grains place (contents_there place there)).1
 
   pub stored_is : (place : ℕ) → place < length (volume_of (map grains_of volumes) id).contents
       → stored (map grains_of volumes) id place ≡ content (slice_index_or was.lost place false) (grain_at was.disk.grains place)

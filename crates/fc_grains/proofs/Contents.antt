@@ -9,24 +9,14 @@ length-contents [] grains same = refl
 length-contents (mark ∷ lost) [] same = absurd (omega arith)
 length-contents (mark ∷ lost) (bytes ∷ grains) same = ap suc (length-contents lost grains (omega arith))
 
--- a grain that holds something has bytes and a mark
-pub has_bytes : (lost : List Bool) (grains : List (List ℕ)) (g : ℕ) → g < length (contents lost grains) → g < length grains
-has_bytes [] grains g there = absurd (omega arith)
-has_bytes (mark ∷ lost) [] g there = absurd (omega arith)
-has_bytes (mark ∷ lost) (bytes ∷ grains) zero there = omega arith
-has_bytes (mark ∷ lost) (bytes ∷ grains) (suc g) there =
-    let below : g < length (contents lost grains) = omega arith in
-    let rest : g < length grains = has_bytes lost grains g below in
-    omega arith
-
-pub has_mark : (lost : List Bool) (grains : List (List ℕ)) (g : ℕ) → g < length (contents lost grains) → g < length lost
-has_mark [] grains g there = absurd (omega arith)
-has_mark (mark ∷ lost) [] g there = absurd (omega arith)
-has_mark (mark ∷ lost) (bytes ∷ grains) zero there = omega arith
-has_mark (mark ∷ lost) (bytes ∷ grains) (suc g) there =
-    let below : g < length (contents lost grains) = omega arith in
-    let rest : g < length lost = has_mark lost grains g below in
-    omega arith
+-- a grain that holds something has a mark and bytes
+pub both_there : (lost : List Bool) (grains : List (List ℕ)) (g : ℕ) → g < length (contents lost grains) → (g < length lost) × (g < length grains)
+both_there [] grains g there = absurd (omega arith)
+both_there (mark ∷ lost) [] g there = absurd (omega arith)
+both_there (mark ∷ lost) (bytes ∷ grains) zero there = (omega arith, omega arith)
+both_there (mark ∷ lost) (bytes ∷ grains) (suc g) there =
+    let rest = both_there lost grains g (omega arith) in
+    (omega (arith, rest.0), omega (arith, rest.1))
 
 pub content_at-contents : (lost : List Bool) (grains : List (List ℕ)) (g : ℕ) (d : Bool) → g < length (contents lost grains)
     → content_at (contents lost grains) g ≡ content (slice_index_or lost g d) (grain_at grains g)

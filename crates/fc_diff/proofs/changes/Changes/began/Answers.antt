@@ -1,11 +1,11 @@
-use Rattle.std.proofs.Common.{◌≡◌, true, false, not, ◌&&◌, sym, ◌∙◌, ap, subst, map, length, arith}
+use Rattle.std.proofs.Common.{◌≡◌, false, not, ◌&&◌, sym, ◌∙◌, ap, subst, length, arith}
 use Rattle.std.specs.List.{list_any}
-use Rattle.fc_changed.specs.Row.{is_of, row_began}
+use Rattle.fc_changed.specs.Row.{is_of}
 use Rattle.fc_diff.specs.declared.tracked.Event.TheVariants.{Began}
 use Rattle.fc_diff.specs.State.{ChangesState, IsFirstReady, takes_ready, after_beginning}
 use Rattle.fc_diff.specs.Index.{state_of}
 use Rattle.fc_diff.proofs.Found.{begun_size}
-use Rattle.fc_diff.proofs.States.{any_told, first_there, began_first, began_later, not_taken}
+use Rattle.fc_diff.proofs.States.{any_told, first_there, first_trigger, began_first, began_later, not_taken}
 use Rattle.fc_diff.proofs.changes.Changes.began.Goals as goal
 use Rattle.fc_diff.proofs.changes.Changes.began.Goals.{else-incremental-via-then-incremental+else-not-is_following, else-incremental-via-else-incremental}
 
@@ -15,11 +15,9 @@ begin-self-inside-requires c =
     let s = c.args.source.0 in
     let t = c.args.target.0 in
     let old = c.args.self.now in
-    let still : list_any (is_of m) (map (row_began s t) old.rows) ≡ false = ap (λ (x : ChangesState). list_any (is_of m) x.rows) (sym c.tell.ensures) ∙ (sym c.is_following.ensures ∙ c.if-not-is_following.true) in
-    let before : list_any (is_of m) old.rows ≡ false = sym (any_told m (Began s t) old.rows) ∙ still in
-    let takes : takes_ready old m c.args.incremental ≡ true = λ k. c.if-incremental.true k && not (before k) in
+    let first = first_trigger old c.tell.new.self m s t c.is_following.result c.args.incremental c.tell.ensures c.is_following.ensures c.if-not-is_following.true c.if-incremental.true in
     first_there m s t c.self.inside.followed c.self.inside.table
-    (subst (λ (x : ChangesState). IsFirstReady m s t x.ready) (sym (c.self.view_is ∙ c.tell.ensures)) (c.requires takes))
+    (subst (λ (x : ChangesState). IsFirstReady m s t x.ready) (sym (c.self.view_is ∙ c.tell.ensures)) (c.requires first.2))
 
 pub invariant_of-self : goal.invariant_of-self
 invariant_of-self c =
@@ -27,10 +25,8 @@ invariant_of-self c =
     let s = c.args.source.0 in
     let t = c.args.target.0 in
     let old = c.args.self.now in
-    let still : list_any (is_of m) (map (row_began s t) old.rows) ≡ false = ap (λ (x : ChangesState). list_any (is_of m) x.rows) (sym c.tell.ensures) ∙ (sym c.is_following.ensures ∙ c.if-not-is_following.true) in
-    let before : list_any (is_of m) old.rows ≡ false = sym (any_told m (Began s t) old.rows) ∙ still in
-    let takes : takes_ready old m c.args.incremental ≡ true = λ k. c.if-incremental.true k && not (before k) in
-    let there = first_there m s t c.self.inside.followed c.self.inside.table (subst (λ (x : ChangesState). IsFirstReady m s t x.ready) (sym (c.self.view_is ∙ c.tell.ensures)) (c.requires takes)) in
+    let first = first_trigger old c.tell.new.self m s t c.is_following.result c.args.incremental c.tell.ensures c.is_following.ensures c.if-not-is_following.true c.if-incremental.true in
+    let there = first_there m s t c.self.inside.followed c.self.inside.table (subst (λ (x : ChangesState). IsFirstReady m s t x.ready) (sym (c.self.view_is ∙ c.tell.ensures)) (c.requires first.2)) in
     let size = ap (λ rows. length rows) c.begin-self-inside.ensures.rows ∙ begun_size c.self.inside.followed c.self.inside.table in
     omega (arith, there, size, c.begin-self-inside.ensures.behind)
 
@@ -40,11 +36,9 @@ returns-then-not-is_following c =
     let s = c.args.source.0 in
     let t = c.args.target.0 in
     let old = c.args.self.now in
-    let still : list_any (is_of m) (map (row_began s t) old.rows) ≡ false = ap (λ (x : ChangesState). list_any (is_of m) x.rows) (sym c.tell.ensures) ∙ (sym c.is_following.ensures ∙ c.if-not-is_following.true) in
-    let before : list_any (is_of m) old.rows ≡ false = sym (any_told m (Began s t) old.rows) ∙ still in
-    let takes : takes_ready old m c.args.incremental ≡ true = λ k. c.if-incremental.true k && not (before k) in
+    let first = first_trigger old c.tell.new.self m s t c.is_following.result c.args.incremental c.tell.ensures c.is_following.ensures c.if-not-is_following.true c.if-incremental.true in
     (λ k. state_of (c.begin-self-inside.ensures.behind k) (c.begin-self-inside.ensures.rows k))
-    ∙ (began_first old c.self.inside.followed c.self.inside.table m s t (c.self.view_is ∙ c.tell.ensures) before still (c.requires takes)
+    ∙ (began_first old c.self.inside.followed c.self.inside.table m s t (c.self.view_is ∙ c.tell.ensures) first.0 first.1 (c.requires first.2)
     ∙ ap (after_beginning old m s t) (sym c.if-incremental.true))
 
 pub returns-else-incremental : goal.returns-else-incremental
