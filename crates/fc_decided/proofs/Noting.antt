@@ -1,5 +1,5 @@
 -- What is kept of incremental mappings, through events: each row stays one of a mapping of the table.
-use Rattle.std.proofs.Common.{◌≡◌, ◌≢◌, ℕ, ◌+◌, Bool, true, false, not, cond, List, [], ◌∷◌, ◌++◌, get_or, map, fold, filter, replicate, Option, Some, None, refl, sym, ap, subst, ◌∙◌, Contains, All}
+use Rattle.std.proofs.Common.{◌≡◌, ◌≢◌, ℕ, Bool, true, false, not, cond, List, [], ◌∷◌, ◌++◌, get_or, map, fold, filter, replicate, Option, Some, None, refl, sym, ap, subst, ◌∙◌, Contains, All}
 use Rattle.std.specs.Prelude.{◌||◌, ◌==◌, find, flat_map}
 use Rattle.std.specs.List.{list_any}
 use Rattle.std.specs.Option.{ForSome}

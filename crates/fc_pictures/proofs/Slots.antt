@@ -1,8 +1,7 @@
 -- Slots that stay as they are but for what they hold: their places, what a sheet needs to stay sound, and all that an entry of
 -- a lane does.
-use mathlib.Core.Path.{fun_ext}
-use Rattle.std.proofs.Common.{◌≡◌, ℕ, zero, suc, ◌<◌, Bool, true, false, ◌&&◌, eqb, Option, Some, None, List, [], ◌∷◌, length, get_or, replicate, map, fold, refl, sym, ap, ap₂, subst, ◌∙◌, arith}
-use Rattle.fc_base.specs.Column.{Shape, first_below, is_at}
+use Rattle.std.proofs.Common.{◌≡◌, ℕ, zero, suc, ◌<◌, Bool, true, false, ◌&&◌, eqb, Option, Some, None, List, [], ◌∷◌, length, get_or, replicate, map, fold, refl, sym, ap, subst, ◌∙◌, arith}
+use Rattle.fc_base.specs.Column.{first_below, is_at}
 use Rattle.fc_base.specs.Need.{is_complete}
 use Rattle.fc_base.specs.RestoreGraph.{HasNoLoop}
 use Rattle.fc_base.specs.Sheet.{Slot, Sheet, slot_at, shape_of, live_place, mapping_place, birth_place, volume_grains, grains_at}
@@ -27,10 +26,10 @@ pub record Stay (old new : List Slot) : Type 0 where
   pub mapping : (k : ℕ) → (slot_at new k).mapping ≡ (slot_at old k).mapping
   pub size : (k : ℕ) → length (slot_at new k).held ≡ length (slot_at old k).held
 
-pub all_stay : (slots : List Slot) → Stay slots slots
+all_stay : (slots : List Slot) → Stay slots slots
 all_stay slots = record { count = refl; birth = λ k. refl; chain = λ k. refl; volume = λ k. refl; is_live = λ k. refl; mapping = λ k. refl; size = λ k. refl }
 
-pub stay_then : (a b c : List Slot) → Stay a b → Stay b c → Stay a c
+stay_then : (a b c : List Slot) → Stay a b → Stay b c → Stay a c
 stay_then a b c p q =
     record {
       count = q.count ∙ p.count;
@@ -66,15 +65,15 @@ none_held (suc n) (suc g) = none_held n g
 
 pub live_stay : (old new : List Slot) → Stay old new → (v : ℕ) → live_place new v ≡ live_place old v
 unfolding live_place
-live_stay old new s v = ap₂ first_below (fun_ext (λ k. ap₂ (λ a b. a && eqb b v) (s.is_live k) (s.volume k))) s.count
+live_stay old new s v = λ i. first_below (λ k. s.is_live k i && eqb (s.volume k i) v) (s.count i)
 
 pub mapping_stay : (old new : List Slot) → Stay old new → (m : ℕ) → mapping_place new m ≡ mapping_place old m
 unfolding mapping_place
-mapping_stay old new s m = ap₂ first_below (fun_ext (λ k. ap (λ o. is_at o m) (s.mapping k))) s.count
+mapping_stay old new s m = λ i. first_below (λ k. is_at (s.mapping k i) m) (s.count i)
 
 pub birth_stay : (old new : List Slot) → Stay old new → (b : ℕ) → birth_place new b ≡ birth_place old b
 unfolding birth_place
-birth_stay old new s b = ap₂ first_below (fun_ext (λ k. ap (λ x. eqb x b) (s.birth k))) s.count
+birth_stay old new s b = λ i. first_below (λ k. eqb (s.birth k i) b) (s.count i)
 
 pub grains_stay : (old new : List Slot) → Stay old new → (v : ℕ) → volume_grains new v ≡ volume_grains old v
 grains_stay old new s v = ap (grains_at new) (live_stay old new s v) ∙ by (live_place old v)
@@ -89,21 +88,13 @@ below_stay old new s k lt = let c = s.count in omega (arith, c, lt)
 -- ---- soundness
 
 shape_stay : (old new : List Slot) → Stay old new → shape_of new ≡ shape_of old
-shape_stay old new s =
-    let n : ℕ = length old in
-    let b : ℕ → ℕ = λ k. (slot_at new k).birth in
-    let c : ℕ → ℕ = λ k. (slot_at new k).chain in
-    let v : ℕ → ℕ = λ k. (slot_at new k).volume in
-    let l : ℕ → Bool = λ k. (slot_at new k).is_live in
-    let b' : ℕ → ℕ = λ k. (slot_at old k).birth in
-    let c' : ℕ → ℕ = λ k. (slot_at old k).chain in
-    let v' : ℕ → ℕ = λ k. (slot_at old k).volume in
-    let first : shape_of new ≡ record { count = n; birth = b; chain = c; volume = v; is_live = l } = ap (λ (z : ℕ). let t : Shape = record { count = z; birth = b; chain = c; volume = v; is_live = l } in t) s.count in
-    first
-    ∙ ap (λ (z : ℕ → ℕ). let t : Shape = record { count = n; birth = z; chain = c; volume = v; is_live = l } in t) (fun_ext s.birth)
-    ∙ ap (λ (z : ℕ → ℕ). let t : Shape = record { count = n; birth = b'; chain = z; volume = v; is_live = l } in t) (fun_ext s.chain)
-    ∙ ap (λ (z : ℕ → ℕ). let t : Shape = record { count = n; birth = b'; chain = c'; volume = z; is_live = l } in t) (fun_ext s.volume)
-    ∙ ap (λ (z : ℕ → Bool). let t : Shape = record { count = n; birth = b'; chain = c'; volume = v'; is_live = z } in t) (fun_ext s.is_live)
+shape_stay old new s = λ i. record {
+  count = s.count i;
+  birth = λ k. s.birth k i;
+  chain = λ k. s.chain k i;
+  volume = λ k. s.volume k i;
+  is_live = λ k. s.is_live k i;
+}
 
 -- a live slot of no mapping stays complete, and each live slot keeps a holder
 pub stay_sound : (b : ℕ) (old new : List Slot) → Stay old new → IsSound record { births = b; slots = old } →
