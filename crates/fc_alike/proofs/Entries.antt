@@ -1,11 +1,9 @@
 -- Rows after an entry: a write and a failed write take their grain from each row that names the volume.
-use Rattle.std.proofs.Common.{◌≡◌, ◌≢◌, ℕ, Bool, true, false, ◌++◌, Option, Some, None, IsSome, List, [], ◌∷◌, length, get_or, slice_set, map, fold, All, refl, sym, ap, subst, ◌∙◌, ◌⊎◌, inl, inr, length-set, get_or-set_other}
+use Rattle.std.proofs.Common.{◌≡◌, ◌≢◌, ℕ, Bool, true, false, ◌++◌, Option, Some, None, IsSome, List, [], ◌∷◌, length, get_or, slice_set, map, All, refl, sym, ap, subst, ◌∙◌, ◌⊎◌, inl, inr, length-set, get_or-set_other}
 use Rattle.std.proofs.lemmas.Bool.{both_ways, cases_eq, cond_both}
 use Rattle.std.proofs.lemmas.List.Elements.{All-weaker, All-map}
 use Rattle.fc_base.specs.Sheet.{Slot, Sheet}
-use Rattle.fc_base.specs.SheetStep.{sheet_moved, sheet_torn}
 use Rattle.fc_base.specs.declared.ids.VolId.{VolId}
-use Rattle.fc_base.specs.declared.request.Move.{Move}
 use Rattle.fc_base.specs.declared.request.Side.{Side}
 use Rattle.fc_base.specs.declared.request.Side.TheVariants.{Now, Under}
 use Rattle.fc_base.specs.declared.request.Torn.{Torn}
@@ -18,42 +16,14 @@ use Rattle.fc_follow.specs.Alike.{IsAlike, AreAlike}
 use Rattle.fc_follow.specs.Following.{Followed, write_notes, side_notes, torn_notes, followed_entry}
 use Rattle.fc_moves.proofs.Search.{cases_option}
 use Rattle.fc_pictures.specs.Law.{now_of}
+use Rattle.fc_pictures.proofs.Slots.{Stay, live_stay, grains_stay, entry_stay}
 use Rattle.fc_pictures.proofs.Volumes.{id_of, KeepsIds, map_none, at_id, at_id_keeps, changed_here, changed_other}
 use Rattle.fc_rules.specs.LaneRight.{done_write}
-use Rattle.fc_rules.specs.LaneTold.{LaneOf, place_of, sheet_move, sheet_write, sheet_tear, sheet_entry, write_volume, picture_write, tear_volume, picture_tear}
-use Rattle.fc_sheets.proofs.Holding.{bit_taken, bit_kept, bit_lost}
-use Rattle.fc_alike.proofs.Slots.{Stay, all_stay, stay_then, bit_stay, live_stay, grains_stay}
+use Rattle.fc_rules.specs.LaneTold.{LaneOf, place_of, sheet_entry, write_volume, picture_write, tear_volume, picture_tear}
 use Rattle.fc_alike.proofs.Rows.{AreDistinct, unnamed, with_same, distinct_map}
 use Rattle.fc_alike.proofs.Leaving.{noted, noted_append}
 
 -- ---- chains keep their slots but for what these hold
-
-moved_stay : (v g : ℕ) (in_place : Bool) (s : Sheet) → Stay s.slots (sheet_moved v g in_place s).slots
-moved_stay v g true s = bit_stay _ g (bit_kept v g) s.slots
-moved_stay v g false s = bit_stay _ g (bit_taken v g) s.slots
-
-torn_stay : (v g : ℕ) (side : Side) (s : Sheet) → Stay s.slots (sheet_torn v g side s).slots
-torn_stay v g Now s = bit_stay _ g (bit_taken v g) s.slots
-torn_stay v g Under s = bit_stay _ g (bit_lost v g) s.slots
-
-moves_stay : (l : LaneOf) (s : Sheet) (moves : List Move) → Stay s.slots (fold (sheet_move l) s moves).slots
-moves_stay l s [] = all_stay s.slots
-moves_stay l s (m ∷ ms) =
-    stay_then s.slots (sheet_move l s m).slots (fold (sheet_move l) (sheet_move l s m) ms).slots (moved_stay m.volume.0 (place_of l m.grain.0) m.in_place s) (moves_stay l (sheet_move l s m) ms)
-
-write_stay : (l : LaneOf) (s : Sheet) (write : Option WritePart) → Stay s.slots (sheet_write l s write).slots
-write_stay l s None = all_stay s.slots
-write_stay l s (Some part) = bit_stay _ _ (bit_taken part.volume.0 (place_of l (grain_of_block l.grain part.block))) s.slots
-
-tear_stay : (l : LaneOf) (s : Sheet) (torn : Option Torn) → Stay s.slots (sheet_tear l s torn).slots
-tear_stay l s None = all_stay s.slots
-tear_stay l s (Some torn) = torn_stay torn.volume.0 (place_of l torn.grain.0) torn.side s
-
-entry_stay : (l : LaneOf) (s : Sheet) (write : Option WritePart) (moves : List Move) (torn : Option Torn) → Stay s.slots (sheet_entry l s write moves torn).slots
-entry_stay l s write moves torn =
-    let moved : Sheet = fold (sheet_move l) s moves in
-    let next : Sheet = sheet_write l moved write in
-    stay_then s.slots next.slots (sheet_tear l next torn).slots (stay_then s.slots moved.slots next.slots (moves_stay l s moves) (write_stay l moved write)) (tear_stay l next torn)
 
 row_stay : (old new : List Slot) (picture : Picture) (row : Row) → Stay old new → IsAlike old picture row → IsAlike new picture row
 row_stay old new picture row s a =
@@ -201,6 +171,6 @@ entry_alike l f entry a =
     let all : RowsAlike old next (noted (write_notes l write ++ torn_notes l entry.torn) f.rows) =
     subst (RowsAlike old next) (sym (noted_append (write_notes l write) (torn_notes l entry.torn) f.rows)) r in
     record {
-      each = All-weaker (IsAlike old next) (IsAlike new.slots next) (λ row x. row_stay old new.slots next row (entry_stay l f.told.sheet write entry.moves entry.torn) x) (noted (write_notes l write ++ torn_notes l entry.torn) f.rows) all.each;
+      each = All-weaker (IsAlike old next) (IsAlike new.slots next) (λ row x. row_stay old new.slots next row (entry_stay l f.told.sheet write entry.moves entry.torn).slots x) (noted (write_notes l write ++ torn_notes l entry.torn) f.rows) all.each;
       distinct = all.distinct;
     }

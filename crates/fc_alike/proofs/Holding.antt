@@ -12,8 +12,8 @@ use Rattle.fc_pictures.proofs.Volumes.{id_of}
 use Rattle.fc_pictures.specs.Law.{now_of}
 use Rattle.fc_rules.specs.Shows.{Stored, Shows}
 use Rattle.fc_moves.proofs.Readers.{IsHolder, holder_is, is_holder, holder_from, holder_between}
-use Rattle.fc_alike.proofs.Sets.{none_held, length_of}
-use Rattle.fc_alike.proofs.Slots.{Stay, live_stay, below_stay, stay_sound}
+use Rattle.fc_alike.proofs.Sets.{length_of}
+use Rattle.fc_pictures.proofs.Slots.{Stay, none_held, live_stay, below_stay, stay_sound}
 
 -- All slots stay but for what the one at `k` holds, and it holds more.
 pub record Begins (old new : List Slot) (k : ℕ) : Type 0 where

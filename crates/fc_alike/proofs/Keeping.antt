@@ -12,7 +12,8 @@ use Rattle.fc_sheets.proofs.Finding.{mapping_place_at}
 use Rattle.fc_sheets.proofs.Holding.{length_map, at_map, regrained, bit_kept}
 use Rattle.fc_alike.specs.Law.{NewSlot, Keeps, with_first}
 use Rattle.fc_alike.proofs.Sets.{of_none, of_more, of_past}
-use Rattle.fc_alike.proofs.Slots.{Stay, slots_stay}
+use Rattle.fc_pictures.proofs.Slots.{Stay}
+use Rattle.fc_alike.proofs.Slots.{slots_stay}
 use Rattle.fc_alike.proofs.Holding.{begins_at, begins_other, holding_stay, holding_begins, begins_sound}
 
 -- two sets that are the same when filled up
@@ -83,5 +84,5 @@ new_slot_keeps s p grains k set sound new =
       one_more = λ g e. ap (λ v. sheet_moved v g true (with_first g set k s)) ((stay g).volume k) ∙ one_more s k g set sound.one_live new.there new.is_live e;
       all = λ n le. ap (λ z. holding z k s) (take_all n set le);
       sound = λ n. begins_sound s k p.map.0 (holding (take n set) k s).slots (holding_begins s k grains (take n set) new.there new.nothing) sound (mapping_place_at s.slots p.map.0 k new.of_mapping).1;
-      stays = λ n. slots_stay s (with_first n set k s) refl (stay n);
+      stays = λ n. slots_stay s (with_first n set k s) (record { births = refl; slots = stay n });
     }

@@ -4,7 +4,7 @@ use Rattle.std.proofs.lemmas.List.Elements.{All-nil, All-weaker}
 use Rattle.fc_base.specs.SheetFits.{FitsEvent}
 use Rattle.fc_base.specs.SheetStep.{triggered}
 use Rattle.fc_base.specs.declared.decision.LaneEvent.{LaneEvent}
-use Rattle.fc_base.specs.declared.decision.LaneEvent.TheVariants.{Make, Remove, Trigger, Retire, Detach, Split, Force, Drop, Forget, NoteCut, Access, Work, Arm}
+use Rattle.fc_base.specs.declared.decision.LaneEvent.TheVariants.{Make, Remove, Trigger, Retire, Detach, Split, Force, Forget, NoteCut}
 use Rattle.fc_books.specs.After.{begun}
 use Rattle.fc_changed.specs.Row.{Row, is_of}
 use Rattle.fc_entry.specs.Picture.{zeros}
@@ -79,14 +79,11 @@ module _ (l : LaneOf) (f : Followed) (stored after : Stored) (follows : Follows 
   event_follows (Split m) fits fit st = follows_from (told_event l f.told (Split m)) _ after (plain (Split m) fits st) (split_leaves f.told.sheet.slots f.told.picture f.rows m rows)
   event_follows (Force m dependents) fits fit st =
       follows_from (told_event l f.told (Force m dependents)) _ after (plain (Force m dependents) fits st) (force_leaves f.told.sheet.slots f.told.picture f.rows m dependents rows)
-  event_follows (Drop slot) fits fit st = follows_from (told_event l f.told (Drop slot)) f.rows after (plain (Drop slot) fits st) rows
   event_follows (Forget m) fits fit st =
       follows_from (told_event l f.told (Forget m)) _ after (plain (Forget m) fits st) (filter_alike (λ (row : Row). not (is_of m.0 row)) f.told.picture f.rows rows)
   event_follows (NoteCut m source target) fits fit st =
       follows_from (told_event l f.told (NoteCut m source target)) _ after (plain (NoteCut m source target) fits st) (cut_less f.told.picture f.rows target.0 rows)
-  event_follows (Access volume access) fits fit st = follows_from (told_event l f.told (Access volume access)) f.rows after (plain (Access volume access) fits st) rows
-  event_follows (Work m copies cleans) fits fit st = follows_from (told_event l f.told (Work m copies cleans)) f.rows after (plain (Work m copies cleans) fits st) rows
-  event_follows (Arm volume grain calls) fits fit st = follows_from (told_event l f.told (Arm volume grain calls)) f.rows after (plain (Arm volume grain calls) fits st) rows
+  event_follows e fits fit st = follows_from (told_event l f.told e) f.rows after (plain e fits st) rows
 
 pub follow_law_holds : FollowLaw
 follow_law_holds =

@@ -10,10 +10,11 @@ use Rattle.fc_changed.specs.Row.{Row, row_names, with_none, row_left, row_cut}
 use Rattle.fc_entry.specs.Picture.{PlainVolume, Picture, volume_in, content_at, now_at}
 use Rattle.fc_follow.specs.Alike.{IsAlike}
 use Rattle.fc_moves.proofs.Search.{cases_option}
+use Rattle.fc_pictures.proofs.Slots.{none_held}
 use Rattle.fc_pictures.proofs.Volumes.{id_of, found}
 use Rattle.fc_rules.specs.Shows.{Stored, Shows}
 use Rattle.fc_sheets.proofs.Finding.{live_place_at}
-use Rattle.fc_alike.proofs.Sets.{none_held, length_with, passes}
+use Rattle.fc_alike.proofs.Sets.{length_with, passes}
 
 -- Both volumes of the row are in the picture, as large as the row, and show the same at each grain of it.
 pub record AlikeIn (picture : Picture) (row : Row) : Type 0 where

@@ -5,13 +5,9 @@ use Rattle.std.proofs.lemmas.List.{length-set, length-append, length-replicate, 
 use Rattle.std.proofs.lemmas.List.FromFn.{length-map-range_with_len, get_or-map-range_with_len}
 use Rattle.fc_books.specs.After.{of_length}
 use Rattle.fc_changed.specs.Notes.{has, grains_with}
+use Rattle.fc_pictures.proofs.Slots.{none_held}
 
 -- ---- filled up
-
-pub none_held : (n g : ℕ) → get_or (replicate n false) g false ≡ false
-none_held zero g = refl
-none_held (suc n) zero = refl
-none_held (suc n) (suc g) = none_held n g
 
 padded : (xs : List Bool) (n g : ℕ) → get_or (xs ++ replicate n false) g false ≡ get_or xs g false
 padded [] n g = none_held n g

@@ -10,10 +10,11 @@ use Rattle.fc_books.specs.After.{begun, holding}
 use Rattle.fc_moves.proofs.Search.{cases_option}
 use Rattle.fc_sheets.proofs.Finding.{live_place_at, live_place_is, mapping_place_at, mapping_place_is}
 use Rattle.fc_sheets.proofs.Places.{insert_is, insert_here}
-use Rattle.fc_sheets.proofs.Starting.{left_is, new_slot, Placed, started_placed, Apart, AllFit, ApartFrom, AllApart, HoldsSheet, all_later, all_fit, all_apart, triggered_sound}
+use Rattle.fc_sheets.proofs.Starting.{new_slot, Placed, started_is, started_placed, Apart, AllFit, ApartFrom, AllApart, HoldsSheet, all_later, all_fit, all_apart, triggered_sound}
 use Rattle.fc_sheets.proofs.Steps.{holds_from}
 use Rattle.fc_alike.specs.Law.{NewSlot, IsNext, SlotsStay}
-use Rattle.fc_alike.proofs.Slots.{Stay, all_stay, stay_then, live_stay, mapping_stay, slots_stay}
+use Rattle.fc_pictures.proofs.Slots.{SheetStays, sheet_stays, sheet_stays_then, live_stay, mapping_stay}
+use Rattle.fc_alike.proofs.Slots.{slots_stay}
 use Rattle.fc_alike.proofs.Holding.{Begins, holding_stay, holding_begins, begins_sound}
 
 -- ---- the slot of a pair
@@ -43,18 +44,8 @@ own_placed t p x grains xl =
 own_started : (s : Sheet) (p : Pair) → HoldsSheet s → FitsPair s.slots p → p.target.0 ≢ p.source.0 → OwnSlot (started_empty s p).slots p (volume_grains s.slots p.target.0)
 own_started s p h f ne =
     let grains : ℕ = volume_grains s.slots p.target.0 in
-    let tl = live_place_at s.slots p.target.0 f.target f.target_there in
-    let sl = live_place_at s.slots p.source.0 f.source f.source_there in
-    let t : Sheet = left_place f.target s in
-    let lf = left_is s f.target h tl.there tl.is_live in
-    let apart : f.source ≢ f.target = λ e. ne (sym tl.of_volume ∙ (ap (λ z. (slot_at s.slots z).volume) (sym e) ∙ sl.of_volume)) in
-    let x = lf.1.stays f.source sl.there apart in
-    let found : live_place t.slots p.source.0 ≡ Some x.0 = live_place_is t.slots p.source.0 x.0 lf.1.holds.one_live
-    (record { there = x.1; is_live = ap (λ (z : Slot). z.is_live) x.2 ∙ sl.is_live; of_volume = ap (λ (z : Slot). z.volume) x.2 ∙ sl.of_volume }) in
-    let whole : started_empty s p ≡ placed p.target.0 p.map.0 (replicate grains false) x.0 t =
-    ap (λ o. at_place (placed p.target.0 p.map.0 (replicate grains false)) (live_place (at_place left_place o s).slots p.source.0) (at_place left_place o s)) f.target_there
-    ∙ ap (λ o. at_place (placed p.target.0 p.map.0 (replicate grains false)) o t) found in
-    subst (λ (z : Sheet). OwnSlot z.slots p grains) (sym whole) (own_placed t p x.0 grains x.1)
+    let i = started_is s p h f ne in
+    subst (λ (z : Sheet). OwnSlot z.slots p grains) (sym i.whole) (own_placed (left_place f.target s) p i.place grains i.source.there)
 
 own_later : (s t : Sheet) (p q : Pair) (grains : ℕ) → Placed s p t → p.target.0 ≢ q.target.0 → OwnSlot s.slots q grains → OwnSlot t.slots q grains
 own_later s t p q grains pl apart own =
@@ -154,26 +145,22 @@ begun_sound restarts t p grains k sound new =
     (begins_sound t k p.map.0 (holding (restarts p.map.0) k t).slots (begun_begins restarts t p grains k new) sound (mapping_place_at t.slots p.map.0 k new.of_mapping).1)
 
 -- slots stay where they are
-abbrev Stays : Sheet → Sheet → Type 0
-Stays t u = (u.births ≡ t.births) × Stay t.slots u.slots
-
-one_stays : (restarts : ℕ → List Bool) (t : Sheet) (p : Pair) → Stays t (begun restarts t p)
+one_stays : (restarts : ℕ → List Bool) (t : Sheet) (p : Pair) → SheetStays t (begun restarts t p)
 one_stays restarts t p =
     elim (cases_option (mapping_place t.slots p.map.0)) [
-      | inl none ↦ subst (Stays t) (sym (ap (λ o. at_place (holding (restarts p.map.0)) o t) none)) (refl, all_stay t.slots)
-      | inr k ↦ subst (Stays t) (sym (ap (λ o. at_place (holding (restarts p.map.0)) o t) k.1)) (refl, holding_stay t k.0 (restarts p.map.0) (mapping_place_at t.slots p.map.0 k.0 k.1).0)
+      | inl none ↦ subst (SheetStays t) (sym (ap (λ o. at_place (holding (restarts p.map.0)) o t) none)) (sheet_stays t)
+      | inr k ↦ subst (SheetStays t) (sym (ap (λ o. at_place (holding (restarts p.map.0)) o t) k.1))
+          (record { births = refl; slots = holding_stay t k.0 (restarts p.map.0) (mapping_place_at t.slots p.map.0 k.0 k.1).0 })
     ]
 
-all_stays : (restarts : ℕ → List Bool) (pairs : List Pair) (t : Sheet) → Stays t (fold (begun restarts) t pairs)
-all_stays restarts [] t = (refl, all_stay t.slots)
+all_stays : (restarts : ℕ → List Bool) (pairs : List Pair) (t : Sheet) → SheetStays t (fold (begun restarts) t pairs)
+all_stays restarts [] t = sheet_stays t
 all_stays restarts (p ∷ ps) t =
     let next : Sheet = begun restarts t p in
-    let one = one_stays restarts t p in
-    let rest = all_stays restarts ps next in
-    (rest.0 ∙ one.0, stay_then t.slots next.slots (fold (begun restarts) next ps).slots one.1 rest.1)
+    sheet_stays_then t next (fold (begun restarts) next ps) (one_stays restarts t p) (all_stays restarts ps next)
 
 pub begun_stays : (restarts : ℕ → List Bool) (s : Sheet) (pairs : List Pair) → SlotsStay s (fold (begun restarts) s pairs)
-begun_stays restarts s pairs = let all = all_stays restarts pairs s in slots_stay s (fold (begun restarts) s pairs) all.0 all.1
+begun_stays restarts s pairs = slots_stay s (fold (begun restarts) s pairs) (all_stays restarts pairs s)
 
 -- the slot of another pair stays new
 other_new : (old new : List Slot) (p q : Pair) (n m k j : ℕ) → Begins old new k → NewSlot old p n k → p.map.0 ≢ q.map.0 → NewSlot old q m j → NewSlot new q m j

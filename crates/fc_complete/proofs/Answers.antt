@@ -5,6 +5,7 @@ use Rattle.fc_base.specs.Grain.{block_bytes}
 use Rattle.fc_base.specs.declared.request.ReadPart.{ReadPart}
 use Rattle.fc_base.specs.declared.request.Reply.{Reply}
 use Rattle.fc_base.specs.declared.request.Reply.TheVariants as reply
+use Rattle.fc_base.specs.declared.request.Request.{Request}
 use Rattle.fc_base.specs.declared.request.WritePart.{WritePart}
 use Rattle.fc_base.specs.declared.runs.Run.{Run}
 use Rattle.fc_base.specs.declared.size.GrainSize.{GrainSize}
@@ -16,7 +17,7 @@ use Rattle.fc_entry.specs.Reads.{IsRightIn}
 use Rattle.fc_entry.specs.Writes.{is_whole}
 use Rattle.fc_entry.specs.declared.entry.Entry.{Entry}
 use Rattle.fc_rules.specs.GrainAnswers.{ByAccess, ReadAnswers, WriteAnswers, FillAnswers, cannot_write}
-use Rattle.fc_rules.specs.LaneRight.{VolumeWrite, MappingFill}
+use Rattle.fc_rules.specs.LaneRight.{LaneAnswers, VolumeWrite, MappingFill}
 use Rattle.fc_rules.specs.LaneTold.{LaneOf, LaneTold}
 use Rattle.fc_rules.specs.LaneTurn.{spot_at}
 use Rattle.fc_rules.specs.Spot.{Spot, is_lost}
@@ -37,14 +38,7 @@ module _ (entry : Entry) (quiet : HasRisen entry.faults_before entry.faults_afte
   read_by grain spot part reply.MediumError there h = absurd (true≢false (sym h.0 ∙ there))
   read_by grain spot part reply.DiskFault there h = absurd (quiet h.2)
   read_by grain spot part reply.NoMemory there h = record { answered = tt; untorn = h.3.untorn }
-  read_by grain spot part reply.Done there h = absurd h
-  read_by grain spot part (reply.Made kind id) there h = absurd h
-  read_by grain spot part (reply.Listed rows) there h = absurd h
-  read_by grain spot part (reply.Moved map g) there h = absurd h
-  read_by grain spot part reply.Idle there h = absurd h
-  read_by grain spot part (reply.Offline map state) there h = absurd h
-  read_by grain spot part (reply.NotAccessible map) there h = absurd h
-  read_by grain spot part (reply.Refused refusal) there h = absurd h
+  read_by grain spot part answer there h = absurd h
 
   pub read_served : (grain : GrainSize) (spot : Spot) (part : ReadPart) → is_lost (spot.now part.volume.0) ≡ false → ReadAnswers grain spot part entry entry.reply → IsServed entry
   read_served grain spot part there h = as_served entry (read_by grain spot part entry.reply there h)
@@ -57,14 +51,7 @@ module _ (entry : Entry) (quiet : HasRisen entry.faults_before entry.faults_afte
   write_by grain spot part t reply.MediumError there h = absurd (true≢false (sym h.0 ∙ can_write grain spot part there))
   write_by grain spot part t reply.DiskFault there h = absurd (quiet h.1.risen)
   write_by grain spot part t reply.NoMemory there h = record { answered = tt; untorn = h.1.untorn }
-  write_by grain spot part t (reply.Made kind id) there h = absurd h
-  write_by grain spot part t (reply.Bytes runs) there h = absurd h
-  write_by grain spot part t (reply.Listed rows) there h = absurd h
-  write_by grain spot part t (reply.Moved map g) there h = absurd h
-  write_by grain spot part t reply.Idle there h = absurd h
-  write_by grain spot part t (reply.Offline map state) there h = absurd h
-  write_by grain spot part t (reply.NotAccessible map) there h = absurd h
-  write_by grain spot part t (reply.Refused refusal) there h = absurd h
+  write_by grain spot part t answer there h = absurd h
 
   pub write_served :
       (l : LaneOf) (told : LaneTold) (part : WritePart) (live : Option ℕ) →
@@ -78,15 +65,7 @@ module _ (entry : Entry) (quiet : HasRisen entry.faults_before entry.faults_afte
   fill_by spot m k (reply.Moved map g) h = record { answered = tt; untorn = h.2.untorn }
   fill_by spot m k reply.DiskFault h = absurd (quiet h.risen)
   fill_by spot m k reply.NoMemory h = record { answered = tt; untorn = h.untorn }
-  fill_by spot m k reply.Done h = absurd h
-  fill_by spot m k (reply.Made kind id) h = absurd h
-  fill_by spot m k (reply.Bytes runs) h = absurd h
-  fill_by spot m k (reply.Listed rows) h = absurd h
-  fill_by spot m k reply.MediumError h = absurd h
-  fill_by spot m k reply.Idle h = absurd h
-  fill_by spot m k (reply.Offline map state) h = absurd h
-  fill_by spot m k (reply.NotAccessible map) h = absurd h
-  fill_by spot m k (reply.Refused refusal) h = absurd h
+  fill_by spot m k answer h = absurd h
 
   pub fill_served : (l : LaneOf) (told : LaneTold) (m number : ℕ) (filled : Option ℕ) → MappingFill l told m number filled entry → IsServed entry
   fill_served l told m number None h = absurd h
@@ -111,29 +90,23 @@ read_gives grain spot part entry (reply.Bytes runs) h served = inl (record { run
 read_gives grain spot part entry reply.NoMemory h served = inr refl
 read_gives grain spot part entry reply.MediumError h served = absurd served
 read_gives grain spot part entry reply.DiskFault h served = absurd served
-read_gives grain spot part entry reply.Done h served = absurd h
-read_gives grain spot part entry (reply.Made kind id) h served = absurd h
-read_gives grain spot part entry (reply.Listed rows) h served = absurd h
-read_gives grain spot part entry (reply.Moved map g) h served = absurd h
-read_gives grain spot part entry reply.Idle h served = absurd h
-read_gives grain spot part entry (reply.Offline map state) h served = absurd h
-read_gives grain spot part entry (reply.NotAccessible map) h served = absurd h
-read_gives grain spot part entry (reply.Refused refusal) h served = absurd h
+read_gives grain spot part entry answer h served = absurd h
 
 write_by_slot : (grain : GrainSize) (spot : Spot) (part : WritePart) (t : ℕ) (entry : Entry) (r : Reply) → WriteAnswers grain spot part t entry r → IsServedReply r → (r ≡ reply.Done) ⊎ (r ≡ reply.NoMemory)
 write_by_slot grain spot part t entry reply.Done h served = inl refl
 write_by_slot grain spot part t entry reply.NoMemory h served = inr refl
 write_by_slot grain spot part t entry reply.MediumError h served = absurd served
 write_by_slot grain spot part t entry reply.DiskFault h served = absurd served
-write_by_slot grain spot part t entry (reply.Made kind id) h served = absurd h
-write_by_slot grain spot part t entry (reply.Bytes runs) h served = absurd h
-write_by_slot grain spot part t entry (reply.Listed rows) h served = absurd h
-write_by_slot grain spot part t entry (reply.Moved map g) h served = absurd h
-write_by_slot grain spot part t entry reply.Idle h served = absurd h
-write_by_slot grain spot part t entry (reply.Offline map state) h served = absurd h
-write_by_slot grain spot part t entry (reply.NotAccessible map) h served = absurd h
-write_by_slot grain spot part t entry (reply.Refused refusal) h served = absurd h
+write_by_slot grain spot part t entry answer h served = absurd h
 
 pub write_does : (l : LaneOf) (told : LaneTold) (part : WritePart) (live : Option ℕ) (entry : Entry) → VolumeWrite l told part live entry → IsServedReply entry.reply → (entry.reply ≡ reply.Done) ⊎ (entry.reply ≡ reply.NoMemory)
 write_does l told part None entry h served = absurd h
 write_does l told part (Some t) entry h served = write_by_slot l.grain (spot_at l told (grain_of_block l.grain part.block)) part t entry entry.reply h served
+
+-- ---- by its request
+
+-- What a request answered, by which request it was.
+pub answers_of : (l : LaneOf) (told : LaneTold) (entry : Entry) (request : Request) → entry.request ≡ request → LaneAnswers l told entry.request entry → LaneAnswers l told request entry
+answers_of l told entry request asked h =
+    let P : Request → Type 0 = λ r. LaneAnswers l told r entry in
+    subst P asked h

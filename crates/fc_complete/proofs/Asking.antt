@@ -1,20 +1,20 @@
 -- What a line asks is within the volumes that are there.
-use Rattle.std.proofs.Common.{◌≡◌, ◌≢◌, ℕ, zero, suc, ◌+◌, ◌-◌, ◌*◌, ◌<◌, ◌≤◌, max, Bool, true, false, ◌==◌, ◌||◌, nat_lt, Option, Some, None, List, [], ◌∷◌, ◌++◌, map, Result, Ok, Err, Contains, refl, sym, arith}
+use Rattle.std.proofs.Common.{◌≡◌, ◌≢◌, ℕ, zero, suc, ◌+◌, ◌-◌, ◌*◌, ◌<◌, ◌≤◌, max, Bool, true, false, ◌==◌, ◌||◌, nat_lt, Option, Some, None, List, [], ◌∷◌, ◌++◌, map, Result, Ok, Contains, refl, sym, arith}
 use Rattle.std.proofs.lemmas.Bool.{eqb-false, ltb-false, or_parts}
 use Rattle.std.proofs.lemmas.Option.{none-some}
 use Rattle.fc_base.specs.Grain.{grain_blocks}
 use Rattle.fc_base.specs.Tables.{Tables, volume_named, refers_to}
 use Rattle.fc_base.specs.declared.command.Command.{Command}
-use Rattle.fc_base.specs.declared.command.Command.TheVariants.{Mkvdisk, Rmvdisk, Write as WriteLine, Read as ReadLine, Armfault, Advance, Mkfcmap, Prestartfcmap, Startfcmap, Stopfcmap, Rmfcmap, Mkfcconsistgrp, Prestartfcconsistgrp, Startfcconsistgrp, Stopfcconsistgrp, Rmfcconsistgrp, Lsfcmap, Lsfcconsistgrp, Lsvdisk, Lsfcmapprogress, Lsfcmapdependentmaps}
+use Rattle.fc_base.specs.declared.command.Command.TheVariants.{Write as WriteLine, Read as ReadLine}
 use Rattle.fc_base.specs.declared.command.Line.{Line}
-use Rattle.fc_base.specs.declared.command.Line.TheVariants.{Blank, Command as CommandLine, Together, Actor, End}
+use Rattle.fc_base.specs.declared.command.Line.TheVariants.{Command as CommandLine}
 use Rattle.fc_base.specs.declared.fault.Kind.TheVariants.{Vdisk}
 use Rattle.fc_base.specs.declared.fault.Refusal.{Refusal}
 use Rattle.fc_base.specs.declared.fault.WordFault.{WordFault}
 use Rattle.fc_base.specs.declared.ids.VolId.{VolId}
 use Rattle.fc_base.specs.declared.name.Ref.{Ref}
 use Rattle.fc_base.specs.declared.request.Request.{Request}
-use Rattle.fc_base.specs.declared.request.Request.TheVariants.{Command as Asked, Unread, Read, Write, Copy, Clean, CopyTurn, CleanTurn}
+use Rattle.fc_base.specs.declared.request.Request.TheVariants.{Read, Write}
 use Rattle.fc_base.specs.declared.size.GrainSize.{GrainSize}
 use Rattle.fc_base.specs.declared.size.GrainSize.TheVariants.{K64, K256}
 use Rattle.fc_base.specs.declared.volume.Volume.{Volume}
@@ -44,12 +44,7 @@ AreWithin grain t (a ∷ b ∷ rest) = IsAccess grain t a.1 × AreWithin grain t
 pub access_within : (grain : GrainSize) (t : Tables) (request : Request) → IsAccess grain t request → IsWithin grain t request
 access_within grain t (Read part) h = h
 access_within grain t (Write part) h = h
-access_within grain t (Asked command) h = absurd h
-access_within grain t (Unread fault) h = absurd h
-access_within grain t (Copy m g) h = absurd h
-access_within grain t (Clean m g) h = absurd h
-access_within grain t (CopyTurn lane) h = absurd h
-access_within grain t (CleanTurn lane) h = absurd h
+access_within grain t request h = absurd h
 
 pub first_within : (grain : GrainSize) (t : Tables) (xs ys : List (ℕ × Request)) → AreWithin grain t (xs ++ ys) → AreWithin grain t xs
 first_within grain t [] ys h = tt
@@ -153,30 +148,8 @@ command_within grain b (ReadLine volume block count) =
 command_within grain b (WriteLine volume block count byte) =
     access_asked_within grain b (WriteLine volume block count byte) volume block count (λ id. write_in grain id block count byte)
     (λ v g there blocks below. block_of grain b.tables v block count g there blocks below)
-command_within grain b (Mkvdisk name size unit thin) = tt
-command_within grain b (Rmvdisk volume) = tt
-command_within grain b (Armfault volume number calls) = tt
-command_within grain b (Advance seconds) = tt
-command_within grain b (Mkfcmap source target name group copy_rate clean_rate grain_size incremental autodelete) = tt
-command_within grain b (Prestartfcmap m restore) = tt
-command_within grain b (Startfcmap m prep restore) = tt
-command_within grain b (Stopfcmap m way) = tt
-command_within grain b (Rmfcmap m force) = tt
-command_within grain b (Mkfcconsistgrp name) = tt
-command_within grain b (Prestartfcconsistgrp group restore) = tt
-command_within grain b (Startfcconsistgrp group prep restore) = tt
-command_within grain b (Stopfcconsistgrp group way) = tt
-command_within grain b (Rmfcconsistgrp group force) = tt
-command_within grain b (Lsfcmap m delim) = tt
-command_within grain b (Lsfcconsistgrp group delim) = tt
-command_within grain b (Lsvdisk delim) = tt
-command_within grain b (Lsfcmapprogress m delim) = tt
-command_within grain b (Lsfcmapdependentmaps m delim) = tt
+command_within grain b command = tt
 
 pub asked_within : (grain : GrainSize) (b : Books) (line : Result Line WordFault) → AreWithin grain b.tables (by_main (asked grain b line))
-asked_within grain b (Ok Blank) = tt
 asked_within grain b (Ok (CommandLine command)) = command_within grain b command
-asked_within grain b (Ok Together) = tt
-asked_within grain b (Ok (Actor name role)) = tt
-asked_within grain b (Ok End) = tt
-asked_within grain b (Err fault) = tt
+asked_within grain b line = tt

@@ -1,5 +1,5 @@
 -- Online volumes, the opening, and all together.
-use Rattle.std.proofs.Common.{◌≡◌, ◌⊎◌, inl, inr, ℕ, zero, suc, ◌*◌, ◌^◌, ◌<◌, ◌≤◌, Option, List, length, replicate, refl, sym, ap, subst, arith}
+use Rattle.std.proofs.Common.{◌≡◌, ◌⊎◌, inl, inr, ℕ, ◌*◌, ◌^◌, ◌<◌, ◌≤◌, Option, List, length, refl, subst, arith}
 use Rattle.std.proofs.lemmas.List.Elements.{All-nil, All-replicate}
 use Rattle.fc_base.specs.Grain.{block_bytes}
 use Rattle.fc_base.specs.Pools.{Pool}
@@ -12,28 +12,24 @@ use Rattle.fc_base.specs.declared.request.WritePart.{WritePart}
 use Rattle.fc_base.specs.declared.size.GrainSize.{GrainSize}
 use Rattle.fc_base.specs.declared.state.Access.{Access}
 use Rattle.fc_base.specs.declared.state.Access.TheVariants.{Online}
-use Rattle.fc_books.specs.Books.{opened as opened_books}
-use Rattle.fc_books.specs.Sound.{AreSound}
-use Rattle.fc_complete.proofs.Answers.{AreBytes, read_gives, write_does}
+use Rattle.fc_complete.proofs.Answers.{AreBytes, read_gives, write_does, answers_of}
 use Rattle.fc_complete.proofs.Histories.{history_faultless, history_served}
 use Rattle.fc_complete.proofs.Sessions.{run_within, partial_within, wants_within}
 use Rattle.fc_complete.specs.Law.{AreServed, IsOnline, GivesBytes, CompletionLaw}
 use Rattle.fc_complete.specs.Served.{AreFaultless, IsUnharmed, IsUnharmedVolume, IsServed}
 use Rattle.fc_complete.specs.Within.{IsLegalWithin}
-use Rattle.fc_decided.proofs.Lists.{none_in}
+use Rattle.fc_decided.proofs.Opening.{lanes_told, opening_stands}
 use Rattle.fc_entry.specs.Picture.{volume_in, now_at, grain_of_block, byte_in_grain}
 use Rattle.fc_entry.specs.Reads.{IsRightIn}
 use Rattle.fc_entry.specs.declared.entry.Entry.{Entry}
-use Rattle.fc_legal.specs.Stands.{Stands}
 use Rattle.fc_legal.specs.Steps.{Step, RequestStep, AccessStep}
-use Rattle.fc_legal.specs.Whole.{Whole, opened, lanes, all_grains, as_one}
+use Rattle.fc_legal.specs.Whole.{Whole, opened, all_grains, as_one}
 use Rattle.fc_parts.proofs.Numbers.{all_place}
 use Rattle.fc_rules.specs.GrainAnswers.{ByAccess, ReadAnswers}
 use Rattle.fc_rules.specs.LaneRight.{LaneAnswers, VolumeWrite}
 use Rattle.fc_rules.specs.LaneTold.{access_in}
 use Rattle.fc_rules.specs.LaneTurn.{spot_at}
 use Rattle.fc_rules.specs.Spot.{Spot}
-use Rattle.fc_sheets.proofs.Lawful.{none_sound}
 
 -- ---- volumes that are online
 
@@ -41,12 +37,6 @@ of_online : (entry : Entry) (access : Access) (P : Type 0) → access ≡ Online
 of_online entry access P online h =
     let Q : Access → Type 0 = λ a. ByAccess a entry P in
     subst Q online h
-
--- What a request answered, by which request it was.
-answers_of : (grain : GrainSize) (w : Whole) (entry : Entry) (request : Request) → entry.request ≡ request → LaneAnswers (all_grains grain) (as_one w) entry.request entry → LaneAnswers (all_grains grain) (as_one w) request entry
-answers_of grain w entry request asked h =
-    let P : Request → Type 0 = λ r. LaneAnswers (all_grains grain) (as_one w) r entry in
-    subst P asked h
 
 right_of : (grain : GrainSize) (w : Whole) (entry : Entry) (next : Whole) (request : Request) → entry.request ≡ request → RequestStep grain w entry.request entry next → RequestStep grain w request entry next
 right_of grain w entry next request asked h =
@@ -79,7 +69,7 @@ reads_online :
 reads_online grain w part entry next step asked online served =
     let spot : Spot = spot_at (all_grains grain) (as_one w) (grain_of_block grain part.block) in
     let access : AccessStep grain w (grain_of_block grain part.block) entry next = right_of grain w entry next (Read part) asked step.right in
-    let answers : LaneAnswers (all_grains grain) (as_one w) (Read part) entry = answers_of grain w entry (Read part) asked access.answers in
+    let answers : LaneAnswers (all_grains grain) (as_one w) (Read part) entry = answers_of (all_grains grain) (as_one w) entry (Read part) asked access.answers in
     let gives : ReadAnswers grain spot part entry entry.reply =
     of_online entry (access_in (as_one w).volumes part.volume) (ReadAnswers grain spot part entry entry.reply) online answers in
     bytes_or_memory grain w part entry (read_gives grain spot part entry entry.reply gives served.answered)
@@ -94,67 +84,19 @@ writes_online :
 writes_online grain w part entry next step asked online served =
     let live : Option ℕ = live_place w.books.sheet.slots part.volume.0 in
     let access : AccessStep grain w (grain_of_block grain part.block) entry next = right_of grain w entry next (Write part) asked step.right in
-    let answers : LaneAnswers (all_grains grain) (as_one w) (Write part) entry = answers_of grain w entry (Write part) asked access.answers in
+    let answers : LaneAnswers (all_grains grain) (as_one w) (Write part) entry = answers_of (all_grains grain) (as_one w) entry (Write part) asked access.answers in
     let does : VolumeWrite (all_grains grain) (as_one w) part live entry =
     of_online entry (access_in (as_one w).volumes part.volume) (VolumeWrite (all_grains grain) (as_one w) part live entry) online answers in
     write_does (all_grains grain) (as_one w) part live entry does served.answered
 
 -- ---- before the first entry
 
-length_zeros : (n : ℕ) → length {A = ℕ} (replicate n 0) ≡ n
-length_zeros zero = refl
-length_zeros (suc n) = ap suc (length_zeros n)
-
-lanes_opened : (pools : List Pool) → lanes (opened pools) ≡ length pools
-lanes_opened pools = length_zeros (length pools)
-
 begins_faultless : (pools : List Pool) → 0 < length pools → AreFaultless (opened pools)
 begins_faultless pools some =
-    record { some = omega (arith, some, lanes_opened pools); none = All-replicate (λ n. n ≡ 0) (length pools) 0 refl }
+    record { some = omega (arith, some, lanes_told pools); none = All-replicate (λ n. n ≡ 0) (length pools) 0 refl }
 
 begins_unharmed : (pools : List Pool) → IsUnharmed (opened pools).picture
 begins_unharmed pools = All-nil IsUnharmedVolume
-
-books_sound : (pools : List Pool) → AreSound (opened_books pools)
-books_sound pools =
-    record {
-      tables = record {
-        volumes = record { rising = λ i j x ij jl. absurd (omega arith); distinct = λ i j x ij jl. absurd (omega arith) };
-        mappings = record { rising = λ i j x ij jl. absurd (omega arith); distinct = λ i j x ij jl. absurd (omega arith) };
-        groups = record { rising = λ i j x ij jl. absurd (omega arith); distinct = λ i j x ij jl. absurd (omega arith) };
-        new_volume = All-nil _;
-        new_mapping = All-nil _;
-        new_group = All-nil _;
-      };
-      flags = record { rising = λ i j x ij jl. absurd (omega arith); given = All-nil _ };
-      sheet = none_sound;
-      agree = record {
-        volumes = λ v found. absurd (none_in v found);
-        slots = λ k lt. absurd (omega arith);
-        owned = λ k lt. absurd (omega arith);
-        mappings = λ m found. absurd (none_in m found);
-        by_state = λ m found. absurd (none_in m found);
-        one_busy = λ m n found. absurd (none_in m found);
-      };
-    }
-
-begins_standing : (pools : List Pool) → 0 < length pools → Stands 0 (opened pools)
-begins_standing pools some =
-    record {
-      sound = books_sound pools;
-      few = record {
-        volumes = omega arith;
-        mappings = omega arith;
-        groups = omega arith;
-        births = omega arith;
-        at_once = omega arith;
-        volumes_at_once = omega arith;
-      };
-      plain = tt;
-      each_lane = record { some = omega (arith, some, lanes_opened pools); pools = sym (lanes_opened pools); calls = refl };
-      firsts = λ j k jl kl live mapping chain. absurd (omega arith);
-      rows = record { each = All-nil _; distinct = λ i j x ij jl. absurd (omega arith) };
-    }
 
 -- ---- the law
 
@@ -167,8 +109,8 @@ from_the_opening :
     AreServed entries last
 from_the_opening grain pools entries last few h faultless =
     let first : AreFaultless (opened pools) = history_faultless grain (opened pools) last entries h faultless in
-    let some : 0 < length pools = omega (arith, first.some, lanes_opened pools) in
-    history_served grain 0 (opened pools) last entries (begins_standing pools some) (omega (arith, few)) h faultless (begins_unharmed pools)
+    let some : 0 < length pools = omega (arith, first.some, lanes_told pools) in
+    history_served grain 0 (opened pools) last entries (opening_stands pools some) (omega (arith, few)) h faultless (begins_unharmed pools)
 
 pub completion_law_holds : CompletionLaw
 completion_law_holds =

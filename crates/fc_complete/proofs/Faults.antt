@@ -4,7 +4,7 @@ use Rattle.std.proofs.lemmas.List.Elements.{All-nil, All-cons, All-head, All-tai
 use Rattle.std.proofs.lemmas.Nat.{mod_below}
 use Rattle.fc_base.specs.Count.{HasRisen}
 use Rattle.fc_base.specs.declared.command.Command.{Command}
-use Rattle.fc_base.specs.declared.command.Command.TheVariants.{Mkvdisk, Rmvdisk, Write as WriteLine, Read as ReadLine, Armfault, Advance, Mkfcmap, Prestartfcmap, Startfcmap, Stopfcmap, Rmfcmap, Mkfcconsistgrp, Prestartfcconsistgrp, Startfcconsistgrp, Stopfcconsistgrp, Rmfcconsistgrp, Lsfcmap, Lsfcconsistgrp, Lsvdisk, Lsfcmapprogress, Lsfcmapdependentmaps}
+use Rattle.fc_base.specs.declared.command.Command.TheVariants.{Write as WriteLine, Read as ReadLine}
 use Rattle.fc_base.specs.declared.fault.Refusal.{Refusal}
 use Rattle.fc_base.specs.declared.fault.Refusal.TheVariants.{Words}
 use Rattle.fc_base.specs.declared.request.Effect.{Effect}
@@ -98,26 +98,7 @@ module _ (grain : GrainSize) (w : Whole) (entry : Entry) (next : Whole) (h : Are
   asked_faultless : (command : Command) → CommandIsRight grain w command entry next → AreFaultless w
   asked_faultless (ReadLine volume block count) step = access_refused_faultless (access_refused grain w.books volume block count) step
   asked_faultless (WriteLine volume block count byte) step = access_refused_faultless (access_refused grain w.books volume block count) step
-  asked_faultless (Mkvdisk name size unit thin) step = command_faultless (Mkvdisk name size unit thin) step
-  asked_faultless (Rmvdisk volume) step = command_faultless (Rmvdisk volume) step
-  asked_faultless (Armfault volume number calls) step = command_faultless (Armfault volume number calls) step
-  asked_faultless (Advance seconds) step = command_faultless (Advance seconds) step
-  asked_faultless (Mkfcmap source target name group copy_rate clean_rate grain_size incremental autodelete) step =
-      command_faultless (Mkfcmap source target name group copy_rate clean_rate grain_size incremental autodelete) step
-  asked_faultless (Prestartfcmap m restore) step = command_faultless (Prestartfcmap m restore) step
-  asked_faultless (Startfcmap m prep restore) step = command_faultless (Startfcmap m prep restore) step
-  asked_faultless (Stopfcmap m way) step = command_faultless (Stopfcmap m way) step
-  asked_faultless (Rmfcmap m force) step = command_faultless (Rmfcmap m force) step
-  asked_faultless (Mkfcconsistgrp name) step = command_faultless (Mkfcconsistgrp name) step
-  asked_faultless (Prestartfcconsistgrp group restore) step = command_faultless (Prestartfcconsistgrp group restore) step
-  asked_faultless (Startfcconsistgrp group prep restore) step = command_faultless (Startfcconsistgrp group prep restore) step
-  asked_faultless (Stopfcconsistgrp group way) step = command_faultless (Stopfcconsistgrp group way) step
-  asked_faultless (Rmfcconsistgrp group force) step = command_faultless (Rmfcconsistgrp group force) step
-  asked_faultless (Lsfcmap m delim) step = command_faultless (Lsfcmap m delim) step
-  asked_faultless (Lsfcconsistgrp group delim) step = command_faultless (Lsfcconsistgrp group delim) step
-  asked_faultless (Lsvdisk delim) step = command_faultless (Lsvdisk delim) step
-  asked_faultless (Lsfcmapprogress m delim) step = command_faultless (Lsfcmapprogress m delim) step
-  asked_faultless (Lsfcmapdependentmaps m delim) step = command_faultless (Lsfcmapdependentmaps m delim) step
+  asked_faultless command step = command_faultless command step
 
   request_faultless : (request : Request) → RequestStep grain w request entry next → AreFaultless w
   request_faultless (Asked command) step = asked_faultless command step

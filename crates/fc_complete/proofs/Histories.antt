@@ -4,7 +4,7 @@ use Rattle.std.proofs.lemmas.List.Elements.{All-nil, All-cons}
 use Rattle.fc_base.specs.Count.{HasRisen}
 use Rattle.fc_base.specs.Sheet.{live_place}
 use Rattle.fc_base.specs.declared.command.Command.{Command}
-use Rattle.fc_base.specs.declared.command.Command.TheVariants.{Mkvdisk, Rmvdisk, Write as WriteLine, Read as ReadLine, Armfault, Advance, Mkfcmap, Prestartfcmap, Startfcmap, Stopfcmap, Rmfcmap, Mkfcconsistgrp, Prestartfcconsistgrp, Startfcconsistgrp, Stopfcconsistgrp, Rmfcconsistgrp, Lsfcmap, Lsfcconsistgrp, Lsvdisk, Lsfcmapprogress, Lsfcmapdependentmaps}
+use Rattle.fc_base.specs.declared.command.Command.TheVariants.{Mkvdisk, Write as WriteLine, Read as ReadLine}
 use Rattle.fc_base.specs.declared.fault.Refusal.{Refusal}
 use Rattle.fc_base.specs.declared.fault.Refusal.TheVariants.{Words}
 use Rattle.fc_base.specs.declared.ids.VolId.{VolId}
@@ -16,11 +16,11 @@ use Rattle.fc_base.specs.declared.size.GrainSize.{GrainSize}
 use Rattle.fc_books.specs.Books.{Books}
 use Rattle.fc_books.specs.Deciding.{settle, refused, replied, answered}
 use Rattle.fc_books.specs.Refused.{access_refused}
-use Rattle.fc_complete.proofs.Answers.{read_served, write_served, fill_served, access_served}
+use Rattle.fc_complete.proofs.Answers.{read_served, write_served, fill_served, access_served, answers_of}
 use Rattle.fc_complete.proofs.Contents.{spot_there}
 use Rattle.fc_complete.proofs.Faults.{not_risen, access_faultless, step_faultless}
 use Rattle.fc_complete.proofs.Pictures.{effects_unharmed, plain_unharmed}
-use Rattle.fc_complete.proofs.Standing.{later_stands, counted_stands, access_stands, command_stands}
+use Rattle.fc_complete.proofs.Standing.{later_stands, counted_stands, command_stands}
 use Rattle.fc_complete.specs.Law.{AreServed}
 use Rattle.fc_complete.specs.Served.{AreFaultless, IsUnharmed, IsServedReply, IsServed}
 use Rattle.fc_complete.specs.Within.{IsWithin, IsLegalWithin}
@@ -30,8 +30,8 @@ use Rattle.fc_legal.specs.Stands.{Stands}
 use Rattle.fc_legal.specs.Steps.{Step, RequestStep, AccessStep, CommandStep, CommandIsRight, CommandLeft, IsRefused, AccessIsRefused, after_settling, decided_on}
 use Rattle.fc_legal.specs.Steps.CommandLeft.{decided, unsettled, settled_alone}
 use Rattle.fc_legal.specs.Whole.{Whole, all_grains, as_one}
+use Rattle.fc_parts.proofs.Standing.{access_stands}
 use Rattle.fc_parts.specs.Law.{IsAt}
-use Rattle.fc_rules.specs.LaneRight.{LaneAnswers}
 use Rattle.fc_rules.specs.LaneTold.{place_of, access_in}
 use Rattle.fc_rules.specs.LaneTurn.{spot_at, copied_slot, cleaned_slot}
 
@@ -46,26 +46,7 @@ record LeavesWell (decisions : ℕ) (entry : Entry) (next : Whole) : Type 0 wher
 -- No decision answers a fault.
 replied_served : (grain : GrainSize) (b : Books) (command : Command) → IsServedReply (replied grain b command)
 replied_served grain b (Mkvdisk name size unit thin) = tt
-replied_served grain b (Rmvdisk volume) = tt
-replied_served grain b (WriteLine volume block count byte) = tt
-replied_served grain b (ReadLine volume block count) = tt
-replied_served grain b (Armfault volume number calls) = tt
-replied_served grain b (Advance seconds) = tt
-replied_served grain b (Mkfcmap source target name group copy_rate clean_rate grain_size incremental autodelete) = tt
-replied_served grain b (Prestartfcmap m restore) = tt
-replied_served grain b (Startfcmap m prep restore) = tt
-replied_served grain b (Stopfcmap m way) = tt
-replied_served grain b (Rmfcmap m force) = tt
-replied_served grain b (Mkfcconsistgrp name) = tt
-replied_served grain b (Prestartfcconsistgrp group restore) = tt
-replied_served grain b (Startfcconsistgrp group prep restore) = tt
-replied_served grain b (Stopfcconsistgrp group way) = tt
-replied_served grain b (Rmfcconsistgrp group force) = tt
-replied_served grain b (Lsfcmap m delim) = tt
-replied_served grain b (Lsfcconsistgrp group delim) = tt
-replied_served grain b (Lsvdisk delim) = tt
-replied_served grain b (Lsfcmapprogress m delim) = tt
-replied_served grain b (Lsfcmapdependentmaps m delim) = tt
+replied_served grain b command = tt
 
 answered_served :
     (restarts : ℕ → List Bool) (grain : GrainSize) (b : Books) (command : Command) (refusal : Option Refusal) (loop : Option (List VolId)) →
@@ -133,35 +114,11 @@ module _ (grain : GrainSize) (decisions : ℕ) (w : Whole) (entry : Entry) (next
     asked_well : (command : Command) → CommandIsRight grain w command entry next → LeavesWell decisions entry next
     asked_well (ReadLine volume block count) step = access_refused_well (access_refused grain w.books volume block count) step
     asked_well (WriteLine volume block count byte) step = access_refused_well (access_refused grain w.books volume block count) step
-    asked_well (Mkvdisk name size unit thin) step = command_well (Mkvdisk name size unit thin) step
-    asked_well (Rmvdisk volume) step = command_well (Rmvdisk volume) step
-    asked_well (Armfault volume number calls) step = command_well (Armfault volume number calls) step
-    asked_well (Advance seconds) step = command_well (Advance seconds) step
-    asked_well (Mkfcmap source target name group copy_rate clean_rate grain_size incremental autodelete) step =
-        command_well (Mkfcmap source target name group copy_rate clean_rate grain_size incremental autodelete) step
-    asked_well (Prestartfcmap m restore) step = command_well (Prestartfcmap m restore) step
-    asked_well (Startfcmap m prep restore) step = command_well (Startfcmap m prep restore) step
-    asked_well (Stopfcmap m way) step = command_well (Stopfcmap m way) step
-    asked_well (Rmfcmap m force) step = command_well (Rmfcmap m force) step
-    asked_well (Mkfcconsistgrp name) step = command_well (Mkfcconsistgrp name) step
-    asked_well (Prestartfcconsistgrp group restore) step = command_well (Prestartfcconsistgrp group restore) step
-    asked_well (Startfcconsistgrp group prep restore) step = command_well (Startfcconsistgrp group prep restore) step
-    asked_well (Stopfcconsistgrp group way) step = command_well (Stopfcconsistgrp group way) step
-    asked_well (Rmfcconsistgrp group force) step = command_well (Rmfcconsistgrp group force) step
-    asked_well (Lsfcmap m delim) step = command_well (Lsfcmap m delim) step
-    asked_well (Lsfcconsistgrp group delim) step = command_well (Lsfcconsistgrp group delim) step
-    asked_well (Lsvdisk delim) step = command_well (Lsvdisk delim) step
-    asked_well (Lsfcmapprogress m delim) step = command_well (Lsfcmapprogress m delim) step
-    asked_well (Lsfcmapdependentmaps m delim) step = command_well (Lsfcmapdependentmaps m delim) step
+    asked_well command step = command_well command step
 
     module _ (faultless : AreFaultless next) where
       quiet : (number : ℕ) → AccessStep grain w number entry next → HasRisen entry.faults_before entry.faults_after → ⊥
       quiet number step = not_risen entry.faults_before entry.faults_after (access_faultless grain w number entry next step faultless).after
-
-      answers_to : (request : Request) → entry.request ≡ request → LaneAnswers (all_grains grain) (as_one w) entry.request entry → LaneAnswers (all_grains grain) (as_one w) request entry
-      answers_to request e h =
-          let P : Request → Type 0 = λ r. LaneAnswers (all_grains grain) (as_one w) r entry in
-          subst P e h
 
       at_is : (number : ℕ) (request : Request) → entry.request ≡ request → IsAt grain number request → IsAt grain number entry.request
       at_is number request e at =
@@ -177,22 +134,22 @@ module _ (grain : GrainSize) (decisions : ℕ) (w : Whole) (entry : Entry) (next
           access_well number (at_is number (Read part) e refl) step
           (access_served entry (quiet number step) (access_in (as_one w).volumes part.volume) _
           (λ h. read_served entry (quiet number step) grain (spot_at (all_grains grain) (as_one w) number) part there h)
-          (answers_to (Read part) e step.answers))
+          (answers_of (all_grains grain) (as_one w) entry (Read part) e step.answers))
       request_well (Write part) e within step =
           let number : ℕ = grain_of_block grain part.block in
           let there = spot_there grain w part.volume part.block before.plain before.sound.tables.volumes.rising unharmed within in
           access_well number (at_is number (Write part) e refl) step
           (access_served entry (quiet number step) (access_in (as_one w).volumes part.volume) _
           (λ h. write_served entry (quiet number step) (all_grains grain) (as_one w) part (live_place w.books.sheet.slots part.volume.0) there h)
-          (answers_to (Write part) e step.answers))
+          (answers_of (all_grains grain) (as_one w) entry (Write part) e step.answers))
       request_well (Copy m g) e within step =
           access_well g.0 (at_is g.0 (Copy m g) e refl) step
           (fill_served entry (quiet g.0 step) (all_grains grain) (as_one w) m.0 g.0 (copied_slot w.books.sheet.slots m.0 (place_of (all_grains grain) g.0))
-          (answers_to (Copy m g) e step.answers))
+          (answers_of (all_grains grain) (as_one w) entry (Copy m g) e step.answers))
       request_well (Clean m g) e within step =
           access_well g.0 (at_is g.0 (Clean m g) e refl) step
           (fill_served entry (quiet g.0 step) (all_grains grain) (as_one w) m.0 g.0 (cleaned_slot w.books.sheet.slots m.0 (place_of (all_grains grain) g.0))
-          (answers_to (Clean m g) e step.answers))
+          (answers_of (all_grains grain) (as_one w) entry (Clean m g) e step.answers))
       request_well (CopyTurn lane) e within step = absurd step
       request_well (CleanTurn lane) e within step = absurd step
 

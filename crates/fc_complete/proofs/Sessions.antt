@@ -3,7 +3,7 @@ use Rattle.std.proofs.Common.{◌≡◌, inl, inr, ℕ, Bool, true, false, List,
 use Rattle.fc_base.specs.Tables.{Tables}
 use Rattle.fc_base.specs.declared.ids.GrainNo.{GrainNo}
 use Rattle.fc_base.specs.declared.request.Request.{Request}
-use Rattle.fc_base.specs.declared.request.Request.TheVariants.{Command as Asked, Unread, Read, Write, Copy, Clean, CopyTurn, CleanTurn}
+use Rattle.fc_base.specs.declared.request.Request.TheVariants.{Read, Write, Copy, Clean}
 use Rattle.fc_base.specs.declared.size.GrainSize.{GrainSize}
 use Rattle.fc_complete.proofs.Asking.{IsAccess, AreWithin, access_within, first_within, asked_within}
 use Rattle.fc_complete.specs.Within.{IsWithin, IsLegalWithin}
@@ -48,12 +48,7 @@ tables_kept grain w next number entry step = ap (λ (x : Whole). x.books.tables)
 tables_by : (grain : GrainSize) (w next : Whole) (entry : Entry) (t : Tables) (request : Request) → IsAccess grain t request → RequestStep grain w request entry next → next.books.tables ≡ w.books.tables
 tables_by grain w next entry t (Read part) is step = tables_kept grain w next (grain_of_block grain part.block) entry step
 tables_by grain w next entry t (Write part) is step = tables_kept grain w next (grain_of_block grain part.block) entry step
-tables_by grain w next entry t (Asked command) is step = absurd is
-tables_by grain w next entry t (Unread fault) is step = absurd is
-tables_by grain w next entry t (Copy m g) is step = absurd is
-tables_by grain w next entry t (Clean m g) is step = absurd is
-tables_by grain w next entry t (CopyTurn lane) is step = absurd is
-tables_by grain w next entry t (CleanTurn lane) is step = absurd is
+tables_by grain w next entry t request is step = absurd is
 
 own_within : (grain : GrainSize) (w last : Whole) (own : List Entry) → AreWithin grain w.books.tables (asks own) → IsLegal grain w own last → IsLegalWithin grain w own last
 own_within grain w last [] within h = h

@@ -8,7 +8,7 @@ use Rattle.fc_base.specs.Tables.{Tables, volume_with, group_with}
 use Rattle.fc_base.specs.declared.ids.GroupId.{GroupId}
 use Rattle.fc_base.specs.declared.ids.VolId.{VolId}
 use Rattle.fc_base.specs.declared.state.MapState.{MapState}
-use Rattle.fc_base.specs.declared.state.MapState.TheVariants.{Empty, IdleOrCopied, Preparing, Prepared, Copying, Stopping, Stopped}
+use Rattle.fc_base.specs.declared.state.MapState.TheVariants.{Empty, Copying, Stopping}
 use Rattle.fc_base.specs.declared.volume.Group.{Group}
 use Rattle.fc_base.specs.declared.volume.Mapping.{Mapping}
 use Rattle.fc_base.specs.declared.volume.Volume.{Volume}
@@ -86,8 +86,4 @@ has_slot_as slots m n live id target has =
 pub slot_as : (state : MapState) (slots : List Slot) (m n : Mapping) → n.id.0 ≡ m.id.0 → n.target ≡ m.target → SlotByState state slots m → SlotByState state slots n
 slot_as Copying slots m n id target by = has_slot_as slots m n true id target by
 slot_as Stopping slots m n id target by = has_slot_as slots m n false id target by
-slot_as Empty slots m n id target by = ap (mapping_place slots) id ∙ by
-slot_as IdleOrCopied slots m n id target by = ap (mapping_place slots) id ∙ by
-slot_as Preparing slots m n id target by = ap (mapping_place slots) id ∙ by
-slot_as Prepared slots m n id target by = ap (mapping_place slots) id ∙ by
-slot_as Stopped slots m n id target by = ap (mapping_place slots) id ∙ by
+slot_as state slots m n id target by = ap (mapping_place slots) id ∙ by

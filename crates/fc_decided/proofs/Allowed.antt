@@ -11,7 +11,7 @@ use Rattle.fc_base.specs.declared.fault.Refusal.TheVariants.{TargetActive, Targe
 use Rattle.fc_base.specs.declared.ids.GroupId.{GroupId}
 use Rattle.fc_base.specs.declared.state.MapEvent.TheVariants.{Prepare, Start, StartPrep}
 use Rattle.fc_base.specs.declared.state.MapState.{MapState}
-use Rattle.fc_base.specs.declared.state.MapState.TheVariants.{Empty, IdleOrCopied, Preparing, Prepared, Copying, Stopping, Stopped}
+use Rattle.fc_base.specs.declared.state.MapState.TheVariants.{IdleOrCopied, Prepared, Stopped}
 use Rattle.fc_base.specs.declared.volume.Mapping.{Mapping}
 use Rattle.fc_books.specs.Accesses.{access_in, is_active, is_online, is_prepared}
 use Rattle.fc_books.specs.Books.{Books}
@@ -33,47 +33,25 @@ use Rattle.fc_decided.proofs.Unrefused.{none_first, none_where, none_mapped, non
 prepares : (state : MapState) → refused_by (next_state state Prepare true false) ≡ None → IsReady state
 prepares IdleOrCopied e = inl refl
 prepares Stopped e = inr (inl refl)
-prepares Empty e = absurd cc
-prepares Preparing e = absurd cc
-prepares Prepared e = absurd cc
-prepares Copying e = absurd cc
-prepares Stopping e = absurd cc
+prepares state e = absurd cc
 
 starts_prepared : (state : MapState) → refused_by (next_state state Start true false) ≡ None → state ≡ Prepared
 starts_prepared Prepared e = refl
-starts_prepared IdleOrCopied e = absurd cc
-starts_prepared Stopped e = absurd cc
-starts_prepared Empty e = absurd cc
-starts_prepared Preparing e = absurd cc
-starts_prepared Copying e = absurd cc
-starts_prepared Stopping e = absurd cc
+starts_prepared state e = absurd cc
 
 starts_anew : (state : MapState) → refused_by (next_state state StartPrep true false) ≡ None → IsReady state
 starts_anew IdleOrCopied e = inl refl
 starts_anew Stopped e = inr (inl refl)
-starts_anew Empty e = absurd cc
-starts_anew Preparing e = absurd cc
-starts_anew Prepared e = absurd cc
-starts_anew Copying e = absurd cc
-starts_anew Stopping e = absurd cc
+starts_anew state e = absurd cc
 
 resting_ready : (state : MapState) → is_active state ≡ false → IsReady state
 resting_ready IdleOrCopied e = inl refl
 resting_ready Stopped e = inr (inl refl)
-resting_ready Empty e = absurd cc
-resting_ready Preparing e = absurd cc
-resting_ready Prepared e = absurd cc
-resting_ready Copying e = absurd cc
-resting_ready Stopping e = absurd cc
+resting_ready state e = absurd cc
 
 prepared_is : (state : MapState) → is_prepared state ≡ true → state ≡ Prepared
 prepared_is Prepared e = refl
-prepared_is IdleOrCopied e = absurd cc
-prepared_is Stopped e = absurd cc
-prepared_is Empty e = absurd cc
-prepared_is Preparing e = absurd cc
-prepared_is Copying e = absurd cc
-prepared_is Stopping e = absurd cc
+prepared_is state e = absurd cc
 
 -- ---- by its target
 

@@ -8,7 +8,7 @@ use Rattle.fc_base.specs.SheetFacts.{IsSound}
 use Rattle.fc_base.specs.SheetFits.{FitsEvents}
 use Rattle.fc_base.specs.SheetStep.{sheet_step}
 use Rattle.fc_base.specs.declared.decision.LaneEvent.{LaneEvent}
-use Rattle.fc_base.specs.declared.decision.LaneEvent.TheVariants.{Make, Remove, Trigger, Retire, Detach, Split, Force, Drop, Forget, NoteCut, Access, Work, Arm}
+use Rattle.fc_base.specs.declared.decision.LaneEvent.TheVariants.{Make}
 use Rattle.fc_base.specs.declared.size.GrainSize.{GrainSize}
 use Rattle.fc_books.specs.After.{sheet_after, flags_after, pools_after, after_event}
 use Rattle.fc_books.specs.Books.{Books}
@@ -75,18 +75,7 @@ no_pool (e ∷ es) = ap (λ (pool : Pool). fold pool_event pool es) (no_disks e)
 
 same_flags : (flags : List WorkFlags) (e : LaneEvent) → flags_event flags e ≡ flags_after flags e
 same_flags flags (Make volume grains kind) = refl
-same_flags flags (Remove volume) = refl
-same_flags flags (Trigger pairs) = refl
-same_flags flags (Retire m) = refl
-same_flags flags (Detach m) = refl
-same_flags flags (Split m) = refl
-same_flags flags (Force m dependents) = refl
-same_flags flags (Drop slot) = refl
-same_flags flags (Forget m) = refl
-same_flags flags (NoteCut m source target) = refl
-same_flags flags (Access volume access) = refl
-same_flags flags (Work m copies cleans) = refl
-same_flags flags (Arm volume grain calls) = refl
+same_flags flags e = refl
 
 pub flags_alike : (flags : List WorkFlags) (events : List LaneEvent) → fold flags_event flags events ≡ fold flags_after flags events
 flags_alike flags [] = refl

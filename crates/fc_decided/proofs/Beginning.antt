@@ -1,15 +1,15 @@
 -- What a trigger does to slots: all stay but the live ones of its targets, and each pair gets a live slot.
 use Rattle.std.proofs.Common.{◌≡◌, ◌≢◌, ℕ, ◌+◌, ◌<◌, true, false, Some, List, [], ◌∷◌, length, insert, replicate, Contains, refl, sym, ap, subst, ◌∙◌, arith, ◌⊎◌, inl, inr}
 use Rattle.fc_base.specs.declared.request.Pair.{Pair}
-use Rattle.fc_base.specs.Sheet.{Slot, Sheet, slot_at, live_place, volume_grains, grains_at}
+use Rattle.fc_base.specs.Sheet.{Slot, Sheet, slot_at, volume_grains, grains_at}
 use Rattle.fc_base.specs.SheetFits.{FitsPair, FitsTrigger}
 use Rattle.fc_base.specs.SheetFacts.{IsSound}
-use Rattle.fc_base.specs.SheetStep.{at_place, left_place, placed, started_empty, triggered}
+use Rattle.fc_base.specs.SheetStep.{left_place, placed, started_empty, triggered}
 use Rattle.fc_sheets.proofs.Places.{up, up_in, down, removed_at, big_at, insert_is, insert_here}
 use Rattle.fc_sheets.proofs.Aging.{length_full}
-use Rattle.fc_sheets.proofs.Finding.{live_place_at, live_place_is}
+use Rattle.fc_sheets.proofs.Finding.{live_place_at}
 use Rattle.fc_sheets.proofs.Steps.{holds_from}
-use Rattle.fc_sheets.proofs.Starting.{LeftSheet, left_is, new_slot, Placed, started_placed, Apart, AllFit, ApartFrom, AllApart, all_later, HoldsSheet, all_fit, all_apart}
+use Rattle.fc_sheets.proofs.Starting.{LeftSheet, new_slot, Placed, started_is, started_placed, Apart, AllFit, ApartFrom, AllApart, all_later, HoldsSheet, all_fit, all_apart}
 use Rattle.fc_decided.proofs.Carrying.{StaysIn, live_carried}
 use Rattle.fc_decided.proofs.Lists.{first_in, later_in, in_cases, none_in}
 
@@ -71,19 +71,9 @@ through_new s t p k x grains lf live kv xl size =
 
 through_one : (s : Sheet) (p : Pair) → HoldsSheet s → FitsPair s.slots p → p.target.0 ≢ p.source.0 → Through s (p ∷ []) (started_empty s p)
 through_one s p h f ne =
-    let grains : ℕ = volume_grains s.slots p.target.0 in
-    let tl = live_place_at s.slots p.target.0 f.target f.target_there in
-    let sl = live_place_at s.slots p.source.0 f.source f.source_there in
-    let t : Sheet = left_place f.target s in
-    let lf = left_is s f.target h tl.there tl.is_live in
-    let apart : f.source ≢ f.target = λ e. ne (sym tl.of_volume ∙ (ap (λ z. (slot_at s.slots z).volume) (sym e) ∙ sl.of_volume)) in
-    let x = lf.1.stays f.source sl.there apart in
-    let found : live_place t.slots p.source.0 ≡ Some x.0 = live_place_is t.slots p.source.0 x.0 lf.1.holds.one_live
-    (record { there = x.1; is_live = ap (λ (z : Slot). z.is_live) x.2 ∙ sl.is_live; of_volume = ap (λ (z : Slot). z.volume) x.2 ∙ sl.of_volume }) in
-    let whole : started_empty s p ≡ placed p.target.0 p.map.0 (replicate grains false) x.0 t =
-    ap (λ o. at_place (placed p.target.0 p.map.0 (replicate grains false)) (live_place (at_place left_place o s).slots p.source.0) (at_place left_place o s)) f.target_there
-    ∙ ap (λ o. at_place (placed p.target.0 p.map.0 (replicate grains false)) o t) found in
-    subst (λ (z : Sheet). Through s (p ∷ []) z) (sym whole) (through_new s t p f.target x.0 grains lf tl.is_live tl.of_volume x.1 refl)
+    let i = started_is s p h f ne in
+    subst (λ (z : Sheet). Through s (p ∷ []) z) (sym i.whole)
+    (through_new s (left_place f.target s) p f.target i.place (volume_grains s.slots p.target.0) i.left i.target.is_live i.target.of_volume i.source.there refl)
 
 -- ---- pair by pair
 

@@ -4,7 +4,7 @@ use Rattle.fc_base.specs.RestoreGraph.{HasOneLive}
 use Rattle.fc_base.specs.Sheet.{Slot, slot_at, shape_of, live_place, mapping_place}
 use Rattle.fc_base.specs.SheetFacts.{HasMappings}
 use Rattle.fc_base.specs.declared.state.MapState.{MapState}
-use Rattle.fc_base.specs.declared.state.MapState.TheVariants.{Empty, IdleOrCopied, Preparing, Prepared, Copying, Stopping, Stopped}
+use Rattle.fc_base.specs.declared.state.MapState.TheVariants.{Copying, Stopping}
 use Rattle.fc_base.specs.declared.volume.Mapping.{Mapping}
 use Rattle.fc_books.specs.Sound.{HasSlot, SlotByState}
 use Rattle.fc_sheets.proofs.Finding.{live_place_at, live_place_is, mapping_place_at, mapping_place_is, mapping_place_none, no_mapping_place}
@@ -49,8 +49,4 @@ pub slot_carried : (state : MapState) (old new : List Slot) (m : Mapping) → Ha
     ((j : ℕ) → j < length new → (slot_at new j).mapping ≡ Some m.id.0 → (i : ℕ) × (i < length old) × ((slot_at old i).mapping ≡ Some m.id.0)) → SlotByState state old m → SlotByState state new m
 slot_carried Copying old new m maps stays comes by = has_slot_carried old new m true maps (λ k e live. stays k e) by
 slot_carried Stopping old new m maps stays comes by = has_slot_carried old new m false maps (λ k e live. stays k e) by
-slot_carried Empty old new m maps stays comes by = none_carried old new m comes by
-slot_carried IdleOrCopied old new m maps stays comes by = none_carried old new m comes by
-slot_carried Preparing old new m maps stays comes by = none_carried old new m comes by
-slot_carried Prepared old new m maps stays comes by = none_carried old new m comes by
-slot_carried Stopped old new m maps stays comes by = none_carried old new m comes by
+slot_carried state old new m maps stays comes by = none_carried old new m comes by

@@ -4,7 +4,7 @@ use Rattle.std.specs.Prelude.{◌==◌}
 use Rattle.std.proofs.lemmas.Bool.{cases_Bool, eqb-true, eq-eqb, both_ways}
 use Rattle.fc_base.specs.declared.ids.VolId.{VolId}
 use Rattle.fc_base.specs.declared.request.Effect.{Effect}
-use Rattle.fc_base.specs.declared.request.Effect.TheVariants.{Make, Remove, Trigger, Cut, State, Gone}
+use Rattle.fc_base.specs.declared.request.Effect.TheVariants.{State, Gone}
 use Rattle.fc_base.specs.declared.request.Pair.{Pair}
 use Rattle.fc_base.specs.declared.size.GrainSize.{GrainSize}
 use Rattle.fc_base.specs.declared.volume.Volume.{Volume}
@@ -33,10 +33,7 @@ AreQuiet (e ∷ es) = IsQuiet e × AreQuiet es
 quiet_one : (grain : GrainSize) (picture : Picture) (e : Effect) → IsQuiet e → after_effect grain picture e ≡ picture
 quiet_one grain picture (State m state) quiet = refl
 quiet_one grain picture (Gone m) quiet = refl
-quiet_one grain picture (Make volume grains) quiet = absurd quiet
-quiet_one grain picture (Remove volume) quiet = absurd quiet
-quiet_one grain picture (Trigger pairs) quiet = absurd quiet
-quiet_one grain picture (Cut volume kept) quiet = absurd quiet
+quiet_one grain picture e quiet = absurd quiet
 
 pub quiet_effects : (grain : GrainSize) (picture : Picture) (es : List Effect) → AreQuiet es → after_effects grain picture es ≡ picture
 quiet_effects grain picture [] quiet = refl

@@ -1,7 +1,7 @@
 -- The law of decisions: every command, and the settling.
 use Rattle.std.proofs.Common.{◌≡◌, ℕ, ◌<◌, ◌^◌, List, Option, None}
 use Rattle.fc_base.specs.declared.command.Command.{Command}
-use Rattle.fc_base.specs.declared.command.Command.TheVariants.{Mkvdisk, Rmvdisk, Write, Read, Armfault, Advance, Mkfcmap, Prestartfcmap, Startfcmap, Stopfcmap, Rmfcmap, Mkfcconsistgrp, Prestartfcconsistgrp, Startfcconsistgrp, Stopfcconsistgrp, Rmfcconsistgrp, Lsfcmap, Lsfcconsistgrp, Lsvdisk, Lsfcmapprogress, Lsfcmapdependentmaps}
+use Rattle.fc_base.specs.declared.command.Command.TheVariants.{Mkvdisk, Rmvdisk, Armfault, Mkfcmap, Prestartfcmap, Startfcmap, Stopfcmap, Rmfcmap, Mkfcconsistgrp, Prestartfcconsistgrp, Startfcconsistgrp, Stopfcconsistgrp, Rmfcconsistgrp}
 use Rattle.fc_base.specs.declared.ids.VolId.{VolId}
 use Rattle.fc_base.specs.declared.size.GrainSize.{GrainSize}
 use Rattle.fc_books.specs.Deciding.{refused, done, IsLoopOf}
@@ -36,14 +36,7 @@ suits grain decisions w small st settled (Startfcconsistgrp group prep restore) 
     startfcconsistgrp_goes grain decisions w small st group prep restore (no_loop_told grain decisions w small st (Startfcconsistgrp group prep restore) (refused grain w.books (Startfcconsistgrp group prep restore)) loop told e f) e
 suits grain decisions w small st settled (Stopfcconsistgrp group way) loop told e f = stop_group_suits grain decisions w group way small st e
 suits grain decisions w small st settled (Rmfcconsistgrp group force) loop told e f = rmfcconsistgrp_goes grain decisions w small st group force e
-suits grain decisions w small st settled (Write volume block count byte) loop told e f = nothing_suits grain decisions w small st
-suits grain decisions w small st settled (Read volume block count) loop told e f = nothing_suits grain decisions w small st
-suits grain decisions w small st settled (Advance ticks) loop told e f = nothing_suits grain decisions w small st
-suits grain decisions w small st settled (Lsfcmap m delim) loop told e f = nothing_suits grain decisions w small st
-suits grain decisions w small st settled (Lsfcconsistgrp group delim) loop told e f = nothing_suits grain decisions w small st
-suits grain decisions w small st settled (Lsvdisk delim) loop told e f = nothing_suits grain decisions w small st
-suits grain decisions w small st settled (Lsfcmapprogress m delim) loop told e f = nothing_suits grain decisions w small st
-suits grain decisions w small st settled (Lsfcmapdependentmaps m delim) loop told e f = nothing_suits grain decisions w small st
+suits grain decisions w small st settled command loop told e f = nothing_suits grain decisions w small st
 
 -- Every decision on a command.
 decided_lawful : (grain : GrainSize) (decisions : ℕ) (w : Whole) (command : Command) (loop : Option (List VolId)) → decisions < 2 ^ 32 → Stands decisions w → AreSettled w.books → IsLoopOf grain w.books command loop → IsLawful grain decisions w (decided_on grain w command loop)

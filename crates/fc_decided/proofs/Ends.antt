@@ -11,7 +11,7 @@ use Rattle.fc_base.specs.declared.ids.VolId.{VolId}
 use Rattle.fc_base.specs.declared.state.Access.{Access}
 use Rattle.fc_base.specs.declared.state.Access.TheVariants.{Online}
 use Rattle.fc_base.specs.declared.state.MapState.{MapState}
-use Rattle.fc_base.specs.declared.state.MapState.TheVariants.{Empty, IdleOrCopied, Preparing, Prepared, Copying, Stopping, Stopped}
+use Rattle.fc_base.specs.declared.state.MapState.TheVariants.{Empty, IdleOrCopied}
 use Rattle.fc_base.specs.declared.volume.Mapping.{Mapping}
 use Rattle.fc_base.specs.declared.volume.Volume.{Volume}
 use Rattle.fc_books.specs.Accesses.{is_idle, access_by, access_in}
@@ -116,12 +116,7 @@ old_others b old r v rows f ne m found e =
 
 idle_online : (id : MapId) (state : MapState) (complete : Bool) → is_idle state ≡ true → access_of id state complete ≡ Online
 idle_online id IdleOrCopied complete e = refl
-idle_online id Empty complete e = absurd cc
-idle_online id Preparing complete e = absurd cc
-idle_online id Prepared complete e = absurd cc
-idle_online id Copying complete e = absurd cc
-idle_online id Stopping complete e = absurd cc
-idle_online id Stopped complete e = absurd cc
+idle_online id state complete e = absurd cc
 
 -- the target is reached as the new row says
 own_access : (b : Books) (maps : List Mapping) (old r : Mapping) (v : VolId) → Rows b → Follows b old r → Ended b.tables.mappings maps r → Rows (with_mappings b maps) → v.0 ≡ r.target.0 →

@@ -7,7 +7,7 @@ use Rattle.fc_base.specs.SheetFacts.{HasNames, IsSound}
 use Rattle.fc_base.specs.SheetFits.{FitsEvent, FitsEvents}
 use Rattle.fc_base.specs.SheetStep.{sheet_step, at_place, without, aged, left_place, has_after, placed, started_empty, triggered, with_chain, retired_at, detached_at, split_at, split_from, relabelled, forced_at, forced_map}
 use Rattle.fc_base.specs.declared.decision.LaneEvent.{LaneEvent}
-use Rattle.fc_base.specs.declared.decision.LaneEvent.TheVariants.{Make, Remove, Trigger, Retire, Detach, Split, Force, Drop, Forget, NoteCut, Access, Work, Arm}
+use Rattle.fc_base.specs.declared.decision.LaneEvent.TheVariants.{Make, Remove, Trigger, Retire, Detach, Split, Force, Drop}
 use Rattle.fc_base.specs.declared.ids.MapId.{MapId}
 use Rattle.fc_base.specs.declared.request.Pair.{Pair}
 use Rattle.fc_legal.specs.Stands.{AreFirst}
@@ -201,11 +201,7 @@ first_after s (Split m) sound f first =
     first_split s.births s.slots k (record { there = at.0; names = sound.names; label = λ j jl. sound.names.fresh k j m.0 at.0 jl at.1 }) first) first
 first_after s (Force m dependents) sound f first = (named_maps dependents (forced_map s m) (named_map s m (sound.names, first))).1
 first_after s (Drop slot) sound f first = at_some FirstIn without (birth_place s.slots slot.0) s (λ k e. first_without k s (birth_place_at s.slots slot.0 k e).0 first) first
-first_after s (Forget m) sound f first = first
-first_after s (NoteCut m source target) sound f first = first
-first_after s (Access volume access) sound f first = first
-first_after s (Work m copies cleans) sound f first = first
-first_after s (Arm volume grain calls) sound f first = first
+first_after s e sound f first = first
 
 pub firsts_through : (s : Sheet) (es : List LaneEvent) → IsSound s → FitsEvents (λ grains. grains) s es → AreFirst s.slots → AreFirst (sheet_through s es).slots
 firsts_through s [] sound fits first = first

@@ -7,7 +7,7 @@ use Rattle.fc_base.specs.SheetFits.{FitsEvent, FitsEvents}
 use Rattle.fc_base.specs.SheetStep.{sheet_step, triggered}
 use Rattle.fc_base.specs.Tables.{Tables, volume_with}
 use Rattle.fc_base.specs.declared.decision.LaneEvent.{LaneEvent}
-use Rattle.fc_base.specs.declared.decision.LaneEvent.TheVariants.{Make, Remove, Trigger, Retire, Detach, Split, Force, Drop, Forget, NoteCut, Access, Work, Arm}
+use Rattle.fc_base.specs.declared.decision.LaneEvent.TheVariants.{Trigger, Access, Work}
 use Rattle.fc_base.specs.declared.size.GrainSize.{GrainSize}
 use Rattle.fc_books.specs.After.{sheet_after}
 use Rattle.fc_books.specs.Sound.{HasGrains}
@@ -29,18 +29,7 @@ use Rattle.fc_rules.specs.LaneTold.{LaneTold, picture_event, told_event}
 
 spared_told : (t : Tables) (grain : GrainSize) (restarts : ℕ → List Bool) (told : LaneTold) (e : LaneEvent) → Spares t e → told_with restarts (all_grains grain) told e ≡ told_event (all_grains grain) told e
 spared_told t grain restarts told (Trigger pairs) none = absurd none
-spared_told t grain restarts told (Make volume size kind) none = refl
-spared_told t grain restarts told (Remove volume) none = refl
-spared_told t grain restarts told (Retire m) none = refl
-spared_told t grain restarts told (Detach m) none = refl
-spared_told t grain restarts told (Split m) none = refl
-spared_told t grain restarts told (Force m dependents) none = refl
-spared_told t grain restarts told (Drop slot) none = refl
-spared_told t grain restarts told (Forget m) none = refl
-spared_told t grain restarts told (NoteCut m source target) none = refl
-spared_told t grain restarts told (Access volume access) none = refl
-spared_told t grain restarts told (Work m copies cleans) none = refl
-spared_told t grain restarts told (Arm volume place calls) none = refl
+spared_told t grain restarts told e none = refl
 
 -- the same told, whatever the rows
 pub told_alone : (t : Tables) (grain : GrainSize) (f : Followed) (es : List LaneEvent) → AreSparing t es → (fold (followed_event (all_grains grain)) f es).told ≡ fold (told_event (all_grains grain)) f.told es
@@ -63,17 +52,7 @@ sheet_led t restarts s (e ∷ es) all =
 still_sheet : (s : Sheet) (e : LaneEvent) → IsStill e → sheet_step (λ grains. grains) s e ≡ s
 still_sheet s (Access volume access) still = refl
 still_sheet s (Work m copies cleans) still = refl
-still_sheet s (Make volume size kind) still = absurd still
-still_sheet s (Remove volume) still = absurd still
-still_sheet s (Trigger pairs) still = absurd still
-still_sheet s (Retire m) still = absurd still
-still_sheet s (Detach m) still = absurd still
-still_sheet s (Split m) still = absurd still
-still_sheet s (Force m dependents) still = absurd still
-still_sheet s (Drop slot) still = absurd still
-still_sheet s (Forget m) still = absurd still
-still_sheet s (NoteCut m source target) still = absurd still
-still_sheet s (Arm volume place calls) still = absurd still
+still_sheet s e still = absurd still
 
 pub all_still : (s : Sheet) (es : List LaneEvent) → AreStill es → sheet_through s es ≡ s
 all_still s [] still = refl
@@ -94,17 +73,7 @@ led_fuller t restarts s es (starting {pairs} {rest} are still) fits =
 still_picture : (grain : GrainSize) (slots : List Slot) (picture : Picture) (e : LaneEvent) → IsStill e → picture_event (all_grains grain) slots picture e ≡ picture
 still_picture grain slots picture (Access volume access) still = refl
 still_picture grain slots picture (Work m copies cleans) still = refl
-still_picture grain slots picture (Make volume size kind) still = absurd still
-still_picture grain slots picture (Remove volume) still = absurd still
-still_picture grain slots picture (Trigger pairs) still = absurd still
-still_picture grain slots picture (Retire m) still = absurd still
-still_picture grain slots picture (Detach m) still = absurd still
-still_picture grain slots picture (Split m) still = absurd still
-still_picture grain slots picture (Force m dependents) still = absurd still
-still_picture grain slots picture (Drop slot) still = absurd still
-still_picture grain slots picture (Forget m) still = absurd still
-still_picture grain slots picture (NoteCut m source target) still = absurd still
-still_picture grain slots picture (Arm volume place calls) still = absurd still
+still_picture grain slots picture e still = absurd still
 
 pub all_still_picture : (grain : GrainSize) (s : Sheet) (picture : Picture) (es : List LaneEvent) → AreStill es → picture_through grain s picture es ≡ picture
 all_still_picture grain s picture [] still = refl
@@ -188,17 +157,7 @@ still_fits s (e ∷ es) still few =
     fits_still : (s : Sheet) (e : LaneEvent) → IsStill e → FitsEvent s e
     fits_still s (Access volume access) still = tt
     fits_still s (Work m copies cleans) still = tt
-    fits_still s (Make volume size kind) still = absurd still
-    fits_still s (Remove volume) still = absurd still
-    fits_still s (Trigger pairs) still = absurd still
-    fits_still s (Retire m) still = absurd still
-    fits_still s (Detach m) still = absurd still
-    fits_still s (Split m) still = absurd still
-    fits_still s (Force m dependents) still = absurd still
-    fits_still s (Drop slot) still = absurd still
-    fits_still s (Forget m) still = absurd still
-    fits_still s (NoteCut m source target) still = absurd still
-    fits_still s (Arm volume place calls) still = absurd still
+    fits_still s e still = absurd still
 
 still_few : (s : Sheet) (es : List LaneEvent) → AreStill es → FitsEvents (λ grains. grains) s es → s.births < 2 ^ 64
 still_few s [] still fits = fits

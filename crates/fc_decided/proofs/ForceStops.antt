@@ -1,5 +1,5 @@
 -- A stop by force, and any stop of one mapping that isn't refused.
-use Rattle.std.proofs.Common.{◌≡◌, ◌≢◌, ℕ, ◌+◌, ◌≤◌, Bool, true, false, cond, if◌then◌else◌, Option, Some, None, [], ◌∷◌, length, map, fold, refl, sym, ap, subst, ◌∙◌, arith, Contains, inl, inr}
+use Rattle.std.proofs.Common.{◌≡◌, ◌≢◌, ℕ, ◌+◌, ◌≤◌, Bool, true, false, cond, Option, Some, None, [], ◌∷◌, length, map, fold, refl, sym, ap, subst, ◌∙◌, arith, Contains, inl, inr}
 use Rattle.std.specs.List.{count_by, filter}
 use Rattle.std.proofs.lemmas.Bool.{both_ways}
 use Rattle.std.proofs.lemmas.List.{length-map}
@@ -45,11 +45,7 @@ live_copying Stopping o v x s e live = absurd (
     let q : Some s.x ≡ Some x = sym s.is ∙ e in
     let same : s.x ≡ x = cc in
     both_ways x.is_live (ap (λ (y : Seen). y.is_live) (sym same) ∙ s.liveness) live)
-live_copying Empty o v x s e live = absurd (let q : None ≡ Some x = sym s ∙ e in cc)
-live_copying IdleOrCopied o v x s e live = absurd (let q : None ≡ Some x = sym s ∙ e in cc)
-live_copying Preparing o v x s e live = absurd (let q : None ≡ Some x = sym s ∙ e in cc)
-live_copying Prepared o v x s e live = absurd (let q : None ≡ Some x = sym s ∙ e in cc)
-live_copying Stopped o v x s e live = absurd (let q : None ≡ Some x = sym s ∙ e in cc)
+live_copying state o v x s e live = absurd (let q : None ≡ Some x = sym s ∙ e in cc)
 
 few_dependents : (b : Books) (m : Mapping) → length (dependents b m) ≤ length b.tables.mappings
 unfolding dependents

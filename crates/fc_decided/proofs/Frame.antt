@@ -5,7 +5,7 @@ use Rattle.fc_changed.specs.Row.{Row}
 use Rattle.std.proofs.Common.{◌≡◌, ℕ, ◌+◌, ◌*◌, ◌<◌, ◌≤◌, ◌^◌, List, [], ◌∷◌, ◌++◌, fold, refl, sym, ap, subst, ◌∙◌, arith, Contains}
 use Rattle.std.proofs.lemmas.List.Elements.{All-contains, All-weaker}
 use Rattle.fc_base.specs.declared.request.Effect.{Effect}
-use Rattle.fc_base.specs.declared.volume.Change.TheVariants.{AddVolume, RemoveVolume, AddMapping, RemoveMapping, SetMapping, AddGroup, RemoveGroup}
+use Rattle.fc_base.specs.declared.volume.Change.TheVariants.{AddVolume}
 use Rattle.fc_decided.proofs.Firsts.{firsts_through}
 use Rattle.fc_decided.proofs.Lists.{all_from, find_from}
 use Rattle.fc_decided.proofs.Following.{told_alone, sheet_led, led_fuller, all_still_picture, begun_led, led_rows, fit_begun}
@@ -17,7 +17,7 @@ use Rattle.fc_base.specs.Pools.{Pool}
 use Rattle.fc_base.specs.Sheet.{Sheet, volume_grains, grains_at}
 use Rattle.fc_base.specs.SheetFits.{FitsEvents}
 use Rattle.fc_base.specs.SheetStep.{triggered}
-use Rattle.fc_base.specs.Tables.{Tables, volume_with}
+use Rattle.fc_base.specs.Tables.{Tables, volume_with, after_change}
 use Rattle.fc_base.specs.declared.decision.Decision.{Decision}
 use Rattle.fc_base.specs.declared.decision.LaneEvent.{LaneEvent}
 use Rattle.fc_base.specs.declared.decision.LaneEvent.TheVariants.{Trigger}
@@ -51,44 +51,33 @@ sheeted b events changes = record (tabled b changes) { sheet = sheet_through b.s
 
 -- ---- the books by their parts
 
-sheet_same : (b : Books) (c : Change) → (after_table_change b c).sheet ≡ b.sheet
-sheet_same b (AddVolume volume) = refl
-sheet_same b (RemoveVolume id) = refl
-sheet_same b (AddMapping mapping) = refl
-sheet_same b (RemoveMapping id) = refl
-sheet_same b (SetMapping mapping) = refl
-sheet_same b (AddGroup group) = refl
-sheet_same b (RemoveGroup id) = refl
+tables_change : (b : Books) (c : Change) → (after_table_change b c).tables ≡ after_change b.tables c
+tables_change b (AddVolume volume) = refl
+tables_change b c = refl
 
-flags_same : (b : Books) (c : Change) → (after_table_change b c).flags ≡ b.flags
-flags_same b (AddVolume volume) = refl
-flags_same b (RemoveVolume id) = refl
-flags_same b (AddMapping mapping) = refl
-flags_same b (RemoveMapping id) = refl
-flags_same b (SetMapping mapping) = refl
-flags_same b (AddGroup group) = refl
-flags_same b (RemoveGroup id) = refl
+pub tables_through : (b : Books) (changes : List Change) → (tabled b changes).tables ≡ fold after_change b.tables changes
+tables_through b [] = refl
+tables_through b (c ∷ cs) = tables_through (after_table_change b c) cs ∙ ap (λ (t : Tables). fold after_change t cs) (tables_change b c)
 
-pools_same : (b : Books) (c : Change) → (after_table_change b c).pools ≡ b.pools
-pools_same b (AddVolume volume) = refl
-pools_same b (RemoveVolume id) = refl
-pools_same b (AddMapping mapping) = refl
-pools_same b (RemoveMapping id) = refl
-pools_same b (SetMapping mapping) = refl
-pools_same b (AddGroup group) = refl
-pools_same b (RemoveGroup id) = refl
+-- The chains, the flags and the pools are the same.
+record HasSame (b after : Books) : Type 0 where
+  sheet : after.sheet ≡ b.sheet
+  flags : after.flags ≡ b.flags
+  pools : after.pools ≡ b.pools
 
-pub tabled_sheet : (b : Books) (changes : List Change) → (tabled b changes).sheet ≡ b.sheet
-tabled_sheet b [] = refl
-tabled_sheet b (c ∷ cs) = tabled_sheet (after_table_change b c) cs ∙ sheet_same b c
+change_same : (b : Books) (c : Change) → HasSame b (after_table_change b c)
+change_same b (AddVolume volume) = record { sheet = refl; flags = refl; pools = refl }
+change_same b c = record { sheet = refl; flags = refl; pools = refl }
 
-tabled_flags : (b : Books) (changes : List Change) → (tabled b changes).flags ≡ b.flags
-tabled_flags b [] = refl
-tabled_flags b (c ∷ cs) = tabled_flags (after_table_change b c) cs ∙ flags_same b c
+tabled_same : (b : Books) (changes : List Change) → HasSame b (tabled b changes)
+tabled_same b [] = record { sheet = refl; flags = refl; pools = refl }
+tabled_same b (c ∷ cs) =
+    let first = change_same b c in
+    let rest = tabled_same (after_table_change b c) cs in
+    record { sheet = rest.sheet ∙ first.sheet; flags = rest.flags ∙ first.flags; pools = rest.pools ∙ first.pools }
 
-tabled_pools : (b : Books) (changes : List Change) → (tabled b changes).pools ≡ b.pools
-tabled_pools b [] = refl
-tabled_pools b (c ∷ cs) = tabled_pools (after_table_change b c) cs ∙ pools_same b c
+pub flags_through : (b : Books) (changes : List Change) → (tabled b changes).flags ≡ b.flags
+flags_through b changes = (tabled_same b changes).flags
 
 -- The books after changes and events, where the new slots of a trigger hold restart sets.
 abbrev pub led_books : (ℕ → List Bool) → Books → List LaneEvent → List Change → Books
@@ -103,9 +92,9 @@ pub all_leave : (restarts : ℕ → List Bool) (b : Books) (events : List LaneEv
 all_leave restarts b events changes =
     after_apart restarts (tabled b changes) events
     ∙ (λ k. record (tabled b changes) {
-      sheet = fold (sheet_after restarts) (tabled_sheet b changes k) events;
-      flags = fold flags_after (tabled_flags b changes k) events;
-      pools = fold pools_after (tabled_pools b changes k) events;
+      sheet = fold (sheet_after restarts) ((tabled_same b changes).sheet k) events;
+      flags = fold flags_after ((tabled_same b changes).flags k) events;
+      pools = fold pools_after ((tabled_same b changes).pools k) events;
     })
 
 -- And where nothing is triggered.

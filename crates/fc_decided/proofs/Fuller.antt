@@ -1,20 +1,20 @@
 -- Chains where slots that held nothing hold something: all that stood still stands.
-use Rattle.std.proofs.Common.{◌≡◌, ℕ, zero, suc, ◌+◌, ◌<◌, Bool, true, false, eqb, ◌&&◌, List, length, get_or, replicate, Some, None, refl, sym, ap, subst, ◌∙◌, arith, ◌⊎◌, inl, inr}
+use Rattle.std.proofs.Common.{◌≡◌, ℕ, ◌+◌, ◌<◌, Bool, true, false, eqb, ◌&&◌, List, length, get_or, replicate, Some, None, refl, sym, ap, subst, ◌∙◌, arith, ◌⊎◌, inl, inr}
 use Rattle.std.specs.Prelude.{IsSome}
 use Rattle.std.specs.List.{list_all}
 use Rattle.std.proofs.lemmas.Bool.{both_ways, and_parts, and_from}
-use Rattle.fc_base.specs.Column.{Shape, last_below, first_below, holder, is_at}
+use Rattle.fc_base.specs.Column.{last_below, holder}
 use Rattle.fc_base.specs.Need.{is_complete}
-use Rattle.fc_base.specs.RestoreGraph.{HasNoLoop, HasOneLive}
-use Rattle.fc_base.specs.Sheet.{Slot, Sheet, slot_at, shape_of, live_place, mapping_place}
-use Rattle.fc_base.specs.SheetFacts.{HasNames, HasSizes, HasMappings, HasLives, HasAllHolders, IsSound}
+use Rattle.fc_base.specs.Sheet.{Slot, Sheet, slot_at, live_place, mapping_place}
+use Rattle.fc_base.specs.SheetFacts.{HasAllHolders, IsSound}
 use Rattle.fc_base.specs.Tables.{volume_with}
 use Rattle.fc_base.specs.declared.state.MapState.{MapState}
-use Rattle.fc_base.specs.declared.state.MapState.TheVariants.{Empty, IdleOrCopied, Preparing, Prepared, Copying, Stopping, Stopped}
+use Rattle.fc_base.specs.declared.state.MapState.TheVariants.{Copying, Stopping}
 use Rattle.fc_base.specs.declared.volume.Mapping.{Mapping}
 use Rattle.fc_books.specs.Books.{Books}
 use Rattle.fc_books.specs.Sound.{Agree, SlotByState}
 use Rattle.fc_legal.specs.Stands.{AreFirst}
+use Rattle.fc_pictures.proofs.Slots.{Stay, none_held, live_stay, mapping_stay, stay_sound}
 use Rattle.fc_moves.proofs.Search.{cases_option, last_none, last_some}
 
 -- ---- slots
@@ -43,15 +43,10 @@ all_same s = record { births = refl; count = refl; each = λ k. fuller_same (slo
 
 -- ---- what it holds
 
-none_held : (n g : ℕ) → get_or (replicate n false) g false ≡ true → ⊥
-none_held zero g e = absurd cc
-none_held (suc n) zero e = absurd cc
-none_held (suc n) (suc g) e = none_held n g e
-
 still_held : (old new : Slot) (g : ℕ) → IsFuller old new → get_or old.held g false ≡ true → get_or new.held g false ≡ true
 still_held old new g f e = elim f.held [
   | inl same ↦ ap (λ (h : List Bool). get_or h g false) same ∙ e
-  | inr blank ↦ absurd (none_held (length old.held) g (ap (λ (h : List Bool). get_or h g false) (sym blank.2) ∙ e))
+  | inr blank ↦ absurd (both_ways _ (none_held (length old.held) g) (ap (λ (h : List Bool). get_or h g false) (sym blank.2) ∙ e))
 ]
 
 still_complete : (old new : Slot) → IsFuller old new → old.mapping ≡ None → is_complete old ≡ true → is_complete new ≡ true
@@ -69,58 +64,23 @@ some_last test n k kl passes = elim (cases_option (last_below test n)) [
 ]
 
 module _ (s t : Sheet) (f : AreFuller s t) where
-  same_shape : shape_of t.slots ≡ shape_of s.slots
-  same_shape = λ i. record {
-    count = f.count i;
-    birth = λ k. (f.each k).birth i;
-    chain = λ k. (f.each k).chain i;
-    volume = λ k. (f.each k).volume i;
-    is_live = λ k. (f.each k).is_live i;
-  }
+  stay : Stay s.slots t.slots
+  stay =
+      record {
+        count = f.count;
+        birth = λ k. (f.each k).birth;
+        chain = λ k. (f.each k).chain;
+        volume = λ k. (f.each k).volume;
+        is_live = λ k. (f.each k).is_live;
+        mapping = λ k. (f.each k).mapping;
+        size = λ k. (f.each k).size;
+      }
 
   pub same_live_place : (v : ℕ) → live_place t.slots v ≡ live_place s.slots v
-  unfolding live_place
-  same_live_place v = λ i. first_below (λ k. (f.each k).is_live i && eqb ((f.each k).volume i) v) (f.count i)
+  same_live_place v = live_stay s.slots t.slots stay v
 
   pub same_mapping_place : (m : ℕ) → mapping_place t.slots m ≡ mapping_place s.slots m
-  unfolding mapping_place
-  same_mapping_place m = λ i. first_below (λ k. is_at ((f.each k).mapping i) m) (f.count i)
-
-  names : HasNames s → HasNames t
-  names n =
-      let c = f.count in
-      let b = f.births in
-      record {
-        births = λ k kl. (let e = (f.each k).birth in let lt = n.births k (omega (arith, kl, c)) in omega (arith, e, lt, b));
-        apart = λ i j il jl e. n.apart i j (omega (arith, il, c)) (omega (arith, jl, c)) (sym (f.each i).birth ∙ e ∙ (f.each j).birth);
-        chains = λ k kl. (let e = (f.each k).chain in let lt = n.chains k (omega (arith, kl, c)) in omega (arith, e, lt, b));
-        fresh = λ i j m il jl e q. n.fresh i j m (omega (arith, il, c)) (omega (arith, jl, c)) (sym (f.each i).mapping ∙ e) (sym (f.each j).chain ∙ q ∙ (f.each i).birth);
-      }
-
-  sizes : HasSizes s.slots → HasSizes t.slots
-  sizes n =
-      let c = f.count in
-      record {
-        of_chain = λ i j il jl e. (f.each i).size ∙ n.of_chain i j (omega (arith, il, c)) (omega (arith, jl, c)) (sym (f.each i).chain ∙ e ∙ (f.each j).chain) ∙ sym (f.each j).size;
-        of_volume = λ i j il jl e. (f.each i).size ∙ n.of_volume i j (omega (arith, il, c)) (omega (arith, jl, c)) (sym (f.each i).volume ∙ e ∙ (f.each j).volume) ∙ sym (f.each j).size;
-      }
-
-  mappings : HasMappings s.slots → HasMappings t.slots
-  mappings n =
-      let c = f.count in
-      record {
-        one_slot = λ i j m il jl e q. n.one_slot i j m (omega (arith, il, c)) (omega (arith, jl, c)) (sym (f.each i).mapping ∙ e) (sym (f.each j).mapping ∙ q);
-        complete = λ k kl live none.
-            let was : (slot_at s.slots k).mapping ≡ None = sym (f.each k).mapping ∙ none in
-            still_complete (slot_at s.slots k) (slot_at t.slots k) (f.each k) was (n.complete k (omega (arith, kl, c)) (sym (f.each k).is_live ∙ live) was);
-      }
-
-  lives : HasLives s.slots → HasLives t.slots
-  lives n k kl =
-      let c = f.count in
-      let l = n k (omega (arith, kl, c)) in
-      let jl = l.1 in
-      (l.0, omega (arith, jl, c), (f.each l.0).is_live ∙ l.2, (f.each l.0).volume ∙ l.3 ∙ sym (f.each k).volume)
+  same_mapping_place m = mapping_stay s.slots t.slots stay m
 
   holders : HasAllHolders s.slots → HasAllHolders t.slots
   unfolding holder
@@ -137,15 +97,10 @@ module _ (s t : Sheet) (f : AreFuller s t) where
 
   pub fuller_sound : IsSound s → IsSound t
   fuller_sound i =
-      record {
-        names = names i.names;
-        sizes = sizes i.sizes;
-        mappings = mappings i.mappings;
-        one_live = subst (λ (x : Shape). HasOneLive x) (sym same_shape) i.one_live;
-        lives = lives i.lives;
-        holders = holders i.holders;
-        no_loop = subst (λ (x : Shape). HasNoLoop x) (sym same_shape) i.no_loop;
-      }
+      subst (λ (b : ℕ). IsSound record { births = b; slots = t.slots }) (sym f.births)
+      (stay_sound s.births s.slots t.slots stay i
+      (λ k kl live none. still_complete (slot_at s.slots k) (slot_at t.slots k) (f.each k) none (i.mappings.complete k kl live none))
+      (holders i.holders))
 
   pub fuller_firsts : AreFirst s.slots → AreFirst t.slots
   fuller_firsts n j k jl kl live none chain =
@@ -159,11 +114,7 @@ module _ (s t : Sheet) (f : AreFuller s t) where
       record { place = by.place; is_there = same_mapping_place m.id.0 ∙ by.is_there; of_target = (f.each by.place).volume ∙ by.of_target; liveness = (f.each by.place).is_live ∙ by.liveness }
   slot_by_state Stopping m by =
       record { place = by.place; is_there = same_mapping_place m.id.0 ∙ by.is_there; of_target = (f.each by.place).volume ∙ by.of_target; liveness = (f.each by.place).is_live ∙ by.liveness }
-  slot_by_state Empty m by = same_mapping_place m.id.0 ∙ by
-  slot_by_state IdleOrCopied m by = same_mapping_place m.id.0 ∙ by
-  slot_by_state Preparing m by = same_mapping_place m.id.0 ∙ by
-  slot_by_state Prepared m by = same_mapping_place m.id.0 ∙ by
-  slot_by_state Stopped m by = same_mapping_place m.id.0 ∙ by
+  slot_by_state state m by = same_mapping_place m.id.0 ∙ by
 
   pub fuller_agree : (b : Books) → Agree (record b { sheet = s }) → Agree (record b { sheet = t })
   fuller_agree b a =

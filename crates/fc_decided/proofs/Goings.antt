@@ -7,7 +7,7 @@ use Rattle.fc_base.specs.SheetStep.{sheet_step}
 use Rattle.fc_base.specs.declared.decision.LaneEvent.{LaneEvent}
 use Rattle.fc_base.specs.declared.size.GrainSize.{GrainSize}
 use Rattle.fc_base.specs.declared.volume.Change.{Change}
-use Rattle.fc_base.specs.declared.volume.Change.TheVariants.{AddVolume, RemoveVolume, AddMapping, RemoveMapping, SetMapping, AddGroup, RemoveGroup}
+use Rattle.fc_base.specs.declared.volume.Change.TheVariants.{AddVolume}
 use Rattle.fc_base.specs.declared.volume.Volume.{Volume}
 use Rattle.fc_books.specs.After.{after_table_change, after_deed, flags_after, pools_after}
 use Rattle.fc_books.specs.Books.{Books, Deed, ◌then◌}
@@ -34,12 +34,7 @@ with_parts b s flags pools = record b { sheet = s; flags = flags; pools = pools 
 
 parts_change : (b : Books) (s : Sheet) (flags : List WorkFlags) (pools : List Pool) (c : Change) → after_table_change (with_parts b s flags pools) c ≡ with_parts (after_table_change b c) s flags pools
 parts_change b s flags pools (AddVolume volume) = refl
-parts_change b s flags pools (RemoveVolume id) = refl
-parts_change b s flags pools (AddMapping mapping) = refl
-parts_change b s flags pools (RemoveMapping id) = refl
-parts_change b s flags pools (SetMapping mapping) = refl
-parts_change b s flags pools (AddGroup group) = refl
-parts_change b s flags pools (RemoveGroup id) = refl
+parts_change b s flags pools c = refl
 
 pub parts_tabled : (b : Books) (s : Sheet) (flags : List WorkFlags) (pools : List Pool) (changes : List Change) → tabled (with_parts b s flags pools) changes ≡ with_parts (tabled b changes) s flags pools
 parts_tabled b s flags pools [] = refl

@@ -111,12 +111,7 @@ may_member way Stopped whole acts known = tt
 
 acts_copying : (state : MapState) → acts_on Split state ≡ true → state ≡ Copying
 acts_copying Copying e = refl
-acts_copying Empty e = absurd cc
-acts_copying IdleOrCopied e = absurd cc
-acts_copying Preparing e = absurd cc
-acts_copying Prepared e = absurd cc
-acts_copying Stopping e = absurd cc
-acts_copying Stopped e = absurd cc
+acts_copying state e = absurd cc
 
 -- What a member's stop does, and what a split of it leaves of others.
 pub record MemberGoes (grain : GrainSize) (way : StopWay) (b : Books) (picture : Picture) (id : MapId) (d : Deed) : Type 0 where

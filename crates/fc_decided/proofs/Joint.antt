@@ -6,7 +6,7 @@ use Rattle.fc_base.specs.SheetFacts.{IsSound}
 use Rattle.fc_base.specs.RestoreGraph.{HasOneLive}
 use Rattle.fc_base.specs.Tables.{Tables, volume_with}
 use Rattle.fc_base.specs.declared.state.MapState.{MapState}
-use Rattle.fc_base.specs.declared.state.MapState.TheVariants.{Empty, IdleOrCopied, Preparing, Prepared, Copying, Stopping, Stopped}
+use Rattle.fc_base.specs.declared.state.MapState.TheVariants.{Copying, Stopping}
 use Rattle.fc_base.specs.declared.volume.Mapping.{Mapping}
 use Rattle.fc_base.specs.declared.volume.Volume.{Volume}
 use Rattle.fc_books.specs.Accesses.{is_idle}
@@ -57,20 +57,12 @@ has_slot slots m live h =
 state_seen : (state : MapState) (slots : List Slot) (m : Mapping) → SlotByState state slots m → StateSeen state (seen slots m.id.0) m.target.0
 state_seen Copying slots m s = has_seen slots m true s
 state_seen Stopping slots m s = has_seen slots m false s
-state_seen Empty slots m s = seen_none slots m.id.0 s
-state_seen IdleOrCopied slots m s = seen_none slots m.id.0 s
-state_seen Preparing slots m s = seen_none slots m.id.0 s
-state_seen Prepared slots m s = seen_none slots m.id.0 s
-state_seen Stopped slots m s = seen_none slots m.id.0 s
+state_seen state slots m s = seen_none slots m.id.0 s
 
 state_slot : (state : MapState) (slots : List Slot) (m : Mapping) → StateSeen state (seen slots m.id.0) m.target.0 → SlotByState state slots m
 state_slot Copying slots m s = has_slot slots m true s
 state_slot Stopping slots m s = has_slot slots m false s
-state_slot Empty slots m s = no_place slots m.id.0 s
-state_slot IdleOrCopied slots m s = no_place slots m.id.0 s
-state_slot Preparing slots m s = no_place slots m.id.0 s
-state_slot Prepared slots m s = no_place slots m.id.0 s
-state_slot Stopped slots m s = no_place slots m.id.0 s
+state_slot state slots m s = no_place slots m.id.0 s
 
 pub joint_from : (b : Books) → HasOneLive (shape_of b.sheet.slots) → Agree b → Joint b.tables b.sheet.slots Nobody
 joint_from b one a =
@@ -137,13 +129,9 @@ joint_kept t old new changed before after k c p j =
 -- ---- a row changes
 
 pub idle_unseen : (state : MapState) (o : Option Seen) (v : ℕ) → is_idle state ≡ true → StateSeen state o v → o ≡ None
-idle_unseen IdleOrCopied o v e s = s
-idle_unseen Empty o v e s = s
-idle_unseen Preparing o v e s = s
-idle_unseen Prepared o v e s = s
-idle_unseen Stopped o v e s = s
 idle_unseen Copying o v e s = absurd cc
 idle_unseen Stopping o v e s = absurd cc
+idle_unseen state o v e s = s
 
 pub joint_ended : (t u : Tables) (slots : List Slot) (r : Mapping) (before after : ℕ → Type 0) → Ended t.mappings u.mappings r → u.volumes ≡ t.volumes →
     StateSeen r.state (seen slots r.id.0) r.target.0 → ((n : ℕ) → n ≢ r.id.0 → before n → after n) → Joint t slots before → Joint u slots after

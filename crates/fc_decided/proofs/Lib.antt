@@ -10,6 +10,7 @@ pub mod Fuller
 pub mod Restarting
 pub mod Lists
 pub mod Ordered
+pub mod Opening
 pub mod Unrefused
 pub mod Apart
 pub mod Working

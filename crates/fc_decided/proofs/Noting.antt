@@ -1,12 +1,11 @@
--- What is kept of incremental mappings, through notes and events: each row stays one of a mapping of the table.
-use Rattle.std.proofs.Common.{◌≡◌, ◌≢◌, ℕ, zero, suc, ◌+◌, ◌<◌, Bool, true, false, not, cond, List, [], ◌∷◌, ◌++◌, length, get_or, map, fold, filter, replicate, Option, Some, None, refl, sym, ap, subst, ◌∙◌, Contains, All, arith, length-set}
-use Rattle.std.specs.Prelude.{◌&&◌, ◌||◌, ◌==◌, find, flat_map}
-use Rattle.std.specs.List.{list_any, range_with_len}
+-- What is kept of incremental mappings, through events: each row stays one of a mapping of the table.
+use Rattle.std.proofs.Common.{◌≡◌, ◌≢◌, ℕ, Bool, true, false, not, cond, List, [], ◌∷◌, ◌++◌, get_or, map, fold, filter, replicate, Option, Some, None, refl, sym, ap, subst, ◌∙◌, Contains, All}
+use Rattle.std.specs.Prelude.{◌||◌, ◌==◌, find, flat_map}
+use Rattle.std.specs.List.{list_any}
 use Rattle.std.specs.Option.{ForSome}
 use Rattle.std.proofs.lemmas.Bool.{eqb-true, eq-eqb, ne_eqb, both_ways}
-use Rattle.std.proofs.lemmas.List.{get_or-map, length-map, length-replicate}
+use Rattle.std.proofs.lemmas.List.{length-replicate}
 use Rattle.std.proofs.lemmas.List.Elements.{All-contains, All-map, All-push, All-filter, Contains-get_or}
-use Rattle.std.proofs.lemmas.List.Kept.{AllPairs-filter}
 use Rattle.std.proofs.lemmas.List.Quantifiers.{all_pairs_push}
 use Rattle.fc_base.specs.Sheet.{Slot, slot_at, mapping_place, volume_grains}
 use Rattle.fc_base.specs.Tables.{Tables, IsOrdered, volume_with}
@@ -17,88 +16,18 @@ use Rattle.fc_base.specs.declared.request.Pair.{Pair}
 use Rattle.fc_base.specs.declared.volume.Mapping.{Mapping}
 use Rattle.fc_books.specs.Sound.{HasGrains}
 use Rattle.fc_books.specs.Starting.{pair_of}
-use Rattle.fc_changed.specs.Notes.{Note, has, joins}
+use Rattle.fc_changed.specs.Notes.{Note}
 use Rattle.fc_changed.specs.Notes.Note.{Began, Wrote, Left, Cut, Forgotten}
-use Rattle.fc_changed.specs.Row.{Row, is_of, row_names, with_all, with_none, row_began, row_wrote, row_left, row_cut, with_new, after_note}
+use Rattle.fc_changed.specs.Row.{Row, is_of, row_names, row_began, row_wrote, row_left, row_cut, with_new, after_note}
 use Rattle.fc_decided.proofs.Keeping.{IsForgotten}
 use Rattle.fc_decided.proofs.Lists.{all_from, filter_from, find_from, any_in, first_in, later_in}
 use Rattle.fc_decided.proofs.Ordered.{one_of_id}
 use Rattle.fc_decided.proofs.Sparing.{Spares, ArePairs}
 use Rattle.fc_follow.specs.Following.{slot_leaves, leaving, beginning, event_notes, rows_event, IsOfPair, FitsRows}
+use Rattle.fc_legal.proofs.Rows.{IsLike, like_began, like_wrote, like_left, like_cut, rows_map, IsMild, AreMild, mild_append, all_mild_rows}
 use Rattle.fc_legal.specs.Stands.{IsOfMapping, AreRows}
 
--- ---- rows that differ in their grains alone
-
--- Of the same mapping, and as large.
-pub record IsLike (r s : Row) : Type 0 where
-  pub map_is : s.map ≡ r.map
-  pub source_is : s.source ≡ r.source
-  pub target_is : s.target ≡ r.target
-  pub size : length s.same ≡ length r.same
-
-like_itself : (r : Row) → IsLike r r
-like_itself r = record { map_is = refl; source_is = refl; target_is = refl; size = refl }
-
-like_if : (b : Bool) (r x y : Row) → IsLike r x → IsLike r y → IsLike r (cond b x y)
-like_if true r x y first second = first
-like_if false r x y first second = second
-
-like_none : (r : Row) → IsLike r (with_none r)
-like_none r = record { map_is = refl; source_is = refl; target_is = refl; size = length-replicate (length r.same) false }
-
-like_began : (source target : ℕ) (r : Row) → IsLike r (row_began source target r)
-like_began source target r =
-    like_if (joins r.source r.target source target) r (record (with_all r) { into = target }) (cond (row_names r target) (with_none r) r)
-    (record { map_is = refl; source_is = refl; target_is = refl; size = length-replicate (length r.same) true })
-    (like_if (row_names r target) r (with_none r) r (like_none r) (like_itself r))
-
-like_wrote : (volume grain : ℕ) (r : Row) → IsLike r (row_wrote volume grain r)
-like_wrote volume grain r =
-    like_if (row_names r volume) r _ r (record { map_is = refl; source_is = refl; target_is = refl; size = length-set r.same grain false }) (like_itself r)
-
-range_count : (start n : ℕ) → length (range_with_len start n) ≡ n
-range_count start zero = refl
-range_count start (suc n) = ap suc (range_count (start + 1) n)
-
-like_left : (target : ℕ) (held : List Bool) (r : Row) → IsLike r (row_left target held r)
-like_left target held r =
-    like_if (row_names r target) r _ r
-    (record { map_is = refl; source_is = refl; target_is = refl; size = length-map (range_with_len 0 (length r.same)) (λ g. has r.same g && has held g) ∙ range_count 0 (length r.same) })
-    (like_itself r)
-
-like_cut : (target : ℕ) (r : Row) → IsLike r (row_cut target r)
-like_cut target r = like_if (row_names r target && not (r.into == target)) r (with_none r) r (like_none r) (like_itself r)
-
--- ---- rows of mappings
-
-like_mapping : (t : Tables) (r s : Row) → IsLike r s → IsOfMapping t r → IsOfMapping t s
-like_mapping t r s l i =
-    record {
-      mapping = i.mapping;
-      there = i.there;
-      id_is = i.id_is ∙ sym l.map_is;
-      source_is = i.source_is ∙ sym l.source_is;
-      target_is = i.target_is ∙ sym l.target_is;
-      incremental = i.incremental;
-      size = subst (HasGrains (volume_with t i.mapping.target)) (sym l.size) i.size;
-    }
-
-rows_map : (t : Tables) (f : Row → Row) (rows : List Row) → ((r : Row) → IsLike r (f r)) → AreRows t rows → AreRows t (map f rows)
-rows_map t f rows like all =
-    let n = length-map rows f in
-    record {
-      each = All-map (IsOfMapping t) f rows (λ k d kl. like_mapping t (get_or rows k d) (f (get_or rows k d)) (like (get_or rows k d)) (all.each k d kl));
-      distinct = λ i j d lt jl e.
-          let jl' : j < length rows = omega (arith, jl, n) in
-          let il' : i < length rows = omega (arith, jl', lt) in
-          all.distinct i j d lt jl'
-          (sym (like (get_or rows i d)).map_is ∙ ap (λ (r : Row). r.map) (sym (get_or-map f rows i d d il')) ∙ e
-          ∙ ap (λ (r : Row). r.map) (get_or-map f rows j d d jl') ∙ (like (get_or rows j d)).map_is);
-    }
-
-rows_filter : (t : Tables) (p : Row → Bool) (rows : List Row) → AreRows t rows → AreRows t (filter p rows)
-rows_filter t p rows all =
-    record { each = All-filter p (IsOfMapping t) rows all.each; distinct = AllPairs-filter (λ (x y : Row). x.map ≢ y.map) p rows all.distinct }
+-- ---- rows that come, and rows that lack a mapping
 
 rows_push : (t : Tables) (rows : List Row) (row : Row) → ((r : Row) → Contains rows r → r.map ≢ row.map) → IsOfMapping t row → AreRows t rows → AreRows t (rows ++ row ∷ [])
 rows_push t rows row other i all =
@@ -115,37 +44,12 @@ lack_map : (i : ℕ) (f : Row → Row) (rows : List Row) → ((r : Row) → IsLi
 lack_map i f rows like all =
     All-map (λ (row : Row). row.map ≢ i) f rows (λ k d kl e. all k d kl (sym (like (get_or rows k d)).map_is ∙ e))
 
--- ---- notes that begin nothing
-
-abbrev IsMild : Note → Type 0
-IsMild (Began m source target followed) = ⊥
-IsMild note = Unit {0}
-
-abbrev AreMild : List Note → Type 0
-AreMild [] = Unit {0}
-AreMild (n ∷ ns) = IsMild n × AreMild ns
-
-mild_append : (ns ms : List Note) → AreMild ns → AreMild ms → AreMild (ns ++ ms)
-mild_append [] ms first second = second
-mild_append (n ∷ ns) ms first second = (first.0, mild_append ns ms first.1 second)
-
-mild_rows : (t : Tables) (rows : List Row) (note : Note) → IsMild note → AreRows t rows → AreRows t (after_note rows note)
-mild_rows t rows (Began m source target followed) mild all = absurd mild
-mild_rows t rows (Wrote volume grain) mild all = rows_map t (row_wrote volume grain) rows (like_wrote volume grain) all
-mild_rows t rows (Left target held) mild all = rows_map t (row_left target held) rows (like_left target held) all
-mild_rows t rows (Cut target) mild all = rows_map t (row_cut target) rows (like_cut target) all
-mild_rows t rows (Forgotten m) mild all = rows_filter t (λ row. not (is_of m row)) rows all
-
 mild_lack : (i : ℕ) (rows : List Row) (note : Note) → IsMild note → Lack i rows → Lack i (after_note rows note)
 mild_lack i rows (Began m source target followed) mild all = absurd mild
 mild_lack i rows (Wrote volume grain) mild all = lack_map i (row_wrote volume grain) rows (like_wrote volume grain) all
 mild_lack i rows (Left target held) mild all = lack_map i (row_left target held) rows (like_left target held) all
 mild_lack i rows (Cut target) mild all = lack_map i (row_cut target) rows (like_cut target) all
 mild_lack i rows (Forgotten m) mild all = All-filter (λ row. not (is_of m row)) (λ (row : Row). row.map ≢ i) rows all
-
-all_mild_rows : (t : Tables) (rows : List Row) (notes : List Note) → AreMild notes → AreRows t rows → AreRows t (fold after_note rows notes)
-all_mild_rows t rows [] mild all = all
-all_mild_rows t rows (n ∷ ns) mild all = all_mild_rows t (after_note rows n) ns mild.1 (mild_rows t rows n mild.0 all)
 
 all_mild_lack : (i : ℕ) (rows : List Row) (notes : List Note) → AreMild notes → Lack i rows → Lack i (fold after_note rows notes)
 all_mild_lack i rows [] mild all = all
@@ -167,18 +71,13 @@ mild_leaving slots (m ∷ ms) = mild_append (leaving slots m) (flat_map (leaving
 
 spared_mild : (t : Tables) (slots : List Slot) (e : LaneEvent) → Spares t e → AreMild (event_notes slots e)
 spared_mild t slots (Trigger pairs) none = absurd none
-spared_mild t slots (Make volume grains kind) none = tt
-spared_mild t slots (Remove volume) none = tt
 spared_mild t slots (Retire m) none = mild_leaves slots (mapping_place slots m.0)
 spared_mild t slots (Detach m) none = mild_leaves slots (mapping_place slots m.0)
 spared_mild t slots (Split m) none = mild_leaves slots (mapping_place slots m.0)
 spared_mild t slots (Force m dependents) none = mild_append (leaving slots m) (flat_map (leaving slots) dependents) (mild_leaves slots (mapping_place slots m.0)) (mild_leaving slots dependents)
-spared_mild t slots (Drop slot) none = tt
 spared_mild t slots (Forget m) none = (tt, tt)
 spared_mild t slots (NoteCut m source target) none = (tt, tt)
-spared_mild t slots (Access volume access) none = tt
-spared_mild t slots (Work m copies cleans) none = tt
-spared_mild t slots (Arm volume grain calls) none = tt
+spared_mild t slots e none = tt
 
 pub spared_rows : (t : Tables) (slots : List Slot) (rows : List Row) (e : LaneEvent) → Spares t e → AreRows t rows → AreRows t (rows_event slots rows e)
 spared_rows t slots rows e spare all = all_mild_rows t rows (event_notes slots e) (spared_mild t slots e spare) all
@@ -216,17 +115,7 @@ spared_fits t rows (Remove volume) spare all = λ k d kl.
     let out = spare i.mapping i.there in
     not_named (get_or rows k d) volume.0 (λ e. out.0 (i.source_is ∙ e)) (λ e. out.1 (i.target_is ∙ e))
 spared_fits t rows (Trigger pairs) spare all = absurd spare
-spared_fits t rows (Make volume grains kind) spare all = tt
-spared_fits t rows (Retire m) spare all = tt
-spared_fits t rows (Detach m) spare all = tt
-spared_fits t rows (Split m) spare all = tt
-spared_fits t rows (Force m dependents) spare all = tt
-spared_fits t rows (Drop slot) spare all = tt
-spared_fits t rows (Forget m) spare all = tt
-spared_fits t rows (NoteCut m source target) spare all = tt
-spared_fits t rows (Access volume access) spare all = tt
-spared_fits t rows (Work m copies cleans) spare all = tt
-spared_fits t rows (Arm volume grain calls) spare all = tt
+spared_fits t rows e spare all = tt
 
 -- ---- triggers
 

@@ -331,12 +331,7 @@ module _ (grain : GrainSize) (decisions : ℕ) (w : Whole) (m : Mapping) (found 
     where
       busy_stopped : (state : MapState) → is_stopped state ≡ true → is_idle state ≡ false
       busy_stopped Stopped e = refl
-      busy_stopped IdleOrCopied e = absurd cc
-      busy_stopped Empty e = absurd cc
-      busy_stopped Preparing e = absurd cc
-      busy_stopped Prepared e = absurd cc
-      busy_stopped Copying e = absurd cc
-      busy_stopped Stopping e = absurd cc
+      busy_stopped state e = absurd cc
   accessed st false running v = sym (same_access st.sound.tables.mappings v (idle_never resting))
     where
       idle_never : IsResting m.state → decides v m ≡ false

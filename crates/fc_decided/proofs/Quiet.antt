@@ -4,7 +4,7 @@ use Rattle.fc_base.specs.Sheet.{Slot, Sheet, mapping_place}
 use Rattle.fc_base.specs.SheetFits.{FitsEvent, FitsEvents}
 use Rattle.fc_base.specs.SheetStep.{sheet_step}
 use Rattle.fc_base.specs.declared.decision.LaneEvent.{LaneEvent}
-use Rattle.fc_base.specs.declared.decision.LaneEvent.TheVariants.{Make, Remove, Trigger, Retire, Detach, Split, Force, Drop, Forget, NoteCut, Access, Work, Arm}
+use Rattle.fc_base.specs.declared.decision.LaneEvent.TheVariants.{Forget, NoteCut, Access}
 use Rattle.fc_base.specs.declared.request.Effect.TheVariants.{Cut}
 use Rattle.fc_base.specs.declared.size.GrainSize.{GrainSize}
 use Rattle.fc_base.specs.declared.state.MapState.{MapState}
@@ -67,16 +67,7 @@ quiet s [] q = record { fit = tt; sheet = refl; picture = λ grain picture. refl
 quiet s (Forget m ∷ es) q = let r = quiet s es q.1 in record { fit = (q.0, r.fit); sheet = r.sheet; picture = r.picture }
 quiet s (NoteCut m source target ∷ es) q = let r = quiet s es q.1 in record { fit = (tt, r.fit); sheet = r.sheet; picture = r.picture }
 quiet s (Access volume access ∷ es) q = let r = quiet s es q.1 in record { fit = (tt, r.fit); sheet = r.sheet; picture = r.picture }
-quiet s (Make volume grains kind ∷ es) q = absurd q.0
-quiet s (Remove volume ∷ es) q = absurd q.0
-quiet s (Trigger pairs ∷ es) q = absurd q.0
-quiet s (Retire m ∷ es) q = absurd q.0
-quiet s (Detach m ∷ es) q = absurd q.0
-quiet s (Split m ∷ es) q = absurd q.0
-quiet s (Force m dependents ∷ es) q = absurd q.0
-quiet s (Drop slot ∷ es) q = absurd q.0
-quiet s (Work m copies cleans ∷ es) q = absurd q.0
-quiet s (Arm volume grain calls ∷ es) q = absurd q.0
+quiet s (e ∷ es) q = absurd q.0
 
 -- ---- what stands while mappings end
 

@@ -5,7 +5,7 @@ use Rattle.std.proofs.lemmas.Bool.{cases_Bool, eqb-true, eq-eqb, and_parts, and_
 use Rattle.fc_base.specs.States.{access_of}
 use Rattle.fc_base.specs.Tables.{Tables}
 use Rattle.fc_base.specs.declared.decision.LaneEvent.{LaneEvent}
-use Rattle.fc_base.specs.declared.decision.LaneEvent.TheVariants.{Make, Remove, Trigger, Retire, Detach, Split, Force, Drop, Forget, NoteCut, Access as SetAccess, Work, Arm}
+use Rattle.fc_base.specs.declared.decision.LaneEvent.TheVariants.{Make, Remove, Access as SetAccess}
 use Rattle.fc_base.specs.declared.ids.VolId.{VolId}
 use Rattle.fc_base.specs.declared.state.Access.{Access}
 use Rattle.fc_base.specs.declared.state.Access.TheVariants.{Online}
@@ -112,16 +112,7 @@ event_told : (access : VolId → Access) (vs : List Volume) (e : LaneEvent) → 
 event_told access vs (SetAccess volume now) within = set_access access volume now vs
 event_told access vs (Make volume grains kind) within = absurd within
 event_told access vs (Remove volume) within = absurd within
-event_told access vs (Trigger pairs) within = refl
-event_told access vs (Retire m) within = refl
-event_told access vs (Detach m) within = refl
-event_told access vs (Split m) within = refl
-event_told access vs (Force m dependents) within = refl
-event_told access vs (Drop slot) within = refl
-event_told access vs (Forget m) within = refl
-event_told access vs (NoteCut m source target) within = refl
-event_told access vs (Work m copies cleans) within = refl
-event_told access vs (Arm volume grain calls) within = refl
+event_told access vs e within = refl
 
 events_told : (access : VolId → Access) (vs : List Volume) (es : List LaneEvent) → AreWithin es → fold volumes_event (map (told_with access) vs) es ≡ map (told_with (λ id. fold (reached id) (access id) es)) vs
 events_told access vs [] within = refl

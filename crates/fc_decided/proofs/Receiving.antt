@@ -12,7 +12,7 @@ use Rattle.fc_base.specs.declared.decision.LaneEvent.TheVariants.{Access as SetA
 use Rattle.fc_base.specs.declared.ids.VolId.{VolId}
 use Rattle.fc_base.specs.declared.state.Access.{Access}
 use Rattle.fc_base.specs.declared.state.MapState.{MapState}
-use Rattle.fc_base.specs.declared.state.MapState.TheVariants.{Empty, IdleOrCopied, Preparing, Prepared, Copying, Stopping, Stopped}
+use Rattle.fc_base.specs.declared.state.MapState.TheVariants.{Empty, Stopped}
 use Rattle.fc_base.specs.declared.volume.Mapping.{Mapping}
 use Rattle.fc_base.specs.declared.volume.Volume.{Volume}
 use Rattle.fc_books.specs.Accesses.{access_in, is_idle, is_stopped}
@@ -143,12 +143,7 @@ module _ (b : Books) (maps : List Mapping) (gives : Bool) (state : MapState) (re
 
   stopped_is : (s : MapState) → is_stopped s ≡ true → s ≡ Stopped
   stopped_is Stopped e = refl
-  stopped_is Empty e = absurd cc
-  stopped_is IdleOrCopied e = absurd cc
-  stopped_is Preparing e = absurd cc
-  stopped_is Prepared e = absurd cc
-  stopped_is Copying e = absurd cc
-  stopped_is Stopping e = absurd cc
+  stopped_is state e = absurd cc
 
   slot_then : (new : Sheet) → Receives new → (m x : Mapping) → Contains b.tables.mappings m → SlotByState m.state b.sheet.slots m → Outcome b.tables maps gives state restore ordered can busy m x → SlotByState x.state new.slots x
   slot_then new r m x found was (turns inside e) = subst (λ (z : Mapping). SlotByState z.state new.slots z) (sym e) (slot_as state new.slots m (turned state restore m) refl refl (r.own m inside))

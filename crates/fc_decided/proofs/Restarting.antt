@@ -4,7 +4,7 @@ use Rattle.std.proofs.Common.{◌≡◌, ◌≢◌, ℕ, suc, ◌+◌, ◌<◌, 
 use Rattle.std.proofs.lemmas.Bool.{cases_eq}
 use Rattle.std.proofs.lemmas.List.{length-take-le, length-replicate}
 use Rattle.fc_base.specs.declared.decision.LaneEvent.{LaneEvent}
-use Rattle.fc_base.specs.declared.decision.LaneEvent.TheVariants.{Make, Remove, Trigger, Retire, Detach, Split, Force, Drop, Forget, NoteCut, Access, Work, Arm}
+use Rattle.fc_base.specs.declared.decision.LaneEvent.TheVariants.{Trigger}
 use Rattle.fc_base.specs.declared.request.Pair.{Pair}
 use Rattle.fc_base.specs.Sheet.{Slot, Sheet, slot_at, no_slot, live_place, mapping_place, volume_grains}
 use Rattle.fc_base.specs.SheetFits.{FitsTrigger}
@@ -134,15 +134,4 @@ triggered_fuller restarts s pairs f =
 -- After any other event they are as the step of chains says.
 pub sheet_after-plain : (t : Tables) (restarts : ℕ → List Bool) (s : Sheet) (e : LaneEvent) → Spares t e → sheet_after restarts s e ≡ sheet_step (λ grains. grains) s e
 sheet_after-plain t restarts s (Trigger pairs) f = absurd f
-sheet_after-plain t restarts s (Make volume grains kind) f = refl
-sheet_after-plain t restarts s (Remove volume) f = refl
-sheet_after-plain t restarts s (Retire m) f = refl
-sheet_after-plain t restarts s (Detach m) f = refl
-sheet_after-plain t restarts s (Split m) f = refl
-sheet_after-plain t restarts s (Force m dependents) f = refl
-sheet_after-plain t restarts s (Drop slot) f = refl
-sheet_after-plain t restarts s (Forget m) f = refl
-sheet_after-plain t restarts s (NoteCut m source target) f = refl
-sheet_after-plain t restarts s (Access volume access) f = refl
-sheet_after-plain t restarts s (Work m copies cleans) f = refl
-sheet_after-plain t restarts s (Arm volume grain calls) f = refl
+sheet_after-plain t restarts s e f = refl

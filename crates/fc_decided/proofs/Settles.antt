@@ -1,5 +1,5 @@
 -- A settling: after the drops, mapping by mapping.
-use Rattle.std.proofs.Common.{◌≡◌, ◌≢◌, ℕ, ◌+◌, ◌<◌, ◌≤◌, Bool, true, false, cond, if◌then◌else◌, Option, Some, None, List, [], ◌∷◌, length, remove, refl, sym, ap, subst, ◌∙◌, arith, Contains, inl, inr}
+use Rattle.std.proofs.Common.{◌≡◌, ◌≢◌, ℕ, ◌+◌, ◌<◌, ◌≤◌, Bool, true, false, cond, Option, Some, None, List, [], ◌∷◌, length, remove, refl, sym, ap, subst, ◌∙◌, arith, Contains, inl, inr}
 use Rattle.std.specs.List.{list_all}
 use Rattle.std.proofs.lemmas.Bool.{cases_eq}
 use Rattle.fc_base.specs.Sheet.{Slot, Sheet, slot_at, mapping_place}
@@ -13,7 +13,7 @@ use Rattle.fc_base.specs.declared.request.Effect.TheVariants.{Cut}
 use Rattle.fc_base.specs.declared.size.GrainSize.{GrainSize}
 use Rattle.fc_base.specs.declared.state.MapEvent.TheVariants.{Finish}
 use Rattle.fc_base.specs.declared.state.MapState.{MapState}
-use Rattle.fc_base.specs.declared.state.MapState.TheVariants.{Empty, IdleOrCopied, Preparing, Prepared, Copying, Stopping, Stopped}
+use Rattle.fc_base.specs.declared.state.MapState.TheVariants.{Empty, IdleOrCopied, Copying, Stopping, Stopped}
 use Rattle.fc_base.specs.declared.volume.Mapping.{Mapping}
 use Rattle.fc_books.specs.Accesses.{is_idle}
 use Rattle.fc_books.specs.Books.{Books, Deed, nothing, told, ◌then◌}
@@ -104,11 +104,7 @@ Ready state b slots m = seen slots m.id.0 ≡ None
 pub still_ready : (state : MapState) (b : Books) (old new : List Slot) (m : Mapping) → seen new m.id.0 ≡ seen old m.id.0 → (FreeCopy old m.id.0 → FreeCopy new m.id.0) → Ready state b old m → Ready state b new m
 still_ready Copying b old new m same free r = (subst (λ (o : Option Seen). HasSeen o m.target.0 true) (sym same) r.0, λ w n. free (r.1 w n))
 still_ready Stopping b old new m same free r = ((λ n. subst (λ (o : Option Seen). HasSeen o m.target.0 false) (sym same) (r.0 n)), λ n. same ∙ r.1 n)
-still_ready Empty b old new m same free r = same ∙ r
-still_ready IdleOrCopied b old new m same free r = same ∙ r
-still_ready Preparing b old new m same free r = same ∙ r
-still_ready Prepared b old new m same free r = same ∙ r
-still_ready Stopped b old new m same free r = same ∙ r
+still_ready state b old new m same free r = same ∙ r
 
 -- ---- one mapping
 
@@ -253,8 +249,4 @@ pub settles_one : (grain : GrainSize) (b c : Books) (picture : Picture) (m : Map
 unfolding copying_deed
 settles_one grain b c picture m rest Copying e i st found ready = copying_settled grain b c picture m rest (is_whole b m) (is_needed b m) refl refl i st found e ready
 settles_one grain b c picture m rest Stopping e i st found ready = stopping_settled grain b c picture m rest m.complete (is_needed b m) refl i st found e ready
-settles_one grain b c picture m rest Empty e i st found ready = stays_settled grain c picture m rest i st found (as_state c m Empty e ready)
-settles_one grain b c picture m rest IdleOrCopied e i st found ready = stays_settled grain c picture m rest i st found (as_state c m IdleOrCopied e ready)
-settles_one grain b c picture m rest Preparing e i st found ready = stays_settled grain c picture m rest i st found (as_state c m Preparing e ready)
-settles_one grain b c picture m rest Prepared e i st found ready = stays_settled grain c picture m rest i st found (as_state c m Prepared e ready)
-settles_one grain b c picture m rest Stopped e i st found ready = stays_settled grain c picture m rest i st found (as_state c m Stopped e ready)
+settles_one grain b c picture m rest state e i st found ready = stays_settled grain c picture m rest i st found (as_state c m state e ready)

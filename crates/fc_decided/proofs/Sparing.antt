@@ -4,7 +4,7 @@ use Rattle.std.proofs.Common.{◌≡◌, ◌≢◌, List, [], ◌∷◌, ◌++�
 use Rattle.std.proofs.lemmas.List.Elements.{All-nil, All-cons}
 use Rattle.fc_base.specs.Tables.{Tables}
 use Rattle.fc_base.specs.declared.decision.LaneEvent.{LaneEvent}
-use Rattle.fc_base.specs.declared.decision.LaneEvent.TheVariants.{Make, Remove, Trigger, Retire, Detach, Split, Force, Drop, Forget, NoteCut, Access, Work, Arm}
+use Rattle.fc_base.specs.declared.decision.LaneEvent.TheVariants.{Remove, Trigger, Access, Work}
 use Rattle.fc_base.specs.declared.request.Pair.{Pair}
 use Rattle.fc_base.specs.declared.volume.Mapping.{Mapping}
 use Rattle.fc_books.specs.Starting.{pair_of}
@@ -43,17 +43,7 @@ still_append (e ∷ es) fs first second = (first.0, still_append es fs first.1 s
 still_spares : (t : Tables) (e : LaneEvent) → IsStill e → Spares t e
 still_spares t (Access volume access) still = tt
 still_spares t (Work m copies cleans) still = tt
-still_spares t (Make volume grains kind) still = absurd still
-still_spares t (Remove volume) still = absurd still
-still_spares t (Trigger pairs) still = absurd still
-still_spares t (Retire m) still = absurd still
-still_spares t (Detach m) still = absurd still
-still_spares t (Split m) still = absurd still
-still_spares t (Force m dependents) still = absurd still
-still_spares t (Drop slot) still = absurd still
-still_spares t (Forget m) still = absurd still
-still_spares t (NoteCut m source target) still = absurd still
-still_spares t (Arm volume grain calls) still = absurd still
+still_spares t e still = absurd still
 
 pub still_sparing : (t : Tables) (es : List LaneEvent) → AreStill es → AreSparing t es
 still_sparing t [] still = tt
@@ -77,18 +67,7 @@ begins_still t es fs (starting {pairs} {rest} are still) last = starting are (st
 
 pub no_trigger : (t : Tables) (e : LaneEvent) → Spares t e → IsNoTrigger e
 no_trigger t (Trigger pairs) none = absurd none
-no_trigger t (Make volume grains kind) none = tt
-no_trigger t (Remove volume) none = tt
-no_trigger t (Retire m) none = tt
-no_trigger t (Detach m) none = tt
-no_trigger t (Split m) none = tt
-no_trigger t (Force m dependents) none = tt
-no_trigger t (Drop slot) none = tt
-no_trigger t (Forget m) none = tt
-no_trigger t (NoteCut m source target) none = tt
-no_trigger t (Access volume access) none = tt
-no_trigger t (Work m copies cleans) none = tt
-no_trigger t (Arm volume grain calls) none = tt
+no_trigger t e none = tt
 
 no_triggers : (t : Tables) (es : List LaneEvent) → AreSparing t es → All IsNoTrigger es
 no_triggers t [] all = All-nil IsNoTrigger

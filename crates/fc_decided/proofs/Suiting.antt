@@ -10,7 +10,7 @@ use Rattle.fc_base.specs.declared.fault.Refusal.TheVariants.{NotComplete}
 use Rattle.fc_base.specs.declared.name.Ref.{Ref}
 use Rattle.fc_base.specs.declared.size.GrainSize.{GrainSize}
 use Rattle.fc_base.specs.declared.state.MapState.{MapState}
-use Rattle.fc_base.specs.declared.state.MapState.TheVariants.{Empty, IdleOrCopied, Preparing, Prepared, Copying, Stopping, Stopped}
+use Rattle.fc_base.specs.declared.state.MapState.TheVariants.{Copying, Stopping}
 use Rattle.fc_base.specs.declared.volume.Mapping.{Mapping}
 use Rattle.fc_base.specs.declared.volume.Volume.{Volume}
 use Rattle.fc_books.specs.Books.{Books, Deed}
@@ -119,11 +119,7 @@ may_stopping Split e = absurd cc
 may_stop : (b : Books) (m : Mapping) (way : StopWay) (state : MapState) → refused_by (next_state state (stop_event way) true false) ≡ None → not_complete way b m ≡ None → MayStop state way (is_whole b m)
 may_stop b m way Copying allowed complete = may_copying b m way complete
 may_stop b m way Stopping allowed complete = may_stopping way allowed
-may_stop b m way Empty allowed complete = tt
-may_stop b m way IdleOrCopied allowed complete = tt
-may_stop b m way Preparing allowed complete = tt
-may_stop b m way Prepared allowed complete = tt
-may_stop b m way Stopped allowed complete = tt
+may_stop b m way state allowed complete = tt
 
 pub stop_suits : (grain : GrainSize) (decisions : ℕ) (w : Whole) (r : Ref) (way : StopWay) → decisions < 2 ^ 32 → Stands decisions w → stopfcmap_refused w.books r way ≡ None → Suits grain decisions w (for_one (mapping_named w.books.tables r) (stops way w.books))
 stop_suits grain decisions w r way small st e =

@@ -13,7 +13,7 @@ use Rattle.fc_base.specs.Tables.{volume_with}
 use Rattle.fc_base.specs.declared.ids.VolId.{VolId}
 use Rattle.fc_base.specs.declared.request.Pair.{Pair}
 use Rattle.fc_base.specs.declared.state.MapState.{MapState}
-use Rattle.fc_base.specs.declared.state.MapState.TheVariants.{Empty, IdleOrCopied, Preparing, Prepared, Copying, Stopping, Stopped}
+use Rattle.fc_base.specs.declared.state.MapState.TheVariants.{IdleOrCopied, Prepared, Copying, Stopping, Stopped}
 use Rattle.fc_base.specs.declared.volume.Mapping.{Mapping}
 use Rattle.fc_base.specs.declared.volume.Volume.{Volume}
 use Rattle.fc_books.specs.Accesses.{is_active}
@@ -54,11 +54,7 @@ live_is_copying slots m k Stopping by e live =
     let some : Some by.place ≡ Some k = sym by.is_there ∙ e in
     let same : by.place ≡ k = cc in
     absurd (both_ways (slot_at slots k).is_live (ap (λ (i : ℕ). (slot_at slots i).is_live) (sym same) ∙ by.liveness) live)
-live_is_copying slots m k Empty by e live = (let none : None ≡ Some k = sym by ∙ e in absurd cc)
-live_is_copying slots m k IdleOrCopied by e live = (let none : None ≡ Some k = sym by ∙ e in absurd cc)
-live_is_copying slots m k Preparing by e live = (let none : None ≡ Some k = sym by ∙ e in absurd cc)
-live_is_copying slots m k Prepared by e live = (let none : None ≡ Some k = sym by ∙ e in absurd cc)
-live_is_copying slots m k Stopped by e live = (let none : None ≡ Some k = sym by ∙ e in absurd cc)
+live_is_copying slots m k state by e live = (let none : None ≡ Some k = sym by ∙ e in absurd cc)
 
 -- ---- lists of pairs
 

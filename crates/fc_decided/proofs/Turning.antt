@@ -7,7 +7,7 @@ use Rattle.std.proofs.lemmas.List.Elements.{Contains-append_left, Contains-appen
 use Rattle.fc_base.specs.Tables.{Tables}
 use Rattle.fc_base.specs.declared.ids.VolId.{VolId}
 use Rattle.fc_base.specs.declared.state.MapState.{MapState}
-use Rattle.fc_base.specs.declared.state.MapState.TheVariants.{Empty, IdleOrCopied, Preparing, Prepared, Copying, Stopping, Stopped}
+use Rattle.fc_base.specs.declared.state.MapState.TheVariants.{IdleOrCopied, Prepared, Stopped}
 use Rattle.fc_base.specs.declared.volume.Mapping.{Mapping}
 use Rattle.fc_books.specs.Accesses.{is_idle, is_stopped, is_active}
 use Rattle.fc_books.specs.Ending.{in_state}
@@ -135,12 +135,7 @@ module _ (t : Tables) (maps : List Mapping) (gives : Bool) (state : MapState) (r
   -- one that isn't active is idle or stopped
   inactive : (s : MapState) → is_active s ≡ false → is_idle s ≡ false → s ≡ Stopped
   inactive Stopped a i = refl
-  inactive IdleOrCopied a i = absurd cc
-  inactive Empty a i = absurd cc
-  inactive Preparing a i = absurd cc
-  inactive Prepared a i = absurd cc
-  inactive Copying a i = absurd cc
-  inactive Stopping a i = absurd cc
+  inactive state a i = absurd cc
 
   -- a busy one with a target of theirs is one of them
   pub busy_among : OneBusy t.mappings → (m n : Mapping) → Contains maps m → Contains t.mappings n → n.target.0 ≡ m.target.0 → is_idle (set_in news n).state ≡ false → n.id.0 ≡ m.id.0

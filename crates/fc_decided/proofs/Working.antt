@@ -5,7 +5,7 @@ use Rattle.std.proofs.lemmas.List.Kept.{AllPairs-filter}
 use Rattle.fc_base.specs.Sheet.{Sheet}
 use Rattle.fc_base.specs.SheetFits.{FitsEvents}
 use Rattle.fc_base.specs.declared.decision.LaneEvent.{LaneEvent}
-use Rattle.fc_base.specs.declared.decision.LaneEvent.TheVariants.{Make, Remove, Trigger, Retire, Detach, Split, Force, Drop, Forget, NoteCut, Access, Work, Arm}
+use Rattle.fc_base.specs.declared.decision.LaneEvent.TheVariants.{Forget, Work}
 use Rattle.fc_base.specs.declared.ids.MapId.{MapId}
 use Rattle.fc_base.specs.declared.size.GrainSize.{GrainSize}
 use Rattle.fc_base.specs.declared.volume.Mapping.{Mapping}
@@ -81,17 +81,7 @@ WorkBelow n event = Unit {0}
 noted_after : (n : ℕ) (rows : List WorkFlags) (e : LaneEvent) → WorkBelow n e → AreNoted n rows → AreNoted n (flags_after rows e)
 noted_after n rows (Work m copies cleans) lt noted = noted_flags n (record { map = m; copies = copies; cleans = cleans }) rows lt noted
 noted_after n rows (Forget m) lt noted = noted_without n m rows noted
-noted_after n rows (Make volume grains kind) lt noted = noted
-noted_after n rows (Remove volume) lt noted = noted
-noted_after n rows (Trigger pairs) lt noted = noted
-noted_after n rows (Retire m) lt noted = noted
-noted_after n rows (Detach m) lt noted = noted
-noted_after n rows (Split m) lt noted = noted
-noted_after n rows (Force m dependents) lt noted = noted
-noted_after n rows (Drop slot) lt noted = noted
-noted_after n rows (NoteCut m source target) lt noted = noted
-noted_after n rows (Access volume access) lt noted = noted
-noted_after n rows (Arm volume grain calls) lt noted = noted
+noted_after n rows e lt noted = noted
 
 abbrev pub AllWorkBelow : ℕ → List LaneEvent → Type 0
 AllWorkBelow n [] = Unit {0}
@@ -113,18 +103,7 @@ NoWork (e ∷ es) = IsNoWork e × NoWork es
 
 no_work_below : (n : ℕ) (e : LaneEvent) → IsNoWork e → WorkBelow n e
 no_work_below n (Work m copies cleans) none = absurd none
-no_work_below n (Forget m) none = tt
-no_work_below n (Make volume grains kind) none = tt
-no_work_below n (Remove volume) none = tt
-no_work_below n (Trigger pairs) none = tt
-no_work_below n (Retire m) none = tt
-no_work_below n (Detach m) none = tt
-no_work_below n (Split m) none = tt
-no_work_below n (Force m dependents) none = tt
-no_work_below n (Drop slot) none = tt
-no_work_below n (NoteCut m source target) none = tt
-no_work_below n (Access volume access) none = tt
-no_work_below n (Arm volume grain calls) none = tt
+no_work_below n e none = tt
 
 pub none_below : (n : ℕ) (es : List LaneEvent) → NoWork es → AllWorkBelow n es
 none_below n [] none = tt
@@ -156,18 +135,7 @@ works_of b maps = map (λ (m : Mapping). Work m.id (copies b m) (cleans b m)) ma
 
 after_gone : (maps : List Mapping) (e : LaneEvent) (m : Mapping) (c k : Bool) → IsGone maps e → Contains maps m → IsNotGone e (Work m.id c k)
 after_gone maps (Forget x) m c k gone found = λ same. gone m found (sym same)
-after_gone maps (Work n a d) m c k gone found = tt
-after_gone maps (Make volume grains kind) m c k gone found = tt
-after_gone maps (Remove volume) m c k gone found = tt
-after_gone maps (Trigger pairs) m c k gone found = tt
-after_gone maps (Retire n) m c k gone found = tt
-after_gone maps (Detach n) m c k gone found = tt
-after_gone maps (Split n) m c k gone found = tt
-after_gone maps (Force n dependents) m c k gone found = tt
-after_gone maps (Drop slot) m c k gone found = tt
-after_gone maps (NoteCut n source target) m c k gone found = tt
-after_gone maps (Access volume access) m c k gone found = tt
-after_gone maps (Arm volume grain calls) m c k gone found = tt
+after_gone maps e m c k gone found = tt
 
 after_plain : (e f : LaneEvent) → IsNoWork f → IsNotGone e f
 after_plain (Forget x) (Work n a d) none = absurd none

@@ -7,6 +7,7 @@ use Rattle.fc_base.specs.declared.ids.MapId.{MapId}
 use Rattle.fc_base.specs.declared.request.ReadPart.{ReadPart}
 use Rattle.fc_base.specs.declared.request.Reply.{Reply}
 use Rattle.fc_base.specs.declared.request.Reply.TheVariants as reply
+use Rattle.fc_base.specs.declared.request.Request.{Request}
 use Rattle.fc_base.specs.declared.request.Request.TheVariants.{Read, Write, Copy, Clean}
 use Rattle.fc_base.specs.declared.request.WritePart.{WritePart}
 use Rattle.fc_base.specs.declared.runs.Run.{Run}
@@ -73,14 +74,7 @@ read_seen grain spot part entry (reply.Bytes runs) h smooth = inl (record { runs
 read_seen grain spot part entry reply.MediumError h smooth = inr (record { reply = refl; lost = h.0; read = h.1 })
 read_seen grain spot part entry reply.DiskFault h smooth = absurd smooth
 read_seen grain spot part entry reply.NoMemory h smooth = absurd smooth
-read_seen grain spot part entry reply.Done h smooth = absurd h
-read_seen grain spot part entry (reply.Made kind id) h smooth = absurd h
-read_seen grain spot part entry (reply.Listed rows) h smooth = absurd h
-read_seen grain spot part entry (reply.Moved map g) h smooth = absurd h
-read_seen grain spot part entry reply.Idle h smooth = absurd h
-read_seen grain spot part entry (reply.Offline map state) h smooth = absurd h
-read_seen grain spot part entry (reply.NotAccessible map) h smooth = absurd h
-read_seen grain spot part entry (reply.Refused refusal) h smooth = absurd h
+read_seen grain spot part entry answer h smooth = absurd h
 
 right_not_lost : (from length : ℕ) (c : Content) (runs : List Run) → IsRightIn from length c runs → is_lost c ≡ true → ⊥
 right_not_lost from length (Bytes bytes) runs h lost = true≢false (sym lost)
@@ -139,14 +133,7 @@ write_seen grain spot part t entry reply.Done h smooth = inl (record { reply = r
 write_seen grain spot part t entry reply.MediumError h smooth = inr (record { reply = refl; can_not = h.0; nothing = h.1 })
 write_seen grain spot part t entry reply.DiskFault h smooth = absurd smooth
 write_seen grain spot part t entry reply.NoMemory h smooth = absurd smooth
-write_seen grain spot part t entry (reply.Made kind id) h smooth = absurd h
-write_seen grain spot part t entry (reply.Bytes runs) h smooth = absurd h
-write_seen grain spot part t entry (reply.Listed rows) h smooth = absurd h
-write_seen grain spot part t entry (reply.Moved map g) h smooth = absurd h
-write_seen grain spot part t entry reply.Idle h smooth = absurd h
-write_seen grain spot part t entry (reply.Offline map state) h smooth = absurd h
-write_seen grain spot part t entry (reply.NotAccessible map) h smooth = absurd h
-write_seen grain spot part t entry (reply.Refused refusal) h smooth = absurd h
+write_seen grain spot part t entry answer h smooth = absurd h
 
 writes_one :
     (grain : GrainSize) (spot : Spot) (part : WritePart) (t : ℕ) (x y : Entry) →
@@ -195,15 +182,7 @@ fill_seen spot m k entry (reply.Moved map grain) h smooth =
     record { map = map; grain = grain; reply = refl; map_is = h.0; grain_is = h.1; done = h.2 }
 fill_seen spot m k entry reply.DiskFault h smooth = absurd smooth
 fill_seen spot m k entry reply.NoMemory h smooth = absurd smooth
-fill_seen spot m k entry reply.Done h smooth = absurd h
-fill_seen spot m k entry (reply.Made kind id) h smooth = absurd h
-fill_seen spot m k entry (reply.Bytes runs) h smooth = absurd h
-fill_seen spot m k entry (reply.Listed rows) h smooth = absurd h
-fill_seen spot m k entry reply.MediumError h smooth = absurd h
-fill_seen spot m k entry reply.Idle h smooth = absurd h
-fill_seen spot m k entry (reply.Offline map state) h smooth = absurd h
-fill_seen spot m k entry (reply.NotAccessible map) h smooth = absurd h
-fill_seen spot m k entry (reply.Refused refusal) h smooth = absurd h
+fill_seen spot m k entry answer h smooth = absurd h
 
 fills_one : (spot : Spot) (m k : ℕ) (x y : Entry) → WasMoved spot m k x x.reply → WasMoved spot m k y y.reply → DidTheSame x y
 fills_one spot m k x y h g =
@@ -242,44 +221,24 @@ by_access Online x y P Q one h k = one h k
 by_access (Offline map state) x y P Q one h k = both_nothing x y (reply.Offline map state) h.0 k.0 h.1 k.1
 by_access (NotAccessible map) x y P Q one h k = both_nothing x y (reply.NotAccessible map) h.0 k.0 h.1 k.1
 
-pub read_did :
-    (l : LaneOf) (told : LaneTold) (part : ReadPart) (x y : Entry) →
-    LaneAnswers l told (Read part) x →
-    LaneAnswers l told (Read part) y →
-    IsSmooth x.reply →
-    IsSmooth y.reply →
-    DidTheSame x y
+-- Entries that answer a request, and didn't fail, did the same.
+abbrev pub HasOneAnswer : LaneOf → LaneTold → Request → Type 0
+HasOneAnswer l told request = (x y : Entry) → LaneAnswers l told request x → LaneAnswers l told request y → IsSmooth x.reply → IsSmooth y.reply → DidTheSame x y
+
+pub read_did : (l : LaneOf) (told : LaneTold) (part : ReadPart) → HasOneAnswer l told (Read part)
 read_did l told part x y h k smooth smooth_other =
     by_access (access_in told.volumes part.volume) x y _ _
     (λ p q. read_one l.grain (spot_at l told (grain_of_block l.grain part.block)) part x y p q smooth smooth_other) h k
 
-pub write_did :
-    (l : LaneOf) (told : LaneTold) (part : WritePart) (x y : Entry) →
-    LaneAnswers l told (Write part) x →
-    LaneAnswers l told (Write part) y →
-    IsSmooth x.reply →
-    IsSmooth y.reply →
-    DidTheSame x y
+pub write_did : (l : LaneOf) (told : LaneTold) (part : WritePart) → HasOneAnswer l told (Write part)
 write_did l told part x y h k smooth smooth_other =
     by_access (access_in told.volumes part.volume) x y _ _
     (λ p q. write_one l told part (live_place told.sheet.slots part.volume.0) x y p q smooth smooth_other) h k
 
-pub copy_did :
-    (l : LaneOf) (told : LaneTold) (m : MapId) (grain : GrainNo) (x y : Entry) →
-    LaneAnswers l told (Copy m grain) x →
-    LaneAnswers l told (Copy m grain) y →
-    IsSmooth x.reply →
-    IsSmooth y.reply →
-    DidTheSame x y
+pub copy_did : (l : LaneOf) (told : LaneTold) (m : MapId) (grain : GrainNo) → HasOneAnswer l told (Copy m grain)
 copy_did l told m grain x y h k smooth smooth_other =
     fill_one l told m.0 grain.0 (copied_slot told.sheet.slots m.0 (place_of l grain.0)) x y h k smooth smooth_other
 
-pub clean_did :
-    (l : LaneOf) (told : LaneTold) (m : MapId) (grain : GrainNo) (x y : Entry) →
-    LaneAnswers l told (Clean m grain) x →
-    LaneAnswers l told (Clean m grain) y →
-    IsSmooth x.reply →
-    IsSmooth y.reply →
-    DidTheSame x y
+pub clean_did : (l : LaneOf) (told : LaneTold) (m : MapId) (grain : GrainNo) → HasOneAnswer l told (Clean m grain)
 clean_did l told m grain x y h k smooth smooth_other =
     fill_one l told m.0 grain.0 (cleaned_slot told.sheet.slots m.0 (place_of l grain.0)) x y h k smooth smooth_other

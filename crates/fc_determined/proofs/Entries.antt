@@ -1,7 +1,7 @@
 -- One entry, and what is told after it, are determined by what was told before it and by what was asked, where nothing failed.
 use Rattle.std.proofs.Common.{◌≡◌, ℕ, ◌+◌, ◌%◌, Option, Some, None, List, slice_index_or, slice_set, refl, sym, ap, subst, ◌∙◌, length-set}
 use Rattle.fc_base.specs.declared.command.Command.{Command}
-use Rattle.fc_base.specs.declared.command.Command.TheVariants.{Mkvdisk, Rmvdisk, Write as WriteLine, Read as ReadLine, Armfault, Advance, Mkfcmap, Prestartfcmap, Startfcmap, Stopfcmap, Rmfcmap, Mkfcconsistgrp, Prestartfcconsistgrp, Startfcconsistgrp, Stopfcconsistgrp, Rmfcconsistgrp, Lsfcmap, Lsfcconsistgrp, Lsvdisk, Lsfcmapprogress, Lsfcmapdependentmaps}
+use Rattle.fc_base.specs.declared.command.Command.TheVariants.{Write as WriteLine, Read as ReadLine}
 use Rattle.fc_base.specs.declared.fault.Refusal.{Refusal}
 use Rattle.fc_base.specs.declared.fault.Refusal.TheVariants.{Words}
 use Rattle.fc_base.specs.declared.request.Place.TheVariants.{Lane}
@@ -9,7 +9,7 @@ use Rattle.fc_base.specs.declared.request.Request.{Request}
 use Rattle.fc_base.specs.declared.request.Request.TheVariants.{Command as Asked, Unread, Read, Write, Copy, Clean, CopyTurn, CleanTurn}
 use Rattle.fc_base.specs.declared.size.GrainSize.{GrainSize}
 use Rattle.fc_books.specs.Refused.{access_refused}
-use Rattle.fc_determined.proofs.Answers.{DidTheSame, read_did, write_did, copy_did, clean_did}
+use Rattle.fc_determined.proofs.Answers.{DidTheSame, HasOneAnswer, read_did, write_did, copy_did, clean_did}
 use Rattle.fc_determined.proofs.Commands.{with_faults, LeaveTheSame, command_one}
 use Rattle.fc_determined.specs.Smooth.{IsSmooth, TellTheSame, but_for_faults}
 use Rattle.fc_entry.specs.Picture.{grain_of_block}
@@ -117,26 +117,7 @@ module _ (grain : GrainSize) (w : Whole) (faults : List ℕ) (same : lanes (with
         AreOneStep x y next other
     command_step_one (ReadLine volume block count) h k = access_refused_one (access_refused grain w.books volume block count) h k
     command_step_one (WriteLine volume block count byte) h k = access_refused_one (access_refused grain w.books volume block count) h k
-    command_step_one (Mkvdisk name size unit thin) h k = step_one (Mkvdisk name size unit thin) h k
-    command_step_one (Rmvdisk volume) h k = step_one (Rmvdisk volume) h k
-    command_step_one (Armfault volume number calls) h k = step_one (Armfault volume number calls) h k
-    command_step_one (Advance seconds) h k = step_one (Advance seconds) h k
-    command_step_one (Mkfcmap source target name group copy_rate clean_rate grain_size incremental autodelete) h k =
-        step_one (Mkfcmap source target name group copy_rate clean_rate grain_size incremental autodelete) h k
-    command_step_one (Prestartfcmap m restore) h k = step_one (Prestartfcmap m restore) h k
-    command_step_one (Startfcmap m prep restore) h k = step_one (Startfcmap m prep restore) h k
-    command_step_one (Stopfcmap m way) h k = step_one (Stopfcmap m way) h k
-    command_step_one (Rmfcmap m force) h k = step_one (Rmfcmap m force) h k
-    command_step_one (Mkfcconsistgrp name) h k = step_one (Mkfcconsistgrp name) h k
-    command_step_one (Prestartfcconsistgrp group restore) h k = step_one (Prestartfcconsistgrp group restore) h k
-    command_step_one (Startfcconsistgrp group prep restore) h k = step_one (Startfcconsistgrp group prep restore) h k
-    command_step_one (Stopfcconsistgrp group way) h k = step_one (Stopfcconsistgrp group way) h k
-    command_step_one (Rmfcconsistgrp group force) h k = step_one (Rmfcconsistgrp group force) h k
-    command_step_one (Lsfcmap m delim) h k = step_one (Lsfcmap m delim) h k
-    command_step_one (Lsfcconsistgrp group delim) h k = step_one (Lsfcconsistgrp group delim) h k
-    command_step_one (Lsvdisk delim) h k = step_one (Lsvdisk delim) h k
-    command_step_one (Lsfcmapprogress m delim) h k = step_one (Lsfcmapprogress m delim) h k
-    command_step_one (Lsfcmapdependentmaps m delim) h k = step_one (Lsfcmapdependentmaps m delim) h k
+    command_step_one command h k = step_one command h k
 
     -- ---- entries of lanes
 
@@ -192,15 +173,21 @@ module _ (grain : GrainSize) (w : Whole) (faults : List ℕ) (same : lanes (with
 
     -- ---- all
 
-    at_request : (request : Request) → x.request ≡ request → LaneAnswers (all_grains grain) (as_one w) x.request x → LaneAnswers (all_grains grain) (as_one w) request x
-    at_request request e h =
-        let P : Request → Type 0 = λ r. LaneAnswers (all_grains grain) (as_one w) r x in
+    at_request : (entry : Entry) (request : Request) → entry.request ≡ request → LaneAnswers (all_grains grain) (as_one w) entry.request entry → LaneAnswers (all_grains grain) (as_one w) request entry
+    at_request entry request e h =
+        let P : Request → Type 0 = λ r. LaneAnswers (all_grains grain) (as_one w) r entry in
         subst P e h
 
-    at_request_other : (request : Request) → y.request ≡ request → LaneAnswers (all_grains grain) (as_one w) y.request y → LaneAnswers (all_grains grain) (as_one w) request y
-    at_request_other request e h =
-        let P : Request → Type 0 = λ r. LaneAnswers (all_grains grain) (as_one w) r y in
-        subst P e h
+    answered_one :
+        (number : ℕ) (request : Request) →
+        x.request ≡ request →
+        y.request ≡ request →
+        HasOneAnswer (all_grains grain) (as_one w) request →
+        AccessStep grain w number x next →
+        AccessStep grain (with_faults w faults) number y other →
+        AreOneStep x y next other
+    answered_one number request e f one h k =
+        access_one number h k (one x y (at_request x request e h.answers) (at_request y request f k.answers) smooth smooth_other)
 
     request_one :
         (request : Request) →
@@ -211,18 +198,10 @@ module _ (grain : GrainSize) (w : Whole) (faults : List ℕ) (same : lanes (with
         AreOneStep x y next other
     request_one (Asked command) e f h k = command_step_one command h k
     request_one (Unread fault) e f h k = refused_one (Words fault) h k
-    request_one (Read part) e f h k =
-        access_one (grain_of_block grain part.block) h k
-        (read_did (all_grains grain) (as_one w) part x y (at_request (Read part) e h.answers) (at_request_other (Read part) f k.answers) smooth smooth_other)
-    request_one (Write part) e f h k =
-        access_one (grain_of_block grain part.block) h k
-        (write_did (all_grains grain) (as_one w) part x y (at_request (Write part) e h.answers) (at_request_other (Write part) f k.answers) smooth smooth_other)
-    request_one (Copy m g) e f h k =
-        access_one g.0 h k
-        (copy_did (all_grains grain) (as_one w) m g x y (at_request (Copy m g) e h.answers) (at_request_other (Copy m g) f k.answers) smooth smooth_other)
-    request_one (Clean m g) e f h k =
-        access_one g.0 h k
-        (clean_did (all_grains grain) (as_one w) m g x y (at_request (Clean m g) e h.answers) (at_request_other (Clean m g) f k.answers) smooth smooth_other)
+    request_one (Read part) e f h k = answered_one (grain_of_block grain part.block) (Read part) e f (read_did (all_grains grain) (as_one w) part) h k
+    request_one (Write part) e f h k = answered_one (grain_of_block grain part.block) (Write part) e f (write_did (all_grains grain) (as_one w) part) h k
+    request_one (Copy m g) e f h k = answered_one g.0 (Copy m g) e f (copy_did (all_grains grain) (as_one w) m g) h k
+    request_one (Clean m g) e f h k = answered_one g.0 (Clean m g) e f (clean_did (all_grains grain) (as_one w) m g) h k
     request_one (CopyTurn lane) e f h k = absurd h
     request_one (CleanTurn lane) e f h k = absurd h
 

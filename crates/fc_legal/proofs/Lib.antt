@@ -1,2 +1,4 @@
--- Lemmas, one subject a file.
+-- Lemmas, one subject a file; and the definitions on closed examples.
 pub mod Appending
+pub mod Rows
+pub mod SecondsExamples

@@ -84,13 +84,13 @@ abbrev pub next_fill : GrainSize → Whole → Agenda → Option (Work × GrainN
 next_fill grain w a = fill_at_hand grain w a.at_hand
 
 -- Else it is over for this second, and the next work gains its second; with none left the next second begins, if one is left.
-abbrev pub next_work : ℕ → List Work → List Work → Option Agenda
-next_work seconds over (work ∷ left) = Some record { seconds = seconds; over = over; at_hand = Some (gained work); left = left }
-next_work zero over [] = None
-next_work (suc seconds) over [] = Some record { seconds = seconds; over = []; at_hand = None; left = over }
+abbrev pub next_second : ℕ → List Work → List Work → Option Agenda
+next_second seconds over (work ∷ left) = Some record { seconds = seconds; over = over; at_hand = Some (gained work); left = left }
+next_second zero over [] = None
+next_second (suc seconds) over [] = Some record { seconds = seconds; over = []; at_hand = None; left = over }
 
 abbrev pub goes_on_with : GrainSize → Whole → Agenda → Option Work → Option Agenda
-goes_on_with grain w a None = next_work a.seconds a.over a.left
+goes_on_with grain w a None = next_second a.seconds a.over a.left
 goes_on_with grain w a (Some work) = Some record a { over = a.over ++ saved grain w work ∷ []; at_hand = None }
 
 abbrev pub goes_on : GrainSize → Whole → Agenda → Option Agenda

@@ -5,7 +5,7 @@ use Rattle.fc_base.specs.Column.{last_below}
 use Rattle.fc_base.specs.Sheet.{Slot, Sheet, slot_at, live_place, volume_grains}
 use Rattle.fc_base.specs.SheetStep.{with_chain, without, aged, has_after, at_place, left_place, placed, started, started_empty, triggered, retired_at, detached_at, split_from, relabelled, split_at, forced_at, forced_map, sheet_step}
 use Rattle.fc_base.specs.declared.decision.LaneEvent.{LaneEvent}
-use Rattle.fc_base.specs.declared.decision.LaneEvent.TheVariants.{Make, Remove, Trigger, Retire, Detach, Split, Force, Drop, Forget, NoteCut, Access, Work, Arm}
+use Rattle.fc_base.specs.declared.decision.LaneEvent.TheVariants.{Make, Remove, Trigger, Retire, Detach, Split, Force, Drop}
 use Rattle.fc_base.specs.declared.ids.MapId.{MapId}
 use Rattle.fc_base.specs.declared.request.Pair.{Pair}
 use Rattle.fc_legal.specs.Whole.{part, part_of_slot, part_of_sheet}
@@ -150,8 +150,4 @@ step_agrees l i s (Split m) = found_agrees l split_at split_at (split_agrees l i
 step_agrees l i s (Force m dependents) =
     fold_agrees l forced_map forced_map (forced_map_agrees l i) (forced_map s m) dependents ∙ ap (λ z. fold forced_map z dependents) (forced_map_agrees l i s m)
 step_agrees l i s (Drop slot) = found_agrees l without without (without_agrees l) _ _ s (birth_parts l i s.slots slot.0)
-step_agrees l i s (Forget m) = refl
-step_agrees l i s (NoteCut m source target) = refl
-step_agrees l i s (Access volume access) = refl
-step_agrees l i s (Work m copies cleans) = refl
-step_agrees l i s (Arm volume grain calls) = refl
+step_agrees l i s e = refl

@@ -6,7 +6,7 @@ use Rattle.fc_base.specs.Sheet.{Slot, Sheet, slot_at, shape_of}
 use Rattle.fc_base.specs.SheetFits.{FitsRemove, FitsPair, FitsTrigger, HasLiveSlot, FitsForce, FitsDrop, FitsEvent}
 use Rattle.fc_base.specs.SheetStep.{triggered}
 use Rattle.fc_base.specs.declared.decision.LaneEvent.{LaneEvent}
-use Rattle.fc_base.specs.declared.decision.LaneEvent.TheVariants.{Make, Remove, Trigger, Retire, Detach, Split, Force, Drop, Forget, NoteCut, Access, Work, Arm}
+use Rattle.fc_base.specs.declared.decision.LaneEvent.TheVariants.{Make, Remove, Trigger, Retire, Detach, Split, Force, Drop, Forget}
 use Rattle.fc_base.specs.declared.ids.MapId.{MapId}
 use Rattle.fc_base.specs.declared.request.Pair.{Pair}
 use Rattle.fc_legal.specs.Whole.{part_of_sheet}
@@ -92,7 +92,4 @@ fits_event l i s (Split m) f = (f.0, live_slot l i s.slots m.0 f.0 f.1, complete
 fits_event l i s (Force m dependents) f = fits_force l i s.slots m dependents f
 fits_event l i s (Drop slot) f = fits_drop l i s.slots slot.0 f
 fits_event l i s (Forget m) f = mapping_parts l i s.slots m.0 ∙ f
-fits_event l i s (NoteCut m source target) f = f
-fits_event l i s (Access volume access) f = f
-fits_event l i s (Work m copies cleans) f = f
-fits_event l i s (Arm volume grain calls) f = f
+fits_event l i s e f = f

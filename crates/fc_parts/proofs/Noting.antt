@@ -3,7 +3,7 @@ use Rattle.std.proofs.Common.{◌≡◌, ◌≢◌, ℕ, ◌%◌, Bool, true, fa
 use Rattle.std.proofs.lemmas.List.{map-append}
 use Rattle.fc_base.specs.Sheet.{Slot, slot_at, mapping_place, volume_grains}
 use Rattle.fc_base.specs.declared.decision.LaneEvent.{LaneEvent}
-use Rattle.fc_base.specs.declared.decision.LaneEvent.TheVariants.{Make, Remove, Trigger, Retire, Detach, Split, Force, Drop, Forget, NoteCut, Access, Work, Arm}
+use Rattle.fc_base.specs.declared.decision.LaneEvent.TheVariants.{Trigger, Retire, Detach, Split, Force, Forget, NoteCut}
 use Rattle.fc_base.specs.declared.ids.MapId.{MapId}
 use Rattle.fc_base.specs.declared.request.Pair.{Pair}
 use Rattle.fc_base.specs.declared.request.Side.{Side}
@@ -85,8 +85,6 @@ all_beginning_of l slots (p ∷ ps) = (tt, all_beginning_of l slots ps)
 -- ---- the notes of an event
 
 event_notes_part : (l : LaneOf) → IsLane l → (slots : List Slot) (e : LaneEvent) → map (note_part l) (event_notes slots e) ≡ event_notes (parts l slots) e
-event_notes_part l i slots (Make volume grains kind) = refl
-event_notes_part l i slots (Remove volume) = refl
 event_notes_part l i slots (Trigger pairs) = all_beginning l i slots pairs
 event_notes_part l i slots (Retire m) = leaving_part l i slots m
 event_notes_part l i slots (Detach m) = leaving_part l i slots m
@@ -94,27 +92,17 @@ event_notes_part l i slots (Split m) = leaving_part l i slots m
 event_notes_part l i slots (Force m dependents) =
     map-append (note_part l) (leaving slots m) (flat_map (leaving slots) dependents)
     ∙ ap₂ (λ a b. a ++ b) (leaving_part l i slots m) (all_leaving l i slots dependents)
-event_notes_part l i slots (Drop slot) = refl
-event_notes_part l i slots (Forget m) = refl
-event_notes_part l i slots (NoteCut m source target) = refl
-event_notes_part l i slots (Access volume access) = refl
-event_notes_part l i slots (Work m copies cleans) = refl
-event_notes_part l i slots (Arm volume grain calls) = refl
+event_notes_part l i slots e = refl
 
 event_notes_of : (l : LaneOf) (slots : List Slot) (e : LaneEvent) → AreNotesOf l (event_notes slots e)
-event_notes_of l slots (Make volume grains kind) = tt
-event_notes_of l slots (Remove volume) = tt
 event_notes_of l slots (Trigger pairs) = all_beginning_of l slots pairs
 event_notes_of l slots (Retire m) = leaving_of l slots m
 event_notes_of l slots (Detach m) = leaving_of l slots m
 event_notes_of l slots (Split m) = leaving_of l slots m
 event_notes_of l slots (Force m dependents) = notes_of_both l (leaving slots m) (flat_map (leaving slots) dependents) (leaving_of l slots m) (all_leaving_of l slots dependents)
-event_notes_of l slots (Drop slot) = tt
 event_notes_of l slots (Forget m) = (tt, tt)
 event_notes_of l slots (NoteCut m source target) = (tt, tt)
-event_notes_of l slots (Access volume access) = tt
-event_notes_of l slots (Work m copies cleans) = tt
-event_notes_of l slots (Arm volume grain calls) = tt
+event_notes_of l slots e = tt
 
 pub rows_agree : (l : LaneOf) → IsLane l → (slots : List Slot) (rows : List Row) (e : LaneEvent) → part_of_rows l (rows_event slots rows e) ≡ rows_event (parts l slots) (part_of_rows l rows) e
 rows_agree l i slots rows e =

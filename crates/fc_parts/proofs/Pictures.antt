@@ -3,7 +3,7 @@ use Rattle.std.proofs.Common.{◌≡◌, ℕ, ◌<◌, Bool, true, false, cond, 
 use Rattle.std.proofs.lemmas.List.{map-append}
 use Rattle.fc_base.specs.Sheet.{Slot, slot_at, mapping_place}
 use Rattle.fc_base.specs.declared.decision.LaneEvent.{LaneEvent}
-use Rattle.fc_base.specs.declared.decision.LaneEvent.TheVariants.{Make, Remove, Trigger, Retire, Detach, Split, Force, Drop, Forget, NoteCut, Access, Work, Arm}
+use Rattle.fc_base.specs.declared.decision.LaneEvent.TheVariants.{Make, Remove, Trigger, Retire, Detach, Force}
 use Rattle.fc_base.specs.declared.ids.MapId.{MapId}
 use Rattle.fc_base.specs.declared.ids.VolId.{VolId}
 use Rattle.fc_base.specs.declared.request.Pair.{Pair}
@@ -169,12 +169,6 @@ picture_agrees l i slots picture (Remove volume) = without_parts l volume pictur
 picture_agrees l i slots picture (Trigger pairs) = trigger_parts l i picture pairs picture
 picture_agrees l i slots picture (Retire m) = leaves_parts l i slots picture m
 picture_agrees l i slots picture (Detach m) = leaves_parts l i slots picture m
-picture_agrees l i slots picture (Split m) = refl
 picture_agrees l i slots picture (Force m dependents) =
     all_leave l i slots (leaves slots picture m) dependents ∙ ap (λ (z : Picture). fold (leaves (parts l slots)) z dependents) (leaves_parts l i slots picture m)
-picture_agrees l i slots picture (Drop slot) = refl
-picture_agrees l i slots picture (Forget m) = refl
-picture_agrees l i slots picture (NoteCut m source target) = refl
-picture_agrees l i slots picture (Access volume access) = refl
-picture_agrees l i slots picture (Work m copies cleans) = refl
-picture_agrees l i slots picture (Arm volume grain calls) = refl
+picture_agrees l i slots picture e = refl

@@ -1,4 +1,5 @@
 pub mod Volumes
+pub mod Slots
 pub mod Staying
 pub mod Leaving
 pub mod Splits

@@ -3,10 +3,10 @@ use Rattle.std.proofs.Common.{◌≡◌, ◌≢◌, ℕ, ◌+◌, ◌<◌, ◌�
 use Rattle.std.proofs.lemmas.Bool.{cases_Bool, both_ways, cases_eq, eq-eqb, ne_eqb}
 use Rattle.fc_base.specs.declared.ids.VolId.{VolId}
 use Rattle.fc_base.specs.declared.request.Pair.{Pair}
-use Rattle.fc_base.specs.Sheet.{Slot, Sheet, slot_at, column, live_place, volume_grains, grains_at}
+use Rattle.fc_base.specs.Sheet.{Slot, Sheet, slot_at, column, volume_grains, grains_at}
 use Rattle.fc_base.specs.SheetFacts.{IsSound}
 use Rattle.fc_base.specs.SheetFits.{FitsPair, FitsTrigger}
-use Rattle.fc_base.specs.SheetStep.{without, aged, has_after, at_place, left_place, placed, started_empty, triggered}
+use Rattle.fc_base.specs.SheetStep.{without, aged, has_after, left_place, placed, started_empty, triggered}
 use Rattle.fc_entry.specs.Picture.{Content, PlainVolume, Picture, volume_in}
 use Rattle.fc_entry.specs.PlainStep.{source_in, now_in, after_trigger}
 use Rattle.fc_rules.specs.Shows.{Stored, Shown, Shows}
@@ -14,10 +14,11 @@ use Rattle.fc_moves.proofs.Search.{cases_option}
 use Rattle.fc_moves.proofs.Readers.{IsHolder, holder_is, is_holder, own_holder}
 use Rattle.fc_sheets.proofs.Places.{up, up_low, up_cases, up_in, down, removed_at, big_at, insert_is, insert_here}
 use Rattle.fc_sheets.proofs.Aging.{age, aged_is, length_full}
-use Rattle.fc_sheets.proofs.Finding.{LiveAt, live_place_at, live_place_is}
+use Rattle.fc_sheets.proofs.Finding.{LiveAt}
 use Rattle.fc_sheets.proofs.Splitting.{complete_at}
-use Rattle.fc_sheets.proofs.Starting.{left_is, nobody_after, new_slot, started_placed, AllFit, ApartFrom, AllApart, HoldsSheet, all_later, all_fit, all_apart}
+use Rattle.fc_sheets.proofs.Starting.{nobody_after, new_slot, started_is, started_placed, AllFit, ApartFrom, AllApart, HoldsSheet, all_later, all_fit, all_apart}
 use Rattle.fc_sheets.proofs.Steps.{holds_from}
+use Rattle.fc_pictures.proofs.Slots.{none_held}
 use Rattle.fc_pictures.proofs.Volumes.{id_of, KeepsIds, found, map_in, map_none, map_from, map_same, map_twice, apart_map}
 use Rattle.fc_pictures.proofs.Staying.{Stays, stays_trans, stays_shown, only_from, added_stays, aged_stays}
 use Rattle.fc_pictures.proofs.Leaving.{others_stay}
@@ -123,11 +124,6 @@ not_new : (left : List Slot) (x : ℕ) (n : Slot) (grains : ℕ) → x < length 
 not_new left x n grains xl e g j i =
     let here : slot_at (insert left (x + 1) n) (x + 1) ≡ n = insert_here left (x + 1) n (omega arith) in
     both_ways _ (none_held grains g) (ap (λ z. get_or z g false) (sym e) ∙ (ap (λ (t : Slot). get_or t.held g false) (sym here) ∙ i.holds))
-  where
-    none_held : (n g : ℕ) → get_or (replicate n false) g false ≡ false
-    none_held ℕ.zero g = refl
-    none_held (ℕ.suc n) ℕ.zero = refl
-    none_held (ℕ.suc n) (ℕ.suc g) = none_held n g
 
 behind_reads : (left : List Slot) (x : ℕ) (n : Slot) (grains : ℕ) → x < length left → n.held ≡ replicate grains false → n.chain ≡ (slot_at left x).chain → (g h : ℕ) →
     IsHolder (column (insert left (x + 1) n) g) (x + 1) h → (y : ℕ) × (up (x + 1) y ≡ h) × IsHolder (column left g) x y
@@ -259,28 +255,20 @@ placed_shows slots left picture stored b p target x w a =
 started_shows : (s : Sheet) (picture : Picture) (stored : Stored) (p : Pair) → HoldsSheet s → FitsPair s.slots p → p.target.0 ≢ p.source.0 → Shows s.slots picture stored →
     Shows (started_empty s p).slots (map (first_pair picture p) picture) stored
 started_shows s picture stored p h f ne w =
-    let grains : ℕ = volume_grains s.slots p.target.0 in
-    let tl = live_place_at s.slots p.target.0 f.target f.target_there in
-    let sl = live_place_at s.slots p.source.0 f.source f.source_there in
-    let gs : grains ≡ length (slot_at s.slots f.target).held = ap (grains_at s.slots) f.target_there in
+    let i = started_is s p h f ne in
     let t : Sheet = left_place f.target s in
-    let lf = (left_is s f.target h tl.there tl.is_live).1 in
-    let apart : f.source ≢ f.target = λ e. ne (sym tl.of_volume ∙ (ap (λ z. (slot_at s.slots z).volume) (sym e) ∙ sl.of_volume)) in
-    let x = lf.stays f.source sl.there apart in
-    let at_x : LiveAt t.slots p.source.0 x.0 = record { there = x.1; is_live = ap (λ (z : Slot). z.is_live) x.2 ∙ sl.is_live; of_volume = ap (λ (z : Slot). z.volume) x.2 ∙ sl.of_volume } in
-    let place : live_place t.slots p.source.0 ≡ Some x.0 = live_place_is t.slots p.source.0 x.0 lf.holds.one_live at_x in
-    let whole : started_empty s p ≡ placed p.target.0 p.map.0 (replicate (length (slot_at s.slots f.target).held) false) x.0 t =
-    ap (λ o. at_place (placed p.target.0 p.map.0 (replicate grains false)) (live_place (at_place left_place o s).slots p.source.0) (at_place left_place o s)) f.target_there
-    ∙ (ap (λ o. at_place (placed p.target.0 p.map.0 (replicate grains false)) o t) place ∙ ap (λ z. placed p.target.0 p.map.0 (replicate z false) x.0 t) gs) in
+    let gs : volume_grains s.slots p.target.0 ≡ length (slot_at s.slots f.target).held = ap (grains_at s.slots) f.target_there in
+    let whole : started_empty s p ≡ placed p.target.0 p.map.0 (replicate (length (slot_at s.slots f.target).held) false) i.place t =
+    i.whole ∙ ap (λ z. placed p.target.0 p.map.0 (replicate z false) i.place t) gs in
     subst (λ (z : Sheet). Shows z.slots (map (first_pair picture p) picture) stored) (sym whole)
-    (placed_shows s.slots t.slots picture stored t.births p f.target x.0 w (record {
-      target_at = tl;
+    (placed_shows s.slots t.slots picture stored t.births p f.target i.place w (record {
+      target_at = i.target;
       full = λ g gl. complete_at (slot_at s.slots f.target).held g f.complete gl;
-      source_at = at_x;
-      as_large = ap (λ (z : Slot). length z.held) x.2 ∙ f.as_large;
-      no_live = λ j jl l e. lf.no_live j jl l (e ∙ sym tl.of_volume);
-      reads = left_reads s f.target tl.there;
-      stays = lf.stays;
+      source_at = i.source;
+      as_large = ap (λ (z : Slot). length z.held) i.same ∙ f.as_large;
+      no_live = λ j jl l e. i.left.1.no_live j jl l (e ∙ sym i.target.of_volume);
+      reads = left_reads s f.target i.target.there;
+      stays = i.left.1.stays;
     }))
 
 -- ---- all pairs

@@ -13,7 +13,7 @@ use Rattle.fc_moves.proofs.Readers.{IsHolder}
 use Rattle.fc_sheets.proofs.Places.{up, up_in, up_low, down, removed_at, big_at, remove_is, insert_is, insert_here}
 use Rattle.fc_sheets.proofs.Removing.{HeldFor, held_for, held_big, names_big, sizes_big, mappings_big, one_live_big}
 use Rattle.fc_sheets.proofs.Aging.{age, aged_is, aged_other, length_full}
-use Rattle.fc_sheets.proofs.Finding.{live_place_at, live_place_is, mapping_place_none, no_mapping_place}
+use Rattle.fc_sheets.proofs.Finding.{LiveAt, live_place_at, live_place_is, mapping_place_none, no_mapping_place}
 use Rattle.fc_sheets.proofs.Steps.{Holds, Nobody, Only, holds_from, sound_from, without_live, without_no_live, aged_holds, aged_no_live}
 
 -- ---- a target leaves its place
@@ -159,25 +159,45 @@ place_new s t p k x grains lf kv xl live none size volume_size =
       ];
     }
 
-pub started_placed : (s : Sheet) (p : Pair) → Holds s.births s.slots Nobody Nobody → FitsPair s.slots p → p.target.0 ≢ p.source.0 → Placed s p (started_empty s p)
-started_placed s p h f ne =
+-- What a pair that fits does: its target's live slot leaves its place, and the new slot comes behind its source's, which stays.
+pub record Started (s : Sheet) (p : Pair) (f : FitsPair s.slots p) : Type 0 where
+  pub target : LiveAt s.slots p.target.0 f.target
+  pub left : LeftSheet s f.target (left_place f.target s)
+  pub place : ℕ
+  pub source : LiveAt (left_place f.target s).slots p.source.0 place
+  pub same : slot_at (left_place f.target s).slots place ≡ slot_at s.slots f.source
+  pub whole : started_empty s p ≡ placed p.target.0 p.map.0 (replicate (volume_grains s.slots p.target.0) false) place (left_place f.target s)
+
+pub started_is : (s : Sheet) (p : Pair) → Holds s.births s.slots Nobody Nobody → (f : FitsPair s.slots p) → p.target.0 ≢ p.source.0 → Started s p f
+started_is s p h f ne =
     let grains : ℕ = volume_grains s.slots p.target.0 in
     let tl = live_place_at s.slots p.target.0 f.target f.target_there in
     let sl = live_place_at s.slots p.source.0 f.source f.source_there in
-    let gs : grains ≡ length (slot_at s.slots f.target).held = ap (grains_at s.slots) f.target_there in
     let t : Sheet = left_place f.target s in
     let lf = left_is s f.target h tl.there tl.is_live in
     let apart : f.source ≢ f.target = λ e. ne (sym tl.of_volume ∙ (ap (λ z. (slot_at s.slots z).volume) (sym e) ∙ sl.of_volume)) in
     let x = lf.1.stays f.source sl.there apart in
-    let found : live_place t.slots p.source.0 ≡ Some x.0 = live_place_is t.slots p.source.0 x.0 lf.1.holds.one_live
-    (record { there = x.1; is_live = ap (λ (z : Slot). z.is_live) x.2 ∙ sl.is_live; of_volume = ap (λ (z : Slot). z.volume) x.2 ∙ sl.of_volume }) in
-    let whole : started_empty s p ≡ placed p.target.0 p.map.0 (replicate grains false) x.0 t =
-    ap (λ o. at_place (placed p.target.0 p.map.0 (replicate grains false)) (live_place (at_place left_place o s).slots p.source.0) (at_place left_place o s)) f.target_there
-    ∙ ap (λ o. at_place (placed p.target.0 p.map.0 (replicate grains false)) o t) found in
-    subst (λ (z : Sheet). Placed s p z) (sym whole)
-    (place_new s t p f.target x.0 grains lf tl.of_volume x.1 (ap (λ (z : Slot). z.is_live) x.2 ∙ sl.is_live) f.no_slot_yet
-    (ap (λ (z : Slot). length z.held) x.2 ∙ (f.as_large ∙ sym gs))
-    (λ i il e. h.sizes.of_volume i f.target il tl.there (e ∙ sym tl.of_volume) ∙ sym gs))
+    let at_x : LiveAt t.slots p.source.0 x.0 = record { there = x.1; is_live = ap (λ (z : Slot). z.is_live) x.2 ∙ sl.is_live; of_volume = ap (λ (z : Slot). z.volume) x.2 ∙ sl.of_volume } in
+    let found : live_place t.slots p.source.0 ≡ Some x.0 = live_place_is t.slots p.source.0 x.0 lf.1.holds.one_live at_x in
+    record {
+      target = tl;
+      left = lf;
+      place = x.0;
+      source = at_x;
+      same = x.2;
+      whole = ap (λ o. at_place (placed p.target.0 p.map.0 (replicate grains false)) (live_place (at_place left_place o s).slots p.source.0) (at_place left_place o s)) f.target_there
+          ∙ ap (λ o. at_place (placed p.target.0 p.map.0 (replicate grains false)) o t) found;
+    }
+
+pub started_placed : (s : Sheet) (p : Pair) → Holds s.births s.slots Nobody Nobody → FitsPair s.slots p → p.target.0 ≢ p.source.0 → Placed s p (started_empty s p)
+started_placed s p h f ne =
+    let grains : ℕ = volume_grains s.slots p.target.0 in
+    let i = started_is s p h f ne in
+    let gs : grains ≡ length (slot_at s.slots f.target).held = ap (grains_at s.slots) f.target_there in
+    subst (λ (z : Sheet). Placed s p z) (sym i.whole)
+    (place_new s (left_place f.target s) p f.target i.place grains i.left i.target.of_volume i.source.there i.source.is_live f.no_slot_yet
+    (ap (λ (z : Slot). length z.held) i.same ∙ (f.as_large ∙ sym gs))
+    (λ j jl e. h.sizes.of_volume j f.target jl i.target.there (e ∙ sym i.target.of_volume) ∙ sym gs))
 
 -- ---- all pairs
 

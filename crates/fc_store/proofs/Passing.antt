@@ -9,7 +9,7 @@ use Rattle.fc_base.specs.declared.size.GrainSize.{GrainSize}
 use Rattle.fc_entry.specs.HistoryState.{HistoryState}
 use Rattle.fc_entry.specs.declared.entry.Entry.{Entry}
 use Rattle.fc_legal.specs.Added.{AddsSeconds, AddsSomeSeconds, AddsSecondsToLimit}
-use Rattle.fc_legal.specs.Seconds.{Work, Agenda, Runs, stays, fills, IsNextFill, IsOver, all_work, begun, gained, spent, saved, next_grain, next_fill, fill_at_hand, goes_on, next_work, after_fill, has_moved, fill_of}
+use Rattle.fc_legal.specs.Seconds.{Work, Agenda, Runs, stays, fills, IsNextFill, IsOver, all_work, begun, gained, spent, saved, next_grain, next_fill, fill_at_hand, goes_on, next_second, after_fill, has_moved, fill_of}
 use Rattle.fc_legal.specs.Whole.{Whole}
 use Rattle.fc_legal.proofs.Appending.{Runs-append, Runs-pass}
 use Rattle.fc_store.specs.Answering.{IsTold, Advanced}
@@ -337,7 +337,7 @@ module _ (Before Stands : Whole → Type 0) (grain size : GrainSize) (w : Whole)
   its_second =
       let left : drop place works ≡ old ∷ drop (place + 1) works = drop_more works place old there ∙ ap (λ (v : Work). v ∷ drop (place + 1) works) (sym is) in
       passed_on (Unit {0}) tt Before grain w a (between seconds (take place works) (drop place works)) (at seconds (take place works) (gained old) (drop (place + 1) works)) x y first
-      (λ last told. refl) (λ last told. ap (next_work seconds (take place works)) left)
+      (λ last told. refl) (λ last told. ap (next_second seconds (take place works)) left)
 
   pub one_passed : (A : Type 0) (result : Result A Stop) →
       ((mid : Whole) (seconds : ℕ) (over left : List Work) → IsTold Before y.entries mid →
