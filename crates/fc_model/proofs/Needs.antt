@@ -1,5 +1,5 @@
 -- Who needs a slot, and who depends on it.
-use Rattle.std.proofs.Common.{◌≡◌, ◌≢◌, ◌⊎◌, ◌↔◌, ℕ, zero, suc, ◌+◌, ◌<◌, ◌≤◌, Bool, true, false, cond, Some, None, List, [], ◌∷◌, ◌++◌, length, get_or, IsTrue, refl, sym, ap, subst, ◌∙◌, arith, inl, inr}
+use Rattle.std.proofs.Common.{◌≡◌, ◌≢◌, ◌⊎◌, ◌↔◌, ℕ, zero, suc, ◌+◌, ◌<◌, ◌≤◌, Bool, true, false, cond, Some, None, List, [], ◌∷◌, ◌++◌, length, get_or, max, IsTrue, refl, sym, ap, subst, ◌∙◌, arith, inl, inr}
 use Rattle.std.specs.Prelude.{AllPairs, Contains}
 use Rattle.std.proofs.lemmas.Bool.{cases_lt, both_ways}
 use Rattle.std.proofs.lemmas.List.Elements.{Contains-get_or, Contains-append_left, Contains-push, Contains-push_cases}
@@ -8,7 +8,7 @@ use Rattle.fc_base.specs.Column.{holder, needer}
 use Rattle.fc_base.specs.Need.{IsNeeded, IsDependent, IsDependent.direct, IsDependent.onward}
 use Rattle.fc_base.specs.Sheet.{Slot, slot_at, column}
 use Rattle.fc_moves.proofs.Readers.{IsHolder, holder_is, reader_is}
-use Rattle.fc_model.specs.Answers.{HasDependents, ReadsListed, Joins}
+use Rattle.fc_model.specs.Answers.{HasDependents, IsWidth, ReadsListed, Joins}
 use Rattle.fc_model.proofs.Columns.{past_end}
 
 within : (xs : List Bool) (g : ℕ) → get_or xs g false ≡ true → g < length xs
@@ -28,12 +28,34 @@ needed_within slots g k a e = let r = reader_is (column slots g) k k a e in let 
 pub holder_within : (slots : List Slot) (g k h : ℕ) → holder (column slots g) k ≡ Some h → g < length (slot_at slots h).held
 holder_within slots g k h e = let i = holder_is (column slots g) k h e in held_within slots g h i.holds
 
-pub width_past : (slots : List Slot) (k n width : ℕ) → length slots ≤ n → ((j : ℕ) → j < n → length (slot_at slots j).held ≤ width) → length (slot_at slots k).held ≤ width
-width_past slots k n width le below =
-    elim (cases_lt k n) [
-      | inl lt ↦ below k lt
-      | inr ge ↦ (let z : length (slot_at slots k).held ≡ 0 = ap (λ (t : Slot). length t.held) (past_end slots k (omega arith)) in omega arith)
-    ]
+-- the most grains that a slot of the places so far has
+pub record WidthSoFar (slots : List Slot) (n width : ℕ) : Type 0 where
+  pub most : (k : ℕ) → k < n → length (slot_at slots k).held ≤ width
+  pub reached : (k : ℕ) × (length (slot_at slots k).held ≡ width)
+
+pub no_width : (slots : List Slot) → WidthSoFar slots 0 0
+no_width slots = record { most = λ k lt. absurd (omega arith); reached = (length slots, ap (λ (t : Slot). length t.held) (past_end slots (length slots) (omega arith))) }
+
+pub width_more : (slots : List Slot) (n width here new : ℕ) → WidthSoFar slots n width → here ≡ length (slot_at slots n).held → new ≡ max width here → WidthSoFar slots (n + 1) new
+width_more slots n width here new s e q = record {
+  most = λ k lt. elim (cases_lt k n) [
+    | inl l ↦ (let m = s.most k l in omega arith)
+    | inr ge ↦ (let same : n ≡ k = omega arith in let P : ℕ → Type 0 = λ z. length (slot_at slots z).held ≤ new in subst P same (omega arith))
+  ];
+  reached = elim (cases_lt width here) [
+    | inl l ↦ (n, omega arith)
+    | inr ge ↦ (s.reached.0, (let r : length (slot_at slots s.reached.0).held ≡ width = s.reached.1 in omega arith))
+  ];
+}
+
+pub width_done : (slots : List Slot) (n width : ℕ) → length slots ≤ n → WidthSoFar slots n width → IsWidth slots width
+width_done slots n width le s = record {
+  most = λ k. elim (cases_lt k n) [
+    | inl lt ↦ s.most k lt
+    | inr ge ↦ (let z : length (slot_at slots k).held ≡ 0 = ap (λ (t : Slot). length t.held) (past_end slots k (omega arith)) in omega arith)
+  ];
+  reached = s.reached;
+}
 
 -- those of the places so far that depend on the slot
 pub record SoFar (slots : List Slot) (on n : ℕ) (listed : List ℕ) : Type 0 where

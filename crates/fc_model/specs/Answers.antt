@@ -1,8 +1,13 @@
 -- What the questions to a sheet answer.
-use Rattle.std.specs.Prelude.{◌≡◌, ◌≢◌, ◌⊎◌, ℕ, ◌<◌, true, Some, List, AllPairs, Contains}
+use Rattle.std.specs.Prelude.{◌≡◌, ◌≢◌, ◌⊎◌, ℕ, ◌<◌, ◌≤◌, true, Some, List, length, AllPairs, Contains}
 use Rattle.fc_base.specs.Column.{holder}
 use Rattle.fc_base.specs.Need.{IsDependent}
 use Rattle.fc_base.specs.Sheet.{Slot, slot_at, column}
+
+-- The most grains that a slot has. Past the end of the list stands a slot of none.
+pub record IsWidth (slots : List Slot) (width : ℕ) : Type 0 where
+  pub most : (k : ℕ) → length (slot_at slots k).held ≤ width
+  pub reached : (k : ℕ) × (length (slot_at slots k).held ≡ width)
 
 -- The dependents of a slot, each once, in the order of their places.
 pub record HasDependents (slots : List Slot) (on : ℕ) (places : List ℕ) : Type 0 where

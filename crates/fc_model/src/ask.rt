@@ -1,13 +1,13 @@
 //! The questions to the sheet, and the moves and writes that change its pairs.
 
-ghost use Rattle.std.specs.Prelude.{◌≡◌, ℕ, ◌<◌, ◌≤◌, ◌↔◌, IfSome, IfOk, IsTrue, length, true, false};
+ghost use Rattle.std.specs.Prelude.{◌≡◌, ◌<◌, ◌↔◌, IfSome, IfOk, IsTrue, length, true, false};
 ghost use Rattle.fc_base.specs.Column.{holder, needer};
 ghost use Rattle.fc_base.specs.Need.{IsNeeded, is_complete};
 ghost use Rattle.fc_base.specs.Plan.{moves_of_fill, moves_of_write};
 ghost use Rattle.fc_base.specs.RestoreGraph.{IsUsed};
 ghost use Rattle.fc_base.specs.Sheet.{slot_at, shape_of, column, live_place, mapping_place, birth_place, volume_grains};
 ghost use Rattle.fc_base.specs.SheetStep.{sheet_moved, sheet_written, sheet_torn, triggered};
-ghost use Rattle.fc_model.specs.Answers.{HasDependents};
+ghost use Rattle.fc_model.specs.Answers.{HasDependents, IsWidth};
 ghost use Rattle.fc_model.specs.Graph.{LoopFound};
 
 use crate::column::{holder_of, reader_of};
@@ -121,9 +121,9 @@ impl PlainSheet {
         grains_of_volume(self.slots(), volume.0)
     }
 
-    /// A number of grains that no slot has more of.
+    /// The most grains that a slot has on the sheet; 0 where there is no slot.
     pub fn width(&self) -> usize
-        ensures { (k : ℕ) → length (slot_at self.now.slots k).held ≤ result }
+        ensures { IsWidth self.now.slots result }
     {
         widest(self.slots())
     }

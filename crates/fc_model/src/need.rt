@@ -1,11 +1,11 @@
 //! Who needs a slot, who depends on it, and which volumes are used as sources.
 
-ghost use Rattle.std.specs.Prelude.{◌≡◌, ◌⊎◌, ℕ, ◌≤◌, ◌↔◌, IfOk, OnOk, IsTrue, Contains, length, cond, [], ◌∷◌, ◌++◌};
+ghost use Rattle.std.specs.Prelude.{◌≡◌, ◌⊎◌, ◌↔◌, IfOk, OnOk, IsTrue, Contains, cond, [], ◌∷◌, ◌++◌};
 ghost use Rattle.fc_base.specs.Counts.{LiveBehind};
 ghost use Rattle.fc_base.specs.Need.{IsNeeded};
 ghost use Rattle.fc_base.specs.RestoreGraph.{IsUsed};
-ghost use Rattle.fc_base.specs.Sheet.{slot_at, shape_of};
-ghost use Rattle.fc_model.specs.Answers.{HasDependents, ReadsListed, Joins};
+ghost use Rattle.fc_base.specs.Sheet.{shape_of};
+ghost use Rattle.fc_model.specs.Answers.{HasDependents, IsWidth, ReadsListed, Joins};
 
 use crate::column::{holder_of, reader_of};
 use crate::places::{grains_of, in_one_chain, is_live_at, volume_at};
@@ -50,11 +50,11 @@ pub(crate) fn used_as_source(slots: &[Slot], volume: u32) -> bool
     false
 }
 
-/// A number of grains that no slot has more of.
+/// The most grains that a slot has.
 pub(crate) fn widest(slots: &[Slot]) -> usize
-    ensures { (k : ℕ) → length (slot_at slots.now k).held ≤ result }
+    ensures { IsWidth slots.now result }
 {
-    let mut width = 0;
+    let mut width: usize = 0;
     for place in 0..slots.len() {
         width = width.max(grains_of(slots, place));
     }
