@@ -2,25 +2,20 @@
 use Rattle.std.proofs.Common.{◌≡◌, ℕ, suc, zero, ◌+◌, ◌^◌, ◌<◌, List, [], ◌∷◌, length, map, get_or, replicate, refl, sym, ap, ap₂, subst, ◌∙◌, arith, None}
 use Rattle.std.specs.List.{All, sum_by}
 use Rattle.std.proofs.lemmas.List.{get_or-map, length-map}
-use Rattle.std.proofs.lemmas.List.Elements.{All-nil}
 use Rattle.std.proofs.lemmas.List.FromFn.{get_or-range_with_len, get_or-map-range_with_len, length-map-range_with_len}
 use Rattle.std.proofs.lemmas.List.Sums.{sum_by-cons}
 use Rattle.fc_base.specs.Pools.{Pool}
 use Rattle.fc_base.specs.Tables.{no_tables}
 use Rattle.fc_base.specs.declared.size.GrainSize.{GrainSize}
-use Rattle.fc_books.specs.Books.{opened as opened_books}
-use Rattle.fc_books.specs.Sound.{AreSound}
 use Rattle.fc_control.specs.Control.{ControlState}
 use Rattle.fc_grains.specs.Grains.{GrainsState, opened as opened_grains, one_if_silent, pool_of, silent_of, stopped}
 use Rattle.fc_lane.specs.Lane.{LaneView, IsFollowing, begun}
-use Rattle.fc_legal.specs.Stands.{Stands}
 use Rattle.fc_legal.specs.Whole.{lanes, opened, part_at, pool_at}
 use Rattle.fc_mdisk.specs.Disk.{DiskState, IsFresh}
 use Rattle.fc_mdisk.specs.Disks.{calls_of, faults_of}
 use Rattle.fc_parts.proofs.Lawful.{part_law_holds}
 use Rattle.fc_rules.specs.LaneTold.{LaneTold, nothing_told}
-use Rattle.fc_sheets.proofs.Lawful.{none_sound}
-use Rattle.fc_decided.proofs.Lists.{none_in}
+use Rattle.fc_decided.proofs.Opening.{lanes_told, opening_stands}
 use Rattle.fc_grains.proofs.KindCounts.{flat-cons, one_flat, one_thin, thin-cons}
 use Rattle.fc_sums.proofs.Sums.{sum_total}
 use Rattle.fc_store.specs.Dealing.{Begin, Begins, FitLane, all_dealt, dealt, disks_in, pools_dealt, silent_in}
@@ -28,36 +23,8 @@ use Rattle.fc_store.specs.Quiet.{AreQuiet}
 use Rattle.fc_store.specs.Store.{StandsFor, IsLaneAt}
 use Rattle.fc_store.proofs.Dealing.{all_of_dealt, few_dealt, total_dealt}
 
--- ---- what is told before the first entry
-
-books_sound : (pools : List Pool) → AreSound (opened_books pools)
-books_sound pools = record {
-  tables = record {
-    volumes = record { rising = λ i j x ij jl. absurd (omega arith); distinct = λ i j x ij jl. absurd (omega arith) };
-    mappings = record { rising = λ i j x ij jl. absurd (omega arith); distinct = λ i j x ij jl. absurd (omega arith) };
-    groups = record { rising = λ i j x ij jl. absurd (omega arith); distinct = λ i j x ij jl. absurd (omega arith) };
-    new_volume = All-nil _;
-    new_mapping = All-nil _;
-    new_group = All-nil _;
-  };
-  flags = record { rising = λ i j x ij jl. absurd (omega arith); given = All-nil _ };
-  sheet = none_sound;
-  agree = record {
-    volumes = λ v found. absurd (none_in _ found);
-    slots = λ k lt. absurd (omega arith);
-    owned = λ k lt. absurd (omega arith);
-    mappings = λ m found. absurd (none_in _ found);
-    by_state = λ m found. absurd (none_in _ found);
-    one_busy = λ m n found. absurd (none_in _ found);
-  };
-}
-
 from_zero : (i : ℕ) → 0 + i ≡ i
 from_zero i = omega arith
-
-length_replicate : (n x : ℕ) → length (replicate n x) ≡ n
-length_replicate ℕ.zero x = refl
-length_replicate (ℕ.suc n) x = ap ℕ.suc (length_replicate n x)
 
 abbrev zeros : ℕ → List ℕ
 zeros n = replicate n 0
@@ -66,30 +33,6 @@ zero_at : (n i : ℕ) → get_or (zeros n) i 0 ≡ 0
 zero_at ℕ.zero i = refl
 zero_at (ℕ.suc n) ℕ.zero = refl
 zero_at (ℕ.suc n) (ℕ.suc i) = zero_at n i
-
-lanes_told : (pools : List Pool) → lanes (opened pools) ≡ length pools
-lanes_told pools = length_replicate (length pools) 0
-
-opening_stands : (pools : List Pool) → 0 < length pools → Stands 0 (opened pools)
-opening_stands pools some = record {
-  sound = books_sound pools;
-  few = record {
-    volumes = omega arith;
-    mappings = omega arith;
-    groups = omega arith;
-    births = omega arith;
-    at_once = omega arith;
-    volumes_at_once = omega arith;
-  };
-  plain = tt;
-  each_lane = record {
-    some = omega (arith, some, lanes_told pools);
-    pools = sym (lanes_told pools);
-    calls = refl;
-  };
-  firsts = λ j k jl kl live mapping chain. absurd (omega arith);
-  rows = record { each = All-nil _; distinct = λ i j x ij jl. absurd (omega arith) };
-}
 
 -- ---- the lists that were dealt
 

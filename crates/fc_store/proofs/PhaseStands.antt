@@ -5,11 +5,10 @@ use Rattle.fc_base.specs.Tables.{Tables, after_change}
 use Rattle.fc_base.specs.declared.decision.Decision.{Decision}
 use Rattle.fc_base.specs.declared.decision.LaneEvent.{LaneEvent}
 use Rattle.fc_base.specs.declared.size.GrainSize.{GrainSize}
-use Rattle.fc_base.specs.declared.volume.Change.{Change}
-use Rattle.fc_base.specs.declared.volume.Change.TheVariants.{AddVolume, RemoveVolume, AddMapping, RemoveMapping, SetMapping, AddGroup, RemoveGroup}
 use Rattle.fc_books.specs.After.{after_table_change, after_event, after_all, flags_after}
 use Rattle.fc_books.specs.Books.{Books}
 use Rattle.fc_control.specs.Control.{ControlState, books_of}
+use Rattle.fc_decided.proofs.Frame.{tables_through, flags_through}
 use Rattle.fc_follow.specs.Following.{Followed, FitsFollowed, followed_event, restarts}
 use Rattle.fc_lane.specs.Lane.{LaneView, IsFollowing, of}
 use Rattle.fc_legal.specs.Lawful.{IsLawful}
@@ -38,32 +37,6 @@ books_are c w is = λ k. record {
   flags = is.flags k;
   pools = w.books.pools;
 }
-
-tables_change : (b : Books) (c : Change) → (after_table_change b c).tables ≡ after_change b.tables c
-tables_change b (AddVolume volume) = refl
-tables_change b (RemoveVolume id) = refl
-tables_change b (AddMapping mapping) = refl
-tables_change b (RemoveMapping id) = refl
-tables_change b (SetMapping mapping) = refl
-tables_change b (AddGroup group) = refl
-tables_change b (RemoveGroup id) = refl
-
-flags_stay : (b : Books) (c : Change) → (after_table_change b c).flags ≡ b.flags
-flags_stay b (AddVolume volume) = refl
-flags_stay b (RemoveVolume id) = refl
-flags_stay b (AddMapping mapping) = refl
-flags_stay b (RemoveMapping id) = refl
-flags_stay b (SetMapping mapping) = refl
-flags_stay b (AddGroup group) = refl
-flags_stay b (RemoveGroup id) = refl
-
-tables_through : (b : Books) (changes : List Change) → (fold after_table_change b changes).tables ≡ fold after_change b.tables changes
-tables_through b [] = refl
-tables_through b (c ∷ cs) = tables_through (after_table_change b c) cs ∙ ap (λ (t : Tables). fold after_change t cs) (tables_change b c)
-
-flags_through : (b : Books) (changes : List Change) → (fold after_table_change b changes).flags ≡ b.flags
-flags_through b [] = refl
-flags_through b (c ∷ cs) = flags_through (after_table_change b c) cs ∙ flags_stay b c
 
 -- Events change no table and no id that comes next, and flags one by one.
 pub record IsThrough (b after : Books) (flags : List WorkFlags) : Type 0 where
