@@ -36,10 +36,6 @@ pub place_any : (m : ℕ) (rows : List Row) (d : Row) (o : Option ℕ) → posit
 place_any m rows d None e there = cc
 place_any m rows d (Some i) e there = let s = position-Some (is_of m) rows i d e in any_at (is_of m) rows i d s.0 s.1
 
-pub place_none : (m : ℕ) (rows : List Row) (o : Option ℕ) → position (is_of m) rows ≡ o → is_some o ≡ false → position (is_of m) rows ≡ None
-place_none m rows None e none = e
-place_none m rows (Some i) e none = cc
-
 -- no row is of the mapping
 pub none_of : (m : ℕ) (rows : List Row) → All (λ row. row.map ≢ m) rows → position (is_of m) rows ≡ None
 none_of m [] others = refl

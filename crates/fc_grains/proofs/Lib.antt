@@ -8,6 +8,5 @@ pub mod Pooling
 pub mod Queueing
 pub mod Readying
 pub mod Moving
-pub mod Stored
 pub mod Quiet
 pub mod Whole

@@ -54,9 +54,6 @@ all_of state all given sums same disks silent calls faults write_faults add_up =
       write_faults = sym (write_faults ∙ by.write_faults);
     }
 
-disk_of : VolumeDiskState → DiskState
-disk_of v = v.disk
-
 -- a new volume
 module _ (volumes : List VolumeDiskState) (pool pool' : PoolState) (aside : List DiskState) (v : VolumeDiskState) (same : SameDisks (v.disk ∷ disks_of pool') (disks_of pool)) where
   pub same_made : SameDisks (all_disks (volumes ++ v ∷ []) pool' aside) (all_disks volumes pool aside)
