@@ -6,7 +6,7 @@ ghost use Rattle.fc_base.specs.Column.{first_below, holder, needer};
 ghost use Rattle.fc_base.specs.declared.request.Side.TheVariants.{Under};
 ghost use Rattle.fc_base.specs.SheetFits.{FitsTaken, FitsLost, FitsEvent};
 ghost use Rattle.fc_base.specs.SheetStep.{sheet_moved, sheet_written, sheet_torn, triggered, sheet_step};
-ghost use Rattle.fc_base.specs.SheetView.{LoopAnswer};
+ghost use Rattle.fc_base.specs.SheetView.{LoopAnswer, count_true, held_of, needed_of};
 ghost use Rattle.fc_chain.specs.Chains.{IsOfLane, in_lane, lane_grains, number_in, found, IsThere};
 ghost use Rattle.fc_chain.specs.Contiguous.{IsContiguous};
 ghost use Rattle.fc_chain.specs.Nexts.{lacks};
@@ -206,6 +206,21 @@ impl Cascade {
         ensures there { IfSome result (λ slot. birth_place self.now.sheet.slots slot.0 ≡ mapping_place self.now.sheet.slots map.0) }
     {
         name_of(self.slots(), self.place_of_mapping(map))
+    }
+
+    /// How many of the lane's grains the mapping's slot holds, and at how many of them another slot needs it. None of a
+    /// mapping without a slot. The slot is looked up once, and nothing is counted.
+    pub fn counts(&self, map: MapId) -> (u32, u32)
+        ensures held { result.0 ≡ count_true (held_of self.now.sheet.slots map.0) }
+        ensures needed { result.1 ≡ needed_of self.now.sheet.slots map.0 }
+    {
+        match self.place_of_mapping(map) {
+            Some(place) => {
+                let tally = self.tallies.at(place);
+                (tally.held, tally.needed)
+            }
+            None => (0, 0),
+        }
     }
 
     /// The holder of a slot at a grain of the lane: the nearest slot at or before it in its chain that holds

@@ -4,7 +4,8 @@
 //! A `Cascade` is seen as the lane's sheet of slots (`fc_base`, `specs/Sheet`), which always has the facts
 //! of `specs/SheetFacts`, with each chain in one place (`specs/Contiguous`), so that a walk ends with its chain.
 //! Each call is its definition: `holder`, `needer`, `next_lacking`, `next_needed`, `held_count`, `need_count`, `direct`,
-//! `unneeded` and `used` are those of `specs/Column`, `specs/Counts` and `specs/RestoreGraph`; `plan` gives the moves of `specs/Moves` in
+//! `unneeded` and `used` are those of `specs/Column`, `specs/Counts` and `specs/RestoreGraph`; `counts` tells both counts of a
+//! mapping's slot; `plan` gives the moves of `specs/Moves` in
 //! their order, each once, and needs room for one move a volume; `moved`, `written` and `torn` change the pairs
 //! as `specs/SheetStep` says; `grains`, `is_live` and `held` tell what the sheet has. `reserve` makes room for the slots that the events of a command can make
 //! (`specs/Room`); `apply_event` then does one event after the other, as `specs/SheetStep` says; `loop_of` tells the loop of

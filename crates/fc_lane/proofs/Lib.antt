@@ -9,7 +9,6 @@ pub mod Begin
 pub mod Readying
 pub mod Moving
 pub mod MoveEnds
-pub mod Counting
 pub mod LaneEvents
 pub mod Reading
 pub mod ReadAnswers

@@ -1,8 +1,8 @@
--- Slots found by their births.
-use Rattle.std.proofs.Common.{◌≡◌, ℕ, ◌<◌, Option, Some, None, length, refl, sym, ap, ◌∙◌, arith}
+-- Slots found by their births, and the place to which the name of a mapping's slot leads.
+use Rattle.std.proofs.Common.{◌≡◌, ℕ, ◌<◌, Option, Some, None, IfSome, List, length, refl, sym, ap, subst, ◌∙◌, arith}
 use Rattle.std.proofs.lemmas.Bool.{eqb-true, eq-eqb, false_from_ne_true}
 use Rattle.fc_base.specs.Column.{holder}
-use Rattle.fc_base.specs.Sheet.{Sheet, slot_at, slot_id, column, birth_place}
+use Rattle.fc_base.specs.Sheet.{Slot, Sheet, slot_at, slot_id, column, birth_place}
 use Rattle.fc_base.specs.SheetFacts.{HasNames, IsSound}
 use Rattle.fc_base.specs.declared.ids.SlotId.{SlotId}
 use Rattle.fc_chain.specs.Chains.{found}
@@ -37,3 +37,17 @@ holder_named s g b k h name o sound e q f n =
     let hl : h < length s.slots = omega arith in
     let same : name ≡ slot_id s.slots h = some_is (sym n ∙ (f ∙ ap (found s.slots) q)) in
     ap (λ (z : SlotId). birth_place s.slots z.0) same ∙ birth_place_is s h sound.names hl
+
+-- the place that a name leads to
+pub record Leads (slots : List Slot) (place : Option ℕ) (slot : SlotId) : Type 0 where
+  pub at : ℕ
+  pub named : birth_place slots slot.0 ≡ Some at
+  pub there : place ≡ Some at
+
+pub leads : (slots : List Slot) (place : Option ℕ) (o : Option SlotId) (slot : SlotId) → o ≡ found slots place → IfSome o (λ s. birth_place slots s.0 ≡ place) → o ≡ Some slot → Leads slots place slot
+leads slots None o slot is same some = absurd (none_some (sym is ∙ some))
+  where
+    none_some : None ≡ Some slot → ⊥
+    none_some e = absurd cc
+leads slots (Some k) o slot is same some =
+    record { at = k; named = subst (λ (z : Option SlotId). IfSome z (λ s. birth_place slots s.0 ≡ Some k)) some same; there = refl }

@@ -20,14 +20,7 @@ impl<D: Mdisk> Lane<D> {
         ensures held { result.0 ≡ count_true (held_of self.now.chains.sheet.slots map.0) }
         ensures needed { result.1 ≡ needed_of self.now.chains.sheet.slots map.0 }
     {
-        match self.body.cascade.slot(map) {
-            Some(slot) => {
-                let held = self.body.cascade.held_count(slot);
-                let needed = self.body.cascade.need_count(slot);
-                (held, needed)
-            }
-            None => (0, 0),
-        }
+        self.body.cascade.counts(map)
     }
 
     /// The mapping's slot, and None exactly where it has none.

@@ -1,6 +1,6 @@
 use Rattle.fc_base.specs.Sheet.{mapping_place}
 use Rattle.fc_sheets.proofs.Finding.{mapping_place_at}
-use Rattle.fc_lane.proofs.Counting.{leads}
+use Rattle.fc_lane.proofs.Naming.{leads}
 use Rattle.fc_lane.proofs.Noting.{leaving_sized}
 use Rattle.fc_lane.proofs.chains.note_leaving.Goals as goal
 
