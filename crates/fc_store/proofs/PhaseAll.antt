@@ -16,8 +16,6 @@ use Rattle.fc_control.specs.Control.{ControlState, books_of}
 use Rattle.fc_lane.specs.Lane.{LaneView}
 use Rattle.fc_legal.specs.Lawful.{IsLawful, FitChanges as FitTold}
 use Rattle.fc_legal.specs.Whole.{Whole}
-use Rattle.fc_pick.specs.Flags.{IsRising}
-use Rattle.fc_pick.specs.declared.work.WorkFlags.{WorkFlags}
 use Rattle.fc_store.specs.Dealing.{disks_in}
 use Rattle.fc_store.specs.Phase.{StandsAt, IsDecidedAt, IsControlAfter, IsLaneAfter, IsLaneReady, EachLane, CanAllDo, CanControlDo, CanPrepare, IsReadyFor, IsReserved, IsDone}
 use Rattle.fc_store.specs.Quiet.{AreQuiet}
@@ -119,7 +117,6 @@ control_can s d c ready same =
     record {
       fits = subst (λ (t : Tables). FitChanges t d.changes) (sym stands.control.tables) (fit_as_told decided.1.books.tables d.changes decided.3.changes);
       countable = ready.can.countable;
-      rising = subst (λ (rows : List WorkFlags). IsRising rows) (sym stands.control.flags) stands.stands.sound.flags.rising;
       ready = ready.control;
     }
 

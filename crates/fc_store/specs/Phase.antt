@@ -15,7 +15,6 @@ use Rattle.fc_legal.specs.Lawful.{IsLawful}
 use Rattle.fc_legal.specs.Stands.{Stands}
 use Rattle.fc_legal.specs.Steps.{left_by}
 use Rattle.fc_legal.specs.Whole.{Whole, lanes}
-use Rattle.fc_pick.specs.Flags.{IsRising}
 use Rattle.fc_store.specs.Dealing.{disks_in}
 use Rattle.fc_store.specs.Quiet.{AreQuiet}
 use Rattle.fc_store.specs.Store.{StoreView, IsControlOf, AreLanesOf, AreFewCalls}
@@ -75,7 +74,6 @@ FitAll ls events = (i : ℕ) (d : LaneView) → i < length ls → (f : Followed)
 pub record CanControlDo (c : ControlState) (d : Decision) : Type 0 where
   pub fits : FitChanges c.tables d.changes
   pub countable : AreCountable d.changes
-  pub rising : IsRising c.flags
   pub ready : CanApply c d
 
 -- The store can be made ready for a decision: it is lawful on what the store stands for, and one object comes at most, with an
