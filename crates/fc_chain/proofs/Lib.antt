@@ -24,6 +24,7 @@ pub mod Numbered
 pub mod Nexts
 pub mod Parts
 pub mod Sorting
+pub mod Mending
 pub mod Listed
 pub mod Named
 pub mod Volumes

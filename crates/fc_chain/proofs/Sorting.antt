@@ -82,14 +82,14 @@ still_listed entries more k l =
     subst P l.2 (listed_in (entries ++ more) (entry_at entries l.0) (Contains-append_left entries more (entry_at entries l.0) (Contains-get_or entries l.0 no_entry l.1)))
 
 -- how often a place is listed
-listings_step : (k : ℕ) (x : Entry) (xs : List Entry) → listings k (x ∷ xs) ≡ cond {A = ℕ} (eqb x.place k) 1 0 + listings k xs
+pub listings_step : (k : ℕ) (x : Entry) (xs : List Entry) → listings k (x ∷ xs) ≡ cond {A = ℕ} (eqb x.place k) 1 0 + listings k xs
 listings_step k x xs = sum_by-cons (λ (e : Entry). cond {A = ℕ} (eqb e.place k) 1 0) x xs
 
 listings_push : (k : ℕ) (entries : List Entry) (e : Entry) → listings k (entries ++ e ∷ []) ≡ listings k entries + cond {A = ℕ} (eqb e.place k) 1 0
 listings_push k [] e = omega (arith, listings_step k e [])
 listings_push k (x ∷ xs) e = let ih : listings k (xs ++ e ∷ []) ≡ listings k xs + cond {A = ℕ} (eqb e.place k) 1 0 = listings_push k xs e in omega (arith, listings_step k x (xs ++ e ∷ []), listings_step k x xs)
 
-listings_none : (k : ℕ) (entries : List Entry) → ((i : ℕ) → i < length entries → (entry_at entries i).place ≢ k) → listings k entries ≡ 0
+pub listings_none : (k : ℕ) (entries : List Entry) → ((i : ℕ) → i < length entries → (entry_at entries i).place ≢ k) → listings k entries ≡ 0
 listings_none k [] f = refl
 listings_none k (x ∷ xs) f =
     let ih : listings k xs ≡ 0 = listings_none k xs (λ i il. f (suc i) (omega arith)) in

@@ -1,5 +1,5 @@
 -- Where slots stand: lists of places in the order of births, of mappings or of volumes.
-use Rattle.std.specs.Prelude.{◌≡◌, ◌≢◌, ◌⊎◌, ℕ, ◌<◌, ◌≤◌, Bool, true, false, ◌&&◌, ◌||◌, cond, eqb, ltb, Option, Some, None, List, length, slice_index_or}
+use Rattle.std.specs.Prelude.{◌≡◌, ◌≢◌, ◌⊎◌, ℕ, ◌-◌, ◌<◌, ◌≤◌, Bool, true, false, ◌&&◌, ◌||◌, cond, eqb, ltb, Option, Some, None, is_some, List, length, slice_index_or}
 use Rattle.std.specs.List.{sum_by}
 use Rattle.fc_base.specs.Sheet.{Slot, slot_at}
 use Rattle.fc_chain.specs.declared.index.By.{By}
@@ -68,6 +68,15 @@ pub record IsFirstFrom (entries : List Entry) (key birth from : ℕ) : Type 0 wh
   pub within : from ≤ length entries
   pub before : (i : ℕ) → i < from → is_before key birth (entry_at entries i) ≡ true
   pub rest : (i : ℕ) → from ≤ i → i < length entries → is_before key birth (entry_at entries i) ≡ false
+
+-- The slot at a place has a key.
+abbrev pub has_key : List Slot → By → ℕ → Bool
+has_key slots by k = is_some (key_at by (slot_at slots k))
+
+-- The entry at a place of the list is that of its slot, and stands behind the entry before it.
+pub record FitsAt (slots : List Slot) (by : By) (entries : List Entry) (i : ℕ) : Type 0 where
+  pub own : IsEntryOf slots by (entry_at entries i)
+  pub after : 0 < i → is_before (entry_at entries i).key (entry_at entries i).birth (entry_at entries (i - 1)) ≡ true
 
 -- The list, with room for as many entries without taking memory.
 pub record Index : Type 0 where

@@ -12,6 +12,7 @@ ghost use Rattle.fc_chain.specs.Indexing.{key_at, IsIndexOf, ListsBelow, AreRisi
 ghost use Rattle.fc_chain.specs.declared.index.By.TheVariants.{Birth, Mapping, Volume};
 
 use crate::count::has_live_behind;
+use crate::mend::mend;
 use crate::slot::Slot;
 use fc_base::outcome::NoMemory;
 use std::alloc::Global;
@@ -28,8 +29,8 @@ pub(crate) enum By {
 /// A slot in a list: the number by which it is listed, its birth, and its place among the slots.
 #[derive(Clone, Copy, PartialEq, Eq, PartialOrd, Ord)]
 pub(crate) struct Entry {
-    key: u64,
-    birth: u64,
+    pub(crate) key: u64,
+    pub(crate) birth: u64,
     pub(crate) place: usize,
 }
 
@@ -50,7 +51,7 @@ impl Model for Index {
 }
 
 /// The number by which the slot is listed, if it has one.
-fn key_of(slot: &Slot, by: By) -> Option<u64>
+pub(crate) fn key_of(slot: &Slot, by: By) -> Option<u64>
     ensures { result ≡ key_at by slot.now }
 {
     match by {
@@ -81,7 +82,7 @@ fn put(entries: &mut Vec<Entry>, entry: Entry)
 }
 
 /// Whether the entry stands before those with this key that are born at a number or later.
-fn is_before(entry: Entry, key: u64, birth: u64) -> bool
+pub(crate) fn is_before(entry: Entry, key: u64, birth: u64) -> bool
     ensures { result ≡ comes_before key birth entry }
 {
     entry.key < key || entry.key == key && entry.birth < birth
@@ -163,13 +164,16 @@ impl Index {
         Ok(())
     }
 
-    /// Lists all slots anew. Takes no memory.
+    /// Lists all slots anew: the list that was there is mended, if that is enough, and else sorted. Takes no memory.
     pub(crate) fn rebuild(&mut self, slots: &[Slot])
         requires { length slots.now ≤ self.old.room }
         ensures index { IsIndexOf slots.now self.old.by self.new.entries }
         ensures by { self.new.by ≡ self.old.by }
         ensures room { self.old.room ≤ self.new.room }
     {
+        if mend(&mut self.entries, slots, self.by) {
+            return;
+        }
         self.entries.clear();
         list_all(slots, self.by, &mut self.entries);
         sort(&mut self.entries);

@@ -20,7 +20,7 @@
 //!
 //! To read: `slot` (one slot), `table` (all slots, with room for more), `split` (a chain in two), `room` and `events`
 //! (what commands do), `find` and `walk` (where slots stand, and who holds for whom), `index` and `directory` (where
-//! slots stand, in order), `next` (the next grain that a slot lacks or is needed at), `plan` (what must move), `hold` (pairs), `waiting`, `tally`, `pairs` and `tallies` (counts),
+//! slots stand, in order), `mend` (such a list after an event), `next` (the next grain that a slot lacks or is needed at), `plan` (what must move), `hold` (pairs), `waiting`, `tally`, `pairs` and `tallies` (counts),
 //! `count`, `rows` (a trigger tried on a copy), `links` (which volumes are joined) and `loops` (the loop that is told), and
 //! `cascade`, which has the calls.
 #![tactic(auto)]
@@ -34,6 +34,7 @@ mod hold;
 mod index;
 mod links;
 mod loops;
+mod mend;
 mod next;
 mod pairs;
 mod plan;

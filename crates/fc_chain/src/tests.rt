@@ -6,6 +6,8 @@ ghost use Rattle.fc_chain.specs.Room.{slots_made as made_by};
 
 use crate::Cascade;
 use crate::events::step;
+use crate::index::{By, Entry};
+use crate::mend::mend;
 use crate::room::{slots_made, widest};
 use crate::table::SlotTable;
 use fc_base::decision::{LaneEvent, LaneEvents};
@@ -130,6 +132,55 @@ fn starts_and_stops(rt: HostRuntime) {
     apply(&rt, &mut table, LaneEvent::Detach { map: MapId(4) });
     apply(&rt, &mut table, LaneEvent::Remove { volume: VolId(C) });
     assert_slots(&rt, &table, &[(A, true, 0), (B, true, 11)]);
+}
+
+/// Does the event, and mends a list of the slots.
+fn apply_and_mend(
+    rt: &impl Abort,
+    table: &mut SlotTable,
+    event: LaneEvent,
+    entries: &mut Vec<Entry>,
+    by: By,
+)
+    requires few { made_by event ≤ 2 }
+    requires births { table.old.sheet.births + 2 < 2 ^ 64 }
+    ensures { table.new.sheet.births ≤ table.old.sheet.births + 2 }
+{
+    apply(rt, table, event);
+    assert!(rt; mend(entries, table.as_slice(), by));
+}
+
+/// A list is mended through all events by which no slot moves by more than one place.
+fn assert_mended(rt: &impl Abort, alloc: Global, by: By) -> Result<(), Fail> {
+    let mut table = SlotTable::new(alloc);
+    let mut entries = Vec::with_capacity(alloc, 8)?;
+    apply_and_mend(rt, &mut table, make(A), &mut entries, by);
+    apply_and_mend(rt, &mut table, make(B), &mut entries, by);
+    apply_and_mend(rt, &mut table, make(C), &mut entries, by);
+    let event = trigger(rt, alloc, 1, A, B);
+    apply_and_mend(rt, &mut table, event, &mut entries, by);
+    let event = trigger(rt, alloc, 0, A, C);
+    apply_and_mend(rt, &mut table, event, &mut entries, by);
+    let event = LaneEvent::Retire { map: MapId(0) };
+    apply_and_mend(rt, &mut table, event, &mut entries, by);
+    let event = LaneEvent::Split { map: MapId(1) };
+    apply_and_mend(rt, &mut table, event, &mut entries, by);
+    let event = LaneEvent::Drop { slot: SlotId(4) };
+    apply_and_mend(rt, &mut table, event, &mut entries, by);
+    let event = trigger(rt, alloc, 2, A, B);
+    apply_and_mend(rt, &mut table, event, &mut entries, by);
+    let event = LaneEvent::Detach { map: MapId(2) };
+    apply_and_mend(rt, &mut table, event, &mut entries, by);
+    let event = LaneEvent::Remove { volume: VolId(A) };
+    apply_and_mend(rt, &mut table, event, &mut entries, by);
+    Ok(())
+}
+
+#[test]
+fn lists_are_mended(rt: HostRuntime) -> Result<(), Fail> {
+    assert_mended(&rt, rt.alloc(), By::Birth)?;
+    assert_mended(&rt, rt.alloc(), By::Mapping)?;
+    assert_mended(&rt, rt.alloc(), By::Volume)
 }
 
 #[test]

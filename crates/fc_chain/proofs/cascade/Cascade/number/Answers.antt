@@ -1,4 +1,4 @@
-use Rattle.std.proofs.Common.{◌<◌, ◌+◌, ◌*◌, ◌^◌, List, length, sym, ap, subst, arith}
+use Rattle.std.proofs.Common.{◌<◌, ◌+◌, ◌*◌, ◌^◌, List, length, sym, subst, arith}
 use Rattle.fc_base.specs.Sheet.{Slot, slot_at}
 use Rattle.fc_chain.proofs.cascade.Cascade.number.Goals as goal
 
