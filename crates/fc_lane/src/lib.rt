@@ -6,7 +6,7 @@
 //! incremental mappings (`fc_follow`), `specs/LaneFits` which calls fit it, `specs/Parts` when the parts stand for it, and
 //! `specs/Events` and `specs/Applying` what an event needs and leaves.
 //!
-//! In reading order: `access` (how hosts reach the volumes), `copy` (events are copied), `ready` (memory for the events of a command is taken before
+//! In reading order: `access` (how hosts reach the volumes), `ready` (memory for the events of a command is taken before
 //! any is done), `parts` (an event is done to the parts beside the chains, and takes none), `chains` (it is done to the
 //! chains, and what it changes for incremental mappings is noted: slots that leave are told by the chains before they do,
 //! and the new slots of a trigger begin with what was noted before it), `stop` and `body` (one move of a grain: its slot
@@ -21,7 +21,6 @@ mod access;
 mod asking;
 mod body;
 mod chains;
-mod copy;
 mod ending;
 mod events;
 mod fill;
