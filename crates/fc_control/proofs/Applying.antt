@@ -1,13 +1,11 @@
 -- A decision that is applied: its changes and then its events, each in order.
-use Rattle.std.proofs.Common.{◌≡◌, ℕ, ◌+◌, ◌<◌, ◌≤◌, Bool, true, false, cond, List, [], ◌∷◌, length, get_or, drop, filter, find, fold, refl, ap, sym, ◌∙◌, subst, arith, Option, Some, None, inl, inr, ◌⊎◌, not, nat_eq, Result, Ok, Err, OnOk}
+use Rattle.std.proofs.Common.{◌≡◌, ℕ, ◌+◌, ◌<◌, ◌≤◌, true, false, cond, List, [], ◌∷◌, length, get_or, drop, filter, find, fold, refl, ap, sym, ◌∙◌, subst, arith, Option, Some, None, inl, inr, ◌⊎◌, Result, Ok, Err, OnOk}
 use Rattle.std.proofs.lemmas.List.{drop_more}
-use Rattle.std.proofs.lemmas.List.Kept.{AllPairs-filter}
 use Rattle.std.proofs.lemmas.List.Sums.{sum_by-cons}
 use Rattle.std.specs.Option.{ForSome}
 use Rattle.fc_base.specs.SheetView.{SheetView}
 use Rattle.fc_base.specs.Tables.{after_change, room_asked}
 use Rattle.fc_base.specs.declared.decision.LaneEvent.{LaneEvent}
-use Rattle.fc_base.specs.declared.decision.LaneEvent.TheVariants.{Make, Remove, Trigger, Retire, Detach, Split, Force, Drop, Forget, NoteCut, Access, Work, Arm}
 use Rattle.fc_base.specs.declared.outcome.NoMemory.{NoMemory}
 use Rattle.fc_base.specs.declared.volume.Change.{Change}
 use Rattle.fc_base.specs.declared.volume.Change.TheVariants.{AddVolume, RemoveVolume, AddMapping, RemoveMapping, SetMapping, AddGroup, RemoveGroup}
@@ -15,10 +13,6 @@ use Rattle.fc_books.specs.After.{after_table_change, flags_after}
 use Rattle.fc_control.specs.Applied.{changed}
 use Rattle.fc_control.specs.Changes.{FitChanges, adds, reserved_after, AreReserved, AreCountable, is_work, works}
 use Rattle.fc_control.specs.Control.{ControlState, books_of}
-use Rattle.fc_pick.proofs.Rows.{number, rising_with}
-use Rattle.fc_pick.specs.Flags.{IsRising, is_flagged, with_flags}
-use Rattle.fc_pick.specs.declared.work.WorkFlags.{WorkFlags}
-use Rattle.fc_control.proofs.Without.{with_some, with_none}
 
 -- ---- what is reserved
 
@@ -155,31 +149,7 @@ same_all c (change ∷ changes) =
 
 -- ---- events, one after another
 
-rising_set : (row : WorkFlags) (flags : List WorkFlags) → IsRising flags → IsRising (with_flags row flags)
-rising_set row flags rising = by (is_flagged row) refl
-  where
-    by : (b : Bool) → is_flagged row ≡ b → IsRising (with_flags row flags)
-    by true e = subst IsRising (with_some row flags e) (rising_with row flags rising)
-    by false e = subst IsRising (with_none row flags rising e) (AllPairs-filter (λ x y. x.map.0 < y.map.0) (λ x. not (nat_eq row.map.0 x.map.0)) flags rising)
-
--- flags rise after each event
-pub rising_after : (flags : List WorkFlags) (event : LaneEvent) → IsRising flags → IsRising (flags_after flags event)
-rising_after flags (Make volume grains kind) rising = rising
-rising_after flags (Remove volume) rising = rising
-rising_after flags (Trigger pairs) rising = rising
-rising_after flags (Retire m) rising = rising
-rising_after flags (Detach m) rising = rising
-rising_after flags (Split m) rising = rising
-rising_after flags (Force m dependents) rising = rising
-rising_after flags (Drop slot) rising = rising
-rising_after flags (Forget m) rising = AllPairs-filter (λ x y. x.map.0 < y.map.0) (λ x. not (nat_eq m.0 x.map.0)) flags rising
-rising_after flags (NoteCut m source target) rising = rising
-rising_after flags (Access volume access) rising = rising
-rising_after flags (Work m copies cleans) rising = rising_set (record { map = m; copies = copies; cleans = cleans }) flags rising
-rising_after flags (Arm volume number calls) rising = rising
-
 pub record Flagging (c : ControlState) (events : List LaneEvent) (now : ControlState) (left : List LaneEvent) : Type 0 where
-  pub rising : IsRising now.flags
   pub room : works left ≤ now.room
   pub comes_to : fold flags_after now.flags left ≡ fold flags_after c.flags events
   pub same : now ≡ record c { flags = now.flags; room = now.room }
@@ -193,7 +163,6 @@ flagging_room c events now event left h = omega (arith, h.room, works_more event
 pub flagging_next : (c : ControlState) (events : List LaneEvent) (now next : ControlState) (event : LaneEvent) (left : List LaneEvent) → Flagging c events now (event ∷ left) →
     next.flags ≡ flags_after now.flags event → now.room ≤ next.room + cond (is_work event) 1 0 → next ≡ record now { flags = next.flags; room = next.room } → Flagging c events next left
 flagging_next c events now next event left h is room same = record {
-  rising = subst IsRising (sym is) (rising_after now.flags event h.rising);
   room = omega (arith, h.room, room, works_more event left);
   comes_to = ap (λ fs. fold flags_after fs left) is ∙ h.comes_to;
   same = same ∙ (λ k. record (h.same k) { flags = next.flags; room = next.room });
@@ -204,9 +173,6 @@ flagging_next c events now next event left h is room same = record {
 module _ (c middle end : ControlState) (changes : List Change) (events : List LaneEvent) (did : middle ≡ fold changed c changes) where
   flags_kept : middle.flags ≡ c.flags
   flags_kept = ap (λ (s : ControlState). s.flags) did ∙ (same_all c changes).flags
-
-  pub still_rising : IsRising c.flags → IsRising middle.flags
-  still_rising rising = subst IsRising (sym flags_kept) rising
 
   pub still_room : (n : ℕ) → n ≤ c.room → n ≤ middle.room
   still_room n le =

@@ -32,6 +32,7 @@ pub mod StopSteps
 pub mod StopWhole
 pub mod StopGroup
 pub mod StopCode
+pub mod Rows
 pub mod Without
 pub mod Applying
 pub mod Dispatched

@@ -13,6 +13,7 @@ use Rattle.fc_base.specs.declared.fault.Refusal.{Refusal}
 use Rattle.fc_base.specs.declared.fault.Kind.TheVariants.{Fcmap}
 use Rattle.fc_base.specs.declared.ids.MapId.{MapId}
 use Rattle.fc_base.specs.declared.name.Ref.{Ref}
+use Rattle.fc_base.specs.declared.request.Pair.{Pair}
 use Rattle.fc_base.specs.declared.request.Reply.{Reply}
 use Rattle.fc_base.specs.declared.request.Reply.TheVariants.{Done, Refused}
 use Rattle.fc_base.specs.declared.size.GrainSize.{GrainSize}
@@ -28,18 +29,29 @@ use Rattle.fc_books.specs.Deciding.{decide, answered, for_one, with_work}
 use Rattle.fc_books.specs.Ending.{in_state}
 use Rattle.fc_books.specs.Refused.{of_one, refused_by}
 use Rattle.fc_books.specs.RefusedStarts.{in_group, by_state, not_ready}
-use Rattle.fc_books.specs.Starting.{is_superseded, gives_way, begins, prepare}
+use Rattle.fc_books.specs.Starting.{is_superseded, gives_way, begins, pair_of, prepare}
 use Rattle.fc_books.specs.Work.{are_same, work_events}
 use Rattle.fc_control.proofs.Flagged.{flat_none, work_by_each, work_of_each, told_as}
 use Rattle.fc_control.proofs.Selecting.{chosen_deeds}
 use Rattle.fc_control.proofs.Setting.{set_one, set_in, with_maps, set_pointwise, fold_append, changes_set, flat_one, alone, set_kept, set_apart, IsAlone}
-use Rattle.fc_control.specs.Choosing.{for_chosen, is_chosen, chosen_of}
+use Rattle.fc_control.specs.Choosing.{for_chosen, is_chosen, chosen_of, yields_to}
 use Rattle.fc_control.specs.Starts.{work_as, whole_in}
 use Rattle.fc_control.specs.Telling.{work_told}
 use Rattle.fc_control.specs.declared.chosen.Chosen.{Chosen}
 use Rattle.fc_control.specs.declared.chosen.Chosen.TheVariants.{One}
 use Rattle.fc_entry.specs.Refused.{first_of}
+use Rattle.fc_pick.proofs.Rows.{list_any-map}
 use Rattle.fc_pick.specs.declared.work.WorkFlags.{WorkFlags}
+
+-- ---- who gives way
+
+yields_same : (maps : List Mapping) (s : Mapping) → yields_to (map pair_of maps) s ≡ is_superseded maps s
+yields_same maps s =
+    λ k. is_stopped s.state && (list_any-map pair_of (λ (p : Pair). p.target.0 == s.target.0) maps k && not (list_any-map pair_of (λ (p : Pair). p.map.0 == s.id.0) maps k))
+
+-- to those of some pairs, or to their mappings
+pub gives_way-same : (maps xs : List Mapping) → all_deeds (for_chosen (yields_to (map pair_of maps)) gives_way) xs ≡ all_deeds (for_chosen (is_superseded maps) gives_way) xs
+gives_way-same maps xs = λ k. all_deeds (for_chosen (λ s. yields_same maps s k) gives_way) xs
 
 -- ---- the tables
 

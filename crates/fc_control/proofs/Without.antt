@@ -1,11 +1,12 @@
 -- Flags that go: the rows before the mapping's and those behind it stay.
-use Rattle.std.proofs.Common.{◌≡◌, ℕ, suc, ◌+◌, ◌≤◌, Bool, true, false, not, List, [], ◌∷◌, ◌++◌, length, get_or, take, drop, filter, nat_eq, nat_lt, refl, ap, sym, ◌∙◌, subst, arith, append_assoc, append-nil, Result, Ok, Err, IsOk, is_ok, if◌then◌else◌}
+use Rattle.std.proofs.Common.{◌≡◌, ℕ, suc, ◌+◌, ◌<◌, ◌≤◌, Bool, true, false, not, List, [], ◌∷◌, ◌++◌, length, get_or, take, drop, filter, nat_eq, nat_lt, refl, ap, sym, ◌∙◌, subst, arith, append_assoc, append-nil, Result, Ok, Err, IsOk, is_ok, if◌then◌else◌}
 use Rattle.std.proofs.lemmas.Bool.Decides.{nat_tests}
+use Rattle.std.proofs.lemmas.List.Kept.{AllPairs-filter}
 use Rattle.fc_base.specs.declared.ids.MapId.{MapId}
 use Rattle.fc_pick.specs.declared.work.WorkFlags.{WorkFlags}
 use Rattle.fc_pick.specs.Flags.{IsRising, is_flagged, before, behind, has_mapping, with_row, with_flags, without_flags}
 use Rattle.fc_pick.proofs.Rising.{Rises, IsAbove, rises, take_lows, put_known, apart, lt_false}
-use Rattle.fc_pick.proofs.Rows.{number}
+use Rattle.fc_pick.proofs.Rows.{number, rising_with}
 
 no_before : (m k : ℕ) (rows : List WorkFlags) → m ≤ k → IsAbove number k rows → before m rows ≡ []
 no_before m k [] le higher = refl
@@ -55,6 +56,17 @@ with_some row rows e = rw e (sym (append_assoc (before row.map.0 rows) (row ∷ 
 pub with_none : (row : WorkFlags) (rows : List WorkFlags) → IsRising rows → is_flagged row ≡ false → without_flags row.map rows ≡ with_flags row rows
 with_none row rows rising e =
     rw e (others row.map.0 rows (rises number rows rising) ∙ ap (λ rs. rs ++ behind row.map.0 rows) (sym (append-nil (before row.map.0 rows))))
+
+-- flags rise still, cleared or set
+pub rising_without : (m : MapId) (flags : List WorkFlags) → IsRising flags → IsRising (without_flags m flags)
+rising_without m flags rising = AllPairs-filter (λ x y. x.map.0 < y.map.0) (λ x. not (nat_eq m.0 x.map.0)) flags rising
+
+pub rising_flags : (row : WorkFlags) (flags : List WorkFlags) → IsRising flags → IsRising (with_flags row flags)
+rising_flags row flags rising = by (is_flagged row) refl
+  where
+    by : (b : Bool) → is_flagged row ≡ b → IsRising (with_flags row flags)
+    by true e = subst IsRising (with_some row flags e) (rising_with row flags rising)
+    by false e = subst IsRising (with_none row flags rising e) (rising_without row.map flags rising)
 
 -- ---- a vector that has room
 

@@ -1,8 +1,11 @@
 -- What is done to some of the mappings.
-use Rattle.std.specs.Prelude.{Bool, cond, ◌==◌, List, [], ◌∷◌, filter, None}
+use Rattle.std.specs.Prelude.{Bool, cond, not, ◌&&◌, ◌==◌, List, [], ◌∷◌, filter, None}
+use Rattle.std.specs.List.{list_any}
 use Rattle.fc_base.specs.Tables.{Tables}
+use Rattle.fc_base.specs.declared.request.Pair.{Pair}
 use Rattle.fc_base.specs.declared.volume.Change.TheVariants.{SetMapping}
 use Rattle.fc_base.specs.declared.volume.Mapping.{Mapping}
+use Rattle.fc_books.specs.Accesses.{is_stopped}
 use Rattle.fc_books.specs.Books.{Deed, nothing}
 use Rattle.fc_books.specs.Groups.{is_in}
 use Rattle.fc_control.specs.declared.chosen.Chosen.{Chosen}
@@ -15,6 +18,11 @@ for_chosen chosen deed m = cond (chosen m) (deed m) nothing
 -- A mapping leaves its group.
 abbrev pub leaves_group : Mapping → Deed
 leaves_group m = record { effects = []; events = []; changes = SetMapping (record m { group = None }) ∷ [] }
+
+-- A stopped mapping gives way to the mappings of these pairs: one of them has its target, and none is its own.
+abbrev pub yields_to : List Pair → Mapping → Bool
+yields_to pairs s =
+    is_stopped s.state && (list_any (λ (p : Pair). p.target.0 == s.target.0) pairs && not (list_any (λ (p : Pair). p.map.0 == s.id.0) pairs))
 
 -- The mappings that a command prepares or starts: one, or the members of a group.
 abbrev pub is_chosen : Chosen → Mapping → Bool

@@ -23,7 +23,6 @@ use Rattle.fc_books.specs.RefusedStarts.{in_group, by_state, not_complete}
 use Rattle.fc_books.specs.Stopping.{stop_event, stops_with}
 use Rattle.fc_entry.specs.Refused.{first_of}
 use Rattle.fc_control.specs.Telling.{work_told}
-use Rattle.fc_pick.specs.declared.work.WorkFlags.{WorkFlags}
 
 -- ---- a stop, where it is known whether the mapping's slot is needed, and which mappings depend on it
 
@@ -95,11 +94,6 @@ told_after b changes m = told_of b (mapping_after changes m)
 -- The mapping as it is after one more change.
 abbrev pub set_next : Change → Option Mapping → Option Mapping
 set_next c o = option_and_then (set_by c) o
-
--- The event that tells the flags of a mapping, if there is one.
-abbrev pub told_flags : Option WorkFlags → List LaneEvent
-told_flags None = []
-told_flags (Some row) = Work row.map row.copies row.cleans ∷ []
 
 -- Whether a change sets or removes the mapping.
 abbrev pub changes_in : ℕ → Change → Bool

@@ -8,6 +8,11 @@ use Rattle.fc_books.specs.Books.{Books}
 use Rattle.fc_books.specs.Work.{copies, cleans, changes_work}
 use Rattle.fc_pick.specs.declared.work.WorkFlags.{WorkFlags}
 
+-- The event that tells flags, if there are any.
+abbrev pub told_flags : Option WorkFlags → List LaneEvent
+told_flags None = []
+told_flags (Some row) = Work row.map row.copies row.cleans ∷ []
+
 -- Whether a mapping isn't the one that goes.
 abbrev pub stays : Option MapId → Mapping → Bool
 stays None m = true

@@ -9,7 +9,6 @@ ghost use Rattle.fc_books.specs.After.{after_table_change, flags_after};
 ghost use Rattle.fc_control.specs.Applied.{changed};
 ghost use Rattle.fc_control.specs.Changes.{FitChanges, AreReserved, IsCountable, AreCountable, CanApply, adds, is_work, works};
 ghost use Rattle.fc_control.specs.Control.{books_of};
-ghost use Rattle.fc_pick.specs.Flags.{IsRising};
 
 use crate::control::Control;
 use crate::flags::{clear_flags, set_flags};
@@ -60,7 +59,6 @@ impl Control {
     pub fn apply(&mut self, decision: &Decision)
         requires fits { FitChanges self.old.tables decision.now.changes }
         requires countable { AreCountable decision.now.changes }
-        requires rising { IsRising self.old.flags }
         requires ready { CanApply self.old decision.now }
         ensures books { (view : SheetView) → books_of self.new view ≡ record (fold after_table_change (books_of self.old view) decision.now.changes) { flags = fold flags_after self.old.flags decision.now.events } }
         ensures tables { self.new.tables ≡ fold after_change self.old.tables decision.now.changes }
@@ -100,7 +98,6 @@ impl Control {
 
     /// Sets and clears flags as the events say, in order.
     fn apply_events(&mut self, events: &[LaneEvent])
-        requires rising { IsRising self.old.flags }
         requires room { works events.now ≤ self.old.room }
         ensures flags { self.new.flags ≡ fold flags_after self.old.flags events.now }
         ensures same { self.new ≡ record self.old { flags = self.new.flags; room = self.new.room } }
@@ -112,7 +109,6 @@ impl Control {
 
     /// Sets or clears flags as the event says.
     fn apply_event(&mut self, event: &LaneEvent)
-        requires rising { IsRising self.old.flags }
         requires room { cond (is_work event.now) 1 0 ≤ self.old.room }
         ensures flags { self.new.flags ≡ flags_after self.old.flags event.now }
         ensures room { self.old.room ≤ self.new.room + cond (is_work event.now) 1 0 }

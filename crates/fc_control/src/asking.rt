@@ -51,9 +51,10 @@ impl Control {
         ensures { IfOk result (λ left. left ≡ as_left (books_of self.now (S.meaning sheet.now)) mapping.now) }
     {
         let copy = copy_mapping(alloc, mapping)?;
+        let held = sheet.held(mapping.id);
         Ok(Mapping {
-            held_at_leave: sheet.held(mapping.id),
-            complete: self.is_whole(sheet, mapping),
+            held_at_leave: held,
+            complete: self.total(sheet, mapping) <= held,
             ..copy
         })
     }

@@ -1,18 +1,15 @@
 //! The control part.
 
-ghost use Rattle.std.specs.Prelude.{◌≡◌, [], IfOk, None};
+ghost use Rattle.std.specs.Prelude.{◌≡◌, [], None};
 ghost use Rattle.fc_base.specs.Tables.{no_tables};
-ghost use Rattle.fc_control.specs.Control.{books_of};
 
-use crate::draft::Draft;
-use fc_base::outcome::NoMemory;
 use fc_base::size::GrainSize;
 use fc_pick::WorkFlags;
 use fc_registry::Registry;
 use std::alloc::Global;
 use std::marker::Model;
 
-/// The control part: the tables, the ids that come next, and which mappings have background work.
+/// The control part: the tables, the ids that come next, and which mappings have background work, in order of id.
 #[derive(Drop)]
 pub struct Control {
     pub(crate) registry: Registry,
@@ -26,10 +23,13 @@ pub struct Control {
 impl Model for Control {
     ghost use Rattle.std.specs.Prelude.{◌-◌, vec_len, vec_capacity};
     ghost use Rattle.fc_control.specs.Control.{ControlState};
+    ghost use Rattle.fc_pick.specs.Flags.{IsRising};
 
     ghost Value = { ControlState };
 
     ghost view = { λ c. record { grain = c.grain; tables = c.registry.tables; next_volume = c.next_volume; next_mapping = c.next_mapping; next_group = c.next_group; flags = c.flags.items; reserved = c.registry.reserved; room = vec_capacity c.flags - vec_len c.flags } };
+
+    ghost invariant = { λ c. IsRising c.flags.items };
 }
 
 impl Control {

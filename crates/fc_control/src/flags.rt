@@ -1,10 +1,25 @@
 //! The mappings with background work, kept in order of id.
 
 ghost use Rattle.std.specs.Prelude.{◌≡◌, ◌+◌, ◌-◌, ◌<◌, ◌≤◌, length, vec_len, vec_capacity};
+ghost use Rattle.fc_control.specs.Telling.{row_of};
 ghost use Rattle.fc_pick.specs.Flags.{with_flags, with_row, without_flags, before, has_mapping, IsRising, is_flagged};
 
 use fc_base::ids::MapId;
+use fc_base::volume::Mapping;
 use fc_pick::WorkFlags;
+
+/// The flags of the mapping, if it has any.
+pub fn row_of(rows: &[WorkFlags], mapping: &Mapping) -> Option<WorkFlags>
+    requires { IsRising rows.now }
+    ensures { result ≡ row_of rows.now mapping.now }
+{
+    let place = place_of(rows, mapping.id);
+    if is_at(rows, place, mapping.id) {
+        Some(rows[place])
+    } else {
+        None
+    }
+}
 
 /// The flags of the mapping are those of the row. There has to be room for one row. Takes no memory.
 pub fn set_flags(flags: &mut Vec<WorkFlags>, row: WorkFlags)

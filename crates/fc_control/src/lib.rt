@@ -10,12 +10,13 @@
 //! tables, the next ids and the flags what the books say, and takes no memory.
 //!
 //! In reading order: `draft` (a decision as it is put together), `ending` (how the copy of a mapping ends), `control`,
-//! `asking` (what is asked of a copy), `settle`, `work` (background work), `name`, `groups` (members of a group),
-//! `decide` (small commands), `reports`, `mkvdisk`, `rmvdisk`, `mkfcmap`, `rmfcmap`, `rmfcconsistgrp`; and of starts
-//! `chosen` (which mappings a command prepares or starts), `ready` (why not), `begin` (what it does to them), `starting`
-//! and `starting_groups` (the decisions), `start` (a start, with the background work that it sets), `startfcmap`; of stops
-//! `stopping` (what a stop does), `stop_work` (background work after stops), `stop_mapping`, `stop_group`; last `dispatch`
-//! (by the kind of command), `flags` (the flags in order of id) and `apply` (what a decision makes of the control part).
+//! `asking` (what is asked of a copy), `settle`, `flags` (the flags in order of id), `work` (background work), `name`,
+//! `groups` (members of a group), `decide` (small commands), `reports`, `mkvdisk`, `rmvdisk`, `mkfcmap`, `rmfcmap`,
+//! `rmfcconsistgrp`; and of starts `chosen` (which mappings a command prepares or starts), `ready` (why not), `begin`
+//! (what it does to them), `starting` and `starting_groups` (the decisions), `start` (a start, with the background work
+//! that it sets), `startfcmap`; of stops `stopping` (what a stop does), `stop_work` (background work after stops),
+//! `stop_mapping`, `stop_group`; last `dispatch` (by the kind of command) and `apply` (what a decision makes of the
+//! control part).
 #![tactic(auto)]
 
 mod apply;

@@ -63,7 +63,8 @@ impl Control {
         }
     }
 
-    /// A copying mapping that is complete and not needed is detached and ends.
+    /// A copying mapping that is complete and not needed is detached and ends. Whether it is needed is asked of a complete one
+    /// alone.
     fn settle_copying<S: Sheet>(
         &self,
         alloc: Global,
@@ -73,9 +74,11 @@ impl Control {
     ) -> Result<(), NoMemory>
         ensures { OnOk result (draft.new ≡ (draft.old then settles_in MapState.Copying (books_of self.now (S.meaning sheet.now)) mapping.now)) }
     {
-        let whole = self.is_whole(sheet, mapping);
+        if !self.is_whole(sheet, mapping) {
+            return Ok(());
+        }
         let needed = self.is_needed(sheet, mapping);
-        match finished(MapState::Copying, whole, needed) {
+        match finished(MapState::Copying, true, needed) {
             Some(state) => {
                 draft.tell(LaneEvent::Detach { map: mapping.id })?;
                 let left = self.as_left(alloc, sheet, mapping)?;

@@ -1,20 +1,21 @@
 //! Decisions on `startfcmap`.
 
-ghost use Rattle.std.specs.Prelude.{◌≡◌, IfOk, OnOk, Contains, true, filter, cond};
+ghost use Rattle.std.specs.Prelude.{◌≡◌, ◌&&◌, nat_lt, nat_le, IfOk, OnOk, Contains, true, filter, cond};
+ghost use Rattle.fc_base.specs.SheetView.{count_true};
 ghost use Rattle.fc_books.specs.Books.{nothing, ◌then◌, told, all_deeds};
+ghost use Rattle.fc_books.specs.Copies.{total};
 ghost use Rattle.fc_books.specs.Deciding.{with_work};
-ghost use Rattle.fc_books.specs.Ending.{in_state};
 ghost use Rattle.fc_books.specs.Sound.{AreSound};
 ghost use Rattle.fc_books.specs.Starting.{is_superseded, gives_way, start, triggers};
 ghost use Rattle.fc_control.specs.Choosing.{is_chosen, chosen_of, for_chosen};
 ghost use Rattle.fc_control.specs.Control.{books_of};
-ghost use Rattle.fc_control.specs.Starts.{work_as, started_told, IsStartable, AreApart, HaveRoom};
+ghost use Rattle.fc_control.specs.Starts.{started_told, IsStartable, AreApart, HaveRoom};
 
 use crate::begin::{begin, supersede};
 use crate::chosen::{Chosen, chosen_pairs, is_chosen};
 use crate::control::Control;
 use crate::draft::Draft;
-use crate::work::{are_same, has_cleans, has_copies};
+use crate::work::tell_flags;
 use fc_base::decision::{Decision, LaneEvent};
 use fc_base::outcome::NoMemory;
 use fc_base::request::{Effect, Reply};
@@ -94,30 +95,19 @@ impl Control {
         ensures { OnOk result (draft.new ≡ (draft.old then told (started_told (books_of self.now (S.meaning sheet.now)) (S.meaning sheet.now).restarts (is_chosen chosen) mapping.now))) }
     {
         if is_chosen(mapping, chosen) {
-            let whole = self.total(sheet, mapping) <= sheet.restart(mapping.id);
-            self.tell_begun(draft, mapping, whole)
+            let whole = self.begins_filled(sheet, mapping);
+            tell_flags(draft, self.work_in(MapState::Copying, mapping, whole))
         } else {
             self.tell_work_of(sheet, draft, None, mapping)
         }
     }
 
-    /// Lanes are told of the background work of a mapping that has started, where it changes; its copy may be whole.
-    fn tell_begun(&self, draft: &mut Draft, mapping: &Mapping, whole: bool) -> Result<(), NoMemory>
-        ensures { OnOk result (draft.new ≡ (draft.old then told (work_as self.now.flags whole (in_state MapState.Copying mapping.now)))) }
+    /// Whether the copy of a mapping that starts, which is to be filled in the background, begins whole. Without copies in
+    /// the background its work doesn't depend on that, and it isn't asked.
+    fn begins_filled<S: Sheet>(&self, sheet: &S, mapping: &Mapping) -> bool
+        ensures { result ≡ (nat_lt 0 mapping.now.copy_rate && nat_le (total (books_of self.now (S.meaning sheet.now)) mapping.now) (count_true ((S.meaning sheet.now).restarts mapping.now.id.0))) }
     {
-        let copies = !whole && 0 < mapping.copy_rate;
-        let cleans = 0 < mapping.clean_rate && (mapping.copy_rate == 0 || whole);
-        let same = are_same(copies, has_copies(self.flags(), mapping))
-            && are_same(cleans, has_cleans(self.flags(), mapping));
-        if same {
-            Ok(())
-        } else {
-            draft.tell(LaneEvent::Work {
-                map: mapping.id,
-                copies,
-                cleans,
-            })
-        }
+        0 < mapping.copy_rate && self.total(sheet, mapping) <= sheet.restart(mapping.id)
     }
 }
 

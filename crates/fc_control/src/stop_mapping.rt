@@ -6,7 +6,7 @@ ghost use Rattle.fc_base.specs.declared.command.Command.{Command};
 ghost use Rattle.fc_books.specs.Copies.{is_needed};
 ghost use Rattle.fc_books.specs.Deciding.{with_work, decide};
 ghost use Rattle.fc_books.specs.Refused.{refused_by};
-ghost use Rattle.fc_books.specs.RefusedStarts.{in_group, by_state, not_complete};
+ghost use Rattle.fc_books.specs.RefusedStarts.{not_complete};
 ghost use Rattle.fc_books.specs.Sound.{AreSound};
 ghost use Rattle.fc_books.specs.Stopping.{stop_event, stops};
 ghost use Rattle.fc_control.specs.Control.{books_of};
@@ -112,13 +112,16 @@ impl Control {
     ) -> Option<Refusal>
         ensures { result ≡ not_complete way (books_of self.now (S.meaning sheet.now)) mapping.now }
     {
-        if !matches!(way, StopWay::Split) || self.is_whole(sheet, mapping) {
+        if !matches!(way, StopWay::Split) {
             return None;
         }
-        Some(Refusal::NotComplete {
-            held: sheet.held(mapping.id),
-            total: self.total(sheet, mapping),
-        })
+        let held = sheet.held(mapping.id);
+        let total = self.total(sheet, mapping);
+        if total <= held {
+            None
+        } else {
+            Some(Refusal::NotComplete { held, total })
+        }
     }
 }
 

@@ -2,11 +2,12 @@
 
 ghost use Rattle.std.specs.Prelude.{◌≡◌, ◌++◌, flat_map, OnOk, IfOk, option_copied};
 ghost use Rattle.fc_control.specs.Control.{books_of};
-ghost use Rattle.fc_control.specs.Stops.{mapping_after, set_by, set_next, told_of, told_after, told_flags};
+ghost use Rattle.fc_control.specs.Stops.{mapping_after, set_by, set_next, told_after};
+ghost use Rattle.fc_control.specs.Telling.{told_flags};
 
 use crate::control::Control;
 use crate::draft::Draft;
-use fc_base::decision::LaneEvent;
+use crate::work::tell_flags;
 use fc_base::outcome::NoMemory;
 use fc_base::sheet::Sheet;
 use fc_base::volume::{Change, Mapping};
@@ -33,14 +34,8 @@ impl Control {
     ) -> Result<(), NoMemory>
         ensures { OnOk result (draft.new ≡ record draft.old { events = draft.old.events ++ told_after (books_of self.now (S.meaning sheet.now)) draft.old.changes mapping.now }) }
     {
-        match self.work_after(sheet, draft.changes(), mapping) {
-            Some(row) => draft.tell(LaneEvent::Work {
-                map: row.map,
-                copies: row.copies,
-                cleans: row.cleans,
-            }),
-            None => Ok(()),
-        }
+        let flags = self.work_after(sheet, draft.changes(), mapping);
+        tell_flags(draft, flags)
     }
 
     /// The flags of a mapping as it is after changes, where they change.
@@ -55,21 +50,6 @@ impl Control {
         match mapping_after(changes, mapping) {
             Some(mapping) => self.work_of(sheet, mapping),
             None => None,
-        }
-    }
-
-    /// The flags of a mapping, where they change.
-    fn work_of<S: Sheet>(&self, sheet: &S, mapping: &Mapping) -> Option<WorkFlags>
-        ensures { told_flags result ≡ told_of (books_of self.now (S.meaning sheet.now)) (Some mapping.now) }
-    {
-        if self.changes_work(sheet, mapping) {
-            Some(WorkFlags {
-                map: mapping.id,
-                copies: self.copies(sheet, mapping),
-                cleans: self.cleans(sheet, mapping),
-            })
-        } else {
-            None
         }
     }
 }

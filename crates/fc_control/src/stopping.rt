@@ -85,9 +85,9 @@ impl Control {
     ) -> Result<(), NoMemory>
         ensures { OnOk result (draft.new ≡ (draft.old then leaves_by (next_state MapState.Copying (stop_event way) (is_whole (books_of self.now (S.meaning sheet.now)) mapping.now) needed) (books_of self.now (S.meaning sheet.now)) mapping.now)) }
     {
-        let whole = self.is_whole(sheet, mapping);
-        self.cut(alloc, sheet, draft, mapping)?;
         let left = self.as_left(alloc, sheet, mapping)?;
+        let whole = left.complete;
+        self.cut(alloc, sheet, draft, mapping, whole)?;
         end_stopped(draft, left, stopped(MapState::Copying, way, whole, needed))
     }
 
@@ -110,17 +110,19 @@ impl Control {
         self.stop_dependents(alloc, sheet, draft, StopWay::Force, dependents)
     }
 
-    /// Where the mapping's copy is incomplete its target is cut.
+    /// Where the mapping's copy isn't whole its target is cut.
     fn cut<S: Sheet>(
         &self,
         alloc: Global,
         sheet: &S,
         draft: &mut Draft,
         mapping: &Mapping,
+        whole: bool,
     ) -> Result<(), NoMemory>
+        requires { whole ≡ is_whole (books_of self.now (S.meaning sheet.now)) mapping.now }
         ensures { OnOk result (draft.new ≡ (draft.old then cut_of (books_of self.now (S.meaning sheet.now)) mapping.now)) }
     {
-        if self.is_whole(sheet, mapping) {
+        if whole {
             return Ok(());
         }
         let kept = kept_of(alloc, sheet, mapping)?;
@@ -180,8 +182,8 @@ impl Control {
         ensures { OnOk result (draft.new ≡ (draft.old then stops_among ids.now (books_of self.now (S.meaning sheet.now)) mapping.now)) }
     {
         if is_among(ids, mapping) {
-            self.cut(alloc, sheet, draft, mapping)?;
             let left = self.as_left(alloc, sheet, mapping)?;
+            self.cut(alloc, sheet, draft, mapping, left.complete)?;
             end_in(draft, left, MapState::Stopped)
         } else {
             Ok(())

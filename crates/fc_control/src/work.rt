@@ -1,14 +1,19 @@
 //! Background work, as it is set at the end of a command.
 
-ghost use Rattle.std.specs.Prelude.{◌≡◌, OnOk, IfOk, ◌==◌, false, option_copied};
+ghost use Rattle.std.specs.Prelude.{◌≡◌, ◌&&◌, ◌++◌, OnOk, IfOk, ◌==◌, nat_lt, false, option_copied};
 ghost use Rattle.std.specs.Option.{option_map_or};
+ghost use Rattle.fc_books.specs.Accesses.{is_copying};
 ghost use Rattle.fc_books.specs.Books.{◌then◌, told, all_deeds};
-ghost use Rattle.fc_books.specs.Work.{copies, cleans, are_same, changes_work};
+ghost use Rattle.fc_books.specs.Copies.{is_whole};
+ghost use Rattle.fc_books.specs.Ending.{in_state};
+ghost use Rattle.fc_books.specs.Work.{are_same};
 ghost use Rattle.fc_control.specs.Control.{books_of};
-ghost use Rattle.fc_control.specs.Telling.{stays, work_told, row_of};
+ghost use Rattle.fc_control.specs.Starts.{copies_as, cleans_as, work_as};
+ghost use Rattle.fc_control.specs.Telling.{stays, told_flags, work_told, row_of};
 
 use crate::control::Control;
 use crate::draft::Draft;
+use crate::flags::row_of;
 use fc_base::decision::LaneEvent;
 use fc_base::ids::MapId;
 use fc_base::outcome::NoMemory;
@@ -44,71 +49,109 @@ impl Control {
     ) -> Result<(), NoMemory>
         ensures { OnOk result (draft.new ≡ (draft.old then told (work_told (books_of self.now (S.meaning sheet.now)) gone mapping.now))) }
     {
-        if does_stay(gone, mapping) && self.changes_work(sheet, mapping) {
-            draft.tell(LaneEvent::Work {
-                map: mapping.id,
-                copies: self.copies(sheet, mapping),
-                cleans: self.cleans(sheet, mapping),
-            })
+        if does_stay(gone, mapping) {
+            tell_flags(draft, self.work_of(sheet, mapping))
         } else {
             Ok(())
         }
     }
 
-    /// Whether the mapping's copy is to be filled in the background.
-    pub fn copies<S: Sheet>(&self, sheet: &S, mapping: &Mapping) -> bool
-        ensures { result ≡ copies (books_of self.now (S.meaning sheet.now)) mapping.now }
+    /// The flags of a mapping, where they change.
+    pub fn work_of<S: Sheet>(&self, sheet: &S, mapping: &Mapping) -> Option<WorkFlags>
+        ensures { told_flags result ≡ work_told (books_of self.now (S.meaning sheet.now)) None mapping.now }
+    {
+        let whole = self.is_filled(sheet, mapping);
+        self.work_in(mapping.state, mapping, whole)
+    }
+
+    /// Whether the mapping's copy, which is to be filled in the background, is whole already. Without copies in the
+    /// background its work doesn't depend on that, and it isn't asked.
+    fn is_filled<S: Sheet>(&self, sheet: &S, mapping: &Mapping) -> bool
+        ensures { result ≡ (is_copying mapping.now.state && (nat_lt 0 mapping.now.copy_rate && is_whole (books_of self.now (S.meaning sheet.now)) mapping.now)) }
     {
         has_state(MapState::Copying, mapping.state)
-            && (!self.is_whole(sheet, mapping) && 0 < mapping.copy_rate)
+            && (0 < mapping.copy_rate && self.is_whole(sheet, mapping))
     }
 
-    /// Whether the grains that others need of the mapping's copy are to be handed on in the background.
-    pub fn cleans<S: Sheet>(&self, sheet: &S, mapping: &Mapping) -> bool
-        ensures { result ≡ cleans (books_of self.now (S.meaning sheet.now)) mapping.now }
+    /// The flags of a mapping in a state, where they change; its copy may be whole.
+    pub fn work_in(&self, state: MapState, mapping: &Mapping, whole: bool) -> Option<WorkFlags>
+        ensures { told_flags result ≡ work_as self.now.flags whole (in_state state mapping.now) }
     {
-        0 < mapping.clean_rate
-            && (has_state(MapState::Stopping, mapping.state)
-                || (has_state(MapState::Copying, mapping.state)
-                    && (mapping.copy_rate == 0 || self.is_whole(sheet, mapping))))
+        let before = self.flags_of(mapping);
+        let after = flags_in(state, mapping, whole);
+        if are_same(after.copies, before.copies) && are_same(after.cleans, before.cleans) {
+            None
+        } else {
+            Some(after)
+        }
     }
 
-    /// Whether the flags of the mapping change.
-    pub fn changes_work<S: Sheet>(&self, sheet: &S, mapping: &Mapping) -> bool
-        ensures { result ≡ changes_work (books_of self.now (S.meaning sheet.now)) mapping.now }
+    /// The flags of a mapping as they stand.
+    fn flags_of(&self, mapping: &Mapping) -> WorkFlags
+        ensures copies { result.copies ≡ option_map_or (λ row. row.copies) (row_of self.now.flags mapping.now) false }
+        ensures cleans { result.cleans ≡ option_map_or (λ row. row.cleans) (row_of self.now.flags mapping.now) false }
     {
-        !(are_same(
-            self.copies(sheet, mapping),
-            has_copies(self.flags(), mapping),
-        ) && are_same(
-            self.cleans(sheet, mapping),
-            has_cleans(self.flags(), mapping),
-        ))
+        match row_of(self.flags.as_slice(), mapping) {
+            Some(row) => row,
+            None => WorkFlags {
+                map: mapping.id,
+                copies: false,
+                cleans: false,
+            },
+        }
     }
 }
 
-/// Whether the mapping's copy is being filled in the background.
+/// Lanes are told these flags, if there are any.
+pub fn tell_flags(draft: &mut Draft, flags: Option<WorkFlags>) -> Result<(), NoMemory>
+    ensures { OnOk result (draft.new ≡ record draft.old { events = draft.old.events ++ told_flags flags }) }
+{
+    match flags {
+        Some(row) => draft.tell(LaneEvent::Work {
+            map: row.map,
+            copies: row.copies,
+            cleans: row.cleans,
+        }),
+        None => Ok(()),
+    }
+}
+
+/// The flags that a mapping in this state is to have; its copy may be whole.
+fn flags_in(state: MapState, mapping: &Mapping, whole: bool) -> WorkFlags
+    ensures { result ≡ record { map = mapping.now.id; copies = copies_as whole (in_state state mapping.now); cleans = cleans_as whole (in_state state mapping.now) } }
+{
+    let is_copying = has_state(MapState::Copying, state);
+    let is_stopping = has_state(MapState::Stopping, state);
+    WorkFlags {
+        map: mapping.id,
+        copies: is_copying && (!whole && 0 < mapping.copy_rate),
+        cleans: 0 < mapping.clean_rate
+            && (is_stopping || (is_copying && (mapping.copy_rate == 0 || whole))),
+    }
+}
+
+/// Whether the mapping's copy is being filled in the background, by rows in any order.
 pub fn has_copies(rows: &[WorkFlags], mapping: &Mapping) -> bool
     ensures { result ≡ option_map_or (λ row. row.copies) (row_of rows.now mapping.now) false }
 {
-    match row_of(rows, mapping) {
+    match find_row(rows, mapping) {
         Some(row) => row.copies,
         None => false,
     }
 }
 
-/// Whether the grains that others need of the mapping's copy are being handed on in the background.
+/// Whether the grains that others need of the mapping's copy are being handed on in the background, by rows in any order.
 pub fn has_cleans(rows: &[WorkFlags], mapping: &Mapping) -> bool
     ensures { result ≡ option_map_or (λ row. row.cleans) (row_of rows.now mapping.now) false }
 {
-    match row_of(rows, mapping) {
+    match find_row(rows, mapping) {
         Some(row) => row.cleans,
         None => false,
     }
 }
 
-/// The flags of the mapping, if it has one.
-fn row_of<'a>(rows: &'a [WorkFlags], mapping: &Mapping) -> Option<&'a WorkFlags>
+/// The flags of the mapping, if it has any, among rows in any order.
+fn find_row<'a>(rows: &'a [WorkFlags], mapping: &Mapping) -> Option<&'a WorkFlags>
     ensures { option_copied result ≡ row_of rows.now mapping.now }
 {
     rows.iter().find(|row| is_row_of(row, mapping))
@@ -122,7 +165,7 @@ fn is_row_of(row: &WorkFlags, mapping: &Mapping) -> bool
 }
 
 /// Whether both are true, or none.
-pub fn are_same(a: bool, b: bool) -> bool
+fn are_same(a: bool, b: bool) -> bool
     ensures { result ≡ are_same a b }
 {
     if a { b } else { !b }

@@ -2,17 +2,14 @@ use Rattle.std.proofs.Common.{sym, ◌∙◌, ◌≤◌, ap, fold, subst}
 use Rattle.fc_books.specs.After.{flags_after}
 use Rattle.fc_control.specs.Applied.{changed}
 use Rattle.fc_control.specs.Changes.{works}
-use Rattle.fc_control.proofs.Applying.{still_rising, still_room, applied_books, applied_tables, applied_grain}
+use Rattle.fc_control.proofs.Applying.{still_room, applied_books, applied_tables, applied_grain}
 use Rattle.fc_control.proofs.control.Control.apply.Goals as goal
 
-pub apply_events-requires-clause-rising : goal.apply_events-requires-clause-rising
-apply_events-requires-clause-rising c =
-    still_rising c.args.self.now c.apply_changes.new.self c.apply_changes.new.self c.as_slice.result.now c.as_slice-2.result.now c.apply_changes.ensures c.requires.rising
-
-pub apply_events-requires-clause-room : goal.apply_events-requires-clause-room
-apply_events-requires-clause-room c =
-    still_room c.args.self.now c.apply_changes.new.self c.apply_changes.new.self c.as_slice.result.now c.as_slice-2.result.now c.apply_changes.ensures (works c.as_slice-2.result.now)
-    (subst (λ es. works es ≤ c.args.self.now.room) (sym c.as_slice-2.ensures) c.requires.ready.room)
+pub apply_events-requires : goal.apply_events-requires
+apply_events-requires c = record {
+  room = still_room c.args.self.now c.apply_changes.new.self c.apply_changes.new.self c.as_slice.result.now c.as_slice-2.result.now c.apply_changes.ensures (works c.as_slice-2.result.now)
+      (subst (λ es. works es ≤ c.args.self.now.room) (sym c.as_slice-2.ensures) c.requires.ready.room);
+}
 
 pub returns-clause-books : goal.returns-clause-books
 returns-clause-books c =

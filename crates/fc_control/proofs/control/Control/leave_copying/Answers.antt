@@ -2,6 +2,7 @@
 use Rattle.std.proofs.Common.{◌∙◌, ap}
 use Rattle.fc_base.specs.States.{next_state}
 use Rattle.fc_base.specs.declared.state.MapState.TheVariants.{Copying}
+use Rattle.fc_base.specs.declared.volume.Mapping.{Mapping}
 use Rattle.fc_books.specs.Copies.{is_whole}
 use Rattle.fc_books.specs.Stopping.{stop_event}
 use Rattle.fc_control.specs.Control.{books_of}
@@ -16,5 +17,5 @@ returns g c =
     on_ok_by c.end_stopped.result
     (leave_put (next_state Copying (stop_event c.args.way) (is_whole b m) c.args.needed) b m c.in_ok-left.left c.stopped.result c.args.draft.now c.cut.new.draft c.end_stopped.new.draft
     c.in_ok-cut.ensures c.in_ok-left.ensures
-    (c.stopped.ensures ∙ ap (λ w. ok_of (next_state Copying (stop_event c.args.way) w c.args.needed)) c.is_whole-whole.ensures))
+    (c.stopped.ensures ∙ ap (λ w. ok_of (next_state Copying (stop_event c.args.way) w c.args.needed)) (ap (λ (x : Mapping). x.complete) c.in_ok-left.ensures)))
     c.end_stopped.ensures
