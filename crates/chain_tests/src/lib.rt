@@ -21,3 +21,5 @@ mod taken;
 mod tally;
 #[cfg(test)]
 mod tests;
+#[cfg(test)]
+mod worked;

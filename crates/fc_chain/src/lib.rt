@@ -49,6 +49,3 @@ mod waiting;
 mod walk;
 
 pub use cascade::Cascade;
-
-#[cfg(test)]
-mod tests;
