@@ -16,6 +16,8 @@ mod fits;
 #[cfg(test)]
 mod list;
 #[cfg(test)]
+mod mended;
+#[cfg(test)]
 mod taken;
 #[cfg(test)]
 mod tally;

@@ -1,6 +1,7 @@
 //! A list of starts and stops worked by hand, by the rules of starts and stops: the slots that each event leaves.
 
-ghost use Rattle.std.specs.Prelude.{◌≡◌, ◌<◌, OnOk};
+ghost use Rattle.std.specs.Prelude.{◌≡◌, ◌≤◌, OnOk, IfOk};
+ghost use Rattle.fc_events.specs.Room.{slots_made as made_by};
 
 use crate::both::{Lane, assert_same, do_event, do_fill};
 use fc_base::decision::LaneEvent;
@@ -15,11 +16,14 @@ use std::alloc::Global;
 use std::process::Abort;
 use std::test::Fail;
 
-const A: u32 = 0;
+/// A volume.
+pub const A: u32 = 0;
 
-const B: u32 = 1;
+/// A volume.
+pub const B: u32 = 1;
 
-const C: u32 = 2;
+/// A volume.
+pub const C: u32 = 2;
 
 /// How many grains each volume has.
 const GRAINS: u32 = 4;
@@ -86,7 +90,9 @@ fn assert_slots(rt: &impl Abort, plain: &PlainSheet, wanted: &[Wanted]) {
 }
 
 /// A volume that comes.
-fn make(volume: u32) -> LaneEvent {
+pub fn make(volume: u32) -> LaneEvent
+    ensures { made_by result ≤ 2 }
+{
     LaneEvent::Make {
         volume: VolId(volume),
         grains: GRAINS,
@@ -105,7 +111,9 @@ fn pair(map: u32, source: u32, target: u32) -> Pair {
 }
 
 /// A trigger of one mapping.
-fn trigger(alloc: Global, map: u32, source: u32, target: u32) -> Result<LaneEvent, NoMemory> {
+pub fn trigger(alloc: Global, map: u32, source: u32, target: u32) -> Result<LaneEvent, NoMemory>
+    ensures { IfOk result (λ event. made_by event ≤ 2) }
+{
     let mut pairs = List::new(alloc);
     pairs.push(pair(map, source, target))?;
     Ok(LaneEvent::Trigger { pairs })
