@@ -50,7 +50,6 @@ mod stopping;
 mod work;
 
 pub use control::Control;
+pub use ending::in_state;
+pub use name::name_or;
 pub use work::{has_cleans, has_copies};
-
-#[cfg(test)]
-mod tests;

@@ -1,12 +1,10 @@
 //! Names and ends, against values written by hand.
 
-use super::*;
-use crate::ending::in_state;
-use crate::name::name_or;
 use fc_base::ids::{MapId, VolId};
 use fc_base::size::GrainSize;
 use fc_base::state::MapState;
 use fc_base::volume::Mapping;
+use fc_control::{Control, in_state, name_or};
 use std::alloc::Global;
 use std::process::Abort;
 
