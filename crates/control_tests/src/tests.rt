@@ -4,7 +4,7 @@ use fc_base::ids::{MapId, VolId};
 use fc_base::size::GrainSize;
 use fc_base::state::MapState;
 use fc_base::volume::Mapping;
-use fc_control::{Control, in_state, name_or};
+use fc_desk::{Control, in_state, name_or};
 use std::alloc::Global;
 use std::process::Abort;
 
