@@ -4,7 +4,8 @@ use fc_base::ids::{MapId, VolId};
 use fc_base::size::GrainSize;
 use fc_base::state::MapState;
 use fc_base::volume::Mapping;
-use fc_desk::{Control, in_state, name_or};
+use fc_control::Control;
+use fc_desk::{in_state, name_or};
 use std::alloc::Global;
 use std::process::Abort;
 
