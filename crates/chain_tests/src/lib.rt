@@ -16,8 +16,12 @@ mod fits;
 #[cfg(test)]
 mod list;
 #[cfg(test)]
+mod mended;
+#[cfg(test)]
 mod taken;
 #[cfg(test)]
 mod tally;
 #[cfg(test)]
 mod tests;
+#[cfg(test)]
+mod worked;

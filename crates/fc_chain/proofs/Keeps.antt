@@ -6,11 +6,12 @@ use Rattle.fc_base.specs.Sheet.{Slot, Sheet, slot_at, birth_place}
 use Rattle.fc_base.specs.SheetStep.{sheet_written, sheet_moved, sheet_torn, sheet_step, grain_taken, grain_kept, grain_lost}
 use Rattle.fc_base.specs.SheetFacts.{IsSound}
 use Rattle.fc_base.specs.SheetFits.{FitsTaken, FitsLost, FitsEvent}
-use Rattle.fc_chain.specs.Chains.{Chains, IsKept, in_lane, lane_grains, IsThere}
-use Rattle.fc_chain.specs.Table.{Table}
+use Rattle.fc_chain.specs.Chains.{Chains, IsKept, in_lane, IsThere}
+use Rattle.fc_events.specs.LaneGrains.{lane_grains}
+use Rattle.fc_events.specs.Table.{Table}
 use Rattle.fc_base.specs.declared.decision.LaneEvent.{LaneEvent}
-use Rattle.fc_chain.specs.Contiguous.{IsContiguous}
-use Rattle.fc_chain.proofs.Together.{step_together, map_together}
+use Rattle.fc_slots.specs.Contiguous.{IsContiguous}
+use Rattle.fc_events.proofs.Together.{step_together, map_together}
 use Rattle.fc_sheets.proofs.Lawful.{event_sound}
 use Rattle.fc_sheets.proofs.Holding.{written_sound, kept_sound, lost_sound, regrained, bit_taken, bit_kept, bit_lost}
 

@@ -3,8 +3,8 @@ use Rattle.std.proofs.Common.{◌≡◌, ℕ, ◌<◌, Option, Some, None, IfSom
 use Rattle.std.proofs.lemmas.Bool.{eqb-true, eq-eqb, false_from_ne_true}
 use Rattle.fc_base.specs.Sheet.{Slot, slot_at, birth_place}
 use Rattle.fc_base.specs.declared.ids.SlotId.{SlotId}
-use Rattle.fc_chain.specs.Chains.{found}
-use Rattle.fc_chain.specs.Planning.{HasApartBirths}
+use Rattle.fc_slots.specs.Found.{found}
+use Rattle.fc_places.specs.Olds.{HasApartBirths}
 use Rattle.fc_moves.proofs.Search.{first_is}
 
 born : (slots : List Slot) (k : ℕ) → HasApartBirths slots → k < length slots → birth_place slots (slot_at slots k).birth ≡ Some k

@@ -5,18 +5,19 @@ use Rattle.fc_base.specs.declared.decision.LaneEvent.{LaneEvent}
 use Rattle.fc_base.specs.Sheet.{Slot, Sheet, slot_at}
 use Rattle.fc_base.specs.SheetStep.{sheet_step}
 use Rattle.fc_base.specs.SheetFits.{FitsTaken, FitsLost}
-use Rattle.fc_chain.specs.Chains.{Chains, IsKept, AreNumbered, AreParts, in_lane, lane_grains}
-use Rattle.fc_chain.specs.Room.{slots_made}
-use Rattle.fc_chain.specs.Table.{Table}
-use Rattle.fc_chain.specs.Ledger.{Ledger, IsCounted}
-use Rattle.fc_chain.specs.Tallies.{tally_at, AreTallies, Countable}
-use Rattle.fc_chain.specs.Directory.{Directory, ListsSlots, HasPlaces}
+use Rattle.fc_chain.specs.Chains.{Chains, IsKept, AreParts, in_lane}
+use Rattle.fc_events.specs.LaneGrains.{AreNumbered, lane_grains}
+use Rattle.fc_events.specs.Room.{slots_made}
+use Rattle.fc_events.specs.Table.{Table}
+use Rattle.fc_tallies.specs.Ledger.{Ledger, IsCounted}
+use Rattle.fc_tallies.specs.Tallies.{tally_at, AreTallies, Countable}
+use Rattle.fc_places.specs.Directory.{Directory, ListsSlots, HasPlaces}
 use Rattle.std.proofs.lemmas.Bool.{cases_lt}
 use Rattle.fc_sheets.proofs.Holding.{Regrained}
-use Rattle.fc_chain.proofs.Listed.{lists_map, places_fewer}
+use Rattle.fc_places.proofs.Listed.{lists_map, places_fewer}
 use Rattle.fc_chain.proofs.Keeps.{view_of}
-use Rattle.fc_chain.proofs.Growing.{step_grows}
-use Rattle.fc_chain.proofs.Numbered.{wider_numbered}
+use Rattle.fc_events.proofs.Growing.{step_grows}
+use Rattle.fc_events.proofs.Numbered.{wider_numbered}
 
 pub countable : (lane lanes : ℕ) (sheet : Sheet) → IsKept lane lanes sheet → Countable sheet.slots
 countable lane lanes sheet k = record { one_live = k.sound.one_live; one_size = k.sound.sizes.of_chain; together = k.together }

@@ -3,7 +3,7 @@ use Rattle.std.proofs.Common.{◌≡◌, ℕ, ◌<◌, false, not, ◌&&◌, eqb
 use Rattle.fc_base.specs.Column.{holder}
 use Rattle.fc_base.specs.Moves.{is_in_place}
 use Rattle.fc_base.specs.Sheet.{Slot, slot_at, column}
-use Rattle.fc_chain.proofs.Finds.{read_at}
+use Rattle.fc_slots.proofs.Finds.{read_at}
 
 pub in_place_some : (slots : List Slot) (g place h : ℕ) (s t : Slot) → place < length slots → s ≡ get_or slots place s → h < length slots → t ≡ get_or slots h t → Some h ≡ holder (column slots g) place →
     (not t.is_live && eqb t.volume s.volume) ≡ is_in_place (column slots g) place

@@ -9,14 +9,15 @@ use Rattle.fc_base.specs.Column.{Column, needer, is_old_of, old_slots}
 use Rattle.fc_base.specs.Moves.{is_in, is_in_place, asks, list_with_asked}
 use Rattle.fc_base.specs.Plan.{move_at}
 use Rattle.fc_base.specs.Sheet.{Slot, slot_at, shape_of, column}
-use Rattle.fc_chain.specs.Planning.{old_after, IsNextOld, HasApartBirths, IsPlanned, HasRoom}
+use Rattle.fc_places.specs.Olds.{old_after, IsNextOld, HasApartBirths}
+use Rattle.fc_chain.specs.Planning.{IsPlanned, HasRoom}
 use Rattle.fc_moves.proofs.Search.{cases_option}
 use Rattle.fc_moves.proofs.Readers.{is_reader_none}
 use Rattle.fc_moves.proofs.Members.{in_cases, in_head, in_tail, not_in_nil, asks_out_of_place, no_asks_in_place}
 use Rattle.fc_moves.proofs.Listing.{list_all, list_zero, list_again, list_new}
 use Rattle.fc_moves.proofs.Lists.{in_reverse, in_reversed}
-use Rattle.fc_chain.proofs.Olds.{places_same}
-use Rattle.fc_chain.proofs.Finds.{read_at}
+use Rattle.fc_places.proofs.Olds.{places_same}
+use Rattle.fc_slots.proofs.Finds.{read_at}
 
 -- ---- what is listed
 

@@ -3,8 +3,10 @@ use Rattle.std.proofs.Common.{◌≡◌, ℕ, suc, ◌+◌, ◌≤◌, List, ◌
 use Rattle.std.specs.List.{sum_by}
 use Rattle.std.proofs.lemmas.List.Sums.{sum_by-cons}
 use Rattle.fc_base.specs.declared.decision.LaneEvent.{LaneEvent}
-use Rattle.fc_chain.specs.Chains.{Chains, lane_grains}
-use Rattle.fc_chain.specs.Room.{slots_made, grains_come, HasRoomFor}
+use Rattle.fc_chain.specs.Chains.{Chains}
+use Rattle.fc_events.specs.LaneGrains.{lane_grains}
+use Rattle.fc_events.specs.Room.{slots_made, grains_come}
+use Rattle.fc_chain.specs.Room.{HasRoomFor}
 
 -- there is room for the first event
 pub first_slots : (c : Chains) (e : LaneEvent) (es : List LaneEvent) → HasRoomFor c (e ∷ es) → slots_made e ≤ c.room

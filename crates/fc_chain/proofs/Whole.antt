@@ -12,7 +12,9 @@ use Rattle.fc_base.specs.Column.{Column, first_reader, old_slots}
 use Rattle.fc_base.specs.Moves.{is_in, next_behind, write_asks, list_with_asked, list_all_with_asked, fill_moves, write_moves}
 use Rattle.fc_base.specs.Plan.{move_at, moves_of_fill, moves_of_write}
 use Rattle.fc_base.specs.Sheet.{Slot, slot_at, column}
-use Rattle.fc_chain.specs.Planning.{old_after, IsNextOld, IsPlanned, HasRoom, FillFits, WriteFits, volume_count}
+use Rattle.fc_places.specs.Olds.{old_after, IsNextOld}
+use Rattle.fc_chain.specs.Planning.{IsPlanned, HasRoom, FillFits, WriteFits}
+use Rattle.fc_places.specs.Directory.{volume_count}
 use Rattle.fc_moves.proofs.Search.{cases_option}
 use Rattle.fc_moves.proofs.Readers.{is_reader_none}
 use Rattle.fc_moves.proofs.Members.{in_head, in_tail, not_in_nil}

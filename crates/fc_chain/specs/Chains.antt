@@ -1,11 +1,14 @@
 -- The chains of one lane.
 use Rattle.std.specs.Prelude.{length, ◌≡◌, ℕ, ◌+◌, ◌-◌, ◌*◌, ◌/◌, ◌%◌, ◌^◌, ◌<◌, Option, IsSome, List, option_map}
 use Rattle.fc_base.specs.SheetFacts.{IsSound}
-use Rattle.fc_chain.specs.Contiguous.{IsContiguous}
-use Rattle.fc_chain.specs.Table.{Table}
-use Rattle.fc_chain.specs.Ledger.{Ledger, IsCounted}
-use Rattle.fc_chain.specs.Directory.{Directory, ListsSlots, HasPlaces}
+use Rattle.fc_slots.specs.Contiguous.{IsContiguous}
+use Rattle.fc_events.specs.Table.{Table}
+use Rattle.fc_tallies.specs.Ledger.{Ledger, IsCounted}
+use Rattle.fc_places.specs.Directory.{Directory, ListsSlots, HasPlaces}
 use Rattle.fc_base.specs.declared.ids.SlotId.{SlotId}
+use Rattle.fc_events.specs.LaneGrains.{AreNumbered}
+pub use Rattle.fc_slots.specs.Found.{found}
+pub use Rattle.fc_events.specs.LaneGrains.{lane_grains}
 use Rattle.fc_base.specs.Sheet.{Slot, Sheet, slot_id, birth_place}
 
 -- The chains of lane `lane` of `lanes`: the sheet of the lane's grains, and how many slots can be made, of at most how many
@@ -28,13 +31,6 @@ in_lane c g = g / c.lanes
 abbrev pub number_in : Chains → ℕ → ℕ
 number_in c place = place * c.lanes + c.lane
 
--- How many of a volume's grains the lane has.
-abbrev pub lane_grains : ℕ → ℕ → ℕ → ℕ
-lane_grains lane lanes grains = (grains + lanes - 1 - lane) / lanes
-
-abbrev pub found : List Slot → Option ℕ → Option SlotId
-found slots o = option_map (slot_id slots) o
-
 -- What always holds of the kept parts.
 pub record IsKept (lane lanes : ℕ) (sheet : Sheet) : Type 0 where
   pub lane_in : lane < lanes
@@ -44,10 +40,6 @@ pub record IsKept (lane lanes : ℕ) (sheet : Sheet) : Type 0 where
 -- The slot with this name is there.
 abbrev pub IsThere : List Slot → SlotId → Type 0
 IsThere slots name = IsSome (birth_place slots name.0)
-
--- The numbers of so many grains of a lane are numbers of 32 bits.
-abbrev pub AreNumbered : ℕ → ℕ → ℕ → Type 0
-AreNumbered lane lanes count = (p : ℕ) → p < count → p * lanes + lane < 2 ^ 32
 
 -- All that always holds of a cascade's parts.
 pub record AreParts (lane lanes : ℕ) (table : Table) (ledger : Ledger) (directory : Directory) (room width : ℕ) : Type 0 where

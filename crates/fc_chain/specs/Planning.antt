@@ -8,28 +8,9 @@ use Rattle.fc_base.specs.RestoreGraph.{HasOneLive, HasNoLoop}
 use Rattle.fc_base.specs.Plan.{move_at, moves_of_fill, moves_of_write}
 use Rattle.fc_base.specs.declared.request.Planned.{Planned}
 use Rattle.fc_base.specs.declared.request.Planned.TheVariants.{Fill, Write}
-use Rattle.fc_chain.specs.Contiguous.{IsContiguous}
-use Rattle.fc_chain.specs.Births.{is_after}
-
--- The old slots of a volume born after one, least birth first.
-abbrev pub old_after : List Slot → ℕ → Option ℕ → List ℕ
-old_after slots v after =
-    places_by_birth (shape_of slots).birth (λ k. is_old_of (shape_of slots) v k && is_after after (slot_at slots k).birth) (length slots)
-
--- The next of them is this, or there is none.
-pub record IsNextOld (slots : List Slot) (v : ℕ) (after : Option ℕ) (k : ℕ) : Type 0 where
-  pub there : k < length slots
-  pub is_old : (slot_at slots k).is_live ≡ false
-  pub rest : old_after slots v after ≡ k ∷ old_after slots v (Some (slot_at slots k).birth)
-
-abbrev pub NextOld : List Slot → ℕ → Option ℕ → Option ℕ → Type 0
-NextOld slots v after None = old_after slots v after ≡ []
-NextOld slots v after (Some k) = IsNextOld slots v after k
-
--- No two slots have one birth.
-abbrev pub HasApartBirths : List Slot → Type 0
-HasApartBirths slots =
-    (i j : ℕ) → i < length slots → j < length slots → (slot_at slots i).birth ≡ (slot_at slots j).birth → i ≡ j
+use Rattle.fc_slots.specs.Contiguous.{IsContiguous}
+use Rattle.fc_places.specs.Olds.{HasApartBirths}
+pub use Rattle.fc_places.specs.Directory.{volume_count}
 
 -- The moves are those of these places, the latest first in the list.
 pub record IsPlanned (slots : List Slot) (g number : ℕ) (moves : List Move) (listed : List ℕ) : Type 0 where
@@ -41,10 +22,6 @@ pub record HasRoom (slots : List Slot) (g number : ℕ) (moves : List Move) (roo
   pub listed : List ℕ
   pub planned : IsPlanned slots g number moves listed
   pub fits : length (list_with_asked (column slots g) depth m listed) ≤ room
-
--- How many volumes there are: each has one live slot.
-abbrev pub volume_count : List Slot → ℕ
-volume_count slots = count_by (λ (t : Slot). t.is_live) slots
 
 -- The moves that are planned.
 abbrev pub moves_of_named : List Slot → ℕ → ℕ → Option ℕ → List Move

@@ -13,42 +13,15 @@
 //! `unneeded` and `loop_of` take memory. That the planned moves are safe, one after the other, is the law of
 //! `fc_moves`; that every step keeps the facts is the law of `fc_sheets`.
 //!
-//! How many grains each slot holds, and at how many it is needed, is counted in one pass over words after each
-//! event, and kept through moves and writes; slots are found in sorted lists of places. A move or a write changes
-//! the slots of its volume alone, from their part of such a list, and counts for them and one holder. No clause tells
-//! of this.
+//! The parts have crates of their own: the slots and walks along chains (`fc_slots`), the directory of where they stand
+//! (`fc_places`), the table of slots and the events of commands (`fc_events`), a trigger tried on a copy (`fc_loops`), and the
+//! counts that are kept of each slot (`fc_tallies`). A move or a write changes the slots of its volume alone, at the places that
+//! the directory lists, and counts for them and one holder. No clause speaks of this.
 //!
-//! To read: `slot` (one slot), `table` (all slots, with room for more), `split` (a chain in two), `room` and `events`
-//! (what commands do), `find` and `walk` (where slots stand, and who holds for whom), `index` and `directory` (where
-//! slots stand, in order), `mend` (such a list after an event), `next` (the next grain that a slot lacks or is needed at), `plan` (what must move), `hold` (pairs), `waiting`, `tally`, `pairs` and `tallies` (counts),
-//! `count`, `rows` (a trigger tried on a copy), `links` (which volumes are joined) and `loops` (the loop that is told), and
-//! `cascade`, which has the calls.
+//! To read: `plan` (what must move) and `cascade`, which has the calls. The words are in `specs/`: `Chains`, `Planning` and `Room`.
 #![tactic(auto)]
 
 mod cascade;
-mod count;
-mod directory;
-mod events;
-mod find;
-mod hold;
-mod index;
-mod links;
-mod loops;
-mod mend;
-mod next;
-mod pairs;
 mod plan;
-mod room;
-mod rows;
-mod slot;
-mod split;
-mod table;
-mod tallies;
-mod tally;
-mod waiting;
-mod walk;
 
 pub use cascade::Cascade;
-
-#[cfg(test)]
-mod tests;

@@ -6,16 +6,18 @@ ghost use Rattle.fc_base.specs.declared.request.Move.{Move};
 ghost use Rattle.fc_base.specs.Plan.{move_at, moves_of_fill, moves_of_write};
 ghost use Rattle.fc_base.specs.Sheet.{slot_at, column};
 ghost use Rattle.fc_base.specs.Moves.{is_in, is_in_place, list_with_asked};
-ghost use Rattle.fc_chain.specs.Contiguous.{IsContiguous};
-ghost use Rattle.fc_chain.specs.Directory.{ListsSlots};
-ghost use Rattle.fc_chain.specs.Planning.{HasApartBirths, IsPlanned, HasRoom, FillFits, WriteFits, volume_count};
+ghost use Rattle.fc_slots.specs.Contiguous.{IsContiguous};
+ghost use Rattle.fc_places.specs.Directory.{ListsSlots};
+ghost use Rattle.fc_places.specs.Olds.{HasApartBirths};
+ghost use Rattle.fc_chain.specs.Planning.{IsPlanned, HasRoom, FillFits, WriteFits};
+ghost use Rattle.fc_places.specs.Directory.{volume_count};
 
-use crate::directory::Directory;
-use crate::slot::Slot;
-use crate::walk::{first_reader_of, holder_of, next_waiting};
 use fc_base::ids::{GrainNo, SlotId, VolId};
 use fc_base::move_plan::MovePlan;
 use fc_base::request::Move;
+use fc_places::directory::Directory;
+use fc_slots::slot::Slot;
+use fc_slots::walk::{first_reader_of, holder_of, next_waiting};
 
 /// A grain of the lane: its place among the lane's grains, and its number in the volume.
 #[derive(Clone, Copy)]

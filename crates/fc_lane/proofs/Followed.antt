@@ -12,7 +12,7 @@ use Rattle.fc_base.specs.declared.decision.LaneEvent.{LaneEvent}
 use Rattle.fc_base.specs.declared.decision.LaneEvent.TheVariants.{Make, Remove, Trigger, Retire, Detach, Split, Force, Drop, Forget, NoteCut, Access, Work, Arm}
 use Rattle.fc_base.specs.declared.request.Pair.{Pair}
 use Rattle.fc_books.specs.After.{begun, holding}
-use Rattle.fc_chain.proofs.Rising.{all_rise, step_rises}
+use Rattle.fc_events.proofs.Rising.{all_rise, step_rises}
 use Rattle.fc_changed.specs.Row.{Row, is_of, restart_in, row_restart}
 use Rattle.fc_entry.specs.declared.entry.Entry.{Entry}
 use Rattle.fc_follow.specs.Alike.{AreAlike, IsAlike}

@@ -19,7 +19,7 @@ use Rattle.fc_base.specs.declared.outcome.NoMemory.{NoMemory}
 use Rattle.fc_base.specs.declared.request.Pair.{Pair}
 use Rattle.fc_base.specs.declared.size.GrainSize.{GrainSize}
 use Rattle.fc_changed.specs.Row.{Row, restart_in}
-use Rattle.fc_chain.proofs.Tallying.{count_le}
+use Rattle.fc_tallies.proofs.Tallying.{count_le}
 use Rattle.fc_chain.specs.Chains.{Chains}
 use Rattle.fc_base.specs.Column.{Shape}
 use Rattle.fc_lane.specs.Lane.{LaneView}

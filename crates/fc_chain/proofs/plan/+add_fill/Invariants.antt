@@ -1,5 +1,5 @@
 use Rattle.std.proofs.Common.{◌≡◌, length}
-use Rattle.fc_chain.specs.Planning.{old_after}
+use Rattle.fc_places.specs.Olds.{old_after}
 use Rattle.fc_chain.proofs.Plans.{AddedSoFar}
 use Rattle.fc_chain.proofs.plan.+add_fill.Given as goal
 

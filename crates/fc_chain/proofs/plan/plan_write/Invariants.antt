@@ -1,5 +1,5 @@
 use Rattle.std.proofs.Common.{◌≡◌, length}
-use Rattle.fc_chain.specs.Planning.{old_after}
+use Rattle.fc_places.specs.Olds.{old_after}
 use Rattle.fc_chain.proofs.Whole.{WrittenSoFar}
 use Rattle.fc_chain.proofs.plan.plan_write.Given as goal
 

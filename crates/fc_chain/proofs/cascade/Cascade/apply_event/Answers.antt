@@ -1,10 +1,10 @@
 use Rattle.std.proofs.Common.{◌-◌, ◌+◌, ◌≤◌, List, length, sym, subst}
 use Rattle.fc_base.specs.Sheet.{Slot}
-use Rattle.fc_chain.specs.Contiguous.{IsContiguous}
-use Rattle.fc_chain.specs.Tallies.{AreOneSize}
-use Rattle.fc_chain.specs.Directory.{HasPlaces}
+use Rattle.fc_slots.specs.Contiguous.{IsContiguous}
+use Rattle.fc_tallies.specs.Tallies.{AreOneSize}
+use Rattle.fc_places.specs.Directory.{HasPlaces}
 use Rattle.fc_chain.proofs.Keeps.{kept_stepped}
-use Rattle.fc_chain.proofs.Listed.{places_stay}
+use Rattle.fc_places.proofs.Listed.{places_stay}
 use Rattle.fc_chain.proofs.Parts.{room_after, left_after, stepped_parts, places_after}
 use Rattle.fc_chain.proofs.cascade.Cascade.apply_event.Goals as goal
 

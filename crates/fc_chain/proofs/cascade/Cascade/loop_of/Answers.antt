@@ -2,13 +2,13 @@ use Rattle.std.proofs.Common.{List, sym, subst}
 use Rattle.fc_base.specs.Sheet.{Slot, shape_of}
 use Rattle.fc_base.specs.SheetStep.{triggered}
 use Rattle.fc_base.specs.SheetView.{LoopAnswer}
-use Rattle.fc_chain.specs.declared.rows.Row.{Row}
-use Rattle.fc_chain.specs.Contiguous.{IsContiguous}
-use Rattle.fc_chain.specs.Joins.{AreTogether}
-use Rattle.fc_chain.specs.Rows.{rows_of, row_shape}
-use Rattle.fc_chain.proofs.Together.{triggered_together}
-use Rattle.fc_chain.proofs.LoopRows.{tried, rows_together, edge_of_slots, edge_of_rows}
-use Rattle.fc_chain.proofs.LoopTold.{answer_same}
+use Rattle.fc_loops.specs.declared.rows.Row.{Row}
+use Rattle.fc_slots.specs.Contiguous.{IsContiguous}
+use Rattle.fc_loops.specs.Joins.{AreTogether}
+use Rattle.fc_loops.specs.Rows.{rows_of, row_shape}
+use Rattle.fc_events.proofs.Together.{triggered_together}
+use Rattle.fc_loops.proofs.LoopRows.{tried, rows_together, edge_of_slots, edge_of_rows}
+use Rattle.fc_loops.proofs.LoopTold.{answer_same}
 use Rattle.fc_chain.proofs.cascade.Cascade.loop_of.Goals as goal
 
 pub loop_of_rows-requires : goal.loop_of_rows-requires

@@ -1,7 +1,7 @@
 use Rattle.std.proofs.Common.{List, sym, subst}
 use Rattle.fc_base.specs.Sheet.{Slot}
-use Rattle.fc_chain.specs.Planning.{HasApartBirths}
-use Rattle.fc_chain.specs.Directory.{ListsSlots}
+use Rattle.fc_places.specs.Olds.{HasApartBirths}
+use Rattle.fc_places.specs.Directory.{ListsSlots}
 use Rattle.fc_chain.proofs.cascade.Cascade.place_of.Goals as goal
 
 pub born-requires-clause-listed : goal.born-requires-clause-listed

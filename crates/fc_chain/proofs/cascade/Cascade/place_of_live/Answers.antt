@@ -1,7 +1,7 @@
 use Rattle.std.proofs.Common.{List, sym, subst}
 use Rattle.fc_base.specs.Sheet.{Slot, shape_of}
 use Rattle.fc_base.specs.RestoreGraph.{HasOneLive}
-use Rattle.fc_chain.specs.Directory.{ListsSlots}
+use Rattle.fc_places.specs.Directory.{ListsSlots}
 use Rattle.fc_chain.proofs.cascade.Cascade.place_of_live.Goals as goal
 
 pub live-requires-clause-listed : goal.live-requires-clause-listed

@@ -1,7 +1,7 @@
 use Rattle.std.proofs.Common.{List, sym, subst}
 use Rattle.fc_base.specs.Sheet.{Slot}
 use Rattle.fc_base.specs.SheetFacts.{HasMappings}
-use Rattle.fc_chain.specs.Directory.{ListsSlots}
+use Rattle.fc_places.specs.Directory.{ListsSlots}
 use Rattle.fc_chain.proofs.cascade.Cascade.place_of_mapping.Goals as goal
 
 pub slot_of-requires-clause-listed : goal.slot_of-requires-clause-listed

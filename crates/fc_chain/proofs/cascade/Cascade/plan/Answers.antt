@@ -1,7 +1,7 @@
 use Rattle.std.proofs.Common.{List, ap, sym, subst, ◌∙◌}
 use Rattle.fc_base.specs.Sheet.{Slot, live_place}
 use Rattle.fc_chain.specs.Chains.{Chains}
-use Rattle.fc_chain.specs.Directory.{ListsSlots}
+use Rattle.fc_places.specs.Directory.{ListsSlots}
 use Rattle.fc_chain.proofs.Fitting.{write_fits}
 use Rattle.fc_chain.proofs.cascade.Cascade.plan.Goals as goal
 

@@ -1,7 +1,7 @@
 use Rattle.std.proofs.Common.{List, ap, sym, subst, ◌∙◌}
 use Rattle.fc_base.specs.Sheet.{Slot}
 use Rattle.fc_chain.specs.Chains.{Chains}
-use Rattle.fc_chain.specs.Directory.{ListsSlots}
+use Rattle.fc_places.specs.Directory.{ListsSlots}
 use Rattle.fc_chain.proofs.cascade.Cascade.used.Goals as goal
 
 pub is_source-requires-clause-listed : goal.is_source-requires-clause-listed

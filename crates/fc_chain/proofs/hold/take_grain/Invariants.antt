@@ -1,7 +1,0 @@
-use Rattle.fc_base.specs.SheetStep.{grain_taken}
-use Rattle.fc_chain.proofs.Volumes.{AreTurned}
-use Rattle.fc_chain.proofs.hold.take_grain.Given as goal
-
--- the slots so far are changed, the others as they were
-abbrev pub invariant-loop-entry : goal.invariant-loop-entry
-invariant-loop-entry l = AreTurned (grain_taken l.volume l.grain) l.entries l.initial.slots l.entry-index l.slots

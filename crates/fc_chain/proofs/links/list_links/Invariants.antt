@@ -1,6 +1,0 @@
-use Rattle.fc_chain.specs.Joins.{AreLinked}
-use Rattle.fc_chain.proofs.links.list_links.Given as goal
-
--- the first rows have made their links
-abbrev pub invariant-loop-place : goal.invariant-loop-place
-invariant-loop-place l = AreLinked l.rows l.volumes l.links.items l.place 0

@@ -1,7 +1,0 @@
-use Rattle.std.proofs.Common.{ℕ, ◌<◌}
-use Rattle.fc_chain.specs.Indexing.{FitsAt}
-use Rattle.fc_chain.proofs.mend.all_fit.Given as goal
-
--- the entries so far fit
-abbrev pub invariant-loop-at : goal.invariant-loop-at
-invariant-loop-at l = (i : ℕ) → i < l.at → FitsAt l.slots l.by l.entries i

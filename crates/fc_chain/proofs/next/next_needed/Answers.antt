@@ -1,5 +1,0 @@
-use Rattle.fc_chain.proofs.Nexts.{none_needed}
-use Rattle.fc_chain.proofs.next.next_needed.Goals as goal
-
-pub returns-in-None-clause-value : goal.returns-in-None-clause-value
-returns-in-None-clause-value c = (none_needed c.args.slots.now c.args.place c.in-None.ensures).value

@@ -1,5 +1,0 @@
-use Rattle.fc_chain.proofs.Volumes.{left_own}
-use Rattle.fc_chain.proofs.pairs.leave_out_own.Goals as goal
-
-pub returns : goal.returns
-returns c = left_own c.args.slots.now c.args.change.grain c.args.change.volume c.args.entries.now c.loop-entry.tallies c.loop-entry.entry-index c.requires.listed c.loop-entry-test.false c.loop-entry.invariant.done

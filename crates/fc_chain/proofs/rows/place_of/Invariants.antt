@@ -1,7 +1,0 @@
-use Rattle.std.proofs.Common.{◌≡◌, ℕ, ◌<◌, false}
-use Rattle.fc_chain.specs.Rows.{is_live_row}
-use Rattle.fc_chain.proofs.rows.place_of.Given as goal
-
--- no row before this one passes
-abbrev pub invariant-loop-place : goal.invariant-loop-place
-invariant-loop-place l = (k : ℕ) → k < l.place → is_live_row l.rows l.volume k ≡ false

@@ -1,5 +1,0 @@
-use Rattle.fc_chain.proofs.Tables.{roomy_kept}
-use Rattle.fc_chain.proofs.table.SlotTable.keep.Goals as goal
-
-pub invariant_of-self : goal.invariant_of-self
-invariant_of-self c = roomy_kept _ _ _ _ _ _ c.deref_mut.result.now _ _ c.self.invariant c.deref_mut.ensures.value c.deref_mut.ensures.len c.keep_grain.ensures

@@ -1,5 +1,0 @@
-use Rattle.fc_chain.proofs.Words.{IsMadeUpTo, zeros}
-use Rattle.fc_chain.proofs.waiting.clear_waiting.Given as goal
-
-abbrev pub invariant-loop-index : goal.invariant-loop-index
-invariant-loop-index l = IsMadeUpTo zeros l.initial.waiting l.waiting l.index

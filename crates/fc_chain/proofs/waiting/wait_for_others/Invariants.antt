@@ -1,5 +1,0 @@
-use Rattle.fc_chain.proofs.Words.{IsMadeUpTo, others_of}
-use Rattle.fc_chain.proofs.waiting.wait_for_others.Given as goal
-
-abbrev pub invariant-loop-index : goal.invariant-loop-index
-invariant-loop-index l = IsMadeUpTo (others_of l.held) l.initial.waiting l.waiting l.index

@@ -1,0 +1,5 @@
+use Rattle.fc_events.proofs.Tables.{roomy_taken}
+use Rattle.fc_events.proofs.table.SlotTable.take.Goals as goal
+
+pub invariant_of-self : goal.invariant_of-self
+invariant_of-self c = roomy_taken _ _ _ _ _ _ c.deref_mut.result.now _ _ c.self.invariant c.deref_mut.ensures.value c.deref_mut.ensures.len c.take_grain.ensures

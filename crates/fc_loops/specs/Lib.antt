@@ -1,0 +1,5 @@
+-- What contracts of loops cite.
+pub mod Routes
+pub mod Links
+pub mod Rows
+pub mod Joins

@@ -1,0 +1,4 @@
+pub mod Olds
+pub mod Sorting
+pub mod Mending
+pub mod Listed

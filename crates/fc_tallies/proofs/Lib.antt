@@ -1,0 +1,9 @@
+pub mod Words
+pub mod Awaiting
+pub mod Needs
+pub mod Tallying
+pub mod Direct
+pub mod Touched
+pub mod Retally
+pub mod Nexts
+pub mod OwnCounts

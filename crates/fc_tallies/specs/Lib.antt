@@ -1,0 +1,4 @@
+-- What contracts of counts cite.
+pub mod Tallies
+pub mod Ledger
+pub mod Nexts
