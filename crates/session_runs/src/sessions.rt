@@ -44,7 +44,44 @@ fn settled_in(history: &History) -> usize {
     settled
 }
 
-/// Runs a session over these disks at this grain, read in pieces of so many bytes, with failing calls.
+/// Runs a session over these disks at this grain, read in pieces of so many bytes, with failing calls. The disks that
+/// the program gives back stand in the list then.
+pub fn run_on<D: Mdisk>(
+    alloc: Global,
+    disks: &mut Vec<D>,
+    grain: &str,
+    session: &[u8],
+    piece: usize,
+    failing_takes: Vec<u64>,
+    failing_puts: Vec<u64>,
+) -> Result<Outcome, AllocError>
+    requires piece { 0 < piece }
+    requires few { vec_len disks.old < 2 ^ 30 }
+    requires fresh { All IsFresh (map D.meaning disks.old.items) }
+{
+    let mut source = MemSource::new(Vec::from_slice(alloc, session)?, piece, failing_takes);
+    let mut sink = MemSink::new(alloc, failing_puts);
+    let mut history = History::new(alloc);
+    let words = ["run", "--grain", grain];
+    let status = flashcopy_over(
+        alloc,
+        &words,
+        &mut source,
+        &mut sink,
+        disks,
+        &FreeGate,
+        &mut history,
+    );
+    Ok(Outcome {
+        status,
+        written: Vec::from_slice(alloc, sink.bytes())?,
+        entries: history.len(),
+        disks: disks.len(),
+        settled: settled_in(&history),
+    })
+}
+
+/// As `run_on`, over disks that nobody asks for afterwards.
 pub fn run_over<D: Mdisk>(
     alloc: Global,
     mut disks: Vec<D>,
@@ -58,26 +95,15 @@ pub fn run_over<D: Mdisk>(
     requires few { vec_len disks < 2 ^ 30 }
     requires fresh { All IsFresh (map D.meaning disks.items) }
 {
-    let mut source = MemSource::new(Vec::from_slice(alloc, session)?, piece, failing_takes);
-    let mut sink = MemSink::new(alloc, failing_puts);
-    let mut history = History::new(alloc);
-    let words = ["run", "--grain", grain];
-    let status = flashcopy_over(
+    run_on(
         alloc,
-        &words,
-        &mut source,
-        &mut sink,
         &mut disks,
-        &FreeGate,
-        &mut history,
-    );
-    Ok(Outcome {
-        status,
-        written: Vec::from_slice(alloc, sink.bytes())?,
-        entries: history.len(),
-        disks: disks.len(),
-        settled: settled_in(&history),
-    })
+        grain,
+        session,
+        piece,
+        failing_takes,
+        failing_puts,
+    )
 }
 
 /// Runs a session at grain 64 over one flat disk for each of the four lanes.

@@ -1,7 +1,7 @@
 use Rattle.std.proofs.Common.{◌≡◌, map, vec_len}
 use Rattle.std.specs.List.{All}
 use Rattle.fc_mdisk.specs.Disk.{DiskState, IsFresh}
-use Rattle.session_tests.proofs.sessions.flat_disks.Given as goal
+use Rattle.session_runs.proofs.sessions.flat_disks.Given as goal
 
 -- so many disks were made, and all are fresh
 abbrev pub invariant-loop-made : goal.invariant-loop-made
