@@ -10,9 +10,9 @@ example_names() {
     done
 }
 
-# What an example shows: the comment that it begins with, in one line.
+# What an example shows, as the comment says that is its first line.
 about_example() { # NAME
-    awk '!/^#/ { exit } { sub(/^#+ */, ""); text = text (NR == 1 ? "" : " ") $0 } END { print text }' "$here/examples/$1"
+    sed -n '1s/^# *//p' -- "$here/examples/$1"
 }
 
 list_examples() {
