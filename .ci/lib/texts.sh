@@ -28,6 +28,78 @@ manual_table() {
     is_at_least "docs/MANUAL.md: entries in its table" 170 "$count"
 }
 
+# The blocks of a page that a line ending in '`examples/NAME`:' or 'prints:' announces, as lines
+#     session NAME / history NAME, then the block's lines behind a bar each, then 'end'
+announced_blocks() { # PAGE
+    awk '
+        kind != "" && /^    / {
+            if (!inside) print kind, name
+            inside = 1
+            print "|" substr($0, 5)
+            next
+        }
+        /^$/ { next }
+        inside { print "end"; inside = 0; kind = "" }
+        /`examples\/[a-z0-9-]+`[^`]*:$/ {
+            name = $0
+            sub(/.*`examples\//, "", name)
+            sub(/`.*/, "", name)
+            kind = "session"
+        }
+        /prints:$/ { kind = "history" }
+        END { if (inside) print "end" }
+    ' "$1"
+}
+
+# Whether the lines stand in a file in their order: after a line '..' the next may stand anywhere further on, and else
+# each directly behind the one before.
+stands_in_order() { # FILE-OF-LINES FILE
+    awk -v file="$2" '
+        BEGIN { while ((getline line < file) > 0) have[++n] = line; at = 0; loose = 0; wrong = 0 }
+        $0 == ".." { loose = 1; next }
+        {
+            at++
+            if (loose) while (at <= n && have[at] != $0) at++
+            if (at > n || have[at] != $0) { wrong = 1; exit }
+            loose = 0
+        }
+        END { exit wrong || (!loose && at != n) }
+    ' "$1"
+}
+
+# ---- the sessions and histories that a page shows are those of examples/
+page_blocks() { # PAGE LEAST
+    local line kind='' name='' count=0
+    while IFS= read -r line; do
+        case $line in
+            'session '* | 'history '*)
+                kind=${line%% *} name=${line#* }
+                : >"$room/block"
+                ;;
+            '|'*) printf '%s\n' "${line#|}" >>"$room/block" ;;
+            end)
+                count=$((count + 1))
+                if [[ ! -f examples/$name ]]; then
+                    fail "$1: there is no examples/$name"
+                elif [[ $kind == session ]]; then
+                    holds "$1: the session isn't that of examples/$name" \
+                        cmp -s <(session_lines "$room/block") <(session_lines "examples/$name")
+                else
+                    holds "$1: the history isn't that of examples/$name" stands_in_order "$room/block" "examples/$name.stdout"
+                fi
+                ;;
+        esac
+    done < <(announced_blocks "$1")
+    is_at_least "$1: sessions and histories that it shows" "$2" "$count"
+}
+
+pages() {
+    echo "== sessions in README.md and docs/"
+    page_blocks README.md 2
+    page_blocks docs/MANUAL.md 10
+    page_blocks docs/RECIPES.md 20
+}
+
 # ---- the logic that README.md and the script claim is that of the kit at hand
 claims() {
     echo "== what is claimed of the kit"
