@@ -26,7 +26,7 @@ examples_whole() {
 examples_unproved() {
     echo "== examples, compiled with checks of memory"
     local said last all ended fault differs silent
-    said=$(cd crates/flashcopy && rt try --cases ../../examples 2>&1 >/dev/null)
+    said=$(cd crates/flashcopy && rt try --seconds "$most_seconds" --cases ../../examples 2>&1 >/dev/null)
     printf '%s\n' "$said"
     last=$(tail -n 1 <<<"$said")
     if [[ $last =~ ^cases=([0-9]+)\ ended=([0-9]+)\ fault=([0-9]+)\ differs=([0-9]+)\ no-answer=([0-9]+) ]]; then
