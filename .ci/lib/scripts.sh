@@ -150,13 +150,29 @@ help_and_version() {
     holds "bin/flashcopy --version doesn't name the kit that built it" grep -q 'built with a-kit logic 0123$' "$room/out"
 }
 
-# The help text that the crate args_help prints of the program's words is that of the script, where there is that crate.
+# The help text that the crate args_help prints of the program's own words, where there is that crate, stands in the
+# script's, line behind line.
 help_agrees_with_program() {
     local recorded=crates/args_help/stdout
     [[ -f $recorded ]] || return 0
     echo "== bin/flashcopy --help and $recorded"
     bin/flashcopy --help >"$room/out" 2>"$room/err"
-    holds "bin/flashcopy --help isn't $recorded" cmp -s "$room/out" "$recorded"
+    holds "the lines of $recorded don't stand in bin/flashcopy --help" stands_inside "$recorded" "$room/out"
+}
+
+# Whether the lines of a file stand in another one, directly behind each other.
+stands_inside() { # FILE-OF-LINES FILE
+    [[ -s $1 ]] && awk -v part="$1" '
+        BEGIN { while ((getline line < part) > 0) wanted[++n] = line }
+        { have[NR] = $0 }
+        END {
+            for (from = 1; from + n - 1 <= NR; from++) {
+                for (k = 1; k <= n && have[from + k - 1] == wanted[k]; k++);
+                if (k > n) exit 0
+            }
+            exit 1
+        }
+    ' "$2"
 }
 
 # ---- show: at once, and all of it
