@@ -327,6 +327,7 @@ looking_back() {
     run_script run <examples/words
     holds "nothing was asked, and something is said" complained_of_nothing
     explanations
+    block_explained
     every_refusal_explained
     at_a_terminal
 }
@@ -390,6 +391,25 @@ END
         fail "--explain: the explanations differ"
         diff "$room/wanted" "$room/plain"
     fi
+}
+
+# A block of actors, whose entries stand in no order of lines: each is explained at the line that it answers.
+block_explained() {
+    printf '%s\n' 'mkvdisk -name A -size 1' together 'actor w copier 2' 'read A 0 1' 'actor h host' frob 'read A 0 600' \
+        'read A 5000 1' 'actor h admin' lsvdisk 'actor a admin' 'stopfcmap 7' end 'read Z 0 1' >"$room/session"
+    printf '%s\n' '0 main mkvdisk -name A -size 1 -> Virtual Disk, id [0], successfully created' \
+        '1 main - -> refused not in a block' '2 main - -> refused bad name at word 2' '3 main - -> refused no actor' \
+        '4 h - -> refused unknown command' '5 a stopfcmap 7 -> refused no such fcmap' '6 w copyturn 0 -> idle' \
+        '7 h read 0 0 512 -> data 262144*00' '8 h read 0 512 88 -> data 45056*00' '9 w copyturn 1 -> idle' \
+        '10 h read A 5000 1 -> refused bad value of blocks' '11 main read Z 0 1 -> refused no such vdisk' >"$tree/printed"
+    run_script run --explain "$room/session"
+    is "--explain of a block: the lines of its entries" "line 4, entry 1
+line 9, entry 2
+line 10, entry 3
+line 6, entry 4
+line 12, entry 5
+line 8, entry 10
+line 14, entry 11" "$(sed -n 's/^flashcopy: \(line [0-9]*, entry [0-9]*\):.*/\1/p' "$room/err")"
 }
 
 # Each refusal of the examples is explained: with its line, a sentence, and but for long lines a caret.

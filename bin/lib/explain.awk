@@ -35,13 +35,15 @@ function show_line(text,    column) {
     printf "    %s%s\n", blanks_before(text "  ", column), carets(caret > words ? "" : printable(word[caret]))
 }
 
-function explain(place, text,    reason) {
+function explain(place,    reason, text) {
+    text = text_of_entry[place]
+    split_line(length(text) > longest_line() ? "" : text)
     reason = substr(entry_reply[place], 9)
     caret = keyword
     advice = ""
     if (entry_request[place] == "-") advise_unread(reason)
     else advise_command(reason)
-    printf "flashcopy: line %d, entry %d: refused %s\n", FNR, place, reason
+    printf "flashcopy: line %d, entry %d: refused %s\n", line_of_entry[place], place, reason
     show_line(text)
     printf "    %s\n", advice strange_bytes(text)
 }
@@ -53,14 +55,16 @@ BEGIN {
 
 {
     answers_of($0)
-    for (place = first_entry; place <= last_entry; place++) {
-        if (is_refused(place)) explain(place, $0)
+    from = first_entry
+    to = last_entry
+    for (place = from; place <= to; place++) {
+        if (is_refused(place)) explain(place)
         else learn_volumes(place)
     }
 }
 
-# what answers no line by its order, as in a block of actors
+# what answers no line: the session is shorter than its history
 END {
     for (place = next_entry; place < entries; place++)
-        if (is_refused(place)) printf "flashcopy: entry %d, of %s: %s -> %s\n", place, entry_actor[place], entry_request[place], entry_reply[place]
+        if (is_refused(place)) printf "flashcopy: entry %d: %s -> %s\n", place, entry_request[place], entry_reply[place]
 }

@@ -27,7 +27,7 @@ BEGIN { load_history(history) }
     if (last_entry < first_entry) row(left, "")
 }
 
-# what answers no line, as in a block of actors
+# what answers no line: the session is shorter than its history
 END {
     for (place = next_entry; place < entries; place++) {
         row("", entry_text[place])
