@@ -150,8 +150,8 @@ help_and_version() {
     holds "bin/flashcopy --version doesn't name the kit that built it" grep -q 'built with a-kit logic 0123$' "$room/out"
 }
 
-# The help text that the crate args_help prints of the program's own words, where there is that crate, stands in the
-# script's, line behind line.
+# The help text that the crate args_help prints of the program's own words (its recorded output, which the gate of the
+# proofs compares), where there is that crate, stands in the script's, line behind line.
 help_agrees_with_program() {
     local recorded=crates/args_help/stdout
     [[ -f $recorded ]] || return 0

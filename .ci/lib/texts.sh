@@ -100,6 +100,31 @@ pages() {
     page_blocks docs/RECIPES.md 20
 }
 
+# The anchors of a page's headings, one a line.
+anchors_of() { # PAGE
+    sed -n 's/^##* //p' -- "$1" | tr '[:upper:]' '[:lower:]' | sed -e 's/[^a-z0-9 _-]//g' -e 's/ /-/g'
+}
+
+# ---- each link of a page leads to a file that is there, or to one of its headings
+links() {
+    echo "== links of the pages"
+    local page link file count=0
+    for page in README.md docs/*.md; do
+        while IFS= read -r link; do
+            count=$((count + 1))
+            file=${link%%#*}
+            if [[ -n $file && ! -e $(dirname -- "$page")/$file ]]; then
+                fail "$page: there is no $file"
+            elif [[ $link == '#'* ]] && ! grep -qxF -- "${link#\#}" <(anchors_of "$page"); then
+                fail "$page: it has no heading for $link"
+            else
+                pass
+            fi
+        done < <(grep -o '](\([^)]*\))' -- "$page" | sed -e 's/^](//' -e 's/)$//' | grep -v '://')
+    done
+    is_at_least "links" 40 "$count"
+}
+
 # ---- the logic that README.md and the script claim is that of the kit at hand
 claims() {
     echo "== what is claimed of the kit"

@@ -4,22 +4,22 @@
 
 # Runs the program unproved on its standard input. The status is the program's, or 1 where there was no answer.
 try_program() { # WORD..
-    local told last
+    local report last
     if ! has_kit; then
         say "there is no command rt to compile the program with (the Rattle kit isn't on the path)"
         return 1
     fi
-    told=$(mktemp) || return 1
+    report=$(mktemp) || return 1
     say "not proved: the program is compiled as it stands and run, in about a minute"
-    (cd -- "$crate" && exec rt try -- "$@") 2>"$told"
-    last=$(tail -n 1 -- "$told")
+    (cd -- "$crate" && exec rt try -- "$@") 2>"$report"
+    last=$(tail -n 1 -- "$report")
     if [[ $last =~ ^run=ended\ status=([0-9]+)( |$) ]]; then
-        rm -f -- "$told"
+        rm -f -- "$report"
         say "not proved: this was a run of the program without its proof"
         return "${BASH_REMATCH[1]}"
     fi
-    say_no_answer "$last" "$told"
-    rm -f -- "$told"
+    say_no_answer "$last" "$report"
+    rm -f -- "$report"
     return 1
 }
 

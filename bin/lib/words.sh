@@ -1,7 +1,7 @@
 # shellcheck shell=bash
-# The words of bin/flashcopy: their grammar, the usage text, and the meaning of a status. It is sourced, not run.
-# What it sets is used by the other files.
-# shellcheck disable=SC2034
+# The words of bin/flashcopy: their grammar, the usage text, and the meaning of a status. It is sourced, not run,
+# with `here` set to the top of the repository. What it sets is used by the other files.
+# shellcheck disable=SC2034,SC2154
 
 usage() {
     cat <<'END'
@@ -42,6 +42,12 @@ exit status:
    7  the input has more than 67,108,864 bytes; the lines that ended before were answered
   10  with --strict: all lines were answered, and one or more was refused or couldn't be read
 END
+    # what the program itself says of its words, where a crate prints that
+    local recorded=$here/crates/args_help/stdout
+    if [[ -f $recorded ]]; then
+        printf '\nthe words of the program itself, without this script:\n\n'
+        cat -- "$recorded"
+    fi
 }
 
 # The status of --strict, which is none of the program's.
