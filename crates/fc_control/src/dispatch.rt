@@ -23,8 +23,8 @@ use std::alloc::Global;
 /// What is decided of a command on settled books: refused for the first reason that holds, last that a start would
 /// close a loop of restores, or done.
 pub fn decide<S: Sheet>(
-    control: &Control,
     alloc: Global,
+    control: &Control,
     command: &Command,
     sheet: &S,
 ) -> Result<Decision, NoMemory>
@@ -35,17 +35,17 @@ pub fn decide<S: Sheet>(
     ensures { IfOk result (λ decision. (loop : Option (List VolId)) × IsLoopOf control.now.grain (books_of control.now (S.meaning sheet.now)) command.now loop × (decision ≡ decide (S.meaning sheet.now).restarts control.now.grain (books_of control.now (S.meaning sheet.now)) command.now loop)) }
 {
     if is_start(command) {
-        decide_start(control, alloc, command, sheet)
+        decide_start(alloc, control, command, sheet)
     } else {
-        let decision = decide_unlooped(control, alloc, command, sheet)?;
+        let decision = decide_unlooped(alloc, control, command, sheet)?;
         Ok(decision)
     }
 }
 
 /// What is decided of a command that starts no mapping, for which no loop of restores is asked.
 fn decide_unlooped<S: Sheet>(
-    control: &Control,
     alloc: Global,
+    control: &Control,
     command: &Command,
     sheet: &S,
 ) -> Result<Decision, NoMemory>
@@ -56,18 +56,18 @@ fn decide_unlooped<S: Sheet>(
     ensures { IfOk result (λ decision. decision ≡ decide (S.meaning sheet.now).restarts control.now.grain (books_of control.now (S.meaning sheet.now)) command.now None) }
 {
     if is_report(command) {
-        decide_report(control, alloc, command, sheet)
+        decide_report(alloc, control, command, sheet)
     } else if is_object(command) {
-        decide_object(control, alloc, command, sheet)
+        decide_object(alloc, control, command, sheet)
     } else {
-        decide_on_mappings(control, alloc, command, sheet)
+        decide_on_mappings(alloc, control, command, sheet)
     }
 }
 
 /// What is decided of a command that prepares or stops mappings.
 fn decide_on_mappings<S: Sheet>(
-    control: &Control,
     alloc: Global,
+    control: &Control,
     command: &Command,
     sheet: &S,
 ) -> Result<Decision, NoMemory>
@@ -77,14 +77,14 @@ fn decide_on_mappings<S: Sheet>(
 {
     match command {
         Command::Prestartfcmap { map, restore } => {
-            decide_prestartfcmap(control, alloc, sheet, map, *restore)
+            decide_prestartfcmap(alloc, control, sheet, map, *restore)
         }
-        Command::Stopfcmap { map, way } => decide_stopfcmap(control, alloc, sheet, map, *way),
+        Command::Stopfcmap { map, way } => decide_stopfcmap(alloc, control, sheet, map, *way),
         Command::Prestartfcconsistgrp { group, restore } => {
-            decide_prestartfcconsistgrp(control, alloc, sheet, group, *restore)
+            decide_prestartfcconsistgrp(alloc, control, sheet, group, *restore)
         }
         Command::Stopfcconsistgrp { group, way } => {
-            decide_stopfcconsistgrp(control, alloc, sheet, group, *way)
+            decide_stopfcconsistgrp(alloc, control, sheet, group, *way)
         }
         _ => unreachable!(),
     }
@@ -92,8 +92,8 @@ fn decide_on_mappings<S: Sheet>(
 
 /// What is decided of a command that starts mappings, by the loop of restores that it would close.
 fn decide_start<S: Sheet>(
-    control: &Control,
     alloc: Global,
+    control: &Control,
     command: &Command,
     sheet: &S,
 ) -> Result<Decision, NoMemory>
@@ -104,13 +104,13 @@ fn decide_start<S: Sheet>(
 {
     match command {
         Command::Startfcmap { map, prep, restore } => {
-            decide_startfcmap(control, alloc, sheet, map, *prep, *restore)
+            decide_startfcmap(alloc, control, sheet, map, *prep, *restore)
         }
         Command::Startfcconsistgrp {
             group,
             prep,
             restore,
-        } => decide_startfcconsistgrp(control, alloc, sheet, group, *prep, *restore),
+        } => decide_startfcconsistgrp(alloc, control, sheet, group, *prep, *restore),
         _ => unreachable!(),
     }
 }

@@ -17,8 +17,8 @@ use std::alloc::Global;
 
 /// What is decided of an `advance`: BadValue for no seconds, or more than 3,600; else the flags are set.
 pub fn decide_advance<S: Sheet>(
-    control: &Control,
     alloc: Global,
+    control: &Control,
     sheet: &S,
     seconds: u32,
 ) -> Result<Decision, NoMemory>

@@ -18,8 +18,8 @@ use std::alloc::Global;
 /// What is decided of an `armfault`: NoSuch without such a volume; BadValue for a grain past its end; else the lanes
 /// are told.
 pub fn decide_armfault<S: Sheet>(
-    control: &Control,
     alloc: Global,
+    control: &Control,
     sheet: &S,
     volume: &Ref,
     grain: u32,

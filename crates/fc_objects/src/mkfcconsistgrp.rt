@@ -22,8 +22,8 @@ use std::alloc::Global;
 
 /// What is decided of a `mkfcconsistgrp`: Limit for 64 groups; NameTaken; else the group is made.
 pub fn decide_mkfcconsistgrp<S: Sheet>(
-    control: &Control,
     alloc: Global,
+    control: &Control,
     sheet: &S,
     name: &Option<Name>,
 ) -> Result<Decision, NoMemory>
@@ -36,7 +36,7 @@ pub fn decide_mkfcconsistgrp<S: Sheet>(
             Ok(decision)
         }
         None => {
-            let decision = make_group(control, alloc, sheet, name)?;
+            let decision = make_group(alloc, control, sheet, name)?;
             Ok(decision)
         }
     }
@@ -58,8 +58,8 @@ fn group_refusal(control: &Control, name: &Name) -> Option<Refusal>
 /// A group is made.
 #[tactic(auto, unfolding(fc_books::specs::Work::work_events))]
 fn make_group<S: Sheet>(
-    control: &Control,
     alloc: Global,
+    control: &Control,
     sheet: &S,
     name: Name,
 ) -> Result<Decision, NoMemory>

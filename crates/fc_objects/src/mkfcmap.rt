@@ -42,8 +42,8 @@ pub struct MappingOptions {
 
 /// What is decided of a `mkfcmap`: the first of its refusals, else the mapping is made.
 pub fn decide_mkfcmap<S: Sheet>(
-    control: &Control,
     alloc: Global,
+    control: &Control,
     sheet: &S,
     source: &Ref,
     target: &Ref,
@@ -59,7 +59,7 @@ pub fn decide_mkfcmap<S: Sheet>(
         Some(from) => match control.registry().volume(target) {
             None => control.refuse(alloc, sheet, Refusal::NoSuch(Kind::Vdisk)),
             Some(to) => {
-                let decision = decide_pair(control, alloc, sheet, from, to, name, group, options)?;
+                let decision = decide_pair(alloc, control, sheet, from, to, name, group, options)?;
                 Ok(decision)
             }
         },
@@ -68,8 +68,8 @@ pub fn decide_mkfcmap<S: Sheet>(
 
 /// What is decided of a new mapping between two volumes that are there.
 fn decide_pair<S: Sheet>(
-    control: &Control,
     alloc: Global,
+    control: &Control,
     sheet: &S,
     source: &Volume,
     target: &Volume,
@@ -88,7 +88,7 @@ fn decide_pair<S: Sheet>(
         }
         None => {
             let decision = make_mapping(
-                control, alloc, sheet, source, target, name, group, options,
+                alloc, control, sheet, source, target, name, group, options,
             )?;
             Ok(decision)
         }
@@ -242,8 +242,8 @@ fn busy_group(control: &Control, group: Option<GroupId>) -> Option<Refusal>
 
 /// A mapping is made.
 fn make_mapping<S: Sheet>(
-    control: &Control,
     alloc: Global,
+    control: &Control,
     sheet: &S,
     source: &Volume,
     target: &Volume,
@@ -257,7 +257,7 @@ fn make_mapping<S: Sheet>(
     ensures { IfOk result (λ decision. decision ≡ with_work (S.meaning sheet.now).restarts (books_of control.now (S.meaning sheet.now)) (Reply.Made Kind.Fcmap control.now.next_mapping) (make_mapping (mapping_with_name control.now.tables control.now.next_mapping source.now target.now name group.now options.copy_rate options.clean_rate options.incremental options.autodelete))) }
 {
     let id = control.next_mapping();
-    let draft = draft_mapping(control, alloc, source, target, name, group, options)?;
+    let draft = draft_mapping(alloc, control, source, target, name, group, options)?;
     let reply = Reply::Made {
         kind: Kind::Fcmap,
         id,
@@ -268,8 +268,8 @@ fn make_mapping<S: Sheet>(
 
 /// What making a mapping does.
 fn draft_mapping(
-    control: &Control,
     alloc: Global,
+    control: &Control,
     source: &Volume,
     target: &Volume,
     name: Name,

@@ -28,8 +28,8 @@ use std::alloc::Global;
 /// What is decided of a `mkvdisk`: BadValue for a size that is 0 or isn't whole grains; Limit for 512 volumes or
 /// more than 8,192 grains in all; NameTaken; NoDisk where a lane has none of the kind; else the volume is made.
 pub fn decide_mkvdisk<S: Sheet>(
-    control: &Control,
     alloc: Global,
+    control: &Control,
     sheet: &S,
     name: &Option<Name>,
     size: u32,
@@ -49,7 +49,7 @@ pub fn decide_mkvdisk<S: Sheet>(
         }
         None => {
             let grains = grains_of(bytes, control.grain()) as u32;
-            let decision = make_volume(control, alloc, sheet, name, grains, thin)?;
+            let decision = make_volume(alloc, control, sheet, name, grains, thin)?;
             Ok(decision)
         }
     }
@@ -97,8 +97,8 @@ fn size_refusal(control: &Control, bytes: u64) -> Option<Refusal>
 
 /// A volume is made.
 fn make_volume<S: Sheet>(
-    control: &Control,
     alloc: Global,
+    control: &Control,
     sheet: &S,
     name: Name,
     grains: u32,

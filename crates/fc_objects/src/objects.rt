@@ -23,8 +23,8 @@ use std::alloc::Global;
 
 /// What is decided of a command that makes or removes an object, or arms a fault; or of an `advance`.
 pub fn decide_object<S: Sheet>(
-    control: &Control,
     alloc: Global,
+    control: &Control,
     command: &Command,
     sheet: &S,
 ) -> Result<Decision, NoMemory>
@@ -39,19 +39,19 @@ pub fn decide_object<S: Sheet>(
             size,
             unit,
             thin,
-        } => decide_mkvdisk(control, alloc, sheet, name, *size, *unit, *thin),
-        Command::Mkfcmap { .. } => decide_new_mapping(control, alloc, command, sheet),
-        Command::Rmvdisk { volume } => decide_rmvdisk(control, alloc, sheet, volume),
+        } => decide_mkvdisk(alloc, control, sheet, name, *size, *unit, *thin),
+        Command::Mkfcmap { .. } => decide_new_mapping(alloc, control, command, sheet),
+        Command::Rmvdisk { volume } => decide_rmvdisk(alloc, control, sheet, volume),
         Command::Armfault {
             volume,
             grain,
             calls,
-        } => decide_armfault(control, alloc, sheet, volume, *grain, *calls),
-        Command::Advance { seconds } => decide_advance(control, alloc, sheet, *seconds),
-        Command::Rmfcmap { map, force } => decide_rmfcmap(control, alloc, sheet, map, *force),
-        Command::Mkfcconsistgrp { name } => decide_mkfcconsistgrp(control, alloc, sheet, name),
+        } => decide_armfault(alloc, control, sheet, volume, *grain, *calls),
+        Command::Advance { seconds } => decide_advance(alloc, control, sheet, *seconds),
+        Command::Rmfcmap { map, force } => decide_rmfcmap(alloc, control, sheet, map, *force),
+        Command::Mkfcconsistgrp { name } => decide_mkfcconsistgrp(alloc, control, sheet, name),
         Command::Rmfcconsistgrp { group, force } => {
-            decide_rmfcconsistgrp(control, alloc, sheet, group, *force)
+            decide_rmfcconsistgrp(alloc, control, sheet, group, *force)
         }
         _ => unreachable!(),
     }
@@ -59,8 +59,8 @@ pub fn decide_object<S: Sheet>(
 
 /// What is decided of a command that makes a mapping.
 fn decide_new_mapping<S: Sheet>(
-    control: &Control,
     alloc: Global,
+    control: &Control,
     command: &Command,
     sheet: &S,
 ) -> Result<Decision, NoMemory>
@@ -87,7 +87,7 @@ fn decide_new_mapping<S: Sheet>(
                 incremental: *incremental,
                 autodelete: *autodelete,
             };
-            decide_mkfcmap(control, alloc, sheet, source, target, name, group, options)
+            decide_mkfcmap(alloc, control, sheet, source, target, name, group, options)
         }
         _ => unreachable!(),
     }

@@ -21,8 +21,8 @@ use std::alloc::Global;
 
 /// What is decided of a report: NoSuch where it names what isn't there; else its rows are told.
 pub fn decide_report<S: Sheet>(
-    control: &Control,
     alloc: Global,
+    control: &Control,
     command: &Command,
     sheet: &S,
 ) -> Result<Decision, NoMemory>

@@ -25,8 +25,8 @@ use std::alloc::Global;
 /// What is decided of a `rmfcconsistgrp`: NoSuch without the group; NeedsForce where it has members, without
 /// `-force`; else it goes, and its members stay as single mappings.
 pub fn decide_rmfcconsistgrp<S: Sheet>(
-    control: &Control,
     alloc: Global,
+    control: &Control,
     sheet: &S,
     group: &Ref,
     force: bool,
@@ -40,7 +40,7 @@ pub fn decide_rmfcconsistgrp<S: Sheet>(
                 let decision = control.refuse(alloc, sheet, Refusal::NeedsForce)?;
                 Ok(decision)
             } else {
-                let decision = remove_group(control, alloc, sheet, found.id)?;
+                let decision = remove_group(alloc, control, sheet, found.id)?;
                 Ok(decision)
             }
         }
@@ -49,8 +49,8 @@ pub fn decide_rmfcconsistgrp<S: Sheet>(
 
 /// A group goes.
 fn remove_group<S: Sheet>(
-    control: &Control,
     alloc: Global,
+    control: &Control,
     sheet: &S,
     group: GroupId,
 ) -> Result<Decision, NoMemory>

@@ -26,8 +26,8 @@ use std::alloc::Global;
 /// What is decided of a `rmfcmap`: NoSuch without the mapping; NotAllowed of an active one; NeedsForce of a stopped
 /// one without `-force`; else it goes, and the target of a stopped one is online again.
 pub fn decide_rmfcmap<S: Sheet>(
-    control: &Control,
     alloc: Global,
+    control: &Control,
     sheet: &S,
     map: &Ref,
     force: bool,
@@ -38,15 +38,15 @@ pub fn decide_rmfcmap<S: Sheet>(
         None => control.refuse(alloc, sheet, Refusal::NoSuch(Kind::Fcmap)),
         Some(mapping) => match removal_refusal(mapping.state, force) {
             Some(refusal) => control.refuse(alloc, sheet, refusal),
-            None => remove_mapping(control, alloc, sheet, mapping),
+            None => remove_mapping(alloc, control, sheet, mapping),
         },
     }
 }
 
 /// A mapping goes.
 fn remove_mapping<S: Sheet>(
-    control: &Control,
     alloc: Global,
+    control: &Control,
     sheet: &S,
     mapping: &Mapping,
 ) -> Result<Decision, NoMemory>

@@ -23,8 +23,8 @@ use std::alloc::Global;
 /// What is decided of a `rmvdisk`: NoSuch without the volume; InUse where a mapping names it or it is used as a
 /// source; else it goes.
 pub fn decide_rmvdisk<S: Sheet>(
-    control: &Control,
     alloc: Global,
+    control: &Control,
     sheet: &S,
     volume: &Ref,
 ) -> Result<Decision, NoMemory>
@@ -38,7 +38,7 @@ pub fn decide_rmvdisk<S: Sheet>(
                 let decision = control.refuse(alloc, sheet, Refusal::InUse(found.id))?;
                 Ok(decision)
             } else {
-                let decision = remove_volume(control, alloc, sheet, found)?;
+                let decision = remove_volume(alloc, control, sheet, found)?;
                 Ok(decision)
             }
         }
@@ -47,8 +47,8 @@ pub fn decide_rmvdisk<S: Sheet>(
 
 /// A volume goes.
 fn remove_volume<S: Sheet>(
-    control: &Control,
     alloc: Global,
+    control: &Control,
     sheet: &S,
     volume: &Volume,
 ) -> Result<Decision, NoMemory>

@@ -25,8 +25,8 @@ use std::alloc::Global;
 
 /// What is decided of a `prestartfcmap`: the first of its refusals, else the mapping is prepared.
 pub fn decide_prestartfcmap<S: Sheet>(
-    control: &Control,
     alloc: Global,
+    control: &Control,
     sheet: &S,
     map: &Ref,
     restore: bool,
@@ -44,7 +44,7 @@ pub fn decide_prestartfcmap<S: Sheet>(
                 }
                 None => {
                     let chosen = Chosen::One(mapping.id);
-                    let decision = prepare(control, alloc, sheet, chosen, restore)?;
+                    let decision = prepare(alloc, control, sheet, chosen, restore)?;
                     Ok(decision)
                 }
             }
@@ -54,8 +54,8 @@ pub fn decide_prestartfcmap<S: Sheet>(
 
 /// Mappings that aren't active are prepared.
 pub fn prepare<S: Sheet>(
-    control: &Control,
     alloc: Global,
+    control: &Control,
     sheet: &S,
     chosen: Chosen,
     restore: bool,
@@ -64,15 +64,15 @@ pub fn prepare<S: Sheet>(
     requires idle { (m : Mapping) → Contains control.now.tables.mappings m → is_chosen chosen m ≡ true → is_active m.state ≡ false }
     ensures { IfOk result (λ decision. decision ≡ with_work (S.meaning sheet.now).restarts (books_of control.now (S.meaning sheet.now)) Reply.Done (prepare restore control.now.tables (chosen_of control.now.tables chosen))) }
 {
-    let draft = draft_prepare(control, alloc, chosen, restore)?;
+    let draft = draft_prepare(alloc, control, chosen, restore)?;
     let decision = control.conclude(sheet, draft, Reply::Done)?;
     Ok(decision)
 }
 
 /// What preparing mappings does.
 fn draft_prepare(
-    control: &Control,
     alloc: Global,
+    control: &Control,
     chosen: Chosen,
     restore: bool,
 ) -> Result<Draft, NoMemory>

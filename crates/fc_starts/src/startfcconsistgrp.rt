@@ -32,8 +32,8 @@ use std::alloc::Global;
 
 /// What is decided of a `prestartfcconsistgrp`: the first of its refusals, else all members are prepared.
 pub fn decide_prestartfcconsistgrp<S: Sheet>(
-    control: &Control,
     alloc: Global,
+    control: &Control,
     sheet: &S,
     group: &Ref,
     restore: bool,
@@ -44,14 +44,14 @@ pub fn decide_prestartfcconsistgrp<S: Sheet>(
     match control.registry().group(group) {
         None => control.refuse(alloc, sheet, Refusal::NoSuch(Kind::Group)),
         Some(found) => {
-            match prestart_group_refusal(control, alloc, sheet, found.id, restore)? {
+            match prestart_group_refusal(alloc, control, sheet, found.id, restore)? {
                 Some(refusal) => {
                     let decision = control.refuse(alloc, sheet, refusal)?;
                     Ok(decision)
                 }
                 None => {
                     let chosen = Chosen::Members(found.id);
-                    let decision = prepare(control, alloc, sheet, chosen, restore)?;
+                    let decision = prepare(alloc, control, sheet, chosen, restore)?;
                     Ok(decision)
                 }
             }
@@ -62,8 +62,8 @@ pub fn decide_prestartfcconsistgrp<S: Sheet>(
 /// What is decided of a `startfcconsistgrp`: the first of its refusals, last that it would close a loop of
 /// restores; else all members are started at once.
 pub fn decide_startfcconsistgrp<S: Sheet>(
-    control: &Control,
     alloc: Global,
+    control: &Control,
     sheet: &S,
     group: &Ref,
     prep: bool,
@@ -79,14 +79,14 @@ pub fn decide_startfcconsistgrp<S: Sheet>(
             Ok(decision)
         }
         Some(found) => {
-            match start_group_refusal(control, alloc, sheet, found.id, prep, restore)? {
+            match start_group_refusal(alloc, control, sheet, found.id, prep, restore)? {
                 Some(refusal) => {
                     let decision = control.refuse(alloc, sheet, refusal)?;
                     Ok(decision)
                 }
                 None => {
                     let chosen = Chosen::Members(found.id);
-                    let decision = start_unlooped(control, alloc, sheet, chosen, prep, restore)?;
+                    let decision = start_unlooped(alloc, control, sheet, chosen, prep, restore)?;
                     Ok(decision)
                 }
             }
@@ -96,8 +96,8 @@ pub fn decide_startfcconsistgrp<S: Sheet>(
 
 /// Why the members of a group aren't prepared, if they are refused.
 fn prestart_group_refusal<S: Sheet>(
-    control: &Control,
     alloc: Global,
+    control: &Control,
     sheet: &S,
     group: GroupId,
     restore: bool,
@@ -111,14 +111,14 @@ fn prestart_group_refusal<S: Sheet>(
         let state = group_state(control.registry(), group);
         Ok(Some(Refusal::NotAllowed(state)))
     } else {
-        members_refusal(control, alloc, sheet, group, restore)
+        members_refusal(alloc, control, sheet, group, restore)
     }
 }
 
 /// Why the members of a group aren't started, if they are refused.
 fn start_group_refusal<S: Sheet>(
-    control: &Control,
     alloc: Global,
+    control: &Control,
     sheet: &S,
     group: GroupId,
     prep: bool,
@@ -135,21 +135,21 @@ fn start_group_refusal<S: Sheet>(
     } else if !prep && !all_prepared(mappings, group) {
         Ok(Some(Refusal::NotPrepared))
     } else {
-        members_refusal(control, alloc, sheet, group, restore)
+        members_refusal(alloc, control, sheet, group, restore)
     }
 }
 
 /// Why the members of a group can't begin together, if they can't.
 fn members_refusal<S: Sheet>(
-    control: &Control,
     alloc: Global,
+    control: &Control,
     sheet: &S,
     group: GroupId,
     restore: bool,
 ) -> Result<Option<Refusal>, NoMemory>
     ensures { IfOk result (λ found. found ≡ first_of (trigger_refusal (members control.now.tables group) ∷ for_each (not_ready (books_of control.now (S.meaning sheet.now)) restore) (members control.now.tables group) ∷ [])) }
 {
-    match trigger_refusal(control, alloc, group)? {
+    match trigger_refusal(alloc, control, group)? {
         Some(refusal) => Ok(Some(refusal)),
         None => Ok(each_refusal(control, sheet, group, restore)),
     }
@@ -157,8 +157,8 @@ fn members_refusal<S: Sheet>(
 
 /// Why the members of a group can't be triggered at once, if they can't.
 fn trigger_refusal(
-    control: &Control,
     alloc: Global,
+    control: &Control,
     group: GroupId,
 ) -> Result<Option<Refusal>, NoMemory>
     ensures { IfOk result (λ found. found ≡ trigger_refusal (members control.now.tables group)) }

@@ -33,8 +33,8 @@ use std::alloc::Global;
 /// What is decided of a `startfcmap`: the first of its refusals, last that it would close a loop of restores; else
 /// the mapping is started.
 pub fn decide_startfcmap<S: Sheet>(
-    control: &Control,
     alloc: Global,
+    control: &Control,
     sheet: &S,
     map: &Ref,
     prep: bool,
@@ -57,7 +57,7 @@ pub fn decide_startfcmap<S: Sheet>(
                 }
                 None => {
                     let chosen = Chosen::One(mapping.id);
-                    let decision = start_unlooped(control, alloc, sheet, chosen, prep, restore)?;
+                    let decision = start_unlooped(alloc, control, sheet, chosen, prep, restore)?;
                     Ok(decision)
                 }
             }
@@ -67,8 +67,8 @@ pub fn decide_startfcmap<S: Sheet>(
 
 /// Mappings are started, unless that would close a loop of restores.
 pub fn start_unlooped<S: Sheet>(
-    control: &Control,
     alloc: Global,
+    control: &Control,
     sheet: &S,
     chosen: Chosen,
     prep: bool,
@@ -80,13 +80,13 @@ pub fn start_unlooped<S: Sheet>(
     requires apart { AreApart (chosen_of control.now.tables chosen) }
     ensures { IfOk result (λ decision. (loop : Option (List VolId)) × LoopAnswer (shape_of (triggered (map pair_of (chosen_of control.now.tables chosen)) (S.meaning sheet.now).sheet).slots) loop × (decision ≡ looped (S.meaning sheet.now).restarts (books_of control.now (S.meaning sheet.now)) loop (start prep restore control.now.tables (chosen_of control.now.tables chosen)))) }
 {
-    match loop_of(control, alloc, sheet, chosen)? {
+    match loop_of(alloc, control, sheet, chosen)? {
         Some(volumes) => {
             let decision = control.refuse(alloc, sheet, Refusal::RestoreLoop(volumes))?;
             Ok(decision)
         }
         None => {
-            let decision = start(control, alloc, sheet, chosen, prep, restore)?;
+            let decision = start(alloc, control, sheet, chosen, prep, restore)?;
             Ok(decision)
         }
     }
@@ -94,8 +94,8 @@ pub fn start_unlooped<S: Sheet>(
 
 /// The loop of restores that there would be right after the mappings were triggered.
 fn loop_of<S: Sheet>(
-    control: &Control,
     alloc: Global,
+    control: &Control,
     sheet: &S,
     chosen: Chosen,
 ) -> Result<Option<List<VolId>>, NoMemory>

@@ -25,8 +25,8 @@ use std::alloc::Global;
 
 /// Mappings are started, all at once, and lanes are told of the background work that changes.
 pub fn start<S: Sheet>(
-    control: &Control,
     alloc: Global,
+    control: &Control,
     sheet: &S,
     chosen: Chosen,
     prep: bool,
@@ -38,15 +38,15 @@ pub fn start<S: Sheet>(
     requires apart { AreApart (chosen_of control.now.tables chosen) }
     ensures { IfOk result (λ decision. decision ≡ with_work (S.meaning sheet.now).restarts (books_of control.now (S.meaning sheet.now)) Reply.Done (start prep restore control.now.tables (chosen_of control.now.tables chosen))) }
 {
-    let draft = draft_start(control, alloc, chosen, prep, restore)?;
+    let draft = draft_start(alloc, control, chosen, prep, restore)?;
     let whole = tell_started(control, sheet, draft, chosen)?;
     Ok(whole.into_decision(Reply::Done))
 }
 
 /// What starting mappings does, but for the background work.
 fn draft_start(
-    control: &Control,
     alloc: Global,
+    control: &Control,
     chosen: Chosen,
     prep: bool,
     restore: bool,

@@ -36,8 +36,8 @@ pub struct Asked {
 
 /// What a stop of a mapping does, where this is the answer of the chains.
 pub fn stop<S: Sheet>(
-    control: &Control,
     alloc: Global,
+    control: &Control,
     sheet: &S,
     draft: &mut Draft,
     way: StopWay,
@@ -47,16 +47,16 @@ pub fn stop<S: Sheet>(
     ensures { OnOk result (draft.new ≡ (draft.old then stop_asked mapping.now.state way asked.now.needed asked.now.dependents (books_of control.now (S.meaning sheet.now)) mapping.now)) }
 {
     match mapping.state {
-        MapState::Copying => stop_copying(control, alloc, sheet, draft, way, asked, mapping),
-        MapState::Stopping => stop_stopping(control, alloc, sheet, draft, way, asked, mapping),
+        MapState::Copying => stop_copying(alloc, control, sheet, draft, way, asked, mapping),
+        MapState::Stopping => stop_stopping(alloc, control, sheet, draft, way, asked, mapping),
         state => stop_idle(alloc, draft, way, state, mapping),
     }
 }
 
 /// A copying mapping is stopped: its slot leaves its place, its target is cut, it ends, and so do its dependents.
 fn stop_copying<S: Sheet>(
-    control: &Control,
     alloc: Global,
+    control: &Control,
     sheet: &S,
     draft: &mut Draft,
     way: StopWay,
@@ -66,15 +66,15 @@ fn stop_copying<S: Sheet>(
     ensures { OnOk result (draft.new ≡ (draft.old then stop_asked MapState.Copying way asked.now.needed asked.now.dependents (books_of control.now (S.meaning sheet.now)) mapping.now)) }
 {
     draft.tell(leave_event(alloc, way, asked, mapping.id)?)?;
-    leave_copying(control, alloc, sheet, draft, way, asked.needed, mapping)?;
+    leave_copying(alloc, control, sheet, draft, way, asked.needed, mapping)?;
     let dependents = asked.dependents.as_slice();
-    stop_dependents(control, alloc, sheet, draft, way, dependents)
+    stop_dependents(alloc, control, sheet, draft, way, dependents)
 }
 
 /// A copying mapping ends, after its slot left its place.
 fn leave_copying<S: Sheet>(
-    control: &Control,
     alloc: Global,
+    control: &Control,
     sheet: &S,
     draft: &mut Draft,
     way: StopWay,
@@ -85,14 +85,14 @@ fn leave_copying<S: Sheet>(
 {
     let left = control.as_left(alloc, sheet, mapping)?;
     let whole = left.complete;
-    cut(control, alloc, sheet, draft, mapping, whole)?;
+    cut(alloc, control, sheet, draft, mapping, whole)?;
     end_stopped(draft, left, stopped(MapState::Copying, way, whole, needed))
 }
 
 /// A stopping mapping is stopped by force: its old slot is taken out, it ends, and so do its dependents.
 fn stop_stopping<S: Sheet>(
-    control: &Control,
     alloc: Global,
+    control: &Control,
     sheet: &S,
     draft: &mut Draft,
     way: StopWay,
@@ -105,13 +105,13 @@ fn stop_stopping<S: Sheet>(
     let state = stopped(MapState::Stopping, way, mapping.complete, asked.needed);
     end_stopped(draft, copy_mapping(alloc, mapping)?, state)?;
     let dependents = asked.dependents.as_slice();
-    stop_dependents(control, alloc, sheet, draft, StopWay::Force, dependents)
+    stop_dependents(alloc, control, sheet, draft, StopWay::Force, dependents)
 }
 
 /// Where the mapping's copy isn't whole its target is cut.
 fn cut<S: Sheet>(
-    control: &Control,
     alloc: Global,
+    control: &Control,
     sheet: &S,
     draft: &mut Draft,
     mapping: &Mapping,
@@ -137,8 +137,8 @@ fn cut<S: Sheet>(
 
 /// By force the dependents of a mapping are stopped with it.
 fn stop_dependents<S: Sheet>(
-    control: &Control,
     alloc: Global,
+    control: &Control,
     sheet: &S,
     draft: &mut Draft,
     way: StopWay,
@@ -147,15 +147,15 @@ fn stop_dependents<S: Sheet>(
     ensures { OnOk result (draft.new ≡ (draft.old then ends_those way dependents.now (books_of control.now (S.meaning sheet.now)))) }
 {
     match way {
-        StopWay::Force => stop_those(control, alloc, sheet, draft, dependents),
+        StopWay::Force => stop_those(alloc, control, sheet, draft, dependents),
         _ => Ok(()),
     }
 }
 
 /// The mappings with these ids are stopped, by id.
 fn stop_those<S: Sheet>(
-    control: &Control,
     alloc: Global,
+    control: &Control,
     sheet: &S,
     draft: &mut Draft,
     ids: &[MapId],
@@ -163,15 +163,15 @@ fn stop_those<S: Sheet>(
     ensures { OnOk result (draft.new ≡ (draft.old then all_deeds (stops_with (books_of control.now (S.meaning sheet.now))) (those ids.now control.now.tables.mappings))) }
 {
     for mapping in control.registry().all_mappings() {
-        stop_among(control, alloc, sheet, draft, ids, mapping)?;
+        stop_among(alloc, control, sheet, draft, ids, mapping)?;
     }
     Ok(())
 }
 
 /// A mapping is stopped where its id is one of these.
 fn stop_among<S: Sheet>(
-    control: &Control,
     alloc: Global,
+    control: &Control,
     sheet: &S,
     draft: &mut Draft,
     ids: &[MapId],
@@ -181,7 +181,7 @@ fn stop_among<S: Sheet>(
 {
     if is_among(ids, mapping) {
         let left = control.as_left(alloc, sheet, mapping)?;
-        cut(control, alloc, sheet, draft, mapping, left.complete)?;
+        cut(alloc, control, sheet, draft, mapping, left.complete)?;
         end_in(draft, left, MapState::Stopped)
     } else {
         Ok(())

@@ -38,8 +38,8 @@ use std::alloc::Global;
 /// What is decided of a `stopfcconsistgrp`: NoSuch without the group; Empty without members; NotAllowed where the stop
 /// acts on none of them; NotComplete of a split of an incomplete copy; else they are stopped, by id.
 pub fn decide_stopfcconsistgrp<S: Sheet>(
-    control: &Control,
     alloc: Global,
+    control: &Control,
     sheet: &S,
     group: &Ref,
     way: StopWay,
@@ -51,15 +51,15 @@ pub fn decide_stopfcconsistgrp<S: Sheet>(
         None => control.refuse(alloc, sheet, Refusal::NoSuch(Kind::Group)),
         Some(found) => match group_refusal_of_stop(control, sheet, way, found.id) {
             Some(refusal) => control.refuse(alloc, sheet, refusal),
-            None => stop_members(control, alloc, sheet, way, found.id),
+            None => stop_members(alloc, control, sheet, way, found.id),
         },
     }
 }
 
 /// The members of a group are stopped.
 fn stop_members<S: Sheet>(
-    control: &Control,
     alloc: Global,
+    control: &Control,
     sheet: &S,
     way: StopWay,
     group: GroupId,
@@ -68,15 +68,15 @@ fn stop_members<S: Sheet>(
     requires allowed { refused_group way (books_of control.now (S.meaning sheet.now)) group ≡ None }
     ensures { IfOk result (λ decision. decision ≡ with_work (S.meaning sheet.now).restarts (books_of control.now (S.meaning sheet.now)) Reply.Done (stop_group way (books_of control.now (S.meaning sheet.now)) (members control.now.tables group))) }
 {
-    let draft = draft_members(control, alloc, sheet, way, group)?;
+    let draft = draft_members(alloc, control, sheet, way, group)?;
     let draft = tell_work_after(control, sheet, draft)?;
     Ok(draft.into_decision(Reply::Done))
 }
 
 /// What the stops of all members do.
 fn draft_members<S: Sheet>(
-    control: &Control,
     alloc: Global,
+    control: &Control,
     sheet: &S,
     way: StopWay,
     group: GroupId,
@@ -87,15 +87,15 @@ fn draft_members<S: Sheet>(
 {
     let mut draft = Draft::new(alloc);
     for place in 0..control.registry().mappings() {
-        stop_member(control, alloc, sheet, &mut draft, way, group, place)?;
+        stop_member(alloc, control, sheet, &mut draft, way, group, place)?;
     }
     Ok(draft)
 }
 
 /// The mapping at a place is stopped, after those before it, where it is a member that the stop acts on.
 fn stop_member<S: Sheet>(
-    control: &Control,
     alloc: Global,
+    control: &Control,
     sheet: &S,
     draft: &mut Draft,
     way: StopWay,
@@ -113,7 +113,7 @@ fn stop_member<S: Sheet>(
         return Ok(());
     }
     let asked = ask_left(alloc, sheet, draft.changes(), way, mapping.id)?;
-    stop(control, alloc, sheet, draft, way, &asked, mapping)
+    stop(alloc, control, sheet, draft, way, &asked, mapping)
 }
 
 /// Why a stop of the group is refused, if it is.

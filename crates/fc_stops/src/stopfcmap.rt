@@ -31,8 +31,8 @@ use std::alloc::Global;
 /// What is decided of a `stopfcmap`: NoSuch without the mapping; InGroup of one in a group; NotAllowed by its state;
 /// NotComplete of a split of an incomplete copy; else its copy ends, and by force those of its dependents.
 pub fn decide_stopfcmap<S: Sheet>(
-    control: &Control,
     alloc: Global,
+    control: &Control,
     sheet: &S,
     map: &Ref,
     way: StopWay,
@@ -44,15 +44,15 @@ pub fn decide_stopfcmap<S: Sheet>(
         None => control.refuse(alloc, sheet, Refusal::NoSuch(Kind::Fcmap)),
         Some(mapping) => match stop_refusal(control, sheet, way, mapping) {
             Some(refusal) => control.refuse(alloc, sheet, refusal),
-            None => stop_mapping(control, alloc, sheet, way, mapping),
+            None => stop_mapping(alloc, control, sheet, way, mapping),
         },
     }
 }
 
 /// A mapping is stopped.
 fn stop_mapping<S: Sheet>(
-    control: &Control,
     alloc: Global,
+    control: &Control,
     sheet: &S,
     way: StopWay,
     mapping: &Mapping,
@@ -61,17 +61,17 @@ fn stop_mapping<S: Sheet>(
     requires allowed { refused_stop way (books_of control.now (S.meaning sheet.now)) mapping.now ≡ None }
     ensures { IfOk result (λ decision. decision ≡ with_work (S.meaning sheet.now).restarts (books_of control.now (S.meaning sheet.now)) Reply.Done (stops way (books_of control.now (S.meaning sheet.now)) mapping.now)) }
 {
-    let asked = ask_chains(control, alloc, sheet, way, mapping)?;
+    let asked = ask_chains(alloc, control, sheet, way, mapping)?;
     let mut draft = Draft::new(alloc);
-    stop(control, alloc, sheet, &mut draft, way, &asked, mapping)?;
+    stop(alloc, control, sheet, &mut draft, way, &asked, mapping)?;
     let draft = tell_work_after(control, sheet, draft)?;
     Ok(draft.into_decision(Reply::Done))
 }
 
 /// Whether a mapping's slot is needed, and by force which mappings depend on it.
 fn ask_chains<S: Sheet>(
-    control: &Control,
     alloc: Global,
+    control: &Control,
     sheet: &S,
     way: StopWay,
     mapping: &Mapping,

@@ -29,7 +29,7 @@ impl<D: Mdisk> Store<D> {
         requires sheet { S.meaning sheet.now ≡ view_of self.now.lanes }
         ensures { IfOk result (λ decision. IsDecisionOn self.now command.now decision) }
     {
-        decide(&self.control, self.alloc, command, sheet)
+        decide(self.alloc, &self.control, command, sheet)
     }
 
     /// The settling.
