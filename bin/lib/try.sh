@@ -11,6 +11,7 @@ try_program() { # WORD..
     fi
     report=$(mktemp) || return 1
     say "not proved: the program is compiled as it stands and run, in about a minute"
+    say "the output comes when it has ended; past 1 MiB, or 60 seconds of its own, there is none"
     (cd -- "$crate" && exec rt try -- "$@") 2>"$report"
     last=$(tail -n 1 -- "$report")
     if [[ $last =~ ^run=ended\ status=([0-9]+)( |$) ]]; then
