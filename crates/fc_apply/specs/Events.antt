@@ -10,7 +10,7 @@ use Rattle.fc_base.specs.declared.decision.LaneEvent.TheVariants.{Trigger}
 use Rattle.fc_base.specs.declared.request.Pair.{Pair}
 use Rattle.fc_books.specs.After.{begun}
 use Rattle.fc_chain.specs.Chains.{Chains, lane_grains}
-use Rattle.fc_chain.specs.Room.{BirthsFit, grains_come, slots_made}
+use Rattle.fc_events.specs.Room.{BirthsFit, grains_come, slots_made}
 use Rattle.fc_changed.specs.Row.{Row, restart_in, row_names, is_of}
 use Rattle.fc_diff.specs.State.{ChangesState, NewRow}
 use Rattle.std.specs.List.{list_any}
