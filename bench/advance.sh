@@ -17,7 +17,7 @@ session() { # whether the copy is made
     }'
 }
 
-fastest= before= plain=
+fastest='' before='' plain=''
 for ((round = 0; round < rounds; round++)); do
     session 0 >"$room/session"
     read -r seconds memory < <(timed "$room/session" run)

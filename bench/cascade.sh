@@ -32,7 +32,7 @@ printf '%-12s %9s %9s %10s %9s %9s\n' shape seconds MiB calls copies ratio
 for shape in cascade fan; do
     session "$shape" >"$room/session"
     calls=$(disk_calls "$room/session" 64)
-    fastest= fewest=
+    fastest='' fewest=''
     for ((round = 0; round < rounds; round++)); do
         read -r seconds memory < <(timed "$room/session" run --grain 64)
         fastest=$(lesser "$seconds" "$fastest")

@@ -25,8 +25,8 @@ repeated() { # COUNT LINE..
 
 seconds_of() { # the session of standard input
     cat >"$room/session"
-    local seconds memory
-    read -r seconds memory < <(timed "$room/session" run --grain 64)
+    local seconds
+    read -r seconds _ < <(timed "$room/session" run --grain 64)
     printf '%s' "$seconds"
 }
 

@@ -1,3 +1,4 @@
+# shellcheck shell=bash
 # What the benchmarks share. It is sourced, not run.
 #
 # Sets top, program and room (a folder that goes at the end), builds the program if there is none, and has:

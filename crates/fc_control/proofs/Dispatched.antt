@@ -7,7 +7,7 @@ use Rattle.fc_base.specs.declared.fault.Refusal.{Refusal}
 use Rattle.fc_base.specs.declared.size.GrainSize.{GrainSize}
 use Rattle.fc_books.specs.Books.{Books}
 use Rattle.fc_books.specs.Deciding.{decide, refused, IsLoopOf, LoopTold}
-use Rattle.fc_control.proofs.Looped.{Answers}
+use Rattle.fc_starts.proofs.Looped.{Answers}
 use Rattle.fc_control.specs.Dispatch.{is_start}
 
 told_none : (o : Option Refusal) (b : Books) (command : Command) → is_start command ≡ false → LoopTold o b command None

@@ -1,16 +1,7 @@
--- What the contracts of the control part cite beside `fc_books`.
-pub mod Control
-pub mod Outcome
-pub mod Telling
-pub mod Names
-pub mod Volumes
-pub mod Answering
-pub mod Mappings
-pub mod Choosing
-pub mod Starts
-pub mod Looping
+-- What contracts of all decisions cite beside `fc_books`.
 pub mod Dispatch
-pub mod Stops
-pub mod StopGroups
-pub mod Changes
-pub mod Applied
+pub use Rattle.fc_desk.specs.Changes
+pub use Rattle.fc_desk.specs.Control
+pub use Rattle.fc_desk.specs.Telling
+pub use Rattle.fc_objects.specs.Objects
+pub use Rattle.fc_starts.specs.Starts

@@ -16,12 +16,13 @@ use Rattle.fc_grains.specs.Grains.{stopped}
 use Rattle.fc_grains.specs.Quiet.{IsQuiet}
 use Rattle.fc_rules.specs.LaneTold.{LaneOf, grains_in}
 use Rattle.fc_lane.specs.Applying.{CanApply, HasApplied}
-use Rattle.fc_lane.specs.Events.{CanBeginRows, IsSized, chains_after}
-use Rattle.fc_lane.specs.Lane.{LaneView, AreRowsReady, ArmsNone, CanDoEvents, IsFollowing, IsSameLane, KeepsQuiet, of}
-use Rattle.fc_lane.specs.Parts.{IsReadyBeside, SameCounts, StandsFor, kind_of_told}
-use Rattle.fc_lane.proofs.Followed.{event_followed, first_births, restarts_fit, rows_sized, told_counts, told_sheet}
-use Rattle.fc_lane.proofs.LaneEvents.{of_same, same_counts}
-use Rattle.fc_lane.proofs.Telling.{arms_first, arms_rest, can_do, counts_same, counts_then, next_left, still_ready}
+use Rattle.fc_apply.specs.Events.{CanBeginRows, IsSized, chains_after, AreRowsReady}
+use Rattle.fc_lane.specs.Lane.{LaneView, ArmsNone, CanDoEvents, IsFollowing, IsSameLane, KeepsQuiet, of}
+use Rattle.fc_apply.specs.Parts.{IsReadyBeside, SameCounts, StandsFor}
+use Rattle.fc_steps.specs.Standing.{kind_of_told}
+use Rattle.fc_apply.proofs.Following.{event_followed, first_births, restarts_fit, rows_sized, told_counts, told_sheet}
+use Rattle.fc_lane.proofs.LaneEvents.{of_same, same_counts, arms_first, arms_rest}
+use Rattle.fc_apply.proofs.Telling.{can_do, counts_same, counts_then, next_left, still_ready}
 
 -- ---- one event
 

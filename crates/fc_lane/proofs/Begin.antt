@@ -1,18 +1,17 @@
 -- A lane that begins stands for what is told of it.
-use Rattle.std.proofs.Common.{◌≡◌, ℕ, Some, List, [], map, not, ◌==◌, refl, sym, ap, subst, ◌∙◌, arith}
+use Rattle.std.proofs.Common.{◌≡◌, ℕ, Some, List, [], map, refl, sym, ap, subst, ◌∙◌, arith}
 use Rattle.std.specs.List.{All}
-use Rattle.std.proofs.lemmas.List.Elements.{All-nil, All-filter}
+use Rattle.std.proofs.lemmas.List.Elements.{All-nil}
 use Rattle.fc_base.specs.Sheet.{no_slots}
 use Rattle.fc_base.specs.declared.size.GrainSize.{GrainSize}
 use Rattle.fc_grains.specs.Grains.{GrainsState, opened, silent_of, stopped}
 use Rattle.fc_grains.specs.Quiet.{IsQuiet}
-use Rattle.fc_grains.specs.Volumes.{VolumeGrains, stored, without}
+use Rattle.fc_grains.specs.Volumes.{VolumeGrains, stored}
 use Rattle.fc_mdisk.specs.Disk.{DiskState}
 use Rattle.fc_sheets.proofs.Lawful.{sheet_law_holds}
 use Rattle.fc_pictures.proofs.Lawful.{picture_law_holds}
 use Rattle.fc_lane.specs.Lane.{LaneView, IsLaneOf, begun}
-use Rattle.fc_lane.specs.Parts.{VolumeKind, kind_of_grains}
-use Rattle.fc_lane.specs.Standing.{Stands}
+use Rattle.fc_steps.specs.Standing.{VolumeKind, kind_of_grains, Stands}
 
 none_stand : (volumes : List VolumeGrains) → Stands no_slots [] volumes
 none_stand volumes = record {
@@ -52,11 +51,3 @@ begins_quiet grains grain disks is told = record {
   told = ap (λ (g : GrainsState). g.silent) is ∙ told;
   unarmed = subst (λ (vs : List VolumeGrains). All (λ (v : VolumeGrains). v.due ≡ Some 0) vs) (sym (ap (λ (g : GrainsState). g.volumes) is)) (All-nil (λ (v : VolumeGrains). v.due ≡ Some 0));
 }
-
-pub quiet_without : (old new : GrainsState) (id : ℕ) → IsQuiet old → new ≡ record old { volumes = without id old.volumes } → IsQuiet new
-quiet_without old new id quiet is =
-    let P : VolumeGrains → Type 0 = λ v. v.due ≡ Some 0 in
-    record {
-      told = ap (λ (g : GrainsState). g.silent) is ∙ quiet.told;
-      unarmed = subst (λ (vs : List VolumeGrains). All P vs) (sym (ap (λ (g : GrainsState). g.volumes) is)) (All-filter (λ (v : VolumeGrains). not (v.volume.0 == id)) P old.volumes quiet.unarmed);
-    }

@@ -1,8 +1,7 @@
 -- The entry of a copy or a cleaning.
-use Rattle.std.proofs.Common.{◌≡◌, ℕ, ◌<◌, ◌≤◌, ◌/◌, ◌%◌, Bool, true, false, cond, Option, Some, None, IsSome, List, length, refl, sym, ap, subst, ◌∙◌, inl, inr, slice_index_or}
+use Rattle.std.proofs.Common.{◌≡◌, ℕ, ◌≤◌, ◌/◌, ◌%◌, Option, Some, None, IsSome, List, refl, sym, ap, subst, ◌∙◌}
 use Rattle.fc_base.specs.Column.{needer}
-use Rattle.fc_base.specs.Sheet.{Slot, Sheet, slot_at, slot_id, column, birth_place, mapping_place}
-use Rattle.fc_base.specs.SheetFacts.{IsSound}
+use Rattle.fc_base.specs.Sheet.{Sheet, column, birth_place, mapping_place}
 use Rattle.fc_base.specs.declared.ids.GrainNo.{GrainNo}
 use Rattle.fc_base.specs.declared.ids.MapId.{MapId}
 use Rattle.fc_base.specs.declared.ids.SlotId.{SlotId}
@@ -15,59 +14,22 @@ use Rattle.fc_entry.specs.declared.entry.Entry.{Entry}
 use Rattle.fc_entry.specs.declared.entry.Past.{Past}
 use Rattle.fc_entry.specs.declared.entry.Past.TheVariants.{Step}
 use Rattle.fc_grains.specs.Grains.{GrainsState}
-use Rattle.fc_lane.specs.Entering.{HasEntered, HasFilled, IsFill, steps_entry}
+use Rattle.fc_lane.specs.Entering.{HasEntered, HasFilled, IsFill}
+use Rattle.fc_steps.specs.Asking.{steps_entry}
 use Rattle.fc_lane.specs.Lane.{LaneView, IsLaneOf, of}
-use Rattle.fc_lane.specs.StepsEnd.{StepsEnd, torn_in}
-use Rattle.fc_lane.specs.declared.stop.Stop.{Stop}
-use Rattle.fc_lane.specs.declared.stop.Stop.TheVariants.{Failed, NoMemory}
-use Rattle.fc_lane.proofs.Entering.{entry_done, entry_failed, entry_refused, lane_after, same_after}
-use Rattle.fc_lane.proofs.Naming.{birth_place_is}
-use Rattle.fc_moves.proofs.Search.{cases_option}
+use Rattle.fc_steps.specs.StepsEnd.{StepsEnd, torn_in}
+use Rattle.fc_steps.specs.declared.stop.Stop.{Stop}
+use Rattle.fc_steps.specs.declared.stop.Stop.TheVariants.{Failed, NoMemory}
+use Rattle.fc_steps.proofs.Ending.{entry_done, entry_failed, entry_refused}
+use Rattle.fc_lane.proofs.Entering.{lane_after, same_after}
 use Rattle.fc_pictures.proofs.Agreeing.{lane_law_holds}
 use Rattle.fc_rules.specs.GrainAnswers.{FillAnswers}
 use Rattle.fc_rules.specs.LaneRight.{IsRightInLane, LaneAnswers, MappingFill, record_of}
 use Rattle.fc_rules.specs.LaneTold.{LaneTold, place_of, told_past}
-use Rattle.fc_rules.specs.LaneTurn.{cleaned_slot, copied_slot, lacks_at, needer_at, spot_at}
+use Rattle.fc_rules.specs.LaneTurn.{cleaned_slot, copied_slot, spot_at}
 use Rattle.fc_rules.specs.Spot.{Spot}
 use Rattle.fc_rules.specs.Steps.{steps_of_fill}
-
--- ---- which slot
-
-pub some_of : {A : Type 0} (o : Option A) → IsSome o → (x : A) × (o ≡ Some x)
-some_of None e = absurd cc
-some_of (Some x) e = (x, refl)
-
-lacking : (x k : ℕ) (live holds : Bool) → cond live (cond holds None (Some x)) None ≡ Some k → x ≡ k
-lacking x k true true e = absurd cc
-lacking x k true false e = cc
-lacking x k false holds e = absurd cc
-
-copied_place : (slots : List Slot) (m g k : ℕ) → copied_slot slots m g ≡ Some k → mapping_place slots m ≡ Some k
-copied_place slots m g k e =
-    elim (cases_option (mapping_place slots m)) [
-      | inl none ↦ absurd (let f : None ≡ Some k = sym (ap (λ o. lacks_at slots o g) none) ∙ e in cc)
-      | inr x ↦ x.1 ∙ ap Some (lacking x.0 k (slot_at slots x.0).is_live (slice_index_or (slot_at slots x.0).held g true) (sym (ap (λ o. lacks_at slots o g) x.1) ∙ e))
-    ]
-
-cleaned_place : (slots : List Slot) (m g k : ℕ) → cleaned_slot slots m g ≡ Some k → (x : ℕ) × (mapping_place slots m ≡ Some x) × (needer (column slots g) x ≡ Some k)
-cleaned_place slots m g k e =
-    elim (cases_option (mapping_place slots m)) [
-      | inl none ↦ absurd (let f : None ≡ Some k = sym (ap (λ o. needer_at slots o g) none) ∙ e in cc)
-      | inr x ↦ (x.0, x.1, sym (ap (λ o. needer_at slots o g) x.1) ∙ e)
-    ]
-
--- a slot by its name
-named : (s : Sheet) (k : ℕ) (name : SlotId) (o : Option ℕ) → IsSound s → k < length s.slots → o ≡ Some k → Some name ≡ found s.slots o → birth_place s.slots name.0 ≡ Some k
-named s k name o sound below e f =
-    let same : name ≡ slot_id s.slots k = some_is (f ∙ ap (found s.slots) e) in
-    ap (λ (z : SlotId). birth_place s.slots z.0) same ∙ birth_place_is s k sound.names below
-  where
-    some_is : {x y : SlotId} → Some x ≡ Some y → x ≡ y
-    some_is {x} {y} e = ap (or_this x) e
-      where
-        or_this : SlotId → Option SlotId → SlotId
-        or_this a None = a
-        or_this a (Some b) = b
+use Rattle.fc_steps.proofs.Filling.{some_of, copied_place, cleaned_place, named}
 
 module _ (v : LaneView) (m : MapId) (grain : GrainNo) (of_lane : grain.0 % v.lanes ≡ v.lane) where
   abbrev g : ℕ

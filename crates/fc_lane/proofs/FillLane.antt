@@ -11,10 +11,10 @@ use Rattle.fc_chain.specs.Planning.{CanFill, moves_of_named, volume_count}
 use Rattle.fc_chain.proofs.Whole.{fits_short}
 use Rattle.fc_lane.specs.Entering.{HasFilled, IsFill, SameBeside}
 use Rattle.fc_lane.specs.Lane.{LaneView, IsLaneOf, IsReady, of}
-use Rattle.fc_lane.specs.StepsEnd.{CanMakeMoves, StepsEnd, StepsStand, torn_in}
-use Rattle.fc_lane.specs.declared.stop.Stop.{Stop}
+use Rattle.fc_steps.specs.StepsEnd.{CanMakeMoves, StepsEnd, StepsStand, torn_in}
+use Rattle.fc_steps.specs.declared.stop.Stop.{Stop}
 use Rattle.fc_lane.proofs.Entering.{stands_at}
-use Rattle.fc_lane.proofs.WriteEntry.{some_live}
+use Rattle.fc_steps.proofs.Writable.{some_live}
 use Rattle.fc_moves.proofs.Filling.{filled}
 use Rattle.fc_moves.proofs.Listing.{reached_root}
 use Rattle.fc_moves.proofs.Members.{not_in_nil}

@@ -1,5 +1,5 @@
 -- The entry of a read is right, and the lane stands for what is then told.
-use Rattle.std.proofs.Common.{◌≡◌, ℕ, ◌+◌, ◌*◌, ◌≤◌, ◌/◌, Bool, true, false, cond, eqb, List, [], ◌∷◌, map, take, drop, refl, sym, ap, subst, ◌∙◌, arith}
+use Rattle.std.proofs.Common.{◌≡◌, ℕ, ◌+◌, ◌*◌, ◌≤◌, ◌/◌, Bool, true, false, cond, eqb, None, List, [], ◌∷◌, map, take, drop, refl, sym, ap, subst, ◌∙◌, arith}
 use Rattle.fc_base.specs.Column.{holder}
 use Rattle.fc_base.specs.Count.{one_more}
 use Rattle.fc_base.specs.Grain.{block_bytes}
@@ -8,7 +8,7 @@ use Rattle.fc_base.specs.Sheet.{Sheet, slot_at, column}
 use Rattle.fc_base.specs.SheetFacts.{IsSound}
 use Rattle.fc_chain.specs.Chains.{Chains}
 use Rattle.fc_pick.specs.Flags.{WorkState}
-use Rattle.fc_lane.specs.Accesses.{AccessState}
+use Rattle.fc_apply.specs.Accesses.{AccessState}
 use Rattle.fc_rules.specs.Shows.{Shows}
 use Rattle.fc_rules.specs.LaneTurn.{spot_at}
 use Rattle.fc_base.specs.declared.request.ReadPart.{ReadPart}
@@ -27,13 +27,14 @@ use Rattle.fc_grains.specs.Grains.{GrainsState, stopped}
 use Rattle.fc_grains.specs.Quiet.{IsQuiet}
 use Rattle.fc_grains.specs.Volumes.{VolumeGrains, is_there, stored, changed, called}
 use Rattle.fc_lane.specs.Lane.{LaneView, IsLaneOf, of}
-use Rattle.fc_lane.specs.Parts.{StandsFor, SameVolumes, kind_of_grains}
+use Rattle.fc_apply.specs.Parts.{StandsFor}
+use Rattle.fc_steps.specs.Standing.{SameVolumes, kind_of_grains, HasGrains, Stands}
 use Rattle.fc_lane.specs.Entering.{HasEntered}
-use Rattle.fc_lane.specs.Reading.{GrainEnds, ReadEnds, read_entry}
-use Rattle.fc_lane.specs.Standing.{HasGrains, Stands}
-use Rattle.fc_lane.specs.declared.read.GrainRead.{GrainRead}
-use Rattle.fc_lane.specs.declared.read.GrainRead.TheVariants.{Done, IsLost, Failed}
-use Rattle.fc_lane.proofs.Moving.{ReadDone, read_done, one_holder}
+use Rattle.fc_steps.specs.Asking.{steps_entry}
+use Rattle.fc_steps.specs.Reading.{GrainEnds, ReadEnds}
+use Rattle.fc_steps.specs.declared.read.GrainRead.{GrainRead}
+use Rattle.fc_steps.specs.declared.read.GrainRead.TheVariants.{Done, IsLost, Failed}
+use Rattle.fc_steps.proofs.Moving.{ReadDone, read_done, one_holder}
 use Rattle.fc_pictures.proofs.Lawful.{picture_law_holds}
 use Rattle.fc_pictures.proofs.Staying.{stored_shows}
 use Rattle.fc_pictures.specs.Law.{now_of}
@@ -194,6 +195,9 @@ ended v v' same source place there Failed e = read_ends v v' same source place t
 
 abbrev pub Entered : ℕ → ℕ → ReadPart → LaneView → Entry → LaneView → Type 0
 Entered number actor part v entry v' = HasEntered v (λ told. FitsPart (of v) told part.volume part.block part.count) number actor (Read part) entry v'
+
+abbrev pub read_entry : ℕ → ℕ → ℕ → ReadPart → Reply → ℕ → ℕ → ℕ → Entry
+read_entry lane number actor part reply before after calls = steps_entry lane number actor (Read part) reply before after [] calls None
 
 abbrev pub Answers : LaneView → LaneView → ℕ → ℕ → ReadPart → Reply → ℕ → Type 0
 Answers v v' number actor part reply calls =

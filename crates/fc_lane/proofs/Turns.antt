@@ -1,8 +1,5 @@
 -- A worker's turn in a lane.
-use Rattle.std.proofs.Common.{◌≡◌, ℕ, ◌%◌, ◌<◌, Bool, true, IsSome, Option, Some, None, is_some, option_map, option_and_then, List, [], find, refl, sym, ap, subst, ◌∙◌, arith, inl, inr}
-use Rattle.std.proofs.lemmas.Nat.{div-mul-add, mod-mul-add}
-use Rattle.fc_base.specs.Column.{first_below}
-use Rattle.fc_base.specs.Sheet.{Slot, mapping_place}
+use Rattle.std.proofs.Common.{◌≡◌, ℕ, ◌%◌, ◌<◌, IsSome, Option, Some, None, List, [], refl, sym, ap, subst, arith}
 use Rattle.fc_base.specs.declared.ids.GrainNo.{GrainNo}
 use Rattle.fc_base.specs.declared.ids.MapId.{MapId}
 use Rattle.fc_base.specs.declared.request.Reply.{Reply}
@@ -12,19 +9,19 @@ use Rattle.fc_base.specs.declared.request.Request.TheVariants.{Copy, Clean, Copy
 use Rattle.fc_entry.specs.declared.entry.Entry.{Entry}
 use Rattle.fc_entry.specs.declared.entry.Past.{Past}
 use Rattle.fc_entry.specs.declared.entry.Past.TheVariants.{Step}
-use Rattle.fc_lane.specs.Entering.{steps_entry}
+use Rattle.fc_steps.specs.Asking.{steps_entry}
 use Rattle.fc_lane.specs.Lane.{LaneView, IsLaneOf, of}
-use Rattle.fc_lane.specs.Parts.{lane_of}
+use Rattle.fc_steps.specs.Standing.{lane_of}
 use Rattle.fc_lane.proofs.Entering.{lane_after, nothing_stands}
-use Rattle.fc_moves.proofs.Search.{cases_option, first_some}
-use Rattle.fc_pick.specs.Next.{next_work, work_of, can_work}
+use Rattle.fc_pick.specs.Next.{next_work}
 use Rattle.fc_pick.specs.declared.work.WorkFlags.{WorkFlags}
 use Rattle.fc_rules.specs.GrainAnswers.{FillAnswers}
 use Rattle.fc_rules.specs.LaneRight.{IsRightInLane, LaneAnswers, MappingFill, CopyAnswers, CleanAnswers, TurnAnswers, record_of, done_write}
-use Rattle.fc_rules.specs.LaneTold.{LaneOf, LaneTold, place_of, number_at, told_past}
-use Rattle.fc_rules.specs.LaneTurn.{copied_slot, cleaned_slot, grains_of, least_grain, next_copy, next_clean, spot_at}
+use Rattle.fc_rules.specs.LaneTold.{LaneOf, LaneTold, place_of, told_past}
+use Rattle.fc_rules.specs.LaneTurn.{copied_slot, cleaned_slot, least_grain, next_copy, next_clean, spot_at}
 use Rattle.fc_rules.specs.Spot.{Spot}
 use Rattle.fc_rules.specs.Steps.{HasDoneNothing, Step as OneStep, StoppedAt, steps_of_fill}
+use Rattle.fc_steps.proofs.Filling.{work_is, least_can}
 
 -- ---- the next piece of work
 
@@ -50,48 +47,6 @@ clean_next v told s = λ i.
     (s.parts.beside.flags_are i)
 
 -- ---- it can be done
-
-some_is : {A : Type 0} {x y : A} → Some x ≡ Some y → x ≡ y
-some_is {A} {x} {y} e = ap (or_this x) e
-  where
-    or_this : A → Option A → A
-    or_this a None = a
-    or_this a (Some b) = b
-
-work_by : (least : MapId → Option GrainNo) (row : WorkFlags) (o : Option GrainNo) (m : MapId) (g : GrainNo) → least row.map ≡ o → option_map {U = MapId × GrainNo} (λ (x : GrainNo). (row.map, x)) o ≡ Some (m, g) → least m ≡ Some g
-work_by least row None m g e q = absurd cc
-work_by least row (Some x) m g e q =
-    let pair : ◌≡◌ {A = MapId × GrainNo} (row.map, x) (m, g) = some_is q in
-    ap least (sym (ap (λ (p : MapId × GrainNo). p.0) pair)) ∙ (e ∙ ap (λ (p : MapId × GrainNo). Some p.1) pair)
-
-work_is : (has : WorkFlags → Bool) (least : MapId → Option GrainNo) (flags : List WorkFlags) (m : MapId) (g : GrainNo) → next_work has least flags ≡ Some (m, g) → least m ≡ Some g
-work_is has least flags m g e =
-    elim (cases_option (find (can_work has least) flags)) [
-      | inl none ↦ let f : ◌≡◌ {A = Option (MapId × GrainNo)} None (Some (m, g)) = sym (ap (option_and_then (work_of least)) none) ∙ e in absurd cc
-      | inr row ↦ work_by least row.0 (least row.0.map) m g refl (sym (ap (option_and_then (work_of least)) row.1) ∙ e)
-    ]
-
-some_from : (o : Option ℕ) → is_some o ≡ true → IsSome o
-some_from None e = absurd cc
-some_from (Some x) e = refl
-
--- the least grain is one that can be filled, of the lane
-least_can : (l : LaneOf) → l.lane < l.lanes → (slots : List Slot) (filled : ℕ → Option ℕ) (m : ℕ) (g : GrainNo) → least_grain l slots filled m ≡ Some g → IsSome (filled (place_of l g.0)) × (g.0 % l.lanes ≡ l.lane)
-least_can l i slots filled m g e =
-    let test : ℕ → Bool = λ x. is_some (filled x) in
-    let n : ℕ = grains_of slots (mapping_place slots m) in
-    let numbered : Option ℕ → Option GrainNo = option_map (λ x. record { 0 = number_at l x }) in
-    elim (cases_option (first_below test n)) [
-      | inl none ↦ let f : ◌≡◌ {A = Option GrainNo} None (Some g) = sym (ap numbered none) ∙ e in absurd cc
-      | inr p ↦
-          let f = first_some test n p.0 p.1 in
-          let at : ◌≡◌ {A = GrainNo} (record { 0 = number_at l p.0 }) g = some_is (sym (ap numbered p.1) ∙ e) in
-          let number : g.0 ≡ number_at l p.0 = sym (ap (λ (x : GrainNo). x.0) at) in
-          let place : place_of l g.0 ≡ p.0 = ap (place_of l) number ∙ div-mul-add p.0 l.lanes l.lane i in (
-            subst (λ x. IsSome (filled x)) (sym place) (some_from (filled p.0) f.passes),
-            ap (λ x. x % l.lanes) number ∙ mod-mul-add p.0 l.lanes l.lane i,
-          )
-    ]
 
 pub copy_can : (v : LaneView) (told : LaneTold) (m : MapId) (g : GrainNo) → v.lane < v.lanes → next_copy (of v) told ≡ Some (m, g) → IsSome (copied_slot told.sheet.slots m.0 (place_of (of v) g.0)) × (g.0 % v.lanes ≡ v.lane)
 copy_can v told m g i e =

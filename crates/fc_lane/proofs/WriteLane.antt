@@ -16,13 +16,16 @@ use Rattle.fc_base.specs.declared.state.MapState.{MapState}
 use Rattle.fc_chain.specs.Planning.{volume_count}
 use Rattle.fc_entry.specs.Picture.{grain_of_block}
 use Rattle.fc_entry.specs.declared.entry.Entry.{Entry}
-use Rattle.fc_lane.specs.Entering.{FitsWrite, HasEntered, SameBeside, steps_entry}
+use Rattle.fc_steps.specs.WriteStep.{FitsWrite, IsPlannedWrite, spot_of, write_in}
+use Rattle.fc_lane.specs.Entering.{HasEntered, SameBeside}
+use Rattle.fc_steps.specs.Asking.{steps_entry}
 use Rattle.fc_lane.specs.Lane.{LaneView, IsLaneOf, IsReady, of}
-use Rattle.fc_lane.specs.StepsEnd.{StandsAt, StepsEnd, StepsStand, torn_in}
-use Rattle.fc_lane.specs.WriteStep.{IsPlannedWrite, spot_of, write_in}
-use Rattle.fc_lane.specs.declared.stop.Stop.{Stop}
+use Rattle.fc_steps.specs.StepsEnd.{StandsAt, StepsEnd, StepsStand, torn_in}
+use Rattle.fc_steps.specs.declared.stop.Stop.{Stop}
 use Rattle.fc_lane.proofs.Entering.{same_after, stands_at}
-use Rattle.fc_lane.proofs.WriteEntry.{fits_write, lost_answers, plan_of_write, some_live, unreached, untouched_right, write_right, write_short}
+use Rattle.fc_lane.proofs.WriteEntry.{fits_write, lost_answers, unreached, untouched_right, write_right}
+use Rattle.fc_steps.proofs.Writable.{some_live, write_short}
+use Rattle.fc_steps.proofs.Writable.{plan_of_write}
 use Rattle.fc_rules.specs.GrainAnswers.{ByAccess, cannot_write}
 use Rattle.fc_rules.specs.LaneFits.{FitsPart}
 use Rattle.fc_rules.specs.LaneRight.{VolumeWrite, done_write}

@@ -5,9 +5,10 @@ use Rattle.fc_chain.specs.Chains.{lane_grains}
 use Rattle.fc_chain.specs.Room.{slots_made}
 use Rattle.fc_follow.specs.Following.{restarts, rows_event}
 use Rattle.fc_grains.specs.Quiet.{IsQuiet}
-use Rattle.fc_lane.specs.Events.{CanFollow, chains_after}
+use Rattle.fc_apply.specs.Events.{CanFollow, chains_after}
 use Rattle.fc_lane.specs.Lane.{LaneView, of}
-use Rattle.fc_lane.specs.Parts.{ArmsNot, CanDo, HasDone, SameVolumes}
+use Rattle.fc_apply.specs.Parts.{ArmsNot, CanDo, HasDone}
+use Rattle.fc_steps.specs.Standing.{SameVolumes}
 
 -- It can be done.
 pub record CanApply (v : LaneView) (e : LaneEvent) : Type 0 where

@@ -1,62 +1,17 @@
 -- Entries of a lane, and what stands after them.
-use Rattle.std.specs.Prelude.{◌≡◌, ℕ, ◌%◌, false, Option, Some, None, List, []}
+use Rattle.std.specs.Prelude.{◌≡◌, ℕ, ◌%◌, false, Option, Some, None, List}
 use Rattle.fc_base.specs.declared.request.Move.{Move}
-use Rattle.fc_base.specs.declared.request.Place.TheVariants.{Lane}
-use Rattle.fc_base.specs.declared.request.Reply.{Reply}
-use Rattle.fc_base.specs.declared.request.Reply.TheVariants.{Done, Moved, DiskFault, NoMemory}
 use Rattle.fc_base.specs.declared.request.Request.{Request}
-use Rattle.fc_base.specs.declared.request.Request.TheVariants.{Write as Writes, Copy as Copies, Clean as Cleans}
-use Rattle.fc_base.specs.declared.request.WritePart.{WritePart}
-use Rattle.fc_base.specs.Sheet.{birth_place, column, live_place}
-use Rattle.fc_base.specs.SheetFacts.{IsSound}
-use Rattle.fc_entry.specs.Picture.{grain_of_block}
+use Rattle.fc_base.specs.Sheet.{birth_place, column}
 use Rattle.fc_entry.specs.declared.entry.Entry.{Entry}
 use Rattle.fc_lane.specs.Lane.{LaneView, IsLaneOf, IsAsked, IsSameLane, KeepsQuiet, of}
-use Rattle.fc_lane.specs.StepsEnd.{StepsEnd, StepsStand, torn_in}
-use Rattle.fc_lane.specs.declared.ending.Ask.{Ask}
-use Rattle.fc_lane.specs.declared.ending.Ask.TheVariants.{Write, Copy, Clean}
-use Rattle.fc_lane.specs.declared.stop.Stop.{Stop}
-use Rattle.fc_lane.specs.declared.stop.Stop.TheVariants.{Failed, NoMemory as WantsMemory}
+use Rattle.fc_steps.specs.StepsEnd.{StepsEnd, StepsStand, torn_in}
+use Rattle.fc_steps.specs.declared.stop.Stop.{Stop}
 use Rattle.fc_pictures.specs.StepsLaw.{IsLiveAt}
-use Rattle.fc_rules.specs.LaneFits.{FitsPart}
 use Rattle.fc_rules.specs.LaneRight.{IsRightInLane, record_of}
 use Rattle.fc_rules.specs.LaneTold.{LaneOf, LaneTold, place_of, told_past}
 use Rattle.fc_rules.specs.LaneTurn.{spot_at}
 use Rattle.fc_rules.specs.Steps.{steps_of_fill}
-
--- What is asked of steps, and what is answered when all of them are done.
-abbrev pub request_of : Ask → Request
-request_of (Write part) = Writes part
-request_of (Copy m grain) = Copies m grain
-request_of (Clean m grain) = Cleans m grain
-
-abbrev pub done_of : Ask → Reply
-done_of (Write part) = Done
-done_of (Copy m grain) = Moved m grain
-done_of (Clean m grain) = Moved m grain
-
--- What is answered when steps ended so.
-abbrev pub reply_in : Reply → Option Stop → Reply
-reply_in reply None = reply
-reply_in reply (Some (Failed torn)) = DiskFault
-reply_in reply (Some WantsMemory) = NoMemory
-
--- An entry of a lane, of steps that ended so.
-abbrev pub steps_entry : ℕ → ℕ → ℕ → Request → Reply → ℕ → ℕ → List Move → ℕ → Option Stop → Entry
-steps_entry lane number actor request done before after moves calls stop =
-    record {
-      number = number;
-      actor = actor;
-      place = Lane lane;
-      request = request;
-      reply = reply_in done stop;
-      moves = moves;
-      effects = [];
-      torn = torn_in stop;
-      faults_before = before;
-      faults_after = after;
-      calls = calls;
-    }
 
 -- It is right for whatever is told and fits, and the lane then stands for what is told with it.
 pub record HasEntered (old : LaneView) (Fits : LaneTold → Type 0) (number actor : ℕ) (request : Request) (entry : Entry) (new : LaneView) : Type 0 where
@@ -66,13 +21,6 @@ pub record HasEntered (old : LaneView) (Fits : LaneTold → Type 0) (number acto
   pub quiet : KeepsQuiet old new
   pub plan_room : new.plan_room ≡ old.plan_room
   pub changes : new.changes ≡ old.changes
-
--- A write that fits; `t` is the place of the volume's live slot.
-pub record FitsWrite (l : LaneOf) (told : LaneTold) (part : WritePart) (t : ℕ) : Type 0 where
-  pub fits : FitsPart l told part.volume part.block part.count
-  pub place : live_place told.sheet.slots part.volume.0 ≡ Some t
-  pub live : IsLiveAt told.sheet.slots (place_of l (grain_of_block l.grain part.block)) t
-  pub sound : IsSound told.sheet
 
 -- The parts that steps don't touch.
 pub record SameBeside (old new : LaneView) : Type 0 where

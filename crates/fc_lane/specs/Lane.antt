@@ -1,26 +1,23 @@
 -- A lane as contracts see it, and when it stands for what is told.
-use Rattle.std.specs.Prelude.{◌≡◌, ℕ, ◌<◌, ◌≤◌, ◌^◌, cond, not, ◌&&◌, Option, Some, None, List, [], ◌∷◌, Contains}
-use Rattle.std.specs.List.{list_any}
-use Rattle.fc_base.specs.MovePlan.{PlannedMoves}
+use Rattle.std.specs.Prelude.{◌≡◌, ℕ, ◌<◌, ◌≤◌, ◌^◌, List, Contains}
 use Rattle.fc_base.specs.declared.decision.LaneEvent.{LaneEvent}
-use Rattle.fc_base.specs.Sheet.{Slot, volume_grains}
-use Rattle.fc_base.specs.declared.decision.LaneEvent.TheVariants.{Arm, Trigger}
+use Rattle.fc_base.specs.declared.decision.LaneEvent.TheVariants.{Arm}
 use Rattle.fc_base.specs.declared.ids.GrainNo.{GrainNo}
 use Rattle.fc_base.specs.declared.ids.VolId.{VolId}
-use Rattle.fc_base.specs.declared.request.Pair.{Pair}
 use Rattle.fc_base.specs.declared.request.Request.{Request}
-use Rattle.fc_changed.specs.Row.{Row, is_of}
 use Rattle.fc_chain.specs.Chains.{Chains}
 use Rattle.fc_chain.specs.Planning.{volume_count}
-use Rattle.fc_diff.specs.State.{ChangesState, NewRow}
+use Rattle.fc_diff.specs.State.{ChangesState}
 use Rattle.fc_entry.specs.declared.entry.Entry.{Entry}
 use Rattle.fc_follow.specs.Alike.{AreAlike}
 use Rattle.fc_follow.specs.Following.{Followed}
 use Rattle.fc_grains.specs.Grains.{GrainsState, stopped}
 use Rattle.fc_grains.specs.Quiet.{IsQuiet}
 use Rattle.fc_pick.specs.Flags.{WorkState}
-use Rattle.fc_lane.specs.Accesses.{AccessState}
-use Rattle.fc_lane.specs.Parts.{StandsFor, IsReadyFor, lane_of}
+use Rattle.fc_apply.specs.Accesses.{AccessState}
+use Rattle.fc_apply.specs.Events.{AreRowsReady}
+use Rattle.fc_apply.specs.Parts.{StandsFor, IsReadyFor}
+use Rattle.fc_steps.specs.Standing.{lane_of}
 use Rattle.fc_rules.specs.LaneTold.{LaneOf, LaneTold, nothing_told}
 
 -- Which lane it is, of how many; its chains, the physical grains of its volumes, how hosts reach each volume, the background
@@ -36,10 +33,6 @@ pub record LaneView : Type 0 where
   pub changes : ChangesState
   pub plan_room : ℕ
   pub entry_room : ℕ
-
-abbrev pub room_of : Option PlannedMoves → ℕ
-room_of None = 0
-room_of (Some plan) = plan.room
 
 abbrev pub of : LaneView → LaneOf
 of v = lane_of v.lane v.lanes v.grains.grain
@@ -62,20 +55,6 @@ pub record IsReady (v : LaneView) : Type 0 where
   pub few : volume_count v.chains.sheet.slots < 2 ^ 30
   pub plan : volume_count v.chains.sheet.slots ≤ v.plan_room
   pub entry : volume_count v.chains.sheet.slots ≤ v.entry_room
-
--- The rows of the mappings that are followed from a trigger on: those of incremental mappings that aren't followed yet.
-abbrev pub new_row : List Slot → Pair → NewRow
-new_row slots p = record { map = p.map.0; source = p.source.0; target = p.target.0; grains = volume_grains slots p.target.0 }
-
-abbrev pub new_rows : List Slot → List Row → List Pair → List NewRow
-new_rows slots rows [] = []
-new_rows slots rows (p ∷ ps) =
-    cond (p.incremental && not (list_any (is_of p.map.0) rows)) (new_row slots p ∷ new_rows slots rows ps) (new_rows slots rows ps)
-
--- They are ready, where the events begin with a trigger.
-abbrev pub AreRowsReady : List Slot → ChangesState → List LaneEvent → Type 0
-AreRowsReady slots s (Trigger pairs ∷ events) = s.ready ≡ new_rows slots s.rows pairs
-AreRowsReady slots s events = Unit {0}
 
 -- Events can be done without taking memory.
 pub record CanDoEvents (v : LaneView) (events : List LaneEvent) : Type 0 where

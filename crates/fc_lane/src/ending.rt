@@ -1,90 +1,17 @@
 //! The entries of a lane's steps.
 
-ghost use Rattle.std.specs.Prelude.{◌≡◌, ◌<◌, ◌≤◌, [], None};
-ghost use Rattle.fc_lane.specs.Entering.{done_of, reply_in, request_of, steps_entry};
-ghost use Rattle.fc_lane.specs.Lane.{room_of};
-ghost use Rattle.fc_lane.specs.StepsEnd.{torn_in};
+ghost use Rattle.std.specs.Prelude.{◌≡◌, ◌<◌, [], None};
+ghost use Rattle.fc_steps.specs.Asking.{done_of, request_of};
+ghost use Rattle.fc_steps.specs.Asking.{steps_entry};
 
-use crate::body::StepEnd;
 use crate::lane::Lane;
-use crate::roomy::RoomyPlan;
-use crate::stop::Stop;
-use fc_base::ids::{GrainNo, MapId};
 use fc_base::list::List;
-use fc_base::move_plan::MovePlan;
-use fc_base::outcome::NoMemory;
-use fc_base::request::{Move, Place, Reply, Request, Torn, WritePart};
+use fc_base::request::{Move, Place, Reply, Request};
 use fc_entry::entry::Entry;
 use fc_mdisk::mdisk::Mdisk;
+use fc_steps::ask::{Ask, reply_of, request_of, torn_of};
+use fc_steps::body::StepEnd;
 use std::alloc::Global;
-
-/// What is asked of a lane's steps.
-#[derive(Clone, Copy, Debug, PartialEq, Eq)]
-pub(crate) enum Ask {
-    /// A host writes.
-    Write(WritePart),
-    /// A grain of a mapping is copied in the background.
-    Copy { map: MapId, grain: GrainNo },
-    /// A grain that others need from a mapping's target is handed on.
-    Clean { map: MapId, grain: GrainNo },
-}
-
-/// The request.
-fn request_of(ask: Ask) -> Request
-    ensures { result ≡ request_of ask }
-{
-    match ask {
-        Ask::Write(part) => Request::Write(part),
-        Ask::Copy { map, grain } => Request::Copy { map, grain },
-        Ask::Clean { map, grain } => Request::Clean { map, grain },
-    }
-}
-
-/// What is answered when steps ended so.
-fn reply_of(ask: Ask, stop: Option<Stop>) -> Reply
-    ensures { result ≡ reply_in (done_of ask) stop }
-{
-    match stop {
-        Some(Stop::Failed(_)) => Reply::DiskFault,
-        Some(Stop::NoMemory) => Reply::NoMemory,
-        None => match ask {
-            Ask::Write(_) => Reply::Done,
-            Ask::Copy { map, grain } => Reply::Moved { map, grain },
-            Ask::Clean { map, grain } => Reply::Moved { map, grain },
-        },
-    }
-}
-
-/// What a stop leaves torn.
-fn torn_of(stop: Option<Stop>) -> Option<Torn>
-    ensures { result ≡ torn_in stop }
-{
-    match stop {
-        Some(Stop::Failed(torn)) => torn,
-        Some(Stop::NoMemory) => None,
-        None => None,
-    }
-}
-
-/// A plan with room for so many moves; where there is no memory for it, the spare one.
-pub(crate) fn room_for(alloc: Global, moves: usize, spare: &mut Option<RoomyPlan>) -> MovePlan
-    requires some { 0 < room_of spare.old }
-    requires room { moves ≤ room_of spare.old }
-    ensures empty { result.moves ≡ [] }
-    ensures room { moves ≤ result.room }
-{
-    match MovePlan::new(alloc, moves) {
-        Ok(plan) => plan,
-        Err(NoMemory) => match spare.take() {
-            Some(spare) => {
-                let mut plan = spare.into_plan();
-                plan.clear();
-                plan
-            }
-            None => unreachable!(),
-        },
-    }
-}
 
 impl<D: Mdisk> Lane<D> {
     /// The entry of steps that ended so.
@@ -115,6 +42,34 @@ impl<D: Mdisk> Lane<D> {
         }
     }
 
+    /// The entry of a request that ends now, after so many calls of disks and no move.
+    pub(crate) fn answered(
+        &self,
+        alloc: Global,
+        number: u64,
+        actor: u32,
+        request: Request,
+        reply: Reply,
+        before: u64,
+        calls: u32,
+    ) -> Entry
+        ensures { result ≡ steps_entry self.now.lane number actor request reply before self.now.grains.faults [] calls None }
+    {
+        Entry {
+            number,
+            actor,
+            place: Place::Lane(self.lane),
+            request,
+            reply,
+            moves: List::new(alloc),
+            effects: List::new(alloc),
+            torn: None,
+            faults_before: before,
+            faults_after: self.body.grains.faults(),
+            calls,
+        }
+    }
+
     /// The entry of a request for which nothing is done.
     pub(crate) fn untouched(
         &self,
@@ -127,18 +82,6 @@ impl<D: Mdisk> Lane<D> {
         ensures { result ≡ steps_entry self.now.lane number actor request reply self.now.grains.faults self.now.grains.faults [] 0 None }
     {
         let faults = self.body.grains.faults();
-        Entry {
-            number,
-            actor,
-            place: Place::Lane(self.lane),
-            request,
-            reply,
-            moves: List::new(alloc),
-            effects: List::new(alloc),
-            torn: None,
-            faults_before: faults,
-            faults_after: faults,
-            calls: 0,
-        }
+        self.answered(alloc, number, actor, request, reply, faults, 0)
     }
 }

@@ -7,9 +7,9 @@ ghost use Rattle.fc_lane.specs.Applying.{CanApply, HasApplied};
 ghost use Rattle.fc_lane.specs.Lane.{ArmsNone, CanDoEvents, IsFollowing, IsSameLane, KeepsQuiet, of};
 ghost use Rattle.fc_rules.specs.LaneFits.{WorksFirst};
 
-use crate::chains::{follow_event, ready_rows};
 use crate::lane::Lane;
-use crate::parts::{do_event, reserve_events};
+use fc_apply::chains::{follow_event, ready_rows};
+use fc_apply::parts::{do_event, reserve_events};
 use fc_base::decision::{LaneEvent, LaneEvents};
 use fc_base::outcome::NoMemory;
 use fc_mdisk::mdisk::Mdisk;

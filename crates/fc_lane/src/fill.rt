@@ -8,14 +8,15 @@ ghost use Rattle.fc_rules.specs.LaneRight.{IsRightInLane, record_of};
 ghost use Rattle.fc_rules.specs.LaneTold.{LaneTold, place_of, told_past};
 ghost use Rattle.fc_rules.specs.LaneTurn.{cleaned_slot, copied_slot};
 
-use crate::body::StepEnd;
-use crate::ending::{Ask, room_for};
 use crate::lane::Lane;
 use fc_base::ids::{GrainNo, MapId, SlotId};
 use fc_base::list::List;
 use fc_base::request::{Move, Planned};
 use fc_entry::entry::Entry;
 use fc_mdisk::mdisk::Mdisk;
+use fc_steps::ask::Ask;
+use fc_steps::body::StepEnd;
+use fc_steps::roomy::room_for;
 use std::alloc::Global;
 
 /// A fill: its moves that were made, and how they ended.

@@ -1,11 +1,11 @@
 //! The lane.
 
-use crate::access::Accesses;
-use crate::body::Body;
-use crate::roomy::RoomyPlan;
+use fc_apply::access::Accesses;
 use fc_diff::Changes;
 use fc_mdisk::mdisk::Mdisk;
 use fc_pick::Work;
+use fc_steps::body::Body;
+use fc_steps::roomy::RoomyPlan;
 use std::alloc::Global;
 use std::marker::Model;
 
@@ -26,7 +26,8 @@ pub struct Lane<D: Mdisk> {
 
 impl<D: Mdisk> Model for Lane<D> {
     ghost use Rattle.std.specs.Prelude.{◌<◌};
-    ghost use Rattle.fc_lane.specs.Lane.{LaneView, room_of};
+    ghost use Rattle.fc_lane.specs.Lane.{LaneView};
+    ghost use Rattle.fc_steps.specs.Plans.{room_of};
 
     ghost Value = { LaneView };
 

@@ -6,10 +6,8 @@ ghost use Rattle.fc_grains.specs.Grains.{IsUnarmed, opened, silent_of};
 ghost use Rattle.fc_grains.specs.Quiet.{IsQuiet};
 ghost use Rattle.fc_lane.specs.Lane.{IsFollowing, begun};
 
-use crate::access::Accesses;
-use crate::body::Body;
 use crate::lane::Lane;
-use crate::roomy::RoomyPlan;
+use fc_apply::access::Accesses;
 use fc_base::outcome::NoMemory;
 use fc_base::size::GrainSize;
 use fc_chain::Cascade;
@@ -17,6 +15,8 @@ use fc_diff::Changes;
 use fc_grains::grains::Grains;
 use fc_mdisk::mdisk::Mdisk;
 use fc_pick::Work;
+use fc_steps::body::Body;
+use fc_steps::roomy::RoomyPlan;
 use std::alloc::Global;
 
 impl<D: Mdisk> Lane<D> {

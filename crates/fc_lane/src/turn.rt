@@ -1,15 +1,13 @@
-//! Background work: the least grain that a copy, or a cleaning, of a mapping could fill, and a worker's turn.
+//! Background work: a worker's turn.
 
-ghost use Rattle.std.specs.Prelude.{◌≡◌, option_map};
+ghost use Rattle.std.specs.Prelude.{◌≡◌};
 ghost use Rattle.fc_base.specs.declared.request.Request.TheVariants.{CleanTurn, CopyTurn};
 ghost use Rattle.fc_lane.specs.Lane.{IsAsked, IsLaneOf, IsReady, IsSameLane, KeepsQuiet, of};
-ghost use Rattle.fc_lane.specs.Parts.{lane_of};
 ghost use Rattle.fc_lane.specs.Turns.{CanPick, clean_of, copy_of};
 ghost use Rattle.fc_rules.specs.LaneRight.{IsRightInLane, record_of};
 ghost use Rattle.fc_rules.specs.LaneTold.{LaneTold, told_past};
 ghost use Rattle.fc_rules.specs.LaneTurn.{cleaned_slot, copied_slot, least_grain, next_clean, next_copy};
 
-use crate::body::Body;
 use crate::lane::Lane;
 use fc_base::ids::{GrainNo, MapId};
 use fc_base::request::{Pick, Reply, Request};
@@ -17,36 +15,6 @@ use fc_entry::entry::Entry;
 use fc_mdisk::mdisk::Mdisk;
 use fc_pick::Grid;
 use std::alloc::Global;
-
-impl<D: Mdisk> Grid for Body<D> {
-    ghost least_lacking = { λ b m. least_grain (lane_of b.cascade.lane b.cascade.lanes b.grains.grain) b.cascade.sheet.slots (copied_slot b.cascade.sheet.slots m.0) m.0 };
-
-    ghost least_needed = { λ b m. least_grain (lane_of b.cascade.lane b.cascade.lanes b.grains.grain) b.cascade.sheet.slots (cleaned_slot b.cascade.sheet.slots m.0) m.0 };
-
-    fn lacking(&self, map: MapId) -> Option<GrainNo> {
-        match self.cascade.slot(map) {
-            Some(slot) => named(self.cascade.next_lacking(slot)),
-            None => None,
-        }
-    }
-
-    fn needed(&self, map: MapId) -> Option<GrainNo> {
-        match self.cascade.slot(map) {
-            Some(slot) => named(self.cascade.next_needed(slot)),
-            None => None,
-        }
-    }
-}
-
-/// The number as that of a grain.
-fn named(number: Option<u32>) -> Option<GrainNo>
-    ensures { result ≡ option_map (λ n. record { 0 = n }) number }
-{
-    match number {
-        Some(number) => Some(GrainNo(number)),
-        None => None,
-    }
-}
 
 /// The entry of a turn: what was done, which this entry tells, was asked by this request.
 fn turned(mut entry: Entry, request: Request) -> Entry

@@ -1,42 +1,26 @@
 //! Writes of blocks of one grain.
 
-ghost use Rattle.std.specs.Prelude.{◌≡◌, ◌<◌, ◌^◌, ◌/◌, ◌%◌, ℕ, Some, false, not};
+ghost use Rattle.std.specs.Prelude.{◌≡◌, ◌<◌, ◌^◌, ◌/◌, false};
 ghost use Rattle.fc_base.specs.declared.request.Request.TheVariants.{Write};
 ghost use Rattle.fc_base.specs.declared.state.Access.TheVariants.{Online};
 ghost use Rattle.fc_entry.specs.Picture.{grain_of_block};
-ghost use Rattle.fc_lane.specs.Entering.{FitsWrite, HasEntered};
+ghost use Rattle.fc_lane.specs.Entering.{HasEntered};
 ghost use Rattle.fc_lane.specs.Lane.{IsAsked, IsLaneOf, IsReady, IsSameLane, KeepsQuiet, of};
-ghost use Rattle.fc_lane.specs.StepsEnd.{StandsAt};
-ghost use Rattle.fc_lane.specs.WriteStep.{spot_of};
+ghost use Rattle.fc_steps.specs.WriteStep.{spot_of};
 ghost use Rattle.fc_rules.specs.GrainAnswers.{cannot_write};
 ghost use Rattle.fc_rules.specs.LaneFits.{FitsPart};
 ghost use Rattle.fc_rules.specs.LaneRight.{IsRightInLane, record_of};
-ghost use Rattle.fc_rules.specs.LaneTold.{LaneOf, LaneTold, access_in, place_of, told_past};
+ghost use Rattle.fc_rules.specs.LaneTold.{LaneTold, access_in, told_past};
 
-use crate::body::Body;
-use crate::ending::{Ask, room_for};
 use crate::lane::Lane;
 use fc_base::ids::GrainNo;
 use fc_base::request::{Planned, Reply, Request, WritePart};
 use fc_base::state::Access;
 use fc_entry::entry::Entry;
 use fc_mdisk::mdisk::Mdisk;
+use fc_steps::ask::Ask;
+use fc_steps::roomy::room_for;
 use std::alloc::Global;
-
-impl<D: Mdisk> Body<D> {
-    /// Whether a part of a grain, which stands at this place among the lane's, can be written: a part of a lost grain
-    /// can't be.
-    fn can_write(&self, part: WritePart, grain: u32, place: u32) -> bool
-        requires can { (l : LaneOf) × (told : LaneTold) × (t : ℕ) × StandsAt l told self.now.cascade self.now.grains × FitsWrite l told part t × (grain ≡ grain_of_block l.grain part.block) × (place ≡ place_of l (grain_of_block l.grain part.block)) }
-        ensures { (l : LaneOf) (told : LaneTold) (t : ℕ) → StandsAt l told self.now.cascade self.now.grains → FitsWrite l told part t → grain ≡ grain_of_block l.grain part.block → place ≡ place_of l (grain_of_block l.grain part.block) → result ≡ not (cannot_write l.grain (spot_of l told part) part) }
-    {
-        if part.count == self.grains.grain().blocks() {
-            return true;
-        }
-        let source = self.shown_by(part.volume, grain);
-        !self.grains.is_lost(source, place)
-    }
-}
 
 impl<D: Mdisk> Lane<D> {
     /// Writes blocks of one grain that can be written, at this place among the lane's, with the moves that this owes.

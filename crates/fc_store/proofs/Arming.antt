@@ -37,7 +37,7 @@ use Rattle.fc_books.specs.Starting.{prepare, start, supersedes, triggers, gives_
 use Rattle.fc_books.specs.Stopping.{leave_event, stop_event, stops, stops_in, stops_with, stop_dependents, stops_member, one_by_one, stop_group}
 use Rattle.fc_books.specs.Work.{changes_work, cleans, copies, work_events}
 use Rattle.fc_lane.specs.Lane.{ArmsNone}
-use Rattle.fc_lane.specs.Parts.{ArmsNot}
+use Rattle.fc_apply.specs.Parts.{ArmsNot}
 use Rattle.fc_store.specs.Arming.{arms}
 
 -- ---- events that arm nothing

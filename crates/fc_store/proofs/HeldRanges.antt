@@ -16,7 +16,7 @@ use Rattle.fc_base.specs.Column.{holder}
 use Rattle.fc_base.specs.declared.outcome.NoMemory.{NoMemory}
 use Rattle.fc_base.specs.declared.size.GrainSize.{GrainSize}
 use Rattle.fc_chain.specs.Chains.{Chains, IsThere, IsOfLane, in_lane, found}
-use Rattle.fc_control.proofs.Triggered.{count_cons}
+use Rattle.fc_desk.proofs.Counting.{count_cons}
 use Rattle.fc_lane.specs.Lane.{LaneView}
 use Rattle.fc_moves.proofs.Readers.{holder_is, is_holder, own_holder}
 use Rattle.fc_parts.proofs.Numbers.{part_at_grain}

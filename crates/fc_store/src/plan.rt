@@ -10,6 +10,7 @@ use fc_base::command::Command;
 use fc_base::decision::Decision;
 use fc_base::outcome::NoMemory;
 use fc_base::sheet::Sheet;
+use fc_control::decide;
 use fc_mdisk::mdisk::Mdisk;
 
 impl<D: Mdisk> Store<D> {
@@ -28,7 +29,7 @@ impl<D: Mdisk> Store<D> {
         requires sheet { S.meaning sheet.now ≡ view_of self.now.lanes }
         ensures { IfOk result (λ decision. IsDecisionOn self.now command.now decision) }
     {
-        self.control.decide(self.alloc, command, sheet)
+        decide(self.alloc, &self.control, command, sheet)
     }
 
     /// The settling.

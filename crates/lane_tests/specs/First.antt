@@ -7,7 +7,7 @@ use Rattle.fc_base.specs.declared.size.GrainSize.TheVariants.{K64}
 use Rattle.fc_follow.specs.Following.{Followed, followed_event}
 use Rattle.fc_grains.specs.Grains.{opened}
 use Rattle.fc_lane.specs.Lane.{begun}
-use Rattle.fc_lane.specs.Parts.{lane_of}
+use Rattle.fc_steps.specs.Standing.{lane_of}
 use Rattle.fc_mdisk.specs.Disk.{DiskState}
 use Rattle.fc_rules.specs.LaneTold.{LaneOf}
 

@@ -1,8 +1,8 @@
 //! Whether a session in which one allocation may have been refused came out as it should.
 
 use fc_run::status::Status;
-use session_tests::sessions::Outcome;
-use session_tests::texts::Session;
+use session_runs::sessions::Outcome;
+use session_runs::texts::Session;
 
 /// How a line of the text ends that answers want of memory.
 const NO_MEMORY: &[u8] = b" -> no memory";

@@ -2,8 +2,8 @@
 
 use crate::answers::is_right;
 use crate::sessions::{DISKS, run_flat, run_thin};
-use session_tests::sessions::Outcome;
-use session_tests::texts::{
+use session_runs::sessions::Outcome;
+use session_runs::texts::{
     COMPLETE_STOPPED, FIRST_VOLUME, INCREMENTAL, STARTED_AGAIN, Session, THIN_WRITTEN,
 };
 use std::alloc::AllocError;

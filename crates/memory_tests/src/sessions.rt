@@ -6,8 +6,8 @@ ghost use Rattle.fc_mdisk.specs.Disk.{IsFresh};
 
 use crate::disks::thin_disks;
 use fc_mdisk::mdisk::Mdisk;
-use session_tests::sessions::{Outcome, flat_disks, run_over};
-use session_tests::texts::Session;
+use session_runs::sessions::{Outcome, flat_disks, run_over};
+use session_runs::texts::Session;
 use std::alloc::{AllocError, Global};
 
 /// How many disks there are: eight for each lane.

@@ -1,7 +1,7 @@
 //! Lines that the input ends, the greatest length of a line, and bytes that are no text.
 
-use crate::sessions::run;
 use fc_run::status::Status;
+use session_runs::sessions::run;
 use std::alloc::{AllocError, Global};
 use std::process::Abort;
 

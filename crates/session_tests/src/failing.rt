@@ -1,9 +1,9 @@
 //! Each call of the source and of the sink fails once, over whole sessions.
 
 use crate::longer::{all_answers, first_lines, session};
-use crate::sessions::{Outcome, flat_disks, run_over};
-use crate::texts::{COMPLETE_STOPPED, NIGHTS_WORK, RESTORED_WRITE, Session};
 use fc_run::status::Status;
+use session_runs::sessions::{Outcome, flat_disks, run_over};
+use session_runs::texts::{COMPLETE_STOPPED, NIGHTS_WORK, RESTORED_WRITE, Session};
 use std::alloc::{AllocError, Global};
 use std::process::Abort;
 

@@ -1,9 +1,9 @@
 //! Sessions that end as they should, and such whose calls fail.
 
 use crate::longer::{all_answers, answers_within, lines, session};
-use crate::sessions::{flat_disks, run, run_over};
-use crate::texts::FIRST_VOLUME;
 use fc_run::status::Status;
+use session_runs::sessions::{flat_disks, run, run_over};
+use session_runs::texts::FIRST_VOLUME;
 use std::alloc::AllocError;
 
 /// Faults that are armed and disarmed, and a second volume where the first has taken all disks.

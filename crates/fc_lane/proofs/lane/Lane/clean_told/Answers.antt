@@ -5,7 +5,7 @@ use Rattle.fc_base.specs.declared.ids.SlotId.{SlotId}
 use Rattle.fc_base.specs.declared.request.Reply.TheVariants.{Moved}
 use Rattle.fc_base.specs.declared.request.Request.TheVariants.{Clean}
 use Rattle.fc_chain.specs.Chains.{found}
-use Rattle.fc_lane.specs.Entering.{steps_entry}
+use Rattle.fc_steps.specs.Asking.{steps_entry}
 use Rattle.fc_lane.specs.Lane.{LaneView}
 use Rattle.fc_lane.proofs.FillEntry.{clean_fill, clean_entered}
 use Rattle.fc_lane.proofs.lane.Lane.clean_told.Goals as goal

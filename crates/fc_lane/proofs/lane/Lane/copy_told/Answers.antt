@@ -3,7 +3,7 @@ use Rattle.fc_base.specs.Sheet.{birth_place, mapping_place}
 use Rattle.fc_base.specs.declared.ids.SlotId.{SlotId}
 use Rattle.fc_base.specs.declared.request.Reply.TheVariants.{Moved}
 use Rattle.fc_base.specs.declared.request.Request.TheVariants.{Copy}
-use Rattle.fc_lane.specs.Entering.{steps_entry}
+use Rattle.fc_steps.specs.Asking.{steps_entry}
 use Rattle.fc_lane.specs.Lane.{LaneView}
 use Rattle.fc_lane.proofs.FillEntry.{copy_fill, copy_entered}
 use Rattle.fc_lane.proofs.lane.Lane.copy_told.Goals as goal

@@ -2,7 +2,8 @@ use Rattle.std.proofs.Common.{◌/◌, List, refl, ap, sym, subst, ◌∙◌}
 use Rattle.fc_base.specs.MovePlan.{PlannedMoves}
 use Rattle.fc_base.specs.declared.request.Move.{Move}
 use Rattle.fc_lane.specs.Entering.{HasFilled}
-use Rattle.fc_lane.specs.Lane.{LaneView, room_of}
+use Rattle.fc_lane.specs.Lane.{LaneView}
+use Rattle.fc_steps.specs.Plans.{room_of}
 use Rattle.fc_lane.proofs.FillLane.{CanFillHere, fill_can, fill_few, fill_fits, has_filled}
 use Rattle.fc_lane.proofs.lane.Lane.fill.Goals as goal
 

@@ -1,6 +1,6 @@
 use Rattle.std.proofs.Common.{rules, ◌<◌, ◌≤◌, ◌^◌, ℕ, subst}
 use Rattle.std.proofs.lemmas.Result.{on_ok_weaker}
-use Rattle.fc_lane.specs.Lane.{room_of}
+use Rattle.fc_steps.specs.Plans.{room_of}
 use Rattle.fc_lane.proofs.lane.Lane.make_room.Goals as goal
 
 pub returns-in-Ok-clause-ok : goal.returns-in-Ok-clause-ok

@@ -2,8 +2,10 @@ use Rattle.std.proofs.Common.{refl, ap, sym, subst, ◌∙◌}
 use Rattle.fc_base.specs.MovePlan.{PlannedMoves}
 use Rattle.fc_base.specs.declared.request.Reply.TheVariants.{Done}
 use Rattle.fc_base.specs.declared.request.Request.TheVariants.{Write}
-use Rattle.fc_lane.specs.Entering.{HasEntered, steps_entry}
-use Rattle.fc_lane.specs.Lane.{LaneView, of, room_of}
+use Rattle.fc_lane.specs.Entering.{HasEntered}
+use Rattle.fc_steps.specs.Asking.{steps_entry}
+use Rattle.fc_lane.specs.Lane.{LaneView, of}
+use Rattle.fc_steps.specs.Plans.{room_of}
 use Rattle.fc_rules.specs.LaneFits.{FitsPart}
 use Rattle.fc_lane.proofs.WriteLane.{IsWritable, plan_few, plan_fits, some_room, write_entered, write_planned}
 use Rattle.fc_lane.proofs.lane.Lane.write_grain.Goals as goal

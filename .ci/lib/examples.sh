@@ -1,0 +1,57 @@
+# shellcheck shell=bash disable=SC2154
+# The examples: each has its three files and says what it shows; unproved and by the proved program they print what is
+# recorded, to the byte. It is sourced, not run, at the top of the repository.
+
+# How many examples there are at the least: fewer are a mistake.
+least_examples=60
+
+# ---- each example is a session, its words and its history, and begins with a comment
+examples_whole() {
+    echo "== the examples' files"
+    local file name suffix count=0
+    for file in examples/*; do
+        name=${file%.args}
+        name=${name%.stdout}
+        for suffix in '' .args .stdout; do
+            [[ -f $name$suffix ]] || fail "$file: there is no $name$suffix"
+        done
+        [[ $file == "$name" ]] || continue
+        count=$((count + 1))
+        holds "$name doesn't begin with a comment that says what it shows" grep -qE '^# .{10}' <(head -n 1 -- "$name")
+    done
+    is_at_least "examples" "$least_examples" "$count"
+}
+
+# ---- before any proof: compiled with checks of memory
+examples_unproved() {
+    echo "== examples, compiled with checks of memory"
+    local said last all ended fault differs silent
+    said=$(cd crates/flashcopy && rt try --seconds "$most_seconds" --cases ../../examples 2>&1 >/dev/null)
+    printf '%s\n' "$said"
+    last=$(tail -n 1 <<<"$said")
+    if [[ $last =~ ^cases=([0-9]+)\ ended=([0-9]+)\ fault=([0-9]+)\ differs=([0-9]+)\ no-answer=([0-9]+) ]]; then
+        all=${BASH_REMATCH[1]} ended=${BASH_REMATCH[2]} fault=${BASH_REMATCH[3]} differs=${BASH_REMATCH[4]}
+        silent=${BASH_REMATCH[5]}
+        passed=$((passed + ended))
+        failed=$((failed + fault + differs + silent))
+        is_at_least "examples that were tried" "$least_examples" "$all"
+    else
+        fail "the examples couldn't be tried"
+    fi
+}
+
+# ---- by the proved program: the same output to the byte, and status 0
+examples_proved() {
+    echo "== examples, by the proved program"
+    local args name words
+    for args in examples/*.args; do
+        name=${args%.args}
+        mapfile -t words <"$args"
+        run_program "${words[@]}" <"$name"
+        holds "$name: the output differs" cmp -s "$room/out" "$name.stdout"
+        is "$name: status" 0 "$status"
+    done
+    run_program run </dev/null
+    is "no input: status" 0 "$status"
+    holds "no input: something was written" wrote_nothing
+}

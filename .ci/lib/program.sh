@@ -1,0 +1,195 @@
+# shellcheck shell=bash disable=SC2154
+# What is checked of the built program: its words, drills, limits, and standard input and output that fail. It is
+# sourced, not run, at the top of the repository, behind counting.sh.
+
+# The words that are in the program's grammar, a line each.
+good_words() {
+    cat <<'END'
+run
+run --grain 64
+run --grain 256
+run --grain=64
+run --grain=256
+END
+}
+
+# Words that aren't.
+bad_words() {
+    cat <<'END'
+
+Run
+--
+-- run
+run --
+run --grain
+run --grain 128
+run --grain 064
+run --grain=
+run --grain= 64
+run --grain 64 --grain 64
+run --grain=64 --grain=64
+run --grain 64 64
+run --grains 64
+run -grain 64
+run 64
+run run
+drill
+drill x
+drill -1
+drill +7
+drill 18446744073709551616
+drill 000000000000000000007
+drill 7 8
+drill --grain 64 7
+drill 7 --grain 64
+Drill 7
+END
+}
+
+# ---- the words of the program: what isn't in their grammar is usage, and nothing is read or written
+words_of_program() {
+    echo "== the program's words"
+    local line words
+    while IFS= read -r line; do
+        read -ra words <<<"$line"
+        run_program "${words[@]}" <examples/first-volume
+        is "words '$line': status" 0 "$status"
+    done < <(good_words)
+    while IFS= read -r line; do
+        read -ra words <<<"$line"
+        run_program ${words[@]+"${words[@]}"} <examples/first-volume
+        is "words '$line': status" 2 "$status"
+        holds "words '$line': something was written" wrote_nothing
+    done < <(bad_words; printf '%s\n' --help --version -h help show build "run --summary" "try")
+    # a word that is empty
+    run_program "" <examples/first-volume
+    is "an empty word: status" 2 "$status"
+    run_program run "" <examples/first-volume
+    is "run and an empty word: status" 2 "$status"
+    run_program drill "" <examples/first-volume
+    is "drill and an empty word: status" 2 "$status"
+    # usage reads nothing
+    { "$program" walk; cat; } <examples/first-volume >"$room/out" 2>"$room/err"
+    holds "usage took bytes of its input" cmp -s "$room/out" examples/first-volume
+}
+
+# ---- drills: a summary in one line, and nothing of the input is read
+drills() {
+    echo "== drills"
+    run_program drill 7 <examples/first-volume
+    is "drill 7: status" 0 "$status"
+    is "drill 7" "entries 8829 reads 1550 writes 2039 moves 3308 refused 610 sum 2149241344" "$(<"$room/out")"
+    holds "drill 7: not one line" wrote_lines 1
+    holds "something was written to standard error" complained_of_nothing
+
+    local number
+    for number in 0 18446744073709551615 00000000000000000000; do
+        run_program drill "$number" <examples/first-volume
+        is "drill $number: status" 0 "$status"
+        holds "drill $number: not one line" wrote_lines 1
+    done
+
+    { "$program" drill 7 >/dev/null; cat; } <examples/first-volume >"$room/out" 2>"$room/err"
+    holds "a drill took bytes of its input" cmp -s "$room/out" examples/first-volume
+}
+
+# ---- limits: the input, the entries of the history, and the grains of all volumes
+newlines() { head -c "$1" /dev/zero | tr '\0' '\n'; }
+one_line() { head -c "$1" /dev/zero | tr '\0' 'x'; }
+accesses() { awk -v n="$1" 'BEGIN { print "mkvdisk -name A -size 1"; for (i = 0; i < n; i++) print "read A 0 1" }'; }
+
+limits_of_input() {
+    echo "== limits of the input"
+    run_program run --grain 64 < <(newlines 67108864)
+    is "67,108,864 newlines: status" 0 "$status"
+    holds "67,108,864 newlines: something was written" wrote_nothing
+
+    run_program run --grain 64 < <(newlines 67108865)
+    is "67,108,865 newlines: status" 7 "$status"
+    holds "67,108,865 newlines: something was written" wrote_nothing
+
+    run_program run --grain 64 < <(one_line 67108864)
+    is "a line of 67,108,864 bytes without a newline: status" 0 "$status"
+    is "a line of 67,108,864 bytes without a newline" "0 main - -> refused long line" "$(head -c 1000 "$room/out")"
+    holds "a line of 67,108,864 bytes without a newline: not one entry" wrote_lines 1
+
+    run_program run --grain 64 < <(one_line 67108865)
+    is "a line of 67,108,865 bytes: status" 7 "$status"
+    holds "a line of 67,108,865 bytes: something was written" wrote_nothing
+}
+
+limits_of_history() {
+    echo "== limits of the history"
+    run_program run --grain 64 < <(accesses 262143)
+    is "262,143 reads of a volume: status" 0 "$status"
+    holds "262,143 reads of a volume: not 262,144 lines" wrote_lines 262144
+
+    run_program run --grain 64 < <(accesses 262144)
+    is "262,144 reads of a volume: status" 6 "$status"
+    holds "262,144 reads of a volume: not 262,144 lines" wrote_lines 262144
+    is "the last entry of a full history" "262143 main read 0 0 1 -> data 512*00" "$(tail -n 1 "$room/out")"
+    holds "something was written to standard error" complained_of_nothing
+
+    # a copy of 32 grains a second that meets the limit in its second second: what was made stays
+    run_program run --grain 64 < <(
+        printf '%s\n' "mkvdisk -name A -size 4" "mkvdisk -name B -size 4" "mkfcmap -source A -target B" "startfcmap -prep 0"
+        awk 'BEGIN { for (i = 0; i < 262097; i++) print "read A 0 1" }'
+        echo "advance -seconds 3"
+    )
+    is "seconds that meet the limit: status" 6 "$status"
+    holds "seconds that meet the limit: not 262,144 lines" wrote_lines 262144
+    is "the entry of the seconds" "262101 main advance -seconds 3 -> ok" "$(tail -n 43 "$room/out" | head -n 1)"
+    is "the last entry of the seconds" "262143 main copy 0 41 -> moved 0 41" "$(tail -n 1 "$room/out")"
+}
+
+limits_of_volumes() {
+    echo "== limits of volumes"
+    # 8,192 grains, all that volumes may have together
+    run_program run --grain 64 < <(printf '%s\n' "mkvdisk -size 512" "mkvdisk -size 64 -unit kb" "mkvdisk -size 100 -unit kb")
+    is "8,192 grains and more: status" 0 "$status"
+    is "8,192 grains and more" "0 main mkvdisk -size 512 -> Virtual Disk, id [0], successfully created
+1 main mkvdisk -size 64 -unit kb -> refused limit 8192
+2 main mkvdisk -size 100 -unit kb -> refused bad value of size" "$(<"$room/out")"
+}
+
+# ---- want of memory: a line of 64 MiB is collected whole, and 64 MiB are all that there is, for it and for the program
+want_of_memory() {
+    echo "== want of memory"
+    (
+        ulimit -v 65536 || exit 99
+        exec timeout "$most_seconds" "$program" run --grain 64 >"$room/out" 2>"$room/err"
+    ) < <(one_line 67108864)
+    is "a line that there is no memory for: status" 5 $?
+    holds "a line that there is no memory for: something was written" wrote_nothing
+}
+
+# ---- standard input and output that fail
+failing_streams() {
+    echo "== standard input and output that fail"
+    # a folder can be opened and not read
+    run_program run --grain 64 <"$room"
+    is "standard input that fails: status" 3 "$status"
+    holds "standard input that fails: something was written" wrote_nothing
+    if [[ -c /dev/full && -w /dev/full ]]; then
+        timeout "$most_seconds" "$program" run --grain 64 <examples/first-volume >/dev/full 2>"$room/err"
+        is "standard output that fails: status" 4 $?
+        timeout "$most_seconds" "$program" drill 7 </dev/null >/dev/full 2>"$room/err"
+        is "standard output that fails in a drill: status" 4 $?
+    else
+        fail "there is no /dev/full, so standard output that fails couldn't be tried"
+    fi
+}
+
+# ---- the script over the proved program: it runs it, hands its status on, and says in a line what it means
+script_and_program() {
+    echo "== bin/flashcopy over the proved program"
+    bin/flashcopy run --grain 64 <examples/first-volume >"$room/out" 2>"$room/err"
+    is "bin/flashcopy on examples/first-volume: status" 0 $?
+    holds "bin/flashcopy on examples/first-volume: the output differs" cmp -s "$room/out" examples/first-volume.stdout
+    holds "bin/flashcopy on examples/first-volume: it complained" complained_of_nothing
+
+    (cd / && "$top/bin/flashcopy" run --grain 64 "$top/examples/two-grains" >"$room/out" 2>"$room/err")
+    is "bin/flashcopy from another folder: status" 0 $?
+    holds "bin/flashcopy from another folder: the output differs" cmp -s "$room/out" examples/two-grains.stdout
+    holds "bin/flashcopy --version doesn't name the kit at hand" grep -qF -- "$(rt version)" <(bin/flashcopy --version)
+}

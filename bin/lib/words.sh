@@ -1,0 +1,148 @@
+# shellcheck shell=bash
+# The words of bin/flashcopy: their grammar, the usage text, and the meaning of a status. It is sourced, not run,
+# with `here` set to the top of the repository. What it sets is used by the other files.
+# shellcheck disable=SC2034,SC2154
+
+usage() {
+    cat <<'END'
+usage: flashcopy show [EXAMPLE]                a session beside the history that it must print, at once
+       flashcopy try [OPTION].. [SESSION]      runs a session with the program as it stands, unproved: about a minute
+       flashcopy run [OPTION].. [SESSION]      runs a session with the proved program, and proves and builds it first
+       flashcopy drill N                       the generated session of a number below 2^64, a summary of its history
+       flashcopy build                         proves and builds the program, and runs nothing
+       flashcopy help, -h, --help              this text
+       flashcopy --version                     the version, and the kit that the program was proved and built with
+
+A session is a list of lines: an administrator's commands, and reads and writes of hosts. Each is answered by
+an entry of the history, or by one for each grain that it touches. SESSION is a file; without it the session
+comes from standard input.
+
+    mkvdisk -name A -size 1
+    write A 0 1 5a
+    read A 0 2
+
+options of run and try:
+  --grain 64, --grain 256   grains of so many KiB (256 unless given); also --grain=64, --grain=256
+  --summary                 on standard error, behind the history: its entries, and how many are refused, unread
+                            and disk faults
+  --explain                 on standard error: each refused line with its number, the word that it is about, and
+                            a sentence on what to do
+  --strict                  status 10 where a line was refused or couldn't be read
+
+docs/MANUAL.md has every line and every answer, and what a summary counts.
+
+exit status:
+   0  the input was read to its end, and every line was answered
+   1  there is no built program, or try gave no answer (said by this script alone)
+   2  the words above weren't kept to; nothing was read
+   3  standard input failed; the lines that had ended were answered
+   4  standard output failed; it got a front of what was to be printed
+   5  memory was wanted and not had
+   6  the history is full, at 262,144 entries, and a line asks for more
+   7  the input has more than 67,108,864 bytes; the lines that ended before were answered
+  10  with --strict: all lines were answered, and one or more was refused or couldn't be read
+END
+    # what the program itself says of its words, where a crate prints that
+    local recorded=$here/crates/args_help/stdout
+    if [[ -f $recorded ]]; then
+        printf '\nthe words of the program itself, without this script:\n\n'
+        cat -- "$recorded"
+    fi
+}
+
+# The status of --strict, which is none of the program's.
+strict_status=10
+
+# A status in words, in one line.
+meaning() { # STATUS
+    case $1 in
+        1) echo "the program ended with a status that it doesn't have" ;;
+        2) echo "usage: flashcopy run [--grain 64|256] [SESSION], or flashcopy drill N (see --help)" ;;
+        3) echo "standard input failed; the lines that had ended were answered" ;;
+        4) echo "standard output failed; it got a front of what was to be printed" ;;
+        5) echo "memory was wanted and not had" ;;
+        6) echo "the history is full, at 262,144 entries, and a line asks for more" ;;
+        7) echo "the input has more than 67,108,864 bytes; the lines that ended before were answered" ;;
+        8) echo "the input ended inside a block, which wasn't run" ;;
+        "$strict_status") echo "a line was refused or couldn't be read (see --explain)" ;;
+        *)
+            if (($1 > 128)); then
+                echo "the program was ended by signal $(($1 - 128))"
+            else
+                echo "the program ended with a status that it doesn't have"
+            fi
+            ;;
+    esac
+}
+
+# Reads the words, and refuses what isn't in their grammar before anything is built or read. Sets
+#   task        run, try, drill, show, build, help or version
+#   words       the words that the program gets
+#   grain       64 or 256
+#   session     the session's file, or nothing for standard input
+#   example     the example to show, or nothing for the list
+#   wants_summary, wants_explain, is_strict   0 or 1
+read_words() { # WORD..
+    task='' words=() grain=256 session='' example=''
+    wants_summary=0 wants_explain=0 is_strict=0
+    (($# > 0)) || return 1
+    task=$1
+    shift
+    case $task in
+        -h | --help | help) task='help' && (($# == 0)) ;;
+        --version) task=version && (($# == 0)) ;;
+        build) (($# == 0)) ;;
+        show) read_show_words "$@" ;;
+        drill) read_drill_words "$@" ;;
+        run | try) read_run_words "$@" ;;
+        *) return 1 ;;
+    esac
+}
+
+read_show_words() { # [EXAMPLE]
+    (($# <= 1)) || return 1
+    (($# == 0)) || [[ $1 =~ ^[a-z0-9][a-z0-9-]*$ ]] || return 1
+    example=${1-}
+}
+
+# A number of 1 to 20 digits below 2^64.
+read_drill_words() { # N
+    local greatest=18446744073709551615 number
+    (($# == 1)) && [[ $1 =~ ^[0-9]{1,20}$ ]] || return 1
+    number=00000000000000000000$1
+    number=${number: -20}
+    # of as many digits each, the order of the texts is that of the numbers
+    printf '%s\n' "$number" "$greatest" | LC_ALL=C sort -c 2>/dev/null || return 1
+    words=(drill "$1")
+}
+
+read_run_words() { # [OPTION].. [SESSION]
+    local has_grain=0 has_session=0
+    words=(run)
+    while (($# > 0)); do
+        case $1 in
+            --grain | --grain=*)
+                ((has_grain == 0)) || return 1
+                has_grain=1
+                if [[ $1 == --grain ]]; then
+                    (($# > 1)) || return 1
+                    shift
+                    grain=$1
+                else
+                    grain=${1#--grain=}
+                fi
+                [[ $grain == 64 || $grain == 256 ]] || return 1
+                words=(run --grain "$grain")
+                ;;
+            --summary) ((wants_summary++ == 0)) || return 1 ;;
+            --explain) ((wants_explain++ == 0)) || return 1 ;;
+            --strict) ((is_strict++ == 0)) || return 1 ;;
+            '' | -*) return 1 ;;
+            *)
+                ((has_session == 0)) || return 1
+                has_session=1 session=$1
+                ;;
+        esac
+        shift
+    done
+}

@@ -1,0 +1,4 @@
+-- What contracts of the events of a command cite.
+pub mod Accesses
+pub mod Parts
+pub mod Events

@@ -1,9 +1,0 @@
--- The ids so far.
-use Rattle.std.proofs.Common.{◌≡◌, map, take}
-use Rattle.std.specs.List.{filter}
-use Rattle.fc_base.specs.declared.volume.Mapping.{Mapping}
-use Rattle.fc_control.specs.Choosing.{is_chosen}
-use Rattle.fc_control.proofs.chosen.chosen_ids.Given as goal
-
-abbrev pub invariant-loop-mapping : goal.invariant-loop-mapping
-invariant-loop-mapping l = l.ids ≡ map (λ (m : Mapping). m.id) (filter (is_chosen l.chosen) (take l.mapping-index l.mappings))

@@ -1,9 +1,0 @@
--- The members so far.
-use Rattle.std.proofs.Common.{◌≡◌, take}
-use Rattle.fc_control.specs.Control.{books_of}
-use Rattle.fc_control.specs.StopGroups.{stops_in_group}
-use Rattle.fc_control.proofs.control.Control.draft_members.Given as goal
-
-abbrev pub invariant-loop-place : goal.invariant-loop-place
-invariant-loop-place g l =
-    l.draft ≡ stops_in_group l.fn.way l.fn.group (books_of l.fn.self (g.S.Sheet.meaning l.fn.sheet)) (take l.place l.fn.self.tables.mappings)

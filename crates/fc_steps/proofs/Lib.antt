@@ -1,0 +1,15 @@
+-- Lemmas of the steps of an entry.
+pub mod Stored
+pub mod Naming
+pub mod Moving
+pub mod MoveEnds
+pub mod StepsMade
+pub mod StepsLoop
+pub mod WritePrepare
+pub mod WriteOwn
+pub mod WriteAll
+pub mod Writable
+pub mod Shown
+pub mod Turning
+pub mod Filling
+pub mod Ending
