@@ -37,6 +37,18 @@ fn as_words<'a>(alloc: Global, words: &'a [String]) -> Result<Vec<&'a str>, Allo
     Ok(list)
 }
 
+/// What words ask for that aren't all built: `usage` where they aren't in the grammar at all.
+fn to_come(alloc: Global, in_full: Option<Asked>) -> Result<String, AllocError> {
+    match in_full {
+        None => format!(in alloc; "usage"),
+        Some(asked) => {
+            let mut text = asked_text(alloc, asked)?;
+            text.push_str(" to come")?;
+            Ok(text)
+        }
+    }
+}
+
 /// What the words ask for.
 pub fn answer_of(alloc: Global, words: &[String]) -> Result<String, AllocError> {
     let words = as_words(alloc, words)?;
@@ -46,13 +58,8 @@ pub fn answer_of(alloc: Global, words: &[String]) -> Result<String, AllocError> 
     let Ok(now) = read_words(alloc, words.as_slice()) else {
         return Err(AllocError);
     };
-    match (in_full, now) {
-        (None, None) => format!(in alloc; "usage"),
-        (Some(asked), None) => {
-            let mut text = asked_text(alloc, asked)?;
-            text.push_str(" to come")?;
-            Ok(text)
-        }
-        (_, Some(asked)) => asked_text(alloc, asked),
+    match now {
+        Some(asked) => asked_text(alloc, asked),
+        None => to_come(alloc, in_full),
     }
 }
