@@ -1,0 +1,3 @@
+-- Lemmas, one subject a file; and the definitions on closed examples.
+pub mod Fixed
+pub mod ScriptExamples

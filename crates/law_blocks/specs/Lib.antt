@@ -1,0 +1,2 @@
+-- What the law of blocks says.
+pub mod Law

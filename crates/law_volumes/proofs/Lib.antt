@@ -1,0 +1,3 @@
+-- Lemmas, one subject a file.
+pub mod Changes
+pub mod Deeds

@@ -1,0 +1,6 @@
+-- The law is proved in `Deeds`.
+use Rattle.law_volumes.proofs.Deeds.{volumes_law_holds}
+use Rattle.law_volumes.proofs.volumes_law.Goals as goal
+
+pub returns : goal.returns
+returns c = volumes_law_holds

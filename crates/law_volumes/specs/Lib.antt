@@ -1,0 +1,2 @@
+-- What the law of volumes says.
+pub mod Law
