@@ -1,5 +1,5 @@
 -- A disk that stops at a call.
-use Rattle.std.specs.Prelude.{◌≡◌, ◌⊎◌, ℕ, ◌+◌, ◌%◌, ◌≤◌, ◌<◌, ◌-◌, ◌^◌, ◌==◌, Bool, nat_le, if◌then◌else◌, List, length, replicate}
+use Rattle.std.specs.Prelude.{◌≡◌, ◌⊎◌, ℕ, ◌%◌, ◌≤◌, ◌<◌, ◌-◌, ◌^◌, ◌==◌, Bool, nat_le, if◌then◌else◌, List, length, replicate}
 use Rattle.fc_metadisk.specs.Disk.{Torn}
 
 -- A disk in memory: its bytes, and how many writes and syncs there were.
@@ -32,11 +32,12 @@ found_after d = if (d.stop % 2) == 1 then d.bytes else d.synced
 abbrev pub StopLeaves : StopState → List ℕ → Type 0
 StopLeaves d c = (c ≡ d.bytes) ⊎ (c ≡ d.synced)
 
--- What the fields of a stopping disk keep: the rows differ at most between two places; and it failed exactly if it stopped.
+-- What the fields of a stopping disk keep: the rows differ at most from `low` on and before `high`, where there is anything
+-- between the two; and it failed exactly if it stopped.
 pub record IsStopDisk (bytes synced : List ℕ) (low high calls faults stop : ℕ) : Type 0 where
   pub small : length bytes < 2 ^ 32
-  pub rising : low ≤ high
-  pub inside : high ≤ length bytes
+  pub low_inside : low ≤ length bytes
+  pub high_inside : high ≤ length bytes
   pub apart : Torn low (high - low) synced bytes
   pub counted : 0 < stop
   pub running : calls < stop → faults ≡ 0

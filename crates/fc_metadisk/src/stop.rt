@@ -1,6 +1,6 @@
 //! A disk that stops at a call.
 
-ghost use Rattle.std.specs.Prelude.{◌≡◌, ◌<◌, ◌≤◌, ◌+◌, ◌-◌, ◌^◌, ◌⊎◌, List, ℕ, length, replicate, nat_le, is_err, true, IfOk, OnOk, OnErr};
+ghost use Rattle.std.specs.Prelude.{◌≡◌, ◌<◌, ◌≤◌, ◌+◌, ◌-◌, ◌^◌, ◌⊎◌, List, ℕ, length, replicate, nat_le, if◌then◌else◌, is_err, true, IfOk, OnOk, OnErr};
 ghost use Rattle.std.specs.Bool.{OnTrue, OnFalse};
 ghost use Rattle.std.proofs.Common.{inl, refl};
 ghost use Rattle.fc_base.specs.Count.{one_more, FaultsAfter};
@@ -63,8 +63,46 @@ impl StopMeta {
         ensures stopped { result ≡ has_stopped self.now }
         ensures faults { OnFalse result (self.now.faults ≡ 0) }
         ensures faulted { OnTrue result (0 < self.now.faults) }
+        ensures small { self.now.stop < 2 ^ 32 }
     {
         u64::from(self.stop) <= self.calls
+    }
+
+    /// Counts a write or sync, and fails where it is the one at which the disk stops or a later one.
+    fn count_call(&mut self) -> Result<(), Failed>
+        ensures disk { self.new ≡ record self.old { calls = one_more self.old.calls; faults = self.new.faults } }
+        ensures told { is_err result ≡ has_stopped self.new }
+        ensures cause { FaultsAfter true (is_err result) self.old.faults self.new.faults }
+    {
+        self.calls = self.calls.saturating_add(1);
+        if u64::from(self.stop) <= self.calls {
+            self.faults = self.faults.saturating_add(1);
+            return Err(Failed);
+        }
+        Ok(())
+    }
+
+    /// Puts the bytes in their place, where they may be lost until they are synced.
+    fn put(&mut self, at: u32, bytes: &[u8])
+        requires { IsRange at (length bytes.now) self.old.bytes }
+        ensures { self.new ≡ record self.old { bytes = bytes_put at bytes.now self.old.bytes } }
+    {
+        let from = at as usize;
+        let end = from + bytes.len();
+        self.low = self.low.min(from);
+        self.high = self.high.max(end);
+        put_bytes(self.bytes.as_mut_slice(), at, bytes);
+    }
+
+    /// All that was written is synced.
+    fn settle(&mut self)
+        ensures { self.new ≡ record self.old { synced = self.old.bytes } }
+    {
+        let end = self.high.max(self.low);
+        let written = &self.bytes[self.low..end];
+        put_bytes(self.synced.as_mut_slice(), self.low as u32, written);
+        self.low = self.bytes.len();
+        self.high = 0;
     }
 
     /// The disk that is found after the stop: all that was written since the last sync, the write that failed included, if
@@ -76,6 +114,90 @@ impl StopMeta {
             MemMeta::of(self.bytes)
         } else {
             MemMeta::of(self.synced)
+        }
+    }
+}
+
+impl MetaDisk for StopMeta {
+    ghost seen = { λ d. d.bytes };
+
+    ghost may_leave = { StopLeaves };
+
+    ghost moment = { λ d. 0 };
+
+    ghost left_since = { λ d t c. StopLeaves d c };
+
+    ghost fault_count = { λ d. d.faults };
+
+    ghost calls = { λ d. d.calls };
+
+    ghost reads = { λ d. inl refl };
+
+    ghost counts_now = { λ d t c le now. now };
+
+    ghost only_now = { λ d c left. left };
+
+    fn size(&self) -> u32 {
+        self.bytes.len() as u32
+    }
+
+    fn faults(&self) -> u64 {
+        self.faults
+    }
+
+    fn read(&mut self, at: u32, out: &mut [u8]) -> Result<(), Failed>
+        requires { IsRange at (length out.old) self.old.bytes }
+        ensures bytes { OnOk result (out.new ≡ bytes_at at (length out.old) self.old.bytes) }
+        ensures row { self.new.bytes ≡ self.old.bytes }
+        ensures synced { self.new.synced ≡ self.old.synced }
+        ensures calls { self.new.calls ≡ self.old.calls }
+        ensures stop { self.new.stop ≡ self.old.stop }
+        ensures told { is_err result ≡ has_stopped self.old }
+        ensures cause { FaultsAfter true (is_err result) self.old.faults self.new.faults }
+    {
+        if self.has_stopped() {
+            self.faults = self.faults.saturating_add(1);
+            return Err(Failed);
+        }
+        get_bytes(self.bytes.as_slice(), at, out);
+        Ok(())
+    }
+
+    fn write_at(&mut self, at: u32, bytes: &[u8]) -> Result<(), Failed>
+        requires { IsRange at (length bytes.now) self.old.bytes }
+        ensures row { self.new.bytes ≡ (if has_stopped self.old then self.old.bytes else bytes_put at bytes.now self.old.bytes) }
+        ensures torn { Torn at (length bytes.now) self.old.bytes self.new.bytes }
+        ensures synced { self.new.synced ≡ self.old.synced }
+        ensures calls { self.new.calls ≡ one_more self.old.calls }
+        ensures stop { self.new.stop ≡ self.old.stop }
+        ensures told { is_err result ≡ has_stopped self.new }
+        ensures cause { FaultsAfter true (is_err result) self.old.faults self.new.faults }
+        ensures done { OnOk result (self.new.bytes ≡ bytes_put at bytes.now self.old.bytes) }
+        ensures crash { Follows (Torn at (length bytes.now)) (StopLeaves self.old) (StopLeaves self.new) }
+    {
+        if self.has_stopped() {
+            return self.count_call();
+        }
+        self.put(at, bytes);
+        self.count_call()
+    }
+
+    fn sync(&mut self) -> Result<(), Failed>
+        ensures row { self.new.bytes ≡ self.old.bytes }
+        ensures synced { self.new.synced ≡ (if has_stopped self.new then self.old.synced else self.old.bytes) }
+        ensures calls { self.new.calls ≡ one_more self.old.calls }
+        ensures stop { self.new.stop ≡ self.old.stop }
+        ensures told { is_err result ≡ has_stopped self.new }
+        ensures cause { FaultsAfter true (is_err result) self.old.faults self.new.faults }
+        ensures durable { OnOk result (Only self.old.bytes (StopLeaves self.new)) }
+        ensures crash { (c : List ℕ) → StopLeaves self.new c → StopLeaves self.old c }
+    {
+        match self.count_call() {
+            Ok(()) => {
+                self.settle();
+                Ok(())
+            }
+            Err(Failed) => Err(Failed),
         }
     }
 }
