@@ -1,0 +1,2 @@
+-- Lemmas on images with records applied.
+pub mod Folds

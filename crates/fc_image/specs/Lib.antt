@@ -1,0 +1,3 @@
+-- What records make of an image.
+pub mod Words
+pub mod Records
