@@ -1,0 +1,6 @@
+pub mod Totals
+pub mod Numbers
+pub mod Parts
+pub mod Books
+pub mod Telling
+pub mod Turning

@@ -1,0 +1,5 @@
+pub mod Lists
+pub mod Views
+pub mod Whole
+pub mod Rule
+pub mod Steps

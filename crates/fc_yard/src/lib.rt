@@ -1,0 +1,5 @@
+//! The yard.
+#![tactic(auto)]
+
+pub mod part;
+pub mod rule;
