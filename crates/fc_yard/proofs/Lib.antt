@@ -4,3 +4,5 @@ pub mod Parts
 pub mod Books
 pub mod Telling
 pub mod Turning
+pub mod Counting
+pub mod Passes

@@ -44,6 +44,11 @@ abbrev pub key_of : {S : Type 0} → List (ℕ × S) → ℕ
 key_of [] = 0
 key_of (c ∷ cs) = c.0
 
+-- what is in it
+abbrev pub slot_of : {S : Type 0} → S → List (ℕ × S) → S
+slot_of d [] = d
+slot_of d (c ∷ cs) = c.1
+
 module _ {W E P : Type 0} (fits : P → W → ℕ → P → Type 0) (sound : W → W → Type 0) (count : W → ℕ) (steps : W → ℕ → E → W → Type 0) (t : Terms P) where
   abbrev pub St : Type 0
   St = State (Stall P E) (View P E)
