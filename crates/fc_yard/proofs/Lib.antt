@@ -6,3 +6,4 @@ pub mod Telling
 pub mod Turning
 pub mod Counting
 pub mod Passes
+pub mod Sitting

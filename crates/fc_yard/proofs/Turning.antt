@@ -1,13 +1,14 @@
 -- The steps on a turn, and on the slot of a part that a pass holds, keep the rule.
-use Rattle.std.proofs.Common.{◌≡◌, ◌≢◌, ℕ, zero, suc, ◌+◌, ◌*◌, ◌<◌, ◌≤◌, List, [], ◌∷◌, ◌++◌, map, length, get_or, set, sym, refl, ap, ◌∙◌, subst, arith, length-set, get_or-set_other, get_or-set_same, Option, Some, None}
+use Rattle.std.proofs.Common.{◌≡◌, ◌≢◌, ℕ, zero, suc, ◌+◌, ◌*◌, ◌<◌, ◌≤◌, eqb, List, [], ◌∷◌, ◌++◌, map, length, get_or, set, sym, refl, ap, ◌∙◌, subst, arith, length-set, get_or-set_other, get_or-set_same, Option, Some, None}
 use mathlib.Core.Option.{some, none, some-ne-none, some-injective}
 use mathlib.Core.Option as maybe
 use mathlib.Core.Logic.{dite}
 use native.Mathlib.Decide.{ℕ_discrete}
+use prog.Atomic.{either}
 use lib.ListN.{get_elem?}
 use Rattle.std.proofs.lemmas.List.{map-set}
 use Rattle.atomic_table.specs.Table.{State, Me, step, Act, keeps, takes, gives, Allows}
-use Rattle.atomic_table.proofs.Lists.{set_here, set_else, set_again, at_map}
+use Rattle.atomic_table.proofs.Lists.{set_here, set_else, set_again, at_map, exchanged}
 use Rattle.fc_yard.specs.declared.rule.Stall.{Stall}
 use Rattle.fc_yard.specs.declared.rule.Stall.TheVariants.{Home}
 use Rattle.fc_yard.specs.declared.rule.View.{View}
@@ -48,6 +49,10 @@ key_of (c ∷ cs) = c.0
 abbrev pub slot_of : {S : Type 0} → S → List (ℕ × S) → S
 slot_of d [] = d
 slot_of d (c ∷ cs) = c.1
+
+-- where a turn is out, a try leaves it so
+pub kept_on : (m : ℕ) → m ≢ 0 → either (eqb m 0) 1 m ≢ 0
+kept_on m n = exchanged m 0 1 (λ b. b ≢ 0) (λ e. absurd (n e)) (λ other. n)
 
 module _ {W E P : Type 0} (fits : P → W → ℕ → P → Type 0) (sound : W → W → Type 0) (count : W → ℕ) (steps : W → ℕ → E → W → Type 0) (t : Terms P) where
   abbrev pub St : Type 0
