@@ -7,7 +7,7 @@ use Rattle.fc_yard.specs.declared.rule.Terms.{Terms}
 use Rattle.fc_yard.specs.Lists.{bit, total, times, once_below, AllStand}
 use Rattle.fc_yard.specs.Rule.{Account, AccountKept, Booked, parts_of}
 use Rattle.fc_yard.proofs.Totals.{total_set, total_same, total_more, each_set}
-use Rattle.fc_yard.proofs.Numbers.{once_more, times_append, stand_longer, stand_append, stand_more}
+use Rattle.fc_yard.proofs.Places.{once_more, times_append, stand_longer, stand_append, stand_more}
 
 module _ {P E : Type 0} (t : Terms P) where
   -- what holds of an account holds after more entries and tickets

@@ -20,7 +20,7 @@ use Rattle.fc_yard.specs.Whole.{OpensWith, Tells, Knows, Commits, CommitsAll}
 use Rattle.fc_yard.specs.Rule.{Grip, Account, grip, account, parts_of, PartKept, Booked, Kept}
 use Rattle.fc_yard.specs.Steps.{Looked, Ticketed, Drew, DrewFor}
 use Rattle.fc_yard.proofs.Totals.{write_here, write_else, each_set, same_map}
-use Rattle.fc_yard.proofs.Numbers.{within, stand_below}
+use Rattle.fc_yard.proofs.Places.{within, stand_below}
 use Rattle.fc_yard.proofs.Parts.{none_some, part_moves}
 use Rattle.fc_yard.proofs.Books.{books_looked, books_ticketed, books_drawn}
 use Rattle.fc_yard.proofs.Telling.{put, put_here, put_else, told_drawn, told_drawn_all}
@@ -173,3 +173,27 @@ module _ {W E P : Type 0} (fits : P → W → ℕ → P → Type 0) (sound : W �
              subst (λ (b : ℕ). R record { words = set s.words (16 * n + 16) b; homes = homes'; views = set s.views id w }) (sym fine) rule,
              (subst (λ (b : ℕ). AllBelow b v.made) (sym counter) (stand_below t.first k.entries v.made (kept.each id (account v) there).made), omega arith, room,
               λ q z same. subst (λ (c : List (ℕ × Stall P E)). DrewFor fits sound count steps v (key_of c) drawn (slot_of y c) (w, [])) same (refl, knows fits sound count steps t record { words = words'; homes = homes'; views = set s.views id w } rule id w (here_set s.views id v w at) live))))
+
+  -- the same in a table that is known to have n slots
+  module _ (slots n : ℕ) (same : slots ≡ n) (id : ℕ) (me : Me (Stall P E) (View P E)) where
+    pub looks_at : 0 < me.0.shares → Allows R slots id me (16 * n) (λ m. m) (Looked (step slots (16 * n) 0 0 none) me)
+    looks_at live = subst (λ (k : ℕ). Allows R k id me (16 * n) (λ m. m) (Looked (step k (16 * n) 0 0 none) me)) (sym same) (looks n id me live)
+
+    pub tickets_at : (first second : ℕ) → 0 < me.0.shares → second ≡ first + 1 → first < me.0.limit
+        → Allows R slots id me (16 * n) (λ m. either (eqb m first) second m) (Ticketed (step slots (16 * n) first second none) me)
+    tickets_at first second live next room =
+        subst (λ (k : ℕ). Allows R k id me (16 * n) (λ m. either (eqb m first) second m) (Ticketed (step k (16 * n) first second none) me)) (sym same) (tickets n id me first second live next room)
+
+    module _ (v : View P E) (p : ℕ) (near : p < n) (live : 0 < v.shares) (some_left : 0 < v.tickets) (hand : v.hand ≡ suc p) (most : v.limit < 2 ^ 64) where
+      pub draws_at : (e : _) (x : _) (entry : E) (part : P) → me ≡ (v, (p, Deed e x) ∷ []) → e.value ≡ entry → x.value ≡ part → Holds v p → Commits fits sound count steps v p part entry
+          → Allows R slots id me (16 * n + 16) (λ m. (m + 1) % 2 ^ 64) (Drew fits sound count steps (step slots (16 * n + 16) 1 0 none) me)
+      draws_at e x entry part is is_entry is_part holds commits =
+          subst (λ (k : ℕ). Allows R k id me (16 * n + 16) (λ m. (m + 1) % 2 ^ 64) (Drew fits sound count steps (step k (16 * n + 16) 1 0 none) me)) (sym same)
+            (draws n id me v p near live some_left hand most e x is holds (subst (λ (z : P × E). Commits fits sound count steps v p z.0 z.1) (λ i. (sym is_part i, sym is_entry i)) commits))
+
+      pub draws_all_at : (e : _) (xs : _) (entry : E) (parts : List P) → me ≡ (v, (p, Deeds e xs) ∷ []) → e.value ≡ entry → xs.value.items ≡ parts → HoldsAll v n → length parts ≡ n
+          → CommitsAll fits sound count steps n v parts entry → Allows R slots id me (16 * n + 16) (λ m. (m + 1) % 2 ^ 64) (Drew fits sound count steps (step slots (16 * n + 16) 1 0 none) me)
+      draws_all_at e xs entry parts is is_entry are_parts holds long commits =
+          subst (λ (k : ℕ). Allows R k id me (16 * n + 16) (λ m. (m + 1) % 2 ^ 64) (Drew fits sound count steps (step k (16 * n + 16) 1 0 none) me)) (sym same)
+            (draws_all n id me v p near live some_left hand most e xs is holds (ap (λ (l : List P). length l) are_parts ∙ long)
+              (subst (λ (z : List P × E). CommitsAll fits sound count steps n v z.0 z.1) (λ i. (sym are_parts i, sym is_entry i)) commits))

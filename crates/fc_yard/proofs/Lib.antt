@@ -1,9 +1,9 @@
 pub mod Totals
-pub mod Numbers
+pub mod Places
 pub mod Parts
 pub mod Books
 pub mod Telling
 pub mod Turning
 pub mod Counting
-pub mod Passes
+pub mod Sharing
 pub mod Sitting

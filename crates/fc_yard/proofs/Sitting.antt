@@ -3,11 +3,11 @@ use Rattle.std.proofs.Common.{◌≡◌, ℕ, suc, ◌<◌, List, [], ◌∷◌,
 use Rattle.atomic_table.specs.Table.{rest}
 use Rattle.atomic_table.specs.Seated.{TableId}
 use Rattle.fc_yard.specs.declared.rule.Stall.{Stall}
-use Rattle.fc_yard.specs.declared.rule.Stall.TheVariants.{Home}
+use Rattle.fc_yard.specs.declared.rule.Stall.TheVariants.{Home, Deed, Deeds}
 use Rattle.fc_yard.specs.declared.rule.View.{View}
-use Rattle.fc_yard.specs.Views.{held_of, took, put_back}
+use Rattle.fc_yard.specs.Views.{held_of, took, put_back, drew, drew_all}
 use Rattle.fc_yard.specs.Steps.{Mine, in_hand, won}
-use Rattle.fc_yard.specs.Calls.{PassView, became}
+use Rattle.fc_yard.specs.Calls.{PassView, IsNext, became}
 use Rattle.fc_yard.proofs.Totals.{write_here}
 
 module _ {P E : Type 0} where
@@ -83,3 +83,30 @@ module _ {P E : Type 0} where
   -- the slot gone home, the pass is at rest
   pub rests : (m m' : Mine P E) (v : View P E) → 0 < m.0.shares → v.shares ≡ m.0.shares → v.hand ≡ 0 → m' ≡ (v, []) → (m'.1 ≡ []) × (m'.0.hand ≡ 0) × (0 < m'.0.shares)
   rests m m' v live same hand r = (slots_of m' (v, []) r, ap (λ (n : Mine P E). n.0.hand) r ∙ hand, subst (λ (k : ℕ). 0 < k) (sym (ap (λ (n : Mine P E). n.0.shares) r ∙ same)) live)
+
+  -- a number was drawn for what was announced
+  deed_done : (K : View P E → Type 0) (f : View P E → View P E) (m0 m1 m2 m3 : Mine P E) (p : ℕ) (y z : Stall P E) → m0.1 ≡ [] → m1 ≡ (in_hand m0.0 (suc p), (p, y) ∷ m0.1) → m2 ≡ (m1.0, (p, z) ∷ rest m1.1)
+      → (m2.1 ≡ (p, z) ∷ [] → (m3 ≡ (f m2.0, [])) × K (f m2.0)) → (m3 ≡ (f (in_hand m0.0 (suc p)), [])) × K (f (in_hand m0.0 (suc p)))
+  deed_done K f m0 m1 m2 m3 p y z e a b told =
+      let hand = unparked m0 m1 p y e a in let had = exchanged m1 m2 (in_hand m0.0 (suc p)) p y z hand.0 hand.1 b in
+      let now : m2.0 ≡ in_hand m0.0 (suc p) = view_of m2 (in_hand m0.0 (suc p), (p, z) ∷ []) had in
+      let t = told (slots_of m2 (in_hand m0.0 (suc p), (p, z) ∷ []) had) in
+      (t.0 ∙ ap (λ (v : View P E). (f v, [])) now, subst (λ (v : View P E). K (f v)) now t.1)
+
+  pub drawn_one : (K : View P E → Type 0) (m0 m1 m2 m3 : Mine P E) (p n : ℕ) (y : Stall P E) (e : _) (x : _) (entry : E) (part : P) → m2 ≡ (m1.0, (p, Deed e x) ∷ rest m1.1) → e.value ≡ entry → x.value ≡ part → m0.1 ≡ []
+      → m1 ≡ (in_hand m0.0 (suc p), (p, y) ∷ m0.1)
+      → (m2.1 ≡ (p, Deed e x) ∷ [] → (m3 ≡ (drew m2.0 p x.value n e.value, [])) × K (drew m2.0 p x.value n e.value)) → (m3 ≡ (drew m0.0 p part n entry, [])) × K (drew m0.0 p part n entry)
+  drawn_one K m0 m1 m2 m3 p n y e x entry part b is_entry is_part at a told =
+      subst (λ (z : P × E). (m3 ≡ (drew m0.0 p z.0 n z.1, [])) × K (drew m0.0 p z.0 n z.1)) (λ i. (is_part i, is_entry i))
+        (deed_done K (λ (v : View P E). drew v p x.value n e.value) m0 m1 m2 m3 p y (Deed e x) at a b told)
+
+  pub drawn_all : (K : View P E → Type 0) (m0 m1 m2 m3 : Mine P E) (p n : ℕ) (y : Stall P E) (e : _) (xs : _) (entry : E) (parts : List P) → m2 ≡ (m1.0, (p, Deeds e xs) ∷ rest m1.1) → e.value ≡ entry → xs.value.items ≡ parts → m0.1 ≡ []
+      → m1 ≡ (in_hand m0.0 (suc p), (p, y) ∷ m0.1)
+      → (m2.1 ≡ (p, Deeds e xs) ∷ [] → (m3 ≡ (drew_all m2.0 xs.value.items n e.value, [])) × K (drew_all m2.0 xs.value.items n e.value)) → (m3 ≡ (drew_all m0.0 parts n entry, [])) × K (drew_all m0.0 parts n entry)
+  drawn_all K m0 m1 m2 m3 p n y e xs entry parts b is_entry are_parts at a told =
+      subst (λ (z : List P × E). (m3 ≡ (drew_all m0.0 z.0 n z.1, [])) × K (drew_all m0.0 z.0 n z.1)) (λ i. (are_parts i, is_entry i))
+        (deed_done K (λ (v : View P E). drew_all v xs.value.items n e.value) m0 m1 m2 m3 p y (Deeds e xs) at a b told)
+
+  -- the slot in hand says nothing of the number
+  pub next_same : (v : View P E) (k : ℕ) (m : Mine P E) (z : Stall P E) (p n : ℕ) → m ≡ (in_hand v k, (p, z) ∷ []) → IsNext m.0 n → IsNext v n
+  next_same v k m z p n e h = subst (λ (u : View P E). IsNext u n) (view_of m (in_hand v k, (p, z) ∷ []) e) h

@@ -7,7 +7,7 @@ use lib.ListN.{get_elem?}
 use Rattle.fc_yard.specs.declared.rule.View.{View}
 use Rattle.fc_yard.specs.Views.{held_of}
 use Rattle.fc_yard.specs.Whole.{Runs, Tells, Commits, CommitsAll, Stays}
-use Rattle.fc_yard.proofs.Numbers.{runs_more}
+use Rattle.fc_yard.proofs.Places.{runs_more}
 
 module _ {A : Type 0} where
   -- the parts as they are, but that at p

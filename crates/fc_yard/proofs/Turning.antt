@@ -19,7 +19,7 @@ use Rattle.fc_yard.specs.Whole.{OpensWith, Tells, Knows, Stays}
 use Rattle.fc_yard.specs.Rule.{Grip, Account, held_at, taken, busy, grip, account, parts_of, turn_word, ticket_word, number_word, PartKept, Booked, Kept}
 use Rattle.fc_yard.specs.Steps.{in_hand, won, Parked, Unparked, Gave, Won}
 use Rattle.fc_yard.proofs.Totals.{write_here, write_else, total_two, total_some, each_set, same_map}
-use Rattle.fc_yard.proofs.Numbers.{within}
+use Rattle.fc_yard.proofs.Places.{within}
 use Rattle.fc_yard.proofs.Parts.{busy_some, none_some, is_some, is_busy, part_stays, part_won, part_moves, part_given, part_missed}
 use Rattle.fc_yard.proofs.Telling.{put, put_here, put_else, told_given}
 
@@ -214,3 +214,8 @@ module _ {W E P : Type 0} (fits : P → W → ℕ → P → Type 0) (sound : W �
                (at_map grip s.views id v at) holds.1 (write_here None v.held p None) refl (put_here k.now p (Some x)) (set_here s.homes p (some (Home x)) l) (k.parts p l))
              (λ w0 opens. told_given fits sound count steps (parts_of t) t.first w0 k.now k.entries v p holds.0 x (opened s k id v at live).0 holds.1 now.0 stays (k.tells w0 opens)),
            λ q z e. ap (λ (r : List (ℕ × Stall P E)). (put_back v (key_of r), [])) e))
+
+  -- the same in a table that is known to have n slots
+  pub unparks_at : (slots n : ℕ) → slots ≡ n → (id p : ℕ) → p < n → (me : Me (Stall P E) (View P E)) (v : View P E) → me ≡ (v, []) → 0 < v.shares → v.hand ≡ 0 → Holds v p
+      → Allows Rule slots id me (16 * p) (λ m. m) (Unparked (step slots (16 * p) 0 0 none) me)
+  unparks_at slots n same id p near me v is live hand holds = subst (λ (k : ℕ). Allows Rule k id me (16 * p) (λ m. m) (Unparked (step k (16 * p) 0 0 none) me)) (sym same) (unparks n id p near me v is live hand holds)

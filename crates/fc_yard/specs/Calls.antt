@@ -4,6 +4,7 @@ use Rattle.atomic_table.specs.Seated.{TableId}
 use Rattle.atomic_table.specs.declared.shared.Seat.{Seat}
 use Rattle.fc_yard.specs.declared.rule.Stall.{Stall}
 use Rattle.fc_yard.specs.declared.rule.View.{View}
+use Rattle.fc_yard.specs.Lists.{AllBelow}
 use Rattle.fc_yard.specs.Views.{Holds}
 
 -- a yard: which one it is, how many parts it has, and the number that none reaches
@@ -40,3 +41,8 @@ module _ {P E : Type 0} where
 -- a table for n parts
 abbrev pub IsSized : TableId → ℕ → Type 0
 IsSized z n = (z.words ≡ 16 * n + 32) × (z.slots ≡ n) × (n < 2 ^ 58)
+
+module _ {P E : Type 0} where
+  -- a number of the yard that is above all that the pass drew before
+  abbrev pub IsNext : View P E → ℕ → Type 0
+  IsNext v n = AllBelow n v.made × (v.first ≤ n) × (n < v.limit)

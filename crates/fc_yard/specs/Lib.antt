@@ -4,3 +4,4 @@ pub mod Whole
 pub mod Rule
 pub mod Steps
 pub mod Calls
+pub mod Homes

@@ -13,6 +13,8 @@ use crate::plays::{Give, Park, Unpark, Win};
 use crate::rule::{STRIDE, Stall, View};
 use crate::yard::{Shelf, Yard};
 use atomic_table::Seat;
+use std::hint;
+use std::sync::Wait;
 
 /// Takes the part out of the slot in hand. The slot goes home.
 fn bring_out<W, E, P: Part<W, E>>(
@@ -64,6 +66,54 @@ impl<W, E, P: Part<W, E>> Yard<W, E, P> {
             return None;
         }
         Some(bring_out(shelf, &mut pass.seat, part))
+    }
+
+    /// The part, where its turn is free now. Else the turn's word says from now on that somebody waits for it.
+    fn take_or_mark(&self, pass: &mut Pass<P, E>, part: usize) -> Option<P>
+        requires yard { IsPassOf self.now pass.old }
+        requires part { part < self.now.parts }
+        requires free { held_of pass.old.view part ≡ None }
+        ensures taken { IfSome result (λ x. (pass.new ≡ became pass.old (took pass.old.view part x)) × Knows P.fits P.sound P.count P.steps pass.new.view) }
+        ensures out { IfNone result (pass.new ≡ pass.old) }
+    {
+        let shelf = &self.table.shared;
+        if shelf.swap::<Win<W>>(&mut pass.seat, STRIDE * part, 2) != 0 {
+            return None;
+        }
+        Some(bring_out(shelf, &mut pass.seat, part))
+    }
+
+    /// Looks a hundred times whether the turn of the part is free.
+    fn watch(&self, part: usize)
+        requires { part < self.now.parts }
+    {
+        for _ in 0..100 {
+            if self.table.shared.peek(STRIDE * part) == 0 {
+                return;
+            }
+            hint::spin_loop();
+        }
+    }
+
+    /// The part. Waits until its turn is free.
+    pub fn take<R: Wait>(&self, rt: &R, pass: &mut Pass<P, E>, part: usize) -> P
+        requires yard { IsPassOf self.now pass.old }
+        requires part { part < self.now.parts }
+        requires free { held_of pass.old.view part ≡ None }
+        ensures taken { pass.new ≡ became pass.old (took pass.old.view part result) }
+        ensures knows { Knows P.fits P.sound P.count P.steps pass.new.view }
+    {
+        if let Some(value) = self.try_take(pass, part) {
+            return value;
+        }
+        self.watch(part);
+        for _ in rt.forever() {
+            if let Some(value) = self.take_or_mark(pass, part) {
+                return value;
+            }
+            self.table.shared.park(rt, STRIDE * part, 2);
+        }
+        unreachable!()
     }
 
     /// Puts the part back, and whoever waits for it may take it.

@@ -18,12 +18,12 @@ pub struct Yard<W, E, P: Part<W, E>> {
 }
 
 impl<W, E, P: Part<W, E>> Model for Yard<W, E, P> {
-    ghost use Rattle.std.specs.Prelude.{◌≡◌};
+    ghost use Rattle.std.specs.Prelude.{◌≡◌, ◌<◌, ◌^◌};
     ghost use Rattle.fc_yard.specs.Calls.{YardView, IsSized};
 
     ghost Value = { YardView };
 
     ghost view = { λ y. record { id = y.table.shared.table_id; parts = y.parts; limit = y.limit } };
 
-    ghost invariant = { λ y. IsSized y.table.shared.table_id y.parts × (y.limit ≡ y.table.shared.key.limit) };
+    ghost invariant = { λ y. IsSized y.table.shared.table_id y.parts × (y.limit ≡ y.table.shared.key.limit) × (y.limit < 2 ^ 64) };
 }

@@ -13,10 +13,11 @@ use Rattle.fc_yard.specs.declared.rule.View.{View}
 use Rattle.fc_yard.specs.declared.rule.Terms.{Terms}
 use Rattle.fc_yard.specs.Lists.{total, times, once_below}
 use Rattle.fc_yard.specs.Views.{held_of, HoldsNone, split_off, split_from, joined, spent, opening_view}
+use Rattle.fc_yard.specs.Homes.{at_home, new_words}
 use Rattle.fc_yard.specs.Whole.{Runs, OpensWith, Tells, Ends, IsClosed}
 use Rattle.fc_yard.specs.Rule.{Grip, Account, grip, account, held_at, taken, busy, parts_of, first_view, PartKept, Booked, AccountKept, Kept}
 use Rattle.fc_yard.proofs.Totals.{total_none, total_only, total_two, each_set, same_map}
-use Rattle.fc_yard.proofs.Numbers.{within}
+use Rattle.fc_yard.proofs.Places.{within}
 use Rattle.fc_yard.proofs.Parts.{busy_none, part_stays, part_more}
 use Rattle.fc_yard.proofs.Books.{books_split, books_joined}
 use Rattle.fc_yard.proofs.Turning.{St, Rule, here_set, from_map, at_length, opened}
@@ -67,10 +68,6 @@ module _ {W E P : Type 0} (fits : P → W → ℕ → P → Type 0) (sound : W �
         tells = k.tells;
       }
 
--- the words of a new yard of n parts
-abbrev pub new_words : ℕ → ℕ → List ℕ
-new_words n first = set (set (replicate (16 * n + 32) 0) (16 * n) first) (16 * n + 16) first
-
 -- the only element of a list
 pub only_one : {A : Type 0} (a b : A) (id : ℕ) → get_elem? (a ∷ []) id ≡ some b → a ≡ b
 only_one a b zero e = some-injective a b e
@@ -93,9 +90,6 @@ some_at_or (y ∷ ys) zero x e = let same : y ≡ x = cc in ap (λ (z : _). some
 some_at_or (y ∷ ys) (suc p) x e = some_at_or ys p x e
 
 module _ {W E P : Type 0} (fits : P → W → ℕ → P → Type 0) (sound : W → W → Type 0) (count : W → ℕ) (steps : W → ℕ → E → W → Type 0) (t : Terms P) where
-  abbrev at_home : List P → List (Stall P E)
-  at_home parts = map (λ (x : P). Home x) parts
-
   pub starts : t.first ≤ t.limit → 0 < t.passes → Kept fits sound count steps t (opening (new_words (length (parts_of t)) t.first) (at_home (parts_of t)) (first_view t))
   starts room some_pass =
       let parts : List P = parts_of t in let n : ℕ = length parts in let v : View P E = first_view t in let words : List ℕ = new_words n t.first in
