@@ -1,11 +1,11 @@
 -- The books after each step that changes them.
-use Rattle.std.proofs.Common.{◌≡◌, ◌≢◌, ℕ, suc, ◌+◌, ◌-◌, ◌<◌, ◌≤◌, eqb, max, List, [], ◌∷◌, ◌++◌, length, set, sym, refl, ap, ◌∙◌, subst, arith, length-append, ⊎_elim}
+use Rattle.std.proofs.Common.{◌≡◌, ℕ, ◌+◌, ◌-◌, ◌<◌, ◌≤◌, max, List, [], ◌∷◌, ◌++◌, set, sym, refl, ap, ◌∙◌, subst, arith, length-append, ⊎_elim}
 use mathlib.Core.Option.{some}
 use lib.ListN.{get_elem?}
 use Rattle.atomic_table.proofs.Lists.{at_snoc}
 use Rattle.fc_yard.specs.declared.rule.Terms.{Terms}
-use Rattle.fc_yard.specs.Lists.{bit, total, times, once_below, AllStand}
-use Rattle.fc_yard.specs.Rule.{Account, AccountKept, Booked, parts_of}
+use Rattle.fc_yard.specs.Lists.{times, once_below, AllStand}
+use Rattle.fc_yard.specs.Rule.{Account, AccountKept, Booked}
 use Rattle.fc_yard.proofs.Totals.{total_set, total_same, total_more, each_set}
 use Rattle.fc_yard.proofs.Places.{once_more, times_append, stand_longer, stand_append, stand_more}
 
@@ -84,6 +84,6 @@ module _ {P E : Type 0} (t : Terms P) where
         each = each_set (AccountKept t es given) (set all i a') o gone
             (record { idle = λ _. (no_tickets, no_made); opened = λ l. absurd (omega arith); made = subst (AllStand t.first es) (sym no_made) tt; low = omega arith })
             (λ j u n below. each_set (AccountKept t es given) all i a'
-                (let p = k.each i a at in let q = k.each o b was_there in record { idle = λ z. absurd (omega arith); opened = λ l. p.opened live; made = stand_append t.first es a.made b.made p.made q.made; low = let x = p.low in let y = q.low in omega arith })
-                (λ l w m low. k.each l w low) j u below);
+            (let p = k.each i a at in let q = k.each o b was_there in record { idle = λ z. absurd (omega arith); opened = λ l. p.opened live; made = stand_append t.first es a.made b.made p.made q.made; low = let x = p.low in let y = q.low in omega arith })
+            (λ l w m low. k.each l w low) j u below);
       }

@@ -7,3 +7,4 @@ pub mod Turning
 pub mod Counting
 pub mod Sharing
 pub mod Sitting
+pub mod Housing

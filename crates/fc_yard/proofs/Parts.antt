@@ -2,15 +2,13 @@
 use Rattle.std.proofs.Common.{◌≡◌, ◌≢◌, ℕ, zero, suc, ◌+◌, ◌<◌, ◌≤◌, List, [], ◌∷◌, ◌++◌, length, set, sym, refl, ap, ◌∙◌, subst, arith, Option, Some, None}
 use mathlib.Core.Option.{some, some-ne-none, some-injective}
 use mathlib.Core.Option as maybe
-use mathlib.Core.Logic.{dite}
-use native.Mathlib.Decide.{ℕ_discrete}
 use lib.ListN.{get_elem?}
-use Rattle.atomic_table.proofs.Lists.{at_set, at_snoc}
+use Rattle.atomic_table.proofs.Lists.{at_snoc}
 use Rattle.fc_yard.specs.declared.rule.Stall.{Stall}
 use Rattle.fc_yard.specs.declared.rule.Stall.TheVariants.{Home}
 use Rattle.fc_yard.specs.Lists.{total}
 use Rattle.fc_yard.specs.Rule.{Grip, held_at, taken, busy, PartKept}
-use Rattle.fc_yard.proofs.Totals.{total_set, total_same, total_more, total_at, total_two, total_some, each_set}
+use Rattle.fc_yard.proofs.Totals.{total_set, total_same, total_more, total_at, total_two, each_set}
 
 pub busy_some : (n : ℕ) → n ≢ 0 → busy n ≡ 1
 busy_some zero h = absurd (h refl)

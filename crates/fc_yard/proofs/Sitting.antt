@@ -1,5 +1,5 @@
 -- What a pass is after several steps, and what its caller sees of it.
-use Rattle.std.proofs.Common.{◌≡◌, ℕ, suc, ◌<◌, List, [], ◌∷◌, sym, refl, ap, ◌∙◌, subst, Option, Some, None}
+use Rattle.std.proofs.Common.{◌≡◌, ℕ, suc, ◌<◌, List, [], ◌∷◌, sym, ap, ◌∙◌, subst, Some, None}
 use Rattle.atomic_table.specs.Table.{rest}
 use Rattle.atomic_table.specs.Seated.{TableId}
 use Rattle.fc_yard.specs.declared.rule.Stall.{Stall}
@@ -98,14 +98,14 @@ module _ {P E : Type 0} where
       → (m2.1 ≡ (p, Deed e x) ∷ [] → (m3 ≡ (drew m2.0 p x.value n e.value, [])) × K (drew m2.0 p x.value n e.value)) → (m3 ≡ (drew m0.0 p part n entry, [])) × K (drew m0.0 p part n entry)
   drawn_one K m0 m1 m2 m3 p n y e x entry part b is_entry is_part at a told =
       subst (λ (z : P × E). (m3 ≡ (drew m0.0 p z.0 n z.1, [])) × K (drew m0.0 p z.0 n z.1)) (λ i. (is_part i, is_entry i))
-        (deed_done K (λ (v : View P E). drew v p x.value n e.value) m0 m1 m2 m3 p y (Deed e x) at a b told)
+      (deed_done K (λ (v : View P E). drew v p x.value n e.value) m0 m1 m2 m3 p y (Deed e x) at a b told)
 
   pub drawn_all : (K : View P E → Type 0) (m0 m1 m2 m3 : Mine P E) (p n : ℕ) (y : Stall P E) (e : _) (xs : _) (entry : E) (parts : List P) → m2 ≡ (m1.0, (p, Deeds e xs) ∷ rest m1.1) → e.value ≡ entry → xs.value.items ≡ parts → m0.1 ≡ []
       → m1 ≡ (in_hand m0.0 (suc p), (p, y) ∷ m0.1)
       → (m2.1 ≡ (p, Deeds e xs) ∷ [] → (m3 ≡ (drew_all m2.0 xs.value.items n e.value, [])) × K (drew_all m2.0 xs.value.items n e.value)) → (m3 ≡ (drew_all m0.0 parts n entry, [])) × K (drew_all m0.0 parts n entry)
   drawn_all K m0 m1 m2 m3 p n y e xs entry parts b is_entry are_parts at a told =
       subst (λ (z : List P × E). (m3 ≡ (drew_all m0.0 z.0 n z.1, [])) × K (drew_all m0.0 z.0 n z.1)) (λ i. (are_parts i, is_entry i))
-        (deed_done K (λ (v : View P E). drew_all v xs.value.items n e.value) m0 m1 m2 m3 p y (Deeds e xs) at a b told)
+      (deed_done K (λ (v : View P E). drew_all v xs.value.items n e.value) m0 m1 m2 m3 p y (Deeds e xs) at a b told)
 
   -- the slot in hand says nothing of the number
   pub next_same : (v : View P E) (k : ℕ) (m : Mine P E) (z : Stall P E) (p n : ℕ) → m ≡ (in_hand v k, (p, z) ∷ []) → IsNext m.0 n → IsNext v n

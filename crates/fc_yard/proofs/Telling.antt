@@ -1,12 +1,12 @@
 -- What is told, after the steps that change it.
-use Rattle.std.proofs.Common.{◌≡◌, ◌≢◌, ℕ, suc, ◌+◌, ◌<◌, ◌≤◌, List, [], ◌∷◌, ◌++◌, length, sym, refl, ap, ◌∙◌, subst, arith, length-append, Option, Some, None}
+use Rattle.std.proofs.Common.{◌≡◌, ◌≢◌, ℕ, ◌<◌, List, [], ◌∷◌, ◌++◌, length, sym, refl, ◌∙◌, subst, arith, length-append, Option, Some}
 use mathlib.Core.Option.{some}
 use mathlib.Core.Logic.{dite}
 use native.Mathlib.Decide.{ℕ_discrete}
 use lib.ListN.{get_elem?}
 use Rattle.fc_yard.specs.declared.rule.View.{View}
 use Rattle.fc_yard.specs.Views.{held_of}
-use Rattle.fc_yard.specs.Whole.{Runs, Tells, Commits, CommitsAll, Stays}
+use Rattle.fc_yard.specs.Whole.{Tells, Commits, CommitsAll, Stays}
 use Rattle.fc_yard.proofs.Places.{runs_more}
 
 module _ {A : Type 0} where
@@ -34,9 +34,9 @@ module _ {W E P : Type 0} (fits : P → W → ℕ → P → Type 0) (sound : W �
     counted = k.counted;
     fit = λ q x0 x at has. dite (ℕ_discrete q p)
         (λ (e : q ≡ p). let here : get_elem? parts p ≡ some x0 = subst (λ (z : ℕ). get_elem? parts z ≡ some x0) e at in
-            let it : Some new ≡ Some x = sym (put_here now p (Some new)) ∙ subst (λ (z : ℕ). put now p (Some new) z ≡ Some x) e has in
-            let same : new ≡ x = cc in
-            subst (λ (z : ℕ × P). fits x0 k.last z.0 z.1) (λ i. (sym e i, same i)) (stays k.last x0 old (subst (λ (ys : List P). get_elem? ys p ≡ some x0) (sym opened) here) held (k.fit p x0 old here is)))
+        let it : Some new ≡ Some x = sym (put_here now p (Some new)) ∙ subst (λ (z : ℕ). put now p (Some new) z ≡ Some x) e has in
+        let same : new ≡ x = cc in
+        subst (λ (z : ℕ × P). fits x0 k.last z.0 z.1) (λ i. (sym e i, same i)) (stays k.last x0 old (subst (λ (ys : List P). get_elem? ys p ≡ some x0) (sym opened) here) held (k.fit p x0 old here is)))
         (λ (n : q ≢ p). k.fit q x0 x at (sym (put_else now p q (Some new) n) ∙ has));
   }
 
@@ -52,10 +52,10 @@ module _ {W E P : Type 0} (fits : P → W → ℕ → P → Type 0) (sound : W �
         counted = let long = length-append es (e ∷ []) in let one = c.3 in let before = k.counted in omega arith;
         fit = λ q y0 y there has. dite (ℕ_discrete q p)
             (λ (s : q ≡ p). let here : get_elem? parts p ≡ some y0 = subst (λ (z : ℕ). get_elem? parts z ≡ some y0) s there in
-                let start : some x0 ≡ some y0 = sym at ∙ here in let same0 : x0 ≡ y0 = mathlib.Core.Option.some-injective x0 y0 start in
-                let it : Some new ≡ Some y = sym (put_here now p (Some new)) ∙ subst (λ (z : ℕ). put now p (Some new) z ≡ Some y) s has in
-                let same : new ≡ y = cc in
-                subst (λ (z : P × ℕ × P). fits z.0 c.0 z.1 z.2) (λ i. (same0 i, sym s i, same i)) c.4)
+            let start : some x0 ≡ some y0 = sym at ∙ here in let same0 : x0 ≡ y0 = mathlib.Core.Option.some-injective x0 y0 start in
+            let it : Some new ≡ Some y = sym (put_here now p (Some new)) ∙ subst (λ (z : ℕ). put now p (Some new) z ≡ Some y) s has in
+            let same : new ≡ y = cc in
+            subst (λ (z : P × ℕ × P). fits z.0 c.0 z.1 z.2) (λ i. (same0 i, sym s i, same i)) c.4)
             (λ (n : q ≢ p). c.5 q y0 y n (k.fit q y0 y there (sym (put_else now p q (Some new) n) ∙ has)));
       }
 

@@ -1,5 +1,5 @@
 -- What holds of a yard between any two steps.
-use Rattle.std.specs.Prelude.{◌≡◌, ◌≢◌, ℕ, zero, suc, ◌+◌, ◌*◌, ◌<◌, ◌≤◌, List, [], ◌∷◌, map, length, slice_index, slice_index_or, Option, Some, None}
+use Rattle.std.specs.Prelude.{◌≡◌, ◌≢◌, ℕ, zero, suc, ◌+◌, ◌*◌, ◌<◌, ◌≤◌, List, [], map, length, slice_index, slice_index_or, Option, Some, None}
 use mathlib.Core.Option.{some}
 use mathlib.Core.Option as maybe
 use lib.ListN.{get_elem?}
@@ -9,7 +9,7 @@ use Rattle.fc_yard.specs.declared.rule.Stall.TheVariants.{Home}
 use Rattle.fc_yard.specs.declared.rule.View.{View}
 use Rattle.fc_yard.specs.declared.rule.Terms.{Terms}
 use Rattle.fc_yard.specs.Lists.{total, times, once_below, AllStand}
-use Rattle.fc_yard.specs.Views.{held_of, HoldsNone, opening_view}
+use Rattle.fc_yard.specs.Views.{HoldsNone, opening_view}
 use Rattle.fc_yard.specs.Whole.{OpensWith, Tells}
 
 -- the parts that the yard was opened with

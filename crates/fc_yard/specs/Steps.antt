@@ -1,10 +1,10 @@
 -- What each step tells the pass that makes it: of the step, the pass before, the number found in the word, and the pass after.
-use Rattle.std.specs.Prelude.{◌≡◌, ◌≢◌, ℕ, suc, ◌<◌, ◌≤◌, List, [], ◌∷◌}
+use Rattle.std.specs.Prelude.{◌≡◌, ◌≢◌, ℕ, suc, ◌<◌, ◌≤◌, [], ◌∷◌}
 use Rattle.atomic_table.specs.Table.{Me, Step}
 use Rattle.fc_yard.specs.declared.rule.Stall.{Stall}
 use Rattle.fc_yard.specs.declared.rule.Stall.TheVariants.{Out, Home, Deed, Deeds}
 use Rattle.fc_yard.specs.declared.rule.View.{View}
-use Rattle.fc_yard.specs.Lists.{write, AllBelow}
+use Rattle.fc_yard.specs.Lists.{AllBelow}
 use Rattle.fc_yard.specs.Rule.{turn_word}
 use Rattle.fc_yard.specs.Views.{took, put_back, ticketed, looked, drew, drew_all}
 use Rattle.fc_yard.specs.Whole.{Knows}
@@ -52,7 +52,7 @@ module _ {W E P : Type 0} (fits : P → W → ℕ → P → Type 0) (sound : W �
   Won st before found after =
       (p : ℕ) → st.word ≡ turn_word p
       → (found ≡ 0 → (x : P) × (after ≡ (won before.0 p x, (p, Home x) ∷ before.1)) × Knows fits sound count steps (took before.0 p x))
-        × (found ≢ 0 → (after ≡ before) × (before.0.shares < before.0.passes))
+      × (found ≢ 0 → (after ≡ before) × (before.0.shares < before.0.passes))
 
   -- the number that was found, for what the slot in hand announces
   abbrev pub DrewFor : View P E → ℕ → ℕ → Stall P E → Mine P E → Type 0

@@ -1,8 +1,6 @@
 -- What a pass holds, and what becomes of its view in each step.
-use Rattle.std.specs.Prelude.{◌≡◌, ℕ, suc, ◌+◌, ◌-◌, ◌<◌, List, [], ◌∷◌, ◌++◌, map, max, Option, Some, None, slice_index_or}
-use Rattle.atomic_table.specs.Seated.{TableId}
+use Rattle.std.specs.Prelude.{◌≡◌, ℕ, ◌+◌, ◌-◌, ◌<◌, List, [], ◌∷◌, ◌++◌, map, max, Option, Some, None, slice_index_or}
 use Rattle.fc_yard.specs.declared.rule.View.{View}
-use Rattle.fc_yard.specs.declared.rule.Terms.{Terms}
 use Rattle.fc_yard.specs.Lists.{write}
 
 module _ {P E : Type 0} where

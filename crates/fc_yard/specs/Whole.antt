@@ -1,5 +1,5 @@
 -- What parts and entries say of the whole.
-use Rattle.std.specs.Prelude.{◌≡◌, ◌≢◌, ℕ, suc, ◌+◌, ◌<◌, ◌≤◌, List, [], ◌∷◌, Option, Some, None, length}
+use Rattle.std.specs.Prelude.{◌≡◌, ◌≢◌, ℕ, suc, ◌+◌, ◌<◌, ◌≤◌, List, [], ◌∷◌, Option, Some, length}
 use mathlib.Core.Option.{some}
 use lib.ListN.{get_elem?}
 use Rattle.fc_yard.specs.declared.rule.View.{View}
@@ -38,14 +38,14 @@ module _ {W E P : Type 0} (fits : P → W → ℕ → P → Type 0) (sound : W �
   Commits v p new e =
       (w0 w : W) (x0 old : P) → sound w0 w → get_elem? v.openings p ≡ some x0 → held_of v p ≡ Some old → fits x0 w p old
       → (next : W) × steps w (count w) e next × sound w0 next × (count next ≡ count w + 1) × fits x0 next p new
-        × ((q : ℕ) (y0 y : P) → q ≢ p → fits y0 w q y → fits y0 next q y)
+      × ((q : ℕ) (y0 y : P) → q ≢ p → fits y0 w q y → fits y0 next q y)
 
   -- the same of the first n parts at once
   abbrev pub CommitsAll : ℕ → View P E → List P → E → Type 0
   CommitsAll n v news e =
       (w0 w : W) → sound w0 w → ((q : ℕ) (x0 old : P) → q < n → get_elem? v.openings q ≡ some x0 → held_of v q ≡ Some old → fits x0 w q old)
       → (next : W) × steps w (count w) e next × sound w0 next × (count next ≡ count w + 1)
-        × ((q : ℕ) (x0 x : P) → get_elem? v.openings q ≡ some x0 → get_elem? news q ≡ some x → fits x0 next q x)
+      × ((q : ℕ) (x0 x : P) → get_elem? v.openings q ≡ some x0 → get_elem? news q ≡ some x → fits x0 next q x)
 
   -- the part may be put back as this: whatever the whole is, where the part as it is held has its share, this has it too
   abbrev pub Stays : View P E → ℕ → P → Type 0

@@ -1,12 +1,12 @@
 //! The yard.
 #![tactic(auto)]
 
-pub mod part;
-pub mod pass;
-mod plays;
-pub mod rule;
 mod numbers;
 mod opening;
+pub mod part;
+pub mod pass;
 mod passes;
+mod plays;
+pub mod rule;
 mod turns;
 pub mod yard;

@@ -89,7 +89,14 @@ impl<W, E, P: Part<W, E>> Yard<W, E, P> {
         ensures knows { Knows P.fits P.sound P.count P.steps pass.new.view }
         ensures number { IsNext pass.old.view result }
     {
-        draw_for(&self.table.shared, &mut pass.seat, part, self.parts, value, entry)
+        draw_for(
+            &self.table.shared,
+            &mut pass.seat,
+            part,
+            self.parts,
+            value,
+            entry,
+        )
     }
 
     /// Draws the next number for an entry of all parts.
@@ -103,6 +110,12 @@ impl<W, E, P: Part<W, E>> Yard<W, E, P> {
         ensures knows { Knows P.fits P.sound P.count P.steps pass.new.view }
         ensures number { IsNext pass.old.view result }
     {
-        draw_for_all(&self.table.shared, &mut pass.seat, self.parts, values, entry)
+        draw_for_all(
+            &self.table.shared,
+            &mut pass.seat,
+            self.parts,
+            values,
+            entry,
+        )
     }
 }

@@ -1,7 +1,7 @@
 //! A yard is opened and closed.
 
 ghost use Rattle.std.specs.Prelude.{◌≡◌, ◌+◌, ◌^◌, ◌<◌, ◌≤◌, ◌++◌, length, vec_len, vec_capacity, IfOk, IfErr, List};
-ghost use Rattle.core.specs.Mem.Slots.{slots_items, slots_len, IsFull};
+ghost use Rattle.std.specs.Slots.{slots_items, slots_len, IsFull};
 ghost use Rattle.fc_yard.specs.Homes.{at_home, homes_of, AllHome, new_words};
 ghost use Rattle.fc_yard.specs.Views.{HoldsNone, opening_view};
 ghost use Rattle.fc_yard.specs.Whole.{IsClosed};

@@ -30,8 +30,6 @@ impl<W, E, P: Part<W, E>> Yard<W, E, P> {
         ensures { pass.new ≡ became pass.old (joined pass.old.view other.view) }
     {
         let Pass { seat } = other;
-        self.table
-            .shared
-            .join_seat::<Shares>(&mut pass.seat, seat);
+        self.table.shared.join_seat::<Shares>(&mut pass.seat, seat);
     }
 }

@@ -51,6 +51,7 @@ pub struct View<P, E> {
 }
 
 /// What the yard is made for. The rule reads it.
+#[derive(Drop)]
 pub struct Terms<P> {
     pub first: u64,
     pub limit: u64,

@@ -15,5 +15,5 @@ load-requires g c =
       went.0 ∙ c.requires.table.0,
       omega (arith, sized.0, sized.1, near),
       parks g.P.Part.fits g.P.Part.sound g.P.Part.count g.P.Part.steps c.args.shelf.now.key c.args.shelf.now.table_id.slots c.exchange-stall.new.seat.id c.args.part near
-        c.exchange-stall.new.seat.me c.args.seat.now.me.0 Out (exchanged c.args.seat.now.me c.exchange-stall.new.seat.me c.args.seat.now.me.0 c.args.part (Home w.0) Out refl w.1.0 went.3) w.1.2 w.1.1 w.1.3,
+          c.exchange-stall.new.seat.me c.args.seat.now.me.0 Out (exchanged c.args.seat.now.me c.exchange-stall.new.seat.me c.args.seat.now.me.0 c.args.part (Home w.0) Out refl w.1.0 went.3) w.1.2 w.1.1 w.1.3,
     )

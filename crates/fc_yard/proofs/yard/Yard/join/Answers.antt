@@ -12,5 +12,5 @@ join_seat-requires g c =
       c.other.invariant.0,
       omega (arith, sized.0),
       joins g.P.Part.fits g.P.Part.sound g.P.Part.count g.P.Part.steps c.self.inside.table.shared.key seat.id gone.id seat.me.0 gone.me.0 c.pass.invariant.2 c.other.invariant.1
-        (λ p. view_at (λ v. held_of v p) gone.table_id gone.me c.args.other c.other.view_is ∙ c.requires.free p),
+          (λ p. view_at (λ v. held_of v p) gone.table_id gone.me c.args.other c.other.view_is ∙ c.requires.free p),
     )

@@ -1,6 +1,5 @@
-use Rattle.std.proofs.Common.{◌≡◌, suc, ap, sym, ◌∙◌, refl, subst, arith}
+use Rattle.std.proofs.Common.{ap, sym, ◌∙◌, refl, subst, arith}
 use mathlib.Core.Option.{none}
-use Rattle.fc_yard.specs.declared.rule.Stall.TheVariants.{Home}
 use Rattle.fc_yard.specs.Views.{held_of, took}
 use Rattle.fc_yard.specs.Whole.{Knows}
 use Rattle.fc_yard.specs.Steps.{in_hand}
@@ -15,7 +14,7 @@ swap-requires g c =
       yard_at seat.table_id seat.me c.args.pass.now c.pass.view_is ∙ c.requires.yard.0 ∙ sym (ap (λ y. y.id) c.self.view_is),
       omega (arith, sized.0, sized.1, c.requires.part, parts),
       wins g.P.Part.fits g.P.Part.sound g.P.Part.count g.P.Part.steps c.self.inside.table.shared.key c.self.inside.table.shared.table_id.slots seat.id c.args.part (omega (arith, sized.1, c.requires.part, parts))
-        2 0 none (λ _. 2) seat.me (λ e. omega arith) (λ m n e. omega arith) rest.2 rest.1 (view_at (λ v. held_of v c.args.part) seat.table_id seat.me c.args.pass.now c.pass.view_is ∙ c.requires.free),
+          2 0 none (λ _. 2) seat.me (λ e. omega arith) (λ m n e. omega arith) rest.2 rest.1 (view_at (λ v. held_of v c.args.part) seat.table_id seat.me c.args.pass.now c.pass.view_is ∙ c.requires.free),
     )
 
 pub invariant_of-pass : goal.invariant_of-pass
@@ -46,6 +45,6 @@ returns-clause-taken g c =
     let is = taken_view seat.me held.me now.me c.args.part won.0 won.1 c.bring_out.ensures.seat.1 in
     let same = same_part seat.me held.me c.args.part won.0 c.bring_out.result won.1 c.bring_out.ensures.part in (
       becomes (λ v. took v c.args.part c.bring_out.result) seat.table_id now.table_id seat.me now.me c.args.pass.now c.pass.view_is (c.bring_out.ensures.seat.0.0 ∙ c.swap.ensures.0)
-        (is ∙ ap (λ x. took seat.me.0 c.args.part x) same),
+          (is ∙ ap (λ x. took seat.me.0 c.args.part x) same),
       subst (λ v. Knows g.P.Part.fits g.P.Part.sound g.P.Part.count g.P.Part.steps v) (sym is) won.2,
     )

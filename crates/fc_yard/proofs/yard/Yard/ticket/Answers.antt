@@ -1,5 +1,5 @@
 use Rattle.std.proofs.Common.{◌+◌, refl, ap, sym, ◌∙◌, arith}
-use Rattle.fc_yard.specs.Views.{looked, ticketed}
+use Rattle.fc_yard.specs.Views.{looked}
 use Rattle.fc_yard.specs.Calls.{became}
 use Rattle.fc_yard.proofs.Counting.{looks_at, tickets_at}
 use Rattle.fc_yard.proofs.Sitting.{view_at, yard_at}
@@ -20,5 +20,5 @@ compare_exchange-found-requires g c =
       yard_at seat.table_id seat.me (became c.args.pass.now (looked c.args.pass.now.view c.loop-given.given)) h.sees ∙ c.requires.0 ∙ sym (ap (λ y. y.id) c.self.view_is),
       omega (arith, sized.0),
       tickets_at g.P.Part.fits g.P.Part.sound g.P.Part.count g.P.Part.steps c.self.inside.table.shared.key c.self.inside.table.shared.table_id.slots c.self.inside.parts sized.1 seat.id seat.me
-        c.loop-given.given (c.loop-given.given + 1) h.rests.2 refl (omega (arith, limit, below, same, read)),
+          c.loop-given.given (c.loop-given.given + 1) h.rests.2 refl (omega (arith, limit, below, same, read)),
     )
