@@ -1,0 +1,155 @@
+//! The yard with counters for parts.
+
+ghost use Rattle.std.specs.Prelude.{◌≡◌, ◌<◌, ◌≤◌, IfSome, vec_len};
+
+use crate::counter::Counter;
+use crate::crowd::{Counters, PARTS, count_once, crowd};
+use std::alloc::Global;
+use std::sync::Wait;
+use std::test::Fail;
+use std::thread::Threads;
+
+/// As many counters as the crowd's yard has parts, none of which has counted anything.
+fn zeros(alloc: Global) -> Option<Vec<Counter>>
+    ensures { IfSome result (λ v. vec_len v ≡ 5) }
+{
+    let mut counters = Vec::with_capacity(alloc, PARTS).ok()?;
+    for _ in 0..PARTS {
+        counters.push(Counter { count: 0 }).ok()?;
+    }
+    Some(counters)
+}
+
+/// What sixteen actors drew between the first number and the limit, in order of the numbers, and how often the parts were
+/// counted in all.
+fn run<R: Threads + Wait + Sync>(
+    rt: &R,
+    alloc: Global,
+    first: u64,
+    limit: u64,
+    rounds: usize,
+) -> Option<(Vec<u64>, u64)>
+    requires { first ≤ limit }
+{
+    let mut back = Vec::with_capacity(alloc, PARTS).ok()?;
+    let counters = zeros(alloc)?;
+    let Ok((yard, pass)) = Counters::new(alloc, counters, first, limit, 16) else {
+        return None;
+    };
+    let (pass, mut numbers) = crowd(rt, alloc, &yard, pass, 0, 16, rounds);
+    yard.close(pass, &mut back);
+    numbers.sort().ok()?;
+    let mut all = 0u64;
+    for counter in &back {
+        all = all.wrapping_add(counter.count);
+    }
+    Some((numbers, all))
+}
+
+/// Whether these are the numbers from the first on, each once.
+fn are_from(numbers: &[u64], first: u64) -> bool {
+    numbers
+        .iter()
+        .enumerate()
+        .all(|(place, number)| *number == first.wrapping_add(place as u64))
+}
+
+/// Whether sixteen actors, who want 100,000 numbers together, draw so many between 7 and the limit, each once.
+fn draws<R: Threads + Wait + Sync>(rt: &R, alloc: Global, limit: u64, count: usize) -> bool
+    requires { 7 ≤ limit }
+{
+    match run(rt, alloc, 7, limit, 6_250) {
+        Some((numbers, all)) => {
+            numbers.len() == count && all == count as u64 && are_from(numbers.as_slice(), 7)
+        }
+        None => false,
+    }
+}
+
+#[test]
+fn each_number_once_below_what_is_wanted(rt: HostRuntime) -> Result<(), Fail> {
+    assert!(rt; draws(&rt, rt.alloc(), 99_999 + 7, 99_999));
+    Ok(())
+}
+
+#[test]
+fn each_number_once_up_to_the_limit(rt: HostRuntime) -> Result<(), Fail> {
+    assert!(rt; draws(&rt, rt.alloc(), 100_000 + 7, 100_000));
+    Ok(())
+}
+
+#[test]
+fn each_number_once_and_one_is_left(rt: HostRuntime) -> Result<(), Fail> {
+    assert!(rt; draws(&rt, rt.alloc(), 100_001 + 7, 100_000));
+    Ok(())
+}
+
+/// Tries for a turn that another pass has, for one that is free, and for the first again once it was given back.
+fn tries(alloc: Global) -> Option<(bool, bool, bool)> {
+    let counters = zeros(alloc)?;
+    let Ok((yard, mut pass)) = Counters::new(alloc, counters, 0, 10, 2) else {
+        return None;
+    };
+    let mut other = yard.split(&mut pass);
+    let mine = yard.try_take(&mut pass, 3)?;
+    let held = yard.try_take(&mut other, 3).is_none();
+    let theirs = yard.try_take(&mut other, 4);
+    let free = theirs.is_some();
+    yard.put(&mut pass, 3, mine);
+    let again = yard.try_take(&mut other, 3).is_some();
+    Some((held, free, again))
+}
+
+#[test]
+fn a_held_turn_is_refused_and_a_free_one_had(rt: HostRuntime) -> Result<(), Fail> {
+    assert_eq!(rt; tries(rt.alloc()), Some((true, true, true)));
+    Ok(())
+}
+
+/// Splits a pass three times, counts with each of the four, and joins them in this order: the numbers drawn, and how often
+/// the parts were counted.
+fn joined<R: Wait>(rt: &R, alloc: Global, backwards: bool) -> Option<(Vec<u64>, u64)> {
+    let mut numbers = Vec::with_capacity(alloc, 4).ok()?;
+    let mut back = Vec::with_capacity(alloc, PARTS).ok()?;
+    let counters = zeros(alloc)?;
+    let Ok((yard, mut pass)) = Counters::new(alloc, counters, 1, 10, 4) else {
+        return None;
+    };
+    let mut second = yard.split(&mut pass);
+    let mut third = yard.split(&mut pass);
+    let mut fourth = yard.split(&mut pass);
+    for drawn in [
+        count_once(rt, &yard, &mut third, 2),
+        count_once(rt, &yard, &mut pass, 0),
+        count_once(rt, &yard, &mut fourth, 2),
+        count_once(rt, &yard, &mut second, 4),
+    ] {
+        numbers.push(drawn?).ok()?;
+    }
+    if backwards {
+        yard.join(&mut third, fourth);
+        yard.join(&mut second, third);
+        yard.join(&mut pass, second);
+    } else {
+        yard.join(&mut pass, third);
+        yard.join(&mut pass, second);
+        yard.join(&mut pass, fourth);
+    }
+    yard.close(pass, &mut back);
+    let mut all = 0u64;
+    for counter in &back {
+        all = all.wrapping_add(counter.count);
+    }
+    Some((numbers, all))
+}
+
+#[test]
+fn passes_are_joined_in_any_order(rt: HostRuntime) -> Result<(), Fail> {
+    for backwards in [false, true] {
+        let Some((numbers, all)) = joined(&rt, rt.alloc(), backwards) else {
+            panic!(rt; "no memory")
+        };
+        assert!(rt; are_from(numbers.as_slice(), 1) && all == 4);
+    }
+    Ok(())
+}
