@@ -95,11 +95,11 @@ fn beside<R: Threads + Wait + Sync>(
         rt,
         move ||
             requires { IsSync R.row × IsPassOf yard.now pass × (yard.now.parts ≡ 4) × HoldsNone pass.view × (threads ≤ pass.view.shares + 1) × (1 < threads) }
-            ensures { IsPassOf yard.now result × HoldsNone result.view × (result.view.shares ≡ pass.entry.view.shares) × (result.view.passes ≡ pass.entry.view.passes) }
+            ensures { IsPassOf yard.entry.now result × HoldsNone result.view × (result.view.shares ≡ pass.view.shares) × (result.view.passes ≡ pass.view.passes) }
         { beside(rt, yard, pass, threads - 1, rounds) },
         move ||
             requires { IsPassOf yard.now other × (yard.now.parts ≡ 4) × HoldsNone other.view }
-            ensures { IsPassOf yard.now result × HoldsNone result.view × (result.view.shares ≡ other.entry.view.shares) × (result.view.passes ≡ other.entry.view.passes) }
+            ensures { IsPassOf yard.entry.now result × HoldsNone result.view × (result.view.shares ≡ other.view.shares) × (result.view.passes ≡ other.view.passes) }
         { work(rt, yard, other, threads, rounds) },
     );
     yard.join(&mut pass, other);

@@ -8,3 +8,4 @@ pub mod Counting
 pub mod Sharing
 pub mod Sitting
 pub mod Housing
+pub mod Calling

@@ -1,5 +1,5 @@
 -- What a pass holds, and what becomes of its view in each step.
-use Rattle.std.specs.Prelude.{◌≡◌, ℕ, ◌+◌, ◌-◌, ◌<◌, List, [], ◌∷◌, ◌++◌, map, max, Option, Some, None, slice_index_or}
+use Rattle.std.specs.Prelude.{◌≡◌, ◌≢◌, ℕ, ◌+◌, ◌-◌, ◌<◌, List, [], ◌∷◌, ◌++◌, map, max, Option, Some, None, slice_index_or}
 use Rattle.fc_yard.specs.declared.rule.View.{View}
 use Rattle.fc_yard.specs.Lists.{write}
 
@@ -19,6 +19,10 @@ module _ {P E : Type 0} where
   -- the pass holds each of the first n parts
   abbrev pub HoldsAll : View P E → ℕ → Type 0
   HoldsAll v n = (p : ℕ) → p < n → Holds v p
+
+  -- the pass holds this part, and no other
+  abbrev pub HoldsOnly : View P E → ℕ → P → Type 0
+  HoldsOnly v p x = (held_of v p ≡ Some x) × ((q : ℕ) → q ≢ p → held_of v q ≡ None)
 
   -- the view of a pass that has taken the part x at p
   abbrev pub took : View P E → ℕ → P → View P E

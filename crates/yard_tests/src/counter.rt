@@ -1,5 +1,8 @@
 //! The parts of the tests' yards.
 
+ghost use Rattle.std.specs.Prelude.{◌≡◌};
+ghost use Rattle.yard_tests.specs.Counting.{after};
+
 use fc_yard::part::Part;
 use std::collections::LinkedList;
 
@@ -15,6 +18,17 @@ pub struct Counts {
 #[derive(Drop)]
 pub struct Counter {
     pub count: u64,
+}
+
+impl Counter {
+    /// The counter, counted once more. It begins again after its greatest number.
+    pub fn one_more(&self) -> Counter
+        ensures { result.count ≡ after self.now.count }
+    {
+        Counter {
+            count: self.count.wrapping_add(1),
+        }
+    }
 }
 
 impl Part<Counts, u64> for Counter {

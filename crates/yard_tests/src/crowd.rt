@@ -33,13 +33,11 @@ pub fn count_once<R: Wait>(
     ensures shares { (pass.new.view.shares ≡ pass.old.view.shares) × (pass.new.view.passes ≡ pass.old.view.passes) }
 {
     let counter = yard.take(rt, pass, part);
-    if counter.count == u64::MAX || !yard.ticket(pass) {
+    if !yard.ticket(pass) {
         yard.put(pass, part, counter);
         return None;
     }
-    let counted = Counter {
-        count: counter.count + 1,
-    };
+    let counted = counter.one_more();
     let number = yard.draw(pass, part, &counted, &(part as u64));
     yard.put(pass, part, counted);
     Some(number)
@@ -100,11 +98,11 @@ pub fn crowd<R: Threads + Wait + Sync>(
         rt,
         move ||
             requires { IsSync R.row × IsPassOf yard.now pass × (yard.now.parts ≡ 5) × HoldsNone pass.view × (actors ≤ pass.view.shares + 1) × (place + actors < 2 ^ 32) × (1 < actors) }
-            ensures { IsPassOf yard.now result.0 × HoldsNone result.0.view × (result.0.view.shares ≡ pass.entry.view.shares) × (result.0.view.passes ≡ pass.entry.view.passes) }
+            ensures { IsPassOf yard.entry.now result.0 × HoldsNone result.0.view × (result.0.view.shares ≡ pass.view.shares) × (result.0.view.passes ≡ pass.view.passes) }
         { crowd(rt, alloc, yard, pass, place + 1, actors - 1, rounds) },
         move ||
             requires { IsPassOf yard.now other × (yard.now.parts ≡ 5) × HoldsNone other.view }
-            ensures { IsPassOf yard.now result.0 × HoldsNone result.0.view × (result.0.view.shares ≡ other.entry.view.shares) × (result.0.view.passes ≡ other.entry.view.passes) }
+            ensures { IsPassOf yard.entry.now result.0 × HoldsNone result.0.view × (result.0.view.shares ≡ other.view.shares) × (result.0.view.passes ≡ other.view.passes) }
         { act(rt, alloc, yard, other, place, rounds) },
     );
     yard.join(&mut pass, other);
