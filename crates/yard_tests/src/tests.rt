@@ -1,24 +1,15 @@
 //! The yard with counters for parts.
 
-ghost use Rattle.std.specs.Prelude.{◌≡◌, ◌<◌, ◌≤◌, IfSome, vec_len};
+ghost use Rattle.std.specs.Prelude.{◌≤◌};
 
-use crate::counter::Counter;
-use crate::crowd::{Counters, PARTS, count_once, crowd};
+use crate::crowd::{Counters, count_once, crowd, sum, zeros};
 use std::alloc::Global;
 use std::sync::Wait;
 use std::test::Fail;
 use std::thread::Threads;
 
-/// As many counters as the crowd's yard has parts, none of which has counted anything.
-fn zeros(alloc: Global) -> Option<Vec<Counter>>
-    ensures { IfSome result (λ v. vec_len v ≡ 5) }
-{
-    let mut counters = Vec::with_capacity(alloc, PARTS).ok()?;
-    for _ in 0..PARTS {
-        counters.push(Counter { count: 0 }).ok()?;
-    }
-    Some(counters)
-}
+/// How many parts the yards have.
+const PARTS: usize = 5;
 
 /// What sixteen actors drew between the first number and the limit, in order of the numbers, and how often the parts were
 /// counted in all.
@@ -32,18 +23,14 @@ fn run<R: Threads + Wait + Sync>(
     requires { first ≤ limit }
 {
     let mut back = Vec::with_capacity(alloc, PARTS).ok()?;
-    let counters = zeros(alloc)?;
+    let counters = zeros(alloc, PARTS)?;
     let Ok((yard, pass)) = Counters::new(alloc, counters, first, limit, 16) else {
         return None;
     };
-    let (pass, mut numbers) = crowd(rt, alloc, &yard, pass, 0, 16, rounds);
+    let (pass, mut numbers) = crowd(rt, alloc, &yard, PARTS, pass, 0, 16, rounds);
     yard.close(pass, &mut back);
     numbers.sort().ok()?;
-    let mut all = 0u64;
-    for counter in &back {
-        all = all.wrapping_add(counter.count);
-    }
-    Some((numbers, all))
+    Some((numbers, sum(back.as_slice())))
 }
 
 /// Whether these are the numbers from the first on, each once.
@@ -86,7 +73,7 @@ fn each_number_once_and_one_is_left(rt: HostRuntime) -> Result<(), Fail> {
 
 /// Tries for a turn that another pass has, for one that is free, and for the first again once it was given back.
 fn tries(alloc: Global) -> Option<(bool, bool, bool)> {
-    let counters = zeros(alloc)?;
+    let counters = zeros(alloc, PARTS)?;
     let Ok((yard, mut pass)) = Counters::new(alloc, counters, 0, 10, 2) else {
         return None;
     };
@@ -111,7 +98,7 @@ fn a_held_turn_is_refused_and_a_free_one_had(rt: HostRuntime) -> Result<(), Fail
 fn joined<R: Wait>(rt: &R, alloc: Global, backwards: bool) -> Option<(Vec<u64>, u64)> {
     let mut numbers = Vec::with_capacity(alloc, 4).ok()?;
     let mut back = Vec::with_capacity(alloc, PARTS).ok()?;
-    let counters = zeros(alloc)?;
+    let counters = zeros(alloc, PARTS)?;
     let Ok((yard, mut pass)) = Counters::new(alloc, counters, 1, 10, 4) else {
         return None;
     };
@@ -136,11 +123,7 @@ fn joined<R: Wait>(rt: &R, alloc: Global, backwards: bool) -> Option<(Vec<u64>, 
         yard.join(&mut pass, fourth);
     }
     yard.close(pass, &mut back);
-    let mut all = 0u64;
-    for counter in &back {
-        all = all.wrapping_add(counter.count);
-    }
-    Some((numbers, all))
+    Some((numbers, sum(back.as_slice())))
 }
 
 #[test]
