@@ -9,3 +9,4 @@ pub mod Sharing
 pub mod Sitting
 pub mod Housing
 pub mod Calling
+pub mod Crossing
