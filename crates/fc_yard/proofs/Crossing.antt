@@ -11,7 +11,7 @@ use Rattle.fc_yard.specs.contracts.rule.View.{the_row as view_row}
 use Rattle.fc_yard.specs.contracts.rule.Terms.{the_row as terms_row}
 use Rattle.fc_yard.specs.contracts.rule.Turns.{the_row as turns_row}
 use Rattle.fc_yard.specs.contracts.rule.TurnsTableRuleStallViewTerms.TheImpl as rule
-use Rattle.fc_yard.specs.contracts.yard.Yard.{the_row as yard_row}
+use Rattle.fc_yard.specs.contracts.yard.Yard.{the_row as yard_row, the_field as yard_field}
 use Rattle.fc_yard.specs.contracts.yard.Yard.TheInside as inside
 use Rattle.atomic_table.proofs.shared.Shared.TheSendSync.{the_sync as shared_sync}
 use Rattle.atomic_table.proofs.send_lease.SendLease.TheSendSync.{the_sync as lease_sync}
@@ -20,7 +20,7 @@ use Rattle.atomic_table.specs.contracts.owned.Table.{the_field as table_field}
 use Rattle.std.specs.contracts.alloc.Global.{the_row as heap_row}
 use Rattle.std.specs.contracts.impls.GlobalAllocator.TheImpl.{ghosts}
 use Rattle.std.proofs.Crossing.{frees, send as heap_send, sync as heap_sync}
-use Rattle.fc_yard.specs.contracts.pass.Pass.{the_row}
+use Rattle.fc_yard.specs.contracts.pass.Pass.{the_row, the_field as pass_field}
 
 snapshot_send : (T : RattleType) → IsSend (snapshot_row T)
 snapshot_send T = owning_send (snapshot_type T) (search sendable, tt) (λ d. tt) (λ k x w. tt)
@@ -47,3 +47,10 @@ fields_sync W E P g s =
 
 pub yard_sync : (W E P : RattleType) (g : _) → IsSend P → IsSync (yard_row W E P g)
 yard_sync W E P g s = view_sync _ _ _ _ _ (fields_sync W E P g s)
+
+-- the same of a pass and a yard that lie in another type, or that a closure captures
+pub pass_field_send : (P E : RattleType) → IsSend P → IsSend (pass_field P E).row
+pass_field_send P E s = pass_send P E s
+
+pub yard_field_sync : (W E P : RattleType) (g : _) → IsSend P → IsSync (yard_field W E P g).row
+yard_field_sync W E P g s = yard_sync W E P g s

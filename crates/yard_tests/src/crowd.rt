@@ -101,6 +101,7 @@ pub fn crowd<R: Threads + Wait + Sync>(
     actors: usize,
     rounds: usize,
 ) -> (Pass<Counter, u64>, Vec<u64>)
+    requires sync { IsSync R.row }
     requires yard { IsPassOf yard.now pass }
     requires parts { (yard.now.parts ≡ parts) × (0 < parts) × (parts ≤ 64) }
     requires free { HoldsNone pass.view }
