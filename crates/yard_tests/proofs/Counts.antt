@@ -21,8 +21,10 @@ commits v p old new held up w0 w x0 was sound at has share =
       (share.0, refl, refl),
       tt,
       refl,
-      (let long = length-set w.counters p more in let l = share.0 in omega arith,
-       get_or-set_same w.counters p more 0 share.0 ∙ ap after share.1 ∙ sym (up ∙ ap (λ (c : Counter). after c.count) same)),
+      (
+        let long = length-set w.counters p more in let l = share.0 in omega arith,
+        get_or-set_same w.counters p more 0 share.0 ∙ ap after share.1 ∙ sym (up ∙ ap (λ (c : Counter). after c.count) same),
+      ),
       λ q y0 y n there. (let long = length-set w.counters p more in let l = there.0 in omega arith, get_or-set_other w.counters p q more 0 n ∙ there.1),
     )
 
