@@ -1,0 +1,12 @@
+pub mod Totals
+pub mod Places
+pub mod Parts
+pub mod Books
+pub mod Telling
+pub mod Turning
+pub mod Counting
+pub mod Sharing
+pub mod Sitting
+pub mod Housing
+pub mod Calling
+pub mod Crossing

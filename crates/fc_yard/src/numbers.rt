@@ -1,0 +1,121 @@
+//! Tickets are given, and numbers drawn.
+
+ghost use Rattle.std.specs.Prelude.{◌≡◌, ◌+◌, ◌*◌, ◌^◌, ◌<◌, ◌≤◌, ◌∷◌, [], ℕ, None, Some, true, false, length};
+ghost use Rattle.fc_yard.specs.declared.rule.Stall.TheVariants.{Deed, Deeds};
+ghost use Rattle.fc_yard.specs.Lists.{AllBelow};
+ghost use Rattle.fc_yard.specs.Views.{Holds, HoldsAll, ticketed, looked, drew, drew_all};
+ghost use Rattle.fc_yard.specs.Whole.{Knows, Commits, CommitsAll};
+ghost use Rattle.fc_yard.specs.Calls.{IsPassOf, IsSameSeat, IsSized, AtRest, IsNext, became};
+
+use crate::part::Part;
+use crate::pass::Pass;
+use crate::plays::{Draw, Look, Take, Unpark};
+use crate::rule::{STRIDE, Stall, View};
+use crate::yard::{Shelf, Yard};
+use atomic_table::Seat;
+use std::snapshot::Snapshot;
+
+/// Draws a number for the entry that is announced in the slot of a part that is held.
+fn draw_for<W, E, P: Part<W, E>>(
+    shelf: &Shelf<W, E, P>,
+    seat: &mut Seat<Stall<P, E>, View<P, E>>,
+    part: usize,
+    parts: usize,
+    value: &P,
+    entry: &E,
+) -> u64
+    requires table { (seat.old.table_id ≡ shelf.now.table_id) × IsSized shelf.now.table_id parts × (part < parts) }
+    requires ready { AtRest seat.old × Holds seat.old.me.0 part × (0 < seat.old.me.0.tickets) × (seat.old.me.0.limit < 2 ^ 64) }
+    requires commits { Commits P.fits P.sound P.count P.steps seat.old.me.0 part value.now entry.now }
+    ensures seat { IsSameSeat seat.old seat.new × (seat.new.me ≡ (drew seat.old.me.0 part value.now result entry.now, [])) }
+    ensures knows { Knows P.fits P.sound P.count P.steps (drew seat.old.me.0 part value.now result entry.now) }
+    ensures number { IsNext seat.old.me.0 result }
+{
+    shelf.load::<Unpark>(seat, STRIDE * part);
+    let deed = Stall::Deed(Snapshot::of(entry), Snapshot::of(value));
+    drop(shelf.exchange(seat, part, deed));
+    shelf.fetch_add::<Draw<W>>(seat, STRIDE * parts + STRIDE, 1)
+}
+
+/// Draws a number for the entry of all parts that is announced in the slot of the first.
+fn draw_for_all<W, E, P: Part<W, E>>(
+    shelf: &Shelf<W, E, P>,
+    seat: &mut Seat<Stall<P, E>, View<P, E>>,
+    parts: usize,
+    values: &Vec<P>,
+    entry: &E,
+) -> u64
+    requires table { (seat.old.table_id ≡ shelf.now.table_id) × IsSized shelf.now.table_id parts × (0 < parts) }
+    requires ready { AtRest seat.old × HoldsAll seat.old.me.0 parts × (0 < seat.old.me.0.tickets) × (seat.old.me.0.limit < 2 ^ 64) }
+    requires commits { (length values.now.items ≡ parts) × CommitsAll P.fits P.sound P.count P.steps parts seat.old.me.0 values.now.items entry.now }
+    ensures seat { IsSameSeat seat.old seat.new × (seat.new.me ≡ (drew_all seat.old.me.0 values.now.items result entry.now, [])) }
+    ensures knows { Knows P.fits P.sound P.count P.steps (drew_all seat.old.me.0 values.now.items result entry.now) }
+    ensures number { IsNext seat.old.me.0 result }
+{
+    shelf.load::<Unpark>(seat, 0);
+    let deeds = Stall::Deeds(Snapshot::of(entry), Snapshot::of(values));
+    drop(shelf.exchange(seat, 0, deeds));
+    shelf.fetch_add::<Draw<W>>(seat, STRIDE * parts + STRIDE, 1)
+}
+
+impl<W, E, P: Part<W, E>> Yard<W, E, P> {
+    /// Gives the pass a ticket, the right to draw one number. `false` exactly where all are given.
+    pub fn ticket(&self, pass: &mut Pass<P, E>) -> bool
+        requires { IsPassOf self.now pass.old }
+        ensures given { result ≡ true → (n : ℕ) × (pass.new ≡ became pass.old (ticketed pass.old.view n)) × (pass.old.view.low ≤ n) × (n < pass.old.view.limit) }
+        ensures ended { result ≡ false → pass.new ≡ became pass.old (looked pass.old.view pass.old.view.limit) }
+    {
+        let shelf = &self.table.shared;
+        let word = STRIDE * self.parts;
+        let mut given = shelf.load::<Look>(&mut pass.seat, word);
+        while given < self.limit {
+            let found = shelf.compare_exchange::<Take>(&mut pass.seat, word, given, given + 1);
+            if found == given {
+                return true;
+            }
+            given = found;
+        }
+        false
+    }
+
+    /// Draws the next number for an entry of one part.
+    pub fn draw(&self, pass: &mut Pass<P, E>, part: usize, value: &P, entry: &E) -> u64
+        requires yard { IsPassOf self.now pass.old }
+        requires part { part < self.now.parts }
+        requires held { Holds pass.old.view part }
+        requires ticket { 0 < pass.old.view.tickets }
+        requires commits { Commits P.fits P.sound P.count P.steps pass.old.view part value.now entry.now }
+        ensures drawn { pass.new ≡ became pass.old (drew pass.old.view part value.now result entry.now) }
+        ensures knows { Knows P.fits P.sound P.count P.steps pass.new.view }
+        ensures number { IsNext pass.old.view result }
+    {
+        draw_for(
+            &self.table.shared,
+            &mut pass.seat,
+            part,
+            self.parts,
+            value,
+            entry,
+        )
+    }
+
+    /// Draws the next number for an entry of all parts.
+    pub fn draw_all(&self, pass: &mut Pass<P, E>, values: &Vec<P>, entry: &E) -> u64
+        requires yard { IsPassOf self.now pass.old }
+        requires parts { (0 < self.now.parts) × (length values.now.items ≡ self.now.parts) }
+        requires held { HoldsAll pass.old.view self.now.parts }
+        requires ticket { 0 < pass.old.view.tickets }
+        requires commits { CommitsAll P.fits P.sound P.count P.steps self.now.parts pass.old.view values.now.items entry.now }
+        ensures drawn { pass.new ≡ became pass.old (drew_all pass.old.view values.now.items result entry.now) }
+        ensures knows { Knows P.fits P.sound P.count P.steps pass.new.view }
+        ensures number { IsNext pass.old.view result }
+    {
+        draw_for_all(
+            &self.table.shared,
+            &mut pass.seat,
+            self.parts,
+            values,
+            entry,
+        )
+    }
+}

@@ -1,0 +1,9 @@
+//! Actors on threads over one yard: each number once, each part with its share of what was told, whatever the schedule.
+//!
+//! The parts are counters. An entry of the part `p` says that the counter at `p` went up by one.
+#![tactic(auto)]
+
+pub mod counter;
+pub mod crowd;
+#[cfg(test)]
+mod tests;
