@@ -21,6 +21,7 @@ pub struct Counter {
 }
 
 /// An entry.
+#[derive(Clone, Copy)]
 pub enum Tally {
     /// The counter of this part went up by one.
     One(u64),

@@ -72,7 +72,9 @@ pub fn count_both<R: Wait>(
     requires free { HoldsNone pass.old.view }
     ensures number { IfSome result (λ n. n < pass.old.view.limit) }
 {
-    let mut both = Vec::with_capacity(alloc, 2).ok()?;
+    let Ok(mut both) = Vec::with_capacity(alloc, 2) else {
+        return None;
+    };
     let first = yard.take(rt, pass, 0);
     let second = yard.take(rt, pass, 1);
     if !yard.ticket(pass) {
