@@ -59,7 +59,11 @@ fn draw_for_all<W, E, P: Part<W, E>>(
 }
 
 impl<W, E, P: Part<W, E>> Yard<W, E, P> {
-    /// Gives the pass a ticket, the right to draw one number. `false` exactly where all are given.
+    /// Gives the pass a ticket, the right to draw one number.
+    ///
+    /// `false` exactly where as many tickets were given as there are numbers below the limit; more are never given, so it is
+    /// `false` from then on (`low` of the pass is the limit). Doesn't wait, and tries no more often than tickets are left.
+    /// A ticket that isn't used is lost, but for the pass that has it.
     pub fn ticket(&self, pass: &mut Pass<P, E>) -> bool
         requires { IsPassOf self.now pass.old }
         ensures given { result ≡ true → (n : ℕ) × (pass.new ≡ became pass.old (ticketed pass.old.view n)) × (pass.old.view.low ≤ n) × (n < pass.old.view.limit) }
@@ -78,7 +82,11 @@ impl<W, E, P: Part<W, E>> Yard<W, E, P> {
         false
     }
 
-    /// Draws the next number for an entry of one part.
+    /// Draws the next number, for an entry by which a part that the pass holds became this value. Costs a ticket, and never fails.
+    ///
+    /// The number is above all that the pass drew before, and below the limit. At this one step the entry joins all entries and
+    /// the whole goes on: the caller shows that the entry leads from whatever whole is told then to a next one, of which the
+    /// part as it now is has its share, and every other part still has its own (`Commits`). The pass holds the part as it now is.
     pub fn draw(&self, pass: &mut Pass<P, E>, part: usize, value: &P, entry: &E) -> u64
         requires yard { IsPassOf self.now pass.old }
         requires part { part < self.now.parts }
@@ -99,7 +107,10 @@ impl<W, E, P: Part<W, E>> Yard<W, E, P> {
         )
     }
 
-    /// Draws the next number for an entry of all parts.
+    /// Draws the next number, for an entry by which all parts became these values, in order. The pass holds every part. Costs a
+    /// ticket, and never fails.
+    ///
+    /// The same as `draw` over all parts at once: no other entry comes between their changes (`CommitsAll`).
     pub fn draw_all(&self, pass: &mut Pass<P, E>, values: &Vec<P>, entry: &E) -> u64
         requires yard { IsPassOf self.now pass.old }
         requires parts { (0 < self.now.parts) × (length values.now.items ≡ self.now.parts) }

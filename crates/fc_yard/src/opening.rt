@@ -71,7 +71,9 @@ fn gather<P: Drop, E>(mut closed: Closed<Stall<P, E>, Global>, parts: &mut Vec<P
 }
 
 impl<W, E, P: Part<W, E>> Yard<W, E, P> {
-    /// A yard of these parts, with its first pass.
+    /// A yard of these parts, in this order, and its first pass, which has all shares, as many as passes can be there at once.
+    ///
+    /// Numbers begin with the first one, and stay below the limit. Refused for want of memory alone, the parts come back.
     pub fn new(
         alloc: Global,
         parts: Vec<P>,
@@ -121,7 +123,12 @@ impl<W, E, P: Part<W, E>> Yard<W, E, P> {
         }
     }
 
-    /// Closes the yard with a pass that has all shares, and hands the parts back, in order.
+    /// Closes the yard with a pass that has all shares and holds no part, and appends the parts to a list with room for
+    /// them, in order. Takes no memory.
+    ///
+    /// There are then the entries in the order of their numbers, each at its place and each number once in the pass's list;
+    /// whatever whole the yard was opened on, they led from it to one of which each part that comes back has its share
+    /// (`IsClosed`).
     pub fn close(self, pass: Pass<P, E>, into: &mut Vec<P>)
         requires yard { IsPassOf self pass }
         requires all { pass.view.shares ≡ pass.view.passes }

@@ -10,7 +10,9 @@ use crate::plays::Shares;
 use crate::yard::Yard;
 
 impl<W, E, P: Part<W, E>> Yard<W, E, P> {
-    /// Another pass, with one of this one's shares.
+    /// Another pass, with one of this one's shares, for another actor. It holds no part, has no ticket and has drawn nothing.
+    ///
+    /// As many passes as the yard was opened for can be there at once.
     pub fn split(&self, pass: &mut Pass<P, E>) -> Pass<P, E>
         requires yard { IsPassOf self.now pass.old }
         requires shares { 1 < pass.old.view.shares }
@@ -22,7 +24,7 @@ impl<W, E, P: Part<W, E>> Yard<W, E, P> {
         }
     }
 
-    /// Takes in another pass: its shares, its tickets and its numbers.
+    /// Takes in another pass that holds no part: its shares, its tickets, and its numbers behind those of this one.
     pub fn join(&self, pass: &mut Pass<P, E>, other: Pass<P, E>)
         requires yard { IsPassOf self.now pass.old }
         requires other { IsPassOf self.now other }

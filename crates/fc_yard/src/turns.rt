@@ -53,7 +53,10 @@ fn bring_home<W, E, P: Part<W, E>>(
 }
 
 impl<W, E, P: Part<W, E>> Yard<W, E, P> {
-    /// The part, where its turn is free now, without waiting.
+    /// Takes the part at this place, counted from 0, where nobody has its turn now. Doesn't wait.
+    ///
+    /// With it the pass holds the part, which has its share of the whole that is told then (`Knows`). `None` only where
+    /// another pass has the turn, so never for a pass that has all shares; the pass is then as it was.
     pub fn try_take(&self, pass: &mut Pass<P, E>, part: usize) -> Option<P>
         requires yard { IsPassOf self.now pass.old }
         requires part { part < self.now.parts }
@@ -95,7 +98,10 @@ impl<W, E, P: Part<W, E>> Yard<W, E, P> {
         }
     }
 
-    /// The part. Waits until its turn is free.
+    /// Takes the part at this place, counted from 0, and waits until nobody else has its turn.
+    ///
+    /// The pass then holds the part, which has its share of the whole that is told at that moment (`Knows`). No clause says that
+    /// the turn is ever had. It looks a hundred times before it sleeps.
     pub fn take<R: Wait>(&self, rt: &R, pass: &mut Pass<P, E>, part: usize) -> P
         requires yard { IsPassOf self.now pass.old }
         requires part { part < self.now.parts }
@@ -116,7 +122,10 @@ impl<W, E, P: Part<W, E>> Yard<W, E, P> {
         unreachable!()
     }
 
-    /// Puts the part back, and whoever waits for it may take it.
+    /// Puts a part back that the pass holds, and whoever waits for it may take it.
+    ///
+    /// The part may have been changed since it was taken or last drew a number, so long as it has its share of every whole of
+    /// which it had its share then (`Stays`): more memory, for one. Work for which no number was drawn can't be put back.
     pub fn put(&self, pass: &mut Pass<P, E>, part: usize, value: P)
         requires yard { IsPassOf self.now pass.old }
         requires part { part < self.now.parts }

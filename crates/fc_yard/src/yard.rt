@@ -1,4 +1,4 @@
-//! The yard.
+//! The yard, and what a contract sees of it.
 
 use crate::part::Part;
 use crate::rule::{Stall, Terms, Turns, View};
@@ -9,7 +9,10 @@ use std::marker::Model;
 /// The table as the calls below use it.
 pub(crate) type Shelf<W, E, P> = Shared<Stall<P, E>, View<P, E>, Terms<P>, Turns<W>>;
 
-/// Parts that actors take and put back, and numbers that they draw.
+/// Parts that actors take and put back, and numbers that they draw. Threads share it by reference.
+///
+/// A contract sees of it which yard it is, how many parts it has, and the number that none of its numbers reaches. Let go
+/// without `close`, it lets its parts go.
 #[derive(Drop)]
 pub struct Yard<W, E, P: Part<W, E>> {
     pub(crate) table: Table<Stall<P, E>, View<P, E>, Terms<P>, Turns<W>, Global>,

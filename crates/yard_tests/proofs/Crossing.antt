@@ -12,7 +12,8 @@ use denote.Param.Send.{IsSend, IsSync, sendable, struct_send, recorded_send, par
 use Rattle.std.specs.contracts.alloc.Global.{the_row as heap_row}
 use Rattle.std.proofs.Crossing as heap
 use Rattle.yard_tests.specs.contracts.counter.Counts.{the_row as counts_row}
-use Rattle.yard_tests.specs.contracts.counter.CounterPartCountsU64.TheImpl.{ghosts}
+use Rattle.yard_tests.specs.contracts.counter.Tally.{the_row as tally_row}
+use Rattle.yard_tests.specs.contracts.counter.CounterPartCountsTally.TheImpl.{ghosts}
 use Rattle.fc_yard.specs.contracts.pass.Pass.{the_row as pass_row}
 use Rattle.fc_yard.specs.contracts.yard.Yard.{the_row as yard_row}
 use Rattle.fc_yard.proofs.Crossing.{pass_send, yard_sync}
@@ -41,8 +42,8 @@ number_send = search sendable
 
 -- the closure of a crowd
 pub crowd_send : (δ : Ty) (ν : _) (R : RattleType) (ℓ ℓ' : _) → IsSync (param 0 R)
-    → IsSend (param 1 (arg δ no (TupleAt ν ((shr_ref_field ℓ (param 0 R) tt).row ∷ heap_row ∷ (shr_ref_field ℓ' (yard_row counts_row (u64-field).row counter_row ghosts) tt).row ∷ (u64-field).row
-    ∷ pass_row counter_row (u64-field).row ∷ (u64-field).row ∷ (u64-field).row ∷ (u64-field).row ∷ []))))
+    → IsSend (param 1 (arg δ no (TupleAt ν ((shr_ref_field ℓ (param 0 R) tt).row ∷ heap_row ∷ (shr_ref_field ℓ' (yard_row counts_row tally_row counter_row ghosts) tt).row ∷ (u64-field).row
+    ∷ pass_row counter_row tally_row ∷ (u64-field).row ∷ (u64-field).row ∷ (u64-field).row ∷ []))))
 crowd_send δ ν R ℓ ℓ' s =
     param_send 1 _ (arg_send δ no _ (eight_send ν _ _ _ _ _ _ _ _ (reference_send ℓ (param 0 R) tt s) heap.send
-    (reference_send ℓ' (yard_row counts_row (u64-field).row counter_row ghosts) tt (counters_sync counts_row (u64-field).row ghosts)) number_send (counter_pass_send (u64-field).row) number_send number_send number_send))
+    (reference_send ℓ' (yard_row counts_row tally_row counter_row ghosts) tt (counters_sync counts_row tally_row ghosts)) number_send (counter_pass_send tally_row) number_send number_send number_send))

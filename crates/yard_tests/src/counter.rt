@@ -20,6 +20,15 @@ pub struct Counter {
     pub count: u64,
 }
 
+/// An entry.
+#[derive(Clone, Copy)]
+pub enum Tally {
+    /// The counter of this part went up by one.
+    One(u64),
+    /// Every counter did.
+    All,
+}
+
 impl Counter {
     /// The counter, counted once more. It begins again after its greatest number.
     pub fn one_more(&self) -> Counter
@@ -31,7 +40,7 @@ impl Counter {
     }
 }
 
-impl Part<Counts, u64> for Counter {
+impl Part<Counts, Tally> for Counter {
     ghost use Rattle.yard_tests.specs.Counting.{HasShare, Counted};
 
     ghost fits = { λ _ w p x. HasShare w p x };
@@ -40,5 +49,5 @@ impl Part<Counts, u64> for Counter {
 
     ghost count = { λ w. w.told };
 
-    ghost steps = { λ w _ p next. Counted w p next };
+    ghost steps = { λ w _ e next. Counted w e next };
 }

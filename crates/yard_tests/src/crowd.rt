@@ -5,7 +5,7 @@ ghost use Rattle.std.specs.Thread.{IsSync};
 ghost use Rattle.fc_yard.specs.Views.{HoldsNone};
 ghost use Rattle.fc_yard.specs.Calls.{IsPassOf};
 
-use crate::counter::{Counter, Counts};
+use crate::counter::{Counter, Counts, Tally};
 use fc_yard::pass::Pass;
 use fc_yard::yard::Yard;
 use std::alloc::Global;
@@ -13,7 +13,7 @@ use std::sync::Wait;
 use std::thread::{Threads, join};
 
 /// The yard of the tests.
-pub type Counters = Yard<Counts, u64, Counter>;
+pub type Counters = Yard<Counts, Tally, Counter>;
 
 /// So many counters, none of which has counted anything.
 pub fn zeros(alloc: Global, parts: usize) -> Option<Vec<Counter>>
@@ -39,7 +39,7 @@ pub fn sum(counters: &[Counter]) -> u64 {
 pub fn count_once<R: Wait>(
     rt: &R,
     yard: &Counters,
-    pass: &mut Pass<Counter, u64>,
+    pass: &mut Pass<Counter, Tally>,
     part: usize,
 ) -> Option<u64>
     requires yard { IsPassOf yard.now pass.old }
@@ -55,9 +55,34 @@ pub fn count_once<R: Wait>(
         return None;
     }
     let counted = counter.one_more();
-    let number = yard.draw(pass, part, &counted, &(part as u64));
+    let number = yard.draw(pass, part, &counted, &Tally::One(part as u64));
     yard.put(pass, part, counted);
     Some(number)
+}
+
+/// Counts both parts of a yard of two at once. `None` where no ticket is left, or no memory for a list of two.
+pub fn count_both<R: Wait>(
+    rt: &R,
+    alloc: Global,
+    yard: &Counters,
+    pass: &mut Pass<Counter, Tally>,
+) -> Option<u64>
+    requires yard { IsPassOf yard.now pass.old }
+    requires parts { yard.now.parts ≡ 2 }
+    requires free { HoldsNone pass.old.view }
+    ensures number { IfSome result (λ n. n < pass.old.view.limit) }
+{
+    let Ok(mut both) = Vec::with_capacity(alloc, 2) else {
+        return None;
+    };
+    let first = yard.take(rt, pass, 0);
+    let second = yard.take(rt, pass, 1);
+    if !yard.ticket(pass) {
+        return None;
+    }
+    both.push_reserved(first.one_more());
+    both.push_reserved(second.one_more());
+    Some(yard.draw_all(pass, &both, &Tally::All))
 }
 
 /// One actor: counts part after part from its own place on, and lists the numbers that it drew.
@@ -66,10 +91,10 @@ fn act<R: Wait>(
     alloc: Global,
     yard: &Counters,
     parts: usize,
-    mut pass: Pass<Counter, u64>,
+    mut pass: Pass<Counter, Tally>,
     place: usize,
     rounds: usize,
-) -> (Pass<Counter, u64>, Vec<u64>)
+) -> (Pass<Counter, Tally>, Vec<u64>)
     requires yard { IsPassOf yard.now pass }
     requires parts { (yard.now.parts ≡ parts) × (0 < parts) × (parts ≤ 64) }
     requires free { HoldsNone pass.view }
@@ -96,11 +121,11 @@ pub fn crowd<R: Threads + Wait + Sync>(
     alloc: Global,
     yard: &Counters,
     parts: usize,
-    mut pass: Pass<Counter, u64>,
+    mut pass: Pass<Counter, Tally>,
     place: usize,
     actors: usize,
     rounds: usize,
-) -> (Pass<Counter, u64>, Vec<u64>)
+) -> (Pass<Counter, Tally>, Vec<u64>)
     requires sync { IsSync R.row }
     requires yard { IsPassOf yard.now pass }
     requires parts { (yard.now.parts ≡ parts) × (0 < parts) × (parts ≤ 64) }

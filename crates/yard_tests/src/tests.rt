@@ -2,7 +2,7 @@
 
 ghost use Rattle.std.specs.Prelude.{◌≤◌};
 
-use crate::crowd::{Counters, count_once, crowd, sum, zeros};
+use crate::crowd::{Counters, count_both, count_once, crowd, sum, zeros};
 use std::alloc::Global;
 use std::sync::Wait;
 use std::test::Fail;
@@ -134,5 +134,20 @@ fn passes_are_joined_in_any_order(rt: HostRuntime) -> Result<(), Fail> {
         };
         assert!(rt; are_from(numbers.as_slice(), 1) && all == 4);
     }
+    Ok(())
+}
+
+/// The number of an entry over both parts of a yard of two.
+fn both<R: Wait>(rt: &R, alloc: Global) -> Option<u64> {
+    let counters = zeros(alloc, 2)?;
+    let Ok((yard, mut pass)) = Counters::new(alloc, counters, 3, 4, 1) else {
+        return None;
+    };
+    count_both(rt, alloc, &yard, &mut pass)
+}
+
+#[test]
+fn both_parts_are_counted_at_once(rt: HostRuntime) -> Result<(), Fail> {
+    assert_eq!(rt; both(&rt, rt.alloc()), Some(3));
     Ok(())
 }

@@ -1,4 +1,5 @@
 use Rattle.std.proofs.Common.{sym, subst}
+use Rattle.yard_tests.specs.declared.counter.Tally.TheVariants.{One}
 use Rattle.fc_yard.specs.Views.{HoldsNone, HoldsOnly}
 use Rattle.fc_yard.proofs.Calling.{only_took, only_drew, none_left}
 use Rattle.yard_tests.proofs.Counts.{commits, stays}
@@ -42,7 +43,7 @@ put-requires-2-clause-held g c κs =
     let given = c.ticket.ensures.given c.if-not-ticket.false in
     let still = subst (λ q. HoldsOnly q.view c.args.part c.take-counter.result) (sym given.1) only in
     let drawn = subst (λ q. HoldsOnly q.view c.args.part c.one_more-counted.result) (sym c.draw-number.ensures.drawn)
-    (only_drew c.ticket.new.pass.view c.args.part c.take-counter.result c.one_more-counted.result c.draw-number.result c.args.part still) in
+    (only_drew c.ticket.new.pass.view c.args.part c.take-counter.result c.one_more-counted.result c.draw-number.result (One c.args.part) still) in
     (c.one_more-counted.result, drawn.0)
 
 pub put-requires-2-clause-stays : goal.put-requires-2-clause-stays
@@ -51,7 +52,7 @@ put-requires-2-clause-stays g c κs =
     let given = c.ticket.ensures.given c.if-not-ticket.false in
     let still = subst (λ q. HoldsOnly q.view c.args.part c.take-counter.result) (sym given.1) only in
     let drawn = subst (λ q. HoldsOnly q.view c.args.part c.one_more-counted.result) (sym c.draw-number.ensures.drawn)
-    (only_drew c.ticket.new.pass.view c.args.part c.take-counter.result c.one_more-counted.result c.draw-number.result c.args.part still) in
+    (only_drew c.ticket.new.pass.view c.args.part c.take-counter.result c.one_more-counted.result c.draw-number.result (One c.args.part) still) in
     stays c.draw-number.new.pass.view c.args.part c.one_more-counted.result drawn.0
 
 pub returns-clause-free : goal.returns-clause-free
@@ -60,5 +61,5 @@ returns-clause-free g c =
     let given = c.ticket.ensures.given c.if-not-ticket.false in
     let still = subst (λ q. HoldsOnly q.view c.args.part c.take-counter.result) (sym given.1) only in
     let drawn = subst (λ q. HoldsOnly q.view c.args.part c.one_more-counted.result) (sym c.draw-number.ensures.drawn)
-    (only_drew c.ticket.new.pass.view c.args.part c.take-counter.result c.one_more-counted.result c.draw-number.result c.args.part still) in
+    (only_drew c.ticket.new.pass.view c.args.part c.take-counter.result c.one_more-counted.result c.draw-number.result (One c.args.part) still) in
     subst (λ q. HoldsNone q.view) (sym c.put-2.ensures) (none_left c.draw-number.new.pass.view c.args.part c.one_more-counted.result drawn)
