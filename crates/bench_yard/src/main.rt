@@ -7,6 +7,7 @@
 ghost use Rattle.std.specs.Prelude.{◌≤◌};
 
 use std::alloc::Global;
+use std::env::Env;
 use std::sync::Wait;
 use std::thread::Threads;
 use std::{env, io};
@@ -34,15 +35,18 @@ fn run<R: Threads + Wait + Sync>(
     Some((numbers.len(), sum(back.as_slice())))
 }
 
+/// The number in the word at this place of the command line, or 0.
+fn number<R: Env + Alloc>(rt: &R, place: usize) -> io::Result<u32> {
+    Ok(match env::args(rt)?.nth(place) {
+        Some(text) => text.parse::<u32>().unwrap_or(0),
+        None => 0,
+    })
+}
+
 fn main(rt: HostRuntime) -> io::Result<()> {
-    let mut numbers = [0u32; 2];
-    for (place, word) in env::args(&rt)?.enumerate() {
-        if place == 1 || place == 2 {
-            numbers[place - 1] = word.parse::<u32>().unwrap_or(0);
-        }
-    }
-    let [threads, rounds] = numbers;
-    match run(&rt, rt.alloc(), threads.min(64) as usize, rounds as usize) {
+    let threads = number(&rt, 1)?.min(64) as usize;
+    let rounds = number(&rt, 2)? as usize;
+    match run(&rt, rt.alloc(), threads, rounds) {
         Some((drawn, counted)) => println!(rt; "{drawn} {counted}"),
         None => println!(rt; "no memory"),
     }

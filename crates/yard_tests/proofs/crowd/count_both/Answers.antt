@@ -1,4 +1,4 @@
-use Rattle.std.proofs.Common.{◌≡◌, ◌∷◌, [], ◌++◌, ap, sym, ◌∙◌, subst, arith}
+use Rattle.std.proofs.Common.{◌∷◌, [], ◌++◌, ap, sym, ◌∙◌, subst}
 use Rattle.fc_yard.specs.Views.{held_of, HoldsAll}
 use Rattle.fc_yard.specs.Whole.{CommitsAll}
 use Rattle.fc_yard.proofs.Calling.{only_took}
