@@ -1,0 +1,8 @@
+-- Lemmas on what is written and what is read.
+pub mod Steps
+pub mod Puts
+pub mod RoundTrip
+pub mod Batches
+pub mod Parts
+pub mod Counts
+pub mod HalfReads
