@@ -23,8 +23,8 @@ use Rattle.fc_store.specs.Answering.{IsTold, LineAnswered, Reached}
 use Rattle.fc_run.proofs.ProgressLemmas.{LineEnds, LineEnds-answer, Filled-more, Broken-more}
 use Rattle.fc_run.specs.declared.reading.Ending.{Ending}
 use Rattle.fc_run.specs.declared.reading.Ending.TheVariants as ending
-use Rattle.fc_store.specs.declared.stop.Stop.{Stop}
-use Rattle.fc_store.specs.declared.stop.Stop.TheVariants.{LogFull, NoMemory}
+use Rattle.fc_entry.specs.declared.stop.Stop.{Stop}
+use Rattle.fc_entry.specs.declared.stop.Stop.TheVariants.{LogFull, NoMemory}
 
 -- the lines that ended are the first of all lines
 pub Grows-all : (bytes : List ℕ) → Grows (ended_lines bytes) (all_lines bytes)

@@ -32,7 +32,7 @@ use Rattle.fc_run.specs.declared.status.Status.TheVariants as status
 use Rattle.fc_run.specs.declared.telling.Telling.{Telling}
 use Rattle.fc_run.proofs.EndingLemmas.{Grows-all}
 use Rattle.fc_run.proofs.ProgressLemmas.{Broken-more}
-use Rattle.fc_store.specs.declared.stop.Stop.TheVariants.{LogFull, NoMemory}
+use Rattle.fc_entry.specs.declared.stop.Stop.TheVariants.{LogFull, NoMemory}
 
 -- whole lines are some first lines
 Broken-complete :

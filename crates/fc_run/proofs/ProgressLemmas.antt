@@ -13,8 +13,8 @@ use Rattle.fc_legal.specs.Whole.{Whole}
 use Rattle.fc_run.specs.Progress.{Progress, Filled, Broken, Fed}
 use Rattle.fc_run.specs.Reading.{reading}
 use Rattle.fc_store.specs.Answering.{IsTold, LineAnswered, Reached}
-use Rattle.fc_store.specs.declared.stop.Stop.{Stop}
-use Rattle.fc_store.specs.declared.stop.Stop.TheVariants.{LogFull, NoMemory}
+use Rattle.fc_entry.specs.declared.stop.Stop.{Stop}
+use Rattle.fc_entry.specs.declared.stop.Stop.TheVariants.{LogFull, NoMemory}
 
 -- A byte that is no newline joins the line at hand.
 Progress-byte :

@@ -16,7 +16,7 @@ use Rattle.fc_run.specs.declared.reading.Turn.{Turn}
 use Rattle.fc_run.specs.declared.reading.Turn.TheVariants as turn
 use Rattle.fc_run.specs.declared.reading.Ending.{Ending}
 use Rattle.fc_run.specs.declared.reading.Ending.TheVariants as ending
-use Rattle.fc_store.specs.declared.stop.Stop.{Stop}
+use Rattle.fc_entry.specs.declared.stop.Stop.{Stop}
 
 -- what was given first, and then
 Gave-append-left :

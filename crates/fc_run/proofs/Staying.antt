@@ -7,8 +7,8 @@ use Rattle.fc_run.specs.declared.reading.Ending.TheVariants as ending
 use Rattle.fc_run.specs.declared.reading.Turn.TheVariants as turn
 use Rattle.fc_run.specs.declared.status.Status.{Status}
 use Rattle.fc_store.specs.Answering.{StaysUp}
-use Rattle.fc_store.specs.declared.stop.Stop.{Stop}
-use Rattle.fc_store.specs.declared.stop.Stop.TheVariants.{LogFull, NoMemory}
+use Rattle.fc_entry.specs.declared.stop.Stop.{Stop}
+use Rattle.fc_entry.specs.declared.stop.Stop.TheVariants.{LogFull, NoMemory}
 
 pub StandsAfter-stopped : (n : ℕ) (stop : Stop) (stands : Type 0) → StaysUp {A = Unit {0}} (Err stop) stands → StandsAfter (turn.Stopped n stop) stands
 StandsAfter-stopped n LogFull stands up = up

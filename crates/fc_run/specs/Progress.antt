@@ -5,8 +5,8 @@ use Rattle.fc_entry.specs.declared.entry.Entry.{Entry}
 use Rattle.fc_entry.specs.Lines.{lined, ended_lines}
 use Rattle.fc_legal.specs.Run.{IsRun, IsPartialRun, WantsMore}
 use Rattle.fc_legal.specs.Whole.{Whole}
-use Rattle.fc_store.specs.declared.stop.Stop.{Stop}
-use Rattle.fc_store.specs.declared.stop.Stop.TheVariants.{LogFull, NoMemory}
+use Rattle.fc_entry.specs.declared.stop.Stop.{Stop}
+use Rattle.fc_entry.specs.declared.stop.Stop.TheVariants.{LogFull, NoMemory}
 use Rattle.fc_run.specs.Reading.{reading}
 use Rattle.fc_store.specs.Answering.{Reached}
 

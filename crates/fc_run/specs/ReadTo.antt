@@ -15,8 +15,8 @@ use Rattle.fc_run.specs.declared.reading.Turn.{Turn}
 use Rattle.fc_run.specs.declared.reading.Turn.TheVariants as turn
 use Rattle.fc_run.specs.declared.reading.Ending.{Ending}
 use Rattle.fc_run.specs.declared.reading.Ending.TheVariants as ending
-use Rattle.fc_store.specs.declared.stop.Stop.{Stop}
-use Rattle.fc_store.specs.declared.stop.Stop.TheVariants.{LogFull, NoMemory}
+use Rattle.fc_entry.specs.declared.stop.Stop.{Stop}
+use Rattle.fc_entry.specs.declared.stop.Stop.TheVariants.{LogFull, NoMemory}
 
 -- the source gave these bytes, where it tells what it has left
 abbrev pub Gave : SourceState → List ℕ → SourceState → Type 0

@@ -15,7 +15,7 @@ use Rattle.fc_run.specs.declared.reading.Ending.{Ending}
 use Rattle.fc_run.specs.declared.reading.Ending.TheVariants as ending
 use Rattle.fc_run.specs.declared.status.Status.{Status}
 use Rattle.fc_run.specs.declared.status.Status.TheVariants as status
-use Rattle.fc_store.specs.declared.stop.Stop.TheVariants.{LogFull, NoMemory}
+use Rattle.fc_entry.specs.declared.stop.Stop.TheVariants.{LogFull, NoMemory}
 
 -- how a session ended after these bytes, and what its entries answer
 abbrev pub EndsSession : Ending → SourceState → SourceState → (Whole → Type 0) → GrainSize → Whole → List ℕ → List Entry → Whole → Type 0

@@ -16,8 +16,8 @@ use crate::store::LineStore;
 use crate::telling::{Telling, put_told};
 use fc_base::outcome::Failed;
 use fc_entry::history::History;
+use fc_entry::stop::Stop;
 use fc_io::sink::Sink;
-use fc_store::stop::Stop;
 
 /// Writes the whole text, and sends on what waits.
 pub fn write_text<K: Sink>(telling: Telling, history: &History, sink: &mut K) -> Result<(), Failed>

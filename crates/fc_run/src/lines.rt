@@ -8,7 +8,7 @@ ghost use Rattle.fc_legal.specs.Whole.{Whole};
 
 use crate::store::LineStore;
 use fc_entry::history::History;
-use fc_store::stop::Stop;
+use fc_entry::stop::Stop;
 
 /// Takes the carriage return off a line's end, if it has one.
 fn take_return(line: &mut Vec<u8>)

@@ -11,8 +11,8 @@ use crate::lines::feed;
 use crate::store::LineStore;
 use fc_base::outcome::NoMemory;
 use fc_entry::history::History;
+use fc_entry::stop::Stop;
 use fc_io::source::Source;
-use fc_store::stop::Stop;
 use std::alloc::Global;
 
 /// How one turn of reading ends.

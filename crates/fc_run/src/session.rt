@@ -16,9 +16,9 @@ use crate::status::Status;
 use crate::store::LineStore;
 use crate::telling::Telling;
 use fc_entry::history::History;
+use fc_entry::stop::Stop;
 use fc_io::sink::Sink;
 use fc_io::source::Source;
-use fc_store::stop::Stop;
 use std::alloc::Global;
 
 /// Reads a source to its end and answers its lines.

@@ -9,7 +9,7 @@ ghost use Rattle.fc_run.specs.Reading.{reading};
 ghost use Rattle.fc_store.specs.Answering.{IsTold, LineAnswered, StaysUp, TellsSome};
 
 use fc_entry::history::History;
-use fc_store::stop::Stop;
+use fc_entry::stop::Stop;
 
 /// A store under one owner, which answers line by line.
 pub trait LineStore {

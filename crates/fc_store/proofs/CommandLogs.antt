@@ -17,8 +17,8 @@ use Rattle.fc_store.specs.Answering.{Answered}
 use Rattle.fc_store.specs.Apart.{entry_apart}
 use Rattle.fc_store.specs.Phase.{IsDecided, StandsAt}
 use Rattle.fc_store.specs.Store.{StoreView, StandsFor}
-use Rattle.fc_store.specs.declared.stop.Stop.{Stop}
-use Rattle.fc_store.specs.declared.stop.Stop.TheVariants.{NoMemory}
+use Rattle.fc_entry.specs.declared.stop.Stop.{Stop}
+use Rattle.fc_entry.specs.declared.stop.Stop.TheVariants.{NoMemory}
 use Rattle.fc_store.proofs.CommandSteps.{unsettled_turn, settled_turn, decided_turn}
 use Rattle.fc_store.proofs.Logging.{IsTurn, is_logged}
 

@@ -16,7 +16,7 @@ use Rattle.fc_store.specs.Answering.{Answered, IsTold, TellsSome}
 use Rattle.fc_store.specs.Phase.{StandsAt}
 use Rattle.fc_store.specs.Settling.{AreFew, CanSettle, IsSettled, CanDecide, IsDoneAfter}
 use Rattle.fc_store.specs.Store.{StoreView, StandsFor}
-use Rattle.fc_store.specs.declared.stop.Stop.{Stop}
+use Rattle.fc_entry.specs.declared.stop.Stop.{Stop}
 use Rattle.fc_store.proofs.PhaseStands.{stands_at}
 
 -- The command is answered, if the store stood for this.

@@ -18,8 +18,8 @@ use Rattle.fc_rules.specs.LaneTold.{LaneOf, place_of}
 use Rattle.fc_store.specs.Answering.{IsTold}
 use Rattle.fc_store.specs.Passing.{IsFilled, IsFull, Filled}
 use Rattle.fc_store.specs.Store.{StoreView, IsLaneAt, StandsFor}
-use Rattle.fc_store.specs.declared.stop.Stop.{Stop}
-use Rattle.fc_store.specs.declared.stop.Stop.TheVariants.{LogFull, NoMemory}
+use Rattle.fc_entry.specs.declared.stop.Stop.{Stop}
+use Rattle.fc_entry.specs.declared.stop.Stop.TheVariants.{LogFull, NoMemory}
 use Rattle.fc_store.proofs.Accessing.{access_step, access_stands}
 use Rattle.fc_store.proofs.CommandSheet.{sheet_of_part}
 use Rattle.fc_store.proofs.LeastGrain.{work_at_least, work_in_lane}

@@ -11,8 +11,8 @@ use Rattle.fc_legal.specs.Steps.{Step}
 use Rattle.fc_legal.specs.Whole.{Whole}
 use Rattle.fc_legal.proofs.Appending.{IsLegal-append}
 use Rattle.fc_store.specs.Answering.{Answered, IsTold}
-use Rattle.fc_store.specs.declared.stop.Stop.{Stop}
-use Rattle.fc_store.specs.declared.stop.Stop.TheVariants.{LogFull, NoMemory}
+use Rattle.fc_entry.specs.declared.stop.Stop.{Stop}
+use Rattle.fc_entry.specs.declared.stop.Stop.TheVariants.{LogFull, NoMemory}
 
 -- What one turn of the store gives: an entry by `main` that answers the request, and what is told after it.
 pub record IsTurn (Stands : Whole → Type 0) (grain : GrainSize) (w : Whole) (request : Request) (entry : Entry) (next : Whole) : Type 0 where

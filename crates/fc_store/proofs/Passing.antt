@@ -14,8 +14,8 @@ use Rattle.fc_legal.specs.Whole.{Whole}
 use Rattle.fc_legal.proofs.Appending.{Runs-append, Runs-pass}
 use Rattle.fc_store.specs.Answering.{IsTold, Advanced}
 use Rattle.fc_store.specs.Passing.{IsFilled, IsFull, Filled, at, between, after_turn, AddsRun, AddsRunToLimit, Passed}
-use Rattle.fc_store.specs.declared.stop.Stop.{Stop}
-use Rattle.fc_store.specs.declared.stop.Stop.TheVariants.{LogFull, NoMemory}
+use Rattle.fc_entry.specs.declared.stop.Stop.{Stop}
+use Rattle.fc_entry.specs.declared.stop.Stop.TheVariants.{LogFull, NoMemory}
 
 -- ---- entries that were added
 

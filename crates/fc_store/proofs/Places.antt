@@ -12,7 +12,7 @@ use Rattle.fc_legal.specs.Whole.{Whole}
 use Rattle.fc_store.specs.Answering.{Answered, IsTold}
 use Rattle.fc_store.specs.Asking.{part_of, request_of}
 use Rattle.fc_store.specs.declared.access.Access.{Access}
-use Rattle.fc_store.specs.declared.stop.Stop.{Stop}
+use Rattle.fc_entry.specs.declared.stop.Stop.{Stop}
 use Rattle.fc_store.proofs.Logging.{then_done, then_stopped}
 
 -- The request for a grain, from its first block and the first block behind it.

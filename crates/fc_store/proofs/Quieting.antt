@@ -18,8 +18,8 @@ use Rattle.fc_store.specs.Phase.{EachLane, IsDone, IsReserved}
 use Rattle.fc_store.specs.Quiet.{AreQuiet, NeverFails, QuietBy}
 use Rattle.fc_store.specs.Settling.{CanDecide, CanSettle, IsDecisionOn, IsSettling}
 use Rattle.fc_store.specs.Store.{StoreView}
-use Rattle.fc_store.specs.declared.stop.Stop.{Stop}
-use Rattle.fc_store.specs.declared.stop.Stop.TheVariants.{LogFull, NoMemory}
+use Rattle.fc_entry.specs.declared.stop.Stop.{Stop}
+use Rattle.fc_entry.specs.declared.stop.Stop.TheVariants.{LogFull, NoMemory}
 use Rattle.fc_store.proofs.Arming.{command_arms, settling_arms}
 use Rattle.fc_store.proofs.Giving.{all_but_last, of_last}
 

@@ -7,8 +7,8 @@ use Rattle.fc_entry.specs.declared.entry.Entry.{Entry}
 use Rattle.fc_legal.specs.Added.{AnswersAll, AnswersSome, AnswersToLimit, AddsSeconds, AddsSomeSeconds, AddsSecondsToLimit, AddsLine, AddsSomeOfLine, AddsLineToLimit}
 use Rattle.fc_legal.specs.Run.{Reading}
 use Rattle.fc_legal.specs.Whole.{Whole}
-use Rattle.fc_store.specs.declared.stop.Stop.{Stop}
-use Rattle.fc_store.specs.declared.stop.Stop.TheVariants.{LogFull, NoMemory}
+use Rattle.fc_entry.specs.declared.stop.Stop.{Stop}
+use Rattle.fc_entry.specs.declared.stop.Stop.TheVariants.{LogFull, NoMemory}
 
 -- The store stands for what these entries tell.
 abbrev pub IsTold : (Whole → Type 0) → List Entry → Whole → Type 0

@@ -10,12 +10,12 @@ ghost use Rattle.fc_store.specs.Quiet.{QuietBy};
 ghost use Rattle.fc_store.specs.Store.{StandsFor};
 ghost use Rattle.fc_store.specs.Passing.{Passed, after_turn, at, between};
 
-use crate::stop::Stop;
 use crate::store::Store;
 use crate::work::{Work, all_work};
 use fc_base::limits::MAX_ENTRIES;
 use fc_base::outcome::NoMemory;
 use fc_entry::history::History;
+use fc_entry::stop::Stop;
 use fc_mdisk::mdisk::Mdisk;
 
 impl<D: Mdisk> Store<D> {

@@ -17,7 +17,6 @@ ghost use Rattle.fc_store.specs.Settling.{CanDecide, IsSettled};
 ghost use Rattle.fc_store.specs.Store.{StandsFor};
 
 use crate::log::{entry_apart, is_full, log};
-use crate::stop::Stop;
 use crate::store::Store;
 use fc_base::command::Command;
 use fc_base::limits::MAX_ENTRIES;
@@ -25,6 +24,7 @@ use fc_base::list::List;
 use fc_base::outcome::NoMemory;
 use fc_base::request::{Effect, Place, Reply, Request};
 use fc_entry::history::History;
+use fc_entry::stop::Stop;
 use fc_mdisk::mdisk::Mdisk;
 
 impl<D: Mdisk> Store<D> {

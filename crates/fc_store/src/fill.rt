@@ -16,7 +16,6 @@ ghost use Rattle.fc_store.specs.Passing.{Filled};
 ghost use Rattle.fc_store.specs.Working.{AllStand, least_of, lesser};
 
 use crate::log::{is_full, log};
-use crate::stop::Stop;
 use crate::store::Store;
 use crate::work::Work;
 use fc_base::ids::GrainNo;
@@ -25,6 +24,7 @@ use fc_base::outcome::NoMemory;
 use fc_base::request::Reply;
 use fc_entry::entry::Entry;
 use fc_entry::history::History;
+use fc_entry::stop::Stop;
 use fc_lane::lane::Lane;
 use fc_mdisk::mdisk::Mdisk;
 use std::alloc::Global;

@@ -20,7 +20,6 @@ mod phases;
 mod plan;
 mod settling;
 mod sheet;
-pub mod stop;
 pub mod store;
 pub mod store_part;
 mod work;

@@ -11,12 +11,12 @@ ghost use Rattle.fc_store.specs.Phase.{IsDecided};
 ghost use Rattle.fc_store.specs.Store.{StandsFor};
 
 use crate::access::Access;
-use crate::stop::Stop;
 use crate::store::Store;
 use fc_base::command::{Command, Line};
 use fc_base::fault::WordFault;
 use fc_base::limits::MAX_ENTRIES;
 use fc_entry::history::History;
+use fc_entry::stop::Stop;
 use fc_mdisk::mdisk::Mdisk;
 
 impl<D: Mdisk> Store<D> {

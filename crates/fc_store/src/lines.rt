@@ -19,7 +19,6 @@ ghost use Rattle.fc_store.specs.Store.{StandsFor};
 
 use crate::access::{Access, access_lane};
 use crate::log::{entry_apart, is_full, log};
-use crate::stop::Stop;
 use crate::store::Store;
 use fc_base::fault::{Kind, Refusal, ValueOf, WordFault};
 use fc_base::ids::VolId;
@@ -31,6 +30,7 @@ use fc_base::request::{Place, Reply, Request};
 use fc_base::size::GrainSize;
 use fc_base::volume::Volume;
 use fc_entry::history::History;
+use fc_entry::stop::Stop;
 use fc_mdisk::mdisk::Mdisk;
 
 /// Why an access of so many blocks of a volume is refused, if it is: Limit for more than 8,192; BadValue for none, and for

@@ -4,12 +4,12 @@ ghost use Rattle.std.specs.Prelude.{◌≡◌, ◌<◌, ◌≤◌, [], ◌∷◌
 ghost use Rattle.std.specs.Bool.{OnFalse, OnTrue};
 ghost use Rattle.fc_store.specs.Apart.{entry_apart};
 
-use crate::stop::Stop;
 use fc_base::limits::MAX_ENTRIES;
 use fc_base::list::List;
 use fc_base::request::{Effect, Place, Reply, Request};
 use fc_entry::entry::Entry;
 use fc_entry::history::History;
+use fc_entry::stop::Stop;
 use std::alloc::Global;
 
 /// Whether one more entry would pass the greatest number of entries.

@@ -4,7 +4,7 @@ use Rattle.fc_control.specs.Control.{ControlState}
 use Rattle.fc_legal.specs.Seconds.{Work, all_work}
 use Rattle.fc_store.specs.Passing.{Passed, between}
 use Rattle.fc_store.specs.Store.{IsControlOf, StandsFor, StoreView}
-use Rattle.fc_store.specs.declared.stop.Stop.TheVariants.{NoMemory}
+use Rattle.fc_entry.specs.declared.stop.Stop.TheVariants.{NoMemory}
 use Rattle.fc_store.proofs.Passing.{advanced, kept, passed_nothing, passed_starved, passed_stopped, second_passed}
 use Rattle.fc_store.proofs.store.Store.advance.Goals as goal
 

@@ -1,7 +1,7 @@
 use Rattle.std.proofs.Common.{[], Result, sym, subst, arith}
 use Rattle.fc_base.specs.declared.request.Request.TheVariants.{Command as Asked}
 use Rattle.fc_store.specs.Store.{StandsFor}
-use Rattle.fc_store.specs.declared.stop.Stop.{Stop}
+use Rattle.fc_entry.specs.declared.stop.Stop.{Stop}
 use Rattle.fc_store.proofs.CommandRuns.{AnswersCommand, can_settle, can_decide, ran_whole, ran_unsettled}
 use Rattle.fc_store.proofs.Logging.{is_full}
 use Rattle.fc_store.specs.Answering.{StaysUp}
