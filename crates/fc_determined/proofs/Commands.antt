@@ -48,6 +48,7 @@ left_same :
     TellTheSame left other
 left_same grain w faults command loop left other same e f =
     record {
+      actors = ap (λ (x : Whole). x.actors) f ∙ sym (ap (λ (x : Whole). x.actors) e);
       books = ap (λ (x : Whole). x.books) f ∙ sym (ap (λ (x : Whole). x.books) e);
       picture = ap (λ (x : Whole). x.picture) f ∙ sym (ap (λ (x : Whole). x.picture) e);
       rows = ap (λ (x : Whole). x.rows) f ∙ sym (ap (λ (x : Whole). x.rows) e);

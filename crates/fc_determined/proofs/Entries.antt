@@ -4,22 +4,25 @@ use Rattle.fc_base.specs.declared.command.Command.{Command}
 use Rattle.fc_base.specs.declared.command.Command.TheVariants.{Write as WriteLine, Read as ReadLine}
 use Rattle.fc_base.specs.declared.fault.Refusal.{Refusal}
 use Rattle.fc_base.specs.declared.fault.Refusal.TheVariants.{Words}
+use Rattle.fc_base.specs.declared.ids.GrainNo.{GrainNo}
+use Rattle.fc_base.specs.declared.ids.MapId.{MapId}
 use Rattle.fc_base.specs.declared.request.Place.TheVariants.{Lane}
 use Rattle.fc_base.specs.declared.request.Request.{Request}
 use Rattle.fc_base.specs.declared.request.Request.TheVariants.{Command as Asked, Unread, Read, Write, Copy, Clean, CopyTurn, CleanTurn}
 use Rattle.fc_base.specs.declared.size.GrainSize.{GrainSize}
 use Rattle.fc_books.specs.Refused.{access_refused}
-use Rattle.fc_determined.proofs.Answers.{DidTheSame, HasOneAnswer, read_did, write_did, copy_did, clean_did}
+use Rattle.fc_determined.proofs.Answers.{DidTheSame, HasOneAnswer, read_did, write_did, copy_did, clean_did, turn_did}
 use Rattle.fc_determined.proofs.Commands.{with_faults, LeaveTheSame, command_one}
 use Rattle.fc_determined.specs.Smooth.{IsSmooth, TellTheSame, but_for_faults}
 use Rattle.fc_entry.specs.Picture.{grain_of_block}
 use Rattle.fc_entry.specs.PlainStep.{plain_step}
 use Rattle.fc_entry.specs.declared.entry.Entry.{Entry}
 use Rattle.fc_follow.specs.Following.{rows_entry}
-use Rattle.fc_legal.specs.Steps.{Step, RequestStep, AccessStep, CommandStep, CommandIsRight, IsRefused, AccessIsRefused, IsApart, one_more, after_access}
-use Rattle.fc_legal.specs.Whole.{Whole, lanes, lane_of_grain, all_grains, as_one}
-use Rattle.fc_rules.specs.LaneRight.{LaneAnswers, done_write}
-use Rattle.fc_rules.specs.LaneTold.{sheet_entry}
+use Rattle.fc_legal.specs.Steps.{Step, RequestStep, LaneStep, AccessStep, TurnStep, CommandStep, CommandIsRight, IsRefused, AccessIsRefused, IsApart, one_more, after_access}
+use Rattle.fc_legal.specs.Whole.{Whole, lanes, lane_of_grain, lane_at, part_at, part_of_sheet, all_grains, as_one}
+use Rattle.fc_rules.specs.LaneRight.{CleanAnswers, CopyAnswers, LaneAnswers, TurnAnswers, done_write}
+use Rattle.fc_rules.specs.LaneTold.{LaneOf, sheet_entry}
+use Rattle.fc_rules.specs.LaneTurn.{next_clean, next_copy}
 
 -- Two entries tell the same, and so do the wholes after them.
 pub record AreOneStep (x y : Entry) (next other : Whole) : Type 0 where
@@ -59,6 +62,7 @@ one_more_same :
     (w v next other : Whole) → TellTheSame w v → next ≡ one_more w → other ≡ one_more v → TellTheSame next other
 one_more_same w v next other same e f =
     record {
+      actors = ap (λ (x : Whole). x.actors) f ∙ same.actors ∙ sym (ap (λ (x : Whole). x.actors) e);
       books = ap (λ (x : Whole). x.books) f ∙ same.books ∙ sym (ap (λ (x : Whole). x.books) e);
       picture = ap (λ (x : Whole). x.picture) f ∙ same.picture ∙ sym (ap (λ (x : Whole). x.picture) e);
       rows = ap (λ (x : Whole). x.rows) f ∙ same.rows ∙ sym (ap (λ (x : Whole). x.rows) e);
@@ -70,7 +74,7 @@ one_more_same w v next other same e f =
 
 faults_alone : (w : Whole) (faults : List ℕ) → lanes (with_faults w faults) ≡ lanes w → TellTheSame w (with_faults w faults)
 faults_alone w faults same =
-    record { books = refl; picture = refl; rows = refl; calls = refl; entries = refl; lanes_are = same }
+    record { actors = refl; books = refl; picture = refl; rows = refl; calls = refl; entries = refl; lanes_are = same }
 
 module _ (grain : GrainSize) (w : Whole) (faults : List ℕ) (same : lanes (with_faults w faults) ≡ lanes w) (x y : Entry) (next other : Whole) (asked : AskTheSame x y) where
   refused_one :
@@ -130,6 +134,7 @@ module _ (grain : GrainSize) (w : Whole) (faults : List ℕ) (same : lanes (with
         TellTheSame next other
     after_same i j place entry e f =
         record {
+          actors = ap (λ (v : Whole). v.actors) f ∙ sym (ap (λ (v : Whole). v.actors) e);
           books =
               ap (λ (v : Whole). v.books) f
               ∙ ap (λ (z : Entry). record w.books { sheet = sheet_entry (all_grains grain) w.books.sheet (done_write z.request z.reply) z.moves z.torn }) entry
@@ -156,20 +161,43 @@ module _ (grain : GrainSize) (w : Whole) (faults : List ℕ) (same : lanes (with
               ∙ sym (ap lanes e);
         }
 
-    access_one :
-        (number : ℕ) →
-        AccessStep grain w number x next →
-        AccessStep grain (with_faults w faults) number y other →
+    lane_one :
+        (i j : ℕ) (Answers Others : Entry → Type 0) →
+        j ≡ i →
+        LaneStep grain w i Answers x next →
+        LaneStep grain (with_faults w faults) j Others y other →
         DidTheSame x y →
         AreOneStep x y next other
-    access_one number h k did =
-        let lane : lane_of_grain (with_faults w faults) number ≡ lane_of_grain w number = ap (λ n. number % n) same in
+    lane_one i j Answers Others lane h k did =
         let entry : but_for_faults y ≡ but_for_faults x =
         same_entry x y asked (k.place ∙ ap (λ n. Lane n) lane ∙ sym h.place) did (k.no_effects ∙ sym h.no_effects) in
-        record {
-          same = entry;
-          told = after_same (lane_of_grain w number) (lane_of_grain (with_faults w faults) number) lane entry h.next_is k.next_is;
-        }
+        record { same = entry; told = after_same i j lane entry h.next_is k.next_is }
+
+    turn_one :
+        (lane : ℕ) (Answers : MapId → GrainNo → Entry → Type 0) (work others : Option (MapId × GrainNo)) →
+        others ≡ work →
+        ((m : MapId) (g : GrainNo) → Answers m g x → Answers m g y → DidTheSame x y) →
+        TurnStep grain w lane Answers work x next →
+        TurnStep grain (with_faults w faults) lane Answers others y other →
+        AreOneStep x y next other
+    turn_one lane Answers work others works one h k =
+        let P : Option (MapId × GrainNo) → Type 0 = λ found. TurnAnswers Answers found y in
+        lane_one lane lane (TurnAnswers Answers work) (TurnAnswers Answers others) refl h.step k.step
+        (turn_did Answers work x y one h.step.answers (subst P works k.step.answers))
+
+    -- what a worker does next is decided by how many lanes there are, not by their faults
+    lanes_of : ℕ → ℕ → LaneOf
+    lanes_of lane n = record { lane = lane; lanes = n; grain = grain }
+
+    next_copy_one : (lane : ℕ) → next_copy (lane_at grain (with_faults w faults) lane) (part_at grain (with_faults w faults) lane) ≡ next_copy (lane_at grain w lane) (part_at grain w lane)
+    unfolding part_at lanes_of
+    next_copy_one lane =
+        ap (λ n. next_copy (lanes_of lane n) (record (as_one w) { sheet = part_of_sheet (lanes_of lane n) w.books.sheet })) same
+
+    next_clean_one : (lane : ℕ) → next_clean (lane_at grain (with_faults w faults) lane) (part_at grain (with_faults w faults) lane) ≡ next_clean (lane_at grain w lane) (part_at grain w lane)
+    unfolding part_at lanes_of
+    next_clean_one lane =
+        ap (λ n. next_clean (lanes_of lane n) (record (as_one w) { sheet = part_of_sheet (lanes_of lane n) w.books.sheet })) same
 
     -- ---- all
 
@@ -187,7 +215,8 @@ module _ (grain : GrainSize) (w : Whole) (faults : List ℕ) (same : lanes (with
         AccessStep grain (with_faults w faults) number y other →
         AreOneStep x y next other
     answered_one number request e f one h k =
-        access_one number h k (one x y (at_request x request e h.answers) (at_request y request f k.answers) smooth smooth_other)
+        lane_one (lane_of_grain w number) (lane_of_grain (with_faults w faults) number) _ _ (ap (λ n. number % n) same) h k
+        (one x y (at_request x request e h.answers) (at_request y request f k.answers) smooth smooth_other)
 
     request_one :
         (request : Request) →
@@ -198,12 +227,18 @@ module _ (grain : GrainSize) (w : Whole) (faults : List ℕ) (same : lanes (with
         AreOneStep x y next other
     request_one (Asked command) e f h k = command_step_one command h k
     request_one (Unread fault) e f h k = refused_one (Words fault) h k
-    request_one (Read part) e f h k = answered_one (grain_of_block grain part.block) (Read part) e f (read_did (all_grains grain) (as_one w) part) h k
-    request_one (Write part) e f h k = answered_one (grain_of_block grain part.block) (Write part) e f (write_did (all_grains grain) (as_one w) part) h k
+    request_one (Read part) e f h k = answered_one (grain_of_block grain part.block) (Read part) e f (read_did (all_grains grain) (as_one w) part) h.1 k.1
+    request_one (Write part) e f h k = answered_one (grain_of_block grain part.block) (Write part) e f (write_did (all_grains grain) (as_one w) part) h.1 k.1
     request_one (Copy m g) e f h k = answered_one g.0 (Copy m g) e f (copy_did (all_grains grain) (as_one w) m g) h k
     request_one (Clean m g) e f h k = answered_one g.0 (Clean m g) e f (clean_did (all_grains grain) (as_one w) m g) h k
-    request_one (CopyTurn lane) e f h k = absurd h
-    request_one (CleanTurn lane) e f h k = absurd h
+    request_one (CopyTurn lane) e f h k =
+        turn_one lane (CopyAnswers (all_grains grain) (as_one w)) (next_copy (lane_at grain w lane) (part_at grain w lane))
+        (next_copy (lane_at grain (with_faults w faults) lane) (part_at grain (with_faults w faults) lane)) (next_copy_one lane)
+        (λ m g p q. copy_did (all_grains grain) (as_one w) m g x y p q smooth smooth_other) h k
+    request_one (CleanTurn lane) e f h k =
+        turn_one lane (CleanAnswers (all_grains grain) (as_one w)) (next_clean (lane_at grain w lane) (part_at grain w lane))
+        (next_clean (lane_at grain (with_faults w faults) lane) (part_at grain (with_faults w faults) lane)) (next_clean_one lane)
+        (λ m g p q. clean_did (all_grains grain) (as_one w) m g x y p q smooth smooth_other) h k
 
 -- where only the faults may differ
 faults_one :
@@ -221,13 +256,14 @@ faults_one grain w faults x y next other same actor request h k smooth smooth_ot
     request_one grain w faults same x y next other (record { number = k.number ∙ sym h.number; actor = actor; request = request }) smooth smooth_other
     x.request refl request h.right (subst P request k.right)
 
-same_is : (w v : Whole) → TellTheSame w v → v ≡ with_faults w v.faults
+pub same_is : (w v : Whole) → TellTheSame w v → v ≡ with_faults w v.faults
 same_is w v same =
-    ap (λ b. record v { books = b }) same.books
-    ∙ ap (λ p. record v { books = w.books; picture = p }) same.picture
-    ∙ ap (λ rs. record v { books = w.books; picture = w.picture; rows = rs }) same.rows
-    ∙ ap (λ cs. record v { books = w.books; picture = w.picture; rows = w.rows; calls = cs }) same.calls
-    ∙ ap (λ n. record v { books = w.books; picture = w.picture; rows = w.rows; calls = w.calls; entries = n }) same.entries
+    ap (λ names. record v { actors = names }) same.actors
+    ∙ ap (λ b. record v { actors = w.actors; books = b }) same.books
+    ∙ ap (λ p. record v { actors = w.actors; books = w.books; picture = p }) same.picture
+    ∙ ap (λ rs. record v { actors = w.actors; books = w.books; picture = w.picture; rows = rs }) same.rows
+    ∙ ap (λ cs. record (with_faults w v.faults) { calls = cs; entries = v.entries }) same.calls
+    ∙ ap (λ n. record (with_faults w v.faults) { entries = n }) same.entries
 
 -- An entry after what tells the same.
 pub step_one_outcome :

@@ -24,6 +24,7 @@ told_by entries = map but_for_faults entries
 
 -- Two histories tell the same, but for the faults of each lane's disks.
 pub record TellTheSame (w v : Whole) : Type 0 where
+  pub actors : v.actors ≡ w.actors
   pub books : v.books ≡ w.books
   pub picture : v.picture ≡ w.picture
   pub rows : v.rows ≡ w.rows
