@@ -1,8 +1,8 @@
 -- An entry of a lane: right by all grains, told to its lane and to no other.
-use Rattle.std.proofs.Common.{◌≡◌, ◌≢◌, ℕ, ◌+◌, ◌%◌, ◌<◌, ◌≤◌, Option, Some, None, List, [], length, get_or, IsSome, Contains, refl, sym, ap, subst, ◌∙◌, arith, length-set, get_or-set_same, get_or-set_other}
+use Rattle.std.proofs.Common.{◌≡◌, ◌≢◌, ℕ, ◌+◌, ◌%◌, ◌<◌, Option, Some, None, List, [], length, get_or, IsSome, refl, sym, ap, subst, ◌∙◌, arith, length-set, get_or-set_same, get_or-set_other}
 use Rattle.std.proofs.lemmas.Nat.{mod_below}
-use Rattle.fc_base.specs.Grain.{grain_blocks}
 use Rattle.fc_base.specs.Sheet.{Sheet, live_place, volume_grains, grains_at}
+use Rattle.fc_base.specs.declared.ids.VolId.{VolId}
 use Rattle.fc_base.specs.declared.request.Effect.{Effect}
 use Rattle.fc_base.specs.declared.request.Reply.{Reply}
 use Rattle.fc_base.specs.declared.request.Reply.TheVariants.{Done}
@@ -18,7 +18,7 @@ use Rattle.fc_entry.specs.PlainStep.{after_request, after_loss, after_effects, p
 use Rattle.fc_entry.specs.declared.entry.Entry.{Entry}
 use Rattle.fc_follow.specs.Following.{followed_entry}
 use Rattle.fc_legal.specs.Stands.{Stands}
-use Rattle.fc_legal.specs.Steps.{AccessStep, after_access}
+use Rattle.fc_legal.specs.Steps.{AccessStep, IsInside, after_access}
 use Rattle.fc_legal.specs.Whole.{Whole, lanes, lane_of_grain, lane_at, part_at, part_of_picture, part_of_rows, followed_at, as_one}
 use Rattle.fc_rules.specs.GrainAnswers.{ByAccess}
 use Rattle.fc_rules.specs.LaneFits.{FitsPart}
@@ -166,27 +166,29 @@ others grain decisions w number entry j stands at right lt other =
     (get_or-set_other w.calls k j (get_or w.calls k 0 + entry.calls) 0 other ∙ sym (calls_of_part grain w j)))
     (ap (λ (z : LaneOf). part_of_rows z next.rows) same ∙ rows_away l lt number away w.rows write entry.torn d a.torn)
 
--- ---- an access that isn't refused
+-- ---- an access inside its volume
 
-pub fits : (grain : GrainSize) (decisions : ℕ) (w : Whole) (v : Volume) (block count : ℕ) → Stands decisions w → Contains w.books.tables.volumes v →
-    1 ≤ count → block % grain_blocks grain + count ≤ grain_blocks grain → grain_of_block grain block < v.grains →
-    FitsPart (lane_at grain w (lane_of_grain w (grain_of_block grain block))) (part_at grain w (lane_of_grain w (grain_of_block grain block))) v.id block count
-fits grain decisions w v block count stands there some in_one inside =
+pub fits : (grain : GrainSize) (decisions : ℕ) (w : Whole) (volume : VolId) (block count : ℕ) → Stands decisions w → IsInside grain w.books.tables volume block count →
+    FitsPart (lane_at grain w (lane_of_grain w (grain_of_block grain block))) (part_at grain w (lane_of_grain w (grain_of_block grain block))) volume block count
+fits grain decisions w volume block count stands inside =
     let number : ℕ = grain_of_block grain block in
     let j : ℕ = lane_of_grain w number in
     let l : LaneOf = lane_at grain w j in
     let small : LaneTold = part_at grain w j in
     let i : j < lanes w = lane_of decisions w number stands in
     let f = part_follows grain w j in
-    let p = stands.sound.agree.volumes v there in
-    let live : live_place small.sheet.slots v.id.0 ≡ Some p.0 = ap (λ (s : Sheet). live_place s.slots v.id.0) f.sheet ∙ (live_parts l i w.books.sheet.slots v.id.0 ∙ p.1) in
-    let size : volume_grains small.sheet.slots v.id.0 ≡ grains_in l v.grains =
-    ap (λ (s : Sheet). volume_grains s.slots v.id.0) f.sheet
-    ∙ (grains_parts l i w.books.sheet.slots v.id.0 ∙ ap (grains_in l) (ap (grains_at w.books.sheet.slots) p.1 ∙ p.2)) in
+    let v : Volume = inside.of in
+    let named : v.id.0 ≡ volume.0 = ap (λ (id : VolId). id.0) inside.id_is in
+    let p = stands.sound.agree.volumes v inside.there in
+    let place : live_place w.books.sheet.slots volume.0 ≡ Some p.0 = ap (live_place w.books.sheet.slots) (sym named) ∙ p.1 in
+    let live : live_place small.sheet.slots volume.0 ≡ Some p.0 = ap (λ (s : Sheet). live_place s.slots volume.0) f.sheet ∙ (live_parts l i w.books.sheet.slots volume.0 ∙ place) in
+    let size : volume_grains small.sheet.slots volume.0 ≡ grains_in l v.grains =
+    ap (λ (s : Sheet). volume_grains s.slots volume.0) f.sheet
+    ∙ (grains_parts l i w.books.sheet.slots volume.0 ∙ ap (grains_in l) (ap (grains_at w.books.sheet.slots) place ∙ p.2)) in
     record {
-      some = some;
-      in_one = in_one;
+      some = inside.some;
+      in_one = inside.in_one;
       of_lane = refl;
       there = subst (λ (o : Option ℕ). IsSome o) (sym live) refl;
-      inside = subst (λ (n : ℕ). place_of l number < n) (sym size) (grain_below l i number v.grains refl inside);
+      inside = subst (λ (n : ℕ). place_of l number < n) (sym size) (grain_below l i number v.grains refl inside.inside);
     }

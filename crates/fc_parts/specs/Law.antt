@@ -1,16 +1,15 @@
 -- The law of parts: what lanes do to their grains, one by one, is what happens to all grains.
-use Rattle.std.specs.Prelude.{◌≡◌, ◌≢◌, ℕ, ◌+◌, ◌<◌, ◌≤◌, ◌%◌, List, fold, length, Contains}
-use Rattle.fc_base.specs.Grain.{grain_blocks}
+use Rattle.std.specs.Prelude.{◌≡◌, ◌≢◌, ℕ, ◌<◌, List, fold, length}
 use Rattle.fc_base.specs.Pools.{Pool}
 use Rattle.fc_base.specs.declared.decision.Decision.{Decision}
-use Rattle.fc_base.specs.declared.volume.Volume.{Volume}
+use Rattle.fc_base.specs.declared.ids.VolId.{VolId}
 use Rattle.fc_base.specs.declared.request.Request.{Request}
 use Rattle.fc_base.specs.declared.request.Request.TheVariants.{Read, Write, Copy, Clean}
 use Rattle.fc_base.specs.declared.size.GrainSize.{GrainSize}
 use Rattle.fc_entry.specs.Picture.{grain_of_block}
 use Rattle.fc_entry.specs.declared.entry.Entry.{Entry}
 use Rattle.fc_follow.specs.Following.{FitsFollowed, followed_event, followed_entry}
-use Rattle.fc_legal.specs.Steps.{AccessStep, after_access, left_by}
+use Rattle.fc_legal.specs.Steps.{AccessStep, IsInside, after_access, left_by}
 use Rattle.fc_legal.specs.Lawful.{IsLawful}
 use Rattle.fc_legal.specs.Stands.{Stands}
 use Rattle.fc_legal.specs.Whole.{Whole, opened, lanes, lane_of_grain, lane_at, part_at, followed_at, pool_at}
@@ -51,7 +50,6 @@ pub record PartLaw : Type 0 where
   pub stands : (grain : GrainSize) (decisions : ℕ) (w : Whole) (number : ℕ) (entry : Entry) → Stands decisions w → IsAt grain number entry.request →
       IsRightInLane (lane_at grain w (lane_of_grain w number)) (part_at grain w (lane_of_grain w number)) entry →
       Stands decisions (after_access grain w (lane_of_grain w number) entry)
-  -- an access that isn't refused fits the lane of its grain
-  pub fits : (grain : GrainSize) (decisions : ℕ) (w : Whole) (v : Volume) (block count : ℕ) → Stands decisions w → Contains w.books.tables.volumes v →
-      1 ≤ count → block % grain_blocks grain + count ≤ grain_blocks grain → grain_of_block grain block < v.grains →
-      FitsPart (lane_at grain w (lane_of_grain w (grain_of_block grain block))) (part_at grain w (lane_of_grain w (grain_of_block grain block))) v.id block count
+  -- an access inside its volume fits the lane of its grain
+  pub fits : (grain : GrainSize) (decisions : ℕ) (w : Whole) (volume : VolId) (block count : ℕ) → Stands decisions w → IsInside grain w.books.tables volume block count →
+      FitsPart (lane_at grain w (lane_of_grain w (grain_of_block grain block))) (part_at grain w (lane_of_grain w (grain_of_block grain block))) volume block count
