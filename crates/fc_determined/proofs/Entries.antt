@@ -1,5 +1,6 @@
 -- One entry, and what is told after it, are determined by what was told before it and by what was asked, where nothing failed.
-use Rattle.std.proofs.Common.{◌≡◌, ℕ, ◌+◌, ◌%◌, Option, Some, None, List, slice_index_or, slice_set, refl, sym, ap, subst, ◌∙◌, length-set}
+use Rattle.std.proofs.Common.{◌≡◌, ℕ, ◌%◌, Option, Some, None, List, replicate, refl, sym, ap, subst, ◌∙◌, length-set}
+use Rattle.std.proofs.lemmas.List.{length-replicate}
 use Rattle.fc_base.specs.declared.command.Command.{Command}
 use Rattle.fc_base.specs.declared.command.Command.TheVariants.{Write as WriteLine, Read as ReadLine}
 use Rattle.fc_base.specs.declared.fault.Refusal.{Refusal}
@@ -12,16 +13,14 @@ use Rattle.fc_base.specs.declared.request.Request.TheVariants.{Command as Asked,
 use Rattle.fc_base.specs.declared.size.GrainSize.{GrainSize}
 use Rattle.fc_books.specs.Refused.{access_refused}
 use Rattle.fc_determined.proofs.Answers.{DidTheSame, HasOneAnswer, read_did, write_did, copy_did, clean_did, turn_did}
-use Rattle.fc_determined.proofs.Commands.{with_faults, LeaveTheSame, command_one}
-use Rattle.fc_determined.specs.Smooth.{IsSmooth, TellTheSame, but_for_faults}
+use Rattle.fc_determined.proofs.Commands.{with_faults, told_alike, LeaveTheSame, command_one}
+use Rattle.fc_determined.specs.Smooth.{IsSmooth, TellTheSame, but_for_faults, without_faults}
 use Rattle.fc_entry.specs.Picture.{grain_of_block}
-use Rattle.fc_entry.specs.PlainStep.{plain_step}
 use Rattle.fc_entry.specs.declared.entry.Entry.{Entry}
-use Rattle.fc_follow.specs.Following.{rows_entry}
 use Rattle.fc_legal.specs.Steps.{Step, RequestStep, LaneStep, AccessStep, TurnStep, CommandStep, CommandIsRight, IsRefused, AccessIsRefused, IsApart, one_more, after_access}
 use Rattle.fc_legal.specs.Whole.{Whole, lanes, lane_of_grain, lane_at, part_at, part_of_sheet, all_grains, as_one}
-use Rattle.fc_rules.specs.LaneRight.{CleanAnswers, CopyAnswers, LaneAnswers, TurnAnswers, done_write}
-use Rattle.fc_rules.specs.LaneTold.{LaneOf, sheet_entry}
+use Rattle.fc_rules.specs.LaneRight.{CleanAnswers, CopyAnswers, LaneAnswers, TurnAnswers}
+use Rattle.fc_rules.specs.LaneTold.{LaneOf}
 use Rattle.fc_rules.specs.LaneTurn.{next_clean, next_copy}
 
 -- Two entries tell the same, and so do the wholes after them.
@@ -36,16 +35,7 @@ pub record AskTheSame (x y : Entry) : Type 0 where
   pub request : y.request ≡ x.request
 
 same_entry : (x y : Entry) → AskTheSame x y → y.place ≡ x.place → DidTheSame x y → y.effects ≡ x.effects → but_for_faults y ≡ but_for_faults x
-same_entry x y asked place did effects =
-    ap (λ n. record (but_for_faults y) { number = n }) asked.number
-    ∙ ap (λ a. record (but_for_faults y) { number = x.number; actor = a }) asked.actor
-    ∙ ap (λ p. record (but_for_faults y) { number = x.number; actor = x.actor; place = p }) place
-    ∙ ap (λ q. record (but_for_faults y) { number = x.number; actor = x.actor; place = x.place; request = q }) asked.request
-    ∙ ap (λ r. record (but_for_faults y) { number = x.number; actor = x.actor; place = x.place; request = x.request; reply = r }) did.reply
-    ∙ ap (λ m. record (but_for_faults x) { moves = m; effects = y.effects; torn = y.torn; calls = y.calls }) did.moves
-    ∙ ap (λ e. record (but_for_faults x) { effects = e; torn = y.torn; calls = y.calls }) effects
-    ∙ ap (λ t. record (but_for_faults x) { torn = t; calls = y.calls }) did.torn
-    ∙ ap (λ c. record (but_for_faults x) { calls = c }) did.calls
+same_entry x y asked place did effects = cc (asked.number, asked.actor, asked.request, place, did.reply, did.moves, did.torn, did.calls, effects)
 
 -- ---- entries that no lane makes
 
@@ -57,24 +47,6 @@ both_apart x y reply h k =
       torn = k.untorn ∙ sym h.untorn;
       calls = k.no_calls ∙ sym h.no_calls;
     }
-
-one_more_same :
-    (w v next other : Whole) → TellTheSame w v → next ≡ one_more w → other ≡ one_more v → TellTheSame next other
-one_more_same w v next other same e f =
-    record {
-      actors = ap (λ (x : Whole). x.actors) f ∙ same.actors ∙ sym (ap (λ (x : Whole). x.actors) e);
-      books = ap (λ (x : Whole). x.books) f ∙ same.books ∙ sym (ap (λ (x : Whole). x.books) e);
-      picture = ap (λ (x : Whole). x.picture) f ∙ same.picture ∙ sym (ap (λ (x : Whole). x.picture) e);
-      rows = ap (λ (x : Whole). x.rows) f ∙ same.rows ∙ sym (ap (λ (x : Whole). x.rows) e);
-      calls = ap (λ (x : Whole). x.calls) f ∙ same.calls ∙ sym (ap (λ (x : Whole). x.calls) e);
-      entries =
-          ap (λ (x : Whole). x.entries) f ∙ ap (λ n. n + 1) same.entries ∙ sym (ap (λ (x : Whole). x.entries) e);
-      lanes_are = ap lanes f ∙ same.lanes_are ∙ sym (ap lanes e);
-    }
-
-faults_alone : (w : Whole) (faults : List ℕ) → lanes (with_faults w faults) ≡ lanes w → TellTheSame w (with_faults w faults)
-faults_alone w faults same =
-    record { actors = refl; books = refl; picture = refl; rows = refl; calls = refl; entries = refl; lanes_are = same }
 
 module _ (grain : GrainSize) (w : Whole) (faults : List ℕ) (same : lanes (with_faults w faults) ≡ lanes w) (x y : Entry) (next other : Whole) (asked : AskTheSame x y) where
   refused_one :
@@ -88,7 +60,7 @@ module _ (grain : GrainSize) (w : Whole) (faults : List ℕ) (same : lanes (with
             same_entry x y asked (k.place ∙ sym h.place)
             (both_apart x y (k.reply ∙ sym h.reply) h.apart k.apart)
             (k.no_effects ∙ sym h.no_effects);
-        told = one_more_same w (with_faults w faults) next other (faults_alone w faults same) h.next_is k.next_is;
+        told = told_alike (one_more w) faults next other same h.next_is k.next_is;
       }
 
   access_refused_one :
@@ -111,7 +83,7 @@ module _ (grain : GrainSize) (w : Whole) (faults : List ℕ) (same : lanes (with
         record {
           same =
               same_entry x y asked (k.place ∙ sym h.place) (both_apart x y leave.reply h.apart k.apart) leave.effects_are;
-          told = one_more_same h.left k.left next other leave.told h.next_is k.next_is;
+          told = ap without_faults k.next_is ∙ ap one_more leave.told ∙ sym (ap without_faults h.next_is);
         }
 
     command_step_one :
@@ -133,33 +105,14 @@ module _ (grain : GrainSize) (w : Whole) (faults : List ℕ) (same : lanes (with
         other ≡ after_access grain (with_faults w faults) j y →
         TellTheSame next other
     after_same i j place entry e f =
-        record {
-          actors = ap (λ (v : Whole). v.actors) f ∙ sym (ap (λ (v : Whole). v.actors) e);
-          books =
-              ap (λ (v : Whole). v.books) f
-              ∙ ap (λ (z : Entry). record w.books { sheet = sheet_entry (all_grains grain) w.books.sheet (done_write z.request z.reply) z.moves z.torn }) entry
-              ∙ sym (ap (λ (v : Whole). v.books) e);
-          picture =
-              ap (λ (v : Whole). v.picture) f
-              ∙ ap (λ (z : Entry). plain_step grain w.picture z) entry
-              ∙ sym (ap (λ (v : Whole). v.picture) e);
-          rows =
-              ap (λ (v : Whole). v.rows) f
-              ∙ ap (λ (z : Entry). rows_entry (all_grains grain) w.rows z) entry
-              ∙ sym (ap (λ (v : Whole). v.rows) e);
-          calls =
-              ap (λ (v : Whole). v.calls) f
-              ∙ ap (λ at. slice_set w.calls at (slice_index_or w.calls at 0 + y.calls)) place
-              ∙ ap (λ (z : Entry). slice_set w.calls i (slice_index_or w.calls i 0 + z.calls)) entry
-              ∙ sym (ap (λ (v : Whole). v.calls) e);
-          entries = ap (λ (v : Whole). v.entries) f ∙ sym (ap (λ (v : Whole). v.entries) e);
-          lanes_are =
-              ap lanes f
-              ∙ length-set faults j y.faults_after
-              ∙ same
-              ∙ sym (length-set w.faults i x.faults_after)
-              ∙ sym (ap lanes e);
-        }
+        let after : ℕ → ℕ → Entry → Whole = λ n at z. record (after_access grain w at z) { faults = replicate n 0 } in
+        let count : lanes (after_access grain (with_faults w faults) j y) ≡ lanes (after_access grain w i x) =
+        length-set faults j y.faults_after ∙ same ∙ sym (length-set w.faults i x.faults_after) in
+        ap without_faults f
+        ∙ ap (λ n. after n j y) count
+        ∙ ap (λ at. after (lanes (after_access grain w i x)) at y) place
+        ∙ ap (after (lanes (after_access grain w i x)) i) entry
+        ∙ sym (ap without_faults e)
 
     lane_one :
         (i j : ℕ) (Answers Others : Entry → Type 0) →
@@ -257,13 +210,10 @@ faults_one grain w faults x y next other same actor request h k smooth smooth_ot
     x.request refl request h.right (subst P request k.right)
 
 pub same_is : (w v : Whole) → TellTheSame w v → v ≡ with_faults w v.faults
-same_is w v same =
-    ap (λ names. record v { actors = names }) same.actors
-    ∙ ap (λ b. record v { actors = w.actors; books = b }) same.books
-    ∙ ap (λ p. record v { actors = w.actors; books = w.books; picture = p }) same.picture
-    ∙ ap (λ rs. record v { actors = w.actors; books = w.books; picture = w.picture; rows = rs }) same.rows
-    ∙ ap (λ cs. record (with_faults w v.faults) { calls = cs; entries = v.entries }) same.calls
-    ∙ ap (λ n. record (with_faults w v.faults) { entries = n }) same.entries
+same_is w v same = ap (λ (u : Whole). with_faults u v.faults) same
+
+same_lanes : (w v : Whole) → TellTheSame w v → lanes v ≡ lanes w
+same_lanes w v same = sym (length-replicate (lanes v) 0) ∙ ap lanes same ∙ length-replicate (lanes w) 0
 
 -- An entry after what tells the same.
 pub step_one_outcome :
@@ -278,4 +228,4 @@ pub step_one_outcome :
     AreOneStep x y next other
 step_one_outcome grain w v x y next other same actor request h k smooth smooth_other =
     let P : Whole → Type 0 = λ u. Step grain u y other in
-    faults_one grain w v.faults x y next other same.lanes_are actor request h (subst P (same_is w v same) k) smooth smooth_other
+    faults_one grain w v.faults x y next other (same_lanes w v same) actor request h (subst P (same_is w v same) k) smooth smooth_other

@@ -13,23 +13,6 @@ use Rattle.fc_entry.specs.declared.entry.Entry.{Entry}
 use Rattle.fc_legal.specs.Agenda.{Agenda, Reading, Lines, behind_entry, session_rules}
 use Rattle.fc_legal.specs.Whole.{Whole}
 
--- ---- what tells the same
-
-pub same_told : (w : Whole) → TellTheSame w w
-same_told w = record { actors = refl; books = refl; picture = refl; rows = refl; calls = refl; entries = refl; lanes_are = refl }
-
-told_back : (w v : Whole) → TellTheSame w v → TellTheSame v w
-told_back w v same =
-    record {
-      actors = sym same.actors;
-      books = sym same.books;
-      picture = sym same.picture;
-      rows = sym same.rows;
-      calls = sym same.calls;
-      entries = sym same.entries;
-      lanes_are = sym same.lanes_are;
-    }
-
 abbrev IsSmoothEntry : Entry → Type 0
 IsSmoothEntry entry = IsSmooth entry.reply
 
@@ -67,7 +50,7 @@ module _ (grain : GrainSize) (read : Reading) where
       Goes (session_rules grain read) a v ys c other →
       OneGoesOn b c last other xs ys
   one_goes_on a b c w v last other xs ys same smooth smooth_other stays way = inl (record { rest = ys; begins = refl; mid = v; told = same; goes = way })
-  one_goes_on a b c w v last other xs ys same smooth smooth_other way stays = inr (record { rest = xs; begins = refl; mid = w; told = told_back w v same; goes = way })
+  one_goes_on a b c w v last other xs ys same smooth smooth_other way stays = inr (record { rest = xs; begins = refl; mid = w; told = sym same; goes = way })
   one_goes_on a b c w v last other xs ys same smooth smooth_other (passes {b = d} on way) (passes {b = e} on' way') =
       let P : Agenda → Type 0 = λ f. Goes (session_rules grain read) f v ys c other in
       let one : e ≡ d = some_same e d (sym on' ∙ passes_same grain read w v same a ∙ on) in
@@ -136,7 +119,7 @@ module _ (grain : GrainSize) (read : Reading) where
   one_outcome b c last other xs ys none none' (inl h) = goes_no_further b c last other xs ys h (none h)
   one_outcome b c last other xs ys none none' (inr h) =
       let one : IsOneOutcome ys xs other last = goes_no_further c b other last ys xs h (none' h) in
-      record { entries = sym one.entries; told = told_back other last one.told }
+      record { entries = sym one.entries; told = sym one.told }
 
   pub is_front :
       (b c : Agenda) (last other : Whole) (xs ys : List Entry) →
