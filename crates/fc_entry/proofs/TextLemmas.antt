@@ -1,9 +1,10 @@
 -- The text of an entry as the parts that are put one after the other, and the text of a history that grows.
-use Rattle.std.proofs.Common.{◌≡◌, ℕ, List, [], ◌∷◌, ◌++◌, codes, decimal, append_assoc}
-use Rattle.std.proofs.lemmas.List.{append-nil}
-use Rattle.std.specs.List.{concat}
+use Rattle.std.proofs.Common.{◌≡◌, ℕ, List, [], ◌∷◌, ◌++◌, take, drop, codes, decimal, ap, sym, ◌∙◌, append_assoc}
+use Rattle.std.proofs.lemmas.List.{append-nil, take-append-drop}
+use Rattle.std.proofs.lemmas.List.Concat.{flat_map-append}
+use Rattle.std.specs.List.{concat, flat_map}
 use Rattle.fc_entry.specs.declared.entry.Entry.{Entry}
-use Rattle.fc_entry.specs.Text.{reply_text, request_text, rows_text, text_by}
+use Rattle.fc_entry.specs.Text.{entry_text, reply_text, request_text, rows_text, text_by}
 
 abbrev pub entry_parts : List ℕ → Entry → List (List ℕ)
 entry_parts actor entry =
@@ -19,3 +20,12 @@ joined number actor request reply rows = simp (append_assoc, append-nil)
 pub entry_parts-joined : (actor : List ℕ) (entry : Entry) → concat (entry_parts actor entry) ≡ text_by actor entry
 entry_parts-joined actor entry =
     joined (decimal entry.number) actor (request_text entry.request) (reply_text entry.reply) (rows_text entry.reply)
+
+-- the text of the entries so far, and behind it the text of the others, is the whole text
+pub entries_text-joined :
+    (actors : List (List ℕ)) (entries : List Entry) (so_far : ℕ) →
+    flat_map (entry_text actors) (take so_far entries) ++ flat_map (entry_text actors) (drop so_far entries)
+    ≡ flat_map (entry_text actors) entries
+entries_text-joined actors entries so_far =
+    sym (flat_map-append (entry_text actors) (take so_far entries) (drop so_far entries))
+    ∙ ap (flat_map (entry_text actors)) (take-append-drop so_far entries)

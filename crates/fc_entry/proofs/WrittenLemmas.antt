@@ -1,7 +1,7 @@
 -- Text that is written in several calls: `Written-then` joins what was written before and what is written next,
 -- and `Written-cut` is for a writing that failed before its end.
-use Rattle.std.proofs.Common.{◌≡◌, ℕ, zero, suc, ◌+◌, ◌<◌, ◌≤◌, Bool, true, false, List, [], ◌∷◌, ◌++◌, Option, Some, None, is_some, IfSome, slice_get, length, get_or, take, drop, refl, sym, ap, subst, ◌∙◌, inl, inr, arith, append_assoc}
-use Rattle.std.proofs.lemmas.List.{append-nil, take-append-drop, take_more}
+use Rattle.std.proofs.Common.{◌≡◌, ℕ, zero, suc, ◌+◌, ◌-◌, ◌<◌, ◌≤◌, Bool, true, false, List, [], ◌∷◌, ◌++◌, Option, Some, None, is_some, IfSome, slice_get, length, get_or, take, drop, refl, sym, ap, subst, ◌∙◌, inl, inr, arith, append_assoc}
+use Rattle.std.proofs.lemmas.List.{append-nil, get_or-drop, length-drop, take-append-drop, take_all, take_more}
 use Rattle.std.proofs.lemmas.List.Concat.{flat_map-append}
 use Rattle.std.specs.List.{flat_map}
 use Rattle.std.specs.Option.{option_map}
@@ -85,6 +85,7 @@ pub Written-none : (a : SinkState) → Written a [] false a
 Written-none a = record {
   held = sym (held_with-nil a.held);
   front = tt;
+  sent = refl;
   told = refl;
   faults = FaultsAfter-none (is_some a.failing) a.faults;
 }
@@ -94,6 +95,7 @@ pub Written-put : (a : SinkState) (part : List ℕ) (failed : Bool) (b : SinkSta
 Written-put a part failed b after = record {
   held = after.held;
   front = after.front;
+  sent = after.sent;
   told = ap is_some after.failing ∙ is_some-map _ a.failing;
   faults = after.faults;
 }
@@ -107,6 +109,7 @@ pub Written-then :
 Written-then a t b u true c first next = record {
   held = tt;
   front = AddsFront-behind a.held t u b.held c.held first.held next.front;
+  sent = next.sent ∙ first.sent;
   told = next.told ∙ first.told;
   faults =
       let P : Bool → Type 0 = λ told. FaultsAfter told true b.faults c.faults in
@@ -115,6 +118,7 @@ Written-then a t b u true c first next = record {
 Written-then a t b u false c first next = record {
   held = next.held ∙ ap (λ held. held_with held u) first.held ∙ held_with-append a.held t u;
   front = tt;
+  sent = next.sent ∙ first.sent;
   told = next.told ∙ first.told;
   faults =
       let P : Bool → Type 0 = λ told. FaultsAfter told false b.faults c.faults in
@@ -129,6 +133,7 @@ pub Written-cut :
 Written-cut a t u b written = record {
   held = tt;
   front = AddsFront-more a.held t u b.held written.front;
+  sent = written.sent;
   told = written.told;
   faults = written.faults;
 }
@@ -199,3 +204,63 @@ pub Written-stopped_at :
 Written-stopped_at f xs i a b c inside before item =
     let at = item_at xs i inside in
     Written-stopped f xs i at.0 a b c inside before (rw at.2 (rw at.1 at item))
+
+-- The texts of the items from a number on.
+more_from :
+    {X : Type 0} (f : X → List ℕ) (xs : List X) (from i n : ℕ) (d : X) (a b : SinkState) (failed : Bool) (c : SinkState) →
+    i ≡ from + n →
+    i < length xs →
+    Written a (flat_map f (take n (drop from xs))) false b →
+    Written b (f (get_or xs i d)) failed c →
+    Written a (flat_map f (take (n + 1) (drop from xs))) failed c
+more_from {X} f xs from i n d a b failed c is inside before item =
+    let same : get_or xs i d ≡ get_or (drop from xs) n d = ap (λ k. get_or xs k d) is ∙ sym (get_or-drop from xs n d) in
+    let P : X → Type 0 = λ x. Written b (f x) failed c in
+    Written-more f (drop from xs) n d a b failed c (omega (arith, length-drop from xs, is, inside)) before (subst P same item)
+
+stopped_from :
+    {X : Type 0} (f : X → List ℕ) (xs : List X) (from i n : ℕ) (d : X) (a b c : SinkState) →
+    i ≡ from + n →
+    i < length xs →
+    Written a (flat_map f (take n (drop from xs))) false b →
+    Written b (f (get_or xs i d)) true c →
+    Written a (flat_map f (drop from xs)) true c
+stopped_from {X} f xs from i n d a b c is inside before item =
+    let same : get_or xs i d ≡ get_or (drop from xs) n d = ap (λ k. get_or xs k d) is ∙ sym (get_or-drop from xs n d) in
+    let P : X → Type 0 = λ x. Written b (f x) true c in
+    Written-stopped f (drop from xs) n d a b c (omega (arith, length-drop from xs, is, inside)) before (subst P same item)
+
+pub Written-more_from :
+    {X : Type 0} (f : X → List ℕ) (xs : List X) (from i : ℕ) (a b : SinkState) (failed : Bool) (c : SinkState) →
+    from ≤ i →
+    i < length xs →
+    Written a (flat_map f (take (i - from) (drop from xs))) false b →
+    IfSome (slice_get xs i) (λ x. Written b (f x) failed c) →
+    Written a (flat_map f (take (i + 1 - from) (drop from xs))) failed c
+Written-more_from f xs from i a b failed c behind inside before item =
+    let at = item_at xs i inside in
+    let next : i - from + 1 ≡ i + 1 - from = omega (arith, behind) in
+    let P : ℕ → Type 0 = λ n. Written a (flat_map f (take n (drop from xs))) failed c in
+    subst P next
+    (more_from f xs from i (i - from) at.0 a b failed c (omega (arith, behind)) inside before (rw at.2 (rw at.1 at item)))
+
+pub Written-stopped_from :
+    {X : Type 0} (f : X → List ℕ) (xs : List X) (from i : ℕ) (a b c : SinkState) →
+    from ≤ i →
+    i < length xs →
+    Written a (flat_map f (take (i - from) (drop from xs))) false b →
+    IfSome (slice_get xs i) (λ x. Written b (f x) true c) →
+    Written a (flat_map f (drop from xs)) true c
+Written-stopped_from f xs from i a b c behind inside before item =
+    let at = item_at xs i inside in
+    stopped_from f xs from i (i - from) at.0 a b c (omega (arith, behind)) inside before (rw at.2 (rw at.1 at item))
+
+-- all of them
+pub Written-all_from :
+    {X : Type 0} (f : X → List ℕ) (xs : List X) (from i : ℕ) (a b : SinkState) (failed : Bool) →
+    length xs ≤ i →
+    Written a (flat_map f (take (i - from) (drop from xs))) failed b →
+    Written a (flat_map f (drop from xs)) failed b
+Written-all_from {X} f xs from i a b failed past written =
+    let P : List X → Type 0 = λ items. Written a (flat_map f items) failed b in
+    subst P (take_all (i - from) (drop from xs) (omega (arith, length-drop from xs, past))) written

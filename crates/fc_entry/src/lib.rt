@@ -6,11 +6,11 @@
 //! volume is (`Volumes`), refusals (`Refused`), the lines of a session's bytes (`Lines`), and how an entry is printed
 //! (`Text`). When a history is legal is said in fc_legal.
 //!
-//! `put_entry`, `put_history` and `put_command` write exactly that text to a sink, without memory; where a call of
+//! `put_entry`, `put_entries`, `put_history` and `put_command` write exactly that text to a sink, without memory; where a call of
 //! the sink fails, a front of the text was written, and they answer so (`Written`).
 //!
-//! In reading order: `entry`, `history`; then `text` and what it puts, `request_text`, `command_text`, `reply_text`,
-//! `refusal_text`, all over `parts`.
+//! In reading order: `entry`, `history`, `stop` (why a line isn't answered to its end); then `text` and what it puts,
+//! `request_text`, `command_text`, `reply_text`, `refusal_text`, all over `parts`.
 #![tactic(auto)]
 
 pub mod command_text;
@@ -20,4 +20,5 @@ pub mod parts;
 pub mod refusal_text;
 pub mod reply_text;
 pub mod request_text;
+pub mod stop;
 pub mod text;

@@ -1,6 +1,7 @@
 //! The text of an entry, and of the whole history.
 
-ghost use Rattle.std.specs.Prelude.{◌<◌, ◌++◌, length, codes, decimal, is_err, slice_get, IfSome};
+ghost use Rattle.std.specs.Prelude.{◌<◌, ◌≤◌, ◌++◌, length, drop, codes, decimal, is_err, slice_get, IfSome};
+ghost use Rattle.std.specs.List.{flat_map};
 ghost use Rattle.std.specs.Option.{ForSome};
 ghost use Rattle.fc_entry.specs.Text.{HasNames, entry_text, history_text, text_by};
 ghost use Rattle.fc_entry.specs.Written.{Written};
@@ -49,19 +50,30 @@ pub fn put_entry<K: Sink>(history: &History, index: usize, sink: &mut K) -> Resu
     put_entry_by(actor.as_bytes(), entry, sink)
 }
 
-/// Puts the texts of all entries, in order. Each actor needs a name. Takes no memory. Failed, a front of the whole
-/// text was added, and the sink's count of faults rose in this call or stands at its last value.
-pub fn put_history<K: Sink>(history: &History, sink: &mut K) -> Result<(), Failed>
-    requires { HasNames history.now }
-    ensures { Written (K.meaning sink.old) (history_text history.now) (is_err result) (K.meaning sink.new) }
+/// Puts the texts of the entries from number `from` on, in order. Each actor needs a name. Takes no memory. Failed, a
+/// front of these texts was added, and the sink's count of faults rose in this call or stands at its last value.
+pub fn put_entries<K: Sink>(history: &History, from: usize, sink: &mut K) -> Result<(), Failed>
+    requires within { from ≤ length history.now.entries }
+    requires named { HasNames history.now }
+    ensures { Written (K.meaning sink.old) (flat_map (entry_text history.now.actors) (drop from history.now.entries))
+        (is_err result) (K.meaning sink.new) }
 {
-    for index in 0..history.len() {
+    for index in from..history.len() {
         match put_entry(history, index, sink) {
             Ok(()) => {}
             Err(failed) => return Err(failed),
         }
     }
     Ok(())
+}
+
+/// Puts the texts of all entries, in order. Each actor needs a name. Takes no memory. Failed, a front of the whole
+/// text was added, and the sink's count of faults rose in this call or stands at its last value.
+pub fn put_history<K: Sink>(history: &History, sink: &mut K) -> Result<(), Failed>
+    requires { HasNames history.now }
+    ensures { Written (K.meaning sink.old) (history_text history.now) (is_err result) (K.meaning sink.new) }
+{
+    put_entries(history, 0, sink)
 }
 
 #[cfg(test)]

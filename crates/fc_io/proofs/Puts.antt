@@ -1,9 +1,9 @@
 -- What a sink in memory leaves after a `put` that failed, and how what a writer holds grows.
-use Rattle.std.proofs.Common.{◌≡◌, ℕ, ◌+◌, ◌-◌, ◌<◌, ◌^◌, min, Bool, true, false, if◌then◌else◌, List, [], ◌++◌, length, take, drop, Option, Some, None, refl, sym, ◌∙◌, ap, inl, inr, arith}
+use Rattle.std.proofs.Common.{◌≡◌, ℕ, ◌+◌, ◌-◌, ◌<◌, ◌≤◌, ◌^◌, min, Bool, true, false, if◌then◌else◌, List, [], ◌++◌, length, take, drop, Option, Some, None, refl, sym, ◌∙◌, ap, inl, inr, arith}
 use Rattle.std.specs.Bool.{OnTrue}
 use Rattle.std.specs.Io.KnownBytes.{Appends}
 use Rattle.std.proofs.lemmas.Bool.{cases_lt}
-use Rattle.std.proofs.lemmas.List.{append-nil, append_assoc, take-append-drop, take_rest}
+use Rattle.std.proofs.lemmas.List.{append-nil, append_assoc, take-append-drop, take-append-le, take_rest}
 use Rattle.fc_base.specs.Count.{FaultsAfter}
 use Rattle.fc_io.specs.Calls.{fails_now, one_call_on}
 use Rattle.fc_io.specs.Sink.{AddsFront, AfterPut}
@@ -17,11 +17,18 @@ on_true : {P : Type 0} (b : Bool) → P → OnTrue b P
 on_true true p = p
 on_true false p = tt
 
-pub failed_put : (ok : Bool) (held held' part failing : List ℕ) (n faults faults' : ℕ) → held' ≡ (if ok then held ++ take n part else held) → FaultsAfter true true faults faults'
-    → AfterPut (record { held = Some held; failing = Some failing; faults = faults }) part true (record { held = Some held'; failing = Some (one_call_on failing); faults = faults' })
-failed_put ok held held' part failing n faults faults' held_is counted = record {
+-- what was sent on is still the first of what is held
+half_sent : (ok : Bool) (held held' part : List ℕ) (sent n : ℕ) → sent ≤ length held → held' ≡ (if ok then held ++ take n part else held) → take sent held' ≡ take sent held
+half_sent true held held' part sent n within e = ap (take sent) e ∙ take-append-le sent held (take n part) within
+half_sent false held held' part sent n within e = ap (take sent) e
+
+pub failed_put : (ok : Bool) (held held' part failing : List ℕ) (sent n faults faults' : ℕ) → sent ≤ length held → held' ≡ (if ok then held ++ take n part else held) → FaultsAfter true true faults faults'
+    → AfterPut (record { held = Some held; sent = Some (take sent held); failing = Some failing; faults = faults }) part true
+    (record { held = Some held'; sent = Some (take sent held'); failing = Some (one_call_on failing); faults = faults' })
+failed_put ok held held' part failing sent n faults faults' within held_is counted = record {
   held = tt;
   front = half_added ok held held' part n held_is;
+  sent = ap Some (half_sent ok held held' part sent n within held_is);
   failing = refl;
   fails_as_told = on_true (fails_now failing) refl;
   faults = counted;

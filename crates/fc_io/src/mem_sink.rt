@@ -8,32 +8,36 @@ use fc_base::outcome::Failed;
 use std::alloc::Global;
 use std::marker::Model;
 
-/// A sink that tells all: the bytes that it holds and which of its coming calls fail. A `put` that finds no memory
-/// fails too.
+/// A sink that tells all: the bytes that it holds, those of them that were sent on, and which of its coming calls fail.
+/// A `put` that finds no memory fails too.
 #[derive(Drop)]
 pub struct MemSink {
     bytes: Vec<u8>,
+    sent: usize,
     failing: FailingCalls,
     faults: u64,
 }
 
 impl Model for MemSink {
-    ghost use Rattle.std.specs.Prelude.{Some};
+    ghost use Rattle.std.specs.Prelude.{◌≤◌, take, vec_len, Some};
     ghost use Rattle.fc_io.specs.Sink.{SinkState};
 
     ghost Value = { SinkState };
 
-    ghost view = { λ s. record { held = Some s.bytes.items; failing = Some s.failing; faults = s.faults } };
+    ghost view = { λ s. record { held = Some s.bytes.items; sent = Some (take s.sent s.bytes.items); failing = Some s.failing; faults = s.faults } };
+
+    ghost invariant = { λ s. s.sent ≤ vec_len s.bytes };
 }
 
 impl MemSink {
     /// A sink that holds nothing. Its calls of `put` and `flush` are counted from 1, and those whose numbers are in
     /// `failing` fail.
     pub fn new(alloc: Global, failing: Vec<u64>) -> Self
-        ensures { result ≡ record { held = Some []; failing = Some failing.items; faults = 0 } }
+        ensures { result ≡ record { held = Some []; sent = Some []; failing = Some failing.items; faults = 0 } }
     {
         MemSink {
             bytes: Vec::new(alloc),
+            sent: 0,
             failing: FailingCalls::new(failing),
             faults: 0,
         }
@@ -44,6 +48,13 @@ impl MemSink {
         ensures { self.now.held ≡ Some result.now }
     {
         self.bytes.as_slice()
+    }
+
+    /// Of these, the first ones that its last done `flush` sent on.
+    pub fn sent(&self) -> &[u8]
+        ensures { self.now.sent ≡ Some result.now }
+    {
+        &self.bytes[..self.sent]
     }
 }
 
@@ -71,6 +82,7 @@ impl Sink for MemSink {
             self.faults = self.faults.saturating_add(1);
             return Err(Failed);
         }
+        self.sent = self.bytes.len();
         Ok(())
     }
 

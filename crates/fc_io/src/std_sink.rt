@@ -13,7 +13,7 @@ use std::io::{BufWriter, Write};
 /// How many bytes wait at most before they are written.
 const BUFFER_BYTES: usize = 65_536;
 
-/// A sink over a writer. It tells neither the bytes that it holds nor which calls fail. Where the writer's contract
+/// A sink over a writer. It tells neither the bytes that it holds, nor those that it sent on, nor which calls fail. Where the writer's contract
 /// tells its bytes, a `put` adds the part to them and to those that wait.
 #[derive(Drop)]
 pub struct StdSink<W: Write + Drop> {
@@ -35,11 +35,11 @@ impl<W: Write + Drop> StdSink<W> {
 }
 
 impl<W: Write + Drop> Sink for StdSink<W> {
-    ghost meaning = { λ s. record { held = None; failing = None; faults = s.faults } };
+    ghost meaning = { λ s. record { held = None; sent = None; failing = None; faults = s.faults } };
 
     /// A write that takes nothing is a fault.
     fn put(&mut self, part: &[u8]) -> Result<(), Failed>
-        ensures sink { AfterPut (record { held = None; failing = None; faults = self.old.faults }) part.now (is_err result) (record { held = None; failing = None; faults = self.new.faults }) }
+        ensures sink { AfterPut (record { held = None; sent = None; failing = None; faults = self.old.faults }) part.now (is_err result) (record { held = None; sent = None; failing = None; faults = self.new.faults }) }
         ensures bytes { OnOk result (Appends (⟦<BufWriter<W> as Write>⟧.contents self.old.writer) (⟦<BufWriter<W> as Write>⟧.contents self.new.writer) part.now) }
         ensures front { OnErr result ((front : List ℕ) × (rest : List ℕ) × (part.now ≡ front ++ rest) × Appends (⟦<BufWriter<W> as Write>⟧.contents self.old.writer) (⟦<BufWriter<W> as Write>⟧.contents self.new.writer) front) }
     {
@@ -57,7 +57,7 @@ impl<W: Write + Drop> Sink for StdSink<W> {
     }
 
     fn flush(&mut self) -> Result<(), Failed>
-        ensures sink { AfterFlush (record { held = None; failing = None; faults = self.old.faults }) (is_err result) (record { held = None; failing = None; faults = self.new.faults }) }
+        ensures sink { AfterFlush (record { held = None; sent = None; failing = None; faults = self.old.faults }) (is_err result) (record { held = None; sent = None; failing = None; faults = self.new.faults }) }
         ensures written { OnOk result (writer_buffer self.new.writer ≡ []) }
         ensures bytes { Keeps (⟦<BufWriter<W> as Write>⟧.contents self.old.writer) (⟦<BufWriter<W> as Write>⟧.contents self.new.writer) }
     {

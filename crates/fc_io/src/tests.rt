@@ -32,7 +32,9 @@ fn a_sink_keeps_what_is_put(rt: HostRuntime) -> Result<(), Fail> {
     assert_eq!(rt; sink.put(b"ab"), Ok(()));
     assert_eq!(rt; sink.put(b"cdef"), Err(Failed));
     assert_eq!(rt; sink.bytes(), b"abcd".as_slice());
+    assert!(rt; sink.sent().is_empty());
     assert_eq!(rt; sink.flush(), Ok(()));
+    assert_eq!(rt; sink.sent(), b"abcd".as_slice());
     assert_eq!(rt; sink.flush(), Err(Failed));
     assert_eq!(rt; sink.faults(), 2);
     Ok(())

@@ -17,8 +17,8 @@ use Rattle.fc_legal.specs.Run.{Reading, asks, by_main, is_done, passing, line_se
 use Rattle.fc_legal.specs.Seconds.{begun, all_work, stays, AreSeconds, ArePartOfSeconds, WantMoreSeconds}
 use Rattle.fc_legal.specs.Whole.{Whole}
 use Rattle.fc_store.specs.Answering.{Answered, Advanced, LineAnswered, IsTold}
-use Rattle.fc_store.specs.declared.stop.Stop.{Stop}
-use Rattle.fc_store.specs.declared.stop.Stop.TheVariants.{LogFull, NoMemory}
+use Rattle.fc_entry.specs.declared.stop.Stop.{Stop}
+use Rattle.fc_entry.specs.declared.stop.Stop.TheVariants.{LogFull, NoMemory}
 use Rattle.fc_top.specs.Passing.{entry_is_done, seconds_due}
 
 -- ---- no seconds

@@ -12,8 +12,8 @@ ghost use Rattle.fc_top.specs.Passing.{seconds_due};
 use fc_base::command::{Command, Line};
 use fc_base::request::Reply;
 use fc_entry::history::History;
+use fc_entry::stop::Stop;
 use fc_mdisk::mdisk::Mdisk;
-use fc_store::stop::Stop;
 use fc_store::store::Store;
 
 /// How many seconds a line lets pass.

@@ -4,7 +4,7 @@ use Rattle.fc_legal.specs.Run.{line_asks}
 use Rattle.fc_run.specs.Reading.{reading}
 use Rattle.fc_store.specs.Store.{StandsFor}
 use Rattle.fc_store.proofs.Logging.{is_starved}
-use Rattle.fc_store.specs.declared.stop.Stop.TheVariants.{NoMemory}
+use Rattle.fc_entry.specs.declared.stop.Stop.TheVariants.{NoMemory}
 use Rattle.fc_top.proofs.OwnerLemmas.{reading_of, fault_read}
 use Rattle.fc_top.proofs.PassingLemmas.{LineAnswered-still, LineAnswered-stopped, actors_stay}
 use Rattle.fc_top.proofs.owner.OwnerLineStore.answer.Goals as goal
