@@ -1,14 +1,17 @@
 -- Seconds that pass, on closed examples.
-use Rattle.std.proofs.Common.{◌≡◌, ℕ, ◌-◌, ◌^◌, Bool, true, false, Some, None, List, [], ◌∷◌, codes, refl, arith}
+use Rattle.std.proofs.Common.{◌≡◌, ℕ, ◌-◌, ◌^◌, Bool, true, false, Ok, Some, None, List, [], ◌∷◌, codes, refl, arith}
+use Rattle.fc_agenda.specs.Goes.{GoesToEnd, GoesAsking, passes, answers, stays}
 use Rattle.fc_base.specs.Column.{first_below, last_below, holder, first_reader, places_by_birth, old_slots}
 use Rattle.fc_base.specs.Moves.{is_in_place, asks, list_with_asked, list_all_with_asked, fill_moves}
 use Rattle.fc_base.specs.Rates.{kib_of_rate}
 use Rattle.fc_base.specs.Sheet.{live_place, mapping_place}
+use Rattle.fc_base.specs.declared.command.Line.TheVariants.{Blank}
 use Rattle.fc_base.specs.declared.ids.GrainNo.{GrainNo}
 use Rattle.fc_base.specs.declared.request.Place.TheVariants.{Lane}
 use Rattle.fc_base.specs.declared.request.Reply.TheVariants.{Moved, DiskFault}
 use Rattle.fc_base.specs.declared.request.Request.{Request}
 use Rattle.fc_base.specs.declared.request.Request.TheVariants.{Copy, Clean}
+use Rattle.fc_base.specs.declared.size.GrainSize.{GrainSize}
 use Rattle.fc_base.specs.declared.size.GrainSize.TheVariants.{K64, K256}
 use Rattle.fc_base.specs.declared.state.MapState.TheVariants.{Copying}
 use Rattle.fc_base.specs.declared.volume.Mapping.{Mapping}
@@ -17,7 +20,9 @@ use Rattle.fc_books.proofs.Examples.{map_id, vol, volume, mapping, slot, books, 
 use Rattle.fc_books.specs.Work.{copies, cleans}
 use Rattle.fc_entry.specs.Picture.{PlainVolume, Bytes}
 use Rattle.fc_entry.specs.declared.entry.Entry.{Entry}
-use Rattle.fc_legal.specs.Seconds.{Work, Agenda, AreSeconds, WantMoreSeconds, IsNextFill, passes, fills, stays, all_work, next_grain, gained, after_fill}
+use Rattle.fc_legal.specs.Agenda.{Reading, Lines, next_asked, Seconds, session_rules}
+use Rattle.fc_legal.specs.Seconds.{Work, Passing, all_work, next_grain, gained, after_fill, begun}
+use Rattle.fc_legal.specs.Steps.{Step}
 use Rattle.fc_legal.specs.Whole.{Whole}
 use Rattle.fc_pick.specs.declared.work.WorkFlags.{WorkFlags}
 
@@ -29,26 +34,27 @@ three = volume 0 (codes "A") 3 ∷ volume 1 (codes "B") 3 ∷ volume 2 (codes "C
 abbrev plain : ℕ → PlainVolume
 plain v = record { volume = vol v; now = Bytes [] ∷ Bytes [] ∷ Bytes [] ∷ []; under = Bytes [] ∷ Bytes [] ∷ Bytes [] ∷ [] }
 
-abbrev all : List Bool
+abbrev pub all : List Bool
 all = true ∷ true ∷ true ∷ []
 
-abbrev none : List Bool
+abbrev pub none : List Bool
 none = false ∷ false ∷ false ∷ []
 
 -- a mapping that is copying, at these rates
-abbrev at_rates : ℕ → ℕ → Mapping → Mapping
+abbrev pub at_rates : ℕ → ℕ → Mapping → Mapping
 at_rates copy clean m = record m { copy_rate = copy; clean_rate = clean }
 
-abbrev a_to_b : Mapping
+abbrev pub a_to_b : Mapping
 a_to_b = mapping 0 (codes "fcmap0") 0 1 Copying
 
-abbrev b_to_c : Mapping
+abbrev pub b_to_c : Mapping
 b_to_c = mapping 1 (codes "fcmap1") 1 2 Copying
 
 -- The chain A, B, C in four lanes, where A to B and B to C are copying. B and C hold this, and lanes have made so many calls.
-abbrev told : Mapping → Mapping → List WorkFlags → List Bool → List Bool → List ℕ → ℕ → Whole
+abbrev pub told : Mapping → Mapping → List WorkFlags → List Bool → List Bool → List ℕ → ℕ → Whole
 told first second flags b c calls entries =
     record {
+      actors = codes "main" ∷ [];
       books = books three (first ∷ second ∷ [])
           (record { births = 5; slots = slot 0 0 0 None all ∷ slot 3 0 1 (Some 0) b ∷ slot 4 0 2 (Some 1) c ∷ [] })
           flags;
@@ -59,10 +65,10 @@ told first second flags b c calls entries =
       entries = entries;
     }
 
-abbrev no_calls : List ℕ
+abbrev pub no_calls : List ℕ
 no_calls = 0 ∷ 0 ∷ 0 ∷ 0 ∷ []
 
-abbrev copied : ℕ → WorkFlags
+abbrev pub copied : ℕ → WorkFlags
 copied m = record { map = map_id m; copies = true; cleans = false }
 
 abbrev both : ℕ → WorkFlags
@@ -75,18 +81,18 @@ copying m gain credit = record { map = map_id m; cleans = false; gain = gain; cr
 abbrev cleaning : ℕ → ℕ → ℕ → Work
 cleaning m gain credit = record { map = map_id m; cleans = true; gain = gain; credit = credit }
 
-abbrev grain_no : ℕ → GrainNo
+abbrev pub grain_no : ℕ → GrainNo
 grain_no g = record { 0 = g }
 
 -- in the last of the seconds
-abbrev last_second : List Work → Work → List Work → Agenda
+abbrev last_second : List Work → Work → List Work → Passing
 last_second over work left = record { seconds = 0; over = over; at_hand = Some work; left = left }
 
-abbrev ended : List Work → Agenda
+abbrev ended : List Work → Passing
 ended over = record { seconds = 0; over = over; at_hand = None; left = [] }
 
 -- a grain, in the lane of its number, of the slot with this birth of a volume was filled
-abbrev filled : ℕ → Request → ℕ → ℕ → ℕ → ℕ → Entry
+abbrev pub filled : ℕ → Request → ℕ → ℕ → ℕ → ℕ → Entry
 filled number request m g birth volume =
     record {
       number = number;
@@ -101,6 +107,24 @@ filled number request m g birth volume =
       faults_after = 0;
       calls = 2;
     }
+
+-- ---- how seconds are answered
+
+-- no line is read while seconds pass
+abbrev no_reading : Reading
+no_reading b line = Ok Blank
+
+-- these entries answer so many seconds; and the first of them, with one more fill next
+abbrev AreSeconds : GrainSize → ℕ → Whole → List Entry → Whole → Type 0
+AreSeconds grain n w entries last = GoesToEnd (session_rules grain no_reading) (Seconds (begun n (all_work w.books)) []) w entries last
+
+abbrev WantMoreSeconds : GrainSize → ℕ → Whole → List Entry → Whole → Type 0
+WantMoreSeconds grain n w entries last = GoesAsking (session_rules grain no_reading) (Seconds (begun n (all_work w.books)) []) w entries last
+
+-- the next fill of a second, by `main`, and right
+pub record IsNextFill (grain : GrainSize) (p : Passing) (w : Whole) (entry : Entry) (next : Whole) : Type 0 where
+  pub asked : next_asked grain (Seconds p []) w ≡ Some (entry.actor, entry.request)
+  pub right : Step grain w entry next
 
 -- ---- which work there is
 
@@ -157,11 +181,11 @@ nothing_comes : AreSeconds K64 2 at_rest [] at_rest
 unfolding mapping_place first_below last_below holder first_reader next_grain all_work kib_of_rate
 nothing_comes =
     record {
-      agenda = ended (copying 0 0 0 ∷ cleaning 0 0 0 ∷ []);
-      runs = passes refl refl
-          (passes refl refl (passes refl refl (passes refl refl (passes refl refl
-          (passes refl refl (passes refl refl (passes refl refl (passes refl refl (passes refl refl stays)))))))));
-      over = record { no_fill = refl; ends = refl };
+      end = Lines [];
+      goes = passes refl
+          (passes refl (passes refl (passes refl (passes refl
+          (passes refl (passes refl (passes refl (passes refl (passes refl (passes refl stays))))))))));
+      over = refl;
     }
 
 -- 128 KiB aren't worth a grain of 256 KiB: they stay, and the next second brings it
@@ -172,26 +196,25 @@ credit_stays : AreSeconds K256 1 slow [] slow
 unfolding mapping_place first_below next_grain all_work kib_of_rate
 credit_stays =
     record {
-      agenda = ended (copying 0 128 128 ∷ []);
-      runs = passes refl refl (passes refl refl (passes refl refl stays));
-      over = record { no_fill = refl; ends = refl };
+      end = Lines [];
+      goes = passes refl (passes refl (passes refl (passes refl stays)));
+      over = refl;
     }
 
 grain_in_two_seconds : WantMoreSeconds K256 2 slow [] slow
 unfolding mapping_place first_below next_grain all_work kib_of_rate
 grain_in_two_seconds =
     record {
-      agenda = last_second [] (copying 0 128 256) [];
-      runs = passes refl refl (passes refl refl (passes refl refl (passes refl refl (passes refl refl stays))));
-      work = copying 0 128 256;
-      g = grain_no 0;
-      wanted = refl;
+      end = Seconds (last_second [] (copying 0 128 256) []) [];
+      goes = passes refl (passes refl (passes refl (passes refl (passes refl stays))));
+      wanted = (0, Copy (map_id 0) (grain_no 0));
+      asks = refl;
     }
 
 -- ---- a second that copies
 
 -- B lacks two grains, and a second is worth four: the two are copied, the least first, and the rest of the credit is lost
-abbrev lacking : Whole
+abbrev pub lacking : Whole
 lacking = told (at_rates 20 0 a_to_b) (at_rates 0 0 b_to_c) (copied 0 ∷ []) (false ∷ true ∷ false ∷ []) none no_calls 9
 
 abbrev lacking_one : Whole
@@ -206,14 +229,11 @@ first_copy = filled 9 (Copy (map_id 0) (grain_no 0)) 0 0 3 1
 abbrev second_copy : Entry
 second_copy = filled 10 (Copy (map_id 0) (grain_no 2)) 0 2 3 1
 
-first_is_copied : IsNextFill K64 (last_second [] (copying 0 256 256) []) lacking (copying 0 256 256) first_copy lacking_one
+first_is_copied : IsNextFill K64 (last_second [] (copying 0 256 256) []) lacking first_copy lacking_one
 unfolding first_below last_below holder first_reader places_by_birth old_slots is_in_place asks list_with_asked list_all_with_asked fill_moves mapping_place live_place next_grain
 first_is_copied =
     record {
-      g = grain_no 0;
-      is_next = refl;
-      actor = refl;
-      request = refl;
+      asked = refl;
       right = record {
         number = refl;
         right = record {
@@ -227,14 +247,11 @@ first_is_copied =
       };
     }
 
-second_is_copied : IsNextFill K64 (last_second [] (copying 0 256 192) []) lacking_one (copying 0 256 192) second_copy lacking_none
+second_is_copied : IsNextFill K64 (last_second [] (copying 0 256 192) []) lacking_one second_copy lacking_none
 unfolding first_below last_below holder first_reader places_by_birth old_slots is_in_place asks list_with_asked list_all_with_asked fill_moves mapping_place live_place next_grain
 second_is_copied =
     record {
-      g = grain_no 2;
-      is_next = refl;
-      actor = refl;
-      request = refl;
+      asked = refl;
       right = record {
         number = refl;
         right = record {
@@ -252,16 +269,16 @@ all_is_copied : AreSeconds K64 1 lacking (first_copy ∷ second_copy ∷ []) lac
 unfolding mapping_place first_below next_grain all_work kib_of_rate
 all_is_copied =
     record {
-      agenda = ended (copying 0 256 0 ∷ []);
-      runs = passes refl refl (passes refl refl (fills first_is_copied (fills second_is_copied (passes refl refl stays))));
-      over = record { no_fill = refl; ends = refl };
+      end = Lines [];
+      goes = passes refl (passes refl (answers first_is_copied.asked first_is_copied.right (answers second_is_copied.asked second_is_copied.right (passes refl (passes refl stays)))));
+      over = refl;
     }
 
 -- ---- a copy and a cleaning in one second
 
 -- The copy of B to C comes before the cleaning of B for C, though its mapping comes later. Each second is worth a grain of
 -- 256 KiB to both.
-abbrev needed : Whole
+abbrev pub needed : Whole
 needed = told (at_rates 0 20 a_to_b) (at_rates 20 0 b_to_c) (cleaned 0 ∷ copied 1 ∷ []) all (false ∷ false ∷ true ∷ []) no_calls 9
 
 abbrev needed_once : Whole
@@ -276,14 +293,11 @@ the_copy = filled 9 (Copy (map_id 1) (grain_no 0)) 1 0 4 2
 abbrev the_cleaning : Entry
 the_cleaning = filled 10 (Clean (map_id 0) (grain_no 1)) 0 1 4 2
 
-c_is_copied : IsNextFill K256 (last_second [] (copying 1 256 256) (cleaning 0 256 0 ∷ [])) needed (copying 1 256 256) the_copy needed_once
+c_is_copied : IsNextFill K256 (last_second [] (copying 1 256 256) (cleaning 0 256 0 ∷ [])) needed the_copy needed_once
 unfolding first_below last_below holder first_reader places_by_birth old_slots is_in_place asks list_with_asked list_all_with_asked fill_moves mapping_place live_place next_grain
 c_is_copied =
     record {
-      g = grain_no 0;
-      is_next = refl;
-      actor = refl;
-      request = refl;
+      asked = refl;
       right = record {
         number = refl;
         right = record {
@@ -297,14 +311,11 @@ c_is_copied =
       };
     }
 
-b_is_cleaned : IsNextFill K256 (last_second (copying 1 256 0 ∷ []) (cleaning 0 256 256) []) needed_once (cleaning 0 256 256) the_cleaning not_needed
+b_is_cleaned : IsNextFill K256 (last_second (copying 1 256 0 ∷ []) (cleaning 0 256 256) []) needed_once the_cleaning not_needed
 unfolding first_below last_below holder first_reader places_by_birth old_slots is_in_place asks list_with_asked list_all_with_asked fill_moves mapping_place live_place next_grain
 b_is_cleaned =
     record {
-      g = grain_no 1;
-      is_next = refl;
-      actor = refl;
-      request = refl;
+      asked = refl;
       right = record {
         number = refl;
         right = record {
@@ -322,7 +333,7 @@ copy_then_cleaning : AreSeconds K256 1 needed (the_copy ∷ the_cleaning ∷ [])
 unfolding mapping_place first_below last_below holder first_reader next_grain all_work kib_of_rate
 copy_then_cleaning =
     record {
-      agenda = ended (copying 1 256 0 ∷ cleaning 0 256 0 ∷ []);
-      runs = passes refl refl (passes refl refl (fills c_is_copied (passes refl refl (passes refl refl (fills b_is_cleaned (passes refl refl stays))))));
-      over = record { no_fill = refl; ends = refl };
+      end = Lines [];
+      goes = passes refl (passes refl (answers c_is_copied.asked c_is_copied.right (passes refl (passes refl (answers b_is_cleaned.asked b_is_cleaned.right (passes refl (passes refl stays)))))));
+      over = refl;
     }

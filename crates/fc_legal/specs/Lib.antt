@@ -6,5 +6,6 @@ pub mod Stands
 pub mod Lawful
 pub mod Asked
 pub mod Seconds
+pub mod Agenda
 pub mod Run
 pub mod Added

@@ -1,5 +1,5 @@
 -- Seconds that pass: the background copies and cleanings that they bring, at the rates of the mappings.
-use Rattle.std.specs.Prelude.{◌≡◌, ℕ, zero, suc, ◌+◌, ◌-◌, ◌^◌, min, Bool, true, false, cond, nat_le, filter, map, List, [], ◌∷◌, ◌++◌, Option, Some, None, is_some, option_map}
+use Rattle.std.specs.Prelude.{ℕ, zero, suc, ◌+◌, ◌-◌, ◌^◌, min, Bool, true, false, cond, nat_le, filter, map, List, [], ◌∷◌, ◌++◌, Option, Some, None, is_some, option_map}
 use Rattle.fc_base.specs.Grain.{grain_kib}
 use Rattle.fc_base.specs.Rates.{kib_of_rate}
 use Rattle.fc_base.specs.Sheet.{Slot}
@@ -14,7 +14,6 @@ use Rattle.fc_base.specs.declared.volume.Mapping.{Mapping}
 use Rattle.fc_books.specs.Books.{Books}
 use Rattle.fc_books.specs.Work.{has_copies, has_cleans}
 use Rattle.fc_entry.specs.declared.entry.Entry.{Entry}
-use Rattle.fc_legal.specs.Steps.{Step}
 use Rattle.fc_legal.specs.Whole.{Whole, all_grains}
 use Rattle.fc_rules.specs.LaneTurn.{copied_slot, cleaned_slot, least_grain}
 
@@ -64,14 +63,14 @@ saved grain w work = record work { credit = cond (is_some (next_grain grain w wo
 -- ---- how the seconds pass
 
 -- How many seconds are left behind this one; of this one, the work that is over, the work at hand, and the work that is left.
-pub record Agenda : Type 0 where
+pub record Passing : Type 0 where
   pub seconds : ℕ
   pub over : List Work
   pub at_hand : Option Work
   pub left : List Work
 
 -- Before the first second.
-abbrev pub begun : ℕ → List Work → Agenda
+abbrev pub begun : ℕ → List Work → Passing
 begun seconds works = record { seconds = seconds; over = works; at_hand = None; left = [] }
 
 -- The work at hand goes on as long as its credit is worth a grain and it has something to do.
@@ -80,72 +79,29 @@ fill_at_hand grain w None = None
 fill_at_hand grain w (Some work) =
     cond (nat_le (grain_kib grain) work.credit) (option_map (λ g. (work, g)) (next_grain grain w work)) None
 
-abbrev pub next_fill : GrainSize → Whole → Agenda → Option (Work × GrainNo)
-next_fill grain w a = fill_at_hand grain w a.at_hand
+abbrev pub next_fill : GrainSize → Whole → Passing → Option (Work × GrainNo)
+next_fill grain w p = fill_at_hand grain w p.at_hand
 
 -- Else it is over for this second, and the next work gains its second; with none left the next second begins, if one is left.
-abbrev pub next_second : ℕ → List Work → List Work → Option Agenda
+abbrev pub next_second : ℕ → List Work → List Work → Option Passing
 next_second seconds over (work ∷ left) = Some record { seconds = seconds; over = over; at_hand = Some (gained work); left = left }
 next_second zero over [] = None
 next_second (suc seconds) over [] = Some record { seconds = seconds; over = []; at_hand = None; left = over }
 
-abbrev pub goes_on_with : GrainSize → Whole → Agenda → Option Work → Option Agenda
-goes_on_with grain w a None = next_second a.seconds a.over a.left
-goes_on_with grain w a (Some work) = Some record a { over = a.over ++ saved grain w work ∷ []; at_hand = None }
+abbrev pub goes_on_with : GrainSize → Whole → Passing → Option Work → Option Passing
+goes_on_with grain w p None = next_second p.seconds p.over p.left
+goes_on_with grain w p (Some work) = Some record p { over = p.over ++ saved grain w work ∷ []; at_hand = None }
 
-abbrev pub goes_on : GrainSize → Whole → Agenda → Option Agenda
-goes_on grain w a = goes_on_with grain w a a.at_hand
+abbrev pub goes_on : GrainSize → Whole → Passing → Option Passing
+goes_on grain w p = goes_on_with grain w p p.at_hand
 
 -- A fill costs a grain; one that moved nothing ends the second of its work.
 abbrev pub has_moved : Reply → Bool
 has_moved (Moved map grain) = true
 has_moved reply = false
 
-abbrev pub after_fill : GrainSize → Whole → Agenda → Work → Entry → Agenda
-after_fill grain next a work entry =
+abbrev pub after_fill : GrainSize → Whole → Passing → Work → Entry → Passing
+after_fill grain next p work entry =
     cond (has_moved entry.reply)
-    (record a { at_hand = Some (spent grain work) })
-    (record a { over = a.over ++ saved grain next (spent grain work) ∷ []; at_hand = None })
-
--- The next fill, by `main`, and right.
-pub record IsNextFill (grain : GrainSize) (a : Agenda) (w : Whole) (work : Work) (entry : Entry) (next : Whole) : Type 0 where
-  pub g : GrainNo
-  pub is_next : next_fill grain w a ≡ Some (work, g)
-  pub actor : entry.actor ≡ 0
-  pub request : entry.request ≡ fill_of work g
-  pub right : Step grain w entry next
-
--- Entries that bring an agenda, and what is told, from the one to the other.
-pub data Runs (grain : GrainSize) : Agenda → Whole → List Entry → Agenda → Whole → Type 0 where
-  stays : {a : Agenda} → {w : Whole} → Runs grain a w [] a w
-  passes : {a b c : Agenda} → {w last : Whole} → {entries : List Entry} →
-      next_fill grain w a ≡ None → goes_on grain w a ≡ Some b → Runs grain b w entries c last → Runs grain a w entries c last
-  fills : {a c : Agenda} → {w next last : Whole} → {work : Work} → {entry : Entry} → {entries : List Entry} →
-      IsNextFill grain a w work entry next → Runs grain (after_fill grain next a work entry) next entries c last →
-      Runs grain a w (entry ∷ entries) c last
-
--- All seconds have passed.
-pub record IsOver (grain : GrainSize) (a : Agenda) (w : Whole) : Type 0 where
-  pub no_fill : next_fill grain w a ≡ None
-  pub ends : goes_on grain w a ≡ None
-
--- ---- the entries of seconds
-
--- So many seconds pass.
-pub record AreSeconds (grain : GrainSize) (seconds : ℕ) (w : Whole) (entries : List Entry) (last : Whole) : Type 0 where
-  pub agenda : Agenda
-  pub runs : Runs grain (begun seconds (all_work w.books)) w entries agenda last
-  pub over : IsOver grain agenda last
-
--- The first of them.
-pub record ArePartOfSeconds (grain : GrainSize) (seconds : ℕ) (w : Whole) (entries : List Entry) (last : Whole) : Type 0 where
-  pub agenda : Agenda
-  pub runs : Runs grain (begun seconds (all_work w.books)) w entries agenda last
-
--- The first of them, and a fill is next.
-pub record WantMoreSeconds (grain : GrainSize) (seconds : ℕ) (w : Whole) (entries : List Entry) (last : Whole) : Type 0 where
-  pub agenda : Agenda
-  pub runs : Runs grain (begun seconds (all_work w.books)) w entries agenda last
-  pub work : Work
-  pub g : GrainNo
-  pub wanted : next_fill grain last agenda ≡ Some (work, g)
+    (record p { at_hand = Some (spent grain work) })
+    (record p { over = p.over ++ saved grain next (spent grain work) ∷ []; at_hand = None })

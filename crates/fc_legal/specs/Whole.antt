@@ -1,5 +1,5 @@
 -- What a history tells, kept from entry to entry; and the part of it that is one lane's.
-use Rattle.std.specs.Prelude.{ℕ, ◌%◌, Bool, List, [], length, map, replicate, slice_index_or}
+use Rattle.std.specs.Prelude.{ℕ, ◌%◌, Bool, List, [], ◌∷◌, codes, length, map, replicate, slice_index_or}
 use Rattle.std.specs.List.{range_with_len}
 use Rattle.fc_base.specs.Pools.{Pool}
 use Rattle.fc_base.specs.Sheet.{Slot, Sheet}
@@ -13,9 +13,11 @@ use Rattle.fc_entry.specs.Picture.{Lost, PlainVolume, Picture}
 use Rattle.fc_follow.specs.Following.{Followed}
 use Rattle.fc_rules.specs.LaneTold.{LaneOf, LaneVolume, LaneTold, grains_in, number_at}
 
--- The books that decide commands; what plain volumes hold; what is kept of the changed grains of incremental mappings; for each
--- lane the faults of all disks that it ever had, and how many calls its entries made on them; and how many entries there are.
+-- The names of actors, by number; the books that decide commands; what plain volumes hold; what is kept of the changed grains
+-- of incremental mappings; for each lane the faults of all disks that it ever had, and how many calls its entries made on them;
+-- and how many entries there are.
 pub record Whole : Type 0 where
+  pub actors : List (List ℕ)
   pub books : Books
   pub picture : Picture
   pub rows : List Row
@@ -23,10 +25,11 @@ pub record Whole : Type 0 where
   pub calls : List ℕ
   pub entries : ℕ
 
--- Before the first entry, over these disks for new volumes, lane by lane.
+-- Before the first entry, over these disks for new volumes, lane by lane. The one actor is `main`.
 abbrev pub opened : List Pool → Whole
 opened pools =
     record {
+      actors = codes "main" ∷ [];
       books = opened_books pools;
       picture = [];
       rows = [];

@@ -6,5 +6,5 @@
 //! that has every grain (`fc_rules`). A history is a run of lines where each line's entries are what it asks.
 //!
 //! In reading order, all in `specs/`: `Whole` (with the part of it that is one lane's), `Steps` (one entry), `Legal`,
-//! `Asked` (what a line asks), `Run`, and `Added` (what a call adds).
+//! `Asked` (what a line asks), `Seconds`, `Agenda` (what is still to be asked), `Run`, and `Added` (what an answer leaves).
 #![tactic(auto)]

@@ -1,0 +1,6 @@
+//! What is still to be asked, and how a history goes on by it. There is no code here.
+//!
+//! An agenda is all that is still to be asked: the lines of a session, the requests of a line, the seconds that pass. A
+//! record of rules (`specs/Rules`) says what an agenda asks next, when an answer is right, and what the agenda is behind
+//! it; `specs/Goes` says by them how a history answers an agenda: whole, the first of it, or up to one more request.
+#![tactic(auto)]
