@@ -2,6 +2,8 @@
 use Rattle.std.proofs.Common.{◌≡◌, ◌⊎◌, inl, inr, ℕ, ◌*◌, false, ◌&&◌, not, Option, Some, None, List, refl, sym, ap, subst, ◌∙◌, true≢false}
 use Rattle.fc_base.specs.Count.{HasRisen}
 use Rattle.fc_base.specs.Grain.{block_bytes}
+use Rattle.fc_base.specs.declared.ids.GrainNo.{GrainNo}
+use Rattle.fc_base.specs.declared.ids.MapId.{MapId}
 use Rattle.fc_base.specs.declared.request.ReadPart.{ReadPart}
 use Rattle.fc_base.specs.declared.request.Reply.{Reply}
 use Rattle.fc_base.specs.declared.request.Reply.TheVariants as reply
@@ -17,7 +19,7 @@ use Rattle.fc_entry.specs.Reads.{IsRightIn}
 use Rattle.fc_entry.specs.Writes.{is_whole}
 use Rattle.fc_entry.specs.declared.entry.Entry.{Entry}
 use Rattle.fc_rules.specs.GrainAnswers.{ByAccess, ReadAnswers, WriteAnswers, FillAnswers, cannot_write}
-use Rattle.fc_rules.specs.LaneRight.{LaneAnswers, VolumeWrite, MappingFill}
+use Rattle.fc_rules.specs.LaneRight.{LaneAnswers, VolumeWrite, MappingFill, TurnAnswers}
 use Rattle.fc_rules.specs.LaneTold.{LaneOf, LaneTold}
 use Rattle.fc_rules.specs.LaneTurn.{spot_at}
 use Rattle.fc_rules.specs.Spot.{Spot, is_lost}
@@ -76,6 +78,15 @@ module _ (entry : Entry) (quiet : HasRisen entry.faults_before entry.faults_afte
   access_served Online P one h = one h
   access_served (Offline map state) P one h = record { answered = subst IsServedReply (sym h.0) tt; untorn = h.1.untorn }
   access_served (NotAccessible map) P one h = record { answered = subst IsServedReply (sym h.0) tt; untorn = h.1.untorn }
+
+  -- A turn of a worker is idle, or served as its work is.
+  pub turn_served :
+      (Answers : MapId → GrainNo → Entry → Type 0) (work : Option (MapId × GrainNo)) →
+      ((m : MapId) (g : GrainNo) → Answers m g entry → IsServed entry) →
+      TurnAnswers Answers work entry →
+      IsServed entry
+  turn_served Answers None one h = record { answered = subst IsServedReply (sym h.0) tt; untorn = h.1.untorn }
+  turn_served Answers (Some work) one h = one work.0 work.1 h
 
 -- ---- what a volume that is online answers
 

@@ -1,6 +1,6 @@
--- Online volumes, the opening, and all together.
-use Rattle.std.proofs.Common.{◌≡◌, ◌⊎◌, inl, inr, ℕ, ◌*◌, ◌^◌, ◌<◌, ◌≤◌, Option, List, length, refl, subst, arith}
-use Rattle.std.proofs.lemmas.List.Elements.{All-nil, All-replicate}
+-- Online volumes, and all together.
+use Rattle.std.proofs.Common.{◌≡◌, ◌⊎◌, inl, inr, ℕ, ◌*◌, ◌^◌, ◌<◌, ◌≤◌, Option, List, length, subst, arith}
+use Rattle.std.proofs.lemmas.List.Elements.{All-nil}
 use Rattle.fc_base.specs.Grain.{block_bytes}
 use Rattle.fc_base.specs.Pools.{Pool}
 use Rattle.fc_base.specs.Sheet.{live_place}
@@ -14,14 +14,13 @@ use Rattle.fc_base.specs.declared.state.Access.{Access}
 use Rattle.fc_base.specs.declared.state.Access.TheVariants.{Online}
 use Rattle.fc_complete.proofs.Answers.{AreBytes, read_gives, write_does, answers_of}
 use Rattle.fc_complete.proofs.Histories.{history_faultless, history_served}
-use Rattle.fc_complete.proofs.Sessions.{run_within, partial_within, wants_within}
 use Rattle.fc_complete.specs.Law.{AreServed, IsOnline, GivesBytes, CompletionLaw}
-use Rattle.fc_complete.specs.Served.{AreFaultless, IsUnharmed, IsUnharmedVolume, IsServed}
-use Rattle.fc_complete.specs.Within.{IsLegalWithin}
+use Rattle.fc_complete.specs.Served.{AreFaultless, IsUnharmedVolume, IsServed}
 use Rattle.fc_decided.proofs.Opening.{lanes_told, opening_stands}
 use Rattle.fc_entry.specs.Picture.{volume_in, now_at, grain_of_block, byte_in_grain}
 use Rattle.fc_entry.specs.Reads.{IsRightIn}
 use Rattle.fc_entry.specs.declared.entry.Entry.{Entry}
+use Rattle.fc_legal.specs.Legal.{IsLegal}
 use Rattle.fc_legal.specs.Steps.{Step, RequestStep, AccessStep}
 use Rattle.fc_legal.specs.Whole.{Whole, opened, all_grains, as_one}
 use Rattle.fc_parts.proofs.Numbers.{all_place}
@@ -68,7 +67,7 @@ reads_online :
     GivesBytes grain w part entry ⊎ (entry.reply ≡ NoMemory)
 reads_online grain w part entry next step asked online served =
     let spot : Spot = spot_at (all_grains grain) (as_one w) (grain_of_block grain part.block) in
-    let access : AccessStep grain w (grain_of_block grain part.block) entry next = right_of grain w entry next (Read part) asked step.right in
+    let access : AccessStep grain w (grain_of_block grain part.block) entry next = (right_of grain w entry next (Read part) asked step.right).1 in
     let answers : LaneAnswers (all_grains grain) (as_one w) (Read part) entry = answers_of (all_grains grain) (as_one w) entry (Read part) asked access.answers in
     let gives : ReadAnswers grain spot part entry entry.reply =
     of_online entry (access_in (as_one w).volumes part.volume) (ReadAnswers grain spot part entry entry.reply) online answers in
@@ -83,20 +82,11 @@ writes_online :
     (entry.reply ≡ Done) ⊎ (entry.reply ≡ NoMemory)
 writes_online grain w part entry next step asked online served =
     let live : Option ℕ = live_place w.books.sheet.slots part.volume.0 in
-    let access : AccessStep grain w (grain_of_block grain part.block) entry next = right_of grain w entry next (Write part) asked step.right in
+    let access : AccessStep grain w (grain_of_block grain part.block) entry next = (right_of grain w entry next (Write part) asked step.right).1 in
     let answers : LaneAnswers (all_grains grain) (as_one w) (Write part) entry = answers_of (all_grains grain) (as_one w) entry (Write part) asked access.answers in
     let does : VolumeWrite (all_grains grain) (as_one w) part live entry =
     of_online entry (access_in (as_one w).volumes part.volume) (VolumeWrite (all_grains grain) (as_one w) part live entry) online answers in
     write_does (all_grains grain) (as_one w) part live entry does served.answered
-
--- ---- before the first entry
-
-begins_faultless : (pools : List Pool) → 0 < length pools → AreFaultless (opened pools)
-begins_faultless pools some =
-    record { some = omega (arith, some, lanes_told pools); none = All-replicate (λ n. n ≡ 0) (length pools) 0 refl }
-
-begins_unharmed : (pools : List Pool) → IsUnharmed (opened pools).picture
-begins_unharmed pools = All-nil IsUnharmedVolume
 
 -- ---- the law
 
@@ -104,25 +94,13 @@ begins_unharmed pools = All-nil IsUnharmedVolume
 from_the_opening :
     (grain : GrainSize) (pools : List Pool) (entries : List Entry) (last : Whole) →
     length entries ≤ 2 ^ 31 →
-    IsLegalWithin grain (opened pools) entries last →
+    IsLegal grain (opened pools) entries last →
     AreFaultless last →
     AreServed entries last
 from_the_opening grain pools entries last few h faultless =
     let first : AreFaultless (opened pools) = history_faultless grain (opened pools) last entries h faultless in
     let some : 0 < length pools = omega (arith, first.some, lanes_told pools) in
-    history_served grain 0 (opened pools) last entries (opening_stands pools some) (omega (arith, few)) h faultless (begins_unharmed pools)
+    history_served grain 0 (opened pools) last entries (opening_stands pools some) (omega (arith, few)) h faultless (All-nil IsUnharmedVolume)
 
 pub completion_law_holds : CompletionLaw
-completion_law_holds =
-    record {
-      begins = λ pools some. (begins_faultless pools some, begins_unharmed pools);
-      sessions = λ grain read pools lines entries last few run faultless.
-          from_the_opening grain pools entries last few (run_within grain read (opened pools) last lines entries run) faultless;
-      early = λ grain read pools lines entries last few run faultless.
-          from_the_opening grain pools entries last few (partial_within grain read (opened pools) last lines entries run) faultless;
-      full = λ grain read pools lines entries last few run faultless.
-          from_the_opening grain pools entries last few (wants_within grain read (opened pools) last lines entries run) faultless;
-      served = history_served;
-      reads = reads_online;
-      writes = writes_online;
-    }
+completion_law_holds = record { sessions = from_the_opening; served = history_served; reads = reads_online; writes = writes_online }

@@ -8,10 +8,10 @@ use Rattle.fc_base.specs.declared.ids.VolId.{VolId}
 use Rattle.fc_base.specs.declared.size.GrainSize.{GrainSize}
 use Rattle.fc_base.specs.declared.volume.Volume.{Volume}
 use Rattle.fc_complete.specs.Served.{IsThere, IsUnharmedVolume, IsUnharmed}
-use Rattle.fc_complete.specs.Within.{IsBlockOf}
 use Rattle.fc_decided.proofs.Lists.{in_cases, none_in, first_in, later_in}
 use Rattle.fc_entry.specs.Picture.{Content, Bytes, Lost, is_lost, PlainVolume, Picture, volume_in, now_at, content_at, grain_of_block}
 use Rattle.fc_legal.specs.Stands.{ArePlain}
+use Rattle.fc_legal.specs.Steps.{IsInside}
 use Rattle.fc_legal.specs.Whole.{Whole, all_grains, as_one}
 use Rattle.fc_parts.proofs.Numbers.{all_place}
 use Rattle.fc_rules.specs.LaneTurn.{spot_at}
@@ -75,13 +75,13 @@ same_test (Bytes bytes) = refl
 same_test Lost = refl
 
 block_there :
-    (grain : GrainSize) (t : Tables) (ps : Picture) (volume : VolId) (block : ℕ) →
+    (grain : GrainSize) (t : Tables) (ps : Picture) (volume : VolId) (block count : ℕ) →
     ArePlain t.volumes ps →
     Rise t.volumes →
     IsUnharmed ps →
-    IsBlockOf grain t volume block →
+    IsInside grain t volume block count →
     IsThere (now_at (volume_in ps volume) (grain_of_block grain block))
-block_there grain t ps volume block plain rise h within =
+block_there grain t ps volume block count plain rise h within =
     let v : Volume = within.of in
     let is : IsPlainOf ps v = plain_of t.volumes ps v plain rise within.there in
     let g : ℕ = grain_of_block grain block in
@@ -95,14 +95,14 @@ block_there grain t ps volume block plain rise h within =
 
 -- So it is for the one lane that has every grain.
 pub spot_there :
-    (grain : GrainSize) (w : Whole) (volume : VolId) (block : ℕ) →
+    (grain : GrainSize) (w : Whole) (volume : VolId) (block count : ℕ) →
     ArePlain w.books.tables.volumes w.picture →
     Rise w.books.tables.volumes →
     IsUnharmed w.picture →
-    IsBlockOf grain w.books.tables volume block →
+    IsInside grain w.books.tables volume block count →
     is_lost_at ((spot_at (all_grains grain) (as_one w) (grain_of_block grain block)).now volume.0) ≡ false
-spot_there grain w volume block plain rise h within =
+spot_there grain w volume block count plain rise h within =
     let number : ℕ = grain_of_block grain block in
     ap (λ g. is_lost_at (now_at (volume_in w.picture volume) g)) (all_place grain number)
     ∙ same_test (now_at (volume_in w.picture volume) number)
-    ∙ block_there grain w.books.tables w.picture volume block plain rise h within
+    ∙ block_there grain w.books.tables w.picture volume block count plain rise h within

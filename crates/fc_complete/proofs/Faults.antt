@@ -7,6 +7,8 @@ use Rattle.fc_base.specs.declared.command.Command.{Command}
 use Rattle.fc_base.specs.declared.command.Command.TheVariants.{Write as WriteLine, Read as ReadLine}
 use Rattle.fc_base.specs.declared.fault.Refusal.{Refusal}
 use Rattle.fc_base.specs.declared.fault.Refusal.TheVariants.{Words}
+use Rattle.fc_base.specs.declared.ids.GrainNo.{GrainNo}
+use Rattle.fc_base.specs.declared.ids.MapId.{MapId}
 use Rattle.fc_base.specs.declared.request.Effect.{Effect}
 use Rattle.fc_base.specs.declared.request.Reply.{Reply}
 use Rattle.fc_base.specs.declared.request.Request.{Request}
@@ -16,7 +18,7 @@ use Rattle.fc_books.specs.Refused.{access_refused}
 use Rattle.fc_complete.specs.Served.{AreFaultless}
 use Rattle.fc_entry.specs.Picture.{grain_of_block}
 use Rattle.fc_entry.specs.declared.entry.Entry.{Entry}
-use Rattle.fc_legal.specs.Steps.{Step, RequestStep, AccessStep, CommandStep, CommandIsRight, CommandLeft, IsRefused, AccessIsRefused}
+use Rattle.fc_legal.specs.Steps.{Step, RequestStep, LaneStep, AccessStep, TurnStep, CommandStep, CommandIsRight, CommandLeft, IsRefused, AccessIsRefused}
 use Rattle.fc_legal.specs.Steps.CommandLeft.{decided, unsettled, settled_alone}
 use Rattle.fc_legal.specs.Whole.{Whole, lanes, lane_of_grain}
 
@@ -62,26 +64,40 @@ faults_left grain w command reply effects left (decided loop told) = refl
 faults_left grain w command reply effects left unsettled = refl
 faults_left grain w command reply effects left settled_alone = refl
 
--- An access: its lane counts no fault, before it and after it.
+-- An entry of a lane: it counts no fault, before it and after it.
 pub record HasNoFault (w : Whole) (entry : Entry) : Type 0 where
   pub before : AreFaultless w
   pub after : entry.faults_after ≡ 0
 
-pub access_faultless : (grain : GrainSize) (w : Whole) (number : ℕ) (entry : Entry) (next : Whole) → AccessStep grain w number entry next → AreFaultless next → HasNoFault w entry
-access_faultless grain w number entry next step h =
-    let lane : ℕ = lane_of_grain w number in
-    let faults : next.faults ≡ slice_set w.faults lane entry.faults_after = ap (λ (x : Whole). x.faults) step.next_is in
-    let same : lanes next ≡ lanes w = ap (λ (fs : List ℕ). length fs) faults ∙ length-set w.faults lane entry.faults_after in
+pub lane_faultless :
+    (grain : GrainSize) (w : Whole) (i : ℕ) (Answers : Entry → Type 0) (entry : Entry) (next : Whole) →
+    (0 < lanes w → i < lanes w) →
+    LaneStep grain w i Answers entry next →
+    AreFaultless next →
+    HasNoFault w entry
+lane_faultless grain w i Answers entry next within step h =
+    let faults : next.faults ≡ slice_set w.faults i entry.faults_after = ap (λ (x : Whole). x.faults) step.next_is in
+    let same : lanes next ≡ lanes w = ap (λ (fs : List ℕ). length fs) faults ∙ length-set w.faults i entry.faults_after in
     let some : 0 < lanes w = subst (λ (n : ℕ). 0 < n) same h.some in
     let Q : List ℕ → Type 0 = λ fs. All IsZero fs in
-    let none : All IsZero (slice_set w.faults lane entry.faults_after) = subst Q faults h.none in
+    let none : All IsZero (slice_set w.faults i entry.faults_after) = subst Q faults h.none in
     record {
       before = record {
         some = some;
-        none = zeros_before w.faults lane entry.faults_after (subst (λ (n : ℕ). n ≤ entry.faults_after) step.faults_before step.faults_kept) none;
+        none = zeros_before w.faults i entry.faults_after (subst (λ (n : ℕ). n ≤ entry.faults_after) step.faults_before step.faults_kept) none;
       };
-      after = set_is_zero w.faults lane entry.faults_after (mod_below number (lanes w) some) none;
+      after = set_is_zero w.faults i entry.faults_after (within some) none;
     }
+
+pub access_faultless : (grain : GrainSize) (w : Whole) (number : ℕ) (entry : Entry) (next : Whole) → AccessStep grain w number entry next → AreFaultless next → HasNoFault w entry
+access_faultless grain w number entry next step h = lane_faultless grain w (lane_of_grain w number) _ entry next (mod_below number (lanes w)) step h
+
+pub turn_faultless :
+    (grain : GrainSize) (w : Whole) (i : ℕ) (Answers : MapId → GrainNo → Entry → Type 0) (work : Option (MapId × GrainNo)) (entry : Entry) (next : Whole) →
+    TurnStep grain w i Answers work entry next →
+    AreFaultless next →
+    HasNoFault w entry
+turn_faultless grain w i Answers work entry next turn h = lane_faultless grain w i _ entry next (λ some. turn.within) turn.step h
 
 module _ (grain : GrainSize) (w : Whole) (entry : Entry) (next : Whole) (h : AreFaultless next) where
   refused_faultless : (refusal : Refusal) → IsRefused refusal w entry next → AreFaultless w
@@ -103,12 +119,12 @@ module _ (grain : GrainSize) (w : Whole) (entry : Entry) (next : Whole) (h : Are
   request_faultless : (request : Request) → RequestStep grain w request entry next → AreFaultless w
   request_faultless (Asked command) step = asked_faultless command step
   request_faultless (Unread fault) step = refused_faultless (Words fault) step
-  request_faultless (Read part) step = (access_faultless grain w (grain_of_block grain part.block) entry next step h).before
-  request_faultless (Write part) step = (access_faultless grain w (grain_of_block grain part.block) entry next step h).before
+  request_faultless (Read part) step = (access_faultless grain w (grain_of_block grain part.block) entry next step.1 h).before
+  request_faultless (Write part) step = (access_faultless grain w (grain_of_block grain part.block) entry next step.1 h).before
   request_faultless (Copy m g) step = (access_faultless grain w g.0 entry next step h).before
   request_faultless (Clean m g) step = (access_faultless grain w g.0 entry next step h).before
-  request_faultless (CopyTurn lane) step = absurd step
-  request_faultless (CleanTurn lane) step = absurd step
+  request_faultless (CopyTurn lane) step = (turn_faultless grain w lane _ _ entry next step h).before
+  request_faultless (CleanTurn lane) step = (turn_faultless grain w lane _ _ entry next step h).before
 
 pub step_faultless : (grain : GrainSize) (w : Whole) (entry : Entry) (next : Whole) → Step grain w entry next → AreFaultless next → AreFaultless w
 step_faultless grain w entry next step h = request_faultless grain w entry next h entry.request step.right

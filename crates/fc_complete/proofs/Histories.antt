@@ -7,6 +7,8 @@ use Rattle.fc_base.specs.declared.command.Command.{Command}
 use Rattle.fc_base.specs.declared.command.Command.TheVariants.{Mkvdisk, Write as WriteLine, Read as ReadLine}
 use Rattle.fc_base.specs.declared.fault.Refusal.{Refusal}
 use Rattle.fc_base.specs.declared.fault.Refusal.TheVariants.{Words}
+use Rattle.fc_base.specs.declared.ids.GrainNo.{GrainNo}
+use Rattle.fc_base.specs.declared.ids.MapId.{MapId}
 use Rattle.fc_base.specs.declared.ids.VolId.{VolId}
 use Rattle.fc_base.specs.declared.request.Effect.{Effect}
 use Rattle.fc_base.specs.declared.request.Reply.{Reply}
@@ -16,22 +18,23 @@ use Rattle.fc_base.specs.declared.size.GrainSize.{GrainSize}
 use Rattle.fc_books.specs.Books.{Books}
 use Rattle.fc_books.specs.Deciding.{settle, refused, replied, answered}
 use Rattle.fc_books.specs.Refused.{access_refused}
-use Rattle.fc_complete.proofs.Answers.{read_served, write_served, fill_served, access_served, answers_of}
+use Rattle.fc_complete.proofs.Answers.{read_served, write_served, fill_served, access_served, turn_served, answers_of}
 use Rattle.fc_complete.proofs.Contents.{spot_there}
-use Rattle.fc_complete.proofs.Faults.{not_risen, access_faultless, step_faultless}
+use Rattle.fc_complete.proofs.Faults.{HasNoFault, not_risen, access_faultless, step_faultless, turn_faultless}
 use Rattle.fc_complete.proofs.Pictures.{effects_unharmed, plain_unharmed}
 use Rattle.fc_complete.proofs.Standing.{later_stands, counted_stands, command_stands}
 use Rattle.fc_complete.specs.Law.{AreServed}
 use Rattle.fc_complete.specs.Served.{AreFaultless, IsUnharmed, IsServedReply, IsServed}
-use Rattle.fc_complete.specs.Within.{IsWithin, IsLegalWithin}
 use Rattle.fc_entry.specs.Picture.{grain_of_block}
 use Rattle.fc_entry.specs.declared.entry.Entry.{Entry}
+use Rattle.fc_legal.specs.Legal.{IsLegal}
 use Rattle.fc_legal.specs.Stands.{Stands}
-use Rattle.fc_legal.specs.Steps.{Step, RequestStep, AccessStep, CommandStep, CommandIsRight, CommandLeft, IsRefused, AccessIsRefused, after_settling, decided_on}
+use Rattle.fc_legal.specs.Steps.{Step, RequestStep, LaneStep, AccessStep, TurnStep, CommandStep, CommandIsRight, CommandLeft, IsRefused, AccessIsRefused, after_settling, decided_on}
 use Rattle.fc_legal.specs.Steps.CommandLeft.{decided, unsettled, settled_alone}
-use Rattle.fc_legal.specs.Whole.{Whole, all_grains, as_one}
-use Rattle.fc_parts.proofs.Standing.{access_stands}
+use Rattle.fc_legal.specs.Whole.{Whole, all_grains, as_one, lane_of_grain}
+use Rattle.fc_parts.proofs.Standing.{access_stands, copy_turn_stands, clean_turn_stands}
 use Rattle.fc_parts.specs.Law.{IsAt}
+use Rattle.fc_rules.specs.LaneRight.{CleanAnswers, CopyAnswers, TurnAnswers}
 use Rattle.fc_rules.specs.LaneTold.{place_of, access_in}
 use Rattle.fc_rules.specs.LaneTurn.{spot_at, copied_slot, cleaned_slot}
 
@@ -90,14 +93,17 @@ module _ (grain : GrainSize) (decisions : ℕ) (w : Whole) (entry : Entry) (next
   access_refused_well None step = absurd step
   access_refused_well (Some refusal) step = refused_well refusal step
 
-  access_well : (number : ℕ) → IsAt grain number entry.request → AccessStep grain w number entry next → IsServed entry → LeavesWell decisions entry next
-  access_well number at step served =
+  lane_well : (i : ℕ) (Answers : Entry → Type 0) → Stands decisions next → LaneStep grain w i Answers entry next → IsServed entry → LeavesWell decisions entry next
+  lane_well i Answers stands step served =
       let P : Whole → Type 0 = λ v. IsUnharmed v.picture in
       record {
         served = served;
         unharmed = subst P (sym step.next_is) (plain_unharmed grain w.picture entry served.untorn unharmed);
-        stands = later_stands decisions (decisions + 2) next (omega arith) (access_stands grain decisions w number entry next before at step);
+        stands = later_stands decisions (decisions + 2) next (omega arith) stands;
       }
+
+  access_well : (number : ℕ) → IsAt grain number entry.request → AccessStep grain w number entry next → IsServed entry → LeavesWell decisions entry next
+  access_well number at step served = lane_well (lane_of_grain w number) _ (access_stands grain decisions w number entry next before at step) step served
 
   module _ (few : decisions + 2 ≤ 2 ^ 32) where
     command_well : (command : Command) → CommandStep grain w command entry next → LeavesWell decisions entry next
@@ -116,42 +122,62 @@ module _ (grain : GrainSize) (decisions : ℕ) (w : Whole) (entry : Entry) (next
     asked_well (WriteLine volume block count byte) step = access_refused_well (access_refused grain w.books volume block count) step
     asked_well command step = command_well command step
 
+    copy_served : (HasRisen entry.faults_before entry.faults_after → ⊥) → (m : MapId) (g : GrainNo) → CopyAnswers (all_grains grain) (as_one w) m g entry → IsServed entry
+    copy_served quiet m g h = fill_served entry quiet (all_grains grain) (as_one w) m.0 g.0 (copied_slot w.books.sheet.slots m.0 (place_of (all_grains grain) g.0)) h
+
+    clean_served : (HasRisen entry.faults_before entry.faults_after → ⊥) → (m : MapId) (g : GrainNo) → CleanAnswers (all_grains grain) (as_one w) m g entry → IsServed entry
+    clean_served quiet m g h = fill_served entry quiet (all_grains grain) (as_one w) m.0 g.0 (cleaned_slot w.books.sheet.slots m.0 (place_of (all_grains grain) g.0)) h
+
     module _ (faultless : AreFaultless next) where
-      quiet : (number : ℕ) → AccessStep grain w number entry next → HasRisen entry.faults_before entry.faults_after → ⊥
-      quiet number step = not_risen entry.faults_before entry.faults_after (access_faultless grain w number entry next step faultless).after
+      quiet : HasNoFault w entry → HasRisen entry.faults_before entry.faults_after → ⊥
+      quiet none = not_risen entry.faults_before entry.faults_after none.after
+
+      quiet_access : (number : ℕ) → AccessStep grain w number entry next → HasRisen entry.faults_before entry.faults_after → ⊥
+      quiet_access number step = quiet (access_faultless grain w number entry next step faultless)
 
       at_is : (number : ℕ) (request : Request) → entry.request ≡ request → IsAt grain number request → IsAt grain number entry.request
       at_is number request e at =
           let P : Request → Type 0 = λ r. IsAt grain number r in
           subst P (sym e) at
 
-      request_well : (request : Request) → entry.request ≡ request → IsWithin grain w.books.tables request → RequestStep grain w request entry next → LeavesWell decisions entry next
-      request_well (Asked command) e within step = asked_well command step
-      request_well (Unread fault) e within step = refused_well (Words fault) step
-      request_well (Read part) e within step =
+      turn_well :
+          (lane : ℕ) (Answers : MapId → GrainNo → Entry → Type 0) (work : Option (MapId × GrainNo)) →
+          Stands decisions next →
+          ((HasRisen entry.faults_before entry.faults_after → ⊥) → (m : MapId) (g : GrainNo) → Answers m g entry → IsServed entry) →
+          TurnStep grain w lane Answers work entry next →
+          LeavesWell decisions entry next
+      turn_well lane Answers work stands one turn =
+          let no_fault = quiet (turn_faultless grain w lane Answers work entry next turn faultless) in
+          lane_well lane (TurnAnswers Answers work) stands turn.step
+          (turn_served entry no_fault Answers work (one no_fault) turn.step.answers)
+
+      request_well : (request : Request) → entry.request ≡ request → RequestStep grain w request entry next → LeavesWell decisions entry next
+      request_well (Asked command) e step = asked_well command step
+      request_well (Unread fault) e step = refused_well (Words fault) step
+      request_well (Read part) e step =
           let number : ℕ = grain_of_block grain part.block in
-          let there = spot_there grain w part.volume part.block before.plain before.sound.tables.volumes.rising unharmed within in
-          access_well number (at_is number (Read part) e refl) step
-          (access_served entry (quiet number step) (access_in (as_one w).volumes part.volume) _
-          (λ h. read_served entry (quiet number step) grain (spot_at (all_grains grain) (as_one w) number) part there h)
-          (answers_of (all_grains grain) (as_one w) entry (Read part) e step.answers))
-      request_well (Write part) e within step =
+          let there = spot_there grain w part.volume part.block part.count before.plain before.sound.tables.volumes.rising unharmed step.0 in
+          access_well number (at_is number (Read part) e refl) step.1
+          (access_served entry (quiet_access number step.1) (access_in (as_one w).volumes part.volume) _
+          (λ h. read_served entry (quiet_access number step.1) grain (spot_at (all_grains grain) (as_one w) number) part there h)
+          (answers_of (all_grains grain) (as_one w) entry (Read part) e step.1.answers))
+      request_well (Write part) e step =
           let number : ℕ = grain_of_block grain part.block in
-          let there = spot_there grain w part.volume part.block before.plain before.sound.tables.volumes.rising unharmed within in
-          access_well number (at_is number (Write part) e refl) step
-          (access_served entry (quiet number step) (access_in (as_one w).volumes part.volume) _
-          (λ h. write_served entry (quiet number step) (all_grains grain) (as_one w) part (live_place w.books.sheet.slots part.volume.0) there h)
-          (answers_of (all_grains grain) (as_one w) entry (Write part) e step.answers))
-      request_well (Copy m g) e within step =
+          let there = spot_there grain w part.volume part.block part.count before.plain before.sound.tables.volumes.rising unharmed step.0 in
+          access_well number (at_is number (Write part) e refl) step.1
+          (access_served entry (quiet_access number step.1) (access_in (as_one w).volumes part.volume) _
+          (λ h. write_served entry (quiet_access number step.1) (all_grains grain) (as_one w) part (live_place w.books.sheet.slots part.volume.0) there h)
+          (answers_of (all_grains grain) (as_one w) entry (Write part) e step.1.answers))
+      request_well (Copy m g) e step =
           access_well g.0 (at_is g.0 (Copy m g) e refl) step
-          (fill_served entry (quiet g.0 step) (all_grains grain) (as_one w) m.0 g.0 (copied_slot w.books.sheet.slots m.0 (place_of (all_grains grain) g.0))
-          (answers_of (all_grains grain) (as_one w) entry (Copy m g) e step.answers))
-      request_well (Clean m g) e within step =
+          (copy_served (quiet_access g.0 step) m g (answers_of (all_grains grain) (as_one w) entry (Copy m g) e step.answers))
+      request_well (Clean m g) e step =
           access_well g.0 (at_is g.0 (Clean m g) e refl) step
-          (fill_served entry (quiet g.0 step) (all_grains grain) (as_one w) m.0 g.0 (cleaned_slot w.books.sheet.slots m.0 (place_of (all_grains grain) g.0))
-          (answers_of (all_grains grain) (as_one w) entry (Clean m g) e step.answers))
-      request_well (CopyTurn lane) e within step = absurd step
-      request_well (CleanTurn lane) e within step = absurd step
+          (clean_served (quiet_access g.0 step) m g (answers_of (all_grains grain) (as_one w) entry (Clean m g) e step.answers))
+      request_well (CopyTurn lane) e step =
+          turn_well lane (CopyAnswers (all_grains grain) (as_one w)) _ (copy_turn_stands grain decisions w lane entry next before e step) copy_served step
+      request_well (CleanTurn lane) e step =
+          turn_well lane (CleanAnswers (all_grains grain) (as_one w)) _ (clean_turn_stands grain decisions w lane entry next before e step) clean_served step
 
 step_well :
     (grain : GrainSize) (decisions : ℕ) (w : Whole) (entry : Entry) (next : Whole) →
@@ -159,25 +185,24 @@ step_well :
     decisions + 2 ≤ 2 ^ 32 →
     IsUnharmed w.picture →
     Step grain w entry next →
-    IsWithin grain w.books.tables entry.request →
     AreFaultless next →
     LeavesWell decisions entry next
-step_well grain decisions w entry next before few unharmed step within faultless =
-    request_well grain decisions w entry next before unharmed few faultless entry.request refl within step.right
+step_well grain decisions w entry next before few unharmed step faultless =
+    request_well grain decisions w entry next before unharmed few faultless entry.request refl step.right
 
 -- ---- all entries
 
-pub history_faultless : (grain : GrainSize) (w last : Whole) (entries : List Entry) → IsLegalWithin grain w entries last → AreFaultless last → AreFaultless w
+pub history_faultless : (grain : GrainSize) (w last : Whole) (entries : List Entry) → IsLegal grain w entries last → AreFaultless last → AreFaultless w
 history_faultless grain w last [] h faultless =
     let P : Whole → Type 0 = λ v. AreFaultless v in
     subst P h faultless
-history_faultless grain w last (x ∷ xs) h faultless = step_faultless grain w x h.0 h.1 (history_faultless grain h.0 last xs h.3 faultless)
+history_faultless grain w last (x ∷ xs) h faultless = step_faultless grain w x h.0 h.1 (history_faultless grain h.0 last xs h.2 faultless)
 
 pub history_served :
     (grain : GrainSize) (decisions : ℕ) (w last : Whole) (entries : List Entry) →
     Stands decisions w →
     decisions + 2 * length entries ≤ 2 ^ 32 →
-    IsLegalWithin grain w entries last →
+    IsLegal grain w entries last →
     AreFaultless last →
     IsUnharmed w.picture →
     AreServed entries last
@@ -188,6 +213,6 @@ history_served grain decisions w last (x ∷ xs) before few h faultless unharmed
     let first : decisions + 2 ≤ 2 ^ 32 = omega (arith, few) in
     let rest : decisions + 2 + 2 * length xs ≤ 2 ^ 32 = omega (arith, few) in
     let well : LeavesWell decisions x h.0 =
-    step_well grain decisions w x h.0 before first unharmed h.1 h.2 (history_faultless grain h.0 last xs h.3 faultless) in
-    let more : AreServed xs last = history_served grain (decisions + 2) h.0 last xs well.stands rest h.3 faultless well.unharmed in
+    step_well grain decisions w x h.0 before first unharmed h.1 (history_faultless grain h.0 last xs h.2 faultless) in
+    let more : AreServed xs last = history_served grain (decisions + 2) h.0 last xs well.stands rest h.2 faultless well.unharmed in
     record { each = All-cons IsServed x xs well.served more.each; unharmed = more.unharmed }

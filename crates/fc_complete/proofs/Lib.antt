@@ -5,6 +5,4 @@ pub mod Contents
 pub mod Answers
 pub mod Standing
 pub mod Histories
-pub mod Asking
-pub mod Sessions
 pub mod Complete

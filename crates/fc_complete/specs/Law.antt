@@ -1,6 +1,6 @@
 -- The law of completeness: where no disk failed, every access of a volume that is online is answered with its bytes, or done, or
 -- wants memory.
-use Rattle.std.specs.Prelude.{◌≡◌, ◌⊎◌, ℕ, ◌+◌, ◌*◌, ◌^◌, ◌<◌, ◌≤◌, All, List, length}
+use Rattle.std.specs.Prelude.{◌≡◌, ◌⊎◌, ℕ, ◌+◌, ◌*◌, ◌^◌, ◌≤◌, All, List, length}
 use Rattle.fc_base.specs.Grain.{block_bytes}
 use Rattle.fc_base.specs.Pools.{Pool}
 use Rattle.fc_base.specs.declared.ids.VolId.{VolId}
@@ -12,11 +12,10 @@ use Rattle.fc_base.specs.declared.runs.Run.{Run}
 use Rattle.fc_base.specs.declared.size.GrainSize.{GrainSize}
 use Rattle.fc_base.specs.declared.state.Access.TheVariants.{Online}
 use Rattle.fc_complete.specs.Served.{AreFaultless, IsUnharmed, IsServed}
-use Rattle.fc_complete.specs.Within.{IsLegalWithin}
 use Rattle.fc_entry.specs.Picture.{volume_in, now_at, grain_of_block, byte_in_grain}
 use Rattle.fc_entry.specs.Reads.{IsRightIn}
 use Rattle.fc_entry.specs.declared.entry.Entry.{Entry}
-use Rattle.fc_legal.specs.Run.{Reading, IsRun, IsPartialRun, WantsMore}
+use Rattle.fc_legal.specs.Legal.{IsLegal}
 use Rattle.fc_legal.specs.Stands.{Stands}
 use Rattle.fc_legal.specs.Steps.{Step}
 use Rattle.fc_legal.specs.Whole.{Whole, opened, as_one}
@@ -39,19 +38,12 @@ pub record GivesBytes (grain : GrainSize) (w : Whole) (part : ReadPart) (entry :
 
 -- A session has 262,144 entries at most, which is far below the bounds here.
 pub record CompletionLaw : Type 0 where
-  -- before the first entry no disk has failed, and nothing is lost
-  pub begins : (pools : List Pool) → 0 < length pools → AreFaultless (opened pools) × IsUnharmed (opened pools).picture
-  -- where no disk has failed at the end of a session, all its entries are served
-  pub sessions : (grain : GrainSize) (read : Reading) (pools : List Pool) (lines : List (List ℕ)) (entries : List Entry) (last : Whole) → length entries ≤ 2 ^ 31 →
-      IsRun grain read (opened pools) lines entries last → AreFaultless last → AreServed entries last
-  -- so are those of a session that ended early, or that ended since the history was full
-  pub early : (grain : GrainSize) (read : Reading) (pools : List Pool) (lines : List (List ℕ)) (entries : List Entry) (last : Whole) → length entries ≤ 2 ^ 31 →
-      IsPartialRun grain read (opened pools) lines entries last → AreFaultless last → AreServed entries last
-  pub full : (grain : GrainSize) (read : Reading) (pools : List Pool) (lines : List (List ℕ)) (entries : List Entry) (last : Whole) → length entries ≤ 2 ^ 31 →
-      WantsMore grain read (opened pools) lines entries last → AreFaultless last → AreServed entries last
-  -- and those of any legal history whose accesses are of blocks that are there
+  -- where no disk has failed at the end of a legal history, all its entries are served
+  pub sessions : (grain : GrainSize) (pools : List Pool) (entries : List Entry) (last : Whole) → length entries ≤ 2 ^ 31 →
+      IsLegal grain (opened pools) entries last → AreFaultless last → AreServed entries last
+  -- so are those that come after other entries, where nothing was lost
   pub served : (grain : GrainSize) (decisions : ℕ) (w last : Whole) (entries : List Entry) → Stands decisions w → decisions + 2 * length entries ≤ 2 ^ 32 →
-      IsLegalWithin grain w entries last → AreFaultless last → IsUnharmed w.picture → AreServed entries last
+      IsLegal grain w entries last → AreFaultless last → IsUnharmed w.picture → AreServed entries last
   -- a read of a volume that is online, served, gives bytes or wants memory
   pub reads : (grain : GrainSize) (w : Whole) (part : ReadPart) (entry : Entry) (next : Whole) → Step grain w entry next → entry.request ≡ Read part →
       IsOnline w part.volume → IsServed entry → GivesBytes grain w part entry ⊎ (entry.reply ≡ NoMemory)

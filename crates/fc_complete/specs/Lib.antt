@@ -1,4 +1,3 @@
 -- What the law of completeness says, to be read top to bottom.
 pub mod Served
-pub mod Within
 pub mod Law

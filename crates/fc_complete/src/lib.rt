@@ -6,10 +6,9 @@
 //! at the end of a session, no entry of it answers a disk fault or a medium error, none tore a grain, and no grain of any volume
 //! is lost. Reads and writes of volumes that are online then give bytes, or are done; for want of memory alone they aren't.
 //!
-//! To read: `specs/Served`, `specs/Within` and `specs/Law`; then `proofs/`. `Faults` (no count rose before the end), `Pictures`
-//! (nothing is lost by what entries do), `Contents` (a block of a volume has a content) and `Answers` (what an access answers);
-//! `Standing` (what stood still stands) and `Histories` (a legal history, entry by entry); `Asking` and `Sessions` (what lines ask is
-//! within volumes); and `Complete` all together.
+//! To read: `specs/Served` and `specs/Law`; then `proofs/`. `Faults` (no count rose before the end), `Pictures` (nothing is lost
+//! by what entries do), `Contents` (a block of a volume has a content) and `Answers` (what an access or a worker's turn answers);
+//! `Standing` (what stood still stands) and `Histories` (a legal history, entry by entry); and `Complete` all together.
 #![tactic(auto)]
 
 ghost use Rattle.fc_complete.specs.Law.{CompletionLaw};

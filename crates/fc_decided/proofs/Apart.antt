@@ -1,7 +1,7 @@
 -- What events do, part by part: to the chains, to plain volumes, to the volumes, to background work and to pools.
 use Rattle.std.proofs.lemmas.List.{length-map}
 use Rattle.fc_base.specs.declared.disk.DiskKind.TheVariants.{Flat, Thin}
-use Rattle.std.proofs.Common.{◌≡◌, ℕ, Bool, ◌<◌, ◌^◌, List, [], ◌∷◌, ◌++◌, length, fold, refl, ap, ◌∙◌, arith}
+use Rattle.std.proofs.Common.{◌≡◌, ℕ, Bool, ◌<◌, ◌^◌, List, [], ◌∷◌, ◌++◌, length, fold, refl, ap, ◌∙◌}
 use Rattle.fc_base.specs.Pools.{Pool, pool_without}
 use Rattle.fc_base.specs.Sheet.{Sheet}
 use Rattle.fc_base.specs.SheetFacts.{IsSound}
@@ -13,9 +13,10 @@ use Rattle.fc_base.specs.declared.size.GrainSize.{GrainSize}
 use Rattle.fc_books.specs.After.{sheet_after, flags_after, pools_after, after_event}
 use Rattle.fc_books.specs.Books.{Books}
 use Rattle.fc_entry.specs.Picture.{Picture}
+use Rattle.fc_legal.proofs.Events.{step_alike}
 use Rattle.fc_legal.specs.Whole.{all_grains}
 use Rattle.fc_pick.specs.declared.work.WorkFlags.{WorkFlags}
-use Rattle.fc_rules.specs.LaneTold.{LaneTold, grains_in, picture_event, volumes_event, flags_event, pool_event, told_event}
+use Rattle.fc_rules.specs.LaneTold.{LaneTold, picture_event, volumes_event, flags_event, pool_event, told_event}
 use Rattle.fc_sheets.proofs.Lawful.{event_sound}
 
 -- ---- lists of events
@@ -38,15 +39,6 @@ picture_append grain s picture [] fs = refl
 picture_append grain s picture (e ∷ es) fs = picture_append grain (sheet_step (λ grains. grains) s e) (picture_event (all_grains grain) s.slots picture e) es fs
 
 -- ---- the one lane
-
-pub one_lane : (grain : GrainSize) (n : ℕ) → grains_in (all_grains grain) n ≡ n
-one_lane grain n = omega arith
-
-all_local : (grain : GrainSize) → grains_in (all_grains grain) ≡ (λ (n : ℕ). n)
-all_local grain = λ k n. one_lane grain n k
-
-pub step_alike : (grain : GrainSize) (s : Sheet) (e : LaneEvent) → sheet_step (grains_in (all_grains grain)) s e ≡ sheet_step (λ grains. grains) s e
-step_alike grain s e = ap (λ (f : ℕ → ℕ). sheet_step f s e) (all_local grain)
 
 -- What the lane of all grains tells after events.
 pub told_apart : (grain : GrainSize) (told : LaneTold) (events : List LaneEvent) →

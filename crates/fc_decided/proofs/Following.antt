@@ -12,7 +12,7 @@ use Rattle.fc_base.specs.declared.size.GrainSize.{GrainSize}
 use Rattle.fc_books.specs.After.{sheet_after}
 use Rattle.fc_books.specs.Sound.{HasGrains}
 use Rattle.fc_changed.specs.Row.{Row}
-use Rattle.fc_decided.proofs.Apart.{sheet_through, picture_through, step_alike}
+use Rattle.fc_decided.proofs.Apart.{sheet_through, picture_through}
 use Rattle.fc_decided.proofs.Fuller.{AreFuller, all_same}
 use Rattle.fc_decided.proofs.Keeping.{AreForgotten, Keeps, StaysAmong}
 use Rattle.fc_decided.proofs.Noting.{AreById, Lack, HaveSizes, spared_rows, spared_lack, spared_fits, forgotten_lack, began_rows, pairs_fit, rows_kept}
@@ -20,6 +20,7 @@ use Rattle.fc_decided.proofs.Restarting.{triggered_fuller, sheet_after-plain}
 use Rattle.fc_decided.proofs.Sparing.{Spares, AreSparing, AreStill, IsStill, Begins, sparing, starting, still_sparing}
 use Rattle.fc_entry.specs.Picture.{Picture}
 use Rattle.fc_follow.specs.Following.{Followed, told_with, followed_event, restarts}
+use Rattle.fc_legal.proofs.Events.{step_alike}
 use Rattle.fc_legal.specs.Lawful.{FitAsOne}
 use Rattle.fc_legal.specs.Stands.{IsOfMapping, AreRows}
 use Rattle.fc_legal.specs.Whole.{all_grains}

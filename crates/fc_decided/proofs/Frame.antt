@@ -8,7 +8,7 @@ use Rattle.fc_base.specs.declared.request.Effect.{Effect}
 use Rattle.fc_base.specs.declared.volume.Change.TheVariants.{AddVolume}
 use Rattle.fc_decided.proofs.Firsts.{firsts_through}
 use Rattle.fc_decided.proofs.Lists.{all_from, find_from}
-use Rattle.fc_decided.proofs.Following.{told_alone, sheet_led, led_fuller, all_still_picture, begun_led, led_rows, fit_begun}
+use Rattle.fc_decided.proofs.Following.{told_alone, sheet_led, led_fuller, all_still_picture, begun_led, led_rows, fit_begun, LedFrom}
 use Rattle.fc_decided.proofs.Fuller.{AreFuller, fuller_sound, fuller_firsts, fuller_agree}
 use Rattle.fc_decided.proofs.Keeping.{Keeps, keeps_more}
 use Rattle.fc_decided.proofs.Noting.{HaveSizes}
@@ -31,6 +31,7 @@ use Rattle.fc_books.specs.Books.{Books, Deed}
 use Rattle.fc_books.specs.Deciding.{with_work}
 use Rattle.fc_books.specs.Sound.{AreTables, Agree, HasGrains}
 use Rattle.fc_entry.specs.PlainStep.{after_effects}
+use Rattle.fc_legal.proofs.Events.{rows_told}
 use Rattle.fc_legal.specs.Lawful.{HaveDisks, FitChanges, IsLawful}
 use Rattle.fc_legal.specs.Stands.{ArePlain, AreFew, Stands}
 use Rattle.fc_follow.specs.Following.{followed_event, restarts}
@@ -148,7 +149,7 @@ have_sizes b a m found = by (volume_with b.tables m.target) refl (a.mappings m f
         sym (ap (volume_grains b.sheet.slots) (eqb-true m.target.0 v.id.0 f.1) ∙ ap (grains_at b.sheet.slots) l.1 ∙ l.2)
 
 stands_after : (grain : GrainSize) (decisions : ℕ) (w : Whole) (effects : List Effect) (events : List LaneEvent) (changes : List Change) → Stands decisions w → Does grain decisions w effects events changes →
-    Stands (decisions + 1) (whole_left grain w effects (rows_after grain w events) (led_books (restarts w.rows) w.books events changes))
+    Stands (decisions + 1) (whole_left grain w effects (rows_after w.books.sheet w.rows events) (led_books (restarts w.rows) w.books events changes))
 stands_after grain decisions w effects events changes st does =
     let n = (tabled w.books changes).next_mapping in
     let noted = noted_through n w.books.flags events does.below (still_noted w.books.next_mapping n w.books.flags does.later (st.sound.flags.rising, st.sound.flags.given)) in
@@ -192,8 +193,9 @@ stands_after grain decisions w effects events changes st does =
         calls = st.each_lane.calls;
       };
       firsts = fuller_firsts s t f (firsts_through w.books.sheet events st.sound.sheet does.fits st.firsts);
-      rows = led_rows w.books.tables (tabled w.books changes).tables (rows_after grain w events) events does.keeps
-          (begun_led w.books.tables grain (all_followed w) events does.begins (have_sizes w.books st.sound.agree) st.rows);
+      rows = led_rows w.books.tables (tabled w.books changes).tables (rows_after w.books.sheet w.rows events) events does.keeps
+          (subst (λ (rows : List Row). LedFrom w.books.tables rows events) (rows_told grain (all_followed w) events)
+          (begun_led w.books.tables grain (all_followed w) events does.begins (have_sizes w.books st.sound.agree) st.rows));
     }
 
 -- What the lane of all grains is told.
@@ -248,15 +250,16 @@ told_led grain w effects events after (starting {pairs} {rest} are still) does =
     })
 
 told_after : (grain : GrainSize) (decisions : ℕ) (w : Whole) (effects : List Effect) (events : List LaneEvent) (changes : List Change) → Does grain decisions w effects events changes →
-    fold (followed_event (all_grains grain)) (all_followed w) events ≡ all_followed (whole_left grain w effects (rows_after grain w events) (led_books (restarts w.rows) w.books events changes))
+    fold (followed_event (all_grains grain)) (all_followed w) events ≡ all_followed (whole_left grain w effects (rows_after w.books.sheet w.rows events) (led_books (restarts w.rows) w.books events changes))
 told_after grain decisions w effects events changes does =
-    ap (λ (told : LaneTold). record { told = told; rows = rows_after grain w events })
-    (told_led grain w effects events (tabled w.books changes).tables does.begins (record { picture = does.picture; volumes = does.volumes }))
+    let told = told_led grain w effects events (tabled w.books changes).tables does.begins (record { picture = does.picture; volumes = does.volumes }) in
+    let rows = rows_told grain (all_followed w) events in
+    λ k. record { told = told k; rows = rows k }
 
 pub lawful_from : (grain : GrainSize) (decisions : ℕ) (w : Whole) (d : Decision) → Stands decisions w → Does grain decisions w d.effects d.events d.changes → IsLawful grain decisions w d
 lawful_from grain decisions w d st does =
     let leaves = all_leave (restarts w.rows) w.books d.events d.changes in
-    let rows = rows_after grain w d.events in
+    let rows = rows_after w.books.sheet w.rows d.events in
     record {
       events = fit_begun w.books.tables grain (all_followed w) d.events st.sound.tables.mappings does.begins (have_sizes w.books st.sound.agree) does.fits st.rows;
       disks = does.disks;

@@ -38,7 +38,7 @@ use Rattle.fc_sheets.proofs.Events.{made_sound}
 use Rattle.fc_sheets.proofs.Finding.{live_place_at, live_place_is, mapping_place_at}
 use Rattle.fc_sheets.proofs.Places.{Removed, push_is, push_here, all_of_big}
 use Rattle.fc_decided.proofs.Agreeing.{some_from, volume_there, volume_from}
-use Rattle.fc_decided.proofs.Apart.{one_lane}
+use Rattle.fc_legal.proofs.Events.{one_lane}
 use Rattle.fc_decided.proofs.Carrying.{StaysIn, live_carried, slot_carried}
 use Rattle.fc_decided.proofs.Keeping.{stay_all}
 use Rattle.fc_decided.proofs.Sparing.{sparing}

@@ -20,7 +20,7 @@ use Rattle.fc_entry.specs.Picture.{Content, Bytes, Lost, byte_in_grain, grain_of
 use Rattle.fc_entry.specs.Reads.{IsRightIn}
 use Rattle.fc_entry.specs.declared.entry.Entry.{Entry}
 use Rattle.fc_rules.specs.GrainAnswers.{ByAccess, HasRead, ReadAnswers, WriteAnswers, FillAnswers, cannot_write}
-use Rattle.fc_rules.specs.LaneRight.{LaneAnswers, VolumeWrite, MappingFill}
+use Rattle.fc_rules.specs.LaneRight.{LaneAnswers, VolumeWrite, MappingFill, TurnAnswers}
 use Rattle.fc_rules.specs.LaneTold.{LaneOf, LaneTold, place_of, access_in}
 use Rattle.fc_rules.specs.LaneTurn.{spot_at, copied_slot, cleaned_slot}
 use Rattle.fc_rules.specs.Spot.{Spot, is_lost}
@@ -242,3 +242,13 @@ copy_did l told m grain x y h k smooth smooth_other =
 pub clean_did : (l : LaneOf) (told : LaneTold) (m : MapId) (grain : GrainNo) → HasOneAnswer l told (Clean m grain)
 clean_did l told m grain x y h k smooth smooth_other =
     fill_one l told m.0 grain.0 (cleaned_slot told.sheet.slots m.0 (place_of l grain.0)) x y h k smooth smooth_other
+
+-- A turn of a worker is idle, or did its work.
+pub turn_did :
+    (Answers : MapId → GrainNo → Entry → Type 0) (work : Option (MapId × GrainNo)) (x y : Entry) →
+    ((m : MapId) (grain : GrainNo) → Answers m grain x → Answers m grain y → DidTheSame x y) →
+    TurnAnswers Answers work x →
+    TurnAnswers Answers work y →
+    DidTheSame x y
+turn_did Answers None x y one h k = both_nothing x y reply.Idle h.0 k.0 h.1 k.1
+turn_did Answers (Some work) x y one h k = one work.0 work.1 h k

@@ -1,5 +1,5 @@
 -- What a command leaves is determined, where no memory was wanted.
-use Rattle.std.proofs.Common.{◌≡◌, ℕ, ◌++◌, Option, List, refl, sym, ap, ◌∙◌}
+use Rattle.std.proofs.Common.{◌≡◌, ℕ, ◌++◌, Option, List, replicate, refl, sym, ap, ◌∙◌}
 use Rattle.fc_base.specs.declared.command.Command.{Command}
 use Rattle.fc_base.specs.declared.ids.VolId.{VolId}
 use Rattle.fc_base.specs.declared.request.Effect.{Effect}
@@ -7,7 +7,7 @@ use Rattle.fc_base.specs.declared.request.Reply.{Reply}
 use Rattle.fc_base.specs.declared.size.GrainSize.{GrainSize}
 use Rattle.fc_books.specs.Deciding.{settle, IsLoopOf}
 use Rattle.fc_determined.proofs.Loops.{loop_one}
-use Rattle.fc_determined.specs.Smooth.{IsSmooth, TellTheSame}
+use Rattle.fc_determined.specs.Smooth.{IsSmooth, TellTheSame, without_faults}
 use Rattle.fc_legal.specs.Steps.{CommandLeft, left_by, after_settling, decided_on}
 use Rattle.fc_legal.specs.Steps.CommandLeft.{decided, unsettled, settled_alone}
 use Rattle.fc_legal.specs.Whole.{Whole, lanes}
@@ -15,6 +15,16 @@ use Rattle.fc_legal.specs.Whole.{Whole, lanes}
 -- What is told, where the disks of each lane ever had other faults.
 abbrev pub with_faults : Whole → List ℕ → Whole
 with_faults w faults = record w { faults = faults }
+
+-- Wholes that are equal to one and to the same with other faults, of as many lanes.
+pub told_alike :
+    (w : Whole) (faults : List ℕ) (last other : Whole) →
+    lanes (with_faults w faults) ≡ lanes w →
+    last ≡ w →
+    other ≡ with_faults w faults →
+    TellTheSame last other
+told_alike w faults last other same e f =
+    ap without_faults f ∙ ap (λ n. record w { faults = replicate n 0 }) same ∙ sym (ap without_faults e)
 
 -- A command that wanted no memory was decided, by the loop that it was told.
 record WasDecided (grain : GrainSize) (w : Whole) (command : Command) (r : Reply) (effects : List Effect) (left : Whole) : Type 0 where
@@ -40,22 +50,6 @@ pub record LeaveTheSame (r s : Reply) (effects others : List Effect) (left other
   pub effects_are : others ≡ effects
   pub told : TellTheSame left other
 
-left_same :
-    (grain : GrainSize) (w : Whole) (faults : List ℕ) (command : Command) (loop : Option (List VolId)) (left other : Whole) →
-    lanes (with_faults w faults) ≡ lanes w →
-    left ≡ left_by grain (after_settling grain w) (decided_on grain (after_settling grain w) command loop) →
-    other ≡ left_by grain (after_settling grain (with_faults w faults)) (decided_on grain (after_settling grain w) command loop) →
-    TellTheSame left other
-left_same grain w faults command loop left other same e f =
-    record {
-      books = ap (λ (x : Whole). x.books) f ∙ sym (ap (λ (x : Whole). x.books) e);
-      picture = ap (λ (x : Whole). x.picture) f ∙ sym (ap (λ (x : Whole). x.picture) e);
-      rows = ap (λ (x : Whole). x.rows) f ∙ sym (ap (λ (x : Whole). x.rows) e);
-      calls = ap (λ (x : Whole). x.calls) f ∙ sym (ap (λ (x : Whole). x.calls) e);
-      entries = ap (λ (x : Whole). x.entries) f ∙ sym (ap (λ (x : Whole). x.entries) e);
-      lanes_are = ap lanes f ∙ same ∙ sym (ap lanes e);
-    }
-
 both_decided :
     (grain : GrainSize) (w : Whole) (faults : List ℕ) (command : Command) (r s : Reply) (effects others : List Effect) (left other : Whole) →
     lanes (with_faults w faults) ≡ lanes w →
@@ -74,7 +68,7 @@ both_decided grain w faults command r s effects others left other same h k =
           ∙ ap (λ loop. (settle w.books).effects ++ (decided_on grain (after_settling grain w) command loop).effects) loop
           ∙ sym h.effects_are;
       told =
-          left_same grain w faults command h.loop left other same h.left_is
+          told_alike (left_by grain (after_settling grain w) (decided_on grain (after_settling grain w) command h.loop)) faults left other same h.left_is
           (k.left_is
           ∙ ap (λ loop. left_by grain (after_settling grain (with_faults w faults)) (decided_on grain (after_settling grain w) command loop)) loop);
     }

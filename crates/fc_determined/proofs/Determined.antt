@@ -1,14 +1,16 @@
 -- The text, and all together.
-use Rattle.std.proofs.Common.{◌≡◌, ℕ, List, [], ◌∷◌, ◌++◌, refl, sym, ap, ◌∙◌, flat_map}
-use Rattle.fc_determined.proofs.EarlyRuns.{early_front, both_early_front, full_one}
-use Rattle.fc_determined.proofs.Lines.{run_one}
-use Rattle.fc_determined.proofs.Histories.{same_told}
-use Rattle.fc_determined.specs.Law.{DeterminedLaw}
-use Rattle.fc_determined.specs.Smooth.{told_by}
+use Rattle.std.proofs.Common.{◌≡◌, ℕ, List, [], ◌∷◌, ◌++◌, length, refl, sym, ap, subst, ◌∙◌, flat_map, arith}
+use Rattle.fc_base.specs.declared.size.GrainSize.{GrainSize}
+use Rattle.fc_determined.proofs.Ways.{is_front, one_goes_on, one_outcome, over_none, short_none}
+use Rattle.fc_determined.specs.Law.{DeterminedLaw, IsOneOutcome}
+use Rattle.fc_determined.specs.Smooth.{AreSmooth, TellTheSame, told_by}
 use Rattle.fc_entry.specs.HistoryState.{HistoryState}
 use Rattle.fc_entry.specs.Text.{entry_text, history_text}
 use Rattle.fc_entry.specs.declared.entry.Entry.{Entry}
-use Rattle.fc_legal.specs.Whole.{opened}
+use Rattle.fc_legal.proofs.Appending.{IsPartialRun-more}
+use Rattle.fc_legal.specs.Agenda.{Lines, Reading}
+use Rattle.fc_legal.specs.Run.{IsPartialRun}
+use Rattle.fc_legal.specs.Whole.{Whole}
 
 -- ---- the text
 
@@ -33,12 +35,45 @@ text_one history other actors entries =
 pub determined_law_holds : DeterminedLaw
 determined_law_holds =
     record {
-      runs = λ grain read w v lines xs ys last other same both.
-          run_one grain read w v last other lines xs ys same both.run both.run_other both.smooth both.smooth_other;
-      sessions = λ grain read pools lines xs ys last other both.
-          run_one grain read (opened pools) (opened pools) last other lines xs ys (same_told (opened pools)) both.run both.run_other both.smooth both.smooth_other;
-      early = early_front;
-      both_early = both_early_front;
-      full = full_one;
+      whole = λ grain read a w v last other xs ys same smooth smooth_other h k.
+          one_outcome grain read h.end k.end last other xs ys
+          (over_none grain read h.end k.end last other xs ys h.over)
+          (over_none grain read k.end h.end other last ys xs k.over)
+          (one_goes_on grain read a h.end k.end w v last other xs ys same smooth smooth_other h.goes k.goes);
+      as_many = λ grain read a w v last other xs ys same smooth smooth_other h k long.
+          one_outcome grain read h.end k.end last other xs ys
+          (short_none grain read h.end k.end last other xs ys (omega (arith, long)))
+          (short_none grain read k.end h.end other last ys xs (omega (arith, long)))
+          (one_goes_on grain read a h.end k.end w v last other xs ys same smooth smooth_other h.goes k.goes);
+      early = λ grain read a w v last other xs ys same smooth smooth_other h k.
+          is_front grain read h.end k.end last other xs ys
+          (over_none grain read k.end h.end other last ys xs k.over)
+          (one_goes_on grain read a h.end k.end w v last other xs ys same smooth smooth_other h.goes k.goes);
+      both_early = λ grain read a w v last other xs ys same smooth smooth_other h k long.
+          is_front grain read h.end k.end last other xs ys
+          (short_none grain read k.end h.end other last ys xs long)
+          (one_goes_on grain read a h.end k.end w v last other xs ys same smooth smooth_other h.goes k.goes);
       text = text_one;
     }
+
+-- ---- the first of some lines
+
+-- Two histories that answer some first ones of the same lines, with as many entries, have one outcome.
+pub first_lines_one :
+    (grain : GrainSize) (read : Reading) (w v last other : Whole) (lines first rest first' rest' : List (List ℕ)) (xs ys : List Entry) →
+    lines ≡ first ++ rest →
+    lines ≡ first' ++ rest' →
+    TellTheSame w v →
+    AreSmooth xs →
+    AreSmooth ys →
+    IsPartialRun grain read w first xs last →
+    IsPartialRun grain read v first' ys other →
+    length xs ≡ length ys →
+    IsOneOutcome xs ys last other
+first_lines_one grain read w v last other lines first rest first' rest' xs ys e f same smooth smooth_other h k long =
+    let P : List (List ℕ) → Type 0 = λ ls. IsPartialRun grain read w ls xs last in
+    let Q : List (List ℕ) → Type 0 = λ ls. IsPartialRun grain read v ls ys other in
+    determined_law_holds.as_many grain read (Lines lines) w v last other xs ys same smooth smooth_other
+    (subst P (sym e) (IsPartialRun-more grain read w last first rest xs h))
+    (subst Q (sym f) (IsPartialRun-more grain read v other first' rest' ys k))
+    long

@@ -1,25 +1,27 @@
 -- One entry, and what is told after it, are determined by what was told before it and by what was asked, where nothing failed.
-use Rattle.std.proofs.Common.{◌≡◌, ℕ, ◌+◌, ◌%◌, Option, Some, None, List, slice_index_or, slice_set, refl, sym, ap, subst, ◌∙◌, length-set}
+use Rattle.std.proofs.Common.{◌≡◌, ℕ, ◌%◌, Option, Some, None, List, replicate, refl, sym, ap, subst, ◌∙◌, length-set}
+use Rattle.std.proofs.lemmas.List.{length-replicate}
 use Rattle.fc_base.specs.declared.command.Command.{Command}
 use Rattle.fc_base.specs.declared.command.Command.TheVariants.{Write as WriteLine, Read as ReadLine}
 use Rattle.fc_base.specs.declared.fault.Refusal.{Refusal}
 use Rattle.fc_base.specs.declared.fault.Refusal.TheVariants.{Words}
+use Rattle.fc_base.specs.declared.ids.GrainNo.{GrainNo}
+use Rattle.fc_base.specs.declared.ids.MapId.{MapId}
 use Rattle.fc_base.specs.declared.request.Place.TheVariants.{Lane}
 use Rattle.fc_base.specs.declared.request.Request.{Request}
 use Rattle.fc_base.specs.declared.request.Request.TheVariants.{Command as Asked, Unread, Read, Write, Copy, Clean, CopyTurn, CleanTurn}
 use Rattle.fc_base.specs.declared.size.GrainSize.{GrainSize}
 use Rattle.fc_books.specs.Refused.{access_refused}
-use Rattle.fc_determined.proofs.Answers.{DidTheSame, HasOneAnswer, read_did, write_did, copy_did, clean_did}
-use Rattle.fc_determined.proofs.Commands.{with_faults, LeaveTheSame, command_one}
-use Rattle.fc_determined.specs.Smooth.{IsSmooth, TellTheSame, but_for_faults}
+use Rattle.fc_determined.proofs.Answers.{DidTheSame, HasOneAnswer, read_did, write_did, copy_did, clean_did, turn_did}
+use Rattle.fc_determined.proofs.Commands.{with_faults, told_alike, LeaveTheSame, command_one}
+use Rattle.fc_determined.specs.Smooth.{IsSmooth, TellTheSame, but_for_faults, without_faults}
 use Rattle.fc_entry.specs.Picture.{grain_of_block}
-use Rattle.fc_entry.specs.PlainStep.{plain_step}
 use Rattle.fc_entry.specs.declared.entry.Entry.{Entry}
-use Rattle.fc_follow.specs.Following.{rows_entry}
-use Rattle.fc_legal.specs.Steps.{Step, RequestStep, AccessStep, CommandStep, CommandIsRight, IsRefused, AccessIsRefused, IsApart, one_more, after_access}
-use Rattle.fc_legal.specs.Whole.{Whole, lanes, lane_of_grain, all_grains, as_one}
-use Rattle.fc_rules.specs.LaneRight.{LaneAnswers, done_write}
-use Rattle.fc_rules.specs.LaneTold.{sheet_entry}
+use Rattle.fc_legal.specs.Steps.{Step, RequestStep, LaneStep, AccessStep, TurnStep, CommandStep, CommandIsRight, IsRefused, AccessIsRefused, IsApart, one_more, after_access}
+use Rattle.fc_legal.specs.Whole.{Whole, lanes, lane_of_grain, lane_at, part_at, part_of_sheet, all_grains, as_one}
+use Rattle.fc_rules.specs.LaneRight.{CleanAnswers, CopyAnswers, LaneAnswers, TurnAnswers}
+use Rattle.fc_rules.specs.LaneTold.{LaneOf}
+use Rattle.fc_rules.specs.LaneTurn.{next_clean, next_copy}
 
 -- Two entries tell the same, and so do the wholes after them.
 pub record AreOneStep (x y : Entry) (next other : Whole) : Type 0 where
@@ -33,16 +35,7 @@ pub record AskTheSame (x y : Entry) : Type 0 where
   pub request : y.request ≡ x.request
 
 same_entry : (x y : Entry) → AskTheSame x y → y.place ≡ x.place → DidTheSame x y → y.effects ≡ x.effects → but_for_faults y ≡ but_for_faults x
-same_entry x y asked place did effects =
-    ap (λ n. record (but_for_faults y) { number = n }) asked.number
-    ∙ ap (λ a. record (but_for_faults y) { number = x.number; actor = a }) asked.actor
-    ∙ ap (λ p. record (but_for_faults y) { number = x.number; actor = x.actor; place = p }) place
-    ∙ ap (λ q. record (but_for_faults y) { number = x.number; actor = x.actor; place = x.place; request = q }) asked.request
-    ∙ ap (λ r. record (but_for_faults y) { number = x.number; actor = x.actor; place = x.place; request = x.request; reply = r }) did.reply
-    ∙ ap (λ m. record (but_for_faults x) { moves = m; effects = y.effects; torn = y.torn; calls = y.calls }) did.moves
-    ∙ ap (λ e. record (but_for_faults x) { effects = e; torn = y.torn; calls = y.calls }) effects
-    ∙ ap (λ t. record (but_for_faults x) { torn = t; calls = y.calls }) did.torn
-    ∙ ap (λ c. record (but_for_faults x) { calls = c }) did.calls
+same_entry x y asked place did effects = cc (asked.number, asked.actor, asked.request, place, did.reply, did.moves, did.torn, did.calls, effects)
 
 -- ---- entries that no lane makes
 
@@ -54,23 +47,6 @@ both_apart x y reply h k =
       torn = k.untorn ∙ sym h.untorn;
       calls = k.no_calls ∙ sym h.no_calls;
     }
-
-one_more_same :
-    (w v next other : Whole) → TellTheSame w v → next ≡ one_more w → other ≡ one_more v → TellTheSame next other
-one_more_same w v next other same e f =
-    record {
-      books = ap (λ (x : Whole). x.books) f ∙ same.books ∙ sym (ap (λ (x : Whole). x.books) e);
-      picture = ap (λ (x : Whole). x.picture) f ∙ same.picture ∙ sym (ap (λ (x : Whole). x.picture) e);
-      rows = ap (λ (x : Whole). x.rows) f ∙ same.rows ∙ sym (ap (λ (x : Whole). x.rows) e);
-      calls = ap (λ (x : Whole). x.calls) f ∙ same.calls ∙ sym (ap (λ (x : Whole). x.calls) e);
-      entries =
-          ap (λ (x : Whole). x.entries) f ∙ ap (λ n. n + 1) same.entries ∙ sym (ap (λ (x : Whole). x.entries) e);
-      lanes_are = ap lanes f ∙ same.lanes_are ∙ sym (ap lanes e);
-    }
-
-faults_alone : (w : Whole) (faults : List ℕ) → lanes (with_faults w faults) ≡ lanes w → TellTheSame w (with_faults w faults)
-faults_alone w faults same =
-    record { books = refl; picture = refl; rows = refl; calls = refl; entries = refl; lanes_are = same }
 
 module _ (grain : GrainSize) (w : Whole) (faults : List ℕ) (same : lanes (with_faults w faults) ≡ lanes w) (x y : Entry) (next other : Whole) (asked : AskTheSame x y) where
   refused_one :
@@ -84,7 +60,7 @@ module _ (grain : GrainSize) (w : Whole) (faults : List ℕ) (same : lanes (with
             same_entry x y asked (k.place ∙ sym h.place)
             (both_apart x y (k.reply ∙ sym h.reply) h.apart k.apart)
             (k.no_effects ∙ sym h.no_effects);
-        told = one_more_same w (with_faults w faults) next other (faults_alone w faults same) h.next_is k.next_is;
+        told = told_alike (one_more w) faults next other same h.next_is k.next_is;
       }
 
   access_refused_one :
@@ -107,7 +83,7 @@ module _ (grain : GrainSize) (w : Whole) (faults : List ℕ) (same : lanes (with
         record {
           same =
               same_entry x y asked (k.place ∙ sym h.place) (both_apart x y leave.reply h.apart k.apart) leave.effects_are;
-          told = one_more_same h.left k.left next other leave.told h.next_is k.next_is;
+          told = ap without_faults k.next_is ∙ ap one_more leave.told ∙ sym (ap without_faults h.next_is);
         }
 
     command_step_one :
@@ -129,47 +105,52 @@ module _ (grain : GrainSize) (w : Whole) (faults : List ℕ) (same : lanes (with
         other ≡ after_access grain (with_faults w faults) j y →
         TellTheSame next other
     after_same i j place entry e f =
-        record {
-          books =
-              ap (λ (v : Whole). v.books) f
-              ∙ ap (λ (z : Entry). record w.books { sheet = sheet_entry (all_grains grain) w.books.sheet (done_write z.request z.reply) z.moves z.torn }) entry
-              ∙ sym (ap (λ (v : Whole). v.books) e);
-          picture =
-              ap (λ (v : Whole). v.picture) f
-              ∙ ap (λ (z : Entry). plain_step grain w.picture z) entry
-              ∙ sym (ap (λ (v : Whole). v.picture) e);
-          rows =
-              ap (λ (v : Whole). v.rows) f
-              ∙ ap (λ (z : Entry). rows_entry (all_grains grain) w.rows z) entry
-              ∙ sym (ap (λ (v : Whole). v.rows) e);
-          calls =
-              ap (λ (v : Whole). v.calls) f
-              ∙ ap (λ at. slice_set w.calls at (slice_index_or w.calls at 0 + y.calls)) place
-              ∙ ap (λ (z : Entry). slice_set w.calls i (slice_index_or w.calls i 0 + z.calls)) entry
-              ∙ sym (ap (λ (v : Whole). v.calls) e);
-          entries = ap (λ (v : Whole). v.entries) f ∙ sym (ap (λ (v : Whole). v.entries) e);
-          lanes_are =
-              ap lanes f
-              ∙ length-set faults j y.faults_after
-              ∙ same
-              ∙ sym (length-set w.faults i x.faults_after)
-              ∙ sym (ap lanes e);
-        }
+        let after : ℕ → ℕ → Entry → Whole = λ n at z. record (after_access grain w at z) { faults = replicate n 0 } in
+        let count : lanes (after_access grain (with_faults w faults) j y) ≡ lanes (after_access grain w i x) =
+        length-set faults j y.faults_after ∙ same ∙ sym (length-set w.faults i x.faults_after) in
+        ap without_faults f
+        ∙ ap (λ n. after n j y) count
+        ∙ ap (λ at. after (lanes (after_access grain w i x)) at y) place
+        ∙ ap (after (lanes (after_access grain w i x)) i) entry
+        ∙ sym (ap without_faults e)
 
-    access_one :
-        (number : ℕ) →
-        AccessStep grain w number x next →
-        AccessStep grain (with_faults w faults) number y other →
+    lane_one :
+        (i j : ℕ) (Answers Others : Entry → Type 0) →
+        j ≡ i →
+        LaneStep grain w i Answers x next →
+        LaneStep grain (with_faults w faults) j Others y other →
         DidTheSame x y →
         AreOneStep x y next other
-    access_one number h k did =
-        let lane : lane_of_grain (with_faults w faults) number ≡ lane_of_grain w number = ap (λ n. number % n) same in
+    lane_one i j Answers Others lane h k did =
         let entry : but_for_faults y ≡ but_for_faults x =
         same_entry x y asked (k.place ∙ ap (λ n. Lane n) lane ∙ sym h.place) did (k.no_effects ∙ sym h.no_effects) in
-        record {
-          same = entry;
-          told = after_same (lane_of_grain w number) (lane_of_grain (with_faults w faults) number) lane entry h.next_is k.next_is;
-        }
+        record { same = entry; told = after_same i j lane entry h.next_is k.next_is }
+
+    turn_one :
+        (lane : ℕ) (Answers : MapId → GrainNo → Entry → Type 0) (work others : Option (MapId × GrainNo)) →
+        others ≡ work →
+        ((m : MapId) (g : GrainNo) → Answers m g x → Answers m g y → DidTheSame x y) →
+        TurnStep grain w lane Answers work x next →
+        TurnStep grain (with_faults w faults) lane Answers others y other →
+        AreOneStep x y next other
+    turn_one lane Answers work others works one h k =
+        let P : Option (MapId × GrainNo) → Type 0 = λ found. TurnAnswers Answers found y in
+        lane_one lane lane (TurnAnswers Answers work) (TurnAnswers Answers others) refl h.step k.step
+        (turn_did Answers work x y one h.step.answers (subst P works k.step.answers))
+
+    -- what a worker does next is decided by how many lanes there are, not by their faults
+    lanes_of : ℕ → ℕ → LaneOf
+    lanes_of lane n = record { lane = lane; lanes = n; grain = grain }
+
+    next_copy_one : (lane : ℕ) → next_copy (lane_at grain (with_faults w faults) lane) (part_at grain (with_faults w faults) lane) ≡ next_copy (lane_at grain w lane) (part_at grain w lane)
+    unfolding part_at lanes_of
+    next_copy_one lane =
+        ap (λ n. next_copy (lanes_of lane n) (record (as_one w) { sheet = part_of_sheet (lanes_of lane n) w.books.sheet })) same
+
+    next_clean_one : (lane : ℕ) → next_clean (lane_at grain (with_faults w faults) lane) (part_at grain (with_faults w faults) lane) ≡ next_clean (lane_at grain w lane) (part_at grain w lane)
+    unfolding part_at lanes_of
+    next_clean_one lane =
+        ap (λ n. next_clean (lanes_of lane n) (record (as_one w) { sheet = part_of_sheet (lanes_of lane n) w.books.sheet })) same
 
     -- ---- all
 
@@ -187,7 +168,8 @@ module _ (grain : GrainSize) (w : Whole) (faults : List ℕ) (same : lanes (with
         AccessStep grain (with_faults w faults) number y other →
         AreOneStep x y next other
     answered_one number request e f one h k =
-        access_one number h k (one x y (at_request x request e h.answers) (at_request y request f k.answers) smooth smooth_other)
+        lane_one (lane_of_grain w number) (lane_of_grain (with_faults w faults) number) _ _ (ap (λ n. number % n) same) h k
+        (one x y (at_request x request e h.answers) (at_request y request f k.answers) smooth smooth_other)
 
     request_one :
         (request : Request) →
@@ -198,12 +180,18 @@ module _ (grain : GrainSize) (w : Whole) (faults : List ℕ) (same : lanes (with
         AreOneStep x y next other
     request_one (Asked command) e f h k = command_step_one command h k
     request_one (Unread fault) e f h k = refused_one (Words fault) h k
-    request_one (Read part) e f h k = answered_one (grain_of_block grain part.block) (Read part) e f (read_did (all_grains grain) (as_one w) part) h k
-    request_one (Write part) e f h k = answered_one (grain_of_block grain part.block) (Write part) e f (write_did (all_grains grain) (as_one w) part) h k
+    request_one (Read part) e f h k = answered_one (grain_of_block grain part.block) (Read part) e f (read_did (all_grains grain) (as_one w) part) h.1 k.1
+    request_one (Write part) e f h k = answered_one (grain_of_block grain part.block) (Write part) e f (write_did (all_grains grain) (as_one w) part) h.1 k.1
     request_one (Copy m g) e f h k = answered_one g.0 (Copy m g) e f (copy_did (all_grains grain) (as_one w) m g) h k
     request_one (Clean m g) e f h k = answered_one g.0 (Clean m g) e f (clean_did (all_grains grain) (as_one w) m g) h k
-    request_one (CopyTurn lane) e f h k = absurd h
-    request_one (CleanTurn lane) e f h k = absurd h
+    request_one (CopyTurn lane) e f h k =
+        turn_one lane (CopyAnswers (all_grains grain) (as_one w)) (next_copy (lane_at grain w lane) (part_at grain w lane))
+        (next_copy (lane_at grain (with_faults w faults) lane) (part_at grain (with_faults w faults) lane)) (next_copy_one lane)
+        (λ m g p q. copy_did (all_grains grain) (as_one w) m g x y p q smooth smooth_other) h k
+    request_one (CleanTurn lane) e f h k =
+        turn_one lane (CleanAnswers (all_grains grain) (as_one w)) (next_clean (lane_at grain w lane) (part_at grain w lane))
+        (next_clean (lane_at grain (with_faults w faults) lane) (part_at grain (with_faults w faults) lane)) (next_clean_one lane)
+        (λ m g p q. clean_did (all_grains grain) (as_one w) m g x y p q smooth smooth_other) h k
 
 -- where only the faults may differ
 faults_one :
@@ -221,13 +209,11 @@ faults_one grain w faults x y next other same actor request h k smooth smooth_ot
     request_one grain w faults same x y next other (record { number = k.number ∙ sym h.number; actor = actor; request = request }) smooth smooth_other
     x.request refl request h.right (subst P request k.right)
 
-same_is : (w v : Whole) → TellTheSame w v → v ≡ with_faults w v.faults
-same_is w v same =
-    ap (λ b. record v { books = b }) same.books
-    ∙ ap (λ p. record v { books = w.books; picture = p }) same.picture
-    ∙ ap (λ rs. record v { books = w.books; picture = w.picture; rows = rs }) same.rows
-    ∙ ap (λ cs. record v { books = w.books; picture = w.picture; rows = w.rows; calls = cs }) same.calls
-    ∙ ap (λ n. record v { books = w.books; picture = w.picture; rows = w.rows; calls = w.calls; entries = n }) same.entries
+pub same_is : (w v : Whole) → TellTheSame w v → v ≡ with_faults w v.faults
+same_is w v same = ap (λ (u : Whole). with_faults u v.faults) same
+
+same_lanes : (w v : Whole) → TellTheSame w v → lanes v ≡ lanes w
+same_lanes w v same = sym (length-replicate (lanes v) 0) ∙ ap lanes same ∙ length-replicate (lanes w) 0
 
 -- An entry after what tells the same.
 pub step_one_outcome :
@@ -242,4 +228,4 @@ pub step_one_outcome :
     AreOneStep x y next other
 step_one_outcome grain w v x y next other same actor request h k smooth smooth_other =
     let P : Whole → Type 0 = λ u. Step grain u y other in
-    faults_one grain w v.faults x y next other same.lanes_are actor request h (subst P (same_is w v same) k) smooth smooth_other
+    faults_one grain w v.faults x y next other (same_lanes w v same) actor request h (subst P (same_is w v same) k) smooth smooth_other

@@ -1,5 +1,5 @@
 -- When nothing failed in a history, and what it tells but for the faults of disks.
-use Rattle.std.specs.Prelude.{◌≡◌, All, List, map}
+use Rattle.std.specs.Prelude.{◌≡◌, All, List, map, replicate}
 use Rattle.fc_base.specs.declared.request.Reply.{Reply}
 use Rattle.fc_base.specs.declared.request.Reply.TheVariants.{DiskFault, NoMemory}
 use Rattle.fc_entry.specs.declared.entry.Entry.{Entry}
@@ -22,11 +22,9 @@ but_for_faults entry = record entry { faults_before = 0; faults_after = 0 }
 abbrev pub told_by : List Entry → List Entry
 told_by entries = map but_for_faults entries
 
--- Two histories tell the same, but for the faults of each lane's disks.
-pub record TellTheSame (w v : Whole) : Type 0 where
-  pub books : v.books ≡ w.books
-  pub picture : v.picture ≡ w.picture
-  pub rows : v.rows ≡ w.rows
-  pub calls : v.calls ≡ w.calls
-  pub entries : v.entries ≡ w.entries
-  pub lanes_are : lanes v ≡ lanes w
+-- All that a history tells, but for the faults of each lane's disks.
+abbrev pub without_faults : Whole → Whole
+without_faults w = record w { faults = replicate (lanes w) 0 }
+
+abbrev pub TellTheSame : Whole → Whole → Type 0
+TellTheSame w v = without_faults v ≡ without_faults w

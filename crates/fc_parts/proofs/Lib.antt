@@ -11,6 +11,7 @@ pub mod Noting
 pub mod Told
 pub mod Decisions
 pub mod Outcomes
+pub mod Turns
 pub mod Spots
 pub mod Accesses
 pub mod Staying
@@ -18,4 +19,5 @@ pub mod RowsStaying
 pub mod Outside
 pub mod Soundness
 pub mod Standing
+pub mod Marked
 pub mod Lawful

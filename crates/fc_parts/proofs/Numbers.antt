@@ -1,5 +1,4 @@
 -- The grains of a lane, by their places there and by their numbers, and the part of a list by grains.
-use mathlib.Core.Path.{fun_ext}
 use Rattle.std.proofs.Common.{◌≡◌, ◌≢◌, ℕ, ◌+◌, ◌-◌, ◌*◌, ◌/◌, ◌%◌, ◌<◌, ◌≤◌, List, length, get_or, set, replicate, sym, ap, ◌∙◌, arith, inl, inr, div-one}
 use Rattle.std.proofs.lemmas.Bool.{cases_lt, cases_eq}
 use Rattle.std.proofs.lemmas.List.{get_or_default, get_or_past, same_lists, length-replicate, get_or-replicate, length-set, get_or-set_same, get_or-set_other}
@@ -72,9 +71,6 @@ none_in l i =
 
 pub all_place : (grain : GrainSize) (number : ℕ) → place_of (all_grains grain) number ≡ number
 all_place grain number = div-one number
-
-pub all_in : (grain : GrainSize) → grains_in (all_grains grain) ≡ (λ g. g)
-all_in grain = fun_ext (λ g. (let e : g + 1 - 1 - 0 ≡ g = omega arith in ap (λ z. z / 1) e) ∙ div-one g)
 
 -- ---- the part of a list
 

@@ -10,11 +10,12 @@ use Rattle.fc_base.specs.declared.request.Pair.{Pair}
 use Rattle.fc_base.specs.declared.size.GrainSize.{GrainSize}
 use Rattle.fc_entry.specs.Picture.{Content, Lost, PlainVolume, Picture, zeros, volume_in, changed_at}
 use Rattle.fc_entry.specs.PlainStep.{source_in, now_in, after_trigger}
+use Rattle.fc_legal.proofs.Events.{all_in}
 use Rattle.fc_legal.specs.Whole.{part, part_of_volume, part_of_picture, all_grains}
 use Rattle.fc_moves.proofs.Search.{cases_option}
 use Rattle.fc_pictures.proofs.Volumes.{length_cut}
 use Rattle.fc_rules.specs.LaneTold.{LaneOf, number_at, grains_in, cut_by, cut_volume, cut_at, leaves, picture_event}
-use Rattle.fc_parts.proofs.Numbers.{IsLane, number_below, all_in, part_length, part_at, is_part, part_replicate}
+use Rattle.fc_parts.proofs.Numbers.{IsLane, number_below, part_length, part_at, is_part, part_replicate}
 use Rattle.fc_parts.proofs.Views.{parts, part_nil, slot_parts, mapping_parts}
 
 -- ---- volumes by their ids

@@ -6,6 +6,8 @@ use Rattle.fc_base.specs.Moves.{is_in_place, fill_moves, write_moves, after_move
 use Rattle.fc_base.specs.Sheet.{Slot, Sheet, slot_at, column, live_place}
 use Rattle.fc_base.specs.SheetFacts.{IsSound}
 use Rattle.fc_base.specs.SheetStep.{sheet_written, sheet_torn}
+use Rattle.fc_base.specs.declared.ids.GrainNo.{GrainNo}
+use Rattle.fc_base.specs.declared.ids.MapId.{MapId}
 use Rattle.fc_base.specs.declared.request.Move.{Move}
 use Rattle.fc_base.specs.declared.request.Reply.{Reply}
 use Rattle.fc_base.specs.declared.request.Reply.TheVariants.{Done}
@@ -26,7 +28,7 @@ use Rattle.fc_pictures.proofs.Agreeing.{lane_law_holds}
 use Rattle.fc_pictures.proofs.Fitting.{move_fits, write_fits}
 use Rattle.fc_pictures.proofs.Running.{steps_law_holds}
 use Rattle.fc_rules.specs.GrainAnswers.{ByAccess}
-use Rattle.fc_rules.specs.LaneRight.{VolumeWrite, MappingFill, LaneAnswers, done_write}
+use Rattle.fc_rules.specs.LaneRight.{VolumeWrite, MappingFill, CopyAnswers, CleanAnswers, TurnAnswers, LaneAnswers, done_write}
 use Rattle.fc_rules.specs.LaneTold.{LaneOf, LaneTold, place_of, access_in, sheet_move, sheet_write, sheet_tear, sheet_entry}
 use Rattle.fc_rules.specs.LaneTurn.{spot_at, copied_slot, cleaned_slot}
 use Rattle.fc_rules.specs.Spot.{Spot, move_in}
@@ -35,6 +37,7 @@ use Rattle.fc_sheets.proofs.Finding.{live_place_at}
 use Rattle.fc_sheets.proofs.Holding.{written_sound, torn_sound}
 use Rattle.fc_parts.specs.Law.{IsAt}
 use Rattle.fc_parts.proofs.Outcomes.{Outcome, Outcome.nothing, Outcome.stopped, Outcome.torn_move, Outcome.all_made, Outcome.torn_own, Outcome.is_written, fill_outcome, write_outcome, read_nothing}
+use Rattle.fc_parts.proofs.Turns.{turn_case}
 use Rattle.fc_parts.proofs.Outside.{moved_past, written_past, torn_past, IsOut, out_ends, AllOut, write_out, out_before}
 
 -- ---- by what an entry did
@@ -216,6 +219,26 @@ not_done : (part : WritePart) (reply : Reply) → (reply ≡ Done → ⊥) → d
 not_done part Done n = absurd (n refl)
 not_done part reply n = refl
 
+copy_sound : (l : LaneOf) (told : LaneTold) (m : MapId) (g : GrainNo) (entry : Entry) → IsSound told.sheet → CopyAnswers l told m g entry → DoneSound l told.sheet None entry.moves entry.torn
+copy_sound l told m g entry sound a =
+    fill_sound l told m.0 g.0 (copied_slot told.sheet.slots m.0 (place_of l g.0)) entry sound (λ k e. lane_law_holds.copy_slot told.sheet.slots m.0 (place_of l g.0) k e) a
+
+clean_sound : (l : LaneOf) (told : LaneTold) (m : MapId) (g : GrainNo) (entry : Entry) → IsSound told.sheet → CleanAnswers l told m g entry → DoneSound l told.sheet None entry.moves entry.torn
+clean_sound l told m g entry sound a =
+    fill_sound l told m.0 g.0 (cleaned_slot told.sheet.slots m.0 (place_of l g.0)) entry sound (λ k e. lane_law_holds.clean_slot told.sheet.slots m.0 (place_of l g.0) k sound.sizes e) a
+
+-- A worker's turn fills a grain as such a copy or cleaning does, or does nothing.
+turn_sound : (l : LaneOf) (told : LaneTold) (Answers : MapId → GrainNo → Entry → Type 0) (work : Option (MapId × GrainNo)) (entry : Entry) → IsSound told.sheet →
+    ((m : MapId) (g : GrainNo) → Answers m g entry → DoneSound l told.sheet None entry.moves entry.torn) → TurnAnswers Answers work entry → DoneSound l told.sheet None entry.moves entry.torn
+turn_sound l told Answers work entry sound fills a =
+    turn_case Answers work entry _ (λ n. nothing_sound l told.sheet None entry sound refl n.moves n.untorn) (λ chosen e answers. fills chosen.0 chosen.1 answers) a
+
+pub copy_turn_sound : (l : LaneOf) (told : LaneTold) (work : Option (MapId × GrainNo)) (entry : Entry) → IsSound told.sheet → TurnAnswers (CopyAnswers l told) work entry → DoneSound l told.sheet None entry.moves entry.torn
+copy_turn_sound l told work entry sound a = turn_sound l told (CopyAnswers l told) work entry sound (λ m g answers. copy_sound l told m g entry sound answers) a
+
+pub clean_turn_sound : (l : LaneOf) (told : LaneTold) (work : Option (MapId × GrainNo)) (entry : Entry) → IsSound told.sheet → TurnAnswers (CleanAnswers l told) work entry → DoneSound l told.sheet None entry.moves entry.torn
+clean_turn_sound l told work entry sound a = turn_sound l told (CleanAnswers l told) work entry sound (λ m g answers. clean_sound l told m g entry sound answers) a
+
 pub entry_sound : (l : LaneOf) (told : LaneTold) (number : ℕ) (request : Request) (entry : Entry) → IsSound told.sheet → IsAt l.grain number request → LaneAnswers l told request entry →
     DoneSound l told.sheet (done_write request entry.reply) entry.moves entry.torn
 entry_sound l told number (Read part) entry sound at a =
@@ -226,8 +249,6 @@ entry_sound l told number (Write part) entry sound at a =
     access_sound l told.sheet (done_write (Write part) entry.reply) (access_in told.volumes part.volume) entry _ sound
     (write_sound l told part (live_place told.sheet.slots part.volume.0) entry sound refl)
     (not_done part entry.reply) a
-entry_sound l told number (Copy m g) entry sound at a =
-    fill_sound l told m.0 g.0 (copied_slot told.sheet.slots m.0 (place_of l g.0)) entry sound (λ k e. lane_law_holds.copy_slot told.sheet.slots m.0 (place_of l g.0) k e) a
-entry_sound l told number (Clean m g) entry sound at a =
-    fill_sound l told m.0 g.0 (cleaned_slot told.sheet.slots m.0 (place_of l g.0)) entry sound (λ k e. lane_law_holds.clean_slot told.sheet.slots m.0 (place_of l g.0) k sound.sizes e) a
+entry_sound l told number (Copy m g) entry sound at a = copy_sound l told m g entry sound a
+entry_sound l told number (Clean m g) entry sound at a = clean_sound l told m g entry sound a
 entry_sound l told number request entry sound at a = absurd at

@@ -3,6 +3,8 @@ use mathlib.Core.Path.{fun_ext}
 use Rattle.std.proofs.Common.{◌≡◌, ℕ, true, false, cond, Option, Some, None, List, get_or, option_map, refl, sym, ap, subst, ◌∙◌}
 use Rattle.fc_base.specs.Column.{Column, needer}
 use Rattle.fc_base.specs.Sheet.{Slot, Sheet, slot_at, column, live_place, mapping_place}
+use Rattle.fc_base.specs.declared.ids.GrainNo.{GrainNo}
+use Rattle.fc_base.specs.declared.ids.MapId.{MapId}
 use Rattle.fc_base.specs.declared.ids.VolId.{VolId}
 use Rattle.fc_base.specs.declared.request.Request.{Request}
 use Rattle.fc_base.specs.declared.request.Request.TheVariants.{Read, Write, Copy, Clean}
@@ -13,7 +15,7 @@ use Rattle.fc_entry.specs.Picture.{Lost, PlainVolume, Picture, volume_in, now_at
 use Rattle.fc_entry.specs.declared.entry.Entry.{Entry}
 use Rattle.fc_legal.specs.Whole.{part, part_of_volume, part_of_picture, all_grains}
 use Rattle.fc_rules.specs.GrainAnswers.{ByAccess, ReadAnswers, WriteAnswers, FillAnswers}
-use Rattle.fc_rules.specs.LaneRight.{VolumeWrite, MappingFill, LaneAnswers}
+use Rattle.fc_rules.specs.LaneRight.{VolumeWrite, MappingFill, CopyAnswers, CleanAnswers, LaneAnswers}
 use Rattle.fc_rules.specs.LaneTold.{LaneOf, LaneVolume, LaneTold, place_of, access_in, is_thin_in}
 use Rattle.fc_rules.specs.LaneTurn.{spot_at, lacks_at, copied_slot, needer_at, cleaned_slot}
 use Rattle.fc_rules.specs.Spot.{Spot}
@@ -94,6 +96,18 @@ write_answers l i big small f part is_of o o' entry e a = subst (λ (z : Option 
     same None a = a
     same (Some t) a = subst (λ (z : Spot). WriteAnswers l.grain z part t entry entry.reply) (spot_same l i big small f (grain_of_block l.grain part.block) is_of) a
 
+pub copy_by_all : (l : LaneOf) → IsLane l → (big small : LaneTold) → Follows l big small → (m : MapId) (grain : GrainNo) (entry : Entry) → IsOf l grain.0 →
+    CopyAnswers l small m grain entry → CopyAnswers (all_grains l.grain) big m grain entry
+copy_by_all l i big small f m grain entry here a =
+    fill_answers l i big small f m.0 grain.0 here (copied_slot small.sheet.slots m.0 (place_of l grain.0)) (copied_slot big.sheet.slots m.0 (place_of (all_grains l.grain) grain.0)) entry
+    (ap (λ (s : Sheet). copied_slot s.slots m.0 (place_of l grain.0)) f.sheet ∙ copied_parts l i big.sheet.slots m.0 grain.0 here) a
+
+pub clean_by_all : (l : LaneOf) → IsLane l → (big small : LaneTold) → Follows l big small → (m : MapId) (grain : GrainNo) (entry : Entry) → IsOf l grain.0 →
+    CleanAnswers l small m grain entry → CleanAnswers (all_grains l.grain) big m grain entry
+clean_by_all l i big small f m grain entry here a =
+    fill_answers l i big small f m.0 grain.0 here (cleaned_slot small.sheet.slots m.0 (place_of l grain.0)) (cleaned_slot big.sheet.slots m.0 (place_of (all_grains l.grain) grain.0)) entry
+    (ap (λ (s : Sheet). cleaned_slot s.slots m.0 (place_of l grain.0)) f.sheet ∙ cleaned_parts l i big.sheet.slots m.0 grain.0 here) a
+
 pub answers_by_all : (l : LaneOf) → IsLane l → (big small : LaneTold) → Follows l big small → (number : ℕ) → IsOf l number → (request : Request) (entry : Entry) → IsAt l.grain number request →
     LaneAnswers l small request entry → LaneAnswers (all_grains l.grain) big request entry
 answers_by_all l i big small f number is_of (Read part) entry at a =
@@ -105,12 +119,6 @@ answers_by_all l i big small f number is_of (Write part) entry at a =
     (by_access (access_in small.volumes part.volume) entry _ _
     (write_answers l i big small f part (of_same l (grain_of_block l.grain part.block) number at is_of) (live_place small.sheet.slots part.volume.0) (live_place big.sheet.slots part.volume.0) entry
     (ap (λ (s : Sheet). live_place s.slots part.volume.0) f.sheet ∙ live_parts l i big.sheet.slots part.volume.0)) a)
-answers_by_all l i big small f number is_of (Copy m grain) entry at a =
-    let here : IsOf l grain.0 = of_same l grain.0 number at is_of in
-    fill_answers l i big small f m.0 grain.0 here (copied_slot small.sheet.slots m.0 (place_of l grain.0)) (copied_slot big.sheet.slots m.0 (place_of (all_grains l.grain) grain.0)) entry
-    (ap (λ (s : Sheet). copied_slot s.slots m.0 (place_of l grain.0)) f.sheet ∙ copied_parts l i big.sheet.slots m.0 grain.0 here) a
-answers_by_all l i big small f number is_of (Clean m grain) entry at a =
-    let here : IsOf l grain.0 = of_same l grain.0 number at is_of in
-    fill_answers l i big small f m.0 grain.0 here (cleaned_slot small.sheet.slots m.0 (place_of l grain.0)) (cleaned_slot big.sheet.slots m.0 (place_of (all_grains l.grain) grain.0)) entry
-    (ap (λ (s : Sheet). cleaned_slot s.slots m.0 (place_of l grain.0)) f.sheet ∙ cleaned_parts l i big.sheet.slots m.0 grain.0 here) a
+answers_by_all l i big small f number is_of (Copy m grain) entry at a = copy_by_all l i big small f m grain entry (of_same l grain.0 number at is_of) a
+answers_by_all l i big small f number is_of (Clean m grain) entry at a = clean_by_all l i big small f m grain entry (of_same l grain.0 number at is_of) a
 answers_by_all l i big small f number is_of request entry at a = absurd at

@@ -16,12 +16,13 @@ use Rattle.fc_books.specs.Books.{Books}
 use Rattle.fc_entry.specs.Picture.{Picture}
 use Rattle.fc_changed.specs.Row.{Row, is_of, row_names, restart_in}
 use Rattle.fc_follow.specs.Following.{Followed, rows_event, restarts, told_with, followed_event, IsOfPair, FitsRows, FitsFollowed}
+use Rattle.fc_legal.proofs.Events.{all_in}
 use Rattle.fc_legal.specs.Lawful.{HasDisks, HaveDisks, FitAsOne}
 use Rattle.fc_legal.specs.Whole.{Whole, part_of_sheet, part_of_picture, part_of_row, part_of_rows, all_grains, lane_at, part_at, pool_at, volumes_told}
 use Rattle.fc_pick.specs.declared.work.WorkFlags.{WorkFlags}
 use Rattle.fc_rules.specs.LaneFits.{HasDisk}
 use Rattle.fc_rules.specs.LaneTold.{LaneOf, LaneVolume, LaneTold, grains_in, picture_event, volumes_event, flags_event, pool_event, told_event}
-use Rattle.fc_parts.proofs.Numbers.{IsLane, all_in}
+use Rattle.fc_parts.proofs.Numbers.{IsLane}
 use Rattle.fc_parts.proofs.Events.{step_agrees}
 use Rattle.fc_parts.proofs.Beginning.{ArePartsOf, all_begun}
 use Rattle.fc_parts.proofs.Fitting.{fits_event}

@@ -1,0 +1,105 @@
+-- What an agenda asks next, and how it goes on, is determined by what is told, but for the faults of disks.
+use Rattle.std.proofs.Common.{◌≡◌, ℕ, Option, Some, None, List, [], ◌∷◌, refl, sym, ap, ◌∙◌}
+use Rattle.std.specs.Option.{option_map}
+use Rattle.fc_base.specs.declared.ids.GrainNo.{GrainNo}
+use Rattle.fc_base.specs.declared.request.Request.{Request}
+use Rattle.fc_base.specs.declared.size.GrainSize.{GrainSize}
+use Rattle.fc_determined.proofs.Commands.{with_faults}
+use Rattle.fc_determined.proofs.Entries.{same_is}
+use Rattle.fc_determined.specs.Smooth.{TellTheSame, but_for_faults}
+use Rattle.fc_entry.specs.declared.entry.Entry.{Entry}
+use Rattle.fc_legal.specs.Agenda.{Agenda, Reading, Lines, Own, Seconds, behind_entry, behind_fill, next_asked, next_of_second, without_entry, without_fill}
+use Rattle.fc_legal.specs.Seconds.{Passing, Work, fill_at_hand, fill_of, goes_on_with, next_fill, next_grain}
+use Rattle.fc_legal.specs.Whole.{Whole}
+
+module _ (grain : GrainSize) (read : Reading) where
+  -- ---- where the disks ever had other faults
+
+  module _ (w : Whole) (faults : List ℕ) where
+    fill_alike : (at_hand : Option Work) → fill_at_hand grain (with_faults w faults) at_hand ≡ fill_at_hand grain w at_hand
+    unfolding next_grain
+    fill_alike None = refl
+    fill_alike (Some work) = refl
+
+    goes_on_alike : (p : Passing) (at_hand : Option Work) → goes_on_with grain (with_faults w faults) p at_hand ≡ goes_on_with grain w p at_hand
+    unfolding next_grain
+    goes_on_alike p None = refl
+    goes_on_alike p (Some work) = refl
+
+    asked_alike : (a : Agenda) → next_asked grain a (with_faults w faults) ≡ next_asked grain a w
+    asked_alike (Lines ls) = refl
+    asked_alike (Own [] n ls) = refl
+    asked_alike (Own (request ∷ rest) n ls) = refl
+    asked_alike (Seconds p ls) = ap (option_map (λ (next : Work × GrainNo). (0, fill_of next.0 next.1))) (fill_alike p.at_hand)
+
+    no_fill_alike : (p : Passing) (fill : Option (Work × GrainNo)) (ls : List (List ℕ)) → without_fill grain (with_faults w faults) p fill ls ≡ without_fill grain w p fill ls
+    no_fill_alike p None ls = ap (λ next. Some (next_of_second next ls)) (goes_on_alike p p.at_hand)
+    no_fill_alike p (Some next) ls = refl
+
+    passes_alike : (a : Agenda) → without_entry grain read a (with_faults w faults) ≡ without_entry grain read a w
+    passes_alike (Lines []) = refl
+    passes_alike (Lines (line ∷ ls)) = refl
+    passes_alike (Own [] n ls) = refl
+    passes_alike (Own (request ∷ rest) n ls) = refl
+    passes_alike (Seconds p ls) =
+        ap (λ fill. without_fill grain (with_faults w faults) p fill ls) (fill_alike p.at_hand)
+        ∙ no_fill_alike p (next_fill grain w p) ls
+
+    behind_fill_alike : (p : Passing) (entry : Entry) (at_hand : Option Work) → behind_fill grain (with_faults w faults) p at_hand entry ≡ behind_fill grain w p at_hand entry
+    unfolding next_grain
+    behind_fill_alike p entry None = refl
+    behind_fill_alike p entry (Some work) = refl
+
+    behind_alike : (a : Agenda) (entry : Entry) → behind_entry grain a (with_faults w faults) entry ≡ behind_entry grain a w entry
+    behind_alike (Lines ls) entry = refl
+    behind_alike (Own [] n ls) entry = refl
+    behind_alike (Own (request ∷ []) n ls) entry = refl
+    behind_alike (Own (request ∷ next ∷ rest) n ls) entry = refl
+    behind_alike (Seconds p ls) entry = ap (λ (q : Passing). Seconds q ls) (behind_fill_alike p entry p.at_hand)
+
+  -- ---- what is behind an entry doesn't speak of the faults that it counts
+
+  fill_told : (w : Whole) (p : Passing) (entry : Entry) (at_hand : Option Work) → behind_fill grain w p at_hand (but_for_faults entry) ≡ behind_fill grain w p at_hand entry
+  fill_told w p entry None = refl
+  fill_told w p entry (Some work) = refl
+
+  behind_told : (a : Agenda) (w : Whole) (entry : Entry) → behind_entry grain a w (but_for_faults entry) ≡ behind_entry grain a w entry
+  behind_told (Lines ls) w entry = refl
+  behind_told (Own [] n ls) w entry = refl
+  behind_told (Own (request ∷ []) n ls) w entry = refl
+  behind_told (Own (request ∷ next ∷ rest) n ls) w entry = refl
+  behind_told (Seconds p ls) w entry = ap (λ (q : Passing). Seconds q ls) (fill_told w p entry p.at_hand)
+
+  -- ---- after what tells the same
+
+  module _ (w v : Whole) (same : TellTheSame w v) where
+    -- the same is asked next, the agenda goes on alike, and the same is behind an entry
+    pub asked_same : (a : Agenda) → next_asked grain a v ≡ next_asked grain a w
+    asked_same a = ap (next_asked grain a) (same_is w v same) ∙ asked_alike w v.faults a
+
+    pub passes_same : (a : Agenda) → without_entry grain read a v ≡ without_entry grain read a w
+    passes_same a = ap (without_entry grain read a) (same_is w v same) ∙ passes_alike w v.faults a
+
+    pub behind_same : (a : Agenda) (x y : Entry) → but_for_faults y ≡ but_for_faults x → behind_entry grain a v y ≡ behind_entry grain a w x
+    behind_same a x y told =
+        sym (behind_told a v y)
+        ∙ ap (behind_entry grain a v) told
+        ∙ behind_told a v x
+        ∙ ap (λ u. behind_entry grain a u x) (same_is w v same)
+        ∙ behind_alike w v.faults a x
+
+  -- ---- it asks, or it goes on without an entry
+
+  not_both_fill :
+      (w : Whole) (p : Passing) (ls : List (List ℕ)) (fill : Option (Work × GrainNo)) (asked : ℕ × Request) (b : Agenda) →
+      option_map (λ (next : Work × GrainNo). (0, fill_of next.0 next.1)) fill ≡ Some asked →
+      without_fill grain w p fill ls ≡ Some b →
+      ⊥
+  not_both_fill w p ls None asked b h k = absurd (cc h)
+  not_both_fill w p ls (Some next) asked b h k = absurd (cc k)
+
+  pub not_both : (a b : Agenda) (w : Whole) (asked : ℕ × Request) → next_asked grain a w ≡ Some asked → without_entry grain read a w ≡ Some b → ⊥
+  not_both (Lines ls) b w asked h k = absurd (cc h)
+  not_both (Own [] n ls) b w asked h k = absurd (cc h)
+  not_both (Own (request ∷ rest) n ls) b w asked h k = absurd (cc k)
+  not_both (Seconds p ls) b w asked h k = not_both_fill w p ls (next_fill grain w p) asked b h k
