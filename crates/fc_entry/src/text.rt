@@ -75,6 +75,3 @@ pub fn put_history<K: Sink>(history: &History, sink: &mut K) -> Result<(), Faile
 {
     put_entries(history, 0, sink)
 }
-
-#[cfg(test)]
-mod tests;

@@ -3,10 +3,6 @@
 ghost use Rattle.std.specs.Prelude.{◌≡◌, ◌<◌, length, IfOk, OnOk};
 ghost use Rattle.fc_entry.specs.Text.{HasNames};
 
-use super::{put_entry, put_history};
-use crate::command_text::put_command;
-use crate::entry::Entry;
-use crate::history::History;
 use fc_base::command::Command;
 use fc_base::fault::{Kind, Refusal, WordFault};
 use fc_base::ids::VolId;
@@ -15,6 +11,10 @@ use fc_base::name::{Name, Ref};
 use fc_base::request::{Place, ReadPart, Reply, Request, WritePart};
 use fc_base::runs::Runs;
 use fc_base::size::GrainSize;
+use fc_entry::command_text::put_command;
+use fc_entry::entry::Entry;
+use fc_entry::history::History;
+use fc_entry::text::{put_entry, put_history};
 use fc_io::mem_sink::MemSink;
 use fc_io::sink::Sink;
 use std::alloc::Global;
