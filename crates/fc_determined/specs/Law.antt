@@ -20,18 +20,18 @@ pub record IsFront (xs ys : List Entry) : Type 0 where
   pub rest : List Entry
   pub begins : told_by ys ≡ told_by xs ++ rest
 
--- How an agenda was answered: whole, or the first of it.
-abbrev pub Way : Type 1
-Way = Rules Whole Agenda → Agenda → Whole → List Entry → Whole → Type 0
+-- How far an agenda was answered: to its end, or the first of it.
+abbrev pub HowFar : Type 1
+HowFar = Rules Whole Agenda → Agenda → Whole → List Entry → Whole → Type 0
 
 -- Of two histories that answer one agenda, after what tells the same, and in which nothing failed, this holds.
-abbrev pub OfTwo : Way → Way → (List Entry → List Entry → Whole → Whole → Type 0) → Type 0
+abbrev pub OfTwo : HowFar → HowFar → (List Entry → List Entry → Whole → Whole → Type 0) → Type 0
 OfTwo One Other Holds =
     (grain : GrainSize) (read : Reading) (a : Agenda) (w v last other : Whole) (xs ys : List Entry) → TellTheSame w v → AreSmooth xs → AreSmooth ys →
     One (session_rules grain read) a w xs last → Other (session_rules grain read) a v ys other → Holds xs ys last other
 
 pub record DeterminedLaw : Type 0 where
-  -- where both answer it whole, they have one outcome
+  -- where both answer it to its end, they have one outcome
   pub whole : OfTwo GoesToEnd GoesToEnd (λ xs ys last other. IsOneOutcome xs ys last other)
   -- so they have where both have as many entries, as where both histories are full
   pub as_many : OfTwo GoesSome GoesSome (λ xs ys last other. length xs ≡ length ys → IsOneOutcome xs ys last other)

@@ -26,5 +26,6 @@ told_by entries = map but_for_faults entries
 abbrev pub without_faults : Whole → Whole
 without_faults w = record w { faults = replicate (lanes w) 0 }
 
+-- Two histories tell the same, but for those.
 abbrev pub TellTheSame : Whole → Whole → Type 0
 TellTheSame w v = without_faults v ≡ without_faults w

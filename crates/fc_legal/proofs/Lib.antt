@@ -3,3 +3,4 @@ pub mod Appending
 pub mod Events
 pub mod Rows
 pub mod SecondsExamples
+pub mod TurnExamples

@@ -34,24 +34,24 @@ three = volume 0 (codes "A") 3 ∷ volume 1 (codes "B") 3 ∷ volume 2 (codes "C
 abbrev plain : ℕ → PlainVolume
 plain v = record { volume = vol v; now = Bytes [] ∷ Bytes [] ∷ Bytes [] ∷ []; under = Bytes [] ∷ Bytes [] ∷ Bytes [] ∷ [] }
 
-abbrev all : List Bool
+abbrev pub all : List Bool
 all = true ∷ true ∷ true ∷ []
 
-abbrev none : List Bool
+abbrev pub none : List Bool
 none = false ∷ false ∷ false ∷ []
 
 -- a mapping that is copying, at these rates
-abbrev at_rates : ℕ → ℕ → Mapping → Mapping
+abbrev pub at_rates : ℕ → ℕ → Mapping → Mapping
 at_rates copy clean m = record m { copy_rate = copy; clean_rate = clean }
 
-abbrev a_to_b : Mapping
+abbrev pub a_to_b : Mapping
 a_to_b = mapping 0 (codes "fcmap0") 0 1 Copying
 
-abbrev b_to_c : Mapping
+abbrev pub b_to_c : Mapping
 b_to_c = mapping 1 (codes "fcmap1") 1 2 Copying
 
 -- The chain A, B, C in four lanes, where A to B and B to C are copying. B and C hold this, and lanes have made so many calls.
-abbrev told : Mapping → Mapping → List WorkFlags → List Bool → List Bool → List ℕ → ℕ → Whole
+abbrev pub told : Mapping → Mapping → List WorkFlags → List Bool → List Bool → List ℕ → ℕ → Whole
 told first second flags b c calls entries =
     record {
       actors = codes "main" ∷ [];
@@ -65,10 +65,10 @@ told first second flags b c calls entries =
       entries = entries;
     }
 
-abbrev no_calls : List ℕ
+abbrev pub no_calls : List ℕ
 no_calls = 0 ∷ 0 ∷ 0 ∷ 0 ∷ []
 
-abbrev copied : ℕ → WorkFlags
+abbrev pub copied : ℕ → WorkFlags
 copied m = record { map = map_id m; copies = true; cleans = false }
 
 abbrev both : ℕ → WorkFlags
@@ -81,7 +81,7 @@ copying m gain credit = record { map = map_id m; cleans = false; gain = gain; cr
 abbrev cleaning : ℕ → ℕ → ℕ → Work
 cleaning m gain credit = record { map = map_id m; cleans = true; gain = gain; credit = credit }
 
-abbrev grain_no : ℕ → GrainNo
+abbrev pub grain_no : ℕ → GrainNo
 grain_no g = record { 0 = g }
 
 -- in the last of the seconds
@@ -92,7 +92,7 @@ abbrev ended : List Work → Passing
 ended over = record { seconds = 0; over = over; at_hand = None; left = [] }
 
 -- a grain, in the lane of its number, of the slot with this birth of a volume was filled
-abbrev filled : ℕ → Request → ℕ → ℕ → ℕ → ℕ → Entry
+abbrev pub filled : ℕ → Request → ℕ → ℕ → ℕ → ℕ → Entry
 filled number request m g birth volume =
     record {
       number = number;
@@ -214,7 +214,7 @@ grain_in_two_seconds =
 -- ---- a second that copies
 
 -- B lacks two grains, and a second is worth four: the two are copied, the least first, and the rest of the credit is lost
-abbrev lacking : Whole
+abbrev pub lacking : Whole
 lacking = told (at_rates 20 0 a_to_b) (at_rates 0 0 b_to_c) (copied 0 ∷ []) (false ∷ true ∷ false ∷ []) none no_calls 9
 
 abbrev lacking_one : Whole
@@ -278,7 +278,7 @@ all_is_copied =
 
 -- The copy of B to C comes before the cleaning of B for C, though its mapping comes later. Each second is worth a grain of
 -- 256 KiB to both.
-abbrev needed : Whole
+abbrev pub needed : Whole
 needed = told (at_rates 0 20 a_to_b) (at_rates 20 0 b_to_c) (cleaned 0 ∷ copied 1 ∷ []) all (false ∷ false ∷ true ∷ []) no_calls 9
 
 abbrev needed_once : Whole
