@@ -1,8 +1,9 @@
 -- Lemmas, one subject a file.
+pub mod GrowingLemmas
+pub mod OutputLemmas
 pub mod ProgressLemmas
 pub mod TakesLemmas
-pub mod Staying
 pub mod ReadingLemmas
-pub mod EndingLemmas
+pub mod SessionLemmas
 pub mod SummaryLemmas
-pub mod HeadlineLemmas
+mod SessionExamples

@@ -1,22 +1,21 @@
 -- How reading goes on and ends.
-use Rattle.std.proofs.Common.{◌≡◌, ℕ, ◌+◌, ◌<◌, ◌≤◌, List, [], ◌∷◌, ◌++◌, length, append_assoc, refl, sym, ◌∙◌, ap, subst, arith, length-append, length-take, IsOk, min, ◌-◌, Result, Ok, Err, Option, Some, None, IfSome, inl, inr, ◌≢◌, take, get_or, zero, suc}
+use Rattle.std.proofs.Common.{◌≡◌, ℕ, ◌+◌, ◌≤◌, List, [], ◌∷◌, ◌++◌, length, append_assoc, refl, sym, ◌∙◌, ap, subst, arith, length-append, length-take, min, ◌-◌, Option, Some, None, take, get_or, zero, suc}
 use Rattle.std.proofs.lemmas.List.{append-nil, length-take-le}
 use Rattle.std.specs.Option.{option_map}
-use Rattle.fc_base.specs.Count.{HasRisen}
-use Rattle.fc_base.specs.declared.size.GrainSize.{GrainSize}
-use Rattle.fc_entry.specs.declared.entry.Entry.{Entry}
-use Rattle.fc_legal.specs.Whole.{Whole}
+use Rattle.fc_entry.specs.HistoryState.{HistoryState}
+use Rattle.fc_entry.specs.Lines.{ended_lines}
+use Rattle.fc_entry.specs.declared.stop.Stop.{Stop}
 use Rattle.fc_io.specs.Source.{SourceState}
-use Rattle.fc_run.specs.Progress.{Progress, Fed}
-use Rattle.fc_store.specs.Answering.{IsTold, Reached}
-use Rattle.fc_run.specs.ReadTo.{Gave, IsAtEnd, FedPiece, Turned, SoFar, ReadTo, EndsReading, PastLimit, input_limit}
+use Rattle.fc_run.specs.Input.{Gave, input_limit}
+use Rattle.fc_run.specs.Progress.{Progress, StopsIn}
+use Rattle.fc_run.specs.ReadTo.{FedPiece, Turned, SoFar, ReadTo, PastLimit}
+use Rattle.fc_run.specs.Runs.{Runs}
 use Rattle.fc_run.specs.Taking.{GaveAny, TurnGave}
-use Rattle.fc_run.proofs.TakesLemmas.{SoFarGave-start, SoFarGave-more, EachGave-last, EachGave-some}
-use Rattle.fc_run.specs.declared.reading.Turn.{Turn}
+use Rattle.fc_run.proofs.OutputLemmas.{HasRisen-before}
+use Rattle.fc_run.proofs.TakesLemmas.{SoFarGave-more, EachGave-last, EachGave-so_far, EachGave-some}
 use Rattle.fc_run.specs.declared.reading.Turn.TheVariants as turn
 use Rattle.fc_run.specs.declared.reading.Ending.{Ending}
 use Rattle.fc_run.specs.declared.reading.Ending.TheVariants as ending
-use Rattle.fc_entry.specs.declared.stop.Stop.{Stop}
 
 -- what was given first, and then
 Gave-append-left :
@@ -36,11 +35,6 @@ Gave-nothing : (a b c : SourceState) (xs : List ℕ) → Gave a xs b → Gave b 
 Gave-nothing a b c xs first then =
     let P : List ℕ → Type 0 = λ l. Gave a l c in
     subst P (append-nil xs) (Gave-append a b c xs [] first then)
-
--- a fault that rose rose over more
-HasRisen-before : (old now new : ℕ) → old ≤ now → HasRisen now new → HasRisen old new
-HasRisen-before old now new le (inl rose) = inl (omega arith)
-HasRisen-before old now new le (inr last) = inr last
 
 take-nil : (n : ℕ) → take {A = ℕ} n [] ≡ []
 take-nil zero = refl
@@ -67,54 +61,16 @@ PastLimit-byte before after n out some fits one gave =
     let P : List ℕ → Type 0 = λ l. Gave before l after in
     (get_or out 0 0, subst P (one_taken n out some fits one) gave)
 
--- before the first byte
-pub SoFar-start :
-    (source : SourceState) (Stands : Whole → Type 0) (grain : GrainSize) (w : Whole) (line : List ℕ) (entries : List Entry) →
-    line ≡ [] →
-    entries ≡ [] →
-    Stands w →
-    w.entries ≡ 0 →
-    SoFar source source Stands grain w line entries 0
-SoFar-start source Stands grain w line entries no_line no_entries stands fresh =
-    let P : List Entry → Type 0 = λ es. Reached Stands es (Progress grain w [] line es) in
-    record {
-      bytes = [];
-      gave = gave source.left;
-      takes = SoFarGave-start source;
-      counted = refl;
-      faults = omega arith;
-      progress = subst P (sym no_entries) (w, (stands, fresh), record { run = (refl, refl); unended = no_line });
-    }
-  where
-    gave : (left : Option (List ℕ)) → left ≡ option_map (λ rest. [] ++ rest) left
-    gave None = refl
-    gave (Some rest) = refl
-
--- a turn that is told of every reading so far, at this one
-pub Turned-here :
-    (t : Turn) (most taken : ℕ) (before now after : SourceState) (Now After : Whole → Type 0) (grain now_grain : GrainSize) (w : Whole)
-    (line rest : List ℕ) (entries more : List Entry) →
-    now_grain ≡ grain →
-    (so_far : SoFar before now Now grain w line entries taken) →
-    ((w : Whole) (bytes : List ℕ) → Reached Now entries (Progress now_grain w bytes line entries)
-    → Turned t most now after After now_grain w bytes rest more) →
-    Turned t most now after After grain w so_far.bytes rest more
-Turned-here t most taken before now after Now After grain now_grain w line rest entries more same_grain so_far turned =
-    let P : GrainSize → Type 0 = λ g. Reached Now entries (Progress g w so_far.bytes line entries) in
-    let R : GrainSize → Type 0 = λ g. Turned t most now after After g w so_far.bytes rest more in
-    subst R same_grain (turned w so_far.bytes (subst P (sym same_grain) so_far.progress))
-
 -- a piece more
 pub SoFar-more :
-    (n most taken : ℕ) (before now after : SourceState) (Now After : Whole → Type 0) (grain : GrainSize) (w : Whole)
-    (line rest : List ℕ) (entries more : List Entry) →
-    (so_far : SoFar before now Now grain w line entries taken) →
+    (n most taken : ℕ) (before now after : SourceState) (Now After : Runs) (line rest : List ℕ) (old new : HistoryState) →
+    (so_far : SoFar before now Now line old taken) →
     now.faults ≤ after.faults →
     TurnGave (turn.More n) now after →
-    Turned (turn.More n) most now after After grain w so_far.bytes rest more →
-    SoFar before after After grain w rest more (taken + n)
-SoFar-more n most taken before now after Now After grain w line rest entries more so_far faults took turned =
-    let piece : FedPiece n now after so_far.bytes (λ all. Reached After more (Progress grain w all rest more)) = turned.1 in
+    Turned (turn.More n) most now after After so_far.bytes rest new →
+    SoFar before after After rest new (taken + n)
+SoFar-more n most taken before now after Now After line rest old new so_far faults took turned =
+    let piece : FedPiece n now after so_far.bytes (λ all. Progress After all rest new) = turned.1 in
     record {
       bytes = so_far.bytes ++ piece.piece;
       gave = Gave-append before now after so_far.bytes piece.piece so_far.gave piece.gave;
@@ -132,92 +88,92 @@ SoFar-more n most taken before now after Now After grain w line rest entries mor
 
 -- the end of input
 pub ReadTo-end :
-    (most taken : ℕ) (before now after : SourceState) (Now After : Whole → Type 0) (grain : GrainSize) (w : Whole)
-    (line rest : List ℕ) (entries more : List Entry) →
-    (so_far : SoFar before now Now grain w line entries taken) →
+    (most taken : ℕ) (before now after : SourceState) (Now After : Runs) (line rest : List ℕ) (old new : HistoryState) →
+    (so_far : SoFar before now Now line old taken) →
     taken ≤ input_limit →
-    now.faults ≤ after.faults →
     TurnGave turn.End now after →
-    Turned turn.End most now after After grain w so_far.bytes rest more →
-    ReadTo ending.End before after After grain w rest more
-ReadTo-end most taken before now after Now After grain w line rest entries more so_far within faults took turned = record {
+    Turned turn.End most now after After so_far.bytes rest new →
+    ReadTo ending.End before after After rest new
+ReadTo-end most taken before now after Now After line rest old new so_far within took turned = record {
   bytes = so_far.bytes;
   gave = Gave-nothing before now after so_far.bytes so_far.gave turned.1;
   takes = EachGave-last before now after so_far.takes took;
-  faults = omega (arith, so_far.faults);
   ends = (turned.0, omega (arith, so_far.counted), turned.2);
 }
 
 -- a fault
 pub ReadTo-fault :
-    (most taken : ℕ) (before now after : SourceState) (Now After : Whole → Type 0) (grain : GrainSize) (w : Whole)
-    (line rest : List ℕ) (entries more : List Entry) →
-    (so_far : SoFar before now Now grain w line entries taken) →
+    (most taken : ℕ) (before now after : SourceState) (Now After : Runs) (line rest : List ℕ) (old new : HistoryState) →
+    (so_far : SoFar before now Now line old taken) →
     taken ≤ input_limit →
-    now.faults ≤ after.faults →
     TurnGave turn.Fault now after →
-    Turned turn.Fault most now after After grain w so_far.bytes rest more →
-    ReadTo ending.ReadFault before after After grain w rest more
-ReadTo-fault most taken before now after Now After grain w line rest entries more so_far within faults took turned = record {
+    Turned turn.Fault most now after After so_far.bytes rest new →
+    ReadTo ending.ReadFault before after After rest new
+ReadTo-fault most taken before now after Now After line rest old new so_far within took turned = record {
   bytes = so_far.bytes;
   gave = Gave-nothing before now after so_far.bytes so_far.gave turned.1;
   takes = EachGave-last before now after so_far.takes took;
-  faults = omega (arith, so_far.faults);
   ends = (HasRisen-before before.faults now.faults after.faults so_far.faults turned.0, omega (arith, so_far.counted), turned.2);
 }
 
--- a stop of the store
+-- a stop
 pub ReadTo-stopped :
-    (n most taken : ℕ) (stop : Stop) (before now after : SourceState) (Now After : Whole → Type 0) (grain : GrainSize) (w : Whole)
-    (line rest : List ℕ) (entries more : List Entry) →
-    (so_far : SoFar before now Now grain w line entries taken) →
+    (n most taken : ℕ) (stop : Stop) (before now after : SourceState) (Now After : Runs) (line rest : List ℕ) (old new : HistoryState) →
+    (so_far : SoFar before now Now line old taken) →
     taken + most ≤ input_limit →
-    now.faults ≤ after.faults →
     TurnGave (turn.Stopped n stop) now after →
-    Turned (turn.Stopped n stop) most now after After grain w so_far.bytes rest more →
-    ReadTo (ending.Stopped stop) before after After grain w rest more
-ReadTo-stopped n most taken stop before now after Now After grain w line rest entries more so_far within faults took turned =
-    let piece : FedPiece n now after so_far.bytes (λ all. Fed {A = Unit {0}} (Err stop) After grain w all rest more) = turned.1 in
+    Turned (turn.Stopped n stop) most now after After so_far.bytes rest new →
+    ReadTo (ending.Stopped stop) before after After rest new
+ReadTo-stopped n most taken stop before now after Now After line rest old new so_far within took turned =
+    let piece : FedPiece n now after so_far.bytes (λ all. StopsIn stop After (ended_lines all) new) = turned.1 in
     record {
       bytes = so_far.bytes ++ piece.piece;
       gave = Gave-append before now after so_far.bytes piece.piece so_far.gave piece.gave;
       takes = EachGave-some before now after so_far.takes took;
-      faults = omega (arith, so_far.faults);
       ends = (omega (arith, length-append so_far.bytes piece.piece, so_far.counted, piece.counted, turned.0), piece.fed);
     }
 
+-- an answer couldn't be written
+pub ReadTo-unwritten :
+    (taken : ℕ) (before now : SourceState) (runs : Runs) (line : List ℕ) (history : HistoryState) →
+    (so_far : SoFar before now runs line history taken) →
+    taken ≤ input_limit →
+    ReadTo ending.WriteFault before now runs line history
+ReadTo-unwritten taken before now runs line history so_far within = record {
+  bytes = so_far.bytes;
+  gave = so_far.gave;
+  takes = EachGave-so_far before now so_far.takes;
+  ends = (omega (arith, so_far.counted), so_far.progress);
+}
+
 -- the byte past the limit was asked for
 pub ReadTo-past :
-    (ended : Ending) (taken : ℕ) (before now after : SourceState) (Now : Whole → Type 0) (grain : GrainSize) (w : Whole)
-    (line : List ℕ) (entries : List Entry) →
-    (so_far : SoFar before now Now grain w line entries taken) →
+    (ended : Ending) (taken : ℕ) (before now after : SourceState) (runs : Runs) (line : List ℕ) (history : HistoryState) →
+    (so_far : SoFar before now runs line history taken) →
     taken ≡ input_limit →
-    now.faults ≤ after.faults →
     GaveAny now after →
     PastLimit ended now after →
-    ReadTo ended before after Now grain w line entries
-ReadTo-past ending.End taken before now after Now grain w line entries so_far full faults took past = record {
+    ReadTo ended before after runs line history
+ReadTo-past ending.End taken before now after runs line history so_far full took past = record {
   bytes = so_far.bytes;
   gave = Gave-nothing before now after so_far.bytes so_far.gave past.1;
   takes = EachGave-last before now after so_far.takes took;
-  faults = omega (arith, so_far.faults);
   ends = (past.0, omega (arith, so_far.counted), so_far.progress);
 }
-ReadTo-past ending.ReadFault taken before now after Now grain w line entries so_far full faults took past = record {
+ReadTo-past ending.ReadFault taken before now after runs line history so_far full took past = record {
   bytes = so_far.bytes;
   gave = Gave-nothing before now after so_far.bytes so_far.gave past.1;
   takes = EachGave-last before now after so_far.takes took;
-  faults = omega (arith, so_far.faults);
   ends = (HasRisen-before before.faults now.faults after.faults so_far.faults past.0, omega (arith, so_far.counted), so_far.progress);
 }
-ReadTo-past ending.TooLong taken before now after Now grain w line entries so_far full faults took past = record {
+ReadTo-past ending.TooLong taken before now after runs line history so_far full took past = record {
   bytes = so_far.bytes ++ past.0 ∷ [];
   gave = Gave-append before now after so_far.bytes (past.0 ∷ []) so_far.gave past.1;
   takes = EachGave-last before now after so_far.takes took;
-  faults = omega (arith, so_far.faults);
   ends = (so_far.bytes, past.0, refl, so_far.counted ∙ full, so_far.progress);
 }
-ReadTo-past (ending.Stopped stop) taken before now after Now grain w line entries so_far full faults took past = absurd past
+ReadTo-past ending.WriteFault taken before now after runs line history so_far full took past = absurd past
+ReadTo-past (ending.Stopped stop) taken before now after runs line history so_far full took past = absurd past
 
 -- a piece of at most so many bytes, and at most what is left of the greatest input, stays within it
 pub within-limit :
@@ -228,30 +184,15 @@ pub within-limit :
 within-limit most taken buffer is within = omega (arith, length-take most buffer)
 
 -- a piece was taken and fed
-pub Turned-more :
-    (n most : ℕ) (before after : SourceState) (out : List ℕ) (After : Whole → Type 0) (grain : GrainSize) (w : Whole)
-    (bytes rest : List ℕ) (more : List Entry) →
+pub FedPiece-taken :
+    (n most : ℕ) (before after : SourceState) (out bytes : List ℕ) (Then : List ℕ → Type 0) →
     (n ≡ 0 → ⊥) →
     n ≤ length out →
     length out ≡ most →
     Gave before (take n out) after →
-    Reached After more (Progress grain w (bytes ++ take n out) rest more) →
-    Turned (turn.More n) most before after After grain w bytes rest more
-Turned-more n most before after out After grain w bytes rest more some fits room gave fed = (
-  omega arith,
-  record { piece = take n out; some = omega arith; counted = length-take-le n out fits; gave = gave; fed = fed },
-)
-
-pub Turned-stopped :
-    (n most : ℕ) (stop : Stop) (before after : SourceState) (out : List ℕ) (After : Whole → Type 0) (grain : GrainSize) (w : Whole)
-    (bytes rest : List ℕ) (more : List Entry) →
-    (n ≡ 0 → ⊥) →
-    n ≤ length out →
-    length out ≡ most →
-    Gave before (take n out) after →
-    Fed {A = Unit {0}} (Err stop) After grain w (bytes ++ take n out) rest more →
-    Turned (turn.Stopped n stop) most before after After grain w bytes rest more
-Turned-stopped n most stop before after out After grain w bytes rest more some fits room gave fed = (
+    Then (bytes ++ take n out) →
+    (n ≤ most) × FedPiece n before after bytes Then
+FedPiece-taken n most before after out bytes Then some fits room gave fed = (
   omega arith,
   record { piece = take n out; some = omega arith; counted = length-take-le n out fits; gave = gave; fed = fed },
 )

@@ -1,5 +1,5 @@
 -- Calls of `take`, one after the other.
-use Rattle.std.proofs.Common.{◌≡◌, ◌≢◌, ℕ, ◌<◌, ◌≤◌, List, [], ◌∷◌, ◌++◌, length, refl, sym, subst, arith, Result, Ok, Err, take, zero, suc}
+use Rattle.std.proofs.Common.{◌≢◌, ℕ, ◌≤◌, List, [], ◌∷◌, ◌++◌, length, refl, subst, arith, Result, Ok, take, zero, suc}
 use Rattle.fc_base.specs.declared.outcome.Failed.{Failed}
 use Rattle.fc_io.specs.Source.{SourceState, AfterTake, Takes}
 use Rattle.fc_run.specs.Takes.{piece_of, TookOnce, Took, OnlyLastEmpty, EachGave}
@@ -31,10 +31,6 @@ OnlyLastEmpty-last [] last all = tt
 OnlyLastEmpty-last (piece ∷ []) last all = (all.0, tt)
 OnlyLastEmpty-last (piece ∷ next ∷ pieces) last all = (all.0, OnlyLastEmpty-last (next ∷ pieces) last all.1)
 
--- before the first call
-pub SoFarGave-start : (source : SourceState) → SoFarGave source source
-SoFarGave-start source = record { pieces = []; took = refl; some = tt }
-
 -- a call that gave some bytes
 pub SoFarGave-more : (before now after : SourceState) → SoFarGave before now → GaveSome now after → SoFarGave before after
 SoFarGave-more before now after so_far gave = record {
@@ -55,9 +51,13 @@ EachGave-last before now after so_far gave = record {
 pub EachGave-some : (before now after : SourceState) → SoFarGave before now → GaveSome now after → EachGave before after
 EachGave-some before now after so_far gave = EachGave-last before now after so_far record { piece = gave.piece; once = gave.once }
 
--- no call was made
-pub EachGave-none : (source : SourceState) → EachGave source source
-EachGave-none source = record { pieces = []; took = refl; some = tt }
+-- so far
+pub EachGave-so_far : (before now : SourceState) → SoFarGave before now → EachGave before now
+EachGave-so_far before now so_far = record {
+  pieces = so_far.pieces;
+  took = so_far.took;
+  some = OnlyLastEmpty-all so_far.pieces so_far.some;
+}
 
 -- what `take` left, as one call
 some_bytes : (n : ℕ) (out : List ℕ) → n ≢ 0 → n ≤ length out → take n out ≢ []
@@ -84,3 +84,7 @@ pub GaveAny-taken :
     GaveAny before after
 GaveAny-taken before after answer out call =
     record { piece = piece_of answer out; once = record { answer = answer; out = out; call = call; piece_is = refl } }
+
+-- no call was made
+pub EachGave-none : (source : SourceState) → EachGave source source
+EachGave-none source = record { pieces = []; took = refl; some = tt }

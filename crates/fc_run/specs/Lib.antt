@@ -1,11 +1,12 @@
--- What running a session over a store means, one subject a file, to be read top to bottom.
-pub mod Codes
-pub mod Reading
-pub mod Progress
+-- What running a session means, one subject a file, to be read top to bottom.
+pub mod Runs
+pub mod Input
 pub mod Takes
-pub mod Taking
-pub mod ReadTo
-pub mod SessionRead
 pub mod Summary
-pub mod Tallies
 pub mod Headline
+-- The words of the functions inside.
+pub mod Tallies
+pub mod Taking
+pub mod Progress
+pub mod ReadTo
+pub mod Output

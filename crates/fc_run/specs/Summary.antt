@@ -1,4 +1,4 @@
--- What a session writes when it is over: the text of its history, or a summary of it in one line:
+-- What a session writes: the text of its history, or a summary of it in one line:
 --     entries E reads R writes W moves M refused F sum S
 use Rattle.std.specs.Prelude.{ℕ, ◌%◌, ◌^◌, Bool, true, false, List, ◌++◌, length, codes, decimal}
 use Rattle.std.specs.List.{count_by, sum, sum_by}
@@ -10,8 +10,8 @@ use Rattle.fc_base.specs.declared.request.Reply.TheVariants.{Bytes, Done, Refuse
 use Rattle.fc_entry.specs.declared.entry.Entry.{Entry}
 use Rattle.fc_entry.specs.HistoryState.{HistoryState}
 use Rattle.fc_entry.specs.Text.{history_text}
-use Rattle.fc_run.specs.declared.telling.Telling.{Telling}
-use Rattle.fc_run.specs.declared.telling.Telling.TheVariants as telling
+use Rattle.fc_run.specs.declared.form.Form.{Form}
+use Rattle.fc_run.specs.declared.form.Form.TheVariants as form
 
 -- the reply of a read that gave its bytes
 abbrev pub gives_bytes : Reply → Bool
@@ -60,7 +60,7 @@ summary_text history =
     ++ decimal (writes_of history.entries) ++ codes " moves " ++ decimal (moves_of history.entries) ++ codes " refused "
     ++ decimal (refused_of history.entries) ++ codes " sum " ++ decimal (sum_of history.entries) ++ codes "\n"
 
--- what is told of a history
-abbrev pub told_text : Telling → HistoryState → List ℕ
-told_text telling.History history = history_text history
-told_text telling.Summary history = summary_text history
+-- the text of a history in this form
+abbrev pub text_of : Form → HistoryState → List ℕ
+text_of form.Text history = history_text history
+text_of form.Summary history = summary_text history

@@ -1,22 +1,23 @@
-//! Running a session over a store: from the bytes of its lines to the bytes of its history.
+//! Running a session: from the bytes of its lines to the bytes of its history.
 //!
-//! `run_session` (in `session`) reads a source to its end, has a store answer each line, keeps the history and writes to
-//! a sink what is told of it (`Telling`): the text of the history, or a summary of it in one line. It knows the store by
-//! the trait `LineStore` alone (in `store`). Its contract is the main theorem but for the words of the program and the
-//! disks: for every source, sink and store, failing ones included, the history is legal; by the status it is known which
-//! bytes were taken, which of their lines are answered, and what the sink got. How a line is read is in `specs/Reading`,
-//! what each status says in `specs/Headline`, what a summary says in `specs/Summary`, which calls of the source are made
-//! in `specs/Takes`.
+//! `run_session` (in `session`) reads a source to its end, has each line answered, keeps the history and writes it to a
+//! sink in some form (`form`): the text of each answer before more input is taken, or a summary in one line at the end.
+//! It knows who answers by the trait `Answers` alone (in `answers`), and of a history that it only grows and can be put.
+//! Its contract holds for every source, sink and answerer, failing ones included: by the way the session ended (`ended`)
+//! it is known which bytes were taken, which of their lines are answered, and what the sink got. What is said of whoever
+//! answers is in `specs/Runs`, which bytes and lines count in `specs/Input`, what each way to end says in
+//! `specs/Headline`, what a summary says in `specs/Summary`, which calls of the source are made in `specs/Takes`.
 //!
-//! In reading order: `status`, `store` (who answers a line), `lines` (from bytes to lines), `reading`, `summary`,
-//! `telling`, `ending`, `session`.
+//! In reading order: `ended`, `form`, `answers` (who answers a line), `lines` (from bytes to lines), `summary`, `output`
+//! (what is written when), `reading`, `ending`, `session`.
 #![tactic(auto)]
 
+pub mod answers;
+pub mod ended;
 mod ending;
+pub mod form;
 mod lines;
+mod output;
 mod reading;
 pub mod session;
-pub mod status;
-pub mod store;
 mod summary;
-pub mod telling;

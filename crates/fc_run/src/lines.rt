@@ -1,12 +1,12 @@
 //! From bytes to lines.
 
-ghost use Rattle.std.specs.Prelude.{◌≡◌, ◌≤◌, ℕ, List, [], ◌∷◌, ◌++◌, length, IsTrue};
-ghost use Rattle.fc_entry.specs.Lines.{without_return};
-ghost use Rattle.fc_run.specs.Progress.{Progress, Fed};
-ghost use Rattle.fc_store.specs.Answering.{Reached, TellsSome, StaysUp};
-ghost use Rattle.fc_legal.specs.Whole.{Whole};
+ghost use Rattle.std.specs.Prelude.{◌≡◌, ◌≤◌, ℕ, List, [], ◌∷◌, ◌++◌, length};
+ghost use Rattle.fc_entry.specs.Lines.{all_lines, without_return};
+ghost use Rattle.fc_entry.specs.Text.{HasNames};
+ghost use Rattle.fc_run.specs.Progress.{Progress, Fed, LinesEnd};
+ghost use Rattle.fc_run.specs.Runs.{GrowsTo};
 
-use crate::store::LineStore;
+use crate::answers::Answers;
 use fc_entry::history::History;
 use fc_entry::stop::Stop;
 
@@ -21,26 +21,22 @@ fn take_return(line: &mut Vec<u8>)
 }
 
 /// Feeds one byte: a newline ends the line at hand, which is answered; any other byte joins it.
-fn feed_byte<L: LineStore>(
+fn feed_byte<A: Answers>(
     byte: u8,
     line: &mut Vec<u8>,
-    store: &mut L,
+    answers: &mut A,
     history: &mut History,
 ) -> Result<(), Stop>
-    requires stands { TellsSome (L.Stands store.old) history.old.entries }
+    requires stands { (start : A.Start) × (bytes : List ℕ) × Progress (A.runs answers.old start) bytes line.old.items history.old }
     requires room { length history.old.entries ≤ 262144 }
-    ensures fed { (w : Whole) (bytes : List ℕ)
-        → Reached (L.Stands store.old) history.old.entries (Progress (L.grain store.old) w bytes line.old.items history.old.entries)
-        → Fed result (L.Stands store.new) (L.grain store.old) w (bytes ++ byte ∷ []) line.new.items history.new.entries }
-    ensures actors { history.new.actors ≡ history.old.actors }
-    ensures stays { StaysUp result (TellsSome (L.Stands store.new) history.new.entries) }
-    ensures grain { L.grain store.new ≡ L.grain store.old }
-    ensures disks { L.disks store.new ≡ L.disks store.old }
-    ensures quiet { L.Quiet store.old history.old.entries → StaysUp result (L.Quiet store.new history.new.entries) }
+    ensures fed { (start : A.Start) (bytes : List ℕ) → Progress (A.runs answers.old start) bytes line.old.items history.old
+        → Fed result (A.runs answers.new start) (bytes ++ byte ∷ []) line.new.items history.new }
+    ensures named { HasNames history.old → HasNames history.new }
+    ensures grows { GrowsTo history.old history.new }
     ensures limit { length history.new.entries ≤ 262144 }
 {
     if byte == b'\n' {
-        end_line(line, store, history)
+        end_line(line, answers, history)
     } else {
         match line.push(byte) {
             Ok(()) => Ok(()),
@@ -50,25 +46,21 @@ fn feed_byte<L: LineStore>(
 }
 
 /// Ends the line at hand and answers it.
-fn end_line<L: LineStore>(
+fn end_line<A: Answers>(
     line: &mut Vec<u8>,
-    store: &mut L,
+    answers: &mut A,
     history: &mut History,
 ) -> Result<(), Stop>
-    requires stands { TellsSome (L.Stands store.old) history.old.entries }
+    requires stands { (start : A.Start) × (bytes : List ℕ) × Progress (A.runs answers.old start) bytes line.old.items history.old }
     requires room { length history.old.entries ≤ 262144 }
-    ensures fed { (w : Whole) (bytes : List ℕ)
-        → Reached (L.Stands store.old) history.old.entries (Progress (L.grain store.old) w bytes line.old.items history.old.entries)
-        → Fed result (L.Stands store.new) (L.grain store.old) w (bytes ++ 10 ∷ []) line.new.items history.new.entries }
-    ensures actors { history.new.actors ≡ history.old.actors }
-    ensures stays { StaysUp result (TellsSome (L.Stands store.new) history.new.entries) }
-    ensures grain { L.grain store.new ≡ L.grain store.old }
-    ensures disks { L.disks store.new ≡ L.disks store.old }
-    ensures quiet { L.Quiet store.old history.old.entries → StaysUp result (L.Quiet store.new history.new.entries) }
+    ensures fed { (start : A.Start) (bytes : List ℕ) → Progress (A.runs answers.old start) bytes line.old.items history.old
+        → Fed result (A.runs answers.new start) (bytes ++ 10 ∷ []) line.new.items history.new }
+    ensures named { HasNames history.old → HasNames history.new }
+    ensures grows { GrowsTo history.old history.new }
     ensures limit { length history.new.entries ≤ 262144 }
 {
     take_return(line);
-    match store.answer(line.as_slice(), history) {
+    match answers.line(line.as_slice(), history) {
         Ok(()) => {
             line.clear();
             Ok(())
@@ -78,29 +70,45 @@ fn end_line<L: LineStore>(
 }
 
 /// Feeds bytes, one after the other, up to the first stop.
-pub fn feed<L: LineStore>(
+pub fn feed<A: Answers>(
     piece: &[u8],
     line: &mut Vec<u8>,
-    store: &mut L,
+    answers: &mut A,
     history: &mut History,
 ) -> Result<(), Stop>
-    requires stands { TellsSome (L.Stands store.old) history.old.entries }
+    requires stands { (start : A.Start) × (bytes : List ℕ) × Progress (A.runs answers.old start) bytes line.old.items history.old }
     requires room { length history.old.entries ≤ 262144 }
-    ensures fed { (w : Whole) (bytes : List ℕ)
-        → Reached (L.Stands store.old) history.old.entries (Progress (L.grain store.old) w bytes line.old.items history.old.entries)
-        → Fed result (L.Stands store.new) (L.grain store.old) w (bytes ++ piece.now) line.new.items history.new.entries }
-    ensures actors { history.new.actors ≡ history.old.actors }
-    ensures stays { StaysUp result (TellsSome (L.Stands store.new) history.new.entries) }
-    ensures grain { L.grain store.new ≡ L.grain store.old }
-    ensures disks { L.disks store.new ≡ L.disks store.old }
-    ensures quiet { L.Quiet store.old history.old.entries → StaysUp result (L.Quiet store.new history.new.entries) }
+    ensures fed { (start : A.Start) (bytes : List ℕ) → Progress (A.runs answers.old start) bytes line.old.items history.old
+        → Fed result (A.runs answers.new start) (bytes ++ piece.now) line.new.items history.new }
+    ensures named { HasNames history.old → HasNames history.new }
+    ensures grows { GrowsTo history.old history.new }
     ensures limit { length history.new.entries ≤ 262144 }
 {
     for byte in piece {
-        match feed_byte(*byte, line, store, history) {
+        match feed_byte(*byte, line, answers, history) {
             Ok(()) => {}
             Err(stop) => return Err(stop),
         }
     }
     Ok(())
+}
+
+/// Answers the line that the end of input ends, if any byte of it is there.
+pub fn answer_last<A: Answers>(
+    line: &[u8],
+    answers: &mut A,
+    history: &mut History,
+) -> Result<(), Stop>
+    requires stands { (start : A.Start) × (bytes : List ℕ) × Progress (A.runs answers.old start) bytes line.now history.old }
+    requires room { length history.old.entries ≤ 262144 }
+    ensures ends { (start : A.Start) (bytes : List ℕ) → Progress (A.runs answers.old start) bytes line.now history.old
+        → LinesEnd result (A.runs answers.new start) (all_lines bytes) history.new }
+    ensures named { HasNames history.old → HasNames history.new }
+    ensures grows { GrowsTo history.old history.new }
+    ensures limit { length history.new.entries ≤ 262144 }
+{
+    if line.is_empty() {
+        return Ok(());
+    }
+    answers.line(line, history)
 }

@@ -1,17 +1,20 @@
-//! From a source to answered lines.
+//! From a source to answered lines, and their answers to a sink.
 
-ghost use Rattle.std.specs.Prelude.{◌≡◌, ◌≤◌, ◌<◌, ℕ, List, [], ◌∷◌, ◌++◌, length, IsTrue, IfOk};
+ghost use Rattle.std.specs.Prelude.{◌≡◌, ◌≤◌, ◌<◌, ℕ, List, [], length, IfOk};
+ghost use Rattle.fc_entry.specs.Text.{HasNames};
+ghost use Rattle.fc_run.specs.Output.{IsPut};
 ghost use Rattle.fc_run.specs.Progress.{Progress};
-ghost use Rattle.fc_run.specs.ReadTo.{Turned, TurnWithin, StandsAfter, ReadTo, PastLimit, StandsAtEnd};
-ghost use Rattle.fc_store.specs.Answering.{Reached, TellsSome};
-ghost use Rattle.fc_legal.specs.Whole.{Whole};
+ghost use Rattle.fc_run.specs.ReadTo.{Turned, TurnWithin, ReadTo, PastLimit, is_write_fault};
+ghost use Rattle.fc_run.specs.Runs.{GrowsTo};
 ghost use Rattle.fc_run.specs.Taking.{GaveAny, TurnGave};
 
+use crate::answers::Answers;
 use crate::lines::feed;
-use crate::store::LineStore;
+use crate::output::Output;
 use fc_base::outcome::NoMemory;
 use fc_entry::history::History;
 use fc_entry::stop::Stop;
+use fc_io::sink::Sink;
 use fc_io::source::Source;
 use std::alloc::Global;
 
@@ -24,7 +27,7 @@ pub enum Turn {
     End,
     /// The source failed.
     Fault,
-    /// So many bytes were taken, and the store stopped in the midst of them.
+    /// So many bytes were taken, and answering stopped in the midst of them.
     Stopped(usize, Stop),
 }
 
@@ -37,38 +40,36 @@ pub enum Ending {
     ReadFault,
     /// A byte past the greatest input was taken.
     TooLong,
-    /// The store stopped.
+    /// The sink failed, and no more was taken.
+    WriteFault,
+    /// Answering stopped.
     Stopped(Stop),
 }
 
 /// Takes one piece into the buffer, and answers the lines that end in it.
-fn take_turn<S: Source, L: LineStore>(
+fn take_turn<S: Source, A: Answers>(
     source: &mut S,
     buffer: &mut [u8],
     line: &mut Vec<u8>,
-    store: &mut L,
+    answers: &mut A,
     history: &mut History,
 ) -> Turn
     requires some { 0 < length buffer.old }
-    requires stands { TellsSome (L.Stands store.old) history.old.entries }
+    requires stands { (start : A.Start) × (bytes : List ℕ) × Progress (A.runs answers.old start) bytes line.old.items history.old }
     requires room { length history.old.entries ≤ 262144 }
-    ensures turned { (w : Whole) (bytes : List ℕ)
-        → Reached (L.Stands store.old) history.old.entries (Progress (L.grain store.old) w bytes line.old.items history.old.entries)
+    ensures turned { (start : A.Start) (bytes : List ℕ) → Progress (A.runs answers.old start) bytes line.old.items history.old
         → Turned result (length buffer.old) (S.meaning source.old) (S.meaning source.new)
-        (L.Stands store.new) (L.grain store.old) w bytes line.new.items history.new.entries }
+        (A.runs answers.new start) bytes line.new.items history.new }
     ensures within { TurnWithin result (length buffer.old) }
     ensures took { TurnGave result (S.meaning source.old) (S.meaning source.new) }
     ensures faults { (S.meaning source.old).faults ≤ (S.meaning source.new).faults }
-    ensures actors { history.new.actors ≡ history.old.actors }
-    ensures stands { StandsAfter result (TellsSome (L.Stands store.new) history.new.entries) }
-    ensures grain { L.grain store.new ≡ L.grain store.old }
-    ensures disks { L.disks store.new ≡ L.disks store.old }
-    ensures quiet { L.Quiet store.old history.old.entries → StandsAfter result (L.Quiet store.new history.new.entries) }
+    ensures named { HasNames history.old → HasNames history.new }
+    ensures grows { GrowsTo history.old history.new }
     ensures limit { length history.new.entries ≤ 262144 }
 {
     match source.take(buffer) {
         Ok(0) => Turn::End,
-        Ok(n) => match feed(&buffer[..n], line, store, history) {
+        Ok(n) => match feed(&buffer[..n], line, answers, history) {
             Ok(()) => Turn::More(n),
             Err(stop) => Turn::Stopped(n, stop),
         },
@@ -96,35 +97,41 @@ fn ask_past_limit<S: Source>(source: &mut S, one: &mut [u8]) -> Ending
     }
 }
 
-/// Reads a source from its first byte on, piece by piece through the buffer, and answers the lines that end.
-pub fn read_pieces<S: Source, L: LineStore>(
+/// Reads a source from its first byte on, piece by piece through the buffer, and answers the lines that end. Before each
+/// further call of the source the answers are written; where they can't be, none is made.
+pub fn read_pieces<S: Source, K: Sink, A: Answers>(
     source: &mut S,
+    output: &mut Output,
+    sink: &mut K,
     buffer: &mut [u8],
     line: &mut Vec<u8>,
-    store: &mut L,
+    answers: &mut A,
     history: &mut History,
 ) -> Ending
     requires some { 0 < length buffer.old }
-    requires stands { TellsSome (L.Stands store.old) history.old.entries }
+    requires fresh { (start : A.Start) × (A.runs answers.old start).Whole [] history.old }
     requires first_entry { history.old.entries ≡ [] }
     requires first_line { line.old.items ≡ [] }
-    ensures read { (w : Whole) → L.Stands store.old w → w.entries ≡ 0 → ReadTo result (S.meaning source.old) (S.meaning source.new)
-        (L.Stands store.new) (L.grain store.old) w line.new.items history.new.entries }
-    ensures stands { StandsAtEnd result (TellsSome (L.Stands store.new) history.new.entries) }
-    ensures actors { history.new.actors ≡ history.old.actors }
-    ensures grain { L.grain store.new ≡ L.grain store.old }
-    ensures disks { L.disks store.new ≡ L.disks store.old }
-    ensures quiet { L.Quiet store.old history.old.entries → StandsAtEnd result (L.Quiet store.new history.new.entries) }
+    requires first_put { output.old.put ≡ 0 }
+    ensures read { (start : A.Start) → (A.runs answers.old start).Whole [] history.old
+        → ReadTo result (S.meaning source.old) (S.meaning source.new) (A.runs answers.new start) line.new.items history.new }
+    ensures form { output.new.form ≡ output.old.form }
+    ensures within { output.new.put ≤ length history.new.entries }
+    ensures put { IsPut (K.meaning sink.old) output.old.form output.new.put history.new (is_write_fault result) (K.meaning sink.new) }
+    ensures named { HasNames history.new }
     ensures limit { length history.new.entries ≤ 262144 }
 {
     let mut taken = 0;
     while taken < INPUT_BYTES {
         let most = buffer.len().min(INPUT_BYTES - taken);
-        match take_turn(source, &mut buffer[..most], line, store, history) {
+        match take_turn(source, &mut buffer[..most], line, answers, history) {
             Turn::More(n) => taken += n,
             Turn::End => return Ending::End,
             Turn::Fault => return Ending::ReadFault,
             Turn::Stopped(_, stop) => return Ending::Stopped(stop),
+        }
+        if output.write_new(history, sink).is_err() {
+            return Ending::WriteFault;
         }
     }
     ask_past_limit(source, &mut buffer[..1])

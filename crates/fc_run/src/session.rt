@@ -1,42 +1,43 @@
-//! A whole session over a store.
+//! A whole session.
 
-ghost use Rattle.std.specs.Prelude.{◌≡◌, ◌≢◌, ◌≤◌, [], ◌∷◌, length, codes, is_err};
-ghost use Rattle.fc_legal.specs.Legal.{IsLegal};
-ghost use Rattle.fc_legal.specs.Whole.{Whole};
-ghost use Rattle.fc_store.specs.Answering.{TellsSome};
+ghost use Rattle.std.specs.Prelude.{◌≡◌, ◌≤◌, [], length};
 ghost use Rattle.fc_entry.specs.Text.{HasNames};
 ghost use Rattle.fc_run.specs.Headline.{SessionEnds};
-ghost use Rattle.fc_run.specs.ReadTo.{StandsAtEnd, ReadTo};
-ghost use Rattle.fc_run.specs.SessionRead.{SessionRead, StandsUnlessStarved};
+ghost use Rattle.fc_run.specs.Output.{IsPut};
+ghost use Rattle.fc_run.specs.ReadTo.{SessionRead, is_write_fault};
 ghost use Rattle.fc_run.specs.Takes.{EachGave};
 
-use crate::ending::{end_input, status_of, write_text};
+use crate::answers::Answers;
+use crate::ended::Ended;
+use crate::ending::ended_by;
+use crate::form::Form;
+use crate::lines::answer_last;
+use crate::output::Output;
 use crate::reading::{Ending, PIECE_BYTES, read_pieces, zeros};
-use crate::status::Status;
-use crate::store::LineStore;
-use crate::telling::Telling;
 use fc_entry::history::History;
 use fc_entry::stop::Stop;
 use fc_io::sink::Sink;
 use fc_io::source::Source;
 use std::alloc::Global;
 
-/// Reads a source to its end and answers its lines.
-fn read_session<S: Source, L: LineStore>(
+/// Reads a source to its end, answers its lines, and writes the answers to those that ended before more was taken.
+fn read_session<S: Source, K: Sink, A: Answers>(
     alloc: Global,
     source: &mut S,
-    store: &mut L,
+    output: &mut Output,
+    sink: &mut K,
+    answers: &mut A,
     history: &mut History,
 ) -> Ending
-    requires stands { TellsSome (L.Stands store.old) history.old.entries }
+    requires fresh { (start : A.Start) × (A.runs answers.old start).Whole [] history.old }
     requires first_entry { history.old.entries ≡ [] }
-    ensures read { (w : Whole) → L.Stands store.old w → w.entries ≡ 0 → SessionRead result (S.meaning source.old) (S.meaning source.new)
-        (L.Stands store.new) (L.grain store.old) w history.new.entries }
-    ensures takes { EachGave (S.meaning source.old) (S.meaning source.new) }
-    ensures actors { history.new.actors ≡ history.old.actors }
-    ensures grain { L.grain store.new ≡ L.grain store.old }
-    ensures disks { L.disks store.new ≡ L.disks store.old }
-    ensures quiet { L.Quiet store.old history.old.entries → StandsAtEnd result (L.Quiet store.new history.new.entries) }
+    requires first_put { output.old.put ≡ 0 }
+    ensures read { (start : A.Start) → (A.runs answers.old start).Whole [] history.old
+        → SessionRead result (S.meaning source.old) (S.meaning source.new) (A.runs answers.new start) history.new }
+    ensures form { output.new.form ≡ output.old.form }
+    ensures within { output.new.put ≤ length history.new.entries }
+    ensures put { IsPut (K.meaning sink.old) output.old.form output.new.put history.new (is_write_fault result) (K.meaning sink.new) }
+    ensures named { HasNames history.new }
     ensures limit { length history.new.entries ≤ 262144 }
 {
     let mut buffer = match zeros(alloc, PIECE_BYTES) {
@@ -44,36 +45,55 @@ fn read_session<S: Source, L: LineStore>(
         Err(_) => return Ending::Stopped(Stop::NoMemory),
     };
     let mut line = Vec::new(alloc);
-    let ending = read_pieces(source, &mut buffer, &mut line, store, history);
-    end_input(ending, line.as_slice(), store, history)
+    let ending = read_pieces(
+        source,
+        output,
+        sink,
+        &mut buffer,
+        &mut line,
+        answers,
+        history,
+    );
+    match ending {
+        Ending::End => match answer_last(line.as_slice(), answers, history) {
+            Ok(()) => Ending::End,
+            Err(stop) => Ending::Stopped(stop),
+        },
+        other => other,
+    }
 }
 
-/// Runs a session over a store without a history: reads it to its end, answers its lines and writes what is told of the
-/// history.
-pub fn run_session<S: Source, K: Sink, L: LineStore>(
+/// Runs a session of which nothing is answered yet: reads it to its end, answers its lines and writes the history in this
+/// form. The text of each answer is put and sent on before more input is taken, a summary at the end; where the sink fails
+/// before the end of input, nothing more is taken and nothing more is put.
+pub fn run_session<S: Source, K: Sink, A: Answers>(
     alloc: Global,
-    telling: Telling,
+    form: Form,
     source: &mut S,
     sink: &mut K,
-    store: &mut L,
+    answers: &mut A,
     history: &mut History,
-) -> Status
-    requires stands { TellsSome (L.Stands store.old) history.old.entries }
+) -> Ended
+    requires fresh { (start : A.Start) × (A.runs answers.old start).Whole [] history.old }
     requires first_entry { history.old.entries ≡ [] }
-    requires main { history.old.actors ≡ codes "main" ∷ [] }
-    ensures ends { (w : Whole) → L.Stands store.old w → w.entries ≡ 0 → (last : Whole)
-        × SessionEnds result telling (L.grain store.old) w (S.meaning source.old) (S.meaning source.new) (K.meaning sink.old) (K.meaning sink.new) history.new last
-        × IsLegal (L.grain store.old) w history.new.entries last
-        × StandsUnlessStarved result (L.Stands store.new last) }
+    ensures ends { (start : A.Start) → (A.runs answers.old start).Whole [] history.old → SessionEnds
+        (record {
+          ended = result;
+          form = form;
+          source = S.meaning source.old;
+          source' = S.meaning source.new;
+          sink = K.meaning sink.old;
+          sink' = K.meaning sink.new;
+          history = history.new;
+        }) (A.runs answers.new start) }
     ensures takes { EachGave (S.meaning source.old) (S.meaning source.new) }
-    ensures actors { history.new.actors ≡ history.old.actors }
-    ensures ran { result ≢ Status.Usage }
-    ensures grain { L.grain store.new ≡ L.grain store.old }
-    ensures disks { L.disks store.new ≡ L.disks store.old }
-    ensures quiet { L.Quiet store.old history.old.entries → StandsUnlessStarved result (L.Quiet store.new history.new.entries) }
+    ensures named { HasNames history.new }
     ensures limit { length history.new.entries ≤ 262144 }
 {
-    let ending = read_session(alloc, source, store, history);
-    let written = write_text(telling, history, sink);
-    status_of(ending, &written)
+    let mut output = Output::new(form);
+    let ending = read_session(alloc, source, &mut output, sink, answers, history);
+    match ending {
+        Ending::WriteFault => Ended::WriteFault,
+        _ => ended_by(ending, &output.write_rest(history, sink)),
+    }
 }

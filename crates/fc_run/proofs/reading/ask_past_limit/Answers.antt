@@ -1,5 +1,5 @@
 -- What was taken is one byte.
-use Rattle.std.proofs.Common.{rules, arith, Ok}
+use Rattle.std.proofs.Common.{arith, Ok}
 use Rattle.fc_run.proofs.TakesLemmas.{GaveAny-taken}
 use Rattle.fc_run.proofs.ReadingLemmas.{PastLimit-byte}
 use Rattle.fc_run.proofs.reading.ask_past_limit.Goals as goal

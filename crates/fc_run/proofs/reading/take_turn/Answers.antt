@@ -1,8 +1,8 @@
 -- A call that took bytes gave some.
-use Rattle.std.proofs.Common.{rules, arith, length}
-use Rattle.fc_run.proofs.TakesLemmas.{GaveSome-taken}
-use Rattle.fc_run.proofs.ReadingLemmas.{Turned-more, Turned-stopped}
-use Rattle.fc_run.proofs.Staying.{StandsAfter-stopped}
+use Rattle.std.proofs.Common.{arith, length, Err}
+use Rattle.fc_run.proofs.GrowingLemmas.{GrowsTo-same}
+use Rattle.fc_run.proofs.TakesLemmas.{GaveAny-taken, GaveSome-taken}
+use Rattle.fc_run.proofs.ReadingLemmas.{FedPiece-taken}
 use Rattle.fc_run.proofs.reading.take_turn.Goals as goal
 
 pub returns-in-Ok-feed-clause-took : goal.returns-in-Ok-feed-clause-took
@@ -16,19 +16,24 @@ returns-in-Err-feed-clause-took g c =
     c.in-Ok.ensures c.in-Ok.n-test.1
 
 pub returns-in-Ok-feed-clause-turned : goal.returns-in-Ok-feed-clause-turned
-returns-in-Ok-feed-clause-turned g c = λ w bytes before.
-    Turned-more c.in-Ok.n (length c.args.buffer.now) (g.S.Source.meaning c.args.source.now) (g.S.Source.meaning c.take.new.self)
-    c.take.new.out (g.L.LineStore.Stands c.feed.new.store) (g.L.LineStore.grain c.args.store.now) w bytes c.feed.new.line.items
-    c.feed.new.history.entries c.in-Ok.n-test.1 c.in-Ok.ensures.taken.fits (omega arith) c.in-Ok.ensures.taken.next
-    (c.in-Ok-feed.ensures.fed w bytes before)
+returns-in-Ok-feed-clause-turned g c = λ start bytes before.
+    FedPiece-taken c.in-Ok.n (length c.args.buffer.now) (g.S.Source.meaning c.args.source.now) (g.S.Source.meaning c.take.new.self)
+    c.take.new.out bytes _ c.in-Ok.n-test.1 c.in-Ok.ensures.taken.fits (omega arith) c.in-Ok.ensures.taken.next
+    (c.in-Ok-feed.ensures.fed start bytes before)
 
 pub returns-in-Err-feed-clause-turned : goal.returns-in-Err-feed-clause-turned
-returns-in-Err-feed-clause-turned g c = λ w bytes before.
-    Turned-stopped c.in-Ok.n (length c.args.buffer.now) c.in-Err-feed.stop (g.S.Source.meaning c.args.source.now) (g.S.Source.meaning c.take.new.self)
-    c.take.new.out (g.L.LineStore.Stands c.feed.new.store) (g.L.LineStore.grain c.args.store.now) w bytes c.feed.new.line.items
-    c.feed.new.history.entries c.in-Ok.n-test.1 c.in-Ok.ensures.taken.fits (omega arith) c.in-Ok.ensures.taken.next
-    (c.in-Err-feed.ensures.fed w bytes before)
+returns-in-Err-feed-clause-turned g c = λ start bytes before.
+    FedPiece-taken c.in-Ok.n (length c.args.buffer.now) (g.S.Source.meaning c.args.source.now) (g.S.Source.meaning c.take.new.self)
+    c.take.new.out bytes _ c.in-Ok.n-test.1 c.in-Ok.ensures.taken.fits (omega arith) c.in-Ok.ensures.taken.next
+    (c.in-Err-feed.ensures.fed start bytes before)
 
-pub returns-in-Err-feed-clause-quiet : goal.returns-in-Err-feed-clause-quiet
-returns-in-Err-feed-clause-quiet g c = λ q.
-    StandsAfter-stopped c.in-Ok.n c.in-Err-feed.stop (g.L.LineStore.Quiet c.feed.new.store c.feed.new.history.entries) (c.in-Err-feed.ensures.quiet q)
+pub returns-in-Ok-eq0-clause-grows : goal.returns-in-Ok-eq0-clause-grows
+returns-in-Ok-eq0-clause-grows g c = GrowsTo-same c.args.history.now
+
+pub returns-in-Err-clause-grows : goal.returns-in-Err-clause-grows
+returns-in-Err-clause-grows g c = GrowsTo-same c.args.history.now
+
+pub returns-in-Err-clause-took : goal.returns-in-Err-clause-took
+returns-in-Err-clause-took g c =
+    GaveAny-taken (g.S.Source.meaning c.args.source.now) (g.S.Source.meaning c.take.new.self) (Err c.in-Err.field-0) c.take.new.out
+    c.in-Err.ensures

@@ -1,12 +1,15 @@
--- Memory was wanted before anything was read; and the calls of the source don't depend on what is told.
-use Rattle.std.proofs.Common.{rules, ◌∙◌, ◌≡◌, ap, length, List}
-use Rattle.fc_run.proofs.EndingLemmas.{SessionRead-starved}
+-- The last line was answered, or stopped at, behind what was put.
+use Rattle.fc_run.proofs.GrowingLemmas.{IsPut-added}
 use Rattle.fc_run.proofs.session.read_session.Goals as goal
 
-pub returns-in-Err-clause-read : goal.returns-in-Err-clause-read
-returns-in-Err-clause-read g c = λ w stands fresh.
-    SessionRead-starved (g.S.Source.meaning c.args.source.now) (g.L.LineStore.Stands c.args.store.now)
-    (g.L.LineStore.grain c.args.store.now) w c.args.history.now.entries c.requires.first_entry
+pub returns-in-Ok-answer_last-clause-put : goal.returns-in-Ok-answer_last-clause-put
+returns-in-Ok-answer_last-clause-put g c =
+    IsPut-added (g.K.Sink.meaning c.args.sink.now) (g.K.Sink.meaning c.read_pieces-ending.new.sink) c.args.output.now.form
+    c.read_pieces-ending.new.output.put c.read_pieces-ending.new.history c.answer_last.new.history c.in-End.ensures.named c.in-End.ensures.within
+    c.answer_last.ensures.grows c.in-End.ensures.put.got
 
-pub returns-clause-quiet : goal.returns-clause-quiet
-returns-clause-quiet g c = λ q. c.end_input.ensures.quiet (c.read_pieces-ending.ensures.quiet q)
+pub returns-in-End-clause-put : goal.returns-in-End-clause-put
+returns-in-End-clause-put g c =
+    IsPut-added (g.K.Sink.meaning c.args.sink.now) (g.K.Sink.meaning c.read_pieces-ending.new.sink) c.args.output.now.form
+    c.read_pieces-ending.new.output.put c.read_pieces-ending.new.history c.answer_last.new.history c.in-End.ensures.named c.in-End.ensures.within
+    c.answer_last.ensures.grows c.in-End.ensures.put.got

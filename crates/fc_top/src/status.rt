@@ -1,7 +1,7 @@
 //! How a session ends.
 
 ghost use Rattle.std.specs.Prelude.{◌≡◌};
-ghost use Rattle.fc_run.specs.Codes.{code_of};
+ghost use Rattle.fc_top.specs.Codes.{code_of};
 
 /// How a session ended (docs/MANUAL.md, "Statuses").
 #[derive(Clone, Copy, Debug, PartialEq, Eq)]

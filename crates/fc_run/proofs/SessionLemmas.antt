@@ -1,0 +1,238 @@
+-- From how a session was read and written to how it ended.
+use Rattle.std.proofs.Common.{◌≡◌, ℕ, ◌+◌, ◌≤◌, Bool, true, false, List, [], ◌∷◌, ◌++◌, length, length-append, refl, sym, ap, subst, arith, inl, inr, Option, Some, None}
+use Rattle.std.specs.Option.{option_map}
+use Rattle.std.proofs.lemmas.List.{append-nil}
+use Rattle.fc_entry.specs.HistoryState.{HistoryState}
+use Rattle.fc_entry.specs.Lines.{ended_lines, all_lines}
+use Rattle.fc_entry.proofs.LineLemmas.{Grows, ended_lines-grow}
+use Rattle.fc_entry.specs.declared.stop.Stop.TheVariants.{LogFull, NoMemory}
+use Rattle.fc_io.specs.Sink.{SinkState}
+use Rattle.fc_io.specs.Source.{SourceState}
+use Rattle.fc_run.specs.Headline.{Session, SessionEnds}
+use Rattle.fc_run.specs.Input.{OfFirst, OfFirstTaken, input_limit}
+use Rattle.fc_run.specs.Output.{HasFailed, HasGot, IsPut, IsWritten, text_so_far}
+use Rattle.fc_run.specs.ReadTo.{SessionRead, ended_for, is_write_fault}
+use Rattle.fc_run.specs.Runs.{Runs}
+use Rattle.fc_run.specs.Summary.{text_of}
+use Rattle.fc_run.specs.declared.ended.Ended.{Ended}
+use Rattle.fc_run.specs.declared.ended.Ended.TheVariants as ended
+use Rattle.fc_run.specs.declared.form.Form.{Form}
+use Rattle.fc_run.specs.declared.reading.Ending.{Ending}
+use Rattle.fc_run.specs.declared.reading.Ending.TheVariants as ending
+
+-- whole lines are some first ones
+OfFirst-all : (lines : List (List ℕ)) (Holds : List (List ℕ) → Type 0) → Holds lines → OfFirst lines Holds
+OfFirst-all lines Holds holds = record { first = lines; rest = []; split = sym (append-nil lines); holds = holds }
+
+OfFirst-map :
+    (lines : List (List ℕ)) (Holds Also : List (List ℕ) → Type 0) →
+    ((first : List (List ℕ)) → Holds first → Also first) →
+    OfFirst lines Holds →
+    OfFirst lines Also
+OfFirst-map lines Holds Also also of = record { first = of.first; rest = of.rest; split = of.split; holds = also of.first of.holds }
+
+-- a session from outside
+abbrev pub session_of : Ended → Form → SourceState → SourceState → SinkState → SinkState → HistoryState → Session
+session_of e form source source' sink sink' history =
+    record { ended = e; form = form; source = source; source' = source'; sink = sink; sink' = sink'; history = history }
+
+-- the lines that ended before the byte past the limit are some first ones
+kept_first :
+    (source : SourceState) (bytes kept : List ℕ) (past : ℕ) (Holds : List (List ℕ) → Type 0) →
+    bytes ≡ kept ++ past ∷ [] →
+    Holds (ended_lines kept) →
+    OfFirstTaken source bytes Holds
+kept_first source bytes kept past Holds is holds =
+    let P : List ℕ → Type 0 = λ all. OfFirstTaken source all Holds in
+    let grows : Grows (ended_lines kept) (ended_lines (kept ++ past ∷ [])) = ended_lines-grow kept (past ∷ []) in
+    subst P (sym is)
+    record {
+      lines = ended_lines (kept ++ past ∷ []);
+      are = inl refl;
+      of = record { first = ended_lines kept; rest = grows.more; split = grows.is; holds = holds };
+    }
+
+past_length : (bytes kept : List ℕ) (past : ℕ) → bytes ≡ kept ++ past ∷ [] → length kept ≡ input_limit → length bytes ≤ input_limit + 1
+past_length bytes kept past is full =
+    let P : List ℕ → Type 0 = λ all. length all ≤ input_limit + 1 in
+    subst P (sym is) (omega (arith, length-append kept (past ∷ []), full))
+
+-- the sink failed before the end of input
+pub SessionEnds-unwritten :
+    (of form : Form) (put : ℕ) (source source' : SourceState) (sink sink' : SinkState) (runs : Runs) (history : HistoryState) →
+    of ≡ form →
+    SessionRead ending.WriteFault source source' runs history →
+    IsPut sink of put history true sink' →
+    SessionEnds (session_of ended.WriteFault form source source' sink sink' history) runs
+SessionEnds-unwritten of form put source source' sink sink' runs history same read puts =
+    let P : Form → Type 0 = λ f. HasFailed sink (text_of f history) sink' in
+    let cut : HasFailed sink (text_of form history) sink' = subst P same puts.cut in
+    record {
+      bytes = read.bytes;
+      gave = read.gave;
+      ends = (
+        cut.risen,
+        omega (arith, read.ends.0),
+        record { lines = ended_lines read.bytes; are = inl refl; of = OfFirst-all (ended_lines read.bytes) _ (inl read.ends.1) },
+        cut.front,
+      );
+    }
+
+-- the session was read to another end, and what was left of the text was to be written
+SessionEnds-written :
+    (e : Ending) (failed : Bool) (form : Form) (source source' : SourceState) (sink sink' : SinkState) (runs : Runs) (history : HistoryState) →
+    (e ≡ ending.WriteFault → ⊥) →
+    SessionRead e source source' runs history →
+    IsWritten sink (text_of form history) failed sink' →
+    SessionEnds (session_of (ended_for e failed) form source source' sink sink' history) runs
+SessionEnds-written ending.End false form source source' sink sink' runs history other read written = record {
+  bytes = read.bytes;
+  gave = read.gave;
+  ends = (read.ends.0, read.ends.1, read.ends.2, (written.got.held, written.sent));
+}
+SessionEnds-written ending.End true form source source' sink sink' runs history other read written = record {
+  bytes = read.bytes;
+  gave = read.gave;
+  ends = (
+    written.cut.risen,
+    omega (arith, read.ends.1),
+    record { lines = all_lines read.bytes; are = inr (read.ends.0, refl); of = OfFirst-all (all_lines read.bytes) _ (inl read.ends.2) },
+    written.cut.front,
+  );
+}
+SessionEnds-written ending.ReadFault false form source source' sink sink' runs history other read written = record {
+  bytes = read.bytes;
+  gave = read.gave;
+  ends = (read.ends.0, read.ends.1, read.ends.2, (written.got.held, written.sent));
+}
+SessionEnds-written ending.ReadFault true form source source' sink sink' runs history other read written = record {
+  bytes = read.bytes;
+  gave = read.gave;
+  ends = (
+    written.cut.risen,
+    omega (arith, read.ends.1),
+    record { lines = ended_lines read.bytes; are = inl refl; of = OfFirst-all (ended_lines read.bytes) _ (inl read.ends.2) },
+    written.cut.front,
+  );
+}
+SessionEnds-written ending.TooLong false form source source' sink sink' runs history other read written = record {
+  bytes = read.bytes;
+  gave = read.gave;
+  ends = (read.ends.0, read.ends.1, read.ends.2, read.ends.3, read.ends.4, (written.got.held, written.sent));
+}
+SessionEnds-written ending.TooLong true form source source' sink sink' runs history other read written = record {
+  bytes = read.bytes;
+  gave = read.gave;
+  ends = (
+    written.cut.risen,
+    past_length read.bytes read.ends.0 read.ends.1 read.ends.2 read.ends.3,
+    kept_first source' read.bytes read.ends.0 read.ends.1 _ read.ends.2 (inl read.ends.4),
+    written.cut.front,
+  );
+}
+SessionEnds-written ending.WriteFault failed form source source' sink sink' runs history other read written = absurd (other refl)
+SessionEnds-written (ending.Stopped LogFull) false form source source' sink sink' runs history other read written = record {
+  bytes = read.bytes;
+  gave = read.gave;
+  ends = (
+    read.ends.0,
+    record { lines = read.ends.1.0; are = read.ends.1.1; of = read.ends.1.2.0 },
+    read.ends.1.2.1,
+    (written.got.held, written.sent),
+  );
+}
+SessionEnds-written (ending.Stopped LogFull) true form source source' sink sink' runs history other read written = record {
+  bytes = read.bytes;
+  gave = read.gave;
+  ends = (
+    written.cut.risen,
+    omega (arith, read.ends.0),
+    record {
+      lines = read.ends.1.0;
+      are = read.ends.1.1;
+      of = OfFirst-map read.ends.1.0 _ _ (λ first full. inr full) read.ends.1.2.0;
+    },
+    written.cut.front,
+  );
+}
+SessionEnds-written (ending.Stopped NoMemory) false form source source' sink sink' runs history other read written = record {
+  bytes = read.bytes;
+  gave = read.gave;
+  ends = (
+    read.ends.0,
+    record { lines = read.ends.1.0; are = read.ends.1.1; of = read.ends.1.2 },
+    record { front = text_of form history; rest = []; split = sym (append-nil (text_of form history)); added = written.got.held },
+  );
+}
+SessionEnds-written (ending.Stopped NoMemory) true form source source' sink sink' runs history other read written = record {
+  bytes = read.bytes;
+  gave = read.gave;
+  ends = (
+    read.ends.0,
+    record { lines = read.ends.1.0; are = read.ends.1.1; of = read.ends.1.2 },
+    written.cut.front,
+  );
+}
+
+is_write_fault-other : (e : Ending) → (e ≡ ending.WriteFault → ⊥) → is_write_fault e ≡ false
+is_write_fault-other ending.End other = refl
+is_write_fault-other ending.ReadFault other = refl
+is_write_fault-other ending.TooLong other = refl
+is_write_fault-other ending.WriteFault other = absurd (other refl)
+is_write_fault-other (ending.Stopped stop) other = refl
+
+-- what was left of the text was to be written behind what was put
+written_behind :
+    (e : Ending) (failed : Bool) (first out form : Form) (put : ℕ) (sink mid sink' : SinkState) (history : HistoryState) →
+    (e ≡ ending.WriteFault → ⊥) →
+    first ≡ form →
+    out ≡ first →
+    IsPut sink first put history (is_write_fault e) mid →
+    ((start : SinkState) → HasGot start (text_so_far out put history) mid → IsWritten start (text_of out history) failed sink') →
+    IsWritten sink (text_of form history) failed sink'
+written_behind e failed first out form put sink mid sink' history other same kept puts writes =
+    let P : Bool → Type 0 = λ b. IsPut sink first put history b mid in
+    let Q : Form → Type 0 = λ f. HasGot sink (text_so_far f put history) mid → IsWritten sink (text_of f history) failed sink' in
+    let R : Form → Type 0 = λ f. IsWritten sink (text_of f history) failed sink' in
+    let so_far : IsPut sink first put history false mid = subst P (is_write_fault-other e other) puts in
+    subst R same (subst Q kept (writes sink) so_far.got)
+
+-- how the session ended is what was computed
+pub SessionEnds-by :
+    (result : Ended) (e : Ending) (failed : Bool) (first out form : Form) (put : ℕ) (source source' : SourceState) (sink mid sink' : SinkState) (runs : Runs) (history : HistoryState) →
+    result ≡ ended_for e failed →
+    (e ≡ ending.WriteFault → ⊥) →
+    first ≡ form →
+    out ≡ first →
+    SessionRead e source source' runs history →
+    IsPut sink first put history (is_write_fault e) mid →
+    ((start : SinkState) → HasGot start (text_so_far out put history) mid → IsWritten start (text_of out history) failed sink') →
+    SessionEnds (session_of result form source source' sink sink' history) runs
+SessionEnds-by result e failed first out form put source source' sink mid sink' runs history is other same kept read puts writes =
+    let P : Ended → Type 0 = λ r. SessionEnds (session_of r form source source' sink sink' history) runs in
+    subst P (sym is)
+    (SessionEnds-written e failed form source source' sink sink' runs history other read
+    (written_behind e failed first out form put sink mid sink' history other same kept puts writes))
+
+gave_nothing : (left : Option (List ℕ)) → left ≡ option_map (λ rest. [] ++ rest) left
+gave_nothing None = refl
+gave_nothing (Some rest) = refl
+
+held_nothing : (held : Option (List ℕ)) → held ≡ option_map (λ bytes. bytes ++ []) held
+held_nothing None = refl
+held_nothing (Some bytes) = ap Some (sym (append-nil bytes))
+
+-- memory was wanted before anything was read
+pub SessionEnds-starved :
+    (form : Form) (source : SourceState) (sink : SinkState) (runs : Runs) (history : HistoryState) →
+    runs.Whole [] history →
+    SessionEnds (session_of ended.NoMemory form source source sink sink history) runs
+SessionEnds-starved form source sink runs history whole = record {
+  bytes = [];
+  gave = gave_nothing source.left;
+  ends = (
+    omega arith,
+    record { lines = []; are = inl refl; of = OfFirst-all [] _ (inl whole) },
+    record { front = []; rest = text_of form history; split = refl; added = held_nothing sink.held },
+  );
+}
