@@ -122,7 +122,7 @@ access_of_lane grain w number (CopyTurn lane) at = absurd at
 access_of_lane grain w number (CleanTurn lane) at = absurd at
 access_of_lane grain w number request at = (number, at, refl)
 
--- What an entry of a lane answers by all chains and all plain volumes.
+-- What an entry of a lane answers by all, that is by all chains and all plain volumes.
 abbrev pub AnswersByAll : GrainSize → Whole → ℕ → Request → Entry → Type 0
 AnswersByAll grain w i (CopyTurn lane) entry = TurnAnswers (CopyAnswers (all_grains grain) (as_one w)) (next_copy (lane_at grain w i) (part_at grain w i)) entry
 AnswersByAll grain w i (CleanTurn lane) entry = TurnAnswers (CleanAnswers (all_grains grain) (as_one w)) (next_clean (lane_at grain w i) (part_at grain w i)) entry
@@ -149,7 +149,7 @@ by_all grain w i (CleanTurn lane) entry lt asked a =
 by_all grain w i request entry lt asked a =
     answers_by_all (lane_at grain w i) lt (as_one w) (part_at grain w i) (part_follows grain w i) asked.0 asked.2 request entry asked.1 a
 
--- Any number of answers.
+-- It is a step of its lane, with what it answers by all.
 as_step : (grain : GrainSize) (w : Whole) (i : ℕ) (Answers : Entry → Type 0) (entry : Entry) → IsRightInLane (lane_at grain w i) (part_at grain w i) entry → Answers entry →
     LaneStep grain w i Answers entry (after_access grain w i entry)
 as_step grain w i Answers entry right answers =

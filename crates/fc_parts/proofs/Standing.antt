@@ -47,7 +47,7 @@ after_stands grain decisions w i entry before no_effects sound =
       rows = rows_stay all w.books.tables w.rows entry before.rows;
     }
 
--- What an entry of a lane leaves of the chains, by what it answers by all grains.
+-- What an entry of a lane answers by all leaves the chains sound.
 request_sound : (grain : GrainSize) (w : Whole) (i : ℕ) (request : Request) (entry : Entry) → IsSound w.books.sheet → IsOfLane grain w i request → AnswersByAll grain w i request entry →
     IsSound (sheet_entry (all_grains grain) w.books.sheet (done_write request entry.reply) entry.moves entry.torn)
 request_sound grain w i (CopyTurn lane) entry sound asked a = copy_turn_sound (all_grains grain) (as_one w) _ entry sound a
