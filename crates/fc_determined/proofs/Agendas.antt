@@ -1,15 +1,17 @@
 -- What an agenda asks next, and how it goes on, is determined by what is told, but for the faults of disks.
-use Rattle.std.proofs.Common.{◌≡◌, ℕ, Option, Some, None, List, [], ◌∷◌, refl, sym, ap, ◌∙◌}
+use Rattle.std.proofs.Common.{◌≡◌, ℕ, Bool, true, false, Option, Some, None, List, [], ◌∷◌, refl, sym, ap, subst, ◌∙◌}
 use Rattle.std.specs.Option.{option_map}
 use Rattle.fc_base.specs.declared.ids.GrainNo.{GrainNo}
 use Rattle.fc_base.specs.declared.request.Request.{Request}
 use Rattle.fc_base.specs.declared.size.GrainSize.{GrainSize}
+use Rattle.fc_blocks.specs.Segments.{Segment, single, together}
 use Rattle.fc_determined.proofs.Commands.{with_faults}
 use Rattle.fc_determined.proofs.Entries.{same_is}
 use Rattle.fc_determined.specs.Smooth.{TellTheSame, but_for_faults}
+use Rattle.fc_determined.specs.WithoutBlocks.{AreLines, IsWithoutBlocks}
 use Rattle.fc_entry.specs.declared.entry.Entry.{Entry}
-use Rattle.fc_legal.specs.Agenda.{Agenda, Reading, Lines, Own, Seconds, behind_entry, behind_fill, next_asked, next_of_second, without_entry, without_fill}
-use Rattle.fc_legal.specs.Seconds.{Passing, Work, fill_at_hand, fill_of, goes_on_with, next_fill, next_grain}
+use Rattle.fc_legal.specs.Agenda.{Agenda, Reading, Asks, Begins, Session, Own, Seconds, Faults, Actors, behind_entry, behind_fill, behind_own, is_done, segment_read, next_asked, next_of_second, without_entry, without_fill}
+use Rattle.fc_legal.specs.Seconds.{Passing, Work, fill_at_hand, fill_of, goes_on, goes_on_with, next_fill, next_grain}
 use Rattle.fc_legal.specs.Whole.{Whole}
 
 module _ (grain : GrainSize) (read : Reading) where
@@ -27,23 +29,29 @@ module _ (grain : GrainSize) (read : Reading) where
     goes_on_alike p (Some work) = refl
 
     asked_alike : (a : Agenda) → next_asked grain a (with_faults w faults) ≡ next_asked grain a w
-    asked_alike (Lines ls) = refl
-    asked_alike (Own [] n ls) = refl
-    asked_alike (Own (request ∷ rest) n ls) = refl
-    asked_alike (Seconds p ls) = ap (option_map (λ (next : Work × GrainNo). (0, fill_of next.0 next.1))) (fill_alike p.at_hand)
+    asked_alike (Session segs) = refl
+    asked_alike (Own [] n segs) = refl
+    asked_alike (Own (request ∷ rest) n segs) = refl
+    asked_alike (Faults [] actors segs) = refl
+    asked_alike (Faults (request ∷ rest) actors segs) = refl
+    asked_alike (Actors scripts segs) = refl
+    asked_alike (Seconds p segs) = ap (option_map (λ (next : Work × GrainNo). (0, fill_of next.0 next.1))) (fill_alike p.at_hand)
 
-    no_fill_alike : (p : Passing) (fill : Option (Work × GrainNo)) (ls : List (List ℕ)) → without_fill grain (with_faults w faults) p fill ls ≡ without_fill grain w p fill ls
-    no_fill_alike p None ls = ap (λ next. Some (next_of_second next ls)) (goes_on_alike p p.at_hand)
-    no_fill_alike p (Some next) ls = refl
+    no_fill_alike : (p : Passing) (fill : Option (Work × GrainNo)) (segs : List Segment) → without_fill grain (with_faults w faults) p fill segs ≡ without_fill grain w p fill segs
+    no_fill_alike p None segs = ap (λ next. Some (next_of_second next segs)) (goes_on_alike p p.at_hand)
+    no_fill_alike p (Some next) segs = refl
 
     passes_alike : (a : Agenda) → without_entry grain read a (with_faults w faults) ≡ without_entry grain read a w
-    passes_alike (Lines []) = refl
-    passes_alike (Lines (line ∷ ls)) = refl
-    passes_alike (Own [] n ls) = refl
-    passes_alike (Own (request ∷ rest) n ls) = refl
-    passes_alike (Seconds p ls) =
-        ap (λ fill. without_fill grain (with_faults w faults) p fill ls) (fill_alike p.at_hand)
-        ∙ no_fill_alike p (next_fill grain w p) ls
+    passes_alike (Session []) = refl
+    passes_alike (Session (single line ∷ segs)) = refl
+    passes_alike (Session (together block ∷ segs)) = refl
+    passes_alike (Faults requests actors segs) = refl
+    passes_alike (Actors scripts segs) = refl
+    passes_alike (Own [] n segs) = refl
+    passes_alike (Own (request ∷ rest) n segs) = refl
+    passes_alike (Seconds p segs) =
+        ap (λ fill. without_fill grain (with_faults w faults) p fill segs) (fill_alike p.at_hand)
+        ∙ no_fill_alike p (next_fill grain w p) segs
 
     behind_fill_alike : (p : Passing) (entry : Entry) (at_hand : Option Work) → behind_fill grain (with_faults w faults) p at_hand entry ≡ behind_fill grain w p at_hand entry
     unfolding next_grain
@@ -51,11 +59,14 @@ module _ (grain : GrainSize) (read : Reading) where
     behind_fill_alike p entry (Some work) = refl
 
     behind_alike : (a : Agenda) (entry : Entry) → behind_entry grain a (with_faults w faults) entry ≡ behind_entry grain a w entry
-    behind_alike (Lines ls) entry = refl
-    behind_alike (Own [] n ls) entry = refl
-    behind_alike (Own (request ∷ []) n ls) entry = refl
-    behind_alike (Own (request ∷ next ∷ rest) n ls) entry = refl
-    behind_alike (Seconds p ls) entry = ap (λ (q : Passing). Seconds q ls) (behind_fill_alike p entry p.at_hand)
+    behind_alike (Session segs) entry = refl
+    behind_alike (Faults [] actors segs) entry = refl
+    behind_alike (Faults (request ∷ rest) actors segs) entry = refl
+    behind_alike (Actors scripts segs) entry = refl
+    behind_alike (Own [] n segs) entry = refl
+    behind_alike (Own (request ∷ []) n segs) entry = refl
+    behind_alike (Own (request ∷ next ∷ rest) n segs) entry = refl
+    behind_alike (Seconds p segs) entry = ap (λ (q : Passing). Seconds q segs) (behind_fill_alike p entry p.at_hand)
 
   -- ---- what is behind an entry doesn't speak of the faults that it counts
 
@@ -64,11 +75,14 @@ module _ (grain : GrainSize) (read : Reading) where
   fill_told w p entry (Some work) = refl
 
   behind_told : (a : Agenda) (w : Whole) (entry : Entry) → behind_entry grain a w (but_for_faults entry) ≡ behind_entry grain a w entry
-  behind_told (Lines ls) w entry = refl
-  behind_told (Own [] n ls) w entry = refl
-  behind_told (Own (request ∷ []) n ls) w entry = refl
-  behind_told (Own (request ∷ next ∷ rest) n ls) w entry = refl
-  behind_told (Seconds p ls) w entry = ap (λ (q : Passing). Seconds q ls) (fill_told w p entry p.at_hand)
+  behind_told (Session segs) w entry = refl
+  behind_told (Faults [] actors segs) w entry = refl
+  behind_told (Faults (request ∷ rest) actors segs) w entry = refl
+  behind_told (Actors scripts segs) w entry = refl
+  behind_told (Own [] n segs) w entry = refl
+  behind_told (Own (request ∷ []) n segs) w entry = refl
+  behind_told (Own (request ∷ next ∷ rest) n segs) w entry = refl
+  behind_told (Seconds p segs) w entry = ap (λ (q : Passing). Seconds q segs) (fill_told w p entry p.at_hand)
 
   -- ---- after what tells the same
 
@@ -91,15 +105,78 @@ module _ (grain : GrainSize) (read : Reading) where
   -- ---- it asks, or it goes on without an entry
 
   not_both_fill :
-      (w : Whole) (p : Passing) (ls : List (List ℕ)) (fill : Option (Work × GrainNo)) (asked : ℕ × Request) (b : Agenda) →
+      (w : Whole) (p : Passing) (segs : List Segment) (fill : Option (Work × GrainNo)) (asked : ℕ × Request) (b : Agenda) →
       option_map (λ (next : Work × GrainNo). (0, fill_of next.0 next.1)) fill ≡ Some asked →
-      without_fill grain w p fill ls ≡ Some b →
+      without_fill grain w p fill segs ≡ Some b →
       ⊥
-  not_both_fill w p ls None asked b h k = absurd (cc h)
-  not_both_fill w p ls (Some next) asked b h k = absurd (cc k)
+  not_both_fill w p segs None asked b h k = absurd (cc h)
+  not_both_fill w p segs (Some next) asked b h k = absurd (cc k)
 
   pub not_both : (a b : Agenda) (w : Whole) (asked : ℕ × Request) → next_asked grain a w ≡ Some asked → without_entry grain read a w ≡ Some b → ⊥
-  not_both (Lines ls) b w asked h k = absurd (cc h)
-  not_both (Own [] n ls) b w asked h k = absurd (cc h)
-  not_both (Own (request ∷ rest) n ls) b w asked h k = absurd (cc k)
-  not_both (Seconds p ls) b w asked h k = not_both_fill w p ls (next_fill grain w p) asked b h k
+  not_both (Session segs) b w asked h k = absurd (cc h)
+  not_both (Faults requests actors segs) b w asked h k = absurd (cc k)
+  not_both (Actors scripts segs) b w asked h k = absurd (cc h)
+  not_both (Own [] n segs) b w asked h k = absurd (cc h)
+  not_both (Own (request ∷ rest) n segs) b w asked h k = absurd (cc k)
+  not_both (Seconds p segs) b w asked h k = not_both_fill w p segs (next_fill grain w p) asked b h k
+
+  -- ---- without blocks
+
+  -- it stays so, `main` alone asks, and no actors begin
+  lines_read : (w : Whole) (segment : Segment) (segs : List Segment) → AreLines (segment ∷ segs) → IsWithoutBlocks (segment_read grain read w segment segs)
+  lines_read w (single line) segs alone = alone
+  lines_read w (together block) segs alone = absurd alone
+
+  second_alone : (next : Option Passing) (segs : List Segment) → AreLines segs → IsWithoutBlocks (next_of_second next segs)
+  second_alone None segs alone = alone
+  second_alone (Some p) segs alone = alone
+
+  fill_alone :
+      (w : Whole) (p : Passing) (fill : Option (Work × GrainNo)) (segs : List Segment) (b : Agenda) →
+      AreLines segs →
+      without_fill grain w p fill segs ≡ Some b →
+      IsWithoutBlocks b
+  fill_alone w p None segs b alone e =
+      let is : next_of_second (goes_on grain w p) segs ≡ b = cc e in
+      subst IsWithoutBlocks is (second_alone (goes_on grain w p) segs alone)
+  fill_alone w p (Some next) segs b alone e = absurd (cc e)
+
+  pub passes_alone : (a b : Agenda) (w : Whole) → IsWithoutBlocks a → without_entry grain read a w ≡ Some b → IsWithoutBlocks b
+  passes_alone (Session []) b w alone e = absurd (cc e)
+  passes_alone (Session (segment ∷ segs)) b w alone e =
+      let is : segment_read grain read w segment segs ≡ b = cc e in
+      subst IsWithoutBlocks is (lines_read w segment segs alone)
+  passes_alone (Own [] n segs) b w alone e =
+      let is : Session segs ≡ b = cc e in
+      subst IsWithoutBlocks is alone
+  passes_alone (Own (request ∷ rest) n segs) b w alone e = absurd (cc e)
+  passes_alone (Seconds p segs) b w alone e = fill_alone w p (next_fill grain w p) segs b alone e
+  passes_alone (Faults requests actors segs) b w alone e = absurd alone
+  passes_alone (Actors scripts segs) b w alone e = absurd alone
+
+  own_alone : (next : Whole) (done : Bool) (rest : List Request) (n : ℕ) (segs : List Segment) → AreLines segs → IsWithoutBlocks (behind_own next done rest n segs)
+  own_alone next true [] n segs alone = alone
+  own_alone next false [] n segs alone = alone
+  own_alone next done (request ∷ rest) n segs alone = alone
+
+  pub behind_alone : (a : Agenda) (next : Whole) (entry : Entry) → IsWithoutBlocks a → IsWithoutBlocks (behind_entry grain a next entry)
+  behind_alone (Session segs) next entry alone = alone
+  behind_alone (Own [] n segs) next entry alone = alone
+  behind_alone (Own (request ∷ rest) n segs) next entry alone = own_alone next (is_done entry.reply) rest n segs alone
+  behind_alone (Seconds p segs) next entry alone = alone
+  behind_alone (Faults requests actors segs) next entry alone = absurd alone
+  behind_alone (Actors scripts segs) next entry alone = absurd alone
+
+  pub main_asks : (a : Agenda) (w : Whole) (asked : ℕ × Request) → IsWithoutBlocks a → Asks grain a w asked → next_asked grain a w ≡ Some asked
+  main_asks (Session segs) w asked alone h = h
+  main_asks (Own requests n segs) w asked alone h = h
+  main_asks (Seconds p segs) w asked alone h = h
+  main_asks (Faults requests actors segs) w asked alone h = absurd alone
+  main_asks (Actors scripts segs) w asked alone h = absurd alone
+
+  pub none_begins : (a b : Agenda) (w v : Whole) → IsWithoutBlocks a → Begins grain a w b v → ⊥
+  none_begins (Session segs) b w v alone on = on
+  none_begins (Own requests n segs) b w v alone on = on
+  none_begins (Seconds p segs) b w v alone on = on
+  none_begins (Faults requests actors segs) b w v alone on = alone
+  none_begins (Actors scripts segs) b w v alone on = alone

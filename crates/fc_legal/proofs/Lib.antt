@@ -1,6 +1,7 @@
 -- Lemmas, one subject a file; and the definitions on closed examples.
 pub mod Appending
 pub mod Events
+pub mod Naming
 pub mod Rows
 pub mod SecondsExamples
 pub mod TurnExamples

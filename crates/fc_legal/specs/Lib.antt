@@ -5,6 +5,7 @@ pub mod Legal
 pub mod Stands
 pub mod Lawful
 pub mod Asked
+pub mod Scripts
 pub mod Seconds
 pub mod Agenda
 pub mod Run

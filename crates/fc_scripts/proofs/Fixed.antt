@@ -25,7 +25,7 @@ use Rattle.fc_entry.specs.declared.entry.Entry.{Entry}
 use Rattle.fc_legal.specs.Asked.{access_by, access_asked, command_asked, read_in, write_in}
 use Rattle.fc_scripts.specs.Actors.{asks_of, AreAll, AreFirst}
 use Rattle.fc_scripts.specs.Law.{ScriptsLaw}
-use Rattle.fc_scripts.specs.Scripts.{Script, line_asked, asked_as, script_of, scripts_of}
+use Rattle.fc_legal.specs.Scripts.{Script, line_asked, asked_as, script_of, scripts_of}
 
 access_fixed : (grain : GrainSize) (b c : Books) (command : Command) (volume : Ref) (block count : ℕ) (request : VolId → ℕ → Request) → b.tables.volumes ≡ c.tables.volumes →
     access_asked grain b command volume block count request ≡ access_asked grain c command volume block count request

@@ -21,7 +21,7 @@ use Rattle.fc_books.proofs.Examples.{vol, volume, books}
 use Rattle.fc_books.specs.Books.{Books}
 use Rattle.fc_entry.specs.declared.entry.Entry.{Entry}
 use Rattle.fc_scripts.specs.Actors.{asks_of, AreAll, AreFirst, WantMore}
-use Rattle.fc_scripts.specs.Scripts.{Script, script_of, faults_asked}
+use Rattle.fc_legal.specs.Scripts.{Script, script_of, faults_asked}
 
 -- two volumes of 16 grains, each of 128 blocks
 abbrev two : Books

@@ -5,7 +5,7 @@ use Rattle.fc_blocks.specs.declared.block.ActorRead.{ActorRead}
 use Rattle.fc_books.specs.Books.{Books}
 use Rattle.fc_entry.specs.declared.entry.Entry.{Entry}
 use Rattle.fc_scripts.specs.Actors.{AreAll, AreFirst}
-use Rattle.fc_scripts.specs.Scripts.{Script, scripts_of}
+use Rattle.fc_legal.specs.Scripts.{Script, scripts_of}
 
 pub record ScriptsLaw : Type 0 where
   -- scripts go by the volumes: books with the same ones give the same scripts
