@@ -1,3 +1,7 @@
 -- Lemmas, one subject a file; and the definitions on closed examples.
 pub mod Fixed
+pub mod Left
+pub mod Numbers
 pub mod ScriptExamples
+pub mod Sorted
+pub mod Through
