@@ -1,4 +1,5 @@
 -- Lemmas, one subject a file; and the definitions on closed examples.
+pub mod BlockExamples
 pub mod Fixed
 pub mod Left
 pub mod Numbers
