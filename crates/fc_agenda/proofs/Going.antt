@@ -3,7 +3,7 @@ use Rattle.std.proofs.Common.{◌≡◌, ℕ, List, [], ◌∷◌, ◌++◌, sub
 use Rattle.std.proofs.lemmas.List.{append-nil}
 use Rattle.fc_entry.specs.declared.entry.Entry.{Entry}
 use Rattle.fc_agenda.specs.Rules.{Rules}
-use Rattle.fc_agenda.specs.Goes.{Goes, stays, passes, answers, GoesToEnd, GoesSome, GoesAsking}
+use Rattle.fc_agenda.specs.Goes.{Goes, stays, passes, begins, answers, GoesToEnd, GoesSome, GoesAsking}
 
 -- One way behind another.
 pub Goes-append :
@@ -14,6 +14,8 @@ pub Goes-append :
 Goes-append rules a b c w mid last xs ys stays after = after
 Goes-append rules a b c w mid last xs ys (passes {b = then} on way) after =
     passes on (Goes-append rules then b c w mid last xs ys way after)
+Goes-append rules a b c w mid last xs ys (begins {b = then} {v = told} on way) after =
+    begins on (Goes-append rules then b c told mid last xs ys way after)
 Goes-append rules a b c w mid last xs ys (answers {next = next} {entry = entry} {entries = rest} asked right way) after =
     answers asked right (Goes-append rules (rules.after a next entry) b c next mid last rest ys way after)
 
@@ -26,6 +28,16 @@ pub Goes-pass :
 Goes-pass rules a b c w last xs before on =
     let P : List Entry → Type 0 = λ es. Goes rules a w es c last in
     subst P (append-nil xs) (Goes-append rules a b c w last last xs [] before (passes on stays))
+
+-- It goes on without an entry, and something more is told.
+pub Goes-begin :
+    {Told Agenda : Type 0} (rules : Rules Told Agenda) (a b c : Agenda) (w mid last : Told) (xs : List Entry) →
+    Goes rules a w xs b mid →
+    rules.Begins b mid c last →
+    Goes rules a w xs c last
+Goes-begin rules a b c w mid last xs before on =
+    let P : List Entry → Type 0 = λ es. Goes rules a w es c last in
+    subst P (append-nil xs) (Goes-append rules a b c w mid last xs [] before (begins on stays))
 
 -- It goes on by an entry.
 pub Goes-answer :

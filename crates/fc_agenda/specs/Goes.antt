@@ -9,6 +9,8 @@ pub data Goes {Told Agenda : Type 0} (rules : Rules Told Agenda) : Agenda → To
   stays : {a : Agenda} {w : Told} → Goes rules a w [] a w
   passes : {a b c : Agenda} {w last : Told} {entries : List Entry} →
       rules.Passes a w b → Goes rules b w entries c last → Goes rules a w entries c last
+  begins : {a b c : Agenda} {w v last : Told} {entries : List Entry} →
+      rules.Begins a w b v → Goes rules b v entries c last → Goes rules a w entries c last
   answers : {a c : Agenda} {w next last : Told} {entry : Entry} {entries : List Entry} →
       rules.Asks a w (entry.actor, entry.request) → rules.Right w entry next →
       Goes rules (rules.after a next entry) next entries c last → Goes rules a w (entry ∷ entries) c last

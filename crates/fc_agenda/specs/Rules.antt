@@ -1,4 +1,5 @@
--- An agenda: all that is still to be asked. Lines of a session, the requests of one line and the seconds that pass are agendas.
+-- An agenda: all that is still to be asked. The lines and blocks of a session, the requests of one line, the seconds that pass and
+-- the scripts of a block's actors are agendas.
 use Rattle.std.specs.Prelude.{ℕ}
 use Rattle.fc_base.specs.declared.request.Request.{Request}
 use Rattle.fc_entry.specs.declared.entry.Entry.{Entry}
@@ -13,5 +14,7 @@ pub record Rules (Told Agenda : Type 0) : Type 1 where
   pub after : Agenda → Told → Entry → Agenda
   -- when the agenda goes on without an entry, and to which
   pub Passes : Agenda → Told → Agenda → Type 0
+  -- when it goes on without an entry and something more is told: to which agenda, and what is told then
+  pub Begins : Agenda → Told → Agenda → Told → Type 0
   -- when nothing is left
   pub Over : Agenda → Told → Type 0

@@ -1,5 +1,5 @@
 -- A legal history, entry by entry: where no disk has failed at its end, all is served and nothing is lost.
-use Rattle.std.proofs.Common.{◌≡◌, ℕ, ◌+◌, ◌*◌, ◌^◌, ◌≤◌, Bool, Option, Some, None, List, [], ◌∷◌, length, refl, sym, subst, arith}
+use Rattle.std.proofs.Common.{◌≡◌, ℕ, ◌+◌, ◌*◌, ◌^◌, ◌≤◌, Bool, Option, Some, None, List, [], ◌∷◌, ◌++◌, length, refl, sym, subst, arith}
 use Rattle.std.proofs.lemmas.List.Elements.{All-nil, All-cons}
 use Rattle.fc_base.specs.Count.{HasRisen}
 use Rattle.fc_base.specs.Sheet.{live_place}
@@ -22,12 +22,12 @@ use Rattle.fc_complete.proofs.Answers.{read_served, write_served, fill_served, a
 use Rattle.fc_complete.proofs.Contents.{spot_there}
 use Rattle.fc_complete.proofs.Faults.{HasNoFault, not_risen, access_faultless, step_faultless, turn_faultless}
 use Rattle.fc_complete.proofs.Pictures.{effects_unharmed, plain_unharmed}
-use Rattle.fc_complete.proofs.Standing.{later_stands, counted_stands, command_stands}
+use Rattle.fc_complete.proofs.Standing.{later_stands, counted_stands, command_stands, named_stands}
 use Rattle.fc_complete.specs.Law.{AreServed}
 use Rattle.fc_complete.specs.Served.{AreFaultless, IsUnharmed, IsServedReply, IsServed}
 use Rattle.fc_entry.specs.Picture.{grain_of_block}
 use Rattle.fc_entry.specs.declared.entry.Entry.{Entry}
-use Rattle.fc_legal.specs.Legal.{IsLegal}
+use Rattle.fc_legal.specs.Legal.{IsLegal, IsNamed}
 use Rattle.fc_legal.specs.Stands.{Stands}
 use Rattle.fc_legal.specs.Steps.{Step, RequestStep, LaneStep, AccessStep, TurnStep, CommandStep, CommandIsRight, CommandLeft, IsRefused, AccessIsRefused, after_settling, decided_on}
 use Rattle.fc_legal.specs.Steps.CommandLeft.{decided, unsettled, settled_alone}
@@ -192,11 +192,23 @@ step_well grain decisions w entry next before few unharmed step faultless =
 
 -- ---- all entries
 
+-- Names of actors say nothing of disks, and nothing of what is told of volumes.
+named_faultless : (w v : Whole) → IsNamed w v → AreFaultless v → AreFaultless w
+named_faultless w v h faultless =
+    let P : Whole → Type 0 = λ u. AreFaultless u in
+    let same : AreFaultless (record w { actors = w.actors ++ h.more }) = subst P h.named faultless in
+    record { some = same.some; none = same.none }
+
+named_unharmed : (w v : Whole) → IsNamed w v → IsUnharmed w.picture → IsUnharmed v.picture
+named_unharmed w v h unharmed =
+    let P : Whole → Type 0 = λ u. IsUnharmed u.picture in
+    subst P (sym h.named) unharmed
+
 pub history_faultless : (grain : GrainSize) (w last : Whole) (entries : List Entry) → IsLegal grain w entries last → AreFaultless last → AreFaultless w
-history_faultless grain w last [] h faultless =
-    let P : Whole → Type 0 = λ v. AreFaultless v in
-    subst P h faultless
-history_faultless grain w last (x ∷ xs) h faultless = step_faultless grain w x h.0 h.1 (history_faultless grain h.0 last xs h.2 faultless)
+history_faultless grain w last [] h faultless = named_faultless w last h faultless
+history_faultless grain w last (x ∷ xs) h faultless =
+    named_faultless w h.1.before h.1.named
+    (step_faultless grain h.1.before x h.0 h.1.step (history_faultless grain h.0 last xs h.2 faultless))
 
 pub history_served :
     (grain : GrainSize) (decisions : ℕ) (w last : Whole) (entries : List Entry) →
@@ -207,12 +219,12 @@ pub history_served :
     IsUnharmed w.picture →
     AreServed entries last
 history_served grain decisions w last [] before few h faultless unharmed =
-    let P : Whole → Type 0 = λ v. IsUnharmed v.picture in
-    record { each = All-nil IsServed; unharmed = subst P (sym h) unharmed }
+    record { each = All-nil IsServed; unharmed = named_unharmed w last h unharmed }
 history_served grain decisions w last (x ∷ xs) before few h faultless unharmed =
     let first : decisions + 2 ≤ 2 ^ 32 = omega (arith, few) in
     let rest : decisions + 2 + 2 * length xs ≤ 2 ^ 32 = omega (arith, few) in
     let well : LeavesWell decisions x h.0 =
-    step_well grain decisions w x h.0 before first unharmed h.1 (history_faultless grain h.0 last xs h.2 faultless) in
+    step_well grain decisions h.1.before x h.0 (named_stands decisions w h.1.before h.1.named before) first
+    (named_unharmed w h.1.before h.1.named unharmed) h.1.step (history_faultless grain h.0 last xs h.2 faultless) in
     let more : AreServed xs last = history_served grain (decisions + 2) h.0 last xs well.stands rest h.2 faultless well.unharmed in
     record { each = All-cons IsServed x xs well.served more.each; unharmed = more.unharmed }

@@ -1,10 +1,11 @@
 -- What stood before an entry still stands after it: a command takes two decisions, a settling and its own.
-use Rattle.std.proofs.Common.{ℕ, ◌+◌, ◌^◌, ◌<◌, ◌≤◌, List, arith}
+use Rattle.std.proofs.Common.{ℕ, ◌+◌, ◌^◌, ◌<◌, ◌≤◌, List, sym, subst, arith}
 use Rattle.fc_base.specs.declared.command.Command.{Command}
 use Rattle.fc_base.specs.declared.request.Effect.{Effect}
 use Rattle.fc_base.specs.declared.request.Reply.{Reply}
 use Rattle.fc_base.specs.declared.size.GrainSize.{GrainSize}
 use Rattle.fc_decided.proofs.Decided.{decision_law_holds}
+use Rattle.fc_legal.specs.Legal.{IsNamed}
 use Rattle.fc_legal.specs.Stands.{Stands}
 use Rattle.fc_legal.specs.Steps.{CommandLeft, after_settling, one_more}
 use Rattle.fc_legal.specs.Steps.CommandLeft.{decided, unsettled, settled_alone}
@@ -40,6 +41,20 @@ counted_stands decisions w h =
       firsts = h.firsts;
       rows = h.rows;
     }
+
+-- Nor do the names of actors.
+pub named_stands : (decisions : ℕ) (w v : Whole) → IsNamed w v → Stands decisions w → Stands decisions v
+named_stands decisions w v named h =
+    let P : Whole → Type 0 = λ u. Stands decisions u in
+    subst P (sym named.named)
+    (record {
+      sound = h.sound;
+      few = h.few;
+      plain = h.plain;
+      each_lane = record { some = h.each_lane.some; pools = h.each_lane.pools; calls = h.each_lane.calls };
+      firsts = h.firsts;
+      rows = h.rows;
+    })
 
 -- ---- a command
 

@@ -4,11 +4,12 @@ use Rattle.std.specs.Option.{option_map}
 use Rattle.fc_base.specs.declared.ids.GrainNo.{GrainNo}
 use Rattle.fc_base.specs.declared.request.Request.{Request}
 use Rattle.fc_base.specs.declared.size.GrainSize.{GrainSize}
+use Rattle.fc_blocks.specs.Segments.{Segment, single, together}
 use Rattle.fc_determined.proofs.Commands.{with_faults}
 use Rattle.fc_determined.proofs.Entries.{same_is}
 use Rattle.fc_determined.specs.Smooth.{TellTheSame, but_for_faults}
 use Rattle.fc_entry.specs.declared.entry.Entry.{Entry}
-use Rattle.fc_legal.specs.Agenda.{Agenda, Reading, Lines, Own, Seconds, behind_entry, behind_fill, next_asked, next_of_second, without_entry, without_fill}
+use Rattle.fc_legal.specs.Agenda.{Agenda, Reading, Session, Own, Seconds, Faults, Actors, behind_entry, behind_fill, next_asked, next_of_second, without_entry, without_fill}
 use Rattle.fc_legal.specs.Seconds.{Passing, Work, fill_at_hand, fill_of, goes_on_with, next_fill, next_grain}
 use Rattle.fc_legal.specs.Whole.{Whole}
 
@@ -27,23 +28,29 @@ module _ (grain : GrainSize) (read : Reading) where
     goes_on_alike p (Some work) = refl
 
     asked_alike : (a : Agenda) → next_asked grain a (with_faults w faults) ≡ next_asked grain a w
-    asked_alike (Lines ls) = refl
-    asked_alike (Own [] n ls) = refl
-    asked_alike (Own (request ∷ rest) n ls) = refl
-    asked_alike (Seconds p ls) = ap (option_map (λ (next : Work × GrainNo). (0, fill_of next.0 next.1))) (fill_alike p.at_hand)
+    asked_alike (Session segs) = refl
+    asked_alike (Own [] n segs) = refl
+    asked_alike (Own (request ∷ rest) n segs) = refl
+    asked_alike (Faults [] actors segs) = refl
+    asked_alike (Faults (request ∷ rest) actors segs) = refl
+    asked_alike (Actors scripts segs) = refl
+    asked_alike (Seconds p segs) = ap (option_map (λ (next : Work × GrainNo). (0, fill_of next.0 next.1))) (fill_alike p.at_hand)
 
-    no_fill_alike : (p : Passing) (fill : Option (Work × GrainNo)) (ls : List (List ℕ)) → without_fill grain (with_faults w faults) p fill ls ≡ without_fill grain w p fill ls
-    no_fill_alike p None ls = ap (λ next. Some (next_of_second next ls)) (goes_on_alike p p.at_hand)
-    no_fill_alike p (Some next) ls = refl
+    no_fill_alike : (p : Passing) (fill : Option (Work × GrainNo)) (segs : List Segment) → without_fill grain (with_faults w faults) p fill segs ≡ without_fill grain w p fill segs
+    no_fill_alike p None segs = ap (λ next. Some (next_of_second next segs)) (goes_on_alike p p.at_hand)
+    no_fill_alike p (Some next) segs = refl
 
     passes_alike : (a : Agenda) → without_entry grain read a (with_faults w faults) ≡ without_entry grain read a w
-    passes_alike (Lines []) = refl
-    passes_alike (Lines (line ∷ ls)) = refl
-    passes_alike (Own [] n ls) = refl
-    passes_alike (Own (request ∷ rest) n ls) = refl
-    passes_alike (Seconds p ls) =
-        ap (λ fill. without_fill grain (with_faults w faults) p fill ls) (fill_alike p.at_hand)
-        ∙ no_fill_alike p (next_fill grain w p) ls
+    passes_alike (Session []) = refl
+    passes_alike (Session (single line ∷ segs)) = refl
+    passes_alike (Session (together block ∷ segs)) = refl
+    passes_alike (Faults requests actors segs) = refl
+    passes_alike (Actors scripts segs) = refl
+    passes_alike (Own [] n segs) = refl
+    passes_alike (Own (request ∷ rest) n segs) = refl
+    passes_alike (Seconds p segs) =
+        ap (λ fill. without_fill grain (with_faults w faults) p fill segs) (fill_alike p.at_hand)
+        ∙ no_fill_alike p (next_fill grain w p) segs
 
     behind_fill_alike : (p : Passing) (entry : Entry) (at_hand : Option Work) → behind_fill grain (with_faults w faults) p at_hand entry ≡ behind_fill grain w p at_hand entry
     unfolding next_grain
@@ -51,11 +58,14 @@ module _ (grain : GrainSize) (read : Reading) where
     behind_fill_alike p entry (Some work) = refl
 
     behind_alike : (a : Agenda) (entry : Entry) → behind_entry grain a (with_faults w faults) entry ≡ behind_entry grain a w entry
-    behind_alike (Lines ls) entry = refl
-    behind_alike (Own [] n ls) entry = refl
-    behind_alike (Own (request ∷ []) n ls) entry = refl
-    behind_alike (Own (request ∷ next ∷ rest) n ls) entry = refl
-    behind_alike (Seconds p ls) entry = ap (λ (q : Passing). Seconds q ls) (behind_fill_alike p entry p.at_hand)
+    behind_alike (Session segs) entry = refl
+    behind_alike (Faults [] actors segs) entry = refl
+    behind_alike (Faults (request ∷ rest) actors segs) entry = refl
+    behind_alike (Actors scripts segs) entry = refl
+    behind_alike (Own [] n segs) entry = refl
+    behind_alike (Own (request ∷ []) n segs) entry = refl
+    behind_alike (Own (request ∷ next ∷ rest) n segs) entry = refl
+    behind_alike (Seconds p segs) entry = ap (λ (q : Passing). Seconds q segs) (behind_fill_alike p entry p.at_hand)
 
   -- ---- what is behind an entry doesn't speak of the faults that it counts
 
@@ -64,11 +74,14 @@ module _ (grain : GrainSize) (read : Reading) where
   fill_told w p entry (Some work) = refl
 
   behind_told : (a : Agenda) (w : Whole) (entry : Entry) → behind_entry grain a w (but_for_faults entry) ≡ behind_entry grain a w entry
-  behind_told (Lines ls) w entry = refl
-  behind_told (Own [] n ls) w entry = refl
-  behind_told (Own (request ∷ []) n ls) w entry = refl
-  behind_told (Own (request ∷ next ∷ rest) n ls) w entry = refl
-  behind_told (Seconds p ls) w entry = ap (λ (q : Passing). Seconds q ls) (fill_told w p entry p.at_hand)
+  behind_told (Session segs) w entry = refl
+  behind_told (Faults [] actors segs) w entry = refl
+  behind_told (Faults (request ∷ rest) actors segs) w entry = refl
+  behind_told (Actors scripts segs) w entry = refl
+  behind_told (Own [] n segs) w entry = refl
+  behind_told (Own (request ∷ []) n segs) w entry = refl
+  behind_told (Own (request ∷ next ∷ rest) n segs) w entry = refl
+  behind_told (Seconds p segs) w entry = ap (λ (q : Passing). Seconds q segs) (fill_told w p entry p.at_hand)
 
   -- ---- after what tells the same
 
@@ -91,15 +104,17 @@ module _ (grain : GrainSize) (read : Reading) where
   -- ---- it asks, or it goes on without an entry
 
   not_both_fill :
-      (w : Whole) (p : Passing) (ls : List (List ℕ)) (fill : Option (Work × GrainNo)) (asked : ℕ × Request) (b : Agenda) →
+      (w : Whole) (p : Passing) (segs : List Segment) (fill : Option (Work × GrainNo)) (asked : ℕ × Request) (b : Agenda) →
       option_map (λ (next : Work × GrainNo). (0, fill_of next.0 next.1)) fill ≡ Some asked →
-      without_fill grain w p fill ls ≡ Some b →
+      without_fill grain w p fill segs ≡ Some b →
       ⊥
-  not_both_fill w p ls None asked b h k = absurd (cc h)
-  not_both_fill w p ls (Some next) asked b h k = absurd (cc k)
+  not_both_fill w p segs None asked b h k = absurd (cc h)
+  not_both_fill w p segs (Some next) asked b h k = absurd (cc k)
 
   pub not_both : (a b : Agenda) (w : Whole) (asked : ℕ × Request) → next_asked grain a w ≡ Some asked → without_entry grain read a w ≡ Some b → ⊥
-  not_both (Lines ls) b w asked h k = absurd (cc h)
-  not_both (Own [] n ls) b w asked h k = absurd (cc h)
-  not_both (Own (request ∷ rest) n ls) b w asked h k = absurd (cc k)
-  not_both (Seconds p ls) b w asked h k = not_both_fill w p ls (next_fill grain w p) asked b h k
+  not_both (Session segs) b w asked h k = absurd (cc h)
+  not_both (Faults requests actors segs) b w asked h k = absurd (cc k)
+  not_both (Actors scripts segs) b w asked h k = absurd (cc h)
+  not_both (Own [] n segs) b w asked h k = absurd (cc h)
+  not_both (Own (request ∷ rest) n segs) b w asked h k = absurd (cc k)
+  not_both (Seconds p segs) b w asked h k = not_both_fill w p segs (next_fill grain w p) asked b h k

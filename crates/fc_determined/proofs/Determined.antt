@@ -1,15 +1,17 @@
 -- The text, and all together.
 use Rattle.std.proofs.Common.{◌≡◌, ℕ, List, [], ◌∷◌, ◌++◌, length, refl, sym, ap, subst, ◌∙◌, flat_map, arith}
 use Rattle.fc_base.specs.declared.size.GrainSize.{GrainSize}
+use Rattle.fc_blocks.specs.Segments.{Segment}
 use Rattle.fc_determined.proofs.Ways.{is_front, one_goes_on, one_outcome, over_none, short_none}
 use Rattle.fc_determined.specs.Law.{DeterminedLaw, IsOneOutcome}
 use Rattle.fc_determined.specs.Smooth.{AreSmooth, TellTheSame, told_by}
 use Rattle.fc_entry.specs.HistoryState.{HistoryState}
 use Rattle.fc_entry.specs.Text.{entry_text, history_text}
 use Rattle.fc_entry.specs.declared.entry.Entry.{Entry}
+use Rattle.fc_legal.proofs.Alone.{alone_append, alone_lines}
 use Rattle.fc_legal.proofs.Appending.{IsPartialRun-more}
-use Rattle.fc_legal.specs.Agenda.{Lines, Reading}
-use Rattle.fc_legal.specs.Run.{IsPartialRun}
+use Rattle.fc_legal.specs.Agenda.{Session, Reading}
+use Rattle.fc_legal.specs.Run.{IsPartialRun, lines_alone}
 use Rattle.fc_legal.specs.Whole.{Whole}
 
 -- ---- the text
@@ -35,24 +37,24 @@ text_one history other actors entries =
 pub determined_law_holds : DeterminedLaw
 determined_law_holds =
     record {
-      whole = λ grain read a w v last other xs ys same smooth smooth_other h k.
+      whole = λ grain read a w v last other xs ys alone same smooth smooth_other h k.
           one_outcome grain read h.end k.end last other xs ys
           (over_none grain read h.end k.end last other xs ys h.over)
           (over_none grain read k.end h.end other last ys xs k.over)
-          (one_goes_on grain read a h.end k.end w v last other xs ys same smooth smooth_other h.goes k.goes);
-      as_many = λ grain read a w v last other xs ys same smooth smooth_other h k long.
+          (one_goes_on grain read a h.end k.end w v last other xs ys alone same smooth smooth_other h.goes k.goes);
+      as_many = λ grain read a w v last other xs ys alone same smooth smooth_other h k long.
           one_outcome grain read h.end k.end last other xs ys
           (short_none grain read h.end k.end last other xs ys (omega (arith, long)))
           (short_none grain read k.end h.end other last ys xs (omega (arith, long)))
-          (one_goes_on grain read a h.end k.end w v last other xs ys same smooth smooth_other h.goes k.goes);
-      early = λ grain read a w v last other xs ys same smooth smooth_other h k.
+          (one_goes_on grain read a h.end k.end w v last other xs ys alone same smooth smooth_other h.goes k.goes);
+      early = λ grain read a w v last other xs ys alone same smooth smooth_other h k.
           is_front grain read h.end k.end last other xs ys
           (over_none grain read k.end h.end other last ys xs k.over)
-          (one_goes_on grain read a h.end k.end w v last other xs ys same smooth smooth_other h.goes k.goes);
-      both_early = λ grain read a w v last other xs ys same smooth smooth_other h k long.
+          (one_goes_on grain read a h.end k.end w v last other xs ys alone same smooth smooth_other h.goes k.goes);
+      both_early = λ grain read a w v last other xs ys alone same smooth smooth_other h k long.
           is_front grain read h.end k.end last other xs ys
           (short_none grain read k.end h.end other last ys xs long)
-          (one_goes_on grain read a h.end k.end w v last other xs ys same smooth smooth_other h.goes k.goes);
+          (one_goes_on grain read a h.end k.end w v last other xs ys alone same smooth smooth_other h.goes k.goes);
       text = text_one;
     }
 
@@ -66,14 +68,14 @@ pub first_lines_one :
     TellTheSame w v →
     AreSmooth xs →
     AreSmooth ys →
-    IsPartialRun grain read w first xs last →
-    IsPartialRun grain read v first' ys other →
+    IsPartialRun grain read w (lines_alone first) xs last →
+    IsPartialRun grain read v (lines_alone first') ys other →
     length xs ≡ length ys →
     IsOneOutcome xs ys last other
 first_lines_one grain read w v last other lines first rest first' rest' xs ys e f same smooth smooth_other h k long =
-    let P : List (List ℕ) → Type 0 = λ ls. IsPartialRun grain read w ls xs last in
-    let Q : List (List ℕ) → Type 0 = λ ls. IsPartialRun grain read v ls ys other in
-    determined_law_holds.as_many grain read (Lines lines) w v last other xs ys same smooth smooth_other
-    (subst P (sym e) (IsPartialRun-more grain read w last first rest xs h))
-    (subst Q (sym f) (IsPartialRun-more grain read v other first' rest' ys k))
+    let P : List Segment → Type 0 = λ segs. IsPartialRun grain read w segs xs last in
+    let Q : List Segment → Type 0 = λ segs. IsPartialRun grain read v segs ys other in
+    determined_law_holds.as_many grain read (Session (lines_alone lines)) w v last other xs ys (alone_lines lines) same smooth smooth_other
+    (subst P (sym (ap lines_alone e ∙ alone_append first rest)) (IsPartialRun-more grain read w last (lines_alone first) (lines_alone rest) xs h))
+    (subst Q (sym (ap lines_alone f ∙ alone_append first' rest')) (IsPartialRun-more grain read v other (lines_alone first') (lines_alone rest') ys k))
     long

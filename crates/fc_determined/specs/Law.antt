@@ -1,4 +1,4 @@
--- The law of one outcome: where nothing failed, what is to be asked determines the history.
+-- The law of one outcome: where nothing failed and no block is among what is to be asked, that determines the history.
 use Rattle.std.specs.Prelude.{◌≡◌, ◌≤◌, List, ◌++◌, length}
 use Rattle.fc_agenda.specs.Goes.{GoesToEnd, GoesSome}
 use Rattle.fc_agenda.specs.Rules.{Rules}
@@ -9,6 +9,7 @@ use Rattle.fc_entry.specs.Text.{history_text}
 use Rattle.fc_entry.specs.declared.entry.Entry.{Entry}
 use Rattle.fc_legal.specs.Agenda.{Agenda, Reading, session_rules}
 use Rattle.fc_legal.specs.Whole.{Whole}
+use Rattle.fc_legal.specs.WithoutBlocks.{IsWithoutBlocks}
 
 -- Two histories: their entries tell the same, and so do the wholes after them.
 pub record IsOneOutcome (xs ys : List Entry) (last other : Whole) : Type 0 where
@@ -24,10 +25,10 @@ pub record IsFront (xs ys : List Entry) : Type 0 where
 abbrev pub HowFar : Type 1
 HowFar = Rules Whole Agenda → Agenda → Whole → List Entry → Whole → Type 0
 
--- Of two histories that answer one agenda, after what tells the same, and in which nothing failed, this holds.
+-- Of two histories that answer one agenda without blocks, after what tells the same, and in which nothing failed, this holds.
 abbrev pub OfTwo : HowFar → HowFar → (List Entry → List Entry → Whole → Whole → Type 0) → Type 0
 OfTwo One Other Holds =
-    (grain : GrainSize) (read : Reading) (a : Agenda) (w v last other : Whole) (xs ys : List Entry) → TellTheSame w v → AreSmooth xs → AreSmooth ys →
+    (grain : GrainSize) (read : Reading) (a : Agenda) (w v last other : Whole) (xs ys : List Entry) → IsWithoutBlocks a → TellTheSame w v → AreSmooth xs → AreSmooth ys →
     One (session_rules grain read) a w xs last → Other (session_rules grain read) a v ys other → Holds xs ys last other
 
 pub record DeterminedLaw : Type 0 where

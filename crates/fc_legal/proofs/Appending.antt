@@ -1,15 +1,18 @@
--- More entries behind a history, and more lines behind a run.
-use Rattle.std.proofs.Common.{◌≡◌, ℕ, Bool, true, false, List, [], ◌∷◌, ◌++◌, refl, sym, ◌∙◌, ap, subst}
+-- More entries behind a history, and more segments behind a run.
+use Rattle.std.proofs.Common.{◌≡◌, ℕ, Bool, true, false, cond, List, [], ◌∷◌, ◌++◌, refl, sym, ◌∙◌, ap, subst}
 use Rattle.std.specs.Prelude.{Option, Some, None}
 use Rattle.fc_agenda.proofs.Going.{Goes-append}
-use Rattle.fc_agenda.specs.Goes.{Goes, stays, passes, answers}
+use Rattle.fc_agenda.specs.Goes.{Goes, stays, passes, begins, answers}
 use Rattle.fc_base.specs.declared.ids.GrainNo.{GrainNo}
 use Rattle.fc_base.specs.declared.request.Request.{Request}
 use Rattle.fc_base.specs.declared.size.GrainSize.{GrainSize}
+use Rattle.fc_blocks.specs.Segments.{Segment, single, together}
 use Rattle.fc_entry.specs.declared.entry.Entry.{Entry}
-use Rattle.fc_legal.specs.Agenda.{Agenda, Reading, Lines, Own, Seconds, behind_entry, behind_own, is_done, line_read, next_asked, next_of_second, session_rules, without_entry, without_fill}
+use Rattle.fc_legal.proofs.Naming.{IsLegal-named, IsNamed-none, IsNext-step, begins_named}
+use Rattle.fc_legal.specs.Agenda.{Agenda, Reading, Asks, Begins, Session, Own, Seconds, Faults, Actors, behind_entry, behind_own, is_done, segment_read, next_of_second, session_rules, without_entry, without_fill}
 use Rattle.fc_legal.specs.Legal.{IsLegal}
 use Rattle.fc_legal.specs.Run.{IsRun, IsPartialRun, WantsMore}
+use Rattle.fc_legal.specs.Scripts.{Script, are_done}
 use Rattle.fc_legal.specs.Seconds.{Passing, Work, next_fill, goes_on}
 use Rattle.fc_legal.specs.Whole.{Whole}
 
@@ -19,9 +22,7 @@ pub IsLegal-append :
     IsLegal grain w xs mid →
     IsLegal grain mid ys last →
     IsLegal grain w (xs ++ ys) last
-IsLegal-append grain w mid last [] ys before after =
-    let P : Whole → Type 0 = λ m. IsLegal grain m ys last in
-    subst P before after
+IsLegal-append grain w mid last [] ys before after = IsLegal-named grain w mid last ys before after
 IsLegal-append grain w mid last (x ∷ xs) ys before after =
     (before.0, before.1, IsLegal-append grain before.0 mid last xs ys before.2 after)
 
@@ -30,170 +31,211 @@ pub IsLegal-goes :
     (grain : GrainSize) (read : Reading) (a b : Agenda) (w last : Whole) (xs : List Entry) →
     Goes (session_rules grain read) a w xs b last →
     IsLegal grain w xs last
-IsLegal-goes grain read a b w last xs stays = refl
+IsLegal-goes grain read a b w last xs stays = IsNamed-none w
 IsLegal-goes grain read a b w last xs (passes {b = then} on way) = IsLegal-goes grain read then b w last xs way
+IsLegal-goes grain read a b w last xs (begins {b = then} {v = told} on way) =
+    IsLegal-named grain w told last xs (begins_named grain a then w told on) (IsLegal-goes grain read then b told last xs way)
 IsLegal-goes grain read a b w last xs (answers {next = next} {entry = entry} {entries = rest} asked right way) =
-    (next, right, IsLegal-goes grain read (behind_entry grain a next entry) b next last rest way)
+    (next, IsNext-step grain w next entry right, IsLegal-goes grain read (behind_entry grain a next entry) b next last rest way)
 
--- ---- more lines behind an agenda
+-- ---- more segments behind an agenda
 
-abbrev pub with_lines : List (List ℕ) → Agenda → Agenda
-with_lines more (Lines ls) = Lines (ls ++ more)
-with_lines more (Own requests n ls) = Own requests n (ls ++ more)
-with_lines more (Seconds p ls) = Seconds p (ls ++ more)
+abbrev pub with_segments : List Segment → Agenda → Agenda
+with_segments more (Session segs) = Session (segs ++ more)
+with_segments more (Own requests n segs) = Own requests n (segs ++ more)
+with_segments more (Seconds p segs) = Seconds p (segs ++ more)
+with_segments more (Faults requests actors segs) = Faults requests actors (segs ++ more)
+with_segments more (Actors scripts segs) = Actors scripts (segs ++ more)
 
-asked_alike :
-    (grain : GrainSize) (more : List (List ℕ)) (a : Agenda) (w : Whole) →
-    next_asked grain (with_lines more a) w ≡ next_asked grain a w
-asked_alike grain more (Lines ls) w = refl
-asked_alike grain more (Own [] n ls) w = refl
-asked_alike grain more (Own (request ∷ rest) n ls) w = refl
-asked_alike grain more (Seconds p ls) w = refl
+asks_alike :
+    (grain : GrainSize) (more : List Segment) (a : Agenda) (w : Whole) (asked : ℕ × Request) →
+    Asks grain a w asked →
+    Asks grain (with_segments more a) w asked
+asks_alike grain more (Session segs) w asked h = h
+asks_alike grain more (Own [] n segs) w asked h = h
+asks_alike grain more (Own (request ∷ rest) n segs) w asked h = h
+asks_alike grain more (Seconds p segs) w asked h = h
+asks_alike grain more (Faults [] actors segs) w asked h = h
+asks_alike grain more (Faults (request ∷ rest) actors segs) w asked h = h
+asks_alike grain more (Actors scripts segs) w asked h = h
 
-behind_done : (done : Bool) (more : List (List ℕ)) (next : Whole) (rest : List Request) (n : ℕ) (ls : List (List ℕ)) →
-    behind_own next done rest n (ls ++ more) ≡ with_lines more (behind_own next done rest n ls)
-behind_done true more next [] n ls = refl
-behind_done false more next [] n ls = refl
-behind_done done more next (request ∷ rest) n ls = refl
+behind_done : (done : Bool) (more : List Segment) (next : Whole) (rest : List Request) (n : ℕ) (segs : List Segment) →
+    behind_own next done rest n (segs ++ more) ≡ with_segments more (behind_own next done rest n segs)
+behind_done true more next [] n segs = refl
+behind_done false more next [] n segs = refl
+behind_done done more next (request ∷ rest) n segs = refl
 
 behind_alike :
-    (grain : GrainSize) (more : List (List ℕ)) (a : Agenda) (next : Whole) (entry : Entry) →
-    behind_entry grain (with_lines more a) next entry ≡ with_lines more (behind_entry grain a next entry)
-behind_alike grain more (Lines ls) next entry = refl
-behind_alike grain more (Own [] n ls) next entry = refl
-behind_alike grain more (Own (request ∷ rest) n ls) next entry = behind_done (is_done entry.reply) more next rest n ls
-behind_alike grain more (Seconds p ls) next entry = refl
+    (grain : GrainSize) (more : List Segment) (a : Agenda) (next : Whole) (entry : Entry) →
+    behind_entry grain (with_segments more a) next entry ≡ with_segments more (behind_entry grain a next entry)
+behind_alike grain more (Session segs) next entry = refl
+behind_alike grain more (Own [] n segs) next entry = refl
+behind_alike grain more (Own (request ∷ rest) n segs) next entry = behind_done (is_done entry.reply) more next rest n segs
+behind_alike grain more (Seconds p segs) next entry = refl
+behind_alike grain more (Faults [] actors segs) next entry = refl
+behind_alike grain more (Faults (request ∷ rest) actors segs) next entry = refl
+behind_alike grain more (Actors scripts segs) next entry = refl
 
-second_behind : (more ls : List (List ℕ)) (next : Option Passing) → next_of_second next (ls ++ more) ≡ with_lines more (next_of_second next ls)
-second_behind more ls None = refl
-second_behind more ls (Some p) = refl
+second_behind : (more segs : List Segment) (next : Option Passing) → next_of_second next (segs ++ more) ≡ with_segments more (next_of_second next segs)
+second_behind more segs None = refl
+second_behind more segs (Some p) = refl
 
 fill_behind :
-    (grain : GrainSize) (w : Whole) (p : Passing) (fill : Option (Work × GrainNo)) (more ls : List (List ℕ)) (b : Agenda) →
-    without_fill grain w p fill ls ≡ Some b →
-    without_fill grain w p fill (ls ++ more) ≡ Some (with_lines more b)
-fill_behind grain w p None more ls b e =
-    let is : next_of_second (goes_on grain w p) ls ≡ b = cc e in
-    ap Some (second_behind more ls (goes_on grain w p)) ∙ ap (λ (a : Agenda). Some (with_lines more a)) is
-fill_behind grain w p (Some next) more ls b e = absurd (cc e)
+    (grain : GrainSize) (w : Whole) (p : Passing) (fill : Option (Work × GrainNo)) (more segs : List Segment) (b : Agenda) →
+    without_fill grain w p fill segs ≡ Some b →
+    without_fill grain w p fill (segs ++ more) ≡ Some (with_segments more b)
+fill_behind grain w p None more segs b e =
+    let is : next_of_second (goes_on grain w p) segs ≡ b = cc e in
+    ap Some (second_behind more segs (goes_on grain w p)) ∙ ap (λ (a : Agenda). Some (with_segments more a)) is
+fill_behind grain w p (Some next) more segs b e = absurd (cc e)
+
+block_behind :
+    (scripts : List Script) (more segs : List Segment) (done : Bool) (b : Agenda) →
+    cond done (Some (Session segs)) None ≡ Some b →
+    cond done (Some (Session (segs ++ more))) None ≡ Some (with_segments more b)
+block_behind scripts more segs true b e =
+    let is : Session segs ≡ b = cc e in
+    ap (λ (a : Agenda). Some (with_segments more a)) is
+block_behind scripts more segs false b e = absurd (cc e)
+
+read_alike :
+    (grain : GrainSize) (read : Reading) (more : List Segment) (w : Whole) (segment : Segment) (segs : List Segment) →
+    segment_read grain read w segment (segs ++ more) ≡ with_segments more (segment_read grain read w segment segs)
+read_alike grain read more w (single line) segs = refl
+read_alike grain read more w (together block) segs = refl
 
 passes_alike :
-    (grain : GrainSize) (read : Reading) (more : List (List ℕ)) (a b : Agenda) (w : Whole) →
+    (grain : GrainSize) (read : Reading) (more : List Segment) (a b : Agenda) (w : Whole) →
     without_entry grain read a w ≡ Some b →
-    without_entry grain read (with_lines more a) w ≡ Some (with_lines more b)
-passes_alike grain read more (Lines []) b w e = absurd (cc e)
-passes_alike grain read more (Lines (line ∷ ls)) b w e =
-    let is : line_read grain w (read w.books line) ls ≡ b = cc e in
-    ap (λ (a : Agenda). Some (with_lines more a)) is
-passes_alike grain read more (Own [] n ls) b w e =
-    let is : Lines ls ≡ b = cc e in
-    ap (λ (a : Agenda). Some (with_lines more a)) is
-passes_alike grain read more (Own (request ∷ rest) n ls) b w e = absurd (cc e)
-passes_alike grain read more (Seconds p ls) b w e = fill_behind grain w p (next_fill grain w p) more ls b e
+    without_entry grain read (with_segments more a) w ≡ Some (with_segments more b)
+passes_alike grain read more (Session []) b w e = absurd (cc e)
+passes_alike grain read more (Session (segment ∷ segs)) b w e =
+    let is : segment_read grain read w segment segs ≡ b = cc e in
+    ap Some (read_alike grain read more w segment segs) ∙ ap (λ (a : Agenda). Some (with_segments more a)) is
+passes_alike grain read more (Own [] n segs) b w e =
+    let is : Session segs ≡ b = cc e in
+    ap (λ (a : Agenda). Some (with_segments more a)) is
+passes_alike grain read more (Own (request ∷ rest) n segs) b w e = absurd (cc e)
+passes_alike grain read more (Seconds p segs) b w e = fill_behind grain w p (next_fill grain w p) more segs b e
+passes_alike grain read more (Faults requests actors segs) b w e = absurd (cc e)
+passes_alike grain read more (Actors scripts segs) b w e = block_behind scripts more segs (are_done scripts) b e
 
--- What answers an agenda answers it with more lines behind it, which stay.
-pub Goes-more_lines :
-    (grain : GrainSize) (read : Reading) (more : List (List ℕ)) (a b : Agenda) (w last : Whole) (xs : List Entry) →
+begins_alike :
+    (grain : GrainSize) (more : List Segment) (a b : Agenda) (w v : Whole) →
+    Begins grain a w b v →
+    Begins grain (with_segments more a) w (with_segments more b) v
+begins_alike grain more (Faults [] actors segs) b w v on = (on.0, ap (with_segments more) on.1)
+begins_alike grain more (Faults (request ∷ rest) actors segs) b w v on = absurd on
+begins_alike grain more (Session segs) b w v on = absurd on
+begins_alike grain more (Own requests n segs) b w v on = absurd on
+begins_alike grain more (Seconds p segs) b w v on = absurd on
+begins_alike grain more (Actors scripts segs) b w v on = absurd on
+
+-- What answers an agenda answers it with more segments behind it, which stay.
+pub Goes-more_segments :
+    (grain : GrainSize) (read : Reading) (more : List Segment) (a b : Agenda) (w last : Whole) (xs : List Entry) →
     Goes (session_rules grain read) a w xs b last →
-    Goes (session_rules grain read) (with_lines more a) w xs (with_lines more b) last
-Goes-more_lines grain read more a b w last xs stays = stays
-Goes-more_lines grain read more a b w last xs (passes {b = then} on way) =
-    passes (passes_alike grain read more a then w on) (Goes-more_lines grain read more then b w last xs way)
-Goes-more_lines grain read more a b w last xs (answers {next = next} {entry = entry} {entries = rest} asked right way) =
-    let P : Agenda → Type 0 = λ c. Goes (session_rules grain read) c next rest (with_lines more b) last in
-    answers (asked_alike grain more a w ∙ asked) right
+    Goes (session_rules grain read) (with_segments more a) w xs (with_segments more b) last
+Goes-more_segments grain read more a b w last xs stays = stays
+Goes-more_segments grain read more a b w last xs (passes {b = then} on way) =
+    passes (passes_alike grain read more a then w on) (Goes-more_segments grain read more then b w last xs way)
+Goes-more_segments grain read more a b w last xs (begins {b = then} {v = told} on way) =
+    begins (begins_alike grain more a then w told on) (Goes-more_segments grain read more then b told last xs way)
+Goes-more_segments grain read more a b w last xs (answers {next = next} {entry = entry} {entries = rest} asked right way) =
+    let P : Agenda → Type 0 = λ c. Goes (session_rules grain read) c next rest (with_segments more b) last in
+    answers (asks_alike grain more a w (entry.actor, entry.request) asked) right
     (subst P (sym (behind_alike grain more a next entry))
-    (Goes-more_lines grain read more (behind_entry grain a next entry) b next last rest way))
+    (Goes-more_segments grain read more (behind_entry grain a next entry) b next last rest way))
 
--- ---- one more line behind a run
+-- ---- one more segment behind a run
 
 run_then :
-    (grain : GrainSize) (read : Reading) (w mid : Whole) (ls more : List (List ℕ)) (xs : List Entry) →
-    IsRun grain read w ls xs mid →
-    Goes (session_rules grain read) (Lines (ls ++ more)) w xs (Lines more) mid
-run_then grain read w mid ls more xs run =
-    let P : Agenda → Type 0 = λ b. Goes (session_rules grain read) (Lines (ls ++ more)) w xs (with_lines more b) mid in
-    subst P run.over (Goes-more_lines grain read more (Lines ls) run.end w mid xs run.goes)
+    (grain : GrainSize) (read : Reading) (w mid : Whole) (segs more : List Segment) (xs : List Entry) →
+    IsRun grain read w segs xs mid →
+    Goes (session_rules grain read) (Session (segs ++ more)) w xs (Session more) mid
+run_then grain read w mid segs more xs run =
+    let P : Agenda → Type 0 = λ b. Goes (session_rules grain read) (Session (segs ++ more)) w xs (with_segments more b) mid in
+    subst P run.over (Goes-more_segments grain read more (Session segs) run.end w mid xs run.goes)
 
--- The lines of a run, and lines that are answered after it: to their end, in part, or up to one more request.
+-- The segments of a run, and segments that are answered after it: to their end, in part, or up to one more request.
 pub IsRun-append :
-    (grain : GrainSize) (read : Reading) (w mid last : Whole) (ls more : List (List ℕ)) (xs ys : List Entry) →
-    IsRun grain read w ls xs mid →
+    (grain : GrainSize) (read : Reading) (w mid last : Whole) (segs more : List Segment) (xs ys : List Entry) →
+    IsRun grain read w segs xs mid →
     IsRun grain read mid more ys last →
-    IsRun grain read w (ls ++ more) (xs ++ ys) last
-IsRun-append grain read w mid last ls more xs ys before after =
+    IsRun grain read w (segs ++ more) (xs ++ ys) last
+IsRun-append grain read w mid last segs more xs ys before after =
     record {
       end = after.end;
-      goes = Goes-append (session_rules grain read) (Lines (ls ++ more)) (Lines more) after.end w mid last xs ys
-          (run_then grain read w mid ls more xs before) after.goes;
+      goes = Goes-append (session_rules grain read) (Session (segs ++ more)) (Session more) after.end w mid last xs ys
+          (run_then grain read w mid segs more xs before) after.goes;
       over = after.over;
     }
 
 pub IsPartialRun-append :
-    (grain : GrainSize) (read : Reading) (w mid last : Whole) (ls more : List (List ℕ)) (xs ys : List Entry) →
-    IsRun grain read w ls xs mid →
+    (grain : GrainSize) (read : Reading) (w mid last : Whole) (segs more : List Segment) (xs ys : List Entry) →
+    IsRun grain read w segs xs mid →
     IsPartialRun grain read mid more ys last →
-    IsPartialRun grain read w (ls ++ more) (xs ++ ys) last
-IsPartialRun-append grain read w mid last ls more xs ys before after =
+    IsPartialRun grain read w (segs ++ more) (xs ++ ys) last
+IsPartialRun-append grain read w mid last segs more xs ys before after =
     record {
       end = after.end;
-      goes = Goes-append (session_rules grain read) (Lines (ls ++ more)) (Lines more) after.end w mid last xs ys
-          (run_then grain read w mid ls more xs before) after.goes;
+      goes = Goes-append (session_rules grain read) (Session (segs ++ more)) (Session more) after.end w mid last xs ys
+          (run_then grain read w mid segs more xs before) after.goes;
     }
 
 pub WantsMore-append :
-    (grain : GrainSize) (read : Reading) (w mid last : Whole) (ls more : List (List ℕ)) (xs ys : List Entry) →
-    IsRun grain read w ls xs mid →
+    (grain : GrainSize) (read : Reading) (w mid last : Whole) (segs more : List Segment) (xs ys : List Entry) →
+    IsRun grain read w segs xs mid →
     WantsMore grain read mid more ys last →
-    WantsMore grain read w (ls ++ more) (xs ++ ys) last
-WantsMore-append grain read w mid last ls more xs ys before after =
+    WantsMore grain read w (segs ++ more) (xs ++ ys) last
+WantsMore-append grain read w mid last segs more xs ys before after =
     record {
       end = after.end;
-      goes = Goes-append (session_rules grain read) (Lines (ls ++ more)) (Lines more) after.end w mid last xs ys
-          (run_then grain read w mid ls more xs before) after.goes;
+      goes = Goes-append (session_rules grain read) (Session (segs ++ more)) (Session more) after.end w mid last xs ys
+          (run_then grain read w mid segs more xs before) after.goes;
       wanted = after.wanted;
       asks = after.asks;
     }
 
--- A run of no lines; a part is one of more lines too, and what was answered to its end in part.
+-- A run of no segments; a part is one of more segments too, and what was answered to its end in part.
 pub IsRun-nil : (grain : GrainSize) (read : Reading) (w : Whole) → IsRun grain read w [] [] w
-IsRun-nil grain read w = record { end = Lines []; goes = stays; over = refl }
+IsRun-nil grain read w = record { end = Session []; goes = stays; over = refl }
 
 pub IsPartialRun-more :
-    (grain : GrainSize) (read : Reading) (w last : Whole) (ls more : List (List ℕ)) (xs : List Entry) →
-    IsPartialRun grain read w ls xs last →
-    IsPartialRun grain read w (ls ++ more) xs last
-IsPartialRun-more grain read w last ls more xs part =
-    record { end = with_lines more part.end; goes = Goes-more_lines grain read more (Lines ls) part.end w last xs part.goes }
+    (grain : GrainSize) (read : Reading) (w last : Whole) (segs more : List Segment) (xs : List Entry) →
+    IsPartialRun grain read w segs xs last →
+    IsPartialRun grain read w (segs ++ more) xs last
+IsPartialRun-more grain read w last segs more xs part =
+    record { end = with_segments more part.end; goes = Goes-more_segments grain read more (Session segs) part.end w last xs part.goes }
 
 pub WantsMore-more :
-    (grain : GrainSize) (read : Reading) (w last : Whole) (ls more : List (List ℕ)) (xs : List Entry) →
-    WantsMore grain read w ls xs last →
-    WantsMore grain read w (ls ++ more) xs last
-WantsMore-more grain read w last ls more xs full =
+    (grain : GrainSize) (read : Reading) (w last : Whole) (segs more : List Segment) (xs : List Entry) →
+    WantsMore grain read w segs xs last →
+    WantsMore grain read w (segs ++ more) xs last
+WantsMore-more grain read w last segs more xs full =
     record {
-      end = with_lines more full.end;
-      goes = Goes-more_lines grain read more (Lines ls) full.end w last xs full.goes;
+      end = with_segments more full.end;
+      goes = Goes-more_segments grain read more (Session segs) full.end w last xs full.goes;
       wanted = full.wanted;
-      asks = asked_alike grain more full.end last ∙ full.asks;
+      asks = asks_alike grain more full.end last full.wanted full.asks;
     }
 
 -- ---- they are legal
 
 pub IsLegal-run :
-    (grain : GrainSize) (read : Reading) (w last : Whole) (ls : List (List ℕ)) (xs : List Entry) →
-    IsRun grain read w ls xs last →
+    (grain : GrainSize) (read : Reading) (w last : Whole) (segs : List Segment) (xs : List Entry) →
+    IsRun grain read w segs xs last →
     IsLegal grain w xs last
-IsLegal-run grain read w last ls xs run = IsLegal-goes grain read (Lines ls) run.end w last xs run.goes
+IsLegal-run grain read w last segs xs run = IsLegal-goes grain read (Session segs) run.end w last xs run.goes
 
 pub IsLegal-partial :
-    (grain : GrainSize) (read : Reading) (w last : Whole) (ls : List (List ℕ)) (xs : List Entry) →
-    IsPartialRun grain read w ls xs last →
+    (grain : GrainSize) (read : Reading) (w last : Whole) (segs : List Segment) (xs : List Entry) →
+    IsPartialRun grain read w segs xs last →
     IsLegal grain w xs last
-IsLegal-partial grain read w last ls xs part = IsLegal-goes grain read (Lines ls) part.end w last xs part.goes
+IsLegal-partial grain read w last segs xs part = IsLegal-goes grain read (Session segs) part.end w last xs part.goes
 
 pub IsLegal-wants :
-    (grain : GrainSize) (read : Reading) (w last : Whole) (ls : List (List ℕ)) (xs : List Entry) →
-    WantsMore grain read w ls xs last →
+    (grain : GrainSize) (read : Reading) (w last : Whole) (segs : List Segment) (xs : List Entry) →
+    WantsMore grain read w segs xs last →
     IsLegal grain w xs last
-IsLegal-wants grain read w last ls xs full = IsLegal-goes grain read (Lines ls) full.end w last xs full.goes
+IsLegal-wants grain read w last segs xs full = IsLegal-goes grain read (Session segs) full.end w last xs full.goes

@@ -1,6 +1,8 @@
 -- Lemmas, one subject a file; and the definitions on closed examples.
+pub mod Alone
 pub mod Appending
 pub mod Events
+pub mod Naming
 pub mod Rows
 pub mod SecondsExamples
 pub mod TurnExamples

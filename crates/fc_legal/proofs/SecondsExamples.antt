@@ -20,7 +20,7 @@ use Rattle.fc_books.proofs.Examples.{map_id, vol, volume, mapping, slot, books, 
 use Rattle.fc_books.specs.Work.{copies, cleans}
 use Rattle.fc_entry.specs.Picture.{PlainVolume, Bytes}
 use Rattle.fc_entry.specs.declared.entry.Entry.{Entry}
-use Rattle.fc_legal.specs.Agenda.{Reading, Lines, next_asked, Seconds, session_rules}
+use Rattle.fc_legal.specs.Agenda.{Reading, Session, next_asked, Seconds, session_rules}
 use Rattle.fc_legal.specs.Seconds.{Work, Passing, all_work, next_grain, gained, after_fill, begun}
 use Rattle.fc_legal.specs.Steps.{Step}
 use Rattle.fc_legal.specs.Whole.{Whole}
@@ -181,7 +181,7 @@ nothing_comes : AreSeconds K64 2 at_rest [] at_rest
 unfolding mapping_place first_below last_below holder first_reader next_grain all_work kib_of_rate
 nothing_comes =
     record {
-      end = Lines [];
+      end = Session [];
       goes = passes refl
           (passes refl (passes refl (passes refl (passes refl
           (passes refl (passes refl (passes refl (passes refl (passes refl (passes refl stays))))))))));
@@ -196,7 +196,7 @@ credit_stays : AreSeconds K256 1 slow [] slow
 unfolding mapping_place first_below next_grain all_work kib_of_rate
 credit_stays =
     record {
-      end = Lines [];
+      end = Session [];
       goes = passes refl (passes refl (passes refl (passes refl stays)));
       over = refl;
     }
@@ -269,7 +269,7 @@ all_is_copied : AreSeconds K64 1 lacking (first_copy ∷ second_copy ∷ []) lac
 unfolding mapping_place first_below next_grain all_work kib_of_rate
 all_is_copied =
     record {
-      end = Lines [];
+      end = Session [];
       goes = passes refl (passes refl (answers first_is_copied.asked first_is_copied.right (answers second_is_copied.asked second_is_copied.right (passes refl (passes refl stays)))));
       over = refl;
     }
@@ -333,7 +333,7 @@ copy_then_cleaning : AreSeconds K256 1 needed (the_copy ∷ the_cleaning ∷ [])
 unfolding mapping_place first_below last_below holder first_reader next_grain all_work kib_of_rate
 copy_then_cleaning =
     record {
-      end = Lines [];
+      end = Session [];
       goes = passes refl (passes refl (answers c_is_copied.asked c_is_copied.right (passes refl (passes refl (answers b_is_cleaned.asked b_is_cleaned.right (passes refl (passes refl stays)))))));
       over = refl;
     }

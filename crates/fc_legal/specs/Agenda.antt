@@ -1,4 +1,5 @@
--- What is still to be asked in a session: lines, the requests of the line at hand, and the seconds that it lets pass.
+-- What is still to be asked in a session: its lines and blocks, the requests of the line at hand, the seconds that it lets pass, and
+-- what the actors of a block ask beside each other.
 use Rattle.std.specs.Prelude.{◌≡◌, ℕ, Bool, true, false, cond, List, [], ◌∷◌, Option, Some, None, Result, Ok}
 use Rattle.std.specs.Option.{option_map}
 use Rattle.fc_agenda.specs.Rules.{Rules}
@@ -12,24 +13,31 @@ use Rattle.fc_base.specs.declared.request.Reply.{Reply}
 use Rattle.fc_base.specs.declared.request.Reply.TheVariants.{Done}
 use Rattle.fc_base.specs.declared.request.Request.{Request}
 use Rattle.fc_base.specs.declared.size.GrainSize.{GrainSize}
+use Rattle.fc_blocks.specs.Segments.{Segment, single, together}
+use Rattle.fc_blocks.specs.declared.block.ActorRead.{ActorRead}
 use Rattle.fc_books.specs.Books.{Books}
 use Rattle.fc_entry.specs.declared.entry.Entry.{Entry}
 use Rattle.fc_legal.specs.Asked.{asked}
+use Rattle.fc_legal.specs.Scripts.{Script, are_done, behind_next, faults_asked, names_with, next_by, scripts_of}
 use Rattle.fc_legal.specs.Seconds.{Passing, Work, after_fill, all_work, begun, fill_of, goes_on, next_fill}
 use Rattle.fc_legal.specs.Steps.{Step}
-use Rattle.fc_legal.specs.Whole.{Whole}
+use Rattle.fc_legal.specs.Whole.{Whole, lanes}
 
 -- How a line of bytes is read, by the books before it.
 abbrev pub Reading : Type 0
 Reading = Books → List ℕ → Result Line WordFault
 
 pub data Agenda : Type 0 where
-  -- these lines, one after the other
-  Lines : List (List ℕ) → Agenda
-  -- these requests of the line at hand; then so many seconds, if the last is done; and then the lines behind it
-  Own : List Request → ℕ → List (List ℕ) → Agenda
-  -- seconds that pass, and then the lines behind them
-  Seconds : Passing → List (List ℕ) → Agenda
+  -- these lines and blocks, one after the other
+  Session : List Segment → Agenda
+  -- these requests of the line at hand; then so many seconds, if the last is done; and then the segments behind it
+  Own : List Request → ℕ → List Segment → Agenda
+  -- seconds that pass, and then the segments behind them
+  Seconds : Passing → List Segment → Agenda
+  -- the faults of a block that `main` is still told of; then these actors; and then the segments behind the block
+  Faults : List Request → List ActorRead → List Segment → Agenda
+  -- what the actors of a block still ask, in any order among them; and then the segments behind the block
+  Actors : List Script → List Segment → Agenda
 
 -- How many seconds a line lets pass: those of `advance`.
 abbrev pub command_seconds : Command → ℕ
@@ -46,12 +54,21 @@ is_done reply = false
 
 -- ---- what is asked next
 
--- All is asked by `main`, which is actor 0: the next request of the line, or the next fill of a second.
+-- Outside of blocks all is asked by `main`, which is actor 0: the next request of the line, or the next fill of a second. And
+-- `main` is told of the next fault of a block.
 abbrev pub next_asked : GrainSize → Agenda → Whole → Option (ℕ × Request)
-next_asked grain (Lines ls) w = None
-next_asked grain (Own [] n ls) w = None
-next_asked grain (Own (request ∷ rest) n ls) w = Some (0, request)
-next_asked grain (Seconds p ls) w = option_map (λ (next : Work × GrainNo). (0, fill_of next.0 next.1)) (next_fill grain w p)
+next_asked grain (Session segs) w = None
+next_asked grain (Own [] n segs) w = None
+next_asked grain (Own (request ∷ rest) n segs) w = Some (0, request)
+next_asked grain (Seconds p segs) w = option_map (λ (next : Work × GrainNo). (0, fill_of next.0 next.1)) (next_fill grain w p)
+next_asked grain (Faults [] actors segs) w = None
+next_asked grain (Faults (request ∷ rest) actors segs) w = Some (0, request)
+next_asked grain (Actors scripts segs) w = None
+
+-- In a block any actor may be next, with the next request of its script.
+abbrev pub Asks : GrainSize → Agenda → Whole → ℕ × Request → Type 0
+Asks grain (Actors scripts segs) w asked = next_by scripts asked.0 ≡ Some asked.1
+Asks grain a w asked = next_asked grain a w ≡ Some asked
 
 -- ---- what is left behind an entry
 
@@ -61,45 +78,72 @@ behind_fill grain next p None entry = p
 behind_fill grain next p (Some work) entry = after_fill grain next p work entry
 
 -- Behind the last request of a line its seconds begin, if it is done, with the background work as it is then.
-abbrev pub behind_own : Whole → Bool → List Request → ℕ → List (List ℕ) → Agenda
-behind_own next done [] n ls = cond done (Seconds (begun n (all_work next.books)) ls) (Lines ls)
-behind_own next done rest n ls = Own rest n ls
+abbrev pub behind_own : Whole → Bool → List Request → ℕ → List Segment → Agenda
+behind_own next done [] n segs = cond done (Seconds (begun n (all_work next.books)) segs) (Session segs)
+behind_own next done rest n segs = Own rest n segs
 
 abbrev pub behind_entry : GrainSize → Agenda → Whole → Entry → Agenda
-behind_entry grain (Lines ls) next entry = Lines ls
-behind_entry grain (Own [] n ls) next entry = Lines ls
-behind_entry grain (Own (request ∷ rest) n ls) next entry = behind_own next (is_done entry.reply) rest n ls
-behind_entry grain (Seconds p ls) next entry = Seconds (behind_fill grain next p p.at_hand entry) ls
+behind_entry grain (Session segs) next entry = Session segs
+behind_entry grain (Own [] n segs) next entry = Session segs
+behind_entry grain (Own (request ∷ rest) n segs) next entry = behind_own next (is_done entry.reply) rest n segs
+behind_entry grain (Seconds p segs) next entry = Seconds (behind_fill grain next p p.at_hand entry) segs
+behind_entry grain (Faults [] actors segs) next entry = Faults [] actors segs
+behind_entry grain (Faults (request ∷ rest) actors segs) next entry = Faults rest actors segs
+behind_entry grain (Actors scripts segs) next entry = Actors (behind_next scripts entry.actor) segs
 
 -- ---- how it goes on without an entry
 
 -- With no fill next the seconds go on, or are over.
-abbrev pub next_of_second : Option Passing → List (List ℕ) → Agenda
-next_of_second None ls = Lines ls
-next_of_second (Some p) ls = Seconds p ls
+abbrev pub next_of_second : Option Passing → List Segment → Agenda
+next_of_second None segs = Session segs
+next_of_second (Some p) segs = Seconds p segs
 
-abbrev pub without_fill : GrainSize → Whole → Passing → Option (Work × GrainNo) → List (List ℕ) → Option Agenda
-without_fill grain w p None ls = Some (next_of_second (goes_on grain w p) ls)
-without_fill grain w p (Some next) ls = None
+abbrev pub without_fill : GrainSize → Whole → Passing → Option (Work × GrainNo) → List Segment → Option Agenda
+without_fill grain w p None segs = Some (next_of_second (goes_on grain w p) segs)
+without_fill grain w p (Some next) segs = None
 
 -- The next line is read.
-abbrev pub line_read : GrainSize → Whole → Result Line WordFault → List (List ℕ) → Agenda
-line_read grain w line ls = Own (asked grain w.books line) (line_seconds line) ls
+abbrev pub line_read : GrainSize → Whole → Result Line WordFault → List Segment → Agenda
+line_read grain w line segs = Own (asked grain w.books line) (line_seconds line) segs
 
+-- The next segment: a line, or a block.
+abbrev pub segment_read : GrainSize → Reading → Whole → Segment → List Segment → Agenda
+segment_read grain read w (single line) segs = line_read grain w (read w.books line) segs
+segment_read grain read w (together block) segs = Faults (faults_asked block.faults) block.actors segs
+
+-- A block ends where no actor has anything left to ask.
 abbrev pub without_entry : GrainSize → Reading → Agenda → Whole → Option Agenda
-without_entry grain read (Lines []) w = None
-without_entry grain read (Lines (line ∷ ls)) w = Some (line_read grain w (read w.books line) ls)
-without_entry grain read (Own [] n ls) w = Some (Lines ls)
-without_entry grain read (Own (request ∷ rest) n ls) w = None
-without_entry grain read (Seconds p ls) w = without_fill grain w p (next_fill grain w p) ls
+without_entry grain read (Session []) w = None
+without_entry grain read (Session (segment ∷ segs)) w = Some (segment_read grain read w segment segs)
+without_entry grain read (Own [] n segs) w = Some (Session segs)
+without_entry grain read (Own (request ∷ rest) n segs) w = None
+without_entry grain read (Seconds p segs) w = without_fill grain w p (next_fill grain w p) segs
+without_entry grain read (Faults requests actors segs) w = None
+without_entry grain read (Actors scripts segs) w = cond (are_done scripts) (Some (Session segs)) None
+
+-- ---- how the actors of a block begin
+
+-- Their names stand among those of the history.
+abbrev pub with_names : Whole → List ActorRead → Whole
+with_names w actors = record w { actors = names_with w.actors actors }
+
+-- Their scripts go by the books as they are then.
+abbrev pub actors_begun : GrainSize → Whole → List ActorRead → List Segment → Agenda
+actors_begun grain w actors segs = Actors (scripts_of grain (lanes w) w.books w.actors actors) segs
+
+-- They begin when `main` was told of the last fault.
+abbrev pub Begins : GrainSize → Agenda → Whole → Agenda → Whole → Type 0
+Begins grain (Faults [] actors segs) w b v = (v ≡ with_names w actors) × (b ≡ actors_begun grain v actors segs)
+Begins grain a w b v = ⊥
 
 -- ---- the rules
 
 abbrev pub session_rules : GrainSize → Reading → Rules Whole Agenda
 session_rules grain read = record {
-  Asks = λ a w asked. next_asked grain a w ≡ Some asked;
+  Asks = λ a w asked. Asks grain a w asked;
   Right = λ w entry next. Step grain w entry next;
   after = λ a next entry. behind_entry grain a next entry;
   Passes = λ a w b. without_entry grain read a w ≡ Some b;
-  Over = λ a w. a ≡ Lines [];
+  Begins = λ a w b v. Begins grain a w b v;
+  Over = λ a w. a ≡ Session [];
 }

@@ -5,7 +5,9 @@ pub mod Legal
 pub mod Stands
 pub mod Lawful
 pub mod Asked
+pub mod Scripts
 pub mod Seconds
 pub mod Agenda
 pub mod Run
+pub mod WithoutBlocks
 pub mod Added

@@ -23,9 +23,11 @@ use Rattle.fc_entry.specs.Refused.{blocks_refusal}
 use Rattle.fc_entry.specs.HistoryState.{number_of_actor}
 use Rattle.fc_entry.specs.declared.entry.Entry.{Entry}
 use Rattle.fc_legal.specs.Asked.{access_by, access_asked, command_asked, read_in, write_in}
+use Rattle.fc_scripts.proofs.Numbers.{differ_law, not_main_law}
+use Rattle.fc_scripts.proofs.Through.{asking_law, into_law, through_law}
 use Rattle.fc_scripts.specs.Actors.{asks_of, AreAll, AreFirst}
 use Rattle.fc_scripts.specs.Law.{ScriptsLaw}
-use Rattle.fc_scripts.specs.Scripts.{Script, line_asked, asked_as, script_of, scripts_of}
+use Rattle.fc_legal.specs.Scripts.{Script, line_asked, asked_as, script_of, scripts_of}
 
 access_fixed : (grain : GrainSize) (b c : Books) (command : Command) (volume : Ref) (block count : ℕ) (request : VolId → ℕ → Request) → b.tables.volumes ≡ c.tables.volumes →
     access_asked grain b command volume block count request ≡ access_asked grain c command volume block count request
@@ -72,4 +74,12 @@ all_first scripts entries all =
     }
 
 pub scripts_law_holds : ScriptsLaw
-scripts_law_holds = record { fixed = scripts_fixed; whole = all_first }
+scripts_law_holds = record {
+  fixed = scripts_fixed;
+  differ = differ_law;
+  not_main = not_main_law;
+  whole = all_first;
+  through = through_law;
+  into = into_law;
+  asking = asking_law;
+}

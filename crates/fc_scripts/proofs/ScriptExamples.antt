@@ -21,16 +21,16 @@ use Rattle.fc_books.proofs.Examples.{vol, volume, books}
 use Rattle.fc_books.specs.Books.{Books}
 use Rattle.fc_entry.specs.declared.entry.Entry.{Entry}
 use Rattle.fc_scripts.specs.Actors.{asks_of, AreAll, AreFirst, WantMore}
-use Rattle.fc_scripts.specs.Scripts.{Script, script_of, faults_asked}
+use Rattle.fc_legal.specs.Scripts.{Script, script_of, faults_asked}
 
 -- two volumes of 16 grains, each of 128 blocks
-abbrev two : Books
+abbrev pub two : Books
 two = books (volume 0 (codes "A") 16 ∷ volume 1 (codes "B") 16 ∷ []) [] no_slots []
 
 abbrev names : List (List ℕ)
 names = codes "main" ∷ codes "h" ∷ codes "a" ∷ codes "c" ∷ codes "d" ∷ []
 
-abbrev actor : List ℕ → Role → List ScriptLine → ActorRead
+abbrev pub actor : List ℕ → Role → List ScriptLine → ActorRead
 actor name role lines = record { name = name; role = role; lines = lines }
 
 abbrev read_at : ℕ → ℕ → Request
@@ -66,7 +66,7 @@ main_asks = refl
 
 -- ---- entries
 
-abbrev entry : ℕ → ℕ → Request → Entry
+abbrev pub entry : ℕ → ℕ → Request → Entry
 entry number by request =
     record {
       number = number;

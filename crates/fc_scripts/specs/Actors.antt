@@ -3,7 +3,7 @@ use Rattle.std.specs.Prelude.{◌≡◌, ℕ, ◌==◌, true, List, ◌∷◌, �
 use Rattle.std.specs.List.{list_any}
 use Rattle.fc_base.specs.declared.request.Request.{Request}
 use Rattle.fc_entry.specs.declared.entry.Entry.{Entry}
-use Rattle.fc_scripts.specs.Scripts.{Script}
+use Rattle.fc_legal.specs.Scripts.{Script}
 
 -- What an actor's entries ask, in their order.
 abbrev pub asks_of : ℕ → List Entry → List Request

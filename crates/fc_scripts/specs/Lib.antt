@@ -1,4 +1,4 @@
--- What actors ask, when entries are theirs, and what the law of scripts says.
+-- When entries are those of a block's actors, ways through a block, and what the law of scripts says.
 pub mod Actors
+pub mod Ways
 pub mod Law
-pub mod Scripts

@@ -12,7 +12,7 @@ use Rattle.fc_entry.specs.declared.entry.Entry.{Entry}
 use Rattle.fc_entry.specs.declared.stop.Stop.{Stop}
 use Rattle.fc_entry.specs.declared.stop.Stop.TheVariants.{LogFull, NoMemory}
 use Rattle.fc_legal.specs.Added.{Adds, Answered, IsOf, IsTold}
-use Rattle.fc_legal.specs.Agenda.{Agenda, Lines, Reading, behind_entry, next_asked, session_rules}
+use Rattle.fc_legal.specs.Agenda.{Agenda, Asks, Session, Reading, behind_entry, session_rules}
 use Rattle.fc_legal.specs.Whole.{Whole}
 use Rattle.fc_stands.specs.Logged.{Brought, IsFull, IsLogged, Logged}
 
@@ -33,7 +33,7 @@ brought_starved A Stands rules a b w old new same of =
     subst P (sym same) (w, of, adds_none (λ more. GoesSome rules a w more w) old record { end = a; goes = stays })
 
 pub brought_full : (A : Type 0) (Stands : Whole → Type 0) (grain : GrainSize) (read : Reading) (a b : Agenda) (w : Whole) (wanted : ℕ × Request) (old new : HistoryState) →
-    next_asked grain a w ≡ Some wanted → IsFull Stands w old new → Brought {A = A} (Err LogFull) Stands (session_rules grain read) a b w old new
+    Asks grain a w wanted → IsFull Stands w old new → Brought {A = A} (Err LogFull) Stands (session_rules grain read) a b w old new
 brought_full A Stands grain read a b w wanted old new asks full =
     let P : HistoryState → Type 0 = λ h. Brought {A = A} (Err LogFull) Stands (session_rules grain read) a b w old h in
     let Q : HistoryState → Type 0 = λ h. IsTold Stands h w in
@@ -109,18 +109,19 @@ passed_on A done Stands rules w a b c x y first on =
 -- It was logged for an agenda that asks for it, and brings it to what stands behind it; and that is brought on, or stops there.
 pub logged_then : (A : Type 0) (result : Result A Stop) (Says : Reply → Type 0) (Before Stands : Whole → Type 0) (grain : GrainSize) (read : Reading) (w : Whole) (request : Request) (a c : Agenda)
     (x y z : HistoryState) →
-    next_asked grain a w ≡ Some (0, request) →
+    Asks grain a w (0, request) →
     IsLogged Says Before grain w request x y →
     ((entry : Entry) (next : Whole) → Says entry.reply → IsTold Before y next → Brought result Stands (session_rules grain read) (behind_entry grain a next entry) c next y z) →
     Brought result Stands (session_rules grain read) a c w x z
 logged_then A result Says Before Stands grain read w request a c x y z asks logged on =
+    let Asked : ℕ × Request → Type 0 = λ asked. Asks grain a w asked in
     let is : (0, request) ≡ (logged.entry.actor, logged.entry.request) =
     ap (λ (n : ℕ). (n, request)) (sym logged.by_main) ∙ ap (λ (r : Request). (logged.entry.actor, r)) (sym logged.asked) in
     then_at A result Stands (session_rules grain read) w logged.next a (behind_entry grain a logged.next logged.entry) c x y z
     record {
       more = logged.entry ∷ [];
       entries = ap (λ (h : HistoryState). h.entries) logged.pushed;
-      are = answers (asks ∙ ap Some is) logged.right stays;
+      are = answers (subst Asked is asks) logged.right stays;
     }
     (on logged.entry logged.next logged.says logged.told)
 
@@ -128,7 +129,7 @@ logged_then A result Says Before Stands grain read w request a c x y z asks logg
 pub logged_brings : (A : Type 0) (result : Result A Stop) (Says : A → Reply → Type 0) (Stands : Whole → Type 0) (grain : GrainSize) (read : Reading) (w : Whole) (request : Request) (a b : Agenda)
     (x y : HistoryState) →
     IsOf w x →
-    next_asked grain a w ≡ Some (0, request) →
+    Asks grain a w (0, request) →
     ((done : A) (entry : Entry) (next : Whole) → result ≡ Ok done → Says done entry.reply → Stands next → Goes (session_rules grain read) (behind_entry grain a next entry) next [] b next) →
     Logged result Says Stands grain w request x y →
     Brought result Stands (session_rules grain read) a b w x y
@@ -143,9 +144,9 @@ logged_brings A (Err NoMemory) Says Stands grain read w request a b x y of asks 
 -- ---- to the end
 
 pub brought_all : (A : Type 0) (result : Result A Stop) (Stands : Whole → Type 0) (grain : GrainSize) (read : Reading) (w : Whole) (a : Agenda) (x y : HistoryState) →
-    Brought result Stands (session_rules grain read) a (Lines []) w x y → Answered result Stands (session_rules grain read) a w x y
+    Brought result Stands (session_rules grain read) a (Session []) w x y → Answered result Stands (session_rules grain read) a w x y
 brought_all A (Ok _) Stands grain read w a x y first =
-    (first.0, first.1, record { more = first.2.more; entries = first.2.entries; are = record { end = Lines []; goes = first.2.are; over = refl } })
+    (first.0, first.1, record { more = first.2.more; entries = first.2.entries; are = record { end = Session []; goes = first.2.are; over = refl } })
 brought_all A (Err LogFull) Stands grain read w a x y first = first
 brought_all A (Err NoMemory) Stands grain read w a x y first = first
 

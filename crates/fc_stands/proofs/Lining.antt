@@ -9,7 +9,8 @@ use Rattle.fc_entry.specs.HistoryState.{HistoryState}
 use Rattle.fc_entry.specs.declared.stop.Stop.{Stop}
 use Rattle.fc_entry.specs.declared.stop.Stop.TheVariants.{LogFull, NoMemory}
 use Rattle.fc_legal.specs.Added.{Answered, IsOf, IsTold}
-use Rattle.fc_legal.specs.Agenda.{Agenda, Lines, Own, Reading, Seconds, behind_own, is_done, line_read, session_rules}
+use Rattle.fc_blocks.specs.Segments.{single}
+use Rattle.fc_legal.specs.Agenda.{Agenda, Session, Own, Reading, Seconds, behind_own, is_done, line_read, session_rules}
 use Rattle.fc_legal.specs.Asked.{numbers}
 use Rattle.fc_legal.specs.Seconds.{all_work, begun}
 use Rattle.fc_legal.specs.Whole.{Whole}
@@ -20,13 +21,13 @@ use Rattle.fc_stands.proofs.Bringing.{brought_all, brought_nothing, brought_stop
 
 -- Those that are left, and nothing behind them.
 abbrev pub own_left : List Request → Agenda
-own_left [] = Lines []
+own_left [] = Session []
 own_left (request ∷ rest) = Own (request ∷ rest) 0 []
 
 pub own_begins : (Stands : Whole → Type 0) (grain : GrainSize) (read : Reading) (w : Whole) (requests : List Request) (h : HistoryState) →
     IsTold Stands h w → Brought {A = Unit {0}} (Ok tt) Stands (session_rules grain read) (Own requests 0 []) (own_left requests) w h h
 own_begins Stands grain read w [] h told =
-    passed_on (Unit {0}) tt Stands (session_rules grain read) w (Own [] 0 []) (Own [] 0 []) (Lines []) h h (brought_nothing Stands (session_rules grain read) (Own [] 0 []) w h told) (λ last stands. refl)
+    passed_on (Unit {0}) tt Stands (session_rules grain read) w (Own [] 0 []) (Own [] 0 []) (Session []) h h (brought_nothing Stands (session_rules grain read) (Own [] 0 []) w h told) (λ last stands. refl)
 own_begins Stands grain read w (request ∷ rest) h told = brought_nothing Stands (session_rules grain read) (Own (request ∷ rest) 0 []) w h told
 
 own_behind : (grain : GrainSize) (read : Reading) (next : Whole) (done : Bool) (rest : List Request) → Goes (session_rules grain read) (behind_own next done rest 0 []) next [] (own_left rest) next
@@ -73,36 +74,36 @@ module _ (Stands : Whole → Type 0) (grain : GrainSize) (read : Reading) (w : W
       Answered {A = Unit {0}} (Err stop) Stands (session_rules grain read) (Own (request ∷ []) n []) w x y
   command_stopped stop of logged =
       brought_all (Unit {0}) (Err stop) Stands grain read w (Own (request ∷ []) n []) x y
-      (brought_stopped Bool (Unit {0}) stop Stands (session_rules grain read) w (Own (request ∷ []) n []) (Lines []) (Lines []) x y
-      (logged_brings Bool (Err stop) whether_done Stands grain read w request (Own (request ∷ []) n []) (Lines []) x y of refl (λ done entry next same says stands. absurd (cc same)) logged))
+      (brought_stopped Bool (Unit {0}) stop Stands (session_rules grain read) w (Own (request ∷ []) n []) (Session []) (Session []) x y
+      (logged_brings Bool (Err stop) whether_done Stands grain read w request (Own (request ∷ []) n []) (Session []) x y of refl (λ done entry next same says stands. absurd (cc same)) logged))
 
   pub command_undone : (done : Bool) → done ≡ false → Logged {A = Bool} (Ok done) whether_done Stands grain w request x y →
       Answered {A = Unit {0}} (Ok tt) Stands (session_rules grain read) (Own (request ∷ []) n []) w x y
   command_undone done is logged =
       brought_all (Unit {0}) (Ok tt) Stands grain read w (Own (request ∷ []) n []) x y
-      (logged_then (Unit {0}) (Ok tt) (whether_done done) Stands Stands grain read w request (Own (request ∷ []) n []) (Lines []) x y y refl logged
+      (logged_then (Unit {0}) (Ok tt) (whether_done done) Stands Stands grain read w request (Own (request ∷ []) n []) (Session []) x y y refl logged
       (λ entry next says told.
-      let P : Bool → Type 0 = λ b. Brought {A = Unit {0}} (Ok tt) Stands (session_rules grain read) (behind_own next b [] n []) (Lines []) next y y in
-      subst P (sym is ∙ says) (brought_nothing Stands (session_rules grain read) (Lines []) next y told)))
+      let P : Bool → Type 0 = λ b. Brought {A = Unit {0}} (Ok tt) Stands (session_rules grain read) (behind_own next b [] n []) (Session []) next y y in
+      subst P (sym is ∙ says) (brought_nothing Stands (session_rules grain read) (Session []) next y told)))
 
   pub command_done : (result : Result (Unit {0}) Stop) (After : Whole → Type 0) (z : HistoryState) (done : Bool) → done ≡ true → Logged {A = Bool} (Ok done) whether_done Stands grain w request x y →
-      ((next : Whole) → IsTold Stands y next → Brought result After (session_rules grain read) (Seconds (begun n (all_work next.books)) []) (Lines []) next y z) →
+      ((next : Whole) → IsTold Stands y next → Brought result After (session_rules grain read) (Seconds (begun n (all_work next.books)) []) (Session []) next y z) →
       Answered result After (session_rules grain read) (Own (request ∷ []) n []) w x z
   command_done result After z done is logged then =
       brought_all (Unit {0}) result After grain read w (Own (request ∷ []) n []) x z
-      (logged_then (Unit {0}) result (whether_done done) Stands After grain read w request (Own (request ∷ []) n []) (Lines []) x y z refl logged
+      (logged_then (Unit {0}) result (whether_done done) Stands After grain read w request (Own (request ∷ []) n []) (Session []) x y z refl logged
       (λ entry next says told.
-      let P : Bool → Type 0 = λ b. Brought result After (session_rules grain read) (behind_own next b [] n []) (Lines []) next y z in
+      let P : Bool → Type 0 = λ b. Brought result After (session_rules grain read) (behind_own next b [] n []) (Session []) next y z in
       subst P (sym is ∙ says) (then next told)))
 
 -- No second passes.
 pub none_pass : (Stands : Whole → Type 0) (grain : GrainSize) (read : Reading) (w : Whole) (n : ℕ) (x : HistoryState) → n ≡ 0 → IsTold Stands x w →
-    Brought {A = Unit {0}} (Ok tt) Stands (session_rules grain read) (Seconds (begun n (all_work w.books)) []) (Lines []) w x x
+    Brought {A = Unit {0}} (Ok tt) Stands (session_rules grain read) (Seconds (begun n (all_work w.books)) []) (Session []) w x x
 none_pass Stands grain read w n x is told =
-    let P : ℕ → Type 0 = λ k. Brought {A = Unit {0}} (Ok tt) Stands (session_rules grain read) (Seconds (begun k (all_work w.books)) []) (Lines []) w x x in
+    let P : ℕ → Type 0 = λ k. Brought {A = Unit {0}} (Ok tt) Stands (session_rules grain read) (Seconds (begun k (all_work w.books)) []) (Session []) w x x in
     subst P (sym is)
-    (passed_before (Unit {0}) (Ok tt) Stands (session_rules grain read) w (Seconds (begun 0 (all_work w.books)) []) (Lines []) (Lines []) x x refl
-    (brought_nothing Stands (session_rules grain read) (Lines []) w x told))
+    (passed_before (Unit {0}) (Ok tt) Stands (session_rules grain read) w (Seconds (begun 0 (all_work w.books)) []) (Session []) (Session []) x x refl
+    (brought_nothing Stands (session_rules grain read) (Session []) w x told))
 
 -- ---- a line
 
@@ -118,7 +119,7 @@ answered_before (Err NoMemory) Stands grain read w a b x y first on =
 -- Its own requests and seconds are answered, as it was read.
 pub line_answered : (result : Result (Unit {0}) Stop) (Stands : Whole → Type 0) (grain : GrainSize) (read : Reading) (w : Whole) (bytes : List ℕ) (line : Result Line WordFault) (requests : List Request) (n : ℕ) (x y : HistoryState) →
     read w.books bytes ≡ line → line_read grain w line [] ≡ Own requests n [] →
-    Answered result Stands (session_rules grain read) (Own requests n []) w x y → Answered result Stands (session_rules grain read) (Lines (bytes ∷ [])) w x y
+    Answered result Stands (session_rules grain read) (Own requests n []) w x y → Answered result Stands (session_rules grain read) (Session (single bytes ∷ [])) w x y
 line_answered result Stands grain read w bytes line requests n x y is asks own =
-    answered_before result Stands grain read w (Lines (bytes ∷ [])) (Own requests n []) x y own
+    answered_before result Stands grain read w (Session (single bytes ∷ [])) (Own requests n []) x y own
     (ap (λ (l : Result Line WordFault). Some (line_read grain w l [])) is ∙ ap Some asks)

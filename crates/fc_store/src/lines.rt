@@ -9,7 +9,8 @@ ghost use Rattle.fc_books.specs.Books.{Books};
 ghost use Rattle.fc_books.specs.Refused.{access_refused};
 ghost use Rattle.fc_entry.specs.Refused.{blocks_refusal};
 ghost use Rattle.fc_legal.specs.Added.{Answered, IsTold, StaysUp, TellsSome};
-ghost use Rattle.fc_legal.specs.Agenda.{Lines, Own, Reading, session_rules};
+ghost use Rattle.fc_blocks.specs.Segments.{single};
+ghost use Rattle.fc_legal.specs.Agenda.{Session, Own, Reading, session_rules};
 ghost use Rattle.fc_legal.specs.Asked.{command_asked, touched};
 ghost use Rattle.fc_legal.specs.Whole.{Whole};
 ghost use Rattle.fc_stands.specs.Logged.{Logged, anything};
@@ -223,7 +224,7 @@ impl<D: Mdisk> Store<D> {
         requires stands { TellsSome (StandsFor self.old) history.old }
         requires room { length history.old.entries ≤ MAX_ENTRIES }
         ensures answered { (read : Reading) (bytes : Items ℕ) (w : Whole) → read w.books bytes ≡ Err fault → IsTold (StandsFor self.old) history.old w →
-            Answered result (StandsFor self.new) (session_rules self.old.control.grain read) (Lines (bytes ∷ [])) w history.old history.new }
+            Answered result (StandsFor self.new) (session_rules self.old.control.grain read) (Session (single bytes ∷ [])) w history.old history.new }
         ensures control { self.new.control ≡ self.old.control }
         ensures disks { disks_in self.new.lanes ≡ disks_in self.old.lanes }
         ensures quiet { QuietBy history.old.entries self.old.lanes → StaysUp result (QuietBy history.new.entries self.new.lanes) }

@@ -58,7 +58,7 @@ all-answered grain w last [] legal served = legal
 all-answered grain w last (entry ∷ entries) legal served = (
   legal.0,
   legal.1,
-  answers-online grain w entry.request entry legal.0 refl legal.1 (All-head IsServed entry entries served),
+  answers-online grain legal.1.before entry.request entry legal.0 refl legal.1.step (All-head IsServed entry entries served),
   all-answered grain legal.0 last entries legal.2 (All-tail IsServed entry entries served),
 )
 

@@ -1,5 +1,5 @@
 -- A legal history tells how many entries it has, of the lanes and actors that it began with.
-use Rattle.std.proofs.Common.{◌≡◌, ℕ, ◌+◌, List, [], ◌∷◌, length, Option, Some, None, refl, ◌∙◌, ap, arith}
+use Rattle.std.proofs.Common.{◌≡◌, ℕ, ◌+◌, List, [], ◌∷◌, ◌++◌, length, Option, Some, None, refl, ◌∙◌, ap, arith}
 use Rattle.std.proofs.lemmas.List.{length-set}
 use Rattle.fc_base.specs.declared.command.Command.{Command}
 use Rattle.fc_base.specs.declared.command.Command.TheVariants.{Mkvdisk, Rmvdisk, Write as WriteLine, Read as ReadLine, Armfault, Advance, Mkfcmap, Prestartfcmap, Startfcmap, Stopfcmap, Rmfcmap, Mkfcconsistgrp, Prestartfcconsistgrp, Startfcconsistgrp, Stopfcconsistgrp, Rmfcconsistgrp, Lsfcmap, Lsfcconsistgrp, Lsvdisk, Lsfcmapprogress, Lsfcmapdependentmaps}
@@ -12,7 +12,7 @@ use Rattle.fc_base.specs.declared.size.GrainSize.{GrainSize}
 use Rattle.fc_books.specs.Refused.{access_refused}
 use Rattle.fc_entry.specs.Picture.{grain_of_block}
 use Rattle.fc_entry.specs.declared.entry.Entry.{Entry}
-use Rattle.fc_legal.specs.Legal.{IsLegal}
+use Rattle.fc_legal.specs.Legal.{AreSteps, IsLegal}
 use Rattle.fc_legal.specs.Steps.{RequestStep, CommandIsRight, CommandStep, CommandLeft, AccessIsRefused, LaneStep}
 use Rattle.fc_legal.specs.Steps.CommandLeft.{decided, unsettled, settled_alone}
 use Rattle.fc_legal.specs.Whole.{Whole, lanes, lane_of_grain}
@@ -110,21 +110,45 @@ request_keeps grain w (Clean m g) entry next step = lane_keeps grain w (lane_of_
 request_keeps grain w (CopyTurn lane) entry next step = lane_keeps grain w lane _ entry next step.step
 request_keeps grain w (CleanTurn lane) entry next step = lane_keeps grain w lane _ entry next step.step
 
--- Each entry is one more.
-pub IsLegal-keeps :
+-- ---- histories
+
+-- Each entry is one more; where none comes behind a new name, the actors stay.
+pub AreSteps-keeps :
     (grain : GrainSize) (w last : Whole) (entries : List Entry) →
-    IsLegal grain w entries last →
+    AreSteps grain w entries last →
     Keeps (length entries) w last
-IsLegal-keeps grain w last [] legal = record {
-  entries = omega (arith, ap (λ (x : Whole). x.entries) legal);
-  lanes_are = ap lanes legal;
-  actors = ap (λ (x : Whole). x.actors) legal;
+AreSteps-keeps grain w last [] steps = record {
+  entries = omega (arith, ap (λ (x : Whole). x.entries) steps);
+  lanes_are = ap lanes steps;
+  actors = ap (λ (x : Whole). x.actors) steps;
 }
-IsLegal-keeps grain w last (entry ∷ entries) legal =
-    let first : Keeps 1 w legal.0 = request_keeps grain w entry.request entry legal.0 legal.1.right in
-    let rest : Keeps (length entries) legal.0 last = IsLegal-keeps grain legal.0 last entries legal.2 in
+AreSteps-keeps grain w last (entry ∷ entries) steps =
+    let first : Keeps 1 w steps.0 = request_keeps grain w entry.request entry steps.0 steps.1.right in
+    let rest : Keeps (length entries) steps.0 last = AreSteps-keeps grain steps.0 last entries steps.2 in
     record {
       entries = omega (arith, first.entries, rest.entries);
       lanes_are = rest.lanes_are ∙ first.lanes_are;
       actors = rest.actors ∙ first.actors;
+    }
+
+-- So many entries more, of as many lanes.
+pub record Counts (more : ℕ) (w next : Whole) : Type 0 where
+  pub entries : next.entries ≡ w.entries + more
+  pub lanes_are : lanes next ≡ lanes w
+
+pub IsLegal-keeps :
+    (grain : GrainSize) (w last : Whole) (entries : List Entry) →
+    IsLegal grain w entries last →
+    Counts (length entries) w last
+IsLegal-keeps grain w last [] legal = record {
+  entries = omega (arith, ap (λ (x : Whole). x.entries) legal.named);
+  lanes_are = ap lanes legal.named;
+}
+IsLegal-keeps grain w last (entry ∷ entries) legal =
+    let named : legal.1.before ≡ record w { actors = w.actors ++ legal.1.named.more } = legal.1.named.named in
+    let first : Keeps 1 legal.1.before legal.0 = request_keeps grain legal.1.before entry.request entry legal.0 legal.1.step.right in
+    let rest : Counts (length entries) legal.0 last = IsLegal-keeps grain legal.0 last entries legal.2 in
+    record {
+      entries = omega (arith, ap (λ (x : Whole). x.entries) named, first.entries, rest.entries);
+      lanes_are = rest.lanes_are ∙ first.lanes_are ∙ ap lanes named;
     }

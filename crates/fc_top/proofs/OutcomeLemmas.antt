@@ -6,9 +6,11 @@ use Rattle.std.proofs.lemmas.List.{length-map}
 use Rattle.std.proofs.Math.Seq.{take-append_seam}
 use Rattle.std.proofs.lemmas.List.Sums.{sum_by-cons}
 use Rattle.fc_agenda.proofs.Going.{GoesSome-asking}
+use Rattle.fc_agenda.specs.Goes.{Goes}
 use Rattle.fc_base.specs.Pools.{Pool}
 use Rattle.fc_base.specs.declared.size.GrainSize.{GrainSize}
 use Rattle.fc_base.specs.declared.size.GrainSize.TheVariants.{K64}
+use Rattle.fc_blocks.specs.Segments.{Segment}
 use Rattle.fc_determined.proofs.Determined.{determined_law_holds}
 use Rattle.fc_determined.specs.Law.{IsOneOutcome}
 use Rattle.fc_determined.specs.Smooth.{AreSmooth, TellTheSame, but_for_faults, told_by, without_faults}
@@ -19,10 +21,11 @@ use Rattle.fc_entry.specs.declared.entry.Entry.{Entry}
 use Rattle.fc_gen.specs.Session.{session_text}
 use Rattle.fc_io.specs.Sink.{held_with}
 use Rattle.fc_io.specs.Source.{SourceState}
+use Rattle.fc_legal.proofs.Alone.{AreSteps-goes, alone_append, alone_lines}
 use Rattle.fc_legal.proofs.Appending.{WantsMore-more}
 use Rattle.fc_legal.specs.Added.{IsOf}
-use Rattle.fc_legal.specs.Agenda.{Agenda, Lines, session_rules}
-use Rattle.fc_legal.specs.Run.{IsRun, WantsMore}
+use Rattle.fc_legal.specs.Agenda.{Agenda, Session, session_rules}
+use Rattle.fc_legal.specs.Run.{IsRun, WantsMore, lines_alone}
 use Rattle.fc_legal.specs.Whole.{Whole, opened}
 use Rattle.fc_run.specs.Headline.{EndsAs}
 use Rattle.fc_run.specs.Input.{AreLines, Gave, OfFirstTaken, input_limit}
@@ -39,7 +42,7 @@ use Rattle.fc_top.specs.PlainEnds.{PlainEnds}
 use Rattle.fc_top.specs.PlainRuns.{plain_runs}
 use Rattle.fc_top.specs.Reading.{reading}
 use Rattle.fc_top.specs.declared.status.Status.TheVariants as status
-use Rattle.fc_top.proofs.Kept.{IsLegal-keeps}
+use Rattle.fc_top.proofs.Kept.{AreSteps-keeps}
 use Rattle.fc_top.proofs.Statuses.{same_ended}
 use Rattle.fc_top.specs.declared.words.Asked.{Asked}
 use Rattle.fc_top.specs.declared.words.Asked.TheVariants.{Run, Drill}
@@ -115,15 +118,17 @@ taken_first bytes taken source' lines took (inr all) =
 full_of :
     (grain : GrainSize) (w last : Whole) (bytes taken : List ℕ) (source' : SourceState) (entries : List Entry) →
     TookOf bytes taken source' →
-    OfFirstTaken source' taken (λ first. WantsMore grain reading w first entries last) →
-    WantsMore grain reading w (all_lines bytes) entries last
+    OfFirstTaken source' taken (λ first. WantsMore grain reading w (lines_alone first) entries last) →
+    WantsMore grain reading w (lines_alone (all_lines bytes)) entries last
 full_of grain w last bytes taken source' entries took full =
     let of = full.of in
     let lines = taken_first bytes taken source' full.lines took full.are in
-    let P : List (List ℕ) → Type 0 = λ ls. WantsMore grain reading w ls entries last in
+    let P : List (List ℕ) → Type 0 = λ ls. WantsMore grain reading w (lines_alone ls) entries last in
+    let Q : List Segment → Type 0 = λ segs. WantsMore grain reading w segs entries last in
     subst P
     (sym (lines.split ∙ (ap (λ ls. ls ++ lines.rest) of.split ∙ append_assoc of.first of.rest lines.rest)))
-    (WantsMore-more grain reading w last of.first (of.rest ++ lines.rest) entries of.holds)
+    (subst Q (sym (alone_append of.first (of.rest ++ lines.rest)))
+    (WantsMore-more grain reading w last (lines_alone of.first) (lines_alone (of.rest ++ lines.rest)) entries of.holds))
 
 -- Up to the limit the bytes of two inputs that are too long are the same.
 front_of : (bytes kept rest : List ℕ) → bytes ≡ kept ++ rest → length kept ≡ input_limit → take input_limit bytes ≡ kept
@@ -134,10 +139,10 @@ kept_of bytes taken kept rest past split cut = split ∙ (ap (λ bs. bs ++ rest)
 
 -- What the entries of a session are that ended so, over these bytes.
 abbrev TellsOf : Ended → GrainSize → List ℕ → Whole → Whole → List Entry → Type 0
-TellsOf ended.Done grain bytes w last entries = IsRun grain reading w (all_lines bytes) entries last
+TellsOf ended.Done grain bytes w last entries = IsRun grain reading w (lines_alone (all_lines bytes)) entries last
 TellsOf ended.LogFull grain bytes w last entries =
-    WantsMore grain reading w (all_lines bytes) entries last × (length entries ≡ 262144)
-TellsOf ended.TooLong grain bytes w last entries = IsRun grain reading w (ended_lines (take input_limit bytes)) entries last
+    WantsMore grain reading w (lines_alone (all_lines bytes)) entries last × (length entries ≡ 262144)
+TellsOf ended.TooLong grain bytes w last entries = IsRun grain reading w (lines_alone (ended_lines (take input_limit bytes))) entries last
 TellsOf _ grain bytes w last entries = ⊥
 
 tells_of :
@@ -148,13 +153,13 @@ tells_of :
     TellsOf e grain bytes w last call.history.entries
 tells_of ended.Done form grain bytes taken source source' call w last by_bytes took ends =
     let whole : bytes ≡ taken = took.split ∙ (ap (λ rest. taken ++ rest) (took.end ends.0) ∙ append-nil taken) in
-    let P : List ℕ → Type 0 = λ bs. IsRun grain reading w (all_lines bs) call.history.entries last in
+    let P : List ℕ → Type 0 = λ bs. IsRun grain reading w (lines_alone (all_lines bs)) call.history.entries last in
     subst P (sym whole) ends.2
 tells_of ended.LogFull form grain bytes taken source source' call w last by_bytes took ends =
     (full_of grain w last bytes taken source' call.history.entries took ends.1, ends.2)
 tells_of ended.TooLong form grain bytes taken source source' call w last by_bytes took ends =
     let cut = kept_of bytes taken ends.0 took.rest ends.1 took.split ends.2 in
-    let P : List ℕ → Type 0 = λ bs. IsRun grain reading w (ended_lines bs) call.history.entries last in
+    let P : List ℕ → Type 0 = λ bs. IsRun grain reading w (lines_alone (ended_lines bs)) call.history.entries last in
     subst P (sym (front_of bytes ends.0 (ends.1 ∷ took.rest) cut ends.3)) ends.4
 tells_of ended.ReadFault form grain bytes taken source source' call w last by_bytes took ends = absurd by_bytes
 tells_of ended.WriteFault form grain bytes taken source source' call w last by_bytes took ends = absurd by_bytes
@@ -183,12 +188,12 @@ one_of_two :
     TellsOf e grain bytes v other ys →
     IsOneOutcome xs ys last other
 one_of_two ended.Done grain bytes w v last other xs ys same smooth smooth_other one two =
-    determined_law_holds.whole grain reading (Lines (all_lines bytes)) w v last other xs ys same smooth smooth_other one two
+    determined_law_holds.whole grain reading (Session (lines_alone (all_lines bytes))) w v last other xs ys (alone_lines (all_lines bytes)) same smooth smooth_other one two
 one_of_two ended.TooLong grain bytes w v last other xs ys same smooth smooth_other one two =
-    determined_law_holds.whole grain reading (Lines (ended_lines (take input_limit bytes))) w v last other xs ys same smooth smooth_other one two
+    determined_law_holds.whole grain reading (Session (lines_alone (ended_lines (take input_limit bytes)))) w v last other xs ys (alone_lines (ended_lines (take input_limit bytes))) same smooth smooth_other one two
 one_of_two ended.LogFull grain bytes w v last other xs ys same smooth smooth_other one two =
-    let a : Agenda = Lines (all_lines bytes) in
-    determined_law_holds.as_many grain reading a w v last other xs ys same smooth smooth_other
+    let a : Agenda = Session (lines_alone (all_lines bytes)) in
+    determined_law_holds.as_many grain reading a w v last other xs ys (alone_lines (all_lines bytes)) same smooth smooth_other
     (GoesSome-asking (session_rules grain reading) a w last xs one.0)
     (GoesSome-asking (session_rules grain reading) a v other ys two.0)
     (one.1 ∙ sym two.1)
@@ -197,6 +202,29 @@ one_of_two ended.WriteFault grain bytes w v last other xs ys same smooth smooth_
 one_of_two ended.NoMemory grain bytes w v last other xs ys same smooth smooth_other one two = absurd one
 
 -- ---- two calls
+
+-- Lines that were answered bring no new name.
+lines_name :
+    (grain : GrainSize) (w last : Whole) (lines : List (List ℕ)) (end : Agenda) (entries : List Entry) →
+    Goes (session_rules grain reading) (Session (lines_alone lines)) w entries end last →
+    last.actors ≡ w.actors
+lines_name grain w last lines end entries goes =
+    (AreSteps-keeps grain w last entries (AreSteps-goes grain reading (Session (lines_alone lines)) end w last entries (alone_lines lines) goes)).actors
+
+actors_told :
+    (e : Ended) (form : Form) (grain : GrainSize) (bytes : List ℕ) (source source' : SourceState) (call : Call) (w last : Whole) →
+    IsByBytes (status_of e) →
+    EndsAs e (session_of e form source source' call) (plain_runs grain w last) bytes →
+    last.actors ≡ w.actors
+actors_told ended.Done form grain bytes source source' call w last by_bytes ends =
+    lines_name grain w last (all_lines bytes) ends.2.end call.history.entries ends.2.goes
+actors_told ended.LogFull form grain bytes source source' call w last by_bytes ends =
+    lines_name grain w last ends.1.of.first ends.1.of.holds.end call.history.entries ends.1.of.holds.goes
+actors_told ended.TooLong form grain bytes source source' call w last by_bytes ends =
+    lines_name grain w last (ended_lines ends.0) ends.4.end call.history.entries ends.4.goes
+actors_told ended.ReadFault form grain bytes source source' call w last by_bytes ends = absurd by_bytes
+actors_told ended.WriteFault form grain bytes source source' call w last by_bytes ends = absurd by_bytes
+actors_told ended.NoMemory form grain bytes source source' call w last by_bytes ends = absurd by_bytes
 
 -- The actors of a history of which all is told are those that it began with.
 actors_are :
@@ -207,7 +235,10 @@ actors_are :
 actors_are form grain source source' call ends by_bytes = named ends.named
   where
     named : IsOf ends.last call.history ⊎ ((call.status ≡ status.NoMemory) × (call.history ≡ empty)) → call.history.actors ≡ codes "main" ∷ []
-    named (inl of) = sym of.actors ∙ (IsLegal-keeps grain (first_told call.disks) ends.last call.history.entries ends.legal).actors
+    named (inl of) =
+        sym of.actors
+        ∙ actors_told ends.ended form grain ends.session.bytes source source' call (first_told call.disks) ends.last
+        (subst IsByBytes ends.status by_bytes) ends.session.ends
     named (inr starved) = absurd (subst IsByBytes starved.0 by_bytes)
 
 sessions :

@@ -7,20 +7,23 @@ use Rattle.fc_base.specs.declared.fault.WordFault.{WordFault}
 use Rattle.fc_base.specs.declared.fault.WordFault.TheVariants.{UnknownCommand}
 use Rattle.fc_base.specs.declared.size.GrainSize.{GrainSize}
 use Rattle.fc_books.specs.Books.{Books}
+use Rattle.fc_blocks.specs.Segments.{single}
 use Rattle.fc_entry.specs.HistoryState.{HistoryState}
 use Rattle.fc_entry.specs.Text.{HasNames}
 use Rattle.fc_entry.specs.declared.stop.Stop.{Stop}
 use Rattle.fc_entry.specs.declared.stop.Stop.TheVariants.{LogFull, NoMemory}
 use Rattle.fc_grains.specs.Grains.{pool_of, silent_of}
-use Rattle.fc_legal.proofs.Appending.{IsLegal-run, IsRun-nil}
+use Rattle.fc_legal.proofs.Alone.{AreSteps-goes, alone_lines}
+use Rattle.fc_legal.proofs.Appending.{IsRun-nil}
 use Rattle.fc_legal.specs.Added.{Answered, IsTold, StaysUp, TellsSome}
-use Rattle.fc_legal.specs.Agenda.{Lines, session_rules}
+use Rattle.fc_legal.specs.Agenda.{Session, session_rules}
+use Rattle.fc_legal.specs.Run.{lines_alone}
 use Rattle.fc_legal.specs.Whole.{Whole}
 use Rattle.fc_run.specs.Runs.{GrowsTo, LineLeaves}
 use Rattle.fc_lanes.specs.Dealing.{disks_in}
 use Rattle.fc_stands.specs.Quiet.{AreQuiet, QuietBy}
 use Rattle.fc_stands.specs.Store.{StoreView, StandsFor}
-use Rattle.fc_top.proofs.Kept.{IsLegal-keeps}
+use Rattle.fc_top.proofs.Kept.{AreSteps-keeps}
 use Rattle.fc_top.proofs.LineAnswers.{adds_some, history_grows, line_leaves, names_stay}
 use Rattle.fc_top.specs.DisksBack.{first_told}
 use Rattle.fc_top.specs.Reading.{reading, as_built, is_built}
@@ -68,7 +71,7 @@ fault_read refused fault expected is answers =
 abbrev pub AnswersLine : Result (Unit {0}) Stop → StoreView → StoreView → List ℕ → HistoryState → HistoryState → Type 0
 AnswersLine answer store now line old new =
     (w : Whole) → IsTold (StandsFor store) old w →
-    Answered answer (StandsFor now) (session_rules store.control.grain reading) (Lines (line ∷ [])) w old new
+    Answered answer (StandsFor now) (session_rules store.control.grain reading) (Session (single line ∷ [])) w old new
 
 pub store_answers :
     (answer : Result (Unit {0}) Stop) (start : Start) (store now : StoreView) (lines : List (List ℕ)) (line : List ℕ) (old new : HistoryState) →
@@ -80,7 +83,7 @@ pub store_answers :
     LineLeaves answer (store_runs now start) (lines ++ line ∷ []) new
 store_answers answer start store now lines line old new answers grain disks quiet before =
     let up : IsUp start store old before.last = before.stands in
-    let P : GrainSize → Type 0 = λ g. Answered answer (StandsFor now) (session_rules g reading) (Lines (line ∷ [])) before.last old new in
+    let P : GrainSize → Type 0 = λ g. Answered answer (StandsFor now) (session_rules g reading) (Session (single line ∷ [])) before.last old new in
     line_leaves answer start.grain (first_told start.disks) before.last (λ history last. IsUp start now history last) (HasDisks start now) (StandsFor now) lines line old new
     before.holds (subst P up.grain_is (answers before.last (up.stands, before.told)))
     (goes_on answer
@@ -112,8 +115,8 @@ pub line_grows :
     (store_runs store start).Whole lines old →
     GrowsTo old new
 line_grows answer start store now lines line old new answers before =
-    history_grows store.control.grain reading (Lines (line ∷ [])) before.last old new before.told
-    (adds_some answer store.control.grain reading (Lines (line ∷ [])) before.last (StandsFor now) old new
+    history_grows store.control.grain reading (Session (single line ∷ [])) before.last old new tt before.told
+    (adds_some answer store.control.grain reading (Session (single line ∷ [])) before.last (StandsFor now) old new
     (answers before.last (before.stands.stands, before.told)))
 
 pub line_named :
@@ -124,10 +127,10 @@ pub line_named :
     HasNames new
 line_named answer start store now lines line old new answers before =
     let main : before.last.actors ≡ codes "main" ∷ [] =
-    (IsLegal-keeps start.grain (first_told start.disks) before.last old.entries
-    (IsLegal-run start.grain reading (first_told start.disks) before.last lines old.entries before.holds)).actors in
-    names_stay store.control.grain reading (Lines (line ∷ [])) before.last old new before.told main
-    (adds_some answer store.control.grain reading (Lines (line ∷ [])) before.last (StandsFor now) old new
+    (AreSteps-keeps start.grain (first_told start.disks) before.last old.entries
+    (AreSteps-goes start.grain reading (Session (lines_alone lines)) before.holds.end (first_told start.disks) before.last old.entries (alone_lines lines) before.holds.goes)).actors in
+    names_stay store.control.grain reading (Session (single line ∷ [])) before.last old new tt before.told main
+    (adds_some answer store.control.grain reading (Session (single line ∷ [])) before.last (StandsFor now) old new
     (answers before.last (before.stands.stands, before.told)))
 
 -- Memory was wanted before the line had an entry.
@@ -135,7 +138,7 @@ pub line_starved : (store : StoreView) (line : List ℕ) (history : HistoryState
 line_starved store line history = λ w told. (
   w,
   told.1,
-  record { more = []; entries = sym (append-nil history.entries); are = record { end = Lines (line ∷ []); goes = stays } },
+  record { more = []; entries = sym (append-nil history.entries); are = record { end = Session (single line ∷ []); goes = stays } },
 )
 
 -- ---- the first line

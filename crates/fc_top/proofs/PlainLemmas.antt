@@ -4,6 +4,7 @@ use Rattle.fc_base.specs.declared.size.GrainSize.{GrainSize}
 use Rattle.fc_entry.specs.HistoryState.{HistoryState}
 use Rattle.fc_entry.specs.declared.entry.Entry.{Entry}
 use Rattle.fc_io.specs.Source.{SourceState}
+use Rattle.fc_legal.proofs.Naming.{IsNamed-none}
 use Rattle.fc_legal.specs.Added.{IsOf}
 use Rattle.fc_legal.specs.Legal.{IsLegal}
 use Rattle.fc_legal.specs.Whole.{Whole}
@@ -66,7 +67,7 @@ starved_ends form grain source source' call is same_source same_sink none named 
     let w : Whole = first_told call.disks in
     let ends = starved_at_once grain w (session_of ended.NoMemory form source source' call) same_source same_sink none in
     let P : List Entry → Type 0 = λ es. IsLegal grain w es w in
-    let legal : IsLegal grain w call.history.entries w = subst P (sym none) refl in
+    let legal : IsLegal grain w call.history.entries w = subst P (sym none) (IsNamed-none w) in
     let Q : Status → Type 0 = λ s. DisksAfter s call.disks call.disks' call.history.entries w in
     let disks : DisksAfter call.status call.disks call.disks' call.history.entries w = subst Q (sym is) tt in
     record {

@@ -10,7 +10,7 @@ use Rattle.fc_io.specs.Source.{SourceState}
 use Rattle.fc_legal.proofs.Appending.{IsLegal-run, IsLegal-partial, IsLegal-wants, IsRun-nil}
 use Rattle.fc_legal.specs.Added.{IsOf}
 use Rattle.fc_legal.specs.Legal.{IsLegal}
-use Rattle.fc_legal.specs.Run.{IsRun}
+use Rattle.fc_legal.specs.Run.{IsRun, lines_alone}
 use Rattle.fc_legal.specs.Whole.{Whole}
 use Rattle.fc_run.specs.Headline.{Session, EndsAs}
 use Rattle.fc_run.specs.Summary.{text_of}
@@ -49,14 +49,14 @@ write_fault :
 write_fault grain w Stands Kept s bytes ends (inl at) = record {
   last = at.last;
   ends = (ends.0, ends.1, first_taken s.source' bytes _ _ ends.2 (inl at.holds), ends.3);
-  legal = IsLegal-run grain reading w at.last ends.2.of.first s.history.entries at.holds;
+  legal = IsLegal-run grain reading w at.last (lines_alone ends.2.of.first) s.history.entries at.holds;
   told = at.told;
   stands = at.stands;
 }
 write_fault grain w Stands Kept s bytes ends (inr at) = record {
   last = at.last;
   ends = (ends.0, ends.1, first_taken s.source' bytes _ _ ends.2 (inr at.holds), ends.3);
-  legal = IsLegal-wants grain reading w at.last ends.2.of.first s.history.entries at.holds;
+  legal = IsLegal-wants grain reading w at.last (lines_alone ends.2.of.first) s.history.entries at.holds;
   told = at.told;
   stands = at.stands;
 }
@@ -71,14 +71,14 @@ starved :
 starved grain w Stands Kept s bytes keeps ends (inl at) = record {
   last = at.last;
   ends = (ends.0, first_taken s.source' bytes _ _ ends.1 (inl at.holds), ends.2);
-  legal = IsLegal-run grain reading w at.last ends.1.of.first s.history.entries at.holds;
+  legal = IsLegal-run grain reading w at.last (lines_alone ends.1.of.first) s.history.entries at.holds;
   told = at.told;
   stands = keeps s.history at.last at.stands;
 }
 starved grain w Stands Kept s bytes keeps ends (inr at) = record {
   last = at.last;
   ends = (ends.0, first_taken s.source' bytes _ _ ends.1 (inr at.holds), ends.2);
-  legal = IsLegal-partial grain reading w at.last ends.1.of.first s.history.entries at.holds;
+  legal = IsLegal-partial grain reading w at.last (lines_alone ends.1.of.first) s.history.entries at.holds;
   told = at.told;
   stands = at.stands;
 }
@@ -120,7 +120,7 @@ session_over grain w Stands Kept ended.LogFull s bytes keeps ends =
     record {
       last = at.last;
       ends = (ends.0, first_taken s.source' bytes _ _ ends.1 at.holds, ends.2, ends.3);
-      legal = IsLegal-wants grain reading w at.last ends.1.of.first s.history.entries at.holds;
+      legal = IsLegal-wants grain reading w at.last (lines_alone ends.1.of.first) s.history.entries at.holds;
       told = at.told;
       stands = at.stands;
     }

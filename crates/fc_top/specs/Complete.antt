@@ -10,7 +10,7 @@ use Rattle.fc_base.specs.declared.size.GrainSize.{GrainSize}
 use Rattle.fc_complete.specs.Law.{AreServed, IsOnline, GivesBytes}
 use Rattle.fc_entry.specs.declared.entry.Entry.{Entry}
 use Rattle.fc_io.specs.Source.{SourceState}
-use Rattle.fc_legal.specs.Steps.{Step}
+use Rattle.fc_legal.specs.Legal.{IsNamed, IsNext}
 use Rattle.fc_legal.specs.Whole.{Whole}
 use Rattle.fc_mdisk.specs.Disk.{DiskState}
 use Rattle.fc_mdisk.specs.Disks.{faults_of}
@@ -36,9 +36,9 @@ AnswersOnline grain w request entry = Unit {0}
 
 -- A legal history in which each access is answered so.
 abbrev pub IsAnswered : GrainSize → Whole → List Entry → Whole → Type 0
-IsAnswered grain w [] last = last ≡ w
+IsAnswered grain w [] last = IsNamed w last
 IsAnswered grain w (entry ∷ entries) last =
-    (next : Whole) × Step grain w entry next × AnswersOnline grain w entry.request entry × IsAnswered grain next entries last
+    (next : Whole) × (one : IsNext grain w entry next) × AnswersOnline grain one.before entry.request entry × IsAnswered grain next entries last
 
 -- No entry answers a disk fault or a medium error, none tore a grain and none is lost; and accesses are answered.
 pub record IsWhole (grain : GrainSize) (w : Whole) (entries : List Entry) (last : Whole) : Type 0 where

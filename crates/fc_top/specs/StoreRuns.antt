@@ -4,7 +4,7 @@ use Rattle.fc_base.specs.declared.size.GrainSize.{GrainSize}
 use Rattle.fc_entry.specs.HistoryState.{HistoryState}
 use Rattle.fc_grains.specs.Grains.{pool_of, silent_of}
 use Rattle.fc_legal.specs.Added.{IsOf}
-use Rattle.fc_legal.specs.Run.{IsRun, IsPartialRun, WantsMore}
+use Rattle.fc_legal.specs.Run.{IsRun, IsPartialRun, WantsMore, lines_alone}
 use Rattle.fc_legal.specs.Whole.{Whole}
 use Rattle.fc_mdisk.specs.Disk.{DiskState}
 use Rattle.fc_run.specs.Runs.{Runs}
@@ -26,9 +26,9 @@ pub record Reaches (Stands : HistoryState → Whole → Type 0) (history : Histo
 -- For want of memory he needn't stand for it, and this is kept.
 abbrev pub runs_of : GrainSize → Whole → (HistoryState → Whole → Type 0) → Type 0 → Runs
 runs_of grain w Stands Kept = record {
-  Whole = λ lines history. Reaches Stands history (λ last. IsRun grain reading w lines history.entries last);
-  Full = λ lines history. Reaches Stands history (λ last. WantsMore grain reading w lines history.entries last);
-  Front = λ lines history. Reaches (λ told w. Kept) history (λ last. IsPartialRun grain reading w lines history.entries last);
+  Whole = λ lines history. Reaches Stands history (λ last. IsRun grain reading w (lines_alone lines) history.entries last);
+  Full = λ lines history. Reaches Stands history (λ last. WantsMore grain reading w (lines_alone lines) history.entries last);
+  Front = λ lines history. Reaches (λ told w. Kept) history (λ last. IsPartialRun grain reading w (lines_alone lines) history.entries last);
 }
 
 -- At the end of a session he stands so, or, for want of memory, this is kept.

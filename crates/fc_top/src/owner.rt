@@ -1,9 +1,10 @@
 //! The one owner of the store: reads each line by the grammar, and has the store answer it.
 
 ghost use Rattle.std.specs.Prelude.{◌≡◌, ◌≤◌, ℕ, List, [], ◌∷◌, length, Ok};
+ghost use Rattle.fc_blocks.specs.Segments.{single};
 ghost use Rattle.fc_lanes.specs.Dealing.{disks_in};
 ghost use Rattle.fc_legal.specs.Added.{Answered, IsTold, StaysUp, TellsSome};
-ghost use Rattle.fc_legal.specs.Agenda.{Lines, session_rules};
+ghost use Rattle.fc_legal.specs.Agenda.{Session, session_rules};
 ghost use Rattle.fc_legal.specs.Whole.{Whole};
 ghost use Rattle.fc_stands.specs.Quiet.{QuietBy};
 ghost use Rattle.fc_stands.specs.Store.{StandsFor};
@@ -54,7 +55,7 @@ fn answer_line<D: Mdisk>(
     requires stands { TellsSome (StandsFor store.old) history.old }
     requires room { length history.old.entries ≤ 262144 }
     ensures answered { (bytes : List ℕ) (w : Whole) → reading w.books bytes ≡ as_built (Ok line) → IsTold (StandsFor store.old) history.old w →
-        Answered result (StandsFor store.new) (session_rules store.old.control.grain reading) (Lines (bytes ∷ [])) w history.old history.new }
+        Answered result (StandsFor store.new) (session_rules store.old.control.grain reading) (Session (single bytes ∷ [])) w history.old history.new }
     ensures grain { store.new.control.grain ≡ store.old.control.grain }
     ensures disks { disks_in store.new.lanes ≡ disks_in store.old.lanes }
     ensures quiet { QuietBy history.old.entries store.old.lanes → StaysUp result (QuietBy history.new.entries store.new.lanes) }

@@ -1,5 +1,5 @@
--- What the actors of a block ask.
-use Rattle.std.specs.Prelude.{ℕ, ◌%◌, List, map, Ok, Err}
+-- What the actors of a block ask, and what they have still to ask.
+use Rattle.std.specs.Prelude.{ℕ, ◌%◌, ◌==◌, Bool, true, false, ◌&&◌, cond, List, [], ◌∷◌, map, fold, Option, Some, None, Ok, Err}
 use Rattle.std.specs.List.{flat_map, range_with_len}
 use Rattle.fc_base.specs.declared.command.Role.{Role}
 use Rattle.fc_base.specs.declared.command.Role.TheVariants.{Host, Admin, Copier, Cleaner}
@@ -11,7 +11,7 @@ use Rattle.fc_base.specs.declared.request.Request.TheVariants.{Unread as AskedUn
 use Rattle.fc_base.specs.declared.size.GrainSize.{GrainSize}
 use Rattle.fc_blocks.specs.declared.block.ActorRead.{ActorRead}
 use Rattle.fc_books.specs.Books.{Books}
-use Rattle.fc_entry.specs.HistoryState.{number_of_actor}
+use Rattle.fc_entry.specs.HistoryState.{number_of_actor, with_actor}
 use Rattle.fc_legal.specs.Asked.{asked}
 
 -- What a line of an actor asks, as it was read: an access one request for each grain, or itself where it is refused; a command
@@ -48,3 +48,38 @@ script_of grain lanes b names a =
 
 abbrev pub scripts_of : GrainSize → ℕ → Books → List (List ℕ) → List ActorRead → List Script
 scripts_of grain lanes b names actors = map (script_of grain lanes b names) actors
+
+-- The names of actors, with those of a block among them.
+abbrev pub names_with : List (List ℕ) → List ActorRead → List (List ℕ)
+names_with names actors = fold with_actor names (map (λ (a : ActorRead). a.name) actors)
+
+-- ---- what is still to be asked
+
+-- The next of some requests.
+abbrev pub first_of : List Request → Option Request
+first_of [] = None
+first_of (request ∷ rest) = Some request
+
+abbrev pub behind_first : List Request → List Request
+behind_first [] = []
+behind_first (request ∷ rest) = rest
+
+-- What an actor asks next, by its number.
+abbrev pub next_by : List Script → ℕ → Option Request
+next_by [] actor = None
+next_by (s ∷ scripts) actor = cond (s.actor == actor) (first_of s.requests) (next_by scripts actor)
+
+-- Its script without that request; the scripts of all others stay.
+abbrev pub behind_next : List Script → ℕ → List Script
+behind_next [] actor = []
+behind_next (s ∷ scripts) actor =
+    cond (s.actor == actor) (record s { requests = behind_first s.requests } ∷ scripts) (s ∷ behind_next scripts actor)
+
+-- No actor has anything left to ask.
+abbrev pub asks_nothing : List Request → Bool
+asks_nothing [] = true
+asks_nothing (request ∷ rest) = false
+
+abbrev pub are_done : List Script → Bool
+are_done [] = true
+are_done (s ∷ scripts) = asks_nothing s.requests && are_done scripts
