@@ -4,5 +4,5 @@
 //! holds. `specs/LaneSheet` says which sheet the lanes have together.
 #![tactic(auto)]
 
-pub mod kept;
+mod kept;
 pub mod sheet;

@@ -47,7 +47,8 @@ impl Access {
     }
 }
 
-/// Reads or writes blocks of a grain of the lane, by `main`.
+/// Reads or writes blocks of one grain in its lane, by `main`, where room was made for the entry (`Lane::make_room`). The entry
+/// that it answers is right, and the lane stands for what is told with it; nobody keeps it yet.
 pub fn access_lane<D: Mdisk>(
     alloc: Global,
     lane: &mut Lane<D>,

@@ -26,7 +26,8 @@ fn no_lists<D: Mdisk>(alloc: Global, count: usize) -> Result<Vec<Vec<D>>, NoMemo
     Ok(lists)
 }
 
-/// Deals disks to so many lists in turn, each in order. Refused, the disks are gone.
+/// Deals disks to so many lists in turn, each in order: a disk goes to the list whose number its place leaves when divided by
+/// theirs. Refused for want of memory, the disks are gone.
 pub fn deal<D: Mdisk>(alloc: Global, count: usize, disks: Vec<D>) -> Result<Vec<Vec<D>>, NoMemory>
     requires { 0 < count }
     ensures { IfOk result (λ lists. lists_of D.meaning lists.items ≡ all_dealt count (map D.meaning disks.items)) }
@@ -47,7 +48,7 @@ pub fn deal<D: Mdisk>(alloc: Global, count: usize, disks: Vec<D>) -> Result<Vec<
     Ok(lists)
 }
 
-/// A lane over each list of disks. Refused, the disks are gone.
+/// A lane over each list of disks, numbered in order; there are at most 255. Refused for want of memory, the disks are gone.
 pub fn make_lanes<D: Mdisk>(
     alloc: Global,
     grain: GrainSize,

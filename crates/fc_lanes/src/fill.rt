@@ -14,7 +14,8 @@ use fc_lane::lane::Lane;
 use fc_mdisk::mdisk::Mdisk;
 use std::alloc::Global;
 
-/// Copies or cleans a grain of the lane, by `main`.
+/// Copies or cleans a grain in its lane, where the work has something to do, by `main`; room was made for the entry
+/// (`Lane::make_room`). The entry that it answers is right, and the lane stands for what is told with it; nobody keeps it yet.
 pub fn fill_lane<D: Mdisk>(
     alloc: Global,
     lane: &mut Lane<D>,

@@ -21,7 +21,8 @@ use fc_rates::{Credits, kib_per_second};
 use std::alloc::Global;
 use std::marker::Model;
 
-/// The copies or the cleanings of a mapping: what a second is worth to them, in KiB, and their credit.
+/// The copies or the cleanings of a mapping: what a second is worth to them by the table of rates, and the credit that they
+/// saved up, both in KiB.
 #[derive(Drop)]
 pub struct Work {
     map: MapId,
@@ -79,14 +80,14 @@ impl Work {
         self.cleans
     }
 
-    /// Gains its second.
+    /// Gains what a second is worth to it. The credit stops at 2^64 - 1.
     pub fn gain(&mut self)
         ensures { self.new ≡ gained self.old }
     {
         self.credit.second(self.gain);
     }
 
-    /// Pays for a grain. False exactly where the credit isn't worth it, and then it stays.
+    /// Pays for a grain of this size. False exactly where the credit isn't worth it, and then it stays.
     pub fn pay(&mut self, grain: GrainSize) -> bool
         ensures paid { OnTrue result ((grain_kib grain ≤ self.old.credit) × (self.new ≡ spent grain self.old)) }
         ensures kept { OnFalse result ((self.old.credit < grain_kib grain) × (self.new ≡ self.old)) }
@@ -161,7 +162,8 @@ fn push_cleanings(
     Ok(())
 }
 
-/// All background work of these mappings, by their flags: all copies by mapping id, and then all cleanings. All credits are 0.
+/// All background work of these mappings, which are in order of id, by their flags: all copies, and then all cleanings. All
+/// credits are 0. Refused for want of memory.
 pub fn all_work(
     alloc: Global,
     flags: &[WorkFlags],
