@@ -180,6 +180,30 @@ failing_streams() {
     fi
 }
 
+# ---- a session that is typed: each answer is there before the next line is
+typed_session() {
+    echo "== a session that is typed"
+    local lines=("mkvdisk -name A -size 1" "write A 0 1 5a" "# a comment" "read A 0 2" "read B 0 1")
+    local answers=("0 main mkvdisk -name A -size 1 -> Virtual Disk, id [0], successfully created" "1 main write 0 0 1 5a -> ok" ""
+        "2 main read 0 0 2 -> data 512*5a,512*00" "3 main read B 0 1 -> refused no such vdisk")
+    local line=0 answer input pid
+    coproc typed { exec timeout "$most_seconds" "$program" run --grain 64 2>"$room/err"; }
+    # these names go with the program's end
+    input=${typed[1]}
+    pid=$typed_PID
+    for ((line = 0; line < ${#lines[@]}; line++)); do
+        printf '%s\n' "${lines[line]}" >&"$input"
+        [[ -n ${answers[line]} ]] || continue
+        answer=
+        IFS= read -r -t 20 answer <&"${typed[0]}"
+        is "the answer to '${lines[line]}', typed" "${answers[line]}" "$answer"
+    done
+    exec {input}>&-
+    wait "$pid"
+    is "a session that is typed: status" 0 $?
+    holds "a session that is typed: it complained" complained_of_nothing
+}
+
 # ---- the script over the proved program: it runs it, hands its status on, and says in a line what it means
 script_and_program() {
     echo "== bin/flashcopy over the proved program"

@@ -14,7 +14,7 @@ run_words() {
 # At a terminal: how to end what is typed.
 say_how_to_end() {
     [[ -t 0 ]] || return 0
-    say "type the lines of a session, and Ctrl-D at the beginning of a line to end it; the history comes then"
+    say "type the lines of a session; each is answered as it ends. Ctrl-D at the beginning of a line ends the session"
 }
 
 # Says in a line what a status other than 0 means. Of a try without an answer that is said already.

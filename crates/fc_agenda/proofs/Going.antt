@@ -1,5 +1,5 @@
 -- One way behind another, and what the ways have in common.
-use Rattle.std.proofs.Common.{◌≡◌, ℕ, List, [], ◌∷◌, ◌++◌, subst, sym}
+use Rattle.std.proofs.Common.{List, [], ◌∷◌, ◌++◌, subst}
 use Rattle.std.proofs.lemmas.List.{append-nil}
 use Rattle.fc_entry.specs.declared.entry.Entry.{Entry}
 use Rattle.fc_agenda.specs.Rules.{Rules}

@@ -177,7 +177,7 @@ made_stored l old volume grains kind due newest =
 made_stands : (l : LaneOf) (s : Sheet) (picture : Picture) (old new : List VolumeGrains) (volume : VolId) (grains : ℕ) (kind : DiskKind) → Stands s picture old → FitsEvent s (Make volume grains kind) →
     All (λ (v : VolumeGrains). v.volume.0 < volume.0) old → GrainsAfter l old (Make volume grains kind) new →
     Stands (sheet_step (grains_in l) s (Make volume grains kind)) (picture_event l s.slots picture (Make volume grains kind)) new
-made_stands l s picture old new volume grains kind st fits newest (due, is) =
+made_stands l s picture old new volume grains kind st fits newest (due, unarmed, is) =
     let n : ℕ = grains_in l grains in
     let come : VolumeGrains = record { volume = volume; kind = kind; contents = replicate n (zeros l.grain); due = due } in
     let here : volume_of (old ++ come ∷ []) volume.0 ≡ come = push_here old come newest in
@@ -258,7 +258,7 @@ still_stored old new is w g = ap (λ vs. stored vs w g) is
 
 -- what is stored after an event
 pub event_stored : (l : LaneOf) (told : LaneTold) (old new : List VolumeGrains) (e : LaneEvent) → SameVolumes old told.volumes → HasDisk told e → GrainsAfter l old e new → StoredAfter l (stored old) e (stored new)
-event_stored l told old new (Make volume grains kind) same disk (due, is) =
+event_stored l told old new (Make volume grains kind) same disk (due, unarmed, is) =
     subst (λ (vs : List VolumeGrains). StoredAfter l (stored old) (Make volume grains kind) (stored vs)) (sym is) (made_stored l old volume grains kind due (newest_of volume.0 old told.volumes same disk.1))
 event_stored l told old new (Remove volume) same disk is = λ w g ne. ap (λ vs. stored vs w g) is ∙ ap (λ (v : VolumeGrains). content_at v.contents g) (without_other old volume.0 w ne)
 event_stored l told old new (Arm volume grain calls) same disk is = armed_stored old new volume calls (grain.0 % l.lanes == l.lane) is
@@ -291,7 +291,7 @@ armed_same old new volumes volume calls false is same = same_kinds old new volum
 
 -- the grains keep the volumes that are told
 pub event_volumes : (l : LaneOf) (old new : List VolumeGrains) (volumes : List LaneVolume) (e : LaneEvent) → SameVolumes old volumes → GrainsAfter l old e new → SameVolumes new (volumes_event volumes e)
-event_volumes l old new volumes (Make volume grains kind) same (due, is) =
+event_volumes l old new volumes (Make volume grains kind) same (due, unarmed, is) =
     ap (map kind_of_grains) is ∙ push_kinds old volumes (record { volume = volume; kind = kind; contents = replicate (grains_in l grains) (zeros l.grain); due = due }) (record { volume = volume; kind = kind; access = Online }) refl same
 event_volumes l old new volumes (Remove volume) same is = ap (map kind_of_grains) is ∙ without_kinds old volumes volume.0 same
 event_volumes l old new volumes (Arm volume grain calls) same is = armed_same old new volumes volume calls (grain.0 % l.lanes == l.lane) is same

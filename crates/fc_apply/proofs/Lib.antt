@@ -7,3 +7,4 @@ pub mod Readying
 pub mod Noting
 pub mod Beginning
 pub mod Following
+pub mod Arming

@@ -13,6 +13,7 @@ use Rattle.fc_base.specs.declared.ids.MapId.{MapId}
 use Rattle.fc_base.specs.declared.outcome.NoMemory.{NoMemory}
 use Rattle.fc_chain.specs.Chains.{Chains}
 use Rattle.fc_chain.specs.Room.{HasRoomFor}
+use Rattle.fc_grains.specs.Calls.{HasReadied}
 use Rattle.fc_grains.specs.Volumes.{VolumeGrains}
 use Rattle.fc_steps.specs.Standing.{Stands, kind_of_grains, lane_of}
 use Rattle.fc_grains.specs.Grains.{GrainsState, NewVolume, is_of_kind, reserved_of}
@@ -27,32 +28,38 @@ use Rattle.fc_apply.proofs.Telling.{length_both}
 -- ---- new volumes
 
 pub record Reserving (l : LaneOf) (g : GrainsState) (events : List LaneEvent) (g' : GrainsState) (rest : List LaneEvent) : Type 0 where
-  pub state : g' ≡ record g { reserved = g'.reserved }
+  pub state : HasReadied g g'.reserved g'
   pub volumes : g'.reserved ++ new_volumes l rest ≡ new_volumes l events
   pub disks : HasDisks l g.pool g'.reserved rest
 
 pub reserving_none : (l : LaneOf) (g : GrainsState) (events : List LaneEvent) → g.reserved ≡ [] → HasDisks l g.pool [] events → Reserving l g events g events
 reserving_none l g events fresh disks = record {
-  state = refl;
+  state = record { pooled = refl; rest = refl };
   volumes = ap (λ (z : List NewVolume). z ++ new_volumes l events) fresh;
   disks = subst (λ (z : List NewVolume). HasDisks l g.pool z events) (sym fresh) disks;
 }
 
 pub reserving_next : (l : LaneOf) (g : GrainsState) (events : List LaneEvent) (g' g'' : GrainsState) (e : LaneEvent) (rest : List LaneEvent) → Reserving l g events g' (e ∷ rest) →
-    g'' ≡ record g' { reserved = g'.reserved ++ new_of l e } → Reserving l g events g'' rest
+    HasReadied g' (g'.reserved ++ new_of l e) g'' → Reserving l g events g'' rest
 reserving_next l g events g' g'' e rest r is =
-    let more : g''.reserved ≡ g'.reserved ++ new_of l e = ap (λ (z : GrainsState). z.reserved) is in
+    let more : g''.reserved ≡ g'.reserved ++ new_of l e = ap (λ (z : GrainsState). z.reserved) is.rest in
     record {
-      state = is ∙ ((λ k. record (r.state k) { reserved = g'.reserved ++ new_of l e }) ∙ ap (λ (z : List NewVolume). record g { reserved = z }) (sym more));
+      state = record {
+        pooled = is.pooled ∙ r.state.pooled;
+        rest =
+            is.rest
+            ∙ ((λ k. record (r.state.rest k) { reserved = g'.reserved ++ new_of l e; pooled = g''.pooled })
+            ∙ ap (λ (z : List NewVolume). record g { reserved = z; pooled = g''.pooled }) (sym more));
+      };
       volumes = ap (λ (z : List NewVolume). z ++ new_volumes l rest) more ∙ (append_assoc g'.reserved (new_of l e) (new_volumes l rest) ∙ r.volumes);
       disks = subst (λ (z : List NewVolume). HasDisks l g.pool z rest) (sym more) r.disks.1;
     }
 
-pub reserving_last : (l : LaneOf) (g : GrainsState) (events : List LaneEvent) (g' : GrainsState) → Reserving l g events g' [] → g' ≡ record g { reserved = new_volumes l events }
-reserving_last l g events g' r = r.state ∙ ap (λ (z : List NewVolume). record g { reserved = z }) (sym (append-nil g'.reserved) ∙ r.volumes)
+pub reserving_last : (l : LaneOf) (g : GrainsState) (events : List LaneEvent) (g' : GrainsState) → Reserving l g events g' [] → HasReadied g (new_volumes l events) g'
+reserving_last l g events g' r = subst (λ (z : List NewVolume). HasReadied g z g') (sym (append-nil g'.reserved) ∙ r.volumes) r.state
 
-pub reserving_released : (l : LaneOf) (g : GrainsState) (events : List LaneEvent) (g' : GrainsState) (rest : List LaneEvent) → g.reserved ≡ [] → Reserving l g events g' rest → record g' { reserved = [] } ≡ g
-reserving_released l g events g' rest fresh r = (λ k. record (r.state k) { reserved = [] }) ∙ ap (λ (z : List NewVolume). record g { reserved = z }) (sym fresh)
+pub reserving_released : (l : LaneOf) (g : GrainsState) (events : List LaneEvent) (g' : GrainsState) (rest : List LaneEvent) → Reserving l g events g' rest → HasReadied g [] (record g' { reserved = [] })
+reserving_released l g events g' rest r = record { pooled = r.state.pooled; rest = λ k. record (r.state.rest k) { reserved = [] } }
 
 -- ---- known mappings
 
@@ -242,27 +249,32 @@ rows_of l [] = omega arith
 rows_of l (e ∷ es) = omega (arith, row_of l e, rows_of l es, length_both (new_of l e) (new_volumes l es))
 
 pub is_ready : (lane lanes : ℕ) (c : Chains) (g g' : GrainsState) (a : AccessState) (w : WorkState) (events : List LaneEvent) (r : Result (Unit {0}) NoMemory) → HasRoomFor c events →
-    OnOk r (g' ≡ record g { reserved = new_volumes (lane_of lane lanes g.grain) events }) → length events ≤ a.room → AreKnown w.known events → WorksFirst events →
+    OnOk r (HasReadied g (new_volumes (lane_of lane lanes g.grain) events) g') → length events ≤ a.room → AreKnown w.known events → WorksFirst events →
     OnOk r (IsReadyFor (lane_of lane lanes g.grain) c g' a w events)
 is_ready lane lanes c g g' a w events (Err e) room is rows known works = tt
 is_ready lane lanes c g g' a w events (Ok x) room is rows known works = record {
   room = room;
   beside = record {
-    volumes = ap (λ (z : GrainsState). z.reserved) is;
+    volumes = ap (λ (z : GrainsState). z.reserved) is.rest;
     rows = omega (arith, rows, rows_of (lane_of lane lanes g.grain) events);
     works = knows_all w.known events known works;
   };
 }
 
-pub grains_stay : (l : LaneOf) (g g' : GrainsState) (events : List LaneEvent) (r : Result (Unit {0}) NoMemory) → OnOk r (g' ≡ record g { reserved = new_volumes l events }) → OnErr r (g' ≡ g) →
-    g' ≡ record g { reserved = g'.reserved }
-grains_stay l g g' events (Ok x) ok err = ok ∙ ap (λ (z : List NewVolume). record g { reserved = z }) (sym (ap (λ (z : GrainsState). z.reserved) ok))
-grains_stay l g g' events (Err e) ok err = err ∙ ap (λ (z : List NewVolume). record g { reserved = z }) (sym (ap (λ (z : GrainsState). z.reserved) err))
+pub grains_stay : (l : LaneOf) (g g' : GrainsState) (events : List LaneEvent) (r : Result (Unit {0}) NoMemory) → OnOk r (HasReadied g (new_volumes l events) g') → OnErr r (HasReadied g [] g') →
+    HasReadied g g'.reserved g'
+grains_stay l g g' events (Ok x) ok err = subst (λ (z : List NewVolume). HasReadied g z g') (sym (ap (λ (z : GrainsState). z.reserved) ok.rest)) ok
+grains_stay l g g' events (Err e) ok err = subst (λ (z : List NewVolume). HasReadied g z g') (sym (ap (λ (z : GrainsState). z.reserved) err.rest)) err
+
+pub none_ready : (g g' : GrainsState) (r : Result (Unit {0}) NoMemory) → OnErr r (HasReadied g [] g') → OnErr r (g'.reserved ≡ [])
+none_ready g g' (Ok x) err = tt
+none_ready g g' (Err e) err = ap (λ (z : GrainsState). z.reserved) err.rest
 
 -- room changes nothing that is told
-pub still_stand : (l : LaneOf) (c c' : Chains) (g g' : GrainsState) (a a' : AccessState) (w w' : WorkState) → c' ≡ record c { room = c'.room; width = c'.width } → g' ≡ record g { reserved = g'.reserved } →
+pub still_stand : (l : LaneOf) (c c' : Chains) (g g' : GrainsState) (a a' : AccessState) (w w' : WorkState) → c' ≡ record c { room = c'.room; width = c'.width } → HasReadied g g'.reserved g' →
     a'.volumes ≡ a.volumes → w'.flags ≡ w.flags → (told : LaneTold) → StandsFor l c g a w told → StandsFor l c' g' a' w' told
-still_stand l c c' g g' a a' w w' chains grains volumes flags told st =
+still_stand l c c' g g' a a' w w' chains readied volumes flags told st =
+    let grains = readied.rest in
     let vs : g'.volumes ≡ g.volumes = ap (λ (z : GrainsState). z.volumes) grains in
     record {
       lane_is = ap (λ (z : Chains). z.lane) chains ∙ st.lane_is;

@@ -12,6 +12,7 @@ use Rattle.fc_pick.proofs.Rows.{map-filter, list_any-map}
 use Rattle.fc_apply.specs.Accesses.{has_volume}
 use Rattle.fc_steps.specs.Standing.{VolumeKind, kind_of_grains, kind_of_told, SameVolumes}
 use Rattle.fc_apply.proofs.Accessing.{with_access}
+use Rattle.fc_grains.specs.Calls.{HasRemoved}
 use Rattle.fc_grains.specs.Grains.{GrainsState}
 use Rattle.fc_grains.specs.Quiet.{IsQuiet}
 
@@ -150,8 +151,9 @@ unarmed vs id calls true none = absent vs id calls none
 unarmed vs id calls false none = refl
 
 -- disks that can't fail stay so when a volume goes
-pub quiet_without : (old new : GrainsState) (id : ℕ) → IsQuiet old → new ≡ record old { volumes = without id old.volumes } → IsQuiet new
-quiet_without old new id quiet is =
+pub quiet_without : (old new : GrainsState) (id : ℕ) → IsQuiet old → HasRemoved old id new → IsQuiet new
+quiet_without old new id quiet removed =
+    let is = removed.removed in
     let P : VolumeGrains → Type 0 = λ v. v.due ≡ Some 0 in
     record {
       told = ap (λ (g : GrainsState). g.silent) is ∙ quiet.told;

@@ -1,5 +1,6 @@
 -- That the parts of a lane stand for what its past tells, and what an event does to the grains.
-use Rattle.std.specs.Prelude.{◌≡◌, ℕ, ◌+◌, ◌<◌, ◌≤◌, ◌%◌, ◌==◌, cond, true, IsTrue, Option, List, [], ◌∷◌, ◌++◌, replicate, length, drop, All}
+use Rattle.std.specs.Prelude.{◌≡◌, ℕ, ◌+◌, ◌<◌, ◌≤◌, ◌%◌, ◌==◌, ◌&&◌, cond, true, fold, IfSome, IsTrue, Option, List, [], ◌∷◌, ◌++◌, replicate, length, drop, All}
+use Rattle.std.specs.List.{remove}
 use Rattle.fc_base.specs.declared.decision.LaneEvent.{LaneEvent}
 use Rattle.fc_base.specs.declared.decision.LaneEvent.TheVariants.{Make, Remove, Trigger, Retire, Detach, Split, Force, Drop, Forget, NoteCut, Access, Work, Arm}
 use Rattle.fc_base.specs.Pools.{Pool, of_kind}
@@ -9,7 +10,8 @@ use Rattle.fc_entry.specs.Picture.{zeros}
 use Rattle.fc_follow.specs.Following.{FitsFollowed, Followed}
 use Rattle.fc_chain.specs.Room.{HasRoomFor}
 use Rattle.fc_grains.specs.Grains.{GrainsState, NewVolume, next_of, reserved_of}
-use Rattle.fc_grains.specs.Volumes.{VolumeGrains, is_there, changed, without, armed}
+use Rattle.fc_grains.specs.Volumes.{VolumeGrains, HoldsNothing, is_there, volume_of, changed, without, armed}
+use Rattle.fc_mdisk.specs.Disk.{DiskState}
 use Rattle.fc_pick.specs.Flags.{WorkState, is_known, with_number, without_number}
 use Rattle.fc_rules.specs.LaneTold.{LaneOf, LaneTold, LaneVolume, grains_in, volumes_event, flags_event, pool_event}
 use Rattle.fc_apply.specs.Accesses.{AccessState}
@@ -31,11 +33,11 @@ pub record StandsFor (l : LaneOf) (chains : Chains) (grains : GrainsState) (acce
   pub sheet_is : chains.sheet ≡ told.sheet
   pub beside : BesideFor l grains accesses work told
 
--- What an event does to the grains: a volume comes with zeros, or goes, or a fault of its disk is armed where the grain is
--- one of the lane's.
+-- What an event does to the grains: a volume comes with zeros, over a disk with no armed fault, or goes, or a fault of its
+-- disk is armed where the grain is one of the lane's.
 abbrev pub GrainsAfter : LaneOf → List VolumeGrains → LaneEvent → List VolumeGrains → Type 0
 GrainsAfter l old (Make volume grains kind) new =
-    (due : Option ℕ) × (new ≡ old ++ record { volume = volume; kind = kind; contents = replicate (grains_in l grains) (zeros l.grain); due = due } ∷ [])
+    (due : Option ℕ) × IfSome due (λ n. n ≡ 0) × (new ≡ old ++ record { volume = volume; kind = kind; contents = replicate (grains_in l grains) (zeros l.grain); due = due } ∷ [])
 GrainsAfter l old (Remove volume) new = new ≡ without volume.0 old
 GrainsAfter l old (Arm volume grain calls) new = new ≡ cond (grain.0 % l.lanes == l.lane) (changed volume.0 (armed calls) old) old
 GrainsAfter l old (Trigger pairs) new = new ≡ old
@@ -129,6 +131,35 @@ pub record HasDone (l : LaneOf) (grains : GrainsState) (accesses : AccessState) 
 abbrev pub ArmsNot : LaneEvent → Type 0
 ArmsNot (Arm volume grain calls) = ⊥
 ArmsNot event = Unit {0}
+
+-- ---- armed faults
+
+-- A disk's armed fault is so many calls away, where the disk tells it.
+abbrev pub IsArmedAt : ℕ → Option ℕ → Type 0
+IsArmedAt n due = IfSome due (λ m. m ≡ n)
+
+-- How many calls away the armed fault of a volume's disk is after an event, 0 for none: a new volume's disk has none, and an
+-- `Arm` at a grain of the lane sets it. Nothing else does.
+abbrev pub armed_event : LaneOf → ℕ → ℕ → LaneEvent → ℕ
+armed_event l id n (Make volume grains kind) = cond (volume.0 == id) 0 n
+armed_event l id n (Arm volume grain calls) = cond ((grain.0 % l.lanes == l.lane) && (volume.0 == id)) calls n
+armed_event l id n event = n
+
+-- After events the armed faults of the volumes' disks are those that they set.
+abbrev pub ArmedBy : LaneOf → List LaneEvent → List VolumeGrains → List VolumeGrains → Type 0
+ArmedBy l events old new =
+    (id n : ℕ) → IsArmedAt n (volume_of old id).due → IsArmedAt (fold (armed_event l id) n events) (volume_of new id).due
+
+-- ---- disks that no volume has
+
+-- After events: volumes took disks of the pool at these places, one after the other, and the others are as they were; and
+-- behind those that were put aside are the disks of volumes that went, which hold no grain.
+pub record IdleAfter (old new : GrainsState) : Type 0 where
+  pub places : List ℕ
+  pub taken : new.pooled ≡ fold remove old.pooled places
+  pub more : List DiskState
+  pub put : new.aside ≡ old.aside ++ more
+  pub empty : All HoldsNothing more
 
 -- ---- what room needs
 

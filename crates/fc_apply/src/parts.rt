@@ -1,11 +1,12 @@
 //! What the events of a command do to the parts of a lane: its chains, grains, accesses and background work.
 
 ghost use Rattle.std.specs.Prelude.{◌≡◌, ◌<◌, [], OnOk, OnErr, ◌%◌, ◌==◌, cond, IsTrue};
+ghost use Rattle.fc_grains.specs.Calls.{HasReadied};
 ghost use Rattle.fc_grains.specs.Volumes.{armed, changed};
 ghost use Rattle.fc_pick.specs.Flags.{is_known, with_flags, with_number};
 ghost use Rattle.fc_rules.specs.LaneFits.{WorksFirst};
 ghost use Rattle.fc_grains.specs.Quiet.{IsQuiet};
-ghost use Rattle.fc_apply.specs.Parts.{ArmsNot, CanDo, FitParts, HasDone, IsReadyFor, StandsFor};
+ghost use Rattle.fc_apply.specs.Parts.{ArmsNot, CanDo, FitParts, HasDone, IdleAfter, IsReadyFor, StandsFor};
 ghost use Rattle.fc_steps.specs.Standing.{SameVolumes, lane_of};
 ghost use Rattle.fc_rules.specs.LaneTold.{LaneTold};
 
@@ -35,9 +36,9 @@ pub fn reserve_events<D: Mdisk>(
     requires fit { FitParts (lane_of lane lanes grains.old.grain) cascade.old grains.old accesses.old work.old events.now }
     requires works { WorksFirst events.now }
     ensures ok { OnOk result (IsReadyFor (lane_of lane lanes grains.old.grain) cascade.new grains.new accesses.new work.new events.now) }
-    ensures err { OnErr result (grains.new ≡ grains.old) }
+    ensures err { OnErr result (grains.new.reserved ≡ []) }
     ensures stands { (told : LaneTold) → StandsFor (lane_of lane lanes grains.old.grain) cascade.old grains.old accesses.old work.old told → StandsFor (lane_of lane lanes grains.old.grain) cascade.new grains.new accesses.new work.new told }
-    ensures grains { grains.new ≡ record grains.old { reserved = grains.new.reserved } }
+    ensures grains { HasReadied grains.old grains.new.reserved grains.new }
 {
     if cascade.reserve(events).is_err() {
         return Err(NoMemory);
@@ -98,6 +99,7 @@ pub fn do_event<D: Mdisk>(
     requires can { CanDo (lane_of lane lanes grains.old.grain) grains.old accesses.old work.old event.now }
     ensures done { HasDone (lane_of lane lanes grains.old.grain) grains.old accesses.old work.old event.now grains.new accesses.new work.new }
     ensures quiet { IsQuiet grains.old → ArmsNot event.now → IsQuiet grains.new }
+    ensures idle { IdleAfter grains.old grains.new }
 {
     match event {
         LaneEvent::Make { volume, kind, .. } => {

@@ -2,6 +2,7 @@
 
 ghost use Rattle.std.specs.Prelude.{◌≡◌, ◌<◌, ◌++◌, [], OnOk, OnErr};
 ghost use Rattle.fc_base.specs.declared.size.GrainSize.{GrainSize};
+ghost use Rattle.fc_grains.specs.Calls.{HasReadied};
 ghost use Rattle.fc_apply.specs.Parts.{AreKnown, DiskOf, HasDisks, KnowsMore, KnowsOf, new_of, new_volumes};
 ghost use Rattle.fc_steps.specs.Standing.{lane_of};
 ghost use Rattle.fc_rules.specs.LaneTold.{grains_in};
@@ -30,7 +31,7 @@ fn reserve_volume<D: Mdisk>(
 ) -> Result<(), NoMemory>
     requires lane_in { lane < lanes }
     requires disk { DiskOf grains.old.pool grains.old.reserved event.now }
-    ensures ok { OnOk result (grains.new ≡ record grains.old { reserved = grains.old.reserved ++ new_of (lane_of lane lanes grains.old.grain) event.now }) }
+    ensures ok { OnOk result (HasReadied grains.old (grains.old.reserved ++ new_of (lane_of lane lanes grains.old.grain) event.now) grains.new) }
     ensures err { OnErr result (grains.new ≡ grains.old) }
 {
     match event {
@@ -43,7 +44,8 @@ fn reserve_volume<D: Mdisk>(
     }
 }
 
-/// Makes ready for the volumes that come with the events, in order. Refused, all is as it was.
+/// Makes ready for the volumes that come with the events, in order. Refused, no new volume is ready, and all is as it was but
+/// for the grains of disks of the pool.
 pub(crate) fn reserve_volumes<D: Mdisk>(
     lane: u8,
     lanes: u8,
@@ -53,8 +55,8 @@ pub(crate) fn reserve_volumes<D: Mdisk>(
     requires lane_in { lane < lanes }
     requires fresh { grains.old.reserved ≡ [] }
     requires disks { HasDisks (lane_of lane lanes grains.old.grain) grains.old.pool [] events.now }
-    ensures ok { OnOk result (grains.new ≡ record grains.old { reserved = new_volumes (lane_of lane lanes grains.old.grain) events.now }) }
-    ensures err { OnErr result (grains.new ≡ grains.old) }
+    ensures ok { OnOk result (HasReadied grains.old (new_volumes (lane_of lane lanes grains.old.grain) events.now) grains.new) }
+    ensures err { OnErr result (HasReadied grains.old [] grains.new) }
 {
     for event in events {
         if reserve_volume(lane, lanes, grains, event).is_err() {

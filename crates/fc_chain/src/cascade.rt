@@ -11,6 +11,7 @@ ghost use Rattle.fc_chain.specs.Chains.{IsOfLane, in_lane, number_in, IsThere};
 ghost use Rattle.fc_events.specs.LaneGrains.{lane_grains};
 ghost use Rattle.fc_slots.specs.Found.{found};
 ghost use Rattle.fc_slots.specs.Contiguous.{IsContiguous};
+ghost use Rattle.fc_tallies.specs.Fronts.{AddsFront};
 ghost use Rattle.fc_tallies.specs.Nexts.{lacks};
 ghost use Rattle.fc_tallies.specs.Tallies.{AreOneSize};
 ghost use Rattle.fc_chain.specs.Room.{HasRoomFor};
@@ -432,18 +433,20 @@ impl Cascade {
     }
 
     /// Adds the live slots other than this one that have it as holder at some grain of the lane, in order of
-    /// their places. Refused, the list has a part of them.
+    /// their places. Refused, the list has the first of them.
     pub fn direct(&self, slot: SlotId, out: &mut List<SlotId>) -> Result<(), NoMemory>
         requires { IsThere self.now.sheet.slots slot }
-        ensures { OnOk result ((k : ℕ) → birth_place self.now.sheet.slots slot.0 ≡ Some k → out.new ≡ out.old ++ names_below self.now.sheet.slots (is_direct self.now.sheet.slots k) (length self.now.sheet.slots)) }
+        ensures ok { OnOk result ((k : ℕ) → birth_place self.now.sheet.slots slot.0 ≡ Some k → out.new ≡ out.old ++ names_below self.now.sheet.slots (is_direct self.now.sheet.slots k) (length self.now.sheet.slots)) }
+        ensures err { OnErr result ((k : ℕ) → birth_place self.now.sheet.slots slot.0 ≡ Some k → AddsFront out.old (names_below self.now.sheet.slots (is_direct self.now.sheet.slots k) (length self.now.sheet.slots)) out.new) }
     {
         add_direct(self.table.alloc(), self.slots(), self.place_of(slot), out)
     }
 
     /// Adds the old slots that no slot needs at a grain of the lane, in order of their places. Refused, the list
-    /// has a part of them.
+    /// has the first of them.
     pub fn unneeded(&self, out: &mut List<SlotId>) -> Result<(), NoMemory>
-        ensures { OnOk result (out.new ≡ out.old ++ names_below self.now.sheet.slots (is_unneeded self.now.sheet.slots) (length self.now.sheet.slots)) }
+        ensures ok { OnOk result (out.new ≡ out.old ++ names_below self.now.sheet.slots (is_unneeded self.now.sheet.slots) (length self.now.sheet.slots)) }
+        ensures err { OnErr result (AddsFront out.old (names_below self.now.sheet.slots (is_unneeded self.now.sheet.slots) (length self.now.sheet.slots)) out.new) }
     {
         add_unneeded(self.slots(), &self.tallies, out)
     }

@@ -1,5 +1,5 @@
 -- What an agenda asks next, and how it goes on, is determined by what is told, but for the faults of disks.
-use Rattle.std.proofs.Common.{◌≡◌, ℕ, Bool, true, false, Option, Some, None, List, [], ◌∷◌, refl, sym, ap, subst, ◌∙◌}
+use Rattle.std.proofs.Common.{◌≡◌, ℕ, Option, Some, None, List, [], ◌∷◌, refl, sym, ap, ◌∙◌}
 use Rattle.std.specs.Option.{option_map}
 use Rattle.fc_base.specs.declared.ids.GrainNo.{GrainNo}
 use Rattle.fc_base.specs.declared.request.Request.{Request}
@@ -8,10 +8,9 @@ use Rattle.fc_blocks.specs.Segments.{Segment, single, together}
 use Rattle.fc_determined.proofs.Commands.{with_faults}
 use Rattle.fc_determined.proofs.Entries.{same_is}
 use Rattle.fc_determined.specs.Smooth.{TellTheSame, but_for_faults}
-use Rattle.fc_determined.specs.WithoutBlocks.{AreLines, IsWithoutBlocks}
 use Rattle.fc_entry.specs.declared.entry.Entry.{Entry}
-use Rattle.fc_legal.specs.Agenda.{Agenda, Reading, Asks, Begins, Session, Own, Seconds, Faults, Actors, behind_entry, behind_fill, behind_own, is_done, segment_read, next_asked, next_of_second, without_entry, without_fill}
-use Rattle.fc_legal.specs.Seconds.{Passing, Work, fill_at_hand, fill_of, goes_on, goes_on_with, next_fill, next_grain}
+use Rattle.fc_legal.specs.Agenda.{Agenda, Reading, Session, Own, Seconds, Faults, Actors, behind_entry, behind_fill, next_asked, next_of_second, without_entry, without_fill}
+use Rattle.fc_legal.specs.Seconds.{Passing, Work, fill_at_hand, fill_of, goes_on_with, next_fill, next_grain}
 use Rattle.fc_legal.specs.Whole.{Whole}
 
 module _ (grain : GrainSize) (read : Reading) where
@@ -119,64 +118,3 @@ module _ (grain : GrainSize) (read : Reading) where
   not_both (Own [] n segs) b w asked h k = absurd (cc h)
   not_both (Own (request ∷ rest) n segs) b w asked h k = absurd (cc k)
   not_both (Seconds p segs) b w asked h k = not_both_fill w p segs (next_fill grain w p) asked b h k
-
-  -- ---- without blocks
-
-  -- it stays so, `main` alone asks, and no actors begin
-  lines_read : (w : Whole) (segment : Segment) (segs : List Segment) → AreLines (segment ∷ segs) → IsWithoutBlocks (segment_read grain read w segment segs)
-  lines_read w (single line) segs alone = alone
-  lines_read w (together block) segs alone = absurd alone
-
-  second_alone : (next : Option Passing) (segs : List Segment) → AreLines segs → IsWithoutBlocks (next_of_second next segs)
-  second_alone None segs alone = alone
-  second_alone (Some p) segs alone = alone
-
-  fill_alone :
-      (w : Whole) (p : Passing) (fill : Option (Work × GrainNo)) (segs : List Segment) (b : Agenda) →
-      AreLines segs →
-      without_fill grain w p fill segs ≡ Some b →
-      IsWithoutBlocks b
-  fill_alone w p None segs b alone e =
-      let is : next_of_second (goes_on grain w p) segs ≡ b = cc e in
-      subst IsWithoutBlocks is (second_alone (goes_on grain w p) segs alone)
-  fill_alone w p (Some next) segs b alone e = absurd (cc e)
-
-  pub passes_alone : (a b : Agenda) (w : Whole) → IsWithoutBlocks a → without_entry grain read a w ≡ Some b → IsWithoutBlocks b
-  passes_alone (Session []) b w alone e = absurd (cc e)
-  passes_alone (Session (segment ∷ segs)) b w alone e =
-      let is : segment_read grain read w segment segs ≡ b = cc e in
-      subst IsWithoutBlocks is (lines_read w segment segs alone)
-  passes_alone (Own [] n segs) b w alone e =
-      let is : Session segs ≡ b = cc e in
-      subst IsWithoutBlocks is alone
-  passes_alone (Own (request ∷ rest) n segs) b w alone e = absurd (cc e)
-  passes_alone (Seconds p segs) b w alone e = fill_alone w p (next_fill grain w p) segs b alone e
-  passes_alone (Faults requests actors segs) b w alone e = absurd alone
-  passes_alone (Actors scripts segs) b w alone e = absurd alone
-
-  own_alone : (next : Whole) (done : Bool) (rest : List Request) (n : ℕ) (segs : List Segment) → AreLines segs → IsWithoutBlocks (behind_own next done rest n segs)
-  own_alone next true [] n segs alone = alone
-  own_alone next false [] n segs alone = alone
-  own_alone next done (request ∷ rest) n segs alone = alone
-
-  pub behind_alone : (a : Agenda) (next : Whole) (entry : Entry) → IsWithoutBlocks a → IsWithoutBlocks (behind_entry grain a next entry)
-  behind_alone (Session segs) next entry alone = alone
-  behind_alone (Own [] n segs) next entry alone = alone
-  behind_alone (Own (request ∷ rest) n segs) next entry alone = own_alone next (is_done entry.reply) rest n segs alone
-  behind_alone (Seconds p segs) next entry alone = alone
-  behind_alone (Faults requests actors segs) next entry alone = absurd alone
-  behind_alone (Actors scripts segs) next entry alone = absurd alone
-
-  pub main_asks : (a : Agenda) (w : Whole) (asked : ℕ × Request) → IsWithoutBlocks a → Asks grain a w asked → next_asked grain a w ≡ Some asked
-  main_asks (Session segs) w asked alone h = h
-  main_asks (Own requests n segs) w asked alone h = h
-  main_asks (Seconds p segs) w asked alone h = h
-  main_asks (Faults requests actors segs) w asked alone h = absurd alone
-  main_asks (Actors scripts segs) w asked alone h = absurd alone
-
-  pub none_begins : (a b : Agenda) (w v : Whole) → IsWithoutBlocks a → Begins grain a w b v → ⊥
-  none_begins (Session segs) b w v alone on = on
-  none_begins (Own requests n segs) b w v alone on = on
-  none_begins (Seconds p segs) b w v alone on = on
-  none_begins (Faults requests actors segs) b w v alone on = alone
-  none_begins (Actors scripts segs) b w v alone on = alone

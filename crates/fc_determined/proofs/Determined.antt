@@ -5,11 +5,11 @@ use Rattle.fc_blocks.specs.Segments.{Segment}
 use Rattle.fc_determined.proofs.Ways.{is_front, one_goes_on, one_outcome, over_none, short_none}
 use Rattle.fc_determined.specs.Law.{DeterminedLaw, IsOneOutcome}
 use Rattle.fc_determined.specs.Smooth.{AreSmooth, TellTheSame, told_by}
-use Rattle.fc_determined.specs.WithoutBlocks.{AreLines}
 use Rattle.fc_entry.specs.HistoryState.{HistoryState}
 use Rattle.fc_entry.specs.Text.{entry_text, history_text}
 use Rattle.fc_entry.specs.declared.entry.Entry.{Entry}
-use Rattle.fc_legal.proofs.Appending.{IsPartialRun-more, alone_append}
+use Rattle.fc_legal.proofs.Alone.{alone_append, alone_lines}
+use Rattle.fc_legal.proofs.Appending.{IsPartialRun-more}
 use Rattle.fc_legal.specs.Agenda.{Session, Reading}
 use Rattle.fc_legal.specs.Run.{IsPartialRun, lines_alone}
 use Rattle.fc_legal.specs.Whole.{Whole}
@@ -59,10 +59,6 @@ determined_law_holds =
     }
 
 -- ---- the first of some lines
-
-alone_lines : (lines : List (List ℕ)) → AreLines (lines_alone lines)
-alone_lines [] = tt
-alone_lines (line ∷ lines) = alone_lines lines
 
 -- Two histories that answer some first ones of the same lines, with as many entries, have one outcome.
 pub first_lines_one :

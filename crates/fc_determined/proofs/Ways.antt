@@ -5,14 +5,15 @@ use Rattle.std.proofs.lemmas.List.Elements.{All-head, All-tail}
 use Rattle.fc_agenda.specs.Goes.{Goes, stays, passes, begins, answers}
 use Rattle.fc_base.specs.declared.request.Request.{Request}
 use Rattle.fc_base.specs.declared.size.GrainSize.{GrainSize}
-use Rattle.fc_determined.proofs.Agendas.{asked_same, behind_alone, behind_same, main_asks, none_begins, not_both, passes_alone, passes_same}
+use Rattle.fc_determined.proofs.Agendas.{asked_same, behind_same, not_both, passes_same}
 use Rattle.fc_determined.proofs.Entries.{AreOneStep, step_one_outcome}
 use Rattle.fc_determined.specs.Law.{IsFront, IsOneOutcome}
 use Rattle.fc_determined.specs.Smooth.{AreSmooth, IsSmooth, TellTheSame, but_for_faults, told_by}
-use Rattle.fc_determined.specs.WithoutBlocks.{IsWithoutBlocks}
 use Rattle.fc_entry.specs.declared.entry.Entry.{Entry}
+use Rattle.fc_legal.proofs.Alone.{behind_alone, main_asks, none_begins, passes_alone}
 use Rattle.fc_legal.specs.Agenda.{Agenda, Reading, Session, behind_entry, session_rules}
 use Rattle.fc_legal.specs.Whole.{Whole}
+use Rattle.fc_legal.specs.WithoutBlocks.{IsWithoutBlocks}
 
 abbrev IsSmoothEntry : Entry → Type 0
 IsSmoothEntry entry = IsSmooth entry.reply

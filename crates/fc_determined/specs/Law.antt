@@ -4,12 +4,12 @@ use Rattle.fc_agenda.specs.Goes.{GoesToEnd, GoesSome}
 use Rattle.fc_agenda.specs.Rules.{Rules}
 use Rattle.fc_base.specs.declared.size.GrainSize.{GrainSize}
 use Rattle.fc_determined.specs.Smooth.{AreSmooth, TellTheSame, told_by}
-use Rattle.fc_determined.specs.WithoutBlocks.{IsWithoutBlocks}
 use Rattle.fc_entry.specs.HistoryState.{HistoryState}
 use Rattle.fc_entry.specs.Text.{history_text}
 use Rattle.fc_entry.specs.declared.entry.Entry.{Entry}
 use Rattle.fc_legal.specs.Agenda.{Agenda, Reading, session_rules}
 use Rattle.fc_legal.specs.Whole.{Whole}
+use Rattle.fc_legal.specs.WithoutBlocks.{IsWithoutBlocks}
 
 -- Two histories: their entries tell the same, and so do the wholes after them.
 pub record IsOneOutcome (xs ys : List Entry) (last other : Whole) : Type 0 where

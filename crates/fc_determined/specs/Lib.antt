@@ -1,4 +1,3 @@
 -- What the law of one outcome says, to be read top to bottom.
 pub mod Smooth
-pub mod WithoutBlocks
 pub mod Law

@@ -92,6 +92,7 @@ module _ (grain : GrainSize) (volumes : List VolumeDiskState) (pool : PoolState)
     pool_size = kept.pool_size;
     rising = still_rising volumes kept.rising at within was read id found now same_volume;
     whole = All-set (IsWhole (grain_bytes grain)) volumes at now whole kept.whole;
+    empty = kept.empty;
     add_up = add_up;
     few = omega (arith, kept.few, length-set volumes at now);
     room = omega (arith, kept.room, length-set volumes at now);

@@ -10,3 +10,4 @@ pub mod Readying
 pub mod Moving
 pub mod Quiet
 pub mod Whole
+pub mod Handing

@@ -1,7 +1,7 @@
 -- Disks that move from the pool to a volume, and from a volume to those put aside.
-use Rattle.std.proofs.Common.{◌≡◌, ℕ, suc, ◌+◌, ◌<◌, ◌≤◌, ◌^◌, true, false, List, [], ◌∷◌, ◌++◌, length, map, take, drop, get_or, replicate, slice_index_or, Option, None, Some, IfSome, Result, Ok, Err, OnOk, OnErr, is_err, true≢false, refl, sym, ◌∙◌, ap, subst, arith}
+use Rattle.std.proofs.Common.{◌≡◌, ℕ, suc, ◌+◌, ◌<◌, ◌≤◌, ◌^◌, true, false, List, [], ◌∷◌, ◌++◌, length, map, take, drop, get_or, replicate, slice_index_or, reverse, Option, None, Some, IfSome, Result, Ok, Err, OnOk, OnErr, is_err, true≢false, refl, sym, ◌∙◌, ap, subst, arith}
 use Rattle.std.specs.List.{All, remove, sum_by}
-use Rattle.std.proofs.lemmas.List.{map-append, take-map, drop-map, get_or-map, length-map, length-append, length-drop, length-replicate}
+use Rattle.std.proofs.lemmas.List.{map-append, take-map, drop-map, get_or-map, length-map, length-append, length-drop, length-replicate, reverse-append}
 use Rattle.std.proofs.lemmas.List.Edits.{length-remove}
 use Rattle.std.proofs.lemmas.List.Elements.{All-append, All-drop, All-push, All-replicate, All-take}
 use Rattle.std.proofs.lemmas.List.Quantifiers.{all_pairs_push, all_pairs_remove}
@@ -12,16 +12,16 @@ use Rattle.fc_base.specs.declared.outcome.NoMemory.{NoMemory}
 use Rattle.fc_base.specs.declared.size.GrainSize.{GrainSize}
 use Rattle.fc_mdisk.specs.Disk.{DiskState, cleared}
 use Rattle.fc_entry.specs.Picture.{Bytes, zeros}
-use Rattle.fc_grains.specs.Calls.{HasMade}
-use Rattle.fc_grains.specs.Grains.{AreAllOf, GrainsState, IsUnarmed, NewVolume, next_of, one_if_silent, opened, pool_of, silent_of, stopped}
+use Rattle.fc_grains.specs.Calls.{HasMade, HasReadied, HasRemoved}
+use Rattle.fc_grains.specs.Grains.{AreAllOf, GrainsState, IsUnarmed, by_kind, NewVolume, next_of, one_if_silent, opened, pool_of, silent_of, stopped}
 use Rattle.fc_grains.specs.Kept.{AddUp, IsKept, all_disks, state_of}
 use Rattle.fc_grains.specs.Parts.{HasZeros, IsWhole, PoolState, SameDisks, VolumeDiskState, contents, disks_of, grains_of, left_of, new_of}
-use Rattle.fc_grains.specs.Volumes.{VolumeGrains, without}
-use Rattle.fc_grains.specs.declared.pool.Reserved.{Reserved}
+use Rattle.fc_grains.specs.Volumes.{VolumeGrains, HoldAll, HoldsGrains, HoldsNothing, without}
 use Rattle.fc_grains.specs.declared.sums.Sums.{Sums}
-use Rattle.fc_grains.proofs.Changing.{seen_rise}
+use Rattle.fc_grains.proofs.Changing.{seen_rise, volume_is}
 use Rattle.fc_grains.proofs.Contents.{contents-replicate}
 use Rattle.fc_grains.proofs.Finding.{AreRising, without-at}
+use Rattle.fc_grains.proofs.Handing.{holds_own}
 use Rattle.fc_grains.proofs.KindCounts.{same_kinds}
 
 -- as many disks, since each counts one
@@ -42,9 +42,10 @@ add_up_by xs ys sums same add_up = record {
 pub same_silent : (xs ys : List DiskState) → SameDisks xs ys → silent_of xs ≡ silent_of ys
 same_silent xs ys same = same (λ (d : DiskState). one_if_silent d.due)
 
-pub all_of : (state : GrainsState) (all given : List DiskState) (sums : Sums) → SameDisks given all → state.disks ≡ pool_of all → state.silent ≡ silent_of all
-    → state.calls ≡ sums.calls → state.faults ≡ sums.faults → state.write_faults ≡ sums.write_faults → AddUp all sums → AreAllOf state given
-all_of state all given sums same disks silent calls faults write_faults add_up =
+pub all_of : (state : GrainsState) (all given own : List DiskState) (sums : Sums) → SameDisks given all → state.disks ≡ pool_of all → state.silent ≡ silent_of all
+    → state.calls ≡ sums.calls → state.faults ≡ sums.faults → state.write_faults ≡ sums.write_faults → AddUp all sums
+    → given ≡ own ++ (state.pooled ++ state.aside) → HoldAll (reverse state.volumes) own → All HoldsNothing state.aside → AreAllOf state given
+all_of state all given own sums same disks silent calls faults write_faults add_up order held empty =
     let by : AddUp given sums = add_up_by given all sums same add_up in
     record {
       kinds = same_kinds given all same ∙ sym disks;
@@ -52,6 +53,12 @@ all_of state all given sums same disks silent calls faults write_faults add_up =
       calls = sym (calls ∙ by.calls);
       faults = sym (faults ∙ by.faults);
       write_faults = sym (write_faults ∙ by.write_faults);
+      faults_counted = omega (arith, faults, by.faults);
+      write_faults_counted = omega (arith, write_faults, by.write_faults);
+      own = own;
+      in_order = order;
+      held = held;
+      empty = empty;
     }
 
 -- a new volume
@@ -99,6 +106,7 @@ module _ (grain : GrainSize) (volumes : List VolumeDiskState) (pool pool' : Pool
         pool_size = bytes ∙ kept.pool_size;
         rising = all_pairs_push (λ (x y : VolumeDiskState). x.volume.0 < y.volume.0) volumes v kept.rising newest_disk;
         whole = All-push (IsWhole (grain_bytes grain)) volumes v kept.whole whole_new;
+        empty = kept.empty;
         add_up = add_up_by (all_disks (volumes ++ v ∷ []) pool' aside) (all_disks volumes pool aside) sums (same_made volumes pool pool' aside v same) kept.add_up;
         few = omega (arith, kept.few, number, fewer volumes pool pool' aside v same);
         room = omega (arith, kept.room, number, coming, grown);
@@ -116,13 +124,14 @@ module _ (grain : GrainSize) (volumes : List VolumeDiskState) (pool pool' : Pool
       let part : silent_of (all_disks volumes pool aside) ≡ sum_by f ds + sum_by f (disks_of pool ++ aside) = sum_by-append f ds (disks_of pool ++ aside) in
       omega (arith, none, part, sum_by-append f (disks_of pool) aside, same f, sum_by-cons f v.disk (disks_of pool'))
 
-  pub has_made : next_of (map new_of pool.reserved) ≡ new → left_of pool' ≡ pool_without new.kind (left_of pool)
+  pub has_made : next_of (map new_of pool.reserved) ≡ new → left_of pool' ≡ pool_without new.kind (left_of pool) → (place : ℕ) × (disks_of pool' ≡ remove (disks_of pool) place)
       → HasMade (state_of grain volumes pool aside buffer sums) id (state_of grain (volumes ++ v ∷ []) pool' aside buffer sums)
-  has_made next left =
+  has_made next left taken =
       let P : NewVolume → Type 0 = λ n. state_of grain (volumes ++ v ∷ []) pool' aside buffer sums ≡ record (state_of grain volumes pool aside buffer sums) {
         volumes = map grains_of volumes ++ record { volume = record { 0 = id }; kind = n.kind; contents = replicate n.grains (zeros grain); due = v.disk.due } ∷ [];
         pool = pool_without n.kind (left_of pool);
         reserved = drop 1 (map new_of pool.reserved);
+        pooled = disks_of pool';
       } in
       let held : contents v.lost v.disk.grains ≡ replicate new.grains (zeros grain) =
       (λ k. contents (unmarked k) (has_zeros k)) ∙ contents-replicate new.grains (replicate pool.bytes 0) ∙ ap (λ (n : ℕ). replicate new.grains (Bytes (replicate n 0))) kept.pool_size in
@@ -140,12 +149,16 @@ module _ (grain : GrainSize) (volumes : List VolumeDiskState) (pool pool' : Pool
               pool = left k;
               reserved = (ap (map new_of) reserved ∙ sym (drop-map new_of 1 pool.reserved)) k;
               buffer = buffer;
+              pooled = disks_of pool';
+              aside = aside;
               disks = same_kinds (all_disks (volumes ++ v ∷ []) pool' aside) (all_disks volumes pool aside) (same_made volumes pool pool' aside v same) k;
               silent = same_silent (all_disks (volumes ++ v ∷ []) pool' aside) (all_disks volumes pool aside) (same_made volumes pool pool' aside v same) k;
               calls = sums.calls;
               faults = sums.faults;
               write_faults = sums.write_faults;
             });
+        place = taken.0;
+        taken = taken.1;
       }
 
 map-remove : {A B : Type 0} (f : A → B) (xs : List A) (i : ℕ) → map f (remove xs i) ≡ remove (map f xs) i
@@ -186,6 +199,7 @@ module _ (grain : GrainSize) (volumes : List VolumeDiskState) (pool : PoolState)
         rising = all_pairs_remove (λ (x y : VolumeDiskState). x.volume.0 < y.volume.0) volumes at within kept.rising;
         whole = All-append (IsWhole (grain_bytes grain)) (take at volumes) (drop (suc at) volumes)
             (All-take (IsWhole (grain_bytes grain)) at volumes kept.whole) (All-drop (IsWhole (grain_bytes grain)) (suc at) volumes kept.whole);
+        empty = subst (λ (ds : List DiskState). All HoldsNothing ds) (sym put) (All-push HoldsNothing aside (cleared was.disk) kept.empty refl);
         add_up = add_up_by (all_disks (remove volumes at) pool aside') (all_disks volumes pool aside) sums same_after kept.add_up;
         few = omega (arith, kept.few, number);
         room = omega (arith, kept.room, number, kept_room);
@@ -193,7 +207,7 @@ module _ (grain : GrainSize) (volumes : List VolumeDiskState) (pool : PoolState)
       }
 
   pub state_removed : state_of grain (remove volumes at) pool aside' buffer sums
-      ≡ record (state_of grain volumes pool aside buffer sums) { volumes = without id (map grains_of volumes) }
+      ≡ record (state_of grain volumes pool aside buffer sums) { volumes = without id (map grains_of volumes); aside = aside ++ cleared was.disk ∷ [] }
   state_removed =
       let inside : at < length (map grains_of volumes) = omega (arith, length-map volumes grains_of) in
       let id_at : (d : VolumeGrains) → (get_or (map grains_of volumes) at d).volume.0 ≡ id = λ d.
@@ -202,8 +216,19 @@ module _ (grain : GrainSize) (volumes : List VolumeDiskState) (pool : PoolState)
       map-remove grains_of volumes at ∙ sym (without-at (map grains_of volumes) id at (seen_rise volumes kept.rising) inside id_at) in
       λ k. record (state_of grain volumes pool aside buffer sums) {
         volumes = seen k;
+        aside = put k;
         disks = same_kinds (all_disks (remove volumes at) pool aside') (all_disks volumes pool aside) same_after k;
         silent = same_silent (all_disks (remove volumes at) pool aside') (all_disks volumes pool aside) same_after k;
+      }
+
+  pub has_removed : HasRemoved (state_of grain volumes pool aside buffer sums) id (state_of grain (remove volumes at) pool aside' buffer sums)
+  has_removed =
+      let Q : VolumeDiskState → Type 0 = IsWhole (grain_bytes grain) in
+      let whole : IsWhole (grain_bytes grain) was = subst Q (sym read) (kept.whole at was within) in
+      record {
+        disk = was.disk;
+        held = subst (λ (v : VolumeGrains). HoldsGrains v was.disk) (sym (volume_is volumes kept.rising at within was read id found)) (holds_own (grain_bytes grain) was whole);
+        removed = state_removed;
       }
 
 -- no volumes yet
@@ -218,19 +243,22 @@ module _ (grain : GrainSize) (pool : PoolState) (buffer : List ℕ) (sums : Sums
     pool_size = bytes;
     rising = λ i j d before within. absurd (omega arith);
     whole = λ k d within. absurd (omega arith);
+    empty = λ k d within. absurd (omega arith);
     add_up = add_up_by (all_disks [] pool []) disks sums same_opened add_up;
     few = omega (arith, same_number (disks_of pool) disks same);
     room = omega (arith, ap length reserved);
     room_aside = omega (arith, ap length reserved);
   }
 
-  pub state_opened : left_of pool ≡ pool_of disks → state_of grain [] pool [] buffer sums ≡ opened grain disks
-  state_opened left = λ k. record {
+  pub state_opened : left_of pool ≡ pool_of disks → disks_of pool ≡ by_kind disks → state_of grain [] pool [] buffer sums ≡ opened grain disks
+  state_opened left sorted = λ k. record {
     grain = grain;
     volumes = [];
     pool = left k;
     reserved = map new_of (reserved k);
     buffer = filled k;
+    pooled = sorted k;
+    aside = [];
     disks = same_kinds (all_disks [] pool []) disks same_opened k;
     silent = same_silent (all_disks [] pool []) disks same_opened k;
     calls = add_up.calls k;
@@ -247,10 +275,11 @@ pub on_err_at : {A E P : Type 0} (r : Result A E) → is_err r ≡ true → OnEr
 on_err_at (Ok a) bad holds = absurd (true≢false (sym bad))
 on_err_at (Err e) bad holds = holds
 
-pub coming_by : (r : Result (Unit {0}) NoMemory) (old new : List Reserved) (next : NewVolume) → OnOk r (map new_of new ≡ map new_of old ++ next ∷ []) → OnErr r (new ≡ old) → length new ≤ length old + 1
+pub coming_by : (r : Result (Unit {0}) NoMemory) (old new : PoolState) (next : NewVolume) → OnOk r (map new_of new.reserved ≡ map new_of old.reserved ++ next ∷ []) → OnErr r (new ≡ old)
+    → length new.reserved ≤ length old.reserved + 1
 coming_by (Ok a) old new next ok err =
-    omega (arith, length-map new new_of, length-map old new_of, ap length ok, length-append (map new_of old) (next ∷ []))
-coming_by (Err e) old new next ok err = omega (arith, ap length err)
+    omega (arith, length-map new.reserved new_of, length-map old.reserved new_of, ap length ok, length-append (map new_of old.reserved) (next ∷ []))
+coming_by (Err e) old new next ok err = omega (arith, ap (λ (p : PoolState). length p.reserved) err)
 
 module _ (grain : GrainSize) (volumes volumes' : List VolumeDiskState) (pool pool' : PoolState) (aside aside' : List DiskState) (buffer : List ℕ) (sums : Sums) (same_volumes : volumes' ≡ volumes)
     (same_aside : aside' ≡ aside) (same : SameDisks (disks_of pool') (disks_of pool)) where
@@ -275,6 +304,7 @@ module _ (grain : GrainSize) (volumes volumes' : List VolumeDiskState) (pool poo
         pool_size = bytes ∙ kept.pool_size;
         rising = subst P (sym same_volumes) kept.rising;
         whole = subst Q (sym same_volumes) kept.whole;
+        empty = subst (λ (ds : List DiskState). All HoldsNothing ds) (sym same_aside) kept.empty;
         add_up = add_up_by (all_disks volumes' pool' aside') (all_disks volumes pool aside) sums same_reserved kept.add_up;
         few = omega (arith, kept.few, number, same_number (disks_of pool') (disks_of pool) same);
         room = omega (arith, room, number, coming);
@@ -282,13 +312,15 @@ module _ (grain : GrainSize) (volumes volumes' : List VolumeDiskState) (pool poo
       }
 
   pub state_reserved : (reserved : List NewVolume) → map new_of pool'.reserved ≡ reserved → left_of pool' ≡ left_of pool
-      → state_of grain volumes' pool' aside' buffer sums ≡ record (state_of grain volumes pool aside buffer sums) { reserved = reserved }
+      → state_of grain volumes' pool' aside' buffer sums ≡ record (state_of grain volumes pool aside buffer sums) { reserved = reserved; pooled = disks_of pool' }
   state_reserved reserved is left = λ k. record {
     grain = grain;
     volumes = map grains_of (same_volumes k);
     pool = left k;
     reserved = is k;
     buffer = buffer;
+    pooled = disks_of pool';
+    aside = same_aside k;
     disks = same_kinds (all_disks volumes' pool' aside') (all_disks volumes pool aside) same_reserved k;
     silent = same_silent (all_disks volumes' pool' aside') (all_disks volumes pool aside) same_reserved k;
     calls = sums.calls;
@@ -296,16 +328,31 @@ module _ (grain : GrainSize) (volumes volumes' : List VolumeDiskState) (pool poo
     write_faults = sums.write_faults;
   }
 
+  pub has_readied : (reserved : List NewVolume) → map new_of pool'.reserved ≡ reserved → left_of pool' ≡ left_of pool → map cleared (disks_of pool') ≡ map cleared (disks_of pool)
+      → HasReadied (state_of grain volumes pool aside buffer sums) reserved (state_of grain volumes' pool' aside' buffer sums)
+  has_readied reserved is left same_cleared = record { pooled = same_cleared; rest = state_reserved reserved is left }
+
+  -- refused
+  pub state_refused : pool' ≡ pool → state_of grain volumes' pool' aside' buffer sums ≡ state_of grain volumes pool aside buffer sums
+  state_refused same_pool = λ k. state_of grain (same_volumes k) (same_pool k) (same_aside k) buffer sums
+
 -- all disks are given back
 pub number_of : (volumes : List VolumeDiskState) (pool : PoolState) (aside : List DiskState) → length (all_disks volumes pool aside) ≡ length volumes + (length (disks_of pool) + length aside)
 number_of volumes pool aside =
     length-append (map (λ (v : VolumeDiskState). v.disk) volumes) (disks_of pool ++ aside)
     ∙ omega (arith, length-map volumes (λ (v : VolumeDiskState). v.disk), length-append (disks_of pool) aside)
 
-pub same_given : (volumes : List VolumeDiskState) (pool : PoolState) (aside first : List DiskState) → SameDisks first (map (λ (v : VolumeDiskState). v.disk) volumes)
-    → SameDisks (first ++ (disks_of pool ++ aside)) (all_disks volumes pool aside)
-same_given volumes pool aside first same count =
+pub same_given : (volumes : List VolumeDiskState) (pool : PoolState) (aside : List DiskState)
+    → SameDisks (reverse (map (λ (v : VolumeDiskState). v.disk) volumes) ++ (disks_of pool ++ aside)) (all_disks volumes pool aside)
+same_given volumes pool aside count =
     let f : DiskState → ℕ = λ d. count (cleared d) in
-    sum_by-append f first (disks_of pool ++ aside)
-    ∙ ap (λ (n : ℕ). n + sum_by f (disks_of pool ++ aside)) (same count)
-    ∙ sym (sum_by-append f (map (λ (v : VolumeDiskState). v.disk) volumes) (disks_of pool ++ aside))
+    let ds : List DiskState = map (λ (v : VolumeDiskState). v.disk) volumes in
+    sum_by-append f (reverse ds) (disks_of pool ++ aside)
+    ∙ ap (λ (n : ℕ). n + sum_by f (disks_of pool ++ aside)) (sum_reverse f ds)
+    ∙ sym (sum_by-append f ds (disks_of pool ++ aside))
+  where
+    sum_reverse : (f : DiskState → ℕ) (ds : List DiskState) → sum_by f (reverse ds) ≡ sum_by f ds
+    sum_reverse f [] = refl
+    sum_reverse f (d ∷ ds) =
+        ap (sum_by f) (reverse-append (d ∷ []) ds)
+        ∙ omega (arith, sum_by_push f (reverse ds) d, sum_by-cons f d ds, sum_reverse f ds)

@@ -1,12 +1,16 @@
 -- The disks for new volumes.
-use Rattle.std.proofs.Common.{◌≡◌, ℕ, ◌+◌, ◌<◌, ◌≤◌, Bool, true, false, not, cond, List, [], ◌∷◌, ◌++◌, length, drop, get_or, refl, sym, ◌∙◌, ap, subst, arith}
-use Rattle.std.specs.List.{All, sum_by, count_by}
-use Rattle.std.proofs.lemmas.List.{length-append, length-drop}
+use Rattle.std.proofs.Common.{◌≡◌, ℕ, ◌+◌, ◌-◌, ◌<◌, ◌≤◌, None, Bool, true, false, not, cond, List, [], ◌∷◌, ◌++◌, filter, length, map, drop, get_or, slice_set, refl, sym, ◌∙◌, ap, subst, arith}
+use Rattle.std.specs.List.{All, remove, sum_by, count_by}
+use Rattle.std.proofs.Math.Seq.{map-set_same}
+use Rattle.std.proofs.lemmas.List.{append-nil, append_assoc, length-append, length-drop, map-append}
+use Rattle.std.proofs.lemmas.List.Edits.{remove-append_right}
+use Rattle.std.proofs.lemmas.List.Elements.{filter-append}
 use Rattle.std.proofs.lemmas.List.{get_or_append_left, get_or_push}
 use Rattle.std.proofs.lemmas.List.Sums.{sum_by-cons, sum_by-append, sum_by_push}
 use Rattle.fc_base.specs.declared.disk.DiskKind.{DiskKind}
 use Rattle.fc_base.specs.declared.disk.DiskKind.TheVariants.{Flat, Thin}
-use Rattle.fc_mdisk.specs.Disk.{DiskState, is_flat, cleared}
+use Rattle.fc_mdisk.specs.Disk.{DiskState, blank, is_flat, cleared, formatted}
+use Rattle.fc_mdisk.specs.Disks.{disk_at}
 use Rattle.fc_grains.specs.Grains.{IsUnarmed}
 use Rattle.fc_grains.specs.Parts.{AreReady, QueuesState, SameDisks, disks_in, queue_of, with_queue}
 use Rattle.fc_grains.specs.declared.pool.Reserved.{Reserved}
@@ -16,6 +20,8 @@ pub record IsSorting (all left : List DiskState) (queues : QueuesState) : Type 0
   pub disks : SameDisks (left ++ disks_in queues) all
   pub flat_count : count_by (λ (d : DiskState). is_flat d.kind) left + length queues.flat ≡ count_by (λ (d : DiskState). is_flat d.kind) all
   pub thin_count : count_by (λ (d : DiskState). not (is_flat d.kind)) left + length queues.thin ≡ count_by (λ (d : DiskState). not (is_flat d.kind)) all
+  pub flat_are : filter (λ (d : DiskState). is_flat d.kind) left ++ queues.flat ≡ filter (λ (d : DiskState). is_flat d.kind) all
+  pub thin_are : filter (λ (d : DiskState). not (is_flat d.kind)) left ++ queues.thin ≡ filter (λ (d : DiskState). not (is_flat d.kind)) all
   pub unarmed : All IsUnarmed left
   pub number : length left + length (disks_in queues) ≡ length all
 
@@ -44,12 +50,30 @@ front_all P left d all k e within =
     let same : get_or (left ++ d ∷ []) k e ≡ get_or left k e = get_or_append_left left (d ∷ []) e k within in
     subst P same (all k e (omega (arith, length-append left (d ∷ []))))
 
+-- the last of them passes a test, or doesn't
+filter_one : (test : DiskState → Bool) (d : DiskState) (b : Bool) → test d ≡ b → filter test (d ∷ []) ≡ cond b (d ∷ []) []
+filter_one test d b passes = ap (λ (t : Bool). cond t (d ∷ []) []) passes
+
+passed : (test : DiskState → Bool) (left : List DiskState) (d : DiskState) (queue : List DiskState) → test d ≡ true
+    → filter test left ++ (d ∷ queue) ≡ filter test (left ++ d ∷ []) ++ queue
+passed test left d queue passes =
+    sym (append_assoc (filter test left) (d ∷ []) queue)
+    ∙ ap (λ (ds : List DiskState). ds ++ queue) (ap (λ (ds : List DiskState). filter test left ++ ds) (sym (filter_one test d true passes)) ∙ sym (filter-append test left (d ∷ [])))
+
+failed : (test : DiskState → Bool) (left : List DiskState) (d : DiskState) (queue : List DiskState) → test d ≡ false
+    → filter test left ++ queue ≡ filter test (left ++ d ∷ []) ++ queue
+failed test left d queue fails =
+    ap (λ (ds : List DiskState). ds ++ queue)
+    (sym (append-nil (filter test left)) ∙ ap (λ (ds : List DiskState). filter test left ++ ds) (sym (filter_one test d false fails)) ∙ sym (filter-append test left (d ∷ [])))
+
 pub sorting : (all left : List DiskState) (queues : QueuesState) (d : DiskState) (kind : DiskKind) → d.kind ≡ kind → IsSorting all (left ++ d ∷ []) queues
     → IsSorting all left (with_queue kind (d ∷ queue_of kind queues) queues)
 sorting all left queues d Flat is s = record {
   disks = λ count. moved (λ x. count (cleared x)) left d queues.flat queues.thin ∙ s.disks count;
   flat_count = omega (arith, s.flat_count, one_if (λ (x : DiskState). is_flat x.kind) left d true (ap is_flat is));
   thin_count = omega (arith, s.thin_count, one_if (λ (x : DiskState). not (is_flat x.kind)) left d false (ap (λ (k : DiskKind). not (is_flat k)) is));
+  flat_are = passed (λ (x : DiskState). is_flat x.kind) left d queues.flat (ap is_flat is) ∙ s.flat_are;
+  thin_are = failed (λ (x : DiskState). not (is_flat x.kind)) left d queues.thin (ap (λ (k : DiskKind). not (is_flat k)) is) ∙ s.thin_are;
   unarmed = front_all IsUnarmed left d s.unarmed;
   number = omega (arith, s.number, length-append left (d ∷ []));
 }
@@ -57,6 +81,8 @@ sorting all left queues d Thin is s = record {
   disks = λ count. moved_behind (λ x. count (cleared x)) left d queues.flat queues.thin ∙ s.disks count;
   flat_count = omega (arith, s.flat_count, one_if (λ (x : DiskState). is_flat x.kind) left d false (ap is_flat is));
   thin_count = omega (arith, s.thin_count, one_if (λ (x : DiskState). not (is_flat x.kind)) left d true (ap (λ (k : DiskKind). not (is_flat k)) is));
+  flat_are = failed (λ (x : DiskState). is_flat x.kind) left d queues.flat (ap is_flat is) ∙ s.flat_are;
+  thin_are = passed (λ (x : DiskState). not (is_flat x.kind)) left d queues.thin (ap (λ (k : DiskKind). not (is_flat k)) is) ∙ s.thin_are;
   unarmed = front_all IsUnarmed left d s.unarmed;
   number = omega (arith, s.number, length-append left (d ∷ []), length-append queues.flat (d ∷ queues.thin), length-append queues.flat queues.thin);
 }
@@ -79,3 +105,45 @@ enough bytes queues [] ready = omega arith
 enough bytes queues (r ∷ rest) ready =
     let behind = enough bytes (with_queue r.kind (drop 1 (queue_of r.kind queues)) queues) rest ready.2 in
     omega (arith, number_after r.kind queues ready.0)
+
+-- a queue without its first disk is the disks without one
+first_removed : (d : DiskState) (ds : List DiskState) → remove (d ∷ ds) 0 ≡ ds
+first_removed d ds = refl
+
+pub taken_at : (kind : DiskKind) (queues : QueuesState) → 0 < length (queue_of kind queues)
+    → (place : ℕ) × (disks_in (with_queue kind (drop 1 (queue_of kind queues)) queues) ≡ remove (disks_in queues) place)
+taken_at Flat queues some = (0, by queues.flat some)
+  where
+    by : (flat : List DiskState) → 0 < length flat → drop 1 flat ++ queues.thin ≡ remove (flat ++ queues.thin) 0
+    by [] none = absurd (omega arith)
+    by (d ∷ flat) more = sym (first_removed d (flat ++ queues.thin))
+taken_at Thin queues some = (length queues.flat, by queues.thin some)
+  where
+    by : (thin : List DiskState) → 0 < length thin → queues.flat ++ drop 1 thin ≡ remove (queues.flat ++ thin) (length queues.flat)
+    by [] none = absurd (omega arith)
+    by (d ∷ thin) more =
+        let zero_is : length queues.flat - length queues.flat ≡ 0 = omega arith in
+        ap (λ (ds : List DiskState). queues.flat ++ ds) (sym (first_removed d thin))
+        ∙ ap (λ (n : ℕ). queues.flat ++ remove (d ∷ thin) n) (sym zero_is)
+        ∙ sym (remove-append_right queues.flat (d ∷ thin) (length queues.flat) (length queues.flat) refl (omega arith))
+
+-- a disk that was formatted is as it was, but for its grains
+one_cleared : (queue : List DiskState) (place grains bytes : ℕ) → map cleared (slice_set queue place (formatted (disk_at queue place) grains bytes)) ≡ map cleared queue
+one_cleared queue place grains bytes = map-set_same cleared queue place (formatted (disk_at queue place) grains bytes) (blank Flat None) refl
+
+pub all_cleared : (kind : DiskKind) (queues : QueuesState) (place grains bytes : ℕ)
+    → map cleared (disks_in (with_queue kind (slice_set (queue_of kind queues) place (formatted (disk_at (queue_of kind queues) place) grains bytes)) queues)) ≡ map cleared (disks_in queues)
+all_cleared Flat queues place grains bytes =
+    map-append cleared (slice_set queues.flat place (formatted (disk_at queues.flat place) grains bytes)) queues.thin
+    ∙ ap (λ (ds : List DiskState). ds ++ map cleared queues.thin) (one_cleared queues.flat place grains bytes)
+    ∙ sym (map-append cleared queues.flat queues.thin)
+all_cleared Thin queues place grains bytes =
+    map-append cleared queues.flat (slice_set queues.thin place (formatted (disk_at queues.thin place) grains bytes))
+    ∙ ap (λ (ds : List DiskState). map cleared queues.flat ++ ds) (one_cleared queues.thin place grains bytes)
+    ∙ sym (map-append cleared queues.flat queues.thin)
+
+-- the first of the volumes to come has a disk
+pub first_there : (bytes : ℕ) (queues : QueuesState) (reserved : List Reserved) (r : Reserved) → AreReady bytes queues reserved → 0 < length reserved → r ≡ get_or reserved 0 r
+    → 0 < length (queue_of r.kind queues)
+first_there bytes queues [] r ready some e = absurd (omega arith)
+first_there bytes queues (x ∷ rest) r ready some e = subst (λ (y : Reserved). 0 < length (queue_of y.kind queues)) (sym e) ready.0

@@ -1,14 +1,15 @@
 -- What the calls of disks leave.
-use Rattle.std.specs.Prelude.{◌≡◌, ℕ, ◌==◌, Bool, true, false, ◌∷◌, [], ◌++◌, drop, length, replicate, is_some, IfSome, Option, Some, Result, Ok, Err}
+use Rattle.std.specs.Prelude.{◌≡◌, ℕ, ◌==◌, Bool, true, false, List, ◌∷◌, [], ◌++◌, drop, length, map, replicate, is_some, IfSome, Option, Some, Result, Ok, Err}
 use Rattle.std.specs.Bool.{OnFalse}
+use Rattle.std.specs.List.{remove}
 use Rattle.fc_base.specs.Count.{one_more, FaultsAfter}
 use Rattle.fc_base.specs.Grain.{grain_bytes}
 use Rattle.fc_base.specs.Pools.{pool_without}
 use Rattle.fc_base.specs.declared.disk.DiskError.{DiskError}
-use Rattle.fc_mdisk.specs.Disk.{write_failed, MayAnswer}
+use Rattle.fc_mdisk.specs.Disk.{DiskState, write_failed, MayAnswer, cleared}
 use Rattle.fc_entry.specs.Picture.{Bytes, zeros}
-use Rattle.fc_grains.specs.Grains.{GrainsState, next_of}
-use Rattle.fc_grains.specs.Volumes.{volume_of, stored, changed, called, after_write}
+use Rattle.fc_grains.specs.Grains.{GrainsState, NewVolume, next_of}
+use Rattle.fc_grains.specs.Volumes.{volume_of, stored, changed, called, after_write, without, HoldsGrains}
 use Rattle.fc_grains.specs.declared.copy_error.CopyError.{CopyError}
 use Rattle.fc_grains.specs.declared.copy_error.CopyError.TheVariants.{Read, Write}
 
@@ -47,7 +48,18 @@ HasCopied {A} old from to place (Err Read) new = HasRead old from place true new
 HasCopied {A} old from to place (Err (Write error)) new =
     (mid : GrainsState) × HasRead old from place false mid × HasWritten {A = A} mid to place (Err error) new
 
--- The next new volume was made, with zeros, over a disk with no armed fault.
+-- Disks of the pool were made ready for volumes to come: each is as it was, but for its grains.
+pub record HasReadied (old : GrainsState) (reserved : List NewVolume) (new : GrainsState) : Type 0 where
+  pub pooled : map cleared new.pooled ≡ map cleared old.pooled
+  pub rest : new ≡ record old { reserved = reserved; pooled = new.pooled }
+
+-- A volume went: its disk was put aside, without its grains.
+pub record HasRemoved (old : GrainsState) (volume : ℕ) (new : GrainsState) : Type 0 where
+  pub disk : DiskState
+  pub held : HoldsGrains (volume_of old.volumes volume) disk
+  pub removed : new ≡ record old { volumes = without volume old.volumes; aside = old.aside ++ cleared disk ∷ [] }
+
+-- The next new volume was made, with zeros, over a disk of the pool, at this place, with no armed fault.
 pub record HasMade (old : GrainsState) (volume : ℕ) (new : GrainsState) : Type 0 where
   pub due : Option ℕ
   pub unarmed : IfSome due (λ n. n ≡ 0)
@@ -61,4 +73,7 @@ pub record HasMade (old : GrainsState) (volume : ℕ) (new : GrainsState) : Type
     } ∷ [];
     pool = pool_without (next_of old.reserved).kind old.pool;
     reserved = drop 1 old.reserved;
+    pooled = new.pooled;
   }
+  pub place : ℕ
+  pub taken : new.pooled ≡ remove old.pooled place

@@ -1,6 +1,6 @@
 -- All that contracts see of the grains of a lane.
-use Rattle.std.specs.Prelude.{◌≡◌, ℕ, ◌+◌, ◌-◌, ◌^◌, min, Bool, not, List, [], ◌∷◌, replicate, count_by, Option, Some, None, IfSome}
-use Rattle.std.specs.List.{sum_by}
+use Rattle.std.specs.Prelude.{◌≡◌, ℕ, ◌+◌, ◌-◌, ◌≤◌, ◌^◌, min, Bool, not, List, [], ◌∷◌, ◌++◌, filter, replicate, reverse, count_by, Option, Some, None, IfSome}
+use Rattle.std.specs.List.{All, sum_by}
 use Rattle.fc_base.specs.Grain.{grain_bytes}
 use Rattle.fc_base.specs.Pools.{Pool}
 use Rattle.fc_base.specs.declared.disk.DiskKind.{DiskKind}
@@ -8,23 +8,25 @@ use Rattle.fc_base.specs.declared.disk.DiskKind.TheVariants.{Flat, Thin}
 use Rattle.fc_base.specs.declared.size.GrainSize.{GrainSize}
 use Rattle.fc_mdisk.specs.Disk.{DiskState, is_flat}
 use Rattle.fc_mdisk.specs.Disks.{calls_of, faults_of, write_faults_of}
-use Rattle.fc_grains.specs.Volumes.{VolumeGrains}
+use Rattle.fc_grains.specs.Volumes.{VolumeGrains, HoldAll, HoldsNothing}
 
 -- A volume that is to be made.
 pub record NewVolume : Type 0 where
   pub kind : DiskKind
   pub grains : ℕ
 
--- The volumes that are there, in order of id; how many disks are left for new volumes; the new volumes that take no memory, in the
--- order in which they are made; the bytes of the grain at hand; and of all disks together, those of the pool and those
--- put aside too: how many of each kind there are, how many of them don't tell their armed fault, and their counts, which stand still
--- at 2^64 - 1.
+-- The volumes that are there, in order of id; how many disks are left for new volumes; the new volumes that take no memory, in
+-- the order in which they are made; the bytes of the grain at hand; the disks of the pool, and those put aside, of volumes
+-- that went; and of all disks together: how many of each kind there are, how many of them don't tell their armed fault, and
+-- their counts, which stand still at 2^64 - 1.
 pub record GrainsState : Type 0 where
   pub grain : GrainSize
   pub volumes : List VolumeGrains
   pub pool : Pool
   pub reserved : List NewVolume
   pub buffer : List ℕ
+  pub pooled : List DiskState
+  pub aside : List DiskState
   pub disks : Pool
   pub silent : ℕ
   pub calls : ℕ
@@ -49,6 +51,10 @@ pool_of disks = record {
   flat = count_by (λ d. is_flat d.kind) disks;
   thin = count_by (λ d. not (is_flat d.kind)) disks;
 }
+
+-- The disks by kind, the flat ones first, of each kind in order.
+abbrev pub by_kind : List DiskState → List DiskState
+by_kind disks = filter (λ d. is_flat d.kind) disks ++ filter (λ d. not (is_flat d.kind)) disks
 
 -- How many disks of both kinds.
 abbrev pub total_of : Pool → ℕ
@@ -79,6 +85,8 @@ opened grain disks = record {
   pool = pool_of disks;
   reserved = [];
   buffer = replicate (grain_bytes grain) 0;
+  pooled = by_kind disks;
+  aside = [];
   disks = pool_of disks;
   silent = silent_of disks;
   calls = stopped (calls_of disks);
@@ -86,10 +94,18 @@ opened grain disks = record {
   write_faults = stopped (write_faults_of disks);
 }
 
--- These disks are all that there are, with their counts.
+-- These disks are all that there are, with their counts: no fault is told that they didn't count. Those of the volumes come
+-- first, from the last volume to the first, with the grains that they held; then those of the pool, as they were, and those
+-- put aside, which hold no grain.
 pub record AreAllOf (state : GrainsState) (disks : List DiskState) : Type 0 where
   pub kinds : pool_of disks ≡ state.disks
   pub silent : silent_of disks ≡ state.silent
   pub calls : stopped (calls_of disks) ≡ state.calls
   pub faults : stopped (faults_of disks) ≡ state.faults
   pub write_faults : stopped (write_faults_of disks) ≡ state.write_faults
+  pub faults_counted : state.faults ≤ faults_of disks
+  pub write_faults_counted : state.write_faults ≤ write_faults_of disks
+  pub own : List DiskState
+  pub in_order : disks ≡ own ++ (state.pooled ++ state.aside)
+  pub held : HoldAll (reverse state.volumes) own
+  pub empty : All HoldsNothing state.aside

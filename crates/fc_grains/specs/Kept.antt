@@ -6,6 +6,7 @@ use Rattle.fc_base.specs.declared.size.GrainSize.{GrainSize}
 use Rattle.fc_mdisk.specs.Disk.{DiskState}
 use Rattle.fc_mdisk.specs.Disks.{calls_of, faults_of, write_faults_of}
 use Rattle.fc_grains.specs.Grains.{GrainsState, pool_of, silent_of, stopped}
+use Rattle.fc_grains.specs.Volumes.{HoldsNothing}
 use Rattle.fc_grains.specs.Parts.{VolumeDiskState, PoolState, IsWhole, disks_of, grains_of, left_of, new_of}
 use Rattle.fc_grains.specs.declared.sums.Sums.{Sums}
 
@@ -21,6 +22,8 @@ state_of grain volumes pool aside buffer sums = record {
   pool = left_of pool;
   reserved = map new_of pool.reserved;
   buffer = buffer;
+  pooled = disks_of pool;
+  aside = aside;
   disks = pool_of (all_disks volumes pool aside);
   silent = silent_of (all_disks volumes pool aside);
   calls = sums.calls;
@@ -34,13 +37,14 @@ pub record AddUp (disks : List DiskState) (sums : Sums) : Type 0 where
   pub faults : sums.faults ≡ stopped (faults_of disks)
   pub write_faults : sums.write_faults ≡ stopped (write_faults_of disks)
 
--- Ids rise, grains are whole, the sums are those of all disks, and there is room for each new volume and for the disk of
--- each volume that goes.
+-- Ids rise, grains are whole, disks put aside hold no grain, the sums are those of all disks, and there is room for each new
+-- volume and for the disk of each volume that goes.
 pub record IsKept (grain : GrainSize) (volumes : List VolumeDiskState) (pool : PoolState) (aside : List DiskState) (buffer : List ℕ) (sums : Sums) (volume_room aside_room : ℕ) : Type 0 where
   pub buffer_size : length buffer ≡ grain_bytes grain
   pub pool_size : pool.bytes ≡ grain_bytes grain
   pub rising : AllPairs (λ (v w : VolumeDiskState). v.volume.0 < w.volume.0) volumes
   pub whole : All (IsWhole (grain_bytes grain)) volumes
+  pub empty : All HoldsNothing aside
   pub add_up : AddUp (all_disks volumes pool aside) sums
   pub few : length volumes + length (disks_of pool) < 2 ^ 32
   pub room : length volumes + length pool.reserved ≤ volume_room

@@ -1,5 +1,5 @@
 -- What the disks of a lane's volumes hold.
-use Rattle.std.specs.Prelude.{ℕ, ◌-◌, Bool, ◌==◌, not, cond, List, [], ◌∷◌, map, filter, slice_set, Option, None, Result, Ok, Err}
+use Rattle.std.specs.Prelude.{◌≡◌, ℕ, ◌+◌, ◌-◌, ◌≤◌, Bool, ◌==◌, not, cond, List, [], ◌∷◌, length, map, filter, slice_set, Option, Some, None, Result, Ok, Err}
 use Rattle.std.specs.List.{list_any}
 use Rattle.std.specs.Option.{option_map}
 use Rattle.fc_base.specs.declared.disk.DiskError.{DiskError}
@@ -8,6 +8,7 @@ use Rattle.fc_base.specs.declared.disk.DiskKind.{DiskKind}
 use Rattle.fc_base.specs.declared.disk.DiskKind.TheVariants.{Flat}
 use Rattle.fc_base.specs.declared.ids.VolId.{VolId}
 use Rattle.fc_entry.specs.Picture.{Content, Bytes, Lost, content_at}
+use Rattle.fc_mdisk.specs.Disk.{DiskState, grain_at}
 
 -- A volume: the kind of its disk, what each of its grains holds, by place, and the disk's armed fault, where it tells it
 -- (how many calls it is away, 0 for none).
@@ -55,3 +56,33 @@ abbrev pub after_write : {A : Type 0} → Result A DiskError → ℕ → List �
 after_write (Ok _) place bytes v = holding place (Bytes bytes) (called v)
 after_write (Err Failed) place bytes v = holding place Lost (called v)
 after_write (Err NoMemory) place bytes v = called v
+
+-- ---- armed faults
+
+-- An armed fault comes nearer, by at most so many calls. Where none was armed none is.
+abbrev pub ComesNearer : ℕ → Option ℕ → Option ℕ → Type 0
+ComesNearer calls None None = Unit {0}
+ComesNearer calls (Some was) (Some now) = (now ≤ was) × (was ≤ now + calls)
+ComesNearer calls _ _ = ⊥
+
+-- Of the disk of each volume. So no fault is armed.
+abbrev pub ComeNearer : ℕ → List VolumeGrains → List VolumeGrains → Type 0
+ComeNearer calls old new = (id : ℕ) → ComesNearer calls (volume_of old id).due (volume_of new id).due
+
+-- ---- disks that hold what volumes hold
+
+-- So many grains, the bytes of each that isn't lost, and the armed fault.
+pub record HoldsGrains (v : VolumeGrains) (disk : DiskState) : Type 0 where
+  pub kind : disk.kind ≡ v.kind
+  pub armed : disk.due ≡ v.due
+  pub size : length disk.grains ≡ length v.contents
+  pub bytes : (place : ℕ) (bytes : List ℕ) → content_at v.contents place ≡ Bytes bytes → grain_at disk.grains place ≡ bytes
+
+-- Each of the disks holds what the volume at its place holds.
+abbrev pub HoldAll : List VolumeGrains → List DiskState → Type 0
+HoldAll [] [] = Unit {0}
+HoldAll (v ∷ vs) (disk ∷ disks) = HoldsGrains v disk × HoldAll vs disks
+HoldAll _ _ = ⊥
+
+abbrev pub HoldsNothing : DiskState → Type 0
+HoldsNothing disk = disk.grains ≡ []

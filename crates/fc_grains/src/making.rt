@@ -1,12 +1,12 @@
 //! Volumes come and go, and disks are given back.
 
-ghost use Rattle.std.specs.Prelude.{◌≡◌, ◌+◌, ◌^◌, ◌<◌, ◌≤◌, ◌∷◌, ◌++◌, [], true, length, map, vec_len, vec_capacity, List, IfOk, OnOk, OnErr};
+ghost use Rattle.std.specs.Prelude.{◌≡◌, ◌+◌, ◌^◌, ◌<◌, ◌≤◌, ◌∷◌, ◌++◌, [], true, length, map, reverse, vec_len, vec_capacity, List, IfOk, OnOk, OnErr};
 ghost use Rattle.std.specs.List.{All};
 ghost use Rattle.fc_base.specs.Pools.{of_kind};
-ghost use Rattle.fc_grains.specs.Calls.{HasMade};
+ghost use Rattle.fc_grains.specs.Calls.{HasMade, HasReadied, HasRemoved};
 ghost use Rattle.fc_grains.specs.Grains.{AreAllOf, IsUnarmed, opened, reserved_of, total_of};
-ghost use Rattle.fc_grains.specs.Parts.{SameDisks, VolumeDiskState};
-ghost use Rattle.fc_grains.specs.Volumes.{VolumeGrains, armed, changed, is_there, without};
+ghost use Rattle.fc_grains.specs.Parts.{VolumeDiskState};
+ghost use Rattle.fc_grains.specs.Volumes.{VolumeGrains, armed, changed, is_there};
 
 use crate::find::place_of;
 use crate::grains::Grains;
@@ -52,7 +52,7 @@ impl<D: Mdisk> Grains<D> {
     /// new volume takes is formatted, and stays in the pool. Refused, all is as it was.
     pub fn reserve(&mut self, kind: DiskKind, grains: u32) -> Result<(), NoMemory>
         requires { reserved_of kind self.old.reserved < of_kind kind self.old.pool }
-        ensures ok { OnOk result (self.new ≡ record self.old { reserved = self.old.reserved ++ record { kind = kind; grains = grains } ∷ [] }) }
+        ensures ok { OnOk result (HasReadied self.old (self.old.reserved ++ record { kind = kind; grains = grains } ∷ []) self.new) }
         ensures err { OnErr result (self.new ≡ self.old) }
     {
         let coming = self.pool.reserved() + 1;
@@ -88,7 +88,7 @@ impl<D: Mdisk> Grains<D> {
     /// Removes a volume that is there. Its disk is cleared and put aside. Takes no memory.
     pub fn remove(&mut self, volume: VolId)
         requires { is_there self.old.volumes volume.0 ≡ true }
-        ensures { self.new ≡ record self.old { volumes = without volume.0 self.old.volumes } }
+        ensures { HasRemoved self.old volume.0 self.new }
     {
         let place = place_of(&self.volumes, volume);
         let disk = self.volumes.remove(place).into_cleared_disk();
@@ -106,7 +106,8 @@ impl<D: Mdisk> Grains<D> {
         self.volumes[place].arm(calls);
     }
 
-    /// Appends all disks as they are, those of the pool and those put aside too, to a list that has room for them.
+    /// Appends all disks as they are to a list that has room for them: those of the volumes, from the last to the first,
+    /// those of the pool, and those put aside.
     pub fn give_disks(self, into: &mut Vec<D>)
         requires { vec_len into.old + total_of self.disks ≤ vec_capacity into.old }
         ensures given { (given : List D) × (into.new.items ≡ into.old.items ++ given) × AreAllOf self (map D.meaning given) }
@@ -126,10 +127,10 @@ impl<D: Mdisk> Grains<D> {
     }
 }
 
-/// Appends the disks of volumes.
+/// Appends the disks of volumes, from the last to the first.
 fn give_volumes<D: Mdisk>(mut volumes: Vec<VolumeDisk<D>>, into: &mut Vec<D>)
     requires { vec_len into.old + vec_len volumes ≤ vec_capacity into.old }
-    ensures given { (given : List D) × (into.new.items ≡ into.old.items ++ given) × SameDisks (map D.meaning given) (map (λ (v : VolumeDiskState). v.disk) volumes.items) }
+    ensures given { (given : List D) × (into.new.items ≡ into.old.items ++ given) × (map D.meaning given ≡ reverse (map (λ (v : VolumeDiskState). v.disk) volumes.items)) }
     ensures room { vec_capacity into.old ≤ vec_capacity into.new }
 {
     while let Some(volume) = volumes.pop() {

@@ -1,9 +1,10 @@
 //! The disks for new volumes.
 
-ghost use Rattle.std.specs.Prelude.{◌≡◌, ◌+◌, ◌^◌, ◌<◌, ◌≤◌, ◌∷◌, ◌++◌, [], false, length, drop, map, replicate, vec_len, vec_capacity, List, IfOk, OnOk, OnErr};
-ghost use Rattle.std.specs.List.{All};
+ghost use Rattle.std.specs.Prelude.{◌≡◌, ℕ, ◌+◌, ◌^◌, ◌<◌, ◌≤◌, ◌∷◌, ◌++◌, [], false, length, drop, map, replicate, vec_len, vec_capacity, List, IfOk, OnOk, OnErr};
+ghost use Rattle.std.specs.List.{All, remove};
 ghost use Rattle.fc_base.specs.Pools.{of_kind, pool_without};
-ghost use Rattle.fc_grains.specs.Grains.{IsUnarmed, pool_of, reserved_of, next_of};
+ghost use Rattle.fc_mdisk.specs.Disk.{cleared};
+ghost use Rattle.fc_grains.specs.Grains.{IsUnarmed, by_kind, pool_of, reserved_of, next_of};
 ghost use Rattle.fc_grains.specs.Parts.{HasZeros, SameDisks, disks_of, left_of, new_of};
 
 use crate::queues::Queues;
@@ -50,6 +51,7 @@ impl<D: Mdisk> Pool<D> {
         ensures reserved { IfOk result (λ p. p.reserved ≡ []) }
         ensures left { IfOk result (λ p. left_of p ≡ pool_of (map D.meaning disks.items)) }
         ensures disks { IfOk result (λ p. SameDisks (disks_of p) (map D.meaning disks.items)) }
+        ensures sorted { IfOk result (λ p. disks_of p ≡ by_kind (map D.meaning disks.items)) }
         ensures number { IfOk result (λ p. length (disks_of p) ≡ vec_len disks) }
     {
         match Queues::new(alloc, disks) {
@@ -84,7 +86,7 @@ impl<D: Mdisk> Pool<D> {
         self.reserved.iter().filter(|r| r.kind == kind).count()
     }
 
-    /// Makes ready for one more volume. Refused, all is as it was, but what grains the disks have.
+    /// Makes ready for one more volume. The disks stay, but for their grains. Refused, all is as it was.
     pub(crate) fn reserve(
         &mut self,
         alloc: Global,
@@ -93,10 +95,11 @@ impl<D: Mdisk> Pool<D> {
     ) -> Result<(), NoMemory>
         requires { reserved_of kind (map new_of self.old.reserved) < of_kind kind (left_of self.old) }
         ensures ok { OnOk result (map new_of self.new.reserved ≡ map new_of self.old.reserved ++ record { kind = kind; grains = grains } ∷ []) }
-        ensures err { OnErr result (self.new.reserved ≡ self.old.reserved) }
+        ensures err { OnErr result (self.new ≡ self.old) }
         ensures bytes { self.new.bytes ≡ self.old.bytes }
         ensures left { left_of self.new ≡ left_of self.old }
         ensures disks { SameDisks (disks_of self.new) (disks_of self.old) }
+        ensures cleared { map cleared (disks_of self.new) ≡ map cleared (disks_of self.old) }
     {
         let lost = match GrainSet::new(alloc, grains) {
             Ok(lost) => lost,
@@ -135,6 +138,7 @@ impl<D: Mdisk> Pool<D> {
         ensures reserved { self.new.reserved ≡ drop 1 self.old.reserved }
         ensures left { left_of self.new ≡ pool_without (next_of (map new_of self.old.reserved)).kind (left_of self.old) }
         ensures disks { SameDisks (result.disk ∷ disks_of self.new) (disks_of self.old) }
+        ensures taken { (place : ℕ) × (disks_of self.new ≡ remove (disks_of self.old) place) }
     {
         let next = self.reserved.remove(0);
         let disk = self.queues.take_first(next.kind);

@@ -4,7 +4,7 @@ ghost use Rattle.std.specs.Prelude.{◌≡◌, ◌+◌, ◌^◌, ◌<◌, ◌≤
 ghost use Rattle.std.specs.List.{All};
 ghost use Rattle.fc_mdisk.specs.Disk.{formatted};
 ghost use Rattle.fc_mdisk.specs.Disks.{disk_at};
-ghost use Rattle.fc_grains.specs.Grains.{IsUnarmed, pool_of};
+ghost use Rattle.fc_grains.specs.Grains.{IsUnarmed, by_kind, pool_of};
 ghost use Rattle.fc_grains.specs.Parts.{SameDisks, disks_in, left_in, queue_of, with_queue};
 
 use fc_base::disk::DiskKind;
@@ -39,6 +39,7 @@ impl<D: Mdisk> Queues<D> {
         requires unarmed { All IsUnarmed (map D.meaning disks.items) }
         ensures left { IfOk result (λ q. left_in q ≡ pool_of (map D.meaning disks.items)) }
         ensures disks { IfOk result (λ q. SameDisks (disks_in q) (map D.meaning disks.items)) }
+        ensures sorted { IfOk result (λ q. disks_in q ≡ by_kind (map D.meaning disks.items)) }
         ensures number { IfOk result (λ q. length (disks_in q) ≡ vec_len disks) }
     {
         let mut queues = Queues {

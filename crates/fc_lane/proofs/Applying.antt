@@ -14,12 +14,14 @@ use Rattle.fc_follow.specs.Alike.{AreAlike}
 use Rattle.fc_follow.specs.Following.{FitsFollowed, FitsRows, Followed, IsNoTrigger, TriggersFirst, followed_event, restarts, rows_event}
 use Rattle.fc_grains.specs.Grains.{stopped}
 use Rattle.fc_grains.specs.Quiet.{IsQuiet}
+use Rattle.fc_grains.specs.Volumes.{volume_of}
 use Rattle.fc_rules.specs.LaneTold.{LaneOf, grains_in}
 use Rattle.fc_lane.specs.Applying.{CanApply, HasApplied}
 use Rattle.fc_apply.specs.Events.{CanBeginRows, IsSized, chains_after, AreRowsReady}
 use Rattle.fc_lane.specs.Lane.{LaneView, ArmsNone, CanDoEvents, IsFollowing, IsSameLane, KeepsQuiet, of}
-use Rattle.fc_apply.specs.Parts.{IsReadyBeside, SameCounts, StandsFor}
+use Rattle.fc_apply.specs.Parts.{ArmedBy, IdleAfter, IsArmedAt, IsReadyBeside, SameCounts, StandsFor, armed_event}
 use Rattle.fc_steps.specs.Standing.{kind_of_told}
+use Rattle.fc_apply.proofs.Arming.{armed_one, idle_same, idle_then}
 use Rattle.fc_apply.proofs.Following.{event_followed, first_births, restarts_fit, rows_sized, told_counts, told_sheet}
 use Rattle.fc_lane.proofs.LaneEvents.{of_same, same_counts, arms_first, arms_rest}
 use Rattle.fc_apply.proofs.Telling.{can_do, counts_same, counts_then, next_left, still_ready}
@@ -141,6 +143,9 @@ pub record Doing (v : LaneView) (events : List LaneEvent) (v' : LaneView) (rest 
   pub lanes : v'.lanes ≡ v.lanes
   pub kept : SameCounts v.grains v'.grains
   pub quiet : IsQuiet v.grains → ArmsNone events → IsQuiet v'.grains × ArmsNone rest
+  pub armed : (id n : ℕ) → IsArmedAt n (volume_of v.grains.volumes id).due →
+      (m : ℕ) × IsArmedAt m (volume_of v'.grains.volumes id).due × (fold (armed_event (of v) id) m rest ≡ fold (armed_event (of v) id) n events)
+  pub idle : IdleAfter v.grains v'.grains
   pub plan_room : v'.plan_room ≡ v.plan_room
   pub entry_room : v'.entry_room ≡ v.entry_room
 
@@ -153,6 +158,8 @@ doing_none v events ready triggers = record {
   lanes = refl;
   kept = counts_same v.grains;
   quiet = λ q none. (q, none);
+  armed = λ id n at. (n, at, refl);
+  idle = idle_same v.grains;
   plan_room = refl;
   entry_room = refl;
 }
@@ -166,8 +173,8 @@ module _ (v v' : LaneView) (events : List LaneEvent) where
       let n = d.leads f i fits in
       can_apply v' n.0 e rest n.1 (subst (λ (l : LaneOf). FitsFollowed l n.0 (e ∷ rest)) (own_lane (e ∷ rest) d) n.2) d.ready
 
-  pub doing_next : (e : LaneEvent) (rest : List LaneEvent) (v'' : LaneView) → Doing v events v' (e ∷ rest) → HasApplied v' e v'' → Doing v events v'' rest
-  doing_next e rest v'' d done =
+  pub doing_next : (e : LaneEvent) (rest : List LaneEvent) (v'' : LaneView) → CanApply v' e → Doing v events v' (e ∷ rest) → HasApplied v' e v'' → Doing v events v'' rest
+  doing_next e rest v'' can d done =
       let l : of v ≡ of v' = own_lane (e ∷ rest) d in
       record {
         leads = λ f i fits.
@@ -180,6 +187,11 @@ module _ (v v' : LaneView) (events : List LaneEvent) where
         lanes = done.lanes ∙ d.lanes;
         kept = counts_then v.grains v'.grains v''.grains d.kept done.done.kept;
         quiet = λ q none. let n = d.quiet q none in (done.quiet n.0 (arms_first e rest n.1), arms_rest e rest n.1);
+        armed = λ id n at.
+            let m = d.armed id n at in
+            let next : IsArmedAt (armed_event (of v') id m.0 e) (volume_of v''.grains.volumes id).due = armed_one (of v') e v'.grains v'.accesses v'.work v''.grains.volumes can.can done.done.volumes id m.0 m.1 in
+            (armed_event (of v) id m.0 e, subst (λ (z : LaneOf). IsArmedAt (armed_event z id m.0 e) (volume_of v''.grains.volumes id).due) (sym l) next, m.2);
+        idle = idle_then v.grains v'.grains v''.grains d.idle done.idle;
         plan_room = done.plan_room ∙ d.plan_room;
         entry_room = done.entry_room ∙ d.entry_room;
       }
@@ -187,6 +199,9 @@ module _ (v v' : LaneView) (events : List LaneEvent) where
   -- none is left
   pub doing_all : Doing v events v' [] → (f : Followed) → IsFollowing v f → FitsFollowed (of v) f events → IsFollowing v' (fold (followed_event (of v)) f events)
   doing_all d f i fits = let n = d.leads f i fits in subst (λ (z : Followed). IsFollowing v' z) n.3 n.1
+
+  pub doing_armed : Doing v events v' [] → ArmedBy (of v) events v.grains.volumes v'.grains.volumes
+  doing_armed d id n at = let m = d.armed id n at in subst (λ (z : ℕ). IsArmedAt z (volume_of v'.grains.volumes id).due) m.2 m.1
 
   pub doing_same : (rest : List LaneEvent) → Doing v events v' rest → IsSameLane v v'
   doing_same rest d = same_counts v v' d.lane d.lanes d.kept
@@ -197,5 +212,8 @@ module _ (v v' : LaneView) (events : List LaneEvent) where
   pub doing_can_at : (i : ℕ) (e : LaneEvent) → (f : Followed) × IsFollowing v f × FitsFollowed (of v) f events → i < length events → get_or events i e ≡ e → Doing v events v' (drop i events) → CanApply v' e
   doing_can_at i e fit lt here d = doing_can e (drop (i + 1) events) fit (subst (λ (z : List LaneEvent). Doing v events v' z) (next_left events i e lt here) d)
 
-  pub doing_next_at : (i : ℕ) (e : LaneEvent) (v'' : LaneView) → i < length events → get_or events i e ≡ e → Doing v events v' (drop i events) → HasApplied v' e v'' → Doing v events v'' (drop (i + 1) events)
-  doing_next_at i e v'' lt here d done = doing_next e (drop (i + 1) events) v'' (subst (λ (z : List LaneEvent). Doing v events v' z) (next_left events i e lt here) d) done
+  pub doing_next_at : (i : ℕ) (e : LaneEvent) (v'' : LaneView) → (f : Followed) × IsFollowing v f × FitsFollowed (of v) f events → i < length events → get_or events i e ≡ e → Doing v events v' (drop i events) → HasApplied v' e v'' →
+      Doing v events v'' (drop (i + 1) events)
+  doing_next_at i e v'' fit lt here d done =
+      let so = subst (λ (z : List LaneEvent). Doing v events v' z) (next_left events i e lt here) d in
+      doing_next e (drop (i + 1) events) v'' (doing_can e (drop (i + 1) events) fit so) so done

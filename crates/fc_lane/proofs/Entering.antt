@@ -1,20 +1,26 @@
 -- What stands after an entry of a lane.
-use Rattle.std.proofs.Common.{◌≡◌, ℕ, zero, suc, ◌+◌, ◌-◌, ◌^◌, min, Option, None, List, [], refl, sym, ap, ◌∙◌, arith}
+use Rattle.std.proofs.Common.{◌≡◌, ℕ, zero, suc, ◌+◌, ◌-◌, ◌^◌, min, Option, Some, None, List, [], refl, sym, ap, subst, ◌∙◌, arith}
 use Rattle.fc_base.specs.Count.{one_more}
 use Rattle.fc_base.specs.Sheet.{Sheet}
 use Rattle.fc_base.specs.declared.request.Move.{Move}
 use Rattle.fc_base.specs.declared.request.Torn.{Torn}
 use Rattle.fc_base.specs.declared.request.WritePart.{WritePart}
 use Rattle.fc_chain.specs.Chains.{Chains}
+use Rattle.fc_entry.specs.declared.entry.Entry.{Entry}
 use Rattle.fc_entry.specs.declared.entry.Past.TheVariants.{Step}
-use Rattle.fc_grains.specs.Grains.{stopped}
+use Rattle.fc_grains.specs.Grains.{GrainsState, stopped}
 use Rattle.fc_lane.specs.Entering.{SameBeside}
-use Rattle.fc_lane.specs.Lane.{LaneView, IsLaneOf, IsSameLane, of}
-use Rattle.fc_steps.specs.Moving.{more, SameLane}
-use Rattle.fc_steps.specs.StepsEnd.{StandsAt, StepsStand}
+use Rattle.fc_lane.specs.Lane.{LaneView, IsLaneOf, IsSameLane, KeepsDisks, of}
+use Rattle.fc_steps.specs.Moving.{more, IsTornBy, SameLane}
+use Rattle.fc_steps.specs.StepsEnd.{StandsAt, StepsEnd, StepsStand, torn_in}
+use Rattle.fc_steps.specs.declared.stop.Stop.{Stop}
+use Rattle.fc_steps.specs.declared.stop.Stop.TheVariants.{Failed, NoMemory}
 use Rattle.fc_steps.proofs.Moving.{same_lane}
+use Rattle.fc_steps.proofs.Nearer.{come_still}
 use Rattle.fc_steps.proofs.StepsMade.{none_counted}
-use Rattle.fc_rules.specs.LaneTold.{LaneTold, told_past}
+use Rattle.fc_rules.specs.LaneTold.{LaneOf, LaneTold, told_past}
+use Rattle.fc_rules.specs.Spot.{Spot}
+use Rattle.fc_rules.specs.Steps.{Step as OneStep}
 
 -- ---- counts
 
@@ -74,3 +80,24 @@ nothing_stands v told s = record {
   counted = none_counted v.grains;
   same = same_lane v.grains;
 }
+
+-- what becomes of the disks
+torn_by : (spot : Spot) (steps : List OneStep) (moves : List Move) (calls : ℕ) (stop : Option Stop) (old new : GrainsState) → StepsEnd spot steps moves calls stop old new → IsTornBy (torn_in stop) old new
+torn_by spot steps moves calls None old new e = tt
+torn_by spot steps moves calls (Some (Failed torn)) old new e = e.torn_by_write
+torn_by spot steps moves calls (Some NoMemory) old new e = tt
+
+pub disks_after : (spot : Spot) (steps : List OneStep) (l : LaneOf) (told : LaneTold) (write : Option WritePart) (moves : List Move) (calls : ℕ) (stop : Option Stop) (chains after : Chains) (old new : GrainsState) →
+    StepsEnd spot steps moves calls stop old new → StepsStand l told write moves calls (torn_in stop) chains old after new → KeepsDisks calls (torn_in stop) old new
+disks_after spot steps l told write moves calls stop chains after old new e x = record {
+  nearer = x.counted.nearer;
+  torn_by_write = torn_by spot steps moves calls stop old new e;
+  pooled = x.same.pooled;
+  aside = x.same.aside;
+}
+
+pub disks_stay : (grains : GrainsState) → KeepsDisks 0 None grains grains
+disks_stay grains = record { nearer = come_still grains.volumes; torn_by_write = tt; pooled = refl; aside = refl }
+
+pub disks_as : (entry plain : Entry) (old new : GrainsState) → entry ≡ plain → KeepsDisks plain.calls plain.torn old new → KeepsDisks entry.calls entry.torn old new
+disks_as entry plain old new is keeps = subst (λ (e : Entry). KeepsDisks e.calls e.torn old new) (sym is) keeps

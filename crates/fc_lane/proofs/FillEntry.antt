@@ -21,7 +21,7 @@ use Rattle.fc_steps.specs.StepsEnd.{StepsEnd, torn_in}
 use Rattle.fc_steps.specs.declared.stop.Stop.{Stop}
 use Rattle.fc_steps.specs.declared.stop.Stop.TheVariants.{Failed, NoMemory}
 use Rattle.fc_steps.proofs.Ending.{entry_done, entry_failed, entry_refused}
-use Rattle.fc_lane.proofs.Entering.{lane_after, same_after}
+use Rattle.fc_lane.proofs.Entering.{disks_after, disks_as, lane_after, same_after}
 use Rattle.fc_pictures.proofs.Agreeing.{lane_law_holds}
 use Rattle.fc_rules.specs.GrainAnswers.{FillAnswers}
 use Rattle.fc_rules.specs.LaneRight.{IsRightInLane, LaneAnswers, MappingFill, record_of}
@@ -130,6 +130,7 @@ module _ (v new : LaneView) (slot : SlotId) (m : MapId) (grain : GrainNo) (numbe
         asked = record { number_is = ap (λ (e : Entry). e.number) is; actor_is = ap (λ (e : Entry). e.actor) is; request_is = ap (λ (e : Entry). e.request) is };
         same = same_after v new f.beside x.1.same;
         quiet = x.1.same.quiet;
+        disks = disks_as entry _ v.grains new.grains is (disks_after (spot_at (of v) can.0 grain.0) (steps_of_fill (spot_at (of v) can.0 grain.0) can.1) (of v) can.0 None moves calls stop v.chains new.chains v.grains new.grains x.0 x.1);
         plan_room = f.plan_room;
         changes = f.beside.changes;
       }

@@ -26,9 +26,10 @@ use Rattle.fc_grains.specs.Calls.{HasRead}
 use Rattle.fc_grains.specs.Grains.{GrainsState, stopped}
 use Rattle.fc_grains.specs.Quiet.{IsQuiet}
 use Rattle.fc_grains.specs.Volumes.{VolumeGrains, is_there, stored, changed, called}
-use Rattle.fc_lane.specs.Lane.{LaneView, IsLaneOf, of}
+use Rattle.fc_lane.specs.Lane.{LaneView, IsLaneOf, KeepsDisks, of}
 use Rattle.fc_apply.specs.Parts.{StandsFor}
 use Rattle.fc_steps.specs.Standing.{SameVolumes, kind_of_grains, HasGrains, Stands}
+use Rattle.fc_lane.proofs.Entering.{disks_stay}
 use Rattle.fc_lane.specs.Entering.{HasEntered}
 use Rattle.fc_steps.specs.Asking.{steps_entry}
 use Rattle.fc_steps.specs.Reading.{GrainEnds, ReadEnds}
@@ -164,6 +165,7 @@ pub record Ended (v v' : LaneView) (calls : ℕ) : Type 0 where
   pub silent : v'.grains.silent ≡ v.grains.silent
   pub kept : v.grains.faults ≤ v'.grains.faults
   pub quiet : IsQuiet v.grains → IsQuiet v'.grains × (v'.grains.faults ≡ v.grains.faults)
+  pub keeps : KeepsDisks calls None v.grains v'.grains
   pub stands : (told : LaneTold) → IsLaneOf v told → IsLaneOf v' (counted told v'.grains.faults calls)
 
 read_ends : (v v' : LaneView) → ReadLane v v' → (source place : ℕ) (failed : Bool) → is_there v.grains.volumes source ≡ true → HasRead v.grains source place failed v'.grains → Ended v v' 1
@@ -175,6 +177,7 @@ read_ends v v' same source place failed there read =
       silent = r.same.silent;
       kept = r.counted.kept;
       quiet = λ q. (let s = quiet_read v.grains v'.grains source place failed q there read in (s.quiet, s.faults));
+      keeps = record { nearer = r.counted.nearer; torn_by_write = tt; pooled = r.same.pooled; aside = r.same.aside };
       stands = λ told i. read_stands v v' same told source place failed i there read;
     }
 
@@ -185,6 +188,7 @@ still_ends v v' same e = record {
   silent = ap (λ (g : GrainsState). g.silent) e;
   kept = (let f : v'.grains.faults ≡ v.grains.faults = ap (λ (g : GrainsState). g.faults) e in omega (arith, f));
   quiet = λ q. (subst IsQuiet (sym e) q, ap (λ (g : GrainsState). g.faults) e);
+  keeps = subst (λ (g : GrainsState). KeepsDisks 0 None v.grains g) (sym e) (disks_stay v.grains);
   stands = λ told i. still_stands v v' same told i e;
 }
 
@@ -234,6 +238,7 @@ module _ (v w v' : LaneView) (number actor : ℕ) (part : ReadPart) (is : v ≡ 
     asked = record { number_is = refl; actor_is = refl; request_is = refl };
     same = record { lane = same.lane; lanes = same.lanes; grain = e.grain; disks = e.disks; silent = e.silent };
     quiet = e.quiet;
+    disks = e.keeps;
     plan_room = same.plan_room;
     changes = same.changes;
   }

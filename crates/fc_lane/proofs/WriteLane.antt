@@ -22,7 +22,7 @@ use Rattle.fc_steps.specs.Asking.{steps_entry}
 use Rattle.fc_lane.specs.Lane.{LaneView, IsLaneOf, IsReady, of}
 use Rattle.fc_steps.specs.StepsEnd.{StandsAt, StepsEnd, StepsStand, torn_in}
 use Rattle.fc_steps.specs.declared.stop.Stop.{Stop}
-use Rattle.fc_lane.proofs.Entering.{same_after, stands_at}
+use Rattle.fc_lane.proofs.Entering.{disks_after, disks_as, disks_stay, same_after, stands_at}
 use Rattle.fc_lane.proofs.WriteEntry.{fits_write, lost_answers, unreached, untouched_right, write_right}
 use Rattle.fc_steps.proofs.Writable.{some_live, write_short}
 use Rattle.fc_steps.proofs.Writable.{plan_of_write}
@@ -110,6 +110,7 @@ module _ (v : LaneView) (part : WritePart) (grain place : ℕ) (w : IsWritable v
         asked = record { number_is = ap (λ (e : Entry). e.number) is; actor_is = ap (λ (e : Entry). e.actor) is; request_is = ap (λ (e : Entry). e.request) is };
         same = same_after v new b x.1.same;
         quiet = x.1.same.quiet;
+        disks = disks_as entry _ v.grains new.grains is (disks_after (spot_of (of v) told part) (steps_of_write (of v).grain (spot_of (of v) told part) part f.0) (of v) told (write_in part stop) moves calls stop v.chains new.chains v.grains new.grains x.0 x.1);
         plan_room = room;
         changes = b.changes;
       }
@@ -126,6 +127,7 @@ untouched_entered v part number actor reply entry answers none is = record {
   asked = record { number_is = ap (λ (e : Entry). e.number) is; actor_is = ap (λ (e : Entry). e.actor) is; request_is = ap (λ (e : Entry). e.request) is };
   same = record { lane = refl; lanes = refl; grain = refl; disks = refl; silent = refl };
   quiet = λ q. (q, refl);
+  disks = disks_as entry _ v.grains v.grains is (disks_stay v.grains);
   plan_room = refl;
   changes = refl;
 }

@@ -7,7 +7,7 @@ use Rattle.fc_follow.specs.Following.{restarts, rows_event}
 use Rattle.fc_grains.specs.Quiet.{IsQuiet}
 use Rattle.fc_apply.specs.Events.{CanFollow, chains_after}
 use Rattle.fc_lane.specs.Lane.{LaneView, of}
-use Rattle.fc_apply.specs.Parts.{ArmsNot, CanDo, HasDone}
+use Rattle.fc_apply.specs.Parts.{ArmsNot, CanDo, HasDone, IdleAfter}
 use Rattle.fc_steps.specs.Standing.{SameVolumes}
 
 -- It can be done.
@@ -25,5 +25,6 @@ pub record HasApplied (old : LaneView) (e : LaneEvent) (new : LaneView) : Type 0
   pub rows : new.changes.rows ≡ rows_event old.chains.sheet.slots old.changes.rows e
   pub done : HasDone (of old) old.grains old.accesses old.work e new.grains new.accesses new.work
   pub quiet : IsQuiet old.grains → ArmsNot e → IsQuiet new.grains
+  pub idle : IdleAfter old.grains new.grains
   pub plan_room : new.plan_room ≡ old.plan_room
   pub entry_room : new.entry_room ≡ old.entry_room

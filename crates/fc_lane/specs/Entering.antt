@@ -4,7 +4,7 @@ use Rattle.fc_base.specs.declared.request.Move.{Move}
 use Rattle.fc_base.specs.declared.request.Request.{Request}
 use Rattle.fc_base.specs.Sheet.{birth_place, column}
 use Rattle.fc_entry.specs.declared.entry.Entry.{Entry}
-use Rattle.fc_lane.specs.Lane.{LaneView, IsLaneOf, IsAsked, IsSameLane, KeepsQuiet, of}
+use Rattle.fc_lane.specs.Lane.{LaneView, IsLaneOf, IsAsked, IsSameLane, KeepsDisks, KeepsQuiet, of}
 use Rattle.fc_steps.specs.StepsEnd.{StepsEnd, StepsStand, torn_in}
 use Rattle.fc_steps.specs.declared.stop.Stop.{Stop}
 use Rattle.fc_pictures.specs.StepsLaw.{IsLiveAt}
@@ -19,6 +19,7 @@ pub record HasEntered (old : LaneView) (Fits : LaneTold → Type 0) (number acto
   pub asked : IsAsked number actor request entry
   pub same : IsSameLane old new
   pub quiet : KeepsQuiet old new
+  pub disks : KeepsDisks entry.calls entry.torn old.grains new.grains
   pub plan_room : new.plan_room ≡ old.plan_room
   pub changes : new.changes ≡ old.changes
 

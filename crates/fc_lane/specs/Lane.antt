@@ -1,10 +1,11 @@
 -- A lane as contracts see it, and when it stands for what is told.
-use Rattle.std.specs.Prelude.{◌≡◌, ℕ, ◌<◌, ◌≤◌, ◌^◌, List, Contains}
+use Rattle.std.specs.Prelude.{◌≡◌, ℕ, ◌<◌, ◌≤◌, ◌^◌, List, Option, Contains}
 use Rattle.fc_base.specs.declared.decision.LaneEvent.{LaneEvent}
 use Rattle.fc_base.specs.declared.decision.LaneEvent.TheVariants.{Arm}
 use Rattle.fc_base.specs.declared.ids.GrainNo.{GrainNo}
 use Rattle.fc_base.specs.declared.ids.VolId.{VolId}
 use Rattle.fc_base.specs.declared.request.Request.{Request}
+use Rattle.fc_base.specs.declared.request.Torn.{Torn}
 use Rattle.fc_chain.specs.Chains.{Chains}
 use Rattle.fc_chain.specs.Planning.{volume_count}
 use Rattle.fc_diff.specs.State.{ChangesState}
@@ -13,10 +14,12 @@ use Rattle.fc_follow.specs.Alike.{AreAlike}
 use Rattle.fc_follow.specs.Following.{Followed}
 use Rattle.fc_grains.specs.Grains.{GrainsState, stopped}
 use Rattle.fc_grains.specs.Quiet.{IsQuiet}
+use Rattle.fc_grains.specs.Volumes.{ComeNearer}
 use Rattle.fc_pick.specs.Flags.{WorkState}
 use Rattle.fc_apply.specs.Accesses.{AccessState}
 use Rattle.fc_apply.specs.Events.{AreRowsReady}
 use Rattle.fc_apply.specs.Parts.{StandsFor, IsReadyFor}
+use Rattle.fc_steps.specs.Moving.{IsTornBy}
 use Rattle.fc_steps.specs.Standing.{lane_of}
 use Rattle.fc_rules.specs.LaneTold.{LaneOf, LaneTold, nothing_told}
 
@@ -68,6 +71,15 @@ pub record IsSameLane (old new : LaneView) : Type 0 where
   pub grain : new.grains.grain ≡ old.grains.grain
   pub disks : new.grains.disks ≡ old.grains.disks
   pub silent : new.grains.silent ≡ old.grains.silent
+
+-- What an entry does to the disks beside what it tells, by the calls that it made and the grain that it left torn: armed
+-- faults come nearer by these calls alone, and none is armed; a grain is torn by a write that failed alone; the disks that no
+-- volume has stay as they are.
+pub record KeepsDisks (calls : ℕ) (torn : Option Torn) (old new : GrainsState) : Type 0 where
+  pub nearer : ComeNearer calls old.volumes new.volumes
+  pub torn_by_write : IsTornBy torn old new
+  pub pooled : new.pooled ≡ old.pooled
+  pub aside : new.aside ≡ old.aside
 
 -- Where no disk can fail, none does.
 abbrev pub KeepsQuiet : LaneView → LaneView → Type 0

@@ -1,6 +1,8 @@
 //! The events of a command, done to a lane.
 
 ghost use Rattle.std.specs.Prelude.{◌≡◌, [], OnOk, fold};
+ghost use Rattle.fc_apply.specs.Parts.{ArmedBy, IdleAfter};
+ghost use Rattle.fc_grains.specs.Calls.{HasReadied};
 ghost use Rattle.fc_grains.specs.Quiet.{IsQuiet};
 ghost use Rattle.fc_follow.specs.Following.{FitsFollowed, Followed, TriggersFirst, followed_event};
 ghost use Rattle.fc_lane.specs.Applying.{CanApply, HasApplied};
@@ -26,6 +28,7 @@ impl<D: Mdisk> Lane<D> {
         ensures same { IsSameLane self.old self.new }
         ensures quiet { IsQuiet self.old.grains → IsQuiet self.new.grains }
         ensures faults { self.new.grains.faults ≡ self.old.grains.faults }
+        ensures disks { HasReadied self.old.grains self.new.grains.reserved self.new.grains }
         ensures plan_room { self.new.plan_room ≡ self.old.plan_room }
         ensures entry_room { self.new.entry_room ≡ self.old.entry_room }
     {
@@ -51,7 +54,9 @@ impl<D: Mdisk> Lane<D> {
         )
     }
 
-    /// Does what the events say, in order. They fit, and all is ready for them. Takes no memory and calls no disk.
+    /// Does what the events say, in order. They fit, and all is ready for them. Takes no memory and calls no disk. Faults are
+    /// armed as they say, and no others; volumes that come take disks of the pool, and the disks of those that go are put
+    /// aside, cleared.
     pub fn apply(&mut self, events: &LaneEvents)
         requires ready { CanDoEvents self.old events.now }
         requires fit { (f : Followed) × IsFollowing self.old f × FitsFollowed (of self.old) f events.now }
@@ -61,6 +66,8 @@ impl<D: Mdisk> Lane<D> {
         ensures same { IsSameLane self.old self.new }
         ensures made { self.new.grains.reserved ≡ [] }
         ensures quiet { ArmsNone events.now → KeepsQuiet self.old self.new }
+        ensures armed { ArmedBy (of self.old) events.now self.old.grains.volumes self.new.grains.volumes }
+        ensures idle { IdleAfter self.old.grains self.new.grains }
         ensures plan_room { self.new.plan_room ≡ self.old.plan_room }
         ensures entry_room { self.new.entry_room ≡ self.old.entry_room }
     {

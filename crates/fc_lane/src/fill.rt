@@ -2,10 +2,9 @@
 
 ghost use Rattle.std.specs.Prelude.{◌≡◌, ℕ, ◌%◌, IsSome};
 ghost use Rattle.fc_base.specs.declared.request.Request.TheVariants.{Copy, Clean};
-ghost use Rattle.fc_lane.specs.Entering.{HasFilled, IsFill};
-ghost use Rattle.fc_lane.specs.Lane.{IsAsked, IsLaneOf, IsReady, IsSameLane, KeepsQuiet, of};
-ghost use Rattle.fc_rules.specs.LaneRight.{IsRightInLane, record_of};
-ghost use Rattle.fc_rules.specs.LaneTold.{LaneTold, place_of, told_past};
+ghost use Rattle.fc_lane.specs.Entering.{HasEntered, HasFilled, IsFill};
+ghost use Rattle.fc_lane.specs.Lane.{IsLaneOf, IsReady, of};
+ghost use Rattle.fc_rules.specs.LaneTold.{LaneTold, place_of};
 ghost use Rattle.fc_rules.specs.LaneTurn.{cleaned_slot, copied_slot};
 
 use crate::lane::Lane;
@@ -58,13 +57,7 @@ impl<D: Mdisk> Lane<D> {
         requires can { (told : LaneTold) × IsLaneOf self.old told × IsSome (copied_slot told.sheet.slots map.0 (place_of (of self.old) grain.0)) }
         requires of_lane { grain.0 % self.old.lanes ≡ self.old.lane }
         requires ready { IsReady self.old }
-        ensures right { (told : LaneTold) → IsLaneOf self.old told → IsSome (copied_slot told.sheet.slots map.0 (place_of (of self.old) grain.0)) →
-            IsRightInLane (of self.old) told result × IsLaneOf self.new (told_past (of self.old) told (record_of result)) }
-        ensures asked { IsAsked number actor (Copy map grain) result }
-        ensures same { IsSameLane self.old self.new }
-        ensures quiet { KeepsQuiet self.old self.new }
-        ensures plan_room { self.new.plan_room ≡ self.old.plan_room }
-        ensures changes { self.new.changes ≡ self.old.changes }
+        ensures { HasEntered self.old (λ told. IsSome (copied_slot told.sheet.slots map.0 (place_of (of self.old) grain.0))) number actor (Copy map grain) result self.new }
     {
         let Some(slot) = self.body.cascade.slot(map) else {
             unreachable!()
@@ -88,13 +81,7 @@ impl<D: Mdisk> Lane<D> {
         requires can { (told : LaneTold) × IsLaneOf self.old told × IsSome (cleaned_slot told.sheet.slots map.0 (place_of (of self.old) grain.0)) }
         requires of_lane { grain.0 % self.old.lanes ≡ self.old.lane }
         requires ready { IsReady self.old }
-        ensures right { (told : LaneTold) → IsLaneOf self.old told → IsSome (cleaned_slot told.sheet.slots map.0 (place_of (of self.old) grain.0)) →
-            IsRightInLane (of self.old) told result × IsLaneOf self.new (told_past (of self.old) told (record_of result)) }
-        ensures asked { IsAsked number actor (Clean map grain) result }
-        ensures same { IsSameLane self.old self.new }
-        ensures quiet { KeepsQuiet self.old self.new }
-        ensures plan_room { self.new.plan_room ≡ self.old.plan_room }
-        ensures changes { self.new.changes ≡ self.old.changes }
+        ensures { HasEntered self.old (λ told. IsSome (cleaned_slot told.sheet.slots map.0 (place_of (of self.old) grain.0))) number actor (Clean map grain) result self.new }
     {
         let Some(slot) = self.body.cascade.slot(map) else {
             unreachable!()

@@ -7,7 +7,7 @@ ghost use Rattle.fc_base.specs.declared.request.WritePart.{WritePart};
 ghost use Rattle.fc_changed.specs.Row.{after_note, restart_in};
 ghost use Rattle.fc_entry.specs.Picture.{grain_of_block};
 ghost use Rattle.fc_follow.specs.Following.{Followed, followed_entry, rows_entry, torn_notes, write_notes};
-ghost use Rattle.fc_lane.specs.Lane.{IsAsked, IsFollowing, IsReady, IsSameLane, KeepsQuiet, of};
+ghost use Rattle.fc_lane.specs.Lane.{IsAsked, IsFollowing, IsReady, IsSameLane, KeepsDisks, KeepsQuiet, of};
 ghost use Rattle.fc_lane.specs.Turns.{CanPick, clean_of, copy_of};
 ghost use Rattle.fc_rules.specs.LaneFits.{FitsPart};
 ghost use Rattle.fc_rules.specs.LaneRight.{IsRightInLane, done_write};
@@ -82,6 +82,7 @@ impl<D: Mdisk> Lane<D> {
         ensures asked { IsAsked number actor (Read part) result }
         ensures same { IsSameLane self.old self.new }
         ensures quiet { KeepsQuiet self.old self.new }
+        ensures disks { KeepsDisks result.calls result.torn self.old.grains self.new.grains }
         ensures plan_room { self.new.plan_room ≡ self.old.plan_room }
         ensures entry_room { self.new.entry_room ≡ self.old.entry_room }
     {
@@ -102,6 +103,7 @@ impl<D: Mdisk> Lane<D> {
         ensures asked { IsAsked number actor (Write part) result }
         ensures same { IsSameLane self.old self.new }
         ensures quiet { KeepsQuiet self.old self.new }
+        ensures disks { KeepsDisks result.calls result.torn self.old.grains self.new.grains }
         ensures plan_room { self.new.plan_room ≡ self.old.plan_room }
     {
         let entry = self.write_told(alloc, number, actor, part);
@@ -127,6 +129,7 @@ impl<D: Mdisk> Lane<D> {
         ensures asked { IsAsked number actor (Copy map grain) result }
         ensures same { IsSameLane self.old self.new }
         ensures quiet { KeepsQuiet self.old self.new }
+        ensures disks { KeepsDisks result.calls result.torn self.old.grains self.new.grains }
         ensures plan_room { self.new.plan_room ≡ self.old.plan_room }
     {
         let entry = self.copy_told(alloc, number, actor, map, grain);
@@ -152,6 +155,7 @@ impl<D: Mdisk> Lane<D> {
         ensures asked { IsAsked number actor (Clean map grain) result }
         ensures same { IsSameLane self.old self.new }
         ensures quiet { KeepsQuiet self.old self.new }
+        ensures disks { KeepsDisks result.calls result.torn self.old.grains self.new.grains }
         ensures plan_room { self.new.plan_room ≡ self.old.plan_room }
     {
         let entry = self.clean_told(alloc, number, actor, map, grain);
@@ -170,6 +174,7 @@ impl<D: Mdisk> Lane<D> {
         ensures asked { IsAsked number actor (copy_of self.old.lane pick) result }
         ensures same { IsSameLane self.old self.new }
         ensures quiet { KeepsQuiet self.old self.new }
+        ensures disks { KeepsDisks result.calls result.torn self.old.grains self.new.grains }
         ensures plan_room { self.new.plan_room ≡ self.old.plan_room }
     {
         let entry = self.copy_turn_told(alloc, number, actor, pick);
@@ -188,6 +193,7 @@ impl<D: Mdisk> Lane<D> {
         ensures asked { IsAsked number actor (clean_of self.old.lane pick) result }
         ensures same { IsSameLane self.old self.new }
         ensures quiet { KeepsQuiet self.old self.new }
+        ensures disks { KeepsDisks result.calls result.torn self.old.grains self.new.grains }
         ensures plan_room { self.new.plan_room ≡ self.old.plan_room }
     {
         let entry = self.clean_turn_told(alloc, number, actor, pick);

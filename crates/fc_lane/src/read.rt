@@ -4,11 +4,10 @@ ghost use Rattle.std.specs.Prelude.{◌≡◌, ◌<◌, ◌^◌, ◌/◌};
 ghost use Rattle.fc_base.specs.declared.request.Request.TheVariants.{Read};
 ghost use Rattle.fc_base.specs.declared.state.Access.TheVariants.{Online};
 ghost use Rattle.fc_entry.specs.Picture.{grain_of_block};
-ghost use Rattle.fc_lane.specs.Lane.{IsAsked, IsLaneOf, IsSameLane, KeepsQuiet, of};
+ghost use Rattle.fc_lane.specs.Lane.{IsLaneOf, of};
 ghost use Rattle.fc_lane.specs.Entering.{HasEntered};
 ghost use Rattle.fc_rules.specs.LaneFits.{FitsPart};
-ghost use Rattle.fc_rules.specs.LaneRight.{IsRightInLane, record_of};
-ghost use Rattle.fc_rules.specs.LaneTold.{LaneTold, access_in, told_past};
+ghost use Rattle.fc_rules.specs.LaneTold.{LaneTold, access_in};
 
 use crate::lane::Lane;
 use fc_base::outcome::NoMemory;
@@ -62,13 +61,7 @@ impl<D: Mdisk> Lane<D> {
     ) -> Entry
         requires can { (told : LaneTold) × IsLaneOf self.old told × FitsPart (of self.old) told part.volume part.block part.count }
         requires number { grain_of_block self.old.grains.grain part.block < 2 ^ 32 }
-        ensures right { (told : LaneTold) → IsLaneOf self.old told → FitsPart (of self.old) told part.volume part.block part.count →
-            IsRightInLane (of self.old) told result × IsLaneOf self.new (told_past (of self.old) told (record_of result)) }
-        ensures asked { IsAsked number actor (Read part) result }
-        ensures same { IsSameLane self.old self.new }
-        ensures quiet { KeepsQuiet self.old self.new }
-        ensures plan_room { self.new.plan_room ≡ self.old.plan_room }
-        ensures changes { self.new.changes ≡ self.old.changes }
+        ensures entered { HasEntered self.old (λ told. FitsPart (of self.old) told part.volume part.block part.count) number actor (Read part) result self.new }
         ensures entry_room { self.new.entry_room ≡ self.old.entry_room }
     {
         match self.accesses.access(part.volume) {

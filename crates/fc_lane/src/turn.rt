@@ -2,7 +2,7 @@
 
 ghost use Rattle.std.specs.Prelude.{◌≡◌};
 ghost use Rattle.fc_base.specs.declared.request.Request.TheVariants.{CleanTurn, CopyTurn};
-ghost use Rattle.fc_lane.specs.Lane.{IsAsked, IsLaneOf, IsReady, IsSameLane, KeepsQuiet, of};
+ghost use Rattle.fc_lane.specs.Lane.{IsAsked, IsLaneOf, IsReady, IsSameLane, KeepsDisks, KeepsQuiet, of};
 ghost use Rattle.fc_lane.specs.Turns.{CanPick, clean_of, copy_of};
 ghost use Rattle.fc_rules.specs.LaneRight.{IsRightInLane, record_of};
 ghost use Rattle.fc_rules.specs.LaneTold.{LaneTold, told_past};
@@ -65,6 +65,7 @@ impl<D: Mdisk> Lane<D> {
         ensures asked { IsAsked number actor (CopyTurn self.old.lane) result }
         ensures same { IsSameLane self.old self.new }
         ensures quiet { KeepsQuiet self.old self.new }
+        ensures disks { KeepsDisks result.calls result.torn self.old.grains self.new.grains }
         ensures plan_room { self.new.plan_room ≡ self.old.plan_room }
         ensures changes { self.new.changes ≡ self.old.changes }
     {
@@ -84,6 +85,7 @@ impl<D: Mdisk> Lane<D> {
         ensures asked { IsAsked number actor (CleanTurn self.old.lane) result }
         ensures same { IsSameLane self.old self.new }
         ensures quiet { KeepsQuiet self.old self.new }
+        ensures disks { KeepsDisks result.calls result.torn self.old.grains self.new.grains }
         ensures plan_room { self.new.plan_room ≡ self.old.plan_room }
         ensures changes { self.new.changes ≡ self.old.changes }
     {
@@ -114,6 +116,7 @@ impl<D: Mdisk> Lane<D> {
         ensures asked { IsAsked number actor (copy_of self.old.lane pick) result }
         ensures same { IsSameLane self.old self.new }
         ensures quiet { KeepsQuiet self.old self.new }
+        ensures disks { KeepsDisks result.calls result.torn self.old.grains self.new.grains }
         ensures plan_room { self.new.plan_room ≡ self.old.plan_room }
         ensures changes { self.new.changes ≡ self.old.changes }
     {
@@ -140,6 +143,7 @@ impl<D: Mdisk> Lane<D> {
         ensures asked { IsAsked number actor (clean_of self.old.lane pick) result }
         ensures same { IsSameLane self.old self.new }
         ensures quiet { KeepsQuiet self.old self.new }
+        ensures disks { KeepsDisks result.calls result.torn self.old.grains self.new.grains }
         ensures plan_room { self.new.plan_room ≡ self.old.plan_room }
         ensures changes { self.new.changes ≡ self.old.changes }
     {

@@ -5,12 +5,11 @@ ghost use Rattle.fc_base.specs.declared.request.Request.TheVariants.{Write};
 ghost use Rattle.fc_base.specs.declared.state.Access.TheVariants.{Online};
 ghost use Rattle.fc_entry.specs.Picture.{grain_of_block};
 ghost use Rattle.fc_lane.specs.Entering.{HasEntered};
-ghost use Rattle.fc_lane.specs.Lane.{IsAsked, IsLaneOf, IsReady, IsSameLane, KeepsQuiet, of};
+ghost use Rattle.fc_lane.specs.Lane.{IsLaneOf, IsReady, of};
 ghost use Rattle.fc_steps.specs.WriteStep.{spot_of};
 ghost use Rattle.fc_rules.specs.GrainAnswers.{cannot_write};
 ghost use Rattle.fc_rules.specs.LaneFits.{FitsPart};
-ghost use Rattle.fc_rules.specs.LaneRight.{IsRightInLane, record_of};
-ghost use Rattle.fc_rules.specs.LaneTold.{LaneTold, access_in, told_past};
+ghost use Rattle.fc_rules.specs.LaneTold.{LaneTold, access_in};
 
 use crate::lane::Lane;
 use fc_base::ids::GrainNo;
@@ -97,13 +96,7 @@ impl<D: Mdisk> Lane<D> {
         requires can { (told : LaneTold) × IsLaneOf self.old told × FitsPart (of self.old) told part.volume part.block part.count }
         requires number { grain_of_block self.old.grains.grain part.block < 2 ^ 32 }
         requires ready { IsReady self.old }
-        ensures right { (told : LaneTold) → IsLaneOf self.old told → FitsPart (of self.old) told part.volume part.block part.count →
-            IsRightInLane (of self.old) told result × IsLaneOf self.new (told_past (of self.old) told (record_of result)) }
-        ensures asked { IsAsked number actor (Write part) result }
-        ensures same { IsSameLane self.old self.new }
-        ensures quiet { KeepsQuiet self.old self.new }
-        ensures plan_room { self.new.plan_room ≡ self.old.plan_room }
-        ensures changes { self.new.changes ≡ self.old.changes }
+        ensures { HasEntered self.old (λ told. FitsPart (of self.old) told part.volume part.block part.count) number actor (Write part) result self.new }
     {
         match self.accesses.access(part.volume) {
             Access::Online => self.write_online(alloc, number, actor, part),

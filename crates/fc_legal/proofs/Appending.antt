@@ -11,7 +11,7 @@ use Rattle.fc_entry.specs.declared.entry.Entry.{Entry}
 use Rattle.fc_legal.proofs.Naming.{IsLegal-named, IsNamed-none, IsNext-step, begins_named}
 use Rattle.fc_legal.specs.Agenda.{Agenda, Reading, Asks, Begins, Session, Own, Seconds, Faults, Actors, behind_entry, behind_own, is_done, segment_read, next_of_second, session_rules, without_entry, without_fill}
 use Rattle.fc_legal.specs.Legal.{IsLegal}
-use Rattle.fc_legal.specs.Run.{IsRun, IsPartialRun, WantsMore, lines_alone}
+use Rattle.fc_legal.specs.Run.{IsRun, IsPartialRun, WantsMore}
 use Rattle.fc_legal.specs.Scripts.{Script, are_done}
 use Rattle.fc_legal.specs.Seconds.{Passing, Work, next_fill, goes_on}
 use Rattle.fc_legal.specs.Whole.{Whole}
@@ -219,11 +219,6 @@ WantsMore-more grain read w last segs more xs full =
       wanted = full.wanted;
       asks = asks_alike grain more full.end last full.wanted full.asks;
     }
-
--- Lines behind lines.
-pub alone_append : (lines more : List (List ℕ)) → lines_alone (lines ++ more) ≡ lines_alone lines ++ lines_alone more
-alone_append [] more = refl
-alone_append (line ∷ lines) more = ap (λ segs. single line ∷ segs) (alone_append lines more)
 
 -- ---- they are legal
 

@@ -1,4 +1,5 @@
 -- Lemmas, one subject a file; and the definitions on closed examples.
+pub mod Alone
 pub mod Appending
 pub mod Events
 pub mod Naming

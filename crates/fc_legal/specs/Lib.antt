@@ -9,4 +9,5 @@ pub mod Scripts
 pub mod Seconds
 pub mod Agenda
 pub mod Run
+pub mod WithoutBlocks
 pub mod Added

@@ -1,6 +1,6 @@
 -- Blocks, whole, on closed examples: two hosts in either order, an order that isn't theirs, and an actor of each role.
-use Rattle.std.proofs.Common.{◌≡◌, ℕ, ◌+◌, ◌<◌, Ok, None, Some, List, [], ◌∷◌, codes, refl, arith}
-use Rattle.fc_agenda.specs.Goes.{Goes, GoesToEnd, stays, passes, begins, answers}
+use Rattle.std.proofs.Common.{ℕ, ◌+◌, Ok, None, List, [], ◌∷◌, codes, refl, arith}
+use Rattle.fc_agenda.specs.Goes.{Goes, stays, passes, begins, answers}
 use Rattle.fc_base.specs.Sheet.{mapping_place}
 use Rattle.fc_base.specs.declared.command.Command.{Command}
 use Rattle.fc_base.specs.declared.command.Command.TheVariants.{Read as ReadLine, Lsvdisk}
@@ -8,12 +8,11 @@ use Rattle.fc_base.specs.declared.command.Line.TheVariants.{Blank, Command as Co
 use Rattle.fc_base.specs.declared.command.Role.TheVariants.{Host, Admin, Copier, Cleaner}
 use Rattle.fc_base.specs.declared.command.ScriptLine.TheVariants.{Read as ReadAs, Unread as Faulty}
 use Rattle.fc_base.specs.declared.fault.Kind.TheVariants.{Vdisk}
-use Rattle.fc_base.specs.declared.fault.Refusal.{Refusal}
 use Rattle.fc_base.specs.declared.fault.Refusal.TheVariants.{NoSuch, Words}
 use Rattle.fc_base.specs.declared.fault.WordFault.{WordFault}
 use Rattle.fc_base.specs.declared.fault.WordFault.TheVariants.{MissingWord, NotInBlock, NoActor}
 use Rattle.fc_base.specs.declared.name.Ref.TheVariants.{Name}
-use Rattle.fc_base.specs.declared.request.Place.TheVariants.{Control, Every, Lane}
+use Rattle.fc_base.specs.declared.request.Place.TheVariants.{Every, Lane}
 use Rattle.fc_base.specs.declared.request.Reply.TheVariants.{Idle, NoMemory, Refused}
 use Rattle.fc_base.specs.declared.request.Request.{Request}
 use Rattle.fc_base.specs.declared.request.Request.TheVariants.{Command as Asked, Unread, CopyTurn, CleanTurn}

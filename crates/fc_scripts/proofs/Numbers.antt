@@ -1,9 +1,9 @@
 -- The scripts of a block are of different actors: each has the number of its name, and their names differ.
-use Rattle.std.proofs.Common.{◌≡◌, ◌≢◌, ℕ, zero, suc, ◌+◌, ◌<◌, ◌≤◌, ◌||◌, Bool, true, false, cond, not, is_some, unwrap_or, position, Option, Some, None, List, [], ◌∷◌, ◌++◌, length, map, get_or, All, AllPairs, Contains, bytes_eq, codes, refl, sym, ◌∙◌, ap, subst, arith}
+use Rattle.std.proofs.Common.{◌≡◌, ◌≢◌, ℕ, suc, ◌+◌, ◌<◌, ◌||◌, Bool, true, false, cond, not, is_some, unwrap_or, Option, Some, None, List, [], ◌∷◌, ◌++◌, length, map, get_or, All, AllPairs, Contains, bytes_eq, codes, refl, sym, ◌∙◌, ap, subst, arith}
 use Rattle.std.specs.List.{list_any, position_or_len}
 use Rattle.std.proofs.lemmas.Bool.{cond_below}
 use Rattle.std.proofs.lemmas.List.{get_or-map, length-map}
-use Rattle.std.proofs.lemmas.List.Elements.{All-cons, All-head, All-nil, All-tail, All-map}
+use Rattle.std.proofs.lemmas.List.Elements.{All-cons, All-nil, All-map}
 use Rattle.std.proofs.lemmas.List.Folds.{list_any-append, list_any_at}
 use Rattle.std.proofs.lemmas.List.Quantifiers.{position-Some}
 use Rattle.std.proofs.lemmas.Slice.Eq.{bytes_eq-Decides}
@@ -14,10 +14,10 @@ use Rattle.fc_blocks.specs.declared.block.BlockRead.{BlockRead}
 use Rattle.fc_books.specs.Books.{Books}
 use Rattle.fc_entry.specs.HistoryState.{number_of_actor, place_of_name, with_actor}
 use Rattle.fc_legal.proofs.Naming.{HasMore, names_more}
-use Rattle.fc_legal.specs.Scripts.{Script, names_with, script_of, scripts_of}
+use Rattle.fc_legal.specs.Scripts.{names_with, scripts_of}
 use Rattle.fc_scripts.specs.Ways.{AreOfDifferent, numbers_of}
 use Rattle.law_blocks.proofs.Actors.{blocks_law_holds}
-use Rattle.law_blocks.specs.Law.{AreActors, names_of}
+use Rattle.law_blocks.specs.Law.{names_of}
 
 -- ---- a name that is known
 

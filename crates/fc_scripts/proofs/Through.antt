@@ -1,5 +1,5 @@
 -- A way through a block takes the next requests of its scripts, one by one; and what takes them is such a way.
-use Rattle.std.proofs.Common.{◌≡◌, ℕ, zero, suc, ◌+◌, ◌*◌, ◌<◌, ◌≤◌, Bool, true, false, cond, Option, Some, None, List, [], ◌∷◌, ◌++◌, length, refl, sym, ◌∙◌, ap, subst, arith}
+use Rattle.std.proofs.Common.{◌≡◌, ℕ, ◌+◌, ◌*◌, ◌≤◌, Bool, true, false, cond, Option, Some, None, List, [], ◌∷◌, length, refl, sym, ap, subst, arith}
 use Rattle.fc_agenda.proofs.Going.{Goes-pass}
 use Rattle.fc_agenda.specs.Goes.{Goes, stays, passes, begins, answers}
 use Rattle.fc_base.specs.declared.ids.GrainNo.{GrainNo}
@@ -14,8 +14,8 @@ use Rattle.fc_legal.specs.Seconds.{Passing, Work, goes_on, next_fill}
 use Rattle.fc_legal.specs.Whole.{Whole}
 use Rattle.fc_scripts.proofs.Sorted.{AreNext, TakeNext, all_take, are_all, are_first, first_take, taken_done, want_more, wanted_next}
 use Rattle.fc_scripts.specs.Actors.{AreAll, AreFirst, WantMore}
-use Rattle.fc_scripts.specs.Law.{HowFar, OfWays}
-use Rattle.fc_scripts.specs.Ways.{AreOfDifferent, IsAsking, IsInto, IsThrough}
+use Rattle.fc_scripts.specs.Law.{OfWays}
+use Rattle.fc_scripts.specs.Ways.{IsAsking, IsInto, IsThrough}
 
 -- ---- an agenda never grows: two for each segment that it has still to begin, and one for what it has begun
 

@@ -5,7 +5,7 @@ use Rattle.fc_base.specs.declared.request.Reply.{Reply}
 use Rattle.fc_base.specs.declared.request.Request.{Request}
 use Rattle.fc_base.specs.declared.request.Torn.{Torn}
 use Rattle.fc_entry.specs.declared.entry.Entry.{Entry}
-use Rattle.fc_grains.specs.Grains.{GrainsState, stopped}
+use Rattle.fc_grains.specs.Grains.{GrainsState}
 use Rattle.fc_steps.specs.Asking.{steps_entry}
 use Rattle.fc_steps.specs.StepsEnd.{StepsEnd, StoppedIn}
 use Rattle.fc_steps.specs.declared.stop.Stop.{Stop}

@@ -1,5 +1,6 @@
 -- Lemmas of the steps of an entry.
 pub mod Stored
+pub mod Nearer
 pub mod Naming
 pub mod Moving
 pub mod MoveEnds

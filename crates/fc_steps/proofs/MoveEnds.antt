@@ -1,6 +1,7 @@
 -- How a move ends, by what the chains and the grains did.
 use Rattle.std.proofs.Common.{◌≡◌, ℕ, ◌<◌, ◌/◌, Bool, true, false, cond, Option, Some, None, Ok, Err, List, length, refl, sym, ap, subst, ◌∙◌, arith}
 use Rattle.fc_base.specs.Column.{holder}
+use Rattle.fc_base.specs.Count.{HasRisen}
 use Rattle.fc_base.specs.Sheet.{Sheet, slot_at, column, birth_place}
 use Rattle.fc_base.specs.SheetFacts.{IsSound}
 use Rattle.fc_base.specs.SheetStep.{sheet_moved, sheet_torn}
@@ -20,8 +21,9 @@ use Rattle.fc_steps.specs.Moving.{CanMove, Counted, MoveEnds, SameLane}
 use Rattle.fc_steps.specs.declared.body.StepEnd.{StepEnd}
 use Rattle.fc_steps.specs.declared.stop.Stop.{Stop}
 use Rattle.fc_steps.specs.declared.stop.Stop.TheVariants.{Failed, NoMemory}
-use Rattle.fc_steps.proofs.Moving.{not_counted, one_holder, lost_is, source_at, changed_same, Source, ReadDone, read_done, wrote_done, wrote_stored, failed_done, failed_stored, refused_done, refused_stored, stored_after, counted_then, same_then}
+use Rattle.fc_steps.proofs.Moving.{not_counted, one_holder, lost_is, source_at, changed_same, Source, ReadDone, read_done, wrote_done, wrote_stored, failed_done, failed_stored, refused_done, refused_stored, stored_after, counted_then, risen_then, same_then}
 use Rattle.fc_steps.specs.Standing.{AllSized}
+use Rattle.fc_steps.proofs.Nearer.{come_changed, come_still, nearer_still}
 use Rattle.fc_steps.proofs.Stored.{stored_at, holds_size}
 
 -- the slot of a move has one place
@@ -43,7 +45,7 @@ in_place_ends chains after old g k m can t e =
         stored_is = subst (λ (b : Bool). StoredMoved chains.sheet.slots (stored old.volumes) k g b (stored old.volumes)) (sym t) (λ w y. refl);
         calls_are = λ h q. rw t refl;
       },
-      not_counted old old refl refl,
+      not_counted old old refl refl refl (come_still old.volumes),
     )
 
 pub out_ends : (chains after : Chains) (old new : GrainsState) (g k h calls : ℕ) (m : Move) → CanMove chains g m k → m.in_place ≡ false → holder (column chains.sheet.slots g) k ≡ Some h →
@@ -70,11 +72,11 @@ read_fails chains old new g k h m f q lost same counted = (record { out = f; hol
 pub write_fails : (chains after : Chains) (old new : GrainsState) (g k h : ℕ) (m : Move) (torn : Torn) → CanMove chains g m k → m.in_place ≡ false → holder (column chains.sheet.slots g) k ≡ Some h →
     is_lost (stored old.volumes (slot_at chains.sheet.slots h).volume g) ≡ false → torn ≡ record { volume = m.volume; grain = m.grain; side = Under } →
     after ≡ record chains { sheet = sheet_torn m.volume.0 (m.grain.0 / chains.lanes) Under chains.sheet } →
-    StoredAt (stored old.volumes) (slot_at chains.sheet.slots k).volume g Lost (stored new.volumes) → Counted old 2 true new →
+    StoredAt (stored old.volumes) (slot_at chains.sheet.slots k).volume g Lost (stored new.volumes) → HasRisen old.write_faults new.write_faults → Counted old 2 true new →
     MoveEnds chains old g k m 2 (Some (Failed (Some torn))) after new
-write_fails chains after old new g k h m torn can f q lost is e st counted = (
+write_fails chains after old new g k h m torn can f q lost is e st by_write counted = (
   record { out = f; holder_is = h; holds = q; readable = lost },
-  (refl, is, e ∙ (ap (λ (z : ℕ). torn_to chains m.volume.0 z) can.place ∙ ap (λ (z : ℕ). torn_to chains z g) can.volume), st),
+  (refl, is, e ∙ (ap (λ (z : ℕ). torn_to chains m.volume.0 z) can.place ∙ ap (λ (z : ℕ). torn_to chains z g) can.volume), st, by_write),
   counted,
 )
 
@@ -150,7 +152,7 @@ write_failed_ends {A} chains after old mid new g k h from to m torn can f src ef
     let st = stored_after old.volumes mid.volumes new.volumes to g Lost r.stored_same (failed_stored {A = A} mid new to g t.there t.inside y) in
     let st_k : StoredAt (stored old.volumes) (slot_at chains.sheet.slots k).volume g Lost (stored new.volumes) = subst (λ (z : ℕ). StoredAt (stored old.volumes) z g Lost (stored new.volumes)) et st in
     let lost_h : is_lost (stored old.volumes (slot_at chains.sheet.slots h).volume g) ≡ false = ap (λ z. is_lost (stored old.volumes z g)) (sym ef) ∙ lost in
-    (write_fails chains after old new g k h m torn can f src.holds lost_h is e st_k (counted_then old mid new 1 1 true r.counted w.counted refl), same_then old mid new r.same w.same)
+    (write_fails chains after old new g k h m torn can f src.holds lost_h is e st_k (risen_then old.write_faults mid.write_faults new.write_faults r.counted.writes_kept (w.torn_by_write refl)) (counted_then old mid new 1 1 true r.counted w.counted refl), same_then old mid new r.same w.same)
 
 -- the write wanted memory
 pub refused_ends : {A : Type 0} (chains : Chains) (old mid new : GrainsState) (g k h from to : ℕ) (m : Move) → m.in_place ≡ false → Source chains.sheet old.volumes g k h →
@@ -185,7 +187,8 @@ empty_ends chains after old new g k h from m can f src ef lost n e =
     subst (λ (z : List VolumeGrains). StoredAt (stored old.volumes) v g (stored old.volumes (slot_at chains.sheet.slots h).volume g) (stored z)) (sym (ap (λ (s : GrainsState). s.volumes) n))
     (subst (λ (z : Content). StoredAt (stored old.volumes) v g z (stored (changed m.volume.0 (holding g Lost) old.volumes))) content
     (subst (λ (z : ℕ). StoredAt (stored old.volumes) z g Lost (stored (changed m.volume.0 (holding g Lost) old.volumes))) can.volume at_m)) in (
-      out_ends chains after old new g k h 0 m can f src.holds e st (ap (λ (b : Bool). cond b 0 2) (sym lost_h)) (not_counted old new (ap (λ (s : GrainsState). s.calls) n) (ap (λ (s : GrainsState). s.faults) n)),
+      out_ends chains after old new g k h 0 m can f src.holds e st (ap (λ (b : Bool). cond b 0 2) (sym lost_h)) (not_counted old new (ap (λ (s : GrainsState). s.calls) n) (ap (λ (s : GrainsState). s.faults) n) (ap (λ (s : GrainsState). s.write_faults) n)
+          (come_changed 0 (holding g Lost) (λ x. refl) (λ x. nearer_still 0 x.due) m.volume.0 old.volumes new.volumes there (ap (λ (s : GrainsState). s.volumes) n))),
       changed_same old new (holding g Lost) m.volume.0 (λ x. refl) (λ x. refl) (holds_size (holding g Lost) g Lost (λ x. refl)) (λ x. refl) there
           (n ∙ ap (λ (b : List ℕ). record old { volumes = changed m.volume.0 (holding g Lost) old.volumes; buffer = b }) (sym (ap (λ (s : GrainsState). s.buffer) n))),
     )

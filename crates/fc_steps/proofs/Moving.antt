@@ -14,11 +14,12 @@ use Rattle.fc_grains.specs.Grains.{GrainsState}
 use Rattle.fc_grains.proofs.Quiet.{quiet_read, quiet_written}
 use Rattle.fc_steps.specs.Standing.{kind_of_grains, HasGrains, AllSized}
 use Rattle.std.proofs.lemmas.List.Elements.{All-cons}
-use Rattle.fc_grains.specs.Volumes.{VolumeGrains, is_there, volume_of, stored, changed, called, after_write}
+use Rattle.fc_grains.specs.Volumes.{VolumeGrains, ComeNearer, ComesNearer, is_there, volume_of, stored, changed, called, after_write}
 use Rattle.fc_mdisk.specs.Disk.{write_failed}
 use Rattle.fc_moves.proofs.Readers.{IsHolder, holder_is}
 use Rattle.fc_pictures.specs.Law.{StoredAt}
 use Rattle.fc_steps.specs.Moving.{Counted, SameLane, SameKinds, more}
+use Rattle.fc_steps.proofs.Nearer.{come_changed, come_then, nearer_called}
 use Rattle.fc_steps.proofs.Stored.{KeepsId, KeepsContents, KeepsSize, changed_here, changed_other, stored_stays, stored_at, holds_size, contents_size, there_stays, size_stays}
 
 -- ---- changes of volumes
@@ -78,6 +79,8 @@ same_lane old = record {
   grain = refl;
   pool = refl;
   reserved = refl;
+  pooled = refl;
+  aside = refl;
   disks = refl;
   silent = refl;
   ids = refl;
@@ -94,6 +97,8 @@ same_then old mid new a b =
       grain = b.grain ∙ a.grain;
       pool = b.pool ∙ a.pool;
       reserved = b.reserved ∙ a.reserved;
+      pooled = b.pooled ∙ a.pooled;
+      aside = b.aside ∙ a.aside;
       disks = b.disks ∙ a.disks;
       silent = b.silent ∙ a.silent;
       ids = b.ids ∙ a.ids;
@@ -113,6 +118,8 @@ changed_same old new f id keeps kind size due t e =
       grain = ap (λ (s : GrainsState). s.grain) e;
       pool = ap (λ (s : GrainsState). s.pool) e;
       reserved = ap (λ (s : GrainsState). s.reserved) e;
+      pooled = ap (λ (s : GrainsState). s.pooled) e;
+      aside = ap (λ (s : GrainsState). s.aside) e;
       disks = ap (λ (s : GrainsState). s.disks) e;
       silent = ap (λ (s : GrainsState). s.silent) e;
       ids = ap (λ (z : List VolumeGrains). map (λ (v : VolumeGrains). v.volume) z) vs ∙ ids_stay f keeps id old.volumes;
@@ -146,10 +153,13 @@ counted_then old mid new n m failed a b e =
       calls_are = b.calls_are ∙ (ap (λ z. more m z) a.calls_are ∙ e);
       kept = omega arith;
       risen = λ t. risen_then old.faults mid.faults new.faults ka (b.risen t);
+      writes_kept = omega (arith, a.writes_kept, b.writes_kept);
+      nearer = come_then n m old.volumes mid.volumes new.volumes a.nearer b.nearer;
     }
 
-pub not_counted : (old new : GrainsState) → new.calls ≡ old.calls → new.faults ≡ old.faults → Counted old 0 false new
-not_counted old new c f = record { calls_are = c; kept = omega (arith, f); risen = λ t. absurd cc }
+pub not_counted : (old new : GrainsState) → new.calls ≡ old.calls → new.faults ≡ old.faults → new.write_faults ≡ old.write_faults → ComeNearer 0 old.volumes new.volumes → Counted old 0 false new
+not_counted old new c f w nearer =
+    record { calls_are = c; kept = omega (arith, f); risen = λ t. absurd cc; writes_kept = omega (arith, w); nearer = nearer }
 
 -- a read
 called_id : KeepsId called
@@ -177,6 +187,8 @@ read_done old mid v g failed t h =
         grain = ap (λ (s : GrainsState). s.grain) h.rest;
         pool = ap (λ (s : GrainsState). s.pool) h.rest;
         reserved = ap (λ (s : GrainsState). s.reserved) h.rest;
+        pooled = ap (λ (s : GrainsState). s.pooled) h.rest;
+        aside = ap (λ (s : GrainsState). s.aside) h.rest;
         disks = ap (λ (s : GrainsState). s.disks) h.rest;
         silent = ap (λ (s : GrainsState). s.silent) h.rest;
         ids = ap (λ (z : List VolumeGrains). map (λ (x : VolumeGrains). x.volume) z) vs ∙ ids_stay called called_id v old.volumes;
@@ -189,7 +201,13 @@ read_done old mid v g failed t h =
       stored_same = λ w y. ap (λ (z : List VolumeGrains). stored z w y) vs ∙ stored_stays called called_id called_contents old.volumes v t w y;
       there = λ x. ap (λ (z : List VolumeGrains). is_there z x) vs ∙ there_stays called called_id old.volumes v x;
       size = λ x. ap (λ (z : List VolumeGrains). length (volume_of z x).contents) vs ∙ size_stays called called_id (contents_size called called_contents) old.volumes v x t;
-      counted = record { calls_are = h.call.calls; kept = h.call.faults.kept; risen = cause_of failed old.faults mid.faults h.call.faults.cause };
+      counted = record {
+        calls_are = h.call.calls;
+        kept = h.call.faults.kept;
+        risen = cause_of failed old.faults mid.faults h.call.faults.cause;
+        writes_kept = omega (arith, writes);
+        nearer = come_changed 1 called called_id (λ x. nearer_called x.due) v old.volumes mid.volumes t vs;
+      };
     }
   where
     cause_of : (failed : Bool) (a b : ℕ) → OnTrue failed (HasRisen a b) → failed ≡ true → HasRisen a b
@@ -202,10 +220,11 @@ pub record WriteDone (old : GrainsState) (new : GrainsState) (v g : ℕ) (failed
   pub there : (x : ℕ) → is_there new.volumes x ≡ is_there old.volumes x
   pub size : (x : ℕ) → length (volume_of new.volumes x).contents ≡ length (volume_of old.volumes x).contents
   pub counted : Counted old 1 failed new
+  pub torn_by_write : failed ≡ true → HasRisen old.write_faults new.write_faults
 
 write_done : {A : Type 0} (old new : GrainsState) (v g : ℕ) (answer : Result A DiskError) → KeepsId (after_write answer g old.buffer) → KeepsKind (after_write answer g old.buffer) →
-    KeepsSize (after_write answer g old.buffer) → is_there old.volumes v ≡ true → HasWritten old v g answer new → WriteDone old new v g (write_failed answer)
-write_done {A} old new v g answer keeps kind size t h =
+    KeepsSize (after_write answer g old.buffer) → ((x : VolumeGrains) → ComesNearer 1 x.due (after_write answer g old.buffer x).due) → is_there old.volumes v ≡ true → HasWritten old v g answer new → WriteDone old new v g (write_failed answer)
+write_done {A} old new v g answer keeps kind size near t h =
     let f : VolumeGrains → VolumeGrains = after_write answer g old.buffer in
     let vs : new.volumes ≡ changed v f old.volumes = ap (λ (s : GrainsState). s.volumes) h.rest in
     record {
@@ -213,6 +232,8 @@ write_done {A} old new v g answer keeps kind size t h =
         grain = ap (λ (s : GrainsState). s.grain) h.rest;
         pool = ap (λ (s : GrainsState). s.pool) h.rest;
         reserved = ap (λ (s : GrainsState). s.reserved) h.rest;
+        pooled = ap (λ (s : GrainsState). s.pooled) h.rest;
+        aside = ap (λ (s : GrainsState). s.aside) h.rest;
         disks = ap (λ (s : GrainsState). s.disks) h.rest;
         silent = ap (λ (s : GrainsState). s.silent) h.rest;
         ids = ap (λ (z : List VolumeGrains). map (λ (x : VolumeGrains). x.volume) z) vs ∙ ids_stay f keeps v old.volumes;
@@ -224,7 +245,14 @@ write_done {A} old new v g answer keeps kind size t h =
       };
       there = λ x. ap (λ (z : List VolumeGrains). is_there z x) vs ∙ there_stays f keeps old.volumes v x;
       size = λ x. ap (λ (z : List VolumeGrains). length (volume_of z x).contents) vs ∙ size_stays f keeps size old.volumes v x t;
-      counted = record { calls_are = h.call.calls; kept = h.call.faults.kept; risen = cause_of (write_failed answer) old.faults new.faults h.call.faults.cause };
+      counted = record {
+        calls_are = h.call.calls;
+        kept = h.call.faults.kept;
+        risen = cause_of (write_failed answer) old.faults new.faults h.call.faults.cause;
+        writes_kept = h.write_faults.kept;
+        nearer = come_changed 1 f keeps near v old.volumes new.volumes t vs;
+      };
+      torn_by_write = cause_of (write_failed answer) old.write_faults new.write_faults h.write_faults.cause;
     }
   where
     cause_of : (failed : Bool) (a b : ℕ) → OnTrue failed (HasRisen a b) → failed ≡ true → HasRisen a b
@@ -232,13 +260,13 @@ write_done {A} old new v g answer keeps kind size t h =
     cause_of false a b c e = absurd cc
 
 pub wrote_done : {A : Type 0} (old new : GrainsState) (v g : ℕ) (a : A) → is_there old.volumes v ≡ true → HasWritten {A = A} old v g (Ok a) new → WriteDone old new v g false
-wrote_done {A} old new v g a t h = write_done {A = A} old new v g (Ok a) (λ x. refl) (λ x. refl) (holds_size (after_write {A = A} (Ok a) g old.buffer) g (Bytes old.buffer) (λ x. refl)) t h
+wrote_done {A} old new v g a t h = write_done {A = A} old new v g (Ok a) (λ x. refl) (λ x. refl) (holds_size (after_write {A = A} (Ok a) g old.buffer) g (Bytes old.buffer) (λ x. refl)) (λ x. nearer_called x.due) t h
 
 pub failed_done : {A : Type 0} (old new : GrainsState) (v g : ℕ) → is_there old.volumes v ≡ true → HasWritten {A = A} old v g (Err Failed) new → WriteDone old new v g true
-failed_done {A} old new v g t h = write_done {A = A} old new v g (Err Failed) (λ x. refl) (λ x. refl) (holds_size (after_write {A = A} (Err Failed) g old.buffer) g Lost (λ x. refl)) t h
+failed_done {A} old new v g t h = write_done {A = A} old new v g (Err Failed) (λ x. refl) (λ x. refl) (holds_size (after_write {A = A} (Err Failed) g old.buffer) g Lost (λ x. refl)) (λ x. nearer_called x.due) t h
 
 pub refused_done : {A : Type 0} (old new : GrainsState) (v g : ℕ) → is_there old.volumes v ≡ true → HasWritten {A = A} old v g (Err NoMemory) new → WriteDone old new v g false
-refused_done {A} old new v g t h = write_done {A = A} old new v g (Err NoMemory) (λ x. refl) (λ x. refl) (contents_size (after_write {A = A} (Err NoMemory) g old.buffer) (λ x. refl)) t h
+refused_done {A} old new v g t h = write_done {A = A} old new v g (Err NoMemory) (λ x. refl) (λ x. refl) (contents_size (after_write {A = A} (Err NoMemory) g old.buffer) (λ x. refl)) (λ x. nearer_called x.due) t h
 
 pub wrote_stored : {A : Type 0} (old new : GrainsState) (v g : ℕ) (a : A) → is_there old.volumes v ≡ true → g < length (volume_of old.volumes v).contents → HasWritten {A = A} old v g (Ok a) new →
     StoredAt (stored old.volumes) v g (Bytes old.buffer) (stored new.volumes)

@@ -19,7 +19,8 @@ use Rattle.fc_steps.specs.Standing.{VolumeKind, SameVolumes, kind_of_grains, kin
 use Rattle.fc_steps.specs.StepsEnd.{CanMakeMoves, FailedIn, RefusedIn, StepsEnd, StepsStand, StoppedIn, torn_in}
 use Rattle.fc_steps.specs.declared.stop.Stop.{Stop}
 use Rattle.fc_steps.specs.declared.stop.Stop.TheVariants.{Failed, NoMemory}
-use Rattle.fc_steps.proofs.Moving.{counted_then, same_lane, same_then, one_holder}
+use Rattle.fc_steps.proofs.Moving.{counted_then, risen_then, same_lane, same_then, one_holder}
+use Rattle.fc_steps.proofs.Nearer.{come_still}
 use Rattle.fc_steps.proofs.Naming.{birth_place_is}
 use Rattle.fc_pictures.specs.Law.{StoredAt, now_of}
 use Rattle.fc_pictures.specs.LaneLaw.{torn_of}
@@ -53,10 +54,10 @@ both_counted old mid new n m failed a b =
 
 -- a failed call counts as well
 pub counted_any : (old new : GrainsState) (n : ℕ) (failed : Bool) → Counted old n failed new → Counted old n false new
-counted_any old new n failed c = record { calls_are = c.calls_are; kept = c.kept; risen = λ t. absurd cc }
+counted_any old new n failed c = record { calls_are = c.calls_are; kept = c.kept; risen = λ t. absurd cc; writes_kept = c.writes_kept; nearer = c.nearer }
 
 pub none_counted : (old : GrainsState) → Counted old 0 false old
-none_counted old = record { calls_are = refl; kept = omega arith; risen = λ t. absurd cc }
+none_counted old = record { calls_are = refl; kept = omega arith; risen = λ t. absurd cc; writes_kept = omega arith; nearer = come_still old.volumes }
 
 -- ---- steps
 
@@ -322,6 +323,7 @@ module _ (l : LaneOf) (told : LaneTold) (number : ℕ) (ks : List ℕ) (chains :
             called = omega arith;
             torn_is = sym (λ i. cond (eqb (one i) (two i)) (Some (torn_of spot step)) None);
             risen = counted.risen refl;
+            torn_by_write = tt;
           },
           unmade n after' new' e.1.1 e.1.2 (counted_any old new' (calls + n) true counted) same,
         )
@@ -347,6 +349,7 @@ module _ (l : LaneOf) (told : LaneTold) (number : ℕ) (ks : List ℕ) (chains :
             called = omega arith;
             torn_is = ap Some e.1.1 ∙ sym (λ i. cond (eqb (both i) (two i)) (Some (torn_of spot step)) None);
             risen = counted.risen refl;
+            torn_by_write = risen_then old.write_faults new.write_faults new'.write_faults so.counted.writes_kept e.1.4;
           },
           subst (λ (z : List Move). StepsStand l told None z (calls + n) (Some torn) chains old after' new') (sym so.made_are)
               (subst (λ (z : Torn). StepsStand l told None (map (move_in spot) so.done) (calls + n) (Some z) chains old after' new') (sym e.1.1)

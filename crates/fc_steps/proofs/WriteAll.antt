@@ -9,6 +9,7 @@ use Rattle.fc_chain.specs.Chains.{Chains}
 use Rattle.fc_entry.specs.Picture.{grain_of_block}
 use Rattle.fc_entry.specs.Writes.{calls_of_write}
 use Rattle.fc_grains.specs.Grains.{GrainsState}
+use Rattle.fc_steps.specs.Moving.{IsTornBy}
 use Rattle.fc_steps.specs.Standing.{Stands}
 use Rattle.fc_steps.specs.StepsEnd.{CanMakeMoves, StepsEnd, StepsStand, StoppedIn, torn_in}
 use Rattle.fc_steps.specs.WriteStep.{CanWriteOwn, IsPlannedWrite, OwnEnds, OwnStands, spot_of, write_in}
@@ -48,9 +49,14 @@ ends_longer spot steps last moves calls (Failed torn) old new e =
       called = e.called;
       torn_is = e.torn_is;
       risen = e.risen;
+      torn_by_write = e.torn_by_write;
     }
 ends_longer spot steps last moves calls NoMemory old new e =
     record { step = e.step; extra = e.extra; stopped = stopped_longer steps last moves calls e.step e.extra e.stopped; thin = e.thin }
+
+torn_then : (torn : Option Torn) (old mid new : GrainsState) → old.write_faults ≤ mid.write_faults → IsTornBy torn mid new → IsTornBy torn old new
+torn_then None old mid new kept by = tt
+torn_then (Some torn) old mid new kept by = risen_then old.write_faults mid.write_faults new.write_faults kept by
 
 module _ (l : LaneOf) (told : LaneTold) (part : WritePart) (t : ℕ) (chains : Chains) (old : GrainsState) (plan : List Move) (n place : ℕ) (w : IsPlannedWrite l told part t chains old plan n place) where
   abbrev number : ℕ
@@ -139,6 +145,7 @@ module _ (l : LaneOf) (told : LaneTold) (part : WritePart) (t : ℕ) (chains : C
         called = o.0.called;
         torn_is = o.0.torn_is;
         risen = risen_then old.faults mid.faults new.faults x.1.counted.kept o.0.risen;
+        torn_by_write = torn_then torn old mid new x.1.counted.writes_kept o.0.torn_by_write;
       },
       all_stands None m torn after' new o.1,
     )

@@ -29,7 +29,7 @@ use Rattle.fc_steps.specs.WriteStep.{CanWriteOwn, IsInGrain, IsPrepared, OwnEnds
 use Rattle.fc_steps.specs.declared.body.StepEnd.{StepEnd}
 use Rattle.fc_steps.specs.declared.stop.Stop.{Stop}
 use Rattle.fc_steps.specs.declared.stop.Stop.TheVariants.{Failed, NoMemory}
-use Rattle.fc_steps.proofs.Moving.{Source, source_at, one_holder, same_then, stored_after, wrote_done, wrote_stored, failed_done, failed_stored, refused_done, refused_stored}
+use Rattle.fc_steps.proofs.Moving.{Source, source_at, one_holder, risen_then, same_then, stored_after, wrote_done, wrote_stored, failed_done, failed_stored, refused_done, refused_stored}
 use Rattle.fc_steps.proofs.Naming.{birth_place_is}
 use Rattle.fc_steps.proofs.StepsMade.{both_counted, counted_any, lost_same, sized_again, size_torn, size_written, thin_told}
 use Rattle.fc_steps.proofs.WritePrepare.{bytes_of_blocks}
@@ -222,6 +222,7 @@ module _ (l : LaneOf) (told : LaneTold) (part : WritePart) (t : ℕ) (chains : C
           within = calls_some (is_whole l.grain part);
           torn_is = sym (ap (λ (b : Bool). cond (eqb 1 (cond b 1 2)) (Some (torn_of spot own)) None) some);
           risen = counted.risen refl;
+          torn_by_write = tt;
         },
         unmade 1 mid p.stored_same (counted_any old mid 1 true counted) p.same,
       )
@@ -290,6 +291,7 @@ module _ (l : LaneOf) (told : LaneTold) (part : WritePart) (t : ℕ) (chains : C
             within = omega arith;
             torn_is = ap Some torn_is ∙ sym (same_calls (calls_of_write l.grain part) (torn_of spot own));
             risen = counted.risen refl;
+            torn_by_write = risen_then old.write_faults mid.write_faults new.write_faults p.counted.writes_kept (d.torn_by_write refl);
           },
           subst (λ (z : Torn). OwnStands l told part t None (calls_of_write l.grain part) (Some z) chains old after new) (sym torn_is)
               (record {

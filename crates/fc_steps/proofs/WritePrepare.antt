@@ -10,10 +10,11 @@ use Rattle.fc_entry.specs.Picture.{Content, Bytes, Lost, byte_in_grain, written}
 use Rattle.fc_entry.specs.Writes.{is_whole}
 use Rattle.fc_grains.specs.Calls.{HasRead}
 use Rattle.fc_grains.specs.Grains.{GrainsState}
-use Rattle.fc_grains.specs.Volumes.{is_there, stored}
+use Rattle.fc_grains.specs.Volumes.{ComeNearer, is_there, stored}
 use Rattle.fc_steps.specs.Moving.{Counted, SameLane}
 use Rattle.fc_steps.specs.WriteStep.{IsInGrain, IsPrepared}
 use Rattle.fc_steps.proofs.Moving.{not_counted, counted_then, read_done, same_then}
+use Rattle.fc_steps.proofs.Nearer.{come_still}
 
 pub bytes_of_blocks : (grain : GrainSize) → block_bytes * grain_blocks grain ≡ grain_bytes grain
 bytes_of_blocks K64 = refl
@@ -25,6 +26,8 @@ filled_same old buffer = record {
   grain = refl;
   pool = refl;
   reserved = refl;
+  pooled = refl;
+  aside = refl;
   disks = refl;
   silent = refl;
   ids = refl;
@@ -34,6 +37,11 @@ filled_same old buffer = record {
   sizes = λ v. refl;
   quiet = λ q. (record { told = q.told; unarmed = q.unarmed }, refl);
 }
+
+filled_counted : (old new : GrainsState) (buffer : List ℕ) → new ≡ record old { buffer = buffer } → Counted old 0 false new
+filled_counted old new buffer e =
+    not_counted old new (ap (λ (s : GrainsState). s.calls) e) (ap (λ (s : GrainsState). s.faults) e) (ap (λ (s : GrainsState). s.write_faults) e)
+    (subst (λ (s : GrainsState). ComeNearer 0 old.volumes s.volumes) (sym e) (come_still old.volumes))
 
 -- every byte is written
 all_written : (n byte : ℕ) (content : Content) → ((bytes : List ℕ) → content ≡ Bytes bytes → length bytes ≡ n) → written 0 n byte content ≡ Bytes (replicate n byte)
@@ -66,7 +74,7 @@ module _ (grain : GrainSize) (part : WritePart) (inside : IsInGrain grain part) 
         let n : ℕ = grain_bytes grain in
         let buffer : new.buffer ≡ replicate n part.byte = ap (λ (s : GrainsState). s.buffer) e ∙ all_filled n part.byte old.buffer size in
         record {
-          counted = subst (λ (b : Bool). Counted old (cond b 0 1) false new) (sym is_all) (not_counted old new (ap (λ (s : GrainsState). s.calls) e) (ap (λ (s : GrainsState). s.faults) e));
+          counted = subst (λ (b : Bool). Counted old (cond b 0 1) false new) (sym is_all) (filled_counted old new _ e);
           part_failed = λ t. absurd cc;
           bytes = λ t.
               ap Bytes buffer
@@ -87,7 +95,7 @@ module _ (grain : GrainSize) (part : WritePart) (inside : IsInGrain grain part) 
     part_prepared new read e =
         let r = read_done old mid v g false there read in
         let same : SameLane mid new = subst (λ (s : GrainsState). SameLane mid s) (sym e) (filled_same mid _) in
-        let filled : Counted mid 0 false new = not_counted mid new (ap (λ (s : GrainsState). s.calls) e) (ap (λ (s : GrainsState). s.faults) e) in
+        let filled : Counted mid 0 false new = filled_counted mid new _ e in
         record {
           counted = subst (λ (b : Bool). Counted old (cond b 0 1) false new) (sym is_part) (counted_then old mid new 1 0 false r.counted filled refl);
           part_failed = λ t. absurd cc;

@@ -1,5 +1,5 @@
 -- What one step of an entry does to the chains and the physical grains of a lane.
-use Rattle.std.specs.Prelude.{◌≡◌, ℕ, zero, suc, ◌<◌, ◌≤◌, ◌/◌, ◌%◌, Bool, true, false, cond, ◌||◌, Option, Some, None, List, length, map}
+use Rattle.std.specs.Prelude.{◌≡◌, ℕ, zero, suc, ◌<◌, ◌≤◌, ◌/◌, ◌%◌, Bool, true, false, cond, ◌||◌, Option, Some, None, IfSome, List, length, map}
 use Rattle.fc_base.specs.Column.{holder}
 use Rattle.fc_base.specs.Count.{one_more, HasRisen}
 use Rattle.fc_base.specs.Moves.{is_in_place}
@@ -14,7 +14,7 @@ use Rattle.fc_chain.specs.Chains.{Chains}
 use Rattle.fc_entry.specs.Picture.{Lost, is_lost}
 use Rattle.fc_grains.specs.Grains.{GrainsState}
 use Rattle.fc_grains.specs.Quiet.{IsQuiet}
-use Rattle.fc_grains.specs.Volumes.{VolumeGrains, is_there, volume_of, stored}
+use Rattle.fc_grains.specs.Volumes.{VolumeGrains, ComeNearer, is_there, volume_of, stored}
 use Rattle.fc_steps.specs.Standing.{kind_of_grains}
 use Rattle.fc_steps.specs.declared.stop.Stop.{Stop}
 use Rattle.fc_steps.specs.declared.stop.Stop.TheVariants.{Failed, NoMemory}
@@ -27,22 +27,32 @@ abbrev pub more : ℕ → ℕ → ℕ
 more zero count = count
 more (suc calls) count = one_more (more calls count)
 
--- So many calls of disks were made. Where one failed the faults rose; they never fall.
+-- So many calls of disks were made. Where one failed the faults rose; they never fall, nor do those of writes. Armed faults
+-- come nearer by the calls alone, and none is armed.
 pub record Counted (old : GrainsState) (calls : ℕ) (failed : Bool) (new : GrainsState) : Type 0 where
   pub calls_are : new.calls ≡ more calls old.calls
   pub kept : old.faults ≤ new.faults
   pub risen : failed ≡ true → HasRisen old.faults new.faults
+  pub writes_kept : old.write_faults ≤ new.write_faults
+  pub nearer : ComeNearer calls old.volumes new.volumes
+
+-- A grain is torn by a write that failed alone: the sum of the failed writes rose, or stands at its last value.
+abbrev pub IsTornBy : Option Torn → GrainsState → GrainsState → Type 0
+IsTornBy torn old new = IfSome torn (λ _. HasRisen old.write_faults new.write_faults)
 
 -- The kinds of volumes stay.
 abbrev pub SameKinds : List VolumeGrains → List VolumeGrains → Type 0
 SameKinds old new = (v : ℕ) → (volume_of new v).kind ≡ (volume_of old v).kind
 
--- What entries leave as it is: the disks, the pool, the new volumes that are ready, and the ids, kinds and sizes of volumes.
+-- What entries leave as it is: the disks, the pool and those put aside as they are, the new volumes that are ready, and the
+-- ids, kinds and sizes of volumes.
 -- Where no disk can fail, none does.
 pub record SameLane (old new : GrainsState) : Type 0 where
   pub grain : new.grain ≡ old.grain
   pub pool : new.pool ≡ old.pool
   pub reserved : new.reserved ≡ old.reserved
+  pub pooled : new.pooled ≡ old.pooled
+  pub aside : new.aside ≡ old.aside
   pub disks : new.disks ≡ old.disks
   pub silent : new.silent ≡ old.silent
   pub ids : map (λ (v : VolumeGrains). v.volume) new.volumes ≡ map (λ (v : VolumeGrains). v.volume) old.volumes
@@ -90,6 +100,7 @@ MoveTorn chains old g k m calls (Some torn) after new =
     × (torn ≡ record { volume = m.volume; grain = m.grain; side = Under })
     × (after ≡ record chains { sheet = sheet_torn (slot_at chains.sheet.slots k).volume g Under chains.sheet })
     × StoredAt (stored old.volumes) (slot_at chains.sheet.slots k).volume g Lost (stored new.volumes)
+    × HasRisen old.write_faults new.write_faults
 
 abbrev pub MoveEnds : Chains → GrainsState → ℕ → ℕ → Move → ℕ → Option Stop → Chains → GrainsState → Type 0
 MoveEnds chains old g k m calls None after new = MoveMade chains old g k m calls after new × Counted old calls false new

@@ -6,7 +6,7 @@ use Rattle.fc_base.specs.declared.request.Torn.{Torn}
 use Rattle.fc_base.specs.declared.request.WritePart.{WritePart}
 use Rattle.fc_chain.specs.Chains.{Chains}
 use Rattle.fc_grains.specs.Grains.{GrainsState}
-use Rattle.fc_steps.specs.Moving.{Counted, SameLane}
+use Rattle.fc_steps.specs.Moving.{Counted, IsTornBy, SameLane}
 use Rattle.fc_steps.specs.Standing.{SameVolumes, Stands}
 use Rattle.fc_steps.specs.declared.stop.Stop.{Stop}
 use Rattle.fc_steps.specs.declared.stop.Stop.TheVariants.{Failed, NoMemory}
@@ -32,7 +32,7 @@ pub record StoppedIn (steps : List Step) (moves : List Move) (calls : ℕ) (step
   pub calls_are : calls ≡ calls_of before + extra
   pub within : extra ≤ step.calls
 
--- A call failed.
+-- A call failed. What is torn was torn by a write that failed.
 pub record FailedIn (spot : Spot) (steps : List Step) (moves : List Move) (calls : ℕ) (torn : Option Torn) (old new : GrainsState) : Type 0 where
   pub step : Step
   pub extra : ℕ
@@ -40,6 +40,7 @@ pub record FailedIn (spot : Spot) (steps : List Step) (moves : List Move) (calls
   pub called : 1 ≤ extra
   pub torn_is : torn ≡ torn_by spot step extra
   pub risen : HasRisen old.faults new.faults
+  pub torn_by_write : IsTornBy torn old new
 
 -- A thin disk found no memory.
 pub record RefusedIn (spot : Spot) (steps : List Step) (moves : List Move) (calls : ℕ) : Type 0 where

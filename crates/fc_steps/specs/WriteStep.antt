@@ -3,7 +3,7 @@ use Rattle.std.specs.Prelude.{◌≡◌, ℕ, ◌+◌, ◌*◌, ◌≤◌, Bool,
 use Rattle.fc_base.specs.Count.{HasRisen}
 use Rattle.fc_base.specs.Grain.{block_bytes, grain_bytes}
 use Rattle.fc_base.specs.Moves.{write_moves}
-use Rattle.fc_base.specs.Sheet.{live_place, column}
+use Rattle.fc_base.specs.Sheet.{live_place}
 use Rattle.fc_base.specs.SheetFacts.{IsSound}
 use Rattle.fc_base.specs.declared.request.Move.{Move}
 use Rattle.fc_base.specs.declared.request.Torn.{Torn}
@@ -14,7 +14,7 @@ use Rattle.fc_entry.specs.Picture.{Content, Bytes, written, byte_in_grain, grain
 use Rattle.fc_entry.specs.Writes.{calls_of_write, is_whole}
 use Rattle.fc_grains.specs.Grains.{GrainsState}
 use Rattle.fc_grains.specs.Volumes.{stored}
-use Rattle.fc_steps.specs.Moving.{Counted, SameLane}
+use Rattle.fc_steps.specs.Moving.{Counted, IsTornBy, SameLane}
 use Rattle.fc_steps.specs.Standing.{SameVolumes, Stands}
 use Rattle.fc_steps.specs.StepsEnd.{StandsAt}
 use Rattle.fc_steps.specs.declared.stop.Stop.{Stop}
@@ -83,6 +83,7 @@ pub record OwnFailed (l : LaneOf) (told : LaneTold) (part : WritePart) (t calls 
   pub within : calls ≤ calls_of_write l.grain part
   pub torn_is : torn ≡ torn_by (spot_of l told part) (own_step l.grain (spot_of l told part) part t) calls
   pub risen : HasRisen old.faults new.faults
+  pub torn_by_write : IsTornBy torn old new
 
 -- It was done, or a call failed, or a thin disk found no memory.
 abbrev pub OwnEnds : LaneOf → LaneTold → WritePart → ℕ → ℕ → Option Stop → Chains → GrainsState → Chains → GrainsState → Type 0

@@ -1,27 +1,60 @@
 -- What the control part decides by the chains of the lanes is decided of what the store stands for.
-use Rattle.std.proofs.Common.{◌≡◌, ◌+◌, ◌<◌, List, length, Option, Result, Ok, Err, IfOk, IsTrue, refl, sym, ◌∙◌, ap, subst, arith}
+use Rattle.std.proofs.Common.{◌≡◌, ◌==◌, ℕ, ◌+◌, ◌<◌, ◌≤◌, List, length, find, Contains, Option, Some, None, Result, Ok, Err, IfOk, IsTrue, refl, sym, ◌∙◌, ap, subst, arith}
+use Rattle.std.proofs.lemmas.Bool.{eqb-true}
+use Rattle.std.specs.Option.{option_map_or}
 use Rattle.fc_base.specs.Pools.{Pool}
 use Rattle.fc_base.specs.SheetView.{SheetView}
+use Rattle.fc_base.specs.Tables.{volume_with}
+use Rattle.fc_base.specs.declared.volume.Mapping.{Mapping}
+use Rattle.fc_base.specs.declared.volume.Volume.{Volume}
 use Rattle.fc_base.specs.declared.command.Command.{Command}
 use Rattle.fc_base.specs.declared.command.Command.TheVariants.{Read as ReadLine, Write as WriteLine}
 use Rattle.fc_base.specs.declared.decision.Decision.{Decision}
 use Rattle.fc_base.specs.declared.ids.VolId.{VolId}
 use Rattle.fc_base.specs.declared.outcome.NoMemory.{NoMemory}
 use Rattle.fc_books.specs.Books.{Books}
+use Rattle.fc_books.specs.Copies.{total}
 use Rattle.fc_books.specs.Deciding.{IsLoopOf, settle, decide}
-use Rattle.fc_books.specs.Sound.{AreSound}
+use Rattle.fc_books.specs.Sound.{AreSound, HasGrains}
+use Rattle.fc_changed.specs.Row.{Row, is_of, row_restart}
 use Rattle.fc_control.specs.Control.{ControlState, books_of}
 use Rattle.fc_control.specs.Dispatch.{is_decided}
 use Rattle.fc_control.specs.Starts.{HaveRoom}
+use Rattle.fc_decided.proofs.Lists.{find_from}
+use Rattle.fc_decided.proofs.Ordered.{one_of_id}
+use Rattle.fc_follow.specs.Following.{restarts}
+use Rattle.fc_legal.specs.Stands.{AreRows, IsOfMapping}
 use Rattle.fc_legal.specs.Steps.{after_settling}
 use Rattle.fc_legal.specs.Whole.{Whole}
-use Rattle.fc_store.specs.LaneSheet.{view_of}
-use Rattle.fc_store.specs.Phase.{StandsAt, IsDecided}
-use Rattle.fc_store.specs.Settling.{IsSettling, CanDecide, IsDecisionOn}
-use Rattle.fc_store.specs.Store.{StoreView}
-use Rattle.fc_store.proofs.CommandSheet.{books_seen, view_is}
-use Rattle.fc_store.proofs.PhaseStands.{view_in, books_are}
-use Rattle.fc_store.proofs.Restarts.{have_room}
+use Rattle.fc_lane_sheet.specs.LaneSheet.{view_of}
+use Rattle.fc_stands.specs.Phase.{StandsAt, IsDecided}
+use Rattle.fc_stands.specs.Settling.{IsSettling, CanDecide, IsDecisionOn}
+use Rattle.fc_stands.specs.Store.{StoreView}
+use Rattle.fc_stands.proofs.CommandSheet.{books_seen, view_is}
+use Rattle.fc_stands.proofs.PhaseStands.{view_in, books_are}
+use Rattle.fc_stands.proofs.Restarts.{of_found}
+
+-- ---- room in the copy
+
+as_large : (n : ℕ) (o : Option Volume) → HasGrains o n → n ≤ option_map_or (λ (v : Volume). v.grains) o 0
+as_large n None size = absurd size
+as_large n (Some v) size = omega (arith, size)
+
+room_found : (b : Books) (rows : List Row) (m : Mapping) → AreSound b → AreRows b.tables rows → Contains b.tables.mappings m → (o : Option Row) → find (is_of m.id.0) rows ≡ o →
+    length (row_restart o) ≤ total b m
+room_found b rows m sound are there None e = omega arith
+room_found b rows m sound are there (Some row) e =
+    let is : IsOfMapping b.tables row = of_found b.tables rows m.id.0 row are e in
+    let named : m.id.0 ≡ row.map = eqb-true m.id.0 row.map (find_from (is_of m.id.0) rows row e).1 in
+    let same : is.mapping ≡ m =
+    one_of_id (λ (x : Mapping). x.id.0) (λ (x : Mapping). x.name) b.tables.mappings is.mapping m sound.tables.mappings is.there there (is.id_is ∙ sym named) in
+    let size : HasGrains (volume_with b.tables m.target) (length row.same) = subst (λ (x : Mapping). HasGrains (volume_with b.tables x.target) (length row.same)) same is.size in
+    as_large (length row.same) (volume_with b.tables m.target) size
+
+pub have_room : (b : Books) (rows : List Row) → AreSound b → AreRows b.tables rows → HaveRoom b (restarts rows)
+have_room b rows sound are m there = room_found b rows m sound are there (find (is_of m.id.0) rows) refl
+
+-- ---- the decisions
 
 pub settling_seen : (result : Result Decision NoMemory) (s : StoreView) (c : ControlState) (m : SheetView) → c ≡ s.control → m ≡ view_of s.lanes →
     IfOk result (λ d. d ≡ settle (books_of c m)) → IfOk result (λ d. IsSettling s d)

@@ -1,7 +1,7 @@
 -- The parts of a store, as contracts see them.
 use Rattle.std.specs.Prelude.{List, ◌∷◌, map}
 use Rattle.fc_lane.specs.Lane.{LaneView}
-use Rattle.fc_store.specs.Store.{StoreView}
+use Rattle.fc_stands.specs.Store.{StoreView}
 use Rattle.fc_store.specs.declared.store_part.StorePart.{StorePart}
 use Rattle.fc_store.specs.declared.store_part.StorePart.TheVariants.{Control, Lane}
 

@@ -2,12 +2,12 @@
 
 ghost use Rattle.std.specs.Prelude.{◌≡◌, ℕ, ◌<◌, ◌^◌};
 ghost use Rattle.fc_legal.specs.Whole.{Whole};
-ghost use Rattle.fc_store.specs.LaneSheet.{AreCountable};
-ghost use Rattle.fc_store.specs.Phase.{StandsAt};
+ghost use Rattle.fc_lane_sheet.specs.LaneSheet.{AreCountable};
+ghost use Rattle.fc_stands.specs.Phase.{StandsAt};
 
-use crate::sheet::LaneSheet;
 use crate::store::Store;
 use fc_base::volume::Volume;
+use fc_lane_sheet::sheet::LaneSheet;
 use fc_mdisk::mdisk::Mdisk;
 
 /// A `u32` counts the grains of a volume.

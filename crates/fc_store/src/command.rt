@@ -1,22 +1,22 @@
 //! The entries of commands: settled and decided, or left as it was or settled alone for want of memory.
 
-ghost use Rattle.std.specs.Prelude.{◌≡◌, ℕ, ◌+◌, ◌*◌, ◌<◌, ◌≤◌, ◌∷◌, [], ◌++◌, length, Option, Err, List as Items, false};
-ghost use Rattle.fc_store.specs.Arming.{ArmNothing, arms};
-ghost use Rattle.fc_store.specs.Quiet.{QuietBy, AreQuiet};
+ghost use Rattle.std.specs.Prelude.{◌≡◌, ℕ, ◌+◌, ◌*◌, ◌<◌, ◌≤◌, ◌++◌, length, Option, Err, List as Items, false};
+ghost use Rattle.fc_stands.specs.Arming.{ArmNothing, arms};
+ghost use Rattle.fc_stands.specs.Quiet.{QuietBy, AreQuiet};
 ghost use Rattle.fc_base.specs.declared.ids.VolId.{VolId};
 ghost use Rattle.fc_base.specs.declared.size.GrainSize.{GrainSize};
 ghost use Rattle.fc_books.specs.Deciding.{IsLoopOf, settle};
-ghost use Rattle.fc_legal.specs.Run.{by_main};
 ghost use Rattle.fc_legal.specs.Steps.{Step, after_settling, decided_on, left_by};
 ghost use Rattle.fc_legal.specs.Whole.{Whole};
-ghost use Rattle.fc_store.specs.Answering.{Answered, IsTold, TellsSome, StaysUp};
-ghost use Rattle.fc_store.specs.Apart.{entry_apart};
-ghost use Rattle.fc_store.specs.Dealing.{disks_in};
-ghost use Rattle.fc_store.specs.Phase.{IsDecided, StandsAt};
-ghost use Rattle.fc_store.specs.Settling.{CanDecide, IsSettled};
-ghost use Rattle.fc_store.specs.Store.{StandsFor};
+ghost use Rattle.fc_legal.specs.Added.{IsOf, IsTold, StaysUp, TellsSome};
+ghost use Rattle.fc_stands.specs.Logged.{Logged, whether_done};
+ghost use Rattle.fc_stands.specs.Apart.{entry_apart};
+ghost use Rattle.fc_lanes.specs.Dealing.{disks_in};
+ghost use Rattle.fc_stands.specs.Phase.{IsDecided, StandsAt};
+ghost use Rattle.fc_stands.specs.Settling.{CanDecide, IsSettled};
+ghost use Rattle.fc_stands.specs.Store.{StandsFor};
 
-use crate::log::{entry_apart, is_full, log};
+use crate::log::{entry_apart, is_full, log_done};
 use crate::store::Store;
 use fc_base::command::Command;
 use fc_base::limits::MAX_ENTRIES;
@@ -28,17 +28,18 @@ use fc_entry::stop::Stop;
 use fc_mdisk::mdisk::Mdisk;
 
 impl<D: Mdisk> Store<D> {
-    /// Runs a command, which is no access: all is settled, and then it is decided and done. Want of memory is its answer.
+    /// Runs a command, which is no access: all is settled, and then it is decided and done. Want of memory is its answer. Says
+    /// whether it is done.
     pub(crate) fn run_command(
         &mut self,
         command: Command,
         history: &mut History,
-    ) -> Result<(), Stop>
-        requires stands { TellsSome (StandsFor self.old) history.old.entries }
+    ) -> Result<bool, Stop>
+        requires stands { TellsSome (StandsFor self.old) history.old }
         requires room { length history.old.entries ≤ MAX_ENTRIES }
         requires decided { IsDecided command }
-        ensures answered { (w : Whole) → IsTold (StandsFor self.old) history.old.entries w →
-            Answered result (StandsFor self.new) self.old.control.grain w (by_main (Request.Command command ∷ [])) history.old history.new }
+        ensures answered { (w : Whole) → IsTold (StandsFor self.old) history.old w →
+            Logged result whether_done (StandsFor self.new) self.old.control.grain w (Request.Command command) history.old history.new }
         ensures grain { self.new.control.grain ≡ self.old.control.grain }
         ensures disks { disks_in self.new.lanes ≡ disks_in self.old.lanes }
         ensures quiet { QuietBy history.old.entries self.old.lanes → StaysUp result (QuietBy history.new.entries self.new.lanes) }
@@ -59,12 +60,12 @@ impl<D: Mdisk> Store<D> {
         command: Command,
         effects: List<Effect>,
         history: &mut History,
-    ) -> Result<(), Stop>
+    ) -> Result<bool, Stop>
         requires stands { CanDecide self.old }
         requires decided { IsDecided command }
         requires room { length history.old.entries < MAX_ENTRIES }
-        ensures answered { (decisions : ℕ) (w : Whole) → IsSettled decisions self.old w → effects ≡ (settle w.books).effects → w.entries ≡ length history.old.entries →
-            Answered result (StandsFor self.new) self.old.control.grain w (by_main (Request.Command command ∷ [])) history.old history.new }
+        ensures answered { (decisions : ℕ) (w : Whole) → IsSettled decisions self.old w → effects ≡ (settle w.books).effects → IsOf w history.old →
+            Logged result whether_done (StandsFor self.new) self.old.control.grain w (Request.Command command) history.old history.new }
         ensures grain { self.new.control.grain ≡ self.old.control.grain }
         ensures disks { disks_in self.new.lanes ≡ disks_in self.old.lanes }
         ensures quiet { QuietBy history.old.entries self.old.lanes → StaysUp result (QuietBy history.new.entries self.new.lanes) }
@@ -83,12 +84,12 @@ impl<D: Mdisk> Store<D> {
         command: Command,
         reply: Reply,
         effects: List<Effect>,
-    ) -> Result<(), Stop>
+    ) -> Result<bool, Stop>
         requires room { length history.old.entries < MAX_ENTRIES }
         ensures answered { (grain : GrainSize) (w next : Whole) →
             Step grain w (entry_apart (length history.old.entries) Place.Every (Request.Command command) reply effects) next →
-            next.entries ≡ w.entries + 1 → StandsFor self.now next → w.entries ≡ length history.old.entries →
-            Answered result (StandsFor self.now) grain w (by_main (Request.Command command ∷ [])) history.old history.new }
+            next.entries ≡ w.entries + 1 → next.actors ≡ w.actors → StandsFor self.now next → IsOf w history.old →
+            Logged result whether_done (StandsFor self.now) grain w (Request.Command command) history.old history.new }
         ensures quiet { (ArmNothing history.old.entries → arms (Request.Command command) reply ≡ false → AreQuiet self.now.lanes) →
             StaysUp result (QuietBy history.new.entries self.now.lanes) }
         ensures limit { length history.new.entries ≤ MAX_ENTRIES }
@@ -102,15 +103,15 @@ impl<D: Mdisk> Store<D> {
             reply,
             effects,
         );
-        log(history, entry)
+        log_done(history, entry)
     }
 
     /// Logs a command for which no memory was had before anything was done.
-    fn log_unsettled(&self, history: &mut History, command: Command) -> Result<(), Stop>
+    fn log_unsettled(&self, history: &mut History, command: Command) -> Result<bool, Stop>
         requires decided { IsDecided command }
         requires room { length history.old.entries < MAX_ENTRIES }
-        ensures answered { (decisions : ℕ) (w : Whole) → StandsAt decisions self.now w → decisions ≤ 2 * w.entries → w.entries ≡ length history.old.entries →
-            Answered result (StandsFor self.now) self.now.control.grain w (by_main (Request.Command command ∷ [])) history.old history.new }
+        ensures answered { (decisions : ℕ) (w : Whole) → StandsAt decisions self.now w → decisions ≤ 2 * w.entries → IsOf w history.old →
+            Logged result whether_done (StandsFor self.now) self.now.control.grain w (Request.Command command) history.old history.new }
         ensures quiet { QuietBy history.old.entries self.now.lanes → StaysUp result (QuietBy history.new.entries self.now.lanes) }
         ensures limit { length history.new.entries ≤ MAX_ENTRIES }
     {
@@ -123,12 +124,12 @@ impl<D: Mdisk> Store<D> {
         history: &mut History,
         command: Command,
         effects: List<Effect>,
-    ) -> Result<(), Stop>
+    ) -> Result<bool, Stop>
         requires decided { IsDecided command }
         requires room { length history.old.entries < MAX_ENTRIES }
         ensures answered { (decisions : ℕ) (w : Whole) → effects ≡ (settle w.books).effects →
-            StandsAt (decisions + 1) self.now (after_settling self.now.control.grain w) → decisions ≤ 2 * w.entries → w.entries ≡ length history.old.entries →
-            Answered result (StandsFor self.now) self.now.control.grain w (by_main (Request.Command command ∷ [])) history.old history.new }
+            StandsAt (decisions + 1) self.now (after_settling self.now.control.grain w) → decisions ≤ 2 * w.entries → IsOf w history.old →
+            Logged result whether_done (StandsFor self.now) self.now.control.grain w (Request.Command command) history.old history.new }
         ensures quiet { QuietBy history.old.entries self.now.lanes → StaysUp result (QuietBy history.new.entries self.now.lanes) }
         ensures limit { length history.new.entries ≤ MAX_ENTRIES }
     {
@@ -142,15 +143,15 @@ impl<D: Mdisk> Store<D> {
         command: Command,
         reply: Reply,
         effects: List<Effect>,
-    ) -> Result<(), Stop>
+    ) -> Result<bool, Stop>
         requires decided { IsDecided command }
         requires room { length history.old.entries < MAX_ENTRIES }
         ensures answered { (decisions : ℕ) (w : Whole) (loop : Option (Items VolId)) → IsLoopOf self.now.control.grain (after_settling self.now.control.grain w).books command loop →
             reply ≡ (decided_on self.now.control.grain (after_settling self.now.control.grain w) command loop).reply →
             effects ≡ (settle w.books).effects ++ (decided_on self.now.control.grain (after_settling self.now.control.grain w) command loop).effects →
             StandsAt (decisions + 1 + 1) self.now (left_by self.now.control.grain (after_settling self.now.control.grain w) (decided_on self.now.control.grain (after_settling self.now.control.grain w) command loop)) →
-            decisions ≤ 2 * w.entries → w.entries ≡ length history.old.entries →
-            Answered result (StandsFor self.now) self.now.control.grain w (by_main (Request.Command command ∷ [])) history.old history.new }
+            decisions ≤ 2 * w.entries → IsOf w history.old →
+            Logged result whether_done (StandsFor self.now) self.now.control.grain w (Request.Command command) history.old history.new }
         ensures quiet { (ArmNothing history.old.entries → arms (Request.Command command) reply ≡ false → AreQuiet self.now.lanes) →
             StaysUp result (QuietBy history.new.entries self.now.lanes) }
         ensures limit { length history.new.entries ≤ MAX_ENTRIES }
@@ -160,7 +161,7 @@ impl<D: Mdisk> Store<D> {
 }
 
 /// A command that no entry has room for.
-fn full(_command: Command) -> Result<(), Stop>
+fn full(_command: Command) -> Result<bool, Stop>
     ensures { result ≡ Err Stop.LogFull }
 {
     Err(Stop::LogFull)

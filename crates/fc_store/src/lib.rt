@@ -4,14 +4,11 @@
 //! `specs/StoreParts` says which parts a store has.
 #![tactic(auto)]
 
-mod access;
 mod advance;
 mod chains;
 mod command;
-mod deal;
 mod effects;
 mod fill;
-mod kept;
 mod line;
 mod lines;
 mod log;
@@ -19,7 +16,5 @@ mod new;
 mod phases;
 mod plan;
 mod settling;
-mod sheet;
 pub mod store;
 pub mod store_part;
-mod work;

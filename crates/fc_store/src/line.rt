@@ -1,48 +1,83 @@
-//! A line of `main`.
+//! A line of `main`: its own entries, and then those of the seconds that it lets pass.
 
-ghost use Rattle.std.specs.Prelude.{◌≡◌, ◌≤◌, length, Ok};
-ghost use Rattle.fc_store.specs.Quiet.{QuietBy};
-ghost use Rattle.fc_legal.specs.Asked.{asked, command_asked};
-ghost use Rattle.fc_legal.specs.Run.{by_main};
+ghost use Rattle.std.specs.Prelude.{◌≡◌, ◌≤◌, ◌∷◌, [], ℕ, List, length, Ok};
+ghost use Rattle.fc_lanes.specs.Dealing.{disks_in};
+ghost use Rattle.fc_legal.specs.Added.{Answered, IsTold, StaysUp, TellsSome};
+ghost use Rattle.fc_blocks.specs.Segments.{single};
+ghost use Rattle.fc_legal.specs.Agenda.{Session, Own, Reading, Seconds, command_seconds, session_rules};
+ghost use Rattle.fc_legal.specs.Asked.{command_asked};
+ghost use Rattle.fc_legal.specs.Seconds.{all_work, begun};
 ghost use Rattle.fc_legal.specs.Whole.{Whole};
-ghost use Rattle.fc_store.specs.Answering.{Answered, IsTold, TellsSome, StaysUp};
-ghost use Rattle.fc_store.specs.Dealing.{disks_in};
-ghost use Rattle.fc_store.specs.Phase.{IsDecided};
-ghost use Rattle.fc_store.specs.Store.{StandsFor};
+ghost use Rattle.fc_stands.specs.Logged.{Brought};
+ghost use Rattle.fc_stands.specs.Phase.{IsDecided};
+ghost use Rattle.fc_stands.specs.Quiet.{QuietBy};
+ghost use Rattle.fc_stands.specs.Store.{StandsFor};
 
-use crate::access::Access;
 use crate::store::Store;
 use fc_base::command::{Command, Line};
 use fc_base::fault::WordFault;
 use fc_base::limits::MAX_ENTRIES;
 use fc_entry::history::History;
 use fc_entry::stop::Stop;
+use fc_lanes::access::Access;
 use fc_mdisk::mdisk::Mdisk;
 
+/// How many seconds a command lets pass, if it is done.
+fn seconds_of(command: &Command) -> u32
+    ensures { result ≡ command_seconds command.now }
+{
+    match command {
+        Command::Advance { seconds } => *seconds,
+        _ => 0,
+    }
+}
+
 impl<D: Mdisk> Store<D> {
-    /// Answers a command that is no access: it asks for itself.
-    fn run_other(&mut self, command: Command, history: &mut History) -> Result<(), Stop>
-        requires stands { TellsSome (StandsFor self.old) history.old.entries }
+    /// Lets so many seconds pass, if any.
+    fn let_pass(&mut self, seconds: u32, history: &mut History) -> Result<(), Stop>
+        requires stands { TellsSome (StandsFor self.old) history.old }
         requires room { length history.old.entries ≤ MAX_ENTRIES }
-        requires decided { IsDecided command }
-        ensures answered { (w : Whole) → IsTold (StandsFor self.old) history.old.entries w →
-            Answered result (StandsFor self.new) self.old.control.grain w
-            (by_main (command_asked self.old.control.grain w.books command)) history.old history.new }
+        ensures passed { (read : Reading) (w : Whole) → IsTold (StandsFor self.old) history.old w →
+            Brought result (StandsFor self.new) (session_rules self.old.control.grain read) (Seconds (begun seconds (all_work w.books)) []) (Session []) w history.old history.new }
         ensures grain { self.new.control.grain ≡ self.old.control.grain }
         ensures disks { disks_in self.new.lanes ≡ disks_in self.old.lanes }
         ensures quiet { QuietBy history.old.entries self.old.lanes → StaysUp result (QuietBy history.new.entries self.new.lanes) }
         ensures limit { length history.new.entries ≤ MAX_ENTRIES }
     {
-        self.run_command(command, history)
+        match seconds {
+            0 => Ok(()),
+            seconds => self.advance(seconds, history),
+        }
     }
 
-    /// Answers a command line: an access grain by grain, and any other command by its entry.
-    fn run_any(&mut self, command: Command, history: &mut History) -> Result<(), Stop>
-        requires stands { TellsSome (StandsFor self.old) history.old.entries }
+    /// Answers a command that is no access: it asks for itself, and where it is done its seconds pass.
+    fn run_other(&mut self, command: Command, history: &mut History) -> Result<(), Stop>
+        requires stands { TellsSome (StandsFor self.old) history.old }
         requires room { length history.old.entries ≤ MAX_ENTRIES }
-        ensures answered { (w : Whole) → IsTold (StandsFor self.old) history.old.entries w →
-            Answered result (StandsFor self.new) self.old.control.grain w
-            (by_main (command_asked self.old.control.grain w.books command)) history.old history.new }
+        requires decided { IsDecided command }
+        ensures answered { (read : Reading) (w : Whole) → IsTold (StandsFor self.old) history.old w →
+            Answered result (StandsFor self.new) (session_rules self.old.control.grain read)
+            (Own (command_asked self.old.control.grain w.books command) (command_seconds command) []) w history.old history.new }
+        ensures grain { self.new.control.grain ≡ self.old.control.grain }
+        ensures disks { disks_in self.new.lanes ≡ disks_in self.old.lanes }
+        ensures quiet { QuietBy history.old.entries self.old.lanes → StaysUp result (QuietBy history.new.entries self.new.lanes) }
+        ensures limit { length history.new.entries ≤ MAX_ENTRIES }
+    {
+        let seconds = seconds_of(&command);
+        match self.run_command(command, history) {
+            Ok(true) => self.let_pass(seconds, history),
+            Ok(false) => Ok(()),
+            Err(stop) => Err(stop),
+        }
+    }
+
+    /// Answers a command line: an access grain by grain, and any other command by its entry and those of its seconds.
+    fn run_any(&mut self, command: Command, history: &mut History) -> Result<(), Stop>
+        requires stands { TellsSome (StandsFor self.old) history.old }
+        requires room { length history.old.entries ≤ MAX_ENTRIES }
+        ensures answered { (read : Reading) (w : Whole) → IsTold (StandsFor self.old) history.old w →
+            Answered result (StandsFor self.new) (session_rules self.old.control.grain read)
+            (Own (command_asked self.old.control.grain w.books command) (command_seconds command) []) w history.old history.new }
         ensures grain { self.new.control.grain ≡ self.old.control.grain }
         ensures disks { disks_in self.new.lanes ≡ disks_in self.old.lanes }
         ensures quiet { QuietBy history.old.entries self.old.lanes → StaysUp result (QuietBy history.new.entries self.new.lanes) }
@@ -64,14 +99,14 @@ impl<D: Mdisk> Store<D> {
         }
     }
 
-    /// Answers a line: one entry or more at the history's end, or none for a blank one. A line that belongs to a block of
-    /// actors is told as one that there isn't.
+    /// Answers a line: one entry or more at the history's end, or none for a blank one; behind an `advance` that is done, the
+    /// entries of its seconds. A line that belongs to a block of actors is answered as an unknown command. Stopped, the first of
+    /// its entries are there; but for want of memory the store goes on to stand for what is told.
     pub fn run_line(&mut self, line: Line, history: &mut History) -> Result<(), Stop>
-        requires stands { TellsSome (StandsFor self.old) history.old.entries }
+        requires stands { TellsSome (StandsFor self.old) history.old }
         requires room { length history.old.entries ≤ MAX_ENTRIES }
-        ensures answered { (w : Whole) → IsTold (StandsFor self.old) history.old.entries w →
-            Answered result (StandsFor self.new) self.old.control.grain w
-            (by_main (asked self.old.control.grain w.books (Ok line))) history.old history.new }
+        ensures answered { (read : Reading) (bytes : List ℕ) (w : Whole) → read w.books bytes ≡ Ok line → IsTold (StandsFor self.old) history.old w →
+            Answered result (StandsFor self.new) (session_rules self.old.control.grain read) (Session (single bytes ∷ [])) w history.old history.new }
         ensures grain { self.new.control.grain ≡ self.old.control.grain }
         ensures disks { disks_in self.new.lanes ≡ disks_in self.old.lanes }
         ensures quiet { QuietBy history.old.entries self.old.lanes → StaysUp result (QuietBy history.new.entries self.new.lanes) }
@@ -81,7 +116,7 @@ impl<D: Mdisk> Store<D> {
             Line::Blank => Ok(()),
             Line::Command(command) => self.run_any(command, history),
             Line::Together | Line::Actor { .. } | Line::End => {
-                self.push_unread(WordFault::UnknownCommand, history)
+                self.log_unread(WordFault::UnknownCommand, history)
             }
         }
     }

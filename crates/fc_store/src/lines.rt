@@ -1,23 +1,24 @@
 //! Reads and writes, refused accesses and unread lines: what they ask, entry by entry.
 
-ghost use Rattle.std.specs.Prelude.{◌≡◌, ◌+◌, ◌*◌, ◌<◌, ◌≤◌, ◌∷◌, [], length, map, Contains, Some, None, Err, IfOk, IfErr};
-ghost use Rattle.fc_store.specs.Quiet.{QuietBy};
+ghost use Rattle.std.specs.Prelude.{◌≡◌, ◌+◌, ◌*◌, ◌<◌, ◌≤◌, ◌∷◌, [], ℕ, List as Items, length, map, Contains, Some, None, Err, IfOk, IfErr};
+ghost use Rattle.fc_stands.specs.Quiet.{QuietBy};
 ghost use Rattle.fc_base.specs.Grain.{grain_blocks};
 ghost use Rattle.fc_base.specs.Tables.{volume_named};
 ghost use Rattle.fc_base.specs.declared.volume.Volume.{Volume};
 ghost use Rattle.fc_books.specs.Books.{Books};
 ghost use Rattle.fc_books.specs.Refused.{access_refused};
 ghost use Rattle.fc_entry.specs.Refused.{blocks_refusal};
-ghost use Rattle.fc_legal.specs.Asked.{asked, command_asked, touched};
-ghost use Rattle.fc_legal.specs.Run.{by_main};
+ghost use Rattle.fc_legal.specs.Added.{Answered, IsTold, StaysUp, TellsSome};
+ghost use Rattle.fc_blocks.specs.Segments.{single};
+ghost use Rattle.fc_legal.specs.Agenda.{Session, Own, Reading, session_rules};
+ghost use Rattle.fc_legal.specs.Asked.{command_asked, touched};
 ghost use Rattle.fc_legal.specs.Whole.{Whole};
-ghost use Rattle.fc_store.specs.Answering.{Answered, IsTold, TellsSome, StaysUp};
-ghost use Rattle.fc_store.specs.Apart.{IsRefusalOf};
-ghost use Rattle.fc_store.specs.Asking.{command_of, part_of};
-ghost use Rattle.fc_store.specs.Dealing.{disks_in};
-ghost use Rattle.fc_store.specs.Store.{StandsFor};
+ghost use Rattle.fc_stands.specs.Logged.{Logged, anything};
+ghost use Rattle.fc_stands.specs.Apart.{IsRefusalOf};
+ghost use Rattle.fc_lanes.specs.Asking.{command_of, part_of};
+ghost use Rattle.fc_lanes.specs.Dealing.{disks_in};
+ghost use Rattle.fc_stands.specs.Store.{StandsFor};
 
-use crate::access::{Access, access_lane};
 use crate::log::{entry_apart, is_full, log};
 use crate::store::Store;
 use fc_base::fault::{Kind, Refusal, ValueOf, WordFault};
@@ -31,6 +32,7 @@ use fc_base::size::GrainSize;
 use fc_base::volume::Volume;
 use fc_entry::history::History;
 use fc_entry::stop::Stop;
+use fc_lanes::access::{Access, access_lane};
 use fc_mdisk::mdisk::Mdisk;
 
 /// Why an access of so many blocks of a volume is refused, if it is: Limit for more than 8,192; BadValue for none, and for
@@ -59,15 +61,14 @@ impl<D: Mdisk> Store<D> {
         grain: u32,
         history: &mut History,
     ) -> Result<(), Stop>
-        requires stands { TellsSome (StandsFor self.old) history.old.entries }
+        requires stands { TellsSome (StandsFor self.old) history.old }
         requires room { length history.old.entries ≤ MAX_ENTRIES }
         requires there { (v : Volume) × Contains self.old.control.tables.volumes v × (v.id ≡ volume) × (grain < v.grains) }
         requires some { 0 < count }
         requires begins { block < (grain + 1) * grain_blocks self.old.control.grain }
         requires ends { grain * grain_blocks self.old.control.grain < block + count }
-        ensures answered { (w : Whole) → IsTold (StandsFor self.old) history.old.entries w →
-            Answered result (StandsFor self.new) self.old.control.grain w
-            (by_main (part_of self.old.control.grain access volume block count grain ∷ [])) history.old history.new }
+        ensures answered { (w : Whole) → IsTold (StandsFor self.old) history.old w →
+            Logged result anything (StandsFor self.new) self.old.control.grain w (part_of self.old.control.grain access volume block count grain) history.old history.new }
         ensures control { self.new.control ≡ self.old.control }
         ensures disks { disks_in self.new.lanes ≡ disks_in self.old.lanes }
         ensures quiet { QuietBy history.old.entries self.old.lanes → StaysUp result (QuietBy history.new.entries self.new.lanes) }
@@ -107,14 +108,14 @@ impl<D: Mdisk> Store<D> {
         count: u32,
         history: &mut History,
     ) -> Result<(), Stop>
-        requires stands { TellsSome (StandsFor self.old) history.old.entries }
+        requires stands { TellsSome (StandsFor self.old) history.old }
         requires room { length history.old.entries ≤ MAX_ENTRIES }
         requires some { 0 < count }
         requires few { count ≤ MAX_BLOCKS }
         requires there { (v : Volume) × Contains self.old.control.tables.volumes v × (v.id ≡ volume) × (block + count ≤ v.grains * grain_blocks self.old.control.grain) }
-        ensures answered { (w : Whole) → IsTold (StandsFor self.old) history.old.entries w →
-            Answered result (StandsFor self.new) self.old.control.grain w
-            (by_main (map (part_of self.old.control.grain access volume block count) (touched self.old.control.grain block count))) history.old history.new }
+        ensures answered { (read : Reading) (w : Whole) → IsTold (StandsFor self.old) history.old w →
+            Answered result (StandsFor self.new) (session_rules self.old.control.grain read)
+            (Own (map (part_of self.old.control.grain access volume block count) (touched self.old.control.grain block count)) 0 []) w history.old history.new }
         ensures control { self.new.control ≡ self.old.control }
         ensures disks { disks_in self.new.lanes ≡ disks_in self.old.lanes }
         ensures quiet { QuietBy history.old.entries self.old.lanes → StaysUp result (QuietBy history.new.entries self.new.lanes) }
@@ -139,11 +140,11 @@ impl<D: Mdisk> Store<D> {
         request: Request,
         refusal: Refusal,
     ) -> Result<(), Stop>
-        requires stands { TellsSome (StandsFor self.now) history.old.entries }
+        requires stands { TellsSome (StandsFor self.now) history.old }
         requires room { length history.old.entries ≤ MAX_ENTRIES }
-        requires refused { (w : Whole) → IsTold (StandsFor self.now) history.old.entries w → IsRefusalOf self.now.control.grain w request refusal }
-        ensures answered { (w : Whole) → IsTold (StandsFor self.now) history.old.entries w →
-            Answered result (StandsFor self.now) self.now.control.grain w (by_main (request ∷ [])) history.old history.new }
+        requires refused { (w : Whole) → IsTold (StandsFor self.now) history.old w → IsRefusalOf self.now.control.grain w request refusal }
+        ensures answered { (w : Whole) → IsTold (StandsFor self.now) history.old w →
+            Logged result anything (StandsFor self.now) self.now.control.grain w request history.old history.new }
         ensures quiet { QuietBy history.old.entries self.now.lanes → StaysUp result (QuietBy history.new.entries self.now.lanes) }
         ensures limit { length history.new.entries ≤ MAX_ENTRIES }
     {
@@ -186,11 +187,11 @@ impl<D: Mdisk> Store<D> {
         count: u32,
         history: &mut History,
     ) -> Result<(), Stop>
-        requires stands { TellsSome (StandsFor self.old) history.old.entries }
+        requires stands { TellsSome (StandsFor self.old) history.old }
         requires room { length history.old.entries ≤ MAX_ENTRIES }
-        ensures answered { (w : Whole) → IsTold (StandsFor self.old) history.old.entries w →
-            Answered result (StandsFor self.new) self.old.control.grain w
-            (by_main (command_asked self.old.control.grain w.books (command_of access volume block count))) history.old history.new }
+        ensures answered { (read : Reading) (w : Whole) → IsTold (StandsFor self.old) history.old w →
+            Answered result (StandsFor self.new) (session_rules self.old.control.grain read)
+            (Own (command_asked self.old.control.grain w.books (command_of access volume block count)) 0 []) w history.old history.new }
         ensures control { self.new.control ≡ self.old.control }
         ensures disks { disks_in self.new.lanes ≡ disks_in self.old.lanes }
         ensures quiet { QuietBy history.old.entries self.old.lanes → StaysUp result (QuietBy history.new.entries self.new.lanes) }
@@ -206,16 +207,29 @@ impl<D: Mdisk> Store<D> {
     }
 
     /// Logs a line with a fault in its words.
-    pub fn push_unread(&mut self, fault: WordFault, history: &mut History) -> Result<(), Stop>
-        requires stands { TellsSome (StandsFor self.old) history.old.entries }
+    pub(crate) fn log_unread(&self, fault: WordFault, history: &mut History) -> Result<(), Stop>
+        requires stands { TellsSome (StandsFor self.now) history.old }
         requires room { length history.old.entries ≤ MAX_ENTRIES }
-        ensures answered { (w : Whole) → IsTold (StandsFor self.old) history.old.entries w →
-            Answered result (StandsFor self.new) self.old.control.grain w (by_main (asked self.old.control.grain w.books (Err fault))) history.old history.new }
+        ensures answered { (w : Whole) → IsTold (StandsFor self.now) history.old w →
+            Logged result anything (StandsFor self.now) self.now.control.grain w (Request.Unread fault) history.old history.new }
+        ensures quiet { QuietBy history.old.entries self.now.lanes → StaysUp result (QuietBy history.new.entries self.now.lanes) }
+        ensures limit { length history.new.entries ≤ MAX_ENTRIES }
+    {
+        self.log_refused(history, Request::Unread(fault), Refusal::Words(fault))
+    }
+
+    /// Answers a line that is read as one with this fault in its words: one entry, or none where the history is full or memory
+    /// is wanted for it.
+    pub fn push_unread(&mut self, fault: WordFault, history: &mut History) -> Result<(), Stop>
+        requires stands { TellsSome (StandsFor self.old) history.old }
+        requires room { length history.old.entries ≤ MAX_ENTRIES }
+        ensures answered { (read : Reading) (bytes : Items ℕ) (w : Whole) → read w.books bytes ≡ Err fault → IsTold (StandsFor self.old) history.old w →
+            Answered result (StandsFor self.new) (session_rules self.old.control.grain read) (Session (single bytes ∷ [])) w history.old history.new }
         ensures control { self.new.control ≡ self.old.control }
         ensures disks { disks_in self.new.lanes ≡ disks_in self.old.lanes }
         ensures quiet { QuietBy history.old.entries self.old.lanes → StaysUp result (QuietBy history.new.entries self.new.lanes) }
         ensures limit { length history.new.entries ≤ MAX_ENTRIES }
     {
-        self.log_refused(history, Request::Unread(fault), Refusal::Words(fault))
+        self.log_unread(fault, history)
     }
 }

@@ -1,8 +1,10 @@
 //! Entries of the history.
 
-ghost use Rattle.std.specs.Prelude.{◌≡◌, ◌<◌, ◌≤◌, [], ◌∷◌, ◌++◌, length, IfErr, OnErr, OnOk, None};
+ghost use Rattle.std.specs.Prelude.{◌≡◌, ◌<◌, ◌≤◌, [], ◌∷◌, ◌++◌, length, IfErr, IfOk, OnErr, OnOk, None};
 ghost use Rattle.std.specs.Bool.{OnFalse, OnTrue};
-ghost use Rattle.fc_store.specs.Apart.{entry_apart};
+ghost use Rattle.fc_legal.specs.Agenda.{is_done};
+ghost use Rattle.fc_legal.specs.Seconds.{has_moved};
+ghost use Rattle.fc_stands.specs.Apart.{entry_apart};
 
 use fc_base::limits::MAX_ENTRIES;
 use fc_base::list::List;
@@ -31,6 +33,48 @@ pub(crate) fn log(history: &mut History, entry: Entry) -> Result<(), Stop>
         Ok(()) => Ok(()),
         Err(_) => Err(Stop::NoMemory),
     }
+}
+
+/// Puts an entry at the history's end: whether it is done.
+pub(crate) fn log_done(history: &mut History, entry: Entry) -> Result<bool, Stop>
+    requires { entry.number ≡ length history.old.entries }
+    ensures ok { IfOk result (λ done. (done ≡ is_done entry.reply) × (history.new ≡ record history.old { entries = history.old.entries ++ entry ∷ [] })) }
+    ensures err { OnErr result (history.new ≡ history.old) }
+    ensures stop { IfErr result (λ stop. stop ≡ Stop.NoMemory) }
+{
+    let done = is_done(&entry);
+    match log(history, entry) {
+        Ok(()) => Ok(done),
+        Err(stop) => Err(stop),
+    }
+}
+
+/// Puts the entry of a copy or cleaning at the history's end: whether the grain was moved.
+pub(crate) fn log_fill(history: &mut History, entry: Entry) -> Result<bool, Stop>
+    requires { entry.number ≡ length history.old.entries }
+    ensures ok { IfOk result (λ moved. (moved ≡ has_moved entry.reply) × (history.new ≡ record history.old { entries = history.old.entries ++ entry ∷ [] })) }
+    ensures err { OnErr result (history.new ≡ history.old) }
+    ensures stop { IfErr result (λ stop. stop ≡ Stop.NoMemory) }
+{
+    let moved = has_moved(&entry);
+    match log(history, entry) {
+        Ok(()) => Ok(moved),
+        Err(stop) => Err(stop),
+    }
+}
+
+/// Whether the entry's reply is Done.
+fn is_done(entry: &Entry) -> bool
+    ensures { result ≡ is_done entry.now.reply }
+{
+    matches!(entry.reply, Reply::Done)
+}
+
+/// Whether the entry's reply says that a grain was copied or cleaned.
+fn has_moved(entry: &Entry) -> bool
+    ensures { result ≡ has_moved entry.now.reply }
+{
+    matches!(entry.reply, Reply::Moved { .. })
 }
 
 /// An entry of `main` that speaks of no disk.

@@ -2,20 +2,19 @@
 
 ghost use Rattle.std.specs.Prelude.{◌≡◌, ◌<◌, ◌≤◌, ◌^◌, ◌+◌, ◌++◌, IfOk, List, map, vec_len, vec_capacity};
 ghost use Rattle.std.specs.List.{All};
-ghost use Rattle.fc_store.specs.Quiet.{AreQuiet};
+ghost use Rattle.fc_stands.specs.Quiet.{AreQuiet};
 ghost use Rattle.fc_grains.specs.Grains.{pool_of, silent_of, total_of};
 ghost use Rattle.fc_legal.specs.Whole.{opened};
 ghost use Rattle.fc_mdisk.specs.Disk.{IsFresh};
-ghost use Rattle.fc_store.specs.Dealing.{AreAllIn, disks_in, pools_dealt, silent_in};
-ghost use Rattle.fc_store.specs.Store.{StandsFor};
+ghost use Rattle.fc_lanes.specs.Dealing.{AreAllIn, disks_in, pools_dealt, silent_in};
+ghost use Rattle.fc_stands.specs.Store.{StandsFor};
 
-use crate::deal::{deal, make_lanes};
 use crate::store::Store;
 use fc_base::limits::LANES;
 use fc_base::outcome::NoMemory;
 use fc_base::size::GrainSize;
 use fc_control::Control;
-use fc_lane::lane::Lane;
+use fc_lanes::deal::{deal, give_lanes, make_lanes};
 use fc_mdisk::mdisk::Mdisk;
 use std::alloc::Global;
 use std::collections::VecDeque;
@@ -53,15 +52,5 @@ impl<D: Mdisk> Store<D> {
     {
         let Store { lanes, .. } = self;
         give_lanes(VecDeque::from(lanes), into);
-    }
-}
-
-/// Appends the disks of lanes, in order.
-fn give_lanes<D: Mdisk>(mut lanes: VecDeque<Lane<D>>, into: &mut Vec<D>)
-    requires { vec_len into.old + total_of (disks_in lanes.items) ≤ vec_capacity into.old }
-    ensures { (given : List D) × (into.new.items ≡ into.old.items ++ given) × AreAllIn lanes.items (map D.meaning given) }
-{
-    while let Some(lane) = lanes.pop_front() {
-        lane.give_disks(into);
     }
 }

@@ -2,44 +2,14 @@
 
 ghost use Rattle.std.specs.Prelude.{◌≡◌, ◌≤◌, filter, length, OnOk};
 ghost use Rattle.fc_control.specs.Changes.{adds, CanApply};
-ghost use Rattle.fc_follow.specs.Following.{TriggersFirst};
-ghost use Rattle.fc_rules.specs.LaneFits.{WorksFirst};
-ghost use Rattle.fc_store.specs.Phase.{CanAllDo, CanControlDo, CanPrepare, EachLane, FitAll, IsControlAfter, IsDecidedAt, IsDone, IsLaneAfter, IsLaneReady, IsReadyFor, IsReserved};
+ghost use Rattle.fc_lanes.specs.AllLanes.{CanAllDo, EachLane, IsLaneAfter, IsLaneReady};
+ghost use Rattle.fc_stands.specs.Phase.{CanControlDo, CanPrepare, IsControlAfter, IsDecidedAt, IsDone, IsReadyFor, IsReserved};
 
 use crate::store::Store;
-use fc_base::decision::{Decision, LaneEvents};
+use fc_base::decision::Decision;
 use fc_base::outcome::NoMemory;
-use fc_lane::lane::Lane;
+use fc_lanes::phases::{apply_lanes, reserve_lanes};
 use fc_mdisk::mdisk::Mdisk;
-
-/// Makes all lanes ready for events, so that `apply_lanes` of them takes no memory. What is told stays.
-fn reserve_lanes<D: Mdisk>(lanes: &mut [Lane<D>], events: &LaneEvents) -> Result<(), NoMemory>
-    requires fit { FitAll lanes.old events.now }
-    requires works { WorksFirst events.now }
-    requires triggers { TriggersFirst events.now }
-    ensures ok { OnOk result (CanAllDo lanes.new events.now) }
-    ensures ready { EachLane IsLaneReady lanes.old lanes.new }
-{
-    for place in 0..lanes.len() {
-        match lanes[place].reserve(events) {
-            Ok(()) => {}
-            Err(NoMemory) => return Err(NoMemory),
-        }
-    }
-    Ok(())
-}
-
-/// Lanes do what the events say, one after the other. Takes no memory.
-fn apply_lanes<D: Mdisk>(lanes: &mut [Lane<D>], events: &LaneEvents)
-    requires ready { CanAllDo lanes.old events.now }
-    requires fit { FitAll lanes.old events.now }
-    requires triggers { TriggersFirst events.now }
-    ensures { EachLane (IsLaneAfter events.now) lanes.old lanes.new }
-{
-    for place in 0..lanes.len() {
-        lanes[place].apply(events);
-    }
-}
 
 impl<D: Mdisk> Store<D> {
     /// Makes the control part ready for a decision. What is told stays.

@@ -1,9 +1,9 @@
 //! What is decided of what the store stands for: its settling, and what a command does.
 
 ghost use Rattle.std.specs.Prelude.{◌≡◌, IfOk};
-ghost use Rattle.fc_store.specs.LaneSheet.{view_of};
-ghost use Rattle.fc_store.specs.Phase.{IsDecided};
-ghost use Rattle.fc_store.specs.Settling.{CanDecide, CanSettle, IsDecisionOn, IsSettling};
+ghost use Rattle.fc_lane_sheet.specs.LaneSheet.{view_of};
+ghost use Rattle.fc_stands.specs.Phase.{IsDecided};
+ghost use Rattle.fc_stands.specs.Settling.{CanDecide, CanSettle, IsDecisionOn, IsSettling};
 
 use crate::store::Store;
 use fc_base::command::Command;

@@ -1,12 +1,12 @@
 //! The two phases of a command: all is settled, and then what the command asks is decided and done.
 
 ghost use Rattle.std.specs.Prelude.{◌≡◌, ◌++◌, List as Items};
-ghost use Rattle.fc_store.specs.Quiet.{AnswersUnarmed, AreQuiet};
+ghost use Rattle.fc_stands.specs.Quiet.{AnswersUnarmed, AreQuiet};
 ghost use Rattle.fc_base.specs.declared.request.Effect.{Effect};
-ghost use Rattle.fc_store.specs.Dealing.{disks_in};
+ghost use Rattle.fc_lanes.specs.Dealing.{disks_in};
 ghost use Rattle.fc_store.specs.Effects.{IsJoined};
-ghost use Rattle.fc_store.specs.Phase.{IsDecided};
-ghost use Rattle.fc_store.specs.Settling.{CanDecide, CanSettle, Decides, Settles};
+ghost use Rattle.fc_stands.specs.Phase.{IsDecided};
+ghost use Rattle.fc_stands.specs.Settling.{CanDecide, CanSettle, Decides, Settles};
 
 use crate::effects::{join, taken};
 use crate::store::Store;

@@ -15,7 +15,7 @@ pub struct Store<D: Mdisk> {
 }
 
 impl<D: Mdisk> Model for Store<D> {
-    ghost use Rattle.fc_store.specs.Store.{StoreView};
+    ghost use Rattle.fc_stands.specs.Store.{StoreView};
 
     ghost Value = { StoreView };
 

@@ -2,7 +2,7 @@
 
 ghost use Rattle.std.specs.Prelude.{◌≡◌, ◌+◌, ◌≤◌, ◌<◌, ◌++◌, ◌∷◌, [], IfOk, IfErr, List, length, vec_len, vec_capacity};
 ghost use Rattle.fc_lane.specs.Lane.{LaneView};
-ghost use Rattle.fc_store.specs.Store.{StoreView};
+ghost use Rattle.fc_stands.specs.Store.{StoreView};
 ghost use Rattle.fc_store.specs.StoreParts.{lane_parts, parts_view};
 
 use crate::store::Store;

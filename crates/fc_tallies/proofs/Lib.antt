@@ -7,3 +7,4 @@ pub mod Touched
 pub mod Retally
 pub mod Nexts
 pub mod OwnCounts
+pub mod Fronts

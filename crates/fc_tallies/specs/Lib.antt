@@ -2,3 +2,4 @@
 pub mod Tallies
 pub mod Ledger
 pub mod Nexts
+pub mod Fronts

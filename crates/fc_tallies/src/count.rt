@@ -1,9 +1,10 @@
 //! Slots that are needed by none, the direct readers of a slot, and whether live slots stand behind it.
 
-ghost use Rattle.std.specs.Prelude.{◌≡◌, ℕ, ◌<◌, ◌≤◌, ◌↔◌, IsTrue, length, OnOk, ◌++◌};
+ghost use Rattle.std.specs.Prelude.{◌≡◌, ℕ, ◌<◌, ◌≤◌, ◌↔◌, IsTrue, length, OnOk, OnErr, ◌++◌};
 ghost use Rattle.fc_base.specs.Sheet.{slot_at};
 ghost use Rattle.fc_base.specs.Counts.{LiveBehind, names_below, is_direct, is_unneeded};
 ghost use Rattle.fc_slots.specs.Contiguous.{IsContiguous};
+ghost use Rattle.fc_tallies.specs.Fronts.{AddsFront};
 ghost use Rattle.fc_tallies.specs.Tallies.{AreTallies, AreOneSize, HoldsWords};
 
 use crate::tallies::Tallies;
@@ -15,7 +16,8 @@ use fc_base::outcome::NoMemory;
 use fc_slots::slot::Slot;
 use std::alloc::Global;
 
-/// Adds the names of the live slots other than the one at a place that have it as holder at some grain.
+/// Adds the names of the live slots other than the one at a place that have it as holder at some grain. Refused, the first of
+/// them may be added.
 pub fn add_direct(
     alloc: Global,
     slots: &[Slot],
@@ -25,7 +27,8 @@ pub fn add_direct(
     requires there { place < length slots.now }
     requires together { IsContiguous slots.now }
     requires sizes { AreOneSize slots.now }
-    ensures { OnOk result (out.new ≡ out.old ++ names_below slots.now (is_direct slots.now place) (length slots.now)) }
+    ensures ok { OnOk result (out.new ≡ out.old ++ names_below slots.now (is_direct slots.now place) (length slots.now)) }
+    ensures err { OnErr result (AddsFront out.old (names_below slots.now (is_direct slots.now place) (length slots.now)) out.new) }
 {
     match Vec::from_slice(alloc, slots[place].held().words()) {
         Ok(mut left) => add_readers(slots, place, &mut left, out),
@@ -45,7 +48,8 @@ fn add_readers(
     requires together { IsContiguous slots.now }
     requires sizes { AreOneSize slots.now }
     requires left { HoldsWords (slot_at slots.now place).held left.old }
-    ensures { OnOk result (out.new ≡ out.old ++ names_below slots.now (is_direct slots.now place) (length slots.now)) }
+    ensures ok { OnOk result (out.new ≡ out.old ++ names_below slots.now (is_direct slots.now place) (length slots.now)) }
+    ensures err { OnErr result (AddsFront out.old (names_below slots.now (is_direct slots.now place) (length slots.now)) out.new) }
 {
     let mut remaining = slots[place].held_count();
     let mut reader = place;
@@ -60,7 +64,7 @@ fn add_readers(
     Ok(())
 }
 
-/// Adds the names of the old slots that nobody needs.
+/// Adds the names of the old slots that nobody needs. Refused, the first of them may be added.
 pub fn add_unneeded(
     slots: &[Slot],
     tallies: &Tallies,
@@ -68,7 +72,8 @@ pub fn add_unneeded(
 ) -> Result<(), NoMemory>
     requires room { length slots.now ≤ length tallies.now.tallies }
     requires tallied { AreTallies slots.now tallies.now.tallies }
-    ensures { OnOk result (out.new ≡ out.old ++ names_below slots.now (is_unneeded slots.now) (length slots.now)) }
+    ensures ok { OnOk result (out.new ≡ out.old ++ names_below slots.now (is_unneeded slots.now) (length slots.now)) }
+    ensures err { OnErr result (AddsFront out.old (names_below slots.now (is_unneeded slots.now) (length slots.now)) out.new) }
 {
     for (place, slot) in slots.iter().enumerate() {
         if !slot.is_live() && tallies.at(place).needed == 0 {

@@ -6,18 +6,23 @@ use Rattle.std.proofs.lemmas.List.{ext_get_or, get_or-map, length-map}
 use Rattle.std.proofs.lemmas.List.Elements.{All-get_or, All-from_get_or}
 use Rattle.std.proofs.lemmas.List.Sums.{sum-map, sum_by-cons}
 use Rattle.fc_base.specs.declared.size.GrainSize.{GrainSize}
+use Rattle.fc_entry.specs.HistoryState.{HistoryState}
 use Rattle.fc_entry.specs.declared.entry.Entry.{Entry}
 use Rattle.fc_grains.specs.Grains.{pool_of, stopped, silent_of}
 use Rattle.fc_lane.specs.Lane.{LaneView}
 use Rattle.fc_legal.specs.Legal.{IsLegal}
 use Rattle.fc_legal.specs.Whole.{Whole, part_at}
 use Rattle.fc_mdisk.specs.Disk.{DiskState}
-use Rattle.fc_store.specs.Dealing.{AreAllIn, disks_in, faults_in}
-use Rattle.fc_store.specs.Store.{StoreView, StandsFor, IsLaneAt}
-use Rattle.fc_top.specs.DisksBack.{AreBack, AreCounted}
-use Rattle.fc_store.specs.Arming.{ArmNothing}
-use Rattle.fc_store.specs.Quiet.{AreQuiet}
-use Rattle.fc_top.proofs.Counting.{IsLegal-counts}
+use Rattle.fc_lanes.specs.Dealing.{AreAllIn, disks_in, faults_in}
+use Rattle.fc_stands.specs.Store.{StoreView, StandsFor, IsLaneAt}
+use Rattle.fc_run.specs.declared.ended.Ended.{Ended}
+use Rattle.fc_run.specs.declared.ended.Ended.TheVariants as ended
+use Rattle.fc_top.specs.Call.{status_of}
+use Rattle.fc_top.specs.DisksBack.{AreBack, AreCounted, DisksAfter, first_told}
+use Rattle.fc_top.specs.StoreRuns.{HasDisks, IsUp, Start, StandsOr}
+use Rattle.fc_stands.specs.Arming.{ArmNothing}
+use Rattle.fc_stands.specs.Quiet.{AreQuiet}
+use Rattle.fc_top.proofs.Kept.{IsLegal-keeps}
 
 few-counted : (n m : ℕ) → n ≤ m * 2 ^ 32 → m ≤ 262144 → n + 1 < 2 ^ 64
 few-counted n m few entries = omega (arith, few, entries)
@@ -96,17 +101,8 @@ faults-quiet (v ∷ vs) quiet =
     let rest : faults_in vs ≡ 0 = faults-quiet vs (λ i d within. quiet (suc i) d (omega (arith, within))) in
     omega (arith, sum_by-cons (λ (x : LaneView). x.grains.faults) v vs, (quiet 0 v (omega arith)).faults, rest)
 
--- and what is told of the lanes
-faults_told-none :
-    (s : StoreView) (w : Whole) (d : LaneView) → StandsFor s w → AreQuiet s.lanes → All (λ faults. faults ≡ 0) w.faults
-faults_told-none s w d stands quiet =
-    All-from_get_or (λ faults. faults ≡ 0) w.faults 0
-    (λ i inside.
-    let within : i < length s.lanes = omega (arith, inside, stands.count) in
-    sym (lane_faults s.control.grain w i (slice_index_or s.lanes i d) (stands.each i d within)) ∙ (quiet i d within).faults)
-
 -- all disks that the lanes have, as many as were handed in
-pub AreBack-all :
+AreBack-all :
     (old given : List DiskState) (s : StoreView) (history : List Entry) (w : Whole) →
     StandsFor s w →
     w.entries ≤ 262144 →
@@ -128,20 +124,36 @@ AreBack-all old given s history w stands entries many all quiet =
       faults = λ counted.
           all.faults (All-of_map (λ n. n + 1 < 2 ^ 64) faults_of_lane s.lanes d (subst AreCounted (sym faults_are) counted))
           ∙ (sym (sum-map faults_of_lane s.lanes) ∙ ap sum faults_are);
+      counted =
+          let told : sum w.faults ≡ faults_in s.lanes = ap sum (sym faults_are) ∙ sum-map faults_of_lane s.lanes in
+          omega (arith, told, all.counted);
       quiet = λ none told. let q = quiet none told in all.faults (counted-quiet s.lanes q) ∙ faults-quiet s.lanes q;
-      unfailing = λ none told. faults_told-none s w d stands (quiet none told);
     }
 
 -- after a legal history of no more than the greatest number of entries
-pub AreBack-legal :
-    (old given : List DiskState) (s : StoreView) (grain : GrainSize) (history : List Entry) (w last : Whole) →
-    w.entries ≡ 0 →
-    IsLegal grain w history last →
-    length history ≤ 262144 →
-    StandsFor s last →
-    disks_in s.lanes ≡ pool_of old →
+back_of_up :
+    (start : Start) (s : StoreView) (given : List DiskState) (history : HistoryState) (last : Whole) →
     AreAllIn s.lanes given →
-    (ArmNothing history → silent_of old ≡ 0 → AreQuiet s.lanes) →
-    AreBack old given history last
-AreBack-legal old given s grain history w last fresh legal few stands many all quiet =
-    AreBack-all old given s history last stands (omega (arith, fresh, few, IsLegal-counts grain w last history legal)) many all quiet
+    length history.entries ≤ 262144 →
+    IsLegal start.grain (first_told start.disks) history.entries last →
+    IsUp start s history last →
+    AreBack start.disks given history.entries last
+back_of_up start s given history last all few legal up =
+    AreBack-all start.disks given s history.entries last up.stands
+    (omega (arith, few, (IsLegal-keeps start.grain (first_told start.disks) last history.entries legal).entries)) up.disks all
+    (λ none told. up.quiet told none)
+
+-- The disks that a store gave after a session.
+pub DisksAfter-given :
+    (e : Ended) (start : Start) (s : StoreView) (given : List DiskState) (history : HistoryState) (last : Whole) →
+    AreAllIn s.lanes given →
+    length history.entries ≤ 262144 →
+    IsLegal start.grain (first_told start.disks) history.entries last →
+    StandsOr e (IsUp start s history last) (HasDisks start s) →
+    DisksAfter (status_of e) start.disks given history.entries last
+DisksAfter-given ended.NoMemory start s given history last all few legal up = tt
+DisksAfter-given ended.Done start s given history last all few legal up = back_of_up start s given history last all few legal up
+DisksAfter-given ended.ReadFault start s given history last all few legal up = back_of_up start s given history last all few legal up
+DisksAfter-given ended.TooLong start s given history last all few legal up = back_of_up start s given history last all few legal up
+DisksAfter-given ended.LogFull start s given history last all few legal up = back_of_up start s given history last all few legal up
+DisksAfter-given ended.WriteFault start s given history last all few legal up = back_of_up start s given history last all few legal up

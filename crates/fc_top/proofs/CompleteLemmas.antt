@@ -1,40 +1,36 @@
--- A call of the program is complete, by how it ends and by the law of completeness.
-use Rattle.std.proofs.Common.{◌≡◌, ◌≢◌, ◌⊎◌, ◌≤◌, List, [], ◌∷◌, length, Option, Some, None, refl, subst, arith, ap, ◌∙◌, inl, inr, length-append}
-use Rattle.std.specs.List.{All}
+-- A call of the program is complete, by how it ends and by the of completeness.
+use Rattle.std.proofs.Common.{◌≡◌, ◌≢◌, ◌⊎◌, ℕ, ◌+◌, ◌≤◌, List, [], ◌∷◌, length, refl, sym, subst, arith, ◌∙◌, inl, inr}
+use Rattle.std.specs.List.{All, sum}
 use Rattle.std.proofs.lemmas.List.{length-map, length-replicate}
-use Rattle.std.proofs.lemmas.List.Elements.{All-head, All-tail}
+use Rattle.std.proofs.lemmas.List.Elements.{All-cons, All-head, All-nil, All-tail}
 use Rattle.std.proofs.lemmas.List.FromFn.{length-map-range_with_len}
+use Rattle.std.proofs.lemmas.List.Sums.{sum_by-cons}
 use Rattle.fc_base.specs.Pools.{Pool}
 use Rattle.fc_base.specs.declared.limits.TheConstants.{LANES}
 use Rattle.fc_base.specs.declared.request.Request.{Request}
 use Rattle.fc_base.specs.declared.request.Request.TheVariants.{Command as Asked, Unread, Read, Write, Copy, Clean, CopyTurn, CleanTurn}
 use Rattle.fc_base.specs.declared.size.GrainSize.{GrainSize}
 use Rattle.fc_complete.proofs.Complete.{completion_law_holds}
-use Rattle.fc_complete.specs.Law.{AreServed}
 use Rattle.fc_complete.specs.Served.{AreFaultless, IsServed}
-use Rattle.fc_entry.specs.HistoryState.{HistoryState}
-use Rattle.fc_entry.specs.Lines.{ended_lines, all_lines}
 use Rattle.fc_entry.specs.declared.entry.Entry.{Entry}
 use Rattle.fc_grains.specs.Grains.{pool_of}
-use Rattle.fc_io.specs.Sink.{SinkState}
 use Rattle.fc_io.specs.Source.{SourceState}
 use Rattle.fc_legal.specs.Legal.{IsLegal}
 use Rattle.fc_legal.specs.Steps.{Step}
 use Rattle.fc_legal.specs.Whole.{Whole, lanes, opened}
 use Rattle.fc_mdisk.specs.Disk.{DiskState}
-use Rattle.fc_run.specs.Headline.{SessionEnds}
-use Rattle.fc_run.specs.Reading.{reading}
-use Rattle.fc_run.specs.declared.status.Status.{Status}
-use Rattle.fc_run.specs.declared.status.Status.TheVariants as status
-use Rattle.fc_run.specs.declared.telling.Telling.{Telling}
-use Rattle.fc_run.specs.declared.telling.Telling.TheVariants.{History, Summary}
-use Rattle.fc_store.specs.Dealing.{all_dealt, dealt, pools_dealt}
-use Rattle.fc_top.specs.Complete.{NoneFailed, IsShort, IsReadable, AnswersOnline, IsAnswered, Completes}
-use Rattle.fc_top.specs.DisksBack.{begun}
-use Rattle.fc_top.specs.Endings.{grain_of, AskedEnds}
-use Rattle.fc_top.specs.declared.words.Asked.{Asked as AskedFor}
-use Rattle.fc_top.specs.declared.words.Asked.TheVariants.{Run, Drill}
-use Rattle.fc_top.proofs.Lanes.{IsLegal-lanes}
+use Rattle.fc_run.specs.Headline.{EndsAs}
+use Rattle.fc_run.specs.Runs.{Runs}
+use Rattle.fc_run.specs.declared.ended.Ended.{Ended}
+use Rattle.fc_run.specs.declared.ended.Ended.TheVariants as ended
+use Rattle.fc_run.specs.declared.form.Form.{Form}
+use Rattle.fc_lanes.specs.Dealing.{all_dealt, dealt, pools_dealt}
+use Rattle.fc_top.specs.Call.{Call, session_of, status_of}
+use Rattle.fc_top.specs.Complete.{AnswersOnline, Completes, IsAnswered, NoDiskFailed, NoneFailed}
+use Rattle.fc_top.specs.DisksBack.{first_told, DisksAfter}
+use Rattle.fc_top.specs.declared.status.Status.{Status}
+use Rattle.fc_top.specs.declared.status.Status.TheVariants as status
+use Rattle.fc_top.proofs.Kept.{IsLegal-keeps}
 
 -- ---- accesses are answered
 
@@ -62,135 +58,93 @@ all-answered grain w last [] legal served = legal
 all-answered grain w last (entry ∷ entries) legal served = (
   legal.0,
   legal.1,
-  answers-online grain w entry.request entry legal.0 refl legal.1 (All-head IsServed entry entries served),
+  answers-online grain legal.1.before entry.request entry legal.0 refl legal.1.step (All-head IsServed entry entries served),
   all-answered grain legal.0 last entries legal.2 (All-tail IsServed entry entries served),
 )
 
 -- ---- no disk failed
 
+abbrev IsNone : ℕ → Type 0
+IsNone n = n ≡ 0
+
+-- numbers without a sum
+none_of_sum : (ns : List ℕ) → sum ns ≡ 0 → All IsNone ns
+none_of_sum [] none = All-nil IsNone
+none_of_sum (n ∷ ns) none =
+    let cut : sum (n ∷ ns) ≡ n + sum ns = sum_by-cons (λ x. x) n ns in
+    All-cons IsNone n ns (omega (arith, cut, none)) (none_of_sum ns (omega (arith, cut, none)))
+
+-- the lanes told none
+told_none :
+    (ended : Status) (old new : List DiskState) (entries : List Entry) (last : Whole) →
+    DisksAfter ended old new entries last →
+    NoDiskFailed ended new last →
+    All IsNone last.faults
+told_none status.NoMemory old new entries last after none = none
+told_none status.Done old new entries last after none = none_of_sum last.faults (omega (arith, after.counted, none))
+told_none status.Usage old new entries last after none = none_of_sum last.faults (omega (arith, after.counted, none))
+told_none status.ReadFault old new entries last after none = none_of_sum last.faults (omega (arith, after.counted, none))
+told_none status.WriteFault old new entries last after none = none_of_sum last.faults (omega (arith, after.counted, none))
+told_none status.LogFull old new entries last after none = none_of_sum last.faults (omega (arith, after.counted, none))
+told_none status.TooLong old new entries last after none = none_of_sum last.faults (omega (arith, after.counted, none))
+told_none status.Unended old new entries last after none = none_of_sum last.faults (omega (arith, after.counted, none))
+
 -- some disks' pools, and as many lanes
 dealt-some : (disks : List DiskState) → length (pools_dealt LANES disks) ≡ LANES
 dealt-some disks = length-map (all_dealt LANES disks) pool_of ∙ length-map-range_with_len (dealt LANES disks) 0 LANES
 
-begun-lanes : (pools : List Pool) → lanes (opened pools) ≡ length pools
-begun-lanes pools = length-replicate (length pools) 0
+opened-lanes : (pools : List Pool) → lanes (opened pools) ≡ length pools
+opened-lanes pools = length-replicate (length pools) 0
 
 -- there are lanes at the end
 faultless :
     (grain : GrainSize) (disks : List DiskState) (entries : List Entry) (last : Whole) →
-    IsLegal grain (begun disks) entries last →
-    All (λ n. n ≡ 0) last.faults →
+    IsLegal grain (first_told disks) entries last →
+    All IsNone last.faults →
     AreFaultless last
 faultless grain disks entries last legal none =
     record {
-      some = omega (arith, IsLegal-lanes grain (begun disks) last entries legal, begun-lanes (pools_dealt LANES disks), dealt-some disks);
+      some =
+          omega (arith, (IsLegal-keeps grain (first_told disks) last entries legal).lanes_are, opened-lanes (pools_dealt LANES disks), dealt-some disks);
       none = none;
     }
 
--- what a session tells, by its status
-served-by :
-    (ended : Status) (telling : Telling) (grain : GrainSize) (pools : List Pool) (source source' : SourceState) (sink sink' : SinkState)
-    (history : HistoryState) (last : Whole) →
-    SessionEnds ended telling grain (opened pools) source source' sink sink' history last →
-    length history.entries ≤ 262144 →
-    AreFaultless last →
-    AreServed history.entries last
-served-by status.Done telling grain pools source source' sink sink' history last ends few quiet =
-    completion_law_holds.sessions grain reading pools (all_lines ends.bytes) history.entries last (omega (arith, few)) ends.ends.2 quiet
-served-by status.ReadFault telling grain pools source source' sink sink' history last ends few quiet =
-    completion_law_holds.sessions grain reading pools (ended_lines ends.bytes) history.entries last (omega (arith, few)) ends.ends.2 quiet
-served-by status.TooLong telling grain pools source source' sink sink' history last ends few quiet =
-    completion_law_holds.sessions grain reading pools (ended_lines ends.ends.0) history.entries last (omega (arith, few)) ends.ends.4 quiet
-served-by status.LogFull telling grain pools source source' sink sink' history last ends few quiet =
-    completion_law_holds.full grain reading pools (all_lines ends.bytes) history.entries last (omega (arith, few)) ends.ends.1 quiet
-served-by status.WriteFault telling grain pools source source' sink sink' history last ends few quiet =
-    completion_law_holds.early grain reading pools (all_lines ends.bytes) history.entries last (omega (arith, few)) ends.ends.2 quiet
-served-by status.NoMemory telling grain pools source source' sink sink' history last ends few quiet =
-    completion_law_holds.early grain reading pools (all_lines ends.bytes) history.entries last (omega (arith, few)) ends.ends.1 quiet
-served-by status.Usage telling grain pools source source' sink sink' history last ends few quiet = absurd ends.ends
-served-by status.Unended telling grain pools source source' sink sink' history last ends few quiet = absurd ends.ends
-
-served-asked :
-    (asked : Option AskedFor) (ended : Status) (pools : List Pool) (source source' : SourceState) (sink sink' : SinkState)
-    (history : HistoryState) (last : Whole) →
-    AskedEnds asked ended (opened pools) source source' sink sink' history last →
-    length history.entries ≤ 262144 →
-    AreFaultless last →
-    AreServed history.entries last
-served-asked (Some (Run grain)) ended pools source source' sink sink' history last ends few quiet =
-    served-by ended History grain pools source source' sink sink' history last ends few quiet
-served-asked (Some (Drill number)) ended pools source source' sink sink' history last ends few quiet =
-    served-by ended Summary _ pools _ ends.1.left sink sink' history last ends.1.ends few quiet
-served-asked None ended pools source source' sink sink' history last ends few quiet =
-    completion_law_holds.sessions (grain_of None) reading pools [] history.entries last (omega (arith, few)) (ends.2, ends.3) quiet
-
 -- ---- it is done
 
--- but for faults and too long an input
+-- but for faults, a full history and too long an input
 done-by :
-    (ended : Status) (telling : Telling) (grain : GrainSize) (w : Whole) (source source' : SourceState) (sink sink' : SinkState)
-    (history : HistoryState) (last : Whole) →
-    SessionEnds ended telling grain w source source' sink sink' history last →
-    ended ≢ status.ReadFault →
-    ended ≢ status.TooLong →
-    NoneFailed sink.faults sink'.faults →
-    ended ≢ status.LogFull →
-    (ended ≡ status.Done) ⊎ (ended ≡ status.NoMemory)
-done-by status.Done telling grain w source source' sink sink' history last ends no_fault fits written room = inl refl
-done-by status.ReadFault telling grain w source source' sink sink' history last ends no_fault fits written room = absurd (no_fault refl)
-done-by status.TooLong telling grain w source source' sink sink' history last ends no_fault fits written room = absurd (fits refl)
-done-by status.LogFull telling grain w source source' sink sink' history last ends no_fault fits written room = absurd (room refl)
-done-by status.WriteFault telling grain w source source' sink sink' history last ends no_fault fits written room = absurd (written ends.ends.0)
-done-by status.NoMemory telling grain w source source' sink sink' history last ends no_fault fits written room = inr refl
-done-by status.Usage telling grain w source source' sink sink' history last ends no_fault fits written room = absurd ends.ends
-done-by status.Unended telling grain w source source' sink sink' history last ends no_fault fits written room = absurd ends.ends
-
--- more was taken than the greatest input
-long-taken :
-    (telling : Telling) (grain : GrainSize) (w : Whole) (source source' : SourceState) (sink sink' : SinkState) (history : HistoryState) (last : Whole) →
-    SessionEnds status.TooLong telling grain w source source' sink sink' history last →
-    IsShort source source' →
-    ⊥
-long-taken telling grain w source source' sink sink' history last ends short =
-    omega (
-      arith,
-      short ends.bytes ends.gave,
-      ap length ends.ends.2,
-      length-append ends.ends.0 (ends.ends.1 ∷ []),
-      ends.ends.3,
-    )
-
-done-asked :
-    (asked : Option AskedFor) (ended : Status) (w : Whole) (source source' : SourceState) (sink sink' : SinkState) (history : HistoryState) (last : Whole) →
-    AskedEnds asked ended w source source' sink sink' history last →
-    IsReadable asked source source' →
-    NoneFailed sink.faults sink'.faults →
-    ended ≢ status.LogFull →
-    (ended ≡ status.Done) ⊎ (ended ≡ status.NoMemory)
-done-asked (Some (Run grain)) ended w source source' sink sink' history last ends readable written room =
-    let P : Status → Type 0 = λ s. SessionEnds s History grain w source source' sink sink' history last in
-    done-by ended History grain w source source' sink sink' history last ends
-    (λ is. readable.0 (subst P is ends).ends.0)
-    (λ is. long-taken History grain w source source' sink sink' history last (subst P is ends) readable.1)
-    written room
-done-asked (Some (Drill number)) ended w source source' sink sink' history last ends readable written room =
-    done-by ended Summary _ w _ ends.1.left sink sink' history last ends.1.ends ends.1.no_fault ends.1.fits written room
-done-asked None ended w source source' sink sink' history last ends readable written room = absurd readable
+    (e : Ended) (form : Form) (source source' : SourceState) (call : Call) (runs : Runs) (bytes : List ℕ) →
+    EndsAs e (session_of e form source source' call) runs bytes →
+    NoneFailed source.faults source'.faults →
+    NoneFailed call.sink.faults call.sink'.faults →
+    status_of e ≢ status.LogFull →
+    status_of e ≢ status.TooLong →
+    (status_of e ≡ status.Done) ⊎ (status_of e ≡ status.NoMemory)
+done-by ended.Done form source source' call runs bytes ends readable writable room short = inl refl
+done-by ended.ReadFault form source source' call runs bytes ends readable writable room short = absurd (readable ends.0)
+done-by ended.TooLong form source source' call runs bytes ends readable writable room short = absurd (short refl)
+done-by ended.LogFull form source source' call runs bytes ends readable writable room short = absurd (room refl)
+done-by ended.WriteFault form source source' call runs bytes ends readable writable room short = absurd (writable ends.0)
+done-by ended.NoMemory form source source' call runs bytes ends readable writable room short = inr refl
 
 -- ---- both
 
-pub Completes-ended :
-    (asked : Option AskedFor) (ended : Status) (disks : List DiskState) (source source' : SourceState) (sink sink' : SinkState)
-    (history : HistoryState) (last : Whole) →
-    AskedEnds asked ended (begun disks) source source' sink sink' history last →
-    IsLegal (grain_of asked) (begun disks) history.entries last →
-    length history.entries ≤ 262144 →
-    Completes asked ended (begun disks) source source' sink sink' history.entries last
-Completes-ended asked ended disks source source' sink sink' history last ends legal few =
+pub completes :
+    (e : Ended) (form : Form) (grain : GrainSize) (source source' : SourceState) (call : Call) (runs : Runs) (bytes : List ℕ) (last : Whole) →
+    call.status ≡ status_of e →
+    EndsAs e (session_of e form source source' call) runs bytes →
+    IsLegal grain (first_told call.disks) call.history.entries last →
+    length call.history.entries ≤ 262144 →
+    DisksAfter call.status call.disks call.disks' call.history.entries last →
+    Completes grain source source' call last
+completes e form grain source source' call runs bytes last is ends legal few after =
+    let Done : Status → Type 0 = λ s. s ≢ status.LogFull → s ≢ status.TooLong → (s ≡ status.Done) ⊎ (s ≡ status.NoMemory) in
     record {
-      done = done-asked asked ended (begun disks) source source' sink sink' history last ends;
+      done = λ readable writable. subst Done (sym is) (done-by e form source source' call runs bytes ends readable writable);
       served = λ none.
-          let quiet = faultless (grain_of asked) disks history.entries last legal none in
-          let served = served-asked asked ended (pools_dealt LANES disks) source source' sink sink' history last ends few quiet in
-          record { served = served; answered = all-answered (grain_of asked) (begun disks) last history.entries legal served.each };
+          let quiet : AreFaultless last =
+          faultless grain call.disks call.history.entries last legal
+          (told_none call.status call.disks call.disks' call.history.entries last after none) in
+          let served = completion_law_holds.sessions grain (pools_dealt LANES call.disks) call.history.entries last (omega (arith, few)) legal quiet in
+          record { served = served; answered = all-answered grain (first_told call.disks) last call.history.entries legal served.each };
     }

@@ -1,69 +1,67 @@
 -- A drill ends as a session that is read from memory.
-use Rattle.std.proofs.Common.{◌≡◌, ℕ, ◌≤◌, List, [], ◌∷◌, ◌++◌, length, Option, Some, None, refl, subst, arith, ap, length-append, inl, inr}
+use Rattle.std.proofs.Common.{◌≡◌, ℕ, ◌≤◌, List, [], ◌∷◌, ◌++◌, length, Option, Some, None, refl, sym, subst, arith, ap, ◌∙◌, length-append, inl, inr}
 use Rattle.std.specs.Option.{option_map}
 use Rattle.fc_base.specs.Count.{HasRisen}
 use Rattle.fc_base.specs.declared.size.GrainSize.TheVariants.{K64}
-use Rattle.fc_entry.specs.HistoryState.{HistoryState}
 use Rattle.fc_gen.specs.Session.{session_text}
-use Rattle.fc_io.specs.Sink.{SinkState}
 use Rattle.fc_io.specs.Source.{SourceState}
-use Rattle.fc_legal.specs.Whole.{Whole}
-use Rattle.fc_run.specs.Headline.{SessionEnds}
+use Rattle.fc_run.specs.Headline.{EndsAs}
 use Rattle.fc_run.specs.Takes.{EachGave}
-use Rattle.fc_run.specs.declared.status.Status.{Status}
-use Rattle.fc_run.specs.declared.status.Status.TheVariants as status
-use Rattle.fc_run.specs.declared.telling.Telling.TheVariants.{Summary}
-use Rattle.fc_top.specs.Endings.{DrillEnds, drill_source}
+use Rattle.fc_run.specs.declared.ended.Ended.{Ended}
+use Rattle.fc_run.specs.declared.ended.Ended.TheVariants as ended
+use Rattle.fc_run.specs.declared.form.Form.TheVariants.{Summary}
 use Rattle.fc_top.proofs.QuietSource.{EachGave-quiet}
 use Rattle.fc_top.proofs.SessionLength.{session_text-short}
+use Rattle.fc_top.proofs.Statuses.{same_ended}
+use Rattle.fc_top.specs.Call.{Call, session_of}
+use Rattle.fc_top.specs.DisksBack.{first_told}
+use Rattle.fc_top.specs.Ends.{DrillEnds, drill_source}
+use Rattle.fc_top.specs.PlainEnds.{PlainEnds}
+use Rattle.fc_top.specs.PlainRuns.{plain_runs}
 
 risen-none : (n : ℕ) → n ≡ 0 → HasRisen 0 n → ⊥
-risen-none n none (inl rose) = omega arith
-risen-none n none (inr last) = omega arith
-
--- no call of its source fails
-no_fault :
-    (number : ℕ) (w : Whole) (left : SourceState) (sink sink' : SinkState) (history : HistoryState) (last : Whole) →
-    SessionEnds status.ReadFault Summary K64 w (drill_source number) left sink sink' history last →
-    EachGave (drill_source number) left →
-    ⊥
-no_fault number w left sink sink' history last ends gave =
-    risen-none left.faults (EachGave-quiet (drill_source number) left refl gave) ends.ends.0
+risen-none n none (inl rose) = omega (arith, none, rose)
+risen-none n none (inr last) = omega (arith, none, last)
 
 -- what was taken of a text is no longer than it
 taken-le : (text bytes : List ℕ) (left : Option (List ℕ)) → Some text ≡ option_map (λ rest. bytes ++ rest) left → length bytes ≤ length text
-taken-le text bytes None gave = cc
+taken-le text bytes None gave =
+    let none : Some text ≡ None = gave in
+    absurd (cc none)
 taken-le text bytes (Some rest) gave =
-    let whole : text ≡ bytes ++ rest = cc in
+    let some : Some text ≡ Some (bytes ++ rest) = gave in
+    let whole : text ≡ bytes ++ rest = cc some in
     omega (arith, ap length whole, length-append bytes rest)
 
--- it is shorter than the greatest input
-fits :
-    (number : ℕ) (w : Whole) (left : SourceState) (sink sink' : SinkState) (history : HistoryState) (last : Whole) →
-    SessionEnds status.TooLong Summary K64 w (drill_source number) left sink sink' history last →
-    ⊥
-fits number w left sink sink' history last ends =
-    omega (
-      arith,
-      taken-le (session_text number) ends.bytes left.left ends.gave,
-      session_text-short number,
-      ap length ends.ends.2,
-      length-append ends.ends.0 (ends.ends.1 ∷ []),
-      ends.ends.3,
-    )
-
-pub DrillEnds-read :
-    (number : ℕ) (ended : Status) (w : Whole) (left : SourceState) (sink sink' : SinkState) (history : HistoryState) (last : Whole) →
-    SessionEnds ended Summary K64 w (drill_source number) left sink sink' history last →
+pub drill_ends :
+    (number : ℕ) (left : SourceState) (call : Call) →
+    call.source' ≡ call.source →
     EachGave (drill_source number) left →
-    DrillEnds number ended w sink sink' history last
-DrillEnds-read number ended w left sink sink' history last ends gave =
-    let P : Status → Type 0 = λ s. SessionEnds s Summary K64 w (drill_source number) left sink sink' history last in
+    PlainEnds Summary K64 (drill_source number) left call →
+    DrillEnds number call
+drill_ends number left call same gave ends =
+    let none : left.faults ≡ 0 = EachGave-quiet (drill_source number) left refl gave in
+    let P : Ended → Type 0 = λ e. EndsAs e (session_of e Summary (drill_source number) left call) (plain_runs K64 (first_told call.disks) ends.last) ends.session.bytes in
     record {
+      source = same;
       left = left;
+      no_fault = none;
+      readable = λ is.
+          let e : ends.ended ≡ ended.ReadFault = same_ended ended.ReadFault ends.ended (sym ends.status ∙ is) in
+          let fault : P ended.ReadFault = subst P e ends.session.ends in
+          risen-none left.faults none fault.0;
+      fits = λ is.
+          let e : ends.ended ≡ ended.TooLong = same_ended ended.TooLong ends.ended (sym ends.status ∙ is) in
+          let long : P ended.TooLong = subst P e ends.session.ends in
+          omega (
+            arith,
+            taken-le (session_text number) ends.session.bytes left.left ends.session.gave,
+            session_text-short number,
+            ap length long.2,
+            length-append long.0 (long.1 ∷ []),
+            long.3,
+          );
       ends = ends;
-      no_fault = λ is. no_fault number w left sink sink' history last (subst P is ends) gave;
-      fits = λ is. fits number w left sink sink' history last (subst P is ends);
     }
 
 -- the source over the bytes that were made

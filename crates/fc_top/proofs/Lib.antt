@@ -1,13 +1,15 @@
 -- Lemmas, one subject a file.
 pub mod WordLemmas
-pub mod SessionLength
-pub mod QuietSource
-pub mod DrillLemmas
-pub mod PassingLemmas
+pub mod Kept
+pub mod Statuses
+pub mod SessionOver
+pub mod LineAnswers
 pub mod OwnerLemmas
-pub mod Counting
 pub mod Backs
-pub mod TopLemmas
-pub mod Lanes
 pub mod CompleteLemmas
+pub mod PlainLemmas
+pub mod QuietSource
+pub mod SessionLength
+pub mod DrillLemmas
+pub mod TheoremLemmas
 pub mod OutcomeLemmas

@@ -1,31 +1,49 @@
--- Calls that are done have one outcome, by the law of one outcome.
-use Rattle.std.proofs.Common.{◌≡◌, ℕ, ◌+◌, ◌%◌, ◌^◌, Bool, cond, List, [], ◌∷◌, ◌++◌, length, Option, Some, None, IfSome, refl, sym, subst, ap, ◌∙◌, append-nil}
+-- Calls that end in one way have one outcome, by the law of one outcome.
+use Rattle.std.proofs.Common.{◌≡◌, ℕ, ◌+◌, ◌%◌, ◌^◌, Bool, cond, List, [], ◌∷◌, ◌++◌, length, take, codes, Option, Some, None, IfSome, refl, sym, subst, ap, ◌∙◌, append-nil, append_assoc, inl, inr, ◌⊎◌}
 use Rattle.std.specs.List.{count_by, sum_by}
 use Rattle.std.specs.Option.{option_map}
 use Rattle.std.proofs.lemmas.List.{length-map}
+use Rattle.std.proofs.Math.Seq.{take-append_seam}
 use Rattle.std.proofs.lemmas.List.Sums.{sum_by-cons}
+use Rattle.fc_agenda.proofs.Going.{GoesSome-asking}
+use Rattle.fc_agenda.specs.Goes.{Goes}
 use Rattle.fc_base.specs.Pools.{Pool}
-use Rattle.fc_base.specs.declared.limits.TheConstants.{LANES}
 use Rattle.fc_base.specs.declared.size.GrainSize.{GrainSize}
 use Rattle.fc_base.specs.declared.size.GrainSize.TheVariants.{K64}
+use Rattle.fc_blocks.specs.Segments.{Segment}
 use Rattle.fc_determined.proofs.Determined.{determined_law_holds}
 use Rattle.fc_determined.specs.Law.{IsOneOutcome}
-use Rattle.fc_determined.specs.Smooth.{but_for_faults, told_by}
+use Rattle.fc_determined.specs.Smooth.{AreSmooth, TellTheSame, but_for_faults, told_by, without_faults}
+use Rattle.fc_entry.proofs.LineLemmas.{all_lines-grow}
 use Rattle.fc_entry.specs.HistoryState.{HistoryState}
-use Rattle.fc_entry.specs.Lines.{all_lines}
+use Rattle.fc_entry.specs.Lines.{all_lines, ended_lines}
 use Rattle.fc_entry.specs.declared.entry.Entry.{Entry}
 use Rattle.fc_gen.specs.Session.{session_text}
-use Rattle.fc_io.specs.Sink.{SinkState, held_with}
-use Rattle.fc_legal.specs.Run.{IsRun}
-use Rattle.fc_legal.specs.Whole.{opened}
-use Rattle.fc_mdisk.specs.Disk.{DiskState}
-use Rattle.fc_run.specs.Reading.{reading}
-use Rattle.fc_run.specs.Summary.{gives_bytes, is_done_write, refuses, bytes_sum, reads_of, writes_of, moves_of, refused_of, sum_of, summary_text, told_text}
-use Rattle.fc_run.specs.declared.telling.Telling.{Telling}
-use Rattle.fc_run.specs.declared.telling.Telling.TheVariants.{History, Summary}
-use Rattle.fc_store.specs.Dealing.{pools_dealt}
-use Rattle.fc_top.specs.DisksBack.{begun}
-use Rattle.fc_top.specs.OneOutcome.{AreAlikeDealt, WentSmoothly, HaveOneOutcome, IsDone, telling_of, CallIsDone, OutcomeLaw}
+use Rattle.fc_io.specs.Sink.{held_with}
+use Rattle.fc_io.specs.Source.{SourceState}
+use Rattle.fc_legal.proofs.Alone.{AreSteps-goes, alone_append, alone_lines}
+use Rattle.fc_legal.proofs.Appending.{WantsMore-more}
+use Rattle.fc_legal.specs.Added.{IsOf}
+use Rattle.fc_legal.specs.Agenda.{Agenda, Session, session_rules}
+use Rattle.fc_legal.specs.Run.{IsRun, WantsMore, lines_alone}
+use Rattle.fc_legal.specs.Whole.{Whole, opened}
+use Rattle.fc_run.specs.Headline.{EndsAs}
+use Rattle.fc_run.specs.Input.{AreLines, Gave, OfFirstTaken, input_limit}
+use Rattle.fc_run.specs.Summary.{gives_bytes, is_done_write, refuses, bytes_sum, reads_of, writes_of, moves_of, refused_of, sum_of, summary_text, text_of}
+use Rattle.fc_run.specs.declared.ended.Ended.{Ended}
+use Rattle.fc_run.specs.declared.ended.Ended.TheVariants as ended
+use Rattle.fc_run.specs.declared.form.Form.{Form}
+use Rattle.fc_run.specs.declared.form.Form.TheVariants.{Text, Summary}
+use Rattle.fc_top.specs.Call.{Call, empty, session_of, status_of}
+use Rattle.fc_top.specs.DisksBack.{first_told}
+use Rattle.fc_top.specs.Ends.{Ends, drill_source}
+use Rattle.fc_top.specs.OneOutcome.{WentAlike, HaveOneOutcome, TookOf, ReadsOf, IsByBytes, form_of, HasBytes, OutcomeLaw}
+use Rattle.fc_top.specs.PlainEnds.{PlainEnds}
+use Rattle.fc_top.specs.PlainRuns.{plain_runs}
+use Rattle.fc_top.specs.Reading.{reading}
+use Rattle.fc_top.specs.declared.status.Status.TheVariants as status
+use Rattle.fc_top.proofs.Kept.{AreSteps-keeps}
+use Rattle.fc_top.proofs.Statuses.{same_ended}
 use Rattle.fc_top.specs.declared.words.Asked.{Asked}
 use Rattle.fc_top.specs.declared.words.Asked.TheVariants.{Run, Drill}
 
@@ -60,11 +78,11 @@ summary_one history other told =
 -- ---- what is told
 
 told_one :
-    (telling : Telling) (history other : HistoryState) →
+    (form : Form) (history other : HistoryState) →
     other.actors ≡ history.actors →
     told_by other.entries ≡ told_by history.entries →
-    told_text telling other ≡ told_text telling history
-told_one History history other actors told = determined_law_holds.text history other actors told
+    text_of form other ≡ text_of form history
+told_one Text history other actors told = determined_law_holds.text history other actors told
 told_one Summary history other actors told = summary_one history other told
 
 written_one :
@@ -77,85 +95,248 @@ written_one :
 written_one held held' to to' text other same wrote wrote_other before =
     wrote_other ∙ (ap (λ t. held_with to t) same ∙ (ap (λ h. held_with h text) before ∙ sym wrote))
 
+-- ---- what was answered of one text
+
+-- The lines that were taken are the first of all lines of the text.
+record AreFirst (lines all : List (List ℕ)) : Type 0 where
+  rest : List (List ℕ)
+  split : all ≡ lines ++ rest
+
+taken_first :
+    (bytes taken : List ℕ) (source' : SourceState) (lines : List (List ℕ)) →
+    TookOf bytes taken source' →
+    AreLines source' taken lines →
+    AreFirst lines (all_lines bytes)
+taken_first bytes taken source' lines took (inl ended) =
+    let grown = all_lines-grow taken took.rest in
+    record { rest = grown.more; split = ap all_lines took.split ∙ (grown.is ∙ ap (λ ls. ls ++ grown.more) (sym ended)) }
+taken_first bytes taken source' lines took (inr all) =
+    let whole : bytes ≡ taken = took.split ∙ (ap (λ rest. taken ++ rest) (took.end all.0) ∙ append-nil taken) in
+    record { rest = []; split = ap all_lines whole ∙ (sym all.1 ∙ sym (append-nil lines)) }
+
+-- A full history asks for one more of all lines.
+full_of :
+    (grain : GrainSize) (w last : Whole) (bytes taken : List ℕ) (source' : SourceState) (entries : List Entry) →
+    TookOf bytes taken source' →
+    OfFirstTaken source' taken (λ first. WantsMore grain reading w (lines_alone first) entries last) →
+    WantsMore grain reading w (lines_alone (all_lines bytes)) entries last
+full_of grain w last bytes taken source' entries took full =
+    let of = full.of in
+    let lines = taken_first bytes taken source' full.lines took full.are in
+    let P : List (List ℕ) → Type 0 = λ ls. WantsMore grain reading w (lines_alone ls) entries last in
+    let Q : List Segment → Type 0 = λ segs. WantsMore grain reading w segs entries last in
+    subst P
+    (sym (lines.split ∙ (ap (λ ls. ls ++ lines.rest) of.split ∙ append_assoc of.first of.rest lines.rest)))
+    (subst Q (sym (alone_append of.first (of.rest ++ lines.rest)))
+    (WantsMore-more grain reading w last (lines_alone of.first) (lines_alone (of.rest ++ lines.rest)) entries of.holds))
+
+-- Up to the limit the bytes of two inputs that are too long are the same.
+front_of : (bytes kept rest : List ℕ) → bytes ≡ kept ++ rest → length kept ≡ input_limit → take input_limit bytes ≡ kept
+front_of bytes kept rest split long = ap (take input_limit) split ∙ (ap (λ n. take n (kept ++ rest)) (sym long) ∙ take-append_seam kept rest)
+
+kept_of : (bytes taken kept rest : List ℕ) (past : ℕ) → bytes ≡ taken ++ rest → taken ≡ kept ++ past ∷ [] → bytes ≡ kept ++ past ∷ rest
+kept_of bytes taken kept rest past split cut = split ∙ (ap (λ bs. bs ++ rest) cut ∙ append_assoc kept (past ∷ []) rest)
+
+-- What the entries of a session are that ended so, over these bytes.
+abbrev TellsOf : Ended → GrainSize → List ℕ → Whole → Whole → List Entry → Type 0
+TellsOf ended.Done grain bytes w last entries = IsRun grain reading w (lines_alone (all_lines bytes)) entries last
+TellsOf ended.LogFull grain bytes w last entries =
+    WantsMore grain reading w (lines_alone (all_lines bytes)) entries last × (length entries ≡ 262144)
+TellsOf ended.TooLong grain bytes w last entries = IsRun grain reading w (lines_alone (ended_lines (take input_limit bytes))) entries last
+TellsOf _ grain bytes w last entries = ⊥
+
+tells_of :
+    (e : Ended) (form : Form) (grain : GrainSize) (bytes taken : List ℕ) (source source' : SourceState) (call : Call) (w last : Whole) →
+    IsByBytes (status_of e) →
+    TookOf bytes taken source' →
+    EndsAs e (session_of e form source source' call) (plain_runs grain w last) taken →
+    TellsOf e grain bytes w last call.history.entries
+tells_of ended.Done form grain bytes taken source source' call w last by_bytes took ends =
+    let whole : bytes ≡ taken = took.split ∙ (ap (λ rest. taken ++ rest) (took.end ends.0) ∙ append-nil taken) in
+    let P : List ℕ → Type 0 = λ bs. IsRun grain reading w (lines_alone (all_lines bs)) call.history.entries last in
+    subst P (sym whole) ends.2
+tells_of ended.LogFull form grain bytes taken source source' call w last by_bytes took ends =
+    (full_of grain w last bytes taken source' call.history.entries took ends.1, ends.2)
+tells_of ended.TooLong form grain bytes taken source source' call w last by_bytes took ends =
+    let cut = kept_of bytes taken ends.0 took.rest ends.1 took.split ends.2 in
+    let P : List ℕ → Type 0 = λ bs. IsRun grain reading w (lines_alone (ended_lines bs)) call.history.entries last in
+    subst P (sym (front_of bytes ends.0 (ends.1 ∷ took.rest) cut ends.3)) ends.4
+tells_of ended.ReadFault form grain bytes taken source source' call w last by_bytes took ends = absurd by_bytes
+tells_of ended.WriteFault form grain bytes taken source source' call w last by_bytes took ends = absurd by_bytes
+tells_of ended.NoMemory form grain bytes taken source source' call w last by_bytes took ends = absurd by_bytes
+
+-- All of its text was written.
+got_text :
+    (e : Ended) (form : Form) (grain : GrainSize) (taken : List ℕ) (source source' : SourceState) (call : Call) (w last : Whole) →
+    IsByBytes (status_of e) →
+    EndsAs e (session_of e form source source' call) (plain_runs grain w last) taken →
+    call.sink'.held ≡ held_with call.sink.held (text_of form call.history)
+got_text ended.Done form grain taken source source' call w last by_bytes ends = ends.3.0
+got_text ended.LogFull form grain taken source source' call w last by_bytes ends = ends.3.0
+got_text ended.TooLong form grain taken source source' call w last by_bytes ends = ends.5.0
+got_text ended.ReadFault form grain taken source source' call w last by_bytes ends = absurd by_bytes
+got_text ended.WriteFault form grain taken source source' call w last by_bytes ends = absurd by_bytes
+got_text ended.NoMemory form grain taken source source' call w last by_bytes ends = absurd by_bytes
+
+-- Two that ended so over the same bytes have one outcome.
+one_of_two :
+    (e : Ended) (grain : GrainSize) (bytes : List ℕ) (w v last other : Whole) (xs ys : List Entry) →
+    TellTheSame w v →
+    AreSmooth xs →
+    AreSmooth ys →
+    TellsOf e grain bytes w last xs →
+    TellsOf e grain bytes v other ys →
+    IsOneOutcome xs ys last other
+one_of_two ended.Done grain bytes w v last other xs ys same smooth smooth_other one two =
+    determined_law_holds.whole grain reading (Session (lines_alone (all_lines bytes))) w v last other xs ys (alone_lines (all_lines bytes)) same smooth smooth_other one two
+one_of_two ended.TooLong grain bytes w v last other xs ys same smooth smooth_other one two =
+    determined_law_holds.whole grain reading (Session (lines_alone (ended_lines (take input_limit bytes)))) w v last other xs ys (alone_lines (ended_lines (take input_limit bytes))) same smooth smooth_other one two
+one_of_two ended.LogFull grain bytes w v last other xs ys same smooth smooth_other one two =
+    let a : Agenda = Session (lines_alone (all_lines bytes)) in
+    determined_law_holds.as_many grain reading a w v last other xs ys (alone_lines (all_lines bytes)) same smooth smooth_other
+    (GoesSome-asking (session_rules grain reading) a w last xs one.0)
+    (GoesSome-asking (session_rules grain reading) a v other ys two.0)
+    (one.1 ∙ sym two.1)
+one_of_two ended.ReadFault grain bytes w v last other xs ys same smooth smooth_other one two = absurd one
+one_of_two ended.WriteFault grain bytes w v last other xs ys same smooth smooth_other one two = absurd one
+one_of_two ended.NoMemory grain bytes w v last other xs ys same smooth smooth_other one two = absurd one
+
+-- ---- two calls
+
+-- Lines that were answered bring no new name.
+lines_name :
+    (grain : GrainSize) (w last : Whole) (lines : List (List ℕ)) (end : Agenda) (entries : List Entry) →
+    Goes (session_rules grain reading) (Session (lines_alone lines)) w entries end last →
+    last.actors ≡ w.actors
+lines_name grain w last lines end entries goes =
+    (AreSteps-keeps grain w last entries (AreSteps-goes grain reading (Session (lines_alone lines)) end w last entries (alone_lines lines) goes)).actors
+
+actors_told :
+    (e : Ended) (form : Form) (grain : GrainSize) (bytes : List ℕ) (source source' : SourceState) (call : Call) (w last : Whole) →
+    IsByBytes (status_of e) →
+    EndsAs e (session_of e form source source' call) (plain_runs grain w last) bytes →
+    last.actors ≡ w.actors
+actors_told ended.Done form grain bytes source source' call w last by_bytes ends =
+    lines_name grain w last (all_lines bytes) ends.2.end call.history.entries ends.2.goes
+actors_told ended.LogFull form grain bytes source source' call w last by_bytes ends =
+    lines_name grain w last ends.1.of.first ends.1.of.holds.end call.history.entries ends.1.of.holds.goes
+actors_told ended.TooLong form grain bytes source source' call w last by_bytes ends =
+    lines_name grain w last (ended_lines ends.0) ends.4.end call.history.entries ends.4.goes
+actors_told ended.ReadFault form grain bytes source source' call w last by_bytes ends = absurd by_bytes
+actors_told ended.WriteFault form grain bytes source source' call w last by_bytes ends = absurd by_bytes
+actors_told ended.NoMemory form grain bytes source source' call w last by_bytes ends = absurd by_bytes
+
+-- The actors of a history of which all is told are those that it began with.
+actors_are :
+    (form : Form) (grain : GrainSize) (source source' : SourceState) (call : Call) →
+    PlainEnds form grain source source' call →
+    IsByBytes call.status →
+    call.history.actors ≡ codes "main" ∷ []
+actors_are form grain source source' call ends by_bytes = named ends.named
+  where
+    named : IsOf ends.last call.history ⊎ ((call.status ≡ status.NoMemory) × (call.history ≡ empty)) → call.history.actors ≡ codes "main" ∷ []
+    named (inl of) =
+        sym of.actors
+        ∙ actors_told ends.ended form grain ends.session.bytes source source' call (first_told call.disks) ends.last
+        (subst IsByBytes ends.status by_bytes) ends.session.ends
+    named (inr starved) = absurd (subst IsByBytes starved.0 by_bytes)
+
 sessions :
-    (telling : Telling) (grain : GrainSize) (bytes : List ℕ) (disks other_disks : List DiskState) (sink sink' to to' : SinkState)
-    (history other : HistoryState) →
-    AreAlikeDealt disks other_disks →
-    IsDone telling grain bytes disks sink sink' history →
-    WentSmoothly history →
-    IsDone telling grain bytes other_disks to to' other →
-    WentSmoothly other →
-    HaveOneOutcome telling history other sink sink' to to'
-sessions telling grain bytes disks other_disks sink sink' to to' history other alike a smooth b smooth_other =
-    let pools : List Pool = pools_dealt LANES disks in
-    let P : List ℕ → Type 0 = λ taken. IsRun grain reading (opened pools) (all_lines taken) history.entries a.last in
-    let Q : List ℕ → Type 0 = λ taken. IsRun grain reading (begun other_disks) (all_lines taken) other.entries b.last in
-    let R : List Pool → Type 0 = λ ps. IsRun grain reading (opened ps) (all_lines bytes) other.entries b.last in
-    let one : IsOneOutcome history.entries other.entries a.last b.last =
-    determined_law_holds.sessions grain reading pools (all_lines bytes) history.entries other.entries a.last b.last
-    record {
-      run = subst P a.took a.ends.ends.2;
-      run_other = subst R alike (subst Q b.took b.ends.ends.2);
-      smooth = smooth.smooth;
-      smooth_other = smooth_other.smooth;
-    } in
-    let text : told_text telling other ≡ told_text telling history =
-    told_one telling history other (smooth_other.main ∙ sym smooth.main) one.entries in
+    (form : Form) (grain : GrainSize) (bytes : List ℕ) (call other : Call) →
+    WentAlike call other →
+    ReadsOf form grain bytes call →
+    ReadsOf form grain bytes other →
+    HaveOneOutcome form call other
+sessions form grain bytes call other alike a b =
+    let e : Ended = a.ends.ended in
+    let w : Whole = first_told call.disks in
+    let v : Whole = first_told other.disks in
+    let by_bytes : IsByBytes (status_of e) = subst IsByBytes a.ends.status alike.by_bytes in
+    let by_bytes_other : IsByBytes (status_of b.ends.ended) = subst IsByBytes (sym alike.status ∙ b.ends.status) alike.by_bytes in
+    let same : b.ends.ended ≡ e = same_ended e b.ends.ended (sym b.ends.status ∙ (alike.status ∙ a.ends.status)) in
+    let tells = tells_of e form grain bytes a.ends.session.bytes a.source a.source' call w a.ends.last by_bytes a.took a.ends.session.ends in
+    let tells_other =
+    tells_of b.ends.ended form grain bytes b.ends.session.bytes b.source b.source' other v b.ends.last by_bytes_other b.took b.ends.session.ends in
+    let P : Ended → Type 0 = λ x. TellsOf x grain bytes v b.ends.last other.history.entries in
+    let one : IsOneOutcome call.history.entries other.history.entries a.ends.last b.ends.last =
+    one_of_two e grain bytes w v a.ends.last b.ends.last call.history.entries other.history.entries
+    (ap (λ (pools : List Pool). without_faults (opened pools)) alike.dealt) alike.smooth alike.smooth_other tells (subst P same tells_other) in
+    let text : text_of form other.history ≡ text_of form call.history =
+    told_one form call.history other.history
+    (actors_are form grain b.source b.source' other b.ends (subst IsByBytes (sym alike.status) alike.by_bytes)
+    ∙ sym (actors_are form grain a.source a.source' call a.ends alike.by_bytes)) one.entries in
     record {
       entries = one.entries;
       text = text;
-      written = written_one sink.held sink'.held to.held to'.held (told_text telling history) (told_text telling other) text a.ends.ends.3 b.ends.ends.3;
+      written = written_one call.sink.held call.sink'.held other.sink.held other.sink'.held (text_of form call.history) (text_of form other.history) text
+          (got_text e form grain a.ends.session.bytes a.source a.source' call w a.ends.last by_bytes a.ends.session.ends)
+          (got_text b.ends.ended form grain b.ends.session.bytes b.source b.source' other v b.ends.last by_bytes_other b.ends.session.ends);
     }
 
 -- ---- calls of the program
 
--- a source at its end gave all bytes that it had
-all_taken :
-    (had bytes : List ℕ) (before after : Option (List ℕ)) →
-    before ≡ Some had →
-    before ≡ option_map (λ rest. bytes ++ rest) after →
-    IfSome after (λ rest. rest ≡ []) →
-    bytes ≡ had
-all_taken had bytes before None has gave end = cc
-all_taken had bytes before (Some rest) has gave end =
-    let whole : had ≡ bytes ++ rest = cc in
-    sym (whole ∙ (ap (λ r. bytes ++ r) end ∙ append-nil bytes))
+-- A source that had these bytes gave the first of them.
+record Left (bytes taken : List ℕ) (after : Option (List ℕ)) : Type 0 where
+  rest : List ℕ
+  split : bytes ≡ taken ++ rest
+  end : IfSome after (λ left. left ≡ []) → rest ≡ []
 
--- the bytes of what is asked for
-abbrev bytes_of : Asked → List ℕ → List ℕ
-bytes_of (Run grain) bytes = bytes
-bytes_of (Drill number) bytes = session_text number
+left_of :
+    (bytes taken : List ℕ) (before after : Option (List ℕ)) →
+    before ≡ Some bytes →
+    before ≡ option_map (λ rest. taken ++ rest) after →
+    Left bytes taken after
+left_of bytes taken before None has gave =
+    let none : Some bytes ≡ None = sym has ∙ gave in
+    absurd (cc none)
+left_of bytes taken before (Some rest) has gave =
+    let some : Some bytes ≡ Some (taken ++ rest) = sym has ∙ gave in
+    let split : bytes ≡ taken ++ rest = cc some in
+    record { rest = rest; split = split; end = λ none. none }
 
+took_of :
+    (bytes taken : List ℕ) (source source' : SourceState) →
+    source.left ≡ Some bytes →
+    Gave source taken source' →
+    TookOf bytes taken source'
+took_of bytes taken source source' has gave =
+    let left = left_of bytes taken source.left source'.left has gave in
+    record { rest = left.rest; split = left.split; end = left.end }
+
+-- The grain size and the bytes of what is asked for.
 abbrev grain_asked : Asked → GrainSize
 grain_asked (Run grain) = grain
 grain_asked (Drill number) = K64
 
-session_of :
-    (asked : Asked) (bytes : List ℕ) (disks : List DiskState) (sink sink' : SinkState) (history : HistoryState) →
-    CallIsDone asked bytes disks sink sink' history →
-    IsDone (telling_of asked) (grain_asked asked) (bytes_of asked bytes) disks sink sink' history
-session_of (Run grain) bytes disks sink sink' history call =
+abbrev bytes_of : Asked → List ℕ → List ℕ
+bytes_of (Run grain) bytes = bytes
+bytes_of (Drill number) bytes = session_text number
+
+reads_of_asked :
+    (asked : Asked) (bytes : List ℕ) (call : Call) →
+    HasBytes asked bytes call.source →
+    Ends (Some asked) call →
+    ReadsOf (form_of asked) (grain_asked asked) (bytes_of asked bytes) call
+reads_of_asked (Run grain) bytes call has ends =
     record {
       source = call.source;
       source' = call.source';
-      last = call.last;
-      ends = call.ends;
-      took = all_taken bytes call.ends.bytes call.source.left call.source'.left call.has call.ends.gave call.ends.ends.0;
+      ends = ends;
+      took = took_of bytes ends.session.bytes call.source call.source' has ends.session.gave;
     }
-session_of (Drill number) bytes disks sink sink' history call =
+reads_of_asked (Drill number) bytes call has ends =
     record {
-      source = _;
-      source' = call.ends.1.left;
-      last = call.last;
-      ends = call.ends.1.ends;
-      took = all_taken (session_text number) call.ends.1.ends.bytes _ call.ends.1.left.left refl call.ends.1.ends.gave call.ends.1.ends.ends.0;
+      source = drill_source number;
+      source' = ends.left;
+      ends = ends.ends;
+      took = took_of (session_text number) ends.ends.session.bytes (drill_source number) ends.left refl ends.ends.session.gave;
     }
 
 pub outcome_law_holds : OutcomeLaw
 outcome_law_holds =
     record {
       sessions = sessions;
-      calls = λ asked bytes disks other_disks sink sink' to to' history other alike a smooth b smooth_other.
-          sessions (telling_of asked) (grain_asked asked) (bytes_of asked bytes) disks other_disks sink sink' to to' history other alike
-          (session_of asked bytes disks sink sink' history a) smooth (session_of asked bytes other_disks to to' other b) smooth_other;
+      calls = λ asked bytes call other alike has has_other theorem theorem_other.
+          sessions (form_of asked) (grain_asked asked) (bytes_of asked bytes) call other alike
+          (reads_of_asked asked bytes call has theorem.ends) (reads_of_asked asked bytes other has_other theorem_other.ends);
     }

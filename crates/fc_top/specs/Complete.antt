@@ -1,7 +1,7 @@
 -- Completeness of a call of the program: where no call of its source or sink failed and there is room enough, it is done; and
 -- where no disk failed, each read of a volume that is online gives the bytes that the volume holds, and each write is done. For
 -- want of memory alone it isn't so.
-use Rattle.std.specs.Prelude.{◌≡◌, ◌≢◌, ◌⊎◌, ℕ, ◌≤◌, All, List, [], ◌∷◌, length, Option, Some, None}
+use Rattle.std.specs.Prelude.{◌≡◌, ◌≢◌, ◌⊎◌, ℕ, All, List, [], ◌∷◌}
 use Rattle.fc_base.specs.Count.{HasRisen}
 use Rattle.fc_base.specs.declared.request.Reply.TheVariants.{Done, NoMemory}
 use Rattle.fc_base.specs.declared.request.Request.{Request}
@@ -9,34 +9,24 @@ use Rattle.fc_base.specs.declared.request.Request.TheVariants.{Read, Write}
 use Rattle.fc_base.specs.declared.size.GrainSize.{GrainSize}
 use Rattle.fc_complete.specs.Law.{AreServed, IsOnline, GivesBytes}
 use Rattle.fc_entry.specs.declared.entry.Entry.{Entry}
-use Rattle.fc_io.specs.Sink.{SinkState}
 use Rattle.fc_io.specs.Source.{SourceState}
-use Rattle.fc_legal.specs.Steps.{Step}
+use Rattle.fc_legal.specs.Legal.{IsNamed, IsNext}
 use Rattle.fc_legal.specs.Whole.{Whole}
-use Rattle.fc_run.specs.ReadTo.{Gave, input_limit}
-use Rattle.fc_run.specs.declared.status.Status.{Status}
-use Rattle.fc_run.specs.declared.status.Status.TheVariants as status
-use Rattle.fc_top.specs.Endings.{grain_of}
-use Rattle.fc_top.specs.declared.words.Asked.{Asked}
-use Rattle.fc_top.specs.declared.words.Asked.TheVariants.{Run, Drill}
-
--- ---- the session is done
+use Rattle.fc_mdisk.specs.Disk.{DiskState}
+use Rattle.fc_mdisk.specs.Disks.{faults_of}
+use Rattle.fc_top.specs.Call.{Call}
+use Rattle.fc_top.specs.DisksBack.{first_told}
+use Rattle.fc_top.specs.declared.status.Status.{Status}
+use Rattle.fc_top.specs.declared.status.Status.TheVariants as status
 
 -- No call failed.
 abbrev pub NoneFailed : ℕ → ℕ → Type 0
 NoneFailed before after = HasRisen before after → ⊥
 
--- What was taken of a source that tells what it has left is no longer than the greatest input.
-abbrev pub IsShort : SourceState → SourceState → Type 0
-IsShort source source' = (bytes : List ℕ) → Gave source bytes source' → length bytes ≤ input_limit
-
--- What is asked for can be read: the source of a run didn't fail, and is short; the session of a drill always can be.
-abbrev pub IsReadable : Option Asked → SourceState → SourceState → Type 0
-IsReadable (Some (Run grain)) source source' = NoneFailed source.faults source'.faults × IsShort source source'
-IsReadable (Some (Drill number)) source source' = Unit {0}
-IsReadable None source source' = ⊥
-
--- ---- its accesses are answered
+-- No disk failed, by the counts of the disks; for want of memory, where the disks may be gone, by what the lanes told of them.
+abbrev pub NoDiskFailed : Status → List DiskState → Whole → Type 0
+NoDiskFailed status.NoMemory disks last = All (λ faults. faults ≡ 0) last.faults
+NoDiskFailed _ disks last = faults_of disks ≡ 0
 
 -- An access of a volume that is online: a read gives its bytes, and a write is done; or memory was wanted.
 abbrev pub AnswersOnline : GrainSize → Whole → Request → Entry → Type 0
@@ -46,20 +36,19 @@ AnswersOnline grain w request entry = Unit {0}
 
 -- A legal history in which each access is answered so.
 abbrev pub IsAnswered : GrainSize → Whole → List Entry → Whole → Type 0
-IsAnswered grain w [] last = last ≡ w
+IsAnswered grain w [] last = IsNamed w last
 IsAnswered grain w (entry ∷ entries) last =
-    (next : Whole) × Step grain w entry next × AnswersOnline grain w entry.request entry × IsAnswered grain next entries last
+    (next : Whole) × (one : IsNext grain w entry next) × AnswersOnline grain one.before entry.request entry × IsAnswered grain next entries last
 
 -- No entry answers a disk fault or a medium error, none tore a grain and none is lost; and accesses are answered.
 pub record IsWhole (grain : GrainSize) (w : Whole) (entries : List Entry) (last : Whole) : Type 0 where
   pub served : AreServed entries last
   pub answered : IsAnswered grain w entries last
 
--- ---- both
-
-pub record Completes (asked : Option Asked) (ended : Status) (w : Whole) (source source' : SourceState) (sink sink' : SinkState) (entries : List Entry) (last : Whole) : Type 0 where
-  -- where it can be read and written, and there are entries enough, it is done, or memory was wanted
-  pub done : IsReadable asked source source' → NoneFailed sink.faults sink'.faults → ended ≢ status.LogFull →
-      (ended ≡ status.Done) ⊎ (ended ≡ status.NoMemory)
-  -- where no disk of any lane failed, all is served, whatever the status
-  pub served : All (λ faults. faults ≡ 0) last.faults → IsWhole (grain_of asked) w entries last
+-- Of a call that reads this source, and after whose last entry this is told.
+pub record Completes (grain : GrainSize) (source source' : SourceState) (call : Call) (last : Whole) : Type 0 where
+  -- where it could be read and written, and wasn't too long, it is done, or memory was wanted
+  pub done : NoneFailed source.faults source'.faults → NoneFailed call.sink.faults call.sink'.faults →
+      call.status ≢ status.LogFull → call.status ≢ status.TooLong → (call.status ≡ status.Done) ⊎ (call.status ≡ status.NoMemory)
+  -- where no disk failed, all is served, whatever the status
+  pub served : NoDiskFailed call.status call.disks' last → IsWhole grain (first_told call.disks) call.history.entries last

@@ -1,7 +1,14 @@
--- What a whole session means, one subject a file, to be read top to bottom.
+-- What a call of the program promises, one subject a file, to be read top to bottom.
 pub mod Words
-pub mod Passing
+pub mod Codes
+pub mod Reading
+pub mod Call
+pub mod PlainRuns
 pub mod DisksBack
-pub mod Endings
 pub mod Complete
+pub mod PlainEnds
+pub mod Ends
+pub mod Theorem
 pub mod OneOutcome
+-- Words of the functions inside.
+pub mod StoreRuns

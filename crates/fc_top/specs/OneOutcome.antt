@@ -1,22 +1,21 @@
 -- One outcome of a call of the program: two calls that ask for the same, over disks of the same kinds in each lane and over the
--- same bytes, which are done, and in which no entry answers a disk fault or missing memory, tell the same and write the same.
-use Rattle.std.specs.Prelude.{◌≡◌, ℕ, List, [], ◌∷◌, codes, Some}
+-- same bytes, which end in one way, and in which no entry answers a disk fault or missing memory, tell the same and write the same.
+use Rattle.std.specs.Prelude.{◌≡◌, ℕ, List, [], ◌++◌, Some}
 use Rattle.fc_base.specs.declared.limits.TheConstants.{LANES}
 use Rattle.fc_base.specs.declared.size.GrainSize.{GrainSize}
 use Rattle.fc_determined.specs.Smooth.{AreSmooth, told_by}
-use Rattle.fc_entry.specs.HistoryState.{HistoryState}
-use Rattle.fc_io.specs.Sink.{SinkState}
 use Rattle.fc_io.specs.Source.{SourceState}
-use Rattle.fc_legal.specs.Whole.{Whole}
 use Rattle.fc_mdisk.specs.Disk.{DiskState}
-use Rattle.fc_run.specs.Headline.{SessionEnds}
-use Rattle.fc_run.specs.Summary.{told_text}
-use Rattle.fc_run.specs.declared.status.Status.TheVariants as status
-use Rattle.fc_run.specs.declared.telling.Telling.{Telling}
-use Rattle.fc_run.specs.declared.telling.Telling.TheVariants.{History, Summary}
-use Rattle.fc_store.specs.Dealing.{pools_dealt}
-use Rattle.fc_top.specs.DisksBack.{begun}
-use Rattle.fc_top.specs.Endings.{AskedEnds}
+use Rattle.fc_run.specs.Input.{IsAtEnd}
+use Rattle.fc_run.specs.Summary.{text_of}
+use Rattle.fc_run.specs.declared.form.Form.{Form}
+use Rattle.fc_run.specs.declared.form.Form.TheVariants.{Text, Summary}
+use Rattle.fc_lanes.specs.Dealing.{pools_dealt}
+use Rattle.fc_top.specs.Call.{Call}
+use Rattle.fc_top.specs.PlainEnds.{PlainEnds}
+use Rattle.fc_top.specs.Theorem.{Theorem}
+use Rattle.fc_top.specs.declared.status.Status.{Status}
+use Rattle.fc_top.specs.declared.status.Status.TheVariants.{Done, LogFull, TooLong}
 use Rattle.fc_top.specs.declared.words.Asked.{Asked}
 use Rattle.fc_top.specs.declared.words.Asked.TheVariants.{Run, Drill}
 
@@ -24,60 +23,56 @@ use Rattle.fc_top.specs.declared.words.Asked.TheVariants.{Run, Drill}
 abbrev pub AreAlikeDealt : List DiskState → List DiskState → Type 0
 AreAlikeDealt disks other = pools_dealt LANES other ≡ pools_dealt LANES disks
 
--- No entry answers a disk fault or missing memory; and the one actor is `main`, as in any session for which memory was there.
-pub record WentSmoothly (history : HistoryState) : Type 0 where
-  pub main : history.actors ≡ codes "main" ∷ []
-  pub smooth : AreSmooth history.entries
+-- The bytes alone decide when a call ends so.
+abbrev pub IsByBytes : Status → Type 0
+IsByBytes Done = Unit {0}
+IsByBytes LogFull = Unit {0}
+IsByBytes TooLong = Unit {0}
+IsByBytes _ = ⊥
 
--- Entries tell the same, but for the faults that disks counted; what is told of the history is the same text; and where the two
--- sinks held the same before, they do after.
-pub record HaveOneOutcome (telling : Telling) (history other : HistoryState) (sink sink' to to' : SinkState) : Type 0 where
-  pub entries : told_by other.entries ≡ told_by history.entries
-  pub text : told_text telling other ≡ told_text telling history
-  pub written : to.held ≡ sink.held → to'.held ≡ sink'.held
+-- Two calls over disks dealt alike that end in one such way, and in neither of which an entry answers a disk fault or missing memory.
+pub record WentAlike (call other : Call) : Type 0 where
+  pub dealt : AreAlikeDealt call.disks other.disks
+  pub status : other.status ≡ call.status
+  pub by_bytes : IsByBytes call.status
+  pub smooth : AreSmooth call.history.entries
+  pub smooth_other : AreSmooth other.history.entries
 
--- ---- sessions
+-- Entries tell the same, but for the faults that disks counted; their text in this form is the same; and where the two sinks held
+-- the same before, they do after.
+pub record HaveOneOutcome (form : Form) (call other : Call) : Type 0 where
+  pub entries : told_by other.history.entries ≡ told_by call.history.entries
+  pub text : text_of form other.history ≡ text_of form call.history
+  pub written : other.sink.held ≡ call.sink.held → other.sink'.held ≡ call.sink'.held
 
--- A session over these disks is done, and took these bytes.
-pub record IsDone (telling : Telling) (grain : GrainSize) (bytes : List ℕ) (disks : List DiskState) (sink sink' : SinkState) (history : HistoryState) : Type 0 where
+-- The bytes that were taken are the first of these; all of them, where the source is at its end.
+pub record TookOf (bytes taken : List ℕ) (source' : SourceState) : Type 0 where
+  pub rest : List ℕ
+  pub split : bytes ≡ taken ++ rest
+  pub end : IsAtEnd source' → rest ≡ []
+
+-- A session that took of these bytes.
+pub record ReadsOf (form : Form) (grain : GrainSize) (bytes : List ℕ) (call : Call) : Type 0 where
   pub source : SourceState
   pub source' : SourceState
-  pub last : Whole
-  pub ends : SessionEnds status.Done telling grain (begun disks) source source' sink sink' history last
-  pub took : ends.bytes ≡ bytes
+  pub ends : PlainEnds form grain source source' call
+  pub took : TookOf bytes ends.session.bytes source'
 
--- ---- calls of the program
-
--- What is written of what is asked for.
-abbrev pub telling_of : Asked → Telling
-telling_of (Run grain) = History
-telling_of (Drill number) = Summary
+-- In which form it is written.
+abbrev pub form_of : Asked → Form
+form_of (Run grain) = Text
+form_of (Drill number) = Summary
 
 -- The source of a run has these bytes. A drill doesn't touch its source.
 abbrev pub HasBytes : Asked → List ℕ → SourceState → Type 0
 HasBytes (Run grain) bytes source = source.left ≡ Some bytes
 HasBytes (Drill number) bytes source = Unit {0}
 
--- A call that asks for this, over these bytes and disks, is done.
-pub record CallIsDone (asked : Asked) (bytes : List ℕ) (disks : List DiskState) (sink sink' : SinkState) (history : HistoryState) : Type 0 where
-  pub source : SourceState
-  pub source' : SourceState
-  pub last : Whole
-  pub has : HasBytes asked bytes source
-  pub ends : AskedEnds (Some asked) status.Done (begun disks) source source' sink sink' history last
-
--- ---- the law
-
 pub record OutcomeLaw : Type 0 where
-  -- two sessions that took the same bytes
-  pub sessions : (telling : Telling) (grain : GrainSize) (bytes : List ℕ) (disks other_disks : List DiskState) (sink sink' to to' : SinkState) (history other : HistoryState) →
-      AreAlikeDealt disks other_disks →
-      IsDone telling grain bytes disks sink sink' history → WentSmoothly history →
-      IsDone telling grain bytes other_disks to to' other → WentSmoothly other →
-      HaveOneOutcome telling history other sink sink' to to'
+  -- two sessions that took of the same bytes
+  pub sessions : (form : Form) (grain : GrainSize) (bytes : List ℕ) (call other : Call) → WentAlike call other →
+      ReadsOf form grain bytes call → ReadsOf form grain bytes other → HaveOneOutcome form call other
   -- two calls of the program whose sources have the same bytes
-  pub calls : (asked : Asked) (bytes : List ℕ) (disks other_disks : List DiskState) (sink sink' to to' : SinkState) (history other : HistoryState) →
-      AreAlikeDealt disks other_disks →
-      CallIsDone asked bytes disks sink sink' history → WentSmoothly history →
-      CallIsDone asked bytes other_disks to to' other → WentSmoothly other →
-      HaveOneOutcome (telling_of asked) history other sink sink' to to'
+  pub calls : (asked : Asked) (bytes : List ℕ) (call other : Call) → WentAlike call other →
+      HasBytes asked bytes call.source → HasBytes asked bytes other.source →
+      Theorem (Some asked) call → Theorem (Some asked) other → HaveOneOutcome (form_of asked) call other

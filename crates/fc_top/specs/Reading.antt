@@ -1,11 +1,11 @@
 -- How a line of a session is read: by the grammar, as far as the lines are built.
-use Rattle.std.specs.Prelude.{ℕ, Bool, true, false, cond, List, Result, Ok, Err}
+use Rattle.std.specs.Prelude.{Bool, true, false, cond, Result, Ok, Err}
 use Rattle.fc_base.specs.declared.command.Line.{Line}
 use Rattle.fc_base.specs.declared.command.Line.TheVariants.{Blank, Command as CommandLine}
 use Rattle.fc_base.specs.declared.command.Scope.TheVariants.{Free}
 use Rattle.fc_base.specs.declared.fault.WordFault.{WordFault}
 use Rattle.fc_base.specs.declared.fault.WordFault.TheVariants.{UnknownCommand}
-use Rattle.fc_legal.specs.Run.{Reading}
+use Rattle.fc_legal.specs.Agenda.{Reading}
 use Rattle.fc_words.specs.Lines.{line_of}
 
 -- The lines that are built so far: commands and blank ones, but no blocks of actors.

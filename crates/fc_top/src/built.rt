@@ -1,7 +1,7 @@
 //! Which lines are built so far.
 
 ghost use Rattle.std.specs.Prelude.{◌≡◌};
-ghost use Rattle.fc_run.specs.Reading.{is_built};
+ghost use Rattle.fc_top.specs.Reading.{is_built};
 
 use fc_base::command::Line;
 

@@ -2,21 +2,23 @@
 //!
 //! `flashcopy` (in `flashcopy`) reads a session from a source, answers its lines over the disks, keeps the history and
 //! writes its text to a sink; or it drills: the session is the generated one of a number, and the summary of its history
-//! is written. Its contract is the main theorem: for every source, sink and set of fresh disks, failing ones included,
-//! the history is legal; by the status it is known which bytes were taken, which of their lines are answered, and what
-//! the sink got; and the disks come back with the sums of their calls and faults. The words are in `specs/Words`, how a
-//! call ends by what they ask for in `specs/Endings`, what becomes of the disks in `specs/DisksBack`, and what each
-//! status says in fc_run's `specs/Headline`. Two more follow from it: where nothing failed all is done and served, but for
-//! want of memory (`specs/Complete`), and then there is one outcome (`specs/OneOutcome`, the contract of `outcome_law`).
+//! is written. Its contract is the main theorem (`specs/Theorem`): for every source, sink and set of fresh disks, failing ones
+//! included, the history is legal; by the status it is known which bytes were taken, which of their lines are answered, and
+//! what the sink got; and the disks come back with the sums of their calls and faults. It is one record over one record of the
+//! call (`specs/Call`), with one clause for each kind of call (`specs/Ends`, `specs/PlainEnds`). Two more follow from it: where
+//! nothing failed all is done and served, but for want of memory (`specs/Complete`), and then there is one outcome
+//! (`specs/OneOutcome`, the contract of `outcome_law`).
 //!
-//! In reading order: `words`, `gate`, `built`, `passing` (lines whose seconds pass) and `owner` (the store answers a line),
-//! `flashcopy`, `outcome`.
+//! In reading order: `words`, `status`, `gate`, `built`, `owner` (the store answers a line), `plain` (a session over disks),
+//! `drill`, `flashcopy`, `outcome`.
 #![tactic(auto)]
 
 mod built;
+mod drill;
 pub mod flashcopy;
 pub mod gate;
 pub mod outcome;
 mod owner;
-mod passing;
+mod plain;
+pub mod status;
 pub mod words;

@@ -2,8 +2,8 @@
 
 ghost use Rattle.fc_top.specs.OneOutcome.{OutcomeLaw};
 
-/// Two calls of the program that ask for the same over disks of the same kinds and the same bytes, and in which nothing
-/// failed, have one outcome. It does nothing; a caller learns the law.
+/// Two calls of the program that ask for the same over disks of the same kinds and the same bytes, which end in one way, and in
+/// which nothing failed, have one outcome. It does nothing; a caller learns the law.
 pub fn outcome_law()
     ensures { OutcomeLaw }
 {}

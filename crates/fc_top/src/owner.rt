@@ -1,21 +1,23 @@
 //! The one owner of the store: reads each line by the grammar, and has the store answer it.
 
-ghost use Rattle.std.specs.Prelude.{◌≡◌, ◌≤◌, ℕ, List, length, Ok};
+ghost use Rattle.std.specs.Prelude.{◌≡◌, ◌≤◌, ℕ, List, [], ◌∷◌, length, Ok};
+ghost use Rattle.fc_blocks.specs.Segments.{single};
+ghost use Rattle.fc_lanes.specs.Dealing.{disks_in};
+ghost use Rattle.fc_legal.specs.Added.{Answered, IsTold, StaysUp, TellsSome};
+ghost use Rattle.fc_legal.specs.Agenda.{Session, session_rules};
 ghost use Rattle.fc_legal.specs.Whole.{Whole};
-ghost use Rattle.fc_run.specs.Reading.{reading, as_built};
-ghost use Rattle.fc_store.specs.Answering.{IsTold, LineAnswered, StaysUp, TellsSome};
-ghost use Rattle.fc_store.specs.Quiet.{QuietBy};
-ghost use Rattle.fc_store.specs.Dealing.{disks_in};
-ghost use Rattle.fc_store.specs.Store.{StandsFor};
+ghost use Rattle.fc_stands.specs.Quiet.{QuietBy};
+ghost use Rattle.fc_stands.specs.Store.{StandsFor};
+ghost use Rattle.fc_top.specs.Reading.{as_built, reading};
+ghost use Rattle.fc_top.specs.StoreRuns.{Start, store_runs};
 
 use crate::built::is_built;
-use crate::passing::run_line;
 use fc_base::command::{Line, Scope};
 use fc_base::fault::WordFault;
 use fc_entry::history::History;
 use fc_entry::stop::Stop;
 use fc_mdisk::mdisk::Mdisk;
-use fc_run::store::LineStore;
+use fc_run::answers::Answers;
 use fc_store::store::Store;
 use fc_words::line::read_line;
 use fc_words::refused::WordRefused;
@@ -30,16 +32,12 @@ pub struct Owner<D: Mdisk> {
     pub store: Store<D>,
 }
 
-impl<D: Mdisk> LineStore for Owner<D> {
-    ghost grain = { λ owner. owner.store.control.grain };
+impl<D: Mdisk> Answers for Owner<D> {
+    ghost Start = { Start };
 
-    ghost disks = { λ owner. disks_in owner.store.lanes };
+    ghost runs = { λ owner start. store_runs owner.store start };
 
-    ghost Quiet = { λ owner entries. QuietBy entries owner.store.lanes };
-
-    ghost Stands = { λ owner w. StandsFor owner.store w };
-
-    fn answer(&mut self, line: &[u8], history: &mut History) -> Result<(), Stop> {
+    fn line(&mut self, line: &[u8], history: &mut History) -> Result<(), Stop> {
         match read_line(self.alloc, line, Scope::Free) {
             Ok(line) => answer_line(&mut self.store, line, history),
             Err(WordRefused::Fault(fault)) => self.store.push_unread(fault, history),
@@ -48,24 +46,23 @@ impl<D: Mdisk> LineStore for Owner<D> {
     }
 }
 
-/// Answers a line that was read.
+/// Answers a line that was read; one that isn't built yet as an unknown command.
 fn answer_line<D: Mdisk>(
     store: &mut Store<D>,
     line: Line,
     history: &mut History,
 ) -> Result<(), Stop>
-    requires stands { TellsSome (StandsFor store.old) history.old.entries }
+    requires stands { TellsSome (StandsFor store.old) history.old }
     requires room { length history.old.entries ≤ 262144 }
-    ensures answered { (bytes : List ℕ) (w : Whole) → reading w.books bytes ≡ as_built (Ok line) →
-        IsTold (StandsFor store.old) history.old.entries w →
-        LineAnswered result (StandsFor store.new) store.old.control.grain reading w bytes history.old history.new }
+    ensures answered { (bytes : List ℕ) (w : Whole) → reading w.books bytes ≡ as_built (Ok line) → IsTold (StandsFor store.old) history.old w →
+        Answered result (StandsFor store.new) (session_rules store.old.control.grain reading) (Session (single bytes ∷ [])) w history.old history.new }
     ensures grain { store.new.control.grain ≡ store.old.control.grain }
     ensures disks { disks_in store.new.lanes ≡ disks_in store.old.lanes }
     ensures quiet { QuietBy history.old.entries store.old.lanes → StaysUp result (QuietBy history.new.entries store.new.lanes) }
     ensures limit { length history.new.entries ≤ 262144 }
 {
     if is_built(&line) {
-        run_line(store, line, history)
+        store.run_line(line, history)
     } else {
         let_go(line);
         store.push_unread(WordFault::UnknownCommand, history)

@@ -1,9 +1,12 @@
-//! How a session ends.
+//! How a call of the program ends.
 
 ghost use Rattle.std.specs.Prelude.{◌≡◌};
+ghost use Rattle.fc_top.specs.Call.{status_of};
 ghost use Rattle.fc_top.specs.Codes.{code_of};
 
-/// How a session ended (docs/MANUAL.md, "Statuses").
+use fc_run::ended::Ended;
+
+/// How a call ended (docs/MANUAL.md, "Statuses").
 #[derive(Clone, Copy, Debug, PartialEq, Eq)]
 pub enum Status {
     /// The input was read to its end and every line was answered.
@@ -38,6 +41,20 @@ impl Status {
             Status::LogFull => 6,
             Status::TooLong => 7,
             Status::Unended => 8,
+        }
+    }
+
+    /// The status of a call whose session ended so.
+    pub(crate) fn of(ended: Ended) -> Self
+        ensures { result ≡ status_of ended }
+    {
+        match ended {
+            Ended::Done => Status::Done,
+            Ended::ReadFault => Status::ReadFault,
+            Ended::TooLong => Status::TooLong,
+            Ended::LogFull => Status::LogFull,
+            Ended::WriteFault => Status::WriteFault,
+            Ended::NoMemory => Status::NoMemory,
         }
     }
 }

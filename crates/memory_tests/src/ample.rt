@@ -1,7 +1,7 @@
 //! Sessions that come out as they do where no allocation is refused. A test that fails names by its assertion what was met.
 
 use crate::sessions::{DISKS, run_flat, run_thin};
-use fc_run::status::Status;
+use fc_top::status::Status;
 use session_runs::sessions::Outcome;
 use session_runs::texts::{
     COMPLETE_STOPPED, FIRST_VOLUME, INCREMENTAL, STARTED_AGAIN, Session, THIN_WRITTEN,

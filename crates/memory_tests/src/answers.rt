@@ -1,6 +1,6 @@
 //! Whether a session in which one allocation may have been refused came out as it should.
 
-use fc_run::status::Status;
+use fc_top::status::Status;
 use session_runs::sessions::Outcome;
 use session_runs::texts::Session;
 

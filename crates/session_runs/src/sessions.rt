@@ -10,9 +10,9 @@ use fc_io::mem_sink::MemSink;
 use fc_io::mem_source::MemSource;
 use fc_mdisk::mdisk::Mdisk;
 use fc_mdisk::mem::MemDisk;
-use fc_run::status::Status;
 use fc_top::flashcopy::flashcopy_over;
 use fc_top::gate::FreeGate;
+use fc_top::status::Status;
 use std::alloc::{AllocError, Global};
 
 /// What came of a session.

@@ -1,6 +1,6 @@
 //! Lines that the input ends, the greatest length of a line, and bytes that are no text.
 
-use fc_run::status::Status;
+use fc_top::status::Status;
 use session_runs::sessions::run;
 use std::alloc::{AllocError, Global};
 use std::process::Abort;

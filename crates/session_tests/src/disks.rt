@@ -8,7 +8,7 @@ use fc_base::disk::{DiskError, DiskKind};
 use fc_base::outcome::{Failed, NoMemory};
 use fc_mdisk::mdisk::Mdisk;
 use fc_mdisk::mem::MemDisk;
-use fc_run::status::Status;
+use fc_top::status::Status;
 use session_runs::sessions::run_on;
 use std::alloc::{AllocError, Global};
 

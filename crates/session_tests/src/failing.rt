@@ -1,9 +1,11 @@
 //! Each call of the source and of the sink fails once, over whole sessions.
 
+ghost use Rattle.std.specs.Prelude.{◌<◌};
+
 use crate::longer::{all_answers, first_lines, session};
-use fc_run::status::Status;
+use fc_top::status::Status;
 use session_runs::sessions::{Outcome, flat_disks, run_over};
-use session_runs::texts::{COMPLETE_STOPPED, NIGHTS_WORK, RESTORED_WRITE, Session};
+use session_runs::texts::{COMPLETE_STOPPED, FIRST_VOLUME, NIGHTS_WORK, RESTORED_WRITE, Session};
 use std::alloc::{AllocError, Global};
 use std::process::Abort;
 
@@ -93,7 +95,8 @@ fn each_take_fails(rt: &impl Abort, alloc: Global, session: Session) -> Result<(
     Ok(())
 }
 
-/// Each put fails once: then all lines are answered, and the sink got a front of the text. So does the flush behind them.
+/// Each call of the sink fails once, a put or a flush: then the sink got a front of the text, and as nothing more is taken, maybe
+/// not all lines are answered.
 fn each_put_fails(
     rt: &impl Abort,
     alloc: Global,
@@ -103,6 +106,7 @@ fn each_put_fails(
 ) -> Result<(), AllocError> {
     let entries = entries_in(alloc, text)?;
     let mut longest = 0usize;
+    let mut most = 0usize;
     for number in 1..MOST_CALLS {
         let outcome = run(
             alloc,
@@ -111,19 +115,44 @@ fn each_put_fails(
             Vec::new(alloc),
             vec![in alloc; number]?,
         )?;
+        let written = entries_in(alloc, outcome.written.as_slice())?;
         assert!(rt; text.starts_with(outcome.written.as_slice()));
         assert!(rt; outcome.written.len() >= longest);
-        assert!(rt; outcome.entries == entries && outcome.disks == DISKS as usize);
+        assert!(rt; outcome.entries >= most && outcome.entries >= written);
+        assert!(rt; outcome.disks == DISKS as usize);
         longest = outcome.written.len();
+        most = outcome.entries;
         if outcome.status == Status::Done {
-            // at least one `put` an entry, and the `flush`
+            // at least one `put` an entry, and the `flush` at the end
             assert!(rt; number as usize > entries && longest == text.len());
+            assert_eq!(rt; outcome.entries, entries);
             return Ok(());
         }
         assert!(rt; outcome.status == Status::WriteFault);
     }
     assert!(rt; false);
     Ok(())
+}
+
+/// How many calls of its sink a session of the first volume makes, read in pieces of so many bytes.
+fn calls_of_sink(alloc: Global, piece: usize) -> Result<u64, AllocError>
+    requires { 0 < piece }
+{
+    for number in 1..MOST_CALLS {
+        let outcome = run_over(
+            alloc,
+            flat_disks(alloc, DISKS)?,
+            FIRST_VOLUME.grain,
+            FIRST_VOLUME.lines,
+            piece,
+            Vec::new(alloc),
+            vec![in alloc; number]?,
+        )?;
+        if outcome.status == Status::Done {
+            return Ok(number - 1);
+        }
+    }
+    Ok(0)
 }
 
 #[test]
@@ -139,6 +168,18 @@ fn each_put_of_a_session_fails_once(rt: HostRuntime) -> Result<(), AllocError> {
     for session in [COMPLETE_STOPPED, RESTORED_WRITE, NIGHTS_WORK] {
         each_put_fails(&rt, rt.alloc(), session.grain, session.lines, session.text)?;
     }
+    Ok(())
+}
+
+#[test]
+fn each_answer_is_sent_on_before_more_is_taken(rt: HostRuntime) -> Result<(), AllocError> {
+    let alloc = rt.alloc();
+    // taken at once, the three answers are sent on once, and once more at the end; in pieces of five bytes, of which none ends
+    // two lines, each answer is sent on by itself
+    let at_once = calls_of_sink(alloc, 65_536)?;
+    let apart = calls_of_sink(alloc, 5)?;
+    assert!(rt; at_once > 4);
+    assert_eq!(rt; apart, at_once.saturating_add(2));
     Ok(())
 }
 

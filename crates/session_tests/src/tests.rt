@@ -1,7 +1,7 @@
 //! Sessions that end as they should, and such whose calls fail.
 
 use crate::longer::{all_answers, answers_within, lines, session};
-use fc_run::status::Status;
+use fc_top::status::Status;
 use session_runs::sessions::{flat_disks, run, run_over};
 use session_runs::texts::FIRST_VOLUME;
 use std::alloc::AllocError;
@@ -136,6 +136,22 @@ fn the_first_put_fails(rt: HostRuntime) -> Result<(), AllocError> {
             && FIRST_VOLUME.text.starts_with(outcome.written.as_slice())
     );
     assert_eq!(rt; (outcome.entries, outcome.disks), (3, DISKS));
+    Ok(())
+}
+
+#[test]
+fn nothing_is_taken_after_a_failed_put(rt: HostRuntime) -> Result<(), AllocError> {
+    let alloc = rt.alloc();
+    // of pieces of five bytes none ends two lines, so the first answer is put before the second line ends
+    let outcome = run(
+        alloc,
+        FIRST_VOLUME.lines,
+        5,
+        Vec::new(alloc),
+        vec![in alloc; 1]?,
+    )?;
+    assert!(rt; outcome.status == Status::WriteFault);
+    assert_eq!(rt; (outcome.entries, outcome.disks), (1, DISKS));
     Ok(())
 }
 

@@ -1,6 +1,7 @@
-use Rattle.std.proofs.Common.{rules, ◌≡◌, ◌≤◌, List, length, [], OnOk, sym, subst}
+use Rattle.std.proofs.Common.{rules, ◌≤◌, List, length, [], OnOk, sym, subst}
 use Rattle.fc_base.specs.declared.decision.LaneEvent.{LaneEvent}
 use Rattle.fc_chain.specs.Room.{HasRoomFor}
+use Rattle.fc_grains.specs.Calls.{HasReadied}
 use Rattle.fc_apply.specs.Parts.{AreKnown, HasDisks, new_volumes}
 use Rattle.fc_steps.specs.Standing.{lane_of}
 use Rattle.fc_apply.proofs.Readying.{disks_there, is_ready}
@@ -18,5 +19,5 @@ returns-clause-ok g c =
     let tracked : AreKnown c.track_all.new.work.known c.as_slice.result.now = search rules in
     let known : AreKnown c.track_all.new.work.known c.args.events.now = subst (λ (z : List LaneEvent). AreKnown c.track_all.new.work.known z) c.as_slice.ensures tracked in
     is_ready c.args.lane c.args.lanes c.reserve.new.self c.args.grains.now c.reserve_volumes.new.grains c.reserve-2.new.self c.track_all.new.work c.args.events.now c.reserve_volumes.result room
-    (subst (λ (z : List LaneEvent). OnOk c.reserve_volumes.result (c.reserve_volumes.new.grains ≡ record c.args.grains.now { reserved = new_volumes (lane_of c.args.lane c.args.lanes c.args.grains.now.grain) z })) c.as_slice-2.ensures c.reserve_volumes.ensures.ok)
+    (subst (λ (z : List LaneEvent). OnOk c.reserve_volumes.result (HasReadied c.args.grains.now (new_volumes (lane_of c.args.lane c.args.lanes c.args.grains.now.grain) z) c.reserve_volumes.new.grains)) c.as_slice-2.ensures c.reserve_volumes.ensures.ok)
     rows known c.requires.works

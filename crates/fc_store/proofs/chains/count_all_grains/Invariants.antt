@@ -1,4 +1,4 @@
-use Rattle.fc_store.proofs.AskedSheet.{AreRead}
+use Rattle.fc_stands.proofs.AskedSheet.{AreRead}
 use Rattle.fc_store.proofs.chains.count_all_grains.Given as goal
 
 abbrev pub invariant-loop-volume : goal.invariant-loop-volume

@@ -1,8 +1,10 @@
 use Rattle.std.proofs.Common.{◌+◌, ◌-◌, length, arith, sym, ap, ◌∙◌}
 use Rattle.std.proofs.lemmas.Bool.{both_ways}
+use Rattle.fc_base.specs.Counts.{is_direct}
 use Rattle.fc_base.specs.Sheet.{Slot}
 use Rattle.fc_slots.proofs.Finds.{read_at}
 use Rattle.fc_tallies.proofs.Direct.{walk_first, step_to, stepped, taken_le, listed_none, listed_one, listed_all, listed_first, remaining_first, direct_yes, direct_old, direct_none, direct_past}
+use Rattle.fc_tallies.proofs.Fronts.{always_err, first_added}
 use Rattle.fc_tallies.proofs.count.add_readers.Goals as goal
 use Rattle.fc_tallies.proofs.count.add_readers.Goals.{else-remaining-gt0-via-then-remaining-gt0+else-is_live, else-remaining-gt0-via-else-remaining-gt0}
 
@@ -59,14 +61,20 @@ loop-remaining-preserved-then-is_live c =
           c.loop-remaining.invariant.listed;
     }
 
-pub returns-else-goes_on : goal.returns-else-goes_on
-returns-else-goes_on c =
+pub returns-else-goes_on-clause-ok : goal.returns-else-goes_on-clause-ok
+returns-else-goes_on-clause-ok c =
     listed_all c.args.slots.now c.args.place (c.loop-remaining.reader + 1) (length c.args.slots.now) c.loop-remaining.out c.args.out.now (omega (arith, c.loop-remaining.invariant.walk.there))
     (λ i lo hi. direct_past c.args.slots.now c.args.place c.loop-remaining.reader i c.requires.together c.loop-remaining.invariant.walk (λ go. both_ways c.goes_on.result c.if-goes_on.false (c.goes_on.ensures.1 go)) (omega arith) hi)
     c.loop-remaining.invariant.listed
 
-pub returns-after-loop-remaining : goal.returns-after-loop-remaining
-returns-after-loop-remaining c =
+pub returns-after-loop-remaining-clause-ok : goal.returns-after-loop-remaining-clause-ok
+returns-after-loop-remaining-clause-ok c =
     listed_all c.args.slots.now c.args.place (c.loop-remaining.reader + 1) (length c.args.slots.now) c.loop-remaining.out c.args.out.now (omega (arith, c.loop-remaining.invariant.walk.there))
     (λ i lo hi. direct_none c.args.slots.now c.args.place c.loop-remaining.reader i c.loop-remaining.left c.loop-remaining.remaining c.loop-remaining.invariant.walk c.loop-remaining.invariant.left (omega arith) (omega arith))
     c.loop-remaining.invariant.listed
+
+pub returns-in_err-push-clause-err : goal.returns-in_err-push-clause-err
+returns-in_err-push-clause-err c =
+    always_err c.from_residual.result
+    (first_added c.args.slots.now (is_direct c.args.slots.now c.args.place) (c.loop-remaining.reader + 1) (length c.args.slots.now) c.args.out.now c.push.new.self
+    (omega (arith, c.loop-remaining.invariant.walk.there)) (c.in_err-push.ensures.err ∙ c.loop-remaining.invariant.listed))

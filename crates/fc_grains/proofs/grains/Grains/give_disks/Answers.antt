@@ -1,11 +1,13 @@
-use Rattle.std.proofs.Common.{◌≡◌, ◌∙◌, ◌++◌, List, length, map, ap, refl, sym, subst, arith}
-use Rattle.std.proofs.lemmas.List.{map-append, append_assoc, length-append, length-map}
+use Rattle.std.proofs.Common.{◌≡◌, ◌∙◌, ◌++◌, List, length, map, reverse, ap, refl, sym, subst, arith}
+use Rattle.std.proofs.lemmas.List.{map-append, append_assoc, length-append, length-map, length-reverse}
+use Rattle.fc_base.specs.Grain.{grain_bytes}
 use Rattle.fc_mdisk.specs.Disk.{DiskState}
 use Rattle.fc_grains.specs.Grains.{GrainsState, AreAllOf, total_of}
 use Rattle.fc_grains.specs.Kept.{all_disks, state_of}
 use Rattle.fc_grains.specs.Parts.{QueuesState, SameDisks, VolumeDiskState, disks_in}
+use Rattle.fc_grains.proofs.Handing.{hold_back}
 use Rattle.fc_grains.proofs.KindCounts.{total-pool}
-use Rattle.fc_grains.proofs.Moving.{all_of, number_of, on_err_at, same_given, same_number}
+use Rattle.fc_grains.proofs.Moving.{all_of, number_of, on_err_at, same_given}
 use Rattle.fc_grains.proofs.Readying.{joined}
 use Rattle.fc_grains.proofs.grains.Grains.give_disks.Goals as goal
 
@@ -34,7 +36,8 @@ give_disks-requires g c =
       ap length c.give_volumes.ensures.given.1,
       length-append c.args.into.now.items c.give_volumes.ensures.given.0,
       c.args.into.now.ok.0,
-      same_number (map g.D.Mdisk.meaning c.give_volumes.ensures.given.0) (map (λ (v : VolumeDiskState). v.disk) c.self.inside.volumes.items) c.give_volumes.ensures.given.2,
+      ap (length {A = DiskState}) c.give_volumes.ensures.given.2,
+      length-reverse (map (λ (v : VolumeDiskState). v.disk) c.self.inside.volumes.items),
       length-map c.give_volumes.ensures.given.0 g.D.Mdisk.meaning,
       length-map c.self.inside.volumes.items (λ (v : VolumeDiskState). v.disk),
       ap (λ (q : QueuesState). length (disks_in q)) c.into_queues.ensures,
@@ -56,7 +59,8 @@ unreachable-requires g c =
       ap length c.give_volumes.ensures.given.1,
       length-append c.args.into.now.items c.give_volumes.ensures.given.0,
       c.args.into.now.ok.0,
-      same_number (map g.D.Mdisk.meaning c.give_volumes.ensures.given.0) (map (λ (v : VolumeDiskState). v.disk) c.self.inside.volumes.items) c.give_volumes.ensures.given.2,
+      ap (length {A = DiskState}) c.give_volumes.ensures.given.2,
+      length-reverse (map (λ (v : VolumeDiskState). v.disk) c.self.inside.volumes.items),
       length-map c.give_volumes.ensures.given.0 g.D.Mdisk.meaning,
       length-map c.self.inside.volumes.items (λ (v : VolumeDiskState). v.disk),
       ap (λ (q : QueuesState). length (disks_in q)) c.into_queues.ensures,
@@ -84,13 +88,18 @@ returns-clause-given g c =
     let split : map m (first ++ (second ++ last)) ≡ map m first ++ (disks_in c.self.inside.pool.queues ++ map m last) =
     map-append m first (second ++ last)
     ∙ ap (λ (ds : List DiskState). map m first ++ ds) (map-append m second last ∙ ap (λ (ds : List DiskState). ds ++ map m last) pooled) in
+    let own : List DiskState = reverse (map (λ (v : VolumeDiskState). v.disk) c.self.inside.volumes.items) in
     let all : List DiskState = all_disks c.self.inside.volumes.items c.self.inside.pool (map m last) in
+    let order : map m (first ++ (second ++ last)) ≡ own ++ (disks_in c.self.inside.pool.queues ++ map m last) =
+    split ∙ ap (λ (ds : List DiskState). ds ++ (disks_in c.self.inside.pool.queues ++ map m last)) c.give_volumes.ensures.given.2 in
     let P : List DiskState → Type 0 = λ ds. SameDisks ds all in
     let same : SameDisks (map m (first ++ (second ++ last))) all =
-    subst P (sym split) (same_given c.self.inside.volumes.items c.self.inside.pool (map m last) (map m first) c.give_volumes.ensures.given.2) in
+    subst P (sym order) (same_given c.self.inside.volumes.items c.self.inside.pool (map m last)) in
     let state : GrainsState = state_of c.self.inside.grain c.self.inside.volumes.items c.self.inside.pool (map m last) c.self.inside.buffer.items c.self.inside.sums in
     let Q : GrainsState → Type 0 = λ s. AreAllOf s (map m (first ++ (second ++ last))) in (
       first ++ (second ++ last),
       items,
-      subst Q c.self.view_is (all_of state all (map m (first ++ (second ++ last))) c.self.inside.sums same refl refl refl refl refl c.self.invariant.add_up),
+      subst Q c.self.view_is
+          (all_of state all (map m (first ++ (second ++ last))) own c.self.inside.sums same refl refl refl refl refl c.self.invariant.add_up order
+          (hold_back (grain_bytes c.self.inside.grain) c.self.inside.volumes.items c.self.invariant.whole) c.self.invariant.empty),
     )

@@ -24,4 +24,4 @@ returns-in-Ok-new g c =
     subst (λ (ds : List g.row.D.Denot). AddUp (map g.D.Mdisk.meaning ds) c.sums_of-sums.result) c.deref.ensures.value c.sums_of-sums.ensures in
     (λ k. state_of c.args.grain (c.new-in-Ok-new.ensures.items k) c.in-Ok-new.pool (map g.D.Mdisk.meaning (c.new-in-Ok-new-2.ensures.items k)) c.in-Ok.buffer.items c.sums_of-sums.result)
     ∙ state_opened c.args.grain c.in-Ok-new.pool c.in-Ok.buffer.items c.sums_of-sums.result (map g.D.Mdisk.meaning c.args.disks.items) (c.in-Ok-new.ensures.bytes ∙ c.bytes-bytes.ensures) c.in-Ok-new.ensures.reserved c.in-Ok-new.ensures.disks
-    add_up (zeros ∙ ap (λ (n : ℕ). replicate n 0) c.bytes-bytes.ensures) (omega (arith, c.requires.few, c.args.disks.ok.0, length-map c.args.disks.items g.D.Mdisk.meaning)) c.in-Ok-new.ensures.left
+    add_up (zeros ∙ ap (λ (n : ℕ). replicate n 0) c.bytes-bytes.ensures) (omega (arith, c.requires.few, c.args.disks.ok.0, length-map c.args.disks.items g.D.Mdisk.meaning)) c.in-Ok-new.ensures.left c.in-Ok-new.ensures.sorted

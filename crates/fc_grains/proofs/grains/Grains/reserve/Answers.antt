@@ -1,8 +1,7 @@
 use Rattle.std.proofs.Common.{◌∙◌, length, map, ap, sym, arith}
 use Rattle.std.proofs.lemmas.List.{length-map}
 use Rattle.std.proofs.lemmas.Result.{on_ok_weaker, on_err_weaker}
-use Rattle.fc_grains.specs.Parts.{new_of}
-use Rattle.fc_grains.proofs.Moving.{coming_by, kept_reserved, on_ok_at, state_reserved}
+use Rattle.fc_grains.proofs.Moving.{coming_by, has_readied, kept_reserved, on_ok_at, state_refused}
 use Rattle.fc_grains.proofs.grains.Grains.reserve.Goals as goal
 
 pub invariant_of-self-2 : goal.invariant_of-self-2
@@ -29,14 +28,14 @@ pub returns-clause-ok : goal.returns-clause-ok
 returns-clause-ok g c =
     rw (← c.self.view_is)
     (on_ok_weaker c.reserve-3.result
-    (λ done. state_reserved c.self.inside.grain c.self.inside.volumes.items c.reserve.new.self.items c.self.inside.pool c.reserve-3.new.self (map g.D.Mdisk.meaning c.self.inside.aside.items) (map g.D.Mdisk.meaning c.reserve-2.new.self.items) c.self.inside.buffer.items c.self.inside.sums
-    c.reserve.ensures.items (ap (map g.D.Mdisk.meaning) c.reserve-2.ensures.items) c.reserve-3.ensures.disks _ done c.reserve-3.ensures.left)
+    (λ done. has_readied c.self.inside.grain c.self.inside.volumes.items c.reserve.new.self.items c.self.inside.pool c.reserve-3.new.self (map g.D.Mdisk.meaning c.self.inside.aside.items) (map g.D.Mdisk.meaning c.reserve-2.new.self.items) c.self.inside.buffer.items c.self.inside.sums
+    c.reserve.ensures.items (ap (map g.D.Mdisk.meaning) c.reserve-2.ensures.items) c.reserve-3.ensures.disks _ done c.reserve-3.ensures.left c.reserve-3.ensures.cleared)
     c.reserve-3.ensures.ok)
 
 pub returns-clause-err : goal.returns-clause-err
 returns-clause-err g c =
     rw (← c.self.view_is)
     (on_err_weaker c.reserve-3.result
-    (λ same. state_reserved c.self.inside.grain c.self.inside.volumes.items c.reserve.new.self.items c.self.inside.pool c.reserve-3.new.self (map g.D.Mdisk.meaning c.self.inside.aside.items) (map g.D.Mdisk.meaning c.reserve-2.new.self.items) c.self.inside.buffer.items c.self.inside.sums
-    c.reserve.ensures.items (ap (map g.D.Mdisk.meaning) c.reserve-2.ensures.items) c.reserve-3.ensures.disks _ (ap (map new_of) same) c.reserve-3.ensures.left)
+    (λ same. state_refused c.self.inside.grain c.self.inside.volumes.items c.reserve.new.self.items c.self.inside.pool c.reserve-3.new.self (map g.D.Mdisk.meaning c.self.inside.aside.items) (map g.D.Mdisk.meaning c.reserve-2.new.self.items) c.self.inside.buffer.items c.self.inside.sums
+    c.reserve.ensures.items (ap (map g.D.Mdisk.meaning) c.reserve-2.ensures.items) c.reserve-3.ensures.disks same)
     c.reserve-3.ensures.err)

@@ -1,7 +1,9 @@
-use Rattle.std.proofs.Common.{◌<◌, ◌∙◌, map, sym}
+use Rattle.std.proofs.Common.{◌<◌, ◌∙◌, map, ap, sym}
 use Rattle.fc_base.specs.Pools.{of_kind}
+use Rattle.fc_mdisk.specs.Disk.{cleared}
 use Rattle.fc_grains.specs.Grains.{reserved_of}
-use Rattle.fc_grains.specs.Parts.{left_in, new_of}
+use Rattle.fc_grains.specs.Parts.{PoolState, QueuesState, disks_in, disks_of, left_in, new_of}
+use Rattle.fc_grains.proofs.Pooling.{all_cleared}
 use Rattle.fc_grains.proofs.Readying.{reserved_ready}
 use Rattle.fc_grains.proofs.pool.Pool.reserve.Goals as goal
 
@@ -11,3 +13,9 @@ invariant_of-self-3 g c =
     reserved_ready c.push.result c.args.kind c.in-Ok.lost c.self.inside.bytes c.args.grains c.self.inside.reserved.items c.reserve.new.self.items c.push.new.self.items c.self.inside.queues c.format.new.self
     c.reserved_of-place.result c.in-Ok.ensures c.reserve.ensures.items c.push.ensures.items (sym c.is_err-2.ensures.value ∙ c.if-is_err-2.false)
     c.reserved_of-place.ensures some c.in-Ok-format.ensures.ok c.self.invariant
+
+pub returns-clause-cleared : goal.returns-clause-cleared
+returns-clause-cleared g c =
+    ap (λ (q : QueuesState). map cleared (disks_in q)) c.in-Ok-format.ensures.ok
+    ∙ all_cleared c.args.kind c.self.inside.queues c.reserved_of-place.result c.args.grains c.self.inside.bytes
+    ∙ ap (λ (p : PoolState). map cleared (disks_of p)) c.self.view_is

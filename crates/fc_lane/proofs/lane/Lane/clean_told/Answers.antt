@@ -20,44 +20,15 @@ fill-filled-requires-clause-can g c =
     let x = clean_fill c.args.self.now c.args.map c.args.grain c.requires.of_lane c.requires.can.0 c.in-Some.slot c.in-Some-needer.needer c.requires.can.1 c.requires.can.2 slot_is needs in
     (c.requires.can.0, x.0, c.requires.can.1, x.2)
 
-pub returns-clause-right : goal.returns-clause-right
-returns-clause-right g c =
+pub returns : goal.returns
+returns g c =
     let slot_is : birth_place c.args.self.now.chains.sheet.slots c.in-Some.slot.0 ≡ mapping_place c.args.self.now.chains.sheet.slots c.args.map.0 =
     subst (λ (z : LaneView). birth_place z.chains.sheet.slots c.in-Some.slot.0 ≡ mapping_place z.chains.sheet.slots c.args.map.0) c.self.view_is
     (subst (λ o. IfSome o (λ (slot : SlotId). birth_place c.self.inside.body.cascade.sheet.slots slot.0 ≡ mapping_place c.self.inside.body.cascade.sheet.slots c.args.map.0)) c.in-Some.is c.slot.ensures.there) in
     let needs = subst (λ (z : LaneView). (x : ℕ) → birth_place z.chains.sheet.slots c.in-Some.slot.0 ≡ Some x → Some c.in-Some-needer.needer ≡ found z.chains.sheet.slots (needer (column z.chains.sheet.slots (c.args.grain.0 / z.chains.lanes)) x)) c.self.view_is
     (λ x e. sym c.in-Some-needer.is ∙ c.needer.ensures x e) in
-    let entered = clean_entered c.args.self.now c.fill-filled.new.self c.in-Some-needer.needer c.args.map c.args.grain c.args.number c.args.actor c.fill-filled.result.moves c.fill-filled.result.end.calls c.fill-filled.result.end.stop
+    clean_entered c.args.self.now c.fill-filled.new.self c.in-Some-needer.needer c.args.map c.args.grain c.args.number c.args.actor c.fill-filled.result.moves c.fill-filled.result.end.calls c.fill-filled.result.end.stop
     c.fill-filled.ensures c.in-Some.slot c.ended.result c.requires.of_lane c.requires.can slot_is needs
     (c.ended.ensures
     ∙ (λ i. steps_entry (c.fill-filled.ensures.beside.lane i) c.args.number c.args.actor (Clean c.args.map c.args.grain) (Moved c.args.map c.args.grain) ((c.faults-before.ensures ∙ ap (λ (z : LaneView). z.grains.faults) c.self.view_is) i)
-    c.fill-filled.new.self.grains.faults c.fill-filled.result.moves c.fill-filled.result.end.calls c.fill-filled.result.end.stop)) in
-    entered.right
-
-pub returns-clause-same : goal.returns-clause-same
-returns-clause-same g c =
-    let slot_is : birth_place c.args.self.now.chains.sheet.slots c.in-Some.slot.0 ≡ mapping_place c.args.self.now.chains.sheet.slots c.args.map.0 =
-    subst (λ (z : LaneView). birth_place z.chains.sheet.slots c.in-Some.slot.0 ≡ mapping_place z.chains.sheet.slots c.args.map.0) c.self.view_is
-    (subst (λ o. IfSome o (λ (slot : SlotId). birth_place c.self.inside.body.cascade.sheet.slots slot.0 ≡ mapping_place c.self.inside.body.cascade.sheet.slots c.args.map.0)) c.in-Some.is c.slot.ensures.there) in
-    let needs = subst (λ (z : LaneView). (x : ℕ) → birth_place z.chains.sheet.slots c.in-Some.slot.0 ≡ Some x → Some c.in-Some-needer.needer ≡ found z.chains.sheet.slots (needer (column z.chains.sheet.slots (c.args.grain.0 / z.chains.lanes)) x)) c.self.view_is
-    (λ x e. sym c.in-Some-needer.is ∙ c.needer.ensures x e) in
-    let entered = clean_entered c.args.self.now c.fill-filled.new.self c.in-Some-needer.needer c.args.map c.args.grain c.args.number c.args.actor c.fill-filled.result.moves c.fill-filled.result.end.calls c.fill-filled.result.end.stop
-    c.fill-filled.ensures c.in-Some.slot c.ended.result c.requires.of_lane c.requires.can slot_is needs
-    (c.ended.ensures
-    ∙ (λ i. steps_entry (c.fill-filled.ensures.beside.lane i) c.args.number c.args.actor (Clean c.args.map c.args.grain) (Moved c.args.map c.args.grain) ((c.faults-before.ensures ∙ ap (λ (z : LaneView). z.grains.faults) c.self.view_is) i)
-    c.fill-filled.new.self.grains.faults c.fill-filled.result.moves c.fill-filled.result.end.calls c.fill-filled.result.end.stop)) in
-    entered.same
-
-pub returns-clause-quiet : goal.returns-clause-quiet
-returns-clause-quiet g c =
-    let slot_is : birth_place c.args.self.now.chains.sheet.slots c.in-Some.slot.0 ≡ mapping_place c.args.self.now.chains.sheet.slots c.args.map.0 =
-    subst (λ (z : LaneView). birth_place z.chains.sheet.slots c.in-Some.slot.0 ≡ mapping_place z.chains.sheet.slots c.args.map.0) c.self.view_is
-    (subst (λ o. IfSome o (λ (slot : SlotId). birth_place c.self.inside.body.cascade.sheet.slots slot.0 ≡ mapping_place c.self.inside.body.cascade.sheet.slots c.args.map.0)) c.in-Some.is c.slot.ensures.there) in
-    let needs = subst (λ (z : LaneView). (x : ℕ) → birth_place z.chains.sheet.slots c.in-Some.slot.0 ≡ Some x → Some c.in-Some-needer.needer ≡ found z.chains.sheet.slots (needer (column z.chains.sheet.slots (c.args.grain.0 / z.chains.lanes)) x)) c.self.view_is
-    (λ x e. sym c.in-Some-needer.is ∙ c.needer.ensures x e) in
-    let entered = clean_entered c.args.self.now c.fill-filled.new.self c.in-Some-needer.needer c.args.map c.args.grain c.args.number c.args.actor c.fill-filled.result.moves c.fill-filled.result.end.calls c.fill-filled.result.end.stop
-    c.fill-filled.ensures c.in-Some.slot c.ended.result c.requires.of_lane c.requires.can slot_is needs
-    (c.ended.ensures
-    ∙ (λ i. steps_entry (c.fill-filled.ensures.beside.lane i) c.args.number c.args.actor (Clean c.args.map c.args.grain) (Moved c.args.map c.args.grain) ((c.faults-before.ensures ∙ ap (λ (z : LaneView). z.grains.faults) c.self.view_is) i)
-    c.fill-filled.new.self.grains.faults c.fill-filled.result.moves c.fill-filled.result.end.calls c.fill-filled.result.end.stop)) in
-    entered.quiet
+    c.fill-filled.new.self.grains.faults c.fill-filled.result.moves c.fill-filled.result.end.calls c.fill-filled.result.end.stop))

@@ -1,4 +1,4 @@
-use Rattle.fc_store.proofs.PhaseAll.{all_done}
+use Rattle.fc_stands.proofs.PhaseAll.{all_done}
 use Rattle.fc_store.proofs.store.Store.apply_all.Goals as goal
 
 pub returns : goal.returns

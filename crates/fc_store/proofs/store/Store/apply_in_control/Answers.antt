@@ -1,8 +1,8 @@
 use Rattle.std.proofs.Common.{ap, subst}
 use Rattle.fc_control.specs.Control.{ControlState}
-use Rattle.fc_store.specs.Phase.{IsControlAfter}
-use Rattle.fc_store.specs.Store.{StoreView}
-use Rattle.fc_store.proofs.PhaseAll.{control_done}
+use Rattle.fc_stands.specs.Phase.{IsControlAfter}
+use Rattle.fc_stands.specs.Store.{StoreView}
+use Rattle.fc_stands.proofs.PhaseAll.{control_done}
 use Rattle.fc_store.proofs.store.Store.apply_in_control.Goals as goal
 
 pub returns-clause-control : goal.returns-clause-control

@@ -1,6 +1,6 @@
 use Rattle.std.proofs.Common.{◌∙◌, ap}
-use Rattle.fc_store.specs.Store.{StoreView}
-use Rattle.fc_store.proofs.PhaseStands.{fits_here}
+use Rattle.fc_stands.specs.Store.{StoreView}
+use Rattle.fc_stands.proofs.PhaseStands.{fits_here}
 use Rattle.fc_store.proofs.store.Store.apply_in_lanes.Goals as goal
 
 pub apply_lanes-requires-clause-fit : goal.apply_lanes-requires-clause-fit

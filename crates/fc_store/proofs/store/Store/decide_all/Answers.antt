@@ -1,5 +1,5 @@
-use Rattle.fc_store.proofs.CommandPhases.{decision_can, decision_done}
-use Rattle.fc_store.proofs.Quieting.{decided_quiet}
+use Rattle.fc_stands.proofs.CommandPhases.{decision_can, decision_done}
+use Rattle.fc_stands.proofs.Quieting.{decided_quiet}
 use Rattle.fc_store.proofs.store.Store.decide_all.Goals as goal
 
 pub reserve_all-requires : goal.reserve_all-requires

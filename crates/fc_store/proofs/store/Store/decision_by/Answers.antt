@@ -1,5 +1,5 @@
 use Rattle.std.proofs.Common.{ap}
-use Rattle.fc_store.specs.Store.{StoreView}
+use Rattle.fc_stands.specs.Store.{StoreView}
 use Rattle.fc_store.proofs.Planning.{may_decide, is_a_command, decision_seen}
 use Rattle.fc_store.proofs.store.Store.decision_by.Goals as goal
 

@@ -1,12 +1,16 @@
 -- The grain has something to do in its lane, and its entry is right.
 use Rattle.std.proofs.Common.{◌≡◌, ◌%◌, ◌<◌, length, slice_index_or, slice_set, subst, sym, ◌∙◌, ap, arith}
 use Rattle.fc_lane.specs.Lane.{LaneView}
-use Rattle.fc_store.specs.Passing.{Filled}
-use Rattle.fc_store.specs.Store.{StandsFor, StoreView}
-use Rattle.fc_store.proofs.Filling.{can_fill, of_lane, fill_turn, filled_as, history_full}
-use Rattle.fc_store.proofs.Parting.{inside}
-use Rattle.fc_store.proofs.Quieting.{keeps_roomy, one_keeps, quiet_filled}
-use Rattle.fc_store.specs.Quiet.{AreQuiet}
+use Rattle.fc_stands.specs.Passing.{Filled}
+use Rattle.fc_stands.specs.Store.{StandsFor, StoreView}
+use Rattle.fc_stands.proofs.Filling.{can_fill, of_lane, fill_turn}
+use Rattle.fc_stands.proofs.Turns.{history_full, turn_says}
+use Rattle.fc_stands.specs.Logged.{whether_moved}
+use Rattle.fc_legal.specs.Seconds.{fill_of}
+use Rattle.std.proofs.Common.{Bool}
+use Rattle.fc_stands.proofs.Parting.{inside}
+use Rattle.fc_stands.proofs.Quieting.{keeps_roomy, one_keeps, quiet_says}
+use Rattle.fc_stands.specs.Quiet.{AreQuiet}
 use Rattle.fc_store.proofs.store.Store.fill.Goals as goal
 
 pub returns-then-is_full-clause-filled : goal.returns-then-is_full-clause-filled
@@ -45,12 +49,13 @@ returns-clause-filled g c = λ w told.
     c.in-Ok.ensures.same
     c.args.work.now _ c.fill_lane-entry.result c.fill_lane-entry.new.lane (c.requires.next w told.0)
     c.fill_lane-entry.ensures.right c.fill_lane-entry.ensures.asked c.fill_lane-entry.ensures.same
-    (omega arith) (told.1 ∙ sym c.len-number.ensures) in
+    (omega arith) (told.1.entries ∙ sym c.len-number.ensures) in
     let Stands : StoreView → Type 0 = λ s. Filled c.log_fill.result (StandsFor (record s { lanes = slice_set s.lanes (c.args.grain.0 % c.len.result) c.fill_lane-entry.new.lane })) c.args.self.now.control.grain w
     c.args.work.now c.args.grain c.args.history.now c.log_fill.new.history in
     subst Stands same
-    (filled_as c.log_fill.result (StandsFor (record c.args.self.now { lanes = slice_set c.args.self.now.lanes (c.args.grain.0 % c.len.result) c.fill_lane-entry.new.lane }))
-    c.args.self.now.control.grain w _ c.args.work.now c.args.grain c.args.history.now c.log_fill.new.history c.fill_lane-entry.result left told.1 c.log_fill.ensures.ok c.log_fill.ensures.err c.log_fill.ensures.stop)
+    (turn_says (StandsFor (record c.args.self.now { lanes = slice_set c.args.self.now.lanes (c.args.grain.0 % c.len.result) c.fill_lane-entry.new.lane }))
+    c.args.self.now.control.grain w _ (fill_of c.args.work.now c.args.grain) c.args.history.now c.log_fill.new.history c.fill_lane-entry.result left told.1
+    Bool c.log_fill.result whether_moved c.log_fill.ensures.ok c.log_fill.ensures.err c.log_fill.ensures.stop)
 
 pub returns-clause-quiet : goal.returns-clause-quiet
 returns-clause-quiet g c = λ quiet.
@@ -62,8 +67,8 @@ returns-clause-quiet g c = λ quiet.
     (ap (λ n. c.args.grain.0 % n) (many ∙ ap (λ (s : StoreView). length s.lanes) (sym same)))
     (c.index_mut-lane.ensures.value ∙ ap (λ (s : StoreView). slice_index_or s.lanes (c.args.grain.0 % c.len.result) c.index_mut-lane.result.now) (sym same))
     c.in-Ok.ensures.same) in
-    quiet_filled c.log_fill.result (slice_set c.self.inside.lanes.items (c.args.grain.0 % c.len.result) c.fill_lane-entry.new.lane) c.args.history.now c.log_fill.new.history c.fill_lane-entry.result _
-    (λ none.
+    quiet_says c.log_fill.result (slice_set c.self.inside.lanes.items (c.args.grain.0 % c.len.result) c.fill_lane-entry.new.lane) c.args.history.now c.log_fill.new.history c.fill_lane-entry.result _
+    (λ none unarmed.
     one_keeps c.self.inside.lanes.items (c.args.grain.0 % c.len.result) c.index_mut-lane.result.now c.fill_lane-entry.new.lane there c.index_mut-lane.ensures.value
     (keeps_roomy c.index_mut-lane.result.now c.make_room.new.self c.fill_lane-entry.new.lane (ap (λ (v : LaneView). v.grains) c.in-Ok.ensures.same) c.fill_lane-entry.ensures.quiet)
     (subst (λ (s : StoreView). AreQuiet s.lanes) same (quiet none)))

@@ -1,4 +1,4 @@
-use Rattle.fc_store.proofs.CommandLogs.{log_after_both}
+use Rattle.fc_stands.proofs.CommandLogs.{log_after_both}
 use Rattle.fc_store.proofs.store.Store.log_decided.Goals as goal
 
 pub returns-clause-answered : goal.returns-clause-answered

@@ -1,4 +1,4 @@
-use Rattle.fc_store.proofs.CommandLogs.{log_before_settling}
+use Rattle.fc_stands.proofs.CommandLogs.{log_before_settling}
 use Rattle.fc_store.proofs.store.Store.log_unsettled.Goals as goal
 
 pub returns-clause-answered : goal.returns-clause-answered

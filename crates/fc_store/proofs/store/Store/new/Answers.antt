@@ -2,9 +2,9 @@ use Rattle.std.proofs.Common.{◌<◌, ◌^◌, ◌∙◌, List, length, map, sy
 use Rattle.std.specs.List.{All}
 use Rattle.std.proofs.lemmas.List.{length-map}
 use Rattle.fc_mdisk.specs.Disk.{DiskState}
-use Rattle.fc_store.specs.Dealing.{Begin, FitLane, all_dealt}
-use Rattle.fc_store.proofs.DealLists.{begin_dealt, lists_count}
-use Rattle.fc_store.proofs.NewStore.{all_fit, kinds_made, quiet_made, silent_made, store_begins}
+use Rattle.fc_lanes.specs.Dealing.{Begin, FitLane, all_dealt}
+use Rattle.fc_lanes.proofs.DealLists.{begin_dealt, lists_count}
+use Rattle.fc_stands.proofs.NewStore.{all_fit, kinds_made, quiet_made, silent_made, store_begins}
 use Rattle.fc_store.proofs.store.Store.new.Given as given
 use Rattle.fc_store.proofs.store.Store.new.Goals as goal
 

@@ -1,8 +1,8 @@
 -- The least grain of the lanes is the least of all.
 use Rattle.std.proofs.Common.{ap, subst, sym, ◌∙◌}
-use Rattle.fc_store.specs.Store.{StoreView}
-use Rattle.fc_store.specs.Working.{AllStand, least_of}
-use Rattle.fc_store.proofs.Working.{all_stand, least_is_next}
+use Rattle.fc_stands.specs.Store.{StoreView}
+use Rattle.fc_lanes.specs.Working.{AllStand, least_of}
+use Rattle.fc_stands.proofs.Working.{all_stand, least_is_next}
 use Rattle.fc_store.proofs.store.Store.next_grain.Goals as goal
 
 pub least_of-requires : goal.least_of-requires

@@ -2,9 +2,9 @@
 use Rattle.std.proofs.Common.{[], ◌+◌, ◌<◌, suc, take, drop, get_or, length, slice_set, ap, ◌∙◌, refl, Ok, Err, arith}
 use Rattle.std.proofs.lemmas.List.{get_or_default}
 use Rattle.fc_control.specs.Control.{ControlState}
-use Rattle.fc_store.specs.Passing.{between}
-use Rattle.fc_store.specs.Store.{StandsFor}
-use Rattle.fc_store.proofs.Passing.{all_passed, one_passed, passed_stopped, second_begins}
+use Rattle.fc_stands.specs.Passing.{between}
+use Rattle.fc_stands.specs.Store.{StandsFor}
+use Rattle.fc_stands.proofs.Passing.{all_passed, any_reading, one_passed, passed_stopped, second_begins}
 use Rattle.fc_store.proofs.store.Store.pass_all.Goals as goal
 
 pub loop-place-init : goal.loop-place-init
@@ -20,7 +20,7 @@ loop-place-init g c = record {
 pub loop-place-preserved : goal.loop-place-preserved
 loop-place-preserved g c =
     let there : c.loop-place.place < length c.loop-place.works = omega (arith, c.loop-place-test.true, c.loop-place.auto.works) in
-    let next = c.in-Ok.ensures.passed c.loop-place.invariant.stands.0 0 [] [] c.loop-place.invariant.stands.1 in
+    let next = c.in-Ok.ensures.passed c.loop-place.invariant.stands.0 0 [] [] c.loop-place.invariant.stands.1 any_reading in
     record {
       passed = λ w seconds told.
           one_passed (StandsFor c.loop-place.self) (StandsFor c.pass_one.new.self) c.args.self.now.control.grain c.loop-place.self.control.grain w (between (suc seconds) c.args.works.now [])

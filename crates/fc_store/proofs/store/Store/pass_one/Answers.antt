@@ -2,9 +2,9 @@
 use Rattle.std.proofs.Common.{◌∷◌, [], ◌++◌, ap, subst, ◌∙◌, refl, true, false, Ok, Err}
 use Rattle.fc_control.specs.Control.{ControlState}
 use Rattle.fc_legal.specs.Seconds.{Work}
-use Rattle.fc_store.specs.Passing.{Passed, at, between}
-use Rattle.fc_store.specs.Store.{StandsFor}
-use Rattle.fc_store.proofs.Passing.{passed_nothing, turn_ended, turn_then}
+use Rattle.fc_stands.specs.Passing.{Passed, at, between}
+use Rattle.fc_stands.specs.Store.{StandsFor}
+use Rattle.fc_stands.proofs.Passing.{any_reading, passed_nothing, turn_ended, turn_then}
 use Rattle.fc_store.proofs.store.Store.pass_one.Goals as goal
 
 pub turns-init : goal.turns-init
@@ -19,7 +19,7 @@ turns-init g c = record {
 
 pub turns-preserved : goal.turns-preserved
 turns-preserved g c =
-    let next = c.in-Ok-true.ensures.passed c.turns.invariant.stands.0 0 [] [] c.turns.invariant.stands.1 in
+    let next = c.in-Ok-true.ensures.passed c.turns.invariant.stands.0 0 [] [] c.turns.invariant.stands.1 any_reading in
     record {
       passed = λ w seconds over left told.
           turn_then (StandsFor c.turns.self) (StandsFor c.take_turn.new.self) c.args.self.now.control.grain c.turns.self.control.grain w (at seconds over c.gain.new.self left)

@@ -2,7 +2,7 @@ use Rattle.std.proofs.Common.{subst, sym}
 use Rattle.std.proofs.lemmas.Result.{on_ok_weaker}
 use Rattle.fc_control.specs.Changes.{CanApply}
 use Rattle.fc_control.specs.Control.{ControlState}
-use Rattle.fc_store.proofs.PhaseAll.{all_reserved, half_reserved, ready_for}
+use Rattle.fc_stands.proofs.PhaseAll.{all_reserved, half_reserved, ready_for}
 use Rattle.fc_store.proofs.store.Store.reserve_all.Goals as goal
 
 pub returns-in-Ok-clause-reserved : goal.returns-in-Ok-clause-reserved

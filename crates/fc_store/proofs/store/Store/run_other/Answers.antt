@@ -1,13 +1,48 @@
--- A command that is no access asks for itself.
-use Rattle.std.proofs.Common.{List, subst, sym}
+-- A command that is no access asks for itself, and where it is done its seconds pass.
+use Rattle.std.proofs.Common.{◌≡◌, ℕ, ◌∷◌, [], List, Ok, Err, subst, sym}
 use Rattle.fc_base.specs.declared.request.Request.{Request}
-use Rattle.fc_legal.specs.Run.{by_main}
-use Rattle.fc_store.specs.Answering.{Answered}
-use Rattle.fc_store.specs.Store.{StandsFor}
-use Rattle.fc_store.proofs.Asked.{asks_itself}
+use Rattle.fc_base.specs.declared.request.Request.TheVariants.{Command as Asked}
+use Rattle.fc_base.specs.declared.size.GrainSize.{GrainSize}
+use Rattle.fc_legal.specs.Added.{Answered, IsTold}
+use Rattle.fc_legal.specs.Agenda.{Session, Own, Seconds, command_seconds, session_rules}
+use Rattle.fc_legal.specs.Seconds.{all_work, begun}
+use Rattle.fc_legal.specs.Whole.{Whole}
+use Rattle.fc_stands.specs.Logged.{Brought}
+use Rattle.fc_stands.specs.Store.{StandsFor}
+use Rattle.fc_stands.proofs.Asked.{asks_itself}
+use Rattle.fc_stands.proofs.Lining.{command_done, command_stopped, command_undone}
 use Rattle.fc_store.proofs.store.Store.run_other.Goals as goal
 
-pub returns-clause-answered : goal.returns-clause-answered
-returns-clause-answered g c = λ w told.
-    let P : List Request → Type 0 = λ rs. Answered c.run_command.result (StandsFor c.run_command.new.self) c.args.self.now.control.grain w (by_main rs) c.args.history.now c.run_command.new.history in
-    subst P (sym (asks_itself c.args.self.now.control.grain w.books c.args.command c.requires.decided)) (c.run_command.ensures.answered w told)
+pub let_pass-requires-clause-stands : goal.let_pass-requires-clause-stands
+let_pass-requires-clause-stands g c =
+    let logged = c.in-Ok-true.ensures.answered c.requires.stands.0 c.requires.stands.1 in
+    (logged.next, logged.told)
+
+pub returns-in-Ok-true-clause-answered : goal.returns-in-Ok-true-clause-answered
+returns-in-Ok-true-clause-answered g c = λ read w told.
+    let grain : GrainSize = c.args.self.now.control.grain in
+    let P : List Request → Type 0 = λ rs. Answered c.let_pass.result (StandsFor c.let_pass.new.self) (session_rules grain read) (Own rs (command_seconds c.args.command) []) w c.args.history.now c.let_pass.new.history in
+    let Q : GrainSize → Type 0 = λ s. (next : Whole) → IsTold (StandsFor c.run_command.new.self) c.run_command.new.history next →
+    Brought c.let_pass.result (StandsFor c.let_pass.new.self) (session_rules s read) (Seconds (begun c.seconds_of-seconds.result (all_work next.books)) []) (Session []) next c.run_command.new.history c.let_pass.new.history in
+    let R : ℕ → Type 0 = λ n. (next : Whole) → IsTold (StandsFor c.run_command.new.self) c.run_command.new.history next →
+    Brought c.let_pass.result (StandsFor c.let_pass.new.self) (session_rules grain read) (Seconds (begun n (all_work next.books)) []) (Session []) next c.run_command.new.history c.let_pass.new.history in
+    subst P (sym (asks_itself grain w.books c.args.command c.requires.decided))
+    (command_done (StandsFor c.run_command.new.self) grain read w (Asked c.args.command) (command_seconds c.args.command) c.args.history.now c.run_command.new.history
+    c.let_pass.result (StandsFor c.let_pass.new.self) c.let_pass.new.history c.in-Ok-true.field-0 c.in-Ok-true.field-0-test (c.in-Ok-true.ensures.answered w told)
+    (subst R c.seconds_of-seconds.ensures (subst Q c.run_command.ensures.grain (λ next. c.let_pass.ensures.passed read next))))
+
+pub returns-in-Ok-false-clause-answered : goal.returns-in-Ok-false-clause-answered
+returns-in-Ok-false-clause-answered g c = λ read w told.
+    let grain : GrainSize = c.args.self.now.control.grain in
+    let P : List Request → Type 0 = λ rs. Answered {A = Unit {0}} (Ok tt) (StandsFor c.run_command.new.self) (session_rules grain read) (Own rs (command_seconds c.args.command) []) w c.args.history.now c.run_command.new.history in
+    subst P (sym (asks_itself grain w.books c.args.command c.requires.decided))
+    (command_undone (StandsFor c.run_command.new.self) grain read w (Asked c.args.command) (command_seconds c.args.command) c.args.history.now c.run_command.new.history
+    c.in-Ok-false.field-0 c.in-Ok-false.field-0-test (c.in-Ok-false.ensures.answered w told))
+
+pub returns-in-Err-clause-answered : goal.returns-in-Err-clause-answered
+returns-in-Err-clause-answered g c = λ read w told.
+    let grain : GrainSize = c.args.self.now.control.grain in
+    let P : List Request → Type 0 = λ rs. Answered {A = Unit {0}} (Err c.in-Err.stop) (StandsFor c.run_command.new.self) (session_rules grain read) (Own rs (command_seconds c.args.command) []) w c.args.history.now c.run_command.new.history in
+    subst P (sym (asks_itself grain w.books c.args.command c.requires.decided))
+    (command_stopped (StandsFor c.run_command.new.self) grain read w (Asked c.args.command) (command_seconds c.args.command) c.args.history.now c.run_command.new.history
+    c.in-Err.stop told.1 (c.in-Err.ensures.answered w told))

@@ -1,31 +1,24 @@
 -- The access fits the lane of its grain, and its entry is right.
 use Rattle.std.proofs.Common.{arith, ◌≡◌, ◌%◌, [], length, slice_index_or, slice_set, ◌∷◌, subst, sym, ◌∙◌, ap, ◌<◌}
-use Rattle.fc_store.specs.Store.{StandsFor}
-use Rattle.fc_store.specs.Asking.{part_of}
+use Rattle.fc_stands.specs.Store.{StandsFor}
+use Rattle.fc_lanes.specs.Asking.{part_of}
 use Rattle.fc_base.specs.Grain.{grain_blocks}
-use Rattle.fc_store.specs.Store.{StoreView}
-use Rattle.fc_store.proofs.Logging.{is_full, is_logged, is_starved}
+use Rattle.fc_stands.specs.Store.{StoreView}
+use Rattle.fc_stands.proofs.Turns.{history_full, turn_logged}
 use Rattle.fc_base.specs.declared.request.Request.{Request}
-use Rattle.fc_legal.specs.Run.{by_main}
-use Rattle.fc_store.specs.Answering.{Answered}
-use Rattle.fc_store.proofs.Places.{part_of-blocks}
+use Rattle.fc_stands.specs.Logged.{Logged, anything}
 use Rattle.fc_lane.specs.Lane.{LaneView}
-use Rattle.fc_store.specs.Dealing.{disks_in}
-use Rattle.fc_store.proofs.Ranging.{disks_stay}
-use Rattle.fc_store.proofs.Parting.{can_access, inside, turn}
-use Rattle.fc_store.proofs.Turning.{in_grain}
-use Rattle.fc_store.proofs.Quieting.{keeps_roomy, one_keeps, quiet_logged}
-use Rattle.fc_store.specs.Quiet.{AreQuiet}
+use Rattle.fc_lanes.specs.Dealing.{disks_in}
+use Rattle.fc_stands.proofs.Ranging.{disks_stay, part_of-blocks}
+use Rattle.fc_stands.proofs.Parting.{can_access, inside, turn}
+use Rattle.fc_stands.proofs.Turning.{in_grain}
+use Rattle.fc_stands.proofs.Quieting.{keeps_roomy, one_keeps, quiet_logged}
+use Rattle.fc_stands.specs.Quiet.{AreQuiet}
 use Rattle.fc_store.proofs.store.Store.run_part.Goals as goal
 
 pub returns-then-is_full-clause-answered : goal.returns-then-is_full-clause-answered
 returns-then-is_full-clause-answered g c = λ w told.
-    is_full (StandsFor c.args.self.now) c.args.self.now.control.grain w _ [] c.args.history.now told c.requires.room
-    (omega (arith, c.if-is_full.ensures.full))
-
-pub returns-in-Err-clause-answered : goal.returns-in-Err-clause-answered
-returns-in-Err-clause-answered g c = λ w told.
-    is_starved (StandsFor c.args.self.now) c.args.self.now.control.grain w _ c.args.history.now
+    history_full (StandsFor c.args.self.now) w c.args.history.now told c.requires.room (omega (arith, c.if-is_full.ensures.full))
 
 pub access_lane-entry-requires-clause-can : goal.access_lane-entry-requires-clause-can
 access_lane-entry-requires-clause-can g c =
@@ -56,15 +49,16 @@ returns-clause-answered g c = λ w told.
     (c.blocks-blocks.ensures ∙ ap grain_blocks (c.grain.ensures ∙ ap (λ (s : StoreView). s.control.grain) (sym same)))
     c.max-first.ensures c.min-end.ensures c.requires.some c.requires.begins c.requires.ends)
     c.requires.there.3 c.access_lane-entry.ensures.right c.access_lane-entry.ensures.asked c.access_lane-entry.ensures.same
-    (omega arith) (told.1 ∙ sym c.len-number.ensures) in
-    let Asks : Request → Type 0 = λ r. Answered c.log.result (StandsFor (record c.args.self.now { lanes = slice_set c.args.self.now.lanes (c.args.grain % c.len.result) c.access_lane-entry.new.lane })) c.args.self.now.control.grain w (by_main (r ∷ [])) c.args.history.now c.log.new.history in
-    let answered = is_logged c.log.result (StandsFor (record c.args.self.now { lanes = slice_set c.args.self.now.lanes (c.args.grain % c.len.result) c.access_lane-entry.new.lane }))
-    c.args.self.now.control.grain w _ _ c.args.history.now c.log.new.history c.access_lane-entry.result left told.1 c.log.ensures.ok c.log.ensures.err c.log.ensures.stop in
+    (omega arith) (told.1.entries ∙ sym c.len-number.ensures) in
+    let New : StoreView → StoreView = λ s. record s { lanes = slice_set s.lanes (c.args.grain % c.len.result) c.access_lane-entry.new.lane } in
+    let Asks : Request → Type 0 = λ r. Logged c.log.result anything (StandsFor (New c.args.self.now)) c.args.self.now.control.grain w r c.args.history.now c.log.new.history in
+    let logged = turn_logged (StandsFor (New c.args.self.now)) c.args.self.now.control.grain w _ _ c.args.history.now c.log.new.history c.access_lane-entry.result left told.1
+    c.log.result c.log.ensures.ok c.log.ensures.err c.log.ensures.stop in
     let asked = subst Asks (part_of-blocks c.args.self.now.control.grain c.args.access c.args.volume c.args.block c.args.count c.args.grain _ _ _
     (c.blocks-blocks.ensures ∙ ap grain_blocks (c.grain.ensures ∙ ap (λ (s : StoreView). s.control.grain) (sym same)))
-    c.max-first.ensures c.min-end.ensures) answered in
-    let Stands : StoreView → Type 0 = λ s. Answered c.log.result (StandsFor (record s { lanes = slice_set s.lanes (c.args.grain % c.len.result) c.access_lane-entry.new.lane })) c.args.self.now.control.grain w
-    (by_main (part_of c.args.self.now.control.grain c.args.access c.args.volume c.args.block c.args.count c.args.grain ∷ [])) c.args.history.now c.log.new.history in
+    c.max-first.ensures c.min-end.ensures) logged in
+    let Stands : StoreView → Type 0 = λ s. Logged c.log.result anything (StandsFor (New s)) c.args.self.now.control.grain w
+    (part_of c.args.self.now.control.grain c.args.access c.args.volume c.args.block c.args.count c.args.grain) c.args.history.now c.log.new.history in
     subst Stands same asked
 
 pub returns-in-Err-clause-disks : goal.returns-in-Err-clause-disks

@@ -1,4 +1,4 @@
-use Rattle.fc_store.proofs.CommandRuns.{ran_decided, ran_settled}
+use Rattle.fc_stands.proofs.CommandRuns.{ran_decided, ran_settled}
 use Rattle.fc_store.proofs.store.Store.run_settled.Goals as goal
 
 pub returns-in-Ok-clause-answered : goal.returns-in-Ok-clause-answered

@@ -1,5 +1,5 @@
-use Rattle.fc_store.proofs.CommandPhases.{settling_can, settling_done}
-use Rattle.fc_store.proofs.Quieting.{settled_quiet}
+use Rattle.fc_stands.proofs.CommandPhases.{settling_can, settling_done}
+use Rattle.fc_stands.proofs.Quieting.{settled_quiet}
 use Rattle.fc_store.proofs.store.Store.settle_all.Goals as goal
 
 pub reserve_all-requires : goal.reserve_all-requires

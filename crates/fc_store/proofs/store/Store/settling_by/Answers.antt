@@ -1,5 +1,5 @@
 use Rattle.std.proofs.Common.{ap}
-use Rattle.fc_store.specs.Store.{StoreView}
+use Rattle.fc_stands.specs.Store.{StoreView}
 use Rattle.fc_store.proofs.Planning.{settling_seen}
 use Rattle.fc_store.proofs.store.Store.settling_by.Goals as goal
 

@@ -1,9 +1,9 @@
 use Rattle.std.proofs.Common.{◌≡◌, List, ap, subst, ◌∙◌}
 use Rattle.fc_base.specs.Tables.{Tables}
 use Rattle.fc_base.specs.declared.volume.Volume.{Volume}
-use Rattle.fc_store.specs.LaneSheet.{AreCountable}
-use Rattle.fc_store.specs.Store.{StoreView}
-use Rattle.fc_store.proofs.AskedSheet.{asked_of}
+use Rattle.fc_lane_sheet.specs.LaneSheet.{AreCountable}
+use Rattle.fc_stands.specs.Store.{StoreView}
+use Rattle.fc_stands.proofs.AskedSheet.{asked_of}
 use Rattle.fc_store.proofs.store.Store.sheet.Goals as goal
 
 pub new-requires : goal.new-requires

@@ -4,8 +4,8 @@ use Rattle.fc_base.specs.Grain.{grain_kib}
 use Rattle.fc_base.specs.declared.size.GrainSize.{GrainSize}
 use Rattle.fc_control.specs.Control.{ControlState}
 use Rattle.fc_legal.specs.Seconds.{next_grain, saved, spent}
-use Rattle.fc_store.specs.Store.{StandsFor, StoreView}
-use Rattle.fc_store.proofs.Passing.{same_next, turn_failed, turn_idle, turn_moved, turn_poor, turn_stopped}
+use Rattle.fc_stands.specs.Store.{StandsFor, StoreView}
+use Rattle.fc_stands.proofs.Passing.{same_next, turn_failed, turn_idle, turn_moved, turn_poor, turn_stopped}
 use Rattle.fc_store.proofs.store.Store.take_turn.Goals as goal
 
 pub returns-in-None-clause-passed : goal.returns-in-None-clause-passed
@@ -36,7 +36,7 @@ pub returns-in-Ok-true-clause-passed : goal.returns-in-Ok-true-clause-passed
 returns-in-Ok-true-clause-passed g c = λ w seconds over left told.
     let size : c.grain.result ≡ c.args.self.now.control.grain = c.grain.ensures ∙ ap (λ (s : StoreView). s.control.grain) c.self.view_is in
     turn_moved (StandsFor c.fill.new.self) c.args.self.now.control.grain w seconds over c.args.work.now c.pay.new.self left c.in-Some.grain c.args.history.now c.fill.new.history
-    (sym (c.in-Some.ensures w told.0))
+    told.1 (sym (c.in-Some.ensures w told.0))
     (subst (λ (n : GrainSize). grain_kib n ≤ c.args.work.now.credit) size c.if-not-pay.ensures.paid.0)
     (c.if-not-pay.ensures.paid.1 ∙ ap (λ (n : GrainSize). spent n c.args.work.now) size)
     _ c.in-Ok-true.field-0-test (c.in-Ok-true.ensures.filled w told)
@@ -44,17 +44,18 @@ returns-in-Ok-true-clause-passed g c = λ w seconds over left told.
 pub returns-in-Ok-false-clause-passed : goal.returns-in-Ok-false-clause-passed
 returns-in-Ok-false-clause-passed g c = λ w seconds over left told.
     let size : c.grain.result ≡ c.args.self.now.control.grain = c.grain.ensures ∙ ap (λ (s : StoreView). s.control.grain) c.self.view_is in
-    turn_failed (StandsFor c.fill.new.self) c.args.self.now.control.grain w seconds over c.args.work.now c.pay.new.self c.save.new.work left c.in-Some.grain c.args.history.now c.fill.new.history
-    (sym (c.in-Some.ensures w told.0))
+    turn_failed (StandsFor c.fill.new.self) c.args.self.now.control.grain w seconds over c.args.work.now c.pay.new.self left c.in-Some.grain c.args.history.now c.fill.new.history
+    told.1 (sym (c.in-Some.ensures w told.0))
     (subst (λ (n : GrainSize). grain_kib n ≤ c.args.work.now.credit) size c.if-not-pay.ensures.paid.0)
     (c.if-not-pay.ensures.paid.1 ∙ ap (λ (n : GrainSize). spent n c.args.work.now) size)
-    _ c.in-Ok-false.field-0-test (c.in-Ok-false.ensures.filled w told)
+    c.save.new.work _ c.in-Ok-false.field-0-test (c.in-Ok-false.ensures.filled w told)
     (λ last stands. c.save.ensures last stands ∙ ap (λ (k : ControlState). saved k.grain last c.pay.new.self) c.in-Ok-false.ensures.control)
 
 pub returns-in-Err-clause-passed : goal.returns-in-Err-clause-passed
 returns-in-Err-clause-passed g c = λ w seconds over left told.
     let size : c.grain.result ≡ c.args.self.now.control.grain = c.grain.ensures ∙ ap (λ (s : StoreView). s.control.grain) c.self.view_is in
-    turn_stopped c.in-Err.stop (StandsFor c.fill.new.self) c.args.self.now.control.grain w seconds over c.args.work.now c.pay.new.self left c.in-Some.grain _ c.args.history.now c.fill.new.history
-    (sym (c.in-Some.ensures w told.0))
+    turn_stopped (StandsFor c.fill.new.self) c.args.self.now.control.grain w seconds over c.args.work.now c.pay.new.self left c.in-Some.grain c.args.history.now c.fill.new.history
+    told.1 (sym (c.in-Some.ensures w told.0))
     (subst (λ (n : GrainSize). grain_kib n ≤ c.args.work.now.credit) size c.if-not-pay.ensures.paid.0)
-    (c.in-Err.ensures.filled w told)
+    (c.if-not-pay.ensures.paid.1 ∙ ap (λ (n : GrainSize). spent n c.args.work.now) size)
+    c.in-Err.stop _ (c.in-Err.ensures.filled w told)

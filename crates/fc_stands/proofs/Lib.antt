@@ -1,0 +1,25 @@
+-- Lemmas, one subject a file.
+pub mod Turns
+pub mod Accessing
+pub mod Turning
+pub mod Parting
+pub mod Asked
+pub mod Ranging
+pub mod Working
+pub mod Filling
+pub mod Restarts
+pub mod CommandSheet
+pub mod AskedSheet
+pub mod PhaseStands
+pub mod PhaseAll
+pub mod Arming
+pub mod OneAdded
+pub mod Quieting
+pub mod CommandSteps
+pub mod CommandPhases
+pub mod CommandLogs
+pub mod CommandRuns
+pub mod NewStore
+pub mod Bringing
+pub mod Lining
+pub mod Passing

@@ -1,0 +1,198 @@
+-- What one access asks of the lane of its grain, and what a refusal leaves.
+use Rattle.std.proofs.Common.{◌≡◌, ℕ, ◌+◌, ◌-◌, ◌*◌, ◌%◌, ◌<◌, ◌≤◌, max, min, [], slice_index_or, Option, Contains, refl, sym, ◌∙◌, ap, subst, arith}
+use Rattle.fc_base.specs.Grain.{grain_blocks}
+use Rattle.fc_base.specs.declared.command.Command.TheVariants as command
+use Rattle.fc_base.specs.declared.fault.Refusal.{Refusal}
+use Rattle.fc_base.specs.declared.ids.VolId.{VolId}
+use Rattle.fc_base.specs.declared.request.Place.TheVariants.{Control}
+use Rattle.fc_base.specs.declared.request.Reply.TheVariants.{Refused}
+use Rattle.fc_base.specs.declared.request.Request.{Request}
+use Rattle.fc_base.specs.declared.request.Request.TheVariants.{Command as Asked, Unread, Read, Write, Copy, Clean, CopyTurn, CleanTurn}
+use Rattle.fc_base.specs.declared.size.GrainSize.{GrainSize}
+use Rattle.fc_base.specs.declared.size.GrainSize.TheVariants.{K64, K256}
+use Rattle.fc_base.specs.declared.volume.Volume.{Volume}
+use Rattle.fc_entry.specs.Picture.{grain_of_block}
+use Rattle.fc_entry.specs.declared.entry.Entry.{Entry}
+use Rattle.fc_follow.specs.Following.{Followed}
+use Rattle.fc_lane.specs.Lane.{LaneView, IsFollowing, of}
+use Rattle.fc_legal.specs.Stands.{Stands}
+use Rattle.fc_legal.specs.Steps.{RequestStep, IsInside, IsRefused, AccessIsRefused, one_more}
+use Rattle.fc_legal.specs.Whole.{Whole, lanes, lane_of_grain, lane_at, part_at, followed_at}
+use Rattle.fc_parts.proofs.Lawful.{part_law_holds}
+use Rattle.fc_parts.specs.Law.{IsAt, IsInVolume}
+use Rattle.fc_rules.specs.LaneFits.{FitsPart}
+use Rattle.fc_stands.specs.Apart.{entry_apart, IsRefusalOf}
+use Rattle.fc_lanes.specs.Asking.{request_of}
+use Rattle.fc_stands.specs.Store.{StoreView, IsLaneAt, StandsFor}
+use Rattle.fc_lanes.specs.declared.access.Access.{Access}
+use Rattle.fc_lanes.specs.declared.access.Access.TheVariants as access
+use Rattle.fc_stands.proofs.Turns.{IsTurn}
+
+-- ---- an access
+
+-- Blocks of a grain, the first of them and the first behind them.
+pub record IsInGrain (grain : GrainSize) (first count g : ℕ) : Type 0 where
+  pub some : 1 ≤ count
+  pub fits : first % grain_blocks grain + count ≤ grain_blocks grain
+  pub of_grain : grain_of_block grain first ≡ g
+
+pub in_grain :
+    (grain : GrainSize) (block count g width first end : ℕ) →
+    width ≡ grain_blocks grain →
+    first ≡ max block (g * width) →
+    end ≡ min (block + count) ((g + 1) * width) →
+    0 < count →
+    block < (g + 1) * grain_blocks grain →
+    g * grain_blocks grain < block + count →
+    IsInGrain grain first (end - first) g
+in_grain K64 block count g width first end is_width is_first is_end some begins ends =
+    let starts : first ≡ max block (g * 128) = is_first ∙ ap (λ (n : ℕ). max block (g * n)) is_width in
+    let stops : end ≡ min (block + count) ((g + 1) * 128) = is_end ∙ ap (λ (n : ℕ). min (block + count) ((g + 1) * n)) is_width in
+    record { some = omega arith; fits = omega arith; of_grain = omega arith }
+in_grain K256 block count g width first end is_width is_first is_end some begins ends =
+    let starts : first ≡ max block (g * 512) = is_first ∙ ap (λ (n : ℕ). max block (g * n)) is_width in
+    let stops : end ≡ min (block + count) ((g + 1) * 512) = is_end ∙ ap (λ (n : ℕ). min (block + count) ((g + 1) * n)) is_width in
+    record { some = omega arith; fits = omega arith; of_grain = omega arith }
+
+-- It is at that grain.
+pub at_grain : (grain : GrainSize) (access : Access) (volume : VolId) (first count g : ℕ) → grain_of_block grain first ≡ g →
+    IsAt grain g (request_of access volume first count)
+at_grain grain access.Read volume first count g is = is
+at_grain grain (access.Write byte) volume first count g is = is
+
+-- Which lane a lane is, as its calls say it.
+pub same_lane : (grain : GrainSize) (w : Whole) (i : ℕ) (v : LaneView) → IsLaneAt grain w i v → of v ≡ lane_at grain w i
+same_lane grain w i v is =
+    ap (λ (l : ℕ). record { lane = l; lanes = v.lanes; grain = v.grains.grain }) is.lane
+    ∙ ap (λ (n : ℕ). record { lane = i; lanes = n; grain = v.grains.grain }) is.lanes_are
+    ∙ ap (λ (g : GrainSize). record { lane = i; lanes = lanes w; grain = g }) is.grain_is
+
+-- An access of a volume of the table is inside it, and fits the lane of its grain.
+pub is_inside : (grain : GrainSize) (w : Whole) (volume : VolId) (v : Volume) (first count g : ℕ) → Contains w.books.tables.volumes v → v.id ≡ volume → IsInGrain grain first count g → g < v.grains →
+    IsInside grain w.books.tables volume first count
+is_inside grain w volume v first count g there named inside within = record {
+  of = v;
+  there = there;
+  id_is = named;
+  some = inside.some;
+  in_one = inside.fits;
+  inside = subst (λ n. n < v.grains) (sym inside.of_grain) within;
+}
+
+pub part_fits :
+    (grain : GrainSize) (decisions : ℕ) (w : Whole) (volume : VolId) (v : Volume) (first count g : ℕ) →
+    Stands decisions w →
+    Contains w.books.tables.volumes v →
+    v.id ≡ volume →
+    IsInGrain grain first count g →
+    g < v.grains →
+    FitsPart (lane_at grain w (lane_of_grain w g)) (part_at grain w (lane_of_grain w g)) volume first count
+part_fits grain decisions w volume v first count g stands there named inside within =
+    let P : ℕ → Type 0 = λ n. FitsPart (lane_at grain w (lane_of_grain w n)) (part_at grain w (lane_of_grain w n)) volume first count in
+    subst P inside.of_grain (part_law_holds.fits grain decisions w volume first count stands (is_inside grain w volume v first count g there named inside within))
+
+-- As its request says it.
+pub inside_of : (grain : GrainSize) (w : Whole) (access : Access) (volume : VolId) (first count : ℕ) → IsInside grain w.books.tables volume first count → IsInVolume grain w (request_of access volume first count)
+inside_of grain w access.Read volume first count inside = inside
+inside_of grain w (access.Write byte) volume first count inside = inside
+
+-- ---- a refusal
+
+by_request :
+    (grain : GrainSize) (w : Whole) (entry : Entry) (request : Request) (refusal : Refusal) →
+    IsRefusalOf grain w request refusal →
+    IsRefused refusal w entry (one_more w) →
+    RequestStep grain w request entry (one_more w)
+by_request grain w entry (Asked (command.Read volume block count)) refusal is refused =
+    let P : Option Refusal → Type 0 = λ o. AccessIsRefused o w entry (one_more w) in
+    subst P (sym is) refused
+by_request grain w entry (Asked (command.Write volume block count byte)) refusal is refused =
+    let P : Option Refusal → Type 0 = λ o. AccessIsRefused o w entry (one_more w) in
+    subst P (sym is) refused
+by_request grain w entry (Unread fault) refusal is refused =
+    let P : Refusal → Type 0 = λ r. IsRefused r w entry (one_more w) in
+    subst P is refused
+by_request grain w entry (Asked (command.Mkvdisk a b c d)) refusal is refused = absurd is
+by_request grain w entry (Asked (command.Rmvdisk a)) refusal is refused = absurd is
+by_request grain w entry (Asked (command.Armfault a b c)) refusal is refused = absurd is
+by_request grain w entry (Asked (command.Advance a)) refusal is refused = absurd is
+by_request grain w entry (Asked (command.Mkfcmap a b c d e f g h i)) refusal is refused = absurd is
+by_request grain w entry (Asked (command.Prestartfcmap a b)) refusal is refused = absurd is
+by_request grain w entry (Asked (command.Startfcmap a b c)) refusal is refused = absurd is
+by_request grain w entry (Asked (command.Stopfcmap a b)) refusal is refused = absurd is
+by_request grain w entry (Asked (command.Rmfcmap a b)) refusal is refused = absurd is
+by_request grain w entry (Asked (command.Mkfcconsistgrp a)) refusal is refused = absurd is
+by_request grain w entry (Asked (command.Prestartfcconsistgrp a b)) refusal is refused = absurd is
+by_request grain w entry (Asked (command.Startfcconsistgrp a b c)) refusal is refused = absurd is
+by_request grain w entry (Asked (command.Stopfcconsistgrp a b)) refusal is refused = absurd is
+by_request grain w entry (Asked (command.Rmfcconsistgrp a b)) refusal is refused = absurd is
+by_request grain w entry (Asked (command.Lsfcmap a b)) refusal is refused = absurd is
+by_request grain w entry (Asked (command.Lsfcconsistgrp a b)) refusal is refused = absurd is
+by_request grain w entry (Asked (command.Lsvdisk a)) refusal is refused = absurd is
+by_request grain w entry (Asked (command.Lsfcmapprogress a b)) refusal is refused = absurd is
+by_request grain w entry (Asked (command.Lsfcmapdependentmaps a b)) refusal is refused = absurd is
+by_request grain w entry (Read part) refusal is refused = absurd is
+by_request grain w entry (Write part) refusal is refused = absurd is
+by_request grain w entry (Copy m g) refusal is refused = absurd is
+by_request grain w entry (Clean m g) refusal is refused = absurd is
+by_request grain w entry (CopyTurn lane) refusal is refused = absurd is
+by_request grain w entry (CleanTurn lane) refusal is refused = absurd is
+
+-- One entry more tells lanes nothing.
+same_part : (grain : GrainSize) (w : Whole) (i : ℕ) → followed_at grain (one_more w) i ≡ followed_at grain w i
+unfolding part_at
+same_part grain w i = refl
+
+pub one_more_stands : (s : StoreView) (w : Whole) → StandsFor s w → StandsFor s (one_more w)
+one_more_stands s w stands = record {
+  control = stands.control;
+  count = stands.count;
+  each = λ i d inside.
+      let is : IsLaneAt s.control.grain w i (slice_index_or s.lanes i d) = stands.each i d inside in
+      record {
+        lane = is.lane;
+        lanes_are = is.lanes_are;
+        grain_is = is.grain_is;
+        stands = subst (λ (f : Followed). IsFollowing (slice_index_or s.lanes i d) f) (sym (same_part s.control.grain w i)) is.stands;
+      };
+  decisions = stands.decisions;
+  few = omega (arith, stands.few);
+  stands = record {
+    sound = stands.stands.sound;
+    few = stands.stands.few;
+    plain = stands.stands.plain;
+    each_lane = record {
+      some = stands.stands.each_lane.some;
+      pools = stands.stands.each_lane.pools;
+      calls = stands.stands.each_lane.calls;
+    };
+    firsts = stands.stands.firsts;
+    rows = record { each = stands.stands.rows.each; distinct = stands.stands.rows.distinct };
+  };
+  calls = λ i. omega (arith, stands.calls i);
+}
+
+pub refused_turn :
+    (s : StoreView) (w : Whole) (number : ℕ) (request : Request) (refusal : Refusal) →
+    StandsFor s w →
+    w.entries ≡ number →
+    IsRefusalOf s.control.grain w request refusal →
+    IsTurn (StandsFor s) s.control.grain w request (entry_apart number Control request (Refused refusal) []) (one_more w)
+refused_turn s w number request refusal stands counted is = record {
+  by_main = refl;
+  asked = refl;
+  step = record {
+    number = sym counted;
+    right = by_request s.control.grain w (entry_apart number Control request (Refused refusal) []) request refusal is
+        record {
+          place = refl;
+          apart = record { no_moves = refl; untorn = refl; no_calls = refl; no_faults_before = refl; no_faults_after = refl };
+          reply = refl;
+          no_effects = refl;
+          next_is = refl;
+        };
+  };
+  counted = refl;
+  actors = refl;
+  stands = one_more_stands s w stands;
+}

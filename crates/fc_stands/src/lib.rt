@@ -1,0 +1,6 @@
+//! When the control part and all lanes stand for what is told, and that each step of a store leaves it so.
+//!
+//! To read: `specs/Store` (a store as contracts see it, and when it stands for what a history tells), `specs/Phase` and
+//! `specs/Settling` (the two phases of a command), `specs/Apart` (an entry that no lane makes), `specs/Arming` and
+//! `specs/Quiet` (disks that never fail unless an entry armed a fault); then `proofs/`.
+#![tactic(auto)]

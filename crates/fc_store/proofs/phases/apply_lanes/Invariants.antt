@@ -1,6 +1,0 @@
-use Rattle.fc_store.specs.Phase.{IsLaneAfter}
-use Rattle.fc_store.proofs.PhaseLanes.{EachBelow}
-use Rattle.fc_store.proofs.phases.apply_lanes.Given as goal
-
-abbrev pub invariant-loop-place : goal.invariant-loop-place
-invariant-loop-place g l = EachBelow (IsLaneAfter l.events) l.place l.fn.lanes l.lanes

@@ -1,6 +1,0 @@
-use Rattle.std.proofs.Common.{◌≡◌, take, false}
-use Rattle.fc_store.specs.LaneSheet.{has_map}
-use Rattle.fc_store.proofs.sheet.is_map_among.Given as goal
-
-abbrev pub invariant-loop-other : goal.invariant-loop-other
-invariant-loop-other l = has_map (take l.other-index l.maps) l.map ≡ false

@@ -1,6 +1,0 @@
-use Rattle.fc_store.specs.LaneSheet.{sheet_of}
-use Rattle.fc_store.proofs.Dependents.{begun}
-use Rattle.fc_store.proofs.sheet.reached_from.Goals as goal
-
-pub loop-turn-init : goal.loop-turn-init
-loop-turn-init g c = begun (sheet_of c.args.lanes.now) c.args.map c.new-reached.result c.add_more.new.reached c.new-reached.ensures c.in_ok-add_more.ensures

@@ -1,5 +1,0 @@
-use Rattle.fc_store.specs.LaneSheet.{sheet_of, Reached}
-use Rattle.fc_store.proofs.sheet.reached_from.Given as goal
-
-abbrev pub invariant-loop-turn : goal.invariant-loop-turn
-invariant-loop-turn g l = Reached (sheet_of l.lanes) l.map l.turn l.reached

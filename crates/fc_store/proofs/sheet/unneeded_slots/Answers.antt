@@ -1,5 +1,0 @@
-use Rattle.fc_store.proofs.LaneSheets.{unneeded_answer}
-use Rattle.fc_store.proofs.sheet.unneeded_slots.Goals as goal
-
-pub returns : goal.returns
-returns g c = unneeded_answer c.args.lanes.now c.requires c.unneeded_by.result c.unneeded_by.ensures

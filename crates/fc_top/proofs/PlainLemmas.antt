@@ -1,0 +1,106 @@
+-- How a call ends that ran a session, or for which memory was wanted before.
+use Rattle.std.proofs.Common.{◌≡◌, ◌⊎◌, ◌≤◌, List, [], ◌∷◌, codes, length, refl, sym, subst, ap, inl, inr, arith}
+use Rattle.fc_base.specs.declared.size.GrainSize.{GrainSize}
+use Rattle.fc_entry.specs.HistoryState.{HistoryState}
+use Rattle.fc_entry.specs.declared.entry.Entry.{Entry}
+use Rattle.fc_io.specs.Source.{SourceState}
+use Rattle.fc_legal.proofs.Naming.{IsNamed-none}
+use Rattle.fc_legal.specs.Added.{IsOf}
+use Rattle.fc_legal.specs.Legal.{IsLegal}
+use Rattle.fc_legal.specs.Whole.{Whole}
+use Rattle.fc_mdisk.specs.Disk.{DiskState}
+use Rattle.fc_run.specs.Headline.{Session, SessionEnds}
+use Rattle.fc_run.specs.declared.ended.Ended.{Ended}
+use Rattle.fc_run.specs.declared.ended.Ended.TheVariants as ended
+use Rattle.fc_run.specs.declared.form.Form.{Form}
+use Rattle.fc_stands.specs.Store.{StoreView}
+use Rattle.fc_top.proofs.CompleteLemmas.{completes}
+use Rattle.fc_top.proofs.SessionOver.{Over, kept_of, session_over, starved_at_once, gave_nothing}
+use Rattle.fc_top.specs.Call.{Call, empty, session_of, status_of}
+use Rattle.fc_top.specs.DisksBack.{first_told, DisksAfter}
+use Rattle.fc_top.specs.PlainEnds.{PlainEnds}
+use Rattle.fc_top.specs.PlainRuns.{plain_runs}
+use Rattle.fc_top.specs.StoreRuns.{HasDisks, IsUp, StandsOr, Start, runs_of, store_runs}
+use Rattle.fc_top.specs.declared.status.Status.{Status}
+use Rattle.fc_top.specs.declared.status.Status.TheVariants as status
+
+-- The disks come back as they should, by what is told at the end.
+abbrev pub ComeBack : GrainSize → Call → (Whole → Type 0) → Type 0
+ComeBack grain call Stands =
+    (last : Whole) → IsLegal grain (first_told call.disks) call.history.entries last → Stands last →
+    DisksAfter call.status call.disks call.disks' call.history.entries last
+
+pub plain_ends :
+    (form : Form) (grain : GrainSize) (source source' : SourceState) (call : Call) (e : Ended) (Stands : HistoryState → Whole → Type 0) (Kept : Type 0) →
+    ((history : HistoryState) (last : Whole) → Stands history last → Kept) →
+    call.status ≡ status_of e →
+    SessionEnds (session_of e form source source' call) (runs_of grain (first_told call.disks) Stands Kept) →
+    length call.history.entries ≤ 262144 →
+    ComeBack grain call (λ last. StandsOr e (Stands call.history last) Kept) →
+    PlainEnds form grain source source' call
+plain_ends form grain source source' call e Stands Kept keeps is ends few back =
+    let over : Over grain (first_told call.disks) Stands Kept e (session_of e form source source' call) ends.bytes =
+    session_over grain (first_told call.disks) Stands Kept e (session_of e form source source' call) ends.bytes keeps ends.ends in
+    let disks = back over.last over.legal over.stands in
+    record {
+      last = over.last;
+      ended = e;
+      status = is;
+      legal = over.legal;
+      named = inl over.told;
+      session = record { bytes = ends.bytes; gave = ends.gave; ends = over.ends };
+      disks = disks;
+      complete = completes e form grain source source' call (plain_runs grain (first_told call.disks) over.last) ends.bytes over.last is over.ends
+          over.legal few disks;
+    }
+
+-- Memory was wanted before anything was read.
+pub starved_ends :
+    (form : Form) (grain : GrainSize) (source source' : SourceState) (call : Call) →
+    call.status ≡ status.NoMemory →
+    source' ≡ source →
+    call.sink' ≡ call.sink →
+    call.history.entries ≡ [] →
+    IsOf (first_told call.disks) call.history ⊎ (call.history ≡ empty) →
+    PlainEnds form grain source source' call
+starved_ends form grain source source' call is same_source same_sink none named =
+    let w : Whole = first_told call.disks in
+    let ends = starved_at_once grain w (session_of ended.NoMemory form source source' call) same_source same_sink none in
+    let P : List Entry → Type 0 = λ es. IsLegal grain w es w in
+    let legal : IsLegal grain w call.history.entries w = subst P (sym none) (IsNamed-none w) in
+    let Q : Status → Type 0 = λ s. DisksAfter s call.disks call.disks' call.history.entries w in
+    let disks : DisksAfter call.status call.disks call.disks' call.history.entries w = subst Q (sym is) tt in
+    record {
+      last = w;
+      ended = ended.NoMemory;
+      status = is;
+      legal = legal;
+      named = or_empty named;
+      session = record { bytes = []; gave = gave_nothing source source' same_source; ends = ends };
+      disks = disks;
+      complete = completes ended.NoMemory form grain source source' call (plain_runs grain w w) [] w is ends legal
+          (omega (arith, ap length none)) disks;
+    }
+  where
+    or_empty : IsOf (first_told call.disks) call.history ⊎ (call.history ≡ empty) →
+        IsOf (first_told call.disks) call.history ⊎ ((call.status ≡ status.NoMemory) × (call.history ≡ empty))
+    or_empty (inl of) = inl of
+    or_empty (inr none) = inr (is, none)
+
+-- The store has the disks that were handed in, however the session ended.
+pub session_disks :
+    (start : Start) (store : StoreView) (s : Session) →
+    SessionEnds s (store_runs store start) →
+    HasDisks start store
+session_disks start store s ends =
+    let Stands : HistoryState → Whole → Type 0 = λ history last. IsUp start store history last in
+    let Kept : Type 0 = HasDisks start store in
+    let over : Over start.grain (first_told start.disks) Stands Kept s.ended s ends.bytes =
+    session_over start.grain (first_told start.disks) Stands Kept s.ended s ends.bytes (λ history last up. up.disks) ends.ends in
+    kept_of s.ended (Stands s.history over.last) Kept (λ up. up.disks) over.stands
+
+-- `main` has its name, and nothing is answered yet.
+pub main_told : (disks : List DiskState) (history : HistoryState) → history ≡ record { actors = codes "main" ∷ []; entries = [] } → IsOf (first_told disks) history
+main_told disks history is =
+    let P : HistoryState → Type 0 = λ h. IsOf (first_told disks) h in
+    subst P (sym is) record { actors = refl; entries = refl }

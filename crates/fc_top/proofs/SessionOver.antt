@@ -1,0 +1,163 @@
+-- A session that is over: of the one history there is one thing that is told.
+use Rattle.std.proofs.Common.{◌≡◌, ◌⊎◌, ℕ, List, [], ◌++◌, inl, inr, refl, sym, ◌∙◌, Option, Some, None, ap, subst, arith}
+use Rattle.std.specs.Option.{option_map}
+use Rattle.std.proofs.lemmas.List.{append-nil}
+use Rattle.fc_base.specs.declared.size.GrainSize.{GrainSize}
+use Rattle.fc_entry.specs.HistoryState.{HistoryState}
+use Rattle.fc_entry.specs.declared.entry.Entry.{Entry}
+use Rattle.fc_io.specs.Sink.{SinkState, held_with}
+use Rattle.fc_io.specs.Source.{SourceState}
+use Rattle.fc_legal.proofs.Appending.{IsLegal-run, IsLegal-partial, IsLegal-wants, IsRun-nil}
+use Rattle.fc_legal.specs.Added.{IsOf}
+use Rattle.fc_legal.specs.Legal.{IsLegal}
+use Rattle.fc_legal.specs.Run.{IsRun, lines_alone}
+use Rattle.fc_legal.specs.Whole.{Whole}
+use Rattle.fc_run.specs.Headline.{Session, EndsAs}
+use Rattle.fc_run.specs.Summary.{text_of}
+use Rattle.fc_run.specs.Input.{Gave, OfFirstTaken}
+use Rattle.fc_run.specs.declared.ended.Ended.{Ended}
+use Rattle.fc_run.specs.declared.ended.Ended.TheVariants as ended
+use Rattle.fc_top.specs.PlainRuns.{plain_runs}
+use Rattle.fc_top.specs.Reading.{reading}
+use Rattle.fc_top.specs.StoreRuns.{runs_of, StandsOr}
+
+-- What is told at the end, by the way that it ended.
+pub record Over (grain : GrainSize) (w : Whole) (Stands : HistoryState → Whole → Type 0) (Kept : Type 0) (e : Ended) (s : Session) (bytes : List ℕ) : Type 0 where
+  pub last : Whole
+  pub ends : EndsAs e s (plain_runs grain w last) bytes
+  pub legal : IsLegal grain w s.history.entries last
+  pub told : IsOf last s.history
+  pub stands : StandsOr e (Stands s.history last) Kept
+
+-- This holds of the same first lines.
+first_taken :
+    (source : SourceState) (bytes : List ℕ) (Holds Of : List (List ℕ) → Type 0) (taken : OfFirstTaken source bytes Holds) →
+    Of taken.of.first →
+    OfFirstTaken source bytes Of
+first_taken source bytes Holds Of taken holds = record {
+  lines = taken.lines;
+  are = taken.are;
+  of = record { first = taken.of.first; rest = taken.of.rest; split = taken.of.split; holds = holds };
+}
+
+-- A call of the sink failed.
+write_fault :
+    (grain : GrainSize) (w : Whole) (Stands : HistoryState → Whole → Type 0) (Kept : Type 0) (s : Session) (bytes : List ℕ)
+    (ends : EndsAs ended.WriteFault s (runs_of grain w Stands Kept) bytes) →
+    (runs_of grain w Stands Kept).Whole ends.2.of.first s.history ⊎ (runs_of grain w Stands Kept).Full ends.2.of.first s.history →
+    Over grain w Stands Kept ended.WriteFault s bytes
+write_fault grain w Stands Kept s bytes ends (inl at) = record {
+  last = at.last;
+  ends = (ends.0, ends.1, first_taken s.source' bytes _ _ ends.2 (inl at.holds), ends.3);
+  legal = IsLegal-run grain reading w at.last (lines_alone ends.2.of.first) s.history.entries at.holds;
+  told = at.told;
+  stands = at.stands;
+}
+write_fault grain w Stands Kept s bytes ends (inr at) = record {
+  last = at.last;
+  ends = (ends.0, ends.1, first_taken s.source' bytes _ _ ends.2 (inr at.holds), ends.3);
+  legal = IsLegal-wants grain reading w at.last (lines_alone ends.2.of.first) s.history.entries at.holds;
+  told = at.told;
+  stands = at.stands;
+}
+
+-- Memory was wanted.
+starved :
+    (grain : GrainSize) (w : Whole) (Stands : HistoryState → Whole → Type 0) (Kept : Type 0) (s : Session) (bytes : List ℕ)
+    (keeps : (history : HistoryState) (last : Whole) → Stands history last → Kept)
+    (ends : EndsAs ended.NoMemory s (runs_of grain w Stands Kept) bytes) →
+    (runs_of grain w Stands Kept).Whole ends.1.of.first s.history ⊎ (runs_of grain w Stands Kept).Front ends.1.of.first s.history →
+    Over grain w Stands Kept ended.NoMemory s bytes
+starved grain w Stands Kept s bytes keeps ends (inl at) = record {
+  last = at.last;
+  ends = (ends.0, first_taken s.source' bytes _ _ ends.1 (inl at.holds), ends.2);
+  legal = IsLegal-run grain reading w at.last (lines_alone ends.1.of.first) s.history.entries at.holds;
+  told = at.told;
+  stands = keeps s.history at.last at.stands;
+}
+starved grain w Stands Kept s bytes keeps ends (inr at) = record {
+  last = at.last;
+  ends = (ends.0, first_taken s.source' bytes _ _ ends.1 (inr at.holds), ends.2);
+  legal = IsLegal-partial grain reading w at.last (lines_alone ends.1.of.first) s.history.entries at.holds;
+  told = at.told;
+  stands = at.stands;
+}
+
+pub session_over :
+    (grain : GrainSize) (w : Whole) (Stands : HistoryState → Whole → Type 0) (Kept : Type 0) (e : Ended) (s : Session) (bytes : List ℕ) →
+    ((history : HistoryState) (last : Whole) → Stands history last → Kept) →
+    EndsAs e s (runs_of grain w Stands Kept) bytes →
+    Over grain w Stands Kept e s bytes
+session_over grain w Stands Kept ended.Done s bytes keeps ends =
+    let at = ends.2 in
+    record {
+      last = at.last;
+      ends = (ends.0, ends.1, at.holds, ends.3);
+      legal = IsLegal-run grain reading w at.last _ s.history.entries at.holds;
+      told = at.told;
+      stands = at.stands;
+    }
+session_over grain w Stands Kept ended.ReadFault s bytes keeps ends =
+    let at = ends.2 in
+    record {
+      last = at.last;
+      ends = (ends.0, ends.1, at.holds, ends.3);
+      legal = IsLegal-run grain reading w at.last _ s.history.entries at.holds;
+      told = at.told;
+      stands = at.stands;
+    }
+session_over grain w Stands Kept ended.TooLong s bytes keeps ends =
+    let at = ends.4 in
+    record {
+      last = at.last;
+      ends = (ends.0, ends.1, ends.2, ends.3, at.holds, ends.5);
+      legal = IsLegal-run grain reading w at.last _ s.history.entries at.holds;
+      told = at.told;
+      stands = at.stands;
+    }
+session_over grain w Stands Kept ended.LogFull s bytes keeps ends =
+    let at = ends.1.of.holds in
+    record {
+      last = at.last;
+      ends = (ends.0, first_taken s.source' bytes _ _ ends.1 at.holds, ends.2, ends.3);
+      legal = IsLegal-wants grain reading w at.last (lines_alone ends.1.of.first) s.history.entries at.holds;
+      told = at.told;
+      stands = at.stands;
+    }
+session_over grain w Stands Kept ended.WriteFault s bytes keeps ends = write_fault grain w Stands Kept s bytes ends ends.2.of.holds
+session_over grain w Stands Kept ended.NoMemory s bytes keeps ends = starved grain w Stands Kept s bytes keeps ends ends.1.of.holds
+
+-- This is kept in any case.
+pub kept_of : (e : Ended) (stands kept : Type 0) → (stands → kept) → StandsOr e stands kept → kept
+kept_of ended.Done stands kept keeps at = keeps at
+kept_of ended.ReadFault stands kept keeps at = keeps at
+kept_of ended.TooLong stands kept keeps at = keeps at
+kept_of ended.LogFull stands kept keeps at = keeps at
+kept_of ended.WriteFault stands kept keeps at = keeps at
+kept_of ended.NoMemory stands kept keeps at = at
+
+-- Memory was wanted before anything was read.
+pub starved_at_once :
+    (grain : GrainSize) (w : Whole) (s : Session) →
+    s.source' ≡ s.source →
+    s.sink' ≡ s.sink →
+    s.history.entries ≡ [] →
+    EndsAs ended.NoMemory s (plain_runs grain w w) []
+starved_at_once grain w s source sink none =
+    let P : List Entry → Type 0 = λ es. IsRun grain reading w [] es w in (
+      omega arith,
+      record { lines = []; are = inl refl; of = record { first = []; rest = []; split = refl; holds = inl (subst P (sym none) (IsRun-nil grain reading w)) } },
+      record { front = []; rest = text_of s.form s.history; split = refl; added = ap (λ (k : SinkState). k.held) sink ∙ nothing_held s.sink.held },
+    )
+  where
+    nothing_held : (held : Option (List ℕ)) → held ≡ held_with held []
+    nothing_held None = refl
+    nothing_held (Some bytes) = ap Some (sym (append-nil bytes))
+
+pub gave_nothing : (source source' : SourceState) → source' ≡ source → Gave source [] source'
+gave_nothing source source' same =
+    ap (λ (s : SourceState). s.left) (sym same) ∙ nothing_left source'.left
+  where
+    nothing_left : (left : Option (List ℕ)) → left ≡ option_map (λ rest. [] ++ rest) left
+    nothing_left None = refl
+    nothing_left (Some bytes) = refl

@@ -1,0 +1,38 @@
+-- How a call ends, by what its words ask for.
+use Rattle.std.specs.Prelude.{◌≡◌, ◌≢◌, ℕ, [], Option, Some, None}
+use Rattle.fc_base.specs.declared.size.GrainSize.TheVariants.{K64}
+use Rattle.fc_gen.specs.Session.{session_text}
+use Rattle.fc_io.specs.Source.{SourceState}
+use Rattle.fc_run.specs.declared.form.Form.TheVariants.{Text, Summary}
+use Rattle.fc_top.specs.Call.{Call, empty}
+use Rattle.fc_top.specs.PlainEnds.{PlainEnds}
+use Rattle.fc_top.specs.declared.status.Status.TheVariants as status
+use Rattle.fc_top.specs.declared.words.Asked.{Asked}
+use Rattle.fc_top.specs.declared.words.Asked.TheVariants.{Run, Drill}
+
+-- Nothing is read, answered or written, and the disks are as they were.
+pub record Untouched (call : Call) : Type 0 where
+  pub source : call.source' ≡ call.source
+  pub sink : call.sink' ≡ call.sink
+  pub disks : call.disks' ≡ call.disks
+  pub history : call.history ≡ empty
+
+-- The source of a drill: the generated session of its number, in memory, where no call fails.
+abbrev pub drill_source : ℕ → SourceState
+drill_source number = record { left = Some (session_text number); failing = Some []; faults = 0 }
+
+-- A drill: the generated session is read as any other, with grains of 64 KiB, and the summary of its history written. The source of
+-- the call isn't touched.
+pub record DrillEnds (number : ℕ) (call : Call) : Type 0 where
+  pub source : call.source' ≡ call.source
+  -- what is left of the generated session; reading it never fails, and it isn't too long
+  pub left : SourceState
+  pub no_fault : left.faults ≡ 0
+  pub readable : call.status ≢ status.ReadFault
+  pub fits : call.status ≢ status.TooLong
+  pub ends : PlainEnds Summary K64 (drill_source number) left call
+
+abbrev pub Ends : Option Asked → Call → Type 0
+Ends None call = Untouched call
+Ends (Some (Run grain)) call = PlainEnds Text grain call.source call.source' call
+Ends (Some (Drill number)) call = DrillEnds number call

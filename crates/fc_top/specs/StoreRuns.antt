@@ -1,0 +1,59 @@
+-- Who answers the lines of a session, as the top knows him: he stands for what is told of the history.
+use Rattle.std.specs.Prelude.{◌≡◌, List}
+use Rattle.fc_base.specs.declared.size.GrainSize.{GrainSize}
+use Rattle.fc_entry.specs.HistoryState.{HistoryState}
+use Rattle.fc_grains.specs.Grains.{pool_of, silent_of}
+use Rattle.fc_legal.specs.Added.{IsOf}
+use Rattle.fc_legal.specs.Run.{IsRun, IsPartialRun, WantsMore, lines_alone}
+use Rattle.fc_legal.specs.Whole.{Whole}
+use Rattle.fc_mdisk.specs.Disk.{DiskState}
+use Rattle.fc_run.specs.Runs.{Runs}
+use Rattle.fc_run.specs.declared.ended.Ended.{Ended}
+use Rattle.fc_run.specs.declared.ended.Ended.TheVariants as ended
+use Rattle.fc_lanes.specs.Dealing.{disks_in}
+use Rattle.fc_stands.specs.Quiet.{QuietBy}
+use Rattle.fc_stands.specs.Store.{StoreView, StandsFor}
+use Rattle.fc_top.specs.DisksBack.{first_told}
+use Rattle.fc_top.specs.Reading.{reading}
+
+-- Something is told of the history, for which he stands, and of which this holds.
+pub record Reaches (Stands : HistoryState → Whole → Type 0) (history : HistoryState) (Holds : Whole → Type 0) : Type 0 where
+  pub last : Whole
+  pub told : IsOf last history
+  pub stands : Stands history last
+  pub holds : Holds last
+
+-- For want of memory he needn't stand for it, and this is kept.
+abbrev pub runs_of : GrainSize → Whole → (HistoryState → Whole → Type 0) → Type 0 → Runs
+runs_of grain w Stands Kept = record {
+  Whole = λ lines history. Reaches Stands history (λ last. IsRun grain reading w (lines_alone lines) history.entries last);
+  Full = λ lines history. Reaches Stands history (λ last. WantsMore grain reading w (lines_alone lines) history.entries last);
+  Front = λ lines history. Reaches (λ told w. Kept) history (λ last. IsPartialRun grain reading w (lines_alone lines) history.entries last);
+}
+
+-- At the end of a session he stands so, or, for want of memory, this is kept.
+abbrev pub StandsOr : Ended → Type 0 → Type 0 → Type 0
+StandsOr ended.NoMemory stands kept = kept
+StandsOr _ stands kept = stands
+
+-- ---- the store
+
+-- What stood before the first line: the grain size, and the disks as they were handed in.
+pub record Start : Type 0 where
+  pub grain : GrainSize
+  pub disks : List DiskState
+
+-- The store stands for what is told. It has the disks that were handed in, and none of them fails, unless one came with an armed
+-- fault that it doesn't tell, or an entry armed one.
+pub record IsUp (start : Start) (store : StoreView) (history : HistoryState) (last : Whole) : Type 0 where
+  pub stands : StandsFor store last
+  pub grain_is : store.control.grain ≡ start.grain
+  pub disks : disks_in store.lanes ≡ pool_of start.disks
+  pub quiet : silent_of start.disks ≡ 0 → QuietBy history.entries store.lanes
+
+-- It has the disks that were handed in.
+abbrev pub HasDisks : Start → StoreView → Type 0
+HasDisks start store = disks_in store.lanes ≡ pool_of start.disks
+
+abbrev pub store_runs : StoreView → Start → Runs
+store_runs store start = runs_of start.grain (first_told start.disks) (λ history last. IsUp start store history last) (HasDisks start store)
