@@ -20,14 +20,14 @@ use Rattle.fc_books.specs.Accesses.{is_idle}
 use Rattle.fc_books.specs.After.{after_deed}
 use Rattle.fc_books.specs.Books.{Books, Deed, nothing, told, ◌then◌, all_deeds}
 use Rattle.fc_books.specs.Copies.{is_whole, is_needed, dependents}
-use Rattle.fc_books.specs.Deciding.{answered, refused, done, for_one, for_members}
+use Rattle.fc_books.specs.Deciding.{answered, refused, done, settle, decide, for_one, for_members}
 use Rattle.fc_books.specs.Ending.{goes_from, comes_to, ends_in, ends_by, as_left, cut_of, leaves_by}
 use Rattle.fc_books.specs.Groups.{members, acts_on}
 use Rattle.fc_books.specs.Making.{arm, new_mapping, make_mapping, remove_mapping, remove_group}
 use Rattle.fc_books.specs.Settling.{drops, finishes, settles_in, settling}
 use Rattle.fc_books.specs.Starting.{is_superseded, gives_way, supersedes, begins, prepare, triggers, start}
 use Rattle.fc_books.specs.Stopping.{stop_event, leave_event, stops_with, stop_dependents, stops_in, stops, stops_member, one_by_one, stop_group}
-use Rattle.law_volumes.specs.Law.{is_of_volumes, KeepsVolumes, VolumesLaw}
+use Rattle.law_volumes.specs.Law.{is_of_volumes, KeepsVolumes}
 use Rattle.law_volumes.proofs.Changes.{AreApart, append_apart, flat_map_apart, map_apart, volumes_keep}
 
 -- The changes of a deed.
@@ -199,9 +199,11 @@ answered_keeps restarts grain b command (Some refusal) loop spares sets = volume
 answered_keeps restarts grain b command None (Some volumes) spares sets = volumes_keep sets (answered restarts grain b command None (Some volumes)).events [] b tt
 answered_keeps restarts grain b command None None spares sets = volumes_keep sets (answered restarts grain b command None None).events (done grain b command).changes b spares.apart
 
-pub volumes_law_holds : VolumesLaw
-volumes_law_holds =
-    record {
-      settled = λ b sets. volumes_keep sets (settling b).events (settling b).changes b (settling_spares b).apart;
-      decided = λ restarts grain b command loop other. answered_keeps restarts grain b command (refused grain b command) loop (done_spares grain b command other);
-    }
+-- ---- decisions
+
+pub settle_keeps : (b : Books) → KeepsVolumes b (settle b)
+settle_keeps b sets = volumes_keep sets (settling b).events (settling b).changes b (settling_spares b).apart
+
+pub decide_keeps : (restarts : ℕ → List Bool) (grain : GrainSize) (b : Books) (command : Command) (loop : Option (List VolId)) → is_of_volumes command ≡ false →
+    KeepsVolumes b (decide restarts grain b command loop)
+decide_keeps restarts grain b command loop other = answered_keeps restarts grain b command (refused grain b command) loop (done_spares grain b command other)

@@ -1,3 +1,8 @@
--- Lemmas, one subject a file.
+-- Lemmas, one subject a file; and the definitions on closed examples.
 pub mod Changes
 pub mod Deeds
+pub mod Steps
+pub mod Lines
+pub mod Scripts
+pub mod Volumes
+pub mod VolumesExamples

@@ -1,5 +1,5 @@
--- The law is proved in `Deeds`.
-use Rattle.law_volumes.proofs.Deeds.{volumes_law_holds}
+-- The law is proved in `Volumes`.
+use Rattle.law_volumes.proofs.Volumes.{volumes_law_holds}
 use Rattle.law_volumes.proofs.volumes_law.Goals as goal
 
 pub returns : goal.returns

@@ -1,0 +1,2 @@
+-- What the law of entries says.
+pub mod Law
