@@ -43,7 +43,127 @@ drill 7 8
 drill --grain 64 7
 drill 7 --grain 64
 Drill 7
+--grain 64 run
+--grain=64 run
+run --grain 64 run
+run --grain 64 --
+run -- --grain 64
+run --grain --grain 64
+run --grain 64 --grain=256
+run --grain=256 --grain 64
+run --grain==64
+run --grain=64=
+run --grain=64,256
+run --gra 64
+run --gra=64
+run --Grain 64
+run -g 64
+run -g64
+run --grain 65
+run --grain 640
+run --grain 0256
+run --grain +64
+run --grain -64
+run --grain=-64
+run --grain 0x40
+run --grain 64k
+run --help
+run -h
+run --version
+run -V
+run -
+run --trace
+run --trace=true
+run --trace --grain 64
+run --grain 64 --trace
+run --trace --trace
+run --cache 1
+run --cache=1024
+run --cache 1 --grain=64
+run --grain=64 --cache 1
+run --cache 0
+run --cache 1025
+run --cache 1 --trace
+run drill 7
+drill run
+drill 7 run
+drill 7 7
+drill=7
+drill --number 7
+drill --number=7
+drill -- 7
+drill --help
+drill 7.0
+drill 0x7
+drill 7e0
+drill 1_000
+drill 18446744073709551617
+drill 99999999999999999999
+drill 018446744073709551615
+drill 000000000000000000000
+check
+check run
+check --help
+stop
+stop 0
+stop 1
+stop 4294967295
+stop 4294967296
+stop 1 1
+help run
+run help
+drill help
 END
+}
+
+# Words of one call each that a line of a table can't hold: empty ones, with blanks in them, and beyond ASCII.
+odd_words() {
+    usage_is_told ""
+    usage_is_told "" run
+    usage_is_told run ""
+    usage_is_told run "" --grain 64
+    usage_is_told run --grain ""
+    usage_is_told run --grain 64 ""
+    usage_is_told drill ""
+    usage_is_told drill "" 7
+    usage_is_told drill 7 ""
+    usage_is_told "run "
+    usage_is_told " run"
+    usage_is_told $'run\n'
+    usage_is_told "run --grain 64"
+    usage_is_told run "--grain 64"
+    usage_is_told run "--grain= 64"
+    usage_is_told run --grain " 64"
+    usage_is_told run --grain "64 "
+    usage_is_told run --grain "64 256"
+    usage_is_told "drill 7"
+    usage_is_told drill " 7"
+    usage_is_told drill "7 "
+    usage_is_told drill $'7\n'
+    usage_is_told drill $'\t7'
+    usage_is_told drill "7 8"
+    usage_is_told drill $'\xef\xbc\x97'
+    usage_is_told run --grain $'\xef\xbc\x96\xef\xbc\x94'
+    usage_is_told run $'\xe2\x80\x93-grain' 64
+    usage_is_told $'r\xc3\xbcn'
+    # words that aren't UTF-8
+    usage_is_told $'\xff'
+    usage_is_told $'run\xc3'
+    usage_is_told run $'\xff'
+    usage_is_told run $'--grain=64\x80'
+    usage_is_told run --grain $'\xff64'
+    usage_is_told run --grain 64 $'\xff'
+    usage_is_told drill $'7\xff'
+    usage_is_told drill $'\xc0\xb7'
+}
+
+# The words of a call are refused, and nothing is written.
+usage_is_told() { # WORD...
+    local shown
+    printf -v shown '%q ' "$@"
+    run_program "$@" <examples/first-volume
+    is "words ${shown% }: status" 2 "$status"
+    holds "words ${shown% }: something was written" wrote_nothing
 }
 
 # ---- the words of the program: what isn't in their grammar is usage, and nothing is read or written
@@ -61,13 +181,7 @@ words_of_program() {
         is "words '$line': status" 2 "$status"
         holds "words '$line': something was written" wrote_nothing
     done < <(bad_words; printf '%s\n' --help --version -h help show build "run --summary" "try")
-    # a word that is empty
-    run_program "" <examples/first-volume
-    is "an empty word: status" 2 "$status"
-    run_program run "" <examples/first-volume
-    is "run and an empty word: status" 2 "$status"
-    run_program drill "" <examples/first-volume
-    is "drill and an empty word: status" 2 "$status"
+    odd_words
     # usage reads nothing
     { "$program" walk; cat; } <examples/first-volume >"$room/out" 2>"$room/err"
     holds "usage took bytes of its input" cmp -s "$room/out" examples/first-volume
@@ -76,9 +190,10 @@ words_of_program() {
 # ---- drills: a summary in one line, and nothing of the input is read
 drills() {
     echo "== drills"
+    local seventh="entries 8829 reads 1550 writes 2039 moves 3308 refused 610 sum 2149241344"
     run_program drill 7 <examples/first-volume
     is "drill 7: status" 0 "$status"
-    is "drill 7" "entries 8829 reads 1550 writes 2039 moves 3308 refused 610 sum 2149241344" "$(<"$room/out")"
+    is "drill 7" "$seventh" "$(<"$room/out")"
     holds "drill 7: not one line" wrote_lines 1
     holds "something was written to standard error" complained_of_nothing
 
@@ -88,6 +203,11 @@ drills() {
         is "drill $number: status" 0 "$status"
         holds "drill $number: not one line" wrote_lines 1
     done
+
+    # 20 digits are a number, of which the first may be zeros
+    run_program drill 00000000000000000007 <examples/first-volume
+    is "drill 00000000000000000007: status" 0 "$status"
+    is "drill 00000000000000000007" "$seventh" "$(<"$room/out")"
 
     { "$program" drill 7 >/dev/null; cat; } <examples/first-volume >"$room/out" 2>"$room/err"
     holds "a drill took bytes of its input" cmp -s "$room/out" examples/first-volume

@@ -7,6 +7,8 @@ use Rattle.std.proofs.Math.Seq.{take-append_seam}
 use Rattle.std.proofs.lemmas.List.Sums.{sum_by-cons}
 use Rattle.fc_agenda.proofs.Going.{GoesSome-asking}
 use Rattle.fc_agenda.specs.Goes.{Goes}
+use Rattle.fc_args.specs.declared.asked.Asked.{Asked}
+use Rattle.fc_args.specs.declared.asked.Asked.TheVariants.{Run, Drill, Check, Stop}
 use Rattle.fc_base.specs.Pools.{Pool}
 use Rattle.fc_base.specs.declared.size.GrainSize.{GrainSize}
 use Rattle.fc_base.specs.declared.size.GrainSize.TheVariants.{K64}
@@ -44,8 +46,6 @@ use Rattle.fc_top.specs.Reading.{reading}
 use Rattle.fc_top.specs.declared.status.Status.TheVariants as status
 use Rattle.fc_top.proofs.Kept.{AreSteps-keeps}
 use Rattle.fc_top.proofs.Statuses.{same_ended}
-use Rattle.fc_top.specs.declared.words.Asked.{Asked}
-use Rattle.fc_top.specs.declared.words.Asked.TheVariants.{Run, Drill}
 
 -- ---- a summary doesn't speak of the faults of disks
 
@@ -305,25 +305,28 @@ took_of bytes taken source source' has gave =
 
 -- The grain size and the bytes of what is asked for.
 abbrev grain_asked : Asked → GrainSize
-grain_asked (Run grain) = grain
-grain_asked (Drill number) = K64
+grain_asked (Run options) = options.grain
+grain_asked _ = K64
 
 abbrev bytes_of : Asked → List ℕ → List ℕ
-bytes_of (Run grain) bytes = bytes
 bytes_of (Drill number) bytes = session_text number
+bytes_of _ bytes = bytes
 
 reads_of_asked :
     (asked : Asked) (bytes : List ℕ) (call : Call) →
     HasBytes asked bytes call.source →
     Ends (Some asked) call →
     ReadsOf (form_of asked) (grain_asked asked) (bytes_of asked bytes) call
-reads_of_asked (Run grain) bytes call has ends =
+reads_of_asked (Run options) bytes call has run =
+    let ends = run.ends in
     record {
       source = call.source;
       source' = call.source';
       ends = ends;
       took = took_of bytes ends.session.bytes call.source call.source' has ends.session.gave;
     }
+reads_of_asked Check bytes call has ends = absurd ends
+reads_of_asked (Stop number) bytes call has ends = absurd ends
 reads_of_asked (Drill number) bytes call has ends =
     record {
       source = drill_source number;

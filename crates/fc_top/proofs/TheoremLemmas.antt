@@ -1,52 +1,111 @@
 -- The theorem, of a call by what it is asked for.
-use Rattle.std.proofs.Common.{◌≡◌, ◌≢◌, ◌≤◌, length, ap, sym, refl, subst, arith, Option, Some, None}
+use Rattle.std.proofs.Common.{◌≡◌, ◌≢◌, ◌≤◌, ◌⊎◌, ◌∙◌, true, length, ap, sym, refl, subst, arith, inr, Option, Some, None}
+use Rattle.std.proofs.lemmas.Bool.{false≢true}
+use Rattle.fc_args.specs.Grammar.{is_built}
+use Rattle.fc_args.specs.declared.asked.Asked.{Asked}
+use Rattle.fc_args.specs.declared.asked.Asked.TheVariants.{Run, Drill, Check, Stop}
+use Rattle.fc_base.specs.declared.size.GrainSize.TheVariants.{K64}
 use Rattle.fc_entry.specs.HistoryState.{HistoryState}
+use Rattle.fc_io.specs.Source.{SourceState}
 use Rattle.fc_run.proofs.TakesLemmas.{EachGave-none}
 use Rattle.fc_run.specs.Takes.{EachGave}
-use Rattle.fc_io.specs.Source.{SourceState}
+use Rattle.fc_run.specs.declared.form.Form.TheVariants.{Text, Summary}
+use Rattle.fc_top.proofs.DrillLemmas.{drill_ends}
+use Rattle.fc_top.proofs.PlainLemmas.{starved_ends}
+use Rattle.fc_top.proofs.WordLemmas.{run-plain}
 use Rattle.fc_top.specs.Call.{Call, empty}
-use Rattle.fc_top.specs.Ends.{Ends}
+use Rattle.fc_top.specs.Ends.{AsksNothing, Ends, drill_source}
 use Rattle.fc_top.specs.Theorem.{Theorem}
-use Rattle.fc_top.specs.declared.status.Status.TheVariants.{Usage}
-use Rattle.fc_top.specs.declared.words.Asked.{Asked}
+use Rattle.fc_top.specs.declared.status.Status.TheVariants as status
 
 -- What is asked for was run.
 pub theorem_run :
-    (asked : Option Asked) (of : Asked) (call : Call) →
-    asked ≡ Some of →
-    call.status ≢ Usage →
+    (asked : Asked) (call : Call) →
+    call.status ≢ status.Usage →
+    EachGave call.source call.source' →
+    length call.history.entries ≤ 262144 →
+    Ends (Some asked) call →
+    Theorem (Some asked) call
+theorem_run asked call ran takes few ends =
+    record { usage = λ usage. absurd (ran usage); takes = takes; limit = few; ends = ends }
+
+-- What is asked for is this, and was run.
+pub theorem_of :
+    (asked of : Asked) (call : Call) →
+    asked ≡ of →
+    call.status ≢ status.Usage →
     EachGave call.source call.source' →
     length call.history.entries ≤ 262144 →
     Ends (Some of) call →
-    Theorem asked call
-theorem_run asked of call is ran takes few ends =
-    let P : Option Asked → Type 0 = λ a. Theorem a call in
-    subst P (sym is)
-    record {
-      usage = (λ usage. absurd (ran usage), λ none. absurd (cc none));
-      takes = takes;
-      limit = few;
-      ends = ends;
-    }
+    Theorem (Some asked) call
+theorem_of asked of call is ran takes few ends =
+    let P : Asked → Type 0 = λ a. Ends (Some a) call in
+    theorem_run asked call ran takes few (subst P (sym is) ends)
 
--- Nothing is asked for, and nothing was done.
+-- The call did nothing.
+pub record IsIdle (call : Call) : Type 0 where
+  pub source : call.source' ≡ call.source
+  pub sink : call.sink' ≡ call.sink
+  pub disks : call.disks' ≡ call.disks
+  pub history : call.history ≡ empty
+
+idle_takes : (call : Call) → IsIdle call → EachGave call.source call.source'
+idle_takes call idle =
+    let P : SourceState → Type 0 = λ s. EachGave call.source s in
+    subst P (sym idle.source) (EachGave-none call.source)
+
+idle_limit : (call : Call) → IsIdle call → length call.history.entries ≤ 262144
+idle_limit call idle =
+    let none : length call.history.entries ≡ 0 = ap (λ (h : HistoryState). length h.entries) idle.history in
+    omega (arith, none)
+
+asks_nothing : (call : Call) → (call.status ≡ status.Usage) ⊎ (call.status ≡ status.NoMemory) → IsIdle call → AsksNothing call
+asks_nothing call is idle =
+    record { status = is; source = idle.source; sink = idle.sink; disks = idle.disks; history = idle.history }
+
+-- Nothing is asked for.
 pub theorem_unasked :
     (asked : Option Asked) (call : Call) →
     asked ≡ None →
-    call.status ≡ Usage →
-    call.source' ≡ call.source →
-    call.sink' ≡ call.sink →
-    call.disks' ≡ call.disks →
-    call.history ≡ empty →
+    (call.status ≡ status.Usage) ⊎ (call.status ≡ status.NoMemory) →
+    IsIdle call →
     Theorem asked call
-theorem_unasked asked call is usage source sink disks history =
-    let P : Option Asked → Type 0 = λ a. Theorem a call in
-    let Q : SourceState → Type 0 = λ s. EachGave call.source s in
-    let none : length call.history.entries ≡ 0 = ap (λ (h : HistoryState). length h.entries) history in
-    subst P (sym is)
+theorem_unasked asked call none is idle =
+    let P : Option Asked → Type 0 = λ a. Ends a call in
     record {
-      usage = (λ also. refl, λ none. usage);
-      takes = subst Q (sym source) (EachGave-none call.source);
-      limit = omega (arith, none);
-      ends = record { source = source; sink = sink; disks = disks; history = history };
+      usage = λ usage. none;
+      takes = idle_takes call idle;
+      limit = idle_limit call idle;
+      ends = subst P (sym none) (asks_nothing call is idle);
     }
+
+starved : (asked : Asked) (call : Call) → is_built asked ≡ true → call.status ≡ status.NoMemory → IsIdle call → Ends (Some asked) call
+starved (Run options) call built is idle =
+    let plain = run-plain options built in
+    record {
+      traceless = plain.0;
+      cacheless = plain.1;
+      ends = starved_ends Text options.grain call.source call.source' call is idle.source idle.sink
+          (ap (λ (h : HistoryState). h.entries) idle.history) (inr idle.history);
+    }
+starved (Drill number) call built is idle =
+    let source : SourceState = drill_source number in
+    drill_ends number source call idle.source (EachGave-none source)
+    (starved_ends Summary K64 source source call is refl idle.sink (ap (λ (h : HistoryState). h.entries) idle.history) (inr idle.history))
+starved Check call built is idle = absurd (false≢true built)
+starved (Stop number) call built is idle = absurd (false≢true built)
+
+-- Memory was wanted to read the words.
+pub theorem_starved :
+    (asked : Option Asked) (call : Call) →
+    ((of : Asked) → asked ≡ Some of → is_built of ≡ true) →
+    call.status ≡ status.NoMemory →
+    IsIdle call →
+    Theorem asked call
+theorem_starved None call built is idle = theorem_unasked None call refl (inr is) idle
+theorem_starved (Some asked) call built is idle =
+    let no_usage : call.status ≢ status.Usage = λ usage.
+    let no : status.NoMemory ≡ status.Usage = sym is ∙ usage in
+    absurd (cc no) in
+    theorem_run asked call no_usage (idle_takes call idle) (idle_limit call idle)
+    (starved asked call (built asked refl) is idle)

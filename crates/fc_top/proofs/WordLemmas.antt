@@ -1,46 +1,35 @@
--- The number of a drill, as it is parsed.
-use Rattle.std.proofs.Common.{◌≡◌, ℕ, ◌<◌, ◌^◌, Bool, true, false, ◌&&◌, cond, eqb, ltb-true, List, [], ◌∷◌, drop, Option, None, refl, sym, subst, arith}
-use Rattle.std.specs.Char.{digit_value, is_digit}
-use Rattle.std.specs.List.{list_all}
-use Rattle.std.specs.Str.Parse.{AllDigits, IsNumeral, digits_value, without_leading_plus}
-use Rattle.std.proofs.lemmas.Bool.{and_parts, eqb-true, le-ltb, false≢true}
-use Rattle.fc_words.specs.Values.{is_numeral}
-use Rattle.fc_top.specs.Words.{drill_number}
+-- What words ask for is built.
+use Rattle.std.proofs.Common.{◌≡◌, ℕ, Bool, true, false, List, Option, Some, None, cond, refl, subst}
+use Rattle.std.proofs.lemmas.Bool.{false≢true}
+use Rattle.std.specs.Prelude.{option_and_then, is_some, not, ◌&&◌}
+use Rattle.fc_args.specs.Grammar.{asked_by, if_built, in_full, is_built}
+use Rattle.fc_args.specs.declared.asked.Asked.{Asked}
+use Rattle.fc_args.specs.declared.asked.Asked.TheVariants.{Run}
+use Rattle.fc_args.specs.declared.asked.RunOptions.{RunOptions}
 
--- bytes that are digits
-digits-all : (word : List ℕ) → list_all (λ b. is_digit b 10) word ≡ true → AllDigits 10 word
-digits-all [] all = tt
-digits-all (byte ∷ word) all =
-    let both = and_parts (is_digit byte 10) (list_all (λ b. is_digit b 10) word) all in
-    (ltb-true (digit_value byte) 10 both.0, digits-all word both.1)
+built_if : (of asked : Asked) (built : Bool) → is_built of ≡ built → cond built (Some of) None ≡ Some asked → is_built asked ≡ true
+built_if of asked true built is =
+    let same : of ≡ asked = cc is in
+    let P : Asked → Type 0 = λ a. is_built a ≡ true in
+    subst P same built
+built_if of asked false built is =
+    let none : None ≡ Some asked = is in
+    absurd (cc none)
 
--- a digit is no plus
-unsigned : (plus : Bool) (byte : ℕ) (word : List ℕ) → eqb byte 43 ≡ plus → is_digit byte 10 ≡ true → drop (cond plus 1 0) (byte ∷ word) ≡ byte ∷ word
-unsigned false byte word is digit = refl
-unsigned true byte word is digit =
-    let P : ℕ → Type 0 = λ b. is_digit b 10 ≡ true in
-    absurd (false≢true (subst P (eqb-true byte 43 is) digit))
+built_of : (full : Option Asked) (asked : Asked) → option_and_then if_built full ≡ Some asked → is_built asked ≡ true
+built_of None asked is =
+    let none : None ≡ Some asked = is in
+    absurd (cc none)
+built_of (Some of) asked is = built_if of asked (is_built of) refl is
 
-numeral-unsigned : (word : List ℕ) → is_numeral word ≡ true → without_leading_plus word ≡ word
-numeral-unsigned [] numeral = refl
-numeral-unsigned (byte ∷ word) numeral =
-    unsigned (eqb byte 43) byte word refl (and_parts (is_digit byte 10) (list_all (λ b. is_digit b 10) word) numeral).0
+pub asked-built : (words : List (List ℕ)) (asked : Asked) → asked_by words ≡ Some asked → is_built asked ≡ true
+asked-built words asked is = built_of (in_full words) asked is
 
-numeral-parsed : (word : List ℕ) → is_numeral word ≡ true → IsNumeral 10 word
-numeral-parsed [] numeral = absurd (false≢true numeral)
-numeral-parsed (byte ∷ word) numeral = (omega arith, digits-all (byte ∷ word) numeral)
+-- a run that is built has neither a trace nor a write cache
+plain : (trace : Bool) (cache : Option ℕ) → (not trace && not (is_some cache)) ≡ true → (trace ≡ false) × (cache ≡ None)
+plain false None built = (refl, refl)
+plain false (Some parts) built = absurd (false≢true built)
+plain true cache built = absurd (false≢true built)
 
-untrue : (a b : Bool) (x : Option ℕ) → cond (a && (b && false)) x None ≡ None
-untrue true true x = refl
-untrue true false x = refl
-untrue false b x = refl
-
--- a number of 2^64 or more
-pub drill_number-large :
-    (word : List ℕ) → is_numeral word ≡ true →
-    (IsNumeral 10 (without_leading_plus word) × (digits_value 10 (without_leading_plus word) < 2 ^ 64) → ⊥) →
-    None ≡ drill_number word
-drill_number-large word numeral large =
-    let P : List ℕ → Type 0 = λ w. IsNumeral 10 w × (digits_value 10 w < 2 ^ 64) → ⊥ in
-    let over : digits_value 10 word < 2 ^ 64 → ⊥ = λ below. subst P (numeral-unsigned word numeral) large (numeral-parsed word numeral, below) in
-    rw (le-ltb (digits_value 10 word) (2 ^ 64) (omega (arith, over))) (sym (untrue _ _ _))
+pub run-plain : (options : RunOptions) → is_built (Run options) ≡ true → (options.trace ≡ false) × (options.cache ≡ None)
+run-plain options built = plain options.trace options.cache built

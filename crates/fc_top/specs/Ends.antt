@@ -1,5 +1,8 @@
 -- How a call ends, by what its words ask for.
-use Rattle.std.specs.Prelude.{◌≡◌, ◌≢◌, ℕ, [], Option, Some, None}
+use Rattle.std.specs.Prelude.{◌≡◌, ◌≢◌, ◌⊎◌, ℕ, false, [], Option, Some, None}
+use Rattle.fc_args.specs.declared.asked.Asked.{Asked}
+use Rattle.fc_args.specs.declared.asked.Asked.TheVariants.{Run, Drill, Check, Stop}
+use Rattle.fc_args.specs.declared.asked.RunOptions.{RunOptions}
 use Rattle.fc_base.specs.declared.size.GrainSize.TheVariants.{K64}
 use Rattle.fc_gen.specs.Session.{session_text}
 use Rattle.fc_io.specs.Source.{SourceState}
@@ -7,15 +10,22 @@ use Rattle.fc_run.specs.declared.form.Form.TheVariants.{Text, Summary}
 use Rattle.fc_top.specs.Call.{Call, empty}
 use Rattle.fc_top.specs.PlainEnds.{PlainEnds}
 use Rattle.fc_top.specs.declared.status.Status.TheVariants as status
-use Rattle.fc_top.specs.declared.words.Asked.{Asked}
-use Rattle.fc_top.specs.declared.words.Asked.TheVariants.{Run, Drill}
 
--- Nothing is read, answered or written, and the disks are as they were.
-pub record Untouched (call : Call) : Type 0 where
+-- The words aren't in the grammar: the status says so, or memory was wanted before it was known. Nothing is read, answered or
+-- written, and the disks are as they were.
+pub record AsksNothing (call : Call) : Type 0 where
+  pub status : (call.status ≡ status.Usage) ⊎ (call.status ≡ status.NoMemory)
   pub source : call.source' ≡ call.source
   pub sink : call.sink' ≡ call.sink
   pub disks : call.disks' ≡ call.disks
   pub history : call.history ≡ empty
+
+-- A run: a session with grains of the size that is asked for, and its history in text. No words ask for a trace or a write cache
+-- yet, since they aren't built.
+pub record RunEnds (options : RunOptions) (call : Call) : Type 0 where
+  pub traceless : options.trace ≡ false
+  pub cacheless : options.cache ≡ None
+  pub ends : PlainEnds Text options.grain call.source call.source' call
 
 -- The source of a drill: the generated session of its number, in memory, where no call fails.
 abbrev pub drill_source : ℕ → SourceState
@@ -32,7 +42,10 @@ pub record DrillEnds (number : ℕ) (call : Call) : Type 0 where
   pub fits : call.status ≢ status.TooLong
   pub ends : PlainEnds Summary K64 (drill_source number) left call
 
+-- `check` and `stop` aren't built, so no words ask for them.
 abbrev pub Ends : Option Asked → Call → Type 0
-Ends None call = Untouched call
-Ends (Some (Run grain)) call = PlainEnds Text grain call.source call.source' call
+Ends None call = AsksNothing call
+Ends (Some (Run options)) call = RunEnds options call
 Ends (Some (Drill number)) call = DrillEnds number call
+Ends (Some Check) call = ⊥
+Ends (Some (Stop number)) call = ⊥

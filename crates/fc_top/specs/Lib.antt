@@ -1,5 +1,4 @@
 -- What a call of the program promises, one subject a file, to be read top to bottom.
-pub mod Words
 pub mod Codes
 pub mod Reading
 pub mod Call

@@ -1,6 +1,8 @@
 -- One outcome of a call of the program: two calls that ask for the same, over disks of the same kinds in each lane and over the
 -- same bytes, which end in one way, and in which no entry answers a disk fault or missing memory, tell the same and write the same.
 use Rattle.std.specs.Prelude.{◌≡◌, ℕ, List, [], ◌++◌, Some}
+use Rattle.fc_args.specs.declared.asked.Asked.{Asked}
+use Rattle.fc_args.specs.declared.asked.Asked.TheVariants.{Drill}
 use Rattle.fc_base.specs.declared.limits.TheConstants.{LANES}
 use Rattle.fc_base.specs.declared.size.GrainSize.{GrainSize}
 use Rattle.fc_determined.specs.Smooth.{AreSmooth, told_by}
@@ -16,8 +18,6 @@ use Rattle.fc_top.specs.PlainEnds.{PlainEnds}
 use Rattle.fc_top.specs.Theorem.{Theorem}
 use Rattle.fc_top.specs.declared.status.Status.{Status}
 use Rattle.fc_top.specs.declared.status.Status.TheVariants.{Done, LogFull, TooLong}
-use Rattle.fc_top.specs.declared.words.Asked.{Asked}
-use Rattle.fc_top.specs.declared.words.Asked.TheVariants.{Run, Drill}
 
 -- In each lane stand as many disks of each kind.
 abbrev pub AreAlikeDealt : List DiskState → List DiskState → Type 0
@@ -60,13 +60,13 @@ pub record ReadsOf (form : Form) (grain : GrainSize) (bytes : List ℕ) (call : 
 
 -- In which form it is written.
 abbrev pub form_of : Asked → Form
-form_of (Run grain) = Text
 form_of (Drill number) = Summary
+form_of _ = Text
 
 -- The source of a run has these bytes. A drill doesn't touch its source.
 abbrev pub HasBytes : Asked → List ℕ → SourceState → Type 0
-HasBytes (Run grain) bytes source = source.left ≡ Some bytes
 HasBytes (Drill number) bytes source = Unit {0}
+HasBytes _ bytes source = source.left ≡ Some bytes
 
 pub record OutcomeLaw : Type 0 where
   -- two sessions that took of the same bytes

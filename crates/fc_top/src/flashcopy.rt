@@ -1,17 +1,19 @@
 //! The top call.
 
-ghost use Rattle.std.specs.Prelude.{◌≡◌, ◌<◌, ◌^◌, map, vec_len};
+ghost use Rattle.std.specs.Prelude.{◌≡◌, ◌<◌, ◌^◌, true, Some, map, vec_len};
 ghost use Rattle.std.specs.List.{All};
+ghost use Rattle.fc_args.specs.Grammar.{asked_by, is_built};
 ghost use Rattle.fc_mdisk.specs.Disk.{IsFresh};
 ghost use Rattle.fc_top.specs.Call.{empty};
 ghost use Rattle.fc_top.specs.Theorem.{Theorem};
-ghost use Rattle.fc_top.specs.Words.{asked_by};
 
 use crate::drill::run_drill;
 use crate::gate::Gate;
 use crate::plain::run_plain;
 use crate::status::Status;
-use crate::words::{Asked, asked_by};
+use fc_args::asked::Asked;
+use fc_args::reading::read_words;
+use fc_base::outcome::NoMemory;
 use fc_entry::history::History;
 use fc_io::sink::Sink;
 use fc_io::source::Source;
@@ -19,19 +21,20 @@ use fc_mdisk::mdisk::Mdisk;
 use fc_run::form::Form;
 use std::alloc::Global;
 
-/// Runs what is asked for, over any disks.
+/// Runs what is asked for, over any disks. What isn't built isn't asked for.
 fn run_asked<S: Source, K: Sink, D: Mdisk>(
     alloc: Global,
-    asked: Option<Asked>,
+    asked: Asked,
     source: &mut S,
     sink: &mut K,
     disks: &mut Vec<D>,
     history: &mut History,
 ) -> Status
+    requires built { is_built asked ≡ true }
     requires empty { history.old ≡ empty }
     requires few { vec_len disks.old < 2 ^ 30 }
     requires fresh { All IsFresh (map D.meaning disks.old.items) }
-    ensures theorem { Theorem asked
+    ensures theorem { Theorem (Some asked)
         (record {
           status = result;
           source = S.meaning source.old;
@@ -43,13 +46,20 @@ fn run_asked<S: Source, K: Sink, D: Mdisk>(
           history = history.new;
         }) }
 {
-    let asked = match asked {
-        Some(asked) => asked,
-        None => return Status::Usage,
-    };
     match asked {
-        Asked::Run(grain) => run_plain(alloc, Form::Text, grain, source, sink, disks, history),
+        Asked::Run(options) => {
+            run_plain(
+                alloc,
+                Form::Text,
+                options.grain,
+                source,
+                sink,
+                disks,
+                history,
+            )
+        }
         Asked::Drill(number) => run_drill(alloc, number, sink, disks, history),
+        Asked::Check | Asked::Stop(_) => unreachable!(),
     }
 }
 
@@ -78,7 +88,11 @@ pub fn flashcopy_over<S: Source, K: Sink, G: Gate, D: Mdisk>(
           history = history.new;
         }) }
 {
-    run_asked(alloc, asked_by(words), source, sink, disks, history)
+    match read_words(alloc, words) {
+        Ok(Some(asked)) => run_asked(alloc, asked, source, sink, disks, history),
+        Ok(None) => Status::Usage,
+        Err(NoMemory) => Status::NoMemory,
+    }
 }
 
 /// The disks as the program has them: of any kind, each in a box of its own.
@@ -88,9 +102,9 @@ pub type BoxedDisk = Box<dyn Mdisk + Send>;
 /// sink before more input is taken. For a drill the session is the generated one of a number, the source isn't touched, and the
 /// summary of the history is written.
 ///
-/// The words are those of docs/MANUAL.md; where they aren't in the grammar the answer is Usage and nothing is done. The
-/// history has to be empty, and the disks fresh: no calls, no faults, nothing armed, and fewer than 2^30 of them. Each answer
-/// stands in docs/MANUAL.md ("Statuses").
+/// The words are those of docs/MANUAL.md (fc_args' specs/Grammar). Where they aren't in the grammar the answer is Usage, or NoMemory
+/// where memory was wanted before that was known, and nothing is done. The history has to be empty, and the disks fresh: no calls,
+/// no faults, nothing armed, and fewer than 2^30 of them. Each answer stands in docs/MANUAL.md ("Statuses").
 ///
 /// The main theorem (specs/Theorem) is all that is promised, for each answer: the history that is left is legal and has the
 /// actors that are told; by the answer it is known which bytes were taken, which of their lines the history answers, and what was

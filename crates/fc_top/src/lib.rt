@@ -2,14 +2,14 @@
 //!
 //! `flashcopy` (in `flashcopy`) reads a session from a source, answers its lines over the disks, keeps the history and
 //! writes its text to a sink; or it drills: the session is the generated one of a number, and the summary of its history
-//! is written. Its contract is the main theorem (`specs/Theorem`): for every source, sink and set of fresh disks, failing ones
+//! is written. Which of them, its words say, which `fc_args` reads. Its contract is the main theorem (`specs/Theorem`): for every source, sink and set of fresh disks, failing ones
 //! included, the history is legal; by the status it is known which bytes were taken, which of their lines are answered, and
 //! what the sink got; and the disks come back with the sums of their calls and faults. It is one record over one record of the
 //! call (`specs/Call`), with one clause for each kind of call (`specs/Ends`, `specs/PlainEnds`). Two more follow from it: where
 //! nothing failed all is done and served, but for want of memory (`specs/Complete`), and then there is one outcome
 //! (`specs/OneOutcome`, the contract of `outcome_law`).
 //!
-//! In reading order: `words`, `status`, `gate`, `built`, `owner` (the store answers a line), `plain` (a session over disks),
+//! In reading order: `status`, `gate`, `built`, `owner` (the store answers a line), `plain` (a session over disks),
 //! `drill`, `flashcopy`, `outcome`.
 #![tactic(auto)]
 
@@ -21,4 +21,3 @@ pub mod outcome;
 mod owner;
 mod plain;
 pub mod status;
-pub mod words;
