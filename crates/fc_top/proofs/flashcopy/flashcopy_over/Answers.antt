@@ -1,5 +1,5 @@
 -- What the words ask for is run; or they ask for nothing, or memory was wanted to read them, and nothing is done.
-use Rattle.std.proofs.Common.{◌≡◌, ◌∙◌, ℕ, Option, Some, List, Bor, inl, map, refl, sym, subst}
+use Rattle.std.proofs.Common.{◌∙◌, ℕ, Option, List, Bor, inl, map, refl, sym, subst}
 use Rattle.fc_args.specs.Grammar.{asked_by}
 use Rattle.fc_args.specs.declared.asked.Asked.{Asked}
 use Rattle.fc_top.proofs.TheoremLemmas.{theorem_starved, theorem_unasked}
@@ -11,6 +11,10 @@ use Rattle.fc_top.proofs.flashcopy.flashcopy_over.Goals as goal
 
 abbrev texts : List (Bor (List ℕ)) → List (List ℕ)
 texts = map (λ word. word.now)
+
+pub run_asked-requires-clause-built : goal.run_asked-requires-clause-built
+run_asked-requires-clause-built g c =
+    asked-built (texts c.args.words.now) c.in-Ok-Some.asked (sym c.in-Ok-Some.ensures ∙ c.in-Ok-Some.field-0-is)
 
 pub returns-in-Ok-Some : goal.returns-in-Ok-Some
 returns-in-Ok-Some g c =

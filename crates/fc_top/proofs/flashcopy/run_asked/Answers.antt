@@ -1,5 +1,5 @@
 -- By what is asked for.
-use Rattle.std.proofs.Common.{◌≡◌, Some, true, map, subst}
+use Rattle.std.proofs.Common.{◌≡◌, true, map, subst}
 use Rattle.fc_args.specs.Grammar.{is_built}
 use Rattle.fc_args.specs.declared.asked.Asked.{Asked}
 use Rattle.fc_args.specs.declared.asked.Asked.TheVariants.{Run, Drill}
