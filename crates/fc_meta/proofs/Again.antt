@@ -17,11 +17,8 @@ use Rattle.fc_format.proofs.Parts.{part_short, part_past, part_there}
 use Rattle.fc_format.proofs.Steps.{behind, behind_none}
 use Rattle.fc_format.proofs.Batches.{enough}
 use Rattle.fc_meta.specs.Standing.{Reads}
+use Rattle.fc_meta.proofs.Crash.{either}
 use Rattle.fc_meta.proofs.Gates.{more_records, byte_kept}
-
-either : {P : Type 0} (b : Bool) → (b ≡ true → P) → (b ≡ false → P) → P
-either true yes_ no_ = yes_ refl
-either false yes_ no_ = no_ refl
 
 -- ---- Bytes with others behind them
 

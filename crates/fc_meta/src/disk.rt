@@ -47,6 +47,7 @@ pub(crate) fn write_synced<M: MetaDisk>(
     ensures any_moment { LeavesOnly M.moment M.left_since disk.old disk.new
         (MayTear (half_start half (M.seen disk.old) + at) (length bytes.now) (M.may_leave disk.old)) }
     ensures made { OnOk result (M.calls disk.new ≡ more_calls 2 (M.calls disk.old)) }
+    ensures few { M.calls disk.new ≤ M.calls disk.old + 2 }
     ensures cause { FaultsAfter true (is_err result) (M.fault_count disk.old)
         (M.fault_count disk.new) }
 {

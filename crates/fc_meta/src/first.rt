@@ -48,6 +48,7 @@ impl<M: MetaDisk> Meta<M> {
             (λ e. e.1 ≡ MetaError.Failed → HasRisen (M.fault_count disk) (M.fault_count e.0)) }
         ensures quiet { OnOk result (M.fault_count (opened_disk result) ≡ M.fault_count disk) }
         ensures made { OnOk result (M.calls (opened_disk result) ≡ more_calls 4 (M.calls disk)) }
+        ensures few { M.calls (opened_disk result) ≤ M.calls disk + 4 }
     {
         let mut disk = disk;
         match write_first(alloc, &mut disk, image) {
@@ -90,6 +91,7 @@ fn write_first<M: MetaDisk>(
         (M.fault_count disk.new) }
     ensures quiet { OnOk result (M.fault_count disk.new ≡ M.fault_count disk.old) }
     ensures made { OnOk result (M.calls disk.new ≡ more_calls 4 (M.calls disk.old)) }
+    ensures few { M.calls disk.new ≤ M.calls disk.old + 4 }
 {
     let bytes = half_with(alloc, 1, image)?;
     if half_len(disk) as usize <= bytes.len() {

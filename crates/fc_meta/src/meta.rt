@@ -67,6 +67,7 @@ impl<M: MetaDisk> Meta<M> {
             (M.fault_count (disk_of self.new) ≡ M.fault_count (disk_of self.old)) }
         ensures made { OnOk result
             (M.calls (disk_of self.new) ≡ more_calls 1 (M.calls (disk_of self.old))) }
+        ensures few { M.calls (disk_of self.new) ≤ M.calls (disk_of self.old) + 1 }
     {
         if !self.fits(records) {
             return Err(MetaError::Full);
@@ -95,6 +96,7 @@ impl<M: MetaDisk> Meta<M> {
             (M.fault_count (disk_of self.new) ≡ M.fault_count (disk_of self.old)) }
         ensures made { OnOk result
             (M.calls (disk_of self.new) ≡ more_calls 3 (M.calls (disk_of self.old))) }
+        ensures few { M.calls (disk_of self.new) ≤ M.calls (disk_of self.old) + 3 }
     {
         self.disk.sync()?;
         write_synced(&mut self.disk, self.half, self.used, &[1])?;
@@ -119,6 +121,7 @@ impl<M: MetaDisk> Meta<M> {
             (M.fault_count (disk_of self.new) ≡ M.fault_count (disk_of self.old)) }
         ensures made { OnOk result
             (M.calls (disk_of self.new) ≡ more_calls 2 (M.calls (disk_of self.old))) }
+        ensures few { M.calls (disk_of self.new) ≤ M.calls (disk_of self.old) + 2 }
     {
         let closed = [0];
         let count = usize::from(self.other_is_open);
@@ -158,6 +161,7 @@ impl<M: MetaDisk> Meta<M> {
             (M.fault_count (disk_of self.new) ≡ M.fault_count (disk_of self.old)) }
         ensures made { OnOk result
             (M.calls (disk_of self.new) ≡ more_calls 2 (M.calls (disk_of self.old))) }
+        ensures few { M.calls (disk_of self.new) ≤ M.calls (disk_of self.old) + 2 }
     {
         if self.generation == u64::MAX {
             return Err(MetaError::Full);
@@ -189,6 +193,7 @@ impl<M: MetaDisk> Meta<M> {
             (M.fault_count (disk_of self.new) ≡ M.fault_count (disk_of self.old)) }
         ensures made { OnOk result
             (M.calls (disk_of self.new) ≡ more_calls 2 (M.calls (disk_of self.old))) }
+        ensures few { M.calls (disk_of self.new) ≤ M.calls (disk_of self.old) + 2 }
     {
         let half = self.half.other();
         write_synced(&mut self.disk, half, 0, &[1])?;
