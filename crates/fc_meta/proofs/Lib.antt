@@ -1,0 +1,10 @@
+-- Lemmas on disks that stand for an image.
+pub mod Sides
+pub mod Gates
+pub mod Crash
+pub mod Again
+pub mod Moments
+pub mod Done
+pub mod Calls
+pub mod Opening
+pub mod Recovered

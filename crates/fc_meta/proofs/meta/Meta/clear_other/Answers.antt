@@ -1,0 +1,38 @@
+use Rattle.std.proofs.Common.{◌≡◌, ℕ, true, false, [], ◌∷◌, length, take, refl, sym, ap, ◌∙◌, arith, length-take}
+use Rattle.fc_meta.proofs.Crash.{rests_found}
+use Rattle.fc_meta.proofs.Calls.{clear_run, clear_rests, small_room}
+use Rattle.fc_meta.proofs.meta.Meta.clear_other.Goals as goal
+
+pub write_synced-requires : goal.write_synced-requires
+write_synced-requires g c =
+    let r = small_room g.M.MetaDisk.seen g.M.MetaDisk.may_leave g.M.MetaDisk.moment g.M.MetaDisk.left_since g.met.M.MetaDisk.only_now c.args.self.now c.requires c.other.result c.other.ensures in
+    let l = length-take {A = ℕ} c.from-count.result (0 ∷ []) in
+    omega (arith, r, l)
+
+pub returns-in_err-write_synced-clause-any_moment : goal.returns-in_err-write_synced-clause-any_moment
+returns-in_err-write_synced-clause-any_moment g c =
+    let one : c.args.self.now.other_is_open ≡ true → c.from-count.result ≡ 1 = λ wide. rw wide at c.from-count.ensures in
+    let none : c.args.self.now.other_is_open ≡ false → c.from-count.result ≡ 0 = λ shut. rw shut at c.from-count.ensures in
+    clear_run g.M.MetaDisk.seen g.M.MetaDisk.may_leave g.M.MetaDisk.moment g.M.MetaDisk.left_since g.met.M.MetaDisk.only_now c.args.self.now c.requires c.other.result c.other.ensures c.write_synced.new.disk (length {A = ℕ} (take c.from-count.result (0 ∷ []))) (λ wide. ap (λ (n : ℕ). length {A = ℕ} (take n (0 ∷ []))) (one wide)) (λ shut. ap (λ (n : ℕ). length {A = ℕ} (take n (0 ∷ []))) (none shut))
+    c.write_synced.ensures.any_moment
+
+pub returns-clause-any_moment : goal.returns-clause-any_moment
+returns-clause-any_moment g c =
+    let one : c.args.self.now.other_is_open ≡ true → c.from-count.result ≡ 1 = λ wide. rw wide at c.from-count.ensures in
+    let none : c.args.self.now.other_is_open ≡ false → c.from-count.result ≡ 0 = λ shut. rw shut at c.from-count.ensures in
+    clear_run g.M.MetaDisk.seen g.M.MetaDisk.may_leave g.M.MetaDisk.moment g.M.MetaDisk.left_since g.met.M.MetaDisk.only_now c.args.self.now c.requires c.other.result c.other.ensures c.write_synced.new.disk (length {A = ℕ} (take c.from-count.result (0 ∷ []))) (λ wide. ap (λ (n : ℕ). length {A = ℕ} (take n (0 ∷ []))) (one wide)) (λ shut. ap (λ (n : ℕ). length {A = ℕ} (take n (0 ∷ []))) (none shut))
+    c.write_synced.ensures.any_moment
+
+pub returns-clause-cleared : goal.returns-clause-cleared
+returns-clause-cleared g c =
+    let one : c.args.self.now.other_is_open ≡ true → c.from-count.result ≡ 1 = λ wide. rw wide at c.from-count.ensures in
+    let none : c.args.self.now.other_is_open ≡ false → c.from-count.result ≡ 0 = λ shut. rw shut at c.from-count.ensures in
+    let rests = clear_rests g.M.MetaDisk.seen g.M.MetaDisk.may_leave g.M.MetaDisk.moment g.M.MetaDisk.left_since g.met.M.MetaDisk.only_now c.args.self.now c.requires c.other.result c.other.ensures c.write_synced.new.disk (take c.from-count.result (0 ∷ [])) (λ wide. ap (λ (n : ℕ). take n (0 ∷ [])) (one wide)) (λ shut. ap (λ (n : ℕ). take n (0 ∷ [])) (none shut)) c.in_ok-write_synced.ensures.bytes in
+    record { image = c.requires.image; shut = refl; rests = rests; durable = c.in_ok-write_synced.ensures.durable }
+
+pub returns-clause-found : goal.returns-clause-found
+returns-clause-found g c =
+    let one : c.args.self.now.other_is_open ≡ true → c.from-count.result ≡ 1 = λ wide. rw wide at c.from-count.ensures in
+    let none : c.args.self.now.other_is_open ≡ false → c.from-count.result ≡ 0 = λ shut. rw shut at c.from-count.ensures in
+    let rests = clear_rests g.M.MetaDisk.seen g.M.MetaDisk.may_leave g.M.MetaDisk.moment g.M.MetaDisk.left_since g.met.M.MetaDisk.only_now c.args.self.now c.requires c.other.result c.other.ensures c.write_synced.new.disk (take c.from-count.result (0 ∷ [])) (λ wide. ap (λ (n : ℕ). take n (0 ∷ [])) (one wide)) (λ shut. ap (λ (n : ℕ). take n (0 ∷ [])) (none shut)) c.in_ok-write_synced.ensures.bytes in
+    rests_found _ _ _ _ _ (g.M.MetaDisk.seen c.write_synced.new.disk) rests ∙ sym (rests_found _ _ _ _ _ (g.M.MetaDisk.seen c.args.self.now.disk) c.requires.rests)

@@ -1,0 +1,72 @@
+use Rattle.std.proofs.Common.{◌≡◌, ℕ, ◌≤◌, List, Option, sym, ap, ◌∙◌, subst}
+use Rattle.std.proofs.lemmas.Result.{err_from_is_err_and}
+use Rattle.fc_format.specs.declared.half.Half.TheVariants.{First, Second}
+use Rattle.fc_format.specs.Halves.{half_of, half_size, least_half}
+use Rattle.fc_meta.specs.Recovering.{open_generation, current_of, IsImageRead, IsBadHalf}
+use Rattle.fc_meta.proofs.Moments.{started, goes_on, joined, weaker}
+use Rattle.fc_meta.proofs.Recovered.{none_read, facts_of, read_room, read_rests, bad_cause}
+use Rattle.fc_meta.proofs.recover.read_disk.Goals as goal
+
+pub read_image-requires : goal.read_image-requires
+read_image-requires g c =
+    let seen1 = c.sync.ensures.seen in
+    let seen2 = c.read_generation.ensures.seen ∙ seen1 in
+    let seen3 = c.read_generation-2.ensures.seen ∙ seen2 in
+    let one = c.in_ok-first.ensures.value ∙ ap (λ (z : List ℕ). open_generation (half_of First z)) seen1 in
+    let two = c.in_ok-second.ensures.value ∙ ap (λ (z : List ℕ). open_generation (half_of Second z)) seen2 in
+    let both : current_of c.in_ok-first.first c.in_ok-second.second ≡ current_of (open_generation (half_of First (g.M.MetaDisk.seen c.args.disk.now))) (open_generation (half_of Second (g.M.MetaDisk.seen c.args.disk.now))) =
+    ap (λ (z : Option ℕ). current_of z c.in_ok-second.second) one ∙ ap (λ (z : Option ℕ). current_of (open_generation (half_of First (g.M.MetaDisk.seen c.args.disk.now))) z) two in
+    let f = facts_of (g.M.MetaDisk.seen c.args.disk.now) c.in-Some.current (c.in-Some.ensures ∙ both) in
+    subst (λ (z : List ℕ). least_half ≤ half_size z) (sym seen3) (read_room (g.M.MetaDisk.seen c.args.disk.now) c.in-Some.current f)
+
+pub returns-in_err-image-in-Some-clause-cause : goal.returns-in_err-image-in-Some-clause-cause
+returns-in_err-image-in-Some-clause-cause g c =
+    let seen1 = c.sync.ensures.seen in
+    let seen2 = c.read_generation.ensures.seen ∙ seen1 in
+    let seen3 = c.read_generation-2.ensures.seen ∙ seen2 in
+    let one = c.in_ok-first.ensures.value ∙ ap (λ (z : List ℕ). open_generation (half_of First z)) seen1 in
+    let two = c.in_ok-second.ensures.value ∙ ap (λ (z : List ℕ). open_generation (half_of Second z)) seen2 in
+    let both : current_of c.in_ok-first.first c.in_ok-second.second ≡ current_of (open_generation (half_of First (g.M.MetaDisk.seen c.args.disk.now))) (open_generation (half_of Second (g.M.MetaDisk.seen c.args.disk.now))) =
+    ap (λ (z : Option ℕ). current_of z c.in_ok-second.second) one ∙ ap (λ (z : Option ℕ). current_of (open_generation (half_of First (g.M.MetaDisk.seen c.args.disk.now))) z) two in
+    let f = facts_of (g.M.MetaDisk.seen c.args.disk.now) c.in-Some.current (c.in-Some.ensures ∙ both) in
+    let p = err_from_is_err_and c.from_residual-in_err-image-in-Some.result c.from_residual-in_err-image-in-Some.ensures.1 in
+    rw (p.1, p.2) (bad_cause (g.M.MetaDisk.seen c.args.disk.now) c.in-Some.current f c.in_err-image-in-Some.field-0.0
+    (subst (λ (z : List ℕ). IsBadHalf c.in-Some.current.half z c.in_err-image-in-Some.field-0.0) seen3 c.in_err-image-in-Some.ensures.told))
+
+pub returns-in-None-clause-cause : goal.returns-in-None-clause-cause
+returns-in-None-clause-cause g c =
+    let seen1 = c.sync.ensures.seen in
+    let seen2 = c.read_generation.ensures.seen ∙ seen1 in
+    let seen3 = c.read_generation-2.ensures.seen ∙ seen2 in
+    let one = c.in_ok-first.ensures.value ∙ ap (λ (z : List ℕ). open_generation (half_of First z)) seen1 in
+    let two = c.in_ok-second.ensures.value ∙ ap (λ (z : List ℕ). open_generation (half_of Second z)) seen2 in
+    let both : current_of c.in_ok-first.first c.in_ok-second.second ≡ current_of (open_generation (half_of First (g.M.MetaDisk.seen c.args.disk.now))) (open_generation (half_of Second (g.M.MetaDisk.seen c.args.disk.now))) =
+    ap (λ (z : Option ℕ). current_of z c.in_ok-second.second) one ∙ ap (λ (z : Option ℕ). current_of (open_generation (half_of First (g.M.MetaDisk.seen c.args.disk.now))) z) two in
+    none_read (g.M.MetaDisk.seen c.args.disk.now) (c.in-None.ensures ∙ both)
+
+pub returns-in_ok-image-in-Some-clause-rests : goal.returns-in_ok-image-in-Some-clause-rests
+returns-in_ok-image-in-Some-clause-rests g c =
+    let seen1 = c.sync.ensures.seen in
+    let seen2 = c.read_generation.ensures.seen ∙ seen1 in
+    let seen3 = c.read_generation-2.ensures.seen ∙ seen2 in
+    let one = c.in_ok-first.ensures.value ∙ ap (λ (z : List ℕ). open_generation (half_of First z)) seen1 in
+    let two = c.in_ok-second.ensures.value ∙ ap (λ (z : List ℕ). open_generation (half_of Second z)) seen2 in
+    let both : current_of c.in_ok-first.first c.in_ok-second.second ≡ current_of (open_generation (half_of First (g.M.MetaDisk.seen c.args.disk.now))) (open_generation (half_of Second (g.M.MetaDisk.seen c.args.disk.now))) =
+    ap (λ (z : Option ℕ). current_of z c.in_ok-second.second) one ∙ ap (λ (z : Option ℕ). current_of (open_generation (half_of First (g.M.MetaDisk.seen c.args.disk.now))) z) two in
+    let f = facts_of (g.M.MetaDisk.seen c.args.disk.now) c.in-Some.current (c.in-Some.ensures ∙ both) in
+    read_rests (g.M.MetaDisk.seen c.args.disk.now) c.in-Some.current f c.in_ok-image-in-Some.image c.in_ok-image-in-Some.used
+    (subst (λ (z : List ℕ). IsImageRead c.in-Some.current.half c.in_ok-image-in-Some.image c.in_ok-image-in-Some.used z) seen3 c.in_ok-image-in-Some.ensures.image)
+
+pub returns-in_ok-image-in-Some-clause-any_moment : goal.returns-in_ok-image-in-Some-clause-any_moment
+returns-in_ok-image-in-Some-clause-any_moment g c =
+    let P : List ℕ → Type 0 = g.M.MetaDisk.may_leave c.args.disk.now in
+    let begun = started g.M.MetaDisk.moment g.M.MetaDisk.left_since c.args.disk.now P (λ r left. g.met.M.MetaDisk.only_now c.args.disk.now r left) in
+    let synced = goes_on g.M.MetaDisk.moment g.M.MetaDisk.left_since c.args.disk.now c.args.disk.now c.sync.new.self P _ begun c.sync.ensures.time c.sync.ensures.crash in
+    let one = joined g.M.MetaDisk.moment g.M.MetaDisk.left_since c.args.disk.now c.sync.new.self c.read_generation.new.disk P synced
+    (weaker g.M.MetaDisk.moment g.M.MetaDisk.left_since c.sync.new.self c.read_generation.new.disk (g.M.MetaDisk.may_leave c.sync.new.self) P c.sync.ensures.crash c.read_generation.ensures.any_moment) in
+    let two = joined g.M.MetaDisk.moment g.M.MetaDisk.left_since c.args.disk.now c.read_generation.new.disk c.read_generation-2.new.disk P one
+    (weaker g.M.MetaDisk.moment g.M.MetaDisk.left_since c.read_generation.new.disk c.read_generation-2.new.disk (g.M.MetaDisk.may_leave c.read_generation.new.disk) P
+    (λ r now. c.sync.ensures.crash r (c.read_generation.ensures.crash r now)) c.read_generation-2.ensures.any_moment) in
+    joined g.M.MetaDisk.moment g.M.MetaDisk.left_since c.args.disk.now c.read_generation-2.new.disk c.read_image.new.disk P two
+    (weaker g.M.MetaDisk.moment g.M.MetaDisk.left_since c.read_generation-2.new.disk c.read_image.new.disk (g.M.MetaDisk.may_leave c.read_generation-2.new.disk) P
+    (λ r now. c.sync.ensures.crash r (c.read_generation.ensures.crash r (c.read_generation-2.ensures.crash r now))) c.read_image.ensures.any_moment)

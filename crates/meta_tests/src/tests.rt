@@ -1,0 +1,202 @@
+//! What is found after each stop of the script, and on damaged disks.
+
+use crate::script::{SIZE, goes_on, image, small, stopped_at};
+use fc_base::ids::{GrainNo, VolId};
+use fc_format::half_with;
+use fc_image::MetaRecord;
+use fc_meta::{Meta, MetaError, RecoverError};
+use fc_metadisk::{MemMeta, MetaDisk};
+use std::alloc::Global;
+use std::test::Fail;
+
+/// What is found: the birth of an image and which grains of its volume are lost, or none.
+type State = Option<(u64, u64)>;
+
+/// What is to be found after a stop at each of the 38 calls, the first being 1. The gate is the third call of the first image
+/// and of a batch, and the fifth of a fold; a stop at an odd call leaves what it wrote, one at an even call nothing since the
+/// last sync.
+const FOUND: [State; 38] = [
+    // the first image
+    None,
+    None,
+    Some((100, 0)),
+    None,
+    // grain 1
+    Some((100, 0)),
+    Some((100, 0)),
+    Some((100, 2)),
+    Some((100, 0)),
+    // grain 2
+    Some((100, 2)),
+    Some((100, 2)),
+    Some((100, 6)),
+    Some((100, 2)),
+    // a fold
+    Some((100, 6)),
+    Some((100, 6)),
+    Some((100, 6)),
+    Some((100, 6)),
+    Some((103, 0)),
+    Some((100, 6)),
+    // grain 4
+    Some((103, 0)),
+    Some((103, 0)),
+    Some((103, 16)),
+    Some((103, 0)),
+    // a fold
+    Some((103, 16)),
+    Some((103, 16)),
+    Some((103, 16)),
+    Some((103, 16)),
+    Some((105, 0)),
+    Some((103, 16)),
+    // a fold
+    Some((105, 0)),
+    Some((105, 0)),
+    Some((105, 0)),
+    Some((105, 0)),
+    Some((106, 0)),
+    Some((105, 0)),
+    // grain 7
+    Some((106, 0)),
+    Some((106, 0)),
+    Some((106, 128)),
+    Some((106, 0)),
+];
+
+/// The image that a disk stands for, as its bytes.
+fn bytes_found(alloc: Global, disk: MemMeta) -> Result<Vec<u8>, RecoverError> {
+    match Meta::recover(alloc, disk) {
+        Ok((_, image)) => half_with(alloc, 0, &image).map_err(|_| RecoverError::NoMemory),
+        Err((_, error)) => Err(error),
+    }
+}
+
+/// The image of this birth with these lost grains, as its bytes.
+fn bytes_of(alloc: Global, birth: u64, lost: u64) -> Result<Vec<u8>, RecoverError> {
+    match image(alloc, birth, lost) {
+        Ok(image) => half_with(alloc, 0, &image).map_err(|_| RecoverError::NoMemory),
+        Err(_) => Err(RecoverError::NoMemory),
+    }
+}
+
+#[test]
+fn each_stop_leaves_whole_steps(rt: HostRuntime) -> Result<(), Fail> {
+    let alloc = rt.alloc();
+    for (place, state) in FOUND.iter().enumerate() {
+        let disk = stopped_at(alloc, place as u32 + 1).expect(&rt, "memory");
+        match (bytes_found(alloc, disk), state) {
+            (Ok(found), Some((birth, lost))) => {
+                let wanted = bytes_of(alloc, *birth, *lost).expect(&rt, "memory");
+                assert_eq!(rt; found.as_slice(), wanted.as_slice(), "call {place}");
+            }
+            (Err(error), None) => assert_eq!(rt; error, RecoverError::NoImage),
+            _ => assert!(rt; false, "call {place}"),
+        }
+    }
+    Ok(())
+}
+
+#[test]
+fn without_a_stop_all_stands(rt: HostRuntime) -> Result<(), Fail> {
+    let alloc = rt.alloc();
+    let disk = stopped_at(alloc, 39).expect(&rt, "memory");
+    let found = bytes_found(alloc, disk).expect(&rt, "an image");
+    let wanted = bytes_of(alloc, 106, 128).expect(&rt, "memory");
+    assert_eq!(rt; found.as_slice(), wanted.as_slice());
+    Ok(())
+}
+
+#[test]
+fn behind_each_stop_it_goes_on(rt: HostRuntime) -> Result<(), Fail> {
+    let alloc = rt.alloc();
+    let wanted = bytes_of(alloc, 200, 1024).expect(&rt, "memory");
+    for (place, state) in FOUND.iter().enumerate() {
+        let disk = stopped_at(alloc, place as u32 + 1).expect(&rt, "memory");
+        match (goes_on(alloc, disk), state) {
+            (Ok(disk), Some(_)) => {
+                let found = bytes_found(alloc, disk).expect(&rt, "an image");
+                assert_eq!(rt; found.as_slice(), wanted.as_slice(), "call {place}");
+            }
+            (Err(_), None) => {}
+            _ => assert!(rt; false, "call {place}"),
+        }
+    }
+    Ok(())
+}
+
+/// A batch of one record, of a volume that isn't there.
+const WRITTEN: [MetaRecord; 1] = [MetaRecord::Written {
+    volume: VolId(7),
+    grain: GrainNo(3),
+}];
+
+/// Bytes of a half, from one place to another, and why nothing is found if one of them is 255. None: the image is found, the
+/// numbers in it changed or not. The half is that of docs/METADATA.md: gate, generation, length (44); next birth and ids; six
+/// empty lists; a batch of one record; a closed gate.
+const DAMAGED: [(u32, u32, Option<RecoverError>); 15] = [
+    // the gate is closed
+    (0, 0, Some(RecoverError::NoImage)),
+    (1, 8, None),
+    // the length of the image passes the half
+    (9, 12, Some(RecoverError::Damaged(9))),
+    (13, 32, None),
+    // a volume, a mapping, a group: the name has no letters
+    (33, 36, Some(RecoverError::Damaged(41))),
+    (37, 40, Some(RecoverError::Damaged(45))),
+    (41, 44, Some(RecoverError::Damaged(49))),
+    // a chain, lost grains, changes: the image ends before their next number
+    (45, 48, Some(RecoverError::Damaged(57))),
+    (49, 52, Some(RecoverError::Damaged(57))),
+    (53, 56, Some(RecoverError::Damaged(57))),
+    // the gate of the batch is closed
+    (57, 57, None),
+    // the length of the batch passes the half
+    (58, 61, Some(RecoverError::Damaged(58))),
+    // no record is of this kind
+    (62, 62, Some(RecoverError::Damaged(62))),
+    (63, 70, None),
+    // the last gate is closed
+    (71, 71, None),
+];
+
+/// The disk with this byte 255.
+fn spoiled(disk: MemMeta, at: u32) -> MemMeta {
+    let mut disk = disk;
+    if at < disk.size() {
+        let _ = disk.write_at(at, &[255]);
+    }
+    disk
+}
+
+#[test]
+fn each_damaged_byte_is_told_by_its_field(rt: HostRuntime) -> Result<(), Fail> {
+    let alloc = rt.alloc();
+    for (first, last, wanted) in DAMAGED {
+        for at in first..=last {
+            let mut meta = small(alloc, SIZE).expect(&rt, "memory");
+            meta.put(alloc, &WRITTEN).expect(&rt, "room");
+            let disk = spoiled(meta.into_disk(), at);
+            assert_eq!(rt; bytes_found(alloc, disk).err(), wanted, "byte {at}");
+        }
+    }
+    Ok(())
+}
+
+#[test]
+fn a_half_is_full_by_the_byte(rt: HostRuntime) -> Result<(), Fail> {
+    let alloc = rt.alloc();
+    // gate, generation, length, 44 bytes of image, gate: 58
+    assert!(rt; small(alloc, 115).is_none());
+    let mut meta = small(alloc, 116).expect(&rt, "room");
+    assert!(rt; !meta.fits(&[]));
+    // 5 bytes and 9 of the record behind them
+    assert_eq!(rt; meta.put(alloc, &WRITTEN), Err(MetaError::Full));
+    let mut short = small(alloc, 143).expect(&rt, "room");
+    assert!(rt; !short.fits(&WRITTEN));
+    assert_eq!(rt; short.put(alloc, &WRITTEN), Err(MetaError::Full));
+    let mut meta = small(alloc, 144).expect(&rt, "room");
+    assert!(rt; meta.fits(&WRITTEN));
+    assert_eq!(rt; meta.put(alloc, &WRITTEN), Ok(()));
+    Ok(())
+}
