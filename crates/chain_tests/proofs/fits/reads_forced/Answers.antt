@@ -1,6 +1,6 @@
 use Rattle.std.proofs.Common.{◌<◌, ◌≤◌, length, arith}
 use Rattle.fc_base.specs.Sheet.{slot_at}
-use Rattle.fc_model.proofs.Needs.{holder_within}
+use Rattle.model_slots.proofs.Needs.{holder_within}
 use Rattle.chain_tests.proofs.fits.reads_forced.Goals as goal
 
 pub returns : goal.returns
