@@ -3,7 +3,6 @@
 use fc_base::decision::LaneEvent;
 use fc_base::request::Pair;
 use fc_model::PlainSheet;
-use std::process::Abort;
 
 /// What an event is, in a list of starts and stops.
 #[derive(Clone, Copy)]
@@ -117,16 +116,16 @@ impl Tally {
             .saturating_add(self.forced)
     }
 
-    /// There are many of each kind, and restores among the starts.
-    pub fn assert_many(&self, rt: &impl Abort) {
-        assert!(rt; self.starts >= 4_000);
-        assert!(rt; self.restores >= 1_000);
-        assert!(rt; self.several >= 100);
-        assert!(rt; self.retired >= 500);
-        assert!(rt; self.detached >= 500);
-        assert!(rt; self.split >= 100);
-        assert!(rt; self.forced >= 200);
-        assert!(rt; self.copies >= 5_000);
-        assert!(rt; self.writes >= 1_000);
+    /// Whether there are many of each kind, and restores among the starts.
+    pub fn has_many(&self) -> bool {
+        self.starts >= 4_000
+            && self.restores >= 1_000
+            && self.several >= 100
+            && self.retired >= 500
+            && self.detached >= 500
+            && self.split >= 100
+            && self.forced >= 200
+            && self.copies >= 5_000
+            && self.writes >= 1_000
     }
 }

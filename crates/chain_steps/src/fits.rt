@@ -5,7 +5,7 @@ ghost use Rattle.fc_base.specs.Need.{IsNeeded, is_complete};
 ghost use Rattle.fc_base.specs.Sheet.{slot_at, column, shape_of, mapping_place};
 ghost use Rattle.fc_base.specs.SheetFits.{FitsRemove, FitsPair, FitsTrigger, HasLiveSlot, IsSlotOf, FitsForce, FitsDrop, FitsEvent};
 ghost use Rattle.fc_base.specs.Column.{holder};
-ghost use Rattle.chain_tests.specs.Fits.{FitsOne, FitsTwo, IsClosed};
+ghost use Rattle.chain_steps.specs.Fits.{FitsOne, FitsTwo, IsClosed};
 
 use fc_base::decision::LaneEvent;
 use fc_base::ids::{MapId, SlotId, VolId};

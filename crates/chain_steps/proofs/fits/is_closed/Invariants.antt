@@ -2,7 +2,7 @@ use Rattle.std.proofs.Common.{◌≡◌, ℕ, ◌<◌, true, Some}
 use Rattle.fc_base.specs.Column.{holder}
 use Rattle.fc_base.specs.Sheet.{slot_at, column}
 use Rattle.fc_base.specs.SheetFits.{IsSlotOf}
-use Rattle.chain_tests.proofs.fits.is_closed.Given as goal
+use Rattle.chain_steps.proofs.fits.is_closed.Given as goal
 
 -- no live slot so far
 abbrev pub invariant-loop-place : goal.invariant-loop-place

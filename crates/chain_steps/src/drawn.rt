@@ -2,8 +2,8 @@
 
 ghost use Rattle.std.specs.Prelude.{◌≡◌, ◌<◌, ◌%◌};
 
-use crate::both::Lane;
 use crate::draws::Draws;
+use crate::events::Lane;
 use fc_base::decision::LaneEvent;
 use fc_base::disk::DiskKind;
 use fc_base::ids::{MapId, SlotId, VolId};

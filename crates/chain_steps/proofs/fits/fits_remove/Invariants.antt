@@ -1,6 +1,6 @@
 use Rattle.std.proofs.Common.{◌≡◌, ◌⊎◌, ℕ, ◌<◌}
 use Rattle.fc_base.specs.Sheet.{slot_at}
-use Rattle.chain_tests.proofs.fits.fits_remove.Given as goal
+use Rattle.chain_steps.proofs.fits.fits_remove.Given as goal
 
 -- no other slot so far is the volume's or in its chain
 abbrev pub invariant-loop-other : goal.invariant-loop-other

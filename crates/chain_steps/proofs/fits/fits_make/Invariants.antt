@@ -1,6 +1,6 @@
 use Rattle.std.proofs.Common.{◌≢◌, ℕ, ◌<◌}
 use Rattle.fc_base.specs.Sheet.{slot_at}
-use Rattle.chain_tests.proofs.fits.fits_make.Given as goal
+use Rattle.chain_steps.proofs.fits.fits_make.Given as goal
 
 -- no slot so far is the volume's
 abbrev pub invariant-loop-place : goal.invariant-loop-place

@@ -1,5 +1,5 @@
 use Rattle.std.proofs.Common.{◌≡◌}
-use Rattle.chain_tests.proofs.both.make_moves.Given as goal
+use Rattle.chain_tests.proofs.beside.make_moves.Given as goal
 
 -- both are still one
 abbrev pub invariant-loop-next : goal.invariant-loop-next

@@ -1,7 +1,7 @@
 use Rattle.std.proofs.Common.{◌≡◌, ℕ, ◌<◌, true, false, Some}
 use Rattle.fc_base.specs.Column.{holder}
 use Rattle.fc_base.specs.Sheet.{slot_at, column}
-use Rattle.chain_tests.proofs.taken.fits_taken.Given as goal
+use Rattle.chain_steps.proofs.taken.fits_taken.Given as goal
 
 -- none of the live slots so far
 abbrev pub invariant-loop-place : goal.invariant-loop-place

@@ -1,7 +1,7 @@
 use Rattle.std.proofs.Common.{◌<◌, ◌≤◌, length, arith}
 use Rattle.fc_base.specs.Sheet.{slot_at}
 use Rattle.model_slots.proofs.Needs.{holder_within}
-use Rattle.chain_tests.proofs.fits.reads_forced.Goals as goal
+use Rattle.chain_steps.proofs.fits.reads_forced.Goals as goal
 
 pub returns : goal.returns
 returns c f g h e s =

@@ -1,60 +1,19 @@
-//! A step of the chains of a lane and of the plain sheet of the same slots.
+//! Moves, writes and copies in the chains of a lane and in the plain sheet of the same slots, and whether both tell the same.
 
 ghost use Rattle.std.specs.Prelude.{◌≡◌, ◌<◌, ◌%◌, OnOk, IsTrue, false};
 ghost use Rattle.fc_base.specs.SheetFits.{FitsTaken};
 ghost use Rattle.fc_chain.specs.Chains.{IsOfLane};
 
-use crate::fits::fits;
-use crate::taken::{fits_lost, fits_taken};
-use fc_base::decision::LaneEvent;
+use chain_steps::events::Lane;
+use chain_steps::taken::fits_taken;
 use fc_base::ids::{GrainNo, MapId, SlotId, VolId};
-use fc_base::list::List;
 use fc_base::move_plan::MovePlan;
 use fc_base::outcome::NoMemory;
-use fc_base::request::{Move, Planned, Side};
+use fc_base::request::{Move, Planned};
 use fc_chain::Cascade;
 use fc_model::PlainSheet;
 use std::alloc::Global;
 use std::process::Abort;
-
-/// The lane: its number, and how many there are.
-#[derive(Clone, Copy)]
-pub struct Lane {
-    /// Its number.
-    pub lane: u8,
-    /// How many there are.
-    pub lanes: u8,
-}
-
-/// Does an event in both, where it fits; answers whether it did.
-pub fn do_event(
-    alloc: Global,
-    chains: &mut Cascade,
-    plain: &mut PlainSheet,
-    lane: Lane,
-    event: LaneEvent,
-) -> Result<bool, NoMemory>
-    requires here { chains.old.lane ≡ lane.lane }
-    requires of { chains.old.lanes ≡ lane.lanes }
-    requires within { lane.lane < lane.lanes }
-    requires same { chains.old.sheet ≡ plain.old }
-    ensures here { chains.new.lane ≡ lane.lane }
-    ensures of { chains.new.lanes ≡ lane.lanes }
-    ensures same { OnOk result (chains.new.sheet ≡ plain.new) }
-{
-    if !fits(alloc, plain, &event)? {
-        return Ok(false);
-    }
-    let mut next = plain.copy(alloc)?;
-    next.step(alloc, &event, lane.lane, lane.lanes)?;
-    let _births = next.births();
-    let mut events = List::new(alloc);
-    events.push(event)?;
-    chains.reserve(&events)?;
-    chains.apply_event(&events.as_slice()[0]);
-    *plain = next;
-    Ok(true)
-}
 
 /// Whether a move fits: in place it always does.
 fn fits_move(plain: &PlainSheet, volume: VolId, grain: usize, in_place: bool) -> bool
@@ -198,38 +157,6 @@ pub fn do_fill(
     assert!(rt; are_same(plan.as_slice(), moves.as_slice()));
     make_moves(rt, chains, plain, lane, number, plan.as_slice());
     Ok(true)
-}
-
-/// Tears a grain of a volume of the lane in both, where nobody else needs it; answers whether it did.
-pub fn do_torn(
-    chains: &mut Cascade,
-    plain: &mut PlainSheet,
-    lane: Lane,
-    volume: VolId,
-    number: u32,
-    side: Side,
-) -> bool
-    requires here { chains.old.lane ≡ lane.lane }
-    requires of { chains.old.lanes ≡ lane.lanes }
-    requires of_lane { number % lane.lanes ≡ lane.lane }
-    requires within { lane.lane < lane.lanes }
-    requires same { chains.old.sheet ≡ plain.old }
-    ensures here { chains.new.lane ≡ lane.lane }
-    ensures of { chains.new.lanes ≡ lane.lanes }
-    ensures same { chains.new.sheet ≡ plain.new }
-{
-    let grain = (number / lane.lanes as u32) as usize;
-    if !fits_taken(plain, volume, grain) {
-        return false;
-    }
-    if !fits_lost(plain, volume, grain) {
-        chains.torn(volume, number, Side::Now);
-        plain.torn(volume, grain, Side::Now);
-        return true;
-    }
-    chains.torn(volume, number, side);
-    plain.torn(volume, grain, side);
-    true
 }
 
 /// The name of the slot at a place, if there is one.
