@@ -2,12 +2,13 @@
 
 ghost use Rattle.std.specs.Prelude.{◌≡◌, ◌<◌, OnOk};
 
-use crate::both::{Lane, assert_same, do_event, do_fill, do_write};
-use crate::drawn::{
+use crate::beside::{assert_same, do_fill, do_write};
+use chain_steps::drawn::{
     GRAINS, MAPPINGS, VOLUMES, draw_event, draw_force, draw_number, draw_slot, draw_trigger,
 };
-use crate::draws::Draws;
-use crate::tally::{Tally, kind_of};
+use chain_steps::draws::Draws;
+use chain_steps::events::{Lane, do_event};
+use chain_steps::tally::{Tally, kind_of};
 use fc_base::decision::LaneEvent;
 use fc_base::ids::{MapId, SlotId, VolId};
 use fc_base::outcome::NoMemory;
@@ -191,6 +192,6 @@ fn ten_thousand_starts_and_stops(rt: HostRuntime) -> Result<(), Fail> {
     let lane = Lane { lane: 0, lanes: 1 };
     let tally = run(&rt, rt.alloc(), 10, lane)?;
     assert!(rt; tally.commands() >= COMMANDS);
-    tally.assert_many(&rt);
+    assert!(rt; tally.has_many());
     Ok(())
 }

@@ -2,9 +2,10 @@
 
 ghost use Rattle.std.specs.Prelude.{◌≡◌, ◌<◌, OnOk};
 
-use crate::both::{Lane, assert_same, do_event, do_fill, do_torn, do_write};
-use crate::drawn::{VOLUMES, draw_event, draw_number, draw_slot};
-use crate::draws::Draws;
+use crate::beside::{assert_same, do_fill, do_write};
+use chain_steps::drawn::{VOLUMES, draw_event, draw_number, draw_slot};
+use chain_steps::draws::Draws;
+use chain_steps::events::{Lane, do_event, do_torn};
 use fc_base::ids::VolId;
 use fc_base::outcome::NoMemory;
 use fc_base::request::Side;

@@ -3,7 +3,8 @@
 ghost use Rattle.std.specs.Prelude.{◌≡◌, ◌≤◌, OnOk, IfOk};
 ghost use Rattle.fc_events.specs.Room.{slots_made as made_by};
 
-use crate::both::{Lane, assert_same, do_event, do_fill};
+use crate::beside::{assert_same, do_fill};
+use chain_steps::events::{Lane, do_event};
 use fc_base::decision::LaneEvent;
 use fc_base::disk::DiskKind;
 use fc_base::ids::{MapId, SlotId, VolId};

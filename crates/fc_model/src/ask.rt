@@ -7,22 +7,22 @@ ghost use Rattle.fc_base.specs.Plan.{moves_of_fill, moves_of_write};
 ghost use Rattle.fc_base.specs.RestoreGraph.{IsUsed};
 ghost use Rattle.fc_base.specs.Sheet.{slot_at, shape_of, column, live_place, mapping_place, birth_place, volume_grains};
 ghost use Rattle.fc_base.specs.SheetStep.{sheet_moved, sheet_written, sheet_torn, triggered};
-ghost use Rattle.fc_model.specs.Answers.{HasDependents, IsWidth};
+ghost use Rattle.model_slots.specs.Answers.{HasDependents, IsWidth};
 ghost use Rattle.fc_model.specs.Graph.{LoopFound};
 
-use crate::column::{holder_of, reader_of};
-use crate::find::{grains_of_volume, place_of_birth, place_of_live, place_of_mapping};
 use crate::graph::finds_loop;
-use crate::moves::{fill_moves_of, write_moves_of};
-use crate::need::{dependents_of, needed_somewhere, used_as_source, widest};
-use crate::places::{
-    birth_at, chain_at, grains_of, holds_at, is_complete_at, is_live_at, volume_at,
-};
 use crate::sheet::PlainSheet;
 use fc_base::ids::{GrainNo, MapId, SlotId, VolId};
 use fc_base::list::List;
 use fc_base::outcome::NoMemory;
 use fc_base::request::{Move, Pair, Side};
+use model_slots::column::{holder_of, reader_of};
+use model_slots::find::{grains_of_volume, place_of_birth, place_of_live, place_of_mapping};
+use model_slots::moves::{fill_moves_of, write_moves_of};
+use model_slots::need::{dependents_of, needed_somewhere, used_as_source, widest};
+use model_slots::places::{
+    birth_at, chain_at, grains_of, holds_at, is_complete_at, is_live_at, volume_at,
+};
 use std::alloc::Global;
 
 impl PlainSheet {

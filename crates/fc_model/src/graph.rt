@@ -5,9 +5,9 @@ ghost use Rattle.fc_base.specs.RestoreGraph.{Edge};
 ghost use Rattle.fc_base.specs.Sheet.{slot_at, shape_of};
 ghost use Rattle.fc_model.specs.Graph.{LiveOfBehind, LeadsInto, HasSink, Lists, LoopFound};
 
-use crate::places::{in_one_chain, is_live_at, is_old_at, volume_at};
-use crate::slot::Slot;
 use fc_base::outcome::NoMemory;
+use model_slots::places::{in_one_chain, is_live_at, is_old_at, volume_at};
+use model_slots::slot::Slot;
 use std::alloc::Global;
 
 /// Whether a live slot of the volume stands after a place in its chain.

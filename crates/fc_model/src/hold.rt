@@ -4,7 +4,7 @@ ghost use Rattle.std.specs.Prelude.{◌≡◌, ◌<◌, length, map};
 ghost use Rattle.fc_base.specs.Sheet.{slot_at};
 ghost use Rattle.fc_base.specs.SheetStep.{split_from, relabelled, grain_taken, grain_kept, grain_lost};
 
-use crate::slot::Slot;
+use model_slots::slot::Slot;
 
 /// The slots of one chain come into another.
 fn join_chain(slots: &mut [Slot], chain: u64, other: u64)

@@ -8,21 +8,14 @@
 //! a lane with it, so it is made to be seen through and not to be fast: it looks at every slot for each
 //! answer, and takes memory for most.
 //!
-//! To read: `slot` (one slot), `places` (what stands at a place), `find` (where slots stand), `column` (one
-//! grain), `moves`, `hold`, `sheet` and `step` (what changes), `need`, `graph`, and `ask`, which has the questions.
+//! The slots, and what holds, needs and moves are among them, stand below, in `model_slots`. To read: `hold`, `sheet` and
+//! `step` (what changes), `graph` (loops), and `ask`, which has the questions.
 #![tactic(auto)]
 
 mod ask;
-mod column;
-mod find;
 mod graph;
 mod hold;
-mod moves;
-mod need;
-mod places;
-mod search;
 mod sheet;
-mod slot;
 mod step;
 
 pub use sheet::PlainSheet;

@@ -5,8 +5,8 @@ ghost use Rattle.fc_base.specs.Sheet.{no_slots, slot_at};
 ghost use Rattle.fc_base.specs.SheetStep.{with_chain, without, aged, placed, split_at, grain_taken, grain_kept, grain_lost};
 
 use crate::hold::{keep_grain, lose_grain, split_chain, take_grain};
-use crate::slot::Slot;
 use fc_base::outcome::NoMemory;
+use model_slots::slot::Slot;
 use std::alloc::Global;
 use std::marker::Model;
 

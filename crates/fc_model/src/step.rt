@@ -5,15 +5,15 @@ ghost use Rattle.fc_base.specs.Sheet.{slot_at, live_place, mapping_place, birth_
 ghost use Rattle.fc_base.specs.SheetStep.{at_place, left_place, removed, started_empty, triggered, retired_at, detached_at, split_at, forced_at, forced_map, dropped, sheet_step};
 ghost use Rattle.fc_model.specs.Lanes.{grains_in_lane};
 
-use crate::find::{
-    grains_of_volume, has_slot_behind, place_of_birth, place_of_live, place_of_mapping,
-};
-use crate::places::{grains_of, is_live_at, volume_at};
 use crate::sheet::PlainSheet;
 use fc_base::decision::LaneEvent;
 use fc_base::ids::MapId;
 use fc_base::outcome::NoMemory;
 use fc_base::request::Pair;
+use model_slots::find::{
+    grains_of_volume, has_slot_behind, place_of_birth, place_of_live, place_of_mapping,
+};
+use model_slots::places::{grains_of, is_live_at, volume_at};
 use std::alloc::Global;
 
 impl PlainSheet {

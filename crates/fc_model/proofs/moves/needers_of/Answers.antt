@@ -1,6 +1,0 @@
-use Rattle.fc_model.proofs.Lists.{filter_map_more}
-use Rattle.fc_model.proofs.moves.needers_of.Goals as goal
-
-pub loop-holder-preserved : goal.loop-holder-preserved
-loop-holder-preserved c =
-    filter_map_more _ _ _ _ c.loop-holder.holder-index _ c.loop-holder-test.true c.loop-holder.invariant c.reader_of.ensures.value c.in_ok-push_found.ensures

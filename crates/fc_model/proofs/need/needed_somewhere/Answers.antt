@@ -1,6 +1,0 @@
-use Rattle.std.proofs.Common.{arith}
-use Rattle.fc_model.proofs.Needs.{false_is, never_needed}
-use Rattle.fc_model.proofs.need.needed_somewhere.Goals as goal
-
-pub returns : goal.returns
-returns c = false_is (never_needed c.args.slots.now c.args.place c.loop-grain.grain (omega arith) c.loop-grain.invariant)

@@ -1,6 +1,0 @@
-use Rattle.fc_model.proofs.Needs.{WidthSoFar}
-use Rattle.fc_model.proofs.need.widest.Given as goal
-
--- the most so far
-abbrev pub invariant-loop-place : goal.invariant-loop-place
-invariant-loop-place l = WidthSoFar l.slots l.place l.width

@@ -1,0 +1,5 @@
+mod Searching
+mod Lists
+mod Columns
+mod Asking
+pub mod Needs
