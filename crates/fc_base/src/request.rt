@@ -65,9 +65,9 @@ pub enum Request {
     Copy { map: MapId, grain: GrainNo },
     /// A grain that others need from a mapping's target is handed on.
     Clean { map: MapId, grain: GrainNo },
-    /// A copier's turn in a lane that found nothing to do.
+    /// A copier's turn in this lane: it copies the lane's next grain to copy, or is idle.
     CopyTurn { lane: u8 },
-    /// A cleaner's turn in a lane that found nothing to do.
+    /// A cleaner's turn in this lane: it cleans the lane's next grain to clean, or is idle.
     CleanTurn { lane: u8 },
 }
 
@@ -87,7 +87,7 @@ pub enum Reply {
     Listed(Rows),
     /// A grain was copied or cleaned.
     Moved { map: MapId, grain: GrainNo },
-    /// There was nothing to do.
+    /// A worker's turn found nothing to copy or to clean.
     Idle,
     /// The volume is offline, by this mapping.
     Offline { map: MapId, state: MapState },
