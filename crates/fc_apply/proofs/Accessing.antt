@@ -12,7 +12,7 @@ use Rattle.std.proofs.lemmas.List.Elements.{All-nil, All-cons}
 use Rattle.fc_base.specs.declared.ids.VolId.{VolId}
 use Rattle.fc_base.specs.declared.state.Access.{Access}
 use Rattle.fc_base.specs.declared.state.Access.TheVariants.{Online}
-use Rattle.fc_rules.specs.LaneTold.{LaneVolume, access_in}
+use Rattle.fc_rules.specs.LaneTold.{LaneVolume, lane_access}
 use Rattle.fc_apply.specs.Accesses.{AccessState, AreRising, has_row, has_volume, volume_of_row}
 use Rattle.fc_apply.specs.declared.access.AccessRow.{AccessRow}
 
@@ -62,16 +62,16 @@ IsAt xs id at = (d : AccessRow) → (get_or xs at d).volume.0 ≡ id
 rise-tail : (x : AccessRow) (xs : List AccessRow) → AreRising (x ∷ xs) → AreRising xs
 rise-tail x xs rise i j d before within = rise (suc i) (suc j) d (omega arith) (omega arith)
 
-pub access_at : (xs : List AccessRow) (id : VolId) (at : ℕ) (d : AccessRow) → AreRising xs → at < length xs → IsAt xs id.0 at → (get_or xs at d).access ≡ access_in (map volume_of_row xs) id
+pub access_at : (xs : List AccessRow) (id : VolId) (at : ℕ) (d : AccessRow) → AreRising xs → at < length xs → IsAt xs id.0 at → (get_or xs at d).access ≡ lane_access (map volume_of_row xs) id
 access_at [] id at d rise within is_at = absurd (omega arith)
-access_at (x ∷ xs) id zero d rise within is_at = sym (cond-true (nat_eq x.volume.0 id.0) x.access (access_in (map volume_of_row xs) id) (same_numbers _ id.0 (is_at d)))
+access_at (x ∷ xs) id zero d rise within is_at = sym (cond-true (nat_eq x.volume.0 id.0) x.access (lane_access (map volume_of_row xs) id) (same_numbers _ id.0 (is_at d)))
 access_at (x ∷ xs) id (suc at) d rise within is_at =
     let first : x.volume.0 < (get_or xs at d).volume.0 = rise 0 (suc at) d (omega arith) within in
     let same : (get_or xs at d).volume.0 ≡ id.0 = is_at d in
     access_at xs id at d (rise-tail x xs rise) (omega arith) is_at
-    ∙ sym (cond-false (nat_eq x.volume.0 id.0) x.access (access_in (map volume_of_row xs) id) (lesser x.volume.0 id.0 (omega arith)))
+    ∙ sym (cond-false (nat_eq x.volume.0 id.0) x.access (lane_access (map volume_of_row xs) id) (lesser x.volume.0 id.0 (omega arith)))
 
-pub access_none : (xs : List AccessRow) (id : VolId) → has_row id.0 xs ≡ false → Online ≡ access_in (map volume_of_row xs) id
+pub access_none : (xs : List AccessRow) (id : VolId) → has_row id.0 xs ≡ false → Online ≡ lane_access (map volume_of_row xs) id
 access_none [] id none = refl
 access_none (x ∷ xs) id none =
     elim (cases_Bool (nat_eq x.volume.0 id.0)) [
@@ -162,13 +162,13 @@ module _ (xs : List AccessRow) (state : AccessState) (room : ℕ) (seen : record
   volumes_are = ap (λ (s : AccessState). s.volumes) seen
 
   pub seen_access : (rows : List AccessRow) → rows ≡ xs → AreRising xs → (id : VolId) (at : ℕ) (d : AccessRow) → at < length rows → ((e : AccessRow) → (slice_index_or rows at e).volume.0 ≡ id.0) →
-      (get_or xs at d).access ≡ access_in state.volumes id
+      (get_or xs at d).access ≡ lane_access state.volumes id
   seen_access rows same rise id at d within found =
       access_at xs id at d rise (omega (arith, ap (length {A = AccessRow}) same)) (λ e. ap (λ (l : List AccessRow). (slice_index_or l at e).volume.0) (sym same) ∙ found e)
-      ∙ ap (λ (vs : List LaneVolume). access_in vs id) volumes_are
+      ∙ ap (λ (vs : List LaneVolume). lane_access vs id) volumes_are
 
-  pub seen_none : (rows : List AccessRow) → rows ≡ xs → (id : VolId) → has_row id.0 rows ≡ false → Online ≡ access_in state.volumes id
-  seen_none rows same id none = access_none xs id (ap (has_row id.0) (sym same) ∙ none) ∙ ap (λ (vs : List LaneVolume). access_in vs id) volumes_are
+  pub seen_none : (rows : List AccessRow) → rows ≡ xs → (id : VolId) → has_row id.0 rows ≡ false → Online ≡ lane_access state.volumes id
+  seen_none rows same id none = access_none xs id (ap (has_row id.0) (sym same) ∙ none) ∙ ap (λ (vs : List LaneVolume). lane_access vs id) volumes_are
 
   pub seen_set : (rows : List AccessRow) → rows ≡ xs → AreRising xs → (id : VolId) (access : Access) (at : ℕ) (d : AccessRow) → at < length rows → ((e : AccessRow) → (slice_index_or rows at e).volume.0 ≡ id.0) →
       map volume_of_row (set xs at (row_with access (get_or xs at d))) ≡ map (with_access id access) state.volumes

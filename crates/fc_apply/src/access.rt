@@ -5,7 +5,7 @@ ghost use Rattle.std.specs.List.{All};
 ghost use Rattle.fc_base.specs.declared.decision.LaneEvent.TheVariants.{Remove, Access as SetAccess};
 ghost use Rattle.fc_base.specs.declared.state.Access.TheVariants.{Online};
 ghost use Rattle.fc_apply.specs.Accesses.{AreRising, has_row, has_volume};
-ghost use Rattle.fc_rules.specs.LaneTold.{LaneVolume, access_in, volumes_event};
+ghost use Rattle.fc_rules.specs.LaneTold.{LaneVolume, lane_access, volumes_event};
 
 use fc_base::disk::DiskKind;
 use fc_base::ids::VolId;
@@ -52,7 +52,7 @@ impl Accesses {
 
     /// How hosts may reach the volume. One that isn't there is online.
     pub fn access(&self, volume: VolId) -> Access
-        ensures { result ≡ access_in self.now.volumes volume }
+        ensures { result ≡ lane_access self.now.volumes volume }
     {
         match place_of(self.rows.as_slice(), volume) {
             Some(place) => self.rows[place].access,

@@ -4,14 +4,14 @@ use Rattle.std.specs.List.{before_first}
 use Rattle.std.specs.Str.{bytes_eq}
 use Rattle.clap.specs.Lexer.{long_of, short_of}
 use Rattle.clap.specs.Words.{Text}
-use Rattle.fc_args.specs.Grammar.{Unknown, begins_with_hyphen, joined_value, option_named, option_of}
+use Rattle.fc_args.specs.Grammar.{Unknown, begins_with_hyphen, joined_value, option_named, option_of_word}
 use Rattle.fc_args.specs.Program.{is_stray}
 
 -- `--name` or `--name=value`
 pub record IsOption (word name : Text) (value : Option Text) : Type 0 where
   pub no_end : bytes_eq word (45 ∷ 45 ∷ []) ≡ false
   pub long : long_of word ≡ Some (name, value)
-  pub read : option_of word ≡ option_named name value
+  pub read : option_of_word word ≡ option_named name value
   pub hyphen : begins_with_hyphen word ≡ true
 
 -- no hyphen begins the word, so it is no option
@@ -19,7 +19,7 @@ pub record IsPlain (word : Text) : Type 0 where
   pub no_end : bytes_eq word (45 ∷ 45 ∷ []) ≡ false
   pub long : long_of word ≡ None
   pub short : short_of word ≡ None
-  pub read : option_of word ≡ Unknown
+  pub read : option_of_word word ≡ Unknown
   pub hyphen : begins_with_hyphen word ≡ false
 
 pub plain_word : (word : Text) → begins_with_hyphen word ≡ false → IsPlain word

@@ -11,7 +11,7 @@ use Rattle.clap.specs.declared.error.kind.ErrorKind.{ErrorKind}
 use Rattle.clap.specs.declared.error.kind.ErrorKind.TheVariants as kind
 use Rattle.clap.proofs.FaultLemmas.{stopped_fault}
 use Rattle.clap.proofs.WalkLemmas.{walk_stopped}
-use Rattle.fc_args.specs.Grammar.{alone, check_by, command_by, drill_number, in_full, options_of, run_by, stop_call}
+use Rattle.fc_args.specs.Grammar.{alone, check_by, command_by, drill_number, in_full, options_of_words, run_by, stop_call}
 use Rattle.fc_args.specs.Matches.{found_in, number_in}
 use Rattle.fc_args.specs.Program.{flashcopy, is_stray}
 use Rattle.fc_args.specs.declared.asked.Asked.{Asked}
@@ -74,13 +74,13 @@ entered_total name word words other met =
 
 -- ---- the commands
 
-run_outcome : (ks : Kinds) (rows : List Row) → outcome (or_else ks []) (Some (codes "run", rows)) ≡ option_map Run (option_and_then options_of (ended read_given ks rows))
+run_outcome : (ks : Kinds) (rows : List Row) → outcome (or_else ks []) (Some (codes "run", rows)) ≡ option_map Run (option_and_then options_of_words (ended read_given ks rows))
 run_outcome [] rows = refl
 run_outcome (k ∷ ks) rows = refl
 
 run_goes : (words : List Text) → list_any is_stray words ≡ false → outcome (total (entered_walk (codes "run") words) []) (entered program (Some (codes "run", words))) ≡ option_map Run (run_by words)
 unfolding defaults_fault
-run_goes words clean = run_outcome (level_fault level [] nothing_held words false []) (rows_after level.rules [] words) ∙ ap (λ given. option_map Run (option_and_then options_of given)) (run_taken words clean)
+run_goes words clean = run_outcome (level_fault level [] nothing_held words false []) (rows_after level.rules [] words) ∙ ap (λ given. option_map Run (option_and_then options_of_words given)) (run_taken words clean)
 
 drill_outcome : (ks : Kinds) (rows : List Row) → outcome (or_else ks []) (Some (codes "drill", rows)) ≡ option_map Drill (option_and_then drill_number (ended number_in ks rows))
 drill_outcome [] rows = refl

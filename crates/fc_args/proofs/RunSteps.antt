@@ -7,7 +7,7 @@ use Rattle.clap.specs.Kinds.{Kinds, or_else}
 use Rattle.clap.specs.Walk.{Held, Row, Text, Waiting, Walk, arg_by_long, has_row, idle, long_word, nothing_held, option, positional, settled_rows, used, walk_from, walked}
 use Rattle.clap.specs.declared.error.kind.ErrorKind.{ErrorKind}
 use Rattle.clap.specs.declared.error.kind.ErrorKind.TheVariants as kind
-use Rattle.fc_args.specs.Grammar.{Given, Valued, Grain, Cache, Unknown, flag, give, given_after, given_by, option_named, valued, nothing_given}
+use Rattle.fc_args.specs.Grammar.{Given, Valued, Grain, Cache, Unknown, flag, give, given_after, given_by, option_named, valued, no_options}
 use Rattle.fc_args.specs.Program.{is_stray}
 use Rattle.fc_args.proofs.HyphenLemmas.{IsOption, IsPlain, OptionForm, classify, or_parts}
 use Rattle.fc_args.proofs.RunLevel.{Shows, chosen, found_cache, found_grain, found_none, found_trace, give_is, has_chosen, idle_ends, level, name_of, rule_of, rules, shows_trace, shows_valued, trace_rule, value_missing, verdict, verdict_fails, verdict_step, with_value}
@@ -244,5 +244,5 @@ taken (word ∷ words) clean rows pending skip given (Some o) stands =
     next_goes word words both.1 (taken words both.1) rows skip given stands o (classify word both.0)
 
 -- the words of a run, from the first
-pub run_taken : (words : List Text) → list_any is_stray words ≡ false → verdict (walk_from nothing_held) words ≡ given_after nothing_given None words
-run_taken words clean = taken words clean [] None 0 nothing_given None (refl, record { grain = refl; has_grain = refl; has_trace = refl; trace = refl; cache = refl; has_cache = refl })
+pub run_taken : (words : List Text) → list_any is_stray words ≡ false → verdict (walk_from nothing_held) words ≡ given_after no_options None words
+run_taken words clean = taken words clean [] None 0 no_options None (refl, record { grain = refl; has_grain = refl; has_trace = refl; trace = refl; cache = refl; has_cache = refl })

@@ -5,7 +5,7 @@ use Rattle.std.specs.List.{list_any}
 use Rattle.std.specs.Str.{bytes_eq}
 use Rattle.std.specs.Str.Parse.{digits_value}
 use Rattle.clap.specs.Words.{Text}
-use Rattle.fc_args.specs.Grammar.{Given, Valued, Unknown, alone, begins_with_hyphen, check_by, command_by, give, given_after, given_by, in_full, number_within, nothing_given, options_of, option_of}
+use Rattle.fc_args.specs.Grammar.{Given, Valued, Unknown, alone, begins_with_hyphen, check_by, command_by, give, given_after, given_by, in_full, number_within, no_options, options_of_words, option_of_word}
 use Rattle.fc_args.specs.Program.{is_stray}
 use Rattle.fc_args.specs.declared.asked.Asked.{Asked}
 use Rattle.fc_args.specs.declared.asked.Asked.TheVariants.{Run, Drill, Stop}
@@ -38,18 +38,18 @@ hyphen_command (a ∷ rest) words e =
     let P : ℕ → Type 0 = λ a. command_by (a ∷ rest) words ≡ None in
     subst P (sym (eqb-true a 45 e)) refl
 
-stray_option : (word : Text) → is_stray word ≡ true → option_of word ≡ Unknown
+stray_option : (word : Text) → is_stray word ≡ true → option_of_word word ≡ Unknown
 stray_option [] e = refl
 stray_option (a ∷ []) e = refl
 stray_option (a ∷ b ∷ []) e = go (a == 45) (b == 45) refl refl
   where
-    go : (x y : Bool) → (a == 45) ≡ x → (b == 45) ≡ y → option_of (a ∷ b ∷ []) ≡ Unknown
+    go : (x y : Bool) → (a == 45) ≡ x → (b == 45) ≡ y → option_of_word (a ∷ b ∷ []) ≡ Unknown
     go true true ea eb = rw (ea, eb) refl
     go true false ea eb = rw (ea, eb) refl
     go false y ea eb = rw ea refl
 stray_option (a ∷ b ∷ c ∷ rest) e = go (a == 45) (b == 45) refl refl e
   where
-    go : (x y : Bool) → (a == 45) ≡ x → (b == 45) ≡ y → (x && not y) ≡ true → option_of (a ∷ b ∷ c ∷ rest) ≡ Unknown
+    go : (x y : Bool) → (a == 45) ≡ x → (b == 45) ≡ y → (x && not y) ≡ true → option_of_word (a ∷ b ∷ c ∷ rest) ≡ Unknown
     go true true ea eb e = absurd (true≢false (sym e))
     go true false ea eb e = rw (ea, eb) refl
     go false y ea eb e = absurd (true≢false (sym e))
@@ -75,7 +75,7 @@ options_fail (word ∷ words) e given waiting = go (is_stray word) refl e (optio
         → (waiting : Option Valued) → given_after given waiting (word ∷ words) ≡ None
     go true is e fail None = ap (λ o. option_and_then (λ next. given_after next.0 next.1 words) (given_by o given)) (stray_option word is)
     go true is e fail (Some option) = ap (λ b. option_and_then (λ now. given_after now None words) (cond b None (give option word given))) (stray_hyphen word is)
-    go false is e fail None = continues (given_by (option_of word) given) (fail e)
+    go false is e fail None = continues (given_by (option_of_word word) given) (fail e)
     go false is e fail (Some option) = continues_idle (cond (begins_with_hyphen word) None (give option word given)) (fail e)
 
 -- ---- all words
@@ -103,7 +103,7 @@ no_command false false false false nothing = refl
 later_stray : (word : Text) (words : List Text) → list_any is_stray words ≡ true → command_by word words ≡ None
 later_stray word words e =
     rw (
-      ap (λ given. option_map Run (option_and_then options_of given)) (options_fail words e nothing_given None),
+      ap (λ given. option_map Run (option_and_then options_of_words given)) (options_fail words e no_options None),
       ap (option_map Drill) (alone_fails 0 (2 ^ 64) words e),
       check_fails words e,
       ap (option_map Stop) (alone_fails 1 (2 ^ 32) words e),

@@ -81,8 +81,8 @@ abbrev pub option_by : Option Word → OptionWord
 option_by None = Unknown
 option_by (Some text) = option_named (before_first (λ byte. byte == 61) text) (joined_value text)
 
-abbrev pub option_of : Word → OptionWord
-option_of word = option_by (after_hyphens word)
+abbrev pub option_of_word : Word → OptionWord
+option_of_word word = option_by (after_hyphens word)
 
 abbrev pub begins_with_hyphen : Word → Bool
 begins_with_hyphen [] = false
@@ -96,8 +96,8 @@ pub record Given : Type 0 where
   pub trace : Bool
   pub cache : Option Word
 
-abbrev pub nothing_given : Given
-nothing_given = record { grain = None; trace = false; cache = None }
+abbrev pub no_options : Given
+no_options = record { grain = None; trace = false; cache = None }
 
 -- an option is given at most once
 abbrev pub give : Valued → Word → Given → Option Given
@@ -122,7 +122,7 @@ given_by Unknown given = None
 abbrev pub given_after : Given → Option Valued → List Word → Option Given
 given_after given None [] = Some given
 given_after given (Some option) [] = None
-given_after given None (word ∷ words) = option_and_then (λ next. given_after next.0 next.1 words) (given_by (option_of word) given)
+given_after given None (word ∷ words) = option_and_then (λ next. given_after next.0 next.1 words) (given_by (option_of_word word) given)
 given_after given (Some option) (word ∷ words) = option_and_then (λ now. given_after now None words) (give_next option word given)
 
 -- an option that wasn't given, or its value as it is read
@@ -131,8 +131,8 @@ read_if_given read None = Some None
 read_if_given read (Some word) = option_map Some (read word)
 
 -- the values are read; the grain is of 256 KiB unless told otherwise, and `--trace` and `--cache` aren't given both
-abbrev pub options_of : Given → Option RunOptions
-options_of given =
+abbrev pub options_of_words : Given → Option RunOptions
+options_of_words given =
     option_and_then (λ grain. option_and_then (λ cache.
     if given.trace && is_some cache then None
     else Some (record { grain = unwrap_or grain K256; trace = given.trace; cache = cache }))
@@ -141,7 +141,7 @@ options_of given =
 -- ---- the words
 
 abbrev pub run_by : List Word → Option RunOptions
-run_by words = option_and_then options_of (given_after nothing_given None words)
+run_by words = option_and_then options_of_words (given_after no_options None words)
 
 -- one word and no other
 abbrev pub alone : List Word → Option Word
@@ -165,14 +165,14 @@ in_full [] = None
 in_full (name ∷ words) = command_by name words
 
 -- whether what is asked for is built
-abbrev pub is_built : Asked → Bool
-is_built (Run options) = (TRACE_IS_BUILT || not options.trace) && (CACHE_IS_BUILT || not (is_some options.cache))
-is_built (Drill number) = true
-is_built Check = CHECK_IS_BUILT
-is_built (Stop call) = STOP_IS_BUILT
+abbrev pub is_offered : Asked → Bool
+is_offered (Run options) = (TRACE_IS_BUILT || not options.trace) && (CACHE_IS_BUILT || not (is_some options.cache))
+is_offered (Drill number) = true
+is_offered Check = CHECK_IS_BUILT
+is_offered (Stop call) = STOP_IS_BUILT
 
 abbrev pub if_built : Asked → Option Asked
-if_built asked = if is_built asked then Some asked else None
+if_built asked = if is_offered asked then Some asked else None
 
 -- what the words ask for, where they are in the grammar
 abbrev pub asked_by : List Word → Option Asked

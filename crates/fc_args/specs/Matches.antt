@@ -3,7 +3,7 @@ use Rattle.std.specs.Prelude.{Bool, false, List, Option, Some, None, option_map,
 use Rattle.std.specs.Option.{option_map_or}
 use Rattle.std.specs.Str.{bytes_eq}
 use Rattle.clap.specs.Words.{Row, Text, first_of}
-use Rattle.fc_args.specs.Grammar.{Given, options_of, drill_number, stop_call}
+use Rattle.fc_args.specs.Grammar.{Given, options_of_words, drill_number, stop_call}
 use Rattle.fc_args.specs.declared.asked.Asked.{Asked}
 use Rattle.fc_args.specs.declared.asked.Asked.TheVariants.{Run, Drill, Check, Stop}
 
@@ -26,7 +26,7 @@ number_in = first_of (codes "number")
 -- by the name of the subcommand, and what was found for it
 abbrev pub command_in : Text → List Row → Option Asked
 command_in name rows =
-    if bytes_eq name (codes "run") then option_map Run (options_of (given_in rows))
+    if bytes_eq name (codes "run") then option_map Run (options_of_words (given_in rows))
     else (if bytes_eq name (codes "drill") then option_map Drill (option_and_then drill_number (number_in rows))
     else (if bytes_eq name (codes "check") then Some Check
     else (if bytes_eq name (codes "stop") then option_map Stop (option_and_then stop_call (number_in rows)) else None)))

@@ -5,7 +5,7 @@ ghost use Rattle.std.specs.Char.{is_digit};
 ghost use Rattle.std.specs.List.{list_all};
 ghost use Rattle.clap.specs.Words.{first_of, found_of, rows_of, subcommand_rows_of};
 ghost use Rattle.fc_words.specs.Values.{is_numeral, grain_size_of};
-ghost use Rattle.fc_args.specs.Grammar.{number_within, drill_number, cache_parts, options_of, read_if_given};
+ghost use Rattle.fc_args.specs.Grammar.{number_within, drill_number, cache_parts, options_of_words, read_if_given};
 ghost use Rattle.fc_args.specs.Matches.{given_in, is_true, command_in, found_in};
 
 use crate::asked::{Asked, RunOptions};
@@ -134,7 +134,7 @@ fn word_of<'a>(matches: &ArgMatches<'a>, name: &str) -> Option<&'a str>
 
 /// The options of a run, by its matches.
 fn options_in(matches: &ArgMatches<'_>) -> Option<RunOptions>
-    ensures { result ≡ options_of (given_in (rows_of (found_of matches.now))) }
+    ensures { result ≡ options_of_words (given_in (rows_of (found_of matches.now))) }
 {
     let trace = is_true(word_of(matches, "trace"));
     match grain_given(word_of(matches, "grain")) {

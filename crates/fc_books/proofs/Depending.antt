@@ -8,7 +8,7 @@ use Rattle.fc_base.specs.Counts.{reads_some}
 use Rattle.fc_base.specs.Need.{ReadsAt, IsDependent, direct, onward}
 use Rattle.fc_base.specs.Sheet.{Slot, slot_at, column}
 use Rattle.fc_base.specs.SheetFacts.{HasSizes}
-use Rattle.fc_books.specs.Copies.{joins, dependent_places}
+use Rattle.fc_books.specs.Copies.{joins_dependents, dependent_places}
 use Rattle.fc_books.proofs.Using.{any_below-found, any_below-there, first_of_both, second_of_both, both}
 
 -- ---- holders
@@ -141,7 +141,7 @@ dependent_by slots k i joined h true is passed e r =
     let P : ℕ → Type 0 = λ x. ReadsAt slots k x i in direct (subst P (sym (eqb-true k h is)) r)
 dependent_by slots k i joined h false is passed e r = onward (passed.only h e).0 r
 
-joins_only : (slots : List Slot) (k i : ℕ) (joined : List ℕ) → Passed slots k i joined → i < length slots → joins slots k joined i ≡ true → IsDependent slots k i
+joins_only : (slots : List Slot) (k i : ℕ) (joined : List ℕ) → Passed slots k i joined → i < length slots → joins_dependents slots k joined i ≡ true → IsDependent slots k i
 joins_only slots k i joined passed lt e =
     let test = (slot_at slots i).is_live && not (i == k) in
     let some = list_any (λ h. reads_some slots h i) (k ∷ joined) in
@@ -154,13 +154,13 @@ apart_not : (i k : ℕ) (b : Bool) → (i == k) ≡ b → (i ≡ k → ⊥) → 
 apart_not i k true is other = absurd (other (eqb-true i k is))
 apart_not i k false is other = refl
 
-joins_by : (slots : List Slot) (k i : ℕ) (joined : List ℕ) (h : ℕ) → HasSizes slots → has (k ∷ joined) h ≡ true → ReadsAt slots k h i → joins slots k joined i ≡ true
+joins_by : (slots : List Slot) (k i : ℕ) (joined : List ℕ) (h : ℕ) → HasSizes slots → has (k ∷ joined) h ≡ true → ReadsAt slots k h i → joins_dependents slots k joined i ≡ true
 joins_by slots k i joined h sizes there r =
     both ((slot_at slots i).is_live && not (i == k)) (list_any (λ x. reads_some slots x i) (k ∷ joined))
     (both (slot_at slots i).is_live (not (i == k)) r.is_live (apart_not i k (i == k) refl r.other))
     (any_there (λ x. reads_some slots x i) (k ∷ joined) h there (reads_there slots h i r.grain sizes r.there r.reads))
 
-joins_all : (slots : List Slot) (k i : ℕ) (joined : List ℕ) → HasSizes slots → Passed slots k i joined → IsDependent slots k i → joins slots k joined i ≡ true
+joins_all : (slots : List Slot) (k i : ℕ) (joined : List ℕ) → HasSizes slots → Passed slots k i joined → IsDependent slots k i → joins_dependents slots k joined i ≡ true
 unfolding FirstRead
 joins_all slots k i joined sizes passed dep =
     let read = first_read slots k i dep in
@@ -183,7 +183,7 @@ only_last : (i d : ℕ) (b : Bool) → (b || false) ≡ true → b ≡ true
 only_last i d true e = refl
 only_last i d false e = e
 
-stepped : (slots : List Slot) (k i : ℕ) (joined : List ℕ) (b : Bool) → HasSizes slots → Passed slots k i joined → i < length slots → joins slots k joined i ≡ b → Passed slots k (i + 1) (cond b (joined ++ i ∷ []) joined)
+stepped : (slots : List Slot) (k i : ℕ) (joined : List ℕ) (b : Bool) → HasSizes slots → Passed slots k i joined → i < length slots → joins_dependents slots k joined i ≡ b → Passed slots k (i + 1) (cond b (joined ++ i ∷ []) joined)
 stepped slots k i joined true sizes passed lt is =
     let this : IsDependent slots k i = joins_only slots k i joined passed lt is in
     record {
@@ -214,7 +214,7 @@ stepped slots k i joined false sizes passed lt is =
     }
 
 step : List Slot → ℕ → List ℕ → ℕ → List ℕ
-step slots k joined j = cond (joins slots k joined j) (joined ++ j ∷ []) joined
+step slots k joined j = cond (joins_dependents slots k joined j) (joined ++ j ∷ []) joined
 
 run : (slots : List Slot) (k n i : ℕ) (joined : List ℕ) → HasSizes slots → Passed slots k i joined → i + n ≡ length slots → Passed slots k (length slots) (fold (step slots k) joined (range_with_len i n))
 unfolding step
@@ -222,7 +222,7 @@ run slots k zero i joined sizes passed e =
     let P : ℕ → Type 0 = λ x. Passed slots k x joined in let same : i ≡ length slots = omega (arith, e) in subst P same passed
 run slots k (suc n) i joined sizes passed e =
     run slots k n (i + 1) (step slots k joined i) sizes
-    (stepped slots k i joined (joins slots k joined i) sizes passed (omega (arith, e)) refl) (omega (arith, e))
+    (stepped slots k i joined (joins_dependents slots k joined i) sizes passed (omega (arith, e)) refl) (omega (arith, e))
 
 nothing_passed : (slots : List Slot) (k : ℕ) → Passed slots k 0 []
 nothing_passed slots k = record { only = λ d e. grind (arith, e); all = λ d dep below. grind (arith, below) }

@@ -20,8 +20,8 @@ pub record Books : Type 0 where
   pub pools : List Pool
 
 -- The books of a run that begins, with these disks. Groups are counted from 1.
-abbrev pub opened : List Pool → Books
-opened pools =
+abbrev pub opened_books : List Pool → Books
+opened_books pools =
     record { tables = no_tables; next_volume = 0; next_mapping = 0; next_group = 1; sheet = no_slots; flags = []; pools = pools }
 
 -- A deed, a part of what a command does: the effects that the history tells, the events that lanes are told, and the

@@ -19,11 +19,11 @@ use Rattle.fc_books.specs.Accesses.{access_in}
 use Rattle.fc_books.specs.Books.{Books}
 use Rattle.fc_books.specs.Copies.{held, total}
 use Rattle.fc_books.specs.Groups.{group_state}
-use Rattle.fc_books.specs.Layout.{Column, column}
+use Rattle.fc_books.specs.Layout.{ReportColumn, report_column}
 use Rattle.fc_entry.specs.Text.{state_text}
 
-abbrev pub text_of : {X : Type 0} → (X → List ℕ) → Option X → List ℕ
-text_of text o = option_map_or text o []
+abbrev pub text_or_none : {X : Type 0} → (X → List ℕ) → Option X → List ℕ
+text_or_none text o = option_map_or text o []
 
 -- ---- a mapping
 
@@ -51,48 +51,48 @@ cleaned_in Copying b m = unneeded b m
 cleaned_in Stopping b m = unneeded b m
 cleaned_in state b m = 100
 
-abbrev pub volume_name : Tables → VolId → List ℕ
-volume_name t v = text_of (λ (x : Volume). x.name) (volume_with t v)
+abbrev pub name_of_volume : Tables → VolId → List ℕ
+name_of_volume t v = text_or_none (λ (x : Volume). x.name) (volume_with t v)
 
-abbrev pub group_name : Tables → Option GroupId → List ℕ
-group_name t g = text_of (λ (x : Group). x.name) (option_and_then (group_with t) g)
+abbrev pub name_of_group : Tables → Option GroupId → List ℕ
+name_of_group t g = text_or_none (λ (x : Group). x.name) (option_and_then (group_with t) g)
 
-abbrev pub mapping_name : Tables → Option MapId → List ℕ
-mapping_name t m = text_of (λ (x : Mapping). x.name) (option_and_then (mapping_with t) m)
+abbrev pub name_of_mapping : Tables → Option MapId → List ℕ
+name_of_mapping t m = text_or_none (λ (x : Mapping). x.name) (option_and_then (mapping_with t) m)
 
-abbrev pub mapping_columns : Books → List (Column Mapping)
+abbrev pub mapping_columns : Books → List (ReportColumn Mapping)
 mapping_columns b =
-    column (codes "id") (λ m. decimal m.id.0)
-    ∷ column (codes "name") (λ m. m.name)
-    ∷ column (codes "source_vdisk_id") (λ m. decimal m.source.0)
-    ∷ column (codes "source_vdisk_name") (λ m. volume_name b.tables m.source)
-    ∷ column (codes "target_vdisk_id") (λ m. decimal m.target.0)
-    ∷ column (codes "target_vdisk_name") (λ m. volume_name b.tables m.target)
-    ∷ column (codes "group_id") (λ m. text_of (λ (g : GroupId). decimal g.0) m.group)
-    ∷ column (codes "group_name") (λ m. group_name b.tables m.group)
-    ∷ column (codes "status") (λ m. state_text m.state)
-    ∷ column (codes "progress") (λ m. decimal (progress b m))
-    ∷ column (codes "copy_rate") (λ m. decimal m.copy_rate)
-    ∷ column (codes "clean_progress") (λ m. decimal (cleaned_in m.state b m))
-    ∷ column (codes "incremental") (λ m. cond m.incremental (codes "on") (codes "off"))
-    ∷ column (codes "partner_FC_id") (λ m. text_of (λ (p : MapId). decimal p.0) (partner_of b.tables m.id))
-    ∷ column (codes "partner_FC_name") (λ m. mapping_name b.tables (partner_of b.tables m.id))
-    ∷ column (codes "restoring") (λ m. cond m.restoring (codes "yes") (codes "no"))
+    report_column (codes "id") (λ m. decimal m.id.0)
+    ∷ report_column (codes "name") (λ m. m.name)
+    ∷ report_column (codes "source_vdisk_id") (λ m. decimal m.source.0)
+    ∷ report_column (codes "source_vdisk_name") (λ m. name_of_volume b.tables m.source)
+    ∷ report_column (codes "target_vdisk_id") (λ m. decimal m.target.0)
+    ∷ report_column (codes "target_vdisk_name") (λ m. name_of_volume b.tables m.target)
+    ∷ report_column (codes "group_id") (λ m. text_or_none (λ (g : GroupId). decimal g.0) m.group)
+    ∷ report_column (codes "group_name") (λ m. name_of_group b.tables m.group)
+    ∷ report_column (codes "status") (λ m. state_text m.state)
+    ∷ report_column (codes "progress") (λ m. decimal (progress b m))
+    ∷ report_column (codes "copy_rate") (λ m. decimal m.copy_rate)
+    ∷ report_column (codes "clean_progress") (λ m. decimal (cleaned_in m.state b m))
+    ∷ report_column (codes "incremental") (λ m. cond m.incremental (codes "on") (codes "off"))
+    ∷ report_column (codes "partner_FC_id") (λ m. text_or_none (λ (p : MapId). decimal p.0) (partner_of b.tables m.id))
+    ∷ report_column (codes "partner_FC_name") (λ m. name_of_mapping b.tables (partner_of b.tables m.id))
+    ∷ report_column (codes "restoring") (λ m. cond m.restoring (codes "yes") (codes "no"))
     ∷ []
 
-abbrev pub progress_columns : Books → List (Column Mapping)
-progress_columns b = column (codes "id") (λ m. decimal m.id.0) ∷ column (codes "progress") (λ m. decimal (progress b m)) ∷ []
+abbrev pub progress_columns : Books → List (ReportColumn Mapping)
+progress_columns b = report_column (codes "id") (λ m. decimal m.id.0) ∷ report_column (codes "progress") (λ m. decimal (progress b m)) ∷ []
 
-abbrev pub dependent_columns : List (Column Mapping)
-dependent_columns = column (codes "fc_id") (λ m. decimal m.id.0) ∷ column (codes "fc_name") (λ m. m.name) ∷ []
+abbrev pub dependent_columns : List (ReportColumn Mapping)
+dependent_columns = report_column (codes "fc_id") (λ m. decimal m.id.0) ∷ report_column (codes "fc_name") (λ m. m.name) ∷ []
 
 -- ---- a group
 
-abbrev pub group_columns : Tables → List (Column Group)
+abbrev pub group_columns : Tables → List (ReportColumn Group)
 group_columns t =
-    column (codes "id") (λ g. decimal g.id.0)
-    ∷ column (codes "name") (λ g. g.name)
-    ∷ column (codes "status") (λ g. state_text (group_state t g.id))
+    report_column (codes "id") (λ g. decimal g.id.0)
+    ∷ report_column (codes "name") (λ g. g.name)
+    ∷ report_column (codes "status") (λ g. state_text (group_state t g.id))
     ∷ []
 
 -- ---- a volume
@@ -102,14 +102,14 @@ access_text (Offline map state) = codes "offline"
 access_text access = codes "online"
 
 -- Whether the mapping has the volume as source or target.
-abbrev pub is_of : VolId → Mapping → Bool
-is_of v m = (m.source.0 == v.0) || (m.target.0 == v.0)
+abbrev pub copies_volume : VolId → Mapping → Bool
+copies_volume v m = (m.source.0 == v.0) || (m.target.0 == v.0)
 
-abbrev pub volume_columns : GrainSize → Tables → List (Column Volume)
+abbrev pub volume_columns : GrainSize → Tables → List (ReportColumn Volume)
 volume_columns grain t =
-    column (codes "id") (λ v. decimal v.id.0)
-    ∷ column (codes "name") (λ v. v.name)
-    ∷ column (codes "status") (λ v. access_text (access_in t v.id))
-    ∷ column (codes "capacity") (λ v. decimal (v.grains * grain_bytes grain))
-    ∷ column (codes "fc_map_count") (λ v. decimal (count_by (is_of v.id) t.mappings))
+    report_column (codes "id") (λ v. decimal v.id.0)
+    ∷ report_column (codes "name") (λ v. v.name)
+    ∷ report_column (codes "status") (λ v. access_text (access_in t v.id))
+    ∷ report_column (codes "capacity") (λ v. decimal (v.grains * grain_bytes grain))
+    ∷ report_column (codes "fc_map_count") (λ v. decimal (count_by (copies_volume v.id) t.mappings))
     ∷ []

@@ -56,14 +56,14 @@ is_used slots v =
 -- ---- who depends on it
 
 -- A live slot joins the dependents of slot `k` where it reads, at some grain, from `k` or from one that has joined.
-abbrev pub joins : List Slot → ℕ → List ℕ → ℕ → Bool
-joins slots k joined j =
+abbrev pub joins_dependents : List Slot → ℕ → List ℕ → ℕ → Bool
+joins_dependents slots k joined j =
     ((slot_at slots j).is_live && not (j == k)) && list_any (λ h. reads_some slots h j) (k ∷ joined)
 
 -- The places of all dependents. No slot reads from one behind it, so the slots are taken once, in order.
 abbrev pub dependent_places : List Slot → ℕ → List ℕ
 dependent_places slots k =
-    fold (λ joined j. cond (joins slots k joined j) (joined ++ j ∷ []) joined) [] (range_with_len 0 (length slots))
+    fold (λ joined j. cond (joins_dependents slots k joined j) (joined ++ j ∷ []) joined) [] (range_with_len 0 (length slots))
 
 abbrev pub places_behind : List Slot → Option ℕ → List ℕ
 places_behind slots None = []

@@ -15,11 +15,11 @@ use Rattle.fc_books.specs.Accesses.{is_preparing, is_prepared, is_copying, is_st
 use Rattle.fc_entry.specs.Refused.{first_of, where_}
 
 -- The members of a group, by id.
-abbrev pub is_in : GroupId → Mapping → Bool
-is_in g m = option_map_or (λ (h : GroupId). g.0 == h.0) m.group false
+abbrev pub is_member : GroupId → Mapping → Bool
+is_member g m = option_map_or (λ (h : GroupId). g.0 == h.0) m.group false
 
 abbrev pub members : Tables → GroupId → List Mapping
-members t g = filter (is_in g) t.mappings
+members t g = filter (is_member g) t.mappings
 
 -- ---- state
 

@@ -4,23 +4,23 @@ use Rattle.std.specs.List.{join_with_byte, range_with_len}
 use Rattle.std.specs.Option.{unwrap_or}
 
 -- A column has a heading, and a field for each object.
-pub record Column (X : Type 0) : Type 0 where
+pub record ReportColumn (X : Type 0) : Type 0 where
   pub heading : List ℕ
   pub field : X → List ℕ
 
-abbrev pub column : {X : Type 0} → List ℕ → (X → List ℕ) → Column X
-column heading field = record { heading = heading; field = field }
+abbrev pub report_column : {X : Type 0} → List ℕ → (X → List ℕ) → ReportColumn X
+report_column heading field = record { heading = heading; field = field }
 
 -- ---- a table
 
 -- The headings, and then a row for each object.
-abbrev pub headings : {X : Type 0} → List (Column X) → List (List ℕ)
+abbrev pub headings : {X : Type 0} → List (ReportColumn X) → List (List ℕ)
 headings columns = map (λ c. c.heading) columns
 
-abbrev pub fields : {X : Type 0} → List (Column X) → X → List (List ℕ)
+abbrev pub fields : {X : Type 0} → List (ReportColumn X) → X → List (List ℕ)
 fields columns x = map (λ c. c.field x) columns
 
-abbrev pub table : {X : Type 0} → List (Column X) → List X → List (List (List ℕ))
+abbrev pub table : {X : Type 0} → List (ReportColumn X) → List X → List (List (List ℕ))
 table columns xs = headings columns ∷ map (fields columns) xs
 
 -- ---- its text
@@ -51,5 +51,5 @@ laid_out None rows = map (λ row. join_with_byte 32 (filled (widths rows) row)) 
 -- ---- one object
 
 -- A row for each column: its heading, the delimiter, by default a space, and the object's field.
-abbrev pub view : {X : Type 0} → Option ℕ → List (Column X) → X → List (List ℕ)
+abbrev pub view : {X : Type 0} → Option ℕ → List (ReportColumn X) → X → List (List ℕ)
 view delim columns x = map (λ c. join_with_byte (unwrap_or delim 32) (c.heading ∷ c.field x ∷ [])) columns

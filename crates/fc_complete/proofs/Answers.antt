@@ -14,15 +14,15 @@ use Rattle.fc_base.specs.declared.size.GrainSize.{GrainSize}
 use Rattle.fc_base.specs.declared.state.Access.{Access}
 use Rattle.fc_base.specs.declared.state.Access.TheVariants.{Online, Offline, NotAccessible}
 use Rattle.fc_complete.specs.Served.{IsServedReply, IsServed}
-use Rattle.fc_entry.specs.Picture.{byte_in_grain, grain_of_block}
+use Rattle.fc_entry.specs.Picture.{is_lost, byte_in_grain, grain_of_block}
 use Rattle.fc_entry.specs.Reads.{IsRightIn}
-use Rattle.fc_entry.specs.Writes.{is_whole}
+use Rattle.fc_entry.specs.Writes.{covers_grain}
 use Rattle.fc_entry.specs.declared.entry.Entry.{Entry}
 use Rattle.fc_rules.specs.GrainAnswers.{ByAccess, ReadAnswers, WriteAnswers, FillAnswers, cannot_write}
 use Rattle.fc_rules.specs.LaneRight.{LaneAnswers, VolumeWrite, MappingFill, TurnAnswers}
 use Rattle.fc_rules.specs.LaneTold.{LaneOf, LaneTold}
 use Rattle.fc_rules.specs.LaneTurn.{spot_at}
-use Rattle.fc_rules.specs.Spot.{Spot, is_lost}
+use Rattle.fc_rules.specs.Spot.{Spot}
 
 -- ---- what is served
 
@@ -46,7 +46,7 @@ module _ (entry : Entry) (quiet : HasRisen entry.faults_before entry.faults_afte
   read_served grain spot part there h = as_served entry (read_by grain spot part entry.reply there h)
 
   can_write : (grain : GrainSize) (spot : Spot) (part : WritePart) → is_lost (spot.now part.volume.0) ≡ false → cannot_write grain spot part ≡ false
-  can_write grain spot part there = ap (λ b. b && not (is_whole grain part)) there
+  can_write grain spot part there = ap (λ b. b && not (covers_grain grain part)) there
 
   write_by : (grain : GrainSize) (spot : Spot) (part : WritePart) (t : ℕ) (r : Reply) → is_lost (spot.now part.volume.0) ≡ false → WriteAnswers grain spot part t entry r → IsServedBy entry r
   write_by grain spot part t reply.Done there h = record { answered = tt; untorn = h.1.untorn }

@@ -22,11 +22,11 @@ use Rattle.fc_entry.specs.Reads.{IsRightIn}
 use Rattle.fc_entry.specs.declared.entry.Entry.{Entry}
 use Rattle.fc_legal.specs.Legal.{IsLegal}
 use Rattle.fc_legal.specs.Steps.{Step, RequestStep, AccessStep}
-use Rattle.fc_legal.specs.Whole.{Whole, opened, all_grains, as_one}
+use Rattle.fc_legal.specs.Whole.{Whole, opened, single_lane, as_one}
 use Rattle.fc_parts.proofs.Numbers.{all_place}
 use Rattle.fc_rules.specs.GrainAnswers.{ByAccess, ReadAnswers}
 use Rattle.fc_rules.specs.LaneRight.{LaneAnswers, VolumeWrite}
-use Rattle.fc_rules.specs.LaneTold.{access_in}
+use Rattle.fc_rules.specs.LaneTold.{lane_access}
 use Rattle.fc_rules.specs.LaneTurn.{spot_at}
 use Rattle.fc_rules.specs.Spot.{Spot}
 
@@ -45,7 +45,7 @@ right_of grain w entry next request asked h =
 -- The bytes are those of the plain volume.
 gives_bytes :
     (grain : GrainSize) (w : Whole) (part : ReadPart) (entry : Entry) →
-    AreBytes grain (spot_at (all_grains grain) (as_one w) (grain_of_block grain part.block)) part entry.reply →
+    AreBytes grain (spot_at (single_lane grain) (as_one w) (grain_of_block grain part.block)) part entry.reply →
     GivesBytes grain w part entry
 gives_bytes grain w part entry h =
     let P : ℕ → Type 0 = λ g. IsRightIn (byte_in_grain grain part.block) (block_bytes * part.count) (now_at (volume_in w.picture part.volume) g) h.runs in
@@ -53,7 +53,7 @@ gives_bytes grain w part entry h =
 
 bytes_or_memory :
     (grain : GrainSize) (w : Whole) (part : ReadPart) (entry : Entry) →
-    AreBytes grain (spot_at (all_grains grain) (as_one w) (grain_of_block grain part.block)) part entry.reply ⊎ (entry.reply ≡ NoMemory) →
+    AreBytes grain (spot_at (single_lane grain) (as_one w) (grain_of_block grain part.block)) part entry.reply ⊎ (entry.reply ≡ NoMemory) →
     GivesBytes grain w part entry ⊎ (entry.reply ≡ NoMemory)
 bytes_or_memory grain w part entry (inl h) = inl (gives_bytes grain w part entry h)
 bytes_or_memory grain w part entry (inr none) = inr none
@@ -66,11 +66,11 @@ reads_online :
     IsServed entry →
     GivesBytes grain w part entry ⊎ (entry.reply ≡ NoMemory)
 reads_online grain w part entry next step asked online served =
-    let spot : Spot = spot_at (all_grains grain) (as_one w) (grain_of_block grain part.block) in
+    let spot : Spot = spot_at (single_lane grain) (as_one w) (grain_of_block grain part.block) in
     let access : AccessStep grain w (grain_of_block grain part.block) entry next = (right_of grain w entry next (Read part) asked step.right).1 in
-    let answers : LaneAnswers (all_grains grain) (as_one w) (Read part) entry = answers_of (all_grains grain) (as_one w) entry (Read part) asked access.answers in
+    let answers : LaneAnswers (single_lane grain) (as_one w) (Read part) entry = answers_of (single_lane grain) (as_one w) entry (Read part) asked access.answers in
     let gives : ReadAnswers grain spot part entry entry.reply =
-    of_online entry (access_in (as_one w).volumes part.volume) (ReadAnswers grain spot part entry entry.reply) online answers in
+    of_online entry (lane_access (as_one w).volumes part.volume) (ReadAnswers grain spot part entry entry.reply) online answers in
     bytes_or_memory grain w part entry (read_gives grain spot part entry entry.reply gives served.answered)
 
 writes_online :
@@ -83,10 +83,10 @@ writes_online :
 writes_online grain w part entry next step asked online served =
     let live : Option ℕ = live_place w.books.sheet.slots part.volume.0 in
     let access : AccessStep grain w (grain_of_block grain part.block) entry next = (right_of grain w entry next (Write part) asked step.right).1 in
-    let answers : LaneAnswers (all_grains grain) (as_one w) (Write part) entry = answers_of (all_grains grain) (as_one w) entry (Write part) asked access.answers in
-    let does : VolumeWrite (all_grains grain) (as_one w) part live entry =
-    of_online entry (access_in (as_one w).volumes part.volume) (VolumeWrite (all_grains grain) (as_one w) part live entry) online answers in
-    write_does (all_grains grain) (as_one w) part live entry does served.answered
+    let answers : LaneAnswers (single_lane grain) (as_one w) (Write part) entry = answers_of (single_lane grain) (as_one w) entry (Write part) asked access.answers in
+    let does : VolumeWrite (single_lane grain) (as_one w) part live entry =
+    of_online entry (lane_access (as_one w).volumes part.volume) (VolumeWrite (single_lane grain) (as_one w) part live entry) online answers in
+    write_does (single_lane grain) (as_one w) part live entry does served.answered
 
 -- ---- the law
 

@@ -12,10 +12,9 @@ use Rattle.fc_decided.proofs.Lists.{in_cases, none_in, first_in, later_in}
 use Rattle.fc_entry.specs.Picture.{Content, Bytes, Lost, is_lost, PlainVolume, Picture, volume_in, now_at, content_at, grain_of_block}
 use Rattle.fc_legal.specs.Stands.{ArePlain}
 use Rattle.fc_legal.specs.Steps.{IsInside}
-use Rattle.fc_legal.specs.Whole.{Whole, all_grains, as_one}
+use Rattle.fc_legal.specs.Whole.{Whole, single_lane, as_one}
 use Rattle.fc_parts.proofs.Numbers.{all_place}
 use Rattle.fc_rules.specs.LaneTurn.{spot_at}
-use Rattle.fc_rules.specs.Spot.{is_lost as is_lost_at}
 
 -- ---- the plain volume of a volume of the table
 
@@ -70,10 +69,6 @@ plain_of (u ∷ us) (p ∷ ps) v plain rise there =
 
 -- ---- its content
 
-same_test : (content : Content) → is_lost_at content ≡ is_lost content
-same_test (Bytes bytes) = refl
-same_test Lost = refl
-
 block_there :
     (grain : GrainSize) (t : Tables) (ps : Picture) (volume : VolId) (block count : ℕ) →
     ArePlain t.volumes ps →
@@ -100,9 +95,8 @@ pub spot_there :
     Rise w.books.tables.volumes →
     IsUnharmed w.picture →
     IsInside grain w.books.tables volume block count →
-    is_lost_at ((spot_at (all_grains grain) (as_one w) (grain_of_block grain block)).now volume.0) ≡ false
+    is_lost ((spot_at (single_lane grain) (as_one w) (grain_of_block grain block)).now volume.0) ≡ false
 spot_there grain w volume block count plain rise h within =
     let number : ℕ = grain_of_block grain block in
-    ap (λ g. is_lost_at (now_at (volume_in w.picture volume) g)) (all_place grain number)
-    ∙ same_test (now_at (volume_in w.picture volume) number)
+    ap (λ g. is_lost (now_at (volume_in w.picture volume) g)) (all_place grain number)
     ∙ block_there grain w.books.tables w.picture volume block count plain rise h within

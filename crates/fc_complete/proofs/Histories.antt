@@ -31,11 +31,11 @@ use Rattle.fc_legal.specs.Legal.{IsLegal, IsNamed}
 use Rattle.fc_legal.specs.Stands.{Stands}
 use Rattle.fc_legal.specs.Steps.{Step, RequestStep, LaneStep, AccessStep, TurnStep, CommandStep, CommandIsRight, CommandLeft, IsRefused, AccessIsRefused, after_settling, decided_on}
 use Rattle.fc_legal.specs.Steps.CommandLeft.{decided, unsettled, settled_alone}
-use Rattle.fc_legal.specs.Whole.{Whole, all_grains, as_one, lane_of_grain}
+use Rattle.fc_legal.specs.Whole.{Whole, single_lane, as_one, lane_of_grain}
 use Rattle.fc_parts.proofs.Standing.{access_stands, copy_turn_stands, clean_turn_stands}
 use Rattle.fc_parts.specs.Law.{IsAt}
 use Rattle.fc_rules.specs.LaneRight.{CleanAnswers, CopyAnswers, TurnAnswers}
-use Rattle.fc_rules.specs.LaneTold.{place_of, access_in}
+use Rattle.fc_rules.specs.LaneTold.{place_of, lane_access}
 use Rattle.fc_rules.specs.LaneTurn.{spot_at, copied_slot, cleaned_slot}
 
 -- What an entry leaves.
@@ -122,11 +122,11 @@ module _ (grain : GrainSize) (decisions : ℕ) (w : Whole) (entry : Entry) (next
     asked_well (WriteLine volume block count byte) step = access_refused_well (access_refused grain w.books volume block count) step
     asked_well command step = command_well command step
 
-    copy_served : (HasRisen entry.faults_before entry.faults_after → ⊥) → (m : MapId) (g : GrainNo) → CopyAnswers (all_grains grain) (as_one w) m g entry → IsServed entry
-    copy_served quiet m g h = fill_served entry quiet (all_grains grain) (as_one w) m.0 g.0 (copied_slot w.books.sheet.slots m.0 (place_of (all_grains grain) g.0)) h
+    copy_served : (HasRisen entry.faults_before entry.faults_after → ⊥) → (m : MapId) (g : GrainNo) → CopyAnswers (single_lane grain) (as_one w) m g entry → IsServed entry
+    copy_served quiet m g h = fill_served entry quiet (single_lane grain) (as_one w) m.0 g.0 (copied_slot w.books.sheet.slots m.0 (place_of (single_lane grain) g.0)) h
 
-    clean_served : (HasRisen entry.faults_before entry.faults_after → ⊥) → (m : MapId) (g : GrainNo) → CleanAnswers (all_grains grain) (as_one w) m g entry → IsServed entry
-    clean_served quiet m g h = fill_served entry quiet (all_grains grain) (as_one w) m.0 g.0 (cleaned_slot w.books.sheet.slots m.0 (place_of (all_grains grain) g.0)) h
+    clean_served : (HasRisen entry.faults_before entry.faults_after → ⊥) → (m : MapId) (g : GrainNo) → CleanAnswers (single_lane grain) (as_one w) m g entry → IsServed entry
+    clean_served quiet m g h = fill_served entry quiet (single_lane grain) (as_one w) m.0 g.0 (cleaned_slot w.books.sheet.slots m.0 (place_of (single_lane grain) g.0)) h
 
     module _ (faultless : AreFaultless next) where
       quiet : HasNoFault w entry → HasRisen entry.faults_before entry.faults_after → ⊥
@@ -158,26 +158,26 @@ module _ (grain : GrainSize) (decisions : ℕ) (w : Whole) (entry : Entry) (next
           let number : ℕ = grain_of_block grain part.block in
           let there = spot_there grain w part.volume part.block part.count before.plain before.sound.tables.volumes.rising unharmed step.0 in
           access_well number (at_is number (Read part) e refl) step.1
-          (access_served entry (quiet_access number step.1) (access_in (as_one w).volumes part.volume) _
-          (λ h. read_served entry (quiet_access number step.1) grain (spot_at (all_grains grain) (as_one w) number) part there h)
-          (answers_of (all_grains grain) (as_one w) entry (Read part) e step.1.answers))
+          (access_served entry (quiet_access number step.1) (lane_access (as_one w).volumes part.volume) _
+          (λ h. read_served entry (quiet_access number step.1) grain (spot_at (single_lane grain) (as_one w) number) part there h)
+          (answers_of (single_lane grain) (as_one w) entry (Read part) e step.1.answers))
       request_well (Write part) e step =
           let number : ℕ = grain_of_block grain part.block in
           let there = spot_there grain w part.volume part.block part.count before.plain before.sound.tables.volumes.rising unharmed step.0 in
           access_well number (at_is number (Write part) e refl) step.1
-          (access_served entry (quiet_access number step.1) (access_in (as_one w).volumes part.volume) _
-          (λ h. write_served entry (quiet_access number step.1) (all_grains grain) (as_one w) part (live_place w.books.sheet.slots part.volume.0) there h)
-          (answers_of (all_grains grain) (as_one w) entry (Write part) e step.1.answers))
+          (access_served entry (quiet_access number step.1) (lane_access (as_one w).volumes part.volume) _
+          (λ h. write_served entry (quiet_access number step.1) (single_lane grain) (as_one w) part (live_place w.books.sheet.slots part.volume.0) there h)
+          (answers_of (single_lane grain) (as_one w) entry (Write part) e step.1.answers))
       request_well (Copy m g) e step =
           access_well g.0 (at_is g.0 (Copy m g) e refl) step
-          (copy_served (quiet_access g.0 step) m g (answers_of (all_grains grain) (as_one w) entry (Copy m g) e step.answers))
+          (copy_served (quiet_access g.0 step) m g (answers_of (single_lane grain) (as_one w) entry (Copy m g) e step.answers))
       request_well (Clean m g) e step =
           access_well g.0 (at_is g.0 (Clean m g) e refl) step
-          (clean_served (quiet_access g.0 step) m g (answers_of (all_grains grain) (as_one w) entry (Clean m g) e step.answers))
+          (clean_served (quiet_access g.0 step) m g (answers_of (single_lane grain) (as_one w) entry (Clean m g) e step.answers))
       request_well (CopyTurn lane) e step =
-          turn_well lane (CopyAnswers (all_grains grain) (as_one w)) _ (copy_turn_stands grain decisions w lane entry next before e step) copy_served step
+          turn_well lane (CopyAnswers (single_lane grain) (as_one w)) _ (copy_turn_stands grain decisions w lane entry next before e step) copy_served step
       request_well (CleanTurn lane) e step =
-          turn_well lane (CleanAnswers (all_grains grain) (as_one w)) _ (clean_turn_stands grain decisions w lane entry next before e step) clean_served step
+          turn_well lane (CleanAnswers (single_lane grain) (as_one w)) _ (clean_turn_stands grain decisions w lane entry next before e step) clean_served step
 
 step_well :
     (grain : GrainSize) (decisions : ℕ) (w : Whole) (entry : Entry) (next : Whole) →

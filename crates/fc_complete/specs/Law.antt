@@ -19,7 +19,7 @@ use Rattle.fc_legal.specs.Legal.{IsLegal}
 use Rattle.fc_legal.specs.Stands.{Stands}
 use Rattle.fc_legal.specs.Steps.{Step}
 use Rattle.fc_legal.specs.Whole.{Whole, opened, as_one}
-use Rattle.fc_rules.specs.LaneTold.{access_in}
+use Rattle.fc_rules.specs.LaneTold.{lane_access}
 
 -- All entries are served, and nothing is lost after them.
 pub record AreServed (entries : List Entry) (last : Whole) : Type 0 where
@@ -28,7 +28,7 @@ pub record AreServed (entries : List Entry) (last : Whole) : Type 0 where
 
 -- Hosts reach a volume, by what lanes are told of it.
 abbrev pub IsOnline : Whole → VolId → Type 0
-IsOnline w volume = access_in (as_one w).volumes volume ≡ Online
+IsOnline w volume = lane_access (as_one w).volumes volume ≡ Online
 
 -- A read is answered with the bytes that the volume holds there.
 pub record GivesBytes (grain : GrainSize) (w : Whole) (part : ReadPart) (entry : Entry) : Type 0 where

@@ -16,7 +16,7 @@ use Rattle.fc_base.specs.declared.volume.Mapping.{Mapping}
 use Rattle.fc_books.specs.Accesses.{access_in, is_active, is_online, is_prepared}
 use Rattle.fc_books.specs.Books.{Books}
 use Rattle.fc_books.specs.Copies.{is_used}
-use Rattle.fc_books.specs.Groups.{members, group_state, is_in, is_none_of, some_in, least, has_target, twice_targets, source_targets, trigger_refusal}
+use Rattle.fc_books.specs.Groups.{members, group_state, is_member, is_none_of, some_in, least, has_target, twice_targets, source_targets, trigger_refusal}
 use Rattle.fc_books.specs.Refused.{refused_by}
 use Rattle.fc_books.specs.RefusedStarts.{in_group, by_state, is_rival, target_active, not_ready, start_event, empty_group, for_each, starts_not}
 use Rattle.fc_books.proofs.Triggering.{told_of, trigger_refusal-told}
@@ -194,8 +194,8 @@ members_turn : (b : Books) (g : GroupId) (restore gives : Bool) → AreOrdered b
     trigger_refusal (members b.tables g) ≡ None → for_each (not_ready b restore) (members b.tables g) ≡ None → CanTurn b.tables (members b.tables g) gives
 members_turn b g restore gives o ready prepared trigger each =
     record {
-      ordered = filter_ordered (λ (m : Mapping). m.id.0) (λ (m : Mapping). m.name) (is_in g) b.tables.mappings o;
-      among = λ m found. (filter_from (is_in g) b.tables.mappings m found).0;
+      ordered = filter_ordered (λ (m : Mapping). m.id.0) (λ (m : Mapping). m.name) (is_member g) b.tables.mappings o;
+      among = λ m found. (filter_from (is_member g) b.tables.mappings m found).0;
       targets = λ m n found other target. targets_differ (members b.tables g) m n trigger found other target;
       ready = ready;
       prepared = prepared;
@@ -271,6 +271,6 @@ group_trigger b g prep restore e =
 
 pub few_members : (b : Books) (g : GroupId) → length b.tables.mappings ≤ 512 → length (members b.tables g) ≤ 512
 few_members b g le =
-    let a = length-filter (is_in g) b.tables.mappings in
-    let c = count_by-le-length (is_in g) b.tables.mappings in
+    let a = length-filter (is_member g) b.tables.mappings in
+    let c = count_by-le-length (is_member g) b.tables.mappings in
     omega (arith, a, c, le)

@@ -14,7 +14,7 @@ use Rattle.fc_books.specs.After.{sheet_after, flags_after, pools_after, after_ev
 use Rattle.fc_books.specs.Books.{Books}
 use Rattle.fc_entry.specs.Picture.{Picture}
 use Rattle.fc_legal.proofs.Events.{step_alike}
-use Rattle.fc_legal.specs.Whole.{all_grains}
+use Rattle.fc_legal.specs.Whole.{single_lane}
 use Rattle.fc_pick.specs.declared.work.WorkFlags.{WorkFlags}
 use Rattle.fc_rules.specs.LaneTold.{LaneTold, picture_event, volumes_event, flags_event, pool_event, told_event}
 use Rattle.fc_sheets.proofs.Lawful.{event_sound}
@@ -32,17 +32,17 @@ sheet_through s events = fold (sheet_step (λ grains. grains)) s events
 -- What plain volumes hold after events; each looks at the chains before it.
 abbrev pub picture_through : GrainSize → Sheet → Picture → List LaneEvent → Picture
 picture_through grain s picture [] = picture
-picture_through grain s picture (e ∷ es) = picture_through grain (sheet_step (λ grains. grains) s e) (picture_event (all_grains grain) s.slots picture e) es
+picture_through grain s picture (e ∷ es) = picture_through grain (sheet_step (λ grains. grains) s e) (picture_event (single_lane grain) s.slots picture e) es
 
 pub picture_append : (grain : GrainSize) (s : Sheet) (picture : Picture) (es fs : List LaneEvent) → picture_through grain s picture (es ++ fs) ≡ picture_through grain (sheet_through s es) (picture_through grain s picture es) fs
 picture_append grain s picture [] fs = refl
-picture_append grain s picture (e ∷ es) fs = picture_append grain (sheet_step (λ grains. grains) s e) (picture_event (all_grains grain) s.slots picture e) es fs
+picture_append grain s picture (e ∷ es) fs = picture_append grain (sheet_step (λ grains. grains) s e) (picture_event (single_lane grain) s.slots picture e) es fs
 
 -- ---- the one lane
 
 -- What the lane of all grains tells after events.
 pub told_apart : (grain : GrainSize) (told : LaneTold) (events : List LaneEvent) →
-    fold (told_event (all_grains grain)) told events ≡ record {
+    fold (told_event (single_lane grain)) told events ≡ record {
       sheet = sheet_through told.sheet events;
       picture = picture_through grain told.sheet told.picture events;
       volumes = fold volumes_event told.volumes events;
@@ -53,8 +53,8 @@ pub told_apart : (grain : GrainSize) (told : LaneTold) (events : List LaneEvent)
     }
 told_apart grain told [] = refl
 told_apart grain told (e ∷ es) =
-    ap (λ (s : Sheet). fold (told_event (all_grains grain)) (record (told_event (all_grains grain) told e) { sheet = s }) es) (step_alike grain told.sheet e)
-    ∙ told_apart grain (record (told_event (all_grains grain) told e) { sheet = sheet_step (λ grains. grains) told.sheet e }) es
+    ap (λ (s : Sheet). fold (told_event (single_lane grain)) (record (told_event (single_lane grain) told e) { sheet = s }) es) (step_alike grain told.sheet e)
+    ∙ told_apart grain (record (told_event (single_lane grain) told e) { sheet = sheet_step (λ grains. grains) told.sheet e }) es
 
 no_disks : (e : LaneEvent) → pool_event (record { flat = 0; thin = 0 }) e ≡ record { flat = 0; thin = 0 }
 no_disks (Make volume grains Flat) = refl

@@ -23,23 +23,23 @@ use Rattle.fc_follow.specs.Following.{Followed, told_with, followed_event, resta
 use Rattle.fc_legal.proofs.Events.{step_alike}
 use Rattle.fc_legal.specs.Lawful.{FitAsOne}
 use Rattle.fc_legal.specs.Stands.{IsOfMapping, AreRows}
-use Rattle.fc_legal.specs.Whole.{all_grains}
+use Rattle.fc_legal.specs.Whole.{single_lane}
 use Rattle.fc_rules.specs.LaneTold.{LaneTold, picture_event, told_event}
 
 -- ---- what is told with an event
 
-spared_told : (t : Tables) (grain : GrainSize) (restarts : ℕ → List Bool) (told : LaneTold) (e : LaneEvent) → Spares t e → told_with restarts (all_grains grain) told e ≡ told_event (all_grains grain) told e
+spared_told : (t : Tables) (grain : GrainSize) (restarts : ℕ → List Bool) (told : LaneTold) (e : LaneEvent) → Spares t e → told_with restarts (single_lane grain) told e ≡ told_event (single_lane grain) told e
 spared_told t grain restarts told (Trigger pairs) none = absurd none
 spared_told t grain restarts told e none = refl
 
 -- the same told, whatever the rows
-pub told_alone : (t : Tables) (grain : GrainSize) (f : Followed) (es : List LaneEvent) → AreSparing t es → (fold (followed_event (all_grains grain)) f es).told ≡ fold (told_event (all_grains grain)) f.told es
+pub told_alone : (t : Tables) (grain : GrainSize) (f : Followed) (es : List LaneEvent) → AreSparing t es → (fold (followed_event (single_lane grain)) f es).told ≡ fold (told_event (single_lane grain)) f.told es
 told_alone t grain f [] all = refl
 told_alone t grain f (e ∷ es) all =
-    told_alone t grain (followed_event (all_grains grain) f e) es all.1
-    ∙ ap (λ (x : LaneTold). fold (told_event (all_grains grain)) x es) (spared_told t grain (restarts f.rows) f.told e all.0)
+    told_alone t grain (followed_event (single_lane grain) f e) es all.1
+    ∙ ap (λ (x : LaneTold). fold (told_event (single_lane grain)) x es) (spared_told t grain (restarts f.rows) f.told e all.0)
 
-spared_sheet : (t : Tables) (grain : GrainSize) (f : Followed) (e : LaneEvent) → Spares t e → (followed_event (all_grains grain) f e).told.sheet ≡ sheet_step (λ grains. grains) f.told.sheet e
+spared_sheet : (t : Tables) (grain : GrainSize) (f : Followed) (e : LaneEvent) → Spares t e → (followed_event (single_lane grain) f e).told.sheet ≡ sheet_step (λ grains. grains) f.told.sheet e
 spared_sheet t grain f e all = ap (λ (x : LaneTold). x.sheet) (spared_told t grain (restarts f.rows) f.told e all) ∙ step_alike grain f.told.sheet e
 
 -- ---- the chains
@@ -71,7 +71,7 @@ led_fuller t restarts s es (starting {pairs} {rest} are still) fits =
 
 -- ---- plain volumes
 
-still_picture : (grain : GrainSize) (slots : List Slot) (picture : Picture) (e : LaneEvent) → IsStill e → picture_event (all_grains grain) slots picture e ≡ picture
+still_picture : (grain : GrainSize) (slots : List Slot) (picture : Picture) (e : LaneEvent) → IsStill e → picture_event (single_lane grain) slots picture e ≡ picture
 still_picture grain slots picture (Access volume access) still = refl
 still_picture grain slots picture (Work m copies cleans) still = refl
 still_picture grain slots picture e still = absurd still
@@ -90,11 +90,11 @@ pub record Led (t : Tables) (rows left : List Row) (es : List LaneEvent) : Type 
   pub lack : (i : ℕ) → Lack i rows → Lack i left
   pub forgotten : (i : ℕ) → AreForgotten i es → Lack i left
 
-rows_led : (t : Tables) (grain : GrainSize) (f : Followed) (es : List LaneEvent) → AreSparing t es → AreRows t f.rows → Led t f.rows (fold (followed_event (all_grains grain)) f es).rows es
+rows_led : (t : Tables) (grain : GrainSize) (f : Followed) (es : List LaneEvent) → AreSparing t es → AreRows t f.rows → Led t f.rows (fold (followed_event (single_lane grain)) f es).rows es
 rows_led t grain f [] all rows = record { are = rows; lack = λ i l. l; forgotten = λ i none. absurd none }
 rows_led t grain f (e ∷ es) all rows =
     let slots = f.told.sheet.slots in
-    let next = followed_event (all_grains grain) f e in
+    let next = followed_event (single_lane grain) f e in
     let rest = rows_led t grain next es all.1 (spared_rows t slots f.rows e all.0 rows) in
     record {
       are = rest.are;
@@ -107,10 +107,10 @@ pub record LedFrom (t : Tables) (left : List Row) (es : List LaneEvent) : Type 0
   pub are : AreRows t left
   pub forgotten : (i : ℕ) → AreForgotten i es → Lack i left
 
-pub begun_led : (t : Tables) (grain : GrainSize) (f : Followed) (es : List LaneEvent) → Begins t es → HaveSizes t f.told.sheet.slots → AreRows t f.rows → LedFrom t (fold (followed_event (all_grains grain)) f es).rows es
+pub begun_led : (t : Tables) (grain : GrainSize) (f : Followed) (es : List LaneEvent) → Begins t es → HaveSizes t f.told.sheet.slots → AreRows t f.rows → LedFrom t (fold (followed_event (single_lane grain)) f es).rows es
 begun_led t grain f es (sparing all) sizes rows = let l = rows_led t grain f es all rows in record { are = l.are; forgotten = l.forgotten }
 begun_led t grain f es (starting {pairs} {rest} are still) sizes rows =
-    let l = rows_led t grain (followed_event (all_grains grain) f (Trigger pairs)) rest (still_sparing t rest still) (began_rows t f.told.sheet.slots f.rows pairs sizes are rows) in
+    let l = rows_led t grain (followed_event (single_lane grain) f (Trigger pairs)) rest (still_sparing t rest still) (began_rows t f.told.sheet.slots f.rows pairs sizes are rows) in
     record { are = l.are; forgotten = λ i gone. elim gone [ inl here ↦ absurd here | inr later ↦ l.forgotten i later ] }
 
 -- Rows of the tables before are rows of the tables after.
@@ -145,7 +145,7 @@ fit_led t grain f [] all fits rows = fits
 fit_led t grain f (e ∷ es) all fits rows = (
   fits.0,
   spared_fits t f.rows e all.0 rows,
-  fit_led t grain (followed_event (all_grains grain) f e) es all.1
+  fit_led t grain (followed_event (single_lane grain) f e) es all.1
       (subst (λ (s : Sheet). FitsEvents (λ grains. grains) s es) (sym (spared_sheet t grain f e all.0)) fits.1)
       (spared_rows t f.told.sheet.slots f.rows e all.0 rows),
 )
@@ -167,7 +167,7 @@ still_few s (e ∷ es) still fits = still_few s es still.1 (subst (λ (x : Sheet
 pub fit_begun : (t : Tables) (grain : GrainSize) (f : Followed) (es : List LaneEvent) → AreById t.mappings → Begins t es → HaveSizes t f.told.sheet.slots → FitsEvents (λ grains. grains) f.told.sheet es → AreRows t f.rows → FitAsOne grain f es
 fit_begun t grain f es ordered (sparing all) sizes fits rows = fit_led t grain f es all fits rows
 fit_begun t grain f es ordered (starting {pairs} {rest} are still) sizes fits rows =
-    let next = followed_event (all_grains grain) f (Trigger pairs) in
+    let next = followed_event (single_lane grain) f (Trigger pairs) in
     let fuller = triggered_fuller (restarts f.rows) f.told.sheet pairs fits.0 in
     let few = still_few (triggered pairs f.told.sheet) rest still fits.1 in (
       fits.0,

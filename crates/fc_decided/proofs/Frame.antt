@@ -36,7 +36,7 @@ use Rattle.fc_legal.specs.Lawful.{HaveDisks, FitChanges, IsLawful}
 use Rattle.fc_legal.specs.Stands.{ArePlain, AreFew, Stands}
 use Rattle.fc_follow.specs.Following.{followed_event, restarts}
 use Rattle.fc_legal.specs.Steps.{rows_after}
-use Rattle.fc_legal.specs.Whole.{Whole, all_grains, volumes_told, as_one, all_followed}
+use Rattle.fc_legal.specs.Whole.{Whole, single_lane, volumes_told, as_one, all_followed}
 use Rattle.fc_pick.specs.declared.work.WorkFlags.{WorkFlags}
 use Rattle.fc_rules.specs.LaneFits.{WorksFirst}
 use Rattle.fc_rules.specs.LaneTold.{LaneVolume, LaneTold, picture_event, volumes_event}
@@ -216,7 +216,7 @@ told_left grain w effects events after =
     }
 
 told_led : (grain : GrainSize) (w : Whole) (effects : List Effect) (events : List LaneEvent) (after : Tables) → Begins w.books.tables events → IsTold grain w effects events after →
-    (fold (followed_event (all_grains grain)) (all_followed w) events).told ≡ told_left grain w effects events after
+    (fold (followed_event (single_lane grain)) (all_followed w) events).told ≡ told_left grain w effects events after
 told_led grain w effects es after (sparing all) does =
     told_alone w.books.tables grain (all_followed w) es all
     ∙ told_apart grain (as_one w) es
@@ -231,10 +231,10 @@ told_led grain w effects es after (sparing all) does =
     })
 told_led grain w effects events after (starting {pairs} {rest} are still) does =
     let t = w.books.tables in
-    let f = followed_event (all_grains grain) (all_followed w) (Trigger pairs) in
+    let f = followed_event (single_lane grain) (all_followed w) (Trigger pairs) in
     let next = sheet_after (restarts w.rows) w.books.sheet (Trigger pairs) in
     let all = still_sparing t rest still in
-    let copied = picture_event (all_grains grain) w.books.sheet.slots w.picture (Trigger pairs) in
+    let copied = picture_event (single_lane grain) w.books.sheet.slots w.picture (Trigger pairs) in
     let picture : picture_through grain next copied rest ≡ after_effects grain w.picture effects =
     all_still_picture grain next copied rest still ∙ sym (all_still_picture grain (triggered pairs w.books.sheet) copied rest still) ∙ does.picture in
     told_alone t grain f rest all
@@ -250,7 +250,7 @@ told_led grain w effects events after (starting {pairs} {rest} are still) does =
     })
 
 told_after : (grain : GrainSize) (decisions : ℕ) (w : Whole) (effects : List Effect) (events : List LaneEvent) (changes : List Change) → Does grain decisions w effects events changes →
-    fold (followed_event (all_grains grain)) (all_followed w) events ≡ all_followed (whole_left grain w effects (rows_after w.books.sheet w.rows events) (led_books (restarts w.rows) w.books events changes))
+    fold (followed_event (single_lane grain)) (all_followed w) events ≡ all_followed (whole_left grain w effects (rows_after w.books.sheet w.rows events) (led_books (restarts w.rows) w.books events changes))
 told_after grain decisions w effects events changes does =
     let told = told_led grain w effects events (tabled w.books changes).tables does.begins (record { picture = does.picture; volumes = does.volumes }) in
     let rows = rows_told grain (all_followed w) events in

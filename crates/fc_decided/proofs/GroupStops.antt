@@ -29,7 +29,7 @@ use Rattle.fc_books.specs.Books.{Books, Deed, nothing, told, ◌then◌}
 use Rattle.fc_books.specs.Copies.{is_whole, total}
 use Rattle.fc_books.specs.Deciding.{for_members}
 use Rattle.fc_books.specs.Ending.{ends_in, as_left, cut_of}
-use Rattle.fc_books.specs.Groups.{is_in, members, group_state, some_in, acts_on}
+use Rattle.fc_books.specs.Groups.{is_member, members, group_state, some_in, acts_on}
 use Rattle.fc_books.specs.RefusedStarts.{not_complete, empty_group, for_each, split_refusals, stopfcconsistgrp_refused}
 use Rattle.fc_books.specs.Stopping.{stops, stops_member, one_by_one, stop_group}
 use Rattle.fc_entry.specs.Picture.{Picture}
@@ -212,8 +212,8 @@ group_whole way b ms ordered among e same m found member copying =
 members_ordered : (b : Books) (g : GroupId) → AreOrdered b.tables.mappings → AreOrdered (members b.tables g)
 members_ordered b g o =
     record {
-      rising = AllPairs-filter (λ (x y : Mapping). x.id.0 < y.id.0) (is_in g) b.tables.mappings o.rising;
-      distinct = AllPairs-filter (λ (x y : Mapping). x.name ≢ y.name) (is_in g) b.tables.mappings o.distinct;
+      rising = AllPairs-filter (λ (x y : Mapping). x.id.0 < y.id.0) (is_member g) b.tables.mappings o.rising;
+      distinct = AllPairs-filter (λ (x y : Mapping). x.name ≢ y.name) (is_member g) b.tables.mappings o.distinct;
     }
 
 stop_group_is : (way : StopWay) (b : Books) (ms : List Mapping) → stop_group way b ms ≡ one_by_one none_known (member_deed way) b (map (λ (m : Mapping). m.id) ms)
@@ -240,7 +240,7 @@ stop_group_suits grain decisions w r way small st e =
     let le : length ms ≤ 512 = few_members b g.id at_once in
     let goes : Goes grain b w.picture (one_by_one none_known (member_deed way) b ids) (length ids * 513) =
     many_goes grain way ids b w.picture (sound_of decisions w st) at_once (apart_ids ms (members_ordered b g.id rows))
-    (group_whole way b ms rows (λ m found. (filter_from (is_in g.id) b.tables.mappings m found).0) none.1.1.0) in
+    (group_whole way b ms rows (λ m found. (filter_from (is_member g.id) b.tables.mappings m found).0) none.1.1.0) in
     subst (λ (o : Option Group). Suits grain decisions w (for_members b.tables o (stop_group way b))) (sym one.1)
     (subst (λ (d : Deed). Suits grain decisions w d) (sym (stop_group_is way b ms))
     (goes_suits grain decisions w (one_by_one none_known (member_deed way) b ids) (length ids * 513) small st goes (omega arith)))

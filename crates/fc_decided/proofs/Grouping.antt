@@ -16,7 +16,7 @@ use Rattle.fc_base.specs.declared.volume.Group.{Group}
 use Rattle.fc_base.specs.declared.volume.Mapping.{Mapping}
 use Rattle.fc_books.specs.After.{after_table_change}
 use Rattle.fc_books.specs.Books.{Books}
-use Rattle.fc_books.specs.Groups.{members, is_in}
+use Rattle.fc_books.specs.Groups.{members, is_member}
 use Rattle.fc_books.specs.Making.{new_group, make_group, remove_group, group_name}
 use Rattle.fc_books.specs.Refused.{mkfcconsistgrp_refused, name_taken}
 use Rattle.fc_books.specs.Sound.{AreTables, Agree, IsOfTables, SlotByState}
@@ -130,17 +130,17 @@ all_restated : (t : Tables) (g : GroupId) → AreRestated t.mappings (leavers t 
 unfolding leavers
 all_restated t g n found =
     let r = map_from single (members t g) n found in
-    let f = filter_from (is_in g) t.mappings r.0 r.1 in
+    let f = filter_from (is_member g) t.mappings r.0 r.1 in
     (r.0, f.0, subst (Restated r.0) r.2 (single_restated r.0))
 
 -- What a mapping becomes: itself, or single.
-leaver_cases : (t : Tables) (g : GroupId) (m : Mapping) → AreOrdered t.mappings → Contains t.mappings m → ((set_in (leavers t g) m ≡ m) × (is_in g m ≡ false)) ⊎ (set_in (leavers t g) m ≡ single m)
+leaver_cases : (t : Tables) (g : GroupId) (m : Mapping) → AreOrdered t.mappings → Contains t.mappings m → ((set_in (leavers t g) m ≡ m) × (is_member g m ≡ false)) ⊎ (set_in (leavers t g) m ≡ single m)
 unfolding leavers
 leaver_cases t g m o found = elim (set_cases (leavers t g) m) [
-  | inl same ↦ inl (same.0, false_from_ne_true (is_in g m) (λ e. same.1 (single m) (map_in single (members t g) m (filter_in (is_in g) t.mappings m found e)) refl))
+  | inl same ↦ inl (same.0, false_from_ne_true (is_member g m) (λ e. same.1 (single m) (map_in single (members t g) m (filter_in (is_member g) t.mappings m found e)) refl))
   | inr there ↦
       let r = map_from single (members t g) (set_in (leavers t g) m) there.0 in
-      let f = filter_from (is_in g) t.mappings r.0 r.1 in
+      let f = filter_from (is_member g) t.mappings r.0 r.1 in
       let same : r.0 ≡ m = one_mapping t.mappings r.0 m o f.0 found (ap (λ (x : Mapping). x.id.0) r.2 ∙ there.1) in
       inr (sym r.2 ∙ ap single same)
 ]
@@ -176,10 +176,10 @@ other_group t g id other some =
     group_there (record t { groups = filter (λ (x : Group). not (g.0 == x.id.0)) t.groups }) f.0 id
     (filter_in (λ (x : Group). not (g.0 == x.id.0)) t.groups f.0 f.1 (ap not stays)) f.2
 
-not_in : (g id : GroupId) (m : Mapping) → m.group ≡ Some id → is_in g m ≡ false → g.0 ≡ id.0 → ⊥
+not_in : (g id : GroupId) (m : Mapping) → m.group ≡ Some id → is_member g m ≡ false → g.0 ≡ id.0 → ⊥
 not_in g id m e out same =
-    let inside : is_in g m ≡ true = ap (λ (o : Option GroupId). option_map_or (λ (h : GroupId). g.0 == h.0) o false) e ∙ eq-eqb g.0 id.0 same in
-    both_ways (is_in g m) out inside
+    let inside : is_member g m ≡ true = ap (λ (o : Option GroupId). option_map_or (λ (h : GroupId). g.0 == h.0) o false) e ∙ eq-eqb g.0 id.0 same in
+    both_ways (is_member g m) out inside
 
 stays_of : (b : Books) (g : GroupId) (m n : Mapping) → IsOfTables b.tables m → SameCopy m n → ((id : GroupId) → n.group ≡ Some id → (g.0 ≡ id.0 → ⊥) × (m.group ≡ Some id)) → IsOfTables (ungrouped b g).tables n
 stays_of b g m n of same other =

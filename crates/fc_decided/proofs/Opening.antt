@@ -3,7 +3,7 @@ use Rattle.std.proofs.Common.{◌≡◌, ◌<◌, List, length, refl, sym, arith
 use Rattle.std.proofs.lemmas.List.{length-replicate}
 use Rattle.std.proofs.lemmas.List.Elements.{All-nil}
 use Rattle.fc_base.specs.Pools.{Pool}
-use Rattle.fc_books.specs.Books.{opened as opened_books}
+use Rattle.fc_books.specs.Books.{opened_books}
 use Rattle.fc_books.specs.Sound.{AreSound}
 use Rattle.fc_decided.proofs.Lists.{none_in}
 use Rattle.fc_legal.specs.Stands.{Stands}

@@ -20,7 +20,7 @@ use Rattle.fc_books.specs.Ending.{in_state, ends_in, as_left, cut_of}
 use Rattle.fc_entry.specs.Picture.{Picture}
 use Rattle.fc_entry.specs.PlainStep.{after_effects}
 use Rattle.fc_legal.specs.Stands.{ArePlain}
-use Rattle.fc_legal.specs.Whole.{all_grains}
+use Rattle.fc_legal.specs.Whole.{single_lane}
 use Rattle.fc_rules.specs.LaneTold.{picture_event}
 use Rattle.fc_sheets.proofs.Lawful.{event_sound}
 use Rattle.fc_sheets.proofs.Steps.{Nobody, Only}
@@ -61,7 +61,7 @@ nothing_goes grain b picture births s =
 -- an event of the chains and then quiet ends
 pub event_then : (grain : GrainSize) (b : Books) (picture : Picture) (e : LaneEvent) (rest : Deed) (births : ℕ) → Sound b picture → FitsEvent b.sheet e → IsApart e →
     (sheet_step (λ grains. grains) b.sheet e).births ≤ b.sheet.births + births → EndsQuietly b (sheet_step (λ grains. grains) b.sheet e) rest Nobody →
-    picture_event (all_grains grain) b.sheet.slots picture e ≡ after_effects grain picture rest.effects → ArePlain b.tables.volumes (after_effects grain picture rest.effects) →
+    picture_event (single_lane grain) b.sheet.slots picture e ≡ after_effects grain picture rest.effects → ArePlain b.tables.volumes (after_effects grain picture rest.effects) →
     Goes grain b picture (told (e ∷ []) then rest) births
 event_then grain b picture e rest births s fits apart few ends same plain =
     let next : Sheet = sheet_step (λ grains. grains) b.sheet e in
@@ -69,7 +69,7 @@ event_then grain b picture e rest births s fits apart few ends same plain =
     record {
       table = table_then b (e ∷ []) rest.events [] rest.changes (table_apart b e apart) ends.table;
       fit = (fits, q.fit);
-      shows = q.picture grain (picture_event (all_grains grain) b.sheet.slots picture e) ∙ same;
+      shows = q.picture grain (picture_event (single_lane grain) b.sheet.slots picture e) ∙ same;
       few = subst (λ (x : Sheet). x.births ≤ b.sheet.births + births) (sym q.sheet) few;
       sheet = subst IsSound (sym q.sheet) (event_sound (λ grains. grains) b.sheet e s.sheet fits);
       stands = subst (λ (x : Sheet). Standing (tabled b rest.changes) x.slots Nobody) (sym q.sheet) ends.stands;

@@ -3,7 +3,7 @@
 ghost use Rattle.std.specs.Prelude.{◌≡◌, ◌&&◌, not, length, filter};
 ghost use Rattle.std.specs.List.{list_any};
 ghost use Rattle.fc_books.specs.Accesses.{is_active};
-ghost use Rattle.fc_books.specs.Groups.{is_in, is_none_of, some_in};
+ghost use Rattle.fc_books.specs.Groups.{is_member, is_none_of, some_in};
 
 use crate::ending::is_active;
 use fc_base::ids::GroupId;
@@ -12,7 +12,7 @@ use fc_group::is_member;
 
 /// How many mappings are in the group.
 pub fn count_members(mappings: &[Mapping], group: GroupId) -> usize
-    ensures { result ≡ length (filter (is_in group) mappings.now) }
+    ensures { result ≡ length (filter (is_member group) mappings.now) }
 {
     let mut count: usize = 0;
     for mapping in mappings {
@@ -26,14 +26,14 @@ pub fn count_members(mappings: &[Mapping], group: GroupId) -> usize
 /// Whether some mapping is in the group.
 #[tactic(auto, using(crate::proofs::Selecting::any_there))]
 pub fn has_member(mappings: &[Mapping], group: GroupId) -> bool
-    ensures { result ≡ not (is_none_of (filter (is_in group) mappings.now)) }
+    ensures { result ≡ not (is_none_of (filter (is_member group) mappings.now)) }
 {
     some_member(mappings, group)
 }
 
 /// Whether some mapping is a member of the group.
 fn some_member(mappings: &[Mapping], group: GroupId) -> bool
-    ensures { result ≡ list_any (is_in group) mappings.now }
+    ensures { result ≡ list_any (is_member group) mappings.now }
 {
     mappings.iter().any(|mapping| is_member(mapping, group))
 }
@@ -41,14 +41,14 @@ fn some_member(mappings: &[Mapping], group: GroupId) -> bool
 /// Whether an active mapping is in the group.
 #[tactic(auto, using(crate::proofs::Selecting::any_kept))]
 pub fn has_active(mappings: &[Mapping], group: GroupId) -> bool
-    ensures { result ≡ some_in is_active (filter (is_in group) mappings.now) }
+    ensures { result ≡ some_in is_active (filter (is_member group) mappings.now) }
 {
     some_active_member(mappings, group)
 }
 
 /// Whether some mapping is active and in the group.
 fn some_active_member(mappings: &[Mapping], group: GroupId) -> bool
-    ensures { result ≡ list_any (λ m. is_in group m && is_active m.state) mappings.now }
+    ensures { result ≡ list_any (λ m. is_member group m && is_active m.state) mappings.now }
 {
     mappings
         .iter()
@@ -57,7 +57,7 @@ fn some_active_member(mappings: &[Mapping], group: GroupId) -> bool
 
 /// Whether the mapping is active and in the group.
 fn is_active_member(mapping: &Mapping, group: GroupId) -> bool
-    ensures { result ≡ (is_in group mapping.now && is_active mapping.now.state) }
+    ensures { result ≡ (is_member group mapping.now && is_active mapping.now.state) }
 {
     is_member(mapping, group) && is_active(mapping.state)
 }

@@ -16,14 +16,14 @@ use Rattle.fc_base.specs.declared.state.Access.{Access}
 use Rattle.fc_base.specs.declared.state.Access.TheVariants.{Online, Offline, NotAccessible}
 use Rattle.fc_determined.proofs.Canonical.{canonical_one}
 use Rattle.fc_determined.specs.Smooth.{IsSmooth}
-use Rattle.fc_entry.specs.Picture.{Content, Bytes, Lost, byte_in_grain, grain_of_block}
+use Rattle.fc_entry.specs.Picture.{is_lost, Content, Bytes, Lost, byte_in_grain, grain_of_block}
 use Rattle.fc_entry.specs.Reads.{IsRightIn}
 use Rattle.fc_entry.specs.declared.entry.Entry.{Entry}
 use Rattle.fc_rules.specs.GrainAnswers.{ByAccess, HasRead, ReadAnswers, WriteAnswers, FillAnswers, cannot_write}
 use Rattle.fc_rules.specs.LaneRight.{LaneAnswers, VolumeWrite, MappingFill, TurnAnswers}
-use Rattle.fc_rules.specs.LaneTold.{LaneOf, LaneTold, place_of, access_in}
+use Rattle.fc_rules.specs.LaneTold.{LaneOf, LaneTold, place_of, lane_access}
 use Rattle.fc_rules.specs.LaneTurn.{spot_at, copied_slot, cleaned_slot}
-use Rattle.fc_rules.specs.Spot.{Spot, is_lost}
+use Rattle.fc_rules.specs.Spot.{Spot}
 use Rattle.fc_rules.specs.Steps.{HasDone, HasDoneNothing, steps_of_fill, steps_of_write}
 
 -- Two entries answer the same, and did the same.
@@ -227,12 +227,12 @@ HasOneAnswer l told request = (x y : Entry) → LaneAnswers l told request x →
 
 pub read_did : (l : LaneOf) (told : LaneTold) (part : ReadPart) → HasOneAnswer l told (Read part)
 read_did l told part x y h k smooth smooth_other =
-    by_access (access_in told.volumes part.volume) x y _ _
+    by_access (lane_access told.volumes part.volume) x y _ _
     (λ p q. read_one l.grain (spot_at l told (grain_of_block l.grain part.block)) part x y p q smooth smooth_other) h k
 
 pub write_did : (l : LaneOf) (told : LaneTold) (part : WritePart) → HasOneAnswer l told (Write part)
 write_did l told part x y h k smooth smooth_other =
-    by_access (access_in told.volumes part.volume) x y _ _
+    by_access (lane_access told.volumes part.volume) x y _ _
     (λ p q. write_one l told part (live_place told.sheet.slots part.volume.0) x y p q smooth smooth_other) h k
 
 pub copy_did : (l : LaneOf) (told : LaneTold) (m : MapId) (grain : GrainNo) → HasOneAnswer l told (Copy m grain)

@@ -18,7 +18,7 @@ use Rattle.fc_determined.specs.Smooth.{IsSmooth, TellTheSame, but_for_faults, wi
 use Rattle.fc_entry.specs.Picture.{grain_of_block}
 use Rattle.fc_entry.specs.declared.entry.Entry.{Entry}
 use Rattle.fc_legal.specs.Steps.{Step, RequestStep, LaneStep, AccessStep, TurnStep, CommandStep, CommandIsRight, IsRefused, AccessIsRefused, IsApart, one_more, after_access}
-use Rattle.fc_legal.specs.Whole.{Whole, lanes, lane_of_grain, lane_at, part_at, part_of_sheet, all_grains, as_one}
+use Rattle.fc_legal.specs.Whole.{Whole, lanes, lane_of_grain, lane_at, part_at, part_of_sheet, single_lane, as_one}
 use Rattle.fc_rules.specs.LaneRight.{CleanAnswers, CopyAnswers, LaneAnswers, TurnAnswers}
 use Rattle.fc_rules.specs.LaneTold.{LaneOf}
 use Rattle.fc_rules.specs.LaneTurn.{next_clean, next_copy}
@@ -154,16 +154,16 @@ module _ (grain : GrainSize) (w : Whole) (faults : List ℕ) (same : lanes (with
 
     -- ---- all
 
-    at_request : (entry : Entry) (request : Request) → entry.request ≡ request → LaneAnswers (all_grains grain) (as_one w) entry.request entry → LaneAnswers (all_grains grain) (as_one w) request entry
+    at_request : (entry : Entry) (request : Request) → entry.request ≡ request → LaneAnswers (single_lane grain) (as_one w) entry.request entry → LaneAnswers (single_lane grain) (as_one w) request entry
     at_request entry request e h =
-        let P : Request → Type 0 = λ r. LaneAnswers (all_grains grain) (as_one w) r entry in
+        let P : Request → Type 0 = λ r. LaneAnswers (single_lane grain) (as_one w) r entry in
         subst P e h
 
     answered_one :
         (number : ℕ) (request : Request) →
         x.request ≡ request →
         y.request ≡ request →
-        HasOneAnswer (all_grains grain) (as_one w) request →
+        HasOneAnswer (single_lane grain) (as_one w) request →
         AccessStep grain w number x next →
         AccessStep grain (with_faults w faults) number y other →
         AreOneStep x y next other
@@ -180,18 +180,18 @@ module _ (grain : GrainSize) (w : Whole) (faults : List ℕ) (same : lanes (with
         AreOneStep x y next other
     request_one (Asked command) e f h k = command_step_one command h k
     request_one (Unread fault) e f h k = refused_one (Words fault) h k
-    request_one (Read part) e f h k = answered_one (grain_of_block grain part.block) (Read part) e f (read_did (all_grains grain) (as_one w) part) h.1 k.1
-    request_one (Write part) e f h k = answered_one (grain_of_block grain part.block) (Write part) e f (write_did (all_grains grain) (as_one w) part) h.1 k.1
-    request_one (Copy m g) e f h k = answered_one g.0 (Copy m g) e f (copy_did (all_grains grain) (as_one w) m g) h k
-    request_one (Clean m g) e f h k = answered_one g.0 (Clean m g) e f (clean_did (all_grains grain) (as_one w) m g) h k
+    request_one (Read part) e f h k = answered_one (grain_of_block grain part.block) (Read part) e f (read_did (single_lane grain) (as_one w) part) h.1 k.1
+    request_one (Write part) e f h k = answered_one (grain_of_block grain part.block) (Write part) e f (write_did (single_lane grain) (as_one w) part) h.1 k.1
+    request_one (Copy m g) e f h k = answered_one g.0 (Copy m g) e f (copy_did (single_lane grain) (as_one w) m g) h k
+    request_one (Clean m g) e f h k = answered_one g.0 (Clean m g) e f (clean_did (single_lane grain) (as_one w) m g) h k
     request_one (CopyTurn lane) e f h k =
-        turn_one lane (CopyAnswers (all_grains grain) (as_one w)) (next_copy (lane_at grain w lane) (part_at grain w lane))
+        turn_one lane (CopyAnswers (single_lane grain) (as_one w)) (next_copy (lane_at grain w lane) (part_at grain w lane))
         (next_copy (lane_at grain (with_faults w faults) lane) (part_at grain (with_faults w faults) lane)) (next_copy_one lane)
-        (λ m g p q. copy_did (all_grains grain) (as_one w) m g x y p q smooth smooth_other) h k
+        (λ m g p q. copy_did (single_lane grain) (as_one w) m g x y p q smooth smooth_other) h k
     request_one (CleanTurn lane) e f h k =
-        turn_one lane (CleanAnswers (all_grains grain) (as_one w)) (next_clean (lane_at grain w lane) (part_at grain w lane))
+        turn_one lane (CleanAnswers (single_lane grain) (as_one w)) (next_clean (lane_at grain w lane) (part_at grain w lane))
         (next_clean (lane_at grain (with_faults w faults) lane) (part_at grain (with_faults w faults) lane)) (next_clean_one lane)
-        (λ m g p q. clean_did (all_grains grain) (as_one w) m g x y p q smooth smooth_other) h k
+        (λ m g p q. clean_did (single_lane grain) (as_one w) m g x y p q smooth smooth_other) h k
 
 -- where only the faults may differ
 faults_one :

@@ -5,9 +5,9 @@ use Rattle.fc_base.specs.declared.request.WritePart.{WritePart}
 use Rattle.fc_base.specs.declared.size.GrainSize.{GrainSize}
 
 -- whether a write covers its whole grain
-abbrev pub is_whole : GrainSize → WritePart → Bool
-is_whole grain part = part.count == grain_blocks grain
+abbrev pub covers_grain : GrainSize → WritePart → Bool
+covers_grain grain part = part.count == grain_blocks grain
 
 -- a write of a part of a grain reads the rest first
 abbrev pub calls_of_write : GrainSize → WritePart → ℕ
-calls_of_write grain part = cond (is_whole grain part) 1 2
+calls_of_write grain part = cond (covers_grain grain part) 1 2

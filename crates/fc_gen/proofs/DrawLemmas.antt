@@ -5,10 +5,10 @@ use Rattle.std.proofs.lemmas.Grind.{flat_map-append}
 use Rattle.std.specs.List.{flat_map}
 use Rattle.std.specs.Fmt.{digits}
 use Rattle.fc_base.specs.CommandText.{command_text}
-use Rattle.fc_gen.specs.Session.{Drawn, draw, draw_by, draw_write, draw_read, draw_start, draw_stop, draw_advance, drawn_of, next_state, drawn_commands, first_commands, lines_of, session_text, Adds}
+use Rattle.fc_gen.specs.Session.{Drawn, draw, draw_by, draw_write, draw_read, draw_start, draw_stop, draw_advance, drawn_of, next_draw, drawn_commands, first_commands, lines_of, session_text, Adds}
 
 -- what is drawn, by the kind and the state behind it
-pub draw-at : (state after kind : ℕ) (drawn : Drawn) → after ≡ next_state state → kind ≡ drawn_of 10 after → draw_by kind after ≡ drawn → draw state ≡ drawn
+pub draw-at : (state after kind : ℕ) (drawn : Drawn) → after ≡ next_draw state → kind ≡ drawn_of 10 after → draw_by kind after ≡ drawn → draw state ≡ drawn
 unfolding draw
 draw-at state after kind drawn behind of by =
     let By : ℕ → Type 0 = λ k. draw_by k after ≡ drawn in

@@ -10,35 +10,35 @@ use Rattle.fc_base.specs.declared.name.Ref.{Ref}
 use Rattle.fc_base.specs.declared.name.Ref.TheVariants.{Id, Name}
 
 -- the state of the draws behind a state
-abbrev pub next_state : ℕ → ℕ
-next_state state = (state * 6364136223846793005 + 1442695040888963407) % 2 ^ 64
+abbrev pub next_draw : ℕ → ℕ
+next_draw state = (state * 6364136223846793005 + 1442695040888963407) % 2 ^ 64
 
 -- what a state draws of so many
 abbrev pub drawn_of : ℕ → ℕ → ℕ
 drawn_of count state = (state / 2 ^ 33) % count
 
 -- the volumes are V0 to V7
-abbrev pub volume_name : ℕ → List ℕ
-volume_name n = codes "V" ++ decimal n
+abbrev pub drill_name : ℕ → List ℕ
+drill_name n = codes "V" ++ decimal n
 
 abbrev pub volume : ℕ → Ref
-volume n = Name (volume_name n)
+volume n = Name (drill_name n)
 
 -- a volume of 1 mb, which is 2,048 blocks
-abbrev pub make_volume : ℕ → Command
-make_volume n = Mkvdisk (Some (volume_name n)) 1 None false
+abbrev pub volume_line : ℕ → Command
+volume_line n = Mkvdisk (Some (drill_name n)) 1 None false
 
 -- a mapping between two volumes
-abbrev pub make_mapping : ℕ → ℕ → Option ℕ → Bool → Command
-make_mapping source target copy_rate incremental =
+abbrev pub mapping_line : ℕ → ℕ → Option ℕ → Bool → Command
+mapping_line source target copy_rate incremental =
     Mkfcmap (volume source) (volume target) None None copy_rate None None incremental false
 
 -- the first lines
 abbrev pub first_commands : List Command
 first_commands =
-    make_volume 0 ∷ make_volume 1 ∷ make_volume 2 ∷ make_volume 3 ∷ make_volume 4 ∷ make_volume 5 ∷ make_volume 6 ∷ make_volume 7
-    ∷ make_mapping 0 1 None true ∷ make_mapping 0 2 None false ∷ make_mapping 1 3 (Some 0) false ∷ make_mapping 3 4 None false
-    ∷ make_mapping 4 5 (Some 10) false ∷ make_mapping 1 0 None false ∷ make_mapping 6 7 None true ∷ make_mapping 2 6 None false ∷ []
+    volume_line 0 ∷ volume_line 1 ∷ volume_line 2 ∷ volume_line 3 ∷ volume_line 4 ∷ volume_line 5 ∷ volume_line 6 ∷ volume_line 7
+    ∷ mapping_line 0 1 None true ∷ mapping_line 0 2 None false ∷ mapping_line 1 3 (Some 0) false ∷ mapping_line 3 4 None false
+    ∷ mapping_line 4 5 (Some 10) false ∷ mapping_line 1 0 None false ∷ mapping_line 6 7 None true ∷ mapping_line 2 6 None false ∷ []
 
 -- a command, and the state that drew its last part
 pub record Drawn : Type 0 where
@@ -51,16 +51,16 @@ blocks_from first more = min (1 + more) (2048 - first)
 
 abbrev pub draw_write : ℕ → Drawn
 draw_write state =
-    let a = next_state state in let b = next_state a in let c = next_state b in let d = next_state c in
+    let a = next_draw state in let b = next_draw a in let c = next_draw b in let d = next_draw c in
     record { command = Write (volume (drawn_of 8 a)) (drawn_of 2048 b) (blocks_from (drawn_of 2048 b) (drawn_of 64 c)) (drawn_of 256 d); state = d }
 
 abbrev pub draw_read : ℕ → Drawn
 draw_read state =
-    let a = next_state state in let b = next_state a in let c = next_state b in
+    let a = next_draw state in let b = next_draw a in let c = next_draw b in
     record { command = Read (volume (drawn_of 8 a)) (drawn_of 2048 b) (blocks_from (drawn_of 2048 b) (drawn_of 64 c)); state = c }
 
 abbrev pub draw_start : ℕ → Drawn
-draw_start state = let a = next_state state in record { command = Startfcmap (Id (drawn_of 8 a)) true true; state = a }
+draw_start state = let a = next_draw state in record { command = Startfcmap (Id (drawn_of 8 a)) true true; state = a }
 
 -- how a mapping is stopped
 abbrev pub way_of : ℕ → StopWay
@@ -68,11 +68,11 @@ way_of n = if n == 0 then Plain else (if n == 1 then Force else Split)
 
 abbrev pub draw_stop : ℕ → Drawn
 draw_stop state =
-    let a = next_state state in let b = next_state a in
+    let a = next_draw state in let b = next_draw a in
     record { command = Stopfcmap (Id (drawn_of 8 b)) (way_of (drawn_of 3 a)); state = b }
 
 abbrev pub draw_advance : ℕ → Drawn
-draw_advance state = let a = next_state state in record { command = Advance (1 + drawn_of 3 a); state = a }
+draw_advance state = let a = next_draw state in record { command = Advance (1 + drawn_of 3 a); state = a }
 
 -- of ten draws four write, three read, and one each starts a mapping, stops one, and lets time pass
 abbrev pub draw_by : ℕ → ℕ → Drawn
@@ -81,7 +81,7 @@ draw_by kind state =
 
 -- one command, drawn behind a state
 unfoldable pub draw : ℕ → Drawn
-draw state = draw_by (drawn_of 10 (next_state state)) (next_state state)
+draw state = draw_by (drawn_of 10 (next_draw state)) (next_draw state)
 
 -- what a draw adds to the bytes: the line of its command
 abbrev pub Adds : Drawn → ℕ → List ℕ → List ℕ → Type 0

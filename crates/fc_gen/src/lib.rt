@@ -8,7 +8,7 @@
 ghost use Rattle.std.specs.Prelude.{◌≡◌, ◌++◌, ◌<◌, false, IfOk, OnOk};
 ghost use Rattle.std.specs.Fmt.{digit_glyph};
 ghost use Rattle.std.specs.List.{flat_map};
-ghost use Rattle.fc_gen.specs.Session.{draw, draw_write, draw_read, draw_start, draw_stop, draw_advance, drawn_of, first_commands, lines_of, next_state, session_text, Adds};
+ghost use Rattle.fc_gen.specs.Session.{draw, draw_write, draw_read, draw_start, draw_stop, draw_advance, drawn_of, first_commands, lines_of, next_draw, session_text, Adds};
 
 use fc_base::outcome::NoMemory;
 use itoa::Buffer;
@@ -50,7 +50,7 @@ impl Draws {
     /// Draws one of so many.
     fn below(&mut self, count: u32) -> u32
         requires { 0 < count }
-        ensures state { self.new.state ≡ next_state self.old.state }
+        ensures state { self.new.state ≡ next_draw self.old.state }
         ensures drawn { result ≡ drawn_of count self.new.state }
         ensures below { result < count }
     {

@@ -8,7 +8,7 @@ use Rattle.fc_base.specs.declared.ids.GroupId.{GroupId}
 use Rattle.fc_base.specs.declared.state.MapState.TheVariants.{Empty, IdleOrCopied, Preparing, Prepared, Copying, Stopping, Stopped}
 use Rattle.fc_base.specs.declared.volume.Mapping.{Mapping}
 use Rattle.fc_books.specs.Accesses.{is_preparing, is_prepared, is_copying, is_stopping, is_stopped}
-use Rattle.fc_books.specs.Groups.{is_none_of, is_in, some_in, group_state, state_of_members}
+use Rattle.fc_books.specs.Groups.{is_none_of, is_member, some_in, group_state, state_of_members}
 use Rattle.fc_group.specs.States.{is_in_in_state, first_state_of}
 
 -- some member of a filtered list passes where one of the list passes both tests
@@ -65,23 +65,23 @@ state_of_some (x ∷ xs) e = refl
 by_tests : (a b c d e a' b' c' d' e' : Bool) → a ≡ a' → b ≡ b' → c ≡ c' → d ≡ d' → e ≡ e' → cond a Preparing (cond b Prepared (cond c Copying (cond d Stopping (cond e Stopped IdleOrCopied)))) ≡ cond a' Preparing (cond b' Prepared (cond c' Copying (cond d' Stopping (cond e' Stopped IdleOrCopied))))
 by_tests a b c d e a' b' c' d' e' p q r s t = cc
 
-pub group_state-some : (t : Tables) (g : GroupId) → list_any (is_in g) t.mappings ≡ true → group_state t g ≡ first_state_of g t.mappings
+pub group_state-some : (t : Tables) (g : GroupId) → list_any (is_member g) t.mappings ≡ true → group_state t g ≡ first_state_of g t.mappings
 group_state-some t g some =
-    let found = filter (is_in g) t.mappings in
-    state_of_some found (none_of_filter (is_in g) t.mappings ∙ ap not some)
+    let found = filter (is_member g) t.mappings in
+    state_of_some found (none_of_filter (is_member g) t.mappings ∙ ap not some)
     ∙ by_tests
     (some_in is_preparing found) (some_in is_prepared found) (some_in is_copying found) (some_in is_stopping found) (some_in is_stopped found)
     (list_any (is_in_in_state g Preparing) t.mappings) (list_any (is_in_in_state g Prepared) t.mappings) (list_any (is_in_in_state g Copying) t.mappings) (list_any (is_in_in_state g Stopping) t.mappings) (list_any (is_in_in_state g Stopped) t.mappings)
-    (any_of_filter (is_in g) (λ m. is_preparing m.state) t.mappings)
-    (any_of_filter (is_in g) (λ m. is_prepared m.state) t.mappings)
-    (any_of_filter (is_in g) (λ m. is_copying m.state) t.mappings)
-    (any_of_filter (is_in g) (λ m. is_stopping m.state) t.mappings)
-    (any_of_filter (is_in g) (λ m. is_stopped m.state) t.mappings)
+    (any_of_filter (is_member g) (λ m. is_preparing m.state) t.mappings)
+    (any_of_filter (is_member g) (λ m. is_prepared m.state) t.mappings)
+    (any_of_filter (is_member g) (λ m. is_copying m.state) t.mappings)
+    (any_of_filter (is_member g) (λ m. is_stopping m.state) t.mappings)
+    (any_of_filter (is_member g) (λ m. is_stopped m.state) t.mappings)
 
 state_of_none : (xs : List Mapping) → is_none_of xs ≡ true → state_of_members xs ≡ Empty
 state_of_none [] e = refl
 state_of_none (x ∷ xs) e = grind (arith, e)
 
-pub group_state-none : (t : Tables) (g : GroupId) → list_any (is_in g) t.mappings ≡ false → group_state t g ≡ Empty
+pub group_state-none : (t : Tables) (g : GroupId) → list_any (is_member g) t.mappings ≡ false → group_state t g ≡ Empty
 group_state-none t g none =
-    state_of_none (filter (is_in g) t.mappings) (none_of_filter (is_in g) t.mappings ∙ ap not none)
+    state_of_none (filter (is_member g) t.mappings) (none_of_filter (is_member g) t.mappings ∙ ap not none)

@@ -6,7 +6,7 @@ use Rattle.fc_base.specs.declared.state.MapState.{MapState}
 use Rattle.fc_base.specs.declared.state.MapState.TheVariants.{Empty, IdleOrCopied, Preparing, Prepared, Copying, Stopping, Stopped}
 use Rattle.fc_base.specs.declared.volume.Mapping.{Mapping}
 use Rattle.fc_books.specs.Accesses.{is_idle, is_preparing, is_prepared, is_copying, is_stopping, is_stopped}
-use Rattle.fc_books.specs.Groups.{is_in}
+use Rattle.fc_books.specs.Groups.{is_member}
 
 abbrev pub is_empty : MapState → Bool
 is_empty Empty = true
@@ -24,7 +24,7 @@ is_in_state Stopped state = is_stopped state
 
 -- A member of the group that is in the state.
 abbrev pub is_in_in_state : GroupId → MapState → Mapping → Bool
-is_in_in_state g wanted m = is_in g m && is_in_state wanted m.state
+is_in_in_state g wanted m = is_member g m && is_in_state wanted m.state
 
 -- The first of these states that some member is in, else idle_or_copied.
 abbrev pub first_state_of : GroupId → List Mapping → MapState

@@ -2,7 +2,7 @@
 
 ghost use Rattle.std.specs.Prelude.{◌≡◌, ◌&&◌};
 ghost use Rattle.std.specs.List.{list_any};
-ghost use Rattle.fc_books.specs.Groups.{is_in, group_state};
+ghost use Rattle.fc_books.specs.Groups.{is_member, group_state};
 ghost use Rattle.fc_group.specs.States.{is_in_state, is_in_in_state, first_state_of};
 
 use fc_base::ids::GroupId;
@@ -12,7 +12,7 @@ use fc_registry::Registry;
 
 /// Whether a mapping is a member of the group.
 pub fn is_member(mapping: &Mapping, group: GroupId) -> bool
-    ensures { result ≡ is_in group mapping.now }
+    ensures { result ≡ is_member group mapping.now }
 {
     match mapping.group {
         Some(of) => group.0 == of.0,
@@ -53,7 +53,7 @@ fn some_member_in(mappings: &[Mapping], group: GroupId, state: MapState) -> bool
 
 /// Whether the group has a member.
 fn has_member(mappings: &[Mapping], group: GroupId) -> bool
-    ensures { result ≡ list_any (is_in group) mappings.now }
+    ensures { result ≡ list_any (is_member group) mappings.now }
 {
     mappings.iter().any(|mapping| is_member(mapping, group))
 }

@@ -20,7 +20,7 @@ use Rattle.fc_steps.proofs.Nearer.{come_still}
 use Rattle.fc_steps.proofs.StepsMade.{none_counted}
 use Rattle.fc_rules.specs.LaneTold.{LaneOf, LaneTold, told_past}
 use Rattle.fc_rules.specs.Spot.{Spot}
-use Rattle.fc_rules.specs.Steps.{Step as OneStep}
+use Rattle.fc_rules.specs.Steps.{DiskStep as OneStep}
 
 -- ---- counts
 

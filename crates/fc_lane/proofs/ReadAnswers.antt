@@ -42,8 +42,7 @@ use Rattle.fc_pictures.specs.Law.{now_of}
 use Rattle.fc_rules.specs.GrainAnswers.{ByAccess, ReadAnswers}
 use Rattle.fc_rules.specs.LaneRight.{IsRightInLane}
 use Rattle.fc_rules.specs.LaneFits.{FitsPart}
-use Rattle.fc_rules.specs.LaneTold.{LaneOf, LaneTold, LaneVolume, access_in, place_of}
-use Rattle.fc_rules.specs.Spot.{is_lost as is_lost_at}
+use Rattle.fc_rules.specs.LaneTold.{LaneOf, LaneTold, LaneVolume, lane_access, place_of}
 use Rattle.fc_sheets.proofs.Finding.{live_place_at}
 
 -- ---- what a call leaves
@@ -131,10 +130,6 @@ module _ (v v' : LaneView) (same : ReadLane v v') where
 
 -- ---- what plain volumes hold
 
-lost_same : (c : Content) → is_lost_at c ≡ is_lost c
-lost_same (Bytes bytes) = refl
-lost_same Lost = refl
-
 -- the read volume shows what its holder's stores
 now_stored : (v : LaneView) (told : LaneTold) (volume place : ℕ) (end : GrainRead) (new : GrainsState) → IsLaneOf v told → (e : ReadEnds v.chains.sheet v.grains volume place end new) →
     now_of told.picture volume place ≡ stored v.grains.volumes (slot_at v.chains.sheet.slots e.source).volume place
@@ -208,7 +203,7 @@ Answers v v' number actor part reply calls =
     (told : LaneTold) → IsLaneOf v told →
     ReadAnswers v.grains.grain (spot_at (of v) told (grain_of_block v.grains.grain part.block)) part (read_entry v.lane number actor part reply v.grains.faults v'.grains.faults calls) reply
 
-module _ (v w v' : LaneView) (number actor : ℕ) (part : ReadPart) (is : v ≡ w) (same : ReadLane v v') (online : access_in w.accesses.volumes part.volume ≡ Online) (place : ℕ) (end : GrainRead)
+module _ (v w v' : LaneView) (number actor : ℕ) (part : ReadPart) (is : v ≡ w) (same : ReadLane v v') (online : lane_access w.accesses.volumes part.volume ≡ Online) (place : ℕ) (end : GrainRead)
     (ends : ReadEnds v.chains.sheet v.grains part.volume.0 place end v'.grains) (reply : Reply) (before : ℕ) (entry : Entry) (before_is : before ≡ v.grains.faults)
     (entry_is : entry ≡ read_entry v'.lane number actor part reply before v'.grains.faults (calls_of end)) (answers : Answers v v' number actor part reply (calls_of end)) where
   abbrev own : Entry
@@ -222,8 +217,8 @@ module _ (v w v' : LaneView) (number actor : ℕ) (part : ReadPart) (is : v ≡ 
 
   is_right : (told : LaneTold) → IsLaneOf v told → IsRightInLane (of v) told own
   is_right told i =
-      let here : access_in told.volumes part.volume ≡ Online =
-      ap (λ (vs : List LaneVolume). access_in vs part.volume) (sym i.parts.beside.volumes_are) ∙ (ap (λ (x : LaneView). access_in x.accesses.volumes part.volume) is ∙ online) in
+      let here : lane_access told.volumes part.volume ≡ Online =
+      ap (λ (vs : List LaneVolume). lane_access vs part.volume) (sym i.parts.beside.volumes_are) ∙ (ap (λ (x : LaneView). lane_access x.accesses.volumes part.volume) is ∙ online) in
       record {
         place = refl;
         faults_before = i.faults;
@@ -254,8 +249,8 @@ module _ (v v' : LaneView) (number actor : ℕ) (part : ReadPart) (place : ℕ) 
   now_is told i end e = ap (λ n. now_of told.picture part.volume.0 n) (sym place_is) ∙ now_stored v told part.volume.0 place end v'.grains i e
 
   lost_is : (told : LaneTold) → IsLaneOf v told → (end : GrainRead) (e : ReadEnds v.chains.sheet v.grains part.volume.0 place end v'.grains) (b : Bool) →
-      is_lost (stored v.grains.volumes (slot_at v.chains.sheet.slots e.source).volume place) ≡ b → is_lost_at (now_of told.picture part.volume.0 (place_of (of v) (grain_of_block v.grains.grain part.block))) ≡ b
-  lost_is told i end e b lost = lost_same _ ∙ (ap (λ c. is_lost c) (now_is told i end e) ∙ lost)
+      is_lost (stored v.grains.volumes (slot_at v.chains.sheet.slots e.source).volume place) ≡ b → is_lost (now_of told.picture part.volume.0 (place_of (of v) (grain_of_block v.grains.grain part.block))) ≡ b
+  lost_is told i end e b lost = ap (λ c. is_lost c) (now_is told i end e) ∙ lost
 
   pub answers_lost : ReadEnds v.chains.sheet v.grains part.volume.0 place IsLost v'.grains → Answers v v' number actor part MediumError 0
   answers_lost e told i = (lost_is told i IsLost e true e.ends.0, record { moves = refl; untorn = refl; calls_are = refl })
@@ -275,7 +270,7 @@ module _ (v v' : LaneView) (number actor : ℕ) (part : ReadPart) (place : ℕ) 
     record { moves = refl; untorn = refl; calls_are = refl },
   )
 
-module _ (v w v' : LaneView) (number actor : ℕ) (part : ReadPart) (is : v ≡ w) (same : ReadLane v v') (online : access_in w.accesses.volumes part.volume ≡ Online) (place : ℕ)
+module _ (v w v' : LaneView) (number actor : ℕ) (part : ReadPart) (is : v ≡ w) (same : ReadLane v v') (online : lane_access w.accesses.volumes part.volume ≡ Online) (place : ℕ)
     (place_is : place ≡ grain_of_block v.grains.grain part.block / v.lanes) (before : ℕ) (entry : Entry) (before_is : before ≡ v.grains.faults) where
   pub answered_lost : ReadEnds v.chains.sheet v.grains part.volume.0 place IsLost v'.grains → entry ≡ read_entry v'.lane number actor part MediumError before v'.grains.faults 0 → Entered number actor part w entry v'
   answered_lost ends e = answered v w v' number actor part is same online place IsLost ends MediumError before entry before_is e (answers_lost v v' number actor part place place_is ends)

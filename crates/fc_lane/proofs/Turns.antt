@@ -20,7 +20,7 @@ use Rattle.fc_rules.specs.LaneRight.{IsRightInLane, LaneAnswers, MappingFill, Co
 use Rattle.fc_rules.specs.LaneTold.{LaneOf, LaneTold, place_of, told_past}
 use Rattle.fc_rules.specs.LaneTurn.{copied_slot, cleaned_slot, least_grain, next_copy, next_clean, spot_at}
 use Rattle.fc_rules.specs.Spot.{Spot}
-use Rattle.fc_rules.specs.Steps.{HasDoneNothing, Step as OneStep, StoppedAt, steps_of_fill}
+use Rattle.fc_rules.specs.Steps.{HasDoneNothing, DiskStep as OneStep, StoppedAt, steps_of_fill}
 use Rattle.fc_steps.proofs.Filling.{work_is, least_can}
 
 -- ---- the next piece of work

@@ -26,7 +26,7 @@ use Rattle.fc_pictures.proofs.Agreeing.{lane_law_holds}
 use Rattle.fc_rules.specs.GrainAnswers.{ByAccess, WriteAnswers, cannot_write}
 use Rattle.fc_rules.specs.LaneFits.{FitsPart}
 use Rattle.fc_rules.specs.LaneRight.{IsRightInLane, VolumeWrite, done_write, record_of}
-use Rattle.fc_rules.specs.LaneTold.{LaneOf, LaneTold, access_in, place_of, told_past}
+use Rattle.fc_rules.specs.LaneTold.{LaneOf, LaneTold, lane_access, place_of, told_past}
 use Rattle.fc_rules.specs.Steps.{HasDoneNothing, steps_of_write}
 
 -- ---- a write that fits
@@ -45,8 +45,8 @@ write_told part (Some (Failed torn)) l told lane n actor before after moves call
 write_told part (Some WantsMemory) l told lane n actor before after moves calls = refl
 
 -- the answers of a volume that is online
-online_answers : (l : LaneOf) (told : LaneTold) (part : WritePart) (t : ℕ) (entry : Entry) → access_in told.volumes part.volume ≡ Online → live_place told.sheet.slots part.volume.0 ≡ Some t →
-    WriteAnswers l.grain (spot_of l told part) part t entry entry.reply → ByAccess (access_in told.volumes part.volume) entry (VolumeWrite l told part (live_place told.sheet.slots part.volume.0) entry)
+online_answers : (l : LaneOf) (told : LaneTold) (part : WritePart) (t : ℕ) (entry : Entry) → lane_access told.volumes part.volume ≡ Online → live_place told.sheet.slots part.volume.0 ≡ Some t →
+    WriteAnswers l.grain (spot_of l told part) part t entry entry.reply → ByAccess (lane_access told.volumes part.volume) entry (VolumeWrite l told part (live_place told.sheet.slots part.volume.0) entry)
 online_answers l told part t entry online place x =
     subst (λ (a : Access). ByAccess a entry (VolumeWrite l told part (live_place told.sheet.slots part.volume.0) entry)) (sym online)
     (subst (λ (o : Option ℕ). VolumeWrite l told part o entry) (sym place) x)
@@ -64,14 +64,14 @@ write_answers l told part t lane number actor old new moves calls (Some WantsMem
 
 -- the entry of a write whose steps ended so is right, and the lane stands for what is told with it
 pub write_right : (v new : LaneView) (told : LaneTold) (part : WritePart) (t number actor : ℕ) (moves : List Move) (calls : ℕ) (stop : Option Stop) (entry : Entry) → IsLaneOf v told → SameBeside v new →
-    FitsWrite (of v) told part t → access_in v.accesses.volumes part.volume ≡ Online → cannot_write (of v).grain (spot_of (of v) told part) part ≡ false →
+    FitsWrite (of v) told part t → lane_access v.accesses.volumes part.volume ≡ Online → cannot_write (of v).grain (spot_of (of v) told part) part ≡ false →
     StepsEnd (spot_of (of v) told part) (steps_of_write (of v).grain (spot_of (of v) told part) part t) moves calls stop v.grains new.grains →
     StepsStand (of v) told (write_in part stop) moves calls (torn_in stop) v.chains v.grains new.chains new.grains →
     entry ≡ steps_entry v.lane number actor (Write part) Done v.grains.faults new.grains.faults moves calls stop →
     IsRightInLane (of v) told entry × IsLaneOf new (told_past (of v) told (record_of entry))
 write_right v new told part t number actor moves calls stop entry s b w online writable e x is =
     let plain : Entry = steps_entry v.lane number actor (Write part) Done v.grains.faults new.grains.faults moves calls stop in
-    let online_told : access_in told.volumes part.volume ≡ Online = ap (λ z. access_in z part.volume) (sym s.parts.beside.volumes_are) ∙ online in
+    let online_told : lane_access told.volumes part.volume ≡ Online = ap (λ z. lane_access z part.volume) (sym s.parts.beside.volumes_are) ∙ online in
     subst (λ (z : Entry). IsRightInLane (of v) told z × IsLaneOf new (told_past (of v) told (record_of z))) (sym is) (
       record {
         place = refl;
@@ -86,7 +86,7 @@ write_right v new told part t number actor moves calls stop entry s b w online w
 
 -- nothing was done: how the volume may be reached, or a lost grain, forbids it
 pub untouched_right : (v : LaneView) (told : LaneTold) (part : WritePart) (number actor : ℕ) (reply : Reply) (entry : Entry) → IsLaneOf v told →
-    ((e : Entry) → e.reply ≡ reply → HasDoneNothing e → ByAccess (access_in told.volumes part.volume) e (VolumeWrite (of v) told part (live_place told.sheet.slots part.volume.0) e)) →
+    ((e : Entry) → e.reply ≡ reply → HasDoneNothing e → ByAccess (lane_access told.volumes part.volume) e (VolumeWrite (of v) told part (live_place told.sheet.slots part.volume.0) e)) →
     done_write (Write part) reply ≡ None → entry ≡ steps_entry v.lane number actor (Write part) reply v.grains.faults v.grains.faults [] 0 None →
     IsRightInLane (of v) told entry × IsLaneOf v (told_past (of v) told (record_of entry))
 untouched_right v told part number actor reply entry s answers none is =
@@ -104,13 +104,13 @@ untouched_right v told part number actor reply entry s answers none is =
     )
 
 -- a volume that isn't online answers how it may be reached
-pub unreached : (told : LaneTold) (part : WritePart) (a : Access) (reply : Reply) (e : Entry) (answers : Type 0) → access_in told.volumes part.volume ≡ a → ((e' : Entry) → e'.reply ≡ reply → HasDoneNothing e' → ByAccess a e' answers) →
-    e.reply ≡ reply → HasDoneNothing e → ByAccess (access_in told.volumes part.volume) e answers
+pub unreached : (told : LaneTold) (part : WritePart) (a : Access) (reply : Reply) (e : Entry) (answers : Type 0) → lane_access told.volumes part.volume ≡ a → ((e' : Entry) → e'.reply ≡ reply → HasDoneNothing e' → ByAccess a e' answers) →
+    e.reply ≡ reply → HasDoneNothing e → ByAccess (lane_access told.volumes part.volume) e answers
 unreached told part a reply e answers is f r n = subst (λ (z : Access). ByAccess z e answers) (sym is) (f e r n)
 
 -- a part of a lost grain
-pub lost_answers : (l : LaneOf) (told : LaneTold) (part : WritePart) (t : ℕ) (e : Entry) → access_in told.volumes part.volume ≡ Online → live_place told.sheet.slots part.volume.0 ≡ Some t →
+pub lost_answers : (l : LaneOf) (told : LaneTold) (part : WritePart) (t : ℕ) (e : Entry) → lane_access told.volumes part.volume ≡ Online → live_place told.sheet.slots part.volume.0 ≡ Some t →
     cannot_write l.grain (spot_of l told part) part ≡ true → e.reply ≡ MediumError → HasDoneNothing e →
-    ByAccess (access_in told.volumes part.volume) e (VolumeWrite l told part (live_place told.sheet.slots part.volume.0) e)
+    ByAccess (lane_access told.volumes part.volume) e (VolumeWrite l told part (live_place told.sheet.slots part.volume.0) e)
 lost_answers l told part t e online place lost r n =
     online_answers l told part t e online place (subst (λ (z : Reply). WriteAnswers l.grain (spot_of l told part) part t e z) (sym r) (lost, n))

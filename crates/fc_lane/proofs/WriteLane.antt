@@ -29,7 +29,7 @@ use Rattle.fc_steps.proofs.Writable.{plan_of_write}
 use Rattle.fc_rules.specs.GrainAnswers.{ByAccess, cannot_write}
 use Rattle.fc_rules.specs.LaneFits.{FitsPart}
 use Rattle.fc_rules.specs.LaneRight.{VolumeWrite, done_write}
-use Rattle.fc_rules.specs.LaneTold.{LaneOf, LaneTold, access_in, place_of}
+use Rattle.fc_rules.specs.LaneTold.{LaneOf, LaneTold, lane_access, place_of}
 use Rattle.fc_rules.specs.Steps.{HasDoneNothing, steps_of_write}
 
 -- a lane in which a grain can be written
@@ -37,7 +37,7 @@ pub record IsWritable (v : LaneView) (part : WritePart) (grain place : ℕ) : Ty
   pub can : (told : LaneTold) × IsLaneOf v told × FitsPart (of v) told part.volume part.block part.count
   pub writable : (told : LaneTold) → IsLaneOf v told → FitsPart (of v) told part.volume part.block part.count → cannot_write v.grains.grain (spot_of (of v) told part) part ≡ false
   pub ready : IsReady v
-  pub online : access_in v.accesses.volumes part.volume ≡ Online
+  pub online : lane_access v.accesses.volumes part.volume ≡ Online
   pub number_is : grain ≡ grain_of_block v.grains.grain part.block
   pub place_is : place ≡ grain / v.lanes
 
@@ -119,7 +119,7 @@ module _ (v : LaneView) (part : WritePart) (grain place : ℕ) (w : IsWritable v
 
 pub untouched_entered : (v : LaneView) (part : WritePart) (number actor : ℕ) (reply : Reply) (entry : Entry) →
     ((told : LaneTold) → IsLaneOf v told → FitsPart (of v) told part.volume part.block part.count → (e : Entry) → e.reply ≡ reply → HasDoneNothing e →
-    ByAccess (access_in told.volumes part.volume) e (VolumeWrite (of v) told part (live_place told.sheet.slots part.volume.0) e)) →
+    ByAccess (lane_access told.volumes part.volume) e (VolumeWrite (of v) told part (live_place told.sheet.slots part.volume.0) e)) →
     done_write (Write part) reply ≡ None → entry ≡ steps_entry v.lane number actor (Write part) reply v.grains.faults v.grains.faults [] 0 None →
     HasEntered v (λ told. FitsPart (of v) told part.volume part.block part.count) number actor (Write part) entry v
 untouched_entered v part number actor reply entry answers none is = record {
@@ -133,17 +133,17 @@ untouched_entered v part number actor reply entry answers none is = record {
 }
 
 -- how the volume may be reached, as it is told
-access_told : (v : LaneView) (told : LaneTold) (part : WritePart) (a : Access) → IsLaneOf v told → access_in v.accesses.volumes part.volume ≡ a → access_in told.volumes part.volume ≡ a
-access_told v told part a s is = ap (λ z. access_in z part.volume) (sym s.parts.beside.volumes_are) ∙ is
+access_told : (v : LaneView) (told : LaneTold) (part : WritePart) (a : Access) → IsLaneOf v told → lane_access v.accesses.volumes part.volume ≡ a → lane_access told.volumes part.volume ≡ a
+access_told v told part a s is = ap (λ z. lane_access z part.volume) (sym s.parts.beside.volumes_are) ∙ is
 
-pub offline_entered : (v : LaneView) (part : WritePart) (number actor : ℕ) (map : MapId) (state : MapState) (entry : Entry) → access_in v.accesses.volumes part.volume ≡ IsOffline map state →
+pub offline_entered : (v : LaneView) (part : WritePart) (number actor : ℕ) (map : MapId) (state : MapState) (entry : Entry) → lane_access v.accesses.volumes part.volume ≡ IsOffline map state →
     entry ≡ steps_entry v.lane number actor (Write part) (Offline map state) v.grains.faults v.grains.faults [] 0 None →
     HasEntered v (λ told. FitsPart (of v) told part.volume part.block part.count) number actor (Write part) entry v
 offline_entered v part number actor map state entry is e =
     untouched_entered v part number actor (Offline map state) entry
     (λ told s f x r n. unreached told part (IsOffline map state) (Offline map state) x _ (access_told v told part (IsOffline map state) s is) (λ y q d. (q, d)) r n) refl e
 
-pub barred_entered : (v : LaneView) (part : WritePart) (number actor : ℕ) (map : MapId) (entry : Entry) → access_in v.accesses.volumes part.volume ≡ IsNotAccessible map →
+pub barred_entered : (v : LaneView) (part : WritePart) (number actor : ℕ) (map : MapId) (entry : Entry) → lane_access v.accesses.volumes part.volume ≡ IsNotAccessible map →
     entry ≡ steps_entry v.lane number actor (Write part) (NotAccessible map) v.grains.faults v.grains.faults [] 0 None →
     HasEntered v (λ told. FitsPart (of v) told part.volume part.block part.count) number actor (Write part) entry v
 barred_entered v part number actor map entry is e =
@@ -155,7 +155,7 @@ barred_entered v part number actor map entry is e =
 -- a lane with a volume that is online
 pub record IsOnline (v : LaneView) (part : WritePart) : Type 0 where
   pub can : (told : LaneTold) × IsLaneOf v told × FitsPart (of v) told part.volume part.block part.count
-  pub online : access_in v.accesses.volumes part.volume ≡ Online
+  pub online : lane_access v.accesses.volumes part.volume ≡ Online
 
 abbrev pub TellsWritable : LaneView → WritePart → ℕ → ℕ → Bool → Type 0
 TellsWritable v part grain place answer =

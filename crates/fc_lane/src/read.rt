@@ -7,7 +7,7 @@ ghost use Rattle.fc_entry.specs.Picture.{grain_of_block};
 ghost use Rattle.fc_lane.specs.Lane.{IsLaneOf, of};
 ghost use Rattle.fc_lane.specs.Entering.{HasEntered};
 ghost use Rattle.fc_rules.specs.LaneFits.{FitsPart};
-ghost use Rattle.fc_rules.specs.LaneTold.{LaneTold, access_in};
+ghost use Rattle.fc_rules.specs.LaneTold.{LaneTold, lane_access};
 
 use crate::lane::Lane;
 use fc_base::outcome::NoMemory;
@@ -23,7 +23,7 @@ impl<D: Mdisk> Lane<D> {
     fn read_online(&mut self, alloc: Global, number: u64, actor: u32, part: ReadPart) -> Entry
         requires can { (told : LaneTold) × IsLaneOf self.old told × FitsPart (of self.old) told part.volume part.block part.count }
         requires number { grain_of_block self.old.grains.grain part.block < 2 ^ 32 }
-        requires online { access_in self.old.accesses.volumes part.volume ≡ Online }
+        requires online { lane_access self.old.accesses.volumes part.volume ≡ Online }
         ensures entered { HasEntered self.old (λ told. FitsPart (of self.old) told part.volume part.block part.count) number actor (Read part) result self.new }
         ensures entry_room { self.new.entry_room ≡ self.old.entry_room }
     {

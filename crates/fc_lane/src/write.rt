@@ -9,7 +9,7 @@ ghost use Rattle.fc_lane.specs.Lane.{IsLaneOf, IsReady, of};
 ghost use Rattle.fc_steps.specs.WriteStep.{spot_of};
 ghost use Rattle.fc_rules.specs.GrainAnswers.{cannot_write};
 ghost use Rattle.fc_rules.specs.LaneFits.{FitsPart};
-ghost use Rattle.fc_rules.specs.LaneTold.{LaneTold, access_in};
+ghost use Rattle.fc_rules.specs.LaneTold.{LaneTold, lane_access};
 
 use crate::lane::Lane;
 use fc_base::ids::GrainNo;
@@ -35,7 +35,7 @@ impl<D: Mdisk> Lane<D> {
         requires can { (told : LaneTold) × IsLaneOf self.old told × FitsPart (of self.old) told part.volume part.block part.count }
         requires writable { (told : LaneTold) → IsLaneOf self.old told → FitsPart (of self.old) told part.volume part.block part.count → cannot_write self.old.grains.grain (spot_of (of self.old) told part) part ≡ false }
         requires ready { IsReady self.old }
-        requires online { access_in self.old.accesses.volumes part.volume ≡ Online }
+        requires online { lane_access self.old.accesses.volumes part.volume ≡ Online }
         requires number { grain.0 ≡ grain_of_block self.old.grains.grain part.block }
         requires place { place ≡ grain.0 / self.old.lanes }
         ensures { HasEntered self.old (λ told. FitsPart (of self.old) told part.volume part.block part.count) number actor (Write part) result self.new }
@@ -65,7 +65,7 @@ impl<D: Mdisk> Lane<D> {
         requires can { (told : LaneTold) × IsLaneOf self.old told × FitsPart (of self.old) told part.volume part.block part.count }
         requires number { grain_of_block self.old.grains.grain part.block < 2 ^ 32 }
         requires ready { IsReady self.old }
-        requires online { access_in self.old.accesses.volumes part.volume ≡ Online }
+        requires online { lane_access self.old.accesses.volumes part.volume ≡ Online }
         ensures { HasEntered self.old (λ told. FitsPart (of self.old) told part.volume part.block part.count) number actor (Write part) result self.new }
     {
         let blocks = self.body.grains.grain().blocks() as u64;

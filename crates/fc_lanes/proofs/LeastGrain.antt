@@ -8,7 +8,7 @@ use Rattle.fc_base.specs.Sheet.{Slot, mapping_place}
 use Rattle.fc_base.specs.declared.ids.GrainNo.{GrainNo}
 use Rattle.fc_base.specs.declared.size.GrainSize.{GrainSize}
 use Rattle.fc_legal.specs.Seconds.{filled_by}
-use Rattle.fc_legal.specs.Whole.{all_grains}
+use Rattle.fc_legal.specs.Whole.{single_lane}
 use Rattle.fc_moves.proofs.Search.{IsFirst, first_some}
 use Rattle.fc_parts.proofs.Numbers.{IsLane, number_below, place_below, none_in, number_of_place}
 use Rattle.fc_parts.proofs.Views.{parts, slot_parts, held_parts, column_parts, mapping_parts, size_parts}
@@ -108,12 +108,12 @@ least_more cleans grain slots m lanes k below =
     ∙ ap (lesser (least_among cleans slots m lanes k)) (sym (least_of_lane cleans l below slots m)))
 
 pub least_all : (cleans : Bool) (grain : GrainSize) (slots : List Slot) (m lanes : ℕ) → 0 < lanes →
-    least_among cleans slots m lanes lanes ≡ least_grain (all_grains grain) slots (filled_by cleans slots m) m
+    least_among cleans slots m lanes lanes ≡ least_grain (single_lane grain) slots (filled_by cleans slots m) m
 least_all cleans grain slots m lanes some =
     ap (option_map grain_no) (first_among_all (has_work cleans slots m) lanes (bound_of slots m) some)
     ∙ by (first_below (has_work cleans slots m) (bound_of slots m))
   where
-    by : (o : Option ℕ) → option_map grain_no o ≡ option_map (λ g. grain_no (number_at (all_grains grain) g)) o
+    by : (o : Option ℕ) → option_map grain_no o ≡ option_map (λ g. grain_no (number_at (single_lane grain) g)) o
     by None = refl
     by (Some g) = let e : g ≡ g * 1 + 0 = omega arith in ap (λ x. Some (grain_no x)) e
 
@@ -122,7 +122,7 @@ pub least_folded : {X : Type 0} → (cleans : Bool) (grain : GrainSize) (slots :
     ((i : ℕ) (d : X) → i < length xs →
     tells (slice_index_or xs i d)
     ≡ least_grain (lane_of grain (length xs) i) (parts (lane_of grain (length xs) i) slots) (filled_by cleans (parts (lane_of grain (length xs) i) slots) m) m) →
-    fold (λ least x. lesser least (tells x)) None xs ≡ least_grain (all_grains grain) slots (filled_by cleans slots m) m
+    fold (λ least x. lesser least (tells x)) None xs ≡ least_grain (single_lane grain) slots (filled_by cleans slots m) m
 least_folded cleans grain slots m [] tells some each = absurd (omega (arith, some))
 least_folded {X = X} cleans grain slots m (x ∷ xs) tells some each =
     ap (fold step None) (sym (take_all (length (x ∷ xs)) (x ∷ xs) (omega arith)))
@@ -150,14 +150,14 @@ least_folded {X = X} cleans grain slots m (x ∷ xs) tells some each =
 
 -- There is something to do at the least grain, and in its lane at its place.
 pub work_at_least : (cleans : Bool) (grain : GrainSize) (slots : List Slot) (m : ℕ) (g : GrainNo) →
-    least_grain (all_grains grain) slots (filled_by cleans slots m) m ≡ Some g → IsSome (filled_by cleans slots m g.0)
+    least_grain (single_lane grain) slots (filled_by cleans slots m) m ≡ Some g → IsSome (filled_by cleans slots m g.0)
 work_at_least cleans grain slots m g e = by (first_below (has_work cleans slots m) (bound_of slots m)) refl e
   where
     there : (o : Option ℕ) → is_some o ≡ true → IsSome o
     there None q = absurd cc
     there (Some x) q = cc
 
-    by : (o : Option ℕ) → first_below (has_work cleans slots m) (bound_of slots m) ≡ o → option_map (λ x. grain_no (number_at (all_grains grain) x)) o ≡ Some g → IsSome (filled_by cleans slots m g.0)
+    by : (o : Option ℕ) → first_below (has_work cleans slots m) (bound_of slots m) ≡ o → option_map (λ x. grain_no (number_at (single_lane grain) x)) o ≡ Some g → IsSome (filled_by cleans slots m g.0)
     by None is q = absurd cc
     by (Some x) is q =
         let found : IsFirst (has_work cleans slots m) (bound_of slots m) x = first_some (has_work cleans slots m) (bound_of slots m) x is in

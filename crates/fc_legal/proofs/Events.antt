@@ -8,28 +8,28 @@ use Rattle.fc_base.specs.declared.size.GrainSize.{GrainSize}
 use Rattle.fc_books.specs.After.{begun, sheet_after}
 use Rattle.fc_follow.specs.Following.{Followed, restarts, rows_event, told_with, followed_event}
 use Rattle.fc_legal.specs.Steps.{rows_after}
-use Rattle.fc_legal.specs.Whole.{all_grains}
+use Rattle.fc_legal.specs.Whole.{single_lane}
 use Rattle.fc_rules.specs.LaneTold.{LaneTold, grains_in}
 
 -- ---- the lane of all grains has each of them
 
-pub one_lane : (grain : GrainSize) (n : ℕ) → grains_in (all_grains grain) n ≡ n
+pub one_lane : (grain : GrainSize) (n : ℕ) → grains_in (single_lane grain) n ≡ n
 one_lane grain n = omega arith
 
-pub all_in : (grain : GrainSize) → grains_in (all_grains grain) ≡ (λ (n : ℕ). n)
+pub all_in : (grain : GrainSize) → grains_in (single_lane grain) ≡ (λ (n : ℕ). n)
 all_in grain = λ k n. one_lane grain n k
 
-pub step_alike : (grain : GrainSize) (s : Sheet) (e : LaneEvent) → sheet_step (grains_in (all_grains grain)) s e ≡ sheet_step (λ grains. grains) s e
+pub step_alike : (grain : GrainSize) (s : Sheet) (e : LaneEvent) → sheet_step (grains_in (single_lane grain)) s e ≡ sheet_step (λ grains. grains) s e
 step_alike grain s e = ap (λ (f : ℕ → ℕ). sheet_step f s e) (all_in grain)
 
 -- ---- chains and rows
 
-sheet_told : (sets : ℕ → List Bool) (grain : GrainSize) (told : LaneTold) (e : LaneEvent) → (told_with sets (all_grains grain) told e).sheet ≡ sheet_after sets told.sheet e
+sheet_told : (sets : ℕ → List Bool) (grain : GrainSize) (told : LaneTold) (e : LaneEvent) → (told_with sets (single_lane grain) told e).sheet ≡ sheet_after sets told.sheet e
 sheet_told sets grain told (Trigger pairs) = ap (λ (s : Sheet). fold (begun sets) s pairs) (step_alike grain told.sheet (Trigger pairs))
 sheet_told sets grain told e = step_alike grain told.sheet e
 
-pub rows_told : (grain : GrainSize) (f : Followed) (events : List LaneEvent) → (fold (followed_event (all_grains grain)) f events).rows ≡ rows_after f.told.sheet f.rows events
+pub rows_told : (grain : GrainSize) (f : Followed) (events : List LaneEvent) → (fold (followed_event (single_lane grain)) f events).rows ≡ rows_after f.told.sheet f.rows events
 rows_told grain f [] = refl
 rows_told grain f (e ∷ es) =
-    rows_told grain (followed_event (all_grains grain) f e) es
+    rows_told grain (followed_event (single_lane grain) f e) es
     ∙ ap (λ (s : Sheet). rows_after s (rows_event f.told.sheet.slots f.rows e) es) (sheet_told (restarts f.rows) grain f.told e)

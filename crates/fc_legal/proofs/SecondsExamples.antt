@@ -21,7 +21,7 @@ use Rattle.fc_books.specs.Work.{copies, cleans}
 use Rattle.fc_entry.specs.Picture.{PlainVolume, Bytes}
 use Rattle.fc_entry.specs.declared.entry.Entry.{Entry}
 use Rattle.fc_legal.specs.Agenda.{Reading, Session, next_asked, Seconds, session_rules}
-use Rattle.fc_legal.specs.Seconds.{Work, Passing, all_work, next_grain, gained, after_fill, begun}
+use Rattle.fc_legal.specs.Seconds.{Work, Passing, all_work, next_grain, gained, after_fill, seconds_begun}
 use Rattle.fc_legal.specs.Steps.{Step}
 use Rattle.fc_legal.specs.Whole.{Whole}
 use Rattle.fc_pick.specs.declared.work.WorkFlags.{WorkFlags}
@@ -116,10 +116,10 @@ no_reading b line = Ok Blank
 
 -- these entries answer so many seconds; and the first of them, with one more fill next
 abbrev AreSeconds : GrainSize → ℕ → Whole → List Entry → Whole → Type 0
-AreSeconds grain n w entries last = GoesToEnd (session_rules grain no_reading) (Seconds (begun n (all_work w.books)) []) w entries last
+AreSeconds grain n w entries last = GoesToEnd (session_rules grain no_reading) (Seconds (seconds_begun n (all_work w.books)) []) w entries last
 
 abbrev WantMoreSeconds : GrainSize → ℕ → Whole → List Entry → Whole → Type 0
-WantMoreSeconds grain n w entries last = GoesAsking (session_rules grain no_reading) (Seconds (begun n (all_work w.books)) []) w entries last
+WantMoreSeconds grain n w entries last = GoesAsking (session_rules grain no_reading) (Seconds (seconds_begun n (all_work w.books)) []) w entries last
 
 -- the next fill of a second, by `main`, and right
 pub record IsNextFill (grain : GrainSize) (p : Passing) (w : Whole) (entry : Entry) (next : Whole) : Type 0 where

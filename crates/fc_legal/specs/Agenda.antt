@@ -19,7 +19,7 @@ use Rattle.fc_books.specs.Books.{Books}
 use Rattle.fc_entry.specs.declared.entry.Entry.{Entry}
 use Rattle.fc_legal.specs.Asked.{asked}
 use Rattle.fc_legal.specs.Scripts.{Script, are_done, behind_next, faults_asked, names_with, next_by, scripts_of}
-use Rattle.fc_legal.specs.Seconds.{Passing, Work, after_fill, all_work, begun, fill_of, goes_on, next_fill}
+use Rattle.fc_legal.specs.Seconds.{Passing, Work, after_fill, all_work, seconds_begun, fill_of, goes_on, next_fill}
 use Rattle.fc_legal.specs.Steps.{Step}
 use Rattle.fc_legal.specs.Whole.{Whole, lanes}
 
@@ -79,7 +79,7 @@ behind_fill grain next p (Some work) entry = after_fill grain next p work entry
 
 -- Behind the last request of a line its seconds begin, if it is done, with the background work as it is then.
 abbrev pub behind_own : Whole → Bool → List Request → ℕ → List Segment → Agenda
-behind_own next done [] n segs = cond done (Seconds (begun n (all_work next.books)) segs) (Session segs)
+behind_own next done [] n segs = cond done (Seconds (seconds_begun n (all_work next.books)) segs) (Session segs)
 behind_own next done rest n segs = Own rest n segs
 
 abbrev pub behind_entry : GrainSize → Agenda → Whole → Entry → Agenda

@@ -48,13 +48,13 @@ write_in grain volume block count byte g =
     Write record { volume = volume; block = first; count = end_in grain (block + count) g - first; byte = byte }
 
 -- What an access of a volume asks: one request for each grain that it touches, rising; or itself where it is refused.
-abbrev pub access_by : GrainSize → Command → ℕ → ℕ → (VolId → ℕ → Request) → Option Refusal → Option Volume → List Request
-access_by grain command block count request None (Some v) = map (request v.id) (touched grain block count)
-access_by grain command block count request _ _ = Asked command ∷ []
+abbrev pub access_requests : GrainSize → Command → ℕ → ℕ → (VolId → ℕ → Request) → Option Refusal → Option Volume → List Request
+access_requests grain command block count request None (Some v) = map (request v.id) (touched grain block count)
+access_requests grain command block count request _ _ = Asked command ∷ []
 
 abbrev pub access_asked : GrainSize → Books → Command → Ref → ℕ → ℕ → (VolId → ℕ → Request) → List Request
 access_asked grain b command volume block count request =
-    access_by grain command block count request (access_refused grain b volume block count) (volume_named b.tables volume)
+    access_requests grain command block count request (access_refused grain b volume block count) (volume_named b.tables volume)
 
 -- What a command line asks: an access by its grains; any other command itself.
 abbrev pub command_asked : GrainSize → Books → Command → List Request

@@ -11,7 +11,7 @@ use Rattle.fc_base.specs.declared.volume.Change.{Change}
 use Rattle.fc_books.specs.After.{pools_after}
 use Rattle.fc_follow.specs.Following.{Followed, FitsRows, TriggersFirst, followed_event}
 use Rattle.fc_legal.specs.Steps.{left_by}
-use Rattle.fc_legal.specs.Whole.{Whole, all_grains, all_followed, volumes_told}
+use Rattle.fc_legal.specs.Whole.{Whole, single_lane, all_followed, volumes_told}
 use Rattle.fc_rules.specs.LaneFits.{WorksFirst}
 use Rattle.fc_rules.specs.LaneTold.{LaneVolume, volumes_event}
 use Rattle.fc_legal.specs.Stands.{Stands}
@@ -35,7 +35,7 @@ FitChanges t (change ∷ changes) = Fits t change × FitChanges (after_change t 
 -- 2^64.
 abbrev pub FitAsOne : GrainSize → Followed → List LaneEvent → Type 0
 FitAsOne grain f [] = f.told.sheet.births < 2 ^ 64
-FitAsOne grain f (e ∷ es) = FitsEvent f.told.sheet e × FitsRows f.rows e × FitAsOne grain (followed_event (all_grains grain) f e) es
+FitAsOne grain f (e ∷ es) = FitsEvent f.told.sheet e × FitsRows f.rows e × FitAsOne grain (followed_event (single_lane grain) f e) es
 
 -- A decision on what is told: its events fit the chains, disks and background work, and tell the lane of all grains what the
 -- decision leaves; its changes fit the tables; and all still stands.
@@ -45,5 +45,5 @@ pub record IsLawful (grain : GrainSize) (decisions : ℕ) (w : Whole) (d : Decis
   pub works : WorksFirst d.events
   pub triggers : TriggersFirst d.events
   pub changes : FitChanges w.books.tables d.changes
-  pub told : fold (followed_event (all_grains grain)) (all_followed w) d.events ≡ all_followed (left_by grain w d)
+  pub told : fold (followed_event (single_lane grain)) (all_followed w) d.events ≡ all_followed (left_by grain w d)
   pub stands : Stands (decisions + 1) (left_by grain w d)

@@ -56,9 +56,9 @@ names_with names actors = fold with_actor names (map (λ (a : ActorRead). a.name
 -- ---- what is still to be asked
 
 -- The next of some requests.
-abbrev pub first_of : List Request → Option Request
-first_of [] = None
-first_of (request ∷ rest) = Some request
+abbrev pub next_request : List Request → Option Request
+next_request [] = None
+next_request (request ∷ rest) = Some request
 
 abbrev pub behind_first : List Request → List Request
 behind_first [] = []
@@ -67,7 +67,7 @@ behind_first (request ∷ rest) = rest
 -- What an actor asks next, by its number.
 abbrev pub next_by : List Script → ℕ → Option Request
 next_by [] actor = None
-next_by (s ∷ scripts) actor = cond (s.actor == actor) (first_of s.requests) (next_by scripts actor)
+next_by (s ∷ scripts) actor = cond (s.actor == actor) (next_request s.requests) (next_by scripts actor)
 
 -- Its script without that request; the scripts of all others stay.
 abbrev pub behind_next : List Script → ℕ → List Script

@@ -14,7 +14,7 @@ use Rattle.fc_base.specs.declared.volume.Mapping.{Mapping}
 use Rattle.fc_books.specs.Books.{Books}
 use Rattle.fc_books.specs.Work.{has_copies, has_cleans}
 use Rattle.fc_entry.specs.declared.entry.Entry.{Entry}
-use Rattle.fc_legal.specs.Whole.{Whole, all_grains}
+use Rattle.fc_legal.specs.Whole.{Whole, single_lane}
 use Rattle.fc_rules.specs.LaneTurn.{copied_slot, cleaned_slot, least_grain}
 
 -- ---- background work
@@ -44,7 +44,7 @@ filled_by cleans slots m g = cond cleans (cleaned_slot slots m g) (copied_slot s
 -- The least grain of all lanes at which it has something to do.
 unfoldable pub next_grain : GrainSize → Whole → Work → Option GrainNo
 next_grain grain w work =
-    least_grain (all_grains grain) w.books.sheet.slots (filled_by work.cleans w.books.sheet.slots work.map.0) work.map.0
+    least_grain (single_lane grain) w.books.sheet.slots (filled_by work.cleans w.books.sheet.slots work.map.0) work.map.0
 
 abbrev pub fill_of : Work → GrainNo → Request
 fill_of work g = cond work.cleans (Clean work.map g) (Copy work.map g)
@@ -70,8 +70,8 @@ pub record Passing : Type 0 where
   pub left : List Work
 
 -- Before the first second.
-abbrev pub begun : ℕ → List Work → Passing
-begun seconds works = record { seconds = seconds; over = works; at_hand = None; left = [] }
+abbrev pub seconds_begun : ℕ → List Work → Passing
+seconds_begun seconds works = record { seconds = seconds; over = works; at_hand = None; left = [] }
 
 -- The work at hand goes on as long as its credit is worth a grain and it has something to do.
 abbrev pub fill_at_hand : GrainSize → Whole → Option Work → Option (Work × GrainNo)

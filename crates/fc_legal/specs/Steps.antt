@@ -28,7 +28,7 @@ use Rattle.fc_entry.specs.Picture.{grain_of_block}
 use Rattle.fc_entry.specs.PlainStep.{plain_step, after_effects}
 use Rattle.fc_entry.specs.declared.entry.Entry.{Entry}
 use Rattle.fc_follow.specs.Following.{restarts, rows_entry, rows_event}
-use Rattle.fc_legal.specs.Whole.{Whole, lanes, lane_of_grain, lane_at, part_at, all_grains, as_one}
+use Rattle.fc_legal.specs.Whole.{Whole, lanes, lane_of_grain, lane_at, part_at, single_lane, as_one}
 use Rattle.fc_rules.specs.LaneRight.{CleanAnswers, CopyAnswers, LaneAnswers, TurnAnswers, done_write}
 use Rattle.fc_rules.specs.LaneTold.{sheet_entry}
 use Rattle.fc_rules.specs.LaneTurn.{next_clean, next_copy}
@@ -111,10 +111,10 @@ abbrev pub after_access : GrainSize → Whole → ℕ → Entry → Whole
 after_access grain w i entry =
     record w {
       books = record w.books {
-        sheet = sheet_entry (all_grains grain) w.books.sheet (done_write entry.request entry.reply) entry.moves entry.torn;
+        sheet = sheet_entry (single_lane grain) w.books.sheet (done_write entry.request entry.reply) entry.moves entry.torn;
       };
       picture = plain_step grain w.picture entry;
-      rows = rows_entry (all_grains grain) w.rows entry;
+      rows = rows_entry (single_lane grain) w.rows entry;
       faults = slice_set w.faults i entry.faults_after;
       calls = slice_set w.calls i (slice_index_or w.calls i 0 + entry.calls);
       entries = w.entries + 1;
@@ -132,7 +132,7 @@ pub record LaneStep (grain : GrainSize) (w : Whole) (i : ℕ) (Answers : Entry �
 -- An entry at a grain: it is of the grain's lane, and answers as its request may by all chains and all plain volumes.
 abbrev pub AccessStep : GrainSize → Whole → ℕ → Entry → Whole → Type 0
 AccessStep grain w number entry next =
-    LaneStep grain w (lane_of_grain w number) (λ e. LaneAnswers (all_grains grain) (as_one w) e.request e) entry next
+    LaneStep grain w (lane_of_grain w number) (λ e. LaneAnswers (single_lane grain) (as_one w) e.request e) entry next
 
 -- One block or more of a volume that is there, all inside it and inside one grain.
 pub record IsInside (grain : GrainSize) (t : Tables) (volume : VolId) (block count : ℕ) : Type 0 where
@@ -161,9 +161,9 @@ RequestStep grain w (Write part) entry next =
 RequestStep grain w (Copy m g) entry next = AccessStep grain w g.0 entry next
 RequestStep grain w (Clean m g) entry next = AccessStep grain w g.0 entry next
 RequestStep grain w (CopyTurn lane) entry next =
-    TurnStep grain w lane (CopyAnswers (all_grains grain) (as_one w)) (next_copy (lane_at grain w lane) (part_at grain w lane)) entry next
+    TurnStep grain w lane (CopyAnswers (single_lane grain) (as_one w)) (next_copy (lane_at grain w lane) (part_at grain w lane)) entry next
 RequestStep grain w (CleanTurn lane) entry next =
-    TurnStep grain w lane (CleanAnswers (all_grains grain) (as_one w)) (next_clean (lane_at grain w lane) (part_at grain w lane)) entry next
+    TurnStep grain w lane (CleanAnswers (single_lane grain) (as_one w)) (next_clean (lane_at grain w lane) (part_at grain w lane)) entry next
 
 -- Its number is the next.
 pub record Step (grain : GrainSize) (w : Whole) (entry : Entry) (next : Whole) : Type 0 where

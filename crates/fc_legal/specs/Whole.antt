@@ -7,7 +7,7 @@ use Rattle.fc_base.specs.Tables.{Tables}
 use Rattle.fc_base.specs.declared.size.GrainSize.{GrainSize}
 use Rattle.fc_base.specs.declared.volume.Volume.{Volume}
 use Rattle.fc_books.specs.Accesses.{access_in}
-use Rattle.fc_books.specs.Books.{Books, opened as opened_books}
+use Rattle.fc_books.specs.Books.{Books, opened_books}
 use Rattle.fc_changed.specs.Row.{Row}
 use Rattle.fc_entry.specs.Picture.{Lost, PlainVolume, Picture}
 use Rattle.fc_follow.specs.Following.{Followed}
@@ -48,8 +48,8 @@ lane_of_grain w number = number % lanes w
 -- ---- all grains as one lane
 
 -- The one lane that has every grain.
-abbrev pub all_grains : GrainSize → LaneOf
-all_grains grain = record { lane = 0; lanes = 1; grain = grain }
+abbrev pub single_lane : GrainSize → LaneOf
+single_lane grain = record { lane = 0; lanes = 1; grain = grain }
 
 -- A volume, and how hosts reach it.
 abbrev pub volume_told : Tables → Volume → LaneVolume

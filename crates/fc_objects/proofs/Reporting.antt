@@ -13,8 +13,8 @@ use Rattle.fc_books.specs.Books.{Books, nothing}
 use Rattle.fc_books.specs.Deciding.{decide, answered, refused, done, replied, with_work}
 use Rattle.fc_books.specs.Columns.{percent, copied_in, progress, cleaned_in, mapping_columns, progress_columns}
 use Rattle.fc_books.specs.Copies.{total, dependents}
-use Rattle.fc_books.specs.Layout.{Column, column, view}
-use Rattle.fc_books.specs.Reports.{listed, of_one, report_rows}
+use Rattle.fc_books.specs.Layout.{ReportColumn, report_column, view}
+use Rattle.fc_books.specs.Reports.{listed, rows_of_one, report_rows}
 use Rattle.fc_report.specs.Asked.{asked}
 use Rattle.fc_objects.specs.Objects.{is_report}
 
@@ -54,12 +54,12 @@ progress_same : (b : Books) (m : Mapping) → progress (asked b.tables b.sheet) 
 progress_same b m = ap (λ n. percent n (total b m)) (copied_same m.state b m)
 
 -- columns with other figures
-abbrev with_figures : List (Column Mapping) → (Mapping → ℕ) → (Mapping → ℕ) → List (Column Mapping)
+abbrev with_figures : List (ReportColumn Mapping) → (Mapping → ℕ) → (Mapping → ℕ) → List (ReportColumn Mapping)
 with_figures columns copied cleaned =
     take 9 columns
-    ++ column (codes "progress") (λ m. decimal (copied m))
-    ∷ column (codes "copy_rate") (λ m. decimal m.copy_rate)
-    ∷ column (codes "clean_progress") (λ m. decimal (cleaned m))
+    ++ report_column (codes "progress") (λ m. decimal (copied m))
+    ∷ report_column (codes "copy_rate") (λ m. decimal m.copy_rate)
+    ∷ report_column (codes "clean_progress") (λ m. decimal (cleaned m))
     ∷ drop 12 columns
 
 columns_same : (b : Books) → mapping_columns (asked b.tables b.sheet) ≡ mapping_columns b
@@ -69,14 +69,14 @@ columns_same b =
 
 progress_columns_same : (b : Books) → progress_columns (asked b.tables b.sheet) ≡ progress_columns b
 progress_columns_same b =
-    ap (λ (copied : Mapping → ℕ). column (codes "id") (λ (m : Mapping). decimal m.id.0) ∷ column (codes "progress") (λ m. decimal (copied m)) ∷ []) (λ i m. progress_same b m i)
+    ap (λ (copied : Mapping → ℕ). report_column (codes "id") (λ (m : Mapping). decimal m.id.0) ∷ report_column (codes "progress") (λ m. decimal (copied m)) ∷ []) (λ i m. progress_same b m i)
 
 pub same_rows : (grain : GrainSize) (b : Books) (command : Command) → report_rows grain (asked b.tables b.sheet) command ≡ report_rows grain b command
 unfolding report_rows dependents
 same_rows grain b (Lsfcmap None delim) = ap (λ columns. listed delim columns b.tables.mappings) (columns_same b)
-same_rows grain b (Lsfcmap (Some m) delim) = ap (λ columns. of_one (view delim columns) (mapping_named b.tables m)) (columns_same b)
+same_rows grain b (Lsfcmap (Some m) delim) = ap (λ columns. rows_of_one (view delim columns) (mapping_named b.tables m)) (columns_same b)
 same_rows grain b (Lsfcmapprogress m delim) =
-    ap (λ columns. of_one (λ (x : Mapping). listed delim columns (x ∷ [])) (mapping_named b.tables m)) (progress_columns_same b)
+    ap (λ columns. rows_of_one (λ (x : Mapping). listed delim columns (x ∷ [])) (mapping_named b.tables m)) (progress_columns_same b)
 same_rows grain b (Lsfcconsistgrp None delim) = refl
 same_rows grain b (Lsfcconsistgrp (Some group) delim) = refl
 same_rows grain b (Lsvdisk delim) = refl

@@ -4,7 +4,7 @@ ghost use Rattle.std.specs.Prelude.{◌≡◌, IfOk, OnOk, None};
 ghost use Rattle.fc_base.specs.declared.command.Command.{Command};
 ghost use Rattle.fc_books.specs.Books.{◌then◌, all_deeds};
 ghost use Rattle.fc_books.specs.Deciding.{with_work, decide};
-ghost use Rattle.fc_books.specs.Groups.{is_in};
+ghost use Rattle.fc_books.specs.Groups.{is_member};
 ghost use Rattle.fc_books.specs.Making.{remove_group};
 ghost use Rattle.fc_desk.specs.Control.{books_of};
 ghost use Rattle.fc_objects.specs.Leaving.{leaves_group};
@@ -65,7 +65,7 @@ fn remove_group<S: Sheet>(
 
 /// The members of the group leave it.
 fn draft_leaving(alloc: Global, mappings: &[Mapping], group: GroupId) -> Result<Draft, NoMemory>
-    ensures { IfOk result (λ draft. draft ≡ all_deeds (for_chosen (is_in group) leaves_group) mappings.now) }
+    ensures { IfOk result (λ draft. draft ≡ all_deeds (for_chosen (is_member group) leaves_group) mappings.now) }
 {
     let mut draft = Draft::new(alloc);
     for mapping in mappings {
@@ -81,7 +81,7 @@ fn leave_group(
     mapping: &Mapping,
     group: GroupId,
 ) -> Result<(), NoMemory>
-    ensures { OnOk result (draft.new ≡ (draft.old then for_chosen (is_in group) leaves_group mapping.now)) }
+    ensures { OnOk result (draft.new ≡ (draft.old then for_chosen (is_member group) leaves_group mapping.now)) }
 {
     if is_member(mapping, group) {
         let copy = copy_mapping(alloc, mapping)?;

@@ -20,11 +20,11 @@ use Rattle.fc_entry.specs.declared.entry.Entry.{Entry}
 use Rattle.fc_follow.specs.Following.{followed_entry}
 use Rattle.fc_legal.specs.Stands.{Stands}
 use Rattle.fc_legal.specs.Steps.{IsInside, LaneStep, AccessStep, TurnStep, RequestStep, after_access}
-use Rattle.fc_legal.specs.Whole.{Whole, lanes, lane_of_grain, lane_at, part_at, part_of_picture, part_of_rows, followed_at, all_grains, as_one}
+use Rattle.fc_legal.specs.Whole.{Whole, lanes, lane_of_grain, lane_at, part_at, part_of_picture, part_of_rows, followed_at, single_lane, as_one}
 use Rattle.fc_rules.specs.GrainAnswers.{ByAccess}
 use Rattle.fc_rules.specs.LaneFits.{FitsPart}
 use Rattle.fc_rules.specs.LaneRight.{VolumeWrite, MappingFill, CopyAnswers, CleanAnswers, TurnAnswers, LaneAnswers, IsRightInLane, done_write, record_of}
-use Rattle.fc_rules.specs.LaneTold.{LaneOf, LaneTold, place_of, grains_in, access_in, told_past, sheet_entry, picture_entry}
+use Rattle.fc_rules.specs.LaneTold.{LaneOf, LaneTold, place_of, grains_in, lane_access, told_past, sheet_entry, picture_entry}
 use Rattle.fc_rules.specs.LaneTurn.{spot_at, copied_slot, cleaned_slot, next_copy, next_clean}
 use Rattle.fc_rules.specs.Steps.{HasDoneNothing}
 use Rattle.fc_parts.specs.Law.{IsAt, IsOfLane, IsInVolume}
@@ -57,10 +57,10 @@ fill_at l told m number (Some k) entry a = outcome_at (spot_at l told number) _ 
 
 answers_at : (l : LaneOf) (told : LaneTold) (number : ℕ) (request : Request) (entry : Entry) → IsAt l.grain number request → LaneAnswers l told request entry → AllAt number entry
 answers_at l told number (Read part) entry at a =
-    access_at (access_in told.volumes part.volume) number entry _
+    access_at (lane_access told.volumes part.volume) number entry _
     (λ r. let n = read_nothing l.grain (spot_at l told (grain_of_block l.grain part.block)) part entry entry.reply r in nothing_at number entry n.0 n.1) a
 answers_at l told number (Write part) entry at a =
-    access_at (access_in told.volumes part.volume) number entry _
+    access_at (lane_access told.volumes part.volume) number entry _
     (λ r. subst (λ (z : ℕ). AllAt z entry) at (write_at l told part (live_place told.sheet.slots part.volume.0) entry r)) a
 answers_at l told number (Copy m g) entry at a =
     subst (λ (z : ℕ). AllAt z entry) at (fill_at l told m.0 g.0 (copied_slot told.sheet.slots m.0 (place_of l g.0)) entry a)
@@ -124,11 +124,11 @@ access_of_lane grain w number request at = (number, at, refl)
 
 -- What an entry of a lane answers by all, that is by all chains and all plain volumes.
 abbrev pub AnswersByAll : GrainSize → Whole → ℕ → Request → Entry → Type 0
-AnswersByAll grain w i (CopyTurn lane) entry = TurnAnswers (CopyAnswers (all_grains grain) (as_one w)) (next_copy (lane_at grain w i) (part_at grain w i)) entry
-AnswersByAll grain w i (CleanTurn lane) entry = TurnAnswers (CleanAnswers (all_grains grain) (as_one w)) (next_clean (lane_at grain w i) (part_at grain w i)) entry
-AnswersByAll grain w i request entry = LaneAnswers (all_grains grain) (as_one w) request entry
+AnswersByAll grain w i (CopyTurn lane) entry = TurnAnswers (CopyAnswers (single_lane grain) (as_one w)) (next_copy (lane_at grain w i) (part_at grain w i)) entry
+AnswersByAll grain w i (CleanTurn lane) entry = TurnAnswers (CleanAnswers (single_lane grain) (as_one w)) (next_clean (lane_at grain w i) (part_at grain w i)) entry
+AnswersByAll grain w i request entry = LaneAnswers (single_lane grain) (as_one w) request entry
 
-pub access_by_all : (grain : GrainSize) (w : Whole) (number : ℕ) (request : Request) (entry : Entry) → IsAt grain number request → LaneAnswers (all_grains grain) (as_one w) request entry →
+pub access_by_all : (grain : GrainSize) (w : Whole) (number : ℕ) (request : Request) (entry : Entry) → IsAt grain number request → LaneAnswers (single_lane grain) (as_one w) request entry →
     AnswersByAll grain w (lane_of_grain w number) request entry
 access_by_all grain w number (CopyTurn lane) entry at a = absurd at
 access_by_all grain w number (CleanTurn lane) entry at a = absurd at
@@ -139,12 +139,12 @@ pub by_all : (grain : GrainSize) (w : Whole) (i : ℕ) (request : Request) (entr
 by_all grain w i (CopyTurn lane) entry lt asked a =
     let l : LaneOf = lane_at grain w i in
     let small : LaneTold = part_at grain w i in
-    turn_map (CopyAnswers l small) (CopyAnswers (all_grains grain) (as_one w)) (next_copy l small) entry
+    turn_map (CopyAnswers l small) (CopyAnswers (single_lane grain) (as_one w)) (next_copy l small) entry
     (λ work e answers. copy_by_all l lt (as_one w) small (part_follows grain w i) work.0 work.1 entry (copied_of l lt small work e) answers) a
 by_all grain w i (CleanTurn lane) entry lt asked a =
     let l : LaneOf = lane_at grain w i in
     let small : LaneTold = part_at grain w i in
-    turn_map (CleanAnswers l small) (CleanAnswers (all_grains grain) (as_one w)) (next_clean l small) entry
+    turn_map (CleanAnswers l small) (CleanAnswers (single_lane grain) (as_one w)) (next_clean l small) entry
     (λ work e answers. clean_by_all l lt (as_one w) small (part_follows grain w i) work.0 work.1 entry (cleaned_of l lt small work e) answers) a
 by_all grain w i request entry lt asked a =
     answers_by_all (lane_at grain w i) lt (as_one w) (part_at grain w i) (part_follows grain w i) asked.0 asked.2 request entry asked.1 a
@@ -164,27 +164,27 @@ as_step grain w i Answers entry right answers =
 
 -- An access at a grain of the lane.
 access_step : (grain : GrainSize) (w : Whole) (i number : ℕ) (entry : Entry) → lane_of_grain w number ≡ i → IsRightInLane (lane_at grain w i) (part_at grain w i) entry →
-    LaneAnswers (all_grains grain) (as_one w) entry.request entry → AccessStep grain w number entry (after_access grain w i entry)
+    LaneAnswers (single_lane grain) (as_one w) entry.request entry → AccessStep grain w number entry (after_access grain w i entry)
 access_step grain w i number entry of right answers =
-    let Answers : Entry → Type 0 = λ e. LaneAnswers (all_grains grain) (as_one w) e.request e in
+    let Answers : Entry → Type 0 = λ e. LaneAnswers (single_lane grain) (as_one w) e.request e in
     subst (λ (j : ℕ). LaneStep grain w j Answers entry (after_access grain w i entry)) (sym of) (as_step grain w i Answers entry right answers)
 
 request_step : (grain : GrainSize) (w : Whole) (i : ℕ) (entry : Entry) → i < lanes w → IsRightInLane (lane_at grain w i) (part_at grain w i) entry →
     (request : Request) → entry.request ≡ request → IsOfLane grain w i request → IsInVolume grain w request → AnswersByAll grain w i request entry →
     RequestStep grain w request entry (after_access grain w i entry)
 request_step grain w i entry lt right (Read part) e asked inside a =
-    (inside, access_step grain w i (grain_of_block grain part.block) entry (ap (lane_of_grain w) asked.1 ∙ asked.2) right (subst (λ (r : Request). LaneAnswers (all_grains grain) (as_one w) r entry) (sym e) a))
+    (inside, access_step grain w i (grain_of_block grain part.block) entry (ap (lane_of_grain w) asked.1 ∙ asked.2) right (subst (λ (r : Request). LaneAnswers (single_lane grain) (as_one w) r entry) (sym e) a))
 request_step grain w i entry lt right (Write part) e asked inside a =
-    (inside, access_step grain w i (grain_of_block grain part.block) entry (ap (lane_of_grain w) asked.1 ∙ asked.2) right (subst (λ (r : Request). LaneAnswers (all_grains grain) (as_one w) r entry) (sym e) a))
+    (inside, access_step grain w i (grain_of_block grain part.block) entry (ap (lane_of_grain w) asked.1 ∙ asked.2) right (subst (λ (r : Request). LaneAnswers (single_lane grain) (as_one w) r entry) (sym e) a))
 request_step grain w i entry lt right (Copy m g) e asked inside a =
-    access_step grain w i g.0 entry (ap (lane_of_grain w) asked.1 ∙ asked.2) right (subst (λ (r : Request). LaneAnswers (all_grains grain) (as_one w) r entry) (sym e) a)
+    access_step grain w i g.0 entry (ap (lane_of_grain w) asked.1 ∙ asked.2) right (subst (λ (r : Request). LaneAnswers (single_lane grain) (as_one w) r entry) (sym e) a)
 request_step grain w i entry lt right (Clean m g) e asked inside a =
-    access_step grain w i g.0 entry (ap (lane_of_grain w) asked.1 ∙ asked.2) right (subst (λ (r : Request). LaneAnswers (all_grains grain) (as_one w) r entry) (sym e) a)
+    access_step grain w i g.0 entry (ap (lane_of_grain w) asked.1 ∙ asked.2) right (subst (λ (r : Request). LaneAnswers (single_lane grain) (as_one w) r entry) (sym e) a)
 request_step grain w i entry lt right (CopyTurn lane) e asked inside a =
-    subst (λ (j : ℕ). TurnStep grain w j (CopyAnswers (all_grains grain) (as_one w)) (next_copy (lane_at grain w j) (part_at grain w j)) entry (after_access grain w i entry)) (sym asked)
+    subst (λ (j : ℕ). TurnStep grain w j (CopyAnswers (single_lane grain) (as_one w)) (next_copy (lane_at grain w j) (part_at grain w j)) entry (after_access grain w i entry)) (sym asked)
     (record { within = lt; step = as_step grain w i _ entry right a })
 request_step grain w i entry lt right (CleanTurn lane) e asked inside a =
-    subst (λ (j : ℕ). TurnStep grain w j (CleanAnswers (all_grains grain) (as_one w)) (next_clean (lane_at grain w j) (part_at grain w j)) entry (after_access grain w i entry)) (sym asked)
+    subst (λ (j : ℕ). TurnStep grain w j (CleanAnswers (single_lane grain) (as_one w)) (next_clean (lane_at grain w j) (part_at grain w j)) entry (after_access grain w i entry)) (sym asked)
     (record { within = lt; step = as_step grain w i _ entry right a })
 request_step grain w i entry lt right request e asked inside a = absurd asked.1
 

@@ -17,7 +17,7 @@ use Rattle.fc_base.specs.declared.request.WritePart.{WritePart}
 use Rattle.fc_base.specs.declared.size.GrainSize.{GrainSize}
 use Rattle.fc_entry.specs.Picture.{Content, Lost, PlainVolume, Picture, content_at, changed_at, grain_of_block, byte_in_grain, written}
 use Rattle.fc_entry.specs.PlainStep.{after_write, after_torn, after_request, after_loss}
-use Rattle.fc_legal.specs.Whole.{part, part_of_slot, part_of_sheet, part_of_volume, part_of_picture, all_grains}
+use Rattle.fc_legal.specs.Whole.{part, part_of_slot, part_of_sheet, part_of_volume, part_of_picture, single_lane}
 use Rattle.fc_rules.specs.LaneRight.{done_write}
 use Rattle.fc_rules.specs.LaneTold.{LaneOf, place_of, sheet_move, sheet_write, sheet_tear, sheet_entry, write_volume, picture_write, tear_volume, picture_tear, picture_entry}
 use Rattle.fc_parts.proofs.Numbers.{IsLane, IsOf, of_same, all_place, part_at_grain, part_set, part_set_other}
@@ -105,25 +105,25 @@ torn_here : (l : LaneOf) → IsLane l → (v number : ℕ) (side : Side) (s : Sh
 torn_here l i v number Now s is_of = all_parted l _ _ (taken_here l i v number is_of) s.births s.slots
 torn_here l i v number Under s is_of = all_parted l _ _ (lost_here l i v number is_of) s.births s.slots
 
-move_here : (l : LaneOf) → IsLane l → (s : Sheet) (m : Move) → IsOf l m.grain.0 → part_of_sheet l (sheet_move (all_grains l.grain) s m) ≡ sheet_move l (part_of_sheet l s) m
+move_here : (l : LaneOf) → IsLane l → (s : Sheet) (m : Move) → IsOf l m.grain.0 → part_of_sheet l (sheet_move (single_lane l.grain) s m) ≡ sheet_move l (part_of_sheet l s) m
 move_here l i s m is_of =
     ap (λ x. part_of_sheet l (sheet_moved m.volume.0 x m.in_place s)) (all_place l.grain m.grain.0) ∙ moved_here l i m.volume.0 m.grain.0 m.in_place s is_of
 
 moves_here : (l : LaneOf) → IsLane l → (number : ℕ) → IsOf l number → (s : Sheet) (moves : List Move) → MovesAt number moves →
-    part_of_sheet l (fold (sheet_move (all_grains l.grain)) s moves) ≡ fold (sheet_move l) (part_of_sheet l s) moves
+    part_of_sheet l (fold (sheet_move (single_lane l.grain)) s moves) ≡ fold (sheet_move l) (part_of_sheet l s) moves
 moves_here l i number is_of s [] at = refl
 moves_here l i number is_of s (m ∷ ms) at =
-    moves_here l i number is_of (sheet_move (all_grains l.grain) s m) ms at.1
+    moves_here l i number is_of (sheet_move (single_lane l.grain) s m) ms at.1
     ∙ ap (λ (z : Sheet). fold (sheet_move l) z ms) (move_here l i s m (of_same l m.grain.0 number at.0 is_of))
 
 write_here : (l : LaneOf) → IsLane l → (number : ℕ) → IsOf l number → (s : Sheet) (write : Option WritePart) → WriteAt l.grain number write →
-    part_of_sheet l (sheet_write (all_grains l.grain) s write) ≡ sheet_write l (part_of_sheet l s) write
+    part_of_sheet l (sheet_write (single_lane l.grain) s write) ≡ sheet_write l (part_of_sheet l s) write
 write_here l i number is_of s None at = refl
 write_here l i number is_of s (Some part) at =
     ap (λ x. part_of_sheet l (sheet_written part.volume.0 x s)) (all_place l.grain (grain_of_block l.grain part.block))
     ∙ written_here l i part.volume.0 (grain_of_block l.grain part.block) s (of_same l (grain_of_block l.grain part.block) number at is_of)
 
-tear_here : (l : LaneOf) → IsLane l → (number : ℕ) → IsOf l number → (s : Sheet) (torn : Option Torn) → TornAt number torn → part_of_sheet l (sheet_tear (all_grains l.grain) s torn) ≡ sheet_tear l (part_of_sheet l s) torn
+tear_here : (l : LaneOf) → IsLane l → (number : ℕ) → IsOf l number → (s : Sheet) (torn : Option Torn) → TornAt number torn → part_of_sheet l (sheet_tear (single_lane l.grain) s torn) ≡ sheet_tear l (part_of_sheet l s) torn
 tear_here l i number is_of s None at = refl
 tear_here l i number is_of s (Some torn) at =
     ap (λ x. part_of_sheet l (sheet_torn torn.volume.0 x torn.side s)) (all_place l.grain torn.grain.0)
@@ -131,9 +131,9 @@ tear_here l i number is_of s (Some torn) at =
 
 pub sheet_here : (l : LaneOf) → IsLane l → (number : ℕ) → IsOf l number → (s : Sheet) (write : Option WritePart) (moves : List Move) (torn : Option Torn) →
     WriteAt l.grain number write → MovesAt number moves → TornAt number torn →
-    part_of_sheet l (sheet_entry (all_grains l.grain) s write moves torn) ≡ sheet_entry l (part_of_sheet l s) write moves torn
+    part_of_sheet l (sheet_entry (single_lane l.grain) s write moves torn) ≡ sheet_entry l (part_of_sheet l s) write moves torn
 sheet_here l i number is_of s write moves torn w m t =
-    let all : LaneOf = all_grains l.grain in
+    let all : LaneOf = single_lane l.grain in
     let moved : Sheet = fold (sheet_move all) s moves in
     tear_here l i number is_of (sheet_write all moved write) torn t
     ∙ (ap (λ z. sheet_tear l z torn) (write_here l i number is_of moved write w)
@@ -150,28 +150,28 @@ torn_away l i v number Now s other = all_unseen l _ (taken_away l i v number oth
 torn_away l i v number Under s other = all_unseen l _ (lost_away l i v number other) s.births s.slots
 
 -- so is a number that is the same by way of the lane of all grains
-pub away_same : (l : LaneOf) (x number : ℕ) → x ≡ number → number % l.lanes ≢ l.lane → place_of (all_grains l.grain) x % l.lanes ≢ l.lane
+pub away_same : (l : LaneOf) (x number : ℕ) → x ≡ number → number % l.lanes ≢ l.lane → place_of (single_lane l.grain) x % l.lanes ≢ l.lane
 away_same l x number e other q = other (sym (ap (λ z. z % l.lanes) (all_place l.grain x ∙ e)) ∙ q)
 
-moves_away : (l : LaneOf) → IsLane l → (number : ℕ) → number % l.lanes ≢ l.lane → (s : Sheet) (moves : List Move) → MovesAt number moves → part_of_sheet l (fold (sheet_move (all_grains l.grain)) s moves) ≡ part_of_sheet l s
+moves_away : (l : LaneOf) → IsLane l → (number : ℕ) → number % l.lanes ≢ l.lane → (s : Sheet) (moves : List Move) → MovesAt number moves → part_of_sheet l (fold (sheet_move (single_lane l.grain)) s moves) ≡ part_of_sheet l s
 moves_away l i number other s [] at = refl
 moves_away l i number other s (m ∷ ms) at =
-    moves_away l i number other (sheet_move (all_grains l.grain) s m) ms at.1
-    ∙ moved_away l i m.volume.0 (place_of (all_grains l.grain) m.grain.0) m.in_place s (away_same l m.grain.0 number at.0 other)
+    moves_away l i number other (sheet_move (single_lane l.grain) s m) ms at.1
+    ∙ moved_away l i m.volume.0 (place_of (single_lane l.grain) m.grain.0) m.in_place s (away_same l m.grain.0 number at.0 other)
 
-write_away : (l : LaneOf) → IsLane l → (number : ℕ) → number % l.lanes ≢ l.lane → (s : Sheet) (write : Option WritePart) → WriteAt l.grain number write → part_of_sheet l (sheet_write (all_grains l.grain) s write) ≡ part_of_sheet l s
+write_away : (l : LaneOf) → IsLane l → (number : ℕ) → number % l.lanes ≢ l.lane → (s : Sheet) (write : Option WritePart) → WriteAt l.grain number write → part_of_sheet l (sheet_write (single_lane l.grain) s write) ≡ part_of_sheet l s
 write_away l i number other s None at = refl
 write_away l i number other s (Some part) at =
-    all_unseen l _ (taken_away l i part.volume.0 (place_of (all_grains l.grain) (grain_of_block l.grain part.block)) (away_same l (grain_of_block l.grain part.block) number at other)) s.births s.slots
+    all_unseen l _ (taken_away l i part.volume.0 (place_of (single_lane l.grain) (grain_of_block l.grain part.block)) (away_same l (grain_of_block l.grain part.block) number at other)) s.births s.slots
 
-tear_away : (l : LaneOf) → IsLane l → (number : ℕ) → number % l.lanes ≢ l.lane → (s : Sheet) (torn : Option Torn) → TornAt number torn → part_of_sheet l (sheet_tear (all_grains l.grain) s torn) ≡ part_of_sheet l s
+tear_away : (l : LaneOf) → IsLane l → (number : ℕ) → number % l.lanes ≢ l.lane → (s : Sheet) (torn : Option Torn) → TornAt number torn → part_of_sheet l (sheet_tear (single_lane l.grain) s torn) ≡ part_of_sheet l s
 tear_away l i number other s None at = refl
-tear_away l i number other s (Some torn) at = torn_away l i torn.volume.0 (place_of (all_grains l.grain) torn.grain.0) torn.side s (away_same l torn.grain.0 number at other)
+tear_away l i number other s (Some torn) at = torn_away l i torn.volume.0 (place_of (single_lane l.grain) torn.grain.0) torn.side s (away_same l torn.grain.0 number at other)
 
 pub sheet_away : (l : LaneOf) → IsLane l → (number : ℕ) → number % l.lanes ≢ l.lane → (s : Sheet) (write : Option WritePart) (moves : List Move) (torn : Option Torn) →
-    WriteAt l.grain number write → MovesAt number moves → TornAt number torn → part_of_sheet l (sheet_entry (all_grains l.grain) s write moves torn) ≡ part_of_sheet l s
+    WriteAt l.grain number write → MovesAt number moves → TornAt number torn → part_of_sheet l (sheet_entry (single_lane l.grain) s write moves torn) ≡ part_of_sheet l s
 sheet_away l i number other s write moves torn w m t =
-    let all : LaneOf = all_grains l.grain in
+    let all : LaneOf = single_lane l.grain in
     let moved : Sheet = fold (sheet_move all) s moves in
     tear_away l i number other (sheet_write all moved write) torn t ∙ (write_away l i number other moved write w ∙ moves_away l i number other s moves m)
 

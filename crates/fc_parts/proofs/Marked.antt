@@ -16,10 +16,10 @@ use Rattle.fc_entry.specs.Picture.{grain_of_block}
 use Rattle.fc_entry.specs.declared.entry.Entry.{Entry}
 use Rattle.fc_rules.specs.GrainAnswers.{ByAccess, HasRead, ReadAnswers, WriteAnswers, FillAnswers}
 use Rattle.fc_rules.specs.LaneRight.{VolumeWrite, MappingFill, CopyAnswers, CleanAnswers, TurnAnswers, LaneAnswers, IsRightInLane}
-use Rattle.fc_rules.specs.LaneTold.{LaneOf, LaneTold, place_of, access_in}
+use Rattle.fc_rules.specs.LaneTold.{LaneOf, LaneTold, place_of, lane_access}
 use Rattle.fc_rules.specs.LaneTurn.{spot_at, copied_slot, cleaned_slot, next_copy, next_clean}
 use Rattle.fc_rules.specs.Spot.{Spot}
-use Rattle.fc_rules.specs.Steps.{Step, HasDone, HasDoneNothing, StoppedAt, HasFailed, HasNoMemory}
+use Rattle.fc_rules.specs.Steps.{DiskStep, HasDone, HasDoneNothing, StoppedAt, HasFailed, HasNoMemory}
 
 -- The entry with this number, by this actor.
 abbrev pub marked : ℕ → ℕ → Entry → Entry
@@ -34,17 +34,17 @@ module _ (number actor : ℕ) (entry : Entry) where
   read_marked : (calls : ℕ) → HasRead calls entry → HasRead calls (marked number actor entry)
   read_marked calls h = record { moves = h.moves; untorn = h.untorn; calls_are = h.calls_are }
 
-  done_marked : (steps : List Step) → HasDone steps entry → HasDone steps (marked number actor entry)
+  done_marked : (steps : List DiskStep) → HasDone steps entry → HasDone steps (marked number actor entry)
   done_marked steps h = record { moves = h.moves; calls = h.calls; untorn = h.untorn }
 
-  stopped_marked : (steps : List Step) (step : Step) (extra : ℕ) → StoppedAt steps step extra entry → StoppedAt steps step extra (marked number actor entry)
+  stopped_marked : (steps : List DiskStep) (step : DiskStep) (extra : ℕ) → StoppedAt steps step extra entry → StoppedAt steps step extra (marked number actor entry)
   stopped_marked steps step extra h = record { before = h.before; after = h.after; steps_are = h.steps_are; moves = h.moves; calls = h.calls; within = h.within }
 
-  failed_marked : (spot : Spot) (steps : List Step) → HasFailed spot steps entry → HasFailed spot steps (marked number actor entry)
+  failed_marked : (spot : Spot) (steps : List DiskStep) → HasFailed spot steps entry → HasFailed spot steps (marked number actor entry)
   failed_marked spot steps h =
       record { step = h.step; extra = h.extra; stopped = stopped_marked steps h.step h.extra h.stopped; called = h.called; torn = h.torn; risen = h.risen }
 
-  starved_marked : (spot : Spot) (steps : List Step) → HasNoMemory spot steps entry → HasNoMemory spot steps (marked number actor entry)
+  starved_marked : (spot : Spot) (steps : List DiskStep) → HasNoMemory spot steps entry → HasNoMemory spot steps (marked number actor entry)
   starved_marked spot steps h =
       record { step = h.step; extra = h.extra; stopped = stopped_marked steps h.step h.extra h.stopped; untorn = h.untorn; thin = h.thin }
 
@@ -96,8 +96,8 @@ module _ (number actor : ℕ) (entry : Entry) where
     turn_marked Answers (Some work) f a = f work.0 work.1 a
 
     answers_marked : (request : Request) → LaneAnswers l told request entry → LaneAnswers l told request (marked number actor entry)
-    answers_marked (Read part) a = access_marked (access_in told.volumes part.volume) _ _ (reads_marked l.grain (spot_at l told (grain_of_block l.grain part.block)) part entry.reply) a
-    answers_marked (Write part) a = access_marked (access_in told.volumes part.volume) _ _ (volume_marked part (live_place told.sheet.slots part.volume.0)) a
+    answers_marked (Read part) a = access_marked (lane_access told.volumes part.volume) _ _ (reads_marked l.grain (spot_at l told (grain_of_block l.grain part.block)) part entry.reply) a
+    answers_marked (Write part) a = access_marked (lane_access told.volumes part.volume) _ _ (volume_marked part (live_place told.sheet.slots part.volume.0)) a
     answers_marked (Copy m grain) a = copy_marked m grain a
     answers_marked (Clean m grain) a = clean_marked m grain a
     answers_marked (CopyTurn lane) a = turn_marked (CopyAnswers l told) (next_copy l told) copy_marked a

@@ -15,7 +15,7 @@ use Rattle.fc_changed.specs.Notes.Note.{Began, Wrote, Left}
 use Rattle.fc_changed.specs.Row.{Row, after_note}
 use Rattle.fc_entry.specs.Picture.{grain_of_block}
 use Rattle.fc_follow.specs.Following.{slot_leaves, leaving, beginning, event_notes, rows_event, write_notes, side_notes, torn_notes}
-use Rattle.fc_legal.specs.Whole.{part, part_of_slot, part_of_rows, all_grains}
+use Rattle.fc_legal.specs.Whole.{part, part_of_slot, part_of_rows, single_lane}
 use Rattle.fc_rules.specs.LaneTold.{LaneOf, place_of, grains_in}
 use Rattle.fc_parts.proofs.Grains.{WriteAt, TornAt, away_same}
 use Rattle.fc_parts.proofs.Numbers.{IsLane, IsOf, of_same, all_place}
@@ -111,33 +111,33 @@ rows_agree l i slots rows e =
 
 -- ---- the notes of an entry, in the lane of its grain
 
-all_is_of : (l : LaneOf) (x number : ℕ) → x ≡ number → IsOf l number → IsOf l (place_of (all_grains l.grain) x)
-all_is_of l x number e is_of = of_same l (place_of (all_grains l.grain) x) number (all_place l.grain x ∙ e) is_of
+all_is_of : (l : LaneOf) (x number : ℕ) → x ≡ number → IsOf l number → IsOf l (place_of (single_lane l.grain) x)
+all_is_of l x number e is_of = of_same l (place_of (single_lane l.grain) x) number (all_place l.grain x ∙ e) is_of
 
-wrote_here : (l : LaneOf) (volume x : ℕ) → note_part l (Wrote volume (place_of (all_grains l.grain) x)) ≡ Wrote volume (place_of l x)
+wrote_here : (l : LaneOf) (volume x : ℕ) → note_part l (Wrote volume (place_of (single_lane l.grain) x)) ≡ Wrote volume (place_of l x)
 wrote_here l volume x = ap (λ z. Wrote volume (place_of l z)) (all_place l.grain x)
 
-written_part : (l : LaneOf) (write : Option WritePart) → map (note_part l) (write_notes (all_grains l.grain) write) ≡ write_notes l write
+written_part : (l : LaneOf) (write : Option WritePart) → map (note_part l) (write_notes (single_lane l.grain) write) ≡ write_notes l write
 written_part l None = refl
 written_part l (Some part) = ap (λ z. z ∷ []) (wrote_here l part.volume.0 (grain_of_block l.grain part.block))
 
-written_of : (l : LaneOf) (number : ℕ) → IsOf l number → (write : Option WritePart) → WriteAt l.grain number write → AreNotesOf l (write_notes (all_grains l.grain) write)
+written_of : (l : LaneOf) (number : ℕ) → IsOf l number → (write : Option WritePart) → WriteAt l.grain number write → AreNotesOf l (write_notes (single_lane l.grain) write)
 written_of l number is_of None at = tt
 written_of l number is_of (Some part) at = (all_is_of l (grain_of_block l.grain part.block) number at is_of, tt)
 
-side_part : (l : LaneOf) (torn : Torn) (side : Side) → map (note_part l) (side_notes (all_grains l.grain) torn side) ≡ side_notes l torn side
+side_part : (l : LaneOf) (torn : Torn) (side : Side) → map (note_part l) (side_notes (single_lane l.grain) torn side) ≡ side_notes l torn side
 side_part l torn Now = ap (λ z. z ∷ []) (wrote_here l torn.volume.0 torn.grain.0)
 side_part l torn Under = refl
 
-torn_part : (l : LaneOf) (torn : Option Torn) → map (note_part l) (torn_notes (all_grains l.grain) torn) ≡ torn_notes l torn
+torn_part : (l : LaneOf) (torn : Option Torn) → map (note_part l) (torn_notes (single_lane l.grain) torn) ≡ torn_notes l torn
 torn_part l None = refl
 torn_part l (Some torn) = side_part l torn torn.side
 
-side_of : (l : LaneOf) (number : ℕ) → IsOf l number → (torn : Torn) (side : Side) → torn.grain.0 ≡ number → AreNotesOf l (side_notes (all_grains l.grain) torn side)
+side_of : (l : LaneOf) (number : ℕ) → IsOf l number → (torn : Torn) (side : Side) → torn.grain.0 ≡ number → AreNotesOf l (side_notes (single_lane l.grain) torn side)
 side_of l number is_of torn Now at = (all_is_of l torn.grain.0 number at is_of, tt)
 side_of l number is_of torn Under at = tt
 
-torn_of : (l : LaneOf) (number : ℕ) → IsOf l number → (torn : Option Torn) → TornAt number torn → AreNotesOf l (torn_notes (all_grains l.grain) torn)
+torn_of : (l : LaneOf) (number : ℕ) → IsOf l number → (torn : Option Torn) → TornAt number torn → AreNotesOf l (torn_notes (single_lane l.grain) torn)
 torn_of l number is_of None at = tt
 torn_of l number is_of (Some torn) at = side_of l number is_of torn torn.side at
 
@@ -146,9 +146,9 @@ notes_of l write torn = write_notes l write ++ torn_notes l torn
 
 pub rows_here : (l : LaneOf) → IsLane l → (number : ℕ) → IsOf l number → (rows : List Row) (write : Option WritePart) (torn : Option Torn) →
     WriteAt l.grain number write → TornAt number torn →
-    part_of_rows l (fold after_note rows (notes_of (all_grains l.grain) write torn)) ≡ fold after_note (part_of_rows l rows) (notes_of l write torn)
+    part_of_rows l (fold after_note rows (notes_of (single_lane l.grain) write torn)) ≡ fold after_note (part_of_rows l rows) (notes_of l write torn)
 rows_here l i number is_of rows write torn w t =
-    let all : LaneOf = all_grains l.grain in
+    let all : LaneOf = single_lane l.grain in
     all_note_parts l i rows (notes_of all write torn)
     (notes_of_both l (write_notes all write) (torn_notes all torn) (written_of l number is_of write w) (torn_of l number is_of torn t))
     ∙ ap (fold after_note (part_of_rows l rows))
@@ -172,21 +172,21 @@ unseen l i rows [] are = refl
 unseen l i rows (Wrote volume grain ∷ notes) are = unseen l i (after_note rows (Wrote volume grain)) notes are.1 ∙ write_unseen l i volume grain are.0 rows
 unseen l i rows (note ∷ notes) are = absurd are
 
-written_away : (l : LaneOf) (number : ℕ) → number % l.lanes ≢ l.lane → (write : Option WritePart) → WriteAt l.grain number write → AreAway l (write_notes (all_grains l.grain) write)
+written_away : (l : LaneOf) (number : ℕ) → number % l.lanes ≢ l.lane → (write : Option WritePart) → WriteAt l.grain number write → AreAway l (write_notes (single_lane l.grain) write)
 written_away l number other None at = tt
 written_away l number other (Some part) at = (away_same l (grain_of_block l.grain part.block) number at other, tt)
 
-side_away : (l : LaneOf) (number : ℕ) → number % l.lanes ≢ l.lane → (torn : Torn) (side : Side) → torn.grain.0 ≡ number → AreAway l (side_notes (all_grains l.grain) torn side)
+side_away : (l : LaneOf) (number : ℕ) → number % l.lanes ≢ l.lane → (torn : Torn) (side : Side) → torn.grain.0 ≡ number → AreAway l (side_notes (single_lane l.grain) torn side)
 side_away l number other torn Now at = (away_same l torn.grain.0 number at other, tt)
 side_away l number other torn Under at = tt
 
-torn_away : (l : LaneOf) (number : ℕ) → number % l.lanes ≢ l.lane → (torn : Option Torn) → TornAt number torn → AreAway l (torn_notes (all_grains l.grain) torn)
+torn_away : (l : LaneOf) (number : ℕ) → number % l.lanes ≢ l.lane → (torn : Option Torn) → TornAt number torn → AreAway l (torn_notes (single_lane l.grain) torn)
 torn_away l number other None at = tt
 torn_away l number other (Some torn) at = side_away l number other torn torn.side at
 
 pub rows_away : (l : LaneOf) → IsLane l → (number : ℕ) → number % l.lanes ≢ l.lane → (rows : List Row) (write : Option WritePart) (torn : Option Torn) →
-    WriteAt l.grain number write → TornAt number torn → part_of_rows l (fold after_note rows (notes_of (all_grains l.grain) write torn)) ≡ part_of_rows l rows
+    WriteAt l.grain number write → TornAt number torn → part_of_rows l (fold after_note rows (notes_of (single_lane l.grain) write torn)) ≡ part_of_rows l rows
 rows_away l i number other rows write torn w t =
-    let all : LaneOf = all_grains l.grain in
+    let all : LaneOf = single_lane l.grain in
     unseen l i rows (notes_of all write torn)
     (away_both l (write_notes all write) (torn_notes all torn) (written_away l number other write w) (torn_away l number other torn t))

@@ -5,7 +5,7 @@ use Rattle.std.proofs.lemmas.List.{get_or_default, get_or_past, same_lists, leng
 use Rattle.std.proofs.lemmas.List.FromFn.{length-map-range_with_len, get_or-map-range_with_len}
 use Rattle.std.proofs.lemmas.Nat.{mul-le, le-div, div-add-mod', div-mul-add, mod-mul-add}
 use Rattle.fc_base.specs.declared.size.GrainSize.{GrainSize}
-use Rattle.fc_legal.specs.Whole.{part, all_grains}
+use Rattle.fc_legal.specs.Whole.{part, single_lane}
 use Rattle.fc_rules.specs.LaneTold.{LaneOf, place_of, number_at, grains_in}
 
 -- ---- plain numbers
@@ -69,7 +69,7 @@ none_in l i =
 
 -- ---- the lane of all grains
 
-pub all_place : (grain : GrainSize) (number : ℕ) → place_of (all_grains grain) number ≡ number
+pub all_place : (grain : GrainSize) (number : ℕ) → place_of (single_lane grain) number ≡ number
 all_place grain number = div-one number
 
 -- ---- the part of a list

@@ -16,19 +16,20 @@ use Rattle.fc_pictures.specs.LaneLaw.{torn_of}
 use Rattle.fc_pictures.proofs.Agreeing.{lane_law_holds}
 use Rattle.fc_rules.specs.GrainAnswers.{ReadAnswers, WriteAnswers, FillAnswers}
 use Rattle.fc_rules.specs.LaneRight.{done_write}
-use Rattle.fc_rules.specs.Spot.{Spot, is_lost, move_in}
-use Rattle.fc_rules.specs.Steps.{Step, step_of_move, own_step, steps_of_fill, steps_of_write, moves_of, StoppedAt, torn_by}
+use Rattle.fc_entry.specs.Picture.{is_lost}
+use Rattle.fc_rules.specs.Spot.{Spot, move_in}
+use Rattle.fc_rules.specs.Steps.{DiskStep, step_of_move, own_step, steps_of_fill, steps_of_write, moves_of, StoppedAt, torn_by}
 use Rattle.fc_parts.proofs.Grains.{MovesAt, TornAt}
 
 -- Of the moves of these slots and the write after them, if there is one (`owns`).
-pub data Outcome (spot : Spot) (ks : List ℕ) (owns : List Step) (entry : Entry) (write : Option WritePart) : Type 0 where
+pub data Outcome (spot : Spot) (ks : List ℕ) (owns : List DiskStep) (entry : Entry) (write : Option WritePart) : Type 0 where
   nothing : entry.moves ≡ [] → entry.torn ≡ None → write ≡ None → Outcome spot ks owns entry write
   stopped : (done rest : List ℕ) (k : ℕ) → ks ≡ done ++ k ∷ rest → entry.moves ≡ map (move_in spot) done → entry.torn ≡ None → write ≡ None → Outcome spot ks owns entry write
   torn_move : (done rest : List ℕ) (k : ℕ) → ks ≡ done ++ k ∷ rest → entry.moves ≡ map (move_in spot) done → is_in_place spot.column k ≡ false →
       entry.torn ≡ Some (torn_of spot (step_of_move spot k)) → write ≡ None → Outcome spot ks owns entry write
   all_made : entry.moves ≡ map (move_in spot) ks → entry.torn ≡ None → write ≡ None → Outcome spot ks owns entry write
-  torn_own : (own : Step) → owns ≡ own ∷ [] → entry.moves ≡ map (move_in spot) ks → entry.torn ≡ Some (torn_of spot own) → write ≡ None → Outcome spot ks owns entry write
-  is_written : (own : Step) (part : WritePart) → owns ≡ own ∷ [] → entry.moves ≡ map (move_in spot) ks → entry.torn ≡ None → write ≡ Some part → Outcome spot ks owns entry write
+  torn_own : (own : DiskStep) → owns ≡ own ∷ [] → entry.moves ≡ map (move_in spot) ks → entry.torn ≡ Some (torn_of spot own) → write ≡ None → Outcome spot ks owns entry write
+  is_written : (own : DiskStep) (part : WritePart) → owns ≡ own ∷ [] → entry.moves ≡ map (move_in spot) ks → entry.torn ≡ None → write ≡ Some part → Outcome spot ks owns entry write
 
 -- ---- where steps stop
 
@@ -36,7 +37,7 @@ moves_map : (spot : Spot) (ks : List ℕ) → moves_of (map (step_of_move spot) 
 moves_map spot ks = lane_law_holds.moves_told spot ks
 
 -- at a move
-record AtMove (spot : Spot) (ks : List ℕ) (before : List Step) (step : Step) : Type 0 where
+record AtMove (spot : Spot) (ks : List ℕ) (before : List DiskStep) (step : DiskStep) : Type 0 where
   done : List ℕ
   rest : List ℕ
   slot : ℕ
@@ -45,8 +46,8 @@ record AtMove (spot : Spot) (ks : List ℕ) (before : List Step) (step : Step) :
   step_is : step ≡ step_of_move spot slot
 
 -- or past all of them
-record PastMoves (spot : Spot) (ks : List ℕ) (owns before after : List Step) (step : Step) : Type 0 where
-  tail : List Step
+record PastMoves (spot : Spot) (ks : List ℕ) (owns before after : List DiskStep) (step : DiskStep) : Type 0 where
+  tail : List DiskStep
   before_is : before ≡ map (step_of_move spot) ks ++ tail
   owns_are : owns ≡ tail ++ step ∷ after
 
@@ -56,7 +57,7 @@ head_is x y xs ys e = cc
 tail_is : {X : Type 0} → (x y : X) (xs ys : List X) → x ∷ xs ≡ y ∷ ys → xs ≡ ys
 tail_is x y xs ys e = cc
 
-where_stopped : (spot : Spot) (ks : List ℕ) (owns before after : List Step) (step : Step) → map (step_of_move spot) ks ++ owns ≡ before ++ step ∷ after → AtMove spot ks before step ⊎ PastMoves spot ks owns before after step
+where_stopped : (spot : Spot) (ks : List ℕ) (owns before after : List DiskStep) (step : DiskStep) → map (step_of_move spot) ks ++ owns ≡ before ++ step ∷ after → AtMove spot ks before step ⊎ PastMoves spot ks owns before after step
 where_stopped spot [] owns before after step e = inr (record { tail = before; before_is = refl; owns_are = e })
 where_stopped spot (k ∷ ks) owns [] after step e =
     inl (record { done = []; rest = ks; slot = k; split = refl; before_is = refl; step_is = sym (head_is (step_of_move spot k) step _ _ e) })
@@ -75,18 +76,18 @@ where_stopped spot (k ∷ ks) owns (b ∷ before) after step e =
     ]
 
 -- the one step after the moves is the write
-one_own : (own step : Step) (tail after : List Step) → own ∷ [] ≡ tail ++ step ∷ after → (tail ≡ []) × (own ≡ step)
+one_own : (own step : DiskStep) (tail after : List DiskStep) → own ∷ [] ≡ tail ++ step ∷ after → (tail ≡ []) × (own ≡ step)
 one_own own step [] after e = (refl, head_is own step [] after e)
 one_own own step (x ∷ []) after e = absurd (let f : [] ≡ step ∷ after = tail_is own x [] (step ∷ after) e in cc)
 one_own own step (x ∷ (y ∷ tail)) after e = absurd (let f : [] ≡ y ∷ (tail ++ step ∷ after) = tail_is own x [] (y ∷ (tail ++ step ∷ after)) e in cc)
 
-no_own : (step : Step) (tail after : List Step) → [] ≡ tail ++ step ∷ after → ⊥
+no_own : (step : DiskStep) (tail after : List DiskStep) → [] ≡ tail ++ step ∷ after → ⊥
 no_own step [] after e = cc
 no_own step (x ∷ tail) after e = cc
 
 -- ---- what is torn
 
-torn_ways : (spot : Spot) (step : Step) (extra : ℕ) → (torn_by spot step extra ≡ None) ⊎ ((torn_by spot step extra ≡ Some (torn_of spot step)) × (extra ≡ step.calls))
+torn_ways : (spot : Spot) (step : DiskStep) (extra : ℕ) → (torn_by spot step extra ≡ None) ⊎ ((torn_by spot step extra ≡ Some (torn_of spot step)) × (extra ≡ step.calls))
 torn_ways spot step extra =
     elim (cases_Bool (eqb extra step.calls)) [
       | inl y ↦ inr (ap (λ b. cond b (Some (torn_of spot step)) None) y, eqb-true extra step.calls y)
@@ -100,15 +101,15 @@ calls_out false lost le = refl
 
 -- ---- outcomes
 
-record StoppedAs (spot : Spot) (step : Step) (extra : ℕ) (torn : Option Torn) : Type 0 where
+record StoppedAs (spot : Spot) (step : DiskStep) (extra : ℕ) (torn : Option Torn) : Type 0 where
   called : 1 ≤ extra
   is_torn : torn ≡ torn_by spot step extra
 
 -- stopped by a call that failed, or for want of memory
-abbrev WhyStopped : Spot → Step → ℕ → Option Torn → Type 0
+abbrev WhyStopped : Spot → DiskStep → ℕ → Option Torn → Type 0
 WhyStopped spot step extra torn = (torn ≡ None) ⊎ StoppedAs spot step extra torn
 
-stopped_outcome : (spot : Spot) (ks : List ℕ) (owns : List Step) (entry : Entry) (write : Option WritePart) (step : Step) (extra : ℕ) → ((s : Step) (t a : List Step) → owns ≡ t ++ s ∷ a → (owns ≡ s ∷ []) × (t ≡ [])) →
+stopped_outcome : (spot : Spot) (ks : List ℕ) (owns : List DiskStep) (entry : Entry) (write : Option WritePart) (step : DiskStep) (extra : ℕ) → ((s : DiskStep) (t a : List DiskStep) → owns ≡ t ++ s ∷ a → (owns ≡ s ∷ []) × (t ≡ [])) →
     StoppedAt (map (step_of_move spot) ks ++ owns) step extra entry → WhyStopped spot step extra entry.torn → write ≡ None → Outcome spot ks owns entry write
 stopped_outcome spot ks owns entry write step extra one st why none =
     elim (where_stopped spot ks owns st.before st.after step st.steps_are) [
@@ -119,8 +120,8 @@ stopped_outcome spot ks owns entry write step extra one st why none =
               | inl n ↦ stopped a.done a.rest a.slot a.split moves (w.is_torn ∙ n) none
               | inr t ↦ torn_move a.done a.rest a.slot a.split moves
                   (calls_out (is_in_place spot.column a.slot) (is_lost (spot.now (spot.column.volume a.slot)))
-                  (let c : 1 ≤ extra = w.called in let e : extra ≡ (step_of_move spot a.slot).calls = t.1 ∙ ap (λ (z : Step). z.calls) a.step_is in subst (λ z. 1 ≤ z) e c))
-                  (w.is_torn ∙ (t.0 ∙ ap (λ (z : Step). Some (torn_of spot z)) a.step_is)) none
+                  (let c : 1 ≤ extra = w.called in let e : extra ≡ (step_of_move spot a.slot).calls = t.1 ∙ ap (λ (z : DiskStep). z.calls) a.step_is in subst (λ z. 1 ≤ z) e c))
+                  (w.is_torn ∙ (t.0 ∙ ap (λ (z : DiskStep). Some (torn_of spot z)) a.step_is)) none
             ]
           ]
       | inr p ↦ let o = one step p.tail st.after p.owns_are in
@@ -136,10 +137,10 @@ stopped_outcome spot ks owns entry write step extra one st why none =
 
 -- ---- of answers
 
-fill_stopped : (spot : Spot) (k : ℕ) (entry : Entry) (step : Step) (extra : ℕ) → StoppedAt (steps_of_fill spot k) step extra entry → WhyStopped spot step extra entry.torn → Outcome spot (fill_moves spot.column k) [] entry None
+fill_stopped : (spot : Spot) (k : ℕ) (entry : Entry) (step : DiskStep) (extra : ℕ) → StoppedAt (steps_of_fill spot k) step extra entry → WhyStopped spot step extra entry.torn → Outcome spot (fill_moves spot.column k) [] entry None
 fill_stopped spot k entry step extra st why =
     stopped_outcome spot (fill_moves spot.column k) [] entry None step extra (λ s t a e. absurd (no_own s t a e))
-    (subst (λ (z : List Step). StoppedAt z step extra entry) (sym (append-nil (steps_of_fill spot k))) st) why refl
+    (subst (λ (z : List DiskStep). StoppedAt z step extra entry) (sym (append-nil (steps_of_fill spot k))) st) why refl
 
 pub fill_outcome : (spot : Spot) (m k : ℕ) (entry : Entry) (reply : Reply) → FillAnswers spot m k entry reply → Outcome spot (fill_moves spot.column k) [] entry None
 fill_outcome spot m k entry (Moved map grain) a = all_made (a.2.moves ∙ moves_map spot (fill_moves spot.column k)) a.2.untorn refl
@@ -147,7 +148,7 @@ fill_outcome spot m k entry DiskFault a = fill_stopped spot k entry a.step a.ext
 fill_outcome spot m k entry NoMemory a = fill_stopped spot k entry a.step a.extra a.stopped (inl a.untorn)
 fill_outcome spot m k entry reply a = absurd a
 
-write_stopped : (grain : GrainSize) (spot : Spot) (part : WritePart) (t : ℕ) (entry : Entry) (step : Step) (extra : ℕ) → StoppedAt (steps_of_write grain spot part t) step extra entry → WhyStopped spot step extra entry.torn →
+write_stopped : (grain : GrainSize) (spot : Spot) (part : WritePart) (t : ℕ) (entry : Entry) (step : DiskStep) (extra : ℕ) → StoppedAt (steps_of_write grain spot part t) step extra entry → WhyStopped spot step extra entry.torn →
     Outcome spot (write_moves spot.column t) (own_step grain spot part t ∷ []) entry None
 write_stopped grain spot part t entry step extra st why =
     stopped_outcome spot (write_moves spot.column t) (own_step grain spot part t ∷ []) entry None step extra
@@ -191,10 +192,10 @@ made_at spot ks entry e = subst (λ (z : List Move). MovesAt spot.number z) (sym
 untorn_at : (number : ℕ) (entry : Entry) → entry.torn ≡ None → TornAt number entry.torn
 untorn_at number entry e = subst (λ (z : Option Torn). TornAt number z) (sym e) tt
 
-torn_at : (spot : Spot) (step : Step) (entry : Entry) → entry.torn ≡ Some (torn_of spot step) → TornAt spot.number entry.torn
+torn_at : (spot : Spot) (step : DiskStep) (entry : Entry) → entry.torn ≡ Some (torn_of spot step) → TornAt spot.number entry.torn
 torn_at spot step entry e = subst (λ (z : Option Torn). TornAt spot.number z) (sym e) refl
 
-pub outcome_at : (spot : Spot) (ks : List ℕ) (owns : List Step) (entry : Entry) (write : Option WritePart) → Outcome spot ks owns entry write → AllAt spot.number entry
+pub outcome_at : (spot : Spot) (ks : List ℕ) (owns : List DiskStep) (entry : Entry) (write : Option WritePart) → Outcome spot ks owns entry write → AllAt spot.number entry
 outcome_at spot ks owns entry write (nothing m t w) = nothing_at spot.number entry m t
 outcome_at spot ks owns entry write (stopped done rest k split m t w) = record { moves = made_at spot done entry m; torn = untorn_at spot.number entry t }
 outcome_at spot ks owns entry write (torn_move done rest k split m out t w) = record { moves = made_at spot done entry m; torn = torn_at spot (step_of_move spot k) entry t }

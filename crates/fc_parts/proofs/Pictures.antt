@@ -11,7 +11,7 @@ use Rattle.fc_base.specs.declared.size.GrainSize.{GrainSize}
 use Rattle.fc_entry.specs.Picture.{Content, Lost, PlainVolume, Picture, zeros, volume_in, changed_at}
 use Rattle.fc_entry.specs.PlainStep.{source_in, now_in, after_trigger}
 use Rattle.fc_legal.proofs.Events.{all_in}
-use Rattle.fc_legal.specs.Whole.{part, part_of_volume, part_of_picture, all_grains}
+use Rattle.fc_legal.specs.Whole.{part, part_of_volume, part_of_picture, single_lane}
 use Rattle.fc_moves.proofs.Search.{cases_option}
 use Rattle.fc_pictures.proofs.Volumes.{length_cut}
 use Rattle.fc_rules.specs.LaneTold.{LaneOf, number_at, grains_in, cut_by, cut_volume, cut_at, leaves, picture_event}
@@ -43,7 +43,7 @@ changed_parts l id f f' agrees (v ∷ vs) = ap₂ (λ a b. a ∷ b) (by_test (v.
 abbrev zero_volume : VolId → GrainSize → ℕ → PlainVolume
 zero_volume id grain grains = record { volume = id; now = replicate grains (zeros grain); under = replicate grains (zeros grain) }
 
-zeros_part : (l : LaneOf) → IsLane l → (id : VolId) (grains : ℕ) → part_of_volume l (zero_volume id l.grain (grains_in (all_grains l.grain) grains)) ≡ zero_volume id l.grain (grains_in l grains)
+zeros_part : (l : LaneOf) → IsLane l → (id : VolId) (grains : ℕ) → part_of_volume l (zero_volume id l.grain (grains_in (single_lane l.grain) grains)) ≡ zero_volume id l.grain (grains_in l grains)
 zeros_part l i id grains =
     ap (λ (f : ℕ → ℕ). part_of_volume l (zero_volume id l.grain (f grains))) (all_in l.grain)
     ∙ ap (λ (z : List Content). let v : PlainVolume = record { volume = id; now = z; under = z } in v) (sym (part_replicate l i Lost grains (zeros l.grain)))
@@ -162,9 +162,9 @@ all_leave l i slots picture (m ∷ ms) = all_leave l i slots (leaves slots pictu
 -- ---- the events
 
 pub picture_agrees : (l : LaneOf) → IsLane l → (slots : List Slot) (picture : Picture) (e : LaneEvent) →
-    part_of_picture l (picture_event (all_grains l.grain) slots picture e) ≡ picture_event l (parts l slots) (part_of_picture l picture) e
+    part_of_picture l (picture_event (single_lane l.grain) slots picture e) ≡ picture_event l (parts l slots) (part_of_picture l picture) e
 picture_agrees l i slots picture (Make volume grains kind) =
-    map-append (part_of_volume l) picture (zero_volume volume l.grain (grains_in (all_grains l.grain) grains) ∷ [])
+    map-append (part_of_volume l) picture (zero_volume volume l.grain (grains_in (single_lane l.grain) grains) ∷ [])
     ∙ ap (λ z. part_of_picture l picture ++ z ∷ []) (zeros_part l i volume grains)
 picture_agrees l i slots picture (Remove volume) = without_parts l volume picture
 picture_agrees l i slots picture (Trigger pairs) = trigger_parts l i picture pairs picture

@@ -29,10 +29,10 @@ use Rattle.fc_pictures.proofs.Fitting.{move_fits, write_fits}
 use Rattle.fc_pictures.proofs.Running.{steps_law_holds}
 use Rattle.fc_rules.specs.GrainAnswers.{ByAccess}
 use Rattle.fc_rules.specs.LaneRight.{VolumeWrite, MappingFill, CopyAnswers, CleanAnswers, TurnAnswers, LaneAnswers, done_write}
-use Rattle.fc_rules.specs.LaneTold.{LaneOf, LaneTold, place_of, access_in, sheet_move, sheet_write, sheet_tear, sheet_entry}
+use Rattle.fc_rules.specs.LaneTold.{LaneOf, LaneTold, place_of, lane_access, sheet_move, sheet_write, sheet_tear, sheet_entry}
 use Rattle.fc_rules.specs.LaneTurn.{spot_at, copied_slot, cleaned_slot}
 use Rattle.fc_rules.specs.Spot.{Spot, move_in}
-use Rattle.fc_rules.specs.Steps.{Step, step_of_move, own_step, reads_own}
+use Rattle.fc_rules.specs.Steps.{DiskStep, step_of_move, own_step, reads_own}
 use Rattle.fc_sheets.proofs.Finding.{live_place_at}
 use Rattle.fc_sheets.proofs.Holding.{written_sound, torn_sound}
 use Rattle.fc_parts.specs.Law.{IsAt}
@@ -51,8 +51,8 @@ done_as : (l : LaneOf) (s : Sheet) (write write' : Option WritePart) (moves move
 done_as l s write write' moves moves' torn torn' w m t = λ i. sheet_entry l s (w i) (m i) (t i)
 
 -- what holds of the write after the moves
-record AfterMoves (l : LaneOf) (told : LaneTold) (number : ℕ) (ks : List ℕ) (owns : List Step) (write : Option WritePart) : Type 0 where
-  torn : (own : Step) → owns ≡ own ∷ [] → IsSound (sheet_tear l (sheet_after l told number ks) (Some (torn_of (spot_at l told number) own)))
+record AfterMoves (l : LaneOf) (told : LaneTold) (number : ℕ) (ks : List ℕ) (owns : List DiskStep) (write : Option WritePart) : Type 0 where
+  torn : (own : DiskStep) → owns ≡ own ∷ [] → IsSound (sheet_tear l (sheet_after l told number ks) (Some (torn_of (spot_at l told number) own)))
   done : (part : WritePart) → write ≡ Some part → IsSound (sheet_write l (sheet_after l told number ks) (Some part))
 
 torn_move_sound : (l : LaneOf) (told : LaneTold) (number : ℕ) (ks done rest : List ℕ) (k : ℕ) → MovesRun l told number ks → ks ≡ done ++ k ∷ rest → is_in_place (spot_at l told number).column k ≡ false →
@@ -64,7 +64,7 @@ torn_move_sound l told number ks done rest k run split out =
     let f = move_fits now.slots k g m.safe (sym m.mark ∙ out) in
     subst (λ (v : ℕ). IsSound (sheet_torn v g Under now)) (sym m.volume) (torn_sound now (slot_at now.slots k).volume g Under (run.reached done (k ∷ rest) split).sound f.0 (λ e. f.1))
 
-run_sound : (l : LaneOf) (told : LaneTold) (number : ℕ) (ks : List ℕ) (owns : List Step) (entry : Entry) (write : Option WritePart) → IsSound told.sheet → MovesRun l told number ks →
+run_sound : (l : LaneOf) (told : LaneTold) (number : ℕ) (ks : List ℕ) (owns : List DiskStep) (entry : Entry) (write : Option WritePart) → IsSound told.sheet → MovesRun l told number ks →
     AfterMoves l told number ks owns write → Outcome (spot_at l told number) ks owns entry write → DoneSound l told.sheet write entry.moves entry.torn
 run_sound l told number ks owns entry write sound run own (nothing m t w) = subst IsSound (sym (done_as l told.sheet write None entry.moves [] entry.torn None w m t)) sound
 run_sound l told number ks owns entry write sound run own (stopped done rest k split m t w) =
@@ -97,7 +97,7 @@ side_fits : (slots : List Slot) (g t : ℕ) (side : Side) → LosesSide slots g 
 side_fits slots g t Now own e = absurd cc
 side_fits slots g t Under own e = own
 
-own_is : (own own' : Step) → own ∷ [] ≡ own' ∷ [] → own ≡ own'
+own_is : (own own' : DiskStep) → own ∷ [] ≡ own' ∷ [] → own ≡ own'
 own_is own own' e = cc
 
 part_is : (part p : WritePart) (reply : Reply) → done_write (Write part) reply ≡ Some p → p ≡ part
@@ -120,7 +120,7 @@ after_write_moves l told part t reply sound place live =
     let after : IsSound now = ((steps_law_holds.write l told number t sound live).reached moves [] (sym (append-nil moves))).sound in
     let name : (slot_at now.slots t).volume ≡ part.volume.0 = sym w.volume ∙ (live_place_at told.sheet.slots part.volume.0 t place).of_volume in
     record {
-      torn = λ own e. subst (λ (z : Step). IsSound (sheet_tear l now (Some (torn_of spot z)))) (own_is (own_step l.grain spot part t) own e)
+      torn = λ own e. subst (λ (z : DiskStep). IsSound (sheet_tear l now (Some (torn_of spot z)))) (own_is (own_step l.grain spot part t) own e)
           (subst (λ (v : ℕ). IsSound (sheet_torn v g side now)) (sym w.volume)
           (torn_sound now (slot_at now.slots t).volume g side after f.0 (λ u. f.1 (side_fits now.slots g t side w.side_is u))));
       done = λ p e. subst (λ (z : WritePart). IsSound (sheet_write l now (Some z))) (sym (part_is part p reply e))
@@ -178,7 +178,7 @@ past_sound l told part t entry reply sound place out all (torn_own step o m e w)
     let spot : Spot = spot_at l told number in
     let now : Sheet = sheet_after l told number (write_moves spot.column t) in
     subst IsSound (sym (done_as l told.sheet _ None entry.moves _ entry.torn _ w m e))
-    (subst (λ (z : Step). IsSound (sheet_tear l now (Some (torn_of spot z)))) (own_is (own_step l.grain spot part t) step o)
+    (subst (λ (z : DiskStep). IsSound (sheet_tear l now (Some (torn_of spot z)))) (own_is (own_step l.grain spot part t) step o)
     (torn_at_past l told number t (own_step l.grain spot part t).side now sound out (moves_past l told number _ sound all)))
 past_sound l told part t entry reply sound place out all (is_written step p o m e w) =
     let number : ℕ = grain_of_block l.grain part.block in
@@ -242,11 +242,11 @@ clean_turn_sound l told work entry sound a = turn_sound l told (CleanAnswers l t
 pub entry_sound : (l : LaneOf) (told : LaneTold) (number : ℕ) (request : Request) (entry : Entry) → IsSound told.sheet → IsAt l.grain number request → LaneAnswers l told request entry →
     DoneSound l told.sheet (done_write request entry.reply) entry.moves entry.torn
 entry_sound l told number (Read part) entry sound at a =
-    access_sound l told.sheet None (access_in told.volumes part.volume) entry _ sound
+    access_sound l told.sheet None (lane_access told.volumes part.volume) entry _ sound
     (λ r. let n = read_nothing l.grain (spot_at l told (grain_of_block l.grain part.block)) part entry entry.reply r in nothing_sound l told.sheet None entry sound refl n.0 n.1)
     (λ n. refl) a
 entry_sound l told number (Write part) entry sound at a =
-    access_sound l told.sheet (done_write (Write part) entry.reply) (access_in told.volumes part.volume) entry _ sound
+    access_sound l told.sheet (done_write (Write part) entry.reply) (lane_access told.volumes part.volume) entry _ sound
     (write_sound l told part (live_place told.sheet.slots part.volume.0) entry sound refl)
     (not_done part entry.reply) a
 entry_sound l told number (Copy m g) entry sound at a = copy_sound l told m g entry sound a

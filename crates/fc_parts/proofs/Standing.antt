@@ -8,7 +8,7 @@ use Rattle.fc_entry.specs.Picture.{Picture}
 use Rattle.fc_entry.specs.declared.entry.Entry.{Entry}
 use Rattle.fc_legal.specs.Stands.{ArePlain, Stands}
 use Rattle.fc_legal.specs.Steps.{LaneStep, AccessStep, RequestStep, after_access}
-use Rattle.fc_legal.specs.Whole.{Whole, lanes, lane_of_grain, lane_at, part_at, all_grains, as_one}
+use Rattle.fc_legal.specs.Whole.{Whole, lanes, lane_of_grain, lane_at, part_at, single_lane, as_one}
 use Rattle.fc_pictures.proofs.Slots.{entry_stay}
 use Rattle.fc_rules.specs.LaneRight.{IsRightInLane, done_write}
 use Rattle.fc_rules.specs.LaneTold.{sheet_entry}
@@ -23,7 +23,7 @@ after_stands : (grain : GrainSize) (decisions : ℕ) (w : Whole) (i : ℕ) (entr
     Stands decisions (after_access grain w i entry)
 after_stands grain decisions w i entry before no_effects sound =
     let next : Whole = after_access grain w i entry in
-    let all = all_grains grain in
+    let all = single_lane grain in
     let s = entry_stay all w.books.sheet (done_write entry.request entry.reply) entry.moves entry.torn in
     let same : lanes next ≡ lanes w = length-set w.faults i entry.faults_after in
     record {
@@ -49,10 +49,10 @@ after_stands grain decisions w i entry before no_effects sound =
 
 -- What an entry of a lane answers by all leaves the chains sound.
 request_sound : (grain : GrainSize) (w : Whole) (i : ℕ) (request : Request) (entry : Entry) → IsSound w.books.sheet → IsOfLane grain w i request → AnswersByAll grain w i request entry →
-    IsSound (sheet_entry (all_grains grain) w.books.sheet (done_write request entry.reply) entry.moves entry.torn)
-request_sound grain w i (CopyTurn lane) entry sound asked a = copy_turn_sound (all_grains grain) (as_one w) _ entry sound a
-request_sound grain w i (CleanTurn lane) entry sound asked a = clean_turn_sound (all_grains grain) (as_one w) _ entry sound a
-request_sound grain w i request entry sound asked a = entry_sound (all_grains grain) (as_one w) asked.0 request entry sound asked.1 a
+    IsSound (sheet_entry (single_lane grain) w.books.sheet (done_write request entry.reply) entry.moves entry.torn)
+request_sound grain w i (CopyTurn lane) entry sound asked a = copy_turn_sound (single_lane grain) (as_one w) _ entry sound a
+request_sound grain w i (CleanTurn lane) entry sound asked a = clean_turn_sound (single_lane grain) (as_one w) _ entry sound a
+request_sound grain w i request entry sound asked a = entry_sound (single_lane grain) (as_one w) asked.0 request entry sound asked.1 a
 
 -- An entry of a lane that is right by all grains.
 pub step_stands : (grain : GrainSize) (decisions : ℕ) (w : Whole) (i : ℕ) (Answers : Entry → Type 0) (entry : Entry) (next : Whole) → Stands decisions w → IsOfLane grain w i entry.request →

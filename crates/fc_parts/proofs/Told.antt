@@ -18,7 +18,7 @@ use Rattle.fc_changed.specs.Row.{Row, is_of, row_names, restart_in}
 use Rattle.fc_follow.specs.Following.{Followed, rows_event, restarts, told_with, followed_event, IsOfPair, FitsRows, FitsFollowed}
 use Rattle.fc_legal.proofs.Events.{all_in}
 use Rattle.fc_legal.specs.Lawful.{HasDisks, HaveDisks, FitAsOne}
-use Rattle.fc_legal.specs.Whole.{Whole, part_of_sheet, part_of_picture, part_of_row, part_of_rows, all_grains, lane_at, part_at, pool_at, volumes_told}
+use Rattle.fc_legal.specs.Whole.{Whole, part_of_sheet, part_of_picture, part_of_row, part_of_rows, single_lane, lane_at, part_at, pool_at, volumes_told}
 use Rattle.fc_pick.specs.declared.work.WorkFlags.{WorkFlags}
 use Rattle.fc_rules.specs.LaneFits.{HasDisk}
 use Rattle.fc_rules.specs.LaneTold.{LaneOf, LaneVolume, LaneTold, grains_in, picture_event, volumes_event, flags_event, pool_event, told_event}
@@ -54,7 +54,7 @@ pub record Follows (l : LaneOf) (big small : LaneTold) : Type 0 where
   pub volumes : small.volumes ≡ big.volumes
   pub flags : small.flags ≡ big.flags
 
-follows_event : (l : LaneOf) → IsLane l → (big small : LaneTold) (e : LaneEvent) → Follows l big small → Follows l (told_event (all_grains l.grain) big e) (told_event l small e)
+follows_event : (l : LaneOf) → IsLane l → (big small : LaneTold) (e : LaneEvent) → Follows l big small → Follows l (told_event (single_lane l.grain) big e) (told_event l small e)
 follows_event l i big small e f =
     record {
       sheet = ap (λ (s : Sheet). sheet_step (grains_in l) s e) f.sheet
@@ -66,11 +66,11 @@ follows_event l i big small e f =
 
 -- new slots of a trigger hold restart sets
 follows_with : (l : LaneOf) → IsLane l → (whole some : ℕ → List Bool) → ArePartsOf l whole some → (big small : LaneTold) (e : LaneEvent) → Follows l big small →
-    Follows l (told_with whole (all_grains l.grain) big e) (told_with some l small e)
+    Follows l (told_with whole (single_lane l.grain) big e) (told_with some l small e)
 follows_with l i whole some are big small (Trigger pairs) f =
     let after = follows_event l i big small (Trigger pairs) f in
     record {
-      sheet = ap (λ (s : Sheet). fold (begun some) s pairs) after.sheet ∙ sym (all_begun l i whole some are (told_event (all_grains l.grain) big (Trigger pairs)).sheet pairs);
+      sheet = ap (λ (s : Sheet). fold (begun some) s pairs) after.sheet ∙ sym (all_begun l i whole some are (told_event (single_lane l.grain) big (Trigger pairs)).sheet pairs);
       picture = after.picture;
       volumes = after.volumes;
       flags = after.flags;
@@ -85,7 +85,7 @@ pub record FollowsRows (l : LaneOf) (big small : Followed) : Type 0 where
 restarts_part : (l : LaneOf) → IsLane l → (big small : Followed) → FollowsRows l big small → ArePartsOf l (restarts big.rows) (restarts small.rows)
 restarts_part l i big small f m = ap (restart_in m) f.rows ∙ restart_part l i m big.rows
 
-follows_one : (l : LaneOf) → IsLane l → (big small : Followed) (e : LaneEvent) → FollowsRows l big small → FollowsRows l (followed_event (all_grains l.grain) big e) (followed_event l small e)
+follows_one : (l : LaneOf) → IsLane l → (big small : Followed) (e : LaneEvent) → FollowsRows l big small → FollowsRows l (followed_event (single_lane l.grain) big e) (followed_event l small e)
 follows_one l i big small e f =
     record {
       told = follows_with l i (restarts big.rows) (restarts small.rows) (restarts_part l i big small f) big.told small.told e f.told;
@@ -93,9 +93,9 @@ follows_one l i big small e f =
     }
 
 pub follows_all : (l : LaneOf) → IsLane l → (events : List LaneEvent) (big small : Followed) → FollowsRows l big small →
-    FollowsRows l (fold (followed_event (all_grains l.grain)) big events) (fold (followed_event l) small events)
+    FollowsRows l (fold (followed_event (single_lane l.grain)) big events) (fold (followed_event l) small events)
 follows_all l i [] big small f = f
-follows_all l i (e ∷ es) big small f = follows_all l i es (followed_event (all_grains l.grain) big e) (followed_event l small e) (follows_one l i big small e f)
+follows_all l i (e ∷ es) big small f = follows_all l i es (followed_event (single_lane l.grain) big e) (followed_event l small e) (follows_one l i big small e f)
 
 -- ---- disks
 
@@ -166,9 +166,9 @@ fits_all l i (e ∷ es) big small pools f fits disks pool lt =
       subst (λ (s : Sheet). FitsEvent s e) (sym f.told.sheet) (fits_event l i big.told.sheet e fits.0),
       has_disk l.lane pools big.told small.told e disks.0 f.told.volumes pool lt,
       subst (λ (rows : List Row). FitsRows rows e) (sym f.rows) (fits_rows l big.rows e fits.1),
-      fits_all l i es (followed_event (all_grains l.grain) big e) (followed_event l small e) (pools_after pools e) (follows_one l i big small e f)
+      fits_all l i es (followed_event (single_lane l.grain) big e) (followed_event l small e) (pools_after pools e) (follows_one l i big small e f)
           fits.2
-          (subst (λ (volumes : List LaneVolume). HaveDisks (pools_after pools e) volumes es) (sym (volumes_with (restarts big.rows) (all_grains l.grain) big.told e)) disks.1)
+          (subst (λ (volumes : List LaneVolume). HaveDisks (pools_after pools e) volumes es) (sym (volumes_with (restarts big.rows) (single_lane l.grain) big.told e)) disks.1)
           (pool_one l small pools e pool lt)
           (omega arith),
     )

@@ -13,7 +13,7 @@ use Rattle.fc_rules.specs.LaneTold.{LaneOf, LaneTold, place_of, sheet_write, she
 use Rattle.fc_rules.specs.LaneTurn.{spot_at, lacks_at, copied_slot, needer_at, cleaned_slot}
 use Rattle.fc_rules.specs.Shows.{Stored}
 use Rattle.fc_rules.specs.Spot.{Spot, move_in}
-use Rattle.fc_rules.specs.Steps.{Step, reads_own, step_of_move, own_step, moves_of}
+use Rattle.fc_rules.specs.Steps.{DiskStep, reads_own, step_of_move, own_step, moves_of}
 use Rattle.std.proofs.lemmas.Bool.{false_from_ne_true}
 use Rattle.fc_base.specs.Column.{first_reader}
 use Rattle.fc_moves.proofs.Search.{cases_option}
@@ -163,7 +163,7 @@ moves_told : (spot : Spot) (ks : List ℕ) → moves_of (map (step_of_move spot)
 moves_told spot [] = refl
 moves_told spot (k ∷ ks) = ap (λ z. move_in spot k ∷ z) (moves_told spot ks)
 
-moves_then : (spot : Spot) (ks : List ℕ) (own : Step) → own.move ≡ None → moves_of (map (step_of_move spot) ks ++ own ∷ []) ≡ map (move_in spot) ks
+moves_then : (spot : Spot) (ks : List ℕ) (own : DiskStep) → own.move ≡ None → moves_of (map (step_of_move spot) ks ++ own ∷ []) ≡ map (move_in spot) ks
 moves_then spot [] own e = rw e refl
 moves_then spot (k ∷ ks) own e = ap (λ z. move_in spot k ∷ z) (moves_then spot ks own e)
 

@@ -24,7 +24,7 @@ use Rattle.fc_entry.specs.declared.entry.Entry.{Entry}
 use Rattle.fc_rules.specs.LaneRight.{IsRightInLane, record_of}
 use Rattle.fc_rules.specs.LaneTold.{LaneOf, LaneVolume, LaneTold, grains_in, number_at, place_of, told_event, told_past}
 use Rattle.fc_rules.specs.LaneTurn.{next_copy, next_clean}
-use Rattle.fc_rules.specs.Steps.{Step}
+use Rattle.fc_rules.specs.Steps.{DiskStep}
 use Rattle.fc_pictures.specs.Law.{now_of}
 
 -- ---- how the examples are written
@@ -199,10 +199,10 @@ source_later =
 own_failed : Entry
 own_failed = entry (Write (part 0 0 128 22)) DiskFault (move 2 1 0 false ∷ []) (torn_at 0 0 Now) 0 1 3
 
-move_step : Step
+move_step : DiskStep
 move_step = record { volume = 1; move = Some (move 2 1 0 false); calls = 2; side = Under }
 
-own_step_of : ℕ → Step
+own_step_of : ℕ → DiskStep
 own_step_of calls = record { volume = 0; move = None; calls = calls; side = Now }
 
 own_is_right : IsRightInLane one_lane started own_failed

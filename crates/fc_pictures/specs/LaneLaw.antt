@@ -14,7 +14,7 @@ use Rattle.fc_rules.specs.LaneTold.{LaneOf, LaneTold, place_of, told_event, shee
 use Rattle.fc_rules.specs.LaneTurn.{spot_at, copied_slot, cleaned_slot}
 use Rattle.fc_rules.specs.Shows.{Stored, Shows}
 use Rattle.fc_rules.specs.Spot.{Spot, move_in}
-use Rattle.fc_rules.specs.Steps.{Step, step_of_move, own_step, steps_of_write, moves_of}
+use Rattle.fc_rules.specs.Steps.{DiskStep, step_of_move, own_step, steps_of_write, moves_of}
 use Rattle.fc_pictures.specs.Law.{StoredAfter, StoredAt, StoredMoved, now_of}
 use Rattle.fc_pictures.specs.StepsLaw.{sheet_after, MovesRun, IsLiveAt}
 
@@ -30,7 +30,7 @@ sheet_before_write l told part t =
     sheet_after l told number (write_moves (column told.sheet.slots (place_of l number)) t)
 
 -- The grain that a step leaves torn where its write failed.
-abbrev pub torn_of : Spot → Step → Torn
+abbrev pub torn_of : Spot → DiskStep → Torn
 torn_of spot step = record { volume = record { 0 = step.volume }; grain = record { 0 = spot.number }; side = step.side }
 
 -- What is written: a volume's content at the part's grain, with the part's bytes.

@@ -2,7 +2,7 @@
 
 ghost use Rattle.std.specs.Prelude.{◌≡◌, ◌-◌, count_by};
 ghost use Rattle.fc_base.specs.Tables.{Tables};
-ghost use Rattle.fc_books.specs.Columns.{percent, copied_in, progress, unneeded, cleaned_in, is_of};
+ghost use Rattle.fc_books.specs.Columns.{percent, copied_in, progress, unneeded, cleaned_in, copies_volume};
 ghost use Rattle.fc_books.specs.Copies.{total};
 ghost use Rattle.fc_report.specs.Asked.{asked};
 
@@ -79,14 +79,14 @@ pub fn cleaned<S: Sheet>(registry: &Registry, sheet: &S, mapping: &Mapping) -> u
 
 /// Whether the mapping has the volume as source or target.
 fn is_of(mapping: &Mapping, volume: VolId) -> bool
-    ensures { result ≡ is_of volume mapping.now }
+    ensures { result ≡ copies_volume volume mapping.now }
 {
     mapping.source.0 == volume.0 || mapping.target.0 == volume.0
 }
 
 /// How many mappings have the volume as source or target.
 pub fn mappings_of(mappings: &[Mapping], volume: VolId) -> u64
-    ensures { result ≡ count_by (is_of volume) mappings.now }
+    ensures { result ≡ count_by (copies_volume volume) mappings.now }
 {
     let mut count = 0;
     for mapping in mappings {

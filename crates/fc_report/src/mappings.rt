@@ -5,7 +5,7 @@ ghost use Rattle.fc_base.specs.Tables.{partner_of, mapping_with};
 ghost use Rattle.fc_base.specs.declared.ids.GroupId.{GroupId};
 ghost use Rattle.fc_base.specs.declared.ids.MapId.{MapId};
 ghost use Rattle.fc_books.specs.Books.{Books};
-ghost use Rattle.fc_books.specs.Columns.{text_of, progress, cleaned_in, volume_name, group_name, mapping_name, mapping_columns, progress_columns, dependent_columns};
+ghost use Rattle.fc_books.specs.Columns.{text_or_none, progress, cleaned_in, name_of_volume, name_of_group, name_of_mapping, mapping_columns, progress_columns, dependent_columns};
 ghost use Rattle.fc_books.specs.Layout.{headings, fields, table};
 ghost use Rattle.fc_entry.specs.Text.{state_text};
 ghost use Rattle.fc_books.proofs.DependentMaps.{has_id_among};
@@ -74,7 +74,7 @@ fn put_volumes(
     mapping: &Mapping,
     row: &mut Fields,
 ) -> Result<(), NoMemory>
-    ensures { OnOk result (row.new ≡ row.old ++ decimal mapping.now.id.0 ∷ mapping.now.name ∷ decimal mapping.now.source.0 ∷ volume_name registry.now.tables mapping.now.source ∷ decimal mapping.now.target.0 ∷ volume_name registry.now.tables mapping.now.target ∷ []) }
+    ensures { OnOk result (row.new ≡ row.old ++ decimal mapping.now.id.0 ∷ mapping.now.name ∷ decimal mapping.now.source.0 ∷ name_of_volume registry.now.tables mapping.now.source ∷ decimal mapping.now.target.0 ∷ name_of_volume registry.now.tables mapping.now.target ∷ []) }
 {
     put_number(alloc, row, u64::from(mapping.id.0))?;
     put_text(alloc, row, mapping.name.as_bytes())?;
@@ -86,7 +86,7 @@ fn put_volumes(
 
 /// The name of a volume.
 fn volume_name(registry: &Registry, volume: VolId) -> &[u8]
-    ensures { result.now ≡ volume_name registry.now.tables volume }
+    ensures { result.now ≡ name_of_volume registry.now.tables volume }
 {
     match registry.volume_with(volume) {
         Some(volume) => volume.name.as_bytes(),
@@ -101,7 +101,7 @@ fn put_group(
     group: Option<GroupId>,
     row: &mut Fields,
 ) -> Result<(), NoMemory>
-    ensures { OnOk result (row.new ≡ row.old ++ text_of (λ (g : GroupId). decimal g.0) group ∷ group_name registry.now.tables group ∷ []) }
+    ensures { OnOk result (row.new ≡ row.old ++ text_or_none (λ (g : GroupId). decimal g.0) group ∷ name_of_group registry.now.tables group ∷ []) }
 {
     match group {
         None => put_none(alloc, row),
@@ -114,7 +114,7 @@ fn put_group(
 
 /// The name of a group.
 fn group_name(registry: &Registry, group: GroupId) -> &[u8]
-    ensures { result.now ≡ group_name registry.now.tables (Some group) }
+    ensures { result.now ≡ name_of_group registry.now.tables (Some group) }
 {
     match registry.group_with(group) {
         Some(group) => group.name.as_bytes(),
@@ -161,7 +161,7 @@ fn put_partner(
     map: MapId,
     row: &mut Fields,
 ) -> Result<(), NoMemory>
-    ensures { OnOk result (row.new ≡ row.old ++ text_of (λ (p : MapId). decimal p.0) (partner_of registry.now.tables map) ∷ mapping_name registry.now.tables (partner_of registry.now.tables map) ∷ []) }
+    ensures { OnOk result (row.new ≡ row.old ++ text_or_none (λ (p : MapId). decimal p.0) (partner_of registry.now.tables map) ∷ name_of_mapping registry.now.tables (partner_of registry.now.tables map) ∷ []) }
 {
     match registry.partner(map) {
         None => put_none(alloc, row),
@@ -174,7 +174,7 @@ fn put_partner(
 
 /// The name of a mapping.
 fn mapping_name(registry: &Registry, map: MapId) -> &[u8]
-    ensures { result.now ≡ mapping_name registry.now.tables (Some map) }
+    ensures { result.now ≡ name_of_mapping registry.now.tables (Some map) }
 {
     match registry.mapping_with(map) {
         Some(mapping) => mapping.name.as_bytes(),

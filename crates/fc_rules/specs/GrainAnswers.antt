@@ -9,11 +9,11 @@ use Rattle.fc_base.specs.declared.request.WritePart.{WritePart}
 use Rattle.fc_base.specs.declared.size.GrainSize.{GrainSize}
 use Rattle.fc_base.specs.declared.state.Access.{Access}
 use Rattle.fc_base.specs.declared.state.Access.TheVariants.{Online, Offline as IsOffline, NotAccessible as IsNotAccessible}
-use Rattle.fc_entry.specs.Picture.{byte_in_grain}
+use Rattle.fc_entry.specs.Picture.{is_lost, byte_in_grain}
 use Rattle.fc_entry.specs.Reads.{IsRightIn}
-use Rattle.fc_entry.specs.Writes.{is_whole}
+use Rattle.fc_entry.specs.Writes.{covers_grain}
 use Rattle.fc_entry.specs.declared.entry.Entry.{Entry}
-use Rattle.fc_rules.specs.Spot.{Spot, is_lost}
+use Rattle.fc_rules.specs.Spot.{Spot}
 use Rattle.fc_rules.specs.Steps.{HasDone, HasDoneNothing, HasFailed, HasNoMemory, steps_of_fill, steps_of_write}
 
 -- A volume that isn't online answers how it may be reached, and nothing is done.
@@ -42,7 +42,7 @@ ReadAnswers grain spot part entry reply = ⊥
 
 -- A part of a lost grain can't be written.
 abbrev pub cannot_write : GrainSize → Spot → WritePart → Bool
-cannot_write grain spot part = is_lost (spot.now part.volume.0) && not (is_whole grain part)
+cannot_write grain spot part = is_lost (spot.now part.volume.0) && not (covers_grain grain part)
 
 -- A write to the volume with live slot `t` is done, with all moves that it owes; a medium error comes exactly where it
 -- covers a part of a lost grain; a disk fault where one of its calls failed; or a thin disk wants memory.

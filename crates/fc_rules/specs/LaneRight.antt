@@ -14,7 +14,7 @@ use Rattle.fc_entry.specs.declared.entry.Entry.{Entry}
 use Rattle.fc_entry.specs.declared.entry.Past.{Past}
 use Rattle.fc_entry.specs.declared.entry.Past.TheVariants.{Step}
 use Rattle.fc_rules.specs.GrainAnswers.{ByAccess, ReadAnswers, WriteAnswers, FillAnswers}
-use Rattle.fc_rules.specs.LaneTold.{LaneOf, LaneTold, place_of, access_in}
+use Rattle.fc_rules.specs.LaneTold.{LaneOf, LaneTold, place_of, lane_access}
 use Rattle.fc_rules.specs.LaneTurn.{spot_at, copied_slot, cleaned_slot, next_copy, next_clean}
 use Rattle.fc_rules.specs.Steps.{HasDoneNothing}
 
@@ -45,10 +45,10 @@ TurnAnswers answers (Some work) entry = answers work.0 work.1 entry
 -- What a request may answer.
 abbrev pub LaneAnswers : LaneOf → LaneTold → Request → Entry → Type 0
 LaneAnswers l told (Read part) entry =
-    ByAccess (access_in told.volumes part.volume) entry
+    ByAccess (lane_access told.volumes part.volume) entry
     (ReadAnswers l.grain (spot_at l told (grain_of_block l.grain part.block)) part entry entry.reply)
 LaneAnswers l told (Write part) entry =
-    ByAccess (access_in told.volumes part.volume) entry
+    ByAccess (lane_access told.volumes part.volume) entry
     (VolumeWrite l told part (live_place told.sheet.slots part.volume.0) entry)
 LaneAnswers l told (Copy m grain) entry = CopyAnswers l told m grain entry
 LaneAnswers l told (Clean m grain) entry = CleanAnswers l told m grain entry

@@ -66,9 +66,9 @@ nothing_told =
     record { sheet = no_slots; picture = []; volumes = []; flags = []; pool = record { flat = 0; thin = 0 }; faults = 0; calls = 0 }
 
 -- How a volume may be reached, and whether its disks are thin.
-abbrev pub access_in : List LaneVolume → VolId → Access
-access_in [] id = Online
-access_in (v ∷ vs) id = cond (v.volume.0 == id.0) v.access (access_in vs id)
+abbrev pub lane_access : List LaneVolume → VolId → Access
+lane_access [] id = Online
+lane_access (v ∷ vs) id = cond (v.volume.0 == id.0) v.access (lane_access vs id)
 
 abbrev pub is_thin_kind : DiskKind → Bool
 is_thin_kind Flat = false

@@ -1,9 +1,9 @@
 -- All that matters at one grain before an entry.
-use Rattle.std.specs.Prelude.{ℕ, Bool, true, false}
+use Rattle.std.specs.Prelude.{ℕ, Bool}
 use Rattle.fc_base.specs.Column.{Column}
 use Rattle.fc_base.specs.Moves.{is_in_place}
 use Rattle.fc_base.specs.declared.request.Move.{Move}
-use Rattle.fc_entry.specs.Picture.{Content, Bytes, Lost}
+use Rattle.fc_entry.specs.Picture.{Content}
 
 -- The chains at the grain, its number in its volumes, what each volume shows there, and which volumes are thin. Volumes are
 -- named by their ids, slots by their places.
@@ -12,10 +12,6 @@ pub record Spot : Type 0 where
   pub number : ℕ
   pub now : ℕ → Content
   pub is_thin : ℕ → Bool
-
-abbrev pub is_lost : Content → Bool
-is_lost (Bytes bytes) = false
-is_lost Lost = true
 
 -- The move of a slot, as entries tell it.
 abbrev pub move_in : Spot → ℕ → Move

@@ -9,7 +9,7 @@ use Rattle.fc_entry.specs.Written.{Written}
 use Rattle.fc_entry.proofs.TextLemmas.{entries_text-joined}
 use Rattle.fc_io.specs.Sink.{AddsFront, AfterFlush, SinkState, held_with}
 use Rattle.fc_run.specs.Output.{HasGot, IsWritten, text_so_far}
-use Rattle.fc_run.specs.Summary.{text_of}
+use Rattle.fc_run.specs.Summary.{form_text}
 use Rattle.fc_run.specs.declared.form.Form.TheVariants as form
 
 held_with-append : (held : Option (List ℕ)) (t u : List ℕ) → held_with (held_with held t) u ≡ held_with held (t ++ u)
@@ -82,34 +82,34 @@ pub entries-flushed :
     HasGot before (text_so_far form.Text count history) old →
     Written old (flat_map (entry_text history.actors) (drop count history.entries)) false put →
     AfterFlush put failed new →
-    IsWritten before (text_of form.Text history) failed new
+    IsWritten before (form_text form.Text history) failed new
 entries-flushed before old put new count history failed =
     put_and_flushed before old put new (text_so_far form.Text count history) (flat_map (entry_text history.actors) (drop count history.entries))
-    (text_of form.Text history) failed (entries_text-joined history.actors history.entries count)
+    (form_text form.Text history) failed (entries_text-joined history.actors history.entries count)
 
 pub entries-cut :
     (before old new : SinkState) (count : ℕ) (history : HistoryState) →
     HasGot before (text_so_far form.Text count history) old →
     Written old (flat_map (entry_text history.actors) (drop count history.entries)) true new →
-    IsWritten before (text_of form.Text history) true new
+    IsWritten before (form_text form.Text history) true new
 entries-cut before old new count history =
     put_and_cut before old new (text_so_far form.Text count history) (flat_map (entry_text history.actors) (drop count history.entries))
-    (text_of form.Text history) (entries_text-joined history.actors history.entries count)
+    (form_text form.Text history) (entries_text-joined history.actors history.entries count)
 
 -- the summary, before which nothing is put
 pub summary-flushed :
     (before old put new : SinkState) (count : ℕ) (history : HistoryState) (failed : Bool) →
     HasGot before (text_so_far form.Summary count history) old →
-    Written old (text_of form.Summary history) false put →
+    Written old (form_text form.Summary history) false put →
     AfterFlush put failed new →
-    IsWritten before (text_of form.Summary history) failed new
+    IsWritten before (form_text form.Summary history) failed new
 summary-flushed before old put new count history failed =
-    put_and_flushed before old put new [] (text_of form.Summary history) (text_of form.Summary history) failed refl
+    put_and_flushed before old put new [] (form_text form.Summary history) (form_text form.Summary history) failed refl
 
 pub summary-cut :
     (before old new : SinkState) (count : ℕ) (history : HistoryState) →
     HasGot before (text_so_far form.Summary count history) old →
-    Written old (text_of form.Summary history) true new →
-    IsWritten before (text_of form.Summary history) true new
+    Written old (form_text form.Summary history) true new →
+    IsWritten before (form_text form.Summary history) true new
 summary-cut before old new count history =
-    put_and_cut before old new [] (text_of form.Summary history) (text_of form.Summary history) refl
+    put_and_cut before old new [] (form_text form.Summary history) (form_text form.Summary history) refl

@@ -13,7 +13,7 @@ use Rattle.fc_run.specs.Input.{OfFirst, OfFirstTaken, input_limit}
 use Rattle.fc_run.specs.Output.{HasFailed, HasGot, IsPut, IsWritten, text_so_far}
 use Rattle.fc_run.specs.ReadTo.{SessionRead, ended_for, is_write_fault}
 use Rattle.fc_run.specs.Runs.{Runs}
-use Rattle.fc_run.specs.Summary.{text_of}
+use Rattle.fc_run.specs.Summary.{form_text}
 use Rattle.fc_run.specs.declared.ended.Ended.{Ended}
 use Rattle.fc_run.specs.declared.ended.Ended.TheVariants as ended
 use Rattle.fc_run.specs.declared.form.Form.{Form}
@@ -65,8 +65,8 @@ pub SessionEnds-unwritten :
     IsPut sink of put history true sink' →
     SessionEnds (session_of ended.WriteFault form source source' sink sink' history) runs
 SessionEnds-unwritten of form put source source' sink sink' runs history same read puts =
-    let P : Form → Type 0 = λ f. HasFailed sink (text_of f history) sink' in
-    let cut : HasFailed sink (text_of form history) sink' = subst P same puts.cut in
+    let P : Form → Type 0 = λ f. HasFailed sink (form_text f history) sink' in
+    let cut : HasFailed sink (form_text form history) sink' = subst P same puts.cut in
     record {
       bytes = read.bytes;
       gave = read.gave;
@@ -83,7 +83,7 @@ SessionEnds-written :
     (e : Ending) (failed : Bool) (form : Form) (source source' : SourceState) (sink sink' : SinkState) (runs : Runs) (history : HistoryState) →
     (e ≡ ending.WriteFault → ⊥) →
     SessionRead e source source' runs history →
-    IsWritten sink (text_of form history) failed sink' →
+    IsWritten sink (form_text form history) failed sink' →
     SessionEnds (session_of (ended_for e failed) form source source' sink sink' history) runs
 SessionEnds-written ending.End false form source source' sink sink' runs history other read written = record {
   bytes = read.bytes;
@@ -161,7 +161,7 @@ SessionEnds-written (ending.Stopped NoMemory) false form source source' sink sin
   ends = (
     read.ends.0,
     record { lines = read.ends.1.0; are = read.ends.1.1; of = read.ends.1.2 },
-    record { front = text_of form history; rest = []; split = sym (append-nil (text_of form history)); added = written.got.held },
+    record { front = form_text form history; rest = []; split = sym (append-nil (form_text form history)); added = written.got.held },
   );
 }
 SessionEnds-written (ending.Stopped NoMemory) true form source source' sink sink' runs history other read written = record {
@@ -188,12 +188,12 @@ written_behind :
     first ≡ form →
     out ≡ first →
     IsPut sink first put history (is_write_fault e) mid →
-    ((start : SinkState) → HasGot start (text_so_far out put history) mid → IsWritten start (text_of out history) failed sink') →
-    IsWritten sink (text_of form history) failed sink'
+    ((start : SinkState) → HasGot start (text_so_far out put history) mid → IsWritten start (form_text out history) failed sink') →
+    IsWritten sink (form_text form history) failed sink'
 written_behind e failed first out form put sink mid sink' history other same kept puts writes =
     let P : Bool → Type 0 = λ b. IsPut sink first put history b mid in
-    let Q : Form → Type 0 = λ f. HasGot sink (text_so_far f put history) mid → IsWritten sink (text_of f history) failed sink' in
-    let R : Form → Type 0 = λ f. IsWritten sink (text_of f history) failed sink' in
+    let Q : Form → Type 0 = λ f. HasGot sink (text_so_far f put history) mid → IsWritten sink (form_text f history) failed sink' in
+    let R : Form → Type 0 = λ f. IsWritten sink (form_text f history) failed sink' in
     let so_far : IsPut sink first put history false mid = subst P (is_write_fault-other e other) puts in
     subst R same (subst Q kept (writes sink) so_far.got)
 
@@ -206,7 +206,7 @@ pub SessionEnds-by :
     out ≡ first →
     SessionRead e source source' runs history →
     IsPut sink first put history (is_write_fault e) mid →
-    ((start : SinkState) → HasGot start (text_so_far out put history) mid → IsWritten start (text_of out history) failed sink') →
+    ((start : SinkState) → HasGot start (text_so_far out put history) mid → IsWritten start (form_text out history) failed sink') →
     SessionEnds (session_of result form source source' sink sink' history) runs
 SessionEnds-by result e failed first out form put source source' sink mid sink' runs history is other same kept read puts writes =
     let P : Ended → Type 0 = λ r. SessionEnds (session_of r form source source' sink sink' history) runs in
@@ -233,6 +233,6 @@ SessionEnds-starved form source sink runs history whole = record {
   ends = (
     omega arith,
     record { lines = []; are = inl refl; of = OfFirst-all [] _ (inl whole) },
-    record { front = []; rest = text_of form history; split = refl; added = held_nothing sink.held },
+    record { front = []; rest = form_text form history; split = refl; added = held_nothing sink.held },
   );
 }

@@ -7,7 +7,7 @@ use Rattle.fc_io.specs.Sink.{SinkState, AddsFront, held_with}
 use Rattle.fc_io.specs.Source.{SourceState}
 use Rattle.fc_run.specs.Runs.{Runs}
 use Rattle.fc_run.specs.Input.{Gave, IsAtEnd, OfFirstTaken, input_limit}
-use Rattle.fc_run.specs.Summary.{text_of}
+use Rattle.fc_run.specs.Summary.{form_text}
 use Rattle.fc_run.specs.declared.ended.Ended.{Ended}
 use Rattle.fc_run.specs.declared.ended.Ended.TheVariants as ended
 use Rattle.fc_run.specs.declared.form.Form.{Form}
@@ -24,11 +24,11 @@ pub record Session : Type 0 where
 
 -- the sink got the text of the history and nothing else, and all that it holds was sent on
 abbrev pub GotText : Session → Type 0
-GotText s = (s.sink'.held ≡ held_with s.sink.held (text_of s.form s.history)) × (s.sink'.sent ≡ s.sink'.held)
+GotText s = (s.sink'.held ≡ held_with s.sink.held (form_text s.form s.history)) × (s.sink'.sent ≡ s.sink'.held)
 
 -- the sink got a front of the text
 abbrev pub GotFront : Session → Type 0
-GotFront s = AddsFront s.sink.held (text_of s.form s.history) s.sink'.held
+GotFront s = AddsFront s.sink.held (form_text s.form s.history) s.sink'.held
 
 -- what each way to end says of the bytes that were taken, of their lines, and of what was written
 abbrev pub EndsAs : Ended → Session → Runs → List ℕ → Type 0

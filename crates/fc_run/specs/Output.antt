@@ -6,7 +6,7 @@ use Rattle.fc_base.specs.Count.{HasRisen}
 use Rattle.fc_entry.specs.HistoryState.{HistoryState}
 use Rattle.fc_entry.specs.Text.{entry_text}
 use Rattle.fc_io.specs.Sink.{SinkState, AddsFront, held_with}
-use Rattle.fc_run.specs.Summary.{text_of}
+use Rattle.fc_run.specs.Summary.{form_text}
 use Rattle.fc_run.specs.declared.form.Form.{Form}
 use Rattle.fc_run.specs.declared.form.Form.TheVariants as form
 use Rattle.fc_run.specs.declared.output.Output.{Output}
@@ -34,7 +34,7 @@ pub record HasFailed (before : SinkState) (text : List ℕ) (now : SinkState) : 
 -- what is put so far stands in the sink; or a call of it failed
 pub record IsPut (before : SinkState) (form : Form) (put : ℕ) (history : HistoryState) (failed : Bool) (now : SinkState) : Type 0 where
   pub got : OnFalse failed (HasGot before (text_so_far form put history) now)
-  pub cut : OnTrue failed (HasFailed before (text_of form history) now)
+  pub cut : OnTrue failed (HasFailed before (form_text form history) now)
 
 -- the whole text was put and sent on; or a call of the sink failed
 pub record IsWritten (before : SinkState) (text : List ℕ) (failed : Bool) (now : SinkState) : Type 0 where

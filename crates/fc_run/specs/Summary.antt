@@ -42,8 +42,8 @@ abbrev pub writes_of : List Entry → ℕ
 writes_of entries = count_by (λ entry. is_done_write entry.request entry.reply) entries
 
 -- how many grains they moved
-abbrev pub moves_of : List Entry → ℕ
-moves_of entries = sum_by (λ entry. length entry.moves) entries
+abbrev pub moves_in : List Entry → ℕ
+moves_in entries = sum_by (λ entry. length entry.moves) entries
 
 -- how many of them are refused
 abbrev pub refused_of : List Entry → ℕ
@@ -57,10 +57,10 @@ sum_of entries = sum_by (λ entry. bytes_sum entry.reply) entries % 2 ^ 32
 abbrev pub summary_text : HistoryState → List ℕ
 summary_text history =
     codes "entries " ++ decimal (length history.entries) ++ codes " reads " ++ decimal (reads_of history.entries) ++ codes " writes "
-    ++ decimal (writes_of history.entries) ++ codes " moves " ++ decimal (moves_of history.entries) ++ codes " refused "
+    ++ decimal (writes_of history.entries) ++ codes " moves " ++ decimal (moves_in history.entries) ++ codes " refused "
     ++ decimal (refused_of history.entries) ++ codes " sum " ++ decimal (sum_of history.entries) ++ codes "\n"
 
 -- the text of a history in this form
-abbrev pub text_of : Form → HistoryState → List ℕ
-text_of form.Text history = history_text history
-text_of form.Summary history = summary_text history
+abbrev pub form_text : Form → HistoryState → List ℕ
+form_text form.Text history = history_text history
+form_text form.Summary history = summary_text history

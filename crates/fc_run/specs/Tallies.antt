@@ -1,7 +1,7 @@
 -- The numbers of a summary, counted entry by entry.
 use Rattle.std.specs.Prelude.{ℕ, ◌+◌, ◌%◌, ◌^◌, cond, List, ◌++◌, length, codes, decimal}
 use Rattle.fc_entry.specs.declared.entry.Entry.{Entry}
-use Rattle.fc_run.specs.Summary.{gives_bytes, is_done_write, refuses, bytes_sum, reads_of, writes_of, moves_of, refused_of, sum_of}
+use Rattle.fc_run.specs.Summary.{gives_bytes, is_done_write, refuses, bytes_sum, reads_of, writes_of, moves_in, refused_of, sum_of}
 use Rattle.fc_run.specs.declared.summary.Tally.{Tally}
 
 -- the tally of these entries
@@ -9,7 +9,7 @@ abbrev pub tally_of : List Entry → Tally
 tally_of entries = record {
   reads = reads_of entries;
   writes = writes_of entries;
-  moves = moves_of entries;
+  moves = moves_in entries;
   refused = refused_of entries;
   sum = sum_of entries;
 }

@@ -4,7 +4,7 @@ ghost use Rattle.std.specs.Prelude.{◌≡◌, ◌≤◌, length, is_err, OnOk};
 ghost use Rattle.fc_entry.specs.Text.{HasNames};
 ghost use Rattle.fc_io.specs.Sink.{SinkState};
 ghost use Rattle.fc_run.specs.Output.{HasGot, IsOut, IsPut, IsWritten, text_so_far};
-ghost use Rattle.fc_run.specs.Summary.{text_of};
+ghost use Rattle.fc_run.specs.Summary.{form_text};
 
 use crate::form::Form;
 use crate::summary::put_summary;
@@ -61,7 +61,7 @@ impl Output {
         requires named { HasNames history.now }
         requires limit { length history.now.entries ≤ 262144 }
         ensures { (before : SinkState) → HasGot before (text_so_far self.form self.put history.now) (K.meaning sink.old)
-            → IsWritten before (text_of self.form history.now) (is_err result) (K.meaning sink.new) }
+            → IsWritten before (form_text self.form history.now) (is_err result) (K.meaning sink.new) }
     {
         match self.form {
             Form::Text => put_and_send(self.put, history, sink),
@@ -78,7 +78,7 @@ fn put_and_send<K: Sink>(put: usize, history: &History, sink: &mut K) -> Result<
     requires within { put ≤ length history.now.entries }
     requires named { HasNames history.now }
     ensures written { (before : SinkState) → HasGot before (text_so_far Form.Text put history.now) (K.meaning sink.old)
-        → IsWritten before (text_of Form.Text history.now) (is_err result) (K.meaning sink.new) }
+        → IsWritten before (form_text Form.Text history.now) (is_err result) (K.meaning sink.new) }
     ensures sent { OnOk result ((K.meaning sink.new).sent ≡ (K.meaning sink.new).held) }
 {
     match put_entries(history, put, sink) {

@@ -22,7 +22,7 @@ use Rattle.fc_books.specs.Refused.{of_one}
 use Rattle.fc_entry.specs.Refused.{blocks_refusal}
 use Rattle.fc_entry.specs.HistoryState.{number_of_actor}
 use Rattle.fc_entry.specs.declared.entry.Entry.{Entry}
-use Rattle.fc_legal.specs.Asked.{access_by, access_asked, command_asked, read_in, write_in}
+use Rattle.fc_legal.specs.Asked.{access_requests, access_asked, command_asked, read_in, write_in}
 use Rattle.fc_scripts.proofs.Numbers.{differ_law, not_main_law}
 use Rattle.fc_scripts.proofs.Through.{asking_law, into_law, through_law}
 use Rattle.fc_scripts.specs.Actors.{asks_of, AreAll, AreFirst}
@@ -32,7 +32,7 @@ use Rattle.fc_legal.specs.Scripts.{Script, line_asked, asked_as, script_of, scri
 access_fixed : (grain : GrainSize) (b c : Books) (command : Command) (volume : Ref) (block count : ℕ) (request : VolId → ℕ → Request) → b.tables.volumes ≡ c.tables.volumes →
     access_asked grain b command volume block count request ≡ access_asked grain c command volume block count request
 access_fixed grain b c command volume block count request e =
-    ap (λ (volumes : List Volume). access_by grain command block count request (of_one Vdisk (find (λ (v : Volume). refers_to volume v.id.0 v.name) volumes) (λ (v : Volume). blocks_refusal grain v block count)) (find (λ (v : Volume). refers_to volume v.id.0 v.name) volumes)) e
+    ap (λ (volumes : List Volume). access_requests grain command block count request (of_one Vdisk (find (λ (v : Volume). refers_to volume v.id.0 v.name) volumes) (λ (v : Volume). blocks_refusal grain v block count)) (find (λ (v : Volume). refers_to volume v.id.0 v.name) volumes)) e
 
 command_fixed : (grain : GrainSize) (b c : Books) (command : Command) → b.tables.volumes ≡ c.tables.volumes → command_asked grain b command ≡ command_asked grain c command
 command_fixed grain b c (ReadLine volume block count) e = access_fixed grain b c (ReadLine volume block count) volume block count (λ id. read_in grain id block count) e

@@ -6,7 +6,7 @@ use Rattle.std.proofs.lemmas.Bool.{cond-true, cond-false, eq-eqb, eqb-true}
 use Rattle.std.proofs.lemmas.List.{length-map}
 use Rattle.std.proofs.lemmas.List.Elements.{All-cons, All-head, All-nil, All-tail}
 use Rattle.fc_base.specs.declared.request.Request.{Request}
-use Rattle.fc_legal.specs.Scripts.{Script, are_done, asks_nothing, behind_first, behind_next, first_of, next_by}
+use Rattle.fc_legal.specs.Scripts.{Script, are_done, asks_nothing, behind_first, behind_next, next_request, next_by}
 use Rattle.fc_scripts.specs.Ways.{AreOfDifferent, numbers_of}
 
 -- What an actor still asks: nothing, where it has no script.
@@ -26,15 +26,15 @@ not_same x y differ = by_test (x == y) refl
 
 -- ---- the next request
 
-next_cond : (here : Bool) (own left : List Request) (next : Option Request) → next ≡ first_of left → cond here (first_of own) next ≡ first_of (cond here own left)
+next_cond : (here : Bool) (own left : List Request) (next : Option Request) → next ≡ next_request left → cond here (next_request own) next ≡ next_request (cond here own left)
 next_cond true own left next e = refl
 next_cond false own left next e = e
 
-pub next_left : (scripts : List Script) (a : ℕ) → next_by scripts a ≡ first_of (left_by scripts a)
+pub next_left : (scripts : List Script) (a : ℕ) → next_by scripts a ≡ next_request (left_by scripts a)
 next_left [] a = refl
 next_left (s ∷ ss) a = next_cond (s.actor == a) s.requests (left_by ss a) (next_by ss a) (next_left ss a)
 
-pub some_first : (requests : List Request) (r : Request) → first_of requests ≡ Some r → requests ≡ r ∷ behind_first requests
+pub some_first : (requests : List Request) (r : Request) → next_request requests ≡ Some r → requests ≡ r ∷ behind_first requests
 some_first [] r e = absurd (cc e)
 some_first (x ∷ xs) r e =
     let is : x ≡ r = cc e in
@@ -104,7 +104,7 @@ asks_case false rest own next r more e = more e
 -- An actor that asks has a script.
 pub asks_has : (scripts : List Script) (a : ℕ) (r : Request) → next_by scripts a ≡ Some r → has_script scripts a ≡ true
 asks_has [] a r e = absurd (cc e)
-asks_has (s ∷ ss) a r e = asks_case (s.actor == a) (has_script ss a) (first_of s.requests) (next_by ss a) r (asks_has ss a r) e
+asks_has (s ∷ ss) a r e = asks_case (s.actor == a) (has_script ss a) (next_request s.requests) (next_by ss a) r (asks_has ss a r) e
 
 -- Where it stands.
 pub record IsAmong (scripts : List Script) (a : ℕ) : Type 0 where

@@ -6,7 +6,7 @@ use Rattle.std.proofs.lemmas.List.Elements.{All-cons, All-contains_itself, All-h
 use Rattle.std.proofs.lemmas.List.Folds.{list_any_at}
 use Rattle.fc_base.specs.declared.request.Request.{Request}
 use Rattle.fc_entry.specs.declared.entry.Entry.{Entry}
-use Rattle.fc_legal.specs.Scripts.{Script, are_done, behind_first, behind_next, first_of, next_by}
+use Rattle.fc_legal.specs.Scripts.{Script, are_done, behind_first, behind_next, next_request, next_by}
 use Rattle.fc_scripts.proofs.Left.{IsAmong, all_done, among, asks_has, behind_others, behind_own, done_none, has_behind, has_script, left_by, next_left, numbers_behind, own, some_first}
 use Rattle.fc_scripts.specs.Actors.{AreAll, AreFirst, AreTheirs, WantMore, asks_of}
 use Rattle.fc_scripts.specs.Ways.{AreOfDifferent, numbers_of}
@@ -34,9 +34,9 @@ behind_at scripts a b same =
     let P : ℕ → Type 0 = λ n. left_by (behind_next scripts a) n ≡ behind_first (left_by scripts n) in
     subst P same (behind_own scripts a)
 
-first_at : (scripts : List Script) (a b : ℕ) (r : Request) → a ≡ b → next_by scripts a ≡ Some r → first_of (left_by scripts b) ≡ Some r
+first_at : (scripts : List Script) (a b : ℕ) (r : Request) → a ≡ b → next_by scripts a ≡ Some r → next_request (left_by scripts b) ≡ Some r
 first_at scripts a b r same e =
-    let P : ℕ → Type 0 = λ n. first_of (left_by scripts n) ≡ Some r in
+    let P : ℕ → Type 0 = λ n. next_request (left_by scripts n) ≡ Some r in
     subst P same (sym (next_left scripts a) ∙ e)
 
 sorted_case :
@@ -160,7 +160,7 @@ take_next scripts (e ∷ es) left own_each each =
     (λ b has. behind_case scripts e es left b (e.actor == b) refl (each b (sym (has_behind scripts e.actor b) ∙ has))) in
     record {
       end = rest.end;
-      next = (next_left scripts e.actor ∙ sym (ap first_of all), rest.next);
+      next = (next_left scripts e.actor ∙ sym (ap next_request all), rest.next);
       left_is = λ b has. rest.left_is b (has_behind scripts e.actor b ∙ has);
     }
 
@@ -205,4 +205,4 @@ wanted_next scripts xs differ more t =
     let has : has_script scripts a ≡ true =
     list_any_at (λ (s : Script). s.actor == a) scripts more.is_one.0 more.script more.is_one.1
     (eq-eqb (get_or scripts more.is_one.0 more.script).actor a (ap (λ (s : Script). s.actor) is)) in
-    next_left t.end a ∙ ap first_of (t.left_is a has ∙ more.is_left)
+    next_left t.end a ∙ ap next_request (t.left_is a has ∙ more.is_left)

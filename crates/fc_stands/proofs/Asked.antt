@@ -14,7 +14,7 @@ use Rattle.fc_base.specs.declared.volume.Volume.{Volume}
 use Rattle.fc_books.specs.Books.{Books}
 use Rattle.fc_books.specs.Refused.{access_refused, of_one}
 use Rattle.fc_entry.specs.Refused.{blocks_refusal, first_of, where_}
-use Rattle.fc_legal.specs.Asked.{touched, access_by, command_asked, read_in, write_in}
+use Rattle.fc_legal.specs.Asked.{touched, access_requests, command_asked, read_in, write_in}
 use Rattle.fc_legal.specs.Whole.{Whole}
 use Rattle.fc_base.specs.declared.command.Command.{Command}
 use Rattle.fc_base.specs.declared.command.Command.TheVariants as command
@@ -29,9 +29,9 @@ pub asked-refused : (grain : GrainSize) (b : Books) (access : Access) (volume : 
     → access_refused grain b volume block count ≡ Some refusal
     → command_asked grain b (command_of access volume block count) ≡ Asked (command_of access volume block count) ∷ []
 asked-refused grain b Read volume block count refusal refused =
-    ap (λ (o : Option Refusal). access_by grain (command_of Read volume block count) block count (λ id. read_in grain id block count) o (volume_named b.tables volume)) refused
+    ap (λ (o : Option Refusal). access_requests grain (command_of Read volume block count) block count (λ id. read_in grain id block count) o (volume_named b.tables volume)) refused
 asked-refused grain b (Write byte) volume block count refusal refused =
-    ap (λ (o : Option Refusal). access_by grain (command_of (Write byte) volume block count) block count (λ id. write_in grain id block count byte) o (volume_named b.tables volume)) refused
+    ap (λ (o : Option Refusal). access_requests grain (command_of (Write byte) volume block count) block count (λ id. write_in grain id block count byte) o (volume_named b.tables volume)) refused
 
 both_pass : (a b : Bool) (r s : Refusal) → first_of (where_ a r ∷ where_ b s ∷ []) ≡ None → (a ≡ false) × (b ≡ false)
 both_pass false false r s none = (refl, refl)
@@ -49,11 +49,11 @@ asked-taken : (grain : GrainSize) (b : Books) (access : Access) (volume : Ref) (
     → access_refused grain b volume block count ≡ None → volume_named b.tables volume ≡ Some v
     → command_asked grain b (command_of access volume block count) ≡ map (part_of grain access v.id block count) (touched grain block count)
 asked-taken grain b Read volume block count v taken found =
-    ap (λ (o : Option Refusal). access_by grain (command_of Read volume block count) block count (λ id. read_in grain id block count) o (volume_named b.tables volume)) taken
-    ∙ ap (λ (o : Option Volume). access_by grain (command_of Read volume block count) block count (λ id. read_in grain id block count) None o) found
+    ap (λ (o : Option Refusal). access_requests grain (command_of Read volume block count) block count (λ id. read_in grain id block count) o (volume_named b.tables volume)) taken
+    ∙ ap (λ (o : Option Volume). access_requests grain (command_of Read volume block count) block count (λ id. read_in grain id block count) None o) found
 asked-taken grain b (Write byte) volume block count v taken found =
-    ap (λ (o : Option Refusal). access_by grain (command_of (Write byte) volume block count) block count (λ id. write_in grain id block count byte) o (volume_named b.tables volume)) taken
-    ∙ ap (λ (o : Option Volume). access_by grain (command_of (Write byte) volume block count) block count (λ id. write_in grain id block count byte) None o) found
+    ap (λ (o : Option Refusal). access_requests grain (command_of (Write byte) volume block count) block count (λ id. write_in grain id block count byte) o (volume_named b.tables volume)) taken
+    ∙ ap (λ (o : Option Volume). access_requests grain (command_of (Write byte) volume block count) block count (λ id. write_in grain id block count byte) None o) found
 
 -- A volume that is named, and whose blocks aren't refused.
 pub refused_by_blocks : (grain : GrainSize) (b : Books) (volume : Ref) (block count : ℕ) (v : Volume)

@@ -12,7 +12,7 @@ use Rattle.fc_legal.specs.Added.{Answered, IsOf, IsTold}
 use Rattle.fc_blocks.specs.Segments.{single}
 use Rattle.fc_legal.specs.Agenda.{Agenda, Session, Own, Reading, Seconds, behind_own, is_done, line_read, session_rules}
 use Rattle.fc_legal.specs.Asked.{numbers}
-use Rattle.fc_legal.specs.Seconds.{all_work, begun}
+use Rattle.fc_legal.specs.Seconds.{all_work, seconds_begun}
 use Rattle.fc_legal.specs.Whole.{Whole}
 use Rattle.fc_stands.specs.Logged.{Brought, Logged, anything, whether_done}
 use Rattle.fc_stands.proofs.Bringing.{brought_all, brought_nothing, brought_stopped, logged_brings, logged_then, passed_before, passed_on, then_brought}
@@ -87,7 +87,7 @@ module _ (Stands : Whole → Type 0) (grain : GrainSize) (read : Reading) (w : W
       subst P (sym is ∙ says) (brought_nothing Stands (session_rules grain read) (Session []) next y told)))
 
   pub command_done : (result : Result (Unit {0}) Stop) (After : Whole → Type 0) (z : HistoryState) (done : Bool) → done ≡ true → Logged {A = Bool} (Ok done) whether_done Stands grain w request x y →
-      ((next : Whole) → IsTold Stands y next → Brought result After (session_rules grain read) (Seconds (begun n (all_work next.books)) []) (Session []) next y z) →
+      ((next : Whole) → IsTold Stands y next → Brought result After (session_rules grain read) (Seconds (seconds_begun n (all_work next.books)) []) (Session []) next y z) →
       Answered result After (session_rules grain read) (Own (request ∷ []) n []) w x z
   command_done result After z done is logged then =
       brought_all (Unit {0}) result After grain read w (Own (request ∷ []) n []) x z
@@ -98,11 +98,11 @@ module _ (Stands : Whole → Type 0) (grain : GrainSize) (read : Reading) (w : W
 
 -- No second passes.
 pub none_pass : (Stands : Whole → Type 0) (grain : GrainSize) (read : Reading) (w : Whole) (n : ℕ) (x : HistoryState) → n ≡ 0 → IsTold Stands x w →
-    Brought {A = Unit {0}} (Ok tt) Stands (session_rules grain read) (Seconds (begun n (all_work w.books)) []) (Session []) w x x
+    Brought {A = Unit {0}} (Ok tt) Stands (session_rules grain read) (Seconds (seconds_begun n (all_work w.books)) []) (Session []) w x x
 none_pass Stands grain read w n x is told =
-    let P : ℕ → Type 0 = λ k. Brought {A = Unit {0}} (Ok tt) Stands (session_rules grain read) (Seconds (begun k (all_work w.books)) []) (Session []) w x x in
+    let P : ℕ → Type 0 = λ k. Brought {A = Unit {0}} (Ok tt) Stands (session_rules grain read) (Seconds (seconds_begun k (all_work w.books)) []) (Session []) w x x in
     subst P (sym is)
-    (passed_before (Unit {0}) (Ok tt) Stands (session_rules grain read) w (Seconds (begun 0 (all_work w.books)) []) (Session []) (Session []) x x refl
+    (passed_before (Unit {0}) (Ok tt) Stands (session_rules grain read) w (Seconds (seconds_begun 0 (all_work w.books)) []) (Session []) (Session []) x x refl
     (brought_nothing Stands (session_rules grain read) (Session []) w x told))
 
 -- ---- a line

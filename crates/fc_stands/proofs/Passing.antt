@@ -14,7 +14,7 @@ use Rattle.fc_entry.specs.declared.stop.Stop.{Stop}
 use Rattle.fc_entry.specs.declared.stop.Stop.TheVariants.{NoMemory}
 use Rattle.fc_legal.specs.Added.{IsOf, IsTold}
 use Rattle.fc_legal.specs.Agenda.{Session, Reading, Seconds, next_asked, next_of_second, session_rules, without_entry, without_fill}
-use Rattle.fc_legal.specs.Seconds.{Passing, Work, all_work, begun, gained, spent, saved, next_grain, next_fill, fill_at_hand, goes_on, next_second, after_fill, has_moved, fill_of}
+use Rattle.fc_legal.specs.Seconds.{Passing, Work, all_work, seconds_begun, gained, spent, saved, next_grain, next_fill, fill_at_hand, goes_on, next_second, after_fill, has_moved, fill_of}
 use Rattle.fc_legal.specs.Whole.{Whole}
 use Rattle.fc_stands.specs.Logged.{Brought, whether_moved}
 use Rattle.fc_stands.specs.Passing.{Filled, Passed, after_turn, at, between}
@@ -292,13 +292,13 @@ pub advanced :
     (A : Type 0) (result : Result A Stop) (Stands : Whole → Type 0) (grain : GrainSize) (w : Whole) (seconds : ℕ) (begins ends : List Work) (x y : HistoryState) →
     begins ≡ all_work w.books →
     Passed result Stands grain w (between seconds begins []) (between 0 ends []) x y →
-    (read : Reading) → Brought result Stands (session_rules grain read) (Seconds (begun seconds (all_work w.books)) []) (Session []) w x y
+    (read : Reading) → Brought result Stands (session_rules grain read) (Seconds (seconds_begun seconds (all_work w.books)) []) (Session []) w x y
 advanced A (Ok done) Stands grain w seconds begins ends x y is passed read =
-    let P : List Work → Type 0 = λ works. Brought {A = A} (Ok done) Stands (session_rules grain read) (Seconds (begun seconds works) []) (Session []) w x y in
+    let P : List Work → Type 0 = λ works. Brought {A = A} (Ok done) Stands (session_rules grain read) (Seconds (seconds_begun seconds works) []) (Session []) w x y in
     subst P is
     (brought_on A done Stands (session_rules grain read) w (Seconds (between seconds begins []) []) (Seconds (between 0 ends []) []) (Session []) x y (passed read)
     (λ last stands. over grain read ends last))
 advanced A (Err stop) Stands grain w seconds begins ends x y is passed read =
-    let P : List Work → Type 0 = λ works. Brought {A = A} (Err stop) Stands (session_rules grain read) (Seconds (begun seconds works) []) (Session []) w x y in
+    let P : List Work → Type 0 = λ works. Brought {A = A} (Err stop) Stands (session_rules grain read) (Seconds (seconds_begun seconds works) []) (Session []) w x y in
     subst P is
     (brought_stopped A A stop Stands (session_rules grain read) w (Seconds (between seconds begins []) []) (Seconds (between 0 ends []) []) (Session []) x y (passed read))

@@ -26,7 +26,7 @@ use Rattle.fc_base.specs.SheetView.{LoopAnswer}
 use Rattle.fc_books.specs.Accesses.{is_active, is_prepared, is_copying, is_stopping}
 use Rattle.fc_books.specs.Books.{Books}
 use Rattle.fc_books.specs.Deciding.{LoopAfter, pairs_of, for_members}
-use Rattle.fc_books.specs.Groups.{is_in, members, group_state, some_in, is_none_of, least, twice_targets, source_targets, trigger_refusal}
+use Rattle.fc_books.specs.Groups.{is_member, members, group_state, some_in, is_none_of, least, twice_targets, source_targets, trigger_refusal}
 use Rattle.fc_books.specs.Refused.{of_one}
 use Rattle.fc_books.specs.RefusedStarts.{empty_group, for_each, not_ready, starts_not, is_rival, target_active}
 use Rattle.fc_books.specs.Starting.{start, pair_of}
@@ -134,10 +134,10 @@ any_false ch p xs x true none there passes is = let some = any_chosen ch p xs th
 
 pub group_idle : (b : Books) (g : GroupId) (state : MapState) (t e : Option Refusal) (found : Option Refusal) →
     found ≡ first_of (empty_group (members b.tables g) ∷ where_ (some_in is_active (members b.tables g)) (NotAllowed state) ∷ t ∷ e ∷ []) → found ≡ None →
-    (m : Mapping) → Contains b.tables.mappings m → is_in g m ≡ true → is_active m.state ≡ false
+    (m : Mapping) → Contains b.tables.mappings m → is_member g m ≡ true → is_active m.state ≡ false
 group_idle b g state t e found found_is none m there passes =
     let maps = members b.tables g in
-    any_false (is_in g) (λ (x : Mapping). is_active x.state) b.tables.mappings m (is_active m.state)
+    any_false (is_member g) (λ (x : Mapping). is_active x.state) b.tables.mappings m (is_active m.state)
     (where_false (some_in is_active maps) (NotAllowed state) (second_none (empty_group maps) (where_ (some_in is_active maps) (NotAllowed state)) (t ∷ e ∷ []) (sym found_is ∙ none))) there passes refl
 
 -- the parts of a list of five
@@ -226,16 +226,16 @@ FivesOf b prep restore g =
 fives_of : (b : Books) (prep restore : Bool) (g : GroupId) → start_refusals b prep restore g ≡ None → FivesOf b prep restore g
 fives_of b prep restore g none = five_none _ _ _ _ _ none
 
-pub group_startable : (b : Books) (prep restore : Bool) (g : GroupId) (found : Option Refusal) → found ≡ start_refusals b prep restore g → found ≡ None → (m : Mapping) → Contains b.tables.mappings m → is_in g m ≡ true → IsStartable b.tables.mappings m
+pub group_startable : (b : Books) (prep restore : Bool) (g : GroupId) (found : Option Refusal) → found ≡ start_refusals b prep restore g → found ≡ None → (m : Mapping) → Contains b.tables.mappings m → is_member g m ≡ true → IsStartable b.tables.mappings m
 group_startable b prep restore g found found_is none m there passes =
     let xs = b.tables.mappings in
     let maps = members b.tables g in
     let fives = fives_of b prep restore g (sym found_is ∙ none) in
-    let begins = any_false (is_in g) (starts_not prep) xs m (starts_not prep m) (where_false (list_any (starts_not prep) maps) (NotAllowed (group_state b.tables g)) fives.second) there passes refl in
-    let prepared : prep ≡ false → is_prepared m.state ≡ true = λ p. all_true (is_in g) (λ (x : Mapping). is_prepared x.state) xs there.0 m
+    let begins = any_false (is_member g) (starts_not prep) xs m (starts_not prep m) (where_false (list_any (starts_not prep) maps) (NotAllowed (group_state b.tables g)) fives.second) there passes refl in
+    let prepared : prep ≡ false → is_prepared m.state ≡ true = λ p. all_true (is_member g) (λ (x : Mapping). is_prepared x.state) xs there.0 m
     (not_both prep (list_all (λ (x : Mapping). is_prepared x.state) maps) (where_false (not prep && not (list_all (λ (x : Mapping). is_prepared x.state) maps)) NotPrepared fives.third) p) there.1 there.2 passes in
     let q = begins_quiet prep m.state begins prepared in
-    let ready = each_none (not_ready b restore) (is_in g) xs there.0 m fives.fifth there.1 there.2 passes in
+    let ready = each_none (not_ready b restore) (is_member g) xs there.0 m fives.fifth there.1 there.2 passes in
     record { not_copying = q.0; not_stopping = q.1; no_rival = unmapped (find (is_rival m) xs) (second_none _ (target_active b m) _ ready) }
 
 least_none : (ids : List ℕ) → least ids ≡ None → ids ≡ []

@@ -5,7 +5,7 @@ use Rattle.fc_base.specs.Tables.{Tables}
 use Rattle.fc_base.specs.declared.request.Pair.{Pair}
 use Rattle.fc_base.specs.declared.volume.Mapping.{Mapping}
 use Rattle.fc_books.specs.Accesses.{is_stopped}
-use Rattle.fc_books.specs.Groups.{is_in}
+use Rattle.fc_books.specs.Groups.{is_member}
 use Rattle.fc_starts.specs.declared.chosen.Chosen.{Chosen}
 use Rattle.fc_starts.specs.declared.chosen.Chosen.TheVariants.{One, Members}
 
@@ -17,7 +17,7 @@ yields_to pairs s =
 -- The mappings that a command prepares or starts: one, or the members of a group.
 abbrev pub is_chosen : Chosen → Mapping → Bool
 is_chosen (One id) m = id.0 == m.id.0
-is_chosen (Members g) m = is_in g m
+is_chosen (Members g) m = is_member g m
 
 abbrev pub chosen_of : Tables → Chosen → List Mapping
 chosen_of t chosen = filter (is_chosen chosen) t.mappings

@@ -6,7 +6,7 @@ ghost use Rattle.fc_base.specs.declared.command.Command.{Command};
 ghost use Rattle.fc_base.specs.declared.ids.VolId.{VolId};
 ghost use Rattle.fc_books.specs.Accesses.{is_active, is_prepared};
 ghost use Rattle.fc_books.specs.Deciding.{decide, IsLoopOf};
-ghost use Rattle.fc_books.specs.Groups.{members, group_state, some_in, is_in, trigger_refusal};
+ghost use Rattle.fc_books.specs.Groups.{members, group_state, some_in, is_member, trigger_refusal};
 ghost use Rattle.fc_books.specs.RefusedStarts.{empty_group, for_each, not_ready, starts_not};
 ghost use Rattle.fc_books.specs.Sound.{AreSound};
 ghost use Rattle.fc_desk.specs.Control.{books_of};
@@ -196,7 +196,7 @@ fn note_refusal<S: Sheet>(
     mapping: &Mapping,
     restore: bool,
 ) -> Option<Refusal>
-    ensures { result ≡ or_else found (cond (is_in group mapping.now) (first_of (not_ready (books_of control.now (S.meaning sheet.now)) restore mapping.now)) None) }
+    ensures { result ≡ or_else found (cond (is_member group mapping.now) (first_of (not_ready (books_of control.now (S.meaning sheet.now)) restore mapping.now)) None) }
 {
     match found {
         Some(refusal) => Some(refusal),
@@ -212,7 +212,7 @@ fn member_refusal<S: Sheet>(
     mapping: &Mapping,
     restore: bool,
 ) -> Option<Refusal>
-    ensures { result ≡ cond (is_in group mapping.now) (first_of (not_ready (books_of control.now (S.meaning sheet.now)) restore mapping.now)) None }
+    ensures { result ≡ cond (is_member group mapping.now) (first_of (not_ready (books_of control.now (S.meaning sheet.now)) restore mapping.now)) None }
 {
     if is_member(mapping, group) {
         ready_refusal(control, sheet, mapping, restore)
@@ -224,14 +224,14 @@ fn member_refusal<S: Sheet>(
 /// Whether the state of some member is none that a start begins with.
 #[tactic(auto, using(fc_desk::proofs::Selecting::any_kept))]
 fn some_starts_not(mappings: &[Mapping], group: GroupId, prep: bool) -> bool
-    ensures { result ≡ list_any (starts_not prep) (filter (is_in group) mappings.now) }
+    ensures { result ≡ list_any (starts_not prep) (filter (is_member group) mappings.now) }
 {
     some_member_starts_not(mappings, group, prep)
 }
 
 /// Whether some mapping is a member whose state is none that a start begins with.
 fn some_member_starts_not(mappings: &[Mapping], group: GroupId, prep: bool) -> bool
-    ensures { result ≡ list_any (λ m. is_in group m && starts_not prep m) mappings.now }
+    ensures { result ≡ list_any (λ m. is_member group m && starts_not prep m) mappings.now }
 {
     mappings
         .iter()
@@ -240,7 +240,7 @@ fn some_member_starts_not(mappings: &[Mapping], group: GroupId, prep: bool) -> b
 
 /// Whether the mapping is a member whose state is none that a start begins with.
 fn member_starts_not(mapping: &Mapping, group: GroupId, prep: bool) -> bool
-    ensures { result ≡ (is_in group mapping.now && starts_not prep mapping.now) }
+    ensures { result ≡ (is_member group mapping.now && starts_not prep mapping.now) }
 {
     is_member(mapping, group)
         && (is_active(mapping.state) && (prep || !has_state(MapState::Prepared, mapping.state)))
@@ -248,21 +248,21 @@ fn member_starts_not(mapping: &Mapping, group: GroupId, prep: bool) -> bool
 
 /// Whether all members of the group are prepared.
 fn all_prepared(mappings: &[Mapping], group: GroupId) -> bool
-    ensures { result ≡ list_all (λ (m : Mapping). is_prepared m.state) (filter (is_in group) mappings.now) }
+    ensures { result ≡ list_all (λ (m : Mapping). is_prepared m.state) (filter (is_member group) mappings.now) }
 {
     !some_unprepared(mappings, group)
 }
 
 /// Whether some member of the group isn't prepared.
 fn some_unprepared(mappings: &[Mapping], group: GroupId) -> bool
-    ensures { result ≡ list_any (λ (m : Mapping). is_in group m && not (is_prepared m.state)) mappings.now }
+    ensures { result ≡ list_any (λ (m : Mapping). is_member group m && not (is_prepared m.state)) mappings.now }
 {
     mappings.iter().any(|mapping| is_unprepared(mapping, group))
 }
 
 /// Whether the mapping is a member of the group and isn't prepared.
 fn is_unprepared(mapping: &Mapping, group: GroupId) -> bool
-    ensures { result ≡ (is_in group mapping.now && not (is_prepared mapping.now.state)) }
+    ensures { result ≡ (is_member group mapping.now && not (is_prepared mapping.now.state)) }
 {
     is_member(mapping, group) && !has_state(MapState::Prepared, mapping.state)
 }

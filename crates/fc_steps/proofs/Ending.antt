@@ -11,7 +11,7 @@ use Rattle.fc_steps.specs.StepsEnd.{StepsEnd, StoppedIn}
 use Rattle.fc_steps.specs.declared.stop.Stop.{Stop}
 use Rattle.fc_steps.specs.declared.stop.Stop.TheVariants.{Failed, NoMemory as WantsMemory}
 use Rattle.fc_rules.specs.Spot.{Spot}
-use Rattle.fc_rules.specs.Steps.{HasDone, HasFailed, HasNoMemory, Step as OneStep, StoppedAt}
+use Rattle.fc_rules.specs.Steps.{HasDone, HasFailed, HasNoMemory, DiskStep as OneStep, StoppedAt}
 
 module _ (lane number actor : ℕ) (request : Request) (done : Reply) (old new : GrainsState) (spot : Spot) (steps : List OneStep) (moves : List Move) (calls : ℕ) where
   abbrev entry : Option Stop → Entry

@@ -31,8 +31,8 @@ use Rattle.fc_pictures.proofs.Staying.{stored_shows}
 use Rattle.fc_pictures.proofs.Running.{sheet_after_push}
 use Rattle.fc_rules.specs.LaneTold.{LaneOf, LaneTold, LaneVolume, place_of, is_thin_in, is_thin_kind}
 use Rattle.fc_rules.specs.LaneTurn.{spot_at}
-use Rattle.fc_rules.specs.Spot.{Spot, move_in, is_lost as lost_in}
-use Rattle.fc_rules.specs.Steps.{Step, calls_of, moves_of, step_of_move}
+use Rattle.fc_rules.specs.Spot.{Spot, move_in}
+use Rattle.fc_rules.specs.Steps.{DiskStep, calls_of_steps, moves_of, step_of_move}
 use Rattle.fc_sheets.proofs.Columns.{shape_torn}
 use Rattle.fc_sheets.proofs.Holding.{at_map, regrained, bit_taken, bit_lost}
 use Rattle.std.proofs.lemmas.Bool.{cases_Bool}
@@ -61,24 +61,20 @@ none_counted old = record { calls_are = refl; kept = omega arith; risen = λ t. 
 
 -- ---- steps
 
-pub moves_append : (xs ys : List Step) → moves_of (xs ++ ys) ≡ moves_of xs ++ moves_of ys
-moves_append xs ys = filter_map-append (λ (x : Step). x.move) xs ys
+pub moves_append : (xs ys : List DiskStep) → moves_of (xs ++ ys) ≡ moves_of xs ++ moves_of ys
+moves_append xs ys = filter_map-append (λ (x : DiskStep). x.move) xs ys
 
-pub calls_append : (xs ys : List Step) → calls_of (xs ++ ys) ≡ calls_of xs + calls_of ys
+pub calls_append : (xs ys : List DiskStep) → calls_of_steps (xs ++ ys) ≡ calls_of_steps xs + calls_of_steps ys
 calls_append xs ys =
-    let f : Step → ℕ = λ (x : Step). x.calls in
+    let f : DiskStep → ℕ = λ (x : DiskStep). x.calls in
     ap sum (map-append f xs ys) ∙ sum_by-append (λ (n : ℕ). n) (map f xs) (map f ys)
 
-pub calls_push : (xs : List Step) (x : Step) → calls_of (xs ++ x ∷ []) ≡ calls_of xs + x.calls
+pub calls_push : (xs : List DiskStep) (x : DiskStep) → calls_of_steps (xs ++ x ∷ []) ≡ calls_of_steps xs + x.calls
 calls_push xs x =
-    let e : calls_of (x ∷ []) ≡ x.calls = omega arith in
-    calls_append xs (x ∷ []) ∙ ap (λ (z : ℕ). calls_of xs + z) e
+    let e : calls_of_steps (x ∷ []) ≡ x.calls = omega arith in
+    calls_append xs (x ∷ []) ∙ ap (λ (z : ℕ). calls_of_steps xs + z) e
 
 -- ---- whether a grain is lost
-
-pub lost_same : (c : Content) → lost_in c ≡ is_lost c
-lost_same (Bytes bytes) = refl
-lost_same Lost = refl
 
 -- ---- which volumes are thin
 
@@ -150,7 +146,7 @@ pub record MovesMade (l : LaneOf) (told : LaneTold) (number : ℕ) (ks : List �
   pub rest_are : rest ≡ map (move_in (spot_at l told number)) left
   pub chains_are : after ≡ record chains { sheet = sheet_after l told number done }
   pub stands : Stands (sheet_after l told number done) told.picture new.volumes
-  pub calls_are : calls ≡ calls_of (map (step_of_move (spot_at l told number)) done)
+  pub calls_are : calls ≡ calls_of_steps (map (step_of_move (spot_at l told number)) done)
   pub counted : Counted old calls false new
   pub same : SameLane old new
 
@@ -227,14 +223,14 @@ module _ (l : LaneOf) (told : LaneTold) (number : ℕ) (ks : List ℕ) (chains :
     next_can = (next, next_can_at)
 
     -- the holder of its slot, and whether there is something to copy
-    shown_by : (h : ℕ) → holder (column (now so.done).slots g) next ≡ Some h → is_lost (stored new.volumes (slot_at (now so.done).slots h).volume g) ≡ lost_in (spot.now (spot.column.volume next))
+    shown_by : (h : ℕ) → holder (column (now so.done).slots g) next ≡ Some h → is_lost (stored new.volumes (slot_at (now so.done).slots h).volume g) ≡ is_lost (spot.now (spot.column.volume next))
     shown_by h holds =
         let c = can.run.can_move so.done later next split_is in
         let r = picture_law_holds.read (now so.done) told.picture (stored new.volumes) next g so.stands.sound so.stands.shows c.live.there c.live.is_live c.live.inside in
         let same : r.0 ≡ h = one_holder (holder (column (now so.done).slots g) next) r.0 h r.1 holds in
-        sym (lost_same _ ∙ (ap (λ (v : ℕ). is_lost (now_of told.picture v g)) c.volume ∙ (ap is_lost r.2 ∙ ap (λ (z : ℕ). is_lost (stored new.volumes (slot_at (now so.done).slots z).volume g)) same)))
+        sym (ap (λ (v : ℕ). is_lost (now_of told.picture v g)) c.volume ∙ (ap is_lost r.2 ∙ ap (λ (z : ℕ). is_lost (stored new.volumes (slot_at (now so.done).slots z).volume g)) same))
 
-    abbrev step : Step
+    abbrev step : DiskStep
     step = step_of_move spot next
 
     abbrev Ends : Chains → GrainsState → Move → ℕ → Option Stop → Chains → GrainsState → Type 0
@@ -271,7 +267,7 @@ module _ (l : LaneOf) (told : LaneTold) (number : ℕ) (ks : List ℕ) (chains :
             sized = sized_again told.sheet (now (so.done ++ next ∷ [])) old new' reached.shape reached.sizes all can.at.stands.sized;
             shows = agrees.shows;
           };
-          calls_are = (λ i. so.calls_are i + counts i) ∙ (sym (calls_push (map (step_of_move spot) so.done) step) ∙ ap calls_of (sym (map-append (step_of_move spot) so.done (next ∷ []))));
+          calls_are = (λ i. so.calls_are i + counts i) ∙ (sym (calls_push (map (step_of_move spot) so.done) step) ∙ ap calls_of_steps (sym (map-append (step_of_move spot) so.done (next ∷ []))));
           counted = both_counted old new new' calls n false so.counted e.1;
           same = all;
         }
@@ -288,7 +284,7 @@ module _ (l : LaneOf) (told : LaneTold) (number : ℕ) (ks : List ℕ) (chains :
     }
 
     copies : MoveNotMade (record chains { sheet = now so.done }) new g next (move_in spot next) → step.calls ≡ 2
-    copies x = (λ i. cond (x.out i || lost_in (spot.now (spot.column.volume next))) 0 2) ∙ ap (λ (b : Bool). cond b 0 2) (sym (shown_by x.holder_is x.holds) ∙ x.readable)
+    copies x = (λ i. cond (x.out i || is_lost (spot.now (spot.column.volume next))) 0 2) ∙ ap (λ (b : Bool). cond b 0 2) (sym (shown_by x.holder_is x.holds) ∙ x.readable)
 
     -- what stands when nothing of it was done
     unmade : (n : ℕ) (after' : Chains) (new' : GrainsState) → after' ≡ record chains { sheet = now so.done } → ((w y : ℕ) → stored new'.volumes w y ≡ stored new.volumes w y) →
@@ -388,7 +384,7 @@ module _ (l : LaneOf) (told : LaneTold) (number : ℕ) (ks : List ℕ) (chains :
       StepsEnd spot (map (step_of_move spot) ks) made calls None old new × StepsStand l told None made calls None chains old after new
   all_made after new calls made so =
       let whole : so.done ≡ ks = sym (append-nil so.done) ∙ (ap (λ z. so.done ++ z) (sym (nil_map so.left so.rest_are)) ∙ sym so.split) in (
-        (so.made_are ∙ (ap (map (move_in spot)) whole ∙ sym (lane_law_holds.moves_told spot ks)), so.calls_are ∙ ap (λ z. calls_of (map (step_of_move spot) z)) whole),
+        (so.made_are ∙ (ap (map (move_in spot)) whole ∙ sym (lane_law_holds.moves_told spot ks)), so.calls_are ∙ ap (λ z. calls_of_steps (map (step_of_move spot) z)) whole),
         subst (λ (z : List Move). StepsStand l told None z calls None chains old after new) (sym so.made_are) (record { chains_are = so.chains_are; stands = so.stands; counted = so.counted; same = so.same }),
       )
     where

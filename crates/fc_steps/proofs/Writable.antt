@@ -10,19 +10,18 @@ use Rattle.fc_base.specs.SheetFacts.{IsSound}
 use Rattle.fc_base.specs.declared.request.WritePart.{WritePart}
 use Rattle.fc_chain.specs.Chains.{Chains}
 use Rattle.fc_entry.specs.Picture.{grain_of_block, is_lost}
-use Rattle.fc_entry.specs.Writes.{is_whole}
+use Rattle.fc_entry.specs.Writes.{covers_grain}
 use Rattle.fc_grains.specs.Grains.{GrainsState}
 use Rattle.fc_grains.specs.Volumes.{stored, volume_of}
 use Rattle.fc_steps.specs.WriteStep.{FitsWrite, spot_of}
 use Rattle.fc_steps.specs.StepsEnd.{StandsAt}
 use Rattle.fc_steps.proofs.Moving.{Source, source_at, one_holder}
-use Rattle.fc_steps.proofs.StepsMade.{lost_same}
 use Rattle.fc_moves.proofs.Writing.{written}
 use Rattle.fc_pictures.specs.Law.{now_of}
 use Rattle.fc_pictures.proofs.Lawful.{picture_law_holds}
 use Rattle.fc_rules.specs.GrainAnswers.{cannot_write}
 use Rattle.fc_rules.specs.LaneTold.{LaneOf, LaneTold, place_of}
-use Rattle.fc_rules.specs.Spot.{Spot, is_lost as lost_in}
+use Rattle.fc_rules.specs.Spot.{Spot}
 use Rattle.fc_sheets.proofs.Finding.{live_place_at}
 use Rattle.std.proofs.lemmas.List.{length-reverse}
 use Rattle.std.proofs.lemmas.List.Sums.{sum_by-cons}
@@ -90,13 +89,13 @@ module _ (l : LaneOf) (told : LaneTold) (part : WritePart) (t : ℕ) (chains : C
   -- whether it can be written
   pub whole_writable : part.count ≡ grain_blocks old.grain → cannot_write l.grain spot part ≡ false
   whole_writable e =
-      let whole : is_whole l.grain part ≡ true = ap (λ z. is_whole z part) (sym at.grain_is) ∙ eq-eqb part.count (grain_blocks old.grain) e in
-      ap (λ (b : Bool). lost_in (spot.now part.volume.0) && not b) whole ∙ and_right (lost_in (spot.now part.volume.0)) false refl
+      let whole : covers_grain l.grain part ≡ true = ap (λ z. covers_grain z part) (sym at.grain_is) ∙ eq-eqb part.count (grain_blocks old.grain) e in
+      ap (λ (b : Bool). is_lost (spot.now part.volume.0) && not b) whole ∙ and_right (is_lost (spot.now part.volume.0)) false refl
 
   pub part_writable : (from place : ℕ) → from ≡ shows_first → place ≡ g → (part.count ≡ grain_blocks old.grain → ⊥) → cannot_write l.grain spot part ≡ is_lost (stored old.volumes from place)
   part_writable from place e p some =
-      let whole : is_whole l.grain part ≡ false = ap (λ z. is_whole z part) (sym at.grain_is) ∙ ne_eqb part.count (grain_blocks old.grain) some in
-      let lost : lost_in (spot.now part.volume.0) ≡ is_lost (stored old.volumes from place) = lost_same (spot.now part.volume.0) ∙ (ap is_lost shown ∙ λ i. is_lost (stored old.volumes (sym e i) (sym p i))) in
+      let whole : covers_grain l.grain part ≡ false = ap (λ z. covers_grain z part) (sym at.grain_is) ∙ ne_eqb part.count (grain_blocks old.grain) some in
+      let lost : is_lost (spot.now part.volume.0) ≡ is_lost (stored old.volumes from place) = ap is_lost shown ∙ λ i. is_lost (stored old.volumes (sym e i) (sym p i)) in
       (λ i. lost i && not (whole i)) ∙ and_true (is_lost (stored old.volumes from place))
     where
       and_true : (b : Bool) → (b && true) ≡ b

@@ -24,22 +24,22 @@ use Rattle.fc_pictures.proofs.Running.{steps_law_holds}
 use Rattle.fc_rules.specs.LaneTold.{LaneOf, LaneTold, place_of, sheet_entry, sheet_tear, sheet_write}
 use Rattle.fc_rules.specs.LaneTurn.{spot_at}
 use Rattle.fc_rules.specs.Spot.{Spot, move_in}
-use Rattle.fc_rules.specs.Steps.{Step, own_step, step_of_move, steps_of_write}
+use Rattle.fc_rules.specs.Steps.{DiskStep, own_step, step_of_move, steps_of_write}
 use Rattle.fc_sheets.proofs.Finding.{live_place_at}
 
 -- ---- steps with one more at the end
 
-stopped_longer : (steps : List Step) (last : Step) (moves : List Move) (calls : ℕ) (step : Step) (extra : ℕ) → StoppedIn steps moves calls step extra → StoppedIn (steps ++ last ∷ []) moves calls step extra
+stopped_longer : (steps : List DiskStep) (last : DiskStep) (moves : List Move) (calls : ℕ) (step : DiskStep) (extra : ℕ) → StoppedIn steps moves calls step extra → StoppedIn (steps ++ last ∷ []) moves calls step extra
 stopped_longer steps last moves calls step extra s = record {
   before = s.before;
   after = s.after ++ last ∷ [];
-  steps_are = ap (λ (z : List Step). z ++ last ∷ []) s.steps_are ∙ append_assoc s.before (step ∷ s.after) (last ∷ []);
+  steps_are = ap (λ (z : List DiskStep). z ++ last ∷ []) s.steps_are ∙ append_assoc s.before (step ∷ s.after) (last ∷ []);
   moves_are = s.moves_are;
   calls_are = s.calls_are;
   within = s.within;
 }
 
-ends_longer : (spot : Spot) (steps : List Step) (last : Step) (moves : List Move) (calls : ℕ) (stop : Stop) (old new : GrainsState) → StepsEnd spot steps moves calls (Some stop) old new →
+ends_longer : (spot : Spot) (steps : List DiskStep) (last : DiskStep) (moves : List Move) (calls : ℕ) (stop : Stop) (old new : GrainsState) → StepsEnd spot steps moves calls (Some stop) old new →
     StepsEnd spot (steps ++ last ∷ []) moves calls (Some stop) old new
 ends_longer spot steps last moves calls (Failed torn) old new e =
     record {
@@ -68,7 +68,7 @@ module _ (l : LaneOf) (told : LaneTold) (part : WritePart) (t : ℕ) (chains : C
   abbrev ks : List ℕ
   ks = write_moves spot.column t
 
-  abbrev own : Step
+  abbrev own : DiskStep
   own = own_step l.grain spot part t
 
   pub write_can_move : CanMakeMoves l told number ks chains old

@@ -19,7 +19,7 @@ use Rattle.fc_base.specs.declared.request.WritePart.{WritePart}
 use Rattle.fc_base.specs.declared.size.GrainSize.{GrainSize}
 use Rattle.fc_chain.specs.Chains.{Chains, found}
 use Rattle.fc_entry.specs.Picture.{Content, Bytes, Lost, byte_in_grain, grain_of_block, written, is_lost}
-use Rattle.fc_entry.specs.Writes.{calls_of_write, is_whole}
+use Rattle.fc_entry.specs.Writes.{calls_of_write, covers_grain}
 use Rattle.fc_grains.specs.Calls.{HasWritten}
 use Rattle.fc_grains.specs.Grains.{GrainsState}
 use Rattle.fc_grains.specs.Volumes.{is_there, volume_of, stored}
@@ -31,7 +31,7 @@ use Rattle.fc_steps.specs.declared.stop.Stop.{Stop}
 use Rattle.fc_steps.specs.declared.stop.Stop.TheVariants.{Failed, NoMemory}
 use Rattle.fc_steps.proofs.Moving.{Source, source_at, one_holder, risen_then, same_then, stored_after, wrote_done, wrote_stored, failed_done, failed_stored, refused_done, refused_stored}
 use Rattle.fc_steps.proofs.Naming.{birth_place_is}
-use Rattle.fc_steps.proofs.StepsMade.{both_counted, counted_any, lost_same, sized_again, size_torn, size_written, thin_told}
+use Rattle.fc_steps.proofs.StepsMade.{both_counted, counted_any, sized_again, size_torn, size_written, thin_told}
 use Rattle.fc_steps.proofs.WritePrepare.{bytes_of_blocks}
 use Rattle.fc_pictures.specs.Law.{StoredAt, now_of}
 use Rattle.fc_pictures.specs.LaneLaw.{sheet_before_write, torn_of}
@@ -42,7 +42,7 @@ use Rattle.fc_pictures.proofs.Running.{steps_law_holds}
 use Rattle.fc_pictures.proofs.Staying.{stored_shows}
 use Rattle.fc_rules.specs.LaneTold.{LaneOf, LaneTold, place_of}
 use Rattle.fc_rules.specs.Spot.{Spot}
-use Rattle.fc_rules.specs.Steps.{Step, is_of_volume, own_step, reads_own}
+use Rattle.fc_rules.specs.Steps.{DiskStep, is_of_volume, own_step, reads_own}
 use Rattle.fc_sheets.proofs.Columns.{shape_torn, shape_written}
 use Rattle.fc_sheets.proofs.Finding.{live_place_at, live_place_is}
 
@@ -84,7 +84,7 @@ module _ (l : LaneOf) (told : LaneTold) (part : WritePart) (t : ℕ) (chains : C
   abbrev spot : Spot
   spot = spot_of l told part
 
-  abbrev own : Step
+  abbrev own : DiskStep
   own = own_step l.grain spot part t
 
   abbrev ks : List ℕ
@@ -174,10 +174,10 @@ module _ (l : LaneOf) (told : LaneTold) (part : WritePart) (t : ℕ) (chains : C
   content_is : (from place : ℕ) → from ≡ shows_from → place ≡ g → stored old.volumes from place ≡ spot.now part.volume.0
   content_is from place e p = (λ i. stored old.volumes (e i) (p i)) ∙ sym shown
 
-  pub own_readable : (from place : ℕ) → from ≡ shows_from → place ≡ g → (is_lost (stored old.volumes from place) && not (is_whole old.grain part)) ≡ false
+  pub own_readable : (from place : ℕ) → from ≡ shows_from → place ≡ g → (is_lost (stored old.volumes from place) && not (covers_grain old.grain part)) ≡ false
   own_readable from place e p =
-      (λ i. is_lost (content_is from place e p i) && not (is_whole (can.grain_is i) part))
-      ∙ (ap (λ (b : Bool). b && not (is_whole l.grain part)) (sym (lost_same (spot.now part.volume.0))) ∙ can.is.writable)
+      (λ i. is_lost (content_is from place e p i) && not (covers_grain (can.grain_is i) part))
+      ∙ can.is.writable
 
   pub own_target : (place : ℕ) → place ≡ g → (is_there old.volumes part.volume.0 ≡ true) × (place < length (volume_of old.volumes part.volume.0).contents)
   own_target place p =
@@ -215,11 +215,11 @@ module _ (l : LaneOf) (told : LaneTold) (part : WritePart) (t : ℕ) (chains : C
   -- the read failed
   pub own_unread : (from place : ℕ) (mid : GrainsState) → IsPrepared old.grain part (stored old.volumes from place) true old mid → OwnEnds l told part t 1 (Some (Failed None)) chains old chains mid
   own_unread from place mid p =
-      let some : is_whole l.grain part ≡ false = ap (λ (z : GrainSize). is_whole z part) (sym can.grain_is) ∙ p.part_failed refl in
+      let some : covers_grain l.grain part ≡ false = ap (λ (z : GrainSize). covers_grain z part) (sym can.grain_is) ∙ p.part_failed refl in
       let counted : Counted old 1 true mid = subst (λ (b : Bool). Counted old (cond b 0 1) true mid) (p.part_failed refl) p.counted in (
         record {
           called = omega arith;
-          within = calls_some (is_whole l.grain part);
+          within = calls_some (covers_grain l.grain part);
           torn_is = sym (ap (λ (b : Bool). cond (eqb 1 (cond b 1 2)) (Some (torn_of spot own)) None) some);
           risen = counted.risen refl;
           torn_by_write = tt;
@@ -230,11 +230,11 @@ module _ (l : LaneOf) (told : LaneTold) (part : WritePart) (t : ℕ) (chains : C
   -- all calls of it
   module _ (from place : ℕ) (mid new : GrainsState) (e : from ≡ shows_from) (at : place ≡ g) (p : IsPrepared old.grain part (stored old.volumes from place) false old mid) where
     abbrev whole : Bool
-    whole = is_whole l.grain part
+    whole = covers_grain l.grain part
 
     calls_all : (failed : Bool) → Counted mid 1 failed new → Counted old (calls_of_write l.grain part) failed new
     calls_all failed c =
-        let q : Counted old (cond whole 0 1) false mid = subst (λ (z : GrainSize). Counted old (cond (is_whole z part) 0 1) false mid) can.grain_is p.counted in
+        let q : Counted old (cond whole 0 1) false mid = subst (λ (z : GrainSize). Counted old (cond (covers_grain z part) 0 1) false mid) can.grain_is p.counted in
         subst (λ (n : ℕ). Counted old n failed new) (calls_both whole) (both_counted old mid new (cond whole 0 1) 1 failed q c)
 
     pub target_mid : (is_there mid.volumes part.volume.0 ≡ true) × (place < length (volume_of mid.volumes part.volume.0).contents)

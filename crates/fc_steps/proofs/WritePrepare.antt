@@ -7,7 +7,7 @@ use Rattle.fc_base.specs.declared.request.WritePart.{WritePart}
 use Rattle.fc_base.specs.declared.size.GrainSize.{GrainSize}
 use Rattle.fc_base.specs.declared.size.GrainSize.TheVariants.{K64, K256}
 use Rattle.fc_entry.specs.Picture.{Content, Bytes, Lost, byte_in_grain, written}
-use Rattle.fc_entry.specs.Writes.{is_whole}
+use Rattle.fc_entry.specs.Writes.{covers_grain}
 use Rattle.fc_grains.specs.Calls.{HasRead}
 use Rattle.fc_grains.specs.Grains.{GrainsState}
 use Rattle.fc_grains.specs.Volumes.{ComeNearer, is_there, stored}
@@ -65,7 +65,7 @@ module _ (grain : GrainSize) (part : WritePart) (inside : IsInGrain grain part) 
         let fits = inside.fits in
         omega (arith, all_bytes)
 
-    is_all : is_whole grain part ≡ true
+    is_all : covers_grain grain part ≡ true
     is_all = eq-eqb part.count (grain_blocks grain) whole
 
     pub whole_prepared : (old new : GrainsState) → length old.buffer ≡ grain_bytes grain → ((bytes : List ℕ) → content ≡ Bytes bytes → length bytes ≡ grain_bytes grain) →
@@ -86,7 +86,7 @@ module _ (grain : GrainSize) (part : WritePart) (inside : IsInGrain grain part) 
 
   -- a part of it
   module _ (some : part.count ≢ grain_blocks grain) (old mid : GrainsState) (v g : ℕ) (there : is_there old.volumes v ≡ true) (holds : content ≡ stored old.volumes v g) where
-    is_part : is_whole grain part ≡ false
+    is_part : covers_grain grain part ≡ false
     is_part = ne_eqb part.count (grain_blocks grain) some
 
     pub part_prepared : (new : GrainsState) → HasRead old v g false mid →

@@ -13,7 +13,7 @@ use Rattle.fc_steps.specs.declared.stop.Stop.TheVariants.{Failed, NoMemory}
 use Rattle.fc_pictures.specs.StepsLaw.{MovesRun}
 use Rattle.fc_rules.specs.LaneTold.{LaneOf, LaneTold, sheet_entry, picture_entry}
 use Rattle.fc_rules.specs.Spot.{Spot}
-use Rattle.fc_rules.specs.Steps.{Step, calls_of, moves_of, torn_by}
+use Rattle.fc_rules.specs.Steps.{DiskStep, calls_of_steps, moves_of, torn_by}
 
 -- What a stop leaves torn.
 abbrev pub torn_in : Option Stop → Option Torn
@@ -24,17 +24,17 @@ torn_in (Some NoMemory) = None
 -- ---- how far they came
 
 -- They stopped at a step, after `extra` of its calls; those before it were done.
-pub record StoppedIn (steps : List Step) (moves : List Move) (calls : ℕ) (step : Step) (extra : ℕ) : Type 0 where
-  pub before : List Step
-  pub after : List Step
+pub record StoppedIn (steps : List DiskStep) (moves : List Move) (calls : ℕ) (step : DiskStep) (extra : ℕ) : Type 0 where
+  pub before : List DiskStep
+  pub after : List DiskStep
   pub steps_are : steps ≡ before ++ step ∷ after
   pub moves_are : moves ≡ moves_of before
-  pub calls_are : calls ≡ calls_of before + extra
+  pub calls_are : calls ≡ calls_of_steps before + extra
   pub within : extra ≤ step.calls
 
 -- A call failed. What is torn was torn by a write that failed.
-pub record FailedIn (spot : Spot) (steps : List Step) (moves : List Move) (calls : ℕ) (torn : Option Torn) (old new : GrainsState) : Type 0 where
-  pub step : Step
+pub record FailedIn (spot : Spot) (steps : List DiskStep) (moves : List Move) (calls : ℕ) (torn : Option Torn) (old new : GrainsState) : Type 0 where
+  pub step : DiskStep
   pub extra : ℕ
   pub stopped : StoppedIn steps moves calls step extra
   pub called : 1 ≤ extra
@@ -43,15 +43,15 @@ pub record FailedIn (spot : Spot) (steps : List Step) (moves : List Move) (calls
   pub torn_by_write : IsTornBy torn old new
 
 -- A thin disk found no memory.
-pub record RefusedIn (spot : Spot) (steps : List Step) (moves : List Move) (calls : ℕ) : Type 0 where
-  pub step : Step
+pub record RefusedIn (spot : Spot) (steps : List DiskStep) (moves : List Move) (calls : ℕ) : Type 0 where
+  pub step : DiskStep
   pub extra : ℕ
   pub stopped : StoppedIn steps moves calls step extra
   pub thin : spot.is_thin step.volume ≡ true
 
 -- All were done, or one wasn't.
-abbrev pub StepsEnd : Spot → List Step → List Move → ℕ → Option Stop → GrainsState → GrainsState → Type 0
-StepsEnd spot steps moves calls None old new = (moves ≡ moves_of steps) × (calls ≡ calls_of steps)
+abbrev pub StepsEnd : Spot → List DiskStep → List Move → ℕ → Option Stop → GrainsState → GrainsState → Type 0
+StepsEnd spot steps moves calls None old new = (moves ≡ moves_of steps) × (calls ≡ calls_of_steps steps)
 StepsEnd spot steps moves calls (Some (Failed torn)) old new = FailedIn spot steps moves calls torn old new
 StepsEnd spot steps moves calls (Some NoMemory) old new = RefusedIn spot steps moves calls
 

@@ -11,7 +11,7 @@ use Rattle.fc_base.specs.declared.request.WritePart.{WritePart}
 use Rattle.fc_base.specs.declared.size.GrainSize.{GrainSize}
 use Rattle.fc_chain.specs.Chains.{Chains}
 use Rattle.fc_entry.specs.Picture.{Content, Bytes, written, byte_in_grain, grain_of_block}
-use Rattle.fc_entry.specs.Writes.{calls_of_write, is_whole}
+use Rattle.fc_entry.specs.Writes.{calls_of_write, covers_grain}
 use Rattle.fc_grains.specs.Grains.{GrainsState}
 use Rattle.fc_grains.specs.Volumes.{stored}
 use Rattle.fc_steps.specs.Moving.{Counted, IsTornBy, SameLane}
@@ -31,8 +31,8 @@ use Rattle.fc_rules.specs.Steps.{own_step, torn_by}
 -- The grain at hand became what is written: a grain that held this, with the part's bytes. Its rest was read, unless the whole
 -- grain is written; and that may have failed.
 pub record IsPrepared (grain : GrainSize) (part : WritePart) (content : Content) (failed : Bool) (old new : GrainsState) : Type 0 where
-  pub counted : Counted old (cond (is_whole grain part) 0 1) failed new
-  pub part_failed : failed ≡ true → is_whole grain part ≡ false
+  pub counted : Counted old (cond (covers_grain grain part) 0 1) failed new
+  pub part_failed : failed ≡ true → covers_grain grain part ≡ false
   pub bytes : failed ≡ false → Bytes new.buffer ≡ written (byte_in_grain grain part.block) (block_bytes * part.count) part.byte content
   pub stored_same : (w y : ℕ) → stored new.volumes w y ≡ stored old.volumes w y
   pub same : SameLane old new

@@ -7,7 +7,7 @@ ghost use Rattle.fc_base.specs.SheetFacts.{IsSound};
 ghost use Rattle.fc_base.specs.declared.request.Side.TheVariants.{Now, Under};
 ghost use Rattle.fc_chain.specs.Chains.{IsOfLane, in_lane};
 ghost use Rattle.fc_entry.specs.Picture.{byte_in_grain, grain_of_block, is_lost};
-ghost use Rattle.fc_entry.specs.Writes.{calls_of_write, is_whole};
+ghost use Rattle.fc_entry.specs.Writes.{calls_of_write, covers_grain};
 ghost use Rattle.fc_grains.specs.Volumes.{is_there, stored, volume_of};
 ghost use Rattle.fc_steps.specs.WriteStep.{CanWriteOwn, IsInGrain, IsPlannedWrite, IsPrepared, OwnEnds, spot_of, write_in, FitsWrite};
 ghost use Rattle.fc_steps.specs.StepsEnd.{StepsEnd, StepsStand, torn_in, StandsAt};
@@ -64,7 +64,7 @@ fn prepare<D: Mdisk>(
     requires part { IsInGrain grains.old.grain part }
     requires there { is_there grains.old.volumes source.0 ≡ true }
     requires inside { place < length (volume_of grains.old.volumes source.0).contents }
-    requires readable { (is_lost (stored grains.old.volumes source.0 place) && not (is_whole grains.old.grain part)) ≡ false }
+    requires readable { (is_lost (stored grains.old.volumes source.0 place) && not (covers_grain grains.old.grain part)) ≡ false }
     ensures { IsPrepared grains.old.grain part (stored grains.old.volumes source.0 place) (is_err result) grains.old grains.new }
 {
     if part.count == grains.grain().blocks() {

@@ -13,7 +13,7 @@ use Rattle.fc_base.specs.declared.ids.MapId.{MapId}
 use Rattle.fc_base.specs.declared.volume.Change.{Change}
 use Rattle.fc_base.specs.declared.volume.Mapping.{Mapping}
 use Rattle.fc_books.specs.Books.{Books}
-use Rattle.fc_books.specs.Groups.{acts_on, is_in, members, some_in, is_none_of, group_state}
+use Rattle.fc_books.specs.Groups.{acts_on, is_member, members, some_in, is_none_of, group_state}
 use Rattle.fc_books.specs.RefusedStarts.{not_complete, for_each, split_refusals}
 use Rattle.fc_entry.specs.Refused.{first_of, where_}
 use Rattle.fc_stops.proofs.StopAsked.{any_of, any_in}
@@ -104,10 +104,10 @@ filter_then p (x ∷ xs) ys = ap (λ rest. cond (p x) (x ∷ rest) rest) (filter
     put false = refl
 
 abbrev each : StopWay → GroupId → Books → List Mapping → Option Refusal
-each way g b maps = for_each (split_refusals way b) (filter (is_in g) maps)
+each way g b maps = for_each (split_refusals way b) (filter (is_member g) maps)
 
 one_each : (way : StopWay) (g : GroupId) (b : Books) (m : Mapping) → each way g b (m ∷ []) ≡ cond (is_acted way g m) (not_complete way b m) None
-one_each way g b m = put (is_in g m) (acts_on way m.state) refl
+one_each way g b m = put (is_member g m) (acts_on way m.state) refl
   where
     alone : (o : Option Refusal) → first_of (o ∷ None ∷ []) ≡ o
     alone None = refl
@@ -120,33 +120,33 @@ one_each way g b m = put (is_in g m) (acts_on way m.state) refl
 pub each_next : (way : StopWay) (g : GroupId) (b : Books) (maps : List Mapping) (i : ℕ) (m : Mapping) (found : Option Refusal) → i < length maps → m ≡ get_or maps i m → found ≡ cond (is_acted way g m) (not_complete way b m) None → each way g b (take i maps) ≡ None → each way g b (take (i + 1) maps) ≡ found
 each_next way g b maps i m found lt at is none =
     ap (each way g b) (take_more maps i m lt ∙ ap (λ x. take i maps ++ x ∷ []) (sym at))
-    ∙ ap (for_each (split_refusals way b)) (filter_then (is_in g) (take i maps) (m ∷ []))
-    ∙ each_then way b (filter (is_in g) (take i maps)) (filter (is_in g) (m ∷ []))
+    ∙ ap (for_each (split_refusals way b)) (filter_then (is_member g) (take i maps) (m ∷ []))
+    ∙ each_then way b (filter (is_member g) (take i maps)) (filter (is_member g) (m ∷ []))
     ∙ ap (λ o. or_else o (each way g b (m ∷ []))) none
     ∙ one_each way g b m
     ∙ sym is
 
-pub each_found : (way : StopWay) (g : GroupId) (b : Books) (items maps : List Mapping) (i : ℕ) (m : Mapping) (found : Option Refusal) (refusal : Refusal) → i < length items → m ≡ get_or items i m → found ≡ cond (is_acted way g m) (not_complete way b m) None → each way g b (take i items) ≡ None → found ≡ Some refusal → items ≡ maps → Some refusal ≡ for_each (split_refusals way b) (filter (is_in g) maps)
+pub each_found : (way : StopWay) (g : GroupId) (b : Books) (items maps : List Mapping) (i : ℕ) (m : Mapping) (found : Option Refusal) (refusal : Refusal) → i < length items → m ≡ get_or items i m → found ≡ cond (is_acted way g m) (not_complete way b m) None → each way g b (take i items) ≡ None → found ≡ Some refusal → items ≡ maps → Some refusal ≡ for_each (split_refusals way b) (filter (is_member g) maps)
 each_found way g b items maps i m found refusal lt at is none some same =
     sym
     (ap (each way g b) (sym same ∙ sym (take-append-drop (i + 1) items))
-    ∙ ap (for_each (split_refusals way b)) (filter_then (is_in g) (take (i + 1) items) (drop (i + 1) items))
-    ∙ each_then way b (filter (is_in g) (take (i + 1) items)) (filter (is_in g) (drop (i + 1) items))
+    ∙ ap (for_each (split_refusals way b)) (filter_then (is_member g) (take (i + 1) items) (drop (i + 1) items))
+    ∙ each_then way b (filter (is_member g) (take (i + 1) items)) (filter (is_member g) (drop (i + 1) items))
     ∙ ap (λ o. or_else o (each way g b (drop (i + 1) items))) (each_next way g b items i m found lt at is none ∙ some))
 
-none_in : (g : GroupId) (maps : List Mapping) → is_none_of (filter (is_in g) maps) ≡ not (list_any (is_in g) maps)
+none_in : (g : GroupId) (maps : List Mapping) → is_none_of (filter (is_member g) maps) ≡ not (list_any (is_member g) maps)
 none_in g [] = refl
-none_in g (m ∷ ms) = put (is_in g m) (none_in g ms)
+none_in g (m ∷ ms) = put (is_member g m) (none_in g ms)
   where
-    put : (c : Bool) → is_none_of (filter (is_in g) ms) ≡ not (list_any (is_in g) ms) → is_none_of (cond c (m ∷ filter (is_in g) ms) (filter (is_in g) ms)) ≡ not (c || list_any (is_in g) ms)
+    put : (c : Bool) → is_none_of (filter (is_member g) ms) ≡ not (list_any (is_member g) ms) → is_none_of (cond c (m ∷ filter (is_member g) ms) (filter (is_member g) ms)) ≡ not (c || list_any (is_member g) ms)
     put true e = refl
     put false e = e
 
-acted_in : (way : StopWay) (g : GroupId) (maps : List Mapping) → some_in (acts_on way) (filter (is_in g) maps) ≡ list_any (is_acted way g) maps
+acted_in : (way : StopWay) (g : GroupId) (maps : List Mapping) → some_in (acts_on way) (filter (is_member g) maps) ≡ list_any (is_acted way g) maps
 acted_in way g [] = refl
-acted_in way g (m ∷ ms) = put (is_in g m) (acted_in way g ms)
+acted_in way g (m ∷ ms) = put (is_member g m) (acted_in way g ms)
   where
-    put : (c : Bool) → some_in (acts_on way) (filter (is_in g) ms) ≡ list_any (is_acted way g) ms → some_in (acts_on way) (cond c (m ∷ filter (is_in g) ms) (filter (is_in g) ms)) ≡ ((c && acts_on way m.state) || list_any (is_acted way g) ms)
+    put : (c : Bool) → some_in (acts_on way) (filter (is_member g) ms) ≡ list_any (is_acted way g) ms → some_in (acts_on way) (cond c (m ∷ filter (is_member g) ms) (filter (is_member g) ms)) ≡ ((c && acts_on way m.state) || list_any (is_acted way g) ms)
     put true e = ap (λ z. acts_on way m.state || z) e
     put false e = e
 
@@ -157,21 +157,21 @@ last_of : (r : Option Refusal) → first_of (r ∷ []) ≡ r
 last_of None = refl
 last_of (Some refusal) = refl
 
-by_tests : (way : StopWay) (g : GroupId) (b : Books) → refused_group way b g ≡ told_by (list_any (is_in g) b.tables.mappings) (list_any (is_acted way g) b.tables.mappings) (NotAllowed (group_state b.tables g)) (each way g b b.tables.mappings)
+by_tests : (way : StopWay) (g : GroupId) (b : Books) → refused_group way b g ≡ told_by (list_any (is_member g) b.tables.mappings) (list_any (is_acted way g) b.tables.mappings) (NotAllowed (group_state b.tables g)) (each way g b b.tables.mappings)
 by_tests way g b =
     ap (λ z. first_of (where_ z EmptyGroup ∷ where_ (not (some_in (acts_on way) (members b.tables g))) (NotAllowed (group_state b.tables g)) ∷ each way g b b.tables.mappings ∷ [])) (none_in g b.tables.mappings)
-    ∙ ap (λ z. told_by (list_any (is_in g) b.tables.mappings) z (NotAllowed (group_state b.tables g)) (each way g b b.tables.mappings)) (acted_in way g b.tables.mappings)
+    ∙ ap (λ z. told_by (list_any (is_member g) b.tables.mappings) z (NotAllowed (group_state b.tables g)) (each way g b b.tables.mappings)) (acted_in way g b.tables.mappings)
 
-pub refused_empty : (way : StopWay) (g : GroupId) (b : Books) → list_any (is_in g) b.tables.mappings ≡ false → Some EmptyGroup ≡ refused_group way b g
+pub refused_empty : (way : StopWay) (g : GroupId) (b : Books) → list_any (is_member g) b.tables.mappings ≡ false → Some EmptyGroup ≡ refused_group way b g
 refused_empty way g b none = sym (by_tests way g b ∙ ap (λ z. told_by z (list_any (is_acted way g) b.tables.mappings) (NotAllowed (group_state b.tables g)) (each way g b b.tables.mappings)) none)
 
-pub refused_state : (way : StopWay) (g : GroupId) (b : Books) → list_any (is_in g) b.tables.mappings ≡ true → list_any (is_acted way g) b.tables.mappings ≡ false → Some (NotAllowed (group_state b.tables g)) ≡ refused_group way b g
+pub refused_state : (way : StopWay) (g : GroupId) (b : Books) → list_any (is_member g) b.tables.mappings ≡ true → list_any (is_acted way g) b.tables.mappings ≡ false → Some (NotAllowed (group_state b.tables g)) ≡ refused_group way b g
 refused_state way g b some none =
     sym (by_tests way g b
     ∙ ap (λ z. told_by z (list_any (is_acted way g) b.tables.mappings) (NotAllowed (group_state b.tables g)) (each way g b b.tables.mappings)) some
     ∙ ap (λ z. told_by true z (NotAllowed (group_state b.tables g)) (each way g b b.tables.mappings)) none)
 
-pub refused_split : (way : StopWay) (g : GroupId) (b : Books) (found : Option Refusal) → list_any (is_in g) b.tables.mappings ≡ true → list_any (is_acted way g) b.tables.mappings ≡ true → found ≡ for_each (split_refusals way b) (members b.tables g) → found ≡ refused_group way b g
+pub refused_split : (way : StopWay) (g : GroupId) (b : Books) (found : Option Refusal) → list_any (is_member g) b.tables.mappings ≡ true → list_any (is_acted way g) b.tables.mappings ≡ true → found ≡ for_each (split_refusals way b) (members b.tables g) → found ≡ refused_group way b g
 refused_split way g b found some acts is =
     is
     ∙ sym (by_tests way g b

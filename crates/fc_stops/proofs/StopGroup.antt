@@ -22,7 +22,7 @@ use Rattle.fc_base.specs.declared.volume.Mapping.{Mapping}
 use Rattle.fc_books.specs.Books.{Books, Deed, nothing, ◌then◌}
 use Rattle.fc_books.specs.Copies.{held, total, is_whole, has_slot_among, places_behind}
 use Rattle.fc_books.specs.Deciding.{with_work}
-use Rattle.fc_books.specs.Groups.{acts_on, is_in, members, some_in, group_state}
+use Rattle.fc_books.specs.Groups.{acts_on, is_member, members, some_in, group_state}
 use Rattle.fc_books.specs.RefusedStarts.{not_complete, for_each, split_refusals, empty_group}
 use Rattle.fc_books.specs.Sound.{AreSound}
 use Rattle.fc_books.specs.Stopping.{stop_group}
@@ -179,21 +179,21 @@ alone : (o : Option Refusal) → first_of (o ∷ []) ≡ None → o ≡ None
 alone None e = refl
 alone (Some refusal) e = grind (arith, e)
 
-none_at : (way : StopWay) (g : GroupId) (b : Books) (y : Mapping) (ys : List Mapping) (m : Mapping) (j : ℕ) → (for_each (split_refusals way b) (filter (is_in g) ys) ≡ None → Contains ys m → not_complete way b m ≡ None) → j < length (y ∷ ys) → get_or (y ∷ ys) j m ≡ m → (c : Bool) → is_in g y ≡ c → is_in g m ≡ true → acts_on way m.state ≡ true → for_each (split_refusals way b) (cond c (y ∷ filter (is_in g) ys) (filter (is_in g) ys)) ≡ None → not_complete way b m ≡ None
+none_at : (way : StopWay) (g : GroupId) (b : Books) (y : Mapping) (ys : List Mapping) (m : Mapping) (j : ℕ) → (for_each (split_refusals way b) (filter (is_member g) ys) ≡ None → Contains ys m → not_complete way b m ≡ None) → j < length (y ∷ ys) → get_or (y ∷ ys) j m ≡ m → (c : Bool) → is_member g y ≡ c → is_member g m ≡ true → acts_on way m.state ≡ true → for_each (split_refusals way b) (cond c (y ∷ filter (is_member g) ys) (filter (is_member g) ys)) ≡ None → not_complete way b m ≡ None
 none_at way g b y ys m zero rest lt e true is member acts none =
-    let parts = first_none (cond (acts_on way y.state) (not_complete way b y) None) (for_each (split_refusals way b) (filter (is_in g) ys) ∷ []) none in
+    let parts = first_none (cond (acts_on way y.state) (not_complete way b y) None) (for_each (split_refusals way b) (filter (is_member g) ys) ∷ []) none in
     let P : Mapping → Type 0 = λ x. cond (acts_on way x.state) (not_complete way b x) None ≡ None in
     one_none way b m (acts_on way m.state) refl acts (subst P e parts.0)
-none_at way g b y ys m zero rest lt e false is member acts none = let both : true ≡ false = sym member ∙ (ap (is_in g) (sym e) ∙ is) in grind (arith, both)
+none_at way g b y ys m zero rest lt e false is member acts none = let both : true ≡ false = sym member ∙ (ap (is_member g) (sym e) ∙ is) in grind (arith, both)
 none_at way g b y ys m (suc j) rest lt e true is member acts none =
-    let parts = first_none (cond (acts_on way y.state) (not_complete way b y) None) (for_each (split_refusals way b) (filter (is_in g) ys) ∷ []) none in
-    rest (alone (for_each (split_refusals way b) (filter (is_in g) ys)) parts.1) (j, omega (arith, lt), e)
+    let parts = first_none (cond (acts_on way y.state) (not_complete way b y) None) (for_each (split_refusals way b) (filter (is_member g) ys) ∷ []) none in
+    rest (alone (for_each (split_refusals way b) (filter (is_member g) ys)) parts.1) (j, omega (arith, lt), e)
 none_at way g b y ys m (suc j) rest lt e false is member acts none = rest none (j, omega (arith, lt), e)
 
-each_none : (way : StopWay) (g : GroupId) (b : Books) (maps : List Mapping) (m : Mapping) → for_each (split_refusals way b) (filter (is_in g) maps) ≡ None → Contains maps m → is_in g m ≡ true → acts_on way m.state ≡ true → not_complete way b m ≡ None
+each_none : (way : StopWay) (g : GroupId) (b : Books) (maps : List Mapping) (m : Mapping) → for_each (split_refusals way b) (filter (is_member g) maps) ≡ None → Contains maps m → is_member g m ≡ true → acts_on way m.state ≡ true → not_complete way b m ≡ None
 each_none way g b [] m none (k, lt, e) member acts = absurd (omega arith)
 each_none way g b (y ∷ ys) m none (k, lt, e) member acts =
-    none_at way g b y ys m k (λ n in'. each_none way g b ys m n in' member acts) lt e (is_in g y) refl member acts none
+    none_at way g b y ys m k (λ n in'. each_none way g b ys m n in' member acts) lt e (is_member g y) refl member acts none
 
 splits_none : (way : StopWay) (g : GroupId) (b : Books) → refused_group way b g ≡ None → for_each (split_refusals way b) (members b.tables g) ≡ None
 splits_none way g b e =

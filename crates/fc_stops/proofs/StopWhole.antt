@@ -12,7 +12,7 @@ use Rattle.fc_base.specs.declared.volume.Change.TheVariants.{AddVolume, RemoveVo
 use Rattle.fc_base.specs.declared.volume.Mapping.{Mapping}
 use Rattle.fc_books.specs.After.{after_deed}
 use Rattle.fc_books.specs.Books.{Books, Deed, nothing, ◌then◌}
-use Rattle.fc_books.specs.Groups.{acts_on, is_in}
+use Rattle.fc_books.specs.Groups.{acts_on, is_member}
 use Rattle.fc_books.specs.Sound.{AreSound}
 use Rattle.fc_books.specs.Stopping.{stops, stops_in, stops_member, one_by_one}
 use Rattle.fc_registry.proofs.Places.{rises}
@@ -103,15 +103,15 @@ stops_push way b ms m =
 abbrev pub so_far : StopWay → GroupId → Books → ℕ → Deed
 so_far way g b i = stops_in_group way g b (take i b.tables.mappings)
 
-next_place : (way : StopWay) (g : GroupId) (b : Books) (i : ℕ) (m : Mapping) (member : Bool) → i < length b.tables.mappings → m ≡ get_or b.tables.mappings i m → is_in g m ≡ member →
+next_place : (way : StopWay) (g : GroupId) (b : Books) (i : ℕ) (m : Mapping) (member : Bool) → i < length b.tables.mappings → m ≡ get_or b.tables.mappings i m → is_member g m ≡ member →
     so_far way g b (i + 1) ≡ cond member (so_far way g b i then one_stop way (after_deed no_sets b (so_far way g b i)) m.id) (so_far way g b i)
 next_place way g b i m member lt at is =
     ap (stops_in_group way g b) (take_more b.tables.mappings i m lt ∙ ap (λ x. take i b.tables.mappings ++ x ∷ []) (sym at))
-    ∙ ap (stops_of way b) (filter_push (is_in g) (take i b.tables.mappings) m ∙ ap (λ c. cond c (filter (is_in g) (take i b.tables.mappings) ++ m ∷ []) (filter (is_in g) (take i b.tables.mappings))) is)
+    ∙ ap (stops_of way b) (filter_push (is_member g) (take i b.tables.mappings) m ∙ ap (λ c. cond c (filter (is_member g) (take i b.tables.mappings) ++ m ∷ []) (filter (is_member g) (take i b.tables.mappings))) is)
     ∙ by_member member
   where
-    by_member : (c : Bool) → stops_of way b (cond c (filter (is_in g) (take i b.tables.mappings) ++ m ∷ []) (filter (is_in g) (take i b.tables.mappings))) ≡ cond c (so_far way g b i then one_stop way (after_deed no_sets b (so_far way g b i)) m.id) (so_far way g b i)
-    by_member true = stops_push way b (filter (is_in g) (take i b.tables.mappings)) m
+    by_member : (c : Bool) → stops_of way b (cond c (filter (is_member g) (take i b.tables.mappings) ++ m ∷ []) (filter (is_member g) (take i b.tables.mappings))) ≡ cond c (so_far way g b i then one_stop way (after_deed no_sets b (so_far way g b i)) m.id) (so_far way g b i)
+    by_member true = stops_push way b (filter (is_member g) (take i b.tables.mappings)) m
     by_member false = refl
 
 in_place : (maps : List Mapping) (i : ℕ) (m : Mapping) → i < length maps → m ≡ get_or maps i m → Contains maps m
@@ -120,7 +120,7 @@ in_place maps i m lt at = (i, lt, sym at)
 -- A mapping that isn't stopped now changes nothing.
 pub next_passed : (way : StopWay) (g : GroupId) (b : Books) (i : ℕ) (m : Mapping) → AreSound b → Reached way b (so_far way g b i) → i < length b.tables.mappings → m ≡ get_or b.tables.mappings i m → stops_now way g (so_far way g b i).changes m ≡ false → so_far way g b (i + 1) ≡ so_far way g b i
 next_passed way g b i m sound reached lt at passed =
-    next_place way g b i m (is_in g m) lt at refl ∙ by_member (is_in g m) (acts_on way m.state) (changes_some m.id.0 (so_far way g b i).changes) refl refl passed
+    next_place way g b i m (is_member g m) lt at refl ∙ by_member (is_member g m) (acts_on way m.state) (changes_some m.id.0 (so_far way g b i).changes) refl refl passed
   where
     same_deed : one_stop way (after_deed no_sets b (so_far way g b i)) m.id ≡ nothing → (so_far way g b i then one_stop way (after_deed no_sets b (so_far way g b i)) m.id) ≡ so_far way g b i
     same_deed e = ap (λ x. so_far way g b i then x) e ∙ then-nothing (so_far way g b i)
@@ -132,14 +132,14 @@ next_passed way g b i m sound reached lt at passed =
     by_member true true false is_a is_k e = grind (arith, e)
 
 pub record IsNow (way : StopWay) (g : GroupId) (changes : List Change) (m : Mapping) : Type 0 where
-  pub member : is_in g m ≡ true
+  pub member : is_member g m ≡ true
   pub acts : acts_on way m.state ≡ true
   pub same : changes_some m.id.0 changes ≡ false
 
 pub now_parts : (way : StopWay) (g : GroupId) (changes : List Change) (m : Mapping) → stops_now way g changes m ≡ true → IsNow way g changes m
-now_parts way g changes m e = by_parts (is_in g m) (acts_on way m.state) (changes_some m.id.0 changes) refl refl refl e
+now_parts way g changes m e = by_parts (is_member g m) (acts_on way m.state) (changes_some m.id.0 changes) refl refl refl e
   where
-    by_parts : (c a k : Bool) → is_in g m ≡ c → acts_on way m.state ≡ a → changes_some m.id.0 changes ≡ k → ((c && a) && not k) ≡ true → IsNow way g changes m
+    by_parts : (c a k : Bool) → is_member g m ≡ c → acts_on way m.state ≡ a → changes_some m.id.0 changes ≡ k → ((c && a) && not k) ≡ true → IsNow way g changes m
     by_parts true true false p q r e = record { member = p; acts = q; same = r }
     by_parts true true true p q r e = grind (arith, e)
     by_parts true false k p q r e = grind (arith, e)

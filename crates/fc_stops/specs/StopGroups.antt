@@ -12,7 +12,7 @@ use Rattle.fc_base.specs.declared.ids.MapId.{MapId}
 use Rattle.fc_base.specs.declared.volume.Change.{Change}
 use Rattle.fc_base.specs.declared.volume.Mapping.{Mapping}
 use Rattle.fc_books.specs.Books.{Books, Deed}
-use Rattle.fc_books.specs.Groups.{is_in, members, acts_on, some_in, group_state}
+use Rattle.fc_books.specs.Groups.{is_member, members, acts_on, some_in, group_state}
 use Rattle.fc_books.specs.RefusedStarts.{empty_group, for_each, split_refusals}
 use Rattle.fc_books.specs.Stopping.{stops_member, one_by_one}
 use Rattle.fc_entry.specs.Refused.{first_of, where_}
@@ -26,7 +26,7 @@ abbrev pub stops_of : StopWay → Books → List Mapping → Deed
 stops_of way b maps = one_by_one (λ m. []) (one_stop way) b (map (λ (m : Mapping). m.id) maps)
 
 abbrev pub stops_in_group : StopWay → GroupId → Books → List Mapping → Deed
-stops_in_group way g b maps = stops_of way b (filter (is_in g) maps)
+stops_in_group way g b maps = stops_of way b (filter (is_member g) maps)
 
 -- What the chains before all stops tell of the chains that the stops so far left: a slot is needed by those that haven't
 -- left, and by force those that haven't left are stopped with it.
@@ -39,7 +39,7 @@ IsLeftAnswer Split slots changes m needed ids = ids ≡ []
 
 -- Whether a stop acts on a mapping as a member of the group, and whether it is stopped after these changes.
 abbrev pub is_acted : StopWay → GroupId → Mapping → Bool
-is_acted way g m = is_in g m && acts_on way m.state
+is_acted way g m = is_member g m && acts_on way m.state
 
 abbrev pub stops_now : StopWay → GroupId → List Change → Mapping → Bool
 stops_now way g changes m = is_acted way g m && not (changes_some m.id.0 changes)

@@ -9,7 +9,7 @@ ghost use Rattle.std.specs.List.{list_any};
 ghost use Rattle.fc_base.specs.SheetView.{AreMappings, ReadsMapping, DependsOn};
 ghost use Rattle.fc_base.specs.declared.command.Command.{Command};
 ghost use Rattle.fc_books.specs.Deciding.{with_work, decide};
-ghost use Rattle.fc_books.specs.Groups.{members, acts_on, is_in};
+ghost use Rattle.fc_books.specs.Groups.{members, acts_on, is_member};
 ghost use Rattle.fc_books.specs.RefusedStarts.{not_complete, for_each, split_refusals};
 ghost use Rattle.fc_books.specs.Sound.{AreSound};
 ghost use Rattle.fc_books.specs.Stopping.{stop_group};
@@ -178,7 +178,7 @@ fn stops_now(changes: &[Change], way: StopWay, group: GroupId, mapping: &Mapping
 
 /// Whether some mapping is a member of the group.
 fn some_member(mappings: &[Mapping], group: GroupId) -> bool
-    ensures { result ≡ list_any (is_in group) mappings.now }
+    ensures { result ≡ list_any (is_member group) mappings.now }
 {
     mappings.iter().any(|mapping| is_member(mapping, group))
 }

@@ -3,7 +3,7 @@
 ghost use Rattle.std.specs.Prelude.{◌≡◌, ◌<◌, ◌≤◌, ◌++◌, ◌∷◌, [], suc, length, ℕ, List, IfOk};
 ghost use Rattle.std.specs.Bool.{OnTrue};
 ghost use Rattle.fc_books.specs.Books.{Books};
-ghost use Rattle.fc_legal.specs.Seconds.{Work as WorkState, all_work, begun, gained};
+ghost use Rattle.fc_legal.specs.Seconds.{Work as WorkState, all_work, seconds_begun, gained};
 ghost use Rattle.fc_legal.specs.Added.{IsTold, StaysUp, TellsSome};
 ghost use Rattle.fc_legal.specs.Agenda.{Session, Reading, Seconds, session_rules};
 ghost use Rattle.fc_legal.specs.Whole.{Whole};
@@ -115,7 +115,7 @@ impl<D: Mdisk> Store<D> {
         requires stands { TellsSome (StandsFor self.old) history.old }
         requires room { length history.old.entries ≤ MAX_ENTRIES }
         ensures passed { (read : Reading) (w : Whole) → IsTold (StandsFor self.old) history.old w →
-            Brought result (StandsFor self.new) (session_rules self.old.control.grain read) (Seconds (begun seconds (all_work w.books)) []) (Session []) w history.old history.new }
+            Brought result (StandsFor self.new) (session_rules self.old.control.grain read) (Seconds (seconds_begun seconds (all_work w.books)) []) (Session []) w history.old history.new }
         ensures grain { self.new.control.grain ≡ self.old.control.grain }
         ensures disks { disks_in self.new.lanes ≡ disks_in self.old.lanes }
         ensures quiet { QuietBy history.old.entries self.old.lanes → StaysUp result (QuietBy history.new.entries self.new.lanes) }

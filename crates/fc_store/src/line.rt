@@ -6,7 +6,7 @@ ghost use Rattle.fc_legal.specs.Added.{Answered, IsTold, StaysUp, TellsSome};
 ghost use Rattle.fc_blocks.specs.Segments.{single};
 ghost use Rattle.fc_legal.specs.Agenda.{Session, Own, Reading, Seconds, command_seconds, session_rules};
 ghost use Rattle.fc_legal.specs.Asked.{command_asked};
-ghost use Rattle.fc_legal.specs.Seconds.{all_work, begun};
+ghost use Rattle.fc_legal.specs.Seconds.{all_work, seconds_begun};
 ghost use Rattle.fc_legal.specs.Whole.{Whole};
 ghost use Rattle.fc_stands.specs.Logged.{Brought};
 ghost use Rattle.fc_stands.specs.Phase.{IsDecided};
@@ -38,7 +38,7 @@ impl<D: Mdisk> Store<D> {
         requires stands { TellsSome (StandsFor self.old) history.old }
         requires room { length history.old.entries ≤ MAX_ENTRIES }
         ensures passed { (read : Reading) (w : Whole) → IsTold (StandsFor self.old) history.old w →
-            Brought result (StandsFor self.new) (session_rules self.old.control.grain read) (Seconds (begun seconds (all_work w.books)) []) (Session []) w history.old history.new }
+            Brought result (StandsFor self.new) (session_rules self.old.control.grain read) (Seconds (seconds_begun seconds (all_work w.books)) []) (Session []) w history.old history.new }
         ensures grain { self.new.control.grain ≡ self.old.control.grain }
         ensures disks { disks_in self.new.lanes ≡ disks_in self.old.lanes }
         ensures quiet { QuietBy history.old.entries self.old.lanes → StaysUp result (QuietBy history.new.entries self.new.lanes) }

@@ -31,7 +31,7 @@ use Rattle.fc_legal.specs.Run.{IsRun, WantsMore, lines_alone}
 use Rattle.fc_legal.specs.Whole.{Whole, opened}
 use Rattle.fc_run.specs.Headline.{EndsAs}
 use Rattle.fc_run.specs.Input.{AreLines, Gave, OfFirstTaken, input_limit}
-use Rattle.fc_run.specs.Summary.{gives_bytes, is_done_write, refuses, bytes_sum, reads_of, writes_of, moves_of, refused_of, sum_of, summary_text, text_of}
+use Rattle.fc_run.specs.Summary.{gives_bytes, is_done_write, refuses, bytes_sum, reads_of, writes_of, moves_in, refused_of, sum_of, summary_text, form_text}
 use Rattle.fc_run.specs.declared.ended.Ended.{Ended}
 use Rattle.fc_run.specs.declared.ended.Ended.TheVariants as ended
 use Rattle.fc_run.specs.declared.form.Form.{Form}
@@ -69,7 +69,7 @@ summary_one history other told =
     let entries : length ys ≡ length xs = by_told length (λ es. length-map es but_for_faults) xs ys told in
     let reads : reads_of ys ≡ reads_of xs = by_told reads_of (counted (λ e. gives_bytes e.reply) (λ x. refl)) xs ys told in
     let writes : writes_of ys ≡ writes_of xs = by_told writes_of (counted (λ e. is_done_write e.request e.reply) (λ x. refl)) xs ys told in
-    let moves : moves_of ys ≡ moves_of xs = by_told moves_of (summed (λ e. length e.moves) (λ x. refl)) xs ys told in
+    let moves : moves_in ys ≡ moves_in xs = by_told moves_in (summed (λ e. length e.moves) (λ x. refl)) xs ys told in
     let refused : refused_of ys ≡ refused_of xs = by_told refused_of (counted (λ e. refuses e.reply) (λ x. refl)) xs ys told in
     let sum : sum_of ys ≡ sum_of xs =
     ap (λ n. n % 2 ^ 32) (by_told (λ es. sum_by (λ e. bytes_sum e.reply) es) (summed (λ e. bytes_sum e.reply) (λ x. refl)) xs ys told) in
@@ -81,7 +81,7 @@ told_one :
     (form : Form) (history other : HistoryState) →
     other.actors ≡ history.actors →
     told_by other.entries ≡ told_by history.entries →
-    text_of form other ≡ text_of form history
+    form_text form other ≡ form_text form history
 told_one Text history other actors told = determined_law_holds.text history other actors told
 told_one Summary history other actors told = summary_one history other told
 
@@ -170,7 +170,7 @@ got_text :
     (e : Ended) (form : Form) (grain : GrainSize) (taken : List ℕ) (source source' : SourceState) (call : Call) (w last : Whole) →
     IsByBytes (status_of e) →
     EndsAs e (session_of e form source source' call) (plain_runs grain w last) taken →
-    call.sink'.held ≡ held_with call.sink.held (text_of form call.history)
+    call.sink'.held ≡ held_with call.sink.held (form_text form call.history)
 got_text ended.Done form grain taken source source' call w last by_bytes ends = ends.3.0
 got_text ended.LogFull form grain taken source source' call w last by_bytes ends = ends.3.0
 got_text ended.TooLong form grain taken source source' call w last by_bytes ends = ends.5.0
@@ -261,14 +261,14 @@ sessions form grain bytes call other alike a b =
     let one : IsOneOutcome call.history.entries other.history.entries a.ends.last b.ends.last =
     one_of_two e grain bytes w v a.ends.last b.ends.last call.history.entries other.history.entries
     (ap (λ (pools : List Pool). without_faults (opened pools)) alike.dealt) alike.smooth alike.smooth_other tells (subst P same tells_other) in
-    let text : text_of form other.history ≡ text_of form call.history =
+    let text : form_text form other.history ≡ form_text form call.history =
     told_one form call.history other.history
     (actors_are form grain b.source b.source' other b.ends (subst IsByBytes (sym alike.status) alike.by_bytes)
     ∙ sym (actors_are form grain a.source a.source' call a.ends alike.by_bytes)) one.entries in
     record {
       entries = one.entries;
       text = text;
-      written = written_one call.sink.held call.sink'.held other.sink.held other.sink'.held (text_of form call.history) (text_of form other.history) text
+      written = written_one call.sink.held call.sink'.held other.sink.held other.sink'.held (form_text form call.history) (form_text form other.history) text
           (got_text e form grain a.ends.session.bytes a.source a.source' call w a.ends.last by_bytes a.ends.session.ends)
           (got_text b.ends.ended form grain b.ends.session.bytes b.source b.source' other v b.ends.last by_bytes_other b.ends.session.ends);
     }

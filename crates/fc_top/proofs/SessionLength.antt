@@ -9,7 +9,7 @@ use Rattle.fc_base.specs.declared.command.Command.TheVariants.{Write, Read, Adva
 use Rattle.fc_base.specs.declared.command.StopWay.{StopWay}
 use Rattle.fc_base.specs.declared.command.StopWay.TheVariants.{Plain, Force, Split}
 use Rattle.fc_base.specs.declared.name.Ref.TheVariants.{Id}
-use Rattle.fc_gen.specs.Session.{draw, draw_write, draw_read, draw_start, draw_stop, draw_advance, way_of, drawn_of, next_state, volume, blocks_from, drawn_commands, first_commands, lines_of, session_text}
+use Rattle.fc_gen.specs.Session.{draw, draw_write, draw_read, draw_start, draw_stop, draw_advance, way_of, drawn_of, next_draw, volume, blocks_from, drawn_commands, first_commands, lines_of, session_text}
 use Rattle.fc_gen.proofs.DrawLemmas.{first_lines}
 
 -- the line of a command
@@ -42,28 +42,28 @@ advance-short s small = grind (arith, length-append, few_digits s small)
 
 short_by : (a b c d : Bool) (state : ℕ) → length (line_of (if a then draw_write state else (if b then draw_read state else (if c then draw_start state else (if d then draw_stop state else draw_advance state)))).command) ≤ 100
 short_by true b c d state =
-    let s1 = next_state state in let s2 = next_state s1 in let s3 = next_state s2 in
-    write-short (drawn_of 8 s1) (drawn_of 2048 s2) (blocks_from (drawn_of 2048 s2) (drawn_of 64 s3)) (drawn_of 256 (next_state s3))
+    let s1 = next_draw state in let s2 = next_draw s1 in let s3 = next_draw s2 in
+    write-short (drawn_of 8 s1) (drawn_of 2048 s2) (blocks_from (drawn_of 2048 s2) (drawn_of 64 s3)) (drawn_of 256 (next_draw s3))
     (omega (arith, drawn-below 8 s1 (omega arith))) (omega (arith, drawn-below 2048 s2 (omega arith))) (omega arith)
 short_by false true c d state =
-    let s1 = next_state state in let s2 = next_state s1 in let s3 = next_state s2 in
+    let s1 = next_draw state in let s2 = next_draw s1 in let s3 = next_draw s2 in
     read-short (drawn_of 8 s1) (drawn_of 2048 s2) (blocks_from (drawn_of 2048 s2) (drawn_of 64 s3))
     (omega (arith, drawn-below 8 s1 (omega arith))) (omega (arith, drawn-below 2048 s2 (omega arith))) (omega arith)
 short_by false false true d state =
-    let s1 = next_state state in
+    let s1 = next_draw state in
     start-short (drawn_of 8 s1) (omega (arith, drawn-below 8 s1 (omega arith)))
 short_by false false false true state =
-    let s1 = next_state state in let s2 = next_state s1 in
+    let s1 = next_draw state in let s2 = next_draw s1 in
     stop-short (drawn_of 8 s2) (way_of (drawn_of 3 s1)) (omega (arith, drawn-below 8 s2 (omega arith)))
 short_by false false false false state =
-    let s1 = next_state state in
+    let s1 = next_draw state in
     advance-short (1 + drawn_of 3 s1) (omega (arith, drawn-below 3 s1 (omega arith)))
 
 draw-short : (state : ℕ) → length (line_of (draw state).command) ≤ 100
 unfolding draw
 draw-short state =
-    let kind : ℕ = drawn_of 10 (next_state state) in
-    short_by (nat_lt kind 4) (nat_lt kind 7) (kind == 7) (kind == 8) (next_state state)
+    let kind : ℕ = drawn_of 10 (next_draw state) in
+    short_by (nat_lt kind 4) (nat_lt kind 7) (kind == 7) (kind == 8) (next_draw state)
 
 drawn-short : (count state : ℕ) → length (lines_of (drawn_commands count state)) ≤ count * 100
 unfolding drawn_commands

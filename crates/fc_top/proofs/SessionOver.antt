@@ -13,7 +13,7 @@ use Rattle.fc_legal.specs.Legal.{IsLegal}
 use Rattle.fc_legal.specs.Run.{IsRun, lines_alone}
 use Rattle.fc_legal.specs.Whole.{Whole}
 use Rattle.fc_run.specs.Headline.{Session, EndsAs}
-use Rattle.fc_run.specs.Summary.{text_of}
+use Rattle.fc_run.specs.Summary.{form_text}
 use Rattle.fc_run.specs.Input.{Gave, OfFirstTaken}
 use Rattle.fc_run.specs.declared.ended.Ended.{Ended}
 use Rattle.fc_run.specs.declared.ended.Ended.TheVariants as ended
@@ -147,7 +147,7 @@ starved_at_once grain w s source sink none =
     let P : List Entry → Type 0 = λ es. IsRun grain reading w [] es w in (
       omega arith,
       record { lines = []; are = inl refl; of = record { first = []; rest = []; split = refl; holds = inl (subst P (sym none) (IsRun-nil grain reading w)) } },
-      record { front = []; rest = text_of s.form s.history; split = refl; added = ap (λ (k : SinkState). k.held) sink ∙ nothing_held s.sink.held },
+      record { front = []; rest = form_text s.form s.history; split = refl; added = ap (λ (k : SinkState). k.held) sink ∙ nothing_held s.sink.held },
     )
   where
     nothing_held : (held : Option (List ℕ)) → held ≡ held_with held []

@@ -1,7 +1,7 @@
 -- The theorem, of a call by what it is asked for.
 use Rattle.std.proofs.Common.{◌≡◌, ◌≢◌, ◌≤◌, ◌⊎◌, ◌∙◌, true, length, ap, sym, refl, subst, arith, inr, Option, Some, None}
 use Rattle.std.proofs.lemmas.Bool.{false≢true}
-use Rattle.fc_args.specs.Grammar.{is_built}
+use Rattle.fc_args.specs.Grammar.{is_offered}
 use Rattle.fc_args.specs.declared.asked.Asked.{Asked}
 use Rattle.fc_args.specs.declared.asked.Asked.TheVariants.{Run, Drill, Check, Stop}
 use Rattle.fc_base.specs.declared.size.GrainSize.TheVariants.{K64}
@@ -79,7 +79,7 @@ theorem_unasked asked call none is idle =
       ends = subst P (sym none) (asks_nothing call is idle);
     }
 
-starved : (asked : Asked) (call : Call) → is_built asked ≡ true → call.status ≡ status.NoMemory → IsIdle call → Ends (Some asked) call
+starved : (asked : Asked) (call : Call) → is_offered asked ≡ true → call.status ≡ status.NoMemory → IsIdle call → Ends (Some asked) call
 starved (Run options) call built is idle =
     let plain = run-plain options built in
     record {
@@ -98,7 +98,7 @@ starved (Stop number) call built is idle = absurd (false≢true built)
 -- Memory was wanted to read the words.
 pub theorem_starved :
     (asked : Option Asked) (call : Call) →
-    ((of : Asked) → asked ≡ Some of → is_built of ≡ true) →
+    ((of : Asked) → asked ≡ Some of → is_offered of ≡ true) →
     call.status ≡ status.NoMemory →
     IsIdle call →
     Theorem asked call

@@ -2,27 +2,27 @@
 use Rattle.std.proofs.Common.{◌≡◌, ℕ, Bool, true, false, List, Option, Some, None, cond, refl, subst}
 use Rattle.std.proofs.lemmas.Bool.{false≢true}
 use Rattle.std.specs.Prelude.{option_and_then, is_some, not, ◌&&◌}
-use Rattle.fc_args.specs.Grammar.{asked_by, if_built, in_full, is_built}
+use Rattle.fc_args.specs.Grammar.{asked_by, if_built, in_full, is_offered}
 use Rattle.fc_args.specs.declared.asked.Asked.{Asked}
 use Rattle.fc_args.specs.declared.asked.Asked.TheVariants.{Run}
 use Rattle.fc_args.specs.declared.asked.RunOptions.{RunOptions}
 
-built_if : (of asked : Asked) (built : Bool) → is_built of ≡ built → cond built (Some of) None ≡ Some asked → is_built asked ≡ true
+built_if : (of asked : Asked) (built : Bool) → is_offered of ≡ built → cond built (Some of) None ≡ Some asked → is_offered asked ≡ true
 built_if of asked true built is =
     let same : of ≡ asked = cc is in
-    let P : Asked → Type 0 = λ a. is_built a ≡ true in
+    let P : Asked → Type 0 = λ a. is_offered a ≡ true in
     subst P same built
 built_if of asked false built is =
     let none : None ≡ Some asked = is in
     absurd (cc none)
 
-built_of : (full : Option Asked) (asked : Asked) → option_and_then if_built full ≡ Some asked → is_built asked ≡ true
+built_of : (full : Option Asked) (asked : Asked) → option_and_then if_built full ≡ Some asked → is_offered asked ≡ true
 built_of None asked is =
     let none : None ≡ Some asked = is in
     absurd (cc none)
-built_of (Some of) asked is = built_if of asked (is_built of) refl is
+built_of (Some of) asked is = built_if of asked (is_offered of) refl is
 
-pub asked-built : (words : List (List ℕ)) (asked : Asked) → asked_by words ≡ Some asked → is_built asked ≡ true
+pub asked-built : (words : List (List ℕ)) (asked : Asked) → asked_by words ≡ Some asked → is_offered asked ≡ true
 asked-built words asked is = built_of (in_full words) asked is
 
 -- a run that is built has neither a trace nor a write cache
@@ -31,5 +31,5 @@ plain false None built = (refl, refl)
 plain false (Some parts) built = absurd (false≢true built)
 plain true cache built = absurd (false≢true built)
 
-pub run-plain : (options : RunOptions) → is_built (Run options) ≡ true → (options.trace ≡ false) × (options.cache ≡ None)
+pub run-plain : (options : RunOptions) → is_offered (Run options) ≡ true → (options.trace ≡ false) × (options.cache ≡ None)
 run-plain options built = plain options.trace options.cache built

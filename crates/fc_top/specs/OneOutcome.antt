@@ -9,7 +9,7 @@ use Rattle.fc_determined.specs.Smooth.{AreSmooth, told_by}
 use Rattle.fc_io.specs.Source.{SourceState}
 use Rattle.fc_mdisk.specs.Disk.{DiskState}
 use Rattle.fc_run.specs.Input.{IsAtEnd}
-use Rattle.fc_run.specs.Summary.{text_of}
+use Rattle.fc_run.specs.Summary.{form_text}
 use Rattle.fc_run.specs.declared.form.Form.{Form}
 use Rattle.fc_run.specs.declared.form.Form.TheVariants.{Text, Summary}
 use Rattle.fc_lanes.specs.Dealing.{pools_dealt}
@@ -42,7 +42,7 @@ pub record WentAlike (call other : Call) : Type 0 where
 -- the same before, they do after.
 pub record HaveOneOutcome (form : Form) (call other : Call) : Type 0 where
   pub entries : told_by other.history.entries ≡ told_by call.history.entries
-  pub text : text_of form other.history ≡ text_of form call.history
+  pub text : form_text form other.history ≡ form_text form call.history
   pub written : other.sink.held ≡ call.sink.held → other.sink'.held ≡ call.sink'.held
 
 -- The bytes that were taken are the first of these; all of them, where the source is at its end.

@@ -2,7 +2,7 @@
 
 ghost use Rattle.std.specs.Prelude.{◌≡◌, ◌<◌, ◌^◌, true, Some, map, vec_len};
 ghost use Rattle.std.specs.List.{All};
-ghost use Rattle.fc_args.specs.Grammar.{asked_by, is_built};
+ghost use Rattle.fc_args.specs.Grammar.{asked_by, is_offered};
 ghost use Rattle.fc_mdisk.specs.Disk.{IsFresh};
 ghost use Rattle.fc_top.specs.Call.{empty};
 ghost use Rattle.fc_top.specs.Theorem.{Theorem};
@@ -30,7 +30,7 @@ fn run_asked<S: Source, K: Sink, D: Mdisk>(
     disks: &mut Vec<D>,
     history: &mut History,
 ) -> Status
-    requires built { is_built asked ≡ true }
+    requires built { is_offered asked ≡ true }
     requires empty { history.old ≡ empty }
     requires few { vec_len disks.old < 2 ^ 30 }
     requires fresh { All IsFresh (map D.meaning disks.old.items) }

@@ -24,7 +24,7 @@ use Rattle.fc_blocks.specs.Segments.{together, cut}
 use Rattle.fc_blocks.specs.declared.block.BlockRead.{BlockRead}
 use Rattle.fc_books.specs.Books.{Books}
 use Rattle.fc_books.specs.Refused.{access_refused}
-use Rattle.fc_legal.specs.Asked.{touched, read_in, write_in, access_by, command_asked, asked}
+use Rattle.fc_legal.specs.Asked.{touched, read_in, write_in, access_requests, command_asked, asked}
 use Rattle.fc_legal.specs.Scripts.{Script, line_asked, asked_as, script_of, scripts_of}
 use Rattle.fc_words.specs.Grammar.{scope_has}
 use Rattle.fc_words.specs.Lines.{line_of}
@@ -40,7 +40,7 @@ one_asks : (request : Request) → asks_of_volumes request ≡ false → AskOfNo
 one_asks request none = All-cons (λ r. asks_of_volumes r ≡ false) request [] none (All-nil (λ r. asks_of_volumes r ≡ false))
 
 access_asks : (grain : GrainSize) (command : Command) (block count : ℕ) (request : VolId → ℕ → Request) (refusal : Option Refusal) (found : Option Volume) →
-    is_of_volumes command ≡ false → ((v : VolId) (g : ℕ) → asks_of_volumes (request v g) ≡ false) → AskOfNoVolume (access_by grain command block count request refusal found)
+    is_of_volumes command ≡ false → ((v : VolId) (g : ℕ) → asks_of_volumes (request v g) ≡ false) → AskOfNoVolume (access_requests grain command block count request refusal found)
 access_asks grain command block count request None (Some v) none each =
     let grains = touched grain block count in
     All-map (λ r. asks_of_volumes r ≡ false) (request v.id) grains (λ k d inside. each v.id (get_or grains k d))

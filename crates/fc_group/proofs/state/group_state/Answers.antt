@@ -6,18 +6,18 @@ use Rattle.fc_base.specs.declared.ids.GroupId.{GroupId}
 use Rattle.fc_base.specs.declared.state.MapState.{MapState}
 use Rattle.fc_base.specs.declared.state.MapState.TheVariants.{Empty}
 use Rattle.fc_base.specs.declared.volume.Mapping.{Mapping}
-use Rattle.fc_books.specs.Groups.{is_in, group_state}
+use Rattle.fc_books.specs.Groups.{is_member, group_state}
 use Rattle.fc_group.specs.States.{first_state_of}
 use Rattle.fc_group.proofs.Members.{group_state-some, group_state-none}
 use Rattle.fc_group.proofs.state.group_state.Goals as goal
 
-with_member : (t : Tables) (g : GroupId) (maps : List Mapping) (has : Bool) (state : MapState) → maps ≡ t.mappings → has ≡ list_any (is_in g) maps → has ≡ true → state ≡ first_state_of g maps → state ≡ group_state t g
+with_member : (t : Tables) (g : GroupId) (maps : List Mapping) (has : Bool) (state : MapState) → maps ≡ t.mappings → has ≡ list_any (is_member g) maps → has ≡ true → state ≡ first_state_of g maps → state ≡ group_state t g
 with_member t g maps has state e h is_there s =
-    s ∙ ap (first_state_of g) e ∙ sym (group_state-some t g (sym (ap (list_any (is_in g)) e) ∙ sym h ∙ is_there))
+    s ∙ ap (first_state_of g) e ∙ sym (group_state-some t g (sym (ap (list_any (is_member g)) e) ∙ sym h ∙ is_there))
 
-without_member : (t : Tables) (g : GroupId) (maps : List Mapping) (has : Bool) → maps ≡ t.mappings → has ≡ list_any (is_in g) maps → has ≡ false → Empty ≡ group_state t g
+without_member : (t : Tables) (g : GroupId) (maps : List Mapping) (has : Bool) → maps ≡ t.mappings → has ≡ list_any (is_member g) maps → has ≡ false → Empty ≡ group_state t g
 without_member t g maps has e h none =
-    sym (group_state-none t g (sym (ap (list_any (is_in g)) e) ∙ sym h ∙ none))
+    sym (group_state-none t g (sym (ap (list_any (is_member g)) e) ∙ sym h ∙ none))
 
 pub returns-then-has_member : goal.returns-then-has_member
 returns-then-has_member c =

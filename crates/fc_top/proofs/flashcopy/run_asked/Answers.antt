@@ -1,6 +1,6 @@
 -- By what is asked for.
 use Rattle.std.proofs.Common.{◌≡◌, true, map, subst}
-use Rattle.fc_args.specs.Grammar.{is_built}
+use Rattle.fc_args.specs.Grammar.{is_offered}
 use Rattle.fc_args.specs.declared.asked.Asked.{Asked}
 use Rattle.fc_args.specs.declared.asked.Asked.TheVariants.{Run, Drill}
 use Rattle.fc_run.proofs.TakesLemmas.{EachGave-none}
@@ -23,7 +23,7 @@ returns-in-Run g c =
       disks' = map g.D.Mdisk.meaning c.run_plain.new.disks.items;
       history = c.run_plain.new.history;
     } in
-    let P : Asked → Type 0 = λ a. is_built a ≡ true in
+    let P : Asked → Type 0 = λ a. is_offered a ≡ true in
     let plain = run-plain c.in-Run.options (subst P c.in-Run.is c.requires.built) in
     record {
       theorem = theorem_of c.args.asked (Run c.in-Run.options) call c.in-Run.is c.run_plain.ensures.ran

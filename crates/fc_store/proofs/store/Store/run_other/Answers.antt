@@ -5,7 +5,7 @@ use Rattle.fc_base.specs.declared.request.Request.TheVariants.{Command as Asked}
 use Rattle.fc_base.specs.declared.size.GrainSize.{GrainSize}
 use Rattle.fc_legal.specs.Added.{Answered, IsTold}
 use Rattle.fc_legal.specs.Agenda.{Session, Own, Seconds, command_seconds, session_rules}
-use Rattle.fc_legal.specs.Seconds.{all_work, begun}
+use Rattle.fc_legal.specs.Seconds.{all_work, seconds_begun}
 use Rattle.fc_legal.specs.Whole.{Whole}
 use Rattle.fc_stands.specs.Logged.{Brought}
 use Rattle.fc_stands.specs.Store.{StandsFor}
@@ -23,9 +23,9 @@ returns-in-Ok-true-clause-answered g c = λ read w told.
     let grain : GrainSize = c.args.self.now.control.grain in
     let P : List Request → Type 0 = λ rs. Answered c.let_pass.result (StandsFor c.let_pass.new.self) (session_rules grain read) (Own rs (command_seconds c.args.command) []) w c.args.history.now c.let_pass.new.history in
     let Q : GrainSize → Type 0 = λ s. (next : Whole) → IsTold (StandsFor c.run_command.new.self) c.run_command.new.history next →
-    Brought c.let_pass.result (StandsFor c.let_pass.new.self) (session_rules s read) (Seconds (begun c.seconds_of-seconds.result (all_work next.books)) []) (Session []) next c.run_command.new.history c.let_pass.new.history in
+    Brought c.let_pass.result (StandsFor c.let_pass.new.self) (session_rules s read) (Seconds (seconds_begun c.seconds_of-seconds.result (all_work next.books)) []) (Session []) next c.run_command.new.history c.let_pass.new.history in
     let R : ℕ → Type 0 = λ n. (next : Whole) → IsTold (StandsFor c.run_command.new.self) c.run_command.new.history next →
-    Brought c.let_pass.result (StandsFor c.let_pass.new.self) (session_rules grain read) (Seconds (begun n (all_work next.books)) []) (Session []) next c.run_command.new.history c.let_pass.new.history in
+    Brought c.let_pass.result (StandsFor c.let_pass.new.self) (session_rules grain read) (Seconds (seconds_begun n (all_work next.books)) []) (Session []) next c.run_command.new.history c.let_pass.new.history in
     subst P (sym (asks_itself grain w.books c.args.command c.requires.decided))
     (command_done (StandsFor c.run_command.new.self) grain read w (Asked c.args.command) (command_seconds c.args.command) c.args.history.now c.run_command.new.history
     c.let_pass.result (StandsFor c.let_pass.new.self) c.let_pass.new.history c.in-Ok-true.field-0 c.in-Ok-true.field-0-test (c.in-Ok-true.ensures.answered w told)
