@@ -1,6 +1,6 @@
 //! The history: actors' names, and entries in order of number.
 
-ghost use Rattle.std.specs.Prelude.{◌≡◌, ◌<◌, ◌^◌, [], ◌∷◌, ◌++◌, length, IfOk, OnOk, OnErr, IfErr, IfSome, slice_get, slice_index_or, Some};
+ghost use Rattle.std.specs.Prelude.{◌≡◌, ◌<◌, ◌^◌, [], ◌∷◌, ◌++◌, length, take, IfOk, OnOk, OnErr, IfErr, IfSome, slice_get, slice_index_or, Some};
 ghost use Rattle.fc_entry.specs.HistoryState.{HistoryState, place_of_name, number_of_actor, with_actor};
 
 use crate::entry::Entry;
@@ -86,6 +86,13 @@ impl History {
                 }
             }
         }
+    }
+
+    /// Only the first names stay, so many of them; all, where there are no more. Takes no memory.
+    pub fn keep_actors(&mut self, count: usize)
+        ensures { self.new ≡ record self.old { actors = take count self.old.actors } }
+    {
+        self.actors.truncate(count);
     }
 
     /// Puts an entry at the end. Refused for want of memory, it is given back and the history is as it was.
