@@ -17,7 +17,7 @@ use Rattle.fc_yard.specs.Views.{held_of, HoldsNone, Holds, took, put_back}
 use Rattle.fc_yard.specs.Whole.{OpensWith, Tells, Knows, Stays}
 use Rattle.fc_yard.specs.Rule.{Grip, Account, held_at, taken, grip, account, parts_of, PartKept, Booked, Kept}
 use Rattle.fc_yard.specs.Steps.{in_hand, won, Parked, Unparked, Gave, Won}
-use Rattle.fc_yard.proofs.Totals.{write_here, write_else, total_two, total_some, each_set}
+use Rattle.fc_yard.proofs.Totals.{write_here, write_else, total_at, total_two, total_some, each_set}
 use Rattle.fc_yard.proofs.Places.{within}
 use Rattle.fc_yard.proofs.Parts.{busy_some, none_some, is_some, part_stays, part_won, part_moves, part_given, part_missed}
 use Rattle.fc_yard.proofs.Telling.{put, put_here, put_else, told_given}
@@ -78,6 +78,8 @@ module _ {W E P : Type 0} (fits : P → W → ℕ → P → Type 0) (sound : W �
       let tells = k.tells w0 opens' in (
         tells.last,
         tells.sound_is,
+        let mine = total_at (λ (a : Account P E). a.tickets) (map account s.views) id (account v) (at_map account s.views id v at) in
+            let sum = k.books.tickets in let limit = k.books.limit in let counter = k.books.counter in let counted = tells.counted in omega (arith, o.2),
         λ p x0 x there has.
             let there' : get_elem? (parts_of t) p ≡ some x0 = subst (λ (z : List P). get_elem? z p ≡ some x0) o.0 there in
             let near = within (parts_of t) p x0 there' in let deep = k.deep in
