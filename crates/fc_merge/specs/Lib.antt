@@ -1,0 +1,2 @@
+-- What several actors were answered, as one list by number.
+pub mod Merging
