@@ -23,7 +23,7 @@ use Rattle.fc_yard.proofs.Places.{stand_below}
 use Rattle.fc_yard.proofs.Parts.{none_some, part_moves}
 use Rattle.fc_yard.proofs.Books.{books_looked, books_ticketed, books_drawn}
 use Rattle.fc_yard.proofs.Telling.{put, put_here, put_else, told_drawn, told_drawn_all}
-use Rattle.fc_yard.proofs.Turning.{St, Rule, Homes, here_set, at_length, opened, held_now, knows, part_step, key_of, slot_of}
+use Rattle.fc_yard.proofs.Turning.{St, Rule, Homes, here_set, at_length, opened, opens_here, held_now, knows, part_step, key_of, slot_of}
 
 -- what is held after an entry of all parts
 pub at_news : {P : Type 0} (xs : List P) (p : ℕ) (x : P) → get_or (map (λ (y : P). Some y) xs) p None ≡ Some x → get_elem? xs p ≡ some x
@@ -139,7 +139,7 @@ module _ {W E P : Type 0} (fits : P → W → ℕ → P → Type 0) (sound : W �
           (subst (λ (z : ℕ × ℕ). Booked t (k.entries ++ e.value ∷ []) z.0 z.1 (set (map account s.views) id (account w)))
           (λ j. (sym (get_or-set_other s.words (16 * n + 16) (16 * n) (drawn + 1) 0 (λ e. omega arith)) j, sym (get_or-set_same s.words (16 * n + 16) (drawn + 1) 0 (omega arith)) j))
           (books_drawn t k.entries given drawn (map account s.views) id (account v) e.value there live some_left kept)))
-          (λ w0 opens. told_drawn fits sound count steps (parts_of t) t.first w0 k.now k.entries v p start.0 holds.0 x.value e.value o.0 start.1 holds.1 now.0 few commits (k.tells w0 opens)) in (
+          (λ w0 opens. told_drawn fits sound count steps (parts_of t) t.first w0 k.now k.entries v p start.0 holds.0 x.value e.value o.0 start.1 holds.1 now.0 (opens_here fits sound count steps t s k id v at live w0 opens) few commits (k.tells w0 opens)) in (
             w,
             gives,
             tt,
@@ -189,7 +189,7 @@ module _ {W E P : Type 0} (fits : P → W → ℕ → P → Type 0) (sound : W �
                 (λ j. (sym (get_or-set_other s.words (16 * n + 16) (16 * n) (drawn + 1) 0 (λ e. omega arith)) j, sym (get_or-set_same s.words (16 * n + 16) (drawn + 1) 0 (omega arith)) j))
                 (books_drawn t k.entries given drawn (map account s.views) id (account v) e.value there live some_left kept));
             tells = λ w0 opens. told_drawn_all fits sound count steps (parts_of t) t.first w0 k.now now' k.entries v xs.value.items e.value o.0
-                (λ q x l' has. (held_now fits sound count steps t s k id v q x at (omega arith) has).0) (λ q x0 x at' has. at_news xs.value.items q x has) few
+                (λ q x l' has. (held_now fits sound count steps t s k id v q x at (omega arith) has).0) (λ q x0 x at' has. at_news xs.value.items q x has) (opens_here fits sound count steps t s k id v at live w0 opens) few
                 (subst (λ (m : ℕ). CommitsAll fits sound count steps m v xs.value.items e.value) (sym opening) commits) (k.tells w0 opens);
           } in (
             w,

@@ -67,6 +67,10 @@ module _ {W E P : Type 0} (fits : P → W → ℕ → P → Type 0) (sound : W �
   pub opened : (s : St) (k : Rule s) (id : ℕ) (v : View P E) → get_elem? s.views id ≡ some v → 0 < v.shares → (v.openings ≡ parts_of t) × (v.first ≡ t.first) × (v.limit ≡ t.limit) × (v.passes ≡ t.passes)
   opened s k id v at live = (k.books.each id (account v) (at_map account s.views id v at)).opened live
 
+  -- what the yard was opened on, as the pass tells of the opening
+  pub opens_here : (s : St) (k : Rule s) (id : ℕ) (v : View P E) → get_elem? s.views id ≡ some v → 0 < v.shares → (w0 : W) → OpensWith fits sound count steps (parts_of t) t.first w0 → OpensWith fits sound count steps v.openings v.first w0
+  opens_here s k id v at live w0 opens = let o = opened s k id v at live in subst (λ (z : List P × ℕ). OpensWith fits sound count steps z.0 z.1 w0) (λ i. (sym (o.0) i, sym (o.1) i)) opens
+
   -- the part that a pass holds is the one that has its share
   pub held_now : (s : St) (k : Rule s) (id : ℕ) (v : View P E) (p : ℕ) (x : P) → get_elem? s.views id ≡ some v → p < length s.homes → held_of v p ≡ Some x → (k.now p ≡ Some x) × (v.hand ≢ suc p → (y : Stall P E) × (get_elem? s.homes p ≡ some (some y)))
   held_now s k id v p x at l has = (k.parts p l).told id (grip v) x (at_map grip s.views id v at) has
