@@ -1,4 +1,5 @@
--- Lemmas, one subject a file.
+-- Lemmas, one subject a file; and the definitions on closed examples.
+pub mod Examples
 pub mod Left
 pub mod Steps
 pub mod Whole
