@@ -7,4 +7,5 @@ pub mod Moments
 pub mod Done
 pub mod Calls
 pub mod Opening
+pub mod Runs
 pub mod Recovered
