@@ -8,4 +8,5 @@ pub mod Done
 pub mod Calls
 pub mod Opening
 pub mod Runs
+pub mod SeriesExamples
 pub mod Recovered
