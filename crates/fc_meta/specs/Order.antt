@@ -41,6 +41,14 @@ module _ {D : Type 0} (seen : D → List ℕ) where
   coming (FillOther image) meta = found seen meta
   coming Turn meta = filled seen meta
 
+-- how many calls of the disk it makes
+abbrev pub disk_calls : Call → ℕ
+disk_calls (Note records) = 1
+disk_calls Sync = 3
+disk_calls ClearOther = 2
+disk_calls (FillOther image) = 2
+disk_calls Turn = 2
+
 -- ---- Calls in their order
 
 -- how far a writer is

@@ -1,11 +1,12 @@
 //! Calls one after the other.
 
 ghost use Rattle.std.specs.Prelude.{◌≡◌, ◌⊎◌, ◌≤◌, ◌<◌, ◌+◌, List, ℕ, length, take, true, false, is_err, OnOk, OnErr, IsErrOf};
+ghost use Rattle.std.specs.List.{sum_by};
 ghost use Rattle.fc_base.specs.Count.{HasRisen};
 ghost use Rattle.fc_metadisk.specs.Disk.{LeavesOnly};
-ghost use Rattle.fc_meta.specs.Answers.{LeavesEither, LeavesFound};
+ghost use Rattle.fc_meta.specs.Answers.{LeavesEither, LeavesFound, more_calls, IsStopped};
 ghost use Rattle.fc_meta.specs.States.{disk_of, found, IsResting};
-ghost use Rattle.fc_meta.specs.Order.{AtRest, IsReadyFor, IsMade, coming, AreInOrder, IsAt, place_behind, stands, LeavesFront, UnlessFailed};
+ghost use Rattle.fc_meta.specs.Order.{AtRest, IsReadyFor, IsMade, coming, disk_calls, AreInOrder, IsAt, place_behind, stands, LeavesFront, UnlessFailed};
 
 use crate::error::MetaError;
 use crate::meta::Meta;
@@ -41,6 +42,10 @@ impl<M: MetaDisk> Meta<M> {
             (M.fault_count (disk_of self.old)) (M.fault_count (disk_of self.new)) }
         ensures quiet { OnOk result
             (M.fault_count (disk_of self.new) ≡ M.fault_count (disk_of self.old)) }
+        ensures calls { OnOk result
+            (M.calls (disk_of self.new) ≡ more_calls (disk_calls call.now) (M.calls (disk_of self.old))) }
+        ensures stopped { IsErrOf result MetaError.Failed → IsStopped (disk_calls call.now)
+            (M.calls (disk_of self.old)) (M.calls (disk_of self.new)) }
     {
         match call {
             Call::Note(records) => self.note(alloc, records.as_slice()),
@@ -76,6 +81,8 @@ impl<M: MetaDisk> Meta<M> {
             (M.fault_count (disk_of self.old)) (M.fault_count (disk_of self.new)) }
         ensures quiet { OnOk result.1
             (M.fault_count (disk_of self.new) ≡ M.fault_count (disk_of self.old)) }
+        ensures calls { UnlessFailed result.1 (M.calls (disk_of self.new) ≡ more_calls
+            (sum_by disk_calls (take result.0 calls.now)) (M.calls (disk_of self.old))) }
     {
         for (done, call) in calls.iter().enumerate() {
             match self.make(alloc, call) {
