@@ -3,3 +3,4 @@ pub mod Standing
 pub mod Answers
 pub mod Recovering
 pub mod States
+pub mod Order

@@ -21,7 +21,9 @@ mod error;
 mod first;
 mod meta;
 mod recover;
+mod series;
 mod steps;
 
 pub use error::{MetaError, RecoverError};
 pub use meta::Meta;
+pub use series::Call;

@@ -1,5 +1,5 @@
 -- The steps on the two counts, of tickets and of numbers, keep the rule.
-use Rattle.std.proofs.Common.{◌≡◌, ◌≢◌, ℕ, zero, suc, ◌+◌, ◌*◌, ◌%◌, ◌^◌, ◌<◌, eqb, List, [], ◌∷◌, ◌++◌, map, length, get_or, set, sym, refl, ap, ◌∙◌, subst, arith, length-set, get_or-set_other, get_or-set_same, Option, Some, None}
+use Rattle.std.proofs.Common.{◌≡◌, ◌≢◌, ℕ, zero, suc, ◌+◌, ◌*◌, ◌%◌, ◌^◌, ◌<◌, ◌≤◌, eqb, List, [], ◌∷◌, ◌++◌, map, length, get_or, set, sym, refl, ap, ◌∙◌, subst, arith, length-set, get_or-set_other, get_or-set_same, Option, Some, None}
 use Rattle.std.proofs.Math.Nat.{mod-eq_of_lt}
 use mathlib.Core.Option.{some, none}
 use mathlib.Core.Logic.{dite}
@@ -23,7 +23,7 @@ use Rattle.fc_yard.proofs.Places.{stand_below}
 use Rattle.fc_yard.proofs.Parts.{none_some, part_moves}
 use Rattle.fc_yard.proofs.Books.{books_looked, books_ticketed, books_drawn}
 use Rattle.fc_yard.proofs.Telling.{put, put_here, put_else, told_drawn, told_drawn_all}
-use Rattle.fc_yard.proofs.Turning.{St, Rule, Homes, here_set, at_length, opened, held_now, knows, part_step, key_of, slot_of}
+use Rattle.fc_yard.proofs.Turning.{St, Rule, Homes, here_set, at_length, opened, opens_here, held_now, knows, part_step, key_of, slot_of}
 
 -- what is held after an entry of all parts
 pub at_news : {P : Type 0} (xs : List P) (p : ℕ) (x : P) → get_or (map (λ (y : P). Some y) xs) p None ≡ Some x → get_elem? xs p ≡ some x
@@ -57,54 +57,60 @@ module _ {W E P : Type 0} (fits : P → W → ℕ → P → Type 0) (sound : W �
 
   module _ (n id : ℕ) where
     -- the tickets given are counted
-    pub looks : (me : Me (Stall P E) (View P E)) → 0 < me.0.shares → Allows R n id me (16 * n) (λ m. m) (Looked (step n (16 * n) 0 0 none) me)
+    pub looks : (me : Me (Stall P E) (View P E)) → 0 < me.0.shares → Allows R n id me (16 * n) (λ m. m) (Looked fits sound count steps (step n (16 * n) 0 0 none) me)
     looks me live s k deep at small =
         let v : View P E = me.0 in let given : ℕ = get_or s.words (16 * n) 0 in let deep' : n ≡ length s.homes = sym deep in let wide = k.wide in
         let kept : Booked t k.entries given (get_or s.words (16 * n + 16) 0) (map account s.views) = subst (λ (m : ℕ). Booked t k.entries (get_or s.words (16 * m) 0) (get_or s.words (16 * m + 16) 0) (map account s.views)) deep k.books in
         let there = at_map account s.views id v at in let o = opened fits sound count steps t s k id v at live in let limit = kept.limit in
-        let low = (kept.each id (account v) there).low in (
-          looked v given,
+        let low = (kept.each id (account v) there).low in let w : View P E = looked v given in
+        let after : ℕ → View P E → St fits sound count steps t = λ b u. record { words = set s.words (16 * n) b; homes = s.homes; views = set s.views id u } in
+        let rule : R (after given w) =
+        book_step s k id (16 * n) given v w at refl live (λ q l e. omega arith)
+        (subst (λ (m : ℕ). Booked t k.entries (get_or (set s.words (16 * n) given) (16 * m) 0) (get_or (set s.words (16 * n) given) (16 * m + 16) 0) (set (map account s.views) id (account w))) deep'
+        (subst (λ (z : ℕ × ℕ). Booked t k.entries z.0 z.1 (set (map account s.views) id (account w)))
+        (λ j. (sym (get_or-set_same s.words (16 * n) given 0 (omega arith)) j, sym (get_or-set_other s.words (16 * n) (16 * n + 16) given 0 (λ e. omega arith)) j))
+        (books_looked t k.entries given (get_or s.words (16 * n + 16) 0) (map account s.views) id (account v) there kept))) in (
+          w,
           keeps,
           tt,
-          book_step s k id (16 * n) given v (looked v given) at refl live (λ q l e. omega arith)
-              (subst (λ (m : ℕ). Booked t k.entries (get_or (set s.words (16 * n) given) (16 * m) 0) (get_or (set s.words (16 * n) given) (16 * m + 16) 0) (set (map account s.views) id (account (looked v given)))) deep'
-              (subst (λ (z : ℕ × ℕ). Booked t k.entries z.0 z.1 (set (map account s.views) id (account (looked v given))))
-              (λ j. (sym (get_or-set_same s.words (16 * n) given 0 (omega arith)) j, sym (get_or-set_other s.words (16 * n) (16 * n + 16) given 0 (λ e. omega arith)) j))
-              (books_looked t k.entries given (get_or s.words (16 * n + 16) 0) (map account s.views) id (account v) there kept))),
-          (low, omega arith, refl),
+          rule,
+          (low, omega arith, refl, knows fits sound count steps t (after given w) rule id w (here_set s.views id v w at) live),
         )
 
     -- a ticket is given where as many were given as expected
     pub tickets : (me : Me (Stall P E) (View P E)) (first second : ℕ) → 0 < me.0.shares → second ≡ first + 1 → first < me.0.limit
-        → Allows R n id me (16 * n) (λ m. either (eqb m first) second m) (Ticketed (step n (16 * n) first second none) me)
+        → Allows R n id me (16 * n) (λ m. either (eqb m first) second m) (Ticketed fits sound count steps (step n (16 * n) first second none) me)
     tickets me first second live next room s k deep at small =
         let v : View P E = me.0 in let given : ℕ = get_or s.words (16 * n) 0 in let deep' : n ≡ length s.homes = sym deep in let wide = k.wide in
         let kept : Booked t k.entries given (get_or s.words (16 * n + 16) 0) (map account s.views) = subst (λ (m : ℕ). Booked t k.entries (get_or s.words (16 * m) 0) (get_or s.words (16 * m + 16) 0) (map account s.views)) deep k.books in
         let there = at_map account s.views id v at in let o = opened fits sound count steps t s k id v at live in let limit = kept.limit in
         let low = (kept.each id (account v) there).low in
-        let T : ℕ → Me (Stall P E) (View P E) → Type 0 = Ticketed (step n (16 * n) first second none) me in
+        let after : ℕ → View P E → St fits sound count steps t = λ b u. record { words = set s.words (16 * n) b; homes = s.homes; views = set s.views id u } in
+        let T : ℕ → Me (Stall P E) (View P E) → Type 0 = Ticketed fits sound count steps (step n (16 * n) first second none) me in
         let goal : ℕ → Type 0 = λ b. (w : View P E) × (a : Act (Stall P E)) × Rattle.atomic_table.specs.Table.Valid s.homes me.1 a × R (Rattle.atomic_table.specs.Table.stepped s (16 * n) b id me.1 w a) × T given (w, Rattle.atomic_table.specs.Table.carried_after me.1 a) in
-        let booked : (b : ℕ) (w : View P E) → Booked t k.entries b (get_or s.words (16 * n + 16) 0) (set (map account s.views) id (account w)) → grip w ≡ grip v → 0 < w.shares → R record { words = set s.words (16 * n) b; homes = s.homes; views = set s.views id w } = λ b w books same alive.
+        let booked : (b : ℕ) (w : View P E) → Booked t k.entries b (get_or s.words (16 * n + 16) 0) (set (map account s.views) id (account w)) → grip w ≡ grip v → 0 < w.shares → R (after b w) = λ b w books same alive.
         book_step s k id (16 * n) b v w at same alive (λ q l e. omega arith)
         (subst (λ (m : ℕ). Booked t k.entries (get_or (set s.words (16 * n) b) (16 * m) 0) (get_or (set s.words (16 * n) b) (16 * m + 16) 0) (set (map account s.views) id (account w))) deep'
         (subst (λ (z : ℕ × ℕ). Booked t k.entries z.0 z.1 (set (map account s.views) id (account w)))
         (λ j. (sym (get_or-set_same s.words (16 * n) b 0 (omega arith)) j, sym (get_or-set_other s.words (16 * n) (16 * n + 16) b 0 (λ e. omega arith)) j)) books)) in
         exchanged given first second goal
-        (λ (is : given ≡ first). (
-          ticketed v given,
+        (λ (is : given ≡ first). let w : View P E = ticketed v given in
+        let rule : R (after second w) = booked second w
+        (subst (λ (b : ℕ). Booked t k.entries b (get_or s.words (16 * n + 16) 0) (set (map account s.views) id (account w))) (ap (λ (m : ℕ). m + 1) is ∙ sym next)
+        (books_ticketed t k.entries given (get_or s.words (16 * n + 16) 0) (map account s.views) id (account v) there live (omega arith) kept)) refl live in (
+          w,
           keeps,
           tt,
-          booked second (ticketed v given)
-              (subst (λ (b : ℕ). Booked t k.entries b (get_or s.words (16 * n + 16) 0) (set (map account s.views) id (account (ticketed v given)))) (ap (λ (m : ℕ). m + 1) is ∙ sym next)
-              (books_ticketed t k.entries given (get_or s.words (16 * n + 16) 0) (map account s.views) id (account v) there live (omega arith) kept)) refl live,
-          (low, omega arith, (λ _. refl), λ other. absurd (other is)),
+          rule,
+          (low, omega arith, (λ _. refl), (λ other. absurd (other is)), knows fits sound count steps t (after second w) rule id w (here_set s.views id v w at) live),
         ))
-        (λ (other : given ≢ first). (
-          looked v given,
+        (λ (other : given ≢ first). let w : View P E = looked v given in
+        let rule : R (after given w) = booked given w (books_looked t k.entries given (get_or s.words (16 * n + 16) 0) (map account s.views) id (account v) there kept) refl live in (
+          w,
           keeps,
           tt,
-          booked given (looked v given) (books_looked t k.entries given (get_or s.words (16 * n + 16) 0) (map account s.views) id (account v) there kept) refl live,
-          (low, omega arith, (λ is. absurd (other is)), λ _. refl),
+          rule,
+          (low, omega arith, (λ is. absurd (other is)), (λ _. refl), knows fits sound count steps t (after given w) rule id w (here_set s.views id v w at) live),
         ))
 
     module _ (me : Me (Stall P E) (View P E)) (v : View P E) (p : ℕ) (near : p < n) (live : 0 < v.shares) (some_left : 0 < v.tickets) (hand : v.hand ≡ suc p) (most : v.limit < 2 ^ 64) where
@@ -118,7 +124,7 @@ module _ {W E P : Type 0} (fits : P → W → ℕ → P → Type 0) (sound : W �
           let there = at_map account s.views id v at in let o = opened fits sound count steps t s k id v at live in
           let mine = Rattle.fc_yard.proofs.Totals.total_at (λ (a : Account P E). a.tickets) (map account s.views) id (account v) there in
           let limit = kept.limit in let sum = kept.tickets in let counter = kept.counter in
-          let room : drawn < v.limit = omega arith in
+          let few : v.tickets + (t.first + length k.entries) ≤ v.limit = omega arith in let room : drawn < v.limit = omega arith in
           let fine : (drawn + 1) % 2 ^ 64 ≡ drawn + 1 = mod-eq_of_lt {n = drawn + 1} {m = 2 ^ 64} (omega arith) in
           let w : View P E = drew v p x.value drawn e.value in let now' : ℕ → Option P = put k.now p (Some x.value) in let now = held_now fits sound count steps t s k id v p holds.0 at l holds.1 in
           let words' : List ℕ = set s.words (16 * n + 16) (drawn + 1) in
@@ -133,7 +139,7 @@ module _ {W E P : Type 0} (fits : P → W → ℕ → P → Type 0) (sound : W �
           (subst (λ (z : ℕ × ℕ). Booked t (k.entries ++ e.value ∷ []) z.0 z.1 (set (map account s.views) id (account w)))
           (λ j. (sym (get_or-set_other s.words (16 * n + 16) (16 * n) (drawn + 1) 0 (λ e. omega arith)) j, sym (get_or-set_same s.words (16 * n + 16) (drawn + 1) 0 (omega arith)) j))
           (books_drawn t k.entries given drawn (map account s.views) id (account v) e.value there live some_left kept)))
-          (λ w0 opens. told_drawn fits sound count steps (parts_of t) t.first w0 k.now k.entries v p start.0 holds.0 x.value e.value o.0 start.1 holds.1 now.0 commits (k.tells w0 opens)) in (
+          (λ w0 opens. told_drawn fits sound count steps (parts_of t) t.first w0 k.now k.entries v p start.0 holds.0 x.value e.value o.0 start.1 holds.1 now.0 (opens_here fits sound count steps t s k id v at live w0 opens) few commits (k.tells w0 opens)) in (
             w,
             gives,
             tt,
@@ -156,7 +162,7 @@ module _ {W E P : Type 0} (fits : P → W → ℕ → P → Type 0) (sound : W �
           let there = at_map account s.views id v at in let o = opened fits sound count steps t s k id v at live in
           let mine = Rattle.fc_yard.proofs.Totals.total_at (λ (a : Account P E). a.tickets) (map account s.views) id (account v) there in
           let limit = kept.limit in let sum = kept.tickets in let counter = kept.counter in
-          let room : drawn < v.limit = omega arith in
+          let few : v.tickets + (t.first + length k.entries) ≤ v.limit = omega arith in let room : drawn < v.limit = omega arith in
           let fine : (drawn + 1) % 2 ^ 64 ≡ drawn + 1 = mod-eq_of_lt {n = drawn + 1} {m = 2 ^ 64} (omega arith) in
           let w : View P E = drew_all v xs.value.items drawn e.value in let now' : ℕ → Option P = λ q. held_of w q in
           let words' : List ℕ = set s.words (16 * n + 16) (drawn + 1) in
@@ -183,7 +189,7 @@ module _ {W E P : Type 0} (fits : P → W → ℕ → P → Type 0) (sound : W �
                 (λ j. (sym (get_or-set_other s.words (16 * n + 16) (16 * n) (drawn + 1) 0 (λ e. omega arith)) j, sym (get_or-set_same s.words (16 * n + 16) (drawn + 1) 0 (omega arith)) j))
                 (books_drawn t k.entries given drawn (map account s.views) id (account v) e.value there live some_left kept));
             tells = λ w0 opens. told_drawn_all fits sound count steps (parts_of t) t.first w0 k.now now' k.entries v xs.value.items e.value o.0
-                (λ q x l' has. (held_now fits sound count steps t s k id v q x at (omega arith) has).0) (λ q x0 x at' has. at_news xs.value.items q x has)
+                (λ q x l' has. (held_now fits sound count steps t s k id v q x at (omega arith) has).0) (λ q x0 x at' has. at_news xs.value.items q x has) (opens_here fits sound count steps t s k id v at live w0 opens) few
                 (subst (λ (m : ℕ). CommitsAll fits sound count steps m v xs.value.items e.value) (sym opening) commits) (k.tells w0 opens);
           } in (
             w,
@@ -200,13 +206,13 @@ module _ {W E P : Type 0} (fits : P → W → ℕ → P → Type 0) (sound : W �
 
   -- the same in a table that is known to have n slots
   module _ (slots n : ℕ) (same : slots ≡ n) (id : ℕ) (me : Me (Stall P E) (View P E)) where
-    pub looks_at : 0 < me.0.shares → Allows R slots id me (16 * n) (λ m. m) (Looked (step slots (16 * n) 0 0 none) me)
-    looks_at live = subst (λ (k : ℕ). Allows R k id me (16 * n) (λ m. m) (Looked (step k (16 * n) 0 0 none) me)) (sym same) (looks n id me live)
+    pub looks_at : 0 < me.0.shares → Allows R slots id me (16 * n) (λ m. m) (Looked fits sound count steps (step slots (16 * n) 0 0 none) me)
+    looks_at live = subst (λ (k : ℕ). Allows R k id me (16 * n) (λ m. m) (Looked fits sound count steps (step k (16 * n) 0 0 none) me)) (sym same) (looks n id me live)
 
     pub tickets_at : (first second : ℕ) → 0 < me.0.shares → second ≡ first + 1 → first < me.0.limit
-        → Allows R slots id me (16 * n) (λ m. either (eqb m first) second m) (Ticketed (step slots (16 * n) first second none) me)
+        → Allows R slots id me (16 * n) (λ m. either (eqb m first) second m) (Ticketed fits sound count steps (step slots (16 * n) first second none) me)
     tickets_at first second live next room =
-        subst (λ (k : ℕ). Allows R k id me (16 * n) (λ m. either (eqb m first) second m) (Ticketed (step k (16 * n) first second none) me)) (sym same) (tickets n id me first second live next room)
+        subst (λ (k : ℕ). Allows R k id me (16 * n) (λ m. either (eqb m first) second m) (Ticketed fits sound count steps (step k (16 * n) first second none) me)) (sym same) (tickets n id me first second live next room)
 
     module _ (v : View P E) (p : ℕ) (near : p < n) (live : 0 < v.shares) (some_left : 0 < v.tickets) (hand : v.hand ≡ suc p) (most : v.limit < 2 ^ 64) where
       pub draws_at : (e : _) (x : _) (entry : E) (part : P) → me ≡ (v, (p, Deed e x) ∷ []) → e.value ≡ entry → x.value ≡ part → Holds v p → Commits fits sound count steps v p part entry

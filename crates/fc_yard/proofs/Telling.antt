@@ -1,12 +1,12 @@
 -- What is told, after the steps that change it.
-use Rattle.std.proofs.Common.{◌≡◌, ◌≢◌, ℕ, ◌<◌, List, [], ◌∷◌, ◌++◌, length, sym, refl, ◌∙◌, subst, arith, length-append, Option, Some}
+use Rattle.std.proofs.Common.{◌≡◌, ◌≢◌, ℕ, ◌+◌, ◌<◌, ◌≤◌, List, [], ◌∷◌, ◌++◌, length, sym, refl, ◌∙◌, subst, arith, length-append, Option, Some}
 use mathlib.Core.Option.{some}
 use mathlib.Core.Logic.{dite}
 use native.Mathlib.Decide.{ℕ_discrete}
 use lib.ListN.{get_elem?}
 use Rattle.fc_yard.specs.declared.rule.View.{View}
 use Rattle.fc_yard.specs.Views.{held_of}
-use Rattle.fc_yard.specs.Whole.{Tells, Commits, CommitsAll, Stays}
+use Rattle.fc_yard.specs.Whole.{OpensWith, Tells, Commits, CommitsAll, Stays}
 use Rattle.fc_yard.proofs.Places.{runs_more}
 
 module _ {A : Type 0} where
@@ -42,10 +42,10 @@ module _ {W E P : Type 0} (fits : P → W → ℕ → P → Type 0) (sound : W �
 
   -- a number is drawn for an entry of one part
   pub told_drawn : (now : ℕ → Option P) (es : List E) (v : View P E) (p : ℕ) (x0 old new : P) (e : E) → v.openings ≡ parts → get_elem? parts p ≡ some x0 → held_of v p ≡ Some old → now p ≡ Some old
-      → Commits fits sound count steps v p new e → Told now es → Told (put now p (Some new)) (es ++ e ∷ [])
-  told_drawn now es v p x0 old new e opened at held is commits k =
+      → OpensWith fits sound count steps v.openings v.first w0 → v.tickets + (first + length es) ≤ v.limit → Commits fits sound count steps v p new e → Told now es → Told (put now p (Some new)) (es ++ e ∷ [])
+  told_drawn now es v p x0 old new e opened at held is opens room commits k =
       let at' : get_elem? v.openings p ≡ some x0 = subst (λ (ys : List P). get_elem? ys p ≡ some x0) (sym opened) at in
-      let c = commits w0 k.last x0 old k.sound_is at' held (k.fit p x0 old at is) in record {
+      let c = commits w0 k.last x0 old opens k.sound_is (subst (λ (n : ℕ). v.tickets + n ≤ v.limit) (sym k.counted) room) at' held (k.fit p x0 old at is) in record {
         last = c.0;
         runs = runs_more fits sound count steps w0 first es k.last c.0 e k.runs (subst (λ (z : ℕ). steps k.last z e c.0) k.counted c.1);
         sound_is = c.2;
@@ -63,9 +63,9 @@ module _ {W E P : Type 0} (fits : P → W → ℕ → P → Type 0) (sound : W �
   pub told_drawn_all : (now now' : ℕ → Option P) (es : List E) (v : View P E) (news : List P) (e : E) → v.openings ≡ parts
       → ((q : ℕ) (x : P) → q < length parts → held_of v q ≡ Some x → now q ≡ Some x)
       → ((q : ℕ) (x0 x : P) → get_elem? parts q ≡ some x0 → now' q ≡ Some x → get_elem? news q ≡ some x)
-      → CommitsAll fits sound count steps (length parts) v news e → Told now es → Told now' (es ++ e ∷ [])
-  told_drawn_all now now' es v news e opened held becomes commits k =
-      let c = commits w0 k.last k.sound_is (λ q x0 old l at has. k.fit q x0 old (subst (λ (ys : List P). get_elem? ys q ≡ some x0) opened at) (held q old l has)) in record {
+      → OpensWith fits sound count steps v.openings v.first w0 → v.tickets + (first + length es) ≤ v.limit → CommitsAll fits sound count steps (length parts) v news e → Told now es → Told now' (es ++ e ∷ [])
+  told_drawn_all now now' es v news e opened held becomes opens room commits k =
+      let c = commits w0 k.last opens k.sound_is (subst (λ (n : ℕ). v.tickets + n ≤ v.limit) (sym k.counted) room) (λ q x0 old l at has. k.fit q x0 old (subst (λ (ys : List P). get_elem? ys q ≡ some x0) opened at) (held q old l has)) in record {
         last = c.0;
         runs = runs_more fits sound count steps w0 first es k.last c.0 e k.runs (subst (λ (z : ℕ). steps k.last z e c.0) k.counted c.1);
         sound_is = c.2;

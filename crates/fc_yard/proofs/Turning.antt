@@ -17,7 +17,7 @@ use Rattle.fc_yard.specs.Views.{held_of, HoldsNone, Holds, took, put_back}
 use Rattle.fc_yard.specs.Whole.{OpensWith, Tells, Knows, Stays}
 use Rattle.fc_yard.specs.Rule.{Grip, Account, held_at, taken, grip, account, parts_of, PartKept, Booked, Kept}
 use Rattle.fc_yard.specs.Steps.{in_hand, won, Parked, Unparked, Gave, Won}
-use Rattle.fc_yard.proofs.Totals.{write_here, write_else, total_two, total_some, each_set}
+use Rattle.fc_yard.proofs.Totals.{write_here, write_else, total_at, total_two, total_some, each_set}
 use Rattle.fc_yard.proofs.Places.{within}
 use Rattle.fc_yard.proofs.Parts.{busy_some, none_some, is_some, part_stays, part_won, part_moves, part_given, part_missed}
 use Rattle.fc_yard.proofs.Telling.{put, put_here, put_else, told_given}
@@ -67,6 +67,10 @@ module _ {W E P : Type 0} (fits : P → W → ℕ → P → Type 0) (sound : W �
   pub opened : (s : St) (k : Rule s) (id : ℕ) (v : View P E) → get_elem? s.views id ≡ some v → 0 < v.shares → (v.openings ≡ parts_of t) × (v.first ≡ t.first) × (v.limit ≡ t.limit) × (v.passes ≡ t.passes)
   opened s k id v at live = (k.books.each id (account v) (at_map account s.views id v at)).opened live
 
+  -- what the yard was opened on, as the pass tells of the opening
+  pub opens_here : (s : St) (k : Rule s) (id : ℕ) (v : View P E) → get_elem? s.views id ≡ some v → 0 < v.shares → (w0 : W) → OpensWith fits sound count steps (parts_of t) t.first w0 → OpensWith fits sound count steps v.openings v.first w0
+  opens_here s k id v at live w0 opens = let o = opened s k id v at live in subst (λ (z : List P × ℕ). OpensWith fits sound count steps z.0 z.1 w0) (λ i. (sym (o.0) i, sym (o.1) i)) opens
+
   -- the part that a pass holds is the one that has its share
   pub held_now : (s : St) (k : Rule s) (id : ℕ) (v : View P E) (p : ℕ) (x : P) → get_elem? s.views id ≡ some v → p < length s.homes → held_of v p ≡ Some x → (k.now p ≡ Some x) × (v.hand ≢ suc p → (y : Stall P E) × (get_elem? s.homes p ≡ some (some y)))
   held_now s k id v p x at l has = (k.parts p l).told id (grip v) x (at_map grip s.views id v at) has
@@ -78,6 +82,8 @@ module _ {W E P : Type 0} (fits : P → W → ℕ → P → Type 0) (sound : W �
       let tells = k.tells w0 opens' in (
         tells.last,
         tells.sound_is,
+        let mine = total_at (λ (a : Account P E). a.tickets) (map account s.views) id (account v) (at_map account s.views id v at) in
+            let sum = k.books.tickets in let limit = k.books.limit in let counter = k.books.counter in let counted = tells.counted in omega (arith, o.2),
         λ p x0 x there has.
             let there' : get_elem? (parts_of t) p ≡ some x0 = subst (λ (z : List P). get_elem? z p ≡ some x0) o.0 there in
             let near = within (parts_of t) p x0 there' in let deep = k.deep in

@@ -36,16 +36,6 @@ module _ {P E : Type 0} where
   abbrev pub Gave : At P E → Mine P E → ℕ → Mine P E → Type 0
   Gave st before found after = (p : ℕ) (x : P) → before.1 ≡ (p, Home x) ∷ [] → after ≡ (put_back before.0 p, [])
 
-  -- the tickets given are as many as were found
-  abbrev pub Looked : At P E → Mine P E → ℕ → Mine P E → Type 0
-  Looked st before found after = (before.0.low ≤ found) × (found ≤ before.0.limit) × (after ≡ (looked before.0 found, before.1))
-
-  -- a ticket, where as many were given as expected
-  abbrev pub Ticketed : At P E → Mine P E → ℕ → Mine P E → Type 0
-  Ticketed st before found after =
-      (before.0.low ≤ found) × (found ≤ before.0.limit)
-      × (found ≡ st.first → after ≡ (ticketed before.0 found, before.1)) × (found ≢ st.first → after ≡ (looked before.0 found, before.1))
-
 module _ {W E P : Type 0} (fits : P → W → ℕ → P → Type 0) (sound : W → W → Type 0) (count : W → ℕ) (steps : W → ℕ → E → W → Type 0) where
   -- the turn and the part, where the turn was free
   abbrev pub Won : At P E → Mine P E → ℕ → Mine P E → Type 0
@@ -53,6 +43,16 @@ module _ {W E P : Type 0} (fits : P → W → ℕ → P → Type 0) (sound : W �
       (p : ℕ) → st.word ≡ turn_word p
       → (found ≡ 0 → (x : P) × (after ≡ (won before.0 p x, (p, Home x) ∷ before.1)) × Knows fits sound count steps (took before.0 p x))
       × (found ≢ 0 → (after ≡ before) × (before.0.shares < before.0.passes))
+
+  -- the tickets given are as many as were found
+  abbrev pub Looked : At P E → Mine P E → ℕ → Mine P E → Type 0
+  Looked st before found after = (before.0.low ≤ found) × (found ≤ before.0.limit) × (after ≡ (looked before.0 found, before.1)) × Knows fits sound count steps after.0
+
+  -- a ticket, where as many were given as expected
+  abbrev pub Ticketed : At P E → Mine P E → ℕ → Mine P E → Type 0
+  Ticketed st before found after =
+      (before.0.low ≤ found) × (found ≤ before.0.limit)
+      × (found ≡ st.first → after ≡ (ticketed before.0 found, before.1)) × (found ≢ st.first → after ≡ (looked before.0 found, before.1)) × Knows fits sound count steps after.0
 
   -- the number that was found, for what the slot in hand announces
   abbrev pub DrewFor : View P E → ℕ → ℕ → Stall P E → Mine P E → Type 0

@@ -26,24 +26,26 @@ module _ {W E P : Type 0} (fits : P → W → ℕ → P → Type 0) (sound : W �
     pub counted : count last ≡ first + length es
     pub fit : (p : ℕ) (x0 x : P) → get_elem? parts p ≡ some x0 → now p ≡ Some x → fits x0 last p x
 
-  -- whatever the yard was opened on, there is a whole of which the pass's parts have their shares
+  -- whatever the yard was opened on, there is a whole of which the pass's parts have their shares, and to which so few
+  -- entries have led that one for each of the pass's tickets has room below the limit
   abbrev pub Knows : View P E → Type 0
   Knows v =
       (w0 : W) → OpensWith v.openings v.first w0
-      → (w : W) × sound w0 w × ((p : ℕ) (x0 x : P) → get_elem? v.openings p ≡ some x0 → held_of v p ≡ Some x → fits x0 w p x)
+      → (w : W) × sound w0 w × (v.tickets + count w ≤ v.limit) × ((p : ℕ) (x0 x : P) → get_elem? v.openings p ≡ some x0 → held_of v p ≡ Some x → fits x0 w p x)
 
-  -- whatever the whole is when the number is drawn: where the part as it is held has its share, the entry leads to a
-  -- next whole, of which the part as it now is has its share, and so has every other part that had it before
+  -- whatever the yard was opened on, and whatever the whole is when the number is drawn: where there is room below the limit
+  -- for the pass's tickets, and the part as it is held has its share, the entry leads to a next whole, of which the part as
+  -- it now is has its share, and so has every other part that had it before
   abbrev pub Commits : View P E → ℕ → P → E → Type 0
   Commits v p new e =
-      (w0 w : W) (x0 old : P) → sound w0 w → get_elem? v.openings p ≡ some x0 → held_of v p ≡ Some old → fits x0 w p old
+      (w0 w : W) (x0 old : P) → OpensWith v.openings v.first w0 → sound w0 w → v.tickets + count w ≤ v.limit → get_elem? v.openings p ≡ some x0 → held_of v p ≡ Some old → fits x0 w p old
       → (next : W) × steps w (count w) e next × sound w0 next × (count next ≡ count w + 1) × fits x0 next p new
       × ((q : ℕ) (y0 y : P) → q ≢ p → fits y0 w q y → fits y0 next q y)
 
   -- the same of the first n parts at once
   abbrev pub CommitsAll : ℕ → View P E → List P → E → Type 0
   CommitsAll n v news e =
-      (w0 w : W) → sound w0 w → ((q : ℕ) (x0 old : P) → q < n → get_elem? v.openings q ≡ some x0 → held_of v q ≡ Some old → fits x0 w q old)
+      (w0 w : W) → OpensWith v.openings v.first w0 → sound w0 w → v.tickets + count w ≤ v.limit → ((q : ℕ) (x0 old : P) → q < n → get_elem? v.openings q ≡ some x0 → held_of v q ≡ Some old → fits x0 w q old)
       → (next : W) × steps w (count w) e next × sound w0 next × (count next ≡ count w + 1)
       × ((q : ℕ) (x0 x : P) → get_elem? v.openings q ≡ some x0 → get_elem? news q ≡ some x → fits x0 next q x)
 

@@ -63,17 +63,19 @@ impl<W, E, P: Part<W, E>> Yard<W, E, P> {
     ///
     /// `false` exactly where as many tickets were given as there are numbers below the limit; more are never given, so it is
     /// `false` from then on (`low` of the pass is the limit). Doesn't wait, and tries no more often than tickets are left.
-    /// A ticket that isn't used is lost, but for the pass that has it.
+    /// A ticket that isn't used is lost, but for the pass that has it. So few entries are told then that one for each of the
+    /// pass's tickets, this one too, has room below the limit (`Knows`).
     pub fn ticket(&self, pass: &mut Pass<P, E>) -> bool
         requires { IsPassOf self.now pass.old }
         ensures given { result ≡ true → (n : ℕ) × (pass.new ≡ became pass.old (ticketed pass.old.view n)) × (pass.old.view.low ≤ n) × (n < pass.old.view.limit) }
         ensures ended { result ≡ false → pass.new ≡ became pass.old (looked pass.old.view pass.old.view.limit) }
+        ensures knows { Knows P.fits P.sound P.count P.steps pass.new.view }
     {
         let shelf = &self.table.shared;
         let word = STRIDE * self.parts;
-        let mut given = shelf.load::<Look>(&mut pass.seat, word);
+        let mut given = shelf.load::<Look<W>>(&mut pass.seat, word);
         while given < self.limit {
-            let found = shelf.compare_exchange::<Take>(&mut pass.seat, word, given, given + 1);
+            let found = shelf.compare_exchange::<Take<W>>(&mut pass.seat, word, given, given + 1);
             if found == given {
                 return true;
             }

@@ -39,17 +39,21 @@ impl<P, E> Play<Stall<P, E>, View<P, E>> for Give {
 }
 
 /// The tickets given are counted.
-pub(crate) struct Look;
+pub(crate) struct Look<W> {
+    whole: PhantomData<W>,
+}
 
-impl<P, E> Play<Stall<P, E>, View<P, E>> for Look {
-    ghost then = { Looked };
+impl<W, E, P: Part<W, E>> Play<Stall<P, E>, View<P, E>> for Look<W> {
+    ghost then = { Looked P.fits P.sound P.count P.steps };
 }
 
 /// A ticket, where as many were given as expected.
-pub(crate) struct Take;
+pub(crate) struct Take<W> {
+    whole: PhantomData<W>,
+}
 
-impl<P, E> Play<Stall<P, E>, View<P, E>> for Take {
-    ghost then = { Ticketed };
+impl<W, E, P: Part<W, E>> Play<Stall<P, E>, View<P, E>> for Take<W> {
+    ghost then = { Ticketed P.fits P.sound P.count P.steps };
 }
 
 /// A number, for the entry that the slot in hand announces.

@@ -18,7 +18,7 @@ some_is o a b e f = cc
 -- a counter that went up by one
 pub commits : (v : View Counter Tally) (p : ℕ) (old new : Counter) → held_of v p ≡ Some old → new.count ≡ after old.count
     → Commits {W = Counts} {E = Tally} {P = Counter} (λ x0 w q x. HasShare w q x) (λ w0 w. Unit {0}) (λ w. w.told) (λ w n e next. Counted w e next) v p new (One p)
-commits v p old new held up w0 w x0 was sound at has share =
+commits v p old new held up w0 w x0 was opens sound room at has share =
     let same = some_is (held_of v p) old was held has in
     let more : ℕ = after (get_or w.counters p 0) in
     let next : Counts = record { counters = set w.counters p more; told = w.told + 1 } in (
@@ -50,7 +50,7 @@ after_share w p old new up share =
 -- two counters that both went up by one
 pub commits_both : (v : View Counter Tally) (a b c d : Counter) (news : List Counter) → held_of v 0 ≡ Some a → held_of v 1 ≡ Some b → news ≡ c ∷ d ∷ [] → c.count ≡ after a.count → d.count ≡ after b.count
     → CommitsAll {W = Counts} {E = Tally} {P = Counter} (λ x0 w q x. HasShare w q x) (λ w0 w. Unit {0}) (λ w. w.told) (λ w n e next. Counted w e next) 2 v news All
-commits_both v a b c d news first second are up more w0 w sound fit = (
+commits_both v a b c d news first second are up more w0 w opens sound room fit = (
   record { counters = map after w.counters; told = w.told + 1 },
   (refl, refl),
   tt,

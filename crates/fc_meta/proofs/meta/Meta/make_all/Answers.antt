@@ -1,0 +1,79 @@
+use Rattle.std.proofs.Common.{◌≡◌, ◌≤◌, ◌+◌, ℕ, List, inl, length, take, refl, sym, ap, ◌∙◌, subst, arith}
+use Rattle.fc_base.specs.Count.{HasRisen}
+use Rattle.fc_metadisk.specs.Disk.{LeavesOnly}
+use Rattle.fc_meta.specs.declared.series.Call.{Call}
+use Rattle.fc_meta.specs.declared.meta.Meta.{Meta}
+use Rattle.fc_meta.specs.States.{found}
+use Rattle.fc_meta.specs.Order.{AtRest, IsAt, place_behind, stands, LeavesFront}
+use Rattle.fc_meta.proofs.Runs.{going, stands_now, is_at, leaves_now, is_ready, leaves_either, moments_more, going_on, whole, refused_holds}
+use Rattle.fc_meta.proofs.meta.Meta.make_all.Goals as goal
+
+pub loop-done-init : goal.loop-done-init
+loop-done-init g c =
+    record { going = going g.M.MetaDisk.seen g.M.MetaDisk.may_leave g.M.MetaDisk.moment g.M.MetaDisk.left_since g.met.M.MetaDisk.only_now c.args.calls.now c.args.self.now c.requires.rests c.requires.order; quiet = refl }
+
+pub make-requires : goal.make-requires
+make-requires g c =
+    is_ready g.M.MetaDisk.seen g.M.MetaDisk.may_leave g.M.MetaDisk.moment g.M.MetaDisk.left_since c.args.calls.now c.loop-done.done c.args.self.now c.loop-done.self c.loop-done.invariant.going c.index-calls-done.result c.index-calls-done.is c.loop-done-test.true
+
+pub returns-in-Err-clause-at : goal.returns-in-Err-clause-at
+returns-in-Err-clause-at g c =
+    refused_holds _ (c.make.new.self ≡ c.loop-done.self) c.in-Err.error c.in-Err.ensures.refused
+    (λ same. subst (λ (m : Meta g.row.M.Denot). IsAt g.M.MetaDisk.seen g.M.MetaDisk.may_leave (place_behind AtRest (take c.loop-done.done c.args.calls.now)) m) (sym same) (is_at g.M.MetaDisk.seen g.M.MetaDisk.may_leave g.M.MetaDisk.moment g.M.MetaDisk.left_since c.args.calls.now c.loop-done.done c.args.self.now c.loop-done.self c.loop-done.invariant.going))
+
+pub returns-in-Err-clause-found : goal.returns-in-Err-clause-found
+returns-in-Err-clause-found g c =
+    refused_holds _ (c.make.new.self ≡ c.loop-done.self) c.in-Err.error c.in-Err.ensures.refused
+    (λ same. ap (found g.M.MetaDisk.seen) same ∙ stands_now g.M.MetaDisk.seen g.M.MetaDisk.may_leave g.M.MetaDisk.moment g.M.MetaDisk.left_since c.args.calls.now c.loop-done.done c.args.self.now c.loop-done.self c.loop-done.invariant.going)
+
+pub returns-in-Err-clause-durable : goal.returns-in-Err-clause-durable
+returns-in-Err-clause-durable g c =
+    refused_holds _ (c.make.new.self ≡ c.loop-done.self) c.in-Err.error c.in-Err.ensures.refused
+    (λ same r may. leaves_now g.M.MetaDisk.seen g.M.MetaDisk.may_leave g.M.MetaDisk.moment g.M.MetaDisk.left_since c.args.calls.now c.loop-done.done c.args.self.now c.loop-done.self c.loop-done.invariant.going r
+    (subst (λ (m : Meta g.row.M.Denot). g.M.MetaDisk.may_leave m.disk r) same may))
+
+pub returns-in-Err-clause-crash : goal.returns-in-Err-clause-crash
+returns-in-Err-clause-crash g c =
+    leaves_either g.M.MetaDisk.seen g.M.MetaDisk.may_leave g.M.MetaDisk.moment g.M.MetaDisk.left_since c.args.calls.now c.loop-done.done c.args.self.now c.loop-done.self c.loop-done.invariant.going c.index-calls-done.result c.index-calls-done.is c.loop-done-test.true
+    g.met.M.MetaDisk.counts_now c.make.new.self.disk c.make.ensures.any_moment
+
+pub returns-in-Err-clause-any_moment : goal.returns-in-Err-clause-any_moment
+returns-in-Err-clause-any_moment g c =
+    moments_more g.M.MetaDisk.seen g.M.MetaDisk.may_leave g.M.MetaDisk.moment g.M.MetaDisk.left_since c.args.calls.now c.loop-done.done c.args.self.now c.loop-done.self c.loop-done.invariant.going c.index-calls-done.result c.index-calls-done.is c.loop-done-test.true
+    c.make.new.self.disk c.make.ensures.any_moment
+
+pub returns-in-Err-clause-failed : goal.returns-in-Err-clause-failed
+returns-in-Err-clause-failed g c =
+    λ is. subst (λ (n : ℕ). HasRisen n (g.M.MetaDisk.fault_count c.make.new.self.disk)) c.loop-done.invariant.quiet (c.in-Err.ensures.failed is)
+
+pub loop-done-preserved : goal.loop-done-preserved
+loop-done-preserved g c =
+    record {
+      going = going_on g.M.MetaDisk.seen g.M.MetaDisk.may_leave g.M.MetaDisk.moment g.M.MetaDisk.left_since c.args.calls.now c.loop-done.done c.args.self.now c.loop-done.self c.loop-done.invariant.going c.index-calls-done.result c.index-calls-done.is c.loop-done-test.true c.make.new.self c.in-Ok.ensures.made c.make.ensures.any_moment;
+      quiet = c.in-Ok.ensures.quiet ∙ c.loop-done.invariant.quiet;
+    }
+
+pub returns-clause-at : goal.returns-clause-at
+returns-clause-at g c =
+    subst (λ (z : List Call). IsAt g.M.MetaDisk.seen g.M.MetaDisk.may_leave (place_behind AtRest z) c.loop-done.self)
+    (whole g.M.MetaDisk.seen g.M.MetaDisk.may_leave g.M.MetaDisk.moment g.M.MetaDisk.left_since c.args.calls.now c.loop-done.done c.args.self.now c.loop-done.self c.loop-done.invariant.going (length c.args.calls.now) c.loop-done-test.false (omega arith)) (is_at g.M.MetaDisk.seen g.M.MetaDisk.may_leave g.M.MetaDisk.moment g.M.MetaDisk.left_since c.args.calls.now c.loop-done.done c.args.self.now c.loop-done.self c.loop-done.invariant.going)
+
+pub returns-clause-found : goal.returns-clause-found
+returns-clause-found g c =
+    stands_now g.M.MetaDisk.seen g.M.MetaDisk.may_leave g.M.MetaDisk.moment g.M.MetaDisk.left_since c.args.calls.now c.loop-done.done c.args.self.now c.loop-done.self c.loop-done.invariant.going
+    ∙ ap (stands (found g.M.MetaDisk.seen c.args.self.now)) (whole g.M.MetaDisk.seen g.M.MetaDisk.may_leave g.M.MetaDisk.moment g.M.MetaDisk.left_since c.args.calls.now c.loop-done.done c.args.self.now c.loop-done.self c.loop-done.invariant.going (length c.args.calls.now) c.loop-done-test.false (omega arith))
+
+pub returns-clause-durable : goal.returns-clause-durable
+returns-clause-durable g c =
+    λ r may. leaves_now g.M.MetaDisk.seen g.M.MetaDisk.may_leave g.M.MetaDisk.moment g.M.MetaDisk.left_since c.args.calls.now c.loop-done.done c.args.self.now c.loop-done.self c.loop-done.invariant.going r may
+    ∙ ap (stands (found g.M.MetaDisk.seen c.args.self.now)) (whole g.M.MetaDisk.seen g.M.MetaDisk.may_leave g.M.MetaDisk.moment g.M.MetaDisk.left_since c.args.calls.now c.loop-done.done c.args.self.now c.loop-done.self c.loop-done.invariant.going (length c.args.calls.now) c.loop-done-test.false (omega arith))
+
+pub returns-clause-crash : goal.returns-clause-crash
+returns-clause-crash g c =
+    λ r may. inl (leaves_now g.M.MetaDisk.seen g.M.MetaDisk.may_leave g.M.MetaDisk.moment g.M.MetaDisk.left_since c.args.calls.now c.loop-done.done c.args.self.now c.loop-done.self c.loop-done.invariant.going r may
+    ∙ ap (stands (found g.M.MetaDisk.seen c.args.self.now)) (whole g.M.MetaDisk.seen g.M.MetaDisk.may_leave g.M.MetaDisk.moment g.M.MetaDisk.left_since c.args.calls.now c.loop-done.done c.args.self.now c.loop-done.self c.loop-done.invariant.going (length c.args.calls.now) c.loop-done-test.false (omega arith)))
+
+pub returns-clause-any_moment : goal.returns-clause-any_moment
+returns-clause-any_moment g c =
+    subst (λ (z : List Call). LeavesOnly g.M.MetaDisk.moment g.M.MetaDisk.left_since c.args.self.now.disk c.loop-done.self.disk (LeavesFront (found g.M.MetaDisk.seen c.args.self.now) z))
+    (whole g.M.MetaDisk.seen g.M.MetaDisk.may_leave g.M.MetaDisk.moment g.M.MetaDisk.left_since c.args.calls.now c.loop-done.done c.args.self.now c.loop-done.self c.loop-done.invariant.going (length c.args.calls.now + 1) c.loop-done-test.false (omega arith)) c.loop-done.invariant.going.moments
