@@ -1,14 +1,14 @@
 -- A command leads on, and so do entries one after the other.
-use Rattle.std.proofs.Common.{◌≡◌, ℕ, suc, ◌+◌, ◌<◌, List, [], ◌∷◌, length, slice_index_or, sym, ◌∙◌, ap, subst, arith}
+use Rattle.std.proofs.Common.{◌≡◌, ℕ, suc, ◌+◌, ◌<◌, List, [], ◌∷◌, length, slice_index_or, refl, sym, ◌∙◌, ap, subst, arith}
 use Rattle.fc_base.specs.declared.size.GrainSize.{GrainSize}
 use Rattle.fc_entry.specs.declared.entry.Entry.{Entry}
-use Rattle.fc_lane.specs.Lane.{LaneView, IsSameLane, KeepsQuiet}
+use Rattle.fc_lane.specs.Lane.{LaneView}
 use Rattle.fc_lanes.specs.AllLanes.{EachLane}
 use Rattle.fc_legal.specs.Legal.{AreSteps}
 use Rattle.fc_legal.specs.Steps.{Step}
-use Rattle.fc_legal.specs.Whole.{Whole, lanes}
+use Rattle.fc_legal.specs.Whole.{Whole}
 use Rattle.fc_stands.specs.Store.{AreLanesOf, StandsFor, StoreView}
-use Rattle.fc_shares.specs.Law.{AllLead, HaveShares, LeadOn, numbered}
+use Rattle.fc_shares.specs.Law.{AllLead, HaveShares, KeepsLane, LeadOn, numbered}
 use Rattle.fc_shares.specs.Situation.{Situation, HasLane}
 use Rattle.fc_shares.proofs.Lanes.{quiet_on, same_on}
 
@@ -19,7 +19,7 @@ module _ (first s : Situation) (openings : List LaneView) (old new : StoreView) 
     (step : Step s.grain s.whole (record entry { number = s.whole.entries }) next)
     (counted : next.entries ≡ s.whole.entries + 1) (actors : next.actors ≡ s.whole.actors) (volumes : next.books.tables.volumes ≡ s.whole.books.tables.volumes)
     (stands : StandsFor new next) (grain : new.control.grain ≡ old.control.grain)
-    (same : EachLane IsSameLane old.lanes new.lanes) (quiet : EachLane KeepsQuiet old.lanes new.lanes) where
+    (keeps : EachLane KeepsLane old.lanes new.lanes) where
   lanes_next : AreLanesOf s.grain next new.lanes
   lanes_next =
       let P : GrainSize → Type 0 = λ size. AreLanesOf size next new.lanes in
@@ -27,7 +27,7 @@ module _ (first s : Situation) (openings : List LaneView) (old new : StoreView) 
 
   each_next : (i : ℕ) (d : LaneView) → i < length new.lanes → HasLane (record { grain = s.grain; whole = next }) i (slice_index_or openings i d) (slice_index_or new.lanes i d)
   each_next i d inside =
-      let before : i < length old.lanes = omega (arith, inside, same.count) in
+      let before : i < length old.lanes = omega (arith, inside, keeps.count) in
       let opening : LaneView = slice_index_or openings i d in
       let then : LaneView = slice_index_or old.lanes i d in
       let now : LaneView = slice_index_or new.lanes i d in
@@ -35,8 +35,8 @@ module _ (first s : Situation) (openings : List LaneView) (old new : StoreView) 
       record {
         within = omega (arith, inside, stands.count);
         stands = lanes_next i d inside;
-        same = same_on opening then now had.same (same.each i d before);
-        quiet = quiet_on opening then now had.quiet (quiet.each i d before);
+        same = same_on opening then now had.same (keeps.each i d before).0;
+        quiet = quiet_on opening then now had.quiet (keeps.each i d before).1;
       }
 
   pub command : AllLead first s openings new entry
@@ -47,7 +47,7 @@ module _ (first s : Situation) (openings : List LaneView) (old new : StoreView) 
     shares = record {
       sound = record {
         grain = shares.sound.grain;
-        lanes_are = sym stands.count ∙ same.count ∙ shares.count ∙ shares.sound.lanes_are;
+        lanes_are = sym stands.count ∙ keeps.count ∙ shares.count ∙ shares.sound.lanes_are;
         actors = actors ∙ shares.sound.actors;
         volumes = volumes ∙ shares.sound.volumes;
         decisions = stands.decisions;

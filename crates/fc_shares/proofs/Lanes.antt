@@ -1,8 +1,7 @@
 -- Shares of lanes, as the lanes go on.
-use Rattle.std.proofs.Common.{ℕ, ◌≡◌, refl, ◌∙◌}
+use Rattle.std.proofs.Common.{ℕ, ◌≡◌, refl, ◌∙◌, sym, subst}
 use Rattle.fc_lane.specs.Lane.{LaneView, IsSameLane, KeepsQuiet, of}
-use Rattle.fc_lanes.specs.AllLanes.{IsLaneReady}
-use Rattle.fc_legal.specs.Whole.{lane_at}
+use Rattle.fc_legal.specs.Whole.{lanes, lane_at}
 use Rattle.fc_stands.proofs.Turning.{same_lane}
 use Rattle.fc_shares.specs.Situation.{Situation, HasLane}
 
@@ -34,16 +33,26 @@ quiet_on u v w first then quiet =
 pub place : (s : Situation) (i : ℕ) (opening v : LaneView) → HasLane s i opening v → of v ≡ lane_at s.grain s.whole i
 place s i opening v share = same_lane s.grain s.whole i v share.stands
 
+pub count : (s : Situation) (i : ℕ) (opening v : LaneView) → HasLane s i opening v → lanes s.whole ≡ opening.lanes
+count s i opening v share = sym share.stands.lanes_are ∙ share.same.lanes
+
 -- Room that is made in it takes nothing from its share.
-pub ready : (s : Situation) (i : ℕ) (opening old new : LaneView) → HasLane s i opening old → IsLaneReady old new → HasLane s i opening new
-ready s i opening old new share made = record {
-  within = share.within;
-  stands = record {
-    lane = made.same.lane ∙ share.stands.lane;
-    lanes_are = made.same.lanes ∙ share.stands.lanes_are;
-    grain_is = made.same.grain ∙ share.stands.grain_is;
-    stands = made.stands _ share.stands.stands;
-  };
-  same = same_on opening old new share.same made.same;
-  quiet = quiet_on opening old new share.quiet made.quiet;
-}
+roomy : (s : Situation) (i : ℕ) (opening v : LaneView) (plan entry : ℕ) → HasLane s i opening v → HasLane s i opening (record v { plan_room = plan; entry_room = entry })
+roomy s i opening v plan entry share =
+    let follows = share.stands.stands in
+    record {
+      within = share.within;
+      stands = record {
+        lane = share.stands.lane;
+        lanes_are = share.stands.lanes_are;
+        grain_is = share.stands.grain_is;
+        stands = record { lane = record { parts = follows.lane.parts; faults = follows.lane.faults; calls = follows.lane.calls }; rows = follows.rows; alike = follows.alike };
+      };
+      same = record { lane = share.same.lane; lanes = share.same.lanes; grain = share.same.grain; disks = share.same.disks; silent = share.same.silent };
+      quiet = share.quiet;
+    }
+
+pub ready : (s : Situation) (i : ℕ) (opening old new : LaneView) → HasLane s i opening old → new ≡ record old { plan_room = new.plan_room; entry_room = new.entry_room } → HasLane s i opening new
+ready s i opening old new share made =
+    let P : LaneView → Type 0 = λ v. HasLane s i opening v in
+    subst P (sym made) (roomy s i opening old new.plan_room new.entry_room share)

@@ -2,7 +2,7 @@
 use Rattle.fc_shares.specs.Law.{ShareLaw}
 use Rattle.fc_shares.proofs.Asked.{fits, in_volume, of_lane, refused}
 use Rattle.fc_shares.proofs.Commands.{command, steps}
-use Rattle.fc_shares.proofs.Lanes.{place, ready}
+use Rattle.fc_shares.proofs.Lanes.{count, place, ready}
 use Rattle.fc_shares.proofs.Leading.{apart, lane}
 use Rattle.fc_shares.proofs.Openings.{closing, opening}
 
@@ -12,9 +12,10 @@ share_law_holds = record {
   closing = closing;
   lane = λ first s i opening old new entry sound share of inside right now same quiet few. lane first s i opening old new entry sound share of inside right now same quiet few;
   apart = apart;
-  command = λ first s openings old new entry next shares step counted actors volumes stands grain same quiet. command first s openings old new entry next shares step counted actors volumes stands grain same quiet;
+  command = λ first s openings old new entry next shares step counted actors volumes stands grain keeps. command first s openings old new entry next shares step counted actors volumes stands grain keeps;
   steps = steps;
   place = place;
+  count = count;
   ready = ready;
   of_lane = λ first s i request sound asked. of_lane first s sound i request asked;
   in_volume = λ first s request sound inside. in_volume first s sound request inside;

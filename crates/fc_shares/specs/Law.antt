@@ -10,7 +10,7 @@ use Rattle.fc_entry.specs.Picture.{grain_of_block}
 use Rattle.fc_entry.specs.declared.entry.Entry.{Entry}
 use Rattle.fc_follow.specs.Following.{followed_entry}
 use Rattle.fc_lane.specs.Lane.{LaneView, IsFollowing, IsSameLane, KeepsQuiet, of}
-use Rattle.fc_lanes.specs.AllLanes.{EachLane, IsLaneReady}
+use Rattle.fc_lanes.specs.AllLanes.{EachLane}
 use Rattle.fc_legal.specs.Legal.{AreSteps}
 use Rattle.fc_legal.specs.Steps.{IsInside, Step}
 use Rattle.fc_legal.specs.Whole.{Whole, lanes, lane_of_grain, lane_at, part_at, followed_at}
@@ -62,6 +62,10 @@ pub record ApartLeads (first s : Situation) (entry : Entry) : Type 0 where
 abbrev pub refused_entry : ℕ → Request → Refusal → Entry
 refused_entry actor request refusal = record (entry_apart 0 UnderControl request (Refused refusal) []) { actor = actor }
 
+-- A lane stays the lane that it is, and none of its disks fails where none could.
+abbrev pub KeepsLane : LaneView → LaneView → Type 0
+KeepsLane old new = IsSameLane old new × KeepsQuiet old new
+
 -- A command's entry leads on, and all parts as they now are have their shares of what comes next.
 pub record AllLead (first s : Situation) (openings : List LaneView) (store : StoreView) (entry : Entry) : Type 0 where
   pub next : Situation
@@ -98,14 +102,17 @@ pub record ShareLaw : Type 0 where
   pub command : (first s : Situation) (openings : List LaneView) (old new : StoreView) (entry : Entry) (next : Whole) → HaveShares first s openings old →
       Step s.grain s.whole (record entry { number = s.whole.entries }) next →
       next.entries ≡ s.whole.entries + 1 → next.actors ≡ s.whole.actors → next.books.tables.volumes ≡ s.whole.books.tables.volumes →
-      StandsFor new next → new.control.grain ≡ old.control.grain → EachLane IsSameLane old.lanes new.lanes → EachLane KeepsQuiet old.lanes new.lanes →
+      StandsFor new next → new.control.grain ≡ old.control.grain → EachLane KeepsLane old.lanes new.lanes →
       AllLead first s openings new entry
   -- entries that lead on are steps of the history, by their numbers
   pub steps : (s last : Situation) (n : ℕ) (entries : List Entry) → LeadOn s n entries last →
       AreSteps s.grain s.whole (numbered n entries) last.whole
-  -- a lane that has its share is the one at its place, and has it still once room was made in it
+  -- a lane that has its share is the one at its place, of as many as it told when it began, and has it still once room was made
+  -- in it
   pub place : (s : Situation) (i : ℕ) (opening v : LaneView) → HasLane s i opening v → of v ≡ lane_at s.grain s.whole i
-  pub ready : (s : Situation) (i : ℕ) (opening old new : LaneView) → HasLane s i opening old → IsLaneReady old new → HasLane s i opening new
+  pub count : (s : Situation) (i : ℕ) (opening v : LaneView) → HasLane s i opening v → lanes s.whole ≡ opening.lanes
+  pub ready : (s : Situation) (i : ℕ) (opening old new : LaneView) → HasLane s i opening old →
+      new ≡ record old { plan_room = new.plan_room; entry_room = new.entry_room } → HasLane s i opening new
   -- what was of a lane, inside its volume or refused by what was told first, is so whatever entries came since
   pub of_lane : (first s : Situation) (i : ℕ) (request : Request) → IsSound first s →
       IsOfLane first.grain first.whole i request → IsOfLane s.grain s.whole i request

@@ -5,7 +5,7 @@ use Rattle.fc_follow.specs.Following.{Followed}
 use Rattle.fc_lane.specs.Lane.{LaneView, IsFollowing}
 use Rattle.fc_legal.specs.Stands.{Stands}
 use Rattle.fc_legal.specs.Steps.{one_more}
-use Rattle.fc_legal.specs.Whole.{Whole, followed_at}
+use Rattle.fc_legal.specs.Whole.{Whole, part_at, followed_at}
 use Rattle.fc_stands.specs.Store.{IsLaneAt, AreFewCalls}
 
 same_part : (grain : GrainSize) (w : Whole) (i : ℕ) → followed_at grain (one_more w) i ≡ followed_at grain w i
