@@ -75,10 +75,13 @@ module _ (first s : Situation) (sound : IsSound first s) where
 
   -- ---- its refusal
 
-  access_stays : (volume : Ref) (block count : ℕ) → access_refused s.grain s.whole.books volume block count ≡ access_refused first.grain first.whole.books volume block count
+  -- an access is refused by its volume, as the table has it, and by the grain size
+  access_stays : (volume : Ref) (block count : ℕ) →
+      access_refused s.grain s.whole.books volume block count ≡ access_refused first.grain first.whole.books volume block count
   access_stays volume block count =
-      ap (λ (volumes : List Volume). of_one Vdisk (find (λ (v : Volume). refers_to volume v.id.0 v.name) volumes) (λ (v : Volume). blocks_refusal s.grain v block count)) sound.volumes
-      ∙ ap (λ (grain : GrainSize). of_one Vdisk (find (λ (v : Volume). refers_to volume v.id.0 v.name) first.whole.books.tables.volumes) (λ (v : Volume). blocks_refusal grain v block count)) sound.grain
+      let refusal : GrainSize → List Volume → Option Refusal = λ grain volumes.
+      of_one Vdisk (find (λ (v : Volume). refers_to volume v.id.0 v.name) volumes) (λ (v : Volume). blocks_refusal grain v block count) in
+      ap (refusal s.grain) sound.volumes ∙ ap (λ grain. refusal grain first.whole.books.tables.volumes) sound.grain
 
   pub refused : (request : Request) (refusal : Refusal) → IsRefusalOf first.grain first.whole request refusal → IsRefusalOf s.grain s.whole request refusal
   refused (Asked (command.Read volume block count)) refusal is = access_stays volume block count ∙ is

@@ -10,9 +10,9 @@ pub share_law_holds : ShareLaw
 share_law_holds = record {
   opening = opening;
   closing = closing;
-  lane = λ first s i opening old new entry sound share of inside right now same quiet few. lane first s i opening old new entry sound share of inside right now same quiet few;
+  lane = lane;
   apart = apart;
-  command = λ first s openings old new entry next shares step counted actors volumes stands grain keeps. command first s openings old new entry next shares step counted actors volumes stands grain keeps;
+  command = command;
   steps = steps;
   place = place;
   count = count;
