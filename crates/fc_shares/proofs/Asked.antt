@@ -1,5 +1,5 @@
 -- What an actor is to ask doesn't go by the entries that came since: a block's volumes, lanes and grain size stay.
-use Rattle.std.proofs.Common.{◌≡◌, ℕ, ◌%◌, List, Option, Some, find, Contains, sym, ◌∙◌, ap, subst}
+use Rattle.std.proofs.Common.{◌≡◌, ℕ, ◌%◌, List, Option, find, Contains, sym, ◌∙◌, ap, subst}
 use Rattle.fc_base.specs.Tables.{refers_to}
 use Rattle.fc_base.specs.declared.command.Command.TheVariants as command
 use Rattle.fc_base.specs.declared.fault.Kind.TheVariants.{Vdisk}
@@ -7,7 +7,7 @@ use Rattle.fc_base.specs.declared.fault.Refusal.{Refusal}
 use Rattle.fc_base.specs.declared.ids.VolId.{VolId}
 use Rattle.fc_base.specs.declared.name.Ref.{Ref}
 use Rattle.fc_base.specs.declared.request.Request.{Request}
-use Rattle.fc_base.specs.declared.request.Request.TheVariants.{Command as Asked, Unread, Read, Write, Copy, Clean, CopyTurn, CleanTurn}
+use Rattle.fc_base.specs.declared.request.Request.TheVariants.{Command as Asked, Unread, Read, Write, CopyTurn, CleanTurn}
 use Rattle.fc_base.specs.declared.size.GrainSize.{GrainSize}
 use Rattle.fc_base.specs.declared.volume.Volume.{Volume}
 use Rattle.fc_books.specs.Refused.{access_refused, of_one}

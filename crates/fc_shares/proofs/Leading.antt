@@ -1,5 +1,5 @@
 -- An entry of a lane, or of no lane, leads on to a situation in which all parts have their shares.
-use Rattle.std.proofs.Common.{◌≡◌, ◌≢◌, ℕ, ◌+◌, ◌^◌, ◌<◌, ◌≤◌, refl, ◌∙◌, sym, subst, arith}
+use Rattle.std.proofs.Common.{◌≡◌, ◌≢◌, ℕ, ◌^◌, ◌<◌, ◌≤◌, refl, ◌∙◌, sym, subst, arith}
 use Rattle.fc_base.specs.declared.fault.Refusal.{Refusal}
 use Rattle.fc_base.specs.declared.request.Request.{Request}
 use Rattle.fc_desk.specs.Control.{ControlState}
@@ -7,13 +7,12 @@ use Rattle.fc_entry.specs.declared.entry.Entry.{Entry}
 use Rattle.fc_follow.specs.Following.{followed_entry}
 use Rattle.fc_lane.specs.Lane.{LaneView, IsFollowing, IsSameLane, KeepsQuiet}
 use Rattle.fc_legal.specs.Steps.{after_access, one_more}
-use Rattle.fc_legal.specs.Whole.{Whole, lanes, lane_at, part_at, followed_at}
+use Rattle.fc_legal.specs.Whole.{lanes, lane_at, part_at, followed_at}
 use Rattle.fc_parts.specs.Law.{IsInVolume, IsOfLane}
 use Rattle.fc_parts.proofs.Lawful.{part_law_holds}
 use Rattle.fc_parts.proofs.Marked.{right_marked}
 use Rattle.fc_rules.specs.LaneRight.{IsRightInLane}
 use Rattle.fc_stands.specs.Apart.{IsRefusalOf}
-use Rattle.fc_stands.specs.Store.{IsControlOf}
 use Rattle.fc_stands.proofs.Accessing.{access_step, few_stay, lane_stands, lanes_stay, other_stands}
 use Rattle.fc_stands.proofs.OneMore.{lane_still, still_few, still_stands}
 use Rattle.fc_stands.proofs.Turning.{by_request}

@@ -1,5 +1,5 @@
 -- A store that is taken apart, and put together again.
-use Rattle.std.proofs.Common.{ℕ, ◌≡◌, ◌<◌, length, slice_index_or, List, refl, sym, subst, arith}
+use Rattle.std.proofs.Common.{slice_index_or, List, refl, sym, subst, arith}
 use Rattle.fc_base.specs.declared.size.GrainSize.{GrainSize}
 use Rattle.fc_lane.specs.Lane.{LaneView}
 use Rattle.fc_legal.specs.Whole.{Whole}

@@ -14,7 +14,7 @@ use Rattle.fc_lane.specs.Lane.{LaneView, IsFollowing, of}
 use Rattle.fc_legal.specs.Lawful.{IsLawful}
 use Rattle.fc_legal.specs.Stands.{Stands}
 use Rattle.fc_legal.specs.Steps.{left_by, one_more}
-use Rattle.fc_legal.specs.Whole.{Whole, lanes, lane_at, part_at, followed_at}
+use Rattle.fc_legal.specs.Whole.{Whole, lanes, lane_at, followed_at}
 use Rattle.fc_parts.proofs.Lawful.{part_law_holds}
 use Rattle.fc_pick.specs.declared.work.WorkFlags.{WorkFlags}
 use Rattle.fc_rules.specs.LaneTold.{LaneOf}
