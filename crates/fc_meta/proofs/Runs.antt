@@ -16,7 +16,7 @@ use Rattle.fc_meta.specs.declared.error.MetaError.TheVariants.{Failed, NoMemory,
 use Rattle.fc_meta.specs.declared.meta.Meta.{Meta}
 use Rattle.fc_meta.specs.Answers.{found_with, LeavesEither, more_calls}
 use Rattle.fc_meta.specs.States.{found, awaited, filled, IsResting, IsWaiting, IsCleared, IsFilled}
-use Rattle.fc_meta.specs.Order.{IsReadyFor, IsMade, coming, disk_calls, Place, AtRest, BatchNoted, OtherCleared, OtherFilled, behind, place_behind, Comes, AreInOrder, IsAt, stands, LeavesFront, UnlessFailed}
+use Rattle.fc_meta.specs.Order.{IsReadyFor, IsMade, coming, HasNoRoom, disk_calls, Place, AtRest, BatchNoted, OtherCleared, OtherFilled, behind, place_behind, Comes, AreInOrder, IsAt, stands, LeavesFront, UnlessFailed}
 use Rattle.fc_meta.proofs.Crash.{rests_found}
 use Rattle.fc_meta.proofs.Moments.{started, joined, weaker}
 
@@ -179,7 +179,7 @@ module _ {D : Type 0} (seen : D → List ℕ) (may_leave : D → List ℕ → Ty
     leaves_now c may = leaves_found seen may_leave g.begun now g.at c may ∙ stands_now
 
     module _ (call : Call) (is : call ≡ get_or calls done call) (there : done < length calls) where
-      split : drop done calls ≡ call ∷ drop (done + 1) calls
+      pub split : drop done calls ≡ call ∷ drop (done + 1) calls
       split = drop_more calls done call there ∙ ap (λ (z : Call). z ∷ drop (done + 1) calls) (sym is)
 
       longer : take (done + 1) calls ≡ take done calls ++ call ∷ []
@@ -265,3 +265,9 @@ refused_holds P Q NoMemory (inl no_) same = cc
 refused_holds P Q NoMemory (inr q) same = same q
 refused_holds P Q Full (inl no_) same = cc
 refused_holds P Q Full (inr q) same = same q
+
+-- the call had no room, and nothing has changed
+pub full_same : {A D : Type 0} (seen : D → List ℕ) (call : Call) (old new : Meta D) (error : MetaError) → IsErrOf {T = A} (Err error) Failed ⊎ (new ≡ old)
+    → IsErrOf {T = A} (Err error) Full → HasNoRoom seen call old → HasNoRoom seen call new
+full_same seen call old new error (inl failed) full none = cc
+full_same seen call old new error (inr same) full none = subst (λ (m : Meta _). HasNoRoom seen call m) (sym same) none

@@ -1,7 +1,8 @@
 -- Calls of a writer, one after the other: in which order they come, and what stands behind them.
-use Rattle.std.specs.Prelude.{◌≡◌, ℕ, List, [], ◌∷◌, ◌++◌, Result, Ok, Err, ⊤}
+use Rattle.std.specs.Prelude.{◌≡◌, ◌<◌, ℕ, ◌+◌, List, [], ◌∷◌, ◌++◌, length, Result, Ok, Err, ⊤}
 use Rattle.fc_image.specs.declared.record.MetaRecord.{MetaRecord}
 use Rattle.fc_image.specs.declared.image.MetaImage.{MetaImage}
+use Rattle.fc_format.specs.Bytes.{batch_bytes}
 use Rattle.fc_format.specs.Ranges.{HasGoodIds}
 use Rattle.fc_format.specs.Halves.{Found, Image, recovered}
 use Rattle.fc_meta.specs.declared.series.Call.{Call}
@@ -9,8 +10,8 @@ use Rattle.fc_meta.specs.declared.series.Call.TheVariants.{Note, Sync, ClearOthe
 use Rattle.fc_meta.specs.declared.error.MetaError.{MetaError}
 use Rattle.fc_meta.specs.declared.error.MetaError.TheVariants.{Failed, NoMemory, Full}
 use Rattle.fc_meta.specs.declared.meta.Meta.{Meta}
-use Rattle.fc_meta.specs.Answers.{found_with}
-use Rattle.fc_meta.specs.States.{found, awaited, filled, IsResting, IsWaiting, IsCleared, IsFilled}
+use Rattle.fc_meta.specs.Answers.{found_with, PassesHalf}
+use Rattle.fc_meta.specs.States.{generation_of, used_of, room_of, found, awaited, filled, IsResting, IsWaiting, IsCleared, IsFilled}
 
 -- ---- One call
 
@@ -40,6 +41,27 @@ module _ {D : Type 0} (seen : D → List ℕ) where
   coming ClearOther meta = found seen meta
   coming (FillOther image) meta = found seen meta
   coming Turn meta = filled seen meta
+
+  -- its bytes pass the half, or its generation passes the last one
+  abbrev pub HasNoRoom : Call → Meta D → Type 0
+  HasNoRoom (Note records) meta = room_of seen meta < used_of meta + 1 + length (batch_bytes records)
+  HasNoRoom Sync meta = ⊥
+  HasNoRoom ClearOther meta = ⊥
+  HasNoRoom (FillOther image) meta = PassesHalf (generation_of meta) image (room_of seen meta)
+  HasNoRoom Turn meta = ⊥
+
+-- it takes memory
+abbrev pub TakesMemory : Call → Type 0
+TakesMemory (Note records) = ⊤
+TakesMemory Sync = ⊥
+TakesMemory ClearOther = ⊥
+TakesMemory (FillOther image) = ⊤
+TakesMemory Turn = ⊥
+
+-- the first of these calls has it
+abbrev pub First : (Call → Type 0) → List Call → Type 0
+First P [] = ⊥
+First P (call ∷ calls) = P call
 
 -- how many calls of the disk it makes
 abbrev pub disk_calls : Call → ℕ

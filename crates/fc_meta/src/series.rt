@@ -1,12 +1,12 @@
 //! Calls one after the other.
 
-ghost use Rattle.std.specs.Prelude.{◌≡◌, ◌⊎◌, ◌≤◌, ◌<◌, ◌+◌, List, ℕ, length, take, true, false, is_err, OnOk, OnErr, IsErrOf};
+ghost use Rattle.std.specs.Prelude.{◌≡◌, ◌⊎◌, ◌≤◌, ◌<◌, ◌+◌, List, ℕ, length, take, drop, true, false, is_err, OnOk, OnErr, IsErrOf};
 ghost use Rattle.std.specs.List.{sum_by};
 ghost use Rattle.fc_base.specs.Count.{HasRisen};
 ghost use Rattle.fc_metadisk.specs.Disk.{LeavesOnly};
 ghost use Rattle.fc_meta.specs.Answers.{LeavesEither, LeavesFound, more_calls, IsStopped};
 ghost use Rattle.fc_meta.specs.States.{disk_of, found, IsResting};
-ghost use Rattle.fc_meta.specs.Order.{AtRest, IsReadyFor, IsMade, coming, disk_calls, AreInOrder, IsAt, place_behind, stands, LeavesFront, UnlessFailed};
+ghost use Rattle.fc_meta.specs.Order.{AtRest, IsReadyFor, IsMade, coming, HasNoRoom, TakesMemory, First, disk_calls, AreInOrder, IsAt, place_behind, stands, LeavesFront, UnlessFailed};
 
 use crate::error::MetaError;
 use crate::meta::Meta;
@@ -36,6 +36,8 @@ impl<M: MetaDisk> Meta<M> {
         requires { IsReadyFor M.seen M.may_leave call.now self.old }
         ensures made { OnOk result (IsMade M.seen M.may_leave call.now self.old self.new) }
         ensures refused { OnErr result (IsErrOf result MetaError.Failed ⊎ (self.new ≡ self.old)) }
+        ensures full { IsErrOf result MetaError.Full → HasNoRoom M.seen call.now self.old }
+        ensures no_memory { IsErrOf result MetaError.NoMemory → TakesMemory call.now }
         ensures any_moment { LeavesOnly M.moment M.left_since (disk_of self.old) (disk_of self.new)
             (LeavesEither (found M.seen self.old) (coming M.seen call.now self.old)) }
         ensures failed { IsErrOf result MetaError.Failed → HasRisen
@@ -66,6 +68,10 @@ impl<M: MetaDisk> Meta<M> {
         requires order { AreInOrder AtRest calls.now }
         ensures all { OnOk result.1 (result.0 ≡ length calls.now) }
         ensures part { OnErr result.1 (result.0 < length calls.now) }
+        ensures full { IsErrOf result.1 MetaError.Full →
+            First (λ call. HasNoRoom M.seen call self.new) (drop result.0 calls.now) }
+        ensures no_memory { IsErrOf result.1 MetaError.NoMemory →
+            First TakesMemory (drop result.0 calls.now) }
         ensures at { UnlessFailed result.1
             (IsAt M.seen M.may_leave (place_behind AtRest (take result.0 calls.now)) self.new) }
         ensures found { UnlessFailed result.1

@@ -6,8 +6,8 @@ use Rattle.fc_meta.specs.declared.series.Call.{Call}
 use Rattle.fc_meta.specs.declared.meta.Meta.{Meta}
 use Rattle.fc_meta.specs.States.{found}
 use Rattle.fc_meta.specs.Answers.{more_calls}
-use Rattle.fc_meta.specs.Order.{AtRest, disk_calls, IsAt, place_behind, stands, LeavesFront}
-use Rattle.fc_meta.proofs.Runs.{going, stands_now, is_at, leaves_now, is_ready, leaves_either, moments_more, going_on, whole, counted_on, refused_holds}
+use Rattle.fc_meta.specs.Order.{AtRest, HasNoRoom, TakesMemory, First, disk_calls, IsAt, place_behind, stands, LeavesFront}
+use Rattle.fc_meta.proofs.Runs.{going, stands_now, is_at, leaves_now, split, is_ready, leaves_either, moments_more, going_on, whole, counted_on, refused_holds, full_same}
 use Rattle.fc_meta.proofs.meta.Meta.make_all.Goals as goal
 
 pub loop-done-init : goal.loop-done-init
@@ -92,3 +92,13 @@ returns-clause-calls g c =
     c.loop-done.invariant.calls
     ∙ ap (λ (z : List Call). more_calls (sum_by disk_calls z) (g.M.MetaDisk.calls c.args.self.now.disk))
     (whole g.M.MetaDisk.seen g.M.MetaDisk.may_leave g.M.MetaDisk.moment g.M.MetaDisk.left_since c.args.calls.now c.loop-done.done c.args.self.now c.loop-done.self c.loop-done.invariant.going (length c.args.calls.now) c.loop-done-test.false (omega arith))
+
+pub returns-in-Err-clause-full : goal.returns-in-Err-clause-full
+returns-in-Err-clause-full g c is =
+    subst (λ (z : List Call). First (λ (call : Call). HasNoRoom g.M.MetaDisk.seen call c.make.new.self) z) (sym (split g.M.MetaDisk.seen g.M.MetaDisk.may_leave g.M.MetaDisk.moment g.M.MetaDisk.left_since c.args.calls.now c.loop-done.done c.args.self.now c.loop-done.self c.loop-done.invariant.going c.index-calls-done.result c.index-calls-done.is c.loop-done-test.true))
+    (full_same g.M.MetaDisk.seen c.index-calls-done.result c.loop-done.self c.make.new.self c.in-Err.error c.in-Err.ensures.refused is (c.in-Err.ensures.full is))
+
+pub returns-in-Err-clause-no_memory : goal.returns-in-Err-clause-no_memory
+returns-in-Err-clause-no_memory g c is =
+    subst (First TakesMemory) (sym (split g.M.MetaDisk.seen g.M.MetaDisk.may_leave g.M.MetaDisk.moment g.M.MetaDisk.left_since c.args.calls.now c.loop-done.done c.args.self.now c.loop-done.self c.loop-done.invariant.going c.index-calls-done.result c.index-calls-done.is c.loop-done-test.true))
+    (c.in-Err.ensures.no_memory is)
