@@ -5,6 +5,7 @@
 #![tactic(auto)]
 
 mod advance;
+pub mod apart;
 mod chains;
 mod command;
 mod effects;

@@ -19,15 +19,15 @@ ghost use Rattle.fc_lanes.specs.Asking.{command_of, part_of};
 ghost use Rattle.fc_lanes.specs.Dealing.{disks_in};
 ghost use Rattle.fc_stands.specs.Store.{StandsFor};
 
-use crate::log::{entry_apart, is_full, log};
+use crate::apart::refused_entry;
+use crate::log::{is_full, log};
 use crate::store::Store;
 use fc_base::fault::{Kind, Refusal, ValueOf, WordFault};
 use fc_base::ids::VolId;
 use fc_base::limits::{MAX_BLOCKS, MAX_ENTRIES};
-use fc_base::list::List;
 use fc_base::name::Ref;
 use fc_base::outcome::NoMemory;
-use fc_base::request::{Place, Reply, Request};
+use fc_base::request::Request;
 use fc_base::size::GrainSize;
 use fc_base::volume::Volume;
 use fc_entry::history::History;
@@ -91,6 +91,7 @@ impl<D: Mdisk> Store<D> {
             self.alloc,
             lane,
             number,
+            0,
             access,
             volume,
             first,
@@ -151,16 +152,8 @@ impl<D: Mdisk> Store<D> {
         if is_full(history) {
             return Err(Stop::LogFull);
         }
-        let reply = Reply::Refused(refusal);
-        let effects = List::new(self.alloc);
-        let entry = entry_apart(
-            self.alloc,
-            history.len(),
-            Place::Control,
-            request,
-            reply,
-            effects,
-        );
+        let mut entry = refused_entry(self.alloc, 0, request, refusal);
+        entry.number = history.len() as u64;
         log(history, entry)
     }
 
