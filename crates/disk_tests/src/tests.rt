@@ -1,10 +1,10 @@
 //! What no clause says: that the calls succeed where there is memory, and that disks pass between threads.
 
-use crate::disks::Disks;
-use crate::fail::FailDisk;
-use crate::mdisk::Mdisk;
-use crate::mem::MemDisk;
-use crate::thin::ThinDisk;
+use fc_mdisk::disks::Disks;
+use fc_mdisk::fail::FailDisk;
+use fc_mdisk::mdisk::Mdisk;
+use fc_mdisk::mem::MemDisk;
+use fc_mdisk::thin::ThinDisk;
 use fc_base::disk::DiskError;
 use fc_base::outcome::Failed;
 use std::alloc::Global;

@@ -3,7 +3,7 @@ use Rattle.std.proofs.lemmas.List.{with_items_is}
 use Rattle.fc_mdisk.specs.Disk.{grain_at}
 use Rattle.fc_mdisk.specs.Cut.{cut}
 use Rattle.fc_mdisk.proofs.Cuts.{ends_in_buffer, length-grain, length-written, written_is}
-use Rattle.fc_mdisk.proofs.flat.FlatGrains.write.Goals as goal
+use Rattle.fc_mdisk.proofs.flat.FlatGrains.put.Goals as goal
 
 pub overflow_add-start : goal.overflow_add-start
 overflow_add-start c =

@@ -1,6 +1,6 @@
 use Rattle.std.proofs.Common.{ap, sym, ◌∙◌, arith, List, ℕ, slice_set, length}
 use Rattle.fc_mdisk.proofs.Reached.{grains_left, occupied_left, old_bytes, bytes_left, count_fits}
-use Rattle.fc_mdisk.proofs.thin_grains.ThinGrains.tear.Goals as goal
+use Rattle.fc_mdisk.proofs.thin_grains.ThinGrainsGrains.tear.Goals as goal
 
 pub overflow_add-self : goal.overflow_add-self
 overflow_add-self c =

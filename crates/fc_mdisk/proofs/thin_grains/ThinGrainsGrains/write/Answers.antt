@@ -1,6 +1,6 @@
 use Rattle.std.proofs.Common.{arith}
 use Rattle.fc_mdisk.proofs.Reached.{written_left, count_fits}
-use Rattle.fc_mdisk.proofs.thin_grains.ThinGrains.write.Goals as goal
+use Rattle.fc_mdisk.proofs.thin_grains.ThinGrainsGrains.write.Goals as goal
 
 pub overflow_add-self : goal.overflow_add-self
 overflow_add-self c =

@@ -1,6 +1,6 @@
 use Rattle.std.proofs.Common.{◌+◌, ◌*◌, ◌≤◌, length, sym, ap, ◌∙◌, arith, rules, refl}
 use Rattle.fc_mdisk.proofs.Cuts.{ends_in_buffer, part_is}
-use Rattle.fc_mdisk.proofs.flat.FlatGrains.read.Goals as goal
+use Rattle.fc_mdisk.proofs.flat.FlatGrainsGrains.read.Goals as goal
 
 pub slice_bounds-copy_from_slice-end : goal.slice_bounds-copy_from_slice-end
 slice_bounds-copy_from_slice-end c =
