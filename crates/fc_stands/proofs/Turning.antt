@@ -15,6 +15,7 @@ use Rattle.fc_entry.specs.Picture.{grain_of_block}
 use Rattle.fc_entry.specs.declared.entry.Entry.{Entry}
 use Rattle.fc_follow.specs.Following.{Followed}
 use Rattle.fc_lane.specs.Lane.{LaneView, IsFollowing, of}
+use Rattle.fc_legal.specs.Asked.{end_in, first_in}
 use Rattle.fc_legal.specs.Stands.{Stands}
 use Rattle.fc_legal.specs.Steps.{RequestStep, IsInside, IsRefused, AccessIsRefused, one_more}
 use Rattle.fc_legal.specs.Whole.{Whole, lanes, lane_of_grain, lane_at, part_at, followed_at}
@@ -37,7 +38,7 @@ pub record IsInGrain (grain : GrainSize) (first count g : ℕ) : Type 0 where
   pub fits : first % grain_blocks grain + count ≤ grain_blocks grain
   pub of_grain : grain_of_block grain first ≡ g
 
-pub in_grain :
+in_grain :
     (grain : GrainSize) (block count g width first end : ℕ) →
     width ≡ grain_blocks grain →
     first ≡ max block (g * width) →
@@ -54,6 +55,14 @@ in_grain K256 block count g width first end is_width is_first is_end some begins
     let starts : first ≡ max block (g * 512) = is_first ∙ ap (λ (n : ℕ). max block (g * n)) is_width in
     let stops : end ≡ min (block + count) ((g + 1) * 512) = is_end ∙ ap (λ (n : ℕ). min (block + count) ((g + 1) * n)) is_width in
     record { some = omega arith; fits = omega arith; of_grain = omega arith }
+
+-- As the store's grain size says it.
+pub is_in_grain : (grain size : GrainSize) (block count g first many : ℕ) → size ≡ grain → first ≡ first_in size block g → many ≡ end_in size (block + count) g - first → 0 < count →
+    block < (g + 1) * grain_blocks grain → g * grain_blocks grain < block + count → IsInGrain grain first many g
+is_in_grain grain size block count g first many same is_first is_many some begins ends =
+    let starts : first ≡ first_in grain block g = is_first ∙ ap (λ (s : GrainSize). first_in s block g) same in
+    let are : many ≡ end_in grain (block + count) g - first = is_many ∙ ap (λ (s : GrainSize). end_in s (block + count) g - first) same in
+    subst (λ (n : ℕ). IsInGrain grain first n g) (sym are) (in_grain grain block count g (grain_blocks grain) first (end_in grain (block + count) g) refl starts refl some begins ends)
 
 -- It is at that grain.
 pub at_grain : (grain : GrainSize) (access : Access) (volume : VolId) (first count g : ℕ) → grain_of_block grain first ≡ g →
