@@ -1,5 +1,5 @@
 -- What two actors made beside each other, on a closed example.
-use Rattle.std.proofs.Common.{◌≡◌, ℕ, ◌+◌, List, [], ◌∷◌, None, refl, arith}
+use Rattle.std.proofs.Common.{◌≡◌, ℕ, List, [], ◌∷◌, None, refl, arith}
 use Rattle.fc_base.specs.declared.request.Place.TheVariants.{Lane}
 use Rattle.fc_base.specs.declared.request.Reply.TheVariants.{Idle}
 use Rattle.fc_base.specs.declared.request.Request.TheVariants.{CopyTurn}
