@@ -9,7 +9,9 @@ use Rattle.std.proofs.lemmas.List.FromFn.{get_or-range_with_len, length-range_wi
 use Rattle.fc_entry.specs.declared.entry.Entry.{Entry}
 use Rattle.fc_merge.proofs.Left.{count-cons, count_at, left_numbered, left_own, one_at, taken_length}
 use Rattle.fc_merge.proofs.Steps.{Found, IsNotNext, find, none_left, nothing_left}
+use Rattle.fc_legal.specs.Scripts.{Script}
 use Rattle.fc_merge.specs.Merging.{AreNumbered, AreOwn, IsMerged, IsOwn, Own, all_of}
+use Rattle.fc_scripts.specs.Ways.{AreOfDifferent, numbers_of}
 use Rattle.fc_shares.specs.Law.{numbered}
 use Rattle.fc_yard.proofs.Places.{within}
 use Rattle.fc_yard.specs.Lists.{AllStand, bit, once_below, times}
@@ -136,6 +138,14 @@ are_own makings h = (
       (ap actor (sym (get_or-map own_of makings i a d (omega (arith, lt, j_in)))) ∙ same ∙ ap actor (get_or-map own_of makings j a d j_in)),
 )
 
+are_different : (makings : List Making) (scripts : List Script) → map (λ (m : Making). m.actor) makings ≡ numbers_of scripts → AreOfDifferent scripts →
+    AllPairs (λ (a b : Making). a.actor ≢ b.actor) makings
+are_different makings scripts is differ = λ i j d lt inside same.
+    let actor : Making → ℕ = λ m. m.actor in
+    let Differ : List ℕ → Type 0 = λ numbers. AllPairs (λ one other. one ≢ other) numbers in
+    subst Differ (sym is) differ i j d.actor lt (omega (arith, inside, length-map makings actor))
+    (get_or-map actor makings i d d.actor (omega (arith, lt, inside)) ∙ same ∙ sym (get_or-map actor makings j d d.actor inside))
+
 -- ---- how many there are
 
 length_numbered_lists : (c n : ℕ) (lists : List Own) → AreNumbered n c lists → AreOwn lists → length (all_of lists) ≡ c
@@ -185,6 +195,7 @@ merged_is first es merged makings h drawn m =
 
 pub merge_law_holds : MergeLaw
 merge_law_holds = record {
+  differ = are_different;
   own = are_own;
   numbers = λ first es makings drawn. are_numbered first es makings drawn;
   merged = merged_is;

@@ -1,6 +1,6 @@
 -- The law of what is done together: entries that were merged are those of all actors in the order of their numbers, and they are a
 -- way through the block.
-use Rattle.std.specs.Prelude.{◌≡◌, ℕ, ◌+◌, List, [], ◌∷◌, ◌++◌, length, map, Contains}
+use Rattle.std.specs.Prelude.{◌≡◌, ◌≢◌, ℕ, ◌+◌, List, [], ◌∷◌, ◌++◌, length, map, AllPairs, Contains}
 use Rattle.fc_agenda.specs.Goes.{GoesAsking, GoesSome, GoesToEnd}
 use Rattle.fc_base.specs.declared.request.Request.{Request}
 use Rattle.fc_base.specs.declared.size.GrainSize.{GrainSize}
@@ -13,18 +13,24 @@ use Rattle.fc_legal.specs.Scripts.{Script}
 use Rattle.fc_legal.specs.Whole.{Whole, lanes}
 use Rattle.fc_merge.specs.Merging.{AreNumbered, AreOwn, IsMerged, Own, all_of}
 use Rattle.fc_scripts.specs.Actors.{AreAll, AreFirst, WantMore}
-use Rattle.fc_scripts.specs.Ways.{AreOfDifferent}
+use Rattle.fc_scripts.specs.Ways.{AreOfDifferent, numbers_of}
 use Rattle.fc_shares.specs.Law.{numbered}
-use Rattle.law_together.specs.Asking.{AllAsked, AllBegan, OneWants}
+use Rattle.law_together.specs.Asking.{AllAsked, AllBegan, LeavesOf, OneWants}
 use Rattle.law_together.specs.Making.{AreDrawn, AreMakings, Making, all_made, own_of}
 use Rattle.law_together.specs.Telling.{AreTold, block_alone, named, scripts_then}
 
 -- Lists of what actors made can be merged, and they merge to all entries in the order of their numbers.
 pub record MergeLaw : Type 0 where
+  -- those of different scripts are of different actors
+  pub differ : (makings : List Making) (scripts : List Script) →
+      map (λ (m : Making). m.actor) makings ≡ numbers_of scripts → AreOfDifferent scripts →
+      AllPairs (λ (a b : Making). a.actor ≢ b.actor) makings
+  -- they can be merged
   pub own : (makings : List Making) → AreMakings makings → AreOwn (map own_of makings)
   pub numbers : (first : ℕ) (entries : List Entry) (makings : List Making) →
       AreDrawn first entries (all_made makings) →
       AreNumbered first (length entries) (map own_of makings)
+  -- to this alone
   pub merged : (first : ℕ) (entries merged : List Entry) (makings : List Making) →
       AreMakings makings → AreDrawn first entries (all_made makings) →
       IsMerged first (length (all_of (map own_of makings))) (map own_of makings) merged →
@@ -32,15 +38,23 @@ pub record MergeLaw : Type 0 where
 
 -- What the actors asked, each by its own list, they asked by the merged one.
 pub record AskLaw : Type 0 where
+  -- who asked all of it asked the first of it; and one that wants more, by itself or behind others
+  pub started : (lists : List Own) (scripts : List Script) → AllAsked lists scripts → AllBegan lists scripts
+  pub one : (own : Own) (script : Script) (lists : List Own) (scripts : List Script) (wanted : Request) (behind : List Request) →
+      LeavesOf script own (wanted ∷ behind) → OneWants (own ∷ lists) (script ∷ scripts)
+  pub other : (own : Own) (script : Script) (lists : List Own) (scripts : List Script) →
+      OneWants lists scripts → OneWants (own ∷ lists) (script ∷ scripts)
+  -- by the merged list they asked all
   pub all : (first count : ℕ) (lists : List Own) (scripts : List Script) (merged : List Entry) →
       AreOwn lists → AllAsked lists scripts →
       IsMerged first count lists merged →
       AreAll scripts merged
-  -- and by the first of it they asked the first of that
+  -- or the first, by all of it and by the first of it
   pub began : (first count : ℕ) (lists : List Own) (scripts : List Script) (front rest : List Entry) →
       AreOfDifferent scripts → AreOwn lists → AllBegan lists scripts →
       IsMerged first count lists (front ++ rest) →
       AreFirst scripts front
+  -- and it wants one more where one of them does
   pub wants : (first count : ℕ) (lists : List Own) (scripts : List Script) (merged : List Entry) →
       AreOfDifferent scripts → AreOwn lists → AllBegan lists scripts → OneWants lists scripts →
       IsMerged first count lists merged →
