@@ -6,7 +6,7 @@ use Rattle.fc_image.specs.Records.{after_records}
 use Rattle.fc_format.specs.Ranges.{HasGoodIds}
 use Rattle.fc_format.specs.Halves.{Image}
 use Rattle.fc_meta.specs.declared.series.Call.TheVariants.{Note, Sync, ClearOther, FillOther, Turn}
-use Rattle.fc_meta.specs.Order.{Place, AtRest, BatchNoted, OtherCleared, OtherFilled, place_behind, AreInOrder, stands}
+use Rattle.fc_meta.specs.Order.{AtRest, place_behind, AreInOrder, stands}
 
 module _ (i j : MetaImage) (a b : List MetaRecord) where
   -- two batches stand in their order

@@ -1,7 +1,5 @@
 -- Calls of a writer, one after the other: in which order they come, and what stands behind them.
 use Rattle.std.specs.Prelude.{◌≡◌, ◌<◌, ℕ, ◌+◌, List, [], ◌∷◌, ◌++◌, length, Result, Ok, Err, ⊤}
-use Rattle.fc_image.specs.declared.record.MetaRecord.{MetaRecord}
-use Rattle.fc_image.specs.declared.image.MetaImage.{MetaImage}
 use Rattle.fc_format.specs.Bytes.{batch_bytes}
 use Rattle.fc_format.specs.Ranges.{HasGoodIds}
 use Rattle.fc_format.specs.Halves.{Found, Image, recovered}

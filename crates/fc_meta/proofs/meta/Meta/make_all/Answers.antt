@@ -1,4 +1,4 @@
-use Rattle.std.proofs.Common.{◌≡◌, ◌≤◌, ◌+◌, ℕ, List, inl, length, take, refl, sym, ap, ◌∙◌, subst, arith}
+use Rattle.std.proofs.Common.{◌≡◌, ◌+◌, ℕ, List, inl, length, take, refl, sym, ap, ◌∙◌, subst, arith}
 use Rattle.std.specs.List.{sum_by}
 use Rattle.fc_base.specs.Count.{HasRisen}
 use Rattle.fc_metadisk.specs.Disk.{LeavesOnly}
