@@ -1,6 +1,6 @@
 //! Calls one after the other.
 
-ghost use Rattle.std.specs.Prelude.{◌≡◌, ◌⊎◌, ◌≤◌, ◌<◌, ◌+◌, List, ℕ, length, take, drop, true, false, is_err, OnOk, OnErr, IsErrOf};
+ghost use Rattle.std.specs.Prelude.{◌≡◌, ◌⊎◌, ◌<◌, ◌+◌, List, ℕ, length, take, drop, OnOk, OnErr, IsErrOf};
 ghost use Rattle.std.specs.List.{sum_by};
 ghost use Rattle.fc_base.specs.Count.{HasRisen};
 ghost use Rattle.fc_metadisk.specs.Disk.{LeavesOnly};
@@ -44,8 +44,9 @@ impl<M: MetaDisk> Meta<M> {
             (M.fault_count (disk_of self.old)) (M.fault_count (disk_of self.new)) }
         ensures quiet { OnOk result
             (M.fault_count (disk_of self.new) ≡ M.fault_count (disk_of self.old)) }
-        ensures calls { OnOk result
-            (M.calls (disk_of self.new) ≡ more_calls (disk_calls call.now) (M.calls (disk_of self.old))) }
+        ensures calls { OnOk result (M.calls (disk_of self.new) ≡
+            more_calls (disk_calls call.now) (M.calls (disk_of self.old))) }
+        ensures room { OnOk result (HasNoRoom M.seen call.now self.old → ⊥) }
         ensures stopped { IsErrOf result MetaError.Failed → IsStopped (disk_calls call.now)
             (M.calls (disk_of self.old)) (M.calls (disk_of self.new)) }
     {
@@ -77,7 +78,8 @@ impl<M: MetaDisk> Meta<M> {
         ensures found { UnlessFailed result.1
             (found M.seen self.new ≡ stands (found M.seen self.old) (take result.0 calls.now)) }
         ensures durable { UnlessFailed result.1
-            ((c : List ℕ) → M.may_leave (disk_of self.new) c → LeavesFound (stands (found M.seen self.old) (take result.0 calls.now)) c) }
+            ((c : List ℕ) → M.may_leave (disk_of self.new) c →
+            LeavesFound (stands (found M.seen self.old) (take result.0 calls.now)) c) }
         ensures crash { (c : List ℕ) → M.may_leave (disk_of self.new) c →
             LeavesEither (stands (found M.seen self.old) (take result.0 calls.now))
             (stands (found M.seen self.old) (take (result.0 + 1) calls.now)) c }
