@@ -1,7 +1,10 @@
 -- What calls leave that come one after the other.
-use Rattle.std.proofs.Common.{◌≡◌, ◌⊎◌, inl, inr, ⊎_elim, ℕ, ◌+◌, ◌<◌, ◌≤◌, List, [], ◌∷◌, ◌++◌, length, get_or, take, drop, refl, sym, ap, ◌∙◌, subst, append_assoc, add-one, arith}
+use Rattle.std.proofs.Common.{◌≡◌, ◌⊎◌, inl, inr, ⊎_elim, ℕ, zero, suc, ◌+◌, ◌<◌, ◌≤◌, List, [], ◌∷◌, ◌++◌, length, get_or, take, drop, refl, sym, ap, ◌∙◌, subst, append_assoc, arith}
 use Rattle.std.specs.Prelude.{Err, IsErrOf}
+use Rattle.std.specs.List.{sum_by}
 use Rattle.std.proofs.lemmas.List.{append-nil, drop_more, take_more, take_all}
+use Rattle.std.proofs.lemmas.List.Sums.{sum_by-append, sum_by-cons}
+use Rattle.fc_base.specs.Count.{one_more}
 use Rattle.fc_image.specs.declared.record.MetaRecord.{MetaRecord}
 use Rattle.fc_image.specs.declared.image.MetaImage.{MetaImage}
 use Rattle.fc_metadisk.specs.Disk.{LeavesOnly}
@@ -11,9 +14,9 @@ use Rattle.fc_meta.specs.declared.series.Call.TheVariants.{Note, Sync, ClearOthe
 use Rattle.fc_meta.specs.declared.error.MetaError.{MetaError}
 use Rattle.fc_meta.specs.declared.error.MetaError.TheVariants.{Failed, NoMemory, Full}
 use Rattle.fc_meta.specs.declared.meta.Meta.{Meta}
-use Rattle.fc_meta.specs.Answers.{found_with, LeavesEither}
+use Rattle.fc_meta.specs.Answers.{found_with, LeavesEither, more_calls}
 use Rattle.fc_meta.specs.States.{found, awaited, filled, IsResting, IsWaiting, IsCleared, IsFilled}
-use Rattle.fc_meta.specs.Order.{IsReadyFor, IsMade, coming, Place, AtRest, BatchNoted, OtherCleared, OtherFilled, behind, place_behind, Comes, AreInOrder, IsAt, stands, LeavesFront, UnlessFailed}
+use Rattle.fc_meta.specs.Order.{IsReadyFor, IsMade, coming, HasNoRoom, disk_calls, Stage, AtRest, BatchNoted, OtherCleared, OtherFilled, behind, stage_behind, Comes, AreInOrder, IsAt, stands, LeavesFront, UnlessFailed}
 use Rattle.fc_meta.proofs.Crash.{rests_found}
 use Rattle.fc_meta.proofs.Moments.{started, joined, weaker}
 
@@ -30,11 +33,11 @@ calls_of (Batch records) = Note records ∷ []
 calls_of Fold = ClearOther ∷ []
 calls_of (WholeFold image) = ClearOther ∷ FillOther image ∷ []
 
-abbrev pub place_of : Begun → Place
-place_of Nothing = AtRest
-place_of (Batch records) = BatchNoted
-place_of Fold = OtherCleared
-place_of (WholeFold image) = OtherFilled
+abbrev pub stage_of : Begun → Stage
+stage_of Nothing = AtRest
+stage_of (Batch records) = BatchNoted
+stage_of Fold = OtherCleared
+stage_of (WholeFold image) = OtherFilled
 
 -- what is only begun adds nothing
 adds_nothing : (before : Found) (begun : Begun) → stands before (calls_of begun) ≡ before
@@ -51,11 +54,11 @@ module _ {D : Type 0} (seen : D → List ℕ) (may_leave : D → List ℕ → Ty
   HasBegun Fold meta = IsCleared seen may_leave meta
   HasBegun (WholeFold image) meta = IsFilled seen may_leave meta × (filled seen meta ≡ Image image)
 
-  pub at_place : (begun : Begun) (meta : Meta D) → HasBegun begun meta → IsAt seen may_leave (place_of begun) meta
-  at_place Nothing meta h = h
-  at_place (Batch records) meta h = h.0
-  at_place Fold meta h = h
-  at_place (WholeFold image) meta h = h.0
+  pub at_stage : (begun : Begun) (meta : Meta D) → HasBegun begun meta → IsAt seen may_leave (stage_of begun) meta
+  at_stage Nothing meta h = h
+  at_stage (Batch records) meta h = h.0
+  at_stage Fold meta h = h
+  at_stage (WholeFold image) meta h = h.0
 
   -- a crash between two calls leaves what stands
   pub leaves_found : (begun : Begun) (meta : Meta D) → HasBegun begun meta → (c : List ℕ) → may_leave meta.disk c → recovered c ≡ found seen meta
@@ -64,7 +67,7 @@ module _ {D : Type 0} (seen : D → List ℕ) (may_leave : D → List ℕ → Ty
   leaves_found Fold meta w c may = ap recovered (w.durable c may)
   leaves_found (WholeFold image) meta h c may = ap recovered (h.0.durable c may)
 
-  pub ready : (begun : Begun) (call : Call) (meta : Meta D) → HasBegun begun meta → Comes (place_of begun) call → IsReadyFor seen may_leave call meta
+  pub ready : (begun : Begun) (call : Call) (meta : Meta D) → HasBegun begun meta → Comes (stage_of begun) call → IsReadyFor seen may_leave call meta
   ready Nothing (Note records) meta h comes = h
   ready Nothing ClearOther meta h comes = h
   ready (Batch records) Sync meta h comes = h.0
@@ -73,7 +76,7 @@ module _ {D : Type 0} (seen : D → List ℕ) (may_leave : D → List ℕ → Ty
   ready begun call meta h comes = absurd comes
 
   -- what a call makes stand
-  pub coming_stands : (begun : Begun) (call : Call) (meta : Meta D) → HasBegun begun meta → Comes (place_of begun) call
+  pub coming_stands : (begun : Begun) (call : Call) (meta : Meta D) → HasBegun begun meta → Comes (stage_of begun) call
       → coming seen call meta ≡ stands (found seen meta) (calls_of begun ++ call ∷ [])
   unfolding stands
   coming_stands Nothing (Note records) meta h comes = refl
@@ -87,39 +90,39 @@ module _ {D : Type 0} (seen : D → List ℕ) (may_leave : D → List ℕ → Ty
   pub record Next (begun : Begun) (call : Call) (old new : Meta D) : Type 0 where
     pub next : Begun
     pub at : HasBegun next new
-    pub place : place_of next ≡ behind call
+    pub stage : stage_of next ≡ behind call
     pub same : (more : List Call) → stands (found seen old) (calls_of begun ++ call ∷ more) ≡ stands (found seen new) (calls_of next ++ more)
 
-  pub made : (begun : Begun) (call : Call) (old new : Meta D) → HasBegun begun old → Comes (place_of begun) call → IsMade seen may_leave call old new → Next begun call old new
+  pub made : (begun : Begun) (call : Call) (old new : Meta D) → HasBegun begun old → Comes (stage_of begun) call → IsMade seen may_leave call old new → Next begun call old new
   unfolding stands
   made Nothing (Note records) old new h comes m = record {
     next = Batch records;
     at = (m.0, m.2 ∙ ap (λ (f : Found). found_with f records) (sym m.1));
-    place = refl;
+    stage = refl;
     same = λ more. ap (λ (f : Found). stands f (Note records ∷ more)) (sym m.1);
   }
   made Nothing ClearOther old new h comes m = record {
     next = Fold;
     at = m.0;
-    place = refl;
+    stage = refl;
     same = λ more. ap (λ (f : Found). stands f (ClearOther ∷ more)) (sym m.1);
   }
   made (Batch records) Sync old new h comes m = record {
     next = Nothing;
     at = m.0;
-    place = refl;
+    stage = refl;
     same = λ more. ap (λ (f : Found). stands f more) (sym (m.1 ∙ h.1));
   }
   made Fold (FillOther image) old new h comes m = record {
     next = WholeFold image;
     at = (m.0, m.2);
-    place = refl;
+    stage = refl;
     same = λ more. ap (λ (f : Found). stands f (ClearOther ∷ FillOther image ∷ more)) (sym m.1);
   }
   made (WholeFold image) Turn old new h comes m = record {
     next = Nothing;
     at = m.0;
-    place = refl;
+    stage = refl;
     same = λ more. ap (λ (f : Found). stands f more) (sym (m.1 ∙ h.1));
   }
   made begun call old new h comes m = absurd comes
@@ -127,9 +130,9 @@ module _ {D : Type 0} (seen : D → List ℕ) (may_leave : D → List ℕ → Ty
 -- ---- The first so many calls
 
 -- where calls lead
-behind_more : (place : Place) (calls : List Call) (call : Call) → place_behind place (calls ++ call ∷ []) ≡ behind call
-behind_more place [] call = refl
-behind_more place (first ∷ calls) call = behind_more (behind first) calls call
+behind_more : (stage : Stage) (calls : List Call) (call : Call) → stage_behind stage (calls ++ call ∷ []) ≡ behind call
+behind_more stage [] call = refl
+behind_more stage (first ∷ calls) call = behind_more (behind first) calls call
 
 -- some first ones of the calls are some first ones of more
 front_more : (before : Found) (calls more : List Call) (c : List ℕ) → LeavesFront before calls c → LeavesFront before (calls ++ more) c
@@ -143,8 +146,8 @@ module _ {D : Type 0} (seen : D → List ℕ) (may_leave : D → List ℕ → Ty
   pub record Going (calls : List Call) (done : ℕ) (first now : Meta D) : Type 0 where
     pub begun : Begun
     pub at : HasBegun seen may_leave begun now
-    pub order : AreInOrder (place_of begun) (drop done calls)
-    pub place : place_behind AtRest (take done calls) ≡ place_of begun
+    pub order : AreInOrder (stage_of begun) (drop done calls)
+    pub stage : stage_behind AtRest (take done calls) ≡ stage_of begun
     pub same : (more : List Call) → stands (found seen first) (take done calls ++ more) ≡ stands (found seen now) (calls_of begun ++ more)
     pub moments : LeavesOnly moment left_since first.disk now.disk (LeavesFront (found seen first) (take done calls))
 
@@ -156,7 +159,7 @@ module _ {D : Type 0} (seen : D → List ℕ) (may_leave : D → List ℕ → Ty
     begun = Nothing;
     at = w;
     order = order;
-    place = refl;
+    stage = refl;
     same = λ more. refl;
     moments = started moment left_since first.disk (LeavesFront (found seen first) [])
         (λ c left. all_of (found seen first) [] c (leaves_found seen may_leave Nothing first w c (only_now first.disk c left)));
@@ -169,21 +172,21 @@ module _ {D : Type 0} (seen : D → List ℕ) (may_leave : D → List ℕ → Ty
         sym (ap (stands (found seen first)) (sym (append-nil (take done calls))) ∙ (g.same []
         ∙ (ap (stands (found seen now)) (append-nil (calls_of g.begun)) ∙ adds_nothing (found seen now) g.begun)))
 
-    pub is_at : IsAt seen may_leave (place_behind AtRest (take done calls)) now
-    is_at = subst (λ (p : Place). IsAt seen may_leave p now) (sym g.place) (at_place seen may_leave g.begun now g.at)
+    pub is_at : IsAt seen may_leave (stage_behind AtRest (take done calls)) now
+    is_at = subst (λ (p : Stage). IsAt seen may_leave p now) (sym g.stage) (at_stage seen may_leave g.begun now g.at)
 
     pub leaves_now : (c : List ℕ) → may_leave now.disk c → recovered c ≡ stands (found seen first) (take done calls)
     leaves_now c may = leaves_found seen may_leave g.begun now g.at c may ∙ stands_now
 
     module _ (call : Call) (is : call ≡ get_or calls done call) (there : done < length calls) where
-      split : drop done calls ≡ call ∷ drop (done + 1) calls
+      pub split : drop done calls ≡ call ∷ drop (done + 1) calls
       split = drop_more calls done call there ∙ ap (λ (z : Call). z ∷ drop (done + 1) calls) (sym is)
 
       longer : take (done + 1) calls ≡ take done calls ++ call ∷ []
       longer = take_more calls done call there ∙ ap (λ (z : Call). take done calls ++ z ∷ []) (sym is)
 
-      order_here : Comes (place_of g.begun) call × AreInOrder (behind call) (drop (done + 1) calls)
-      order_here = subst (AreInOrder (place_of g.begun)) split g.order
+      order_here : Comes (stage_of g.begun) call × AreInOrder (behind call) (drop (done + 1) calls)
+      order_here = subst (AreInOrder (stage_of g.begun)) split g.order
 
       pub is_ready : IsReadyFor seen may_leave call now
       is_ready = ready seen may_leave g.begun call now g.at order_here.0
@@ -223,8 +226,8 @@ module _ {D : Type 0} (seen : D → List ℕ) (may_leave : D → List ℕ → Ty
           record {
             begun = next.next;
             at = next.at;
-            order = subst (λ (p : Place). AreInOrder p (drop (done + 1) calls)) (sym next.place) order_here.1;
-            place = ap (place_behind AtRest) longer ∙ (behind_more AtRest (take done calls) call ∙ sym next.place);
+            order = subst (λ (p : Stage). AreInOrder p (drop (done + 1) calls)) (sym next.stage) order_here.1;
+            stage = ap (stage_behind AtRest) longer ∙ (behind_more AtRest (take done calls) call ∙ sym next.stage);
             same = λ more.
                 ap (λ (z : List Call). stands (found seen first) (z ++ more)) longer ∙ (ap (stands (found seen first)) (append_assoc (take done calls) (call ∷ []) more)
                 ∙ (g.same (call ∷ more) ∙ next.same more));
@@ -235,6 +238,24 @@ module _ {D : Type 0} (seen : D → List ℕ) (may_leave : D → List ℕ → Ty
     pub whole : (n : ℕ) → length calls ≤ done → length calls ≤ n → take done calls ≡ take n calls
     whole n all more = take_all done calls all ∙ sym (take_all n calls more)
 
+-- ---- Calls of the disk
+
+calls_added : (m n c : ℕ) → more_calls m (more_calls n c) ≡ more_calls (n + m) c
+calls_added zero n c = ap (λ (k : ℕ). more_calls k c) (let e : n ≡ n + 0 = omega arith in e)
+calls_added (suc m) n c = ap one_more (calls_added m n c) ∙ ap (λ (k : ℕ). more_calls k c) (let e : suc (n + m) ≡ n + suc m = omega arith in e)
+
+-- one call more
+pub counted_on : (calls : List Call) (done : ℕ) (call : Call) (first before now : ℕ) → call ≡ get_or calls done call → done < length calls
+    → before ≡ more_calls (sum_by disk_calls (take done calls)) first → now ≡ more_calls (disk_calls call) before
+    → now ≡ more_calls (sum_by disk_calls (take (done + 1) calls)) first
+counted_on calls done call first before now is there so_far more =
+    more ∙ (ap (more_calls (disk_calls call)) so_far
+    ∙ (calls_added (disk_calls call) (sum_by disk_calls (take done calls)) first
+    ∙ ap (λ (k : ℕ). more_calls k first)
+    (let last : sum_by disk_calls (call ∷ []) ≡ disk_calls call = sum_by-cons disk_calls call [] ∙ (let e : disk_calls call + 0 ≡ disk_calls call = omega arith in e) in
+    ap (λ (k : ℕ). sum_by disk_calls (take done calls) + k) (sym last) ∙ (sym (sum_by-append disk_calls (take done calls) (call ∷ []))
+    ∙ ap (sum_by disk_calls) (sym (take_more calls done call there ∙ ap (λ (z : Call). take done calls ++ z ∷ []) (sym is)))))))
+
 -- ---- Answers
 
 -- what holds where a call has changed nothing
@@ -244,3 +265,9 @@ refused_holds P Q NoMemory (inl no_) same = cc
 refused_holds P Q NoMemory (inr q) same = same q
 refused_holds P Q Full (inl no_) same = cc
 refused_holds P Q Full (inr q) same = same q
+
+-- the call had no room, and nothing has changed
+pub full_same : {A D : Type 0} (seen : D → List ℕ) (call : Call) (old new : Meta D) (error : MetaError) → IsErrOf {T = A} (Err error) Failed ⊎ (new ≡ old)
+    → IsErrOf {T = A} (Err error) Full → HasNoRoom seen call old → HasNoRoom seen call new
+full_same seen call old new error (inl failed) full none = cc
+full_same seen call old new error (inr same) full none = subst (λ (m : Meta _). HasNoRoom seen call m) (sym same) none

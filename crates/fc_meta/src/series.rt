@@ -1,11 +1,12 @@
 //! Calls one after the other.
 
-ghost use Rattle.std.specs.Prelude.{◌≡◌, ◌⊎◌, ◌≤◌, ◌<◌, ◌+◌, List, ℕ, length, take, true, false, is_err, OnOk, OnErr, IsErrOf};
+ghost use Rattle.std.specs.Prelude.{◌≡◌, ◌⊎◌, ◌<◌, ◌+◌, List, ℕ, length, take, drop, OnOk, OnErr, IsErrOf};
+ghost use Rattle.std.specs.List.{sum_by};
 ghost use Rattle.fc_base.specs.Count.{HasRisen};
 ghost use Rattle.fc_metadisk.specs.Disk.{LeavesOnly};
-ghost use Rattle.fc_meta.specs.Answers.{LeavesEither, LeavesFound};
+ghost use Rattle.fc_meta.specs.Answers.{LeavesEither, LeavesFound, more_calls, IsStopped};
 ghost use Rattle.fc_meta.specs.States.{disk_of, found, IsResting};
-ghost use Rattle.fc_meta.specs.Order.{AtRest, IsReadyFor, IsMade, coming, AreInOrder, IsAt, place_behind, stands, LeavesFront, UnlessFailed};
+ghost use Rattle.fc_meta.specs.Order.{AtRest, IsReadyFor, IsMade, coming, HasNoRoom, TakesMemory, OfFirst, disk_calls, AreInOrder, IsAt, stage_behind, stands, LeavesFront, UnlessFailed};
 
 use crate::error::MetaError;
 use crate::meta::Meta;
@@ -35,12 +36,19 @@ impl<M: MetaDisk> Meta<M> {
         requires { IsReadyFor M.seen M.may_leave call.now self.old }
         ensures made { OnOk result (IsMade M.seen M.may_leave call.now self.old self.new) }
         ensures refused { OnErr result (IsErrOf result MetaError.Failed ⊎ (self.new ≡ self.old)) }
+        ensures full { IsErrOf result MetaError.Full → HasNoRoom M.seen call.now self.old }
+        ensures no_memory { IsErrOf result MetaError.NoMemory → TakesMemory call.now }
         ensures any_moment { LeavesOnly M.moment M.left_since (disk_of self.old) (disk_of self.new)
             (LeavesEither (found M.seen self.old) (coming M.seen call.now self.old)) }
         ensures failed { IsErrOf result MetaError.Failed → HasRisen
             (M.fault_count (disk_of self.old)) (M.fault_count (disk_of self.new)) }
         ensures quiet { OnOk result
             (M.fault_count (disk_of self.new) ≡ M.fault_count (disk_of self.old)) }
+        ensures calls { OnOk result (M.calls (disk_of self.new) ≡
+            more_calls (disk_calls call.now) (M.calls (disk_of self.old))) }
+        ensures room { OnOk result (HasNoRoom M.seen call.now self.old → ⊥) }
+        ensures stopped { IsErrOf result MetaError.Failed → IsStopped (disk_calls call.now)
+            (M.calls (disk_of self.old)) (M.calls (disk_of self.new)) }
     {
         match call {
             Call::Note(records) => self.note(alloc, records.as_slice()),
@@ -61,12 +69,17 @@ impl<M: MetaDisk> Meta<M> {
         requires order { AreInOrder AtRest calls.now }
         ensures all { OnOk result.1 (result.0 ≡ length calls.now) }
         ensures part { OnErr result.1 (result.0 < length calls.now) }
+        ensures full { IsErrOf result.1 MetaError.Full →
+            OfFirst (λ call. HasNoRoom M.seen call self.new) (drop result.0 calls.now) }
+        ensures no_memory { IsErrOf result.1 MetaError.NoMemory →
+            OfFirst TakesMemory (drop result.0 calls.now) }
         ensures at { UnlessFailed result.1
-            (IsAt M.seen M.may_leave (place_behind AtRest (take result.0 calls.now)) self.new) }
+            (IsAt M.seen M.may_leave (stage_behind AtRest (take result.0 calls.now)) self.new) }
         ensures found { UnlessFailed result.1
             (found M.seen self.new ≡ stands (found M.seen self.old) (take result.0 calls.now)) }
         ensures durable { UnlessFailed result.1
-            ((c : List ℕ) → M.may_leave (disk_of self.new) c → LeavesFound (stands (found M.seen self.old) (take result.0 calls.now)) c) }
+            ((c : List ℕ) → M.may_leave (disk_of self.new) c →
+            LeavesFound (stands (found M.seen self.old) (take result.0 calls.now)) c) }
         ensures crash { (c : List ℕ) → M.may_leave (disk_of self.new) c →
             LeavesEither (stands (found M.seen self.old) (take result.0 calls.now))
             (stands (found M.seen self.old) (take (result.0 + 1) calls.now)) c }
@@ -76,6 +89,8 @@ impl<M: MetaDisk> Meta<M> {
             (M.fault_count (disk_of self.old)) (M.fault_count (disk_of self.new)) }
         ensures quiet { OnOk result.1
             (M.fault_count (disk_of self.new) ≡ M.fault_count (disk_of self.old)) }
+        ensures calls { UnlessFailed result.1 (M.calls (disk_of self.new) ≡ more_calls
+            (sum_by disk_calls (take result.0 calls.now)) (M.calls (disk_of self.old))) }
     {
         for (done, call) in calls.iter().enumerate() {
             match self.make(alloc, call) {

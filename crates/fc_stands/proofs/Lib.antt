@@ -1,6 +1,7 @@
 -- Lemmas, one subject a file.
 pub mod Turns
 pub mod Accessing
+pub mod OneMore
 pub mod Turning
 pub mod Parting
 pub mod Asked
@@ -11,6 +12,7 @@ pub mod Restarts
 pub mod CommandSheet
 pub mod AskedSheet
 pub mod PhaseStands
+pub mod Frames
 pub mod PhaseAll
 pub mod Arming
 pub mod OneAdded
