@@ -1,5 +1,5 @@
 -- The entry of a command, numbered and logged.
-use Rattle.std.proofs.Common.{◌≡◌, Bool, [], ◌∷◌, ◌++◌, length, Result, OnErr, IfErr, false, sym, subst, ap}
+use Rattle.std.proofs.Common.{◌≡◌, Bool, [], ◌∷◌, ◌++◌, length, Result, OnErr, IfErr, false, sym, subst}
 use Rattle.std.specs.Prelude.{IfOk}
 use Rattle.fc_base.specs.declared.command.Command.{Command}
 use Rattle.fc_base.specs.declared.request.Request.{Request}

@@ -1,5 +1,5 @@
 -- The control part and the lanes, made ready for a decision and after it.
-use Rattle.std.proofs.Common.{◌≡◌, ℕ, ◌+◌, List, [], ◌∷◌, fold, length, sym, ◌∙◌, ap, subst}
+use Rattle.std.proofs.Common.{◌≡◌, ℕ, List, [], ◌∷◌, fold, length, sym, ◌∙◌, ap, subst}
 use Rattle.fc_base.specs.Sheet.{no_slots}
 use Rattle.fc_base.specs.SheetView.{SheetView}
 use Rattle.fc_base.specs.Tables.{Tables, after_change}

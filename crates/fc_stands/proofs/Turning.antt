@@ -1,5 +1,5 @@
 -- What one access asks of the lane of its grain, and what a refusal leaves.
-use Rattle.std.proofs.Common.{◌≡◌, ℕ, ◌+◌, ◌-◌, ◌*◌, ◌%◌, ◌<◌, ◌≤◌, max, min, [], slice_index_or, Option, Contains, refl, sym, ◌∙◌, ap, subst, arith}
+use Rattle.std.proofs.Common.{◌≡◌, ℕ, ◌+◌, ◌-◌, ◌*◌, ◌%◌, ◌<◌, ◌≤◌, max, min, [], Option, Contains, refl, sym, ◌∙◌, ap, subst, arith}
 use Rattle.fc_base.specs.Grain.{grain_blocks}
 use Rattle.fc_base.specs.declared.command.Command.TheVariants as command
 use Rattle.fc_base.specs.declared.fault.Refusal.{Refusal}
@@ -13,12 +13,11 @@ use Rattle.fc_base.specs.declared.size.GrainSize.TheVariants.{K64, K256}
 use Rattle.fc_base.specs.declared.volume.Volume.{Volume}
 use Rattle.fc_entry.specs.Picture.{grain_of_block}
 use Rattle.fc_entry.specs.declared.entry.Entry.{Entry}
-use Rattle.fc_follow.specs.Following.{Followed}
-use Rattle.fc_lane.specs.Lane.{LaneView, IsFollowing, of}
+use Rattle.fc_lane.specs.Lane.{LaneView, of}
 use Rattle.fc_legal.specs.Asked.{end_in, first_in}
 use Rattle.fc_legal.specs.Stands.{Stands}
 use Rattle.fc_legal.specs.Steps.{RequestStep, IsInside, IsRefused, AccessIsRefused, one_more}
-use Rattle.fc_legal.specs.Whole.{Whole, lanes, lane_of_grain, lane_at, part_at, followed_at}
+use Rattle.fc_legal.specs.Whole.{Whole, lanes, lane_of_grain, lane_at, part_at}
 use Rattle.fc_parts.proofs.Lawful.{part_law_holds}
 use Rattle.fc_parts.specs.Law.{IsAt, IsInVolume}
 use Rattle.fc_rules.specs.LaneFits.{FitsPart}

@@ -86,16 +86,7 @@ impl<D: Mdisk> Store<D> {
             Err(NoMemory) => return Err(Stop::NoMemory),
         }
         let number = history.len() as u64;
-        let entry = access_lane(
-            self.alloc,
-            lane,
-            number,
-            0,
-            access,
-            volume,
-            first,
-            blocks,
-        );
+        let entry = access_lane(self.alloc, lane, number, 0, access, volume, first, blocks);
         log(history, entry)
     }
 

@@ -1,4 +1,4 @@
-use Rattle.std.proofs.Common.{◌≡◌, sym, subst}
+use Rattle.std.proofs.Common.{sym, subst}
 use Rattle.fc_entry.specs.declared.entry.Entry.{Entry}
 use Rattle.fc_stands.specs.Leading.{LeadsOn}
 use Rattle.fc_stands.proofs.CommandRuns.{can_decide, can_settle, leads_unsettled, leads_whole}

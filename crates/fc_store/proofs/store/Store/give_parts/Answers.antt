@@ -1,5 +1,5 @@
 -- The parts are of one store alone, and it is this one.
-use Rattle.std.proofs.Common.{◌≡◌, ◌∷◌, ◌++◌, List, ap, sym, ◌∙◌}
+use Rattle.std.proofs.Common.{◌∷◌, ◌++◌, List, ap, sym, ◌∙◌}
 use Rattle.fc_lane.specs.Lane.{LaneView}
 use Rattle.fc_store.specs.StoreParts.{lane_parts}
 use Rattle.fc_store.specs.declared.store_part.StorePart.{StorePart}

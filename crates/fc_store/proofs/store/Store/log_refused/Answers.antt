@@ -1,5 +1,5 @@
 -- A refusal leaves one entry more.
-use Rattle.std.proofs.Common.{◌≡◌, ◌∷◌, ◌++◌, [], ℕ, arith, ap, refl, subst, sym, ◌∙◌}
+use Rattle.std.proofs.Common.{[], arith, refl, subst, sym, ◌∙◌}
 use Rattle.fc_base.specs.declared.request.Place.TheVariants.{Control}
 use Rattle.fc_base.specs.declared.request.Reply.TheVariants.{Refused}
 use Rattle.fc_entry.specs.declared.entry.Entry.{Entry}

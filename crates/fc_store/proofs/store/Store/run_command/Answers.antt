@@ -1,4 +1,4 @@
-use Rattle.std.proofs.Common.{◌≡◌, ◌∷◌, ◌++◌, [], ℕ, Bool, Result, length, sym, subst, arith}
+use Rattle.std.proofs.Common.{◌≡◌, ℕ, Bool, Result, length, sym, subst, arith}
 use Rattle.fc_stands.specs.Store.{StandsFor}
 use Rattle.fc_entry.specs.HistoryState.{HistoryState}
 use Rattle.fc_entry.specs.declared.entry.Entry.{Entry}

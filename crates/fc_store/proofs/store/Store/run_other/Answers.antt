@@ -1,5 +1,5 @@
 -- A command that is no access asks for itself, and where it is done its seconds pass.
-use Rattle.std.proofs.Common.{◌≡◌, ℕ, ◌∷◌, [], List, Ok, Err, subst, sym}
+use Rattle.std.proofs.Common.{ℕ, [], List, Ok, Err, subst, sym}
 use Rattle.fc_base.specs.declared.request.Request.{Request}
 use Rattle.fc_base.specs.declared.request.Request.TheVariants.{Command as Asked}
 use Rattle.fc_base.specs.declared.size.GrainSize.{GrainSize}

@@ -1,8 +1,7 @@
 -- The access fits the lane of its grain, and its entry is right.
-use Rattle.std.proofs.Common.{arith, ◌≡◌, ◌%◌, [], length, slice_index_or, slice_set, ◌∷◌, subst, sym, ◌∙◌, ap, ◌<◌}
+use Rattle.std.proofs.Common.{arith, ◌≡◌, ◌%◌, length, slice_index_or, slice_set, subst, sym, ◌∙◌, ap, ◌<◌}
 use Rattle.fc_stands.specs.Store.{StandsFor}
 use Rattle.fc_lanes.specs.Asking.{part_of}
-use Rattle.fc_base.specs.Grain.{grain_blocks}
 use Rattle.fc_stands.specs.Store.{StoreView}
 use Rattle.fc_stands.proofs.Turns.{history_full, turn_logged}
 use Rattle.fc_base.specs.declared.request.Request.{Request}

@@ -1,6 +1,5 @@
 -- One grain more, and a grain at which it stops.
-use Rattle.std.proofs.Common.{◌≡◌, ℕ, ◌+◌, ◌-◌, ◌*◌, ◌/◌, ◌<◌, ◌≤◌, [], map, Contains, Ok, Err, ◌∙◌, ap, sym, subst, arith, refl}
-use Rattle.fc_base.specs.Grain.{grain_blocks}
+use Rattle.std.proofs.Common.{◌≡◌, ℕ, ◌+◌, ◌-◌, [], map, Ok, Err, ◌∙◌, ap, subst, arith, refl}
 use Rattle.fc_base.specs.declared.request.Request.{Request}
 use Rattle.fc_base.specs.declared.size.GrainSize.{GrainSize}
 use Rattle.fc_control.specs.Control.{ControlState}
