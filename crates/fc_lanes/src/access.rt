@@ -2,10 +2,10 @@
 
 ghost use Rattle.std.specs.Prelude.{◌≡◌, ◌<◌, ◌^◌};
 ghost use Rattle.fc_entry.specs.Picture.{grain_of_block};
-ghost use Rattle.fc_follow.specs.Following.{Followed, followed_entry};
-ghost use Rattle.fc_lane.specs.Lane.{IsAsked, IsFollowing, IsReady, IsSameLane, KeepsQuiet, of};
+ghost use Rattle.fc_follow.specs.Following.{Followed};
+ghost use Rattle.fc_lane.specs.Entering.{HasFollowed};
+ghost use Rattle.fc_lane.specs.Lane.{IsFollowing, IsReady, of};
 ghost use Rattle.fc_rules.specs.LaneFits.{FitsPart};
-ghost use Rattle.fc_rules.specs.LaneRight.{IsRightInLane};
 ghost use Rattle.fc_lanes.specs.Asking.{command_of, request_of};
 
 use fc_base::command::Command;
@@ -62,11 +62,7 @@ pub fn access_lane<D: Mdisk>(
     requires can { (f : Followed) × IsFollowing lane.old f × FitsPart (of lane.old) f.told volume block count }
     requires ready { IsReady lane.old }
     requires number { grain_of_block lane.old.grains.grain block < 2 ^ 32 }
-    ensures right { (f : Followed) → IsFollowing lane.old f → FitsPart (of lane.old) f.told volume block count →
-        IsRightInLane (of lane.old) f.told result × IsFollowing lane.new (followed_entry (of lane.old) f result) }
-    ensures asked { IsAsked number actor (request_of access volume block count) result }
-    ensures same { IsSameLane lane.old lane.new }
-    ensures quiet { KeepsQuiet lane.old lane.new }
+    ensures { HasFollowed lane.old (λ told. FitsPart (of lane.old) told volume block count) number actor (request_of access volume block count) result lane.new }
 {
     match access {
         Access::Read => {
