@@ -1,5 +1,6 @@
 -- What a scope makes of a line that is a command in another scope.
-use Rattle.std.proofs.Common.{◌≡◌, ℕ, ◌+◌, Bool, true, false, if◌then◌else◌, List, [], ◌∷◌, length, Option, Some, None, Result, Ok, Err, refl, sym, ap, ◌∙◌, subst, nat_lt, find, ⊤}
+use Rattle.std.proofs.Common.{◌≡◌, ℕ, ◌+◌, Bool, true, false, if◌then◌else◌, List, [], ◌∷◌, length, Option, Some, None, Result, Ok, Err, refl, sym, ap, ◌∙◌, subst, nat_lt}
+use Rattle.std.specs.Bool.{⊤}
 use Rattle.fc_base.specs.declared.command.Command.{Command}
 use Rattle.fc_base.specs.declared.command.Line.{Line}
 use Rattle.fc_base.specs.declared.command.Line.TheVariants.{Blank, Command as OfCommand, Together, Actor as OfActor, End}
@@ -100,7 +101,7 @@ words_of_verb verb at given (word ∷ words) =
 no_fault : (fault : WordFault) (command : Command) → Err fault ≡ Ok (OfCommand command) → ⊥
 no_fault fault command e = cc
 
-no_blank : (command : Command) → Ok Blank ≡ Ok (OfCommand command) → ⊥
+no_blank : (command : Command) → ◌≡◌ {A = Result Line WordFault} (Ok Blank) (Ok (OfCommand command)) → ⊥
 no_blank command e = cc
 
 -- what a scope has is read
