@@ -1,0 +1,2 @@
+-- What the law of lines says.
+pub mod Law
