@@ -1,0 +1,4 @@
+-- Lemmas, one subject a file.
+pub mod Passing
+pub mod Doing
+pub mod AllParts
