@@ -47,12 +47,13 @@ impl Access {
     }
 }
 
-/// Reads or writes blocks of one grain in its lane, by `main`, where room was made for the entry (`Lane::make_room`). The entry
-/// that it answers is right, and the lane stands for what is told with it; nobody keeps it yet.
+/// Reads or writes blocks of one grain in its lane, by an actor, where room was made for the entry (`Lane::make_room`). The
+/// entry that it answers is right, and the lane stands for what is told with it; nobody keeps it yet.
 pub fn access_lane<D: Mdisk>(
     alloc: Global,
     lane: &mut Lane<D>,
     number: u64,
+    actor: u32,
     access: Access,
     volume: VolId,
     block: u64,
@@ -63,7 +64,7 @@ pub fn access_lane<D: Mdisk>(
     requires number { grain_of_block lane.old.grains.grain block < 2 ^ 32 }
     ensures right { (f : Followed) → IsFollowing lane.old f → FitsPart (of lane.old) f.told volume block count →
         IsRightInLane (of lane.old) f.told result × IsFollowing lane.new (followed_entry (of lane.old) f result) }
-    ensures asked { IsAsked number 0 (request_of access volume block count) result }
+    ensures asked { IsAsked number actor (request_of access volume block count) result }
     ensures same { IsSameLane lane.old lane.new }
     ensures quiet { KeepsQuiet lane.old lane.new }
 {
@@ -74,7 +75,7 @@ pub fn access_lane<D: Mdisk>(
                 block,
                 count,
             };
-            lane.read(alloc, number, 0, part)
+            lane.read(alloc, number, actor, part)
         }
         Access::Write(byte) => {
             let part = WritePart {
@@ -83,7 +84,7 @@ pub fn access_lane<D: Mdisk>(
                 count,
                 byte,
             };
-            lane.write(alloc, number, 0, part)
+            lane.write(alloc, number, actor, part)
         }
     }
 }

@@ -1,5 +1,5 @@
 pub mod Cuts
-pub mod Calls
+pub mod FlatState
 pub mod DiskList
 pub mod Reached
 mod DiskExamples

@@ -7,15 +7,16 @@ use mir.Val.{bool_byte}
 use Rattle.fc_mdisk.specs.declared.thin_grains.ThinGrain.{ThinGrain}
 use Rattle.fc_mdisk.specs.declared.thin_grains.ThinGrain.TheVariants.{Unwritten, Lost}
 use Rattle.fc_mdisk.specs.Disk.{grain_at}
-use Rattle.fc_mdisk.specs.Thin.{ThinState, bytes_of, is_reached}
+use Rattle.fc_mdisk.specs.Grains.{GrainsState}
+use Rattle.fc_mdisk.specs.Thin.{bytes_of, is_reached}
 
-abbrev state : ℕ → List ThinGrain → ThinState
+abbrev state : ℕ → List ThinGrain → GrainsState
 state width grains = record { grains = map (bytes_of width) grains; occupied = map is_reached grains }
 
 pub unwritten_state : (width count : ℕ) → state width (replicate count Unwritten) ≡ record { grains = replicate count (replicate width 0); occupied = replicate count false }
 unwritten_state width zero = refl
 unwritten_state width (suc count) =
-    ap (λ (s : ThinState). record { grains = replicate width 0 ∷ s.grains; occupied = false ∷ s.occupied }) (unwritten_state width count)
+    ap (λ (s : GrainsState). record { grains = replicate width 0 ∷ s.grains; occupied = false ∷ s.occupied }) (unwritten_state width count)
 
 -- a count in which an element that was counted or not is replaced by one that is
 one_counted : (was now : Bool) (n m : ℕ) → n + cond was 1 0 ≡ m + cond now 1 0 → now ≡ true → n ≡ m + bool_byte (not was)
@@ -24,26 +25,26 @@ one_counted false true n m e reached = omega arith
 one_counted true false n m e reached = cc
 one_counted false false n m e reached = cc
 
-module _ (width g : ℕ) (grains : List ThinGrain) (seen : ThinState) (old : ThinGrain)
+module _ (width g : ℕ) (grains : List ThinGrain) (seen : GrainsState) (old : ThinGrain)
     (view_is : state width grains ≡ seen) (in_range : g < length seen.grains) (read : old ≡ slice_index_or grains g old) where
   is_there : g < length grains
-  is_there = omega (arith, ap (λ (s : ThinState). length s.grains) view_is, length-map grains (bytes_of width))
+  is_there = omega (arith, ap (λ (s : GrainsState). length s.grains) view_is, length-map grains (bytes_of width))
 
   -- the grain that is read
   pub old_bytes : grain_at seen.grains g ≡ bytes_of width old
   old_bytes =
-      ap (λ (s : ThinState). grain_at s.grains g) (sym view_is)
+      ap (λ (s : GrainsState). grain_at s.grains g) (sym view_is)
       ∙ get_or-map (bytes_of width) grains g old _ is_there
       ∙ ap (bytes_of width) (sym read)
 
   -- another one in its place
   pub grains_left : (new : ThinGrain) → map (bytes_of width) (slice_set grains g new) ≡ slice_set seen.grains g (bytes_of width new)
-  grains_left new = map-set (bytes_of width) grains g new ∙ ap (λ (s : ThinState). slice_set s.grains g (bytes_of width new)) view_is
+  grains_left new = map-set (bytes_of width) grains g new ∙ ap (λ (s : GrainsState). slice_set s.grains g (bytes_of width new)) view_is
 
   pub occupied_left : (new : ThinGrain) → is_reached new ≡ true → map is_reached (slice_set grains g new) ≡ slice_set seen.occupied g true
   occupied_left new reached =
       map-set is_reached grains g new
-      ∙ ap (λ (s : ThinState). slice_set s.occupied g (is_reached new)) view_is
+      ∙ ap (λ (s : GrainsState). slice_set s.occupied g (is_reached new)) view_is
       ∙ ap (λ (b : Bool). slice_set seen.occupied g b) reached
 
   pub bytes_left : (new : ThinGrain) → grain_at (map (bytes_of width) (slice_set grains g new)) g ≡ bytes_of width new

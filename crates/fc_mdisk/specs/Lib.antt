@@ -2,5 +2,6 @@
 pub mod Disk
 pub mod Cut
 pub mod Disks
+pub mod Grains
 pub mod Thin
 pub mod Failing

@@ -15,11 +15,6 @@ is_reached Unwritten = false
 is_reached Lost = true
 is_reached (Written bytes) = true
 
--- The grains of a thin disk, and which of them a write reached.
-pub record ThinState : Type 0 where
-  pub grains : List (List ℕ)
-  pub occupied : List Bool
-
 -- A grain takes a write of these bytes: it has no memory yet, or memory for as many.
 abbrev pub Takes : ThinGrain → List ℕ → Type 0
 Takes Unwritten bytes = Unit {0}

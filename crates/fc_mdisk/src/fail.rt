@@ -7,6 +7,7 @@ ghost use Rattle.fc_mdisk.specs.Failing.{fails_next};
 
 use crate::counts::Counts;
 use crate::flat::FlatGrains;
+use crate::grains::Grains;
 use crate::mdisk::Mdisk;
 use fc_base::disk::{DiskError, DiskKind};
 use fc_base::outcome::{Failed, NoMemory};
@@ -77,7 +78,7 @@ impl Mdisk for FailDisk {
     }
 
     fn used(&self) -> u32 {
-        self.grains.count()
+        self.grains.used()
     }
 
     fn faults(&self) -> u64 {
@@ -127,11 +128,13 @@ impl Mdisk for FailDisk {
         let failed = self.fails_next();
         self.counts.add_write(failed);
         if failed {
-            self.grains.write(grain, &bytes[..bytes.len() / 2]);
+            self.grains.tear(grain, bytes);
             return Err(DiskError::Failed);
         }
-        self.grains.write(grain, bytes);
-        Ok(())
+        match self.grains.write(grain, bytes) {
+            Ok(()) => Ok(()),
+            Err(NoMemory) => Err(DiskError::NoMemory),
+        }
     }
 
     fn arm(&mut self, calls: u32)

@@ -1,15 +1,18 @@
 //! Grains side by side in one buffer.
 
-ghost use Rattle.std.specs.Prelude.{◌≡◌, ◌<◌, ◌≤◌, ◌++◌, [], length, drop, replicate, slice_set, OnOk, OnErr};
+ghost use Rattle.std.specs.Prelude.{◌≡◌, ◌<◌, ◌≤◌, ◌++◌, true, length, drop, replicate, slice_set};
+ghost use Rattle.fc_base.specs.declared.disk.DiskKind.TheVariants.{Flat};
 ghost use Rattle.fc_mdisk.specs.Disk.{grain_at};
 
+use crate::grains::Grains;
+use fc_base::disk::DiskKind;
 use fc_base::outcome::NoMemory;
 use std::alloc::Global;
 use std::marker::Model;
 
 /// The grains of a flat disk. Contracts see the list of their bytes. Only `format` takes memory.
 #[derive(Drop)]
-pub(crate) struct FlatGrains {
+pub struct FlatGrains {
     alloc: Global,
     buffer: Vec<u8>,
     count: u32,
@@ -28,9 +31,25 @@ impl Model for FlatGrains {
 }
 
 impl FlatGrains {
-    pub fn new(alloc: Global) -> Self
-        ensures { result ≡ [] }
+    /// Writes the front of a grain.
+    fn put(&mut self, grain: u32, front: &[u8])
+        requires in_range { grain < length self.old }
+        requires fits { length front.now ≤ length (grain_at self.old grain) }
+        ensures { self.new ≡ slice_set self.old grain (front.now ++ drop (length front.now) (grain_at self.old grain)) }
     {
+        let start = grain as usize * self.width as usize;
+        self.buffer[start..start + front.len()].copy_from_slice(front);
+    }
+}
+
+impl Grains for FlatGrains {
+    ghost KIND = { Flat };
+
+    const KIND: DiskKind = DiskKind::Flat;
+
+    ghost state = { λ f. record { grains = f; occupied = replicate (length f) true } };
+
+    fn new(alloc: Global) -> Self {
         FlatGrains {
             alloc,
             buffer: Vec::new(alloc),
@@ -39,16 +58,15 @@ impl FlatGrains {
         }
     }
 
-    pub fn count(&self) -> u32
-        ensures { result ≡ length self.now }
-    {
+    fn count(&self) -> u32 {
         self.count
     }
 
-    pub fn format(&mut self, count: u32, width: u32) -> Result<(), NoMemory>
-        ensures ok { OnOk result (self.new ≡ replicate count (replicate width 0)) }
-        ensures err { OnErr result (self.new ≡ self.old) }
-    {
+    fn used(&self) -> u32 {
+        self.count()
+    }
+
+    fn format(&mut self, count: u32, width: u32) -> Result<(), NoMemory> {
         let bytes = count as usize * width as usize;
         match vec![in self.alloc; 0; bytes] {
             Ok(buffer) => {
@@ -61,30 +79,23 @@ impl FlatGrains {
         }
     }
 
-    pub fn clear(&mut self)
-        ensures { self.new ≡ [] }
-    {
+    fn clear(&mut self) {
         self.buffer = Vec::new(self.alloc);
         self.count = 0;
         self.width = 0;
     }
 
-    pub fn read(&self, grain: u32, out: &mut [u8])
-        requires in_range { grain < length self.now }
-        requires whole { length out.old ≡ length (grain_at self.now grain) }
-        ensures { out.new ≡ grain_at self.now grain }
-    {
+    fn read(&self, grain: u32, out: &mut [u8]) {
         let start = grain as usize * self.width as usize;
         out.copy_from_slice(&self.buffer[start..start + self.width as usize]);
     }
 
-    /// Writes the front of a grain.
-    pub fn write(&mut self, grain: u32, front: &[u8])
-        requires in_range { grain < length self.old }
-        requires fits { length front.now ≤ length (grain_at self.old grain) }
-        ensures { self.new ≡ slice_set self.old grain (front.now ++ drop (length front.now) (grain_at self.old grain)) }
-    {
-        let start = grain as usize * self.width as usize;
-        self.buffer[start..start + front.len()].copy_from_slice(front);
+    fn write(&mut self, grain: u32, bytes: &[u8]) -> Result<(), NoMemory> {
+        self.put(grain, bytes);
+        Ok(())
+    }
+
+    fn tear(&mut self, grain: u32, bytes: &[u8]) {
+        self.put(grain, &bytes[..bytes.len() / 2]);
     }
 }

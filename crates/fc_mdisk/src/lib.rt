@@ -10,18 +10,18 @@
 //! it is told. A boxed disk is a disk, so that the crates above are generic in `D: Mdisk`.
 //!
 //! Files: `mdisk` (the trait; its words are in `specs/Disk.antt`), `boxed`, `disks` (several disks at their places),
-//! `mem`, `thin`, `fail`; inside `counts`, `flat`, `thin_grains`. `proofs/DiskList.antt` has what crates above cite of a
-//! list of disks in which one changed.
+//! `mem` and `thin`, which are `armed` over grains of two kinds (the trait `grains`; `flat`, `thin_grains`), `fail`, and
+//! `counts`. `proofs/DiskList.antt` has what crates above cite of a list of disks in which one changed.
 #![tactic(auto)]
 
+mod armed;
 pub mod boxed;
 mod counts;
 pub mod disks;
 pub mod fail;
 mod flat;
+mod grains;
 pub mod mdisk;
 pub mod mem;
-#[cfg(test)]
-mod tests;
 pub mod thin;
 mod thin_grains;

@@ -2,10 +2,13 @@
 
 ghost use Rattle.std.specs.Prelude.{◌≡◌, ◌<◌, ℕ, true, false, [], length, replicate, slice_set, OnOk, OnErr, IfOk};
 ghost use Rattle.std.specs.List.{count_by};
+ghost use Rattle.fc_base.specs.declared.disk.DiskKind.TheVariants.{Thin};
 ghost use Rattle.fc_mdisk.specs.declared.thin_grains.ThinGrain.TheVariants.{Unwritten};
 ghost use Rattle.fc_mdisk.specs.Disk.{grain_at};
 ghost use Rattle.fc_mdisk.specs.Thin.{bytes_of, is_reached, Takes};
 
+use crate::grains::Grains;
+use fc_base::disk::DiskKind;
 use fc_base::outcome::NoMemory;
 use std::alloc::Global;
 use std::marker::Model;
@@ -69,7 +72,7 @@ impl ThinGrain {
 
 /// The grains of a thin disk. Contracts see the list of their bytes, and which of them a write reached.
 #[derive(Drop)]
-pub(crate) struct ThinGrains {
+pub struct ThinGrains {
     alloc: Global,
     grains: Vec<ThinGrain>,
     width: u32,
@@ -79,9 +82,10 @@ pub(crate) struct ThinGrains {
 impl Model for ThinGrains {
     ghost use Rattle.std.specs.Prelude.{◌≡◌, ◌<◌, ◌^◌, map, vec_len};
     ghost use Rattle.std.specs.List.{count_by};
-    ghost use Rattle.fc_mdisk.specs.Thin.{ThinState, bytes_of, is_reached};
+    ghost use Rattle.fc_mdisk.specs.Grains.{GrainsState};
+    ghost use Rattle.fc_mdisk.specs.Thin.{bytes_of, is_reached};
 
-    ghost Value = { ThinState };
+    ghost Value = { GrainsState };
 
     ghost view = { λ t. record {
       grains = map (bytes_of t.width) t.grains.items;
@@ -91,10 +95,14 @@ impl Model for ThinGrains {
     ghost invariant = { λ t. (vec_len t.grains < 2 ^ 32) × (t.used ≡ count_by is_reached t.grains.items) };
 }
 
-impl ThinGrains {
-    pub fn new(alloc: Global) -> Self
-        ensures { result ≡ record { grains = []; occupied = [] } }
-    {
+impl Grains for ThinGrains {
+    ghost KIND = { Thin };
+
+    const KIND: DiskKind = DiskKind::Thin;
+
+    ghost state = { λ t. t };
+
+    fn new(alloc: Global) -> Self {
         ThinGrains {
             alloc,
             grains: Vec::new(alloc),
@@ -103,23 +111,16 @@ impl ThinGrains {
         }
     }
 
-    pub fn count(&self) -> u32
-        ensures { result ≡ length self.now.grains }
-    {
+    fn count(&self) -> u32 {
         self.grains.len() as u32
     }
 
     /// How many of them a write reached.
-    pub fn used(&self) -> u32
-        ensures { result ≡ count_by (λ b. b) self.now.occupied }
-    {
+    fn used(&self) -> u32 {
         self.used
     }
 
-    pub fn format(&mut self, count: u32, width: u32) -> Result<(), NoMemory>
-        ensures ok { OnOk result (self.new ≡ record { grains = replicate count (replicate width 0); occupied = replicate count false }) }
-        ensures err { OnErr result (self.new ≡ self.old) }
-    {
+    fn format(&mut self, count: u32, width: u32) -> Result<(), NoMemory> {
         match unwritten(self.alloc, count) {
             Ok(grains) => {
                 self.grains = grains;
@@ -131,31 +132,19 @@ impl ThinGrains {
         }
     }
 
-    pub fn clear(&mut self)
-        ensures { self.new ≡ record { grains = []; occupied = [] } }
-    {
+    fn clear(&mut self) {
         self.grains = Vec::new(self.alloc);
         self.used = 0;
     }
 
-    pub fn read(&self, grain: u32, out: &mut [u8])
-        requires in_range { grain < length self.now.grains }
-        requires whole { length out.old ≡ length (grain_at self.now.grains grain) }
-        ensures { out.new ≡ grain_at self.now.grains grain }
-    {
+    fn read(&self, grain: u32, out: &mut [u8]) {
         match &self.grains[grain as usize] {
             ThinGrain::Written(bytes) => out.copy_from_slice(bytes.as_slice()),
             ThinGrain::Unwritten | ThinGrain::Lost => out.fill(0),
         }
     }
 
-    /// Writes a whole grain. Refused, all are as they were.
-    pub fn write(&mut self, grain: u32, bytes: &[u8]) -> Result<(), NoMemory>
-        requires in_range { grain < length self.old.grains }
-        requires whole { length bytes.now ≡ length (grain_at self.old.grains grain) }
-        ensures ok { OnOk result (self.new ≡ record { grains = slice_set self.old.grains grain bytes.now; occupied = slice_set self.old.occupied grain true }) }
-        ensures err { OnErr result (self.new ≡ self.old) }
-    {
+    fn write(&mut self, grain: u32, bytes: &[u8]) -> Result<(), NoMemory> {
         let place = &mut self.grains[grain as usize];
         let first = !place.is_reached();
         match place.write(self.alloc, bytes) {
@@ -167,14 +156,8 @@ impl ThinGrains {
         }
     }
 
-    /// A write that fails, and may leave any bytes in its grain.
-    pub fn tear(&mut self, grain: u32, bytes: &[u8])
-        requires in_range { grain < length self.old.grains }
-        requires whole { length bytes.now ≡ length (grain_at self.old.grains grain) }
-        ensures size { length (grain_at self.new.grains grain) ≡ length bytes.now }
-        ensures others { self.new.grains ≡ slice_set self.old.grains grain (grain_at self.new.grains grain) }
-        ensures reached { self.new.occupied ≡ slice_set self.old.occupied grain true }
-    {
+    /// The first half of the bytes is left, or no memory where the grain had none.
+    fn tear(&mut self, grain: u32, bytes: &[u8]) {
         let place = &mut self.grains[grain as usize];
         let first = !place.is_reached();
         place.tear(bytes);

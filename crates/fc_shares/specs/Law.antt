@@ -57,7 +57,7 @@ pub record ApartLeads (first s : Situation) (entry : Entry) : Type 0 where
 
 -- The entry of a refused access or of an unread line, by any actor.
 abbrev pub refused_entry : ℕ → Request → Refusal → Entry
-refused_entry actor request refusal = record (entry_apart 0 UnderControl request (Refused refusal) []) { actor = actor }
+refused_entry actor request refusal = entry_apart 0 actor UnderControl request (Refused refusal) []
 
 -- A lane stays the lane that it is, and none of its disks fails where none could.
 abbrev pub KeepsLane : LaneView → LaneView → Type 0

@@ -11,6 +11,7 @@ pub mod Restarts
 pub mod CommandSheet
 pub mod AskedSheet
 pub mod PhaseStands
+pub mod Frames
 pub mod PhaseAll
 pub mod Arming
 pub mod OneAdded

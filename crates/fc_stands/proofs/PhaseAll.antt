@@ -1,8 +1,5 @@
 -- The control part and the lanes, made ready for a decision and after it.
-use Rattle.std.proofs.Common.{◌≡◌, ℕ, ◌+◌, List, [], ◌∷◌, fold, length, refl, sym, ◌∙◌, ap, ap₂, subst, arith}
-use Rattle.std.specs.List.{sum_by}
-use Rattle.std.proofs.lemmas.List.Sums.{sum_by-cons}
-use Rattle.fc_base.specs.Pools.{Pool}
+use Rattle.std.proofs.Common.{◌≡◌, ℕ, ◌+◌, List, [], ◌∷◌, fold, length, sym, ◌∙◌, ap, subst}
 use Rattle.fc_base.specs.Sheet.{no_slots}
 use Rattle.fc_base.specs.SheetView.{SheetView}
 use Rattle.fc_base.specs.Tables.{Tables, after_change}
@@ -13,35 +10,14 @@ use Rattle.fc_books.specs.After.{after_table_change, flags_after}
 use Rattle.fc_books.specs.Books.{Books}
 use Rattle.fc_desk.specs.Changes.{CanApply, FitChanges}
 use Rattle.fc_desk.specs.Control.{ControlState, books_of}
-use Rattle.fc_lane.specs.Lane.{LaneView}
+use Rattle.fc_lane.specs.Lane.{LaneView, IsSameLane, KeepsQuiet}
 use Rattle.fc_legal.specs.Lawful.{IsLawful, FitChanges as FitTold}
 use Rattle.fc_legal.specs.Whole.{Whole}
-use Rattle.fc_lanes.specs.Dealing.{disks_in}
 use Rattle.fc_lanes.specs.AllLanes.{IsLaneAfter, IsLaneReady, EachLane, CanAllDo}
 use Rattle.fc_stands.specs.Phase.{StandsAt, IsDecidedAt, IsControlAfter, CanControlDo, CanPrepare, IsReadyFor, IsReserved, IsDone}
-use Rattle.fc_stands.specs.Quiet.{AreQuiet}
 use Rattle.fc_stands.specs.Store.{StoreView, AreLanesOf}
 use Rattle.fc_stands.proofs.PhaseStands.{ready_stands, decision_stands}
-use Rattle.fc_stands.proofs.Quieting.{each_keeps}
-
--- ---- disks
-
-abbrev HasSameDisks : LaneView → LaneView → Type 0
-HasSameDisks old new = new.grains.disks ≡ old.grains.disks
-
-same_sum : (f : Pool → ℕ) (old new : List LaneView) → EachLane HasSameDisks old new → sum_by (λ (v : LaneView). f v.grains.disks) new ≡ sum_by (λ (v : LaneView). f v.grains.disks) old
-same_sum f [] [] each = refl
-same_sum f [] (u ∷ us) each = absurd (omega (arith, each.count))
-same_sum f (v ∷ vs) [] each = absurd (omega (arith, each.count))
-same_sum f (v ∷ vs) (u ∷ us) each =
-    let first : f u.grains.disks ≡ f v.grains.disks = ap f (each.each 0 v (omega arith)) in
-    let rest = same_sum f vs us record { count = omega (arith, each.count); each = λ i d lt. each.each (ℕ.suc i) d (omega (arith, lt)) } in
-    sum_by-cons (λ (x : LaneView). f x.grains.disks) u us
-    ∙ ap₂ (λ a b. a + b) first rest
-    ∙ sym (sum_by-cons (λ (x : LaneView). f x.grains.disks) v vs)
-
-same_disks : (old new : List LaneView) → EachLane HasSameDisks old new → disks_in new ≡ disks_in old
-same_disks old new each = λ k. record { flat = same_sum (λ (p : Pool). p.flat) old new each k; thin = same_sum (λ (p : Pool). p.thin) old new each k }
+use Rattle.fc_stands.proofs.Frames.{all_stay, all_stay_quiet}
 
 -- ---- made ready
 
@@ -82,18 +58,18 @@ decided_reserved old mid d same lanes decided =
 pub half_reserved : (old new : StoreView) → KeepsControl old.control new.control → new.lanes ≡ old.lanes → IsReserved old new
 half_reserved old new same lanes = record {
   grain = ap (λ (c : ControlState). c.grain) same;
-  disks = ap disks_in lanes;
+  lanes = subst (λ (ls : List LaneView). EachLane IsSameLane old.lanes ls) (sym lanes) (all_stay old.lanes);
   stands = λ decisions w. control_reserved decisions old new w same lanes;
-  quiet = λ q. subst AreQuiet (sym lanes) q;
+  quiet = subst (λ (ls : List LaneView). EachLane KeepsQuiet old.lanes ls) (sym lanes) (all_stay_quiet old.lanes);
 }
 
 -- The control part, and then the lanes.
 pub all_reserved : (old mid new : StoreView) → KeepsControl old.control mid.control → mid.lanes ≡ old.lanes → new.control ≡ mid.control → EachLane IsLaneReady mid.lanes new.lanes → IsReserved old new
 all_reserved old mid new same lanes control ready = record {
   grain = ap (λ (c : ControlState). c.grain) control ∙ ap (λ (c : ControlState). c.grain) same;
-  disks = same_disks mid.lanes new.lanes record { count = ready.count; each = λ i d lt. (ready.each i d lt).same.disks } ∙ ap disks_in lanes;
+  lanes = subst (λ (ls : List LaneView). EachLane IsSameLane ls new.lanes) lanes record { count = ready.count; each = λ i d lt. (ready.each i d lt).same };
   stands = λ decisions w stands. ready_stands decisions mid new w (control_reserved decisions old mid w same lanes stands) control ready;
-  quiet = λ q. each_keeps mid.lanes new.lanes record { count = ready.count; each = λ i d lt. (ready.each i d lt).quiet } (subst AreQuiet (sym lanes) q);
+  quiet = subst (λ (ls : List LaneView). EachLane KeepsQuiet ls new.lanes) lanes record { count = ready.count; each = λ i d lt. (ready.each i d lt).quiet };
 }
 
 pub ready_for : (old new : StoreView) (d : Decision) → CanPrepare old d → IsReserved old new → CanApply new.control d → CanAllDo new.lanes d.events → IsReadyFor new d
@@ -142,7 +118,7 @@ all_done old mid new d control each after lanes =
     let all : EachLane (IsLaneAfter d.events) old.lanes new.lanes = subst (λ (ls : List LaneView). EachLane (IsLaneAfter d.events) old.lanes ls) (sym lanes) each in
     record {
       grain = done.grain;
-      disks = same_disks old.lanes new.lanes record { count = all.count; each = λ i v lt. (all.each i v lt).same.disks };
+      lanes = record { count = all.count; each = λ i v lt. (all.each i v lt).same };
       stands = λ decisions w stands lawful. decision_stands decisions old new w d stands lawful done all;
-      quiet = λ none q. each_keeps old.lanes new.lanes record { count = all.count; each = λ i v lt. (all.each i v lt).quiet none } q;
+      quiet = λ none. record { count = all.count; each = λ i v lt. (all.each i v lt).quiet none };
     }

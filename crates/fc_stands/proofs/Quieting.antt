@@ -24,6 +24,7 @@ use Rattle.fc_stands.specs.Quiet.{AreQuiet, NeverFails, QuietBy}
 use Rattle.fc_stands.specs.Settling.{CanDecide, CanSettle, IsDecisionOn, IsSettling}
 use Rattle.fc_stands.specs.Store.{StoreView}
 use Rattle.fc_stands.proofs.Arming.{command_arms, settling_arms}
+use Rattle.fc_stands.proofs.Frames.{all_go_on_quiet}
 
 -- ---- lanes
 
@@ -49,22 +50,22 @@ each_keeps old new each quiet i d lt =
 
 -- ---- commands
 
-pub settled_quiet : (old mid new : StoreView) (d : Decision) → CanSettle old → IsSettling old d → IsReserved old mid → IsDone d mid new → AreQuiet old.lanes → AreQuiet new.lanes
-settled_quiet old mid new d can settling reserved done quiet =
+pub settled_quiet : (old mid new : StoreView) (d : Decision) → CanSettle old → IsSettling old d → IsReserved old mid → IsDone d mid new → EachLane KeepsQuiet old.lanes new.lanes
+settled_quiet old mid new d can settling reserved done =
     let P : Decision → Type 0 = λ x. ArmsNone x.events in
-    done.quiet (subst P (sym (settling can.0 can.1 can.3)) (settling_arms can.1.books)) (reserved.quiet quiet)
+    all_go_on_quiet old.lanes mid.lanes new.lanes reserved.quiet (done.quiet (subst P (sym (settling can.0 can.1 can.3)) (settling_arms can.1.books)))
 
 pub decided_quiet : (old mid new : StoreView) (command : Command) (d : Decision) (reply : Reply) → CanDecide old → IsDecisionOn old command d → IsReserved old mid → IsDone d mid new →
-    reply ≡ d.reply → arms (Asked command) reply ≡ false → AreQuiet old.lanes → AreQuiet new.lanes
-decided_quiet old mid new command d reply can decision reserved done replied unarmed quiet =
+    reply ≡ d.reply → arms (Asked command) reply ≡ false → EachLane KeepsQuiet old.lanes new.lanes
+decided_quiet old mid new command d reply can decision reserved done replied unarmed =
     let found = decision (can.0 + 1) (after_settling old.control.grain can.1) can.2.now in
     let P : Decision → Type 0 = λ x. ArmsNone x.events in
     let Q : Reply → Type 0 = λ r. arms (Asked command) r ≡ false in
-    done.quiet
+    all_go_on_quiet old.lanes mid.lanes new.lanes reserved.quiet
+    (done.quiet
     (subst P (sym found.2)
     (command_arms (restarts (after_settling old.control.grain can.1).rows) old.control.grain (after_settling old.control.grain can.1).books command found.0
-    (subst Q (replied ∙ ap (λ (x : Decision). x.reply) found.2) unarmed)))
-    (reserved.quiet quiet)
+    (subst Q (replied ∙ ap (λ (x : Decision). x.reply) found.2) unarmed))))
 
 -- ---- entries
 

@@ -1,5 +1,5 @@
 -- The grains of an access, one after the other.
-use Rattle.std.proofs.Common.{◌≡◌, ℕ, ◌+◌, ◌-◌, ◌*◌, ◌/◌, ◌<◌, ◌≤◌, max, min, ◌∙◌, List, length, slice_index_or, slice_set, sym, ap, subst, arith}
+use Rattle.std.proofs.Common.{◌≡◌, ℕ, ◌+◌, ◌-◌, ◌*◌, ◌/◌, ◌<◌, ◌≤◌, ◌∙◌, List, length, slice_index_or, slice_set, sym, ap, subst, arith}
 use Rattle.std.specs.List.{sum_by}
 use Rattle.std.proofs.lemmas.List.Sums.{sum_by-set}
 use Rattle.fc_base.specs.Grain.{grain_blocks}
@@ -62,12 +62,11 @@ pub first_before : (grain : GrainSize) (block count width : ℕ) → width ≡ g
 first_before K64 block count width is some = subst (λ n. block / n ≤ (block + count - 1) / n) (sym is) (omega arith)
 first_before K256 block count width is some = subst (λ n. block / n ≤ (block + count - 1) / n) (sym is) (omega arith)
 
--- The request for a grain, from its first block and the first block behind it.
-pub part_of-blocks : (grain : GrainSize) (access : Access) (volume : VolId) (block count g width first end : ℕ) → width ≡ grain_blocks grain
-    → first ≡ max block (g * width) → end ≡ min (block + count) ((g + 1) * width)
-    → request_of access volume first (end - first) ≡ part_of grain access volume block count g
-part_of-blocks grain access volume block count g width first end is_width is_first is_end =
-    let starts : first ≡ first_in grain block g = is_first ∙ ap (λ (w : ℕ). max block (g * w)) is_width in
-    let stops : end ≡ end_in grain (block + count) g = is_end ∙ ap (λ (w : ℕ). min (block + count) ((g + 1) * w)) is_width in
-    ap (λ (x : ℕ). request_of access volume x (end - x)) starts
-    ∙ ap (λ (x : ℕ). request_of access volume (first_in grain block g) (x - first_in grain block g)) stops
+-- The request for a grain, from its first block and how many there are, by the store's grain size.
+pub is_part_of : (grain size : GrainSize) (access : Access) (volume : VolId) (block count g first many : ℕ) → size ≡ grain
+    → first ≡ first_in size block g → many ≡ end_in size (block + count) g - first
+    → request_of access volume first many ≡ part_of grain access volume block count g
+is_part_of grain size access volume block count g first many same is_first is_many =
+    ap (λ (n : ℕ). request_of access volume first n) is_many
+    ∙ ap (λ (x : ℕ). request_of access volume x (end_in size (block + count) g - x)) is_first
+    ∙ ap (λ (s : GrainSize). request_of access volume (first_in s block g) (end_in s (block + count) g - first_in s block g)) same

@@ -15,6 +15,7 @@ use Rattle.fc_entry.specs.Picture.{grain_of_block}
 use Rattle.fc_entry.specs.declared.entry.Entry.{Entry}
 use Rattle.fc_follow.specs.Following.{Followed}
 use Rattle.fc_lane.specs.Lane.{LaneView, IsFollowing, of}
+use Rattle.fc_legal.specs.Asked.{end_in, first_in}
 use Rattle.fc_legal.specs.Stands.{Stands}
 use Rattle.fc_legal.specs.Steps.{RequestStep, IsInside, IsRefused, AccessIsRefused, one_more}
 use Rattle.fc_legal.specs.Whole.{Whole, lanes, lane_of_grain, lane_at, part_at, followed_at}
@@ -22,11 +23,12 @@ use Rattle.fc_parts.proofs.Lawful.{part_law_holds}
 use Rattle.fc_parts.specs.Law.{IsAt, IsInVolume}
 use Rattle.fc_rules.specs.LaneFits.{FitsPart}
 use Rattle.fc_stands.specs.Apart.{entry_apart, IsRefusalOf}
+use Rattle.fc_stands.specs.Leading.{LeadsOn}
 use Rattle.fc_lanes.specs.Asking.{request_of}
 use Rattle.fc_stands.specs.Store.{StoreView, IsLaneAt, StandsFor}
 use Rattle.fc_lanes.specs.declared.access.Access.{Access}
 use Rattle.fc_lanes.specs.declared.access.Access.TheVariants as access
-use Rattle.fc_stands.proofs.Turns.{IsTurn}
+use Rattle.fc_stands.proofs.PhaseStands.{entry_stands, stands_at}
 
 -- ---- an access
 
@@ -36,7 +38,7 @@ pub record IsInGrain (grain : GrainSize) (first count g : ℕ) : Type 0 where
   pub fits : first % grain_blocks grain + count ≤ grain_blocks grain
   pub of_grain : grain_of_block grain first ≡ g
 
-pub in_grain :
+in_grain :
     (grain : GrainSize) (block count g width first end : ℕ) →
     width ≡ grain_blocks grain →
     first ≡ max block (g * width) →
@@ -53,6 +55,14 @@ in_grain K256 block count g width first end is_width is_first is_end some begins
     let starts : first ≡ max block (g * 512) = is_first ∙ ap (λ (n : ℕ). max block (g * n)) is_width in
     let stops : end ≡ min (block + count) ((g + 1) * 512) = is_end ∙ ap (λ (n : ℕ). min (block + count) ((g + 1) * n)) is_width in
     record { some = omega arith; fits = omega arith; of_grain = omega arith }
+
+-- As the store's grain size says it.
+pub is_in_grain : (grain size : GrainSize) (block count g first many : ℕ) → size ≡ grain → first ≡ first_in size block g → many ≡ end_in size (block + count) g - first → 0 < count →
+    block < (g + 1) * grain_blocks grain → g * grain_blocks grain < block + count → IsInGrain grain first many g
+is_in_grain grain size block count g first many same is_first is_many some begins ends =
+    let starts : first ≡ first_in grain block g = is_first ∙ ap (λ (s : GrainSize). first_in s block g) same in
+    let are : many ≡ end_in grain (block + count) g - first = is_many ∙ ap (λ (s : GrainSize). end_in s (block + count) g - first) same in
+    subst (λ (n : ℕ). IsInGrain grain first n g) (sym are) (in_grain grain block count g (grain_blocks grain) first (end_in grain (block + count) g) refl starts refl some begins ends)
 
 -- It is at that grain.
 pub at_grain : (grain : GrainSize) (access : Access) (volume : VolId) (first count g : ℕ) → grain_of_block grain first ≡ g →
@@ -138,52 +148,16 @@ by_request grain w entry (Clean m g) refusal is refused = absurd is
 by_request grain w entry (CopyTurn lane) refusal is refused = absurd is
 by_request grain w entry (CleanTurn lane) refusal is refused = absurd is
 
--- One entry more tells lanes nothing.
-same_part : (grain : GrainSize) (w : Whole) (i : ℕ) → followed_at grain (one_more w) i ≡ followed_at grain w i
-unfolding part_at
-same_part grain w i = refl
-
 pub one_more_stands : (s : StoreView) (w : Whole) → StandsFor s w → StandsFor s (one_more w)
-one_more_stands s w stands = record {
-  control = stands.control;
-  count = stands.count;
-  each = λ i d inside.
-      let is : IsLaneAt s.control.grain w i (slice_index_or s.lanes i d) = stands.each i d inside in
-      record {
-        lane = is.lane;
-        lanes_are = is.lanes_are;
-        grain_is = is.grain_is;
-        stands = subst (λ (f : Followed). IsFollowing (slice_index_or s.lanes i d) f) (sym (same_part s.control.grain w i)) is.stands;
-      };
-  decisions = stands.decisions;
-  few = omega (arith, stands.few);
-  stands = record {
-    sound = stands.stands.sound;
-    few = stands.stands.few;
-    plain = stands.stands.plain;
-    each_lane = record {
-      some = stands.stands.each_lane.some;
-      pools = stands.stands.each_lane.pools;
-      calls = stands.stands.each_lane.calls;
-    };
-    firsts = stands.stands.firsts;
-    rows = record { each = stands.stands.rows.each; distinct = stands.stands.rows.distinct };
-  };
-  calls = λ i. omega (arith, stands.calls i);
-}
+one_more_stands s w stands = entry_stands stands.decisions s w (stands_at s w stands) (omega (arith, stands.few))
 
-pub refused_turn :
-    (s : StoreView) (w : Whole) (number : ℕ) (request : Request) (refusal : Refusal) →
-    StandsFor s w →
-    w.entries ≡ number →
-    IsRefusalOf s.control.grain w request refusal →
-    IsTurn (StandsFor s) s.control.grain w request (entry_apart number Control request (Refused refusal) []) (one_more w)
-refused_turn s w number request refusal stands counted is = record {
-  by_main = refl;
-  asked = refl;
-  step = record {
-    number = sym counted;
-    right = by_request s.control.grain w (entry_apart number Control request (Refused refusal) []) request refusal is
+pub refused_leads : (s : StoreView) (w : Whole) (actor : ℕ) (request : Request) (refusal : Refusal) → StandsFor s w → IsRefusalOf s.control.grain w request refusal →
+    LeadsOn s.control.grain w (entry_apart 0 actor Control request (Refused refusal) []) s
+refused_leads s w actor request refusal stands is = (
+  one_more w,
+  record {
+    number = refl;
+    right = by_request s.control.grain w (entry_apart w.entries actor Control request (Refused refusal) []) request refusal is
         record {
           place = refl;
           apart = record { no_moves = refl; untorn = refl; no_calls = refl; no_faults_before = refl; no_faults_after = refl };
@@ -191,8 +165,8 @@ refused_turn s w number request refusal stands counted is = record {
           no_effects = refl;
           next_is = refl;
         };
-  };
-  counted = refl;
-  actors = refl;
-  stands = one_more_stands s w stands;
-}
+  },
+  refl,
+  refl,
+  one_more_stands s w stands,
+)

@@ -1,5 +1,5 @@
 -- One turn of the store, and the entry that it logs.
-use Rattle.std.proofs.Common.{◌≡◌, ℕ, ◌+◌, ◌<◌, ◌≤◌, [], ◌∷◌, ◌++◌, length, Result, Ok, Err, OnOk, OnErr, IfErr, refl, sym, ◌∙◌, ap, arith}
+use Rattle.std.proofs.Common.{◌≡◌, ℕ, ◌+◌, ◌<◌, ◌≤◌, [], ◌∷◌, ◌++◌, length, Result, Ok, Err, OnOk, OnErr, IfErr, refl, sym, ◌∙◌, ap, subst, arith}
 use Rattle.std.specs.Prelude.{IfOk}
 use Rattle.std.proofs.lemmas.List.{length-append}
 use Rattle.fc_base.specs.declared.request.Reply.{Reply}
@@ -9,10 +9,13 @@ use Rattle.fc_entry.specs.HistoryState.{HistoryState}
 use Rattle.fc_entry.specs.declared.entry.Entry.{Entry}
 use Rattle.fc_entry.specs.declared.stop.Stop.{Stop}
 use Rattle.fc_entry.specs.declared.stop.Stop.TheVariants.{LogFull, NoMemory}
+use Rattle.fc_lane.specs.Lane.{IsAsked}
 use Rattle.fc_legal.specs.Added.{IsOf, IsTold}
 use Rattle.fc_legal.specs.Steps.{Step}
 use Rattle.fc_legal.specs.Whole.{Whole}
+use Rattle.fc_stands.specs.Leading.{LeadsOn}
 use Rattle.fc_stands.specs.Logged.{IsFull, Logged, anything}
+use Rattle.fc_stands.specs.Store.{StandsFor, StoreView}
 
 -- An entry by `main` that answers the request, and what is told after it.
 pub record IsTurn (Stands : Whole → Type 0) (grain : GrainSize) (w : Whole) (request : Request) (entry : Entry) (next : Whole) : Type 0 where
@@ -22,6 +25,18 @@ pub record IsTurn (Stands : Whole → Type 0) (grain : GrainSize) (w : Whole) (r
   pub counted : next.entries ≡ w.entries + 1
   pub actors : next.actors ≡ w.actors
   pub stands : Stands next
+
+-- One that leads on is a turn, once it has its number.
+pub led_turn : (s : StoreView) (grain : GrainSize) (w : Whole) (request : Request) (number : ℕ) (entry : Entry) (leads : LeadsOn grain w entry s) → number ≡ w.entries → IsAsked 0 0 request entry →
+    IsTurn (StandsFor s) grain w request (record entry { number = number }) leads.0
+led_turn s grain w request number entry leads counted asked = record {
+  by_main = asked.actor_is;
+  asked = asked.request_is;
+  step = subst (λ (n : ℕ). Step grain w (record entry { number = n }) leads.0) (sym counted) leads.1;
+  counted = leads.2;
+  actors = leads.3;
+  stands = leads.4;
+}
 
 -- ---- it is logged
 

@@ -13,12 +13,12 @@ use Rattle.fc_base.specs.declared.request.Reply.{Reply}
 use Rattle.fc_base.specs.declared.request.Request.{Request}
 use Rattle.fc_entry.specs.declared.entry.Entry.{Entry}
 
--- By `main`.
-abbrev pub entry_apart : ℕ → Place → Request → Reply → List Effect → Entry
-entry_apart number place request reply effects =
+-- By number and actor.
+abbrev pub entry_apart : ℕ → ℕ → Place → Request → Reply → List Effect → Entry
+entry_apart number actor place request reply effects =
     record {
       number = number;
-      actor = 0;
+      actor = actor;
       place = place;
       request = request;
       reply = reply;

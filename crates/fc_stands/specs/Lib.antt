@@ -5,5 +5,6 @@ pub mod Arming
 pub mod Quiet
 pub mod Phase
 pub mod Settling
+pub mod Leading
 pub mod Logged
 pub mod Passing

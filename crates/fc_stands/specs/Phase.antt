@@ -8,14 +8,12 @@ use Rattle.fc_base.specs.declared.decision.Decision.{Decision}
 use Rattle.fc_books.specs.After.{after_table_change, flags_after}
 use Rattle.fc_desk.specs.Changes.{FitChanges, AreCountable, CanApply, adds}
 use Rattle.fc_desk.specs.Control.{ControlState, books_of}
-use Rattle.fc_lane.specs.Lane.{ArmsNone}
+use Rattle.fc_lane.specs.Lane.{ArmsNone, IsSameLane, KeepsQuiet}
 use Rattle.fc_legal.specs.Lawful.{IsLawful}
 use Rattle.fc_legal.specs.Stands.{Stands}
 use Rattle.fc_legal.specs.Steps.{left_by}
 use Rattle.fc_legal.specs.Whole.{Whole, lanes}
-use Rattle.fc_lanes.specs.AllLanes.{CanAllDo}
-use Rattle.fc_lanes.specs.Dealing.{disks_in}
-use Rattle.fc_stands.specs.Quiet.{AreQuiet}
+use Rattle.fc_lanes.specs.AllLanes.{CanAllDo, EachLane}
 use Rattle.fc_stands.specs.Store.{StoreView, IsControlOf, AreLanesOf, AreFewCalls}
 
 -- The store stands for what is told after so many decisions. Between the phases of a command there may be one more than its
@@ -63,19 +61,20 @@ pub record IsReadyFor (s : StoreView) (d : Decision) : Type 0 where
   pub control : CanApply s.control d
   pub lanes : CanAllDo s.lanes d.events
 
--- Made ready or not, a store stands for what it did, over as many disks, and as quiet as they were.
+-- Made ready or not, a store stands for what it did, and each lane stays the lane that it is, as quiet as it was.
 pub record IsReserved (old new : StoreView) : Type 0 where
   pub grain : new.control.grain ≡ old.control.grain
-  pub disks : disks_in new.lanes ≡ disks_in old.lanes
+  pub lanes : EachLane IsSameLane old.lanes new.lanes
   pub stands : (decisions : ℕ) (w : Whole) → StandsAt decisions old w → StandsAt decisions new w
-  pub quiet : AreQuiet old.lanes → AreQuiet new.lanes
+  pub quiet : EachLane KeepsQuiet old.lanes new.lanes
 
--- What is decided is done: the store stands for what that leaves. Where no fault was armed, quiet disks stay so.
+-- What is decided is done: the store stands for what that leaves, and each lane stays the lane that it is. Where no fault was
+-- armed, a quiet lane stays so.
 pub record IsDone (d : Decision) (old new : StoreView) : Type 0 where
   pub grain : new.control.grain ≡ old.control.grain
-  pub disks : disks_in new.lanes ≡ disks_in old.lanes
+  pub lanes : EachLane IsSameLane old.lanes new.lanes
   pub stands : (decisions : ℕ) (w : Whole) → StandsAt decisions old w → IsLawful old.control.grain decisions w d → StandsAt (decisions + 1) new (left_by old.control.grain w d)
-  pub quiet : ArmsNone d.events → AreQuiet old.lanes → AreQuiet new.lanes
+  pub quiet : ArmsNone d.events → EachLane KeepsQuiet old.lanes new.lanes
 
 -- ---- commands
 

@@ -19,15 +19,16 @@ ghost use Rattle.fc_lanes.specs.Asking.{command_of, part_of};
 ghost use Rattle.fc_lanes.specs.Dealing.{disks_in};
 ghost use Rattle.fc_stands.specs.Store.{StandsFor};
 
-use crate::log::{entry_apart, is_full, log};
+use crate::apart::refused_entry;
+use crate::log::{is_full, log};
 use crate::store::Store;
+use crate::touched::blocks_in;
 use fc_base::fault::{Kind, Refusal, ValueOf, WordFault};
 use fc_base::ids::VolId;
 use fc_base::limits::{MAX_BLOCKS, MAX_ENTRIES};
-use fc_base::list::List;
 use fc_base::name::Ref;
 use fc_base::outcome::NoMemory;
-use fc_base::request::{Place, Reply, Request};
+use fc_base::request::Request;
 use fc_base::size::GrainSize;
 use fc_base::volume::Volume;
 use fc_entry::history::History;
@@ -77,9 +78,7 @@ impl<D: Mdisk> Store<D> {
         if is_full(history) {
             return Err(Stop::LogFull);
         }
-        let blocks = self.control.grain().blocks() as u64;
-        let first = (block as u64).max(grain as u64 * blocks);
-        let end = (block as u64 + count as u64).min((grain as u64 + 1) * blocks);
+        let (first, blocks) = blocks_in(self.control.grain(), block, count, grain);
         let place = grain as usize % self.lanes.len();
         let lane = &mut self.lanes[place];
         match lane.make_room(self.alloc) {
@@ -91,10 +90,11 @@ impl<D: Mdisk> Store<D> {
             self.alloc,
             lane,
             number,
+            0,
             access,
             volume,
             first,
-            (end - first) as u32,
+            blocks,
         );
         log(history, entry)
     }
@@ -151,21 +151,13 @@ impl<D: Mdisk> Store<D> {
         if is_full(history) {
             return Err(Stop::LogFull);
         }
-        let reply = Reply::Refused(refusal);
-        let effects = List::new(self.alloc);
-        let entry = entry_apart(
-            self.alloc,
-            history.len(),
-            Place::Control,
-            request,
-            reply,
-            effects,
-        );
+        let mut entry = refused_entry(self.alloc, 0, request, refusal);
+        entry.number = history.len() as u64;
         log(history, entry)
     }
 
     /// The volume that an access is to; or why it is refused: NoSuch without such a volume, and then its blocks.
-    fn taken(&self, volume: &Ref, block: u32, count: u32) -> Result<VolId, Refusal>
+    pub fn taken(&self, volume: &Ref, block: u32, count: u32) -> Result<VolId, Refusal>
         ensures taken { IfOk result (λ id. (v : Volume) × (volume_named self.now.control.tables volume.now ≡ Some v) × (v.id ≡ id) × (blocks_refusal self.now.control.grain v block count ≡ None)) }
         ensures refused { IfErr result (λ refusal. (b : Books) → b.tables ≡ self.now.control.tables → access_refused self.now.control.grain b volume.now block count ≡ Some refusal) }
     {

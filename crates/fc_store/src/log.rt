@@ -1,18 +1,15 @@
 //! Entries of the history.
 
-ghost use Rattle.std.specs.Prelude.{◌≡◌, ◌<◌, ◌≤◌, [], ◌∷◌, ◌++◌, length, IfErr, IfOk, OnErr, OnOk, None};
+ghost use Rattle.std.specs.Prelude.{◌≡◌, ◌<◌, ◌≤◌, [], ◌∷◌, ◌++◌, length, IfErr, IfOk, OnErr, OnOk};
 ghost use Rattle.std.specs.Bool.{OnFalse, OnTrue};
 ghost use Rattle.fc_legal.specs.Agenda.{is_done};
 ghost use Rattle.fc_legal.specs.Seconds.{has_moved};
-ghost use Rattle.fc_stands.specs.Apart.{entry_apart};
 
 use fc_base::limits::MAX_ENTRIES;
-use fc_base::list::List;
-use fc_base::request::{Effect, Place, Reply, Request};
+use fc_base::request::Reply;
 use fc_entry::entry::Entry;
 use fc_entry::history::History;
 use fc_entry::stop::Stop;
-use std::alloc::Global;
 
 /// Whether one more entry would pass the greatest number of entries.
 pub(crate) fn is_full(history: &History) -> bool
@@ -75,30 +72,4 @@ fn has_moved(entry: &Entry) -> bool
     ensures { result ≡ has_moved entry.now.reply }
 {
     matches!(entry.reply, Reply::Moved { .. })
-}
-
-/// An entry of `main` that speaks of no disk.
-pub(crate) fn entry_apart(
-    alloc: Global,
-    number: usize,
-    place: Place,
-    request: Request,
-    reply: Reply,
-    effects: List<Effect>,
-) -> Entry
-    ensures { result ≡ entry_apart number place request reply effects }
-{
-    Entry {
-        number: number as u64,
-        actor: 0,
-        place,
-        request,
-        reply,
-        moves: List::new(alloc),
-        effects,
-        torn: None,
-        faults_before: 0,
-        faults_after: 0,
-        calls: 0,
-    }
 }

@@ -1,9 +1,10 @@
 //! The two phases of a command: all is settled, and then what the command asks is decided and done.
 
 ghost use Rattle.std.specs.Prelude.{◌≡◌, ◌++◌, List as Items};
-ghost use Rattle.fc_stands.specs.Quiet.{AnswersUnarmed, AreQuiet};
+ghost use Rattle.fc_stands.specs.Quiet.{AnswersUnarmed};
 ghost use Rattle.fc_base.specs.declared.request.Effect.{Effect};
-ghost use Rattle.fc_lanes.specs.Dealing.{disks_in};
+ghost use Rattle.fc_lane.specs.Lane.{IsSameLane, KeepsQuiet};
+ghost use Rattle.fc_lanes.specs.AllLanes.{EachLane};
 ghost use Rattle.fc_store.specs.Effects.{IsJoined};
 ghost use Rattle.fc_stands.specs.Phase.{IsDecided};
 ghost use Rattle.fc_stands.specs.Settling.{CanDecide, CanSettle, Decides, Settles};
@@ -23,8 +24,8 @@ impl<D: Mdisk> Store<D> {
         requires stands { CanSettle self.old }
         ensures settles { Settles result self.old self.new }
         ensures grain { self.new.control.grain ≡ self.old.control.grain }
-        ensures disks { disks_in self.new.lanes ≡ disks_in self.old.lanes }
-        ensures quiet { AreQuiet self.old.lanes → AreQuiet self.new.lanes }
+        ensures lanes { EachLane IsSameLane self.old.lanes self.new.lanes }
+        ensures quiet { EachLane KeepsQuiet self.old.lanes self.new.lanes }
     {
         let decision = match self.plan_settling() {
             Ok(decision) => decision,
@@ -49,8 +50,8 @@ impl<D: Mdisk> Store<D> {
         requires decided { IsDecided command.now }
         ensures decides { Decides result self.old self.new command.now settled.now }
         ensures grain { self.new.control.grain ≡ self.old.control.grain }
-        ensures disks { disks_in self.new.lanes ≡ disks_in self.old.lanes }
-        ensures quiet { AnswersUnarmed result command.now → AreQuiet self.old.lanes → AreQuiet self.new.lanes }
+        ensures lanes { EachLane IsSameLane self.old.lanes self.new.lanes }
+        ensures quiet { AnswersUnarmed result command.now → EachLane KeepsQuiet self.old.lanes self.new.lanes }
     {
         let decision = match self.plan_command(command) {
             Ok(decision) => decision,

@@ -21,10 +21,10 @@ loop-part-preserved g c =
       rest = left.0;
       are_lanes = left.1;
       kept =
-          ap (λ (ls : List LaneView). lane_parts ls ++ rest) c.in-Ok.ensures.items
+          ap (λ (ls : List LaneView). lane_parts ls ++ rest) c.push_reserved.ensures.items
           ∙ lane_taken c.loop-part.lanes.items c.in-Lane.lane rest
           ∙ ap (λ (p : StorePart g.row.D.Denot). lane_parts c.loop-part.lanes.items ++ p ∷ rest) (sym c.in-Lane.is)
           ∙ ap (λ (ps : List (StorePart g.row.D.Denot)). lane_parts c.loop-part.lanes.items ++ ps) (sym c.in-Some.ensures.items)
           ∙ c.loop-part.invariant.kept;
-      room = omega (arith, c.loop-part.invariant.room, ap length c.in-Some.ensures.items, c.in-Ok.ensures.len, c.in-Ok.ensures.capacity);
+      room = omega (arith, c.loop-part.invariant.room, ap length c.in-Some.ensures.items, c.push_reserved.ensures.len, c.push_reserved.ensures.capacity);
     }

@@ -1,4 +1,5 @@
 use Rattle.fc_stands.proofs.CommandPhases.{decision_can, decision_done}
+use Rattle.fc_stands.proofs.Frames.{all_go_on, all_stay, all_stay_quiet}
 use Rattle.fc_stands.proofs.Quieting.{decided_quiet}
 use Rattle.fc_store.proofs.store.Store.decide_all.Goals as goal
 
@@ -14,3 +15,13 @@ pub returns-clause-quiet : goal.returns-clause-quiet
 returns-clause-quiet g c =
     decided_quiet c.args.self.now c.reserve_all.new.self c.apply_all.new.self c.args.command.now c.in-Ok.decision c.told.result.0 c.requires.stands c.in-Ok.ensures
     c.reserve_all.ensures.reserved c.apply_all.ensures.done c.told.ensures.reply
+
+pub returns-clause-lanes : goal.returns-clause-lanes
+returns-clause-lanes g c =
+    all_go_on c.args.self.now.lanes c.reserve_all.new.self.lanes c.apply_all.new.self.lanes c.reserve_all.ensures.reserved.lanes c.apply_all.ensures.done.lanes
+
+pub returns-in-Err-clause-lanes : goal.returns-in-Err-clause-lanes
+returns-in-Err-clause-lanes g c = all_stay c.args.self.now.lanes
+
+pub returns-in-Err-clause-quiet : goal.returns-in-Err-clause-quiet
+returns-in-Err-clause-quiet g c = λ unarmed. all_stay_quiet c.args.self.now.lanes

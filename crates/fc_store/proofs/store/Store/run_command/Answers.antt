@@ -1,41 +1,49 @@
-use Rattle.std.proofs.Common.{Bool, Result, sym, subst, arith}
+use Rattle.std.proofs.Common.{◌≡◌, ◌∷◌, ◌++◌, [], ℕ, Bool, Result, length, sym, subst, arith}
 use Rattle.fc_stands.specs.Store.{StandsFor}
+use Rattle.fc_entry.specs.HistoryState.{HistoryState}
+use Rattle.fc_entry.specs.declared.entry.Entry.{Entry}
 use Rattle.fc_entry.specs.declared.stop.Stop.{Stop}
-use Rattle.fc_stands.proofs.CommandRuns.{AnswersCommand, can_settle, can_decide, ran_whole, ran_unsettled}
-use Rattle.fc_stands.proofs.Turns.{history_full}
 use Rattle.fc_legal.specs.Added.{StaysUp}
+use Rattle.fc_stands.specs.Logged.{Logged, whether_done}
 use Rattle.fc_stands.specs.Quiet.{QuietBy}
+use Rattle.fc_base.specs.declared.request.Request.TheVariants.{Command as Asked}
+use Rattle.fc_stands.proofs.CommandLogs.{IsLoggedAs, log_led, log_quiet}
+use Rattle.fc_stands.proofs.Frames.{same_disks}
+use Rattle.fc_stands.proofs.Turns.{history_full}
 use Rattle.fc_store.proofs.store.Store.run_command.Goals as goal
 
 pub returns-then-is_full-clause-answered : goal.returns-then-is_full-clause-answered
 returns-then-is_full-clause-answered g c = λ w told.
-    subst (λ (result : Result Bool Stop). AnswersCommand result c.args.self.now c.args.self.now.control.grain w c.args.command c.args.history.now c.args.history.now) (sym c.full.ensures)
+    let Answers : Result Bool Stop → Type 0 = λ result.
+    Logged result whether_done (StandsFor c.args.self.now) c.args.self.now.control.grain w (Asked c.args.command) c.args.history.now c.args.history.now in
+    subst Answers (sym c.full.ensures)
     (history_full (StandsFor c.args.self.now) w c.args.history.now told c.requires.room (omega (arith, c.if-is_full.ensures.full)))
-
-pub settle_all-requires : goal.settle_all-requires
-settle_all-requires g c = record { stands = can_settle c.args.self.now c.args.history.now (omega (arith, c.if-is_full.ensures.room)) c.requires.stands }
-
-pub run_settled-requires-clause-stands : goal.run_settled-requires-clause-stands
-run_settled-requires-clause-stands g c =
-    can_decide c.args.self.now c.settle_all.new.self c.in-Ok.effects c.args.history.now (omega (arith, c.if-is_full.ensures.room)) c.requires.stands c.settle_all.ensures.grain c.in-Ok.ensures.settles
-
-pub returns-in-Ok-clause-answered : goal.returns-in-Ok-clause-answered
-returns-in-Ok-clause-answered g c =
-    ran_whole c.run_settled.result c.args.self.now c.settle_all.new.self c.run_settled.new.self c.args.command c.in-Ok.effects c.args.history.now c.run_settled.new.history
-    (omega (arith, c.if-is_full.ensures.room)) c.settle_all.ensures.grain c.in-Ok.ensures.settles c.run_settled.ensures.answered
-
-pub returns-in-Err-clause-answered : goal.returns-in-Err-clause-answered
-returns-in-Err-clause-answered g c =
-    ran_unsettled c.log_unsettled.result c.args.self.now c.settle_all.new.self c.args.command c.args.history.now c.log_unsettled.new.history
-    c.settle_all.ensures.grain c.log_unsettled.ensures.answered c.in-Err.ensures.settles
 
 pub returns-then-is_full-clause-quiet : goal.returns-then-is_full-clause-quiet
 returns-then-is_full-clause-quiet g c = λ quiet.
     let P : Result Bool Stop → Type 0 = λ result. StaysUp result (QuietBy c.args.history.now.entries c.args.self.now.lanes) in
     subst P (sym c.full.ensures) quiet
 
-pub returns-in-Ok-clause-quiet : goal.returns-in-Ok-clause-quiet
-returns-in-Ok-clause-quiet g c = λ quiet. c.run_settled.ensures.quiet (λ none. c.settle_all.ensures.quiet (quiet none))
+pub command_entry-entry-requires-clause-can : goal.command_entry-entry-requires-clause-can
+command_entry-entry-requires-clause-can g c =
+    (c.requires.stands.0, c.requires.stands.1.0, omega (arith, c.if-is_full.ensures.room, c.requires.stands.1.1.entries))
 
-pub returns-in-Err-clause-quiet : goal.returns-in-Err-clause-quiet
-returns-in-Err-clause-quiet g c = λ quiet. c.log_unsettled.ensures.quiet (λ none. c.settle_all.ensures.quiet (quiet none))
+-- The entry, with its number.
+numbered : (result : Result Bool Stop) (before after : HistoryState) (entry : Entry) (number : ℕ) → number ≡ length before.entries →
+    IsLoggedAs result before after (record entry { number = number }) → IsLoggedAs result before after (record entry { number = length before.entries })
+numbered result before after entry number is logged = subst (λ (n : ℕ). IsLoggedAs result before after (record entry { number = n })) is logged
+
+pub returns-clause-answered : goal.returns-clause-answered
+returns-clause-answered g c = λ w told.
+    log_led c.log_done.result c.command_entry-entry.new.self c.args.self.now.control.grain w c.args.command c.args.history.now c.log_done.new.history c.command_entry-entry.result
+    (c.command_entry-entry.ensures.right w told.0 (omega (arith, c.if-is_full.ensures.room, told.1.entries))) c.command_entry-entry.ensures.asked told.1
+    (numbered c.log_done.result c.args.history.now c.log_done.new.history c.command_entry-entry.result _ c.len.ensures c.log_done.ensures.ok) c.log_done.ensures.err c.log_done.ensures.stop
+
+pub returns-clause-disks : goal.returns-clause-disks
+returns-clause-disks g c = same_disks c.args.self.now.lanes c.command_entry-entry.new.self.lanes c.command_entry-entry.ensures.lanes
+
+pub returns-clause-quiet : goal.returns-clause-quiet
+returns-clause-quiet g c = λ quiet.
+    log_quiet c.log_done.result c.args.self.now c.command_entry-entry.new.self c.args.command c.args.history.now c.log_done.new.history c.command_entry-entry.result
+    c.command_entry-entry.ensures.quiet c.command_entry-entry.ensures.asked
+    (numbered c.log_done.result c.args.history.now c.log_done.new.history c.command_entry-entry.result _ c.len.ensures c.log_done.ensures.ok) c.log_done.ensures.stop quiet

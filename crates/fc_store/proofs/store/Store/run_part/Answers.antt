@@ -9,9 +9,9 @@ use Rattle.fc_base.specs.declared.request.Request.{Request}
 use Rattle.fc_stands.specs.Logged.{Logged, anything}
 use Rattle.fc_lane.specs.Lane.{LaneView}
 use Rattle.fc_lanes.specs.Dealing.{disks_in}
-use Rattle.fc_stands.proofs.Ranging.{disks_stay, part_of-blocks}
+use Rattle.fc_stands.proofs.Ranging.{disks_stay, is_part_of}
 use Rattle.fc_stands.proofs.Parting.{can_access, inside, turn}
-use Rattle.fc_stands.proofs.Turning.{in_grain}
+use Rattle.fc_stands.proofs.Turning.{is_in_grain}
 use Rattle.fc_stands.proofs.Quieting.{keeps_roomy, one_keeps, quiet_logged}
 use Rattle.fc_stands.specs.Quiet.{AreQuiet}
 use Rattle.fc_store.proofs.store.Store.run_part.Goals as goal
@@ -30,9 +30,9 @@ access_lane-entry-requires-clause-can g c =
     (c.index_mut-lane.ensures.value ∙ ap (λ (s : StoreView). slice_index_or s.lanes (c.args.grain % c.len.result) c.index_mut-lane.result.now) (sym same))
     c.in-Ok.ensures.same
     c.requires.there.0 c.args.volume _ _ c.requires.there.1 c.requires.there.2
-    (in_grain c.args.self.now.control.grain c.args.block c.args.count c.args.grain _ _ _
-    (c.blocks-blocks.ensures ∙ ap grain_blocks (c.grain.ensures ∙ ap (λ (s : StoreView). s.control.grain) (sym same)))
-    c.max-first.ensures c.min-end.ensures c.requires.some c.requires.begins c.requires.ends)
+    (is_in_grain c.args.self.now.control.grain c.grain.result c.args.block c.args.count c.args.grain _ _
+    (c.grain.ensures ∙ ap (λ (s : StoreView). s.control.grain) (sym same))
+    c.blocks_in.ensures.first c.blocks_in.ensures.count c.requires.some c.requires.begins c.requires.ends)
     c.requires.there.3
 
 pub returns-clause-answered : goal.returns-clause-answered
@@ -45,18 +45,18 @@ returns-clause-answered g c = λ w told.
     (c.index_mut-lane.ensures.value ∙ ap (λ (s : StoreView). slice_index_or s.lanes (c.args.grain % c.len.result) c.index_mut-lane.result.now) (sym same))
     c.in-Ok.ensures.same
     c.requires.there.0 c.args.volume c.args.access _ _ _ c.access_lane-entry.result c.access_lane-entry.new.lane c.requires.there.1 c.requires.there.2
-    (in_grain c.args.self.now.control.grain c.args.block c.args.count c.args.grain _ _ _
-    (c.blocks-blocks.ensures ∙ ap grain_blocks (c.grain.ensures ∙ ap (λ (s : StoreView). s.control.grain) (sym same)))
-    c.max-first.ensures c.min-end.ensures c.requires.some c.requires.begins c.requires.ends)
+    (is_in_grain c.args.self.now.control.grain c.grain.result c.args.block c.args.count c.args.grain _ _
+    (c.grain.ensures ∙ ap (λ (s : StoreView). s.control.grain) (sym same))
+    c.blocks_in.ensures.first c.blocks_in.ensures.count c.requires.some c.requires.begins c.requires.ends)
     c.requires.there.3 c.access_lane-entry.ensures.right c.access_lane-entry.ensures.asked c.access_lane-entry.ensures.same
     (omega arith) (told.1.entries ∙ sym c.len-number.ensures) in
     let New : StoreView → StoreView = λ s. record s { lanes = slice_set s.lanes (c.args.grain % c.len.result) c.access_lane-entry.new.lane } in
     let Asks : Request → Type 0 = λ r. Logged c.log.result anything (StandsFor (New c.args.self.now)) c.args.self.now.control.grain w r c.args.history.now c.log.new.history in
     let logged = turn_logged (StandsFor (New c.args.self.now)) c.args.self.now.control.grain w _ _ c.args.history.now c.log.new.history c.access_lane-entry.result left told.1
     c.log.result c.log.ensures.ok c.log.ensures.err c.log.ensures.stop in
-    let asked = subst Asks (part_of-blocks c.args.self.now.control.grain c.args.access c.args.volume c.args.block c.args.count c.args.grain _ _ _
-    (c.blocks-blocks.ensures ∙ ap grain_blocks (c.grain.ensures ∙ ap (λ (s : StoreView). s.control.grain) (sym same)))
-    c.max-first.ensures c.min-end.ensures) logged in
+    let asked = subst Asks (is_part_of c.args.self.now.control.grain c.grain.result c.args.access c.args.volume c.args.block c.args.count c.args.grain _ _
+    (c.grain.ensures ∙ ap (λ (s : StoreView). s.control.grain) (sym same))
+    c.blocks_in.ensures.first c.blocks_in.ensures.count) logged in
     let Stands : StoreView → Type 0 = λ s. Logged c.log.result anything (StandsFor (New s)) c.args.self.now.control.grain w
     (part_of c.args.self.now.control.grain c.args.access c.args.volume c.args.block c.args.count c.args.grain) c.args.history.now c.log.new.history in
     subst Stands same asked

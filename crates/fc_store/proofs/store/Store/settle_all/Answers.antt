@@ -1,4 +1,5 @@
 use Rattle.fc_stands.proofs.CommandPhases.{settling_can, settling_done}
+use Rattle.fc_stands.proofs.Frames.{all_go_on, all_stay, all_stay_quiet}
 use Rattle.fc_stands.proofs.Quieting.{settled_quiet}
 use Rattle.fc_store.proofs.store.Store.settle_all.Goals as goal
 
@@ -13,3 +14,13 @@ returns-clause-settles g c =
 pub returns-clause-quiet : goal.returns-clause-quiet
 returns-clause-quiet g c =
     settled_quiet c.args.self.now c.reserve_all.new.self c.apply_all.new.self c.in-Ok.decision c.requires.stands c.in-Ok.ensures c.reserve_all.ensures.reserved c.apply_all.ensures.done
+
+pub returns-clause-lanes : goal.returns-clause-lanes
+returns-clause-lanes g c =
+    all_go_on c.args.self.now.lanes c.reserve_all.new.self.lanes c.apply_all.new.self.lanes c.reserve_all.ensures.reserved.lanes c.apply_all.ensures.done.lanes
+
+pub returns-in-Err-clause-lanes : goal.returns-in-Err-clause-lanes
+returns-in-Err-clause-lanes g c = all_stay c.args.self.now.lanes
+
+pub returns-in-Err-clause-quiet : goal.returns-in-Err-clause-quiet
+returns-in-Err-clause-quiet g c = all_stay_quiet c.args.self.now.lanes

@@ -1,0 +1,5 @@
+//! Tests of disks in memory.
+#![tactic(auto)]
+
+#[cfg(test)]
+mod tests;

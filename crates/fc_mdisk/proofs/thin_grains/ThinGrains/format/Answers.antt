@@ -1,5 +1,0 @@
-use Rattle.fc_mdisk.proofs.Reached.{unwritten_state}
-use Rattle.fc_mdisk.proofs.thin_grains.ThinGrains.format.Goals as goal
-
-pub returns-in-Ok-clause-ok : goal.returns-in-Ok-clause-ok
-returns-in-Ok-clause-ok c = rw c.in-Ok.ensures (unwritten_state c.args.width c.args.count)
