@@ -1,5 +1,5 @@
 -- What the parts of a store stand for together, and each part's share of it.
-use Rattle.std.specs.Prelude.{◌≡◌, ℕ, ◌+◌, ◌*◌, ◌<◌, ◌≤◌}
+use Rattle.std.specs.Prelude.{◌≡◌, ℕ, ◌*◌, ◌<◌, ◌≤◌}
 use Rattle.fc_base.specs.declared.size.GrainSize.{GrainSize}
 use Rattle.fc_desk.specs.Control.{ControlState}
 use Rattle.fc_entry.specs.declared.entry.Entry.{Entry}

@@ -34,14 +34,53 @@ access_step grain decisions w i entry stands below of inside right counted = rec
 -- ---- the store
 
 -- How many lanes there are stays.
-lanes_stay : (grain : GrainSize) (w : Whole) (i : ℕ) (entry : Entry) → lanes (after_access grain w i entry) ≡ lanes w
+pub lanes_stay : (grain : GrainSize) (w : Whole) (i : ℕ) (entry : Entry) → lanes (after_access grain w i entry) ≡ lanes w
 lanes_stay grain w i entry = length-set w.faults i entry.faults_after
 
 -- Which lane it is says all of it.
 abbrev pub IsLane : GrainSize → Whole → ℕ → LaneView → Type 0
 IsLane grain w i v = (v.lane ≡ i) × (v.lanes ≡ lanes w) × (v.grains.grain ≡ grain)
 
--- The lane of the entry stands for its part of what is told, and the others for theirs.
+-- The lane of the entry, as it is then, stands for its part of what is told.
+pub lane_stands :
+    (grain : GrainSize) (decisions : ℕ) (w : Whole) (i : ℕ) (entry : Entry) (v : LaneView) →
+    Stands decisions w →
+    i < lanes w →
+    IsOfLane grain w i entry.request →
+    IsRightInLane (lane_at grain w i) (part_at grain w i) entry →
+    IsLane grain w i v →
+    IsFollowing v (followed_entry (lane_at grain w i) (followed_at grain w i) entry) →
+    IsLaneAt grain (after_access grain w i entry) i v
+lane_stands grain decisions w i entry v stands below of right same now =
+    let R : Followed → Type 0 = λ f. IsFollowing v f in
+    record {
+      lane = same.0;
+      lanes_are = same.1 ∙ sym (lanes_stay grain w i entry);
+      grain_is = same.2;
+      stands = subst R (sym (part_law_holds.told grain decisions w i entry stands below of right)) now;
+    }
+
+-- Any other lane stands for its own, which stays.
+pub other_stands :
+    (grain : GrainSize) (decisions : ℕ) (w : Whole) (i : ℕ) (entry : Entry) (j : ℕ) (v : LaneView) →
+    Stands decisions w →
+    i < lanes w →
+    IsOfLane grain w i entry.request →
+    IsRightInLane (lane_at grain w i) (part_at grain w i) entry →
+    j < lanes w →
+    j ≢ i →
+    IsLaneAt grain w j v →
+    IsLaneAt grain (after_access grain w i entry) j v
+other_stands grain decisions w i entry j v stands below of right within other old =
+    let R : Followed → Type 0 = λ f. IsFollowing v f in
+    record {
+      lane = old.lane;
+      lanes_are = old.lanes_are ∙ sym (lanes_stay grain w i entry);
+      grain_is = old.grain_is;
+      stands = subst R (sym (part_law_holds.others grain decisions w i entry j stands below of right within other)) old.stands;
+    }
+
+-- So do all lanes.
 each_stands :
     (grain : GrainSize) (decisions : ℕ) (w : Whole) (i : ℕ) (entry : Entry) (ls : List LaneView) (v : LaneView) →
     Stands decisions w →
@@ -62,29 +101,16 @@ each_stands grain decisions w i entry ls v stands count each below of right same
     by (inl here) =
         let P : ℕ → Type 0 = λ k. IsLaneAt grain (after_access grain w i entry) k (slice_index_or (slice_set ls i v) k d) in
         let Q : LaneView → Type 0 = λ x. IsLaneAt grain (after_access grain w i entry) i x in
-        let R : Followed → Type 0 = λ f. IsFollowing v f in
         subst P (sym here)
         (subst Q (sym (get_or-set_same ls i v d (subst (λ k. k < length ls) here within)))
-        record {
-          lane = same.0;
-          lanes_are = same.1 ∙ sym (lanes_stay grain w i entry);
-          grain_is = same.2;
-          stands = subst R (sym (part_law_holds.told grain decisions w i entry stands below of right)) now;
-        })
+        (lane_stands grain decisions w i entry v stands below of right same now))
     by (inr other) =
-        let old : IsLaneAt grain w j (slice_index_or ls j d) = each j d within in
         let Q : LaneView → Type 0 = λ x. IsLaneAt grain (after_access grain w i entry) j x in
-        let R : Followed → Type 0 = λ f. IsFollowing (slice_index_or ls j d) f in
         subst Q (sym (get_or-set_other ls i j v d other))
-        record {
-          lane = old.lane;
-          lanes_are = old.lanes_are ∙ sym (lanes_stay grain w i entry);
-          grain_is = old.grain_is;
-          stands = subst R (sym (part_law_holds.others grain decisions w i entry j stands below of right (omega (arith, count, within)) other)) old.stands;
-        }
+        (other_stands grain decisions w i entry j (slice_index_or ls j d) stands below of right (omega (arith, count, within)) other (each j d within))
 
 -- Its calls stay few.
-few_stay :
+pub few_stay :
     (grain : GrainSize) (w : Whole) (i : ℕ) (entry : Entry) →
     entry.calls ≤ 2 ^ 32 →
     AreFewCalls w →

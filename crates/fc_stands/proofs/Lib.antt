@@ -1,6 +1,7 @@
 -- Lemmas, one subject a file.
 pub mod Turns
 pub mod Accessing
+pub mod OneMore
 pub mod Turning
 pub mod Parting
 pub mod Asked

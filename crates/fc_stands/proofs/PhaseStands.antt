@@ -14,13 +14,14 @@ use Rattle.fc_lane.specs.Lane.{LaneView, IsFollowing, of}
 use Rattle.fc_legal.specs.Lawful.{IsLawful}
 use Rattle.fc_legal.specs.Stands.{Stands}
 use Rattle.fc_legal.specs.Steps.{left_by, one_more}
-use Rattle.fc_legal.specs.Whole.{Whole, lanes, lane_at, part_at, followed_at}
+use Rattle.fc_legal.specs.Whole.{Whole, lanes, lane_at, followed_at}
 use Rattle.fc_parts.proofs.Lawful.{part_law_holds}
 use Rattle.fc_pick.specs.declared.work.WorkFlags.{WorkFlags}
 use Rattle.fc_rules.specs.LaneTold.{LaneOf}
 use Rattle.fc_lanes.specs.AllLanes.{IsLaneAfter, IsLaneReady, EachLane, FitAll}
 use Rattle.fc_stands.specs.Phase.{StandsAt, IsDecidedAt, IsControlAfter}
 use Rattle.fc_stands.specs.Store.{StoreView, IsControlOf, IsLaneAt, StandsFor}
+use Rattle.fc_stands.proofs.OneMore.{lane_still, still_stands, still_few}
 
 -- ---- the control part
 
@@ -155,11 +156,7 @@ pub fit_all : (decisions : ℕ) (s : StoreView) (w : Whole) (d : Decision) → S
 fit_all decisions s w d stands lawful = λ i v inside.
     lane_fits decisions s w d i (slice_index_or s.lanes i v) stands lawful (omega (arith, inside, stands.count)) (stands.each i v inside)
 
--- One more entry, which no lane made, tells lanes nothing.
-same_part : (grain : GrainSize) (w : Whole) (i : ℕ) → followed_at grain (one_more w) i ≡ followed_at grain w i
-unfolding part_at
-same_part grain w i = refl
-
+-- One more entry, which no lane made.
 pub entry_stands : (decisions : ℕ) (s : StoreView) (w : Whole) → StandsAt decisions s w → decisions ≤ 2 * (w.entries + 1) → StandsFor s (one_more w)
 entry_stands decisions s w stands few = record {
   control = record {
@@ -170,18 +167,11 @@ entry_stands decisions s w stands few = record {
     flags = stands.control.flags;
   };
   count = stands.count;
-  each = λ i v inside.
-      let at : IsLaneAt s.control.grain w i (slice_index_or s.lanes i v) = stands.each i v inside in
-      record {
-        lane = at.lane;
-        lanes_are = at.lanes_are;
-        grain_is = at.grain_is;
-        stands = subst (λ (f : Followed). IsFollowing (slice_index_or s.lanes i v) f) (sym (same_part s.control.grain w i)) at.stands;
-      };
+  each = λ i v inside. lane_still s.control.grain w i (slice_index_or s.lanes i v) (stands.each i v inside);
   decisions = decisions;
   few = few;
-  stands = record { sound = stands.stands.sound; few = stands.stands.few; plain = stands.stands.plain; each_lane = record { some = stands.stands.each_lane.some; pools = stands.stands.each_lane.pools; calls = stands.stands.each_lane.calls }; firsts = stands.stands.firsts; rows = record { each = stands.stands.rows.each; distinct = stands.stands.rows.distinct } };
-  calls = λ i. omega (arith, stands.calls i);
+  stands = still_stands decisions w stands.stands;
+  calls = still_few w stands.calls;
 }
 
 -- ---- as the store's functions see it

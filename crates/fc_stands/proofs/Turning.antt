@@ -108,7 +108,7 @@ inside_of grain w (access.Write byte) volume first count inside = inside
 
 -- ---- a refusal
 
-by_request :
+pub by_request :
     (grain : GrainSize) (w : Whole) (entry : Entry) (request : Request) (refusal : Refusal) →
     IsRefusalOf grain w request refusal →
     IsRefused refusal w entry (one_more w) →
