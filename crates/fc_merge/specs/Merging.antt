@@ -20,7 +20,7 @@ abbrev pub all_of : List Own → List Entry
 all_of lists = flat_map (λ (own : Own). own.entries) lists
 
 -- Each number from the first on, `count` of them, is that of one entry, and no other number is that of any.
-record AreNumbered (first count : ℕ) (lists : List Own) : Type 0 where
+pub record AreNumbered (first count : ℕ) (lists : List Own) : Type 0 where
   pub once : (n : ℕ) → first ≤ n → n < first + count → count_by (λ (e : Entry). e.number == n) (all_of lists) ≡ 1
   pub none : (e : Entry) → Contains (all_of lists) e → (first ≤ e.number) × (e.number < first + count)
 

@@ -22,7 +22,7 @@ use Rattle.fc_top.specs.DisksBack.{AreBack, AreCounted, DisksAfter, first_told}
 use Rattle.fc_top.specs.StoreRuns.{HasDisks, IsUp, Start, StandsOr}
 use Rattle.fc_stands.specs.Arming.{ArmNothing}
 use Rattle.fc_stands.specs.Quiet.{AreQuiet}
-use Rattle.fc_top.proofs.Kept.{IsLegal-keeps}
+use Rattle.law_together.proofs.Kept.{IsLegal-keeps}
 
 few-counted : (n m : ℕ) → n ≤ m * 2 ^ 32 → m ≤ 262144 → n + 1 < 2 ^ 64
 few-counted n m few entries = omega (arith, few, entries)

@@ -30,7 +30,7 @@ use Rattle.fc_top.specs.Complete.{AnswersOnline, Completes, IsAnswered, NoDiskFa
 use Rattle.fc_top.specs.DisksBack.{first_told, DisksAfter}
 use Rattle.fc_top.specs.declared.status.Status.{Status}
 use Rattle.fc_top.specs.declared.status.Status.TheVariants as status
-use Rattle.fc_top.proofs.Kept.{IsLegal-keeps}
+use Rattle.law_together.proofs.Kept.{IsLegal-keeps}
 
 -- ---- accesses are answered
 

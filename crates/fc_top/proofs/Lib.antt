@@ -1,6 +1,5 @@
 -- Lemmas, one subject a file.
 pub mod WordLemmas
-pub mod Kept
 pub mod Statuses
 pub mod SessionOver
 pub mod LineAnswers

@@ -25,7 +25,7 @@ use Rattle.fc_legal.specs.WithoutBlocks.{IsWithoutBlocks}
 use Rattle.fc_run.specs.Runs.{GrowsTo, LineLeaves}
 use Rattle.fc_top.specs.Reading.{reading}
 use Rattle.fc_top.specs.StoreRuns.{runs_of}
-use Rattle.fc_top.proofs.Kept.{AreSteps-keeps}
+use Rattle.law_together.proofs.Kept.{AreSteps-keeps}
 
 -- ---- one line behind others
 

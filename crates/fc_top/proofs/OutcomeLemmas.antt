@@ -44,7 +44,7 @@ use Rattle.fc_top.specs.PlainEnds.{PlainEnds}
 use Rattle.fc_top.specs.PlainRuns.{plain_runs}
 use Rattle.fc_top.specs.Reading.{reading}
 use Rattle.fc_top.specs.declared.status.Status.TheVariants as status
-use Rattle.fc_top.proofs.Kept.{AreSteps-keeps}
+use Rattle.law_together.proofs.Kept.{AreSteps-keeps}
 use Rattle.fc_top.proofs.Statuses.{same_ended}
 
 -- ---- a summary doesn't speak of the faults of disks

@@ -23,7 +23,7 @@ use Rattle.fc_run.specs.Runs.{GrowsTo, LineLeaves}
 use Rattle.fc_lanes.specs.Dealing.{disks_in}
 use Rattle.fc_stands.specs.Quiet.{AreQuiet, QuietBy}
 use Rattle.fc_stands.specs.Store.{StoreView, StandsFor}
-use Rattle.fc_top.proofs.Kept.{AreSteps-keeps}
+use Rattle.law_together.proofs.Kept.{AreSteps-keeps}
 use Rattle.fc_top.proofs.LineAnswers.{adds_some, history_grows, line_leaves, names_stay}
 use Rattle.fc_top.specs.DisksBack.{first_told}
 use Rattle.fc_top.specs.Reading.{reading, as_built, is_built}
