@@ -1,12 +1,14 @@
 -- A request of one part: what its calls ask.
-use Rattle.std.proofs.Common.{◌≡◌, ℕ, ◌+◌, ◌<◌, ◌≤◌, List, [], length, sym, ap, ◌∙◌, subst, refl, arith, Option, Some}
+use Rattle.std.proofs.Common.{◌≡◌, ℕ, ◌+◌, ◌<◌, ◌≤◌, List, [], ◌∷◌, ◌++◌, length, sym, ap, ◌∙◌, subst, refl, arith, Option, Some}
 use mathlib.Core.Option.{some}
 use lib.ListN.{get_elem?}
 use Rattle.fc_yard.specs.declared.rule.View.{View}
 use Rattle.fc_yard.specs.Views.{held_of}
 use Rattle.fc_yard.specs.Whole.{OpensWith, Knows, Commits, Stays}
 use Rattle.fc_yard.proofs.Turning.{at_length}
+use Rattle.fc_tasks.specs.Acting.{IsSamePass, Went}
 use Rattle.fc_tasks.specs.Tasks.{IsTold, IsPartOf, PartLeads}
+use Rattle.fc_tasks.specs.declared.script.Needs.{Needs}
 
 pub some_same : {A : Type 0} (o : Option A) (a b : A) → o ≡ Some a → o ≡ Some b → a ≡ b
 some_same o a b e f = cc
@@ -41,3 +43,23 @@ module _ {W E P : Type 0} (fits : P → W → ℕ → P → Type 0) (sound : W �
       let told : IsTold fits sound count steps v.openings v.first v.limit w0 w = record { opens = opens; sound_is = is_sound; room = omega arith } in
       let l = leads w0 w x0 told at (stays w p x0 (subst (fits x0 w p) (some_same (held_of v p) old x was held) fit)) in
       (l.next, l.leads, l.sound_is, l.counted, l.part, l.others)
+
+-- What was done of a script, and then one request more.
+module _ {E P S : Type 0} (needed : S → Needs) (suits : S → List P → ℕ → Type 0) (goes : S → E → S → Type 0) where
+  pub went_more : (first s last : S) (es : List E) (e : E) → Went needed suits goes first es s → goes s e last → Went needed suits goes first (es ++ e ∷ []) last
+  went_more first s last [] e is one = (last, subst (λ (x : S). goes x e last) is one, refl)
+  went_more first s last (f ∷ fs) e went one = (went.0, went.1, went_more went.0 s last fs e went.2 one)
+
+pub more_behind : {A : Type 0} (xs ys : List A) (x : A) → (xs ++ ys) ++ x ∷ [] ≡ xs ++ (ys ++ x ∷ [])
+more_behind [] ys x = refl
+more_behind (z ∷ zs) ys x = ap (λ (l : List _). z ∷ l) (more_behind zs ys x)
+
+module _ {P E : Type 0} where
+  pub still_same : (u v w : View P E) → IsSamePass u v → IsSamePass v w → IsSamePass u w
+  still_same u v w one two = record {
+    openings = two.openings ∙ one.openings;
+    first = two.first ∙ one.first;
+    limit = two.limit ∙ one.limit;
+    passes = two.passes ∙ one.passes;
+    shares = two.shares ∙ one.shares;
+  }

@@ -2,3 +2,5 @@
 pub mod Passing
 pub mod Doing
 pub mod AllParts
+pub mod Joining
+pub mod Crossing

@@ -34,7 +34,8 @@ pub fn act_all<
     mut scripts: Vec<S>,
     mut answers: Vec<Answered<E, S>>,
 ) -> (Pass<P, E>, Vec<Answered<E, S>>)
-    requires sync { IsSync R.row }
+    requires sync { IsSync R.row × IsSync G.row }
+    requires send { IsSend E.row × IsSend P.row × IsSend S.row }
     requires free { IsFree yard.now pass }
     requires opened { IsOpened P.fits P.sound P.count P.steps pass.view }
     requires suits { AllSuit S.needed S.suits S.goes scripts.items pass.view.openings pass.view.limit }
