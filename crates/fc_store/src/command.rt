@@ -69,10 +69,14 @@ impl<D: Mdisk> Store<D> {
         ensures lanes { EachLane IsSameLane self.old.lanes self.new.lanes }
         ensures quiet { arms (Request.Command command) result.reply ≡ false → EachLane KeepsQuiet self.old.lanes self.new.lanes }
     {
-        match self.settle_all() {
-            Ok(effects) => self.settled_entry(actor, command, effects),
-            Err(NoMemory) => starved_entry(self.alloc, actor, command, List::new(self.alloc)),
-        }
+        let effects = match self.settle_all() {
+            Ok(effects) => effects,
+            Err(NoMemory) => {
+                let none = List::new(self.alloc);
+                return starved_entry(self.alloc, actor, command, none);
+            }
+        };
+        self.settled_entry(actor, command, effects)
     }
 
     /// Decides a command after the settling, which had these effects, and does it: its entry. Where no memory is had it is settled
@@ -86,10 +90,11 @@ impl<D: Mdisk> Store<D> {
         ensures lanes { EachLane IsSameLane self.old.lanes self.new.lanes }
         ensures quiet { arms (Request.Command command) result.reply ≡ false → EachLane KeepsQuiet self.old.lanes self.new.lanes }
     {
-        match self.decide_all(&command, &effects) {
-            Ok((reply, all)) => decided_entry(self.alloc, actor, command, reply, all),
-            Err(NoMemory) => starved_entry(self.alloc, actor, command, effects),
-        }
+        let (reply, all) = match self.decide_all(&command, &effects) {
+            Ok(decided) => decided,
+            Err(NoMemory) => return starved_entry(self.alloc, actor, command, effects),
+        };
+        decided_entry(self.alloc, actor, command, reply, all)
     }
 }
 

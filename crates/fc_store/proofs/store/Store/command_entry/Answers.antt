@@ -11,18 +11,18 @@ settle_all-requires g c = record { stands = can_settle c.args.self.now c.require
 pub settled_entry-requires-clause-stands : goal.settled_entry-requires-clause-stands
 settled_entry-requires-clause-stands g c = can_decide c.args.self.now c.settle_all.new.self c.in-Ok.effects c.requires.can c.settle_all.ensures.grain c.in-Ok.ensures.settles
 
-pub returns-in-Ok-clause-right : goal.returns-in-Ok-clause-right
-returns-in-Ok-clause-right g c =
+pub returns-clause-right : goal.returns-clause-right
+returns-clause-right g c =
     leads_whole c.args.self.now c.settle_all.new.self c.settled_entry.new.self c.in-Ok.effects c.settled_entry.result c.settle_all.ensures.grain c.in-Ok.ensures.settles c.settled_entry.ensures.right
 
 pub returns-in-Err-clause-right : goal.returns-in-Err-clause-right
 returns-in-Err-clause-right g c = λ w stands room.
     subst (λ (entry : Entry). LeadsOn c.args.self.now.control.grain w entry c.settle_all.new.self) (sym c.starved_entry.ensures.entry)
-    (leads_unsettled c.args.self.now c.settle_all.new.self c.args.actor c.args.command c.new.result c.requires.decided c.new.ensures c.in-Err.ensures.settles w stands)
+    (leads_unsettled c.args.self.now c.settle_all.new.self c.args.actor c.args.command c.new-none.result c.requires.decided c.new-none.ensures c.in-Err.ensures.settles w stands)
 
-pub returns-in-Ok-clause-lanes : goal.returns-in-Ok-clause-lanes
-returns-in-Ok-clause-lanes g c = all_go_on c.args.self.now.lanes c.settle_all.new.self.lanes c.settled_entry.new.self.lanes c.settle_all.ensures.lanes c.settled_entry.ensures.lanes
+pub returns-clause-lanes : goal.returns-clause-lanes
+returns-clause-lanes g c = all_go_on c.args.self.now.lanes c.settle_all.new.self.lanes c.settled_entry.new.self.lanes c.settle_all.ensures.lanes c.settled_entry.ensures.lanes
 
-pub returns-in-Ok-clause-quiet : goal.returns-in-Ok-clause-quiet
-returns-in-Ok-clause-quiet g c = λ unarmed.
+pub returns-clause-quiet : goal.returns-clause-quiet
+returns-clause-quiet g c = λ unarmed.
     all_go_on_quiet c.args.self.now.lanes c.settle_all.new.self.lanes c.settled_entry.new.self.lanes c.settle_all.ensures.quiet (c.settled_entry.ensures.quiet unarmed)

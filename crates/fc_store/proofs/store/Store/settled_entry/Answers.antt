@@ -6,18 +6,18 @@ use Rattle.fc_stands.specs.Arming.{arms}
 use Rattle.fc_stands.proofs.CommandRuns.{LeadsOnSettled, leads_decided, leads_settled}
 use Rattle.fc_store.proofs.store.Store.settled_entry.Goals as goal
 
-pub returns-in-Ok-clause-right : goal.returns-in-Ok-clause-right
-returns-in-Ok-clause-right g c =
+pub returns-clause-right : goal.returns-clause-right
+returns-clause-right g c =
     subst (λ (entry : Entry). LeadsOnSettled c.args.self.now c.decide_all.new.self c.args.effects entry) (sym c.decided_entry.ensures.entry)
-    (leads_decided c.args.self.now c.decide_all.new.self c.args.actor c.args.command c.in-Ok.reply c.args.effects c.in-Ok.all c.requires.decided c.in-Ok.ensures.decides)
+    (leads_decided c.args.self.now c.decide_all.new.self c.args.actor c.args.command c.in-Ok.decided.0 c.args.effects c.in-Ok.decided.1 c.requires.decided c.in-Ok.ensures.decides)
 
 pub returns-in-Err-clause-right : goal.returns-in-Err-clause-right
 returns-in-Err-clause-right g c =
     subst (λ (entry : Entry). LeadsOnSettled c.args.self.now c.decide_all.new.self c.args.effects entry) (sym c.starved_entry.ensures.entry)
     (leads_settled c.args.self.now c.decide_all.new.self c.args.actor c.args.command c.args.effects c.requires.decided c.in-Err.ensures.decides)
 
-pub returns-in-Ok-clause-quiet : goal.returns-in-Ok-clause-quiet
-returns-in-Ok-clause-quiet g c = λ unarmed.
+pub returns-clause-quiet : goal.returns-clause-quiet
+returns-clause-quiet g c = λ unarmed.
     let Unarmed : Reply → Type 0 = λ r. arms (Asked c.args.command) r ≡ false in
     c.in-Ok.ensures.quiet (subst Unarmed (ap (λ (entry : Entry). entry.reply) c.decided_entry.ensures.entry) unarmed)
 
