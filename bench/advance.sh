@@ -4,6 +4,7 @@
 #
 #     bench/advance.sh [ROUNDS]
 . "$(dirname -- "$(readlink -f -- "${BASH_SOURCE[0]}")")/common.sh"
+build_program
 rounds=${1:-3}
 
 session() { # whether the copy is made

@@ -7,6 +7,7 @@
 #
 # The accesses are writes and reads in turn, of 1 to 8 blocks. Of the rounds (3, unless told otherwise) the fastest is told.
 . "$(dirname -- "$(readlink -f -- "${BASH_SOURCE[0]}")")/common.sh"
+build_program
 rounds=${1:-3}
 
 # The session of a shape: the source of target k is the volume before it, or the first.

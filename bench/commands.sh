@@ -4,6 +4,7 @@
 #
 #     bench/commands.sh [COUNT]
 . "$(dirname -- "$(readlink -f -- "${BASH_SOURCE[0]}")")/common.sh"
+build_program
 count=${1:-200}
 
 tables() {

@@ -1,21 +1,26 @@
 # shellcheck shell=bash
 # What the benchmarks share. It is sourced, not run.
 #
-# Sets top, program and room (a folder that goes at the end), builds the program if there is none, and has:
+# Sets top and room (a folder that goes at the end), and has:
+#   build_program          builds the program, if there is none, and what times it; it comes before the next three
 #   timed SESSION WORD..   runs the program on a session, puts its history into $room/history, and prints the seconds that
 #                          passed and the peak memory in MiB
 #   copies CALLS KIB       prints the seconds that so many calls take when each copies a grain of so many KiB
 #   disk_calls SESSION GRAIN   prints how many calls of disks the entries of a session tell
+#   build_bench CRATE      proves and builds the program of such a crate, if that wasn't done yet
+#   best_by_turns WORD.. -- WORD..   prints the fewest nanoseconds of each of two commands, in three runs made by turns
+#   lesser NUMBER [NUMBER]     prints the lesser of two numbers, of which the second may be none
 set -eu
 
 top=$(cd -- "$(dirname -- "$(readlink -f -- "${BASH_SOURCE[0]}")")/.." && pwd)
 program=$top/crates/flashcopy/out/flashcopy
 traces=$top/crates/traces/out/traces
-"$top/bin/flashcopy" run </dev/null
 room=$(mktemp -d)
 trap 'rm -rf -- "$room"' EXIT
 
-cat >"$room/timed.c" <<'END'
+build_program() {
+    "$top/bin/flashcopy" run </dev/null
+    compile timed <<'END'
 #include <stdio.h>
 #include <sys/resource.h>
 #include <sys/wait.h>
@@ -40,7 +45,7 @@ int main(int argc, char **argv) {
     return 0;
 }
 END
-cat >"$room/copies.c" <<'END'
+    compile copies <<'END'
 #include <stdio.h>
 #include <stdlib.h>
 #include <string.h>
@@ -65,8 +70,12 @@ int main(int argc, char **argv) {
     return 0;
 }
 END
-"${CC:-cc}" -O2 -o "$room/timed" "$room/timed.c"
-"${CC:-cc}" -O2 -o "$room/copies" "$room/copies.c"
+}
+
+compile() { # NAME, and the C source of standard input
+    cat >"$room/$1.c"
+    "${CC:-cc}" -O2 -o "$room/$1" "$room/$1.c"
+}
 
 timed() { # SESSION WORD..
     local session=$1
@@ -80,5 +89,31 @@ disk_calls() { # SESSION GRAIN
     { echo "== session $2 4096"; cat "$1"; } | "$traces" | awk '$1 == "+" && $2 == "calls" { n += $3 } END { print n + 0 }'
 }
 
-# The lesser of two numbers, of which the second may be none.
-lesser() { printf '%s\n' "$1" ${2:+"$2"} | sort -g | head -n 1; }
+build_bench() { # CRATE
+    (cd -- "$top/crates/$1" && rt run </dev/null >/dev/null 2>&1) ||
+        { echo "$1 isn't proved or doesn't build: run rt run in crates/$1" >&2; exit 1; }
+}
+
+best_by_turns() { # WORD.. -- WORD..
+    local first=() best_first='' best_second=''
+    while [[ $1 != -- ]]; do
+        first+=("$1")
+        shift
+    done
+    shift
+    for _ in 1 2 3; do
+        best_first=$(lesser "$(nanoseconds "${first[@]}")" "$best_first")
+        best_second=$(lesser "$(nanoseconds "$@")" "$best_second")
+    done
+    echo "$best_first $best_second"
+}
+
+nanoseconds() { # WORD..
+    local from to
+    from=$(date +%s%N)
+    "$@" >/dev/null || echo "$1 failed" >&2
+    to=$(date +%s%N)
+    echo $((to - from))
+}
+
+lesser() { printf '%s\n' "$1" ${2:+"$2"} | sort -g | head -n 1; } # NUMBER [NUMBER]

@@ -4,6 +4,7 @@
 #
 #     bench/drill.sh [NUMBER..]
 . "$(dirname -- "$(readlink -f -- "${BASH_SOURCE[0]}")")/common.sh"
+build_program
 
 # The generated session of a number, from which its calls of disks are counted.
 state=0 picked=0

@@ -1,12 +1,12 @@
 //! What no clause says: that the calls succeed where there is memory, and that disks pass between threads.
 
+use fc_base::disk::DiskError;
+use fc_base::outcome::Failed;
 use fc_mdisk::disks::Disks;
 use fc_mdisk::fail::FailDisk;
 use fc_mdisk::mdisk::Mdisk;
 use fc_mdisk::mem::MemDisk;
 use fc_mdisk::thin::ThinDisk;
-use fc_base::disk::DiskError;
-use fc_base::outcome::Failed;
 use std::alloc::Global;
 use std::process::Abort;
 use std::test::Fail;

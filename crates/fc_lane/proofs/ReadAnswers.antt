@@ -18,7 +18,7 @@ use Rattle.fc_base.specs.declared.request.Request.TheVariants.{Read}
 use Rattle.fc_base.specs.declared.runs.Run.{Run}
 use Rattle.fc_base.specs.declared.state.Access.{Access}
 use Rattle.fc_base.specs.declared.state.Access.TheVariants.{Online}
-use Rattle.fc_entry.specs.Picture.{Content, Bytes, Lost, Picture, byte_in_grain, grain_of_block, is_lost}
+use Rattle.fc_entry.specs.Picture.{Content, Bytes, Picture, byte_in_grain, grain_of_block, is_lost}
 use Rattle.fc_entry.specs.Reads.{IsRightIn}
 use Rattle.fc_entry.specs.declared.entry.Entry.{Entry}
 use Rattle.fc_grains.proofs.Quiet.{quiet_read}

@@ -4,7 +4,8 @@ use Rattle.fc_base.specs.declared.request.Move.{Move}
 use Rattle.fc_base.specs.declared.request.Request.{Request}
 use Rattle.fc_base.specs.Sheet.{birth_place, column}
 use Rattle.fc_entry.specs.declared.entry.Entry.{Entry}
-use Rattle.fc_lane.specs.Lane.{LaneView, IsLaneOf, IsAsked, IsSameLane, KeepsDisks, KeepsQuiet, of}
+use Rattle.fc_follow.specs.Following.{Followed, followed_entry}
+use Rattle.fc_lane.specs.Lane.{LaneView, IsFollowing, IsLaneOf, IsAsked, IsSameLane, KeepsDisks, KeepsQuiet, of}
 use Rattle.fc_steps.specs.StepsEnd.{StepsEnd, StepsStand, torn_in}
 use Rattle.fc_steps.specs.declared.stop.Stop.{Stop}
 use Rattle.fc_pictures.specs.StepsLaw.{IsLiveAt}
@@ -22,6 +23,15 @@ pub record HasEntered (old : LaneView) (Fits : LaneTold → Type 0) (number acto
   pub disks : KeepsDisks entry.calls entry.torn old.grains new.grains
   pub plan_room : new.plan_room ≡ old.plan_room
   pub changes : new.changes ≡ old.changes
+
+-- The same of a lane that follows its incremental mappings: it then follows what is told with the entry.
+pub record HasFollowed (old : LaneView) (Fits : LaneTold → Type 0) (number actor : ℕ) (request : Request) (entry : Entry) (new : LaneView) : Type 0 where
+  pub right : (f : Followed) → IsFollowing old f → Fits f.told → IsRightInLane (of old) f.told entry × IsFollowing new (followed_entry (of old) f entry)
+  pub asked : IsAsked number actor request entry
+  pub same : IsSameLane old new
+  pub quiet : KeepsQuiet old new
+  pub disks : KeepsDisks entry.calls entry.torn old.grains new.grains
+  pub plan_room : new.plan_room ≡ old.plan_room
 
 -- The parts that steps don't touch.
 pub record SameBeside (old new : LaneView) : Type 0 where

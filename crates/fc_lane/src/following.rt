@@ -6,11 +6,12 @@ ghost use Rattle.fc_bits.specs.Grains.{count_set};
 ghost use Rattle.fc_base.specs.declared.request.WritePart.{WritePart};
 ghost use Rattle.fc_changed.specs.Row.{after_note, restart_in};
 ghost use Rattle.fc_entry.specs.Picture.{grain_of_block};
-ghost use Rattle.fc_follow.specs.Following.{Followed, followed_entry, rows_entry, torn_notes, write_notes};
-ghost use Rattle.fc_lane.specs.Lane.{IsAsked, IsFollowing, IsReady, IsSameLane, KeepsDisks, KeepsQuiet, of};
+ghost use Rattle.fc_follow.specs.Following.{Followed, rows_entry, torn_notes, write_notes};
+ghost use Rattle.fc_lane.specs.Entering.{HasFollowed};
+ghost use Rattle.fc_lane.specs.Lane.{IsFollowing, IsReady, of};
 ghost use Rattle.fc_lane.specs.Turns.{CanPick, clean_of, copy_of};
 ghost use Rattle.fc_rules.specs.LaneFits.{FitsPart};
-ghost use Rattle.fc_rules.specs.LaneRight.{IsRightInLane, done_write};
+ghost use Rattle.fc_rules.specs.LaneRight.{done_write};
 ghost use Rattle.fc_rules.specs.LaneTold.{place_of};
 ghost use Rattle.fc_rules.specs.LaneTurn.{cleaned_slot, copied_slot};
 
@@ -77,13 +78,7 @@ impl<D: Mdisk> Lane<D> {
     pub fn read(&mut self, alloc: Global, number: u64, actor: u32, part: ReadPart) -> Entry
         requires can { (f : Followed) × IsFollowing self.old f × FitsPart (of self.old) f.told part.volume part.block part.count }
         requires number { grain_of_block self.old.grains.grain part.block < 2 ^ 32 }
-        ensures right { (f : Followed) → IsFollowing self.old f → FitsPart (of self.old) f.told part.volume part.block part.count →
-            IsRightInLane (of self.old) f.told result × IsFollowing self.new (followed_entry (of self.old) f result) }
-        ensures asked { IsAsked number actor (Read part) result }
-        ensures same { IsSameLane self.old self.new }
-        ensures quiet { KeepsQuiet self.old self.new }
-        ensures disks { KeepsDisks result.calls result.torn self.old.grains self.new.grains }
-        ensures plan_room { self.new.plan_room ≡ self.old.plan_room }
+        ensures followed { HasFollowed self.old (λ told. FitsPart (of self.old) told part.volume part.block part.count) number actor (Read part) result self.new }
         ensures entry_room { self.new.entry_room ≡ self.old.entry_room }
     {
         let entry = self.read_told(alloc, number, actor, part);
@@ -98,13 +93,7 @@ impl<D: Mdisk> Lane<D> {
         requires can { (f : Followed) × IsFollowing self.old f × FitsPart (of self.old) f.told part.volume part.block part.count }
         requires number { grain_of_block self.old.grains.grain part.block < 2 ^ 32 }
         requires ready { IsReady self.old }
-        ensures right { (f : Followed) → IsFollowing self.old f → FitsPart (of self.old) f.told part.volume part.block part.count →
-            IsRightInLane (of self.old) f.told result × IsFollowing self.new (followed_entry (of self.old) f result) }
-        ensures asked { IsAsked number actor (Write part) result }
-        ensures same { IsSameLane self.old self.new }
-        ensures quiet { KeepsQuiet self.old self.new }
-        ensures disks { KeepsDisks result.calls result.torn self.old.grains self.new.grains }
-        ensures plan_room { self.new.plan_room ≡ self.old.plan_room }
+        ensures { HasFollowed self.old (λ told. FitsPart (of self.old) told part.volume part.block part.count) number actor (Write part) result self.new }
     {
         let entry = self.write_told(alloc, number, actor, part);
         self.note(&entry);
@@ -124,13 +113,7 @@ impl<D: Mdisk> Lane<D> {
         requires can { (f : Followed) × IsFollowing self.old f × IsSome (copied_slot f.told.sheet.slots map.0 (place_of (of self.old) grain.0)) }
         requires of_lane { grain.0 % self.old.lanes ≡ self.old.lane }
         requires ready { IsReady self.old }
-        ensures right { (f : Followed) → IsFollowing self.old f → IsSome (copied_slot f.told.sheet.slots map.0 (place_of (of self.old) grain.0)) →
-            IsRightInLane (of self.old) f.told result × IsFollowing self.new (followed_entry (of self.old) f result) }
-        ensures asked { IsAsked number actor (Copy map grain) result }
-        ensures same { IsSameLane self.old self.new }
-        ensures quiet { KeepsQuiet self.old self.new }
-        ensures disks { KeepsDisks result.calls result.torn self.old.grains self.new.grains }
-        ensures plan_room { self.new.plan_room ≡ self.old.plan_room }
+        ensures { HasFollowed self.old (λ told. IsSome (copied_slot told.sheet.slots map.0 (place_of (of self.old) grain.0))) number actor (Copy map grain) result self.new }
     {
         let entry = self.copy_told(alloc, number, actor, map, grain);
         self.note(&entry);
@@ -150,13 +133,7 @@ impl<D: Mdisk> Lane<D> {
         requires can { (f : Followed) × IsFollowing self.old f × IsSome (cleaned_slot f.told.sheet.slots map.0 (place_of (of self.old) grain.0)) }
         requires of_lane { grain.0 % self.old.lanes ≡ self.old.lane }
         requires ready { IsReady self.old }
-        ensures right { (f : Followed) → IsFollowing self.old f → IsSome (cleaned_slot f.told.sheet.slots map.0 (place_of (of self.old) grain.0)) →
-            IsRightInLane (of self.old) f.told result × IsFollowing self.new (followed_entry (of self.old) f result) }
-        ensures asked { IsAsked number actor (Clean map grain) result }
-        ensures same { IsSameLane self.old self.new }
-        ensures quiet { KeepsQuiet self.old self.new }
-        ensures disks { KeepsDisks result.calls result.torn self.old.grains self.new.grains }
-        ensures plan_room { self.new.plan_room ≡ self.old.plan_room }
+        ensures { HasFollowed self.old (λ told. IsSome (cleaned_slot told.sheet.slots map.0 (place_of (of self.old) grain.0))) number actor (Clean map grain) result self.new }
     {
         let entry = self.clean_told(alloc, number, actor, map, grain);
         self.note(&entry);
@@ -169,13 +146,7 @@ impl<D: Mdisk> Lane<D> {
     pub fn copy_turn(&mut self, alloc: Global, number: u64, actor: u32, pick: Pick) -> Entry
         requires can { (f : Followed) × IsFollowing self.old f × CanPick (of self.old) (copied_slot f.told.sheet.slots) pick }
         requires ready { IsReady self.old }
-        ensures right { (f : Followed) → IsFollowing self.old f → CanPick (of self.old) (copied_slot f.told.sheet.slots) pick →
-            IsRightInLane (of self.old) f.told result × IsFollowing self.new (followed_entry (of self.old) f result) }
-        ensures asked { IsAsked number actor (copy_of self.old.lane pick) result }
-        ensures same { IsSameLane self.old self.new }
-        ensures quiet { KeepsQuiet self.old self.new }
-        ensures disks { KeepsDisks result.calls result.torn self.old.grains self.new.grains }
-        ensures plan_room { self.new.plan_room ≡ self.old.plan_room }
+        ensures { HasFollowed self.old (λ told. CanPick (of self.old) (copied_slot told.sheet.slots) pick) number actor (copy_of self.old.lane pick) result self.new }
     {
         let entry = self.copy_turn_told(alloc, number, actor, pick);
         self.note(&entry);
@@ -188,13 +159,7 @@ impl<D: Mdisk> Lane<D> {
     pub fn clean_turn(&mut self, alloc: Global, number: u64, actor: u32, pick: Pick) -> Entry
         requires can { (f : Followed) × IsFollowing self.old f × CanPick (of self.old) (cleaned_slot f.told.sheet.slots) pick }
         requires ready { IsReady self.old }
-        ensures right { (f : Followed) → IsFollowing self.old f → CanPick (of self.old) (cleaned_slot f.told.sheet.slots) pick →
-            IsRightInLane (of self.old) f.told result × IsFollowing self.new (followed_entry (of self.old) f result) }
-        ensures asked { IsAsked number actor (clean_of self.old.lane pick) result }
-        ensures same { IsSameLane self.old self.new }
-        ensures quiet { KeepsQuiet self.old self.new }
-        ensures disks { KeepsDisks result.calls result.torn self.old.grains self.new.grains }
-        ensures plan_room { self.new.plan_room ≡ self.old.plan_room }
+        ensures { HasFollowed self.old (λ told. CanPick (of self.old) (cleaned_slot told.sheet.slots) pick) number actor (clean_of self.old.lane pick) result self.new }
     {
         let entry = self.clean_turn_told(alloc, number, actor, pick);
         self.note(&entry);

@@ -7,4 +7,6 @@ pub mod Moments
 pub mod Done
 pub mod Calls
 pub mod Opening
+pub mod Runs
+pub mod SeriesExamples
 pub mod Recovered

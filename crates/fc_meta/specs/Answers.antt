@@ -39,3 +39,8 @@ PassesHalf generation image room = (2 ^ 64 - 1 ≤ generation) ⊎ (room < 1 + l
 abbrev pub more_calls : ℕ → ℕ → ℕ
 more_calls zero calls = calls
 more_calls (suc n) calls = one_more (more_calls n calls)
+
+-- of n calls some were made, one at least: a count of calls that tells with which of them they ended
+abbrev pub IsStopped : ℕ → ℕ → ℕ → Type 0
+IsStopped zero old new = ⊥
+IsStopped (suc n) old new = (new ≡ more_calls (suc n) old) ⊎ IsStopped n old new

@@ -1,5 +1,7 @@
--- What a disk of metadata stands for at rest and between two steps of a writer, and what a writer's calls answer.
+-- What a disk of metadata stands for at rest and between two steps of a writer, what a writer's calls answer, and what stands
+-- behind a list of them.
 pub mod Standing
 pub mod Answers
 pub mod Recovering
 pub mod States
+pub mod Order

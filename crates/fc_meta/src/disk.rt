@@ -1,10 +1,10 @@
 //! Writes in a half of the disk.
 
-ghost use Rattle.std.specs.Prelude.{◌≡◌, ◌+◌, ◌≤◌, ◌<◌, ◌^◌, length, true, is_err, OnOk};
+ghost use Rattle.std.specs.Prelude.{◌≡◌, ◌+◌, ◌≤◌, ◌<◌, ◌^◌, length, true, is_err, OnOk, OnErr};
 ghost use Rattle.fc_base.specs.Count.{FaultsAfter};
 ghost use Rattle.fc_metadisk.specs.Disk.{bytes_put, LeavesOnly, Only};
 ghost use Rattle.fc_format.specs.Halves.{half_size, half_start};
-ghost use Rattle.fc_meta.specs.Answers.{MayTear, more_calls};
+ghost use Rattle.fc_meta.specs.Answers.{MayTear, more_calls, IsStopped};
 
 use fc_base::outcome::Failed;
 use fc_format::Half;
@@ -47,7 +47,7 @@ pub(crate) fn write_synced<M: MetaDisk>(
     ensures any_moment { LeavesOnly M.moment M.left_since disk.old disk.new
         (MayTear (half_start half (M.seen disk.old) + at) (length bytes.now) (M.may_leave disk.old)) }
     ensures made { OnOk result (M.calls disk.new ≡ more_calls 2 (M.calls disk.old)) }
-    ensures few { M.calls disk.new ≤ M.calls disk.old + 2 }
+    ensures stopped { OnErr result (IsStopped 2 (M.calls disk.old) (M.calls disk.new)) }
     ensures cause { FaultsAfter true (is_err result) (M.fault_count disk.old)
         (M.fault_count disk.new) }
 {

@@ -8,7 +8,7 @@ ghost use Rattle.fc_format.specs.Bytes.{half_bytes};
 ghost use Rattle.fc_format.specs.Ranges.{HasGoodIds};
 ghost use Rattle.fc_format.specs.Halves.{Image, NoImage, half_size};
 ghost use Rattle.fc_meta.specs.Standing.{Rests};
-ghost use Rattle.fc_meta.specs.Answers.{LeavesEither, more_calls};
+ghost use Rattle.fc_meta.specs.Answers.{LeavesEither, more_calls, IsStopped};
 ghost use Rattle.fc_meta.specs.States.{generation_of, used_of, found, opened_disk, IsResting};
 
 use crate::disk::{half_len, write_synced};
@@ -48,7 +48,8 @@ impl<M: MetaDisk> Meta<M> {
             (λ e. e.1 ≡ MetaError.Failed → HasRisen (M.fault_count disk) (M.fault_count e.0)) }
         ensures quiet { OnOk result (M.fault_count (opened_disk result) ≡ M.fault_count disk) }
         ensures made { OnOk result (M.calls (opened_disk result) ≡ more_calls 4 (M.calls disk)) }
-        ensures few { M.calls (opened_disk result) ≤ M.calls disk + 4 }
+        ensures stopped { IfErr result
+            (λ e. e.1 ≡ MetaError.Failed → IsStopped 4 (M.calls disk) (M.calls e.0)) }
     {
         let mut disk = disk;
         match write_first(alloc, &mut disk, image) {
@@ -91,7 +92,8 @@ fn write_first<M: MetaDisk>(
         (M.fault_count disk.new) }
     ensures quiet { OnOk result (M.fault_count disk.new ≡ M.fault_count disk.old) }
     ensures made { OnOk result (M.calls disk.new ≡ more_calls 4 (M.calls disk.old)) }
-    ensures few { M.calls disk.new ≤ M.calls disk.old + 4 }
+    ensures stopped { IsErrOf result MetaError.Failed → IsStopped 4 (M.calls disk.old)
+        (M.calls disk.new) }
 {
     let bytes = half_with(alloc, 1, image)?;
     if half_len(disk) as usize <= bytes.len() {

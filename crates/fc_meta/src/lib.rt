@@ -9,11 +9,12 @@
 //!
 //! The contracts say of each call what the disk stands for behind it (`found`), what a crash at each moment in it leaves
 //! (`any_moment`), which calls of the disk it makes and when each error comes. Callers are in one of the states of
-//! `specs/States.antt`: at rest, with a batch that waits, with the other half cleared, with it filled.
+//! `specs/States.antt`: at rest, with a batch that waits, with the other half cleared, with it filled. `make_all` makes a list
+//! of calls; its contract says what a crash leaves behind any of them that come in order (`specs/Order.antt`).
 //!
 //! To read: `specs/States.antt`, `specs/Answers.antt`, then `meta`, `steps`, `first` (the first image), `recover`, `disk`,
-//! `error`; and
-//! `specs/Standing.antt`, what a row of bytes keeps at rest and in the middle of a step.
+//! `error`; `specs/Order.antt` and `series`; and `specs/Standing.antt`, what a row of bytes keeps at rest and in the middle of
+//! a step.
 #![tactic(auto)]
 
 mod disk;
@@ -21,7 +22,9 @@ mod error;
 mod first;
 mod meta;
 mod recover;
+mod series;
 mod steps;
 
 pub use error::{MetaError, RecoverError};
 pub use meta::Meta;
+pub use series::Call;

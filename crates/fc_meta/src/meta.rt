@@ -6,7 +6,7 @@ ghost use Rattle.fc_metadisk.specs.Disk.{LeavesOnly};
 ghost use Rattle.fc_format.specs.Bytes.{batch_bytes, half_bytes};
 ghost use Rattle.fc_format.specs.Ranges.{HasGoodIds};
 ghost use Rattle.fc_format.specs.Halves.{Image};
-ghost use Rattle.fc_meta.specs.Answers.{found_with, LeavesFound, LeavesEither, PassesHalf, more_calls};
+ghost use Rattle.fc_meta.specs.Answers.{found_with, LeavesFound, LeavesEither, PassesHalf, more_calls, IsStopped};
 ghost use Rattle.fc_meta.specs.States.{disk_of, generation_of, used_of, next_of, room_of, found, awaited, filled, IsResting, IsWaiting, IsCleared, IsFilled};
 
 use crate::disk::{half_len, start_of, write_synced};
@@ -51,6 +51,7 @@ impl<M: MetaDisk> Meta<M> {
         ensures found { OnOk result (found M.seen self.new ≡ found M.seen self.old) }
         ensures awaited { OnOk result
             (awaited M.seen self.new ≡ found_with (found M.seen self.old) records.now) }
+        ensures generation { OnOk result (generation_of self.new ≡ generation_of self.old) }
         ensures used { OnOk result (used_of self.new ≡ used_of self.old) }
         ensures next { OnOk result
             (next_of self.new ≡ used_of self.old + length (batch_bytes records.now)) }
@@ -67,7 +68,8 @@ impl<M: MetaDisk> Meta<M> {
             (M.fault_count (disk_of self.new) ≡ M.fault_count (disk_of self.old)) }
         ensures made { OnOk result
             (M.calls (disk_of self.new) ≡ more_calls 1 (M.calls (disk_of self.old))) }
-        ensures few { M.calls (disk_of self.new) ≤ M.calls (disk_of self.old) + 1 }
+        ensures stopped { IsErrOf result MetaError.Failed → IsStopped 1
+            (M.calls (disk_of self.old)) (M.calls (disk_of self.new)) }
     {
         if !self.fits(records) {
             return Err(MetaError::Full);
@@ -85,6 +87,7 @@ impl<M: MetaDisk> Meta<M> {
         requires { IsWaiting M.seen M.may_leave self.old }
         ensures rests { OnOk result (IsResting M.seen M.may_leave self.new) }
         ensures found { OnOk result (found M.seen self.new ≡ awaited M.seen self.old) }
+        ensures generation { OnOk result (generation_of self.new ≡ generation_of self.old) }
         ensures used { OnOk result (used_of self.new ≡ next_of self.old) }
         ensures size { length (M.seen (disk_of self.new)) ≡ length (M.seen (disk_of self.old)) }
         ensures any_moment { LeavesOnly M.moment M.left_since (disk_of self.old) (disk_of self.new)
@@ -96,7 +99,8 @@ impl<M: MetaDisk> Meta<M> {
             (M.fault_count (disk_of self.new) ≡ M.fault_count (disk_of self.old)) }
         ensures made { OnOk result
             (M.calls (disk_of self.new) ≡ more_calls 3 (M.calls (disk_of self.old))) }
-        ensures few { M.calls (disk_of self.new) ≤ M.calls (disk_of self.old) + 3 }
+        ensures stopped { IsErrOf result MetaError.Failed → IsStopped 3
+            (M.calls (disk_of self.old)) (M.calls (disk_of self.new)) }
     {
         self.disk.sync()?;
         write_synced(&mut self.disk, self.half, self.used, &[1])?;
@@ -111,6 +115,7 @@ impl<M: MetaDisk> Meta<M> {
         ensures cleared { OnOk result (IsCleared M.seen M.may_leave self.new) }
         ensures found { OnOk result (found M.seen self.new ≡ found M.seen self.old) }
         ensures generation { OnOk result (generation_of self.new ≡ generation_of self.old) }
+        ensures used { OnOk result (used_of self.new ≡ used_of self.old) }
         ensures size { length (M.seen (disk_of self.new)) ≡ length (M.seen (disk_of self.old)) }
         ensures any_moment { LeavesOnly M.moment M.left_since (disk_of self.old) (disk_of self.new)
             (LeavesFound (found M.seen self.old)) }
@@ -121,7 +126,8 @@ impl<M: MetaDisk> Meta<M> {
             (M.fault_count (disk_of self.new) ≡ M.fault_count (disk_of self.old)) }
         ensures made { OnOk result
             (M.calls (disk_of self.new) ≡ more_calls 2 (M.calls (disk_of self.old))) }
-        ensures few { M.calls (disk_of self.new) ≤ M.calls (disk_of self.old) + 2 }
+        ensures stopped { IsErrOf result MetaError.Failed → IsStopped 2
+            (M.calls (disk_of self.old)) (M.calls (disk_of self.new)) }
     {
         let closed = [0];
         let count = usize::from(self.other_is_open);
@@ -161,7 +167,8 @@ impl<M: MetaDisk> Meta<M> {
             (M.fault_count (disk_of self.new) ≡ M.fault_count (disk_of self.old)) }
         ensures made { OnOk result
             (M.calls (disk_of self.new) ≡ more_calls 2 (M.calls (disk_of self.old))) }
-        ensures few { M.calls (disk_of self.new) ≤ M.calls (disk_of self.old) + 2 }
+        ensures stopped { IsErrOf result MetaError.Failed → IsStopped 2
+            (M.calls (disk_of self.old)) (M.calls (disk_of self.new)) }
     {
         if self.generation == u64::MAX {
             return Err(MetaError::Full);
@@ -193,7 +200,8 @@ impl<M: MetaDisk> Meta<M> {
             (M.fault_count (disk_of self.new) ≡ M.fault_count (disk_of self.old)) }
         ensures made { OnOk result
             (M.calls (disk_of self.new) ≡ more_calls 2 (M.calls (disk_of self.old))) }
-        ensures few { M.calls (disk_of self.new) ≤ M.calls (disk_of self.old) + 2 }
+        ensures stopped { IsErrOf result MetaError.Failed → IsStopped 2
+            (M.calls (disk_of self.old)) (M.calls (disk_of self.new)) }
     {
         let half = self.half.other();
         write_synced(&mut self.disk, half, 0, &[1])?;

@@ -6,7 +6,7 @@ ghost use Rattle.fc_metadisk.specs.Disk.{LeavesOnly};
 ghost use Rattle.fc_format.specs.Bytes.{batch_bytes, half_bytes};
 ghost use Rattle.fc_format.specs.Ranges.{HasGoodIds};
 ghost use Rattle.fc_format.specs.Halves.{Image};
-ghost use Rattle.fc_meta.specs.Answers.{found_with, LeavesEither, PassesHalf, more_calls};
+ghost use Rattle.fc_meta.specs.Answers.{found_with, LeavesEither, PassesHalf, more_calls, IsStopped};
 ghost use Rattle.fc_meta.specs.States.{disk_of, generation_of, used_of, room_of, found, IsResting};
 
 use crate::error::MetaError;
@@ -24,6 +24,7 @@ impl<M: MetaDisk> Meta<M> {
         ensures rests { OnOk result (IsResting M.seen M.may_leave self.new) }
         ensures found { OnOk result
             (found M.seen self.new ≡ found_with (found M.seen self.old) records.now) }
+        ensures generation { OnOk result (generation_of self.new ≡ generation_of self.old) }
         ensures used { OnOk result
             (used_of self.new ≡ used_of self.old + length (batch_bytes records.now)) }
         ensures any_moment { LeavesOnly M.moment M.left_since (disk_of self.old) (disk_of self.new)
@@ -39,7 +40,8 @@ impl<M: MetaDisk> Meta<M> {
             (M.fault_count (disk_of self.new) ≡ M.fault_count (disk_of self.old)) }
         ensures made { OnOk result
             (M.calls (disk_of self.new) ≡ more_calls 4 (M.calls (disk_of self.old))) }
-        ensures few { M.calls (disk_of self.new) ≤ M.calls (disk_of self.old) + 4 }
+        ensures stopped { IsErrOf result MetaError.Failed → IsStopped 4
+            (M.calls (disk_of self.old)) (M.calls (disk_of self.new)) }
     {
         self.note(alloc, records)?;
         self.sync()
@@ -62,7 +64,10 @@ impl<M: MetaDisk> Meta<M> {
         ensures full { IsErrOf result MetaError.Full →
             PassesHalf (generation_of self.old) image.now (room_of M.seen self.old) }
         ensures stays { OnErr result (IsErrOf result MetaError.Failed ⊎
-            (IsResting M.seen M.may_leave self.new × (found M.seen self.new ≡ found M.seen self.old))) }
+            (IsResting M.seen M.may_leave self.new × (found M.seen self.new ≡ found M.seen self.old) ×
+            (generation_of self.new ≡ generation_of self.old) ×
+            (used_of self.new ≡ used_of self.old) ×
+            (M.calls (disk_of self.new) ≡ more_calls 2 (M.calls (disk_of self.old))))) }
         ensures room { OnOk result
             (PassesHalf (generation_of self.old) image.now (room_of M.seen self.old) → ⊥) }
         ensures failed { IsErrOf result MetaError.Failed → HasRisen
@@ -71,7 +76,8 @@ impl<M: MetaDisk> Meta<M> {
             (M.fault_count (disk_of self.new) ≡ M.fault_count (disk_of self.old)) }
         ensures made { OnOk result
             (M.calls (disk_of self.new) ≡ more_calls 6 (M.calls (disk_of self.old))) }
-        ensures few { M.calls (disk_of self.new) ≤ M.calls (disk_of self.old) + 6 }
+        ensures stopped { IsErrOf result MetaError.Failed → IsStopped 6
+            (M.calls (disk_of self.old)) (M.calls (disk_of self.new)) }
     {
         self.clear_other()?;
         self.fill_other(alloc, image)?;

@@ -5,7 +5,8 @@
 //! and each entry leads from one situation to the next, in which all parts have their shares again, whatever entries of other
 //! lanes came before it.
 //!
-//! To read, in `specs/`: `Situation` (the situation, and each part's share of it), `Law` (how entries lead on); then `proofs/`.
+//! To read, in `specs/`: `Situation` (the situation, and each part's share of it), `Law` (how entries lead on, and that what an
+//! actor is to ask doesn't go by them); then `proofs/`.
 #![tactic(auto)]
 
 ghost use Rattle.fc_shares.specs.Law.{ShareLaw};

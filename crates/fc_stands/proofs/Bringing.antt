@@ -1,5 +1,5 @@
 -- Entries that bring an agenda on, one after the other.
-use Rattle.std.proofs.Common.{◌≡◌, ℕ, Some, List, [], ◌∷◌, ◌++◌, length, append_assoc, Result, Ok, Err, refl, sym, ◌∙◌, ap, subst}
+use Rattle.std.proofs.Common.{◌≡◌, ℕ, List, [], ◌∷◌, ◌++◌, length, append_assoc, Result, Ok, Err, refl, sym, ◌∙◌, ap, subst}
 use Rattle.std.proofs.lemmas.List.{append-nil}
 use Rattle.fc_agenda.specs.Goes.{Goes, stays, passes, answers, GoesAsking, GoesSome}
 use Rattle.fc_agenda.specs.Rules.{Rules}

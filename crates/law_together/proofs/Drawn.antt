@@ -11,10 +11,11 @@ use Rattle.fc_entry.specs.declared.entry.Entry.{Entry}
 use Rattle.fc_merge.proofs.Left.{count-cons, count_at, left_numbered, left_own, one_at, taken_length}
 use Rattle.fc_merge.proofs.Steps.{Found, IsNotNext, find, none_left, nothing_left}
 use Rattle.fc_merge.specs.Merging.{AreNumbered, AreOwn, IsMerged, IsOwn, Own, all_of}
+use Rattle.fc_shares.specs.Law.{numbered}
 use Rattle.fc_yard.proofs.Places.{within}
 use Rattle.fc_yard.specs.Lists.{AllStand, bit, once_below, times}
 use Rattle.law_together.specs.Law.{MergeLaw}
-use Rattle.law_together.specs.Making.{AreDrawn, AreMakings, IsMaking, Making, all_made, numbered, own_of, with_number}
+use Rattle.law_together.specs.Making.{AreDrawn, AreMakings, IsMaking, Making, all_made, own_of, with_number}
 
 -- ---- which numbers were drawn
 

@@ -14,8 +14,9 @@ use Rattle.fc_legal.specs.Whole.{Whole, lanes}
 use Rattle.fc_merge.specs.Merging.{AreNumbered, AreOwn, IsMerged, Own, all_of}
 use Rattle.fc_scripts.specs.Actors.{AreAll, AreFirst, WantMore}
 use Rattle.fc_scripts.specs.Ways.{AreOfDifferent}
+use Rattle.fc_shares.specs.Law.{numbered}
 use Rattle.law_together.specs.Asking.{AllAsked, AllBegan, OneWants}
-use Rattle.law_together.specs.Making.{AreDrawn, AreMakings, Making, all_made, numbered, own_of}
+use Rattle.law_together.specs.Making.{AreDrawn, AreMakings, Making, all_made, own_of}
 use Rattle.law_together.specs.Telling.{AreTold, block_alone, named, scripts_then}
 
 -- Lists of what actors made can be merged, and they merge to all entries in the order of their numbers.

@@ -1,5 +1,5 @@
 -- What the actors of a block made, each in its own order, with the numbers that were drawn.
-use Rattle.std.specs.Prelude.{◌≡◌, ◌≢◌, ℕ, suc, ◌+◌, ◌<◌, List, [], ◌∷◌, length, map, flat_map, All, AllPairs}
+use Rattle.std.specs.Prelude.{◌≡◌, ◌≢◌, ℕ, ◌+◌, ◌<◌, List, length, map, flat_map, All, AllPairs}
 use Rattle.fc_entry.specs.declared.entry.Entry.{Entry}
 use Rattle.fc_merge.specs.Merging.{Own}
 use Rattle.fc_yard.specs.Lists.{AllStand, once_below, times}
@@ -32,8 +32,3 @@ AreMakings makings = All IsMaking makings × AllPairs (λ (a b : Making). a.acto
 pub record AreDrawn (first : ℕ) (entries : List Entry) (made : List (ℕ × Entry)) : Type 0 where
   pub stand : AllStand first entries made
   pub numbers : (x : ℕ) → times x made + once_below x first ≡ once_below x (first + length entries)
-
--- The entries with their numbers, from n on.
-abbrev pub numbered : ℕ → List Entry → List Entry
-numbered n [] = []
-numbered n (entry ∷ entries) = record entry { number = n } ∷ numbered (suc n) entries

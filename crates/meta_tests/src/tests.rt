@@ -2,9 +2,10 @@
 
 use crate::script::{SIZE, goes_on, image, small, stopped_at};
 use fc_base::ids::{GrainNo, VolId};
+use fc_base::list::List;
 use fc_format::half_with;
 use fc_image::MetaRecord;
-use fc_meta::{Meta, MetaError, RecoverError};
+use fc_meta::{Call, Meta, MetaError, RecoverError};
 use fc_metadisk::{MemMeta, MetaDisk};
 use std::alloc::Global;
 use std::test::Fail;
@@ -198,5 +199,43 @@ fn a_half_is_full_by_the_byte(rt: HostRuntime) -> Result<(), Fail> {
     let mut meta = small(alloc, 144).expect(&rt, "room");
     assert!(rt; meta.fits(&WRITTEN));
     assert_eq!(rt; meta.put(alloc, &WRITTEN), Ok(()));
+    Ok(())
+}
+
+#[test]
+fn calls_are_made_in_order(rt: HostRuntime) -> Result<(), Fail> {
+    let alloc = rt.alloc();
+    let mut meta = small(alloc, SIZE).expect(&rt, "room");
+    let image = image(alloc, 7, 2).expect(&rt, "memory");
+    let calls = [
+        Call::Note(List::new(alloc)),
+        Call::Sync,
+        Call::ClearOther,
+        Call::FillOther(image),
+        Call::Turn,
+    ];
+    let (done, answer) = meta.make_all(alloc, &calls);
+    assert_eq!(rt; answer, Ok(()));
+    assert_eq!(rt; done, 5);
+    let found = bytes_found(alloc, meta.into_disk()).expect(&rt, "an image");
+    let wanted = bytes_of(alloc, 7, 2).expect(&rt, "memory");
+    assert_eq!(rt; found.as_slice(), wanted.as_slice());
+    Ok(())
+}
+
+#[test]
+fn calls_end_with_the_first_that_is_refused(rt: HostRuntime) -> Result<(), Fail> {
+    let alloc = rt.alloc();
+    let mut meta = small(alloc, 130).expect(&rt, "room");
+    // 65 bytes a half: 58 of the image, and room for one empty batch
+    let calls = [
+        Call::Note(List::new(alloc)),
+        Call::Sync,
+        Call::Note(List::new(alloc)),
+        Call::Sync,
+    ];
+    let (done, answer) = meta.make_all(alloc, &calls);
+    assert_eq!(rt; answer, Err(MetaError::Full));
+    assert_eq!(rt; done, 2);
     Ok(())
 }

@@ -1,7 +1,6 @@
 use Rattle.fc_lane.proofs.Followed.{entry_followed}
 use Rattle.fc_lane.proofs.lane.Lane.clean.Goals as goal
 
-pub returns-clause-right : goal.returns-clause-right
-returns-clause-right g c f i fits =
-    entry_followed c.args.self.now c.clean_told-entry.new.self c.note.new.self f c.clean_told-entry.result i c.clean_told-entry.ensures.same c.clean_told-entry.ensures.changes c.note.ensures
-    (c.clean_told-entry.ensures.right f.told i.lane fits)
+pub returns : goal.returns
+returns g c =
+    entry_followed c.args.self.now c.clean_told-entry.new.self c.note.new.self _ c.args.number c.args.actor _ c.clean_told-entry.result c.clean_told-entry.ensures c.note.ensures

@@ -1,7 +1,6 @@
 use Rattle.fc_lane.proofs.Followed.{entry_followed}
 use Rattle.fc_lane.proofs.lane.Lane.write.Goals as goal
 
-pub returns-clause-right : goal.returns-clause-right
-returns-clause-right g c f i fits =
-    entry_followed c.args.self.now c.write_told-entry.new.self c.note.new.self f c.write_told-entry.result i c.write_told-entry.ensures.same c.write_told-entry.ensures.changes c.note.ensures
-    (c.write_told-entry.ensures.right f.told i.lane fits)
+pub returns : goal.returns
+returns g c =
+    entry_followed c.args.self.now c.write_told-entry.new.self c.note.new.self _ c.args.number c.args.actor _ c.write_told-entry.result c.write_told-entry.ensures c.note.ensures
