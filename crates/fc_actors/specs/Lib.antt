@@ -1,3 +1,3 @@
 -- What the parts of a store say of the whole, and what is left of an actor's script.
 pub mod Shares
-pub mod Scripts
+pub mod Spans

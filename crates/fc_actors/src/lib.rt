@@ -11,8 +11,6 @@
 //! then `part`, `script`, `preparing`, `block`.
 #![tactic(auto)]
 
-pub mod block;
 pub mod gate;
 pub mod part;
-mod preparing;
-pub mod script;
+mod span;
