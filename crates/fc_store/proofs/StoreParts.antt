@@ -23,13 +23,13 @@ lane_taken [] l rest = refl
 lane_taken (t ∷ ts) l rest = ap (λ ps. Lane t ∷ ps) (lane_taken ts l rest)
 
 -- The same parts are of the same lanes,
-same_lanes : {D : Type 0} (xs ys : List LaneView) → lane_parts {D} xs ≡ lane_parts ys → xs ≡ ys
+same_lanes : {D : Type 0} (xs ys : List LaneView) → lane_parts {D = D} xs ≡ lane_parts ys → xs ≡ ys
 same_lanes [] [] e = refl
 same_lanes [] (y ∷ ys) e = absurd cc
 same_lanes (x ∷ xs) [] e = absurd cc
 same_lanes {D} (x ∷ xs) (y ∷ ys) e =
     let first : x ≡ y = cc in
-    let rest : lane_parts {D} xs ≡ lane_parts ys = cc in
+    let rest : lane_parts {D = D} xs ≡ lane_parts ys = cc in
     ap₂ (λ v vs. v ∷ vs) first (same_lanes xs ys rest)
 
 -- and a control part and lanes that lie in these parts are the store's.
@@ -37,5 +37,5 @@ pub store_of_parts : {D : Type 0} (control : ControlState) (lanes : List LaneVie
     let store : StoreView = record { control = control; lanes = lanes } in store ≡ s
 store_of_parts {D} control lanes rest s parts taken =
     let first : control ≡ s.control = cc in
-    let behind : rest ≡ lane_parts {D} s.lanes = cc in
+    let behind : rest ≡ lane_parts {D = D} s.lanes = cc in
     ap₂ (λ (c : ControlState) (ls : List LaneView). record { control = c; lanes = ls }) first (same_lanes lanes s.lanes (taken ∙ behind))

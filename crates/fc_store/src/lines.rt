@@ -22,7 +22,7 @@ ghost use Rattle.fc_stands.specs.Store.{StandsFor};
 use crate::apart::refused_entry;
 use crate::log::{is_full, log};
 use crate::store::Store;
-use crate::touched::blocks_in;
+use crate::touched::{blocks_in, touched_grains};
 use fc_base::fault::{Kind, Refusal, ValueOf, WordFault};
 use fc_base::ids::VolId;
 use fc_base::limits::{MAX_BLOCKS, MAX_ENTRIES};
@@ -121,9 +121,7 @@ impl<D: Mdisk> Store<D> {
         ensures quiet { QuietBy history.old.entries self.old.lanes → StaysUp result (QuietBy history.new.entries self.new.lanes) }
         ensures limit { length history.new.entries ≤ MAX_ENTRIES }
     {
-        let blocks = self.control.grain().blocks();
-        let first = block / blocks;
-        let last = ((block as u64 + count as u64 - 1) / blocks as u64) as u32;
+        let (first, last) = touched_grains(self.control.grain(), block, count);
         for grain in first..last + 1 {
             match self.run_part(access, volume, block, count, grain, history) {
                 Ok(()) => {}

@@ -100,6 +100,7 @@ impl<D: Mdisk> Store<D> {
             unreachable!()
         };
         take_lanes(left, &mut lanes);
-        *self = Store::from_parts_in(self.alloc, control, lanes);
+        let store = Store::from_parts_in(self.alloc, control, lanes);
+        drop(mem::replace(self, store));
     }
 }
