@@ -1,5 +1,5 @@
 -- What is left of the lists when an entry is taken.
-use Rattle.std.proofs.Common.{◌≡◌, ◌≢◌, ℕ, zero, suc, ◌+◌, ◌==◌, ◌<◌, ◌≤◌, ◌⊎◌, inl, inr, Bool, true, false, cond, List, [], ◌∷◌, ◌++◌, length, get_or, All, AllPairs, Contains, refl, sym, ◌∙◌, ap, subst, arith}
+use Rattle.std.proofs.Common.{◌≡◌, ◌≢◌, ℕ, zero, suc, ◌+◌, ◌==◌, ◌<◌, ◌≤◌, ◌⊎◌, inl, inr, cond, List, ◌∷◌, ◌++◌, length, get_or, All, AllPairs, Contains, refl, sym, ◌∙◌, ap, subst, arith}
 use Rattle.std.specs.List.{count_by}
 use Rattle.std.proofs.lemmas.Bool.{cond-true, cond-false, eq-eqb, ne_eqb}
 use Rattle.std.proofs.lemmas.List.{length-append}
@@ -99,11 +99,12 @@ each_own n old new e (there {own = own} {lists = lists} {next = next} t) h =
     All-cons IsOwn own next (All-head IsOwn own lists h) (each_own n lists next e t (All-tail IsOwn own lists h))
 
 pub left_own : (n : ℕ) (old new : List Own) (e : Entry) → Takes n old e new → AreOwn old → AreOwn new
-left_own n old new e t h =
-    (each_own n old new e t h.0,
-      λ i j d lt inside same.
-          h.1 i j d lt (omega (arith, inside, same_length n old new e t))
-          (same_actor n old new e t i d ∙ same ∙ sym (same_actor n old new e t j d)))
+left_own n old new e t h = (
+  each_own n old new e t h.0,
+  λ i j d lt inside same.
+      h.1 i j d lt (omega (arith, inside, same_length n old new e t))
+      (same_actor n old new e t i d ∙ same ∙ sym (same_actor n old new e t j d)),
+)
 
 -- The numbers that are left are those from the next on.
 pub left_numbered : (n c : ℕ) (old new : List Own) (e : Entry) → Takes n old e new → AreNumbered n (suc c) old → AreNumbered (suc n) c new

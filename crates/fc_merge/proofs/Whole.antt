@@ -1,5 +1,5 @@
 -- Entries that were taken one by one are one list of them all; and how far a merge has come.
-use Rattle.std.proofs.Common.{◌≡◌, ◌≢◌, ℕ, zero, suc, ◌+◌, ◌==◌, ◌<◌, ◌≤◌, Bool, true, false, cond, List, [], ◌∷◌, ◌++◌, length, map, filter, get_or, All, AllPairs, Contains, refl, sym, ◌∙◌, ap, subst, arith, add-one, append_assoc, append-nil}
+use Rattle.std.proofs.Common.{◌≡◌, ◌≢◌, ℕ, zero, suc, ◌+◌, ◌==◌, ◌<◌, List, [], ◌∷◌, ◌++◌, length, map, get_or, All, AllPairs, Contains, refl, sym, ◌∙◌, ap, subst, arith, add-one, append_assoc, append-nil}
 use Rattle.std.specs.List.{range_with_len}
 use Rattle.std.proofs.lemmas.Bool.{cond-true, cond-false, eq-eqb, ne_eqb}
 use Rattle.std.proofs.lemmas.List.{length-append}
@@ -169,10 +169,14 @@ all_pushed first all now lists own m none =
 
 pub some_pushed : (first : HistoryState) (all : List Own) (now : HistoryState) (lists : List Own) → AreOwn all → IsMerging first all now lists → SomePushed first all now
 some_pushed first all now lists own m =
-    let rest : CanMerge (length now.entries) lists = can_merge m.count (length now.entries) lists m.numbered m.own in
-    (m.pushed ++ rest.merged, m.pushed, rest.merged,
+    let rest : CanMerge (length now.entries) lists = can_merge m.count (length now.entries) lists m.numbered m.own in (
+      m.pushed ++ rest.merged,
+      m.pushed,
+      rest.merged,
       is_merged (length first.entries) all (m.pushed ++ rest.merged) (m.goes_on rest.merged rest.merges) own,
-      refl, m.history_is)
+      refl,
+      m.history_is,
+    )
 
 -- One entry less is left.
 pub less_left : (n : ℕ) (lists next : List Own) (e : Entry) → Takes n lists e next → length (all_of next) < length (all_of lists)

@@ -1,6 +1,6 @@
 -- The entries of several actors, and one list of them all by number.
-use Rattle.std.specs.Prelude.{◌≡◌, ◌≢◌, ℕ, ◌+◌, ◌<◌, ◌≤◌, ◌==◌, true, List, map, filter, length, flat_map, All, AllPairs, Contains, count_by}
-use Rattle.std.specs.List.{list_any, range_with_len}
+use Rattle.std.specs.Prelude.{◌≡◌, ◌≢◌, ℕ, ◌+◌, ◌<◌, ◌≤◌, ◌==◌, List, map, filter, flat_map, All, AllPairs, Contains, count_by}
+use Rattle.std.specs.List.{range_with_len}
 use Rattle.fc_entry.specs.declared.entry.Entry.{Entry}
 
 -- What one actor was answered, in order.

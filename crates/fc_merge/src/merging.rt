@@ -35,12 +35,12 @@ pub fn merge(lists: &mut [OwnEntries], history: &mut History) -> Result<(), NoMe
     requires numbered { (count : ℕ) × AreNumbered (length history.old.entries) count lists.old }
     ensures ok { OnOk result
         ((merged : List Entry) × IsMerged (length history.old.entries) (length (all_of lists.old)) lists.old merged
-            × (history.new ≡ record history.old { entries = history.old.entries ++ merged })) }
+        × (history.new ≡ record history.old { entries = history.old.entries ++ merged })) }
     ensures taken { OnOk result (all_of lists.new ≡ []) }
     ensures err { OnErr result
         ((merged front rest : List Entry) × IsMerged (length history.old.entries) (length (all_of lists.old)) lists.old merged
-            × (merged ≡ front ++ rest)
-            × (history.new ≡ record history.old { entries = history.old.entries ++ front })) }
+        × (merged ≡ front ++ rest)
+        × (history.new ≡ record history.old { entries = history.old.entries ++ front })) }
 {
     while let Some(entry) = take_next(lists, history.len() as u64) {
         match history.push(entry) {

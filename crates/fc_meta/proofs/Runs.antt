@@ -1,5 +1,5 @@
 -- What calls leave that come one after the other.
-use Rattle.std.proofs.Common.{◌≡◌, ◌⊎◌, inl, inr, ⊎_elim, ℕ, zero, suc, ◌+◌, ◌<◌, ◌≤◌, List, [], ◌∷◌, ◌++◌, length, get_or, take, drop, refl, sym, ap, ◌∙◌, subst, append_assoc, add-one, arith}
+use Rattle.std.proofs.Common.{◌≡◌, ◌⊎◌, inl, inr, ⊎_elim, ℕ, zero, suc, ◌+◌, ◌<◌, ◌≤◌, List, [], ◌∷◌, ◌++◌, length, get_or, take, drop, refl, sym, ap, ◌∙◌, subst, append_assoc, arith}
 use Rattle.std.specs.Prelude.{Err, IsErrOf}
 use Rattle.std.specs.List.{sum_by}
 use Rattle.std.proofs.lemmas.List.{append-nil, drop_more, take_more, take_all}
@@ -16,7 +16,7 @@ use Rattle.fc_meta.specs.declared.error.MetaError.TheVariants.{Failed, NoMemory,
 use Rattle.fc_meta.specs.declared.meta.Meta.{Meta}
 use Rattle.fc_meta.specs.Answers.{found_with, LeavesEither, more_calls}
 use Rattle.fc_meta.specs.States.{found, awaited, filled, IsResting, IsWaiting, IsCleared, IsFilled}
-use Rattle.fc_meta.specs.Order.{IsReadyFor, IsMade, coming, HasNoRoom, disk_calls, Place, AtRest, BatchNoted, OtherCleared, OtherFilled, behind, place_behind, Comes, AreInOrder, IsAt, stands, LeavesFront, UnlessFailed}
+use Rattle.fc_meta.specs.Order.{IsReadyFor, IsMade, coming, HasNoRoom, disk_calls, Stage, AtRest, BatchNoted, OtherCleared, OtherFilled, behind, stage_behind, Comes, AreInOrder, IsAt, stands, LeavesFront, UnlessFailed}
 use Rattle.fc_meta.proofs.Crash.{rests_found}
 use Rattle.fc_meta.proofs.Moments.{started, joined, weaker}
 
@@ -33,11 +33,11 @@ calls_of (Batch records) = Note records ∷ []
 calls_of Fold = ClearOther ∷ []
 calls_of (WholeFold image) = ClearOther ∷ FillOther image ∷ []
 
-abbrev pub place_of : Begun → Place
-place_of Nothing = AtRest
-place_of (Batch records) = BatchNoted
-place_of Fold = OtherCleared
-place_of (WholeFold image) = OtherFilled
+abbrev pub stage_of : Begun → Stage
+stage_of Nothing = AtRest
+stage_of (Batch records) = BatchNoted
+stage_of Fold = OtherCleared
+stage_of (WholeFold image) = OtherFilled
 
 -- what is only begun adds nothing
 adds_nothing : (before : Found) (begun : Begun) → stands before (calls_of begun) ≡ before
@@ -54,11 +54,11 @@ module _ {D : Type 0} (seen : D → List ℕ) (may_leave : D → List ℕ → Ty
   HasBegun Fold meta = IsCleared seen may_leave meta
   HasBegun (WholeFold image) meta = IsFilled seen may_leave meta × (filled seen meta ≡ Image image)
 
-  pub at_place : (begun : Begun) (meta : Meta D) → HasBegun begun meta → IsAt seen may_leave (place_of begun) meta
-  at_place Nothing meta h = h
-  at_place (Batch records) meta h = h.0
-  at_place Fold meta h = h
-  at_place (WholeFold image) meta h = h.0
+  pub at_stage : (begun : Begun) (meta : Meta D) → HasBegun begun meta → IsAt seen may_leave (stage_of begun) meta
+  at_stage Nothing meta h = h
+  at_stage (Batch records) meta h = h.0
+  at_stage Fold meta h = h
+  at_stage (WholeFold image) meta h = h.0
 
   -- a crash between two calls leaves what stands
   pub leaves_found : (begun : Begun) (meta : Meta D) → HasBegun begun meta → (c : List ℕ) → may_leave meta.disk c → recovered c ≡ found seen meta
@@ -67,7 +67,7 @@ module _ {D : Type 0} (seen : D → List ℕ) (may_leave : D → List ℕ → Ty
   leaves_found Fold meta w c may = ap recovered (w.durable c may)
   leaves_found (WholeFold image) meta h c may = ap recovered (h.0.durable c may)
 
-  pub ready : (begun : Begun) (call : Call) (meta : Meta D) → HasBegun begun meta → Comes (place_of begun) call → IsReadyFor seen may_leave call meta
+  pub ready : (begun : Begun) (call : Call) (meta : Meta D) → HasBegun begun meta → Comes (stage_of begun) call → IsReadyFor seen may_leave call meta
   ready Nothing (Note records) meta h comes = h
   ready Nothing ClearOther meta h comes = h
   ready (Batch records) Sync meta h comes = h.0
@@ -76,7 +76,7 @@ module _ {D : Type 0} (seen : D → List ℕ) (may_leave : D → List ℕ → Ty
   ready begun call meta h comes = absurd comes
 
   -- what a call makes stand
-  pub coming_stands : (begun : Begun) (call : Call) (meta : Meta D) → HasBegun begun meta → Comes (place_of begun) call
+  pub coming_stands : (begun : Begun) (call : Call) (meta : Meta D) → HasBegun begun meta → Comes (stage_of begun) call
       → coming seen call meta ≡ stands (found seen meta) (calls_of begun ++ call ∷ [])
   unfolding stands
   coming_stands Nothing (Note records) meta h comes = refl
@@ -90,39 +90,39 @@ module _ {D : Type 0} (seen : D → List ℕ) (may_leave : D → List ℕ → Ty
   pub record Next (begun : Begun) (call : Call) (old new : Meta D) : Type 0 where
     pub next : Begun
     pub at : HasBegun next new
-    pub place : place_of next ≡ behind call
+    pub stage : stage_of next ≡ behind call
     pub same : (more : List Call) → stands (found seen old) (calls_of begun ++ call ∷ more) ≡ stands (found seen new) (calls_of next ++ more)
 
-  pub made : (begun : Begun) (call : Call) (old new : Meta D) → HasBegun begun old → Comes (place_of begun) call → IsMade seen may_leave call old new → Next begun call old new
+  pub made : (begun : Begun) (call : Call) (old new : Meta D) → HasBegun begun old → Comes (stage_of begun) call → IsMade seen may_leave call old new → Next begun call old new
   unfolding stands
   made Nothing (Note records) old new h comes m = record {
     next = Batch records;
     at = (m.0, m.2 ∙ ap (λ (f : Found). found_with f records) (sym m.1));
-    place = refl;
+    stage = refl;
     same = λ more. ap (λ (f : Found). stands f (Note records ∷ more)) (sym m.1);
   }
   made Nothing ClearOther old new h comes m = record {
     next = Fold;
     at = m.0;
-    place = refl;
+    stage = refl;
     same = λ more. ap (λ (f : Found). stands f (ClearOther ∷ more)) (sym m.1);
   }
   made (Batch records) Sync old new h comes m = record {
     next = Nothing;
     at = m.0;
-    place = refl;
+    stage = refl;
     same = λ more. ap (λ (f : Found). stands f more) (sym (m.1 ∙ h.1));
   }
   made Fold (FillOther image) old new h comes m = record {
     next = WholeFold image;
     at = (m.0, m.2);
-    place = refl;
+    stage = refl;
     same = λ more. ap (λ (f : Found). stands f (ClearOther ∷ FillOther image ∷ more)) (sym m.1);
   }
   made (WholeFold image) Turn old new h comes m = record {
     next = Nothing;
     at = m.0;
-    place = refl;
+    stage = refl;
     same = λ more. ap (λ (f : Found). stands f more) (sym (m.1 ∙ h.1));
   }
   made begun call old new h comes m = absurd comes
@@ -130,9 +130,9 @@ module _ {D : Type 0} (seen : D → List ℕ) (may_leave : D → List ℕ → Ty
 -- ---- The first so many calls
 
 -- where calls lead
-behind_more : (place : Place) (calls : List Call) (call : Call) → place_behind place (calls ++ call ∷ []) ≡ behind call
-behind_more place [] call = refl
-behind_more place (first ∷ calls) call = behind_more (behind first) calls call
+behind_more : (stage : Stage) (calls : List Call) (call : Call) → stage_behind stage (calls ++ call ∷ []) ≡ behind call
+behind_more stage [] call = refl
+behind_more stage (first ∷ calls) call = behind_more (behind first) calls call
 
 -- some first ones of the calls are some first ones of more
 front_more : (before : Found) (calls more : List Call) (c : List ℕ) → LeavesFront before calls c → LeavesFront before (calls ++ more) c
@@ -146,8 +146,8 @@ module _ {D : Type 0} (seen : D → List ℕ) (may_leave : D → List ℕ → Ty
   pub record Going (calls : List Call) (done : ℕ) (first now : Meta D) : Type 0 where
     pub begun : Begun
     pub at : HasBegun seen may_leave begun now
-    pub order : AreInOrder (place_of begun) (drop done calls)
-    pub place : place_behind AtRest (take done calls) ≡ place_of begun
+    pub order : AreInOrder (stage_of begun) (drop done calls)
+    pub stage : stage_behind AtRest (take done calls) ≡ stage_of begun
     pub same : (more : List Call) → stands (found seen first) (take done calls ++ more) ≡ stands (found seen now) (calls_of begun ++ more)
     pub moments : LeavesOnly moment left_since first.disk now.disk (LeavesFront (found seen first) (take done calls))
 
@@ -159,7 +159,7 @@ module _ {D : Type 0} (seen : D → List ℕ) (may_leave : D → List ℕ → Ty
     begun = Nothing;
     at = w;
     order = order;
-    place = refl;
+    stage = refl;
     same = λ more. refl;
     moments = started moment left_since first.disk (LeavesFront (found seen first) [])
         (λ c left. all_of (found seen first) [] c (leaves_found seen may_leave Nothing first w c (only_now first.disk c left)));
@@ -172,8 +172,8 @@ module _ {D : Type 0} (seen : D → List ℕ) (may_leave : D → List ℕ → Ty
         sym (ap (stands (found seen first)) (sym (append-nil (take done calls))) ∙ (g.same []
         ∙ (ap (stands (found seen now)) (append-nil (calls_of g.begun)) ∙ adds_nothing (found seen now) g.begun)))
 
-    pub is_at : IsAt seen may_leave (place_behind AtRest (take done calls)) now
-    is_at = subst (λ (p : Place). IsAt seen may_leave p now) (sym g.place) (at_place seen may_leave g.begun now g.at)
+    pub is_at : IsAt seen may_leave (stage_behind AtRest (take done calls)) now
+    is_at = subst (λ (p : Stage). IsAt seen may_leave p now) (sym g.stage) (at_stage seen may_leave g.begun now g.at)
 
     pub leaves_now : (c : List ℕ) → may_leave now.disk c → recovered c ≡ stands (found seen first) (take done calls)
     leaves_now c may = leaves_found seen may_leave g.begun now g.at c may ∙ stands_now
@@ -185,8 +185,8 @@ module _ {D : Type 0} (seen : D → List ℕ) (may_leave : D → List ℕ → Ty
       longer : take (done + 1) calls ≡ take done calls ++ call ∷ []
       longer = take_more calls done call there ∙ ap (λ (z : Call). take done calls ++ z ∷ []) (sym is)
 
-      order_here : Comes (place_of g.begun) call × AreInOrder (behind call) (drop (done + 1) calls)
-      order_here = subst (AreInOrder (place_of g.begun)) split g.order
+      order_here : Comes (stage_of g.begun) call × AreInOrder (behind call) (drop (done + 1) calls)
+      order_here = subst (AreInOrder (stage_of g.begun)) split g.order
 
       pub is_ready : IsReadyFor seen may_leave call now
       is_ready = ready seen may_leave g.begun call now g.at order_here.0
@@ -226,8 +226,8 @@ module _ {D : Type 0} (seen : D → List ℕ) (may_leave : D → List ℕ → Ty
           record {
             begun = next.next;
             at = next.at;
-            order = subst (λ (p : Place). AreInOrder p (drop (done + 1) calls)) (sym next.place) order_here.1;
-            place = ap (place_behind AtRest) longer ∙ (behind_more AtRest (take done calls) call ∙ sym next.place);
+            order = subst (λ (p : Stage). AreInOrder p (drop (done + 1) calls)) (sym next.stage) order_here.1;
+            stage = ap (stage_behind AtRest) longer ∙ (behind_more AtRest (take done calls) call ∙ sym next.stage);
             same = λ more.
                 ap (λ (z : List Call). stands (found seen first) (z ++ more)) longer ∙ (ap (stands (found seen first)) (append_assoc (take done calls) (call ∷ []) more)
                 ∙ (g.same (call ∷ more) ∙ next.same more));

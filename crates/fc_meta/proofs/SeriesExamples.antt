@@ -6,7 +6,7 @@ use Rattle.fc_image.specs.Records.{after_records}
 use Rattle.fc_format.specs.Ranges.{HasGoodIds}
 use Rattle.fc_format.specs.Halves.{Image}
 use Rattle.fc_meta.specs.declared.series.Call.TheVariants.{Note, Sync, ClearOther, FillOther, Turn}
-use Rattle.fc_meta.specs.Order.{Place, AtRest, BatchNoted, OtherCleared, OtherFilled, place_behind, AreInOrder, stands}
+use Rattle.fc_meta.specs.Order.{AtRest, stage_behind, AreInOrder, stands}
 
 module _ (i j : MetaImage) (a b : List MetaRecord) where
   -- two batches stand in their order
@@ -33,7 +33,7 @@ module _ (i j : MetaImage) (a b : List MetaRecord) where
   in_order : HasGoodIds j → AreInOrder AtRest (Note a ∷ Sync ∷ ClearOther ∷ FillOther j ∷ Turn ∷ [])
   in_order good = (tt, (tt, (tt, (good, (tt, tt)))))
 
-  at_rest : place_behind AtRest (Note a ∷ Sync ∷ ClearOther ∷ FillOther j ∷ Turn ∷ []) ≡ AtRest
+  at_rest : stage_behind AtRest (Note a ∷ Sync ∷ ClearOther ∷ FillOther j ∷ Turn ∷ []) ≡ AtRest
   at_rest = refl
 
   -- no batch is noted inside a fold, nor behind one that waits; none is synced that wasn't noted; nothing is turned to unfilled

@@ -1,7 +1,5 @@
 -- Calls of a writer, one after the other: in which order they come, and what stands behind them.
 use Rattle.std.specs.Prelude.{◌≡◌, ◌<◌, ℕ, ◌+◌, List, [], ◌∷◌, ◌++◌, length, Result, Ok, Err, ⊤}
-use Rattle.fc_image.specs.declared.record.MetaRecord.{MetaRecord}
-use Rattle.fc_image.specs.declared.image.MetaImage.{MetaImage}
 use Rattle.fc_format.specs.Bytes.{batch_bytes}
 use Rattle.fc_format.specs.Ranges.{HasGoodIds}
 use Rattle.fc_format.specs.Halves.{Found, Image, recovered}
@@ -59,9 +57,9 @@ TakesMemory (FillOther image) = ⊤
 TakesMemory Turn = ⊥
 
 -- the first of these calls has it
-abbrev pub First : (Call → Type 0) → List Call → Type 0
-First P [] = ⊥
-First P (call ∷ calls) = P call
+abbrev pub OfFirst : (Call → Type 0) → List Call → Type 0
+OfFirst P [] = ⊥
+OfFirst P (call ∷ calls) = P call
 
 -- how many calls of the disk it makes
 abbrev pub disk_calls : Call → ℕ
@@ -74,14 +72,14 @@ disk_calls Turn = 2
 -- ---- Calls in their order
 
 -- how far a writer is
-pub data Place : Type 0 where
-  AtRest : Place
-  BatchNoted : Place
-  OtherCleared : Place
-  OtherFilled : Place
+pub data Stage : Type 0 where
+  AtRest : Stage
+  BatchNoted : Stage
+  OtherCleared : Stage
+  OtherFilled : Stage
 
 -- behind a call
-abbrev pub behind : Call → Place
+abbrev pub behind : Call → Stage
 behind (Note records) = BatchNoted
 behind Sync = AtRest
 behind ClearOther = OtherCleared
@@ -89,26 +87,26 @@ behind (FillOther image) = OtherFilled
 behind Turn = AtRest
 
 -- behind calls that begin here
-abbrev pub place_behind : Place → List Call → Place
-place_behind place [] = place
-place_behind place (call ∷ calls) = place_behind (behind call) calls
+abbrev pub stage_behind : Stage → List Call → Stage
+stage_behind stage [] = stage
+stage_behind stage (call ∷ calls) = stage_behind (behind call) calls
 
 -- the call comes here
-abbrev pub Comes : Place → Call → Type 0
+abbrev pub Comes : Stage → Call → Type 0
 Comes AtRest (Note records) = ⊤
 Comes BatchNoted Sync = ⊤
 Comes AtRest ClearOther = ⊤
 Comes OtherCleared (FillOther image) = HasGoodIds image
 Comes OtherFilled Turn = ⊤
-Comes place call = ⊥
+Comes stage call = ⊥
 
 -- each call comes where the one before it leads
-abbrev pub AreInOrder : Place → List Call → Type 0
-AreInOrder place [] = ⊤
-AreInOrder place (call ∷ calls) = Comes place call × AreInOrder (behind call) calls
+abbrev pub AreInOrder : Stage → List Call → Type 0
+AreInOrder stage [] = ⊤
+AreInOrder stage (call ∷ calls) = Comes stage call × AreInOrder (behind call) calls
 
 -- the state of a writer there
-abbrev pub IsAt : {D : Type 0} (seen : D → List ℕ) (may_leave : D → List ℕ → Type 0) → Place → Meta D → Type 0
+abbrev pub IsAt : {D : Type 0} (seen : D → List ℕ) (may_leave : D → List ℕ → Type 0) → Stage → Meta D → Type 0
 IsAt seen may_leave AtRest meta = IsResting seen may_leave meta
 IsAt seen may_leave BatchNoted meta = IsWaiting seen may_leave meta
 IsAt seen may_leave OtherCleared meta = IsCleared seen may_leave meta

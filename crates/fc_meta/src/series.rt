@@ -1,12 +1,12 @@
 //! Calls one after the other.
 
-ghost use Rattle.std.specs.Prelude.{◌≡◌, ◌⊎◌, ◌≤◌, ◌<◌, ◌+◌, List, ℕ, length, take, drop, true, false, is_err, OnOk, OnErr, IsErrOf};
+ghost use Rattle.std.specs.Prelude.{◌≡◌, ◌⊎◌, ◌<◌, ◌+◌, List, ℕ, length, take, drop, OnOk, OnErr, IsErrOf};
 ghost use Rattle.std.specs.List.{sum_by};
 ghost use Rattle.fc_base.specs.Count.{HasRisen};
 ghost use Rattle.fc_metadisk.specs.Disk.{LeavesOnly};
 ghost use Rattle.fc_meta.specs.Answers.{LeavesEither, LeavesFound, more_calls, IsStopped};
 ghost use Rattle.fc_meta.specs.States.{disk_of, found, IsResting};
-ghost use Rattle.fc_meta.specs.Order.{AtRest, IsReadyFor, IsMade, coming, HasNoRoom, TakesMemory, First, disk_calls, AreInOrder, IsAt, place_behind, stands, LeavesFront, UnlessFailed};
+ghost use Rattle.fc_meta.specs.Order.{AtRest, IsReadyFor, IsMade, coming, HasNoRoom, TakesMemory, OfFirst, disk_calls, AreInOrder, IsAt, stage_behind, stands, LeavesFront, UnlessFailed};
 
 use crate::error::MetaError;
 use crate::meta::Meta;
@@ -44,8 +44,9 @@ impl<M: MetaDisk> Meta<M> {
             (M.fault_count (disk_of self.old)) (M.fault_count (disk_of self.new)) }
         ensures quiet { OnOk result
             (M.fault_count (disk_of self.new) ≡ M.fault_count (disk_of self.old)) }
-        ensures calls { OnOk result
-            (M.calls (disk_of self.new) ≡ more_calls (disk_calls call.now) (M.calls (disk_of self.old))) }
+        ensures calls { OnOk result (M.calls (disk_of self.new) ≡
+            more_calls (disk_calls call.now) (M.calls (disk_of self.old))) }
+        ensures room { OnOk result (HasNoRoom M.seen call.now self.old → ⊥) }
         ensures stopped { IsErrOf result MetaError.Failed → IsStopped (disk_calls call.now)
             (M.calls (disk_of self.old)) (M.calls (disk_of self.new)) }
     {
@@ -69,15 +70,16 @@ impl<M: MetaDisk> Meta<M> {
         ensures all { OnOk result.1 (result.0 ≡ length calls.now) }
         ensures part { OnErr result.1 (result.0 < length calls.now) }
         ensures full { IsErrOf result.1 MetaError.Full →
-            First (λ call. HasNoRoom M.seen call self.new) (drop result.0 calls.now) }
+            OfFirst (λ call. HasNoRoom M.seen call self.new) (drop result.0 calls.now) }
         ensures no_memory { IsErrOf result.1 MetaError.NoMemory →
-            First TakesMemory (drop result.0 calls.now) }
+            OfFirst TakesMemory (drop result.0 calls.now) }
         ensures at { UnlessFailed result.1
-            (IsAt M.seen M.may_leave (place_behind AtRest (take result.0 calls.now)) self.new) }
+            (IsAt M.seen M.may_leave (stage_behind AtRest (take result.0 calls.now)) self.new) }
         ensures found { UnlessFailed result.1
             (found M.seen self.new ≡ stands (found M.seen self.old) (take result.0 calls.now)) }
         ensures durable { UnlessFailed result.1
-            ((c : List ℕ) → M.may_leave (disk_of self.new) c → LeavesFound (stands (found M.seen self.old) (take result.0 calls.now)) c) }
+            ((c : List ℕ) → M.may_leave (disk_of self.new) c →
+            LeavesFound (stands (found M.seen self.old) (take result.0 calls.now)) c) }
         ensures crash { (c : List ℕ) → M.may_leave (disk_of self.new) c →
             LeavesEither (stands (found M.seen self.old) (take result.0 calls.now))
             (stands (found M.seen self.old) (take (result.0 + 1) calls.now)) c }

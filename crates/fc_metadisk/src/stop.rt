@@ -72,6 +72,7 @@ impl StopMeta {
     fn count_call(&mut self) -> Result<(), Failed>
         ensures disk { self.new ≡ record self.old { calls = one_more self.old.calls; faults = self.new.faults } }
         ensures told { is_err result ≡ has_stopped self.new }
+        ensures faults { self.new.faults ≡ (if has_stopped self.new then one_more self.old.faults else self.old.faults) }
         ensures cause { FaultsAfter true (is_err result) self.old.faults self.new.faults }
     {
         self.calls = self.calls.saturating_add(1);
@@ -153,6 +154,7 @@ impl MetaDisk for StopMeta {
         ensures calls { self.new.calls ≡ self.old.calls }
         ensures stop { self.new.stop ≡ self.old.stop }
         ensures told { is_err result ≡ has_stopped self.old }
+        ensures faults { self.new.faults ≡ (if has_stopped self.old then one_more self.old.faults else self.old.faults) }
         ensures cause { FaultsAfter true (is_err result) self.old.faults self.new.faults }
     {
         if self.has_stopped() {
@@ -171,6 +173,7 @@ impl MetaDisk for StopMeta {
         ensures calls { self.new.calls ≡ one_more self.old.calls }
         ensures stop { self.new.stop ≡ self.old.stop }
         ensures told { is_err result ≡ has_stopped self.new }
+        ensures faults { self.new.faults ≡ (if has_stopped self.new then one_more self.old.faults else self.old.faults) }
         ensures cause { FaultsAfter true (is_err result) self.old.faults self.new.faults }
         ensures done { OnOk result (self.new.bytes ≡ bytes_put at bytes.now self.old.bytes) }
         ensures crash { Follows (Torn at (length bytes.now)) (StopLeaves self.old) (StopLeaves self.new) }
@@ -188,6 +191,7 @@ impl MetaDisk for StopMeta {
         ensures calls { self.new.calls ≡ one_more self.old.calls }
         ensures stop { self.new.stop ≡ self.old.stop }
         ensures told { is_err result ≡ has_stopped self.new }
+        ensures faults { self.new.faults ≡ (if has_stopped self.new then one_more self.old.faults else self.old.faults) }
         ensures cause { FaultsAfter true (is_err result) self.old.faults self.new.faults }
         ensures durable { OnOk result (Only self.old.bytes (StopLeaves self.new)) }
         ensures crash { (c : List ℕ) → StopLeaves self.new c → StopLeaves self.old c }

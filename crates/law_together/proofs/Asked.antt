@@ -1,5 +1,5 @@
 -- What each actor asked by its own list, it asked by the merged one.
-use Rattle.std.proofs.Common.{◌≡◌, ◌≢◌, ℕ, zero, suc, ◌+◌, ◌==◌, ◌<◌, ◌≤◌, ◌⊎◌, inl, inr, Bool, true, false, List, [], ◌∷◌, ◌++◌, length, map, filter, get_or, drop, All, Contains, refl, sym, ◌∙◌, ap, subst, arith}
+use Rattle.std.proofs.Common.{◌≡◌, ℕ, zero, suc, ◌==◌, ◌<◌, ◌⊎◌, inl, inr, true, List, [], ◌∷◌, ◌++◌, length, map, get_or, drop, All, Contains, refl, sym, ◌∙◌, ap, subst, arith}
 use Rattle.std.specs.List.{AllZip, list_any}
 use Rattle.std.proofs.lemmas.Bool.{eq-eqb}
 use Rattle.std.proofs.lemmas.List.{append-nil, append_assoc, drop_at, get_or_append_left, length-append, map-append}
@@ -135,6 +135,36 @@ module _ (first count : ℕ) (lists : List Own) (scripts : List Script) (front r
         nobody_else = front_all (λ (e : Entry). list_any (λ (s : Script). s.actor == e.actor) scripts ≡ true) front rest (theirs lists scripts began first count (front ++ rest) own_each m);
       }
 
+all_began : (ls : List Own) (ss : List Script) → AllAsked ls ss → AllBegan ls ss
+all_began [] [] h = tt
+all_began [] (s ∷ ss) h = absurd h
+all_began (l ∷ ls) [] h = absurd h
+all_began (l ∷ ls) (s ∷ ss) h = (([], h.0), all_began ls ss h.1)
+
+one_wants : (o : Own) (s : Script) (ls : List Own) (ss : List Script) (wanted : Request) (behind : List Request) → LeavesOf s o (wanted ∷ behind) → OneWants (o ∷ ls) (s ∷ ss)
+one_wants o s ls ss wanted behind leaves =
+    record {
+      own = o;
+      script = s;
+      is_list = (zero, omega arith, refl);
+      is_script = (zero, omega arith, refl);
+      wanted = wanted;
+      behind = behind;
+      leaves = leaves;
+    }
+
+other_wants : (o : Own) (s : Script) (ls : List Own) (ss : List Script) → OneWants ls ss → OneWants (o ∷ ls) (s ∷ ss)
+other_wants o s ls ss one =
+    record {
+      own = one.own;
+      script = one.script;
+      is_list = (suc one.is_list.0, omega (arith, one.is_list.1), one.is_list.2);
+      is_script = (suc one.is_script.0, omega (arith, one.is_script.1), one.is_script.2);
+      wanted = one.wanted;
+      behind = one.behind;
+      leaves = one.leaves;
+    }
+
 pub asked_all : (first count : ℕ) (lists : List Own) (scripts : List Script) (merged : List Entry) →
     AreOwn lists → AllAsked lists scripts → IsMerged first count lists merged → AreAll scripts merged
 asked_all first count lists scripts merged own_each all m =
@@ -148,12 +178,6 @@ asked_all first count lists scripts merged own_each all m =
           ∙ asks_own first count lists merged o s [] (m.each k (nothing_of s) k_in) (zip_at AskedAll lists scripts k (nothing_of s) d all k_in);
       nobody_else = theirs lists scripts began first count merged own_each m;
     }
-  where
-    all_began : (ls : List Own) (ss : List Script) → AllAsked ls ss → AllBegan ls ss
-    all_began [] [] h = tt
-    all_began [] (s ∷ ss) h = absurd h
-    all_began (l ∷ ls) [] h = absurd h
-    all_began (l ∷ ls) (s ∷ ss) h = (([], h.0), all_began ls ss h.1)
 
 pub asked_more : (first count : ℕ) (lists : List Own) (scripts : List Script) (merged : List Entry) → AreOfDifferent scripts →
     AreOwn lists → AllBegan lists scripts → OneWants lists scripts → IsMerged first count lists merged → WantMore scripts merged
@@ -177,6 +201,9 @@ asked_more first count lists scripts merged differ own_each began one m =
 
 pub ask_law_holds : AskLaw
 ask_law_holds = record {
+  started = all_began;
+  one = one_wants;
+  other = other_wants;
   all = asked_all;
   began = are_first;
   wants = asked_more;

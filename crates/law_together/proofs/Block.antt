@@ -11,7 +11,7 @@ use Rattle.fc_blocks.specs.declared.block.BlockRead.{BlockRead}
 use Rattle.fc_entry.specs.declared.entry.Entry.{Entry}
 use Rattle.fc_legal.specs.Agenda.{Actors, Agenda, Faults, Reading, Session, session_rules}
 use Rattle.fc_legal.specs.Legal.{AreSteps}
-use Rattle.fc_legal.specs.Scripts.{Script, faults_asked}
+use Rattle.fc_legal.specs.Scripts.{faults_asked}
 use Rattle.fc_legal.specs.Whole.{Whole, lanes}
 use Rattle.fc_scripts.proofs.Fixed.{scripts_law_holds}
 use Rattle.fc_scripts.specs.Actors.{AreAll, AreFirst, WantMore}

@@ -1,8 +1,7 @@
 -- What actors made, each with the numbers that were drawn, merges to all entries in the order of their numbers.
-use Rattle.std.proofs.Common.{◌≡◌, ◌≢◌, ℕ, zero, suc, ◌+◌, ◌==◌, ◌<◌, ◌≤◌, ◌⊎◌, inl, inr, Bool, true, false, cond, List, [], ◌∷◌, ◌++◌, length, map, get_or, All, AllPairs, Contains, refl, sym, ◌∙◌, ap, subst, arith, add-zero}
+use Rattle.std.proofs.Common.{◌≡◌, ◌≢◌, ℕ, zero, suc, ◌+◌, ◌==◌, ◌<◌, ◌≤◌, ◌⊎◌, inl, inr, Bool, cond, List, [], ◌∷◌, ◌++◌, length, map, get_or, All, AllPairs, Contains, refl, sym, ◌∙◌, ap, subst, arith, add-zero}
 use mathlib.Core.Option.{some}
 use lib.ListN.{get_elem?}
-use Rattle.std.specs.List.{range_with_len}
 use Rattle.std.proofs.lemmas.Bool.{cases_eq, eq-eqb, ne_eqb}
 use Rattle.std.proofs.lemmas.List.{get_or-map, length-map, map-append, same_lists}
 use Rattle.std.proofs.lemmas.List.Elements.{All-map}
@@ -10,7 +9,9 @@ use Rattle.std.proofs.lemmas.List.FromFn.{get_or-range_with_len, length-range_wi
 use Rattle.fc_entry.specs.declared.entry.Entry.{Entry}
 use Rattle.fc_merge.proofs.Left.{count-cons, count_at, left_numbered, left_own, one_at, taken_length}
 use Rattle.fc_merge.proofs.Steps.{Found, IsNotNext, find, none_left, nothing_left}
+use Rattle.fc_legal.specs.Scripts.{Script}
 use Rattle.fc_merge.specs.Merging.{AreNumbered, AreOwn, IsMerged, IsOwn, Own, all_of}
+use Rattle.fc_scripts.specs.Ways.{AreOfDifferent, numbers_of}
 use Rattle.fc_shares.specs.Law.{numbered}
 use Rattle.fc_yard.proofs.Places.{within}
 use Rattle.fc_yard.specs.Lists.{AllStand, bit, once_below, times}
@@ -115,25 +116,35 @@ module _ (first : ℕ) (es : List Entry) (makings : List Making) (drawn : AreDra
 -- ---- the lists are those of their actors
 
 own_made : (m : Making) → IsMaking m → IsOwn (own_of m)
-own_made m h =
-    (All-map (λ (e : Entry). e.actor ≡ m.actor) with_number m.made h.0,
-      λ i j d lt inside.
-          let a : ℕ × Entry = (0, d) in
-          let j_in : j < length m.made = omega (arith, inside, length-map m.made with_number) in
-          let one : (get_or (map with_number m.made) i d).number ≡ (get_or m.made i a).0 = ap (λ (e : Entry). e.number) (get_or-map with_number m.made i a d (omega (arith, lt, j_in))) in
-          let other : (get_or (map with_number m.made) j d).number ≡ (get_or m.made j a).0 = ap (λ (e : Entry). e.number) (get_or-map with_number m.made j a d j_in) in
-          let less : (get_or m.made i a).0 < (get_or m.made j a).0 = h.1 i j a lt j_in in
-          omega (arith, one, other, less))
+own_made m h = (
+  All-map (λ (e : Entry). e.actor ≡ m.actor) with_number m.made h.0,
+  λ i j d lt inside.
+      let a : ℕ × Entry = (0, d) in
+      let j_in : j < length m.made = omega (arith, inside, length-map m.made with_number) in
+      let one : (get_or (map with_number m.made) i d).number ≡ (get_or m.made i a).0 = ap (λ (e : Entry). e.number) (get_or-map with_number m.made i a d (omega (arith, lt, j_in))) in
+      let other : (get_or (map with_number m.made) j d).number ≡ (get_or m.made j a).0 = ap (λ (e : Entry). e.number) (get_or-map with_number m.made j a d j_in) in
+      let less : (get_or m.made i a).0 < (get_or m.made j a).0 = h.1 i j a lt j_in in
+      omega (arith, one, other, less),
+)
 
 are_own : (makings : List Making) → AreMakings makings → AreOwn (map own_of makings)
-are_own makings h =
-    (All-map IsOwn own_of makings (λ k d inside. own_made (get_or makings k d) (h.0 k d inside)),
-      λ i j d lt inside same.
-          let a : Making = record { actor = d.actor; made = [] } in
-          let j_in : j < length makings = omega (arith, inside, length-map makings own_of) in
-          let actor : Own → ℕ = λ o. o.actor in
-          h.1 i j a lt j_in
-          (ap actor (sym (get_or-map own_of makings i a d (omega (arith, lt, j_in)))) ∙ same ∙ ap actor (get_or-map own_of makings j a d j_in)))
+are_own makings h = (
+  All-map IsOwn own_of makings (λ k d inside. own_made (get_or makings k d) (h.0 k d inside)),
+  λ i j d lt inside same.
+      let a : Making = record { actor = d.actor; made = [] } in
+      let j_in : j < length makings = omega (arith, inside, length-map makings own_of) in
+      let actor : Own → ℕ = λ o. o.actor in
+      h.1 i j a lt j_in
+      (ap actor (sym (get_or-map own_of makings i a d (omega (arith, lt, j_in)))) ∙ same ∙ ap actor (get_or-map own_of makings j a d j_in)),
+)
+
+are_different : (makings : List Making) (scripts : List Script) → map (λ (m : Making). m.actor) makings ≡ numbers_of scripts → AreOfDifferent scripts →
+    AllPairs (λ (a b : Making). a.actor ≢ b.actor) makings
+are_different makings scripts is differ = λ i j d lt inside same.
+    let actor : Making → ℕ = λ m. m.actor in
+    let Differ : List ℕ → Type 0 = λ numbers. AllPairs (λ one other. one ≢ other) numbers in
+    subst Differ (sym is) differ i j d.actor lt (omega (arith, inside, length-map makings actor))
+    (get_or-map actor makings i d d.actor (omega (arith, lt, inside)) ∙ same ∙ sym (get_or-map actor makings j d d.actor inside))
 
 -- ---- how many there are
 
@@ -161,7 +172,6 @@ numbered_at n (suc k) (e ∷ es) d d' inside =
     let further : suc n + k ≡ n + suc k = omega arith in
     numbered_at (suc n) k es d d' (omega (arith, inside)) ∙ ap (λ m. record (get_or es k d') { number = m }) further
 
-
 merged_is : (first : ℕ) (es merged : List Entry) (makings : List Making) → AreMakings makings → AreDrawn first es (all_made makings) →
     IsMerged first (length (all_of (map own_of makings))) (map own_of makings) merged → merged ≡ numbered first es
 merged_is first es merged makings h drawn m =
@@ -185,6 +195,7 @@ merged_is first es merged makings h drawn m =
 
 pub merge_law_holds : MergeLaw
 merge_law_holds = record {
+  differ = are_different;
   own = are_own;
   numbers = λ first es makings drawn. are_numbered first es makings drawn;
   merged = merged_is;

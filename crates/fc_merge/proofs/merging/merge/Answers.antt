@@ -1,9 +1,9 @@
-use Rattle.std.proofs.Common.{◌≡◌, ◌∙◌, ℕ, List, All, ap, length, subst, sym}
+use Rattle.std.proofs.Common.{◌∙◌, ℕ, All, ap, subst, sym}
 use Rattle.fc_entry.specs.HistoryState.{HistoryState}
 use Rattle.fc_merge.proofs.Left.{taken_number}
 use Rattle.fc_merge.proofs.Steps.{IsNotNext}
 use Rattle.fc_merge.proofs.Whole.{IsMerging, SomePushed, all_pushed, all_taken, begun, less_left, pushed_on, some_pushed}
-use Rattle.fc_merge.specs.Merging.{Own, all_of}
+use Rattle.fc_merge.specs.Merging.{all_of}
 use Rattle.fc_merge.specs.Taking.{Takes}
 use Rattle.fc_merge.proofs.merging.merge.Goals as goal
 

@@ -17,11 +17,11 @@ returns-clause-taken c =
 pub returns-clause-none : goal.returns-clause-none
 returns-clause-none c =
     λ none.
-        absurd (never_empty c.args.number c.in_ok-place.place c.args.lists.now c.index-lists-place.result
-        (sym c.in_ok-place.ensures) c.index-lists-place.is (ap (λ (own : Own). own.entries) c.index-lists-place.is ∙ c.take_first.ensures.none none))
+    absurd (never_empty c.args.number c.in_ok-place.place c.args.lists.now c.index-lists-place.result
+    (sym c.in_ok-place.ensures) c.index-lists-place.is (ap (λ (own : Own). own.entries) c.index-lists-place.is ∙ c.take_first.ensures.none none))
 
 pub returns-clause-stay : goal.returns-clause-stay
 returns-clause-stay c =
     λ none.
-        absurd (never_empty c.args.number c.in_ok-place.place c.args.lists.now c.index-lists-place.result
-        (sym c.in_ok-place.ensures) c.index-lists-place.is (ap (λ (own : Own). own.entries) c.index-lists-place.is ∙ c.take_first.ensures.none none))
+    absurd (never_empty c.args.number c.in_ok-place.place c.args.lists.now c.index-lists-place.result
+    (sym c.in_ok-place.ensures) c.index-lists-place.is (ap (λ (own : Own). own.entries) c.index-lists-place.is ∙ c.take_first.ensures.none none))

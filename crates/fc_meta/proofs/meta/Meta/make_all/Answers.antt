@@ -1,4 +1,4 @@
-use Rattle.std.proofs.Common.{◌≡◌, ◌≤◌, ◌+◌, ℕ, List, inl, length, take, refl, sym, ap, ◌∙◌, subst, arith}
+use Rattle.std.proofs.Common.{◌≡◌, ◌+◌, ℕ, List, inl, length, take, refl, sym, ap, ◌∙◌, subst, arith}
 use Rattle.std.specs.List.{sum_by}
 use Rattle.fc_base.specs.Count.{HasRisen}
 use Rattle.fc_metadisk.specs.Disk.{LeavesOnly}
@@ -6,7 +6,7 @@ use Rattle.fc_meta.specs.declared.series.Call.{Call}
 use Rattle.fc_meta.specs.declared.meta.Meta.{Meta}
 use Rattle.fc_meta.specs.States.{found}
 use Rattle.fc_meta.specs.Answers.{more_calls}
-use Rattle.fc_meta.specs.Order.{AtRest, HasNoRoom, TakesMemory, First, disk_calls, IsAt, place_behind, stands, LeavesFront}
+use Rattle.fc_meta.specs.Order.{AtRest, HasNoRoom, TakesMemory, OfFirst, disk_calls, IsAt, stage_behind, stands, LeavesFront}
 use Rattle.fc_meta.proofs.Runs.{going, stands_now, is_at, leaves_now, split, is_ready, leaves_either, moments_more, going_on, whole, counted_on, refused_holds, full_same}
 use Rattle.fc_meta.proofs.meta.Meta.make_all.Goals as goal
 
@@ -21,7 +21,7 @@ make-requires g c =
 pub returns-in-Err-clause-at : goal.returns-in-Err-clause-at
 returns-in-Err-clause-at g c =
     refused_holds _ (c.make.new.self ≡ c.loop-done.self) c.in-Err.error c.in-Err.ensures.refused
-    (λ same. subst (λ (m : Meta g.row.M.Denot). IsAt g.M.MetaDisk.seen g.M.MetaDisk.may_leave (place_behind AtRest (take c.loop-done.done c.args.calls.now)) m) (sym same) (is_at g.M.MetaDisk.seen g.M.MetaDisk.may_leave g.M.MetaDisk.moment g.M.MetaDisk.left_since c.args.calls.now c.loop-done.done c.args.self.now c.loop-done.self c.loop-done.invariant.going))
+    (λ same. subst (λ (m : Meta g.row.M.Denot). IsAt g.M.MetaDisk.seen g.M.MetaDisk.may_leave (stage_behind AtRest (take c.loop-done.done c.args.calls.now)) m) (sym same) (is_at g.M.MetaDisk.seen g.M.MetaDisk.may_leave g.M.MetaDisk.moment g.M.MetaDisk.left_since c.args.calls.now c.loop-done.done c.args.self.now c.loop-done.self c.loop-done.invariant.going))
 
 pub returns-in-Err-clause-found : goal.returns-in-Err-clause-found
 returns-in-Err-clause-found g c =
@@ -59,7 +59,7 @@ loop-done-preserved g c =
 
 pub returns-clause-at : goal.returns-clause-at
 returns-clause-at g c =
-    subst (λ (z : List Call). IsAt g.M.MetaDisk.seen g.M.MetaDisk.may_leave (place_behind AtRest z) c.loop-done.self)
+    subst (λ (z : List Call). IsAt g.M.MetaDisk.seen g.M.MetaDisk.may_leave (stage_behind AtRest z) c.loop-done.self)
     (whole g.M.MetaDisk.seen g.M.MetaDisk.may_leave g.M.MetaDisk.moment g.M.MetaDisk.left_since c.args.calls.now c.loop-done.done c.args.self.now c.loop-done.self c.loop-done.invariant.going (length c.args.calls.now) c.loop-done-test.false (omega arith)) (is_at g.M.MetaDisk.seen g.M.MetaDisk.may_leave g.M.MetaDisk.moment g.M.MetaDisk.left_since c.args.calls.now c.loop-done.done c.args.self.now c.loop-done.self c.loop-done.invariant.going)
 
 pub returns-clause-found : goal.returns-clause-found
@@ -95,10 +95,10 @@ returns-clause-calls g c =
 
 pub returns-in-Err-clause-full : goal.returns-in-Err-clause-full
 returns-in-Err-clause-full g c is =
-    subst (λ (z : List Call). First (λ (call : Call). HasNoRoom g.M.MetaDisk.seen call c.make.new.self) z) (sym (split g.M.MetaDisk.seen g.M.MetaDisk.may_leave g.M.MetaDisk.moment g.M.MetaDisk.left_since c.args.calls.now c.loop-done.done c.args.self.now c.loop-done.self c.loop-done.invariant.going c.index-calls-done.result c.index-calls-done.is c.loop-done-test.true))
+    subst (λ (z : List Call). OfFirst (λ (call : Call). HasNoRoom g.M.MetaDisk.seen call c.make.new.self) z) (sym (split g.M.MetaDisk.seen g.M.MetaDisk.may_leave g.M.MetaDisk.moment g.M.MetaDisk.left_since c.args.calls.now c.loop-done.done c.args.self.now c.loop-done.self c.loop-done.invariant.going c.index-calls-done.result c.index-calls-done.is c.loop-done-test.true))
     (full_same g.M.MetaDisk.seen c.index-calls-done.result c.loop-done.self c.make.new.self c.in-Err.error c.in-Err.ensures.refused is (c.in-Err.ensures.full is))
 
 pub returns-in-Err-clause-no_memory : goal.returns-in-Err-clause-no_memory
 returns-in-Err-clause-no_memory g c is =
-    subst (First TakesMemory) (sym (split g.M.MetaDisk.seen g.M.MetaDisk.may_leave g.M.MetaDisk.moment g.M.MetaDisk.left_since c.args.calls.now c.loop-done.done c.args.self.now c.loop-done.self c.loop-done.invariant.going c.index-calls-done.result c.index-calls-done.is c.loop-done-test.true))
+    subst (OfFirst TakesMemory) (sym (split g.M.MetaDisk.seen g.M.MetaDisk.may_leave g.M.MetaDisk.moment g.M.MetaDisk.left_since c.args.calls.now c.loop-done.done c.args.self.now c.loop-done.self c.loop-done.invariant.going c.index-calls-done.result c.index-calls-done.is c.loop-done-test.true))
     (c.in-Err.ensures.no_memory is)

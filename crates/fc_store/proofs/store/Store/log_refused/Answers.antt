@@ -3,8 +3,8 @@ use Rattle.std.proofs.Common.{◌≡◌, ◌∷◌, ◌++◌, [], ℕ, arith, ap
 use Rattle.fc_base.specs.declared.request.Place.TheVariants.{Control}
 use Rattle.fc_base.specs.declared.request.Reply.TheVariants.{Refused}
 use Rattle.fc_entry.specs.declared.entry.Entry.{Entry}
-use Rattle.fc_legal.specs.Steps.{one_more}
 use Rattle.fc_stands.specs.Apart.{entry_apart}
+use Rattle.fc_stands.specs.Leading.{LeadsOn}
 use Rattle.fc_stands.specs.Store.{StandsFor}
 use Rattle.fc_stands.proofs.Turns.{IsTurn, history_full, led_turn, turn_logged}
 use Rattle.fc_stands.proofs.Turning.{refused_leads}
@@ -18,10 +18,11 @@ returns-then-is_full-clause-answered g c = λ w told.
 pub returns-clause-answered : goal.returns-clause-answered
 returns-clause-answered g c = λ w told.
     let made : Entry = entry_apart 0 0 Control c.args.request (Refused c.args.refusal) [] in
-    let Turn : Entry → Type 0 = λ e. IsTurn (StandsFor c.args.self.now) c.args.self.now.control.grain w c.args.request (record e { number = c.len.result }) (one_more w) in
-    let turn = led_turn c.args.self.now c.args.self.now.control.grain w c.args.request c.len.result made
-    (refused_leads c.args.self.now w 0 c.args.request c.args.refusal told.0 (c.requires.refused w told)) (c.len.ensures ∙ sym told.1.entries) record { number_is = refl; actor_is = refl; request_is = refl } in
-    turn_logged (StandsFor c.args.self.now) c.args.self.now.control.grain w (one_more w) c.args.request c.args.history.now c.log.new.history (record c.refused_entry-entry.result { number = c.len.result })
+    let leads : LeadsOn c.args.self.now.control.grain w made c.args.self.now = refused_leads c.args.self.now w 0 c.args.request c.args.refusal told.0 (c.requires.refused w told) in
+    let Turn : Entry → Type 0 = λ e. IsTurn (StandsFor c.args.self.now) c.args.self.now.control.grain w c.args.request (record e { number = c.len.result }) leads.0 in
+    let turn = led_turn c.args.self.now c.args.self.now.control.grain w c.args.request c.len.result made leads (c.len.ensures ∙ sym told.1.entries)
+    record { number_is = refl; actor_is = refl; request_is = refl } in
+    turn_logged (StandsFor c.args.self.now) c.args.self.now.control.grain w leads.0 c.args.request c.args.history.now c.log.new.history (record c.refused_entry-entry.result { number = c.len.result })
     (subst Turn (sym c.refused_entry-entry.ensures) turn) told.1 c.log.result c.log.ensures.ok c.log.ensures.err c.log.ensures.stop
 
 pub returns-clause-quiet : goal.returns-clause-quiet

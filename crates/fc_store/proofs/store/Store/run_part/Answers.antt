@@ -32,7 +32,7 @@ access_lane-entry-requires-clause-can g c =
     c.requires.there.0 c.args.volume _ _ c.requires.there.1 c.requires.there.2
     (is_in_grain c.args.self.now.control.grain c.grain.result c.args.block c.args.count c.args.grain _ _
     (c.grain.ensures ∙ ap (λ (s : StoreView). s.control.grain) (sym same))
-    c.blocks_in.ensures.first c.blocks_in.ensures.count c.requires.some c.requires.begins c.requires.ends)
+    c.blocks_in-first.ensures.first c.blocks_in-first.ensures.count c.requires.some c.requires.begins c.requires.ends)
     c.requires.there.3
 
 pub returns-clause-answered : goal.returns-clause-answered
@@ -47,7 +47,7 @@ returns-clause-answered g c = λ w told.
     c.requires.there.0 c.args.volume c.args.access _ _ _ c.access_lane-entry.result c.access_lane-entry.new.lane c.requires.there.1 c.requires.there.2
     (is_in_grain c.args.self.now.control.grain c.grain.result c.args.block c.args.count c.args.grain _ _
     (c.grain.ensures ∙ ap (λ (s : StoreView). s.control.grain) (sym same))
-    c.blocks_in.ensures.first c.blocks_in.ensures.count c.requires.some c.requires.begins c.requires.ends)
+    c.blocks_in-first.ensures.first c.blocks_in-first.ensures.count c.requires.some c.requires.begins c.requires.ends)
     c.requires.there.3 c.access_lane-entry.ensures.right c.access_lane-entry.ensures.asked c.access_lane-entry.ensures.same
     (omega arith) (told.1.entries ∙ sym c.len-number.ensures) in
     let New : StoreView → StoreView = λ s. record s { lanes = slice_set s.lanes (c.args.grain % c.len.result) c.access_lane-entry.new.lane } in
@@ -56,7 +56,7 @@ returns-clause-answered g c = λ w told.
     c.log.result c.log.ensures.ok c.log.ensures.err c.log.ensures.stop in
     let asked = subst Asks (is_part_of c.args.self.now.control.grain c.grain.result c.args.access c.args.volume c.args.block c.args.count c.args.grain _ _
     (c.grain.ensures ∙ ap (λ (s : StoreView). s.control.grain) (sym same))
-    c.blocks_in.ensures.first c.blocks_in.ensures.count) logged in
+    c.blocks_in-first.ensures.first c.blocks_in-first.ensures.count) logged in
     let Stands : StoreView → Type 0 = λ s. Logged c.log.result anything (StandsFor (New s)) c.args.self.now.control.grain w
     (part_of c.args.self.now.control.grain c.args.access c.args.volume c.args.block c.args.count c.args.grain) c.args.history.now c.log.new.history in
     subst Stands same asked

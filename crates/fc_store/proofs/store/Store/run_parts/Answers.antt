@@ -21,7 +21,7 @@ loop-grain-init g c = record {
   brought = λ read w told.
       own_begins (StandsFor c.args.self.now) c.args.self.now.control.grain read w
       (map (part_of c.args.self.now.control.grain c.args.access c.args.volume c.args.block c.args.count)
-      (numbers c.touched_grains.result.0 (c.touched_grains.result.1 + 1 - c.touched_grains.result.0))) c.args.history.now told;
+      (numbers c.touched_grains-first.result.0 (c.touched_grains-first.result.1 + 1 - c.touched_grains-first.result.0))) c.args.history.now told;
   stands = c.requires.stands;
   room = c.requires.room;
   control = refl;
@@ -38,7 +38,7 @@ loop-grain-preserved g c =
     record {
       brought = λ read w told.
           one_more_number (Ok tt) (StandsFor c.loop-grain.self) (StandsFor c.run_part.new.self) grain read w _
-          (part_of grain c.args.access c.args.volume c.args.block c.args.count) c.loop-grain.grain (c.touched_grains.result.1 + 1)
+          (part_of grain c.args.access c.args.volume c.args.block c.args.count) c.loop-grain.grain (c.touched_grains-first.result.1 + 1)
           c.args.history.now c.loop-grain.history c.run_part.new.history
           (omega (arith, c.loop-grain-test.true)) (c.loop-grain.invariant.brought read w told)
           (subst Q (ap (λ (s : ControlState). s.grain) c.loop-grain.invariant.control) c.in-Ok.ensures.answered);
@@ -53,14 +53,14 @@ pub returns-in-Err-clause-answered : goal.returns-in-Err-clause-answered
 returns-in-Err-clause-answered g c = λ read w told.
     let grain : GrainSize = c.args.self.now.control.grain in
     let request : ℕ → Request = part_of grain c.args.access c.args.volume c.args.block c.args.count in
-    let end : ℕ = c.touched_grains.result.1 + 1 in
+    let end : ℕ = c.touched_grains-first.result.1 + 1 in
     let Q : ℕ → ℕ → Type 0 = λ first last. Answered {A = Unit {0}} (Err c.in-Err.stop) (StandsFor c.run_part.new.self) (session_rules grain read)
     (Own (map request (numbers first (last + 1 - first))) 0 []) w c.args.history.now c.run_part.new.history in
     let P : GrainSize → Type 0 = λ s. (mid : Whole) → IsTold (StandsFor c.loop-grain.self) c.loop-grain.history mid →
     Logged {A = Unit {0}} (Err c.in-Err.stop) anything (StandsFor c.run_part.new.self) s mid (part_of s c.args.access c.args.volume c.args.block c.args.count c.loop-grain.grain) c.loop-grain.history c.run_part.new.history in
     let size : c.grain.result ≡ grain = c.grain.ensures ∙ ap (λ (s : StoreView). s.control.grain) c.self.view_is in
-    subst (λ (first : ℕ). Q first (grain_of_block grain (c.args.block + c.args.count - 1))) (c.touched_grains.ensures.first ∙ ap (λ (s : GrainSize). grain_of_block s c.args.block) size)
-    (subst (Q c.touched_grains.result.0) (c.touched_grains.ensures.last ∙ ap (λ (s : GrainSize). grain_of_block s (c.args.block + c.args.count - 1)) size)
+    subst (λ (first : ℕ). Q first (grain_of_block grain (c.args.block + c.args.count - 1))) (c.touched_grains-first.ensures.first ∙ ap (λ (s : GrainSize). grain_of_block s c.args.block) size)
+    (subst (Q c.touched_grains-first.result.0) (c.touched_grains-first.ensures.last ∙ ap (λ (s : GrainSize). grain_of_block s (c.args.block + c.args.count - 1)) size)
     (brought_all (Unit {0}) (Err c.in-Err.stop) (StandsFor c.run_part.new.self) grain read w _ c.args.history.now c.run_part.new.history
     (brought_stopped (Unit {0}) (Unit {0}) c.in-Err.stop (StandsFor c.run_part.new.self) (session_rules grain read) w _ (asks_from request (c.loop-grain.grain + 1) end) _
     c.args.history.now c.run_part.new.history
@@ -73,16 +73,16 @@ pub returns-clause-answered : goal.returns-clause-answered
 returns-clause-answered g c = λ read w told.
     let grain : GrainSize = c.args.self.now.control.grain in
     let request : ℕ → Request = part_of grain c.args.access c.args.volume c.args.block c.args.count in
-    let end : ℕ = c.touched_grains.result.1 + 1 in
+    let end : ℕ = c.touched_grains-first.result.1 + 1 in
     let Q : ℕ → ℕ → Type 0 = λ first last. Answered {A = Unit {0}} (Ok tt) (StandsFor c.loop-grain.self) (session_rules grain read)
     (Own (map request (numbers first (last + 1 - first))) 0 []) w c.args.history.now c.loop-grain.history in
     let none : end - c.loop-grain.grain ≡ 0 = omega (arith, c.loop-grain-test.false) in
     let P : ℕ → Type 0 = λ n. Brought {A = Unit {0}} (Ok tt) (StandsFor c.loop-grain.self) (session_rules grain read)
-    (Own (map request (numbers c.touched_grains.result.0 (end - c.touched_grains.result.0))) 0 [])
+    (Own (map request (numbers c.touched_grains-first.result.0 (end - c.touched_grains-first.result.0))) 0 [])
     (own_left (map request (numbers c.loop-grain.grain n))) w c.args.history.now c.loop-grain.history in
     let size : c.grain.result ≡ grain = c.grain.ensures ∙ ap (λ (s : StoreView). s.control.grain) c.self.view_is in
-    subst (λ (first : ℕ). Q first (grain_of_block grain (c.args.block + c.args.count - 1))) (c.touched_grains.ensures.first ∙ ap (λ (s : GrainSize). grain_of_block s c.args.block) size)
-    (subst (Q c.touched_grains.result.0) (c.touched_grains.ensures.last ∙ ap (λ (s : GrainSize). grain_of_block s (c.args.block + c.args.count - 1)) size)
+    subst (λ (first : ℕ). Q first (grain_of_block grain (c.args.block + c.args.count - 1))) (c.touched_grains-first.ensures.first ∙ ap (λ (s : GrainSize). grain_of_block s c.args.block) size)
+    (subst (Q c.touched_grains-first.result.0) (c.touched_grains-first.ensures.last ∙ ap (λ (s : GrainSize). grain_of_block s (c.args.block + c.args.count - 1)) size)
     (brought_all (Unit {0}) (Ok tt) (StandsFor c.loop-grain.self) grain read w _ c.args.history.now c.loop-grain.history
     (subst P none (c.loop-grain.invariant.brought read w told))))
 
