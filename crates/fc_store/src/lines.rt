@@ -187,8 +187,9 @@ impl<D: Mdisk> Store<D> {
         }
     }
 
-    /// Logs a line with a fault in its words.
-    pub(crate) fn log_unread(&self, fault: WordFault, history: &mut History) -> Result<(), Stop>
+    /// Logs a line with a fault in its words, by `main`: one entry. `LogFull` where the history is full, `NoMemory` where memory
+    /// was wanted for it; the history is then as it was.
+    pub fn log_unread(&self, fault: WordFault, history: &mut History) -> Result<(), Stop>
         requires stands { TellsSome (StandsFor self.now) history.old }
         requires room { length history.old.entries ≤ MAX_ENTRIES }
         ensures answered { (w : Whole) → IsTold (StandsFor self.now) history.old w →

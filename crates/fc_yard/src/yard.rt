@@ -1,5 +1,7 @@
 //! The yard, and what a contract sees of it.
 
+ghost use Rattle.std.specs.Prelude.{◌≡◌};
+
 use crate::part::Part;
 use crate::rule::{Stall, Terms, Turns, View};
 use atomic_table::{Shared, Table};
@@ -18,6 +20,15 @@ pub struct Yard<W, E, P: Part<W, E>> {
     pub(crate) table: Table<Stall<P, E>, View<P, E>, Terms<P>, Turns<W>, Global>,
     pub(crate) parts: usize,
     pub(crate) limit: u64,
+}
+
+impl<W, E, P: Part<W, E>> Yard<W, E, P> {
+    /// How many parts it has.
+    pub fn parts(&self) -> usize
+        ensures { result ≡ self.now.parts }
+    {
+        self.parts
+    }
 }
 
 impl<W, E, P: Part<W, E>> Model for Yard<W, E, P> {

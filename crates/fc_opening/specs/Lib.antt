@@ -1,0 +1,2 @@
+-- What comes before the actors of a block begin.
+pub mod Telling

@@ -1,0 +1,3 @@
+-- What a request of a script owes, and what actors have done.
+pub mod Tasks
+pub mod Acting
