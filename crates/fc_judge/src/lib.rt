@@ -9,13 +9,13 @@
 //!
 //! In reading order: `verdict` (what is judged, and why not), `lines` (the lines of a session's bytes), `table` and `made` (what
 //! was made, by id and by name), `asked` (what lines and workers ask), `replies` and `effects` (of one entry), `walk` (the entries one
-//! after the other), `block` (the same in a block), and `judge`.
+//! after the other), `block` (the same in a block), and `judging`.
 #![tactic(auto)]
 
 mod asked;
 mod block;
 mod effects;
-mod judge;
+mod judging;
 mod lines;
 mod made;
 mod replies;
@@ -25,5 +25,5 @@ mod tests;
 mod verdict;
 mod walk;
 
-pub use judge::judge;
+pub use judging::judge;
 pub use verdict::{Verdict, Why};

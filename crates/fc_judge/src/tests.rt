@@ -1,6 +1,6 @@
 //! Histories told by hand, right ones and wrong ones.
 
-use crate::judge::judge;
+use crate::judging::judge;
 use crate::tests::told::{Step, tell};
 use crate::verdict::{Verdict, Why};
 use fc_base::outcome::NoMemory;
