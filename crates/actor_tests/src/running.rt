@@ -45,7 +45,7 @@ pub fn text_of<R: Threads + Wait + Sync, G: Gate>(
     if status != Status::Done {
         return Ok(None);
     }
-    let text = String::from_utf8_lossy(alloc, sink.bytes())?.into_owned(alloc)?;
+    let text = String::from_utf8_lossy(alloc, sink.bytes())?;
     Ok(Some(text))
 }
 

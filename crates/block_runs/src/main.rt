@@ -17,11 +17,11 @@ mod runs;
 mod tally;
 mod together;
 
+use crate::generated::generated;
 use crate::runs::{run_failing, run_sound, run_thin};
 use crate::tally::Tally;
-use crate::generated::generated;
 use crate::together::TOGETHER;
-use std::env::Env;
+use std::alloc::Global;
 use std::sync::Wait;
 use std::thread::Threads;
 use std::{env, io};
@@ -46,8 +46,7 @@ fn print_tally<R: Print>(rt: &R, session: &str, tally: &Tally) -> io::Result<()>
 }
 
 /// Runs all sessions, and prints what came of them.
-fn run_all<R: Threads + Wait + Sync + Print + Alloc>(rt: &R) -> io::Result<()> {
-    let alloc = rt.alloc();
+fn run_all<R: Threads + Wait + Sync + Print>(rt: &R, alloc: Global) -> io::Result<()> {
     let tally = run_sound(rt, alloc, TOGETHER, RUNS)?;
     print_tally(rt, "together", &tally)?;
     let session = generated(alloc, NUMBER, false)?;
@@ -61,7 +60,7 @@ fn run_all<R: Threads + Wait + Sync + Print + Alloc>(rt: &R) -> io::Result<()> {
 fn main(rt: HostRuntime) -> io::Result<()> {
     let mut words = env::args(&rt)?.skip(1);
     let Some(word) = words.next() else {
-        return run_all(&rt);
+        return run_all(&rt, rt.alloc());
     };
     let runs = match words.next() {
         Some(count) => count.parse::<u32>().unwrap_or(0),
