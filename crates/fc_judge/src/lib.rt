@@ -8,7 +8,7 @@
 //! decided and whether a disk fails is taken as it is told.
 //!
 //! In reading order: `verdict` (what is judged, and why not), `lines` (the lines of a session's bytes), `table` and `made` (what
-//! was made, by id and by name), `asked` (what lines and workers ask), `replies` and `effects` (of one entry), `walk` (the entries one
+//! was made, by id and by name), `asked` (what lines and workers ask), `place`, `replies` and `effects` (of one entry), `walk` (the entries one
 //! after the other), `block` (the same in a block), and `judging`.
 #![tactic(auto)]
 
@@ -18,6 +18,7 @@ mod effects;
 mod judging;
 mod lines;
 mod made;
+mod place;
 mod replies;
 mod table;
 #[cfg(test)]

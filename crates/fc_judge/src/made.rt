@@ -95,7 +95,8 @@ impl Made {
     /// The grains of a volume of this size. A size that isn't whole grains is never made.
     pub(crate) fn grains_of(&self, size: u32, unit: Option<Unit>) -> u32 {
         let bytes = u64::from(size).saturating_mul(unit_bytes(unit));
-        u32::try_from(bytes / u64::from(self.grain.bytes())).unwrap_or(u32::MAX)
+        let grains = bytes.checked_div(u64::from(self.grain.bytes())).unwrap_or(0);
+        u32::try_from(grains).unwrap_or(u32::MAX)
     }
 
     /// Why an access of so many blocks of a volume is refused, if it is, as far as volumes tell; else its id.

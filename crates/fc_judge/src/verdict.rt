@@ -25,6 +25,8 @@ pub enum Why {
     Actor,
     /// It asks something else than comes next.
     Request,
+    /// It was made under another turn than what it asks wants.
+    Place,
     /// What it asks has no such reply.
     Reply,
     /// A made object has another id than the next.
@@ -53,6 +55,7 @@ impl Why {
             Why::Number => "its number isn't its place",
             Why::Actor => "this actor asks nothing now",
             Why::Request => "it asks something else than comes next",
+            Why::Place => "it was made under another turn",
             Why::Reply => "what it asks has no such reply",
             Why::Id => "the id isn't the next one",
             Why::Bytes => "plain volumes hold something else",

@@ -3,6 +3,7 @@
 use crate::asked::{Asked, AskedList};
 use crate::effects::effects_fit;
 use crate::made::Made;
+use crate::place::place_of;
 use crate::replies::reply_fits;
 use crate::verdict::{Halt, Why};
 use fc_base::command::{Command, Line, ScriptLine};
@@ -143,6 +144,9 @@ impl<'a> Walk<'a> {
         }
         if !self.is_named(entry.actor) {
             return Err(Halt::Wrong(Why::Names));
+        }
+        if entry.place != place_of(self.made.grain(), &entry.request) {
+            return Err(Halt::Wrong(Why::Place));
         }
         reply_fits(&self.plain, &self.made, entry)?;
         torn_fits(entry)?;

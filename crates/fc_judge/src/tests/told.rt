@@ -1,6 +1,6 @@
 //! Histories told step by step.
 
-use fc_base::command::{Line, Scope};
+use fc_base::command::{Command, Line, Scope};
 use fc_base::fault::{Kind, Refusal, WordFault};
 use fc_base::ids::{GrainNo, MapId, VolId};
 use fc_base::list::List;
@@ -206,12 +206,22 @@ fn told_by(alloc: Global, step: Step, mappings: u32) -> Result<Telling, NoMemory
     })
 }
 
+/// Under whose turns a step is told.
+fn place_of(request: &Request) -> Place {
+    match request {
+        Request::Command(Command::Read { .. }) | Request::Unread(_) => Place::Control,
+        Request::Command(_) => Place::Every,
+        Request::CopyTurn { lane } => Place::Lane(*lane),
+        _ => Place::Lane(0),
+    }
+}
+
 /// Adds an entry.
 fn add(alloc: Global, history: &mut History, told: Telling) -> Result<(), NoMemory> {
     let entry = Entry {
         number: history.len() as u64,
         actor: told.actor,
-        place: Place::Every,
+        place: place_of(&told.request),
         request: told.request,
         reply: told.reply,
         moves: List::new(alloc),
