@@ -1,8 +1,8 @@
 //! The generated session: 40 blocks of 16 actors, of every role.
 //!
 //! Five volumes of four grains and eight mappings, three of them in a group, are made first. Each block has six hosts, three
-//! administrators, four copiers and three cleaners; some lines are faulty, and so may be one more actor. Behind each block every volume
-//! is read whole, and a second passes.
+//! administrators, four copiers and three cleaners; some lines are faulty, and so may be one more actor. Behind each block every grain
+//! is read in part, and a second passes.
 
 use crate::draws::Draws;
 use std::alloc::{AllocError, Global};
@@ -50,7 +50,7 @@ impl Session {
     fn add_host_line(&mut self) -> Result<(), AllocError> {
         let volume = self.draws.below(VOLUMES);
         let first = self.draws.below(VOLUME_BLOCKS);
-        let most = if self.draws.below(4) == 0 { 200 } else { 8 };
+        let most = if self.draws.below(6) == 0 { 200 } else { 8 };
         let count = self.draws.below(most).saturating_add(1);
         let byte = self.draws.below(256);
         match self.draws.below(20) {
@@ -130,10 +130,10 @@ impl Session {
         self.text.push_str("end\n")
     }
 
-    /// What comes behind a block: every volume is read whole, a fault may be armed, and a second passes.
+    /// What comes behind a block: some blocks of each grain of every volume are read, a fault may be armed, and a second passes.
     fn add_between(&mut self, thin: bool) -> Result<(), AllocError> {
         for volume in 0..VOLUMES {
-            write!(self.text, "read V{volume} 0 {VOLUME_BLOCKS}\n")?;
+            write!(self.text, "read V{volume} 124 8\nread V{volume} 380 8\n")?;
         }
         if thin {
             let volume = self.draws.below(VOLUMES);

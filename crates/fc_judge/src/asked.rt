@@ -162,15 +162,20 @@ impl<'a> AskedList<'a> {
                 }
                 Ok(())
             }
-            Role::Copier(turns) => self.add_turns(turns, |lane| Asked::CopyTurn(lane)),
-            Role::Cleaner(turns) => self.add_turns(turns, |lane| Asked::CleanTurn(lane)),
+            Role::Copier(turns) => self.add_turns(turns, false),
+            Role::Cleaner(turns) => self.add_turns(turns, true),
         }
     }
 
-    /// So many turns, in the lanes 0, 1 and so on, and then in lane 0 again.
-    fn add_turns(&mut self, turns: u32, turn: impl Fn(u8) -> Asked<'a>) -> Result<(), NoMemory> {
+    /// So many turns of a copier or a cleaner, in the lanes 0, 1 and so on, and then in lane 0 again.
+    fn add_turns(&mut self, turns: u32, cleans: bool) -> Result<(), NoMemory> {
         for number in 0..turns {
-            self.push(turn((number % LANES) as u8))?;
+            let lane = (number % LANES) as u8;
+            self.push(if cleans {
+                Asked::CleanTurn(lane)
+            } else {
+                Asked::CopyTurn(lane)
+            })?;
         }
         Ok(())
     }

@@ -21,8 +21,6 @@ mod made;
 mod place;
 mod replies;
 mod table;
-#[cfg(test)]
-mod tests;
 mod verdict;
 mod walk;
 

@@ -95,7 +95,9 @@ impl Made {
     /// The grains of a volume of this size. A size that isn't whole grains is never made.
     pub(crate) fn grains_of(&self, size: u32, unit: Option<Unit>) -> u32 {
         let bytes = u64::from(size).saturating_mul(unit_bytes(unit));
-        let grains = bytes.checked_div(u64::from(self.grain.bytes())).unwrap_or(0);
+        let grains = bytes
+            .checked_div(u64::from(self.grain.bytes()))
+            .unwrap_or(0);
         u32::try_from(grains).unwrap_or(u32::MAX)
     }
 
@@ -104,7 +106,7 @@ impl Made {
         let Some(volume) = self.volumes.named(volume) else {
             return Err(Refusal::NoSuch(Kind::Vdisk));
         };
-        let blocks = u64::from(volume.known) * u64::from(self.grain.blocks());
+        let blocks = u64::from(volume.known).saturating_mul(u64::from(self.grain.blocks()));
         if count > MAX_BLOCKS {
             Err(Refusal::Limit(MAX_BLOCKS))
         } else if count == 0 || u64::from(block) + u64::from(count) > blocks {
@@ -131,13 +133,16 @@ impl Made {
 
     /// Whether the pairs are those of all mappings that are started, by id.
     pub(crate) fn are_pairs_of(&self, started: Started, pairs: &[Pair]) -> bool {
-        let mut pairs = pairs.iter();
+        let mut met = 0usize;
         for mapping in self.mappings.all() {
-            if started.has(mapping) && pairs.next() != Some(&pair_of(mapping)) {
-                return false;
+            if started.has(mapping) {
+                match pairs.get(met) {
+                    Some(pair) if *pair == pair_of(mapping) => met = met.saturating_add(1),
+                    _ => return false,
+                }
             }
         }
-        pairs.next().is_none()
+        met == pairs.len()
     }
 
     /// The id of a volume that is there. A mapping of another one is never made.

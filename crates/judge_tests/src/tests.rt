@@ -1,14 +1,11 @@
 //! Histories told by hand, right ones and wrong ones.
 
-use crate::judging::judge;
-use crate::tests::told::{Step, tell};
-use crate::verdict::{Verdict, Why};
+use crate::told::{Step, tell};
 use fc_base::outcome::NoMemory;
 use fc_base::size::GrainSize;
+use fc_judge::{Verdict, Why, judge};
 use std::alloc::Global;
 use std::test::Fail;
-
-mod told;
 
 /// Two volumes of two grains, a mapping, and a block: a host writes and reads while an administrator starts the mapping and a copier
 /// works, under which stands a line that nobody knows. Its lines and the block are six segments.
@@ -53,6 +50,7 @@ const READS: Step = Step::Read {
 };
 
 const STARTS: Step = Step::Start {
+    actor: 2,
     source: 0,
     target: 1,
     times: 1,
@@ -156,16 +154,19 @@ fn a_start_triggers_its_mapping_once(rt: HostRuntime) -> Result<(), Fail> {
     let alloc = rt.alloc();
     for start in [
         Step::Start {
+            actor: 2,
             source: 1,
             target: 0,
             times: 1,
         },
         Step::Start {
+            actor: 2,
             source: 0,
             target: 1,
             times: 0,
         },
         Step::Start {
+            actor: 2,
             source: 0,
             target: 1,
             times: 2,
@@ -250,6 +251,95 @@ end
             Step::StartGroup { pairs },
         ];
         let history = tell(alloc, &steps, &["main", "adm"])?;
+        assert_eq!(rt; judge(alloc, GrainSize::K64, session, &history)?, verdict);
+    }
+    Ok(())
+}
+
+#[test]
+fn a_torn_grain_is_lost_until_it_is_written_whole(rt: HostRuntime) -> Result<(), Fail> {
+    let alloc = rt.alloc();
+    let session = b"mkvdisk -name A -size 128 -unit kb\nwrite A 0 1 11\nread A 0 1\n";
+    let tear = Step::Tear {
+        actor: 0,
+        byte: 0x11,
+    };
+    let lost = Step::MediumError {
+        actor: 0,
+        volume: 0,
+    };
+    let reads = Step::Read {
+        actor: 0,
+        volume: 0,
+        byte: 0x11,
+    };
+    let bytes = Verdict::Wrong {
+        entry: 2,
+        why: Why::Bytes,
+    };
+    for (last, verdict) in [(lost, Verdict::Right), (reads, bytes)] {
+        let history = tell(alloc, &[Step::Make { volume: 0 }, tear, last], &["main"])?;
+        assert_eq!(rt; judge(alloc, GrainSize::K64, session, &history)?, verdict);
+    }
+    let again = b"mkvdisk -name A -size 128 -unit kb\nwrite A 0 1 11\nwrite A 0 1 11\n";
+    let writes = Step::Write {
+        actor: 0,
+        byte: 0x11,
+    };
+    let history = tell(alloc, &[Step::Make { volume: 0 }, tear, writes], &["main"])?;
+    let part_of_lost = Verdict::Wrong {
+        entry: 2,
+        why: Why::WriteOfLost,
+    };
+    assert_eq!(rt;
+        judge(alloc, GrainSize::K64, again, &history)?,
+        part_of_lost
+    );
+    Ok(())
+}
+
+#[test]
+fn seconds_copy_as_much_as_they_do(rt: HostRuntime) -> Result<(), Fail> {
+    let alloc = rt.alloc();
+    let session = b"mkvdisk -name A -size 128 -unit kb
+mkvdisk -name B -size 128 -unit kb
+mkfcmap -source A -target B
+startfcmap -prep 0
+advance -seconds 1
+";
+    let before = [
+        Step::Make { volume: 0 },
+        Step::Make { volume: 1 },
+        Step::Map,
+        Step::Start {
+            actor: 0,
+            source: 0,
+            target: 1,
+            times: 1,
+        },
+    ];
+    let behind = [
+        Step::Advance,
+        Step::Copy { grain: 0 },
+        Step::Copy { grain: 1 },
+        Step::Fault,
+    ];
+    let too_much = Verdict::Wrong {
+        entry: 7,
+        why: Why::NothingAsked,
+    };
+    for (count, verdict) in [
+        (0, Verdict::FirstPart { segment: 4 }),
+        (1, Verdict::Right),
+        (2, Verdict::Right),
+        (3, Verdict::Right),
+        (4, too_much),
+    ] {
+        let mut steps = Vec::from_slice(alloc, &before)?;
+        for step in behind.iter().take(count) {
+            steps.push(*step)?;
+        }
+        let history = tell(alloc, steps.as_slice(), &["main"])?;
         assert_eq!(rt; judge(alloc, GrainSize::K64, session, &history)?, verdict);
     }
     Ok(())
