@@ -18,7 +18,9 @@ impl Draws {
             .state
             .wrapping_mul(6_364_136_223_846_793_005)
             .wrapping_add(1_442_695_040_888_963_407);
-        let drawn = (self.state >> 33).checked_rem(u64::from(count)).unwrap_or(0);
+        let drawn = (self.state >> 33)
+            .checked_rem(u64::from(count))
+            .unwrap_or(0);
         u32::try_from(drawn).unwrap_or(0)
     }
 }

@@ -1,7 +1,7 @@
 //! The generated session: 40 blocks of 16 actors, of every role.
 //!
 //! Five volumes of four grains and eight mappings, three of them in a group, are made first. Each block has six hosts, three
-//! administrators, four copiers and three cleaners; some lines are faulty, and so may be one more actor. Behind each block every grain
+//! administrators, four copiers and three cleaners; some lines are faulty, and so may be one more actor. Behind each block every volume
 //! is read in part, and a second passes.
 
 use crate::draws::Draws;
@@ -12,6 +12,7 @@ const BLOCKS: u32 = 40;
 
 /// The volumes, and the blocks of each.
 const VOLUMES: u32 = 5;
+
 const VOLUME_BLOCKS: u32 = 512;
 
 /// How many mappings a line may name: those that are made first, and some that administrators make.
@@ -41,7 +42,10 @@ impl Session {
     fn add_first(&mut self, thin: bool) -> Result<(), AllocError> {
         let kind = if thin { " -thin" } else { "" };
         for volume in 0..VOLUMES {
-            write!(self.text, "mkvdisk -name V{volume} -size 256 -unit kb{kind}\n")?;
+            write!(
+                self.text,
+                "mkvdisk -name V{volume} -size 256 -unit kb{kind}\n"
+            )?;
         }
         self.text.push_str(MAPPING_LINES)
     }
@@ -90,7 +94,7 @@ impl Session {
     fn add_lines(&mut self) -> Result<(), AllocError> {
         for host in 0..6 {
             write!(self.text, "actor h{host} host\n")?;
-            for _ in 0..4 {
+            for _ in 0..2 {
                 self.add_host_line()?;
             }
         }
@@ -106,11 +110,11 @@ impl Session {
     /// The copiers and cleaners of a block; the last one has a name of its own in each.
     fn add_workers(&mut self, block: u32) -> Result<(), AllocError> {
         for copier in 0..4 {
-            let turns = self.draws.below(8).saturating_add(1);
+            let turns = self.draws.below(4).saturating_add(1);
             write!(self.text, "actor c{copier} copier {turns}\n")?;
         }
         for cleaner in 0..2 {
-            let turns = self.draws.below(8).saturating_add(1);
+            let turns = self.draws.below(4).saturating_add(1);
             write!(self.text, "actor k{cleaner} cleaner {turns}\n")?;
         }
         write!(self.text, "actor k{block}-last cleaner 4\n")
@@ -130,10 +134,12 @@ impl Session {
         self.text.push_str("end\n")
     }
 
-    /// What comes behind a block: some blocks of each grain of every volume are read, a fault may be armed, and a second passes.
-    fn add_between(&mut self, thin: bool) -> Result<(), AllocError> {
+    /// What comes behind a block: some blocks of two grains of every volume are read, the first two or the last two by turns; a fault
+    /// may be armed; and a second passes.
+    fn add_between(&mut self, block: u32, thin: bool) -> Result<(), AllocError> {
+        let first = if block % 2 == 0 { 124 } else { 380 };
         for volume in 0..VOLUMES {
-            write!(self.text, "read V{volume} 124 8\nread V{volume} 380 8\n")?;
+            write!(self.text, "read V{volume} {first} 8\n")?;
         }
         if thin {
             let volume = self.draws.below(VOLUMES);
@@ -154,7 +160,7 @@ pub fn generated(alloc: Global, number: u64, thin: bool) -> Result<String, Alloc
     session.add_first(thin)?;
     for block in 0..BLOCKS {
         session.add_block(block)?;
-        session.add_between(thin)?;
+        session.add_between(block, thin)?;
     }
     Ok(session.text)
 }

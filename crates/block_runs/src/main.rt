@@ -37,8 +37,16 @@ const NUMBER: u64 = 7;
 
 /// Prints what came of some runs of a session.
 fn print_tally<R: Print>(rt: &R, session: &str, tally: &Tally) -> io::Result<()> {
-    let faults = if tally.has_faults() { ", with disk faults" } else { "" };
-    println!(rt; "{session}: {} runs, {} right{faults}", tally.runs(), tally.right())?;
+    let faults = if tally.has_faults() {
+        ", with disk faults"
+    } else {
+        ""
+    };
+    println!(rt;
+        "{session}: {} runs, {} right{faults}",
+        tally.runs(),
+        tally.right()
+    )?;
     match tally.first_wrong() {
         Some(wrong) => println!(rt; "{wrong}"),
         None => Ok(()),
