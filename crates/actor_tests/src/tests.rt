@@ -26,7 +26,12 @@ fn a_host_is_answered_while_another_is_inside_its_turn(rt: HostRuntime) -> Resul
         panic!(rt; "not done")
     };
     assert!(rt; gate.all(Outcome::Released));
-    assert!(rt; stand_in_order(text.as_str(), &["h1 write 0 0 1 11 -> ok", "h2 write 0 128 1 22 -> ok"]));
+    assert!(rt;
+        stand_in_order(
+            text.as_str(),
+            &["h1 write 0 0 1 11 -> ok", "h2 write 0 128 1 22 -> ok"]
+        )
+    );
     Ok(())
 }
 
@@ -54,7 +59,12 @@ fn a_host_is_answered_while_a_copier_is_inside_its_turn(rt: HostRuntime) -> Resu
         panic!(rt; "not done")
     };
     assert!(rt; gate.all(Outcome::Released));
-    assert!(rt; stand_in_order(text.as_str(), &["c copyturn 2 -> moved 0 2", "h write 0 128 1 22 -> ok"]));
+    assert!(rt;
+        stand_in_order(
+            text.as_str(),
+            &["c copyturn 2 -> moved 0 2", "h write 0 128 1 22 -> ok"]
+        )
+    );
     Ok(())
 }
 
@@ -80,11 +90,16 @@ fn a_host_gives_its_turn_back_between_two_grains(rt: HostRuntime) -> Result<(), 
         panic!(rt; "not done")
     };
     assert!(rt; gate.all(Outcome::Released));
-    assert!(rt; stand_in_order(text.as_str(), &[
-        "h1 write 0 0 128 11 -> ok",
-        "h2 read 0 0 1 -> data 512*11",
-        "h1 write 0 128 1 11 -> ok",
-    ]));
+    assert!(rt;
+        stand_in_order(
+            text.as_str(),
+            &[
+                "h1 write 0 0 128 11 -> ok",
+                "h2 read 0 0 1 -> data 512*11",
+                "h1 write 0 128 1 11 -> ok",
+            ]
+        )
+    );
     Ok(())
 }
 
@@ -123,6 +138,11 @@ fn a_command_waits_for_each_host_that_is_inside_its_turn(rt: HostRuntime) -> Res
     }
     let text = text.as_str();
     assert!(rt; stand_in_order(text, &["h1 write 0 0 1 11 -> ok", "adm mkfcconsistgrp -> "]));
-    assert!(rt; stand_in_order(text, &["h2 write 0 128 1 22 -> ok", "adm mkfcconsistgrp -> "]));
+    assert!(rt;
+        stand_in_order(
+            text,
+            &["h2 write 0 128 1 22 -> ok", "adm mkfcconsistgrp -> "]
+        )
+    );
     Ok(())
 }
