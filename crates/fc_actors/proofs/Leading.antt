@@ -20,7 +20,7 @@ use Rattle.fc_rules.specs.LaneTold.{LaneOf}
 use Rattle.fc_shares.specs.Law.{LaneLeads}
 use Rattle.fc_shares.specs.Situation.{Situation, HasLane, IsSound}
 use Rattle.fc_shares.proofs.Lawful.{share_law_holds}
-use Rattle.fc_stands.proofs.Turning.{IsInGrain, at_grain, in_grain, inside_of, is_inside}
+use Rattle.fc_stands.proofs.Turning.{IsInGrain, inside_of, is_in_grain, is_inside}
 use Rattle.fc_actors.specs.Spans.{IsSpanOf, turn_of}
 use Rattle.fc_actors.specs.declared.span.Span.{Span}
 
@@ -40,21 +40,16 @@ leads_on first s i opening old new request entry sound has of_lane inside asked 
 
 module _ (first s : Situation) (i : ℕ) (opening old : LaneView) (sound : IsSound first s) (has : HasLane s i opening old) where
   -- the blocks of the next grain
-  module _ (span : Span) (is : IsSpanOf first span) (place : i ≡ span.next % lanes first.whole) (block count : ℕ) (block_is : block ≡ first_in first.grain span.block span.next)
-      (count_is : count ≡ end_in first.grain (span.block + span.count) span.next - block) where
+  module _ (span : Span) (is : IsSpanOf first span) (place : i ≡ span.next % lanes first.whole) (size : GrainSize) (same_size : size ≡ first.grain) (block count : ℕ) (block_is : block ≡ first_in size span.block span.next)
+      (count_is : count ≡ end_in size (span.block + span.count) span.next - block) where
     blocks : IsInGrain first.grain block count span.next
-    blocks = let g = is.touched span.next (omega arith) is.left in
-        subst (λ n. IsInGrain first.grain block n span.next) (sym count_is)
-        (in_grain first.grain span.block span.count span.next _ block (end_in first.grain (span.block + span.count) span.next) refl block_is refl is.some g.begins g.ends)
+    blocks = let g = is.touched span.next (omega arith) is.left in is_in_grain first.grain size span.block span.count span.next block count same_size block_is count_is is.some g.begins g.ends
 
     pub in_place : lane_of_grain first.whole (grain_of_block first.grain block) ≡ i
     in_place = ap (λ (n : ℕ). n % lanes first.whole) blocks.of_grain ∙ sym place
 
     pub inside : IsInside first.grain first.whole.books.tables span.volume block count
     inside = is_inside first.grain first.whole span.volume is.volume block count span.next is.there is.named blocks (is.touched span.next (omega arith) is.left).within
-
-    pub number : old.grains.grain ≡ first.grain → grain_of_block old.grains.grain block ≡ span.next
-    number same = ap (λ (g : GrainSize). grain_of_block g block) same ∙ blocks.of_grain
 
     pub fits : FitsPart (of old) (part_at s.grain s.whole i) span.volume block count
     fits = share_law_holds.fits first s i opening old span.volume block count sound has inside in_place

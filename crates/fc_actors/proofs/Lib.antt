@@ -1,2 +1,3 @@
 -- Lemmas, one subject a file.
 pub mod Leading
+pub mod Lines

@@ -118,8 +118,9 @@ pub record Suits {D : Type 0} (s : ActorScript D) (parts : List (StorePart D)) (
   pub parts_are : parts ≡ parts_view store
   pub count : length store.lanes ≡ s.lanes
   pub some : 0 < s.lanes
+  pub lanes_are : All (λ (v : LaneView). v.lanes ≡ s.lanes) store.lanes
   pub grain : store.control.grain ≡ s.grain
   pub few : limit ≤ 262144
   pub tray : (s.tray.items ≡ []) × (s.lanes ≤ vec_capacity s.tray)
   pub work : (first : ℕ) (w0 : Situation) →
-      OpensWith {P = StorePart D} {E = Entry} (λ opening w p part. HasShare opening w p part) (λ a b. IsSound a b) entries_told (λ a n e b. LeadsTo a n e b) parts first w0 → WorkSuits w0 s.work
+      OpensWith {E = Entry} {P = StorePart D} (λ opening w p part. HasShare opening w p part) (λ a b. IsSound a b) entries_told (λ a n e b. LeadsTo a n e b) parts first w0 → WorkSuits w0 s.work

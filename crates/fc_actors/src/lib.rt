@@ -13,4 +13,5 @@
 
 pub mod gate;
 pub mod part;
-mod span;
+pub mod script;
+pub mod span;

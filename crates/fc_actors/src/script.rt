@@ -1,11 +1,18 @@
 //! The script of an actor: what it has still to ask, and how each request is done.
 
-ghost use Rattle.std.specs.Prelude.{◌≡◌, ℕ, suc, ◌<◌, ◌≤◌, [], ◌∷◌, List, All, length, flat_map, vec_capacity};
-ghost use Rattle.fc_lane.specs.Lane.{IsReady, LaneView};
+ghost use Rattle.std.specs.Prelude.{◌≡◌, ℕ, suc, ◌+◌, ◌<◌, ◌≤◌, [], ◌∷◌, List, All, length, flat_map};
+ghost use Rattle.std.specs.VecDeque.{deque_len, deque_capacity};
+ghost use Rattle.fc_actors.specs.Spans.{turn_of};
+ghost use Rattle.fc_actors.specs.declared.span.Span.{Span};
+ghost use Rattle.fc_actors.specs.declared.script.Item.{Item};
+ghost use Rattle.fc_lane.specs.Lane.{IsAsked, IsReady, LaneView};
 ghost use Rattle.fc_legal.specs.Whole.{lanes};
-ghost use Rattle.fc_shares.specs.Law.{LaneLeads};
+ghost use Rattle.fc_base.specs.declared.fault.Refusal.{Refusal};
+ghost use Rattle.fc_base.specs.declared.request.Request.{Request};
+ghost use Rattle.fc_shares.specs.Law.{LaneLeads, refused_entry};
+ghost use Rattle.fc_stands.specs.Apart.{IsRefusalOf};
 ghost use Rattle.fc_shares.specs.Situation.{HasLane, IsSound, Situation};
-ghost use Rattle.fc_actors.specs.Scripts.{CanActIn, FitsFirst, Goes, IsSameScript, ItemSuits, WorkSuits, item_left, item_needs, needs_of};
+ghost use Rattle.fc_actors.specs.Scripts.{CanActIn, FitsFirst, Goes, IsOfBlock, IsSameScript, ItemSuits, WorkSuits, item_left, item_needs, left_of, needs_of};
 
 use crate::span::{Span, access_next, turn_next};
 use fc_base::command::Command;
@@ -65,6 +72,18 @@ fn first_needs(lanes: u32, items: &VecDeque<Item>) -> Needs
     }
 }
 
+/// Takes the access that is first among some lines.
+fn take_span(items: &mut VecDeque<Item>) -> Span
+    requires { (span : Span) × (rest : List Item) × (items.old.items ≡ Item.Access span ∷ rest) }
+    ensures taken { items.old.items ≡ Item.Access result ∷ items.new.items }
+    ensures room { deque_len items.new < deque_capacity items.new }
+{
+    let Some(Item::Access(span)) = items.pop_front() else {
+        unreachable!()
+    };
+    span
+}
+
 /// Does the next grain of the access that is first among some lines, in its lane.
 fn next_grain<D: Mdisk>(
     alloc: Global,
@@ -82,9 +101,7 @@ fn next_grain<D: Mdisk>(
     ensures actor { (result.actor ≡ actor) × (result.number ≡ 0) }
     ensures suits { (s : Situation) → All (ItemSuits s) items.old.items → All (ItemSuits s) items.new.items }
 {
-    let Some(Item::Access(span)) = items.pop_front() else {
-        unreachable!()
-    };
+    let span = take_span(items);
     let entry = access_next(alloc, actor, grain, span, lane);
     if span.next + 1 < span.end {
         items.push_front_reserved(Item::Access(Span {
@@ -93,6 +110,26 @@ fn next_grain<D: Mdisk>(
         }));
     }
     entry
+}
+
+/// Takes the next of some turns, in its lane.
+fn take_turn<D: Mdisk>(
+    alloc: Global,
+    actor: u32,
+    cleans: bool,
+    next: &mut u32,
+    turns: u32,
+    lane: &mut Lane<D>,
+) -> Entry
+    requires left { next.old < turns }
+    requires can { (first s : Situation) × (i : ℕ) × (opening : LaneView) × IsSound first s × HasLane s i opening lane.old }
+    requires ready { IsReady lane.old }
+    ensures leads { (first s : Situation) (i : ℕ) (opening : LaneView) → IsSound first s → HasLane s i opening lane.old → LaneLeads first s i opening lane.new result }
+    ensures asked { IsAsked 0 actor (turn_of cleans lane.old.lane) result }
+    ensures next { next.new ≡ next.old + 1 }
+{
+    *next += 1;
+    turn_next(alloc, actor, cleans, lane)
 }
 
 impl<D: Mdisk> ActorScript<D> {
@@ -124,11 +161,11 @@ impl<D: Mdisk> ActorScript<D> {
     {
         match &mut self.work {
             Left::Lines(items) => next_grain(self.alloc, self.actor, self.grain, items, lane),
-            Left::Turns { cleans, next, .. } => {
-                let entry = turn_next(self.alloc, self.actor, *cleans, lane);
-                *next += 1;
-                entry
-            }
+            Left::Turns {
+                cleans,
+                next,
+                turns,
+            } => take_turn(self.alloc, self.actor, *cleans, next, *turns, lane),
         }
     }
 
@@ -137,6 +174,8 @@ impl<D: Mdisk> ActorScript<D> {
         requires { needs_of self.old ≡ Needs.Part 0 }
         ensures goes { Goes self.old result self.new }
         ensures same { IsSameScript self.old self.new }
+        ensures refused { (s : Situation) → WorkSuits s self.old.work →
+            (request : Request) × (refusal : Refusal) × IsRefusalOf s.grain s.whole request refusal × (result ≡ refused_entry self.old.actor request refusal) }
     {
         let Left::Lines(items) = &mut self.work else {
             unreachable!()
@@ -145,5 +184,26 @@ impl<D: Mdisk> ActorScript<D> {
             unreachable!()
         };
         refused_entry(self.alloc, self.actor, request, refusal)
+    }
+
+    /// Takes the next request, which is a command.
+    pub(crate) fn take_command(&mut self) -> Command
+        requires { needs_of self.old ≡ Needs.All }
+        ensures taken { left_of self.old ≡ Request.Command result ∷ left_of self.new }
+        ensures same { IsSameScript self.old self.new }
+        ensures suits { (s : Situation) → WorkSuits s self.old.work → IsOfBlock result }
+    {
+        let Left::Lines(items) = &mut self.work else {
+            unreachable!()
+        };
+        let Some(Item::Command(command)) = items.pop_front() else {
+            unreachable!()
+        };
+        command
+    }
+
+    /// The number of the actor.
+    pub(crate) fn number(&self) -> u32 {
+        self.actor
     }
 }

@@ -76,9 +76,17 @@ impl<P, E: Drop, S> Actor<P, E, S> {
         }
         let entry = self.script.act(&mut value);
         let number = yard.draw(&mut self.pass, part, &value, &entry);
-        gate.reach(self.script.actor(), self.made.len().min(u32::MAX as usize) as u32, Moment::Inside);
+        gate.reach(
+            self.script.actor(),
+            self.made.len().min(u32::MAX as usize) as u32,
+            Moment::Inside,
+        );
         yard.put(&mut self.pass, part, value);
-        gate.reach(self.script.actor(), self.made.len().min(u32::MAX as usize) as u32, Moment::Answered);
+        gate.reach(
+            self.script.actor(),
+            self.made.len().min(u32::MAX as usize) as u32,
+            Moment::Answered,
+        );
         self.made.push_reserved((number, entry));
         Ok(())
     }
@@ -117,9 +125,17 @@ impl<P, E: Drop, S> Actor<P, E, S> {
         }
         let entry = self.script.act_over(&mut parts);
         let number = yard.draw_all(&mut self.pass, &parts, &entry);
-        gate.reach(self.script.actor(), self.made.len().min(u32::MAX as usize) as u32, Moment::Inside);
+        gate.reach(
+            self.script.actor(),
+            self.made.len().min(u32::MAX as usize) as u32,
+            Moment::Inside,
+        );
         put_all(yard, &mut self.pass, parts);
-        gate.reach(self.script.actor(), self.made.len().min(u32::MAX as usize) as u32, Moment::Answered);
+        gate.reach(
+            self.script.actor(),
+            self.made.len().min(u32::MAX as usize) as u32,
+            Moment::Answered,
+        );
         self.made.push_reserved((number, entry));
         Ok(())
     }

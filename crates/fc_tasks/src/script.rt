@@ -39,6 +39,7 @@ pub trait Script<W, E, P: Part<W, E>>: Send + Drop {
 
     /// What the next request needs.
     fn needs(&self) -> Needs
+        requires { (openings : List P) × (limit : ℕ) × suits self.now openings limit }
         ensures needed { result ≡ needed self.now }
         ensures there { (openings : List P) (limit : ℕ) → suits self.now openings limit → IsThere result openings };
 

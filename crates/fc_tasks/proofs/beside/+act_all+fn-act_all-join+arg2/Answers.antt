@@ -25,26 +25,46 @@ join-pass-requires-after_bounds g t c κs within =
     let q = c.split-other.new.pass in let o = c.split-other.result in let opened = c.requires.opened in let items = c.pop.new.self.items in let script = c.in-Some.script in
     let all = subst (λ l. AllSuit g.S.Script.needed g.S.Script.suits g.S.Script.goes l q0.view.openings q0.view.limit) c.in-Some.ensures.items c.requires.suits in
     let e = send.0 in let p = send.1 in let s = send.2 in let r = sync.0 in let gate = sync.1 in
-    let shares = ap (λ r. r.view.shares) left in let many = c.in-Some.ensures.len in let enough = c.requires.shares in let room = c.requires.room.1 in
-    (
-      (search rules, ((λ a m. m), ((λ a m. m), ((λ a m. m), ((λ a m. m), ((λ a m. m), ((λ a m. m), (
+    let shares = ap (λ r. r.view.shares) left in let many = c.in-Some.ensures.len in let enough = c.requires.shares in let room = c.requires.room.1 in (
+      (
+        search rules,
+        (
+          (λ a m. m),
           (
-            sync.0,
-            send.0,
-            send.1,
-            send.2,
-            sync.1,
-            free_left c.args.yard.now q0 q c.requires.free left,
-            (opened.0, of_pass (λ v. OpensWith g.P.Part.fits g.P.Part.sound g.P.Part.count g.P.Part.steps v.openings v.first opened.0) q0 q (split_from q0.view) left opened.1),
-            of_pass (λ v. AllSuit g.S.Script.needed g.S.Script.suits g.S.Script.goes items v.openings v.limit) q0 q (split_from q0.view) left
-                (suits_but g.S.Script.needed g.S.Script.suits g.S.Script.goes items script q0.view.openings q0.view.limit all),
-            of_pass (λ v. v.made ≡ []) q0 q (split_from q0.view) left c.requires.fresh,
-            omega (arith, shares, many, enough),
-            c.requires.room.0,
-            omega (arith, many, room),
+            (λ a m. m),
+            (
+              (λ a m. m),
+              (
+                (λ a m. m),
+                (
+                  (λ a m. m),
+                  (
+                    (λ a m. m),
+                    (
+                      (
+                        sync.0,
+                        send.0,
+                        send.1,
+                        send.2,
+                        sync.1,
+                        free_left c.args.yard.now q0 q c.requires.free left,
+                        (opened.0, of_pass (λ v. OpensWith g.P.Part.fits g.P.Part.sound g.P.Part.count g.P.Part.steps v.openings v.first opened.0) q0 q (split_from q0.view) left opened.1),
+                        of_pass (λ v. AllSuit g.S.Script.needed g.S.Script.suits g.S.Script.goes items v.openings v.limit) q0 q (split_from q0.view) left
+                            (suits_but g.S.Script.needed g.S.Script.suits g.S.Script.goes items script q0.view.openings q0.view.limit all),
+                        of_pass (λ v. v.made ≡ []) q0 q (split_from q0.view) left c.requires.fresh,
+                        omega (arith, shares, many, enough),
+                        c.requires.room.0,
+                        omega (arith, many, room),
+                      ),
+                      (send.0, send.1, send.2, sync.0, sync.1),
+                    ),
+                  ),
+                ),
+              ),
+            ),
           ),
-          (send.0, send.1, send.2, sync.0, sync.1),
-      )))))))),
+        ),
+      ),
       (
         (
           free_off c.args.yard.now q0 o c.requires.free off,

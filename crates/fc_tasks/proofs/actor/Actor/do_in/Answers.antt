@@ -58,8 +58,7 @@ act-entry-requires-clause-can g c =
     let given = c.ticket.ensures.given c.if-not-ticket.false in let q = c.ticket.new.pass in
     let is = two (λ v. took v p x) (λ v. ticketed v given.0) q0 c.take-value.new.pass q c.take-value.ensures.taken given.1 in
     let v = ticketed (took q0.view p x) given.0 in let opened = c.requires.opened in
-    let near = c.requires.part.1 in let parts = was.free.parts in
-    (
+    let near = c.requires.part.1 in let parts = was.free.parts in (
       p,
       c.requires.part.0,
       q.view.openings,
