@@ -4,7 +4,7 @@ use Rattle.fc_blocks.specs.declared.block.BlockRead.{BlockRead}
 use Rattle.fc_lane.specs.Lane.{LaneView, IsSameLane, KeepsQuiet}
 use Rattle.fc_lanes.specs.AllLanes.{EachLane}
 use Rattle.fc_lanes.specs.Dealing.{disks_in}
-use Rattle.fc_legal.specs.Whole.{Whole, lanes}
+use Rattle.fc_legal.specs.Whole.{Whole, lanes, part_at}
 use Rattle.fc_stands.proofs.Frames.{same_disks}
 use Rattle.fc_stands.proofs.Quieting.{each_keeps}
 use Rattle.fc_stands.specs.Quiet.{AreQuiet}
@@ -33,12 +33,22 @@ module _ (store new : StoreView) (w : Whole) (makings : List Making) where
   }
 
 pub stands_named : (store : StoreView) (w : Whole) (block : BlockRead) → StandsFor store w → StandsFor store (named w block)
-stands_named store w block stands = record {
-  control = stands.control;
-  count = stands.count;
-  each = stands.each;
-  decisions = stands.decisions;
-  few = stands.few;
-  stands = stands.stands;
-  calls = stands.calls;
+unfolding part_at
+stands_named store w block s = record {
+  control = s.control;
+  count = s.count;
+  each = λ i d inside.
+      let lane = s.each i d inside in
+      record { lane = lane.lane; lanes_are = lane.lanes_are; grain_is = lane.grain_is; stands = lane.stands };
+  decisions = s.decisions;
+  few = s.few;
+  stands = record {
+    sound = s.stands.sound;
+    few = s.stands.few;
+    plain = s.stands.plain;
+    each_lane = record { some = s.stands.each_lane.some; pools = s.stands.each_lane.pools; calls = s.stands.each_lane.calls };
+    firsts = s.stands.firsts;
+    rows = s.stands.rows;
+  };
+  calls = s.calls;
 }

@@ -30,7 +30,7 @@ MergesTo old makings merged = IsMerged (length old.entries) (length (all_of (map
 abbrev pub with_entries : HistoryState → List Entry → HistoryState
 with_entries old more = record old { entries = old.entries ++ more }
 
-pub record RunLaw : Type 1 where
+pub record RunLaw : Type 0 where
   -- the actors asked all; or one wants one more, and the limit is reached; or the first of what they made is told
   pub all : (store new : StoreView) (w : Whole) (makings : List Making) (scripts : List Script) (merged : List Entry) (old : HistoryState) →
       IsOf w old → AreMakings makings → IsRun store new w makings → AllAsked (map own_of makings) scripts →
@@ -41,11 +41,11 @@ pub record RunLaw : Type 1 where
       AllBegan (map own_of makings) scripts → OneWants (map own_of makings) scripts →
       262144 ≤ w.entries + length run.entries → MergesTo old makings merged →
       ScriptsRan {A = Unit {0}} (Err LogFull) (StandsFor new) store.control.grain w scripts old (with_entries old merged)
-  pub some : (Stands : Whole → Type 0) (store new : StoreView) (w : Whole) (makings : List Making) (scripts : List Script)
+  pub some : (store new left : StoreView) (w : Whole) (makings : List Making) (scripts : List Script)
       (merged front rest : List Entry) (old : HistoryState) →
       IsOf w old → AreMakings makings → IsRun store new w makings → AreOfDifferent scripts →
       AllBegan (map own_of makings) scripts → MergesTo old makings merged → merged ≡ front ++ rest →
-      ScriptsRan {A = Unit {0}} (Err NoMemory) Stands store.control.grain w scripts old (with_entries old front)
+      ScriptsRan {A = Unit {0}} (Err NoMemory) (StandsFor left) store.control.grain w scripts old (with_entries old front)
   -- it passes no limit
   pub limit : (store new : StoreView) (w : Whole) (makings : List Making) (merged front rest : List Entry) (old : HistoryState) →
       IsOf w old → AreMakings makings → IsRun store new w makings →
@@ -60,9 +60,9 @@ pub record RunLaw : Type 1 where
   -- who stands for what is told does so when names have come
   pub named_stands : (store : StoreView) (w : Whole) (block : BlockRead) → StandsFor store w → StandsFor store (named w block)
   -- with the faults of which `main` was told before, it answers the block
-  pub block : (result : Result (Unit {0}) Stop) (Stands : Whole → Type 0) (lines : List (List ℕ)) (grain : GrainSize) (read : Reading)
+  pub block : (result : Result (Unit {0}) Stop) (left : StoreView) (lines : List (List ℕ)) (grain : GrainSize) (read : Reading)
       (block : BlockRead) (w mid : Whole) (faults : List Entry) (old middle new : HistoryState) →
       Contains (cut lines).segments (together block) →
       AreTold grain w block.faults faults [] mid → middle.entries ≡ old.entries ++ faults →
-      ScriptsRan result Stands grain (named mid block) (scripts_then grain mid block) middle new →
-      Answered result Stands (session_rules grain read) (block_alone block) w old new
+      ScriptsRan result (StandsFor left) grain (named mid block) (scripts_then grain mid block) middle new →
+      Answered result (StandsFor left) (session_rules grain read) (block_alone block) w old new
