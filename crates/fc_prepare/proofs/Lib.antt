@@ -1,0 +1,2 @@
+-- Lemmas, one subject a file.
+pub mod Asking
