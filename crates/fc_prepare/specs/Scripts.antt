@@ -9,7 +9,7 @@ use Rattle.fc_blocks.specs.declared.block.ActorRead.{ActorRead}
 use Rattle.fc_books.specs.Books.{Books}
 use Rattle.fc_desk.specs.Control.{ControlState}
 use Rattle.fc_entry.specs.HistoryState.{number_of_actor}
-use Rattle.fc_legal.specs.Scripts.{asked_as}
+use Rattle.fc_legal.specs.Scripts.{Script, asked_as}
 use Rattle.fc_shares.specs.Situation.{Situation}
 use Rattle.fc_stands.specs.Store.{StoreView}
 use Rattle.fc_prepare.specs.Items.{IsOfActor, IsToldBy}
@@ -30,3 +30,7 @@ pub record IsScriptOf {D : Type 0} (store : StoreView) (names : List (List ℕ))
 -- The scripts of all actors, in order.
 abbrev pub AreScriptsOf : {D : Type 0} → StoreView → List (List ℕ) → List ActorRead → List (ActorScript D) → Type 0
 AreScriptsOf store names actors scripts = AllZip (IsScriptOf store names) actors scripts
+
+-- Scripts that ask, in order, what these actors ask.
+abbrev pub AskTheirs : {D : Type 0} → List (ActorScript D) → List Script → Type 0
+AskTheirs scripts asked = AllZip (λ (script : ActorScript _) (s : Script). (script.actor ≡ s.actor) × (left_of script ≡ s.requests)) scripts asked

@@ -1,12 +1,20 @@
 //! The scripts of a block's actors.
 
-ghost use Rattle.std.specs.Prelude.{◌≡◌, ℕ, ◌<◌, ◌^◌, length, IfOk};
+ghost use Rattle.std.specs.Prelude.{◌≡◌, ℕ, ◌<◌, ◌^◌, List, All, Contains, length, IfOk};
 ghost use Rattle.fc_entry.specs.HistoryState.{number_of_actor};
-ghost use Rattle.fc_prepare.specs.Scripts.{AreScriptsOf, IsScriptOf, IsWorkOf};
+ghost use Rattle.fc_actors.specs.Scripts.{Suits};
+ghost use Rattle.fc_blocks.specs.Segments.{cut, together};
+ghost use Rattle.fc_blocks.specs.declared.block.BlockRead.{BlockRead};
+ghost use Rattle.fc_legal.specs.Scripts.{scripts_of as scripts_asked};
+ghost use Rattle.fc_legal.specs.Whole.{Whole, lanes};
+ghost use Rattle.fc_stands.specs.Store.{StandsFor};
+ghost use Rattle.fc_store.specs.StoreParts.{parts_view};
+ghost use Rattle.fc_prepare.specs.Scripts.{AreScriptsOf, AskTheirs, IsScriptOf, IsWorkOf};
 
 use crate::items::items_of;
 use fc_actors::script::{ActorScript, Left};
 use fc_base::command::Role;
+use fc_base::limits::MAX_ENTRIES;
 use fc_base::name::Name;
 use fc_base::outcome::NoMemory;
 use fc_blocks::block::ActorRead;
@@ -91,9 +99,8 @@ fn script_of<D: Mdisk>(
     ))
 }
 
-/// The scripts of a block's actors, in order, by the volumes that the store has now; their names stand in the history. Refused
-/// for want of memory alone.
-pub fn prepare<D: Mdisk>(
+/// The scripts of some actors, in order.
+fn scripts_of<D: Mdisk>(
     alloc: Global,
     store: &Store<D>,
     actors: &[ActorRead],
@@ -116,4 +123,21 @@ pub fn prepare<D: Mdisk>(
         }
     }
     Ok(scripts)
+}
+
+/// The scripts of a block's actors, in order, by the volumes that the store has now. Each actor has the number of its name in the
+/// history. Refused for want of memory alone.
+pub fn prepare<D: Mdisk>(
+    alloc: Global,
+    store: &Store<D>,
+    actors: &[ActorRead],
+    history: &History,
+) -> Result<Vec<ActorScript<D>>, NoMemory>
+    requires of_block { (lines : List (List ℕ)) × (block : BlockRead) × Contains (cut lines).segments (together block) × (block.actors ≡ actors.now) }
+    requires stands { (w : Whole) × StandsFor store.now w }
+    ensures asked { IfOk result (λ scripts. (w : Whole) → StandsFor store.now w →
+        AskTheirs scripts.items (scripts_asked store.now.control.grain (lanes w) w.books history.now.actors actors.now)) }
+    ensures suit { IfOk result (λ scripts. All (λ script. Suits script (parts_view store.now) MAX_ENTRIES) scripts.items) }
+{
+    scripts_of(alloc, store, actors, history)
 }
