@@ -4,3 +4,5 @@ pub mod Lines
 pub mod Unarmed
 pub mod Actors
 pub mod Prepared
+pub mod Numbers
+pub mod Working

@@ -148,6 +148,16 @@ fn line_item<D: Mdisk>(
     }
 }
 
+/// Puts an item behind others. Refused, they are as they were.
+fn push_item<T: Drop>(items: &mut VecDeque<T>, item: T) -> Result<(), NoMemory>
+    ensures { OnOk result (items.new.items ≡ items.old.items ++ item ∷ []) }
+{
+    match items.push_back(item) {
+        Ok(()) => Ok(()),
+        Err(_) => Err(NoMemory),
+    }
+}
+
 /// Puts what a line asks behind the items of the lines before it.
 fn push_line<D: Mdisk>(
     alloc: Global,
@@ -159,10 +169,7 @@ fn push_line<D: Mdisk>(
 {
     match line_item(alloc, store, line) {
         Ok(None) => Ok(()),
-        Ok(Some(item)) => match items.push_back(item) {
-            Ok(()) => Ok(()),
-            Err(_) => Err(NoMemory),
-        },
+        Ok(Some(item)) => push_item(items, item),
         Err(NoMemory) => Err(NoMemory),
     }
 }

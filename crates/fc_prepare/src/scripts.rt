@@ -1,8 +1,9 @@
 //! The scripts of a block's actors.
 
-ghost use Rattle.std.specs.Prelude.{◌≡◌, ℕ, ◌<◌, ◌^◌, List, All, Contains, length, IfOk};
+ghost use Rattle.std.specs.Prelude.{◌≡◌, ℕ, ◌<◌, ◌^◌, ◌++◌, [], ◌∷◌, true, List, All, Contains, length, IfOk, OnOk};
 ghost use Rattle.fc_entry.specs.HistoryState.{number_of_actor};
 ghost use Rattle.fc_actors.specs.Scripts.{Suits};
+ghost use Rattle.fc_blocks.specs.Blocks.{has_lines};
 ghost use Rattle.fc_blocks.specs.Segments.{cut, together};
 ghost use Rattle.fc_blocks.specs.declared.block.BlockRead.{BlockRead};
 ghost use Rattle.fc_legal.specs.Scripts.{scripts_of as scripts_asked};
@@ -42,7 +43,32 @@ fn number_of(history: &History, name: &Name) -> u32
     count
 }
 
-/// What an actor has to do in a store of so many lanes: its lines, or its turns.
+/// Puts a script behind others.
+fn push_script<T: Drop>(scripts: &mut Vec<T>, script: T) -> Result<(), NoMemory>
+    ensures { OnOk result (scripts.new.items ≡ scripts.old.items ++ script ∷ []) }
+{
+    match scripts.push(script) {
+        Ok(()) => Ok(()),
+        Err(_) => Err(NoMemory),
+    }
+}
+
+/// What an actor has to do who has lines: what they ask.
+fn lines_work<D: Mdisk>(
+    alloc: Global,
+    store: &Store<D>,
+    actor: &ActorRead,
+) -> Result<Left, NoMemory>
+    requires { has_lines actor.now.role ≡ true }
+    ensures { IfOk result (λ work. (lanes : ℕ) → IsWorkOf store.now.control lanes actor.now work) }
+{
+    match items_of(alloc, store, actor.lines.as_slice()) {
+        Ok(items) => Ok(Left::Lines(items)),
+        Err(NoMemory) => Err(NoMemory),
+    }
+}
+
+/// What an actor has to do: what its lines ask, or its turns.
 fn work_of<D: Mdisk>(
     alloc: Global,
     store: &Store<D>,
@@ -51,10 +77,7 @@ fn work_of<D: Mdisk>(
     ensures { IfOk result (λ work. (lanes : ℕ) → IsWorkOf store.now.control lanes actor.now work) }
 {
     match actor.role {
-        Role::Host | Role::Admin => match items_of(alloc, store, actor.lines.as_slice()) {
-            Ok(items) => Ok(Left::Lines(items)),
-            Err(NoMemory) => Err(NoMemory),
-        },
+        Role::Host | Role::Admin => lines_work(alloc, store, actor),
         Role::Copier(turns) => Ok(Left::Turns {
             cleans: false,
             next: 0,
@@ -117,9 +140,9 @@ fn scripts_of<D: Mdisk>(
             Ok(script) => script,
             Err(NoMemory) => return Err(NoMemory),
         };
-        match scripts.push(script) {
+        match push_script(&mut scripts, script) {
             Ok(()) => {}
-            Err(_) => return Err(NoMemory),
+            Err(NoMemory) => return Err(NoMemory),
         }
     }
     Ok(scripts)

@@ -1,0 +1,9 @@
+-- One line more.
+use Rattle.std.proofs.Common.{◌≡◌, List, [], ◌∷◌, ◌++◌, sym, subst}
+use Rattle.fc_actors.specs.declared.script.Item.{Item}
+use Rattle.fc_prepare.specs.Items.{AreItemsOf}
+use Rattle.fc_prepare.proofs.Lines.{nothing_more}
+use Rattle.fc_prepare.proofs.items.push_line.Goals as goal
+
+pub returns-in-Ok-None : goal.returns-in-Ok-None
+returns-in-Ok-None g c = λ lines are. nothing_more c.args.store.now.control c.args.line.now lines c.args.items.now.items c.in-Ok-None.ensures are
