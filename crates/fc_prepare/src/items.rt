@@ -169,7 +169,10 @@ fn push_line<D: Mdisk>(
 {
     match line_item(alloc, store, line) {
         Ok(None) => Ok(()),
-        Ok(Some(item)) => push_item(items, item),
+        Ok(Some(item)) => match push_item(items, item) {
+            Ok(()) => Ok(()),
+            Err(NoMemory) => Err(NoMemory),
+        },
         Err(NoMemory) => Err(NoMemory),
     }
 }

@@ -15,7 +15,6 @@ ghost use Rattle.fc_prepare.specs.Scripts.{AreScriptsOf, AskTheirs, IsScriptOf, 
 use crate::items::items_of;
 use fc_actors::script::{ActorScript, Left};
 use fc_base::command::Role;
-use fc_base::limits::MAX_ENTRIES;
 use fc_base::name::Name;
 use fc_base::outcome::NoMemory;
 use fc_blocks::block::ActorRead;
@@ -160,7 +159,10 @@ pub fn prepare<D: Mdisk>(
     requires stands { (w : Whole) × StandsFor store.now w }
     ensures asked { IfOk result (λ scripts. (w : Whole) → StandsFor store.now w →
         AskTheirs scripts.items (scripts_asked store.now.control.grain (lanes w) w.books history.now.actors actors.now)) }
-    ensures suit { IfOk result (λ scripts. All (λ script. Suits script (parts_view store.now) MAX_ENTRIES) scripts.items) }
+    ensures suit { IfOk result (λ scripts. All (λ script. Suits script (parts_view store.now) 262144) scripts.items) }
 {
-    scripts_of(alloc, store, actors, history)
+    match scripts_of(alloc, store, actors, history) {
+        Ok(scripts) => Ok(scripts),
+        Err(NoMemory) => Err(NoMemory),
+    }
 }
