@@ -1,9 +1,10 @@
 -- The number that a name has, found one name after the other.
-use Rattle.std.proofs.Common.{◌≡◌, ℕ, suc, ◌+◌, ◌<◌, ◌≤◌, Bool, true, false, not, cond, nat_lt, List, [], ◌∷◌, drop, length, slice_index_or, Some, None, refl, sym, ap, ◌∙◌, arith}
-use Rattle.std.specs.List.{position, position_or_len}
+use Rattle.std.proofs.Common.{◌≡◌, ℕ, suc, ◌+◌, ◌<◌, ◌≤◌, Bool, true, false, not, cond, nat_lt, zero, List, [], ◌∷◌, drop, length, slice_index_or, Some, None, refl, sym, ap, ◌∙◌, arith}
+use Rattle.std.specs.List.{position, position_or_len, slice_get}
 use Rattle.std.specs.Option.{unwrap_or}
 use Rattle.std.proofs.lemmas.Bool.{ltb-false}
 use Rattle.std.proofs.lemmas.List.{drop_more}
+use Rattle.std.proofs.lemmas.Option.{none-some}
 
 by_test : (b : Bool) (p l n : ℕ) → nat_lt p l ≡ b → p ≡ n → n ≤ l → unwrap_or (cond b (Some p) None) l ≡ n
 by_test true p l n e is within = is
@@ -28,3 +29,9 @@ module _ {X : Type 0} (t : X → Bool) where
       let behind : position_or_len t (drop n xs) ≡ 1 + position_or_len t (drop (n + 1) xs) =
           ap (position_or_len t) (drop_more xs n x inside) ∙ from_first (slice_index_or xs n x) (drop (n + 1) xs) false (ap t (sym is) ∙ other) in
       omega (arith, behind)
+
+-- What stands at a place.
+pub get_some : {X : Type 0} (xs : List X) (n : ℕ) (x : X) → slice_get xs n ≡ Some x → (n < length xs) × (x ≡ slice_index_or xs n x)
+get_some [] n x e = absurd (none-some x e)
+get_some (y ∷ ys) zero x e = let same : y ≡ x = cc in (omega arith, sym same)
+get_some (y ∷ ys) (suc n) x e = let rest = get_some ys n x e in let below = rest.0 in (omega (arith, below), rest.1)
