@@ -12,6 +12,7 @@
 #![tactic(auto)]
 
 pub mod gate;
+mod making;
 pub mod part;
 pub mod script;
 pub mod span;

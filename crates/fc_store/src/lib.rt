@@ -18,6 +18,7 @@ mod new;
 mod phases;
 mod plan;
 mod settling;
+mod size;
 pub mod store;
 pub mod store_part;
 pub mod touched;

@@ -1,0 +1,3 @@
+-- What scripts are made of, and whose they are.
+pub mod Items
+pub mod Scripts

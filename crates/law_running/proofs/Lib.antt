@@ -1,0 +1,5 @@
+-- Lemmas, one subject a file.
+pub mod Runs
+pub mod Frames
+pub mod Blocks
+pub mod Lawful
