@@ -1,0 +1,4 @@
+-- Lemmas, one subject a file.
+mod Parts
+pub mod Asking
+pub mod Composing
