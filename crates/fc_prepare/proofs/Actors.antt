@@ -1,5 +1,5 @@
 -- The lines of a block's actors.
-use Rattle.std.proofs.Common.{◌≡◌, ◌≢◌, ℕ, false, List, All, Contains, Result, Ok, Err, refl, sym, ap, subst, true≢false, slice_index_or}
+use Rattle.std.proofs.Common.{◌≢◌, ℕ, List, All, Contains, Result, Ok, Err, sym, ap, subst, true≢false}
 use Rattle.std.proofs.lemmas.List.Elements.{All-weaker}
 use Rattle.fc_base.specs.declared.command.Line.{Line}
 use Rattle.fc_base.specs.declared.command.Line.TheVariants.{Blank, Command as CommandLine, Together, Actor, End}

@@ -1,19 +1,16 @@
 -- What one line asks, as an item.
-use Rattle.std.proofs.Common.{◌≡◌, ℕ, zero, suc, ◌+◌, ◌-◌, ◌*◌, ◌/◌, ◌<◌, ◌≤◌, Bool, true, false, List, [], ◌∷◌, map, Contains, Option, Some, None, refl, sym, ap, ◌∙◌, subst, true≢false, arith}
+use Rattle.std.proofs.Common.{◌≡◌, ℕ, zero, suc, ◌+◌, ◌-◌, ◌/◌, ◌<◌, ◌≤◌, List, [], ◌∷◌, map, Some, None, refl, sym, ap, ◌∙◌, subst, true≢false, arith}
 use Rattle.std.specs.List.{range_with_len}
 use Rattle.fc_actors.specs.Scripts.{IsOfBlock}
 use Rattle.fc_actors.specs.Spans.{IsGrainOf, IsSpanOf, span_left}
-use Rattle.fc_actors.specs.declared.script.Item.{Item}
 use Rattle.fc_actors.specs.declared.script.Item.TheVariants.{Access as OfGrains, Refused, Command as Whole_command}
 use Rattle.fc_base.specs.Grain.{grain_blocks}
 use Rattle.fc_base.specs.Tables.{Tables, refers_to, volume_named}
 use Rattle.fc_base.specs.declared.command.Command.{Command}
 use Rattle.fc_base.specs.declared.command.Line.TheVariants.{Command as CommandLine}
-use Rattle.fc_base.specs.declared.command.ScriptLine.{ScriptLine}
-use Rattle.fc_base.specs.declared.command.ScriptLine.TheVariants.{Read, Unread}
+use Rattle.fc_base.specs.declared.command.ScriptLine.TheVariants.{Read}
 use Rattle.fc_base.specs.declared.fault.Refusal.{Refusal}
 use Rattle.fc_base.specs.declared.name.Ref.{Ref}
-use Rattle.fc_base.specs.declared.request.Request.{Request}
 use Rattle.fc_base.specs.declared.request.Request.TheVariants.{Command as Asked}
 use Rattle.fc_base.specs.declared.size.GrainSize.{GrainSize}
 use Rattle.fc_base.specs.declared.volume.Volume.{Volume}
@@ -25,13 +22,12 @@ use Rattle.fc_entry.specs.Picture.{grain_of_block}
 use Rattle.fc_entry.specs.Refused.{blocks_refusal}
 use Rattle.fc_lanes.specs.Asking.{command_of, part_of}
 use Rattle.fc_lanes.specs.declared.access.Access.{Access}
-use Rattle.fc_legal.specs.Asked.{command_asked, numbers, touched}
+use Rattle.fc_legal.specs.Asked.{command_asked, numbers}
 use Rattle.fc_shares.specs.Situation.{Situation}
 use Rattle.fc_stands.specs.Apart.{IsRefusalOf}
 use Rattle.fc_stands.specs.Phase.{IsDecided}
 use Rattle.fc_stands.proofs.Asked.{asked-refused, asks_itself, is_taken, refusal_of}
 use Rattle.fc_stands.proofs.Ranging.{first_before, is_touched}
-use Rattle.law_volumes.specs.Law.{is_of_volumes}
 use Rattle.fc_prepare.specs.Items.{IsItemOf, IsToldBy, arms_fault, whole_span}
 
 -- ---- accesses
@@ -70,8 +66,8 @@ taken_suits c s access volume block count v told found passes =
       some = taken.some;
       left = one_behind (block / width) ((block + count - 1) / width) (first_before c.grain block count width refl taken.some);
       touched = λ g from to.
-        let t = is_touched c.grain block count g width v.grains refl taken.some from (not_behind g ((block + count - 1) / width) to) taken.there in
-        subst (λ (size : GrainSize). IsGrainOf size block count v.grains g) (sym told.grain) record { within = t.inside; begins = t.begins; ends = t.ends };
+          let t = is_touched c.grain block count g width v.grains refl taken.some from (not_behind g ((block + count - 1) / width) to) taken.there in
+          subst (λ (size : GrainSize). IsGrainOf size block count v.grains g) (sym told.grain) record { within = t.inside; begins = t.begins; ends = t.ends };
     }
 
 pub taken_item : (c : ControlState) (access : Access) (volume : Ref) (block count : ℕ) (v : Volume) (command : Command) → command ≡ command_of access volume block count

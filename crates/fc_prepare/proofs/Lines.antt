@@ -1,7 +1,6 @@
 -- One line more, and one script more.
-use Rattle.std.proofs.Common.{◌≡◌, ℕ, List, [], ◌∷◌, ◌++◌, flat_map, All, Option, Some, None, refl, sym, ap, ◌∙◌, subst}
+use Rattle.std.proofs.Common.{List, [], ◌∷◌, ◌++◌, flat_map, Some, None, refl, sym, ap, ◌∙◌}
 use Rattle.std.specs.List.{AllZip}
-use Rattle.std.specs.Option.{option_to_list}
 use Rattle.std.proofs.lemmas.List.{append-nil}
 use Rattle.std.proofs.lemmas.List.Concat.{flat_map-append}
 use Rattle.std.proofs.lemmas.List.Elements.{All-nil, All-pop, All-push}
@@ -9,11 +8,9 @@ use Rattle.fc_actors.specs.Scripts.{ItemSuits, item_left}
 use Rattle.fc_actors.specs.declared.script.Item.{Item}
 use Rattle.fc_base.specs.declared.command.ScriptLine.{ScriptLine}
 use Rattle.fc_base.specs.declared.request.Request.{Request}
-use Rattle.fc_books.specs.Books.{Books}
 use Rattle.fc_desk.specs.Control.{ControlState}
 use Rattle.fc_legal.specs.Scripts.{line_asked}
-use Rattle.fc_shares.specs.Situation.{Situation}
-use Rattle.fc_prepare.specs.Items.{AreItemsOf, IsItemIf, IsItemOf, IsOfActor, IsToldBy}
+use Rattle.fc_prepare.specs.Items.{AreItemsOf, IsItemIf, IsItemOf, IsOfActor}
 
 pub no_lines : (c : ControlState) → AreItemsOf c [] []
 no_lines c = record { asked = λ b tables. refl; suit = λ s told of. All-nil (ItemSuits s) }

@@ -20,14 +20,14 @@ module _ {X : Type 0} (t : X → Bool) where
 
   -- It stands here, or behind.
   pub found_at : (xs : List X) (n : ℕ) (x : X) → n < length xs → x ≡ slice_index_or xs n x → t x ≡ true → n + position_or_len t (drop n xs) ≡ n
-  found_at xs n x inside is here_it =
-      let here : position_or_len t (drop n xs) ≡ 0 = ap (position_or_len t) (drop_more xs n x inside) ∙ from_first (slice_index_or xs n x) (drop (n + 1) xs) true (ap t (sym is) ∙ here_it) in
+  found_at xs n x inside is says =
+      let here : position_or_len t (drop n xs) ≡ 0 = ap (position_or_len t) (drop_more xs n x inside) ∙ from_first (slice_index_or xs n x) (drop (n + 1) xs) true (ap t (sym is) ∙ says) in
       omega (arith, here)
 
   pub passed_at : (xs : List X) (n : ℕ) (x : X) → n < length xs → x ≡ slice_index_or xs n x → t x ≡ false → n + position_or_len t (drop n xs) ≡ (n + 1) + position_or_len t (drop (n + 1) xs)
-  passed_at xs n x inside is other =
+  passed_at xs n x inside is denies =
       let behind : position_or_len t (drop n xs) ≡ 1 + position_or_len t (drop (n + 1) xs) =
-          ap (position_or_len t) (drop_more xs n x inside) ∙ from_first (slice_index_or xs n x) (drop (n + 1) xs) false (ap t (sym is) ∙ other) in
+      ap (position_or_len t) (drop_more xs n x inside) ∙ from_first (slice_index_or xs n x) (drop (n + 1) xs) false (ap t (sym is) ∙ denies) in
       omega (arith, behind)
 
 -- What stands at a place.

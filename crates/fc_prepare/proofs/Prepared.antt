@@ -1,15 +1,13 @@
 -- Scripts that were prepared ask what their actors ask, and suit the store.
-use Rattle.std.proofs.Common.{◌≡◌, ℕ, ◌<◌, ◌≤◌, List, [], ◌∷◌, All, length, vec_capacity, refl, sym, ap, ◌∙◌, subst, arith}
-use Rattle.std.specs.List.{AllZip}
+use Rattle.std.proofs.Common.{◌≡◌, ℕ, ◌<◌, ◌≤◌, List, [], ◌∷◌, All, vec_capacity, refl, sym, ap, ◌∙◌, subst}
 use Rattle.std.proofs.lemmas.List.Elements.{All-nil, All-cons, All-head, All-tail}
 use Rattle.fc_actors.specs.Scripts.{Suits, left_of, work_left}
 use Rattle.fc_actors.specs.Shares.{HasShare}
 use Rattle.fc_actors.specs.declared.script.ActorScript.{ActorScript}
-use Rattle.fc_base.specs.declared.request.Request.{Request}
 use Rattle.fc_base.specs.declared.size.GrainSize.{GrainSize}
 use Rattle.fc_blocks.specs.declared.block.ActorRead.{ActorRead}
 use Rattle.fc_entry.specs.declared.entry.Entry.{Entry}
-use Rattle.fc_legal.specs.Scripts.{Script, asked_as, script_of, scripts_of}
+use Rattle.fc_legal.specs.Scripts.{asked_as, script_of, scripts_of}
 use Rattle.fc_legal.specs.Whole.{Whole, lanes}
 use Rattle.fc_shares.specs.Situation.{Situation, HasControl, IsSound, LeadsTo, entries_told}
 use Rattle.fc_stands.specs.Store.{StandsFor, StoreView}

@@ -1,5 +1,5 @@
 -- What actors with lines ask.
-use Rattle.std.proofs.Common.{◌≡◌, ℕ, true, false, List, flat_map, refl, sym, true≢false}
+use Rattle.std.proofs.Common.{◌≡◌, ℕ, true, List, flat_map, refl, sym, true≢false}
 use Rattle.fc_base.specs.declared.command.Role.{Role}
 use Rattle.fc_base.specs.declared.command.Role.TheVariants.{Host, Admin, Copier, Cleaner}
 use Rattle.fc_base.specs.declared.command.ScriptLine.{ScriptLine}

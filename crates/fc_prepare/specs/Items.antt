@@ -1,5 +1,5 @@
 -- What the lines of an actor ask, as items of its script.
-use Rattle.std.specs.Prelude.{◌≡◌, ℕ, ◌+◌, ◌-◌, Bool, true, false, List, [], ◌∷◌, Option, Some, None, All, flat_map}
+use Rattle.std.specs.Prelude.{◌≡◌, ℕ, ◌+◌, ◌-◌, Bool, true, false, List, [], Option, Some, None, All, flat_map}
 use Rattle.fc_actors.specs.Scripts.{ItemSuits, item_left}
 use Rattle.fc_actors.specs.declared.script.Item.{Item}
 use Rattle.fc_actors.specs.declared.span.Span.{Span}
@@ -7,7 +7,7 @@ use Rattle.fc_base.specs.declared.command.Command.{Command}
 use Rattle.fc_base.specs.declared.command.Command.TheVariants.{Armfault}
 use Rattle.fc_base.specs.declared.command.Line.TheVariants.{Command as CommandLine}
 use Rattle.fc_base.specs.declared.command.ScriptLine.{ScriptLine}
-use Rattle.fc_base.specs.declared.command.ScriptLine.TheVariants.{Read, Unread}
+use Rattle.fc_base.specs.declared.command.ScriptLine.TheVariants.{Read}
 use Rattle.fc_base.specs.declared.ids.VolId.{VolId}
 use Rattle.fc_base.specs.declared.size.GrainSize.{GrainSize}
 use Rattle.fc_books.specs.Books.{Books}

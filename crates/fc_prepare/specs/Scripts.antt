@@ -4,7 +4,6 @@ use Rattle.std.specs.List.{AllZip}
 use Rattle.fc_actors.specs.Scripts.{WorkSuits, left_of, work_left}
 use Rattle.fc_actors.specs.declared.script.ActorScript.{ActorScript}
 use Rattle.fc_actors.specs.declared.script.Left.{Left}
-use Rattle.fc_base.specs.declared.size.GrainSize.{GrainSize}
 use Rattle.fc_blocks.specs.declared.block.ActorRead.{ActorRead}
 use Rattle.fc_books.specs.Books.{Books}
 use Rattle.fc_desk.specs.Control.{ControlState}

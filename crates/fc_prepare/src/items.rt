@@ -24,13 +24,7 @@ use std::alloc::Global;
 use std::collections::VecDeque;
 
 /// An access of one block or more, of which all grains are left.
-fn whole_span(
-    grain: GrainSize,
-    access: Access,
-    volume: VolId,
-    block: u32,
-    count: u32,
-) -> Span
+fn whole_span(grain: GrainSize, access: Access, volume: VolId, block: u32, count: u32) -> Span
     requires { 0 < count }
     ensures { result ≡ whole_span grain access volume block count }
 {
@@ -59,13 +53,7 @@ fn access_item<D: Mdisk>(
     ensures { IfOk result (λ item. IsItemOf store.now.control (ScriptLine.Read (Line.Command command.now)) item) }
 {
     match store.taken(volume, block, count) {
-        Ok(id) => Ok(Item::Access(whole_span(
-            store.grain(),
-            access,
-            id,
-            block,
-            count,
-        ))),
+        Ok(id) => Ok(Item::Access(whole_span(store.grain(), access, id, block, count))),
         Err(refusal) => match copy_command(alloc, command) {
             Ok(copy) => Ok(Item::Refused {
                 request: Request::Command(copy),

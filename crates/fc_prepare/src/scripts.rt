@@ -68,11 +68,7 @@ fn lines_work<D: Mdisk>(
 }
 
 /// What an actor has to do: what its lines ask, or its turns.
-fn work_of<D: Mdisk>(
-    alloc: Global,
-    store: &Store<D>,
-    actor: &ActorRead,
-) -> Result<Left, NoMemory>
+fn work_of<D: Mdisk>(alloc: Global, store: &Store<D>, actor: &ActorRead) -> Result<Left, NoMemory>
     ensures { IfOk result (λ work. (lanes : ℕ) → IsWorkOf store.now.control lanes actor.now work) }
 {
     match actor.role {
@@ -111,14 +107,7 @@ fn script_of<D: Mdisk>(
         Err(_) => return Err(NoMemory),
     };
     let number = number_of(history, &actor.name);
-    Ok(ActorScript::new(
-        alloc,
-        number,
-        store.grain(),
-        lanes as u32,
-        work,
-        tray,
-    ))
+    Ok(ActorScript::new(alloc, number, store.grain(), lanes as u32, work, tray))
 }
 
 /// The scripts of some actors, in order.

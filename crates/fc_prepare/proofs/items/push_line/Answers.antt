@@ -1,5 +1,5 @@
 -- One line more.
-use Rattle.std.proofs.Common.{◌≡◌, List, [], ◌∷◌, ◌++◌, Option, Some, None, sym, subst}
+use Rattle.std.proofs.Common.{List, [], ◌∷◌, ◌++◌, Option, sym, subst}
 use Rattle.fc_actors.specs.declared.script.Item.{Item}
 use Rattle.fc_prepare.specs.Items.{AreItemsOf, IsItemIf}
 use Rattle.fc_prepare.proofs.Lines.{nothing_more, one_more}

@@ -1,5 +1,5 @@
 -- Items are the work of an actor with lines.
-use Rattle.std.proofs.Common.{◌≡◌, List, ◌∙◌, subst}
+use Rattle.std.proofs.Common.{List, ◌∙◌, subst}
 use Rattle.fc_base.specs.declared.command.ScriptLine.{ScriptLine}
 use Rattle.fc_prepare.specs.Items.{AreItemsOf}
 use Rattle.fc_prepare.proofs.Working.{asked_lines}
@@ -8,7 +8,7 @@ use Rattle.fc_prepare.proofs.scripts.lines_work.Goals as goal
 pub returns-in-Ok : goal.returns-in-Ok
 returns-in-Ok g c = λ lanes.
     let are : AreItemsOf c.args.store.now.control c.args.actor.now.lines c.in-Ok.items.items =
-        subst (λ (ls : List ScriptLine). AreItemsOf c.args.store.now.control ls c.in-Ok.items.items) c.as_slice.ensures c.in-Ok.ensures in
+    subst (λ (ls : List ScriptLine). AreItemsOf c.args.store.now.control ls c.in-Ok.items.items) c.as_slice.ensures c.in-Ok.ensures in
     record {
       asked = λ b tables. are.asked b tables ∙ asked_lines c.args.actor.now.role c.args.store.now.control.grain lanes b c.args.actor.now.lines c.requires;
       suits = λ s told of. are.suit s told of;

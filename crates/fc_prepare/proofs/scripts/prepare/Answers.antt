@@ -1,5 +1,5 @@
 -- Scripts of a block's actors ask what those ask, and suit the store.
-use Rattle.std.proofs.Common.{◌≡◌, ◌≤◌, List, All, subst, arith}
+use Rattle.std.proofs.Common.{◌≤◌, List, All, subst, arith}
 use Rattle.fc_blocks.specs.declared.block.ActorRead.{ActorRead}
 use Rattle.fc_prepare.specs.Items.{IsOfActor}
 use Rattle.fc_prepare.proofs.Actors.{of_actors}
