@@ -70,9 +70,10 @@ module _ {D : Type 0} where
       AreScripts scripts asked → AllAnswer limit low scripts answers → All HasEnded answers → AllAsked (map own_of (map making_of answers)) asked
   all_asked limit low [] [] [] same h ended = tt
   all_asked limit low (s ∷ ss) (x ∷ xs) (a ∷ answers) same h ended =
-      let P : List Request → Type 0 = λ rs. LeavesOf x (own_of (making_of a)) rs in
-      (subst P (ended_left limit low s a (All-head HasEnded a answers ended) h.0) (leaves limit low s a x same.0.0 same.0.1 h.0),
-      all_asked limit low ss xs answers same.1 h.1 (All-tail HasEnded a answers ended))
+      let P : List Request → Type 0 = λ rs. LeavesOf x (own_of (making_of a)) rs in (
+        subst P (ended_left limit low s a (All-head HasEnded a answers ended) h.0) (leaves limit low s a x same.0.0 same.0.1 h.0),
+        all_asked limit low ss xs answers same.1 h.1 (All-tail HasEnded a answers ended),
+      )
   all_asked limit low [] (x ∷ xs) answers same h ended = absurd same
   all_asked limit low (s ∷ ss) [] answers same h ended = absurd same
   all_asked limit low [] [] (a ∷ answers) same h ended = absurd h

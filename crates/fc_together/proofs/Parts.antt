@@ -105,9 +105,9 @@ module _ {D : Type 0} where
         let c = control_back store w first stands counted ended.last x share in
         let many : length xs ≡ length store.lanes = omega (arith, long, as_many D store.lanes) in
         let found = λ (i : ℕ) (x0 y : StorePart D) (a : get_elem? (lane_parts {D = D} store.lanes) i ≡ some x0) (b : get_elem? xs i ≡ some y).
-            let l = lane_at store.lanes i x0 a in
-            let P : StorePart D → Type 0 = λ z. HasShare z ended.last (suc i) y in
-            lane_back store w first stands counted ended.last i l.lane y (subst P l.is (ended.fit (suc i) x0 y a b)) in
+        let l = lane_at store.lanes i x0 a in
+        let P : StorePart D → Type 0 = λ z. HasShare z ended.last (suc i) y in
+        lane_back store w first stands counted ended.last i l.lane y (subst P l.is (ended.fit (suc i) x0 y a b)) in
         let ls = all_lanes store.lanes xs many found in
         let Q : StorePart D → Type 0 = λ y. HasShare (Control store.control) ended.last zero y in
         let R : ℕ → Type 0 = λ n. LeadOn (situation_of store w) n es ended.last in
