@@ -1,5 +1,5 @@
 -- A legal history tells how many entries it has, of the lanes and actors that it began with.
-use Rattle.std.proofs.Common.{◌≡◌, ℕ, ◌+◌, List, [], ◌∷◌, ◌++◌, length, Option, Some, None, refl, ◌∙◌, ap, arith}
+use Rattle.std.proofs.Common.{◌≡◌, ℕ, ◌+◌, List, [], ◌∷◌, ◌++◌, length, append_assoc, Option, Some, None, refl, ◌∙◌, ap, arith}
 use Rattle.std.proofs.lemmas.List.{length-set}
 use Rattle.fc_base.specs.declared.command.Command.{Command}
 use Rattle.fc_base.specs.declared.command.Command.TheVariants.{Mkvdisk, Rmvdisk, Write as WriteLine, Read as ReadLine, Armfault, Advance, Mkfcmap, Prestartfcmap, Startfcmap, Stopfcmap, Rmfcmap, Mkfcconsistgrp, Prestartfcconsistgrp, Startfcconsistgrp, Stopfcconsistgrp, Rmfcconsistgrp, Lsfcmap, Lsfcconsistgrp, Lsvdisk, Lsfcmapprogress, Lsfcmapdependentmaps}
@@ -12,6 +12,7 @@ use Rattle.fc_base.specs.declared.size.GrainSize.{GrainSize}
 use Rattle.fc_books.specs.Refused.{access_refused}
 use Rattle.fc_entry.specs.Picture.{grain_of_block}
 use Rattle.fc_entry.specs.declared.entry.Entry.{Entry}
+use Rattle.fc_legal.proofs.Naming.{HasMore}
 use Rattle.fc_legal.specs.Legal.{AreSteps, IsLegal}
 use Rattle.fc_legal.specs.Steps.{RequestStep, CommandIsRight, CommandStep, CommandLeft, AccessIsRefused, LaneStep}
 use Rattle.fc_legal.specs.Steps.CommandLeft.{decided, unsettled, settled_alone}
@@ -131,10 +132,11 @@ AreSteps-keeps grain w last (entry ∷ entries) steps =
       actors = rest.actors ∙ first.actors;
     }
 
--- So many entries more, of as many lanes.
+-- So many entries more, of as many lanes, and the same actors with more behind them.
 pub record Counts (more : ℕ) (w next : Whole) : Type 0 where
   pub entries : next.entries ≡ w.entries + more
   pub lanes_are : lanes next ≡ lanes w
+  pub names : HasMore w.actors next.actors
 
 pub IsLegal-keeps :
     (grain : GrainSize) (w last : Whole) (entries : List Entry) →
@@ -143,6 +145,7 @@ pub IsLegal-keeps :
 IsLegal-keeps grain w last [] legal = record {
   entries = omega (arith, ap (λ (x : Whole). x.entries) legal.named);
   lanes_are = ap lanes legal.named;
+  names = record { more = legal.more; is = ap (λ (x : Whole). x.actors) legal.named };
 }
 IsLegal-keeps grain w last (entry ∷ entries) legal =
     let named : legal.1.before ≡ record w { actors = w.actors ++ legal.1.named.more } = legal.1.named.named in
@@ -151,4 +154,11 @@ IsLegal-keeps grain w last (entry ∷ entries) legal =
     record {
       entries = omega (arith, ap (λ (x : Whole). x.entries) named, first.entries, rest.entries);
       lanes_are = rest.lanes_are ∙ first.lanes_are ∙ ap lanes named;
+      names = record {
+        more = legal.1.named.more ++ rest.names.more;
+        is =
+            rest.names.is
+            ∙ ap (λ names. names ++ rest.names.more) (first.actors ∙ ap (λ (x : Whole). x.actors) named)
+            ∙ append_assoc w.actors legal.1.named.more rest.names.more;
+      };
     }

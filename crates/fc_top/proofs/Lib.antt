@@ -3,6 +3,7 @@ pub mod WordLemmas
 pub mod Kept
 pub mod Statuses
 pub mod SessionOver
+pub mod Cutting
 pub mod LineAnswers
 pub mod OwnerLemmas
 pub mod Backs
@@ -10,6 +11,7 @@ pub mod CompleteLemmas
 pub mod PlainLemmas
 pub mod QuietSource
 pub mod SessionLength
+pub mod DrillLines
 pub mod DrillLemmas
 pub mod TheoremLemmas
 pub mod OutcomeLemmas

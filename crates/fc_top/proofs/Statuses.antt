@@ -15,10 +15,11 @@ ended_by status.LogFull = Some ended.LogFull
 ended_by status.WriteFault = Some ended.WriteFault
 ended_by status.NoMemory = Some ended.NoMemory
 ended_by status.Usage = None
-ended_by status.Unended = None
+ended_by status.Unended = Some ended.Unended
 
 ended_of : (e : Ended) → ended_by (status_of e) ≡ Some e
 ended_of ended.Done = refl
+ended_of ended.Unended = refl
 ended_of ended.ReadFault = refl
 ended_of ended.TooLong = refl
 ended_of ended.LogFull = refl

@@ -1,10 +1,12 @@
 -- Who answers the lines of a session, as the top knows him: he stands for what is told of the history.
-use Rattle.std.specs.Prelude.{◌≡◌, List}
+use Rattle.std.specs.Prelude.{◌≡◌, List, Option, is_some}
 use Rattle.fc_base.specs.declared.size.GrainSize.{GrainSize}
+use Rattle.fc_blocks.specs.Blocks.{Opened}
+use Rattle.fc_blocks.specs.Segments.{cut}
 use Rattle.fc_entry.specs.HistoryState.{HistoryState}
 use Rattle.fc_grains.specs.Grains.{pool_of, silent_of}
 use Rattle.fc_legal.specs.Added.{IsOf}
-use Rattle.fc_legal.specs.Run.{IsRun, IsPartialRun, WantsMore, lines_alone}
+use Rattle.fc_legal.specs.Run.{IsRun, IsPartialRun, WantsMore}
 use Rattle.fc_legal.specs.Whole.{Whole}
 use Rattle.fc_mdisk.specs.Disk.{DiskState}
 use Rattle.fc_run.specs.Runs.{Runs}
@@ -23,12 +25,15 @@ pub record Reaches (Stands : HistoryState → Whole → Type 0) (history : Histo
   pub stands : Stands history last
   pub holds : Holds last
 
--- For want of memory he needn't stand for it, and this is kept.
-abbrev pub runs_of : GrainSize → Whole → (HistoryState → Whole → Type 0) → Type 0 → Runs
-runs_of grain w Stands Kept = record {
-  Whole = λ lines history. Reaches Stands history (λ last. IsRun grain reading w (lines_alone lines) history.entries last);
-  Full = λ lines history. Reaches Stands history (λ last. WantsMore grain reading w (lines_alone lines) history.entries last);
-  Front = λ lines history. Reaches (λ told w. Kept) history (λ last. IsPartialRun grain reading w (lines_alone lines) history.entries last);
+-- The block that is open after the lines is the one that he is reading. For want of memory he needn't stand for what is told, and
+-- this is kept.
+abbrev pub runs_of : GrainSize → Whole → Option Opened → (HistoryState → Whole → Type 0) → Type 0 → Runs
+runs_of grain w reader Stands Kept = record {
+  Whole = λ lines history.
+      Reaches Stands history (λ last. IsRun grain reading w (cut lines).segments history.entries last × ((cut lines).open_block ≡ reader));
+  Full = λ lines history. Reaches Stands history (λ last. WantsMore grain reading w (cut lines).segments history.entries last);
+  Front = λ lines history. Reaches (λ told w. Kept) history (λ last. IsPartialRun grain reading w (cut lines).segments history.entries last);
+  is_open = λ lines. is_some (cut lines).open_block;
 }
 
 -- At the end of a session he stands so, or, for want of memory, this is kept.
@@ -55,5 +60,7 @@ pub record IsUp (start : Start) (store : StoreView) (history : HistoryState) (la
 abbrev pub HasDisks : Start → StoreView → Type 0
 HasDisks start store = disks_in store.lanes ≡ pool_of start.disks
 
-abbrev pub store_runs : StoreView → Start → Runs
-store_runs store start = runs_of start.grain (first_told start.disks) (λ history last. IsUp start store history last) (HasDisks start store)
+-- A store, with the block that is being read.
+abbrev pub store_runs : Option Opened → StoreView → Start → Runs
+store_runs reader store start =
+    runs_of start.grain (first_told start.disks) reader (λ history last. IsUp start store history last) (HasDisks start store)

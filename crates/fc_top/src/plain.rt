@@ -13,11 +13,13 @@ ghost use Rattle.fc_top.specs.Call.{empty};
 ghost use Rattle.fc_top.specs.DisksBack.{first_told};
 ghost use Rattle.fc_top.specs.PlainEnds.{PlainEnds};
 
+use crate::gate::Gate;
 use crate::owner::Owner;
 use crate::status::Status;
 use fc_base::name::Name;
 use fc_base::outcome::NoMemory;
 use fc_base::size::GrainSize;
+use fc_blocks::reader::BlockReader;
 use fc_entry::history::History;
 use fc_io::sink::Sink;
 use fc_io::source::Source;
@@ -27,6 +29,8 @@ use fc_run::session::run_session;
 use fc_store::store::Store;
 use std::alloc::Global;
 use std::mem;
+use std::sync::Wait;
+use std::thread::Threads;
 
 /// Gives `main` its name: actor 0.
 fn add_main(alloc: Global, history: &mut History) -> Result<(), NoMemory>
@@ -45,13 +49,15 @@ fn add_main(alloc: Global, history: &mut History) -> Result<(), NoMemory>
 }
 
 /// Runs a session over a store, and gives its disks into room that was taken for them.
-fn run_store<S: Source, K: Sink, D: Mdisk>(
+fn run_store<R: Threads + Wait + Sync, S: Source, K: Sink, D: Mdisk + Send, G: Gate>(
+    rt: &R,
     alloc: Global,
     form: Form,
     store: Store<D>,
     source: &mut S,
     sink: &mut K,
     disks: &mut Vec<D>,
+    gate: &G,
     history: &mut History,
 ) -> Status
     requires stands { (old : List DiskState) × StandsFor store (first_told old) × (disks_in store.lanes ≡ pool_of old) × (silent_of old ≡ 0 → AreQuiet store.lanes) }
@@ -74,21 +80,29 @@ fn run_store<S: Source, K: Sink, D: Mdisk>(
     ensures limit { length history.new.entries ≤ 262144 }
     ensures ran { result ≢ Status.Usage }
 {
-    let mut owner = Owner { alloc, store };
+    let mut owner = Owner {
+        rt,
+        alloc,
+        gate,
+        reader: BlockReader::new(),
+        store,
+    };
     let ended = run_session(alloc, form, source, sink, &mut owner, history);
-    let Owner { alloc: _, store } = owner;
+    let Owner { store, .. } = owner;
     store.give_disks(disks);
     Status::of(ended)
 }
 
 /// Runs a session over disks with grains of this size, and writes its history in this form.
-pub(crate) fn run_plain<S: Source, K: Sink, D: Mdisk>(
+pub(crate) fn run_plain<R: Threads + Wait + Sync, S: Source, K: Sink, D: Mdisk + Send, G: Gate>(
+    rt: &R,
     alloc: Global,
     form: Form,
     grain: GrainSize,
     source: &mut S,
     sink: &mut K,
     disks: &mut Vec<D>,
+    gate: &G,
     history: &mut History,
 ) -> Status
     requires empty { history.old ≡ empty }
@@ -119,7 +133,7 @@ pub(crate) fn run_plain<S: Source, K: Sink, D: Mdisk>(
     };
     let taken = mem::replace(disks, room);
     match Store::new(alloc, grain, taken) {
-        Ok(store) => run_store(alloc, form, store, source, sink, disks, history),
+        Ok(store) => run_store(rt, alloc, form, store, source, sink, disks, gate, history),
         Err(NoMemory) => Status::NoMemory,
     }
 }

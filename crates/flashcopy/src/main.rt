@@ -80,6 +80,7 @@ fn main(rt: HostRuntime) -> ExitCode {
     };
     let mut history = History::new(alloc);
     let status = flashcopy(
+        &rt,
         alloc,
         &words,
         &mut source,

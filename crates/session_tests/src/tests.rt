@@ -48,6 +48,7 @@ const PIECE: usize = 211;
 fn the_first_volume_is_made_written_and_read(rt: HostRuntime) -> Result<(), AllocError> {
     let alloc = rt.alloc();
     let outcome = run(
+        &rt,
         alloc,
         FIRST_VOLUME.lines,
         65_536,
@@ -63,7 +64,7 @@ fn the_first_volume_is_made_written_and_read(rt: HostRuntime) -> Result<(), Allo
 #[test]
 fn nothing_comes_of_nothing(rt: HostRuntime) -> Result<(), AllocError> {
     let alloc = rt.alloc();
-    let outcome = run(alloc, b"", 5, Vec::new(alloc), Vec::new(alloc))?;
+    let outcome = run(&rt, alloc, b"", 5, Vec::new(alloc), Vec::new(alloc))?;
     assert!(rt; outcome.status == Status::Done);
     assert_eq!(rt;
         (outcome.written.len(), outcome.entries, outcome.disks),
@@ -75,7 +76,7 @@ fn nothing_comes_of_nothing(rt: HostRuntime) -> Result<(), AllocError> {
 #[test]
 fn a_volume_takes_its_disks_for_good(rt: HostRuntime) -> Result<(), AllocError> {
     let alloc = rt.alloc();
-    let outcome = run(alloc, ONE_VOLUME, 65_536, Vec::new(alloc), Vec::new(alloc))?;
+    let outcome = run(&rt, alloc, ONE_VOLUME, 65_536, Vec::new(alloc), Vec::new(alloc))?;
     assert!(rt; outcome.status == Status::Done);
     assert!(rt; outcome.written.as_slice() == ONE_VOLUME_TEXT);
     assert_eq!(rt; (outcome.entries, outcome.disks), (12, DISKS));
@@ -86,6 +87,7 @@ fn a_volume_takes_its_disks_for_good(rt: HostRuntime) -> Result<(), AllocError> 
 fn no_volume_is_made_without_disks(rt: HostRuntime) -> Result<(), AllocError> {
     let alloc = rt.alloc();
     let outcome = run_over(
+        &rt,
         alloc,
         flat_disks(alloc, 0)?,
         "64",
@@ -106,6 +108,7 @@ fn the_fourth_take_fails_before_the_first_line_has_ended(
 ) -> Result<(), AllocError> {
     let alloc = rt.alloc();
     let outcome = run(
+        &rt,
         alloc,
         FIRST_VOLUME.lines,
         5,
@@ -124,6 +127,7 @@ fn the_fourth_take_fails_before_the_first_line_has_ended(
 fn the_first_put_fails(rt: HostRuntime) -> Result<(), AllocError> {
     let alloc = rt.alloc();
     let outcome = run(
+        &rt,
         alloc,
         FIRST_VOLUME.lines,
         65_536,
@@ -144,6 +148,7 @@ fn nothing_is_taken_after_a_failed_put(rt: HostRuntime) -> Result<(), AllocError
     let alloc = rt.alloc();
     // of pieces of five bytes none ends two lines, so the first answer is put before the second line ends
     let outcome = run(
+        &rt,
         alloc,
         FIRST_VOLUME.lines,
         5,
@@ -163,7 +168,7 @@ fn pieces_of_any_size_give_one_history(rt: HostRuntime) -> Result<(), AllocError
     let wanted = all_answers(alloc, &lines)?;
     assert_eq!(rt; wanted.entries, 14);
     for piece in [1, 7, 4_097, 65_536] {
-        let outcome = run(alloc, &bytes, piece, Vec::new(alloc), Vec::new(alloc))?;
+        let outcome = run(&rt, alloc, &bytes, piece, Vec::new(alloc), Vec::new(alloc))?;
         assert!(rt; outcome.status == Status::Done);
         assert!(rt; outcome.written.as_slice() == wanted.text.as_slice());
         assert_eq!(rt; (outcome.entries, outcome.disks), (wanted.entries, DISKS));
@@ -180,14 +185,14 @@ fn each_take_fails_once(rt: HostRuntime) -> Result<(), AllocError> {
     let takes = bytes.len().div_ceil(PIECE);
     for before in 0..takes + 1 {
         let failing = vec![in alloc; before as u64 + 1]?;
-        let outcome = run(alloc, &bytes, PIECE, failing, Vec::new(alloc))?;
+        let outcome = run(&rt, alloc, &bytes, PIECE, failing, Vec::new(alloc))?;
         let wanted = answers_within(alloc, &lines, PIECE.saturating_mul(before))?;
         assert!(rt; outcome.status == Status::ReadFault);
         assert_eq!(rt; (outcome.entries, outcome.disks), (wanted.entries, DISKS));
         assert!(rt; outcome.written.as_slice() == wanted.text.as_slice());
     }
     let failing = vec![in alloc; takes as u64 + 2]?;
-    let outcome = run(alloc, &bytes, PIECE, failing, Vec::new(alloc))?;
+    let outcome = run(&rt, alloc, &bytes, PIECE, failing, Vec::new(alloc))?;
     assert!(rt; outcome.status == Status::Done);
     assert_eq!(rt; outcome.entries, 14);
     Ok(())
