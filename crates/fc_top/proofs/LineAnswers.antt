@@ -1,5 +1,5 @@
 -- A line more: what was answered goes on to be a run of lines, and the history only grows.
-use Rattle.std.proofs.Common.{◌≡◌, ℕ, ◌+◌, ◌<◌, List, [], ◌∷◌, ◌++◌, codes, length, refl, sym, ◌∙◌, ap, subst, arith, Result, Ok, Err, Option, Some, None, append-nil}
+use Rattle.std.proofs.Common.{◌≡◌, ℕ, suc, ◌<◌, List, [], ◌∷◌, ◌++◌, codes, length, refl, sym, ◌∙◌, ap, subst, arith, Result, Ok, Err, Option, Some, None, append-nil}
 use Rattle.std.specs.Option.{option_map}
 use Rattle.std.specs.List.{All}
 use Rattle.std.proofs.lemmas.List.Elements.{All-append, All-cons, All-nil}
@@ -184,7 +184,7 @@ pub names_stay :
     HasNames new
 names_stay grain read a w names old new alone told main some named =
     let actors : new.actors ≡ old.actors = actors_stay grain read a w old new alone told some in
-    let some_name : length old.actors ≡ 1 + length names = ap length main in
+    let some_name : length old.actors ≡ suc (length names) = ap length main in
     let P : List (List ℕ) → Type 0 = λ names. All (λ (entry : Entry). entry.actor < length names) new.entries in
     let Q : List Entry → Type 0 = λ es. All (λ (entry : Entry). entry.actor < length old.actors) es in
     subst P (sym actors)
