@@ -32,16 +32,16 @@ use Rattle.fc_top.proofs.Kept.{AreSteps-keeps}
 
 -- A line was taken, which ends these segments.
 pub line_leaves :
-    (answer : Result (Unit {0}) Stop) (grain : GrainSize) (w mid : Whole) (reader : Option Opened) (Stands : HistoryState → Whole → Type 0) (Kept : Type 0) (Now : Whole → Type 0)
+    (answer : Result (Unit {0}) Stop) (grain : GrainSize) (w mid : Whole) (GoesOn : Option Opened → Type 0) (Stands : HistoryState → Whole → Type 0) (Kept : Type 0) (Now : Whole → Type 0)
     (lines more : List (List ℕ)) (ended : List Segment) (old new : HistoryState) →
     (cut more).segments ≡ (cut lines).segments ++ ended →
-    (cut more).open_block ≡ reader →
+    GoesOn (cut more).open_block →
     IsRun grain reading w (cut lines).segments old.entries mid →
     Answered answer Now (session_rules grain reading) (Session ended) mid old new →
     StaysUp answer ((last : Whole) → Now last → Stands new last) →
     Kept →
-    LineLeaves answer (runs_of grain w reader Stands Kept) more new
-line_leaves (Ok done) grain w mid reader Stands Kept Now lines more ended old new segments open_block run answered up kept =
+    LineLeaves answer (runs_of grain w GoesOn Stands Kept) more new
+line_leaves (Ok done) grain w mid GoesOn Stands Kept Now lines more ended old new segments goes_on run answered up kept =
     let P : List Entry → Type 0 = λ es. IsRun grain reading w (cut more).segments es answered.0 in
     let Q : List Segment → Type 0 = λ segs. IsRun grain reading w segs (old.entries ++ answered.2.more) answered.0 in
     record {
@@ -51,10 +51,10 @@ line_leaves (Ok done) grain w mid reader Stands Kept Now lines more ended old ne
       holds = (
         subst P (sym answered.2.entries)
             (subst Q (sym segments) (IsRun-append grain reading w mid answered.0 (cut lines).segments ended old.entries answered.2.more run answered.2.are)),
-        open_block,
+        goes_on,
       );
     }
-line_leaves (Err LogFull) grain w mid reader Stands Kept Now lines more ended old new segments open_block run answered up kept =
+line_leaves (Err LogFull) grain w mid GoesOn Stands Kept Now lines more ended old new segments goes_on run answered up kept =
     let at = answered.1 in
     let P : List Entry → Type 0 = λ es. WantsMore grain reading w (cut more).segments es at.0 in
     let Q : List Segment → Type 0 = λ segs. WantsMore grain reading w segs (old.entries ++ at.2.more) at.0 in (
@@ -67,7 +67,7 @@ line_leaves (Err LogFull) grain w mid reader Stands Kept Now lines more ended ol
       },
       answered.0,
     )
-line_leaves (Err NoMemory) grain w mid reader Stands Kept Now lines more ended old new segments open_block run answered up kept =
+line_leaves (Err NoMemory) grain w mid GoesOn Stands Kept Now lines more ended old new segments goes_on run answered up kept =
     let P : List Entry → Type 0 = λ es. IsPartialRun grain reading w (cut more).segments es answered.0 in
     let Q : List Segment → Type 0 = λ segs. IsPartialRun grain reading w segs (old.entries ++ answered.2.more) answered.0 in
     record {

@@ -1,5 +1,5 @@
 -- A line is taken, the segments that it ends are answered, and the history goes on to be a run of the lines.
-use Rattle.std.proofs.Common.{◌≡◌, ℕ, codes, refl, List, [], ◌∷◌, ◌++◌, sym, ◌∙◌, ap, subst, Option, None, Result, Ok, Err, append-nil}
+use Rattle.std.proofs.Common.{◌≡◌, ℕ, ◌≤◌, length, codes, refl, List, [], ◌∷◌, ◌++◌, sym, ◌∙◌, ap, subst, Option, None, Result, Ok, Err, append-nil}
 use Rattle.std.specs.List.{Contains}
 use Rattle.std.proofs.lemmas.List.Elements.{Contains-push}
 use Rattle.fc_agenda.proofs.Going.{GoesSome-whole}
@@ -35,7 +35,7 @@ use Rattle.fc_top.proofs.Kept.{IsLegal-keeps}
 use Rattle.fc_top.proofs.LineAnswers.{AddsSome, adds_some, history_grows, line_leaves, names_stay}
 use Rattle.fc_top.specs.DisksBack.{first_told}
 use Rattle.fc_top.specs.Reading.{reading}
-use Rattle.fc_top.specs.StoreRuns.{HasDisks, IsUp, Start, store_runs}
+use Rattle.fc_top.specs.StoreRuns.{CanRun, HasDisks, IsBlockRun, IsUp, Start, store_runs}
 use Rattle.fc_words.specs.Lines.{line_of}
 
 -- ---- what was read
@@ -58,17 +58,21 @@ reading_of : (b : Books) (bytes : List ℕ) (read : Result Line WordFault) → l
 unfolding reading
 reading_of b bytes read is = is
 
-pub reading_line :
-    (b : Books) (before after : Option Opened) (lines : List (List ℕ)) (bytes : List ℕ) (line : Line) →
-    IsNext (Single (Read line)) before after lines bytes →
-    reading b bytes ≡ Ok line
-reading_line b before after lines bytes line next = reading_of b bytes (Ok line) (line_read line (line_of Free bytes) next.told.1)
+pub reading_line : (b : Books) (bytes : List ℕ) (line : Line) → Read line ≡ script_line (line_of Free bytes) → reading b bytes ≡ Ok line
+reading_line b bytes line is = reading_of b bytes (Ok line) (line_read line (line_of Free bytes) is)
 
-pub reading_fault :
-    (b : Books) (before after : Option Opened) (lines : List (List ℕ)) (bytes : List ℕ) (fault : WordFault) →
-    IsNext (Single (Unread fault)) before after lines bytes →
-    reading b bytes ≡ Err fault
-reading_fault b before after lines bytes fault next = reading_of b bytes (Err fault) (fault_read fault (line_of Free bytes) next.told.1)
+pub reading_fault : (b : Books) (bytes : List ℕ) (fault : WordFault) → Unread fault ≡ script_line (line_of Free bytes) → reading b bytes ≡ Err fault
+reading_fault b bytes fault is = reading_of b bytes (Err fault) (fault_read fault (line_of Free bytes) is)
+
+-- what was taken is this
+pub taken_as :
+    (taken of : Taken) (before after : Option Opened) (lines : List (List ℕ)) (line : List ℕ) →
+    taken ≡ of →
+    IsNext taken before after lines line →
+    IsNext of before after lines line
+taken_as taken of before after lines line is next =
+    let P : Taken → Type 0 = λ t. IsNext t before after lines line in
+    subst P is next
 
 -- ---- one line more
 
@@ -80,7 +84,7 @@ AnswersEnded answer store now ended old new =
 
 -- A line was taken, the segments that it ends are these, and they are answered.
 pub store_answers :
-    (answer : Result (Unit {0}) Stop) (start : Start) (before after : Option Opened) (taken : Taken) (store now : StoreView) (lines : List (List ℕ)) (line : List ℕ)
+    (Able : Type 0) (answer : Result (Unit {0}) Stop) (start : Start) (before after : Option Opened) (taken : Taken) (store now : StoreView) (lines : List (List ℕ)) (line : List ℕ)
     (ended : List Segment) (old new : HistoryState) →
     AnswersEnded answer store now ended old new →
     now.control.grain ≡ store.control.grain →
@@ -88,14 +92,14 @@ pub store_answers :
     (QuietBy old.entries store.lanes → StaysUp answer (QuietBy new.entries now.lanes)) →
     (next : IsNext taken before after lines line) →
     next.ended ≡ ended →
-    (store_runs before store start).Whole lines old →
-    LineLeaves answer (store_runs after now start) (lines ++ line ∷ []) new
-store_answers answer start before after taken store now lines line ended old new answers grain disks quiet next is whole =
+    (store_runs Able before store start).Whole lines old →
+    LineLeaves answer (store_runs Able after now start) (lines ++ line ∷ []) new
+store_answers Able answer start before after taken store now lines line ended old new answers grain disks quiet next is whole =
     let up : IsUp start store old whole.last = whole.stands in
     let P : GrainSize → Type 0 = λ g. Answered answer (StandsFor now) (session_rules g reading) (Session ended) whole.last old new in
-    line_leaves answer start.grain (first_told start.disks) whole.last after (λ history last. IsUp start now history last) (HasDisks start now) (StandsFor now)
+    line_leaves answer start.grain (first_told start.disks) whole.last (λ open_block. (open_block ≡ after) × Able) (λ history last. IsUp start now history last) (HasDisks start now) (StandsFor now)
     lines (lines ++ line ∷ []) ended old new
-    (next.segments ∙ ap (λ segs. (cut lines).segments ++ segs) is) next.open_block
+    (next.segments ∙ ap (λ segs. (cut lines).segments ++ segs) is) (next.open_block, whole.holds.1.1)
     whole.holds.0 (subst P up.grain_is (answers whole.last (up.stands, whole.told)))
     (goes_on answer
     (λ calm last stands. record {
@@ -114,10 +118,10 @@ store_answers answer start before after taken store now lines line ended old new
 
 -- Memory was wanted to read the line: nothing of it is answered.
 pub store_starved :
-    (start : Start) (before after : Option Opened) (store : StoreView) (lines : List (List ℕ)) (line : List ℕ) (history : HistoryState) →
-    (store_runs before store start).Whole lines history →
-    (store_runs after store start).Front (lines ++ line ∷ []) history
-store_starved start before after store lines line history whole =
+    (Able : Type 0) (start : Start) (before after : Option Opened) (store : StoreView) (lines : List (List ℕ)) (line : List ℕ) (history : HistoryState) →
+    (store_runs Able before store start).Whole lines history →
+    (store_runs Able after store start).Front (lines ++ line ∷ []) history
+store_starved Able start before after store lines line history whole =
     let grain : GrainSize = start.grain in
     let w : Whole = first_told start.disks in
     let grown : HasMoreSegments (cut lines).segments (cut (lines ++ line ∷ [])).segments = cut_more lines (line ∷ []) in
@@ -133,17 +137,17 @@ store_starved start before after store lines line history whole =
 
 -- The store stands for something that is told.
 pub store_stands :
-    (start : Start) (reader : Option Opened) (store : StoreView) (lines : List (List ℕ)) (history : HistoryState) →
-    (store_runs reader store start).Whole lines history →
+    (Able : Type 0) (start : Start) (reader : Option Opened) (store : StoreView) (lines : List (List ℕ)) (history : HistoryState) →
+    (store_runs Able reader store start).Whole lines history →
     TellsSome (StandsFor store) history
-store_stands start reader store lines history whole = (whole.last, (whole.stands.stands, whole.told))
+store_stands Able start reader store lines history whole = (whole.last, (whole.stands.stands, whole.told))
 
 -- The first name is that of `main`.
 pub store_main :
-    (start : Start) (reader : Option Opened) (store : StoreView) (lines : List (List ℕ)) (history : HistoryState) →
-    (store_runs reader store start).Whole lines history →
+    (Able : Type 0) (start : Start) (reader : Option Opened) (store : StoreView) (lines : List (List ℕ)) (history : HistoryState) →
+    (store_runs Able reader store start).Whole lines history →
     (names : List (List ℕ)) × (history.actors ≡ codes "main" ∷ names)
-store_main start reader store lines history whole =
+store_main Able start reader store lines history whole =
     let w : Whole = first_told start.disks in
     let named : HasMore w.actors whole.last.actors =
     (IsLegal-keeps start.grain w whole.last history.entries
@@ -154,32 +158,32 @@ store_main start reader store lines history whole =
 
 -- What was answered adds entries.
 some_added :
-    (answer : Result (Unit {0}) Stop) (start : Start) (reader : Option Opened) (store now : StoreView) (lines : List (List ℕ)) (ended : List Segment) (old new : HistoryState) →
+    (Able : Type 0) (answer : Result (Unit {0}) Stop) (start : Start) (reader : Option Opened) (store now : StoreView) (lines : List (List ℕ)) (ended : List Segment) (old new : HistoryState) →
     AnswersEnded answer store now ended old new →
-    (whole : (store_runs reader store start).Whole lines old) →
+    (whole : (store_runs Able reader store start).Whole lines old) →
     AddsSome store.control.grain reading (Session ended) whole.last old new
-some_added answer start reader store now lines ended old new answers whole =
+some_added Able answer start reader store now lines ended old new answers whole =
     adds_some answer store.control.grain reading (Session ended) whole.last (StandsFor now) old new (answers whole.last (whole.stands.stands, whole.told))
 
 pub line_grows :
-    (answer : Result (Unit {0}) Stop) (start : Start) (reader : Option Opened) (store now : StoreView) (lines : List (List ℕ)) (line : List ℕ) (old new : HistoryState) →
+    (Able : Type 0) (answer : Result (Unit {0}) Stop) (start : Start) (reader : Option Opened) (store now : StoreView) (lines : List (List ℕ)) (line : List ℕ) (old new : HistoryState) →
     AnswersEnded answer store now (single line ∷ []) old new →
-    (store_runs reader store start).Whole lines old →
+    (store_runs Able reader store start).Whole lines old →
     GrowsTo old new
-line_grows answer start reader store now lines line old new answers whole =
+line_grows Able answer start reader store now lines line old new answers whole =
     history_grows store.control.grain reading (Session (single line ∷ [])) whole.last old new tt whole.told
-    (some_added answer start reader store now lines (single line ∷ []) old new answers whole)
+    (some_added Able answer start reader store now lines (single line ∷ []) old new answers whole)
 
 pub line_named :
-    (answer : Result (Unit {0}) Stop) (start : Start) (reader : Option Opened) (store now : StoreView) (lines : List (List ℕ)) (line : List ℕ) (old new : HistoryState) →
+    (Able : Type 0) (answer : Result (Unit {0}) Stop) (start : Start) (reader : Option Opened) (store now : StoreView) (lines : List (List ℕ)) (line : List ℕ) (old new : HistoryState) →
     AnswersEnded answer store now (single line ∷ []) old new →
-    (store_runs reader store start).Whole lines old →
+    (store_runs Able reader store start).Whole lines old →
     HasNames old →
     HasNames new
-line_named answer start reader store now lines line old new answers whole =
-    let main = store_main start reader store lines old whole in
+line_named Able answer start reader store now lines line old new answers whole =
+    let main = store_main Able start reader store lines old whole in
     names_stay store.control.grain reading (Session (single line ∷ [])) whole.last main.0 old new tt whole.told main.1
-    (some_added answer start reader store now lines (single line ∷ []) old new answers whole)
+    (some_added Able answer start reader store now lines (single line ∷ []) old new answers whole)
 
 -- A line that ends no segment has no answer.
 pub nothing_answered : (store : StoreView) (history : HistoryState) → AnswersEnded (Ok tt) store store [] history history
@@ -191,44 +195,50 @@ nothing_answered store history = λ w told. (
 
 -- ---- a block
 
-pub block_grows :
-    (answer : Result (Unit {0}) Stop) (start : Start) (reader : Option Opened) (store now : StoreView) (lines : List (List ℕ)) (ended : List Segment)
-    (names : List (List ℕ)) (old new : HistoryState) →
-    AnswersEnded answer store now ended old new →
-    new.actors ≡ old.actors ++ names →
-    (store_runs reader store start).Whole lines old →
-    GrowsTo old new
-block_grows answer start reader store now lines ended names old new answers named whole =
-    let some = some_added answer start reader store now lines ended old new answers whole in
-    record { names = names; entries = some.adds.more; actors_are = named; entries_are = some.adds.entries }
+pub can_run :
+    (Able : Type 0) (start : Start) (before after : Option Opened) (store : StoreView) (lines all : List (List ℕ)) (line : List ℕ) (history : HistoryState) (block : BlockRead) →
+    (store_runs Able before store start).Whole lines history →
+    length history.entries ≤ 262144 →
+    IsNext (Block block) before after all line →
+    CanRun store history block
+can_run Able start before after store lines all line history block whole room next =
+    let P : List Segment → Type 0 = λ segs. Contains segs (together block) in
+    record {
+      stands = store_stands Able start before store lines history whole;
+      room = room;
+      main = store_main Able start before store lines history whole;
+      read = (
+        all ++ line ∷ [],
+        subst P (sym (next.segments ∙ ap (λ segs. (cut all).segments ++ segs) next.told)) (Contains-push (cut all).segments (together block)),
+      );
+    }
 
--- A block that was read stands among the segments of the lines.
-pub block_read :
-    (before after : Option Opened) (lines : List (List ℕ)) (line : List ℕ) (block : BlockRead) →
-    IsNext (Block block) before after lines line →
-    (all : List (List ℕ)) × Contains (cut all).segments (together block)
-block_read before after lines line block next =
-    let P : List Segment → Type 0 = λ segs. Contains segs (together block) in (
-      lines ++ line ∷ [],
-      subst P (sym (next.segments ∙ ap (λ segs. (cut lines).segments ++ segs) next.told)) (Contains-push (cut lines).segments (together block)),
-    )
+pub block_grows :
+    (Able : Type 0) (answer : Result (Unit {0}) Stop) (start : Start) (reader : Option Opened) (store now : StoreView) (lines : List (List ℕ)) (block : BlockRead) (old new : HistoryState) →
+    IsBlockRun answer store now block old new →
+    (store_runs Able reader store start).Whole lines old →
+    GrowsTo old new
+block_grows Able answer start reader store now lines block old new ran whole =
+    let some = some_added Able answer start reader store now lines (together block ∷ []) old new ran.answered whole in
+    record { names = ran.names.0; entries = some.adds.more; actors_are = ran.names.1; entries_are = some.adds.entries }
 
 -- ---- the first line
 
 pub store_begins :
-    (start : Start) (store : StoreView) (history : HistoryState) →
+    (Able : Type 0) (start : Start) (store : StoreView) (history : HistoryState) →
+    Able →
     history ≡ record { actors = codes "main" ∷ []; entries = [] } →
     store.control.grain ≡ start.grain →
     StandsFor store (first_told start.disks) →
     disks_in store.lanes ≡ pool_of start.disks →
     (silent_of start.disks ≡ 0 → AreQuiet store.lanes) →
-    (store_runs None store start).Whole [] history
-store_begins start store history is grain stands disks quiet =
-    let P : HistoryState → Type 0 = λ h. (store_runs None store start).Whole [] h in
+    (store_runs Able None store start).Whole [] history
+store_begins Able start store history able is grain stands disks quiet =
+    let P : HistoryState → Type 0 = λ h. (store_runs Able None store start).Whole [] h in
     subst P (sym is)
     record {
       last = first_told start.disks;
       told = record { actors = refl; entries = refl };
       stands = record { stands = stands; grain_is = grain; disks = disks; quiet = λ told none. quiet told };
-      holds = (IsRun-nil start.grain reading (first_told start.disks), refl);
+      holds = (IsRun-nil start.grain reading (first_told start.disks), (refl, able));
     }

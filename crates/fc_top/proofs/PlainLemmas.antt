@@ -32,16 +32,16 @@ ComeBack grain call Stands =
     DisksAfter call.status call.disks call.disks' call.history.entries last
 
 pub plain_ends :
-    (form : Form) (grain : GrainSize) (source source' : SourceState) (call : Call) (e : Ended) (reader : Option Opened) (Stands : HistoryState → Whole → Type 0) (Kept : Type 0) →
+    (form : Form) (grain : GrainSize) (source source' : SourceState) (call : Call) (e : Ended) (GoesOn : Option Opened → Type 0) (Stands : HistoryState → Whole → Type 0) (Kept : Type 0) →
     ((history : HistoryState) (last : Whole) → Stands history last → Kept) →
     call.status ≡ status_of e →
-    SessionEnds (session_of e form source source' call) (runs_of grain (first_told call.disks) reader Stands Kept) →
+    SessionEnds (session_of e form source source' call) (runs_of grain (first_told call.disks) GoesOn Stands Kept) →
     length call.history.entries ≤ 262144 →
     ComeBack grain call (λ last. StandsOr e (Stands call.history last) Kept) →
     PlainEnds form grain source source' call
-plain_ends form grain source source' call e reader Stands Kept keeps is ends few back =
+plain_ends form grain source source' call e GoesOn Stands Kept keeps is ends few back =
     let over : Over grain (first_told call.disks) Stands Kept e (session_of e form source source' call) ends.bytes =
-    session_over grain (first_told call.disks) reader Stands Kept e (session_of e form source source' call) ends.bytes keeps ends.ends in
+    session_over grain (first_told call.disks) GoesOn Stands Kept e (session_of e form source source' call) ends.bytes keeps ends.ends in
     let disks = back over.last over.legal over.stands in
     record {
       last = over.last;
@@ -90,14 +90,14 @@ starved_ends form grain source source' call is same_source same_sink none named 
 
 -- The store has the disks that were handed in, however the session ended.
 pub session_disks :
-    (start : Start) (reader : Option Opened) (store : StoreView) (s : Session) →
-    SessionEnds s (store_runs reader store start) →
+    (Able : Type 0) (start : Start) (reader : Option Opened) (store : StoreView) (s : Session) →
+    SessionEnds s (store_runs Able reader store start) →
     HasDisks start store
-session_disks start reader store s ends =
+session_disks Able start reader store s ends =
     let Stands : HistoryState → Whole → Type 0 = λ history last. IsUp start store history last in
     let Kept : Type 0 = HasDisks start store in
     let over : Over start.grain (first_told start.disks) Stands Kept s.ended s ends.bytes =
-    session_over start.grain (first_told start.disks) reader Stands Kept s.ended s ends.bytes (λ history last up. up.disks) ends.ends in
+    session_over start.grain (first_told start.disks) (λ open_block. (open_block ≡ reader) × Able) Stands Kept s.ended s ends.bytes (λ history last up. up.disks) ends.ends in
     kept_of s.ended (Stands s.history over.last) Kept (λ up. up.disks) over.stands
 
 -- `main` has its name, and nothing is answered yet.

@@ -44,18 +44,18 @@ first_taken source bytes Holds Of taken holds = record {
 
 -- A call of the sink failed.
 write_fault :
-    (grain : GrainSize) (w : Whole) (reader : Option Opened) (Stands : HistoryState → Whole → Type 0) (Kept : Type 0) (s : Session) (bytes : List ℕ)
-    (ends : EndsAs ended.WriteFault s (runs_of grain w reader Stands Kept) bytes) →
-    (runs_of grain w reader Stands Kept).Whole ends.2.of.first s.history ⊎ (runs_of grain w reader Stands Kept).Full ends.2.of.first s.history →
+    (grain : GrainSize) (w : Whole) (GoesOn : Option Opened → Type 0) (Stands : HistoryState → Whole → Type 0) (Kept : Type 0) (s : Session) (bytes : List ℕ)
+    (ends : EndsAs ended.WriteFault s (runs_of grain w GoesOn Stands Kept) bytes) →
+    (runs_of grain w GoesOn Stands Kept).Whole ends.2.of.first s.history ⊎ (runs_of grain w GoesOn Stands Kept).Full ends.2.of.first s.history →
     Over grain w Stands Kept ended.WriteFault s bytes
-write_fault grain w reader Stands Kept s bytes ends (inl at) = record {
+write_fault grain w GoesOn Stands Kept s bytes ends (inl at) = record {
   last = at.last;
   ends = (ends.0, ends.1, first_taken s.source' bytes _ _ ends.2 (inl at.holds.0), ends.3);
   legal = IsLegal-run grain reading w at.last (cut ends.2.of.first).segments s.history.entries at.holds.0;
   told = at.told;
   stands = at.stands;
 }
-write_fault grain w reader Stands Kept s bytes ends (inr at) = record {
+write_fault grain w GoesOn Stands Kept s bytes ends (inr at) = record {
   last = at.last;
   ends = (ends.0, ends.1, first_taken s.source' bytes _ _ ends.2 (inr at.holds), ends.3);
   legal = IsLegal-wants grain reading w at.last (cut ends.2.of.first).segments s.history.entries at.holds;
@@ -65,19 +65,19 @@ write_fault grain w reader Stands Kept s bytes ends (inr at) = record {
 
 -- Memory was wanted.
 starved :
-    (grain : GrainSize) (w : Whole) (reader : Option Opened) (Stands : HistoryState → Whole → Type 0) (Kept : Type 0) (s : Session) (bytes : List ℕ)
+    (grain : GrainSize) (w : Whole) (GoesOn : Option Opened → Type 0) (Stands : HistoryState → Whole → Type 0) (Kept : Type 0) (s : Session) (bytes : List ℕ)
     (keeps : (history : HistoryState) (last : Whole) → Stands history last → Kept)
-    (ends : EndsAs ended.NoMemory s (runs_of grain w reader Stands Kept) bytes) →
-    (runs_of grain w reader Stands Kept).Whole ends.1.of.first s.history ⊎ (runs_of grain w reader Stands Kept).Front ends.1.of.first s.history →
+    (ends : EndsAs ended.NoMemory s (runs_of grain w GoesOn Stands Kept) bytes) →
+    (runs_of grain w GoesOn Stands Kept).Whole ends.1.of.first s.history ⊎ (runs_of grain w GoesOn Stands Kept).Front ends.1.of.first s.history →
     Over grain w Stands Kept ended.NoMemory s bytes
-starved grain w reader Stands Kept s bytes keeps ends (inl at) = record {
+starved grain w GoesOn Stands Kept s bytes keeps ends (inl at) = record {
   last = at.last;
   ends = (ends.0, first_taken s.source' bytes _ _ ends.1 (inl at.holds.0), ends.2);
   legal = IsLegal-run grain reading w at.last (cut ends.1.of.first).segments s.history.entries at.holds.0;
   told = at.told;
   stands = keeps s.history at.last at.stands;
 }
-starved grain w reader Stands Kept s bytes keeps ends (inr at) = record {
+starved grain w GoesOn Stands Kept s bytes keeps ends (inr at) = record {
   last = at.last;
   ends = (ends.0, first_taken s.source' bytes _ _ ends.1 (inr at.holds), ends.2);
   legal = IsLegal-partial grain reading w at.last (cut ends.1.of.first).segments s.history.entries at.holds;
@@ -86,11 +86,11 @@ starved grain w reader Stands Kept s bytes keeps ends (inr at) = record {
 }
 
 pub session_over :
-    (grain : GrainSize) (w : Whole) (reader : Option Opened) (Stands : HistoryState → Whole → Type 0) (Kept : Type 0) (e : Ended) (s : Session) (bytes : List ℕ) →
+    (grain : GrainSize) (w : Whole) (GoesOn : Option Opened → Type 0) (Stands : HistoryState → Whole → Type 0) (Kept : Type 0) (e : Ended) (s : Session) (bytes : List ℕ) →
     ((history : HistoryState) (last : Whole) → Stands history last → Kept) →
-    EndsAs e s (runs_of grain w reader Stands Kept) bytes →
+    EndsAs e s (runs_of grain w GoesOn Stands Kept) bytes →
     Over grain w Stands Kept e s bytes
-session_over grain w reader Stands Kept ended.Done s bytes keeps ends =
+session_over grain w GoesOn Stands Kept ended.Done s bytes keeps ends =
     let at = ends.2 in
     record {
       last = at.last;
@@ -99,7 +99,7 @@ session_over grain w reader Stands Kept ended.Done s bytes keeps ends =
       told = at.told;
       stands = at.stands;
     }
-session_over grain w reader Stands Kept ended.Unended s bytes keeps ends =
+session_over grain w GoesOn Stands Kept ended.Unended s bytes keeps ends =
     let at = ends.2 in
     record {
       last = at.last;
@@ -108,7 +108,7 @@ session_over grain w reader Stands Kept ended.Unended s bytes keeps ends =
       told = at.told;
       stands = at.stands;
     }
-session_over grain w reader Stands Kept ended.ReadFault s bytes keeps ends =
+session_over grain w GoesOn Stands Kept ended.ReadFault s bytes keeps ends =
     let at = ends.2 in
     record {
       last = at.last;
@@ -117,7 +117,7 @@ session_over grain w reader Stands Kept ended.ReadFault s bytes keeps ends =
       told = at.told;
       stands = at.stands;
     }
-session_over grain w reader Stands Kept ended.TooLong s bytes keeps ends =
+session_over grain w GoesOn Stands Kept ended.TooLong s bytes keeps ends =
     let at = ends.4 in
     record {
       last = at.last;
@@ -126,7 +126,7 @@ session_over grain w reader Stands Kept ended.TooLong s bytes keeps ends =
       told = at.told;
       stands = at.stands;
     }
-session_over grain w reader Stands Kept ended.LogFull s bytes keeps ends =
+session_over grain w GoesOn Stands Kept ended.LogFull s bytes keeps ends =
     let at = ends.1.of.holds in
     record {
       last = at.last;
@@ -135,8 +135,8 @@ session_over grain w reader Stands Kept ended.LogFull s bytes keeps ends =
       told = at.told;
       stands = at.stands;
     }
-session_over grain w reader Stands Kept ended.WriteFault s bytes keeps ends = write_fault grain w reader Stands Kept s bytes ends ends.2.of.holds
-session_over grain w reader Stands Kept ended.NoMemory s bytes keeps ends = starved grain w reader Stands Kept s bytes keeps ends ends.1.of.holds
+session_over grain w GoesOn Stands Kept ended.WriteFault s bytes keeps ends = write_fault grain w GoesOn Stands Kept s bytes ends ends.2.of.holds
+session_over grain w GoesOn Stands Kept ended.NoMemory s bytes keeps ends = starved grain w GoesOn Stands Kept s bytes keeps ends ends.1.of.holds
 
 -- This is kept in any case.
 pub kept_of : (e : Ended) (stands kept : Type 0) → (stands → kept) → StandsOr e stands kept → kept

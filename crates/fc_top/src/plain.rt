@@ -12,15 +12,19 @@ ghost use Rattle.fc_stands.specs.Store.{StandsFor};
 ghost use Rattle.fc_top.specs.Call.{empty};
 ghost use Rattle.fc_top.specs.DisksBack.{first_told};
 ghost use Rattle.fc_top.specs.PlainEnds.{PlainEnds};
+ghost use Rattle.fc_top.specs.StoreRuns.{CanRun, IsBlockRun};
 
 use crate::gate::Gate;
 use crate::owner::Owner;
 use crate::status::Status;
+use fc_actors::block::run_block;
 use fc_base::name::Name;
 use fc_base::outcome::NoMemory;
 use fc_base::size::GrainSize;
+use fc_blocks::block::BlockRead;
 use fc_blocks::reader::BlockReader;
 use fc_entry::history::History;
+use fc_entry::stop::Stop;
 use fc_io::sink::Sink;
 use fc_io::source::Source;
 use fc_mdisk::mdisk::Mdisk;
@@ -80,12 +84,15 @@ fn run_store<R: Threads + Wait + Sync, S: Source, K: Sink, D: Mdisk + Send, G: G
     ensures limit { length history.new.entries ≤ 262144 }
     ensures ran { result ≢ Status.Usage }
 {
+    let run = |store: &mut Store<D>, block: BlockRead, history: &mut History| -> Result<(), Stop>
+        requires { CanRun store.old history.old block }
+        ensures { IsBlockRun result store.old store.new block history.old history.new }
+    { run_block(rt, alloc, store, block, gate, history) };
     let mut owner = Owner {
-        rt,
         alloc,
-        gate,
         reader: BlockReader::new(),
         store,
+        run,
     };
     let ended = run_session(alloc, form, source, sink, &mut owner, history);
     let Owner { store, .. } = owner;
