@@ -32,16 +32,16 @@ ComeBack grain call Stands =
     DisksAfter call.status call.disks call.disks' call.history.entries last
 
 pub plain_ends :
-    (form : Form) (grain : GrainSize) (source source' : SourceState) (call : Call) (e : Ended) (GoesOn : Option Opened → Type 0) (Stands : HistoryState → Whole → Type 0) (Kept : Type 0) →
+    (form : Form) (grain : GrainSize) (source source' : SourceState) (call : Call) (e : Ended) (Able : Type 0) (reader : Option Opened) (Stands : HistoryState → Whole → Type 0) (Kept : Type 0) →
     ((history : HistoryState) (last : Whole) → Stands history last → Kept) →
     call.status ≡ status_of e →
-    SessionEnds (session_of e form source source' call) (runs_of grain (first_told call.disks) GoesOn Stands Kept) →
+    SessionEnds (session_of e form source source' call) (runs_of grain (first_told call.disks) (λ open_block. (open_block ≡ reader) × Able) Stands Kept) →
     length call.history.entries ≤ 262144 →
     ComeBack grain call (λ last. StandsOr e (Stands call.history last) Kept) →
     PlainEnds form grain source source' call
-plain_ends form grain source source' call e GoesOn Stands Kept keeps is ends few back =
+plain_ends form grain source source' call e Able reader Stands Kept keeps is ends few back =
     let over : Over grain (first_told call.disks) Stands Kept e (session_of e form source source' call) ends.bytes =
-    session_over grain (first_told call.disks) GoesOn Stands Kept e (session_of e form source source' call) ends.bytes keeps ends.ends in
+    session_over grain (first_told call.disks) (λ open_block. (open_block ≡ reader) × Able) Stands Kept e (session_of e form source source' call) ends.bytes keeps ends.ends in
     let disks = back over.last over.legal over.stands in
     record {
       last = over.last;

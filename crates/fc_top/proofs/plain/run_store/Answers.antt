@@ -17,7 +17,7 @@ use Rattle.fc_top.proofs.plain.run_store.Goals as goal
 pub run_session-ended-requires-clause-fresh : goal.run_session-ended-requires-clause-fresh
 run_session-ended-requires-clause-fresh g c =
     let start : Start = record { grain = c.args.store.control.grain; disks = c.requires.stands.0 } in
-    (start, store_begins start c.args.store c.args.history.now c.requires.main refl c.requires.stands.1 c.requires.stands.2 c.requires.stands.3)
+    (start, store_begins _ start c.args.store c.args.history.now ? c.requires.main refl c.requires.stands.1 c.requires.stands.2 c.requires.stands.3)
 
 -- The store has its disks, however the session ended.
 pub give_disks-requires : goal.give_disks-requires
@@ -36,8 +36,8 @@ give_disks-requires g c =
     } in
     let ends =
     c.run_session-ended.ensures.ends start
-    (store_begins start c.args.store c.args.history.now c.requires.main refl c.requires.stands.1 c.requires.stands.2 c.requires.stands.3) in
-    let has : HasDisks start store = session_disks start store session ends in
+    (store_begins _ start c.args.store c.args.history.now ? c.requires.main refl c.requires.stands.1 c.requires.stands.2 c.requires.stands.3) in
+    let has : HasDisks start store = session_disks _ start c.run_session-ended.new.answers.reader store session ends in
     let same : total_of (disks_in store.lanes) ≡ total_of (disks_in c.args.store.lanes) = ap total_of (has ∙ sym c.requires.stands.2) in
     omega (arith, same, c.requires.room, ap length c.requires.none)
 
@@ -62,8 +62,8 @@ returns-clause-ends g c = λ old outer outer' stands counted calm.
       disks' = map g.D.Mdisk.meaning c.give_disks.new.into.items;
       history = history;
     } in
-    plain_ends c.args.form grain source source' call e (λ h last. IsUp start store h last) (HasDisks start store) (λ h last up. up.disks) c.of.ensures
-    (c.run_session-ended.ensures.ends start (store_begins start c.args.store c.args.history.now c.requires.main refl stands counted calm))
+    plain_ends c.args.form grain source source' call e _ c.run_session-ended.new.answers.reader (λ h last. IsUp start store h last) (HasDisks start store) (λ h last up. up.disks) c.of.ensures
+    (c.run_session-ended.ensures.ends start (store_begins _ start c.args.store c.args.history.now ? c.requires.main refl stands counted calm))
     c.run_session-ended.ensures.limit
     (λ last legal up.
     let after : DisksAfter (status_of e) old (map g.D.Mdisk.meaning given) history.entries last =

@@ -61,23 +61,23 @@ returns-in-Ok-Block-clause-answered g c = λ start lines whole.
     let is : c.in-Ok-Block.field-0 ≡ Block c.in-Ok-Block.block = let a = c.in-Ok-Block.field-0-is in let b = c.in-Ok-Block.block-is in cc in
     let next = taken_as c.in-Ok-Block.field-0 (Block c.in-Ok-Block.block) c.args.self.now.reader c.read.new.self lines c.args.line.now is
     (c.in-Ok-Block.ensures.ok lines whole.holds.1.0) in
-    let ran = c.run_one.ensures in
+    let ran = c.run_one.ensures.ran in
     store_answers (RunsBlocks {S = g.row.S.Denot} g.S.SingleLines.view (goal.F-pre g c.args.self.now.run) (goal.F-post g c.args.self.now.run)) c.run_one.result start
     c.args.self.now.reader c.read.new.self (Block c.in-Ok-Block.block) (g.S.SingleLines.view c.args.self.now.store) (g.S.SingleLines.view c.run_one.new.store) lines c.args.line.now
     (together c.in-Ok-Block.block ∷ []) c.args.history.now c.run_one.new.history
     ran.answered ran.grain ran.disks ran.quiet next next.told whole
 
 pub returns-in-Ok-Block-clause-named : goal.returns-in-Ok-Block-clause-named
-returns-in-Ok-Block-clause-named g c = c.run_one.ensures.named
+returns-in-Ok-Block-clause-named g c = c.run_one.ensures.ran.named
 
 pub returns-in-Ok-Block-clause-grows : goal.returns-in-Ok-Block-clause-grows
 returns-in-Ok-Block-clause-grows g c =
     block_grows (RunsBlocks {S = g.row.S.Denot} g.S.SingleLines.view (goal.F-pre g c.args.self.now.run) (goal.F-post g c.args.self.now.run)) c.run_one.result c.requires.stands.0
     c.args.self.now.reader (g.S.SingleLines.view c.args.self.now.store) (g.S.SingleLines.view c.run_one.new.store) c.requires.stands.1 c.in-Ok-Block.block c.args.history.now c.run_one.new.history
-    c.run_one.ensures c.requires.stands.2
+    c.run_one.ensures.ran c.requires.stands.2
 
 pub returns-in-Ok-Block-clause-limit : goal.returns-in-Ok-Block-clause-limit
-returns-in-Ok-Block-clause-limit g c = c.run_one.ensures.limit
+returns-in-Ok-Block-clause-limit g c = c.run_one.ensures.ran.limit
 
 pub returns-in-Err-clause-answered : goal.returns-in-Err-clause-answered
 returns-in-Err-clause-answered g c = λ start lines whole.
