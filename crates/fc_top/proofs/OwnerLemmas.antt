@@ -225,20 +225,21 @@ block_grows Able answer start reader store now lines block old new ran whole =
 -- ---- the first line
 
 pub store_begins :
-    (Able : Type 0) (start : Start) (store : StoreView) (history : HistoryState) →
+    (Able : Type 0) (start : Start) (reader : Option Opened) (store : StoreView) (history : HistoryState) →
     Able →
+    reader ≡ None →
     history ≡ record { actors = codes "main" ∷ []; entries = [] } →
     store.control.grain ≡ start.grain →
     StandsFor store (first_told start.disks) →
     disks_in store.lanes ≡ pool_of start.disks →
     (silent_of start.disks ≡ 0 → AreQuiet store.lanes) →
-    (store_runs Able None store start).Whole [] history
-store_begins Able start store history able is grain stands disks quiet =
-    let P : HistoryState → Type 0 = λ h. (store_runs Able None store start).Whole [] h in
+    (store_runs Able reader store start).Whole [] history
+store_begins Able start reader store history able none is grain stands disks quiet =
+    let P : HistoryState → Type 0 = λ h. (store_runs Able reader store start).Whole [] h in
     subst P (sym is)
     record {
       last = first_told start.disks;
       told = record { actors = refl; entries = refl };
       stands = record { stands = stands; grain_is = grain; disks = disks; quiet = λ told none. quiet told };
-      holds = (IsRun-nil start.grain reading (first_told start.disks), (refl, able));
+      holds = (IsRun-nil start.grain reading (first_told start.disks), (sym none, able));
     }

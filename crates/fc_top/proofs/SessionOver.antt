@@ -21,15 +21,7 @@ use Rattle.fc_run.specs.declared.ended.Ended.{Ended}
 use Rattle.fc_run.specs.declared.ended.Ended.TheVariants as ended
 use Rattle.fc_top.specs.PlainRuns.{plain_runs}
 use Rattle.fc_top.specs.Reading.{reading}
-use Rattle.fc_top.specs.StoreRuns.{runs_of, StandsOr}
-
--- What is told at the end, by the way that it ended.
-pub record Over (grain : GrainSize) (w : Whole) (Stands : HistoryState → Whole → Type 0) (Kept : Type 0) (e : Ended) (s : Session) (bytes : List ℕ) : Type 0 where
-  pub last : Whole
-  pub ends : EndsAs e s (plain_runs grain w last) bytes
-  pub legal : IsLegal grain w s.history.entries last
-  pub told : IsOf last s.history
-  pub stands : StandsOr e (Stands s.history last) Kept
+use Rattle.fc_top.specs.StoreRuns.{IsOver, runs_of, StandsOr}
 
 -- This holds of the same first lines.
 first_taken :
@@ -47,7 +39,7 @@ write_fault :
     (grain : GrainSize) (w : Whole) (GoesOn : Option Opened → Type 0) (Stands : HistoryState → Whole → Type 0) (Kept : Type 0) (s : Session) (bytes : List ℕ)
     (ends : EndsAs ended.WriteFault s (runs_of grain w GoesOn Stands Kept) bytes) →
     (runs_of grain w GoesOn Stands Kept).Whole ends.2.of.first s.history ⊎ (runs_of grain w GoesOn Stands Kept).Full ends.2.of.first s.history →
-    Over grain w Stands Kept ended.WriteFault s bytes
+    IsOver grain w Stands Kept ended.WriteFault s bytes
 write_fault grain w GoesOn Stands Kept s bytes ends (inl at) = record {
   last = at.last;
   ends = (ends.0, ends.1, first_taken s.source' bytes _ _ ends.2 (inl at.holds.0), ends.3);
@@ -69,7 +61,7 @@ starved :
     (keeps : (history : HistoryState) (last : Whole) → Stands history last → Kept)
     (ends : EndsAs ended.NoMemory s (runs_of grain w GoesOn Stands Kept) bytes) →
     (runs_of grain w GoesOn Stands Kept).Whole ends.1.of.first s.history ⊎ (runs_of grain w GoesOn Stands Kept).Front ends.1.of.first s.history →
-    Over grain w Stands Kept ended.NoMemory s bytes
+    IsOver grain w Stands Kept ended.NoMemory s bytes
 starved grain w GoesOn Stands Kept s bytes keeps ends (inl at) = record {
   last = at.last;
   ends = (ends.0, first_taken s.source' bytes _ _ ends.1 (inl at.holds.0), ends.2);
@@ -89,7 +81,7 @@ pub session_over :
     (grain : GrainSize) (w : Whole) (GoesOn : Option Opened → Type 0) (Stands : HistoryState → Whole → Type 0) (Kept : Type 0) (e : Ended) (s : Session) (bytes : List ℕ) →
     ((history : HistoryState) (last : Whole) → Stands history last → Kept) →
     EndsAs e s (runs_of grain w GoesOn Stands Kept) bytes →
-    Over grain w Stands Kept e s bytes
+    IsOver grain w Stands Kept e s bytes
 session_over grain w GoesOn Stands Kept ended.Done s bytes keeps ends =
     let at = ends.2 in
     record {

@@ -11,10 +11,13 @@ use Rattle.fc_entry.specs.Text.{HasNames}
 use Rattle.fc_entry.specs.declared.stop.Stop.{Stop}
 use Rattle.fc_grains.specs.Grains.{pool_of, silent_of}
 use Rattle.fc_legal.specs.Added.{Answered, IsOf, IsTold, StaysUp, TellsSome}
-use Rattle.fc_legal.specs.Agenda.{Session, session_rules}
+use Rattle.fc_legal.specs.Agenda.{Session as Asking, session_rules}
+use Rattle.fc_legal.specs.Legal.{IsLegal}
 use Rattle.fc_legal.specs.Run.{IsRun, IsPartialRun, WantsMore}
 use Rattle.fc_legal.specs.Whole.{Whole}
 use Rattle.fc_mdisk.specs.Disk.{DiskState}
+use Rattle.fc_run.specs.Headline.{EndsAs, Session}
+use Rattle.fc_run.specs.Input.{Gave}
 use Rattle.fc_run.specs.Runs.{Runs}
 use Rattle.fc_run.specs.declared.ended.Ended.{Ended}
 use Rattle.fc_run.specs.declared.ended.Ended.TheVariants as ended
@@ -22,6 +25,7 @@ use Rattle.fc_lanes.specs.Dealing.{disks_in}
 use Rattle.fc_stands.specs.Quiet.{QuietBy}
 use Rattle.fc_stands.specs.Store.{StoreView, StandsFor}
 use Rattle.fc_top.specs.DisksBack.{first_told}
+use Rattle.fc_top.specs.PlainRuns.{plain_runs}
 use Rattle.fc_top.specs.Reading.{reading}
 
 -- Something is told of the history, for which he stands, and of which this holds.
@@ -72,6 +76,22 @@ store_runs Able reader store start =
     runs_of start.grain (first_told start.disks) (λ open_block. (open_block ≡ reader) × Able)
     (λ history last. IsUp start store history last) (HasDisks start store)
 
+-- ---- a session that is over
+
+-- What is told at the end, by the way that it ended.
+pub record IsOver (grain : GrainSize) (w : Whole) (Stands : HistoryState → Whole → Type 0) (Kept : Type 0) (e : Ended) (s : Session) (bytes : List ℕ) : Type 0 where
+  pub last : Whole
+  pub ends : EndsAs e s (plain_runs grain w last) bytes
+  pub legal : IsLegal grain w s.history.entries last
+  pub told : IsOf last s.history
+  pub stands : StandsOr e (Stands s.history last) Kept
+
+-- The session of a store.
+pub record SessionOver (start : Start) (store : StoreView) (s : Session) : Type 0 where
+  pub bytes : List ℕ
+  pub gave : Gave s.source bytes s.source'
+  pub over : IsOver start.grain (first_told start.disks) (λ history last. IsUp start store history last) (HasDisks start store) s.ended s bytes
+
 -- ---- blocks
 
 -- A block that was read can be run.
@@ -84,7 +104,7 @@ pub record CanRun (store : StoreView) (history : HistoryState) (block : BlockRea
 -- The block is answered after whatever is told, and what must stay stays.
 pub record IsBlockRun (answer : Result (Unit {0}) Stop) (store now : StoreView) (block : BlockRead) (old new : HistoryState) : Type 0 where
   pub answered : (w : Whole) → IsTold (StandsFor store) old w →
-      Answered answer (StandsFor now) (session_rules store.control.grain reading) (Session (together block ∷ [])) w old new
+      Answered answer (StandsFor now) (session_rules store.control.grain reading) (Asking (together block ∷ [])) w old new
   pub grain : now.control.grain ≡ store.control.grain
   pub disks : disks_in now.lanes ≡ disks_in store.lanes
   pub quiet : QuietBy old.entries store.lanes → StaysUp answer (QuietBy new.entries now.lanes)

@@ -1,6 +1,6 @@
 //! A session over disks: read from a source, answered by the store, and written to a sink.
 
-ghost use Rattle.std.specs.Prelude.{◌≡◌, ◌≢◌, ◌≤◌, ◌<◌, ◌^◌, [], ◌∷◌, List, map, length, codes, vec_len, vec_capacity, OnOk, OnErr};
+ghost use Rattle.std.specs.Prelude.{◌≡◌, ◌≢◌, ◌≤◌, ◌<◌, ◌^◌, [], ◌∷◌, List, None, map, length, codes, vec_len, vec_capacity, OnOk, OnErr};
 ghost use Rattle.std.specs.List.{All};
 ghost use Rattle.fc_grains.specs.Grains.{pool_of, silent_of, total_of};
 ghost use Rattle.fc_io.specs.Source.{SourceState};
@@ -12,10 +12,10 @@ ghost use Rattle.fc_stands.specs.Store.{StandsFor};
 ghost use Rattle.fc_top.specs.Call.{empty};
 ghost use Rattle.fc_top.specs.DisksBack.{first_told};
 ghost use Rattle.fc_top.specs.PlainEnds.{PlainEnds};
-ghost use Rattle.fc_top.specs.StoreRuns.{CanRun, IsBlockRun};
+ghost use Rattle.fc_top.specs.StoreRuns.{CanRun, IsBlockRun, RunsBlocks, SessionOver};
 
 use crate::gate::Gate;
-use crate::owner::Owner;
+use crate::owner::{Owner, SingleLines};
 use crate::status::Status;
 use fc_actors::block::run_block;
 use fc_base::name::Name;
@@ -28,6 +28,7 @@ use fc_entry::stop::Stop;
 use fc_io::sink::Sink;
 use fc_io::source::Source;
 use fc_mdisk::mdisk::Mdisk;
+use fc_run::ended::Ended;
 use fc_run::form::Form;
 use fc_run::session::run_session;
 use fc_store::store::Store;
@@ -50,6 +51,36 @@ fn add_main(alloc: Global, history: &mut History) -> Result<(), NoMemory>
         Ok(None) => unreachable!(),
         Err(refused) => Err(refused),
     }
+}
+
+/// Runs a session over the store of its owner, who has read no line yet.
+fn run_owner<
+    S: Source,
+    K: Sink,
+    L: SingleLines,
+    F: Fn(&mut L, BlockRead, &mut History) -> Result<(), Stop>,
+>(form: Form, source: &mut S, sink: &mut K, owner: &mut Owner<L, F>, history: &mut History) -> Ended
+    requires able { RunsBlocks L.view (F.pre owner.old.run) (F.post owner.old.run) }
+    requires reader { owner.old.reader ≡ None }
+    requires stands { (old : List DiskState) × StandsFor (L.view owner.old.store) (first_told old)
+        × (disks_in (L.view owner.old.store).lanes ≡ pool_of old) × (silent_of old ≡ 0 → AreQuiet (L.view owner.old.store).lanes) }
+    requires main { history.old ≡ record { actors = codes "main" ∷ []; entries = [] } }
+    ensures over { (old : List DiskState) → StandsFor (L.view owner.old.store) (first_told old) → disks_in (L.view owner.old.store).lanes ≡ pool_of old
+        → (silent_of old ≡ 0 → AreQuiet (L.view owner.old.store).lanes)
+        → SessionOver (record { grain = (L.view owner.old.store).control.grain; disks = old }) (L.view owner.new.store)
+        (record {
+          ended = result;
+          form = form;
+          source = S.meaning source.old;
+          source' = S.meaning source.new;
+          sink = K.meaning sink.old;
+          sink' = K.meaning sink.new;
+          history = history.new;
+        }) }
+    ensures takes { EachGave (S.meaning source.old) (S.meaning source.new) }
+    ensures limit { length history.new.entries ≤ 262144 }
+{
+    run_session(owner.alloc, form, source, sink, owner, history)
 }
 
 /// Runs a session over a store, and gives its disks into room that was taken for them.
@@ -94,7 +125,7 @@ fn run_store<R: Threads + Wait + Sync, S: Source, K: Sink, D: Mdisk + Send, G: G
         store,
         run,
     };
-    let ended = run_session(alloc, form, source, sink, &mut owner, history);
+    let ended = run_owner(form, source, sink, &mut owner, history);
     let Owner { store, .. } = owner;
     store.give_disks(disks);
     Status::of(ended)
