@@ -1,5 +1,5 @@
 -- How a call ends that ran a session, or for which memory was wanted before.
-use Rattle.std.proofs.Common.{◌≡◌, ◌⊎◌, ◌≤◌, Option, List, [], ◌∷◌, codes, length, refl, sym, subst, ap, inl, inr, arith}
+use Rattle.std.proofs.Common.{◌≡◌, ℕ, ◌⊎◌, ◌≤◌, Option, List, [], ◌∷◌, codes, length, refl, sym, subst, ap, inl, inr, arith}
 use Rattle.fc_base.specs.declared.size.GrainSize.{GrainSize}
 use Rattle.fc_blocks.specs.Blocks.{Opened}
 use Rattle.fc_entry.specs.HistoryState.{HistoryState}

@@ -30,3 +30,9 @@ pub same_ended : (e other : Ended) → status_of other ≡ status_of e → other
 same_ended e other same =
     let some : Some other ≡ Some e = sym (ended_of other) ∙ (ap ended_by same ∙ ended_of e) in
     cc some
+
+-- A session that was run isn't told as words outside of the grammar.
+pub never_usage : (e : Ended) → status_of e ≡ status.Usage → ⊥
+never_usage e is =
+    let none : None ≡ Some e = sym (ap ended_by is) ∙ ended_of e in
+    cc none

@@ -8,6 +8,7 @@ use Rattle.fc_run.specs.declared.ended.Ended.{Ended}
 use Rattle.fc_stands.specs.Store.{StoreView}
 use Rattle.fc_top.proofs.Backs.{DisksAfter-given}
 use Rattle.fc_top.proofs.PlainLemmas.{plain_ends, session_disks}
+use Rattle.fc_top.proofs.Statuses.{never_usage}
 use Rattle.fc_top.specs.Call.{Call, status_of}
 use Rattle.fc_top.specs.DisksBack.{DisksAfter}
 use Rattle.fc_top.specs.StoreRuns.{HasDisks, IsUp, SessionOver, Start}
@@ -32,6 +33,9 @@ give_disks-requires g c =
     (c.run_owner-ended.ensures.over c.requires.stands.0 c.requires.stands.1 c.requires.stands.2 c.requires.stands.3) in
     let same : total_of (disks_in store.lanes) ≡ total_of (disks_in c.args.store.lanes) = ap total_of (has ∙ sym c.requires.stands.2) in
     omega (arith, same, c.requires.room, ap length c.requires.none)
+
+pub returns-clause-ran : goal.returns-clause-ran
+returns-clause-ran g c = λ usage. never_usage c.run_owner-ended.result (sym c.of.ensures ∙ usage)
 
 pub returns-clause-ends : goal.returns-clause-ends
 returns-clause-ends g c = λ old outer outer' stands counted calm.
