@@ -38,6 +38,20 @@ const ONE_VOLUME_TEXT: &[u8] =
 
 const NO_DISK_TEXT: &[u8] = b"0 main mkvdisk -size 1 -> refused no disk\n";
 
+/// A volume is made and written, and a block begins that the input ends.
+const UNENDED_BLOCK: &[u8] = b"mkvdisk -name A -size 1
+write A 0 1 5a
+together
+actor first host
+write A 0 1 11
+";
+
+/// What stands before the block is answered, and nothing in it.
+const UNENDED_BLOCK_TEXT: &[u8] =
+    b"0 main mkvdisk -name A -size 1 -> Virtual Disk, id [0], successfully created
+1 main write 0 0 1 5a -> ok
+";
+
 /// How many disks there are: one for each lane.
 const DISKS: usize = 4;
 
@@ -80,6 +94,18 @@ fn a_volume_takes_its_disks_for_good(rt: HostRuntime) -> Result<(), AllocError> 
     assert!(rt; outcome.status == Status::Done);
     assert!(rt; outcome.written.as_slice() == ONE_VOLUME_TEXT);
     assert_eq!(rt; (outcome.entries, outcome.disks), (12, DISKS));
+    Ok(())
+}
+
+#[test]
+fn a_block_that_the_input_ends_is_not_run(rt: HostRuntime) -> Result<(), AllocError> {
+    let alloc = rt.alloc();
+    for piece in [7, 65_536] {
+        let outcome = run(&rt, alloc, UNENDED_BLOCK, piece, Vec::new(alloc), Vec::new(alloc))?;
+        assert!(rt; outcome.status == Status::Unended);
+        assert!(rt; outcome.written.as_slice() == UNENDED_BLOCK_TEXT);
+        assert_eq!(rt; (outcome.entries, outcome.disks), (2, DISKS));
+    }
     Ok(())
 }
 
