@@ -1,3 +1,4 @@
 -- Lemmas, one subject a file.
 pub mod Leading
 pub mod Lines
+pub mod Fitting

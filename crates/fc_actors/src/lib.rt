@@ -15,3 +15,5 @@ pub mod gate;
 pub mod part;
 pub mod script;
 pub mod span;
+mod task;
+mod whole;
