@@ -2,3 +2,4 @@
 pub mod Leading
 pub mod Lines
 pub mod Fitting
+pub mod Gathering
