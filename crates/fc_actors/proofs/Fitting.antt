@@ -87,7 +87,7 @@ module _ {D : Type 0} where
   abbrev pub Leads : Situation → Situation → ℕ → StorePart D → StorePart D → Entry → Type 0
   Leads w0 w p opening new e = PartLeads {E = Entry} {P = StorePart D} (λ o s q x. HasShare o s q x) (λ a b. IsSound a b) entries_told (λ a n f b. LeadsTo a n f b) w0 w p opening new e
 
-  abbrev Told : List (StorePart D) → ℕ → ℕ → Situation → Situation → Type 0
+  abbrev pub Told : List (StorePart D) → ℕ → ℕ → Situation → Situation → Type 0
   Told openings first limit w0 w = IsTold {E = Entry} {P = StorePart D} (λ o s q x. HasShare o s q x) (λ a b. IsSound a b) entries_told (λ a n f b. LeadsTo a n f b) openings first limit w0 w
 
   pub lane_leads : (s : ActorScript D) (openings : List (StorePart D)) (first limit p : ℕ) (w0 w : Situation) (opening : StorePart D) (v new : LaneView) (e : Entry) → needs_of s ≡ Part p → Suits s openings limit

@@ -1,10 +1,10 @@
 -- Lanes, taken one after the other from the front of a list of parts, and the store that they then make.
-use Rattle.std.proofs.Common.{◌≡◌, ◌≢◌, ℕ, ◌+◌, ◌∷◌, ◌++◌, [], List, length, slice_index_or, ap, ap₂, sym, ◌∙◌, append-nil, arith, refl}
+use Rattle.std.proofs.Common.{◌≡◌, ◌≢◌, ℕ, suc, ◌∷◌, ◌++◌, [], List, length, slice_index_or, ap, ap₂, sym, ◌∙◌, append-nil, arith, refl}
 use Rattle.std.specs.Prelude.{remove}
 use Rattle.fc_desk.specs.Control.{ControlState}
 use Rattle.fc_lane.specs.Lane.{LaneView}
 use Rattle.fc_stands.specs.Store.{StoreView}
-use Rattle.fc_store.specs.StoreParts.{lane_part, lane_parts, parts_view}
+use Rattle.fc_store.specs.StoreParts.{lane_parts, parts_view}
 use Rattle.fc_store.specs.declared.store_part.StorePart.{StorePart}
 use Rattle.fc_store.specs.declared.store_part.StorePart.TheVariants.{Control, Lane}
 use Rattle.fc_store.proofs.StoreParts.{lane_taken}
@@ -13,11 +13,11 @@ use Rattle.fc_store.proofs.StoreParts.{lane_taken}
 pub same_store : (store : StoreView) (control : ControlState) (lanes : List LaneView) (s : StoreView) → store ≡ record { control = control; lanes = lanes } → control ≡ s.control → lanes ≡ s.lanes → store ≡ s
 same_store store control lanes s is first behind = is ∙ ap₂ (λ (c : ControlState) (ls : List LaneView). record { control = c; lanes = ls }) first behind
 
-module _ {D : Type 0} where
-  pub lanes_long : (ls : List LaneView) → length (lane_parts {D = D} ls) ≡ length ls
-  lanes_long [] = refl
-  lanes_long (l ∷ ls) = ap (λ (n : ℕ). n + 1) (lanes_long ls)
+pub lanes_long : (D : Type 0) (ls : List LaneView) → length (lane_parts {D = D} ls) ≡ length ls
+lanes_long D [] = refl
+lanes_long D (l ∷ ls) = ap (λ (n : ℕ). suc n) (lanes_long D ls)
 
+module _ {D : Type 0} where
   -- The control part is first among the parts,
   pub control_first : (parts rest : List (StorePart D)) (s : StoreView) (taken : StorePart D) (control : ControlState) → parts ≡ parts_view s → taken ≡ slice_index_or parts 0 taken → rest ≡ remove parts 0 → taken ≡ Control control →
       Control control ∷ rest ≡ parts_view s

@@ -3,3 +3,4 @@ pub mod Leading
 pub mod Lines
 pub mod Fitting
 pub mod Gathering
+pub mod Closing

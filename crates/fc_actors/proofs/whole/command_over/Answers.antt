@@ -24,11 +24,12 @@ returns-clause-leads g c = λ s parts.
     let done = c.command_entry-entry.ensures in let entry = c.command_entry-entry.result in let new : StoreView = c.command_entry-entry.new.self in
     let P : StoreView → Type 0 = λ st. ((w : Whole) → StandsFor st w → w.entries < 262144 → LeadsOn st.control.grain w entry new) × (new.control.grain ≡ st.control.grain) × EachLane IsSameLane st.lanes new.lanes
         × (arms (Asked c.args.command) entry.reply ≡ false → EachLane KeepsQuiet st.lanes new.lanes) in
-    (new, c.take_parts-tray.ensures.parts ∙ ap (λ (ps : List (StorePart g.row.D.Denot)). ps ++ parts_view new) c.gather-control.ensures.emptied.0, subst P same (done.right, done.grain, done.lanes, done.quiet))
+    let now = subst P same (done.right, done.grain, done.lanes, done.quiet) in
+    (new, c.take_parts-tray.ensures.parts ∙ ap (λ (ps : List (StorePart g.row.D.Denot)). ps ++ parts_view new) c.gather-control.ensures.emptied.0, now.0, now.1, now.2, now.3)
 
 pub returns-clause-tray : goal.returns-clause-tray
 returns-clause-tray g c =
     let can = c.requires.can in let s = can.0 in let gathered = c.gather-control.ensures.gathered s can.2 in
     let same = same_store c.from_parts_in-store.result c.gather-control.result c.gather-control.new.lanes.items s c.from_parts_in-store.ensures gathered.0 gathered.1 in
-    let long = lanes_long {D = g.row.D.Denot} s.lanes in
+    let long = lanes_long g.row.D.Denot s.lanes in
     (c.take_parts-tray.ensures.tray, omega (arith, c.take_parts-tray.ensures.room, c.command_entry-entry.ensures.lanes.count, ap (λ (st : StoreView). length st.lanes) same, long, ap length can.2, c.args.parts.now.ok.0))
