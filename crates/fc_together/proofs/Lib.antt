@@ -1,0 +1,1 @@
+-- Lemmas, one subject a file.

@@ -1,0 +1,2 @@
+-- What scripts that were done in a yard leave.
+pub mod Acted
