@@ -1,5 +1,8 @@
 //! The store.
 
+ghost use Rattle.std.specs.Prelude.{◌≡◌, length};
+
+use fc_base::size::GrainSize;
 use fc_control::Control;
 use fc_lane::lane::Lane;
 use fc_mdisk::mdisk::Mdisk;
@@ -20,4 +23,20 @@ impl<D: Mdisk> Model for Store<D> {
     ghost Value = { StoreView };
 
     ghost view = { λ s. record { control = s.control; lanes = s.lanes.items } };
+}
+
+impl<D: Mdisk> Store<D> {
+    /// How many lanes it has.
+    pub fn lanes(&self) -> usize
+        ensures { result ≡ length self.now.lanes }
+    {
+        self.lanes.len()
+    }
+
+    /// The grain size.
+    pub fn grain(&self) -> GrainSize
+        ensures { result ≡ self.now.control.grain }
+    {
+        self.control.grain()
+    }
 }

@@ -1,1 +1,2 @@
 -- Lemmas, one subject a file.
+mod Parts

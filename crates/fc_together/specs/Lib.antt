@@ -1,2 +1,3 @@
 -- What scripts that were done in a yard leave.
 pub mod Acted
+pub mod Over

@@ -7,4 +7,5 @@
 //! To read: `rounds` (a yard is opened, scripts are done in it, and it is closed); in `specs/`: `Acted`.
 #![tactic(auto)]
 
+pub mod over;
 pub mod rounds;
