@@ -20,16 +20,20 @@ use Rattle.fc_tasks.specs.declared.script.Needs.{Needs}
 use Rattle.fc_together.specs.Acted.{HaveActed}
 use Rattle.fc_together.specs.Over.{HaveActedOver, LedOver}
 
+runs_on : (D : Type 0) (s last : Situation) (n : ℕ) (entries : List Entry) → Runs {E = Entry} {P = StorePart D} (λ opening w p part. HasShare opening w p part) (λ a b. IsSound a b) entries_told (λ a m e b. LeadsTo a m e b) s n entries last → LeadOn s n entries last
+runs_on D s last n [] runs = runs
+runs_on D s last n (e ∷ es) runs = (runs.0, runs.1, runs_on D runs.0 last (suc n) es runs.2)
+
+as_many : (D : Type 0) (ls : List LaneView) → length (lane_parts {D = D} ls) ≡ length ls
+as_many D [] = refl
+as_many D (l ∷ ls) = omega (arith, as_many D ls)
+
 module _ {D : Type 0} where
   abbrev pub Opening : List (StorePart D) → ℕ → Situation → Type 0
   Opening parts first w0 = OpensWith {E = Entry} {P = StorePart D} (λ opening w p part. HasShare opening w p part) (λ a b. IsSound a b) entries_told (λ a n e b. LeadsTo a n e b) parts first w0
 
   abbrev pub Ended : List (StorePart D) → ℕ → List Entry → List (StorePart D) → Situation → Type 0
   Ended parts first es xs w0 = Ends {E = Entry} {P = StorePart D} (λ opening w p part. HasShare opening w p part) (λ a b. IsSound a b) entries_told (λ a n e b. LeadsTo a n e b) parts first es xs w0
-
-  runs_on : (s last : Situation) (n : ℕ) (entries : List Entry) → Runs {E = Entry} {P = StorePart D} (λ opening w p part. HasShare opening w p part) (λ a b. IsSound a b) entries_told (λ a m e b. LeadsTo a m e b) s n entries last → LeadOn s n entries last
-  runs_on s last n [] runs = runs
-  runs_on s last n (e ∷ es) runs = (runs.0, runs.1, runs_on runs.0 last (suc n) es runs.2)
 
   -- ---- lanes as parts
 
@@ -88,10 +92,6 @@ module _ {D : Type 0} where
       let rest = all_lanes os xs (omega (arith, same)) (λ i x0 y a b. each (suc i) x0 y a b) in
       (first.0 ∷ rest.0, ap (λ y. y ∷ xs) first.1 ∙ ap (λ ys. Lane first.0 ∷ ys) rest.1)
 
-  as_many : (ls : List LaneView) → length (lane_parts {D = D} ls) ≡ length ls
-  as_many [] = refl
-  as_many (l ∷ ls) = omega (arith, as_many ls)
-
   module _ (store : StoreView) (w : Whole) (first : ℕ) (stands : StandsFor store w) (counted : w.entries ≡ first) where
     record ComesBack (es : List Entry) (xs : List (StorePart D)) : Type 0 where
       pub new : StoreView
@@ -103,7 +103,7 @@ module _ {D : Type 0} where
     comes_back es (x ∷ xs) long ended =
         let share = ended.fit zero (Control store.control) x refl refl in
         let c = control_back store w first stands counted ended.last x share in
-        let many : length xs ≡ length store.lanes = omega (arith, long, as_many store.lanes) in
+        let many : length xs ≡ length store.lanes = omega (arith, long, as_many D store.lanes) in
         let found = λ (i : ℕ) (x0 y : StorePart D) (a : get_elem? (lane_parts {D = D} store.lanes) i ≡ some x0) (b : get_elem? xs i ≡ some y).
             let l = lane_at store.lanes i x0 a in
             let P : StorePart D → Type 0 = λ z. HasShare z ended.last (suc i) y in
@@ -111,13 +111,13 @@ module _ {D : Type 0} where
         let ls = all_lanes store.lanes xs many found in
         let Q : StorePart D → Type 0 = λ y. HasShare (Control store.control) ended.last zero y in
         let R : ℕ → Type 0 = λ n. LeadOn (situation_of store w) n es ended.last in
-        let same : length ls.0 ≡ length store.lanes = omega (arith, many, ap (λ (ys : List (StorePart D)). length ys) ls.1, as_many ls.0) in
+        let same : length ls.0 ≡ length store.lanes = omega (arith, many, ap (λ (ys : List (StorePart D)). length ys) ls.1, as_many D ls.0) in
         record {
           new = record { control = c.0; lanes = ls.0 };
           is = ap (λ y. y ∷ xs) c.1 ∙ ap (λ ys. Control c.0 ∷ ys) ls.1;
           led = record {
             last = ended.last;
-            leads = subst R (sym counted) (runs_on (situation_of store w) ended.last first es ended.runs);
+            leads = subst R (sym counted) (runs_on D (situation_of store w) ended.last first es ended.runs);
             shares = record {
               sound = ended.sound_is;
               control = subst Q c.1 share;
