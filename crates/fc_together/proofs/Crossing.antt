@@ -15,22 +15,22 @@ pub list_send : (T : RattleType) → IsSend T → IsSend (list_row T)
 list_send T s = search (sendable, Vec-send) depth 12
 
 pub name_send : IsSend name_row
-name_send = search (sendable, Vec-send, list_send) depth 12
+name_send = search (sendable, Vec-send) depth 12
 
 pub ref_send : IsSend ref_row
 ref_send = search (sendable, name_send) depth 12
 
 pub command_send : IsSend command_row
-command_send = search (sendable, name_send, ref_send) depth 20 fits 5000
+command_send = search (sendable, name_send, ref_send) depth 200 fits 20000
 
 pub request_send : IsSend request_row
-request_send = search (sendable, command_send) depth 20 fits 5000
+request_send = search (sendable, command_send) depth 100 fits 20000
 
 pub effect_send : IsSend effect_row
-effect_send = search (sendable, list_send, name_send) depth 20 fits 5000
+effect_send = search (sendable, list_send, name_send, ref_send, command_send) depth 100 fits 20000
 
 pub reply_send : IsSend reply_row
-reply_send = search (sendable, list_send, name_send, Vec-send) depth 20 fits 5000
+reply_send = search (sendable, list_send, name_send, Vec-send) depth 100 fits 20000
 
 pub entry_send : IsSend entry_row
-entry_send = search (sendable, list_send, request_send, effect_send, reply_send) depth 20 fits 5000
+entry_send = search (sendable, list_send, request_send, effect_send, reply_send) depth 60 fits 20000

@@ -1,3 +1,4 @@
 -- Lemmas, one subject a file.
 mod Parts
 pub mod Crossing
+pub mod Asking
