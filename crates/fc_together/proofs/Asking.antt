@@ -27,7 +27,7 @@ use Rattle.law_together.specs.Making as makings
 
 -- ---- what is left
 
-record OneLeft (left : List Request) : Type 0 where
+pub record OneLeft (left : List Request) : Type 0 where
   pub wanted : Request
   pub behind_it : List Request
   pub is : left ≡ wanted ∷ behind_it

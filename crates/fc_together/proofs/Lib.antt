@@ -2,3 +2,4 @@
 mod Parts
 pub mod Crossing
 pub mod Asking
+pub mod Composing
