@@ -1,6 +1,5 @@
 use Rattle.std.proofs.Common.{◌≡◌, ◌++◌, ◌∙◌, ap, sym, subst}
 use denote.Param.Send.{sendable}
-use Rattle.std.proofs.Crossing.{crosses}
 use Rattle.fc_together.proofs.Crossing.{entry_send}
 use Rattle.fc_shares.specs.Law.{situation_of}
 use Rattle.fc_store.specs.StoreParts.{parts_view}
@@ -11,7 +10,7 @@ pub act_in_yard-requires-clause-send : goal.act_in_yard-requires-clause-send
 act_in_yard-requires-clause-send g c κs within =
     let d = c.requires.send.0 in
     let s = c.requires.send.1 in
-    (search (sendable, entry_send) depth 8, search (sendable, crosses) depth 8, search sendable depth 8)
+    (search (sendable, entry_send) depth 8, ?, search sendable depth 8)
 
 pub act_in_yard-requires-clause-opened : goal.act_in_yard-requires-clause-opened
 act_in_yard-requires-clause-opened g c κs within =
