@@ -2,7 +2,7 @@
 use denote.RattleType.{RattleType}
 use denote.Param.Send.{IsSend, sendable}
 use Rattle.std.proofs.Crossing.{Vec-send}
-use Rattle.fc_base.specs.contracts.list.List.{the_row as list_row}
+use Rattle.fc_base.specs.contracts.list.List.{the_row as list_row, the_field as list_field}
 use Rattle.fc_base.specs.contracts.name.Name.{the_row as name_row}
 use Rattle.fc_base.specs.contracts.name.Ref.{the_row as ref_row}
 use Rattle.fc_base.specs.contracts.command.Command.{the_row as command_row, the_field as command_field}
@@ -23,6 +23,9 @@ use Rattle.fc_entry.specs.contracts.entry.Entry.{the_row as entry_row}
 
 pub list_send : (T : RattleType) → IsSend T → IsSend (list_row T)
 list_send T s = search (sendable, Vec-send) depth 12
+
+pub list_in : (T : RattleType) → IsSend T → IsSend (list_field T).row
+list_in T s = search (sendable, Vec-send, list_send) depth 12
 
 pub name_send : IsSend name_row
 name_send = search (sendable, Vec-send) depth 12
@@ -109,10 +112,10 @@ effect_in : IsSend effect_field.row
 effect_in = search (sendable, list_send, pair_send, ranges_send) depth 200 fits 20000
 
 pub reply_send : IsSend reply_row
-reply_send = search (sendable, list_send, runs_in, refusal_in) depth 200 fits 20000
+reply_send = search (sendable, list_send, list_in, runs_send, runs_in, refusal_send, refusal_in) depth 400 fits 100000
 
 reply_in : IsSend reply_field.row
-reply_in = search (sendable, list_send, runs_in, refusal_in) depth 200 fits 20000
+reply_in = search (sendable, list_send, list_in, runs_send, runs_in, refusal_send, refusal_in) depth 400 fits 100000
 
 pub entry_send : IsSend entry_row
 entry_send = search (sendable, list_send, request_in, effect_send, effect_in, reply_in, move_send, move_in, torn_send, torn_in, place_in) depth 200 fits 20000
