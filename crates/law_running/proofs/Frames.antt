@@ -1,10 +1,8 @@
 -- What the parts of a store keep while actors hold them, and what stays where names come.
 use Rattle.std.proofs.Common.{◌≡◌, List, length, sym, ◌∙◌, arith}
 use Rattle.fc_blocks.specs.declared.block.BlockRead.{BlockRead}
-use Rattle.fc_lane.specs.Lane.{LaneView, IsSameLane, KeepsQuiet}
-use Rattle.fc_lanes.specs.AllLanes.{EachLane}
 use Rattle.fc_lanes.specs.Dealing.{disks_in}
-use Rattle.fc_legal.specs.Whole.{Whole, lanes, part_at}
+use Rattle.fc_legal.specs.Whole.{Whole, part_at}
 use Rattle.fc_stands.proofs.Frames.{same_disks}
 use Rattle.fc_stands.proofs.Quieting.{each_keeps}
 use Rattle.fc_stands.specs.Quiet.{AreQuiet}

@@ -53,12 +53,15 @@ module _ (store new : StoreView) (w : Whole) (makings : List Making) (old : Hist
   pub ran_all : (scripts : List Script) (merged : List Entry) → AllAsked (map own_of makings) scripts → MergesTo old makings merged →
       ScriptsRan {A = Unit {0}} (Ok tt) (StandsFor new) store.control.grain w scripts old (with_entries old merged)
   ran_all scripts merged asked m =
-      let steps = are_steps merged m in
-      (run.last.whole, (stands, is_of run.last.whole merged steps), record {
-        more = merged;
-        entries = refl;
-        are = (steps, ask_law_holds.all (length old.entries) (length (all_of (map own_of makings))) (map own_of makings) scripts merged are_own asked m);
-      })
+      let steps = are_steps merged m in (
+        run.last.whole,
+        (stands, is_of run.last.whole merged steps),
+        record {
+          more = merged;
+          entries = refl;
+          are = (steps, ask_law_holds.all (length old.entries) (length (all_of (map own_of makings))) (map own_of makings) scripts merged are_own asked m);
+        },
+      )
 
   pub length-merged : (merged : List Entry) → MergesTo old makings merged → length merged ≡ length run.entries
   length-merged merged m = ap length (merged_is merged m) ∙ length-numbered w.entries run.entries
@@ -67,12 +70,18 @@ module _ (store new : StoreView) (w : Whole) (makings : List Making) (old : Hist
       OneWants (map own_of makings) scripts → 262144 ≤ w.entries + length run.entries → MergesTo old makings merged →
       ScriptsRan {A = Unit {0}} (Err LogFull) (StandsFor new) store.control.grain w scripts old (with_entries old merged)
   ran_full scripts merged differ began one full m =
-      let steps = are_steps merged m in
-      (omega (arith, full, run.room, told.entries, length-append old.entries merged, length-merged merged m), (run.last.whole, (stands, is_of run.last.whole merged steps), record {
-        more = merged;
-        entries = refl;
-        are = (steps, ask_law_holds.wants (length old.entries) (length (all_of (map own_of makings))) (map own_of makings) scripts merged differ are_own began one m);
-      }))
+      let steps = are_steps merged m in (
+        omega (arith, full, run.room, told.entries, length-append old.entries merged, length-merged merged m),
+        (
+          run.last.whole,
+          (stands, is_of run.last.whole merged steps),
+          record {
+            more = merged;
+            entries = refl;
+            are = (steps, ask_law_holds.wants (length old.entries) (length (all_of (map own_of makings))) (map own_of makings) scripts merged differ are_own began one m);
+          },
+        ),
+      )
 
   pub ran_some : (Stands : Whole → Type 0) (scripts : List Script) (merged front rest : List Entry) → AreOfDifferent scripts →
       AllBegan (map own_of makings) scripts → MergesTo old makings merged → merged ≡ front ++ rest →
@@ -80,12 +89,15 @@ module _ (store new : StoreView) (w : Whole) (makings : List Making) (old : Hist
   ran_some Stands scripts merged front rest differ began m split =
       let P : List Entry → Type 0 = λ es. AreSteps store.control.grain w es run.last.whole in
       let Q : List Entry → Type 0 = λ es. MergesTo old makings es in
-      let cut = steps_law_holds.front store.control.grain w run.last.whole front rest (subst P split (are_steps merged m)) in
-      (cut.0, is_of cut.0 front cut.1, record {
-        more = front;
-        entries = refl;
-        are = (cut.1, ask_law_holds.began (length old.entries) (length (all_of (map own_of makings))) (map own_of makings) scripts front rest differ are_own began (subst Q split m));
-      })
+      let cut = steps_law_holds.front store.control.grain w run.last.whole front rest (subst P split (are_steps merged m)) in (
+        cut.0,
+        is_of cut.0 front cut.1,
+        record {
+          more = front;
+          entries = refl;
+          are = (cut.1, ask_law_holds.began (length old.entries) (length (all_of (map own_of makings))) (map own_of makings) scripts front rest differ are_own began (subst Q split m));
+        },
+      )
 
   pub ran_within : (merged front rest : List Entry) → MergesTo old makings merged → merged ≡ front ++ rest → length (old.entries ++ front) ≤ 262144
   ran_within merged front rest m split =

@@ -9,12 +9,11 @@ use Rattle.fc_entry.specs.declared.stop.Stop.{Stop}
 use Rattle.fc_entry.specs.declared.stop.Stop.TheVariants.{LogFull, NoMemory}
 use Rattle.fc_lanes.specs.Dealing.{disks_in}
 use Rattle.fc_legal.specs.Added.{Answered, IsOf}
-use Rattle.fc_legal.specs.Agenda.{Reading, session_rules, with_names}
+use Rattle.fc_legal.specs.Agenda.{Reading, session_rules}
 use Rattle.fc_legal.specs.Scripts.{Script}
 use Rattle.fc_legal.specs.Whole.{Whole}
 use Rattle.fc_merge.specs.Merging.{IsMerged, all_of}
 use Rattle.fc_scripts.specs.Ways.{AreOfDifferent}
-use Rattle.fc_shares.specs.Law.{HaveShares, LeadOn, situation_of}
 use Rattle.fc_stands.specs.Quiet.{AreQuiet}
 use Rattle.fc_stands.specs.Store.{StandsFor, StoreView}
 use Rattle.law_together.specs.Asking.{AllAsked, AllBegan, OneWants}
