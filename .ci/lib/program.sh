@@ -300,12 +300,14 @@ failing_streams() {
     fi
 }
 
-# ---- a session that is typed: each answer is there before the next line is
+# ---- a session that is typed: each answer is there before the next line is, and those of a block when its end is
 typed_session() {
     echo "== a session that is typed"
-    local lines=("mkvdisk -name A -size 1" "write A 0 1 5a" "# a comment" "read A 0 2" "read B 0 1")
+    local lines=("mkvdisk -name A -size 1" "write A 0 1 5a" "# a comment" "read A 0 2" "read B 0 1"
+        together "actor h host" "write A 0 1 77" end "read A 0 1")
     local answers=("0 main mkvdisk -name A -size 1 -> Virtual Disk, id [0], successfully created" "1 main write 0 0 1 5a -> ok" ""
-        "2 main read 0 0 2 -> data 512*5a,512*00" "3 main read B 0 1 -> refused no such vdisk")
+        "2 main read 0 0 2 -> data 512*5a,512*00" "3 main read B 0 1 -> refused no such vdisk"
+        "" "" "" "4 h write 0 0 1 77 -> ok" "5 main read 0 0 1 -> data 512*77")
     local line=0 answer input pid
     coproc typed { exec timeout "$most_seconds" "$program" run --grain 64 2>"$room/err"; }
     # these names go with the program's end

@@ -47,9 +47,6 @@ function load_history(file,    line, left, at, head, request) {
     in_block = 0
 }
 
-# Whether the program answers blocks. While it doesn't, `together` is an unknown command.
-function has_blocks() { return 0 }
-
 # Takes the line's words, parted by spaces and tabs.
 function split_line(text,    at, length_) {
     for (at in word) delete word[at]
@@ -126,10 +123,7 @@ function take_line(text,    left) {
 
 # ---- blocks of actors
 
-function begins_block() {
-    if (word[keyword] != "together" || words > keyword) return 0
-    return has_blocks() || next_entry >= entries || entry_reply[next_entry] != "refused unknown command"
-}
+function begins_block() { return word[keyword] == "together" && words == keyword }
 
 function open_block(    name) {
     in_block = 1

@@ -14,8 +14,8 @@ usage: flashcopy show [EXAMPLE]                a session beside the history that
        flashcopy --version                     the version, and the kit that the program was proved and built with
 
 A session is a list of lines: an administrator's commands, and reads and writes of hosts. Each is answered by
-an entry of the history, or by one for each grain that it touches. SESSION is a file; without it the session
-comes from standard input.
+an entry of the history, or by one for each grain that it touches. Lines between `together` and `end` are those
+of several actors at once. SESSION is a file; without it the session comes from standard input.
 
     mkvdisk -name A -size 1
     write A 0 1 5a
@@ -40,6 +40,7 @@ exit status:
    5  memory was wanted and not had
    6  the history is full, at 262,144 entries, and a line asks for more
    7  the input has more than 67,108,864 bytes; the lines that ended before were answered
+   8  the input ended inside a block, which wasn't run; every line before it was answered
   10  with --strict: all lines were answered, and one or more was refused or couldn't be read
 END
     # what the program itself says of its words, where a crate prints that

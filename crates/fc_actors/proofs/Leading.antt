@@ -1,18 +1,16 @@
 -- What a lane answered leads on.
-use Rattle.std.proofs.Common.{◌≡◌, ℕ, ◌+◌, ◌-◌, ◌%◌, ◌^◌, ◌<◌, ◌≤◌, Bool, true, false, refl, ◌∙◌, sym, ap, subst, arith}
-use Rattle.fc_base.specs.declared.ids.VolId.{VolId}
+use Rattle.std.proofs.Common.{◌≡◌, ℕ, ◌+◌, ◌-◌, ◌%◌, ◌^◌, ◌<◌, Bool, true, false, refl, ◌∙◌, sym, ap, subst, arith}
 use Rattle.fc_base.specs.declared.request.Request.{Request}
-use Rattle.fc_base.specs.declared.request.Request.TheVariants.{CopyTurn, CleanTurn}
 use Rattle.fc_base.specs.declared.size.GrainSize.{GrainSize}
 use Rattle.fc_entry.specs.Picture.{grain_of_block}
 use Rattle.fc_entry.specs.declared.entry.Entry.{Entry}
 use Rattle.fc_follow.specs.Following.{Followed, followed_entry}
 use Rattle.fc_lane.specs.Lane.{LaneView, IsFollowing, IsSameLane, KeepsQuiet, of}
-use Rattle.fc_lanes.specs.Asking.{part_of, request_of}
+use Rattle.fc_lanes.specs.Asking.{request_of}
 use Rattle.fc_lanes.specs.declared.access.Access.{Access}
 use Rattle.fc_legal.specs.Asked.{first_in, end_in}
 use Rattle.fc_legal.specs.Steps.{IsInside}
-use Rattle.fc_legal.specs.Whole.{Whole, lanes, lane_of_grain, lane_at, part_at, followed_at}
+use Rattle.fc_legal.specs.Whole.{lanes, lane_of_grain, lane_at, part_at, followed_at}
 use Rattle.fc_parts.specs.Law.{IsInVolume, IsOfLane}
 use Rattle.fc_rules.specs.LaneFits.{FitsPart}
 use Rattle.fc_rules.specs.LaneRight.{IsRightInLane}

@@ -1,15 +1,14 @@
 -- What is left of an actor's script, and when it suits a store.
-use Rattle.std.specs.Prelude.{◌≡◌, ℕ, suc, ◌+◌, ◌*◌, ◌-◌, ◌%◌, ◌<◌, ◌≤◌, Bool, true, false, cond, nat_lt, List, [], ◌∷◌, map, flat_map, length, vec_capacity, All, Contains}
+use Rattle.std.specs.Prelude.{◌≡◌, ℕ, suc, ◌-◌, ◌%◌, ◌<◌, ◌≤◌, false, cond, nat_lt, List, [], ◌∷◌, map, flat_map, length, vec_capacity, All}
 use Rattle.std.specs.List.{range_with_len}
 use Rattle.fc_base.specs.declared.command.Command.{Command}
 use Rattle.fc_base.specs.declared.command.Command.TheVariants.{Armfault}
-use Rattle.fc_base.specs.declared.fault.Refusal.{Refusal}
 use Rattle.fc_base.specs.declared.request.Request.{Request}
 use Rattle.fc_base.specs.declared.request.Request.TheVariants.{Command as Asked}
 use Rattle.fc_base.specs.declared.size.GrainSize.{GrainSize}
 use Rattle.fc_entry.specs.declared.entry.Entry.{Entry}
 use Rattle.fc_lane.specs.Lane.{LaneView, IsReady}
-use Rattle.fc_legal.specs.Whole.{Whole, lanes}
+use Rattle.fc_legal.specs.Whole.{lanes}
 use Rattle.fc_shares.specs.Situation.{Situation, HasLane, IsSound, LeadsTo, entries_told}
 use Rattle.fc_stands.specs.Apart.{IsRefusalOf}
 use Rattle.fc_stands.specs.Phase.{IsDecided}
@@ -42,13 +41,6 @@ work_left grain lanes (Turns cleans next turns) = map (λ k. turn_of cleans (k %
 
 abbrev pub left_of : {D : Type 0} → ActorScript D → List Request
 left_of s = work_left s.grain s.lanes s.work
-
--- The entry answers the next of it.
-pub record Goes {D : Type 0} (s : ActorScript D) (e : Entry) (next : ActorScript D) : Type 0 where
-  pub asked : left_of s ≡ e.request ∷ left_of next
-  pub actor : e.actor ≡ s.actor
-  pub same : next.actor ≡ s.actor
-  pub number : e.number ≡ 0
 
 -- ---- what it needs
 
@@ -86,6 +78,14 @@ ItemSuits s (Whole_command command) = IsOfBlock command
 abbrev pub WorkSuits : Situation → Left → Type 0
 WorkSuits s (Lines items) = All (ItemSuits s) items.items
 WorkSuits s (Turns cleans next turns) = Unit {0}
+
+-- The entry answers the next of what is left, and the rest suits whatever all of it suited.
+pub record Goes {D : Type 0} (s : ActorScript D) (e : Entry) (next : ActorScript D) : Type 0 where
+  pub asked : left_of s ≡ e.request ∷ left_of next
+  pub actor : e.actor ≡ s.actor
+  pub same : next.actor ≡ s.actor
+  pub number : e.number ≡ 0
+  pub work : (t : Situation) → WorkSuits t s.work → WorkSuits t next.work
 
 -- Beside what is left it stays.
 pub record IsSameScript {D : Type 0} (old new : ActorScript D) : Type 0 where

@@ -9,8 +9,8 @@ use fc_mdisk::mdisk::Mdisk;
 use std::alloc::Global;
 
 impl<D: Mdisk> ActorScript<D> {
-    /// The script of an actor, by its number, over a store with grains of this size and so many lanes. The tray is an empty list
-    /// with room for all of them. Takes no memory.
+    /// The script of an actor, by its number, over a store with grains of this size and so many
+    /// lanes. The tray is an empty list with room for all of them. Takes no memory.
     pub fn new(
         alloc: Global,
         actor: u32,

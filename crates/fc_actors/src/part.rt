@@ -6,7 +6,8 @@ use fc_store::store_part::StorePart;
 use fc_yard::part::Part;
 use std::marker::Model;
 
-/// What the parts of a store stand for together: the grain size, and what the history tells. No value of it is made.
+/// What the parts of a store stand for together: the grain size, and what the history tells. No
+/// value of it is made.
 pub struct Told;
 
 impl Model for Told {

@@ -1,6 +1,7 @@
 //! The script of an actor: what it has still to ask, and how each request is done.
 
-ghost use Rattle.std.specs.Prelude.{◌≡◌, ℕ, suc, ◌+◌, ◌<◌, ◌≤◌, [], ◌∷◌, List, All, length, flat_map};
+ghost use Rattle.std.specs.Prelude.{◌≡◌, ℕ, suc, ◌+◌, ◌<◌, ◌≤◌};
+ghost use Rattle.std.specs.Prelude.{[], ◌∷◌, List, All, length, flat_map};
 ghost use Rattle.std.specs.VecDeque.{deque_len, deque_capacity};
 ghost use Rattle.fc_actors.specs.Spans.{turn_of};
 ghost use Rattle.fc_actors.specs.declared.span.Span.{Span};
@@ -12,7 +13,9 @@ ghost use Rattle.fc_base.specs.declared.request.Request.{Request};
 ghost use Rattle.fc_shares.specs.Law.{LaneLeads, refused_entry};
 ghost use Rattle.fc_stands.specs.Apart.{IsRefusalOf};
 ghost use Rattle.fc_shares.specs.Situation.{HasLane, IsSound, Situation};
-ghost use Rattle.fc_actors.specs.Scripts.{CanActIn, FitsFirst, Goes, IsOfBlock, IsSameScript, ItemSuits, WorkSuits, item_left, item_needs, left_of, needs_of};
+ghost use Rattle.fc_actors.specs.Scripts.{CanActIn, FitsFirst, Goes, IsOfBlock, IsSameScript};
+ghost use Rattle.fc_actors.specs.Scripts.{ItemSuits, WorkSuits, item_left, item_needs};
+ghost use Rattle.fc_actors.specs.Scripts.{left_of, needs_of};
 
 use crate::span::{Span, access_next, turn_next};
 use fc_base::command::Command;
@@ -43,7 +46,8 @@ pub enum Item {
 pub enum Left {
     /// What these lines ask.
     Lines(VecDeque<Item>),
-    /// The turns of a worker from the next one on, who copies or cleans, in the lanes 0, 1, .. in turn.
+    /// The turns of a worker from the next one on, who copies or cleans, in the lanes 0, 1, .. in
+    /// turn.
     Turns { cleans: bool, next: u32, turns: u32 },
 }
 
@@ -92,14 +96,20 @@ fn next_grain<D: Mdisk>(
     items: &mut VecDeque<Item>,
     lane: &mut Lane<D>,
 ) -> Entry
-    requires can { (first s : Situation) × (i : ℕ) × (opening : LaneView) × IsSound first s × HasLane s i opening lane.old × All (ItemSuits first) items.old.items
-        × (first.grain ≡ grain) × (item_needs (lanes first.whole) items.old.items ≡ Needs.Part (suc i)) }
+    requires can { (first s : Situation) × (i : ℕ) × (opening : LaneView)
+        × IsSound first s × HasLane s i opening lane.old × All (ItemSuits first) items.old.items
+        × (first.grain ≡ grain)
+        × (item_needs (lanes first.whole) items.old.items ≡ Needs.Part (suc i)) }
     requires ready { IsReady lane.old }
-    ensures leads { (first s : Situation) (i : ℕ) (opening : LaneView) → IsSound first s → HasLane s i opening lane.old → All (ItemSuits first) items.old.items →
-        first.grain ≡ grain → item_needs (lanes first.whole) items.old.items ≡ Needs.Part (suc i) → LaneLeads first s i opening lane.new result }
-    ensures asked { flat_map (item_left grain) items.old.items ≡ result.request ∷ flat_map (item_left grain) items.new.items }
+    ensures leads { (first s : Situation) (i : ℕ) (opening : LaneView) →
+        IsSound first s → HasLane s i opening lane.old → All (ItemSuits first) items.old.items →
+        first.grain ≡ grain → item_needs (lanes first.whole) items.old.items ≡ Needs.Part (suc i) →
+        LaneLeads first s i opening lane.new result }
+    ensures asked { flat_map (item_left grain) items.old.items
+        ≡ result.request ∷ flat_map (item_left grain) items.new.items }
     ensures actor { (result.actor ≡ actor) × (result.number ≡ 0) }
-    ensures suits { (s : Situation) → All (ItemSuits s) items.old.items → All (ItemSuits s) items.new.items }
+    ensures suits { (s : Situation) →
+        All (ItemSuits s) items.old.items → All (ItemSuits s) items.new.items }
 {
     let span = take_span(items);
     let entry = access_next(alloc, actor, grain, span, lane);
@@ -122,9 +132,12 @@ fn take_turn<D: Mdisk>(
     lane: &mut Lane<D>,
 ) -> Entry
     requires left { next.old < turns }
-    requires can { (first s : Situation) × (i : ℕ) × (opening : LaneView) × IsSound first s × HasLane s i opening lane.old }
+    requires can { (first s : Situation) × (i : ℕ) × (opening : LaneView)
+        × IsSound first s × HasLane s i opening lane.old }
     requires ready { IsReady lane.old }
-    ensures leads { (first s : Situation) (i : ℕ) (opening : LaneView) → IsSound first s → HasLane s i opening lane.old → LaneLeads first s i opening lane.new result }
+    ensures leads { (first s : Situation) (i : ℕ) (opening : LaneView) →
+        IsSound first s → HasLane s i opening lane.old →
+        LaneLeads first s i opening lane.new result }
     ensures asked { IsAsked 0 actor (turn_of cleans lane.old.lane) result }
     ensures next { next.new ≡ next.old + 1 }
 {
@@ -154,7 +167,8 @@ impl<D: Mdisk> ActorScript<D> {
     pub(crate) fn act_in(&mut self, lane: &mut Lane<D>) -> Entry
         requires can { CanActIn self.old lane.old }
         requires ready { IsReady lane.old }
-        ensures leads { (first s : Situation) (i : ℕ) (opening : LaneView) → IsSound first s → HasLane s i opening lane.old → FitsFirst first self.old →
+        ensures leads { (first s : Situation) (i : ℕ) (opening : LaneView) →
+            IsSound first s → HasLane s i opening lane.old → FitsFirst first self.old →
             needs_of self.old ≡ Needs.Part (suc i) → LaneLeads first s i opening lane.new result }
         ensures goes { Goes self.old result self.new }
         ensures same { IsSameScript self.old self.new }
@@ -175,7 +189,8 @@ impl<D: Mdisk> ActorScript<D> {
         ensures goes { Goes self.old result self.new }
         ensures same { IsSameScript self.old self.new }
         ensures refused { (s : Situation) → WorkSuits s self.old.work →
-            (request : Request) × (refusal : Refusal) × IsRefusalOf s.grain s.whole request refusal × (result ≡ refused_entry self.old.actor request refusal) }
+            (request : Request) × (refusal : Refusal) × IsRefusalOf s.grain s.whole request refusal
+            × (result ≡ refused_entry self.old.actor request refusal) }
     {
         let Left::Lines(items) = &mut self.work else {
             unreachable!()
@@ -203,7 +218,9 @@ impl<D: Mdisk> ActorScript<D> {
     }
 
     /// The number of the actor.
-    pub(crate) fn number(&self) -> u32 {
+    pub fn number(&self) -> u32
+        ensures { result ≡ self.now.actor }
+    {
         self.actor
     }
 }

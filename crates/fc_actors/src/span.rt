@@ -35,7 +35,8 @@ pub struct Span {
     pub end: u32,
 }
 
-/// Does the next grain of an access in its lane, in which room was made. The entry has number 0 until its own is drawn.
+/// Does the next grain of an access in its lane, in which room was made. The entry has number 0
+/// until its own is drawn.
 pub(crate) fn access_next<D: Mdisk>(
     alloc: Global,
     actor: u32,
@@ -43,12 +44,15 @@ pub(crate) fn access_next<D: Mdisk>(
     span: Span,
     lane: &mut Lane<D>,
 ) -> Entry
-    requires can { (first s : Situation) × (i : ℕ) × (opening : LaneView) × IsSound first s × HasLane s i opening lane.old
-        × IsSpanOf first span × (first.grain ≡ grain) × (i ≡ span.next % lanes first.whole) }
+    requires can { (first s : Situation) × (i : ℕ) × (opening : LaneView)
+        × IsSound first s × HasLane s i opening lane.old × IsSpanOf first span
+        × (first.grain ≡ grain) × (i ≡ span.next % lanes first.whole) }
     requires ready { IsReady lane.old }
-    ensures leads { (first s : Situation) (i : ℕ) (opening : LaneView) → IsSound first s → HasLane s i opening lane.old →
-        IsSpanOf first span → first.grain ≡ grain → i ≡ span.next % lanes first.whole → LaneLeads first s i opening lane.new result }
-    ensures asked { IsAsked 0 actor (part_of grain span.access span.volume span.block span.count span.next) result }
+    ensures leads { (first s : Situation) (i : ℕ) (opening : LaneView) →
+        IsSound first s → HasLane s i opening lane.old → IsSpanOf first span → first.grain ≡ grain →
+        i ≡ span.next % lanes first.whole → LaneLeads first s i opening lane.new result }
+    ensures asked { IsAsked 0 actor
+        (part_of grain span.access span.volume span.block span.count span.next) result }
 {
     let (first, count) = blocks_in(grain, span.block, span.count, span.next);
     access_lane(
@@ -63,16 +67,19 @@ pub(crate) fn access_next<D: Mdisk>(
     )
 }
 
-/// Takes a worker's turn in the lane, in which room was made. The entry has number 0 until its own is drawn.
+/// Takes a worker's turn in the lane, in which room was made. The entry has number 0 until its own
+/// is drawn.
 pub(crate) fn turn_next<D: Mdisk>(
     alloc: Global,
     actor: u32,
     cleans: bool,
     lane: &mut Lane<D>,
 ) -> Entry
-    requires can { (first s : Situation) × (i : ℕ) × (opening : LaneView) × IsSound first s × HasLane s i opening lane.old }
+    requires can { (first s : Situation) × (i : ℕ) × (opening : LaneView)
+        × IsSound first s × HasLane s i opening lane.old }
     requires ready { IsReady lane.old }
-    ensures leads { (first s : Situation) (i : ℕ) (opening : LaneView) → IsSound first s → HasLane s i opening lane.old →
+    ensures leads { (first s : Situation) (i : ℕ) (opening : LaneView) →
+        IsSound first s → HasLane s i opening lane.old →
         LaneLeads first s i opening lane.new result }
     ensures asked { IsAsked 0 actor (turn_of cleans lane.old.lane) result }
 {

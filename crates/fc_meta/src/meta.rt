@@ -148,6 +148,7 @@ impl<M: MetaDisk> Meta<M> {
         ensures found { OnOk result (found M.seen self.new ≡ found M.seen self.old) }
         ensures filled { OnOk result (filled M.seen self.new ≡ Image image.now) }
         ensures generation { OnOk result (generation_of self.new ≡ generation_of self.old) }
+        ensures used { OnOk result (used_of self.new ≡ used_of self.old) }
         ensures next { OnOk result
             (next_of self.new ≡ length (half_bytes (generation_of self.old + 1) image.now)) }
         ensures size { length (M.seen (disk_of self.new)) ≡ length (M.seen (disk_of self.old)) }

@@ -1,6 +1,6 @@
 //! What a disk of metadata stands for, read again.
 
-ghost use Rattle.std.specs.Prelude.{◌≡◌, ◌<◌, ◌≤◌, ◌+◌, ◌^◌, List, ℕ, length, drop, IfOk, IfErr, OnOk, OnErr, IsErrOf, is_err, true};
+ghost use Rattle.std.specs.Prelude.{◌≡◌, ◌⊎◌, ◌<◌, ◌≤◌, ◌+◌, ◌^◌, List, ℕ, length, drop, IfOk, IfErr, OnOk, OnErr, IsErrOf, is_err, true};
 ghost use Rattle.fc_base.specs.Count.{FaultsAfter, HasRisen, one_more};
 ghost use Rattle.fc_metadisk.specs.Disk.{LeavesOnly, Only};
 ghost use Rattle.fc_format.specs.Halves.{half_of, half_size, half_start, front, least_half, recovered, IsHalfRead};
@@ -50,6 +50,8 @@ impl<M: MetaDisk> Meta<M> {
         ensures failed { IfErr result
             (λ e. e.1 ≡ RecoverError.Failed → HasRisen (M.fault_count disk) (M.fault_count e.0)) }
         ensures quiet { OnOk result (M.fault_count (recovered_disk result) ≡ M.fault_count disk) }
+        ensures calm { IfErr result
+            (λ e. (e.1 ≡ RecoverError.Failed) ⊎ (M.fault_count e.0 ≡ M.fault_count disk)) }
         ensures made { M.calls (recovered_disk result) ≡ one_more (M.calls disk) }
     {
         let mut disk = disk;
@@ -82,6 +84,8 @@ fn read_disk<M: MetaDisk>(alloc: Global, disk: &mut M) -> Result<Standing, Recov
     ensures failed { IsErrOf result RecoverError.Failed → HasRisen (M.fault_count disk.old)
         (M.fault_count disk.new) }
     ensures quiet { OnOk result (M.fault_count disk.new ≡ M.fault_count disk.old) }
+    ensures calm { IfErr result
+        (λ e. (e ≡ RecoverError.Failed) ⊎ (M.fault_count disk.new ≡ M.fault_count disk.old)) }
     ensures made { M.calls disk.new ≡ one_more (M.calls disk.old) }
 {
     disk.sync()?;
@@ -162,6 +166,8 @@ fn read_image<M: MetaDisk>(
         (M.fault_count disk.new) }
     ensures kept { M.fault_count disk.old ≤ M.fault_count disk.new }
     ensures quiet { OnOk result (M.fault_count disk.new ≡ M.fault_count disk.old) }
+    ensures calm { IfErr result
+        (λ e. (e ≡ RecoverError.Failed) ⊎ (M.fault_count disk.new ≡ M.fault_count disk.old)) }
 {
     let len = half_len(disk);
     let start = start_of(disk, half);

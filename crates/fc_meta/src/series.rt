@@ -38,6 +38,7 @@ impl<M: MetaDisk> Meta<M> {
         ensures refused { OnErr result (IsErrOf result MetaError.Failed ⊎ (self.new ≡ self.old)) }
         ensures full { IsErrOf result MetaError.Full → HasNoRoom M.seen call.now self.old }
         ensures no_memory { IsErrOf result MetaError.NoMemory → TakesMemory call.now }
+        ensures size { length (M.seen (disk_of self.new)) ≡ length (M.seen (disk_of self.old)) }
         ensures any_moment { LeavesOnly M.moment M.left_since (disk_of self.old) (disk_of self.new)
             (LeavesEither (found M.seen self.old) (coming M.seen call.now self.old)) }
         ensures failed { IsErrOf result MetaError.Failed → HasRisen
@@ -77,6 +78,7 @@ impl<M: MetaDisk> Meta<M> {
             (IsAt M.seen M.may_leave (stage_behind AtRest (take result.0 calls.now)) self.new) }
         ensures found { UnlessFailed result.1
             (found M.seen self.new ≡ stands (found M.seen self.old) (take result.0 calls.now)) }
+        ensures size { length (M.seen (disk_of self.new)) ≡ length (M.seen (disk_of self.old)) }
         ensures durable { UnlessFailed result.1
             ((c : List ℕ) → M.may_leave (disk_of self.new) c →
             LeavesFound (stands (found M.seen self.old) (take result.0 calls.now)) c) }
@@ -87,7 +89,7 @@ impl<M: MetaDisk> Meta<M> {
             (LeavesFront (found M.seen self.old) (take (result.0 + 1) calls.now)) }
         ensures failed { IsErrOf result.1 MetaError.Failed → HasRisen
             (M.fault_count (disk_of self.old)) (M.fault_count (disk_of self.new)) }
-        ensures quiet { OnOk result.1
+        ensures quiet { UnlessFailed result.1
             (M.fault_count (disk_of self.new) ≡ M.fault_count (disk_of self.old)) }
         ensures calls { UnlessFailed result.1 (M.calls (disk_of self.new) ≡ more_calls
             (sum_by disk_calls (take result.0 calls.now)) (M.calls (disk_of self.old))) }

@@ -27,6 +27,7 @@ impl<M: MetaDisk> Meta<M> {
         ensures generation { OnOk result (generation_of self.new ≡ generation_of self.old) }
         ensures used { OnOk result
             (used_of self.new ≡ used_of self.old + length (batch_bytes records.now)) }
+        ensures size { length (M.seen (disk_of self.new)) ≡ length (M.seen (disk_of self.old)) }
         ensures any_moment { LeavesOnly M.moment M.left_since (disk_of self.old) (disk_of self.new)
             (LeavesEither (found M.seen self.old)
             (found_with (found M.seen self.old) records.now)) }
@@ -59,6 +60,7 @@ impl<M: MetaDisk> Meta<M> {
         ensures generation { OnOk result (generation_of self.new ≡ generation_of self.old + 1) }
         ensures used { OnOk result
             (used_of self.new ≡ length (half_bytes (generation_of self.old + 1) image.now)) }
+        ensures size { length (M.seen (disk_of self.new)) ≡ length (M.seen (disk_of self.old)) }
         ensures any_moment { LeavesOnly M.moment M.left_since (disk_of self.old) (disk_of self.new)
             (LeavesEither (found M.seen self.old) (Image image.now)) }
         ensures full { IsErrOf result MetaError.Full →
@@ -67,6 +69,7 @@ impl<M: MetaDisk> Meta<M> {
             (IsResting M.seen M.may_leave self.new × (found M.seen self.new ≡ found M.seen self.old) ×
             (generation_of self.new ≡ generation_of self.old) ×
             (used_of self.new ≡ used_of self.old) ×
+            (M.fault_count (disk_of self.new) ≡ M.fault_count (disk_of self.old)) ×
             (M.calls (disk_of self.new) ≡ more_calls 2 (M.calls (disk_of self.old))))) }
         ensures room { OnOk result
             (PassesHalf (generation_of self.old) image.now (room_of M.seen self.old) → ⊥) }

@@ -172,6 +172,7 @@ ReadTo-past ending.TooLong taken before now after runs line history so_far full 
   takes = EachGave-last before now after so_far.takes took;
   ends = (so_far.bytes, past.0, refl, so_far.counted ∙ full, so_far.progress);
 }
+ReadTo-past ending.Unended taken before now after runs line history so_far full took past = absurd past
 ReadTo-past ending.WriteFault taken before now after runs line history so_far full took past = absurd past
 ReadTo-past (ending.Stopped stop) taken before now after runs line history so_far full took past = absurd past
 

@@ -1,12 +1,12 @@
 -- The words of a session on closed examples.
-use Rattle.std.proofs.Common.{◌≡◌, ℕ, List, [], ◌∷◌, Some, refl, inl, inr, arith}
+use Rattle.std.proofs.Common.{◌≡◌, ℕ, true, false, List, [], ◌∷◌, Some, refl, inl, inr, arith}
 use Rattle.fc_entry.specs.HistoryState.{HistoryState}
 use Rattle.fc_io.specs.Sink.{SinkState}
 use Rattle.fc_io.specs.Source.{SourceState}
 use Rattle.fc_run.specs.Headline.{Session, SessionEnds}
 use Rattle.fc_run.specs.Input.{OfFirstTaken}
 use Rattle.fc_run.specs.Runs.{Runs}
-use Rattle.fc_run.specs.declared.ended.Ended.TheVariants.{Done}
+use Rattle.fc_run.specs.declared.ended.Ended.TheVariants.{Done, Unended}
 use Rattle.fc_run.specs.declared.form.Form.TheVariants.{Text}
 
 -- a source that has a newline left, and one that is at its end
@@ -40,7 +40,7 @@ a_line_that_ended = record {
 
 -- an answerer of no line, a history without entries, and a sink that holds a byte which waits
 abbrev no_line : Runs
-no_line = record { Whole = λ lines history. lines ≡ []; Full = λ lines history. ⊥; Front = λ lines history. ⊥ }
+no_line = record { Whole = λ lines history. lines ≡ []; Full = λ lines history. ⊥; Front = λ lines history. ⊥; is_open = λ lines. false }
 
 abbrev no_entry : HistoryState
 no_entry = record { actors = []; entries = [] }
@@ -54,7 +54,17 @@ leaving sink' =
     record { ended = Done; form = Text; source = at_end; source' = at_end; sink = waiting; sink' = sink'; history = no_entry }
 
 done : SessionEnds (leaving (record waiting { sent = Some (7 ∷ []) })) no_line
-done = record { bytes = []; gave = refl; ends = (refl, omega arith, refl, (refl, refl)) }
+done = record { bytes = []; gave = refl; ends = (refl, omega arith, refl, refl, (refl, refl)) }
 
 not_done : SessionEnds (leaving waiting) no_line → ⊥
-not_done session = cc (session.ends.3.1)
+not_done session = cc (session.ends.4.1)
+
+-- where something is open after the lines, it ends so, and isn't done
+abbrev something_open : Runs
+something_open = record no_line { is_open = λ lines. true }
+
+unended : SessionEnds (record (leaving (record waiting { sent = Some (7 ∷ []) })) { ended = Unended }) something_open
+unended = record { bytes = []; gave = refl; ends = (refl, omega arith, refl, refl, (refl, refl)) }
+
+not_done_open : SessionEnds (leaving (record waiting { sent = Some (7 ∷ []) })) something_open → ⊥
+not_done_open session = cc (session.ends.3)

@@ -8,10 +8,10 @@ use Rattle.fc_entry.proofs.LineLemmas.{Grows, ended_lines-grow}
 use Rattle.fc_entry.specs.declared.stop.Stop.TheVariants.{LogFull, NoMemory}
 use Rattle.fc_io.specs.Sink.{SinkState}
 use Rattle.fc_io.specs.Source.{SourceState}
-use Rattle.fc_run.specs.Headline.{Session, SessionEnds}
+use Rattle.fc_run.specs.Headline.{EndsAs, Session, SessionEnds}
 use Rattle.fc_run.specs.Input.{OfFirst, OfFirstTaken, input_limit}
 use Rattle.fc_run.specs.Output.{HasFailed, HasGot, IsPut, IsWritten, text_so_far}
-use Rattle.fc_run.specs.ReadTo.{SessionRead, ended_for, is_write_fault}
+use Rattle.fc_run.specs.ReadTo.{EndsInput, SessionRead, ended_for, is_write_fault}
 use Rattle.fc_run.specs.Runs.{Runs}
 use Rattle.fc_run.specs.Summary.{form_text}
 use Rattle.fc_run.specs.declared.ended.Ended.{Ended}
@@ -78,6 +78,19 @@ SessionEnds-unwritten of form put source source' sink sink' runs history same re
       );
     }
 
+-- all lines were answered at the end of input, inside something open or not, and the sink failed
+unwritten_at_end :
+    (is_open : Bool) (form : Form) (source source' : SourceState) (sink sink' : SinkState) (runs : Runs) (history : HistoryState) (bytes : List ℕ) →
+    EndsInput is_open source' runs bytes history →
+    HasFailed sink (form_text form history) sink' →
+    EndsAs ended.WriteFault (session_of ended.WriteFault form source source' sink sink' history) runs bytes
+unwritten_at_end is_open form source source' sink sink' runs history bytes ends cut = (
+  cut.risen,
+  omega (arith, ends.1),
+  record { lines = all_lines bytes; are = inr (ends.0, refl); of = OfFirst-all (all_lines bytes) _ (inl ends.2) },
+  cut.front,
+)
+
 -- the session was read to another end, and what was left of the text was to be written
 SessionEnds-written :
     (e : Ending) (failed : Bool) (form : Form) (source source' : SourceState) (sink sink' : SinkState) (runs : Runs) (history : HistoryState) →
@@ -88,17 +101,22 @@ SessionEnds-written :
 SessionEnds-written ending.End false form source source' sink sink' runs history other read written = record {
   bytes = read.bytes;
   gave = read.gave;
-  ends = (read.ends.0, read.ends.1, read.ends.2, (written.got.held, written.sent));
+  ends = (read.ends.0, read.ends.1, read.ends.2, read.ends.3, (written.got.held, written.sent));
 }
 SessionEnds-written ending.End true form source source' sink sink' runs history other read written = record {
   bytes = read.bytes;
   gave = read.gave;
-  ends = (
-    written.cut.risen,
-    omega (arith, read.ends.1),
-    record { lines = all_lines read.bytes; are = inr (read.ends.0, refl); of = OfFirst-all (all_lines read.bytes) _ (inl read.ends.2) },
-    written.cut.front,
-  );
+  ends = unwritten_at_end false form source source' sink sink' runs history read.bytes read.ends written.cut;
+}
+SessionEnds-written ending.Unended false form source source' sink sink' runs history other read written = record {
+  bytes = read.bytes;
+  gave = read.gave;
+  ends = (read.ends.0, read.ends.1, read.ends.2, read.ends.3, (written.got.held, written.sent));
+}
+SessionEnds-written ending.Unended true form source source' sink sink' runs history other read written = record {
+  bytes = read.bytes;
+  gave = read.gave;
+  ends = unwritten_at_end true form source source' sink sink' runs history read.bytes read.ends written.cut;
 }
 SessionEnds-written ending.ReadFault false form source source' sink sink' runs history other read written = record {
   bytes = read.bytes;
@@ -176,6 +194,7 @@ SessionEnds-written (ending.Stopped NoMemory) true form source source' sink sink
 
 is_write_fault-other : (e : Ending) → (e ≡ ending.WriteFault → ⊥) → is_write_fault e ≡ false
 is_write_fault-other ending.End other = refl
+is_write_fault-other ending.Unended other = refl
 is_write_fault-other ending.ReadFault other = refl
 is_write_fault-other ending.TooLong other = refl
 is_write_fault-other ending.WriteFault other = absurd (other refl)

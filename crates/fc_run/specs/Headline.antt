@@ -1,5 +1,5 @@
 -- What a session's bytes, its history and the written bytes have to do with one another, for each way to end.
-use Rattle.std.specs.Prelude.{◌≡◌, ◌⊎◌, ℕ, ◌+◌, ◌≤◌, List, [], ◌∷◌, ◌++◌, length}
+use Rattle.std.specs.Prelude.{◌≡◌, ◌⊎◌, ℕ, ◌+◌, ◌≤◌, Bool, true, false, List, [], ◌∷◌, ◌++◌, length}
 use Rattle.fc_base.specs.Count.{HasRisen}
 use Rattle.fc_entry.specs.HistoryState.{HistoryState}
 use Rattle.fc_entry.specs.Lines.{ended_lines, all_lines}
@@ -30,14 +30,21 @@ GotText s = (s.sink'.held ≡ held_with s.sink.held (form_text s.form s.history)
 abbrev pub GotFront : Session → Type 0
 GotFront s = AddsFront s.sink.held (form_text s.form s.history) s.sink'.held
 
--- what each way to end says of the bytes that were taken, of their lines, and of what was written
-abbrev pub EndsAs : Ended → Session → Runs → List ℕ → Type 0
--- the source is at its end, all lines are answered, and the text is written
-EndsAs ended.Done s runs bytes =
+-- the source is at its end, all lines are answered, inside something open or not, and the text is written
+abbrev pub EndsAtEnd : Bool → Session → Runs → List ℕ → Type 0
+EndsAtEnd is_open s runs bytes =
     IsAtEnd s.source'
     × (length bytes ≤ input_limit)
     × runs.Whole (all_lines bytes) s.history
+    × (runs.is_open (all_lines bytes) ≡ is_open)
     × GotText s
+
+-- what each way to end says of the bytes that were taken, of their lines, and of what was written
+abbrev pub EndsAs : Ended → Session → Runs → List ℕ → Type 0
+-- at the end of the source nothing is open
+EndsAs ended.Done s runs bytes = EndsAtEnd false s runs bytes
+-- at the end of the source something is open, which stays unanswered
+EndsAs ended.Unended s runs bytes = EndsAtEnd true s runs bytes
 -- a call of the source failed; the lines that had ended are answered, and the text is written
 EndsAs ended.ReadFault s runs bytes =
     HasRisen s.source.faults s.source'.faults

@@ -49,6 +49,8 @@ TurnWithin (turn.Stopped n stop) most = (0 < n) × (n ≤ most)
 abbrev pub EndsReading : Ending → SourceState → SourceState → Runs → List ℕ → List ℕ → HistoryState → Type 0
 EndsReading ending.End before after runs bytes line history =
     IsAtEnd after × (length bytes ≤ input_limit) × Progress runs bytes line history
+-- what is open is asked at the end of the session
+EndsReading ending.Unended before after runs bytes line history = ⊥
 EndsReading ending.ReadFault before after runs bytes line history =
     HasRisen before.faults after.faults × (length bytes ≤ input_limit) × Progress runs bytes line history
 EndsReading ending.TooLong before after runs bytes line history =
@@ -87,13 +89,22 @@ abbrev pub PastLimit : Ending → SourceState → SourceState → Type 0
 PastLimit ending.End before after = IsAtEnd after × Gave before [] after
 PastLimit ending.TooLong before after = (past : ℕ) × Gave before (past ∷ []) after
 PastLimit ending.ReadFault before after = HasRisen before.faults after.faults × Gave before [] after
+PastLimit ending.Unended before after = ⊥
 PastLimit ending.WriteFault before after = ⊥
 PastLimit (ending.Stopped _) before after = ⊥
 
+-- at the end of input all lines are answered, inside something open or not
+abbrev pub EndsInput : Bool → SourceState → Runs → List ℕ → HistoryState → Type 0
+EndsInput is_open after runs bytes history =
+    IsAtEnd after
+    × (length bytes ≤ input_limit)
+    × runs.Whole (all_lines bytes) history
+    × (runs.is_open (all_lines bytes) ≡ is_open)
+
 -- how a session ended after these bytes, the line that the end of input ends answered too
 abbrev pub EndsSession : Ending → SourceState → SourceState → Runs → List ℕ → HistoryState → Type 0
-EndsSession ending.End before after runs bytes history =
-    IsAtEnd after × (length bytes ≤ input_limit) × runs.Whole (all_lines bytes) history
+EndsSession ending.End before after runs bytes history = EndsInput false after runs bytes history
+EndsSession ending.Unended before after runs bytes history = EndsInput true after runs bytes history
 EndsSession ending.ReadFault before after runs bytes history =
     HasRisen before.faults after.faults × (length bytes ≤ input_limit) × runs.Whole (ended_lines bytes) history
 EndsSession ending.TooLong before after runs bytes history =
@@ -121,6 +132,7 @@ written_or done failed = cond failed ended.WriteFault done
 -- how a session ended of which reading ended so, its text written or not
 abbrev pub ended_for : Ending → Bool → Ended
 ended_for ending.End failed = written_or ended.Done failed
+ended_for ending.Unended failed = written_or ended.Unended failed
 ended_for ending.ReadFault failed = written_or ended.ReadFault failed
 ended_for ending.TooLong failed = written_or ended.TooLong failed
 ended_for ending.WriteFault failed = ended.WriteFault

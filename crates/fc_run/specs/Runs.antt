@@ -1,6 +1,6 @@
 -- Who answers the lines of a session, as the loop over lines knows it: by three predicates on the lines so far and the
--- history.
-use Rattle.std.specs.Prelude.{◌≡◌, ℕ, List, ◌++◌, length, Result, Ok, Err}
+-- history, and by which lines end inside something that they opened.
+use Rattle.std.specs.Prelude.{◌≡◌, ℕ, Bool, List, ◌++◌, length, Result, Ok, Err}
 use Rattle.fc_entry.specs.declared.entry.Entry.{Entry}
 use Rattle.fc_entry.specs.declared.stop.Stop.{Stop}
 use Rattle.fc_entry.specs.declared.stop.Stop.TheVariants.{LogFull, NoMemory}
@@ -13,6 +13,8 @@ pub record Runs : Type 1 where
   pub Full : List (List ℕ) → HistoryState → Type 0
   -- the history has the first entries of these lines, for want of memory
   pub Front : List (List ℕ) → HistoryState → Type 0
+  -- these lines have opened something that none of them ends
+  pub is_open : List (List ℕ) → Bool
 
 -- what the answer to the last of these lines leaves
 abbrev pub LineLeaves : {A : Type 0} → Result A Stop → Runs → List (List ℕ) → HistoryState → Type 0

@@ -1,6 +1,7 @@
 //! Who answers the lines of a session.
 
 ghost use Rattle.std.specs.Prelude.{◌≡◌, ◌≤◌, ℕ, List, [], ◌∷◌, ◌++◌, length};
+ghost use Rattle.fc_entry.specs.HistoryState.{HistoryState};
 ghost use Rattle.fc_entry.specs.Text.{HasNames};
 ghost use Rattle.fc_run.specs.Runs.{GrowsTo, LineLeaves, Runs};
 
@@ -26,4 +27,9 @@ pub trait Answers {
         ensures named { HasNames history.old → HasNames history.new }
         ensures grows { GrowsTo history.old history.new }
         ensures limit { length history.new.entries ≤ 262144 };
+
+    /// Whether the lines so far have opened something that none of them ends.
+    fn is_open(&self) -> bool
+        ensures { (start : Start) (lines : List (List ℕ)) (history : HistoryState) → (runs self.now start).Whole lines history
+            → result ≡ (runs self.now start).is_open lines };
 }

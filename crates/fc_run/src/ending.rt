@@ -14,6 +14,7 @@ pub fn ended_by(ending: Ending, written: &Result<(), Failed>) -> Ended
 {
     match ending {
         Ending::End => written_or(Ended::Done, written),
+        Ending::Unended => written_or(Ended::Unended, written),
         Ending::ReadFault => written_or(Ended::ReadFault, written),
         Ending::TooLong => written_or(Ended::TooLong, written),
         Ending::WriteFault => Ended::WriteFault,

@@ -36,6 +36,9 @@ pub enum Turn {
 pub enum Ending {
     /// The input is at its end.
     End,
+    /// The input is at its end, inside something that it opened. Reading pieces never ends so: it is known when the last line
+    /// was answered.
+    Unended,
     /// The source failed.
     ReadFault,
     /// A byte past the greatest input was taken.

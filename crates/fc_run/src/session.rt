@@ -56,7 +56,13 @@ fn read_session<S: Source, K: Sink, A: Answers>(
     );
     match ending {
         Ending::End => match answer_last(line.as_slice(), answers, history) {
-            Ok(()) => Ending::End,
+            Ok(()) => {
+                if answers.is_open() {
+                    Ending::Unended
+                } else {
+                    Ending::End
+                }
+            }
             Err(stop) => Ending::Stopped(stop),
         },
         other => other,

@@ -40,6 +40,16 @@ pub struct Answered<E, S> {
 }
 
 impl<P, E: Drop, S> Actor<P, E, S> {
+    /// Comes to the gate with the request under way, whose entry isn't among those made yet.
+    fn come_to<W, G: Gate>(&self, gate: &G, moment: Moment)
+    where
+        P: Part<W, E>,
+        S: Script<W, E, P>,
+    {
+        let request = self.made.len().min(u32::MAX as usize) as u32;
+        gate.reach(self.script.actor(), request, moment);
+    }
+
     /// Does the next request of the script, which needs this part. `LogFull` where the yard has no ticket left, and `NoMemory`
     /// where none is had for the entry or for room in the part: nothing was done then.
     fn do_in<R: Wait, W, G: Gate>(
@@ -59,7 +69,8 @@ impl<P, E: Drop, S> Actor<P, E, S> {
         ensures acting { IsActing S.needed S.suits S.goes yard.now self.new }
         ensures same { IsSamePass self.old.pass.view self.new.pass.view }
         ensures done { OnOk result (HasDone S.needed S.suits S.goes self.old self.new) }
-        ensures not { IfErr result (λ stop. StepEnds S.needed S.suits S.goes stop self.old self.new) }
+        ensures not { IfErr result
+            (λ stop. StepEnds S.needed S.suits S.goes stop self.old self.new) }
         ensures fewer { OnOk result (S.most self.new.script < S.most self.old.script) }
     {
         if self.made.reserve(1).is_err() {
@@ -76,17 +87,9 @@ impl<P, E: Drop, S> Actor<P, E, S> {
         }
         let entry = self.script.act(&mut value);
         let number = yard.draw(&mut self.pass, part, &value, &entry);
-        gate.reach(
-            self.script.actor(),
-            self.made.len().min(u32::MAX as usize) as u32,
-            Moment::Inside,
-        );
+        self.come_to::<W, G>(gate, Moment::Inside);
         yard.put(&mut self.pass, part, value);
-        gate.reach(
-            self.script.actor(),
-            self.made.len().min(u32::MAX as usize) as u32,
-            Moment::Answered,
-        );
+        self.come_to::<W, G>(gate, Moment::Answered);
         self.made.push_reserved((number, entry));
         Ok(())
     }
@@ -109,7 +112,8 @@ impl<P, E: Drop, S> Actor<P, E, S> {
         ensures acting { IsActing S.needed S.suits S.goes yard.now self.new }
         ensures same { IsSamePass self.old.pass.view self.new.pass.view }
         ensures done { OnOk result (HasDone S.needed S.suits S.goes self.old self.new) }
-        ensures not { IfErr result (λ stop. StepEnds S.needed S.suits S.goes stop self.old self.new) }
+        ensures not { IfErr result
+            (λ stop. StepEnds S.needed S.suits S.goes stop self.old self.new) }
         ensures fewer { OnOk result (S.most self.new.script < S.most self.old.script) }
     {
         if self.made.reserve(1).is_err() {
@@ -125,17 +129,9 @@ impl<P, E: Drop, S> Actor<P, E, S> {
         }
         let entry = self.script.act_over(&mut parts);
         let number = yard.draw_all(&mut self.pass, &parts, &entry);
-        gate.reach(
-            self.script.actor(),
-            self.made.len().min(u32::MAX as usize) as u32,
-            Moment::Inside,
-        );
+        self.come_to::<W, G>(gate, Moment::Inside);
         put_all(yard, &mut self.pass, parts);
-        gate.reach(
-            self.script.actor(),
-            self.made.len().min(u32::MAX as usize) as u32,
-            Moment::Answered,
-        );
+        self.come_to::<W, G>(gate, Moment::Answered);
         self.made.push_reserved((number, entry));
         Ok(())
     }
@@ -156,7 +152,8 @@ impl<P, E: Drop, S> Actor<P, E, S> {
         ensures acting { IsActing S.needed S.suits S.goes yard.now self.new }
         ensures same { IsSamePass self.old.pass.view self.new.pass.view }
         ensures stepped { Stepped S.needed S.suits S.goes result self.old self.new }
-        ensures fewer { IfOk result (λ more. OnTrue more (S.most self.new.script < S.most self.old.script)) }
+        ensures fewer { IfOk result
+            (λ more. OnTrue more (S.most self.new.script < S.most self.old.script)) }
     {
         match self.script.needs() {
             Needs::Part(part) => match self.do_in(rt, alloc, yard, gate, part) {
@@ -187,7 +184,8 @@ impl<P, E: Drop, S> Actor<P, E, S> {
         ensures acting { IsActing S.needed S.suits S.goes yard.now self.new }
         ensures same { IsSamePass self.old.pass.view self.new.pass.view }
         ensures went { HasWent S.needed S.suits S.goes self.old self.new }
-        ensures stopped { Stopped S.needed S.suits S.goes self.new.pass.view.limit self.new.pass.view.low self.new.script result }
+        ensures stopped { Stopped S.needed S.suits S.goes
+            self.new.pass.view.limit self.new.pass.view.low self.new.script result }
     {
         loop {
             match self.step(rt, alloc, yard, gate) {
@@ -218,7 +216,8 @@ pub fn act<R: Wait, W, E: Drop, P: Part<W, E>, S: Script<W, E, P>, G: Gate>(
     ensures free { IsFree yard.now result.0 }
     ensures same { IsSamePass pass.view result.0.view }
     ensures made { result.0.view.made ≡ result.1.made.items }
-    ensures answered { HasAnswered S.needed S.suits S.goes pass.view.limit result.0.view.low script result.1 }
+    ensures answered { HasAnswered S.needed S.suits S.goes
+        pass.view.limit result.0.view.low script result.1 }
 {
     let mut actor = Actor {
         pass,

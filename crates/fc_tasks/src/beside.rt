@@ -38,14 +38,16 @@ pub fn act_all<
     requires send { IsSend E.row × IsSend P.row × IsSend S.row }
     requires free { IsFree yard.now pass }
     requires opened { IsOpened P.fits P.sound P.count P.steps pass.view }
-    requires suits { AllSuit S.needed S.suits S.goes scripts.items pass.view.openings pass.view.limit }
+    requires suits { AllSuit S.needed S.suits S.goes
+        scripts.items pass.view.openings pass.view.limit }
     requires fresh { pass.view.made ≡ [] }
     requires shares { vec_len scripts ≤ pass.view.shares }
     requires room { (answers.items ≡ []) × (vec_len scripts ≤ vec_capacity answers) }
     ensures free { IsFree yard.now result.0 }
     ensures same { IsSamePass pass.view result.0.view }
     ensures made { result.0.view.made ≡ all_made result.1.items }
-    ensures answered { AllAnswered S.needed S.suits S.goes pass.view.limit result.0.view.low scripts.items result.1.items }
+    ensures answered { AllAnswered S.needed S.suits S.goes
+        pass.view.limit result.0.view.low scripts.items result.1.items }
     ensures room { vec_capacity result.1 ≡ vec_capacity answers }
 {
     let Some(script) = scripts.pop() else {
@@ -60,16 +62,25 @@ pub fn act_all<
     let ((mut pass, mut answers), (other, answered)) = join(
         rt,
         move ||
-            requires { IsSync R.row × IsSend E.row × IsSend P.row × IsSend S.row × IsSync G.row × IsFree yard.now pass × IsOpened P.fits P.sound P.count P.steps pass.view
-                × AllSuit S.needed S.suits S.goes scripts.items pass.view.openings pass.view.limit × (pass.view.made ≡ []) × (vec_len scripts ≤ pass.view.shares)
+            requires { IsSync R.row × IsSend E.row × IsSend P.row × IsSend S.row × IsSync G.row
+                × IsFree yard.now pass × IsOpened P.fits P.sound P.count P.steps pass.view
+                × AllSuit S.needed S.suits S.goes scripts.items pass.view.openings pass.view.limit
+                × (pass.view.made ≡ []) × (vec_len scripts ≤ pass.view.shares)
                 × (answers.items ≡ []) × (vec_len scripts + 1 ≤ vec_capacity answers) }
-            ensures { IsFree yard.entry.now result.0 × IsSamePass pass.view result.0.view × (result.0.view.made ≡ all_made result.1.items)
-                × AllAnswered S.needed S.suits S.goes pass.view.limit result.0.view.low scripts.items result.1.items × (vec_capacity result.1 ≡ vec_capacity answers) }
+            ensures { IsFree yard.entry.now result.0 × IsSamePass pass.view result.0.view
+                × (result.0.view.made ≡ all_made result.1.items)
+                × (AllAnswered S.needed S.suits S.goes
+                pass.view.limit result.0.view.low scripts.items result.1.items)
+                × (vec_capacity result.1 ≡ vec_capacity answers) }
         { act_all(rt, alloc, yard, gate, pass, scripts, answers) },
         move ||
-            requires { IsFree yard.now other × IsOpened P.fits P.sound P.count P.steps other.view × S.suits script other.view.openings other.view.limit × (other.view.made ≡ []) }
-            ensures { IsFree yard.entry.now result.0 × IsSamePass other.view result.0.view × (result.0.view.made ≡ result.1.made.items)
-                × HasAnswered S.needed S.suits S.goes other.view.limit result.0.view.low script result.1 }
+            requires { IsFree yard.now other × IsOpened P.fits P.sound P.count P.steps other.view
+                × S.suits script other.view.openings other.view.limit
+                × (other.view.made ≡ []) }
+            ensures { IsFree yard.entry.now result.0 × IsSamePass other.view result.0.view
+                × (result.0.view.made ≡ result.1.made.items)
+                × (HasAnswered S.needed S.suits S.goes
+                other.view.limit result.0.view.low script result.1) }
         { act(rt, alloc, yard, gate, other, script) },
     );
     yard.join(&mut pass, other);

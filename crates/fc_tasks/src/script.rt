@@ -41,7 +41,8 @@ pub trait Script<W, E, P: Part<W, E>>: Send + Drop {
     fn needs(&self) -> Needs
         requires { (openings : List P) × (limit : ℕ) × suits self.now openings limit }
         ensures needed { result ≡ needed self.now }
-        ensures there { (openings : List P) (limit : ℕ) → suits self.now openings limit → IsThere result openings };
+        ensures there { (openings : List P) (limit : ℕ) →
+            suits self.now openings limit → IsThere result openings };
 
     /// The number of the actor, for the gate.
     fn actor(&self) -> u32;
@@ -50,32 +51,42 @@ pub trait Script<W, E, P: Part<W, E>>: Send + Drop {
     /// whatever it had one of.
     fn make_room(&self, part: &mut P) -> Result<(), NoMemory>
         ensures ok { OnOk result (has_room self.now part.new) }
-        ensures stays { (w : W) (p : ℕ) (x0 : P) → P.fits x0 w p part.old → P.fits x0 w p part.new };
+        ensures stays { (w : W) (p : ℕ) (x0 : P) →
+            P.fits x0 w p part.old → P.fits x0 w p part.new };
 
     /// Does the next request, which needs one part. Takes no memory.
     ///
     /// Whatever is told then of which the part has its share, the entry leads from it to what comes next, of which the part as
     /// it is then has its share, and all others keep theirs.
     fn act(&mut self, part: &mut P) -> E
-        requires can { (p : ℕ) × (needed self.old ≡ Needs.Part p) × (openings : List P) × (limit : ℕ) × suits self.old openings limit
+        requires can { (p : ℕ) × (needed self.old ≡ Needs.Part p)
+            × (openings : List P) × (limit : ℕ) × suits self.old openings limit
             × IsPartOf P.fits P.sound P.count P.steps openings limit p part.old }
         requires room { has_room self.old part.old }
-        ensures leads { (p : ℕ) (openings : List P) (first limit : ℕ) (w0 w : W) (opening : P) → needed self.old ≡ Needs.Part p → suits self.old openings limit →
-            IsTold P.fits P.sound P.count P.steps openings first limit w0 w → get_elem? openings p ≡ some opening → P.fits opening w p part.old →
+        ensures leads { (p : ℕ) (openings : List P) (first limit : ℕ) (w0 w : W) (opening : P) →
+            needed self.old ≡ Needs.Part p → suits self.old openings limit →
+            IsTold P.fits P.sound P.count P.steps openings first limit w0 w →
+            get_elem? openings p ≡ some opening → P.fits opening w p part.old →
             PartLeads P.fits P.sound P.count P.steps w0 w p opening part.new result }
         ensures goes { goes self.old result self.new }
-        ensures suits { (openings : List P) (limit : ℕ) → suits self.old openings limit → suits self.new openings limit }
+        ensures suits { (openings : List P) (limit : ℕ) →
+            suits self.old openings limit → suits self.new openings limit }
         ensures fewer { most self.new < most self.old };
 
     /// Does the next request, which needs all parts. Takes no memory.
     fn act_over(&mut self, parts: &mut Vec<P>) -> E
-        requires can { (needed self.old ≡ Needs.All) × (openings : List P) × (limit : ℕ) × suits self.old openings limit
+        requires can { (needed self.old ≡ Needs.All)
+            × (openings : List P) × (limit : ℕ) × suits self.old openings limit
             × ArePartsOf P.fits P.sound P.count P.steps openings limit parts.old.items }
-        ensures leads { (openings : List P) (first limit : ℕ) (w0 w : W) → needed self.old ≡ Needs.All → suits self.old openings limit →
-            IsTold P.fits P.sound P.count P.steps openings first limit w0 w → length parts.old.items ≡ length openings → AllFit P.fits P.sound P.count P.steps openings w parts.old.items →
+        ensures leads { (openings : List P) (first limit : ℕ) (w0 w : W) →
+            needed self.old ≡ Needs.All → suits self.old openings limit →
+            IsTold P.fits P.sound P.count P.steps openings first limit w0 w →
+            length parts.old.items ≡ length openings →
+            AllFit P.fits P.sound P.count P.steps openings w parts.old.items →
             AllLead P.fits P.sound P.count P.steps openings w0 w parts.new.items result }
         ensures long { length parts.new.items ≡ length parts.old.items }
         ensures goes { goes self.old result self.new }
-        ensures suits { (openings : List P) (limit : ℕ) → suits self.old openings limit → suits self.new openings limit }
+        ensures suits { (openings : List P) (limit : ℕ) →
+            suits self.old openings limit → suits self.new openings limit }
         ensures fewer { most self.new < most self.old };
 }

@@ -1,5 +1,5 @@
 -- What actors of a store answered is the first of what their scripts ask; all of it where nothing is needed any more.
-use Rattle.std.proofs.Common.{◌≡◌, ◌≢◌, ℕ, suc, ◌+◌, ◌-◌, ◌%◌, ◌<◌, Bool, true, false, cond, nat_lt, List, [], ◌∷◌, ◌++◌, map, flat_map, All, refl, sym, ◌∙◌, ap, subst, arith}
+use Rattle.std.proofs.Common.{◌≡◌, ◌≢◌, ℕ, suc, ◌+◌, ◌-◌, ◌%◌, ◌<◌, Bool, true, false, cond, nat_lt, List, [], ◌∷◌, ◌++◌, map, flat_map, All, refl, sym, ◌∙◌, ap, arith}
 use Rattle.std.specs.List.{AllPairs, range_with_len}
 use Rattle.std.proofs.lemmas.Bool.{ltb-true, ltb-false}
 use Rattle.std.proofs.lemmas.List.Elements.{All-cons, All-head, All-nil}
@@ -10,9 +10,9 @@ use Rattle.fc_entry.specs.declared.entry.Entry.{Entry}
 use Rattle.fc_legal.specs.Scripts.{Script}
 use Rattle.fc_shares.specs.Situation.{Situation}
 use Rattle.fc_store.specs.declared.store_part.StorePart.{StorePart}
-use Rattle.fc_tasks.specs.Acting.{AllAbove, AllAnswered, AreRising, HasAnswered, Went, all_made, entries_of}
+use Rattle.fc_tasks.specs.Acting.{AllAbove, AreRising, HasAnswered, Went, all_made, entries_of}
 use Rattle.fc_tasks.specs.declared.actor.Answered.{Answered}
-use Rattle.fc_tasks.specs.declared.script.Needs.TheVariants.{Part, All as AllParts, Nothing}
+use Rattle.fc_tasks.specs.declared.script.Needs.TheVariants.{Part, Nothing}
 use Rattle.fc_actors.proofs.Lines.{behind, request_next, span_more}
 use Rattle.fc_actors.specs.Scripts.{Goes, ItemSuits, Suits, WorkSuits, item_left, item_needs, left_of, needs_of, work_left, work_needs}
 use Rattle.fc_actors.specs.Spans.{span_left, turn_of}
@@ -22,8 +22,9 @@ use Rattle.fc_actors.specs.declared.script.Item.TheVariants.{Access, Refused, Co
 use Rattle.fc_actors.specs.declared.script.Left.{Left}
 use Rattle.fc_actors.specs.declared.script.Left.TheVariants.{Lines, Turns}
 use Rattle.law_together.specs.Asking.{LeavesOf}
-use Rattle.law_together.specs.Making.{IsMaking, Making, own_of, with_number}
+use Rattle.law_together.specs.Making.{IsMaking, own_of, with_number}
 use Rattle.law_together.specs.Making as makings
+use Rattle.fc_together.specs.Answers.{making_of}
 
 -- ---- what is left
 
@@ -97,10 +98,6 @@ module _ {D : Type 0} where
 
   abbrev pub SuitsYard : ActorScript D → List (StorePart D) → ℕ → Type 0
   SuitsYard s parts limit = Suits s parts limit
-
-  -- What an actor made.
-  abbrev pub making_of : Answered Entry (ActorScript D) → Making
-  making_of a = record { actor = a.left.actor; made = a.made.items }
 
   pub done_left : (s : ActorScript D) → needs_of s ≡ Nothing → left_of s ≡ []
   done_left s needs = work_done s.grain s.lanes s.work needs

@@ -1,5 +1,5 @@
 -- What was done over a store, put together: the actors' makings, and how far they came with their scripts.
-use Rattle.std.proofs.Common.{◌≡◌, ℕ, ◌≤◌, List, [], ◌∷◌, map, All, Option, Some, None, refl, sym, ◌∙◌, ap, ap₂, subst, arith}
+use Rattle.std.proofs.Common.{◌≡◌, ℕ, ◌≤◌, List, [], ◌∷◌, map, All, Option, Some, None, refl, sym, ap₂, subst, arith}
 use Rattle.std.proofs.lemmas.List.Elements.{All-cons, All-head, All-nil, All-tail}
 use Rattle.fc_base.specs.declared.request.Request.{Request}
 use Rattle.fc_entry.specs.declared.entry.Entry.{Entry}
@@ -11,7 +11,7 @@ use Rattle.fc_scripts.specs.Ways.{AreOfDifferent, numbers_of}
 use Rattle.fc_shares.specs.Situation.{Situation}
 use Rattle.fc_stands.specs.Store.{StandsFor, StoreView}
 use Rattle.fc_store.specs.declared.store_part.StorePart.{StorePart}
-use Rattle.fc_tasks.specs.Acting.{AllAnswered, HasAnswered, Stopped, all_made}
+use Rattle.fc_tasks.specs.Acting.{AllAnswered, HasAnswered, Stopped}
 use Rattle.fc_tasks.specs.declared.actor.Answered.{Answered}
 use Rattle.fc_actors.specs.Scripts.{WorkSuits, left_of, needs_of}
 use Rattle.fc_actors.specs.declared.script.ActorScript.{ActorScript}
@@ -20,9 +20,10 @@ use Rattle.law_together.proofs.Drawn.{merge_law_holds}
 use Rattle.law_together.specs.Asking.{AllAsked, AllBegan, LeavesOf}
 use Rattle.law_together.specs.Making.{AreDrawn, AreMakings, IsMaking, Making, own_of}
 use Rattle.law_together.specs.Making as makings
+use Rattle.fc_together.specs.Answers.{making_of}
 use Rattle.fc_together.specs.Over.{HaveActedOver}
 use Rattle.fc_together.specs.Prepared.{AreScripts}
-use Rattle.fc_together.proofs.Asking.{GoesOn, OneLeft, SuitsYard, done_left, is_making, leaves, making_of, more_left, same_made}
+use Rattle.fc_together.proofs.Asking.{GoesOn, OneLeft, SuitsYard, done_left, is_making, leaves, more_left, same_made}
 
 module _ {D : Type 0} where
   abbrev pub AllAnswer : ℕ → ℕ → List (ActorScript D) → List (Answered Entry (ActorScript D)) → Type 0
@@ -32,7 +33,7 @@ module _ {D : Type 0} where
   ActedOver old new first scripts answers = HaveActedOver needs_of SuitsYard GoesOn old new first scripts answers
 
   -- Entries led from the one store to the other.
-  pub is_run : (old new : StoreView) (first : ℕ) (scripts : List (ActorScript D)) (answers : List (Answered Entry (ActorScript D))) (w : Whole) →
+  unfoldable pub is_run : (old new : StoreView) (first : ℕ) (scripts : List (ActorScript D)) (answers : List (Answered Entry (ActorScript D))) (w : Whole) →
       StandsFor old w → w.entries ≡ first → ActedOver old new first scripts answers → IsRun old new w (map making_of answers)
   is_run old new first scripts answers w stands counted h =
       let led = h.led w stands counted in

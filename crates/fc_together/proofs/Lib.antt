@@ -2,3 +2,8 @@
 mod Parts
 pub mod Asking
 pub mod Composing
+mod Stopping
+mod Ran
+mod Telling
+mod Naming
+mod Blocks

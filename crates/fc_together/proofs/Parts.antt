@@ -1,13 +1,13 @@
 -- The parts of a store that was taken apart, and that they make a store again.
-use Rattle.std.proofs.Common.{◌≡◌, ℕ, zero, suc, ◌+◌, ◌<◌, List, [], ◌∷◌, length, slice_index_or, refl, sym, ◌∙◌, ap, subst, arith}
+use Rattle.std.proofs.Common.{◌≡◌, ℕ, zero, suc, ◌<◌, List, [], ◌∷◌, length, slice_index_or, refl, sym, ◌∙◌, ap, subst, arith}
 use mathlib.Core.Option.{some, some-injective, some-ne-none}
 use lib.ListN.{get_elem?}
 use Rattle.fc_desk.specs.Control.{ControlState}
 use Rattle.fc_entry.specs.declared.entry.Entry.{Entry}
 use Rattle.fc_lane.specs.Lane.{LaneView}
-use Rattle.fc_legal.specs.Whole.{Whole, lanes}
-use Rattle.fc_shares.specs.Law.{HaveShares, LeadOn, situation_of}
-use Rattle.fc_shares.specs.Situation.{Situation, HasControl, HasLane, IsSound, LeadsTo, entries_told}
+use Rattle.fc_legal.specs.Whole.{Whole}
+use Rattle.fc_shares.specs.Law.{LeadOn, situation_of}
+use Rattle.fc_shares.specs.Situation.{Situation, HasLane, IsSound, LeadsTo, entries_told}
 use Rattle.fc_shares.proofs.Lawful.{share_law_holds}
 use Rattle.fc_stands.specs.Store.{StandsFor, StoreView}
 use Rattle.fc_store.specs.StoreParts.{lane_parts, parts_view}

@@ -1,11 +1,18 @@
-//! Scripts of actors, done together in a yard.
+//! Blocks of actors, run together.
 //!
-//! A yard is opened over some parts, the actors do their scripts in it beside each other (`fc_tasks`), and it is closed: all parts
-//! come back, and the actors' entries led them on in the order of their numbers. `proofs/Asking` and `proofs/Composing` say
-//! what follows for scripts over the parts of a store (`fc_actors`): what the actors asked of theirs, and what the law of a block that
-//! is run (`law_running`) wants.
+//! `main` is told of a block's faults, and the names of its actors come (`fc_opening`); what each of
+//! them asks is fixed then (`fc_prepare`). The store is taken apart, its parts lie in a yard
+//! (`fc_yard`), and the actors do their scripts beside each other (`fc_tasks`, `fc_actors`). At the
+//! end the store is put together, and what the actors were answered goes into the history by number
+//! (`fc_merge`).
 //!
-//! To read: `rounds`; in `specs/`: `Acted` (what scripts that were done in a yard leave), `Over` (the same over a store), `Prepared`.
+//! To read: `block`, `running` (the scripts of all actors), `over` (scripts over a store), `rounds`
+//! (scripts in a yard that is opened and closed), `answers` (what is told in the end); in `specs/`:
+//! `Acted`, `Over`, `Prepared`, `Answers`.
 #![tactic(auto)]
 
+mod answers;
+pub mod block;
+mod over;
 pub mod rounds;
+mod running;

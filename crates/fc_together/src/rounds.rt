@@ -1,7 +1,6 @@
 //! A yard is opened, scripts are done in it, and it is closed.
 
 ghost use Rattle.std.specs.Prelude.{◌≡◌, ◌≤◌, [], vec_len, vec_capacity, IfOk, IfErr};
-ghost use Rattle.std.specs.Thread.{IsSync, IsSend};
 ghost use Rattle.fc_tasks.specs.Acting.{AllSuit};
 ghost use Rattle.fc_yard.specs.Whole.{OpensWith};
 ghost use Rattle.fc_together.specs.Acted.{HaveActed};
@@ -39,8 +38,6 @@ pub fn act_in_yard<
     answers: Vec<Answered<E, S>>,
     back: &mut Vec<P>,
 ) -> Result<Vec<Answered<E, S>>, Vec<P>>
-    requires sync { IsSync R.row × IsSync G.row }
-    requires send { IsSend E.row × IsSend P.row × IsSend S.row }
     requires opened { (w0 : W) × OpensWith P.fits P.sound P.count P.steps parts.items first w0 }
     requires suits { AllSuit S.needed S.suits S.goes scripts.items parts.items limit }
     requires limit { first ≤ limit }

@@ -153,6 +153,7 @@ pub DisksAfter-given :
     DisksAfter (status_of e) start.disks given history.entries last
 DisksAfter-given ended.NoMemory start s given history last all few legal up = tt
 DisksAfter-given ended.Done start s given history last all few legal up = back_of_up start s given history last all few legal up
+DisksAfter-given ended.Unended start s given history last all few legal up = back_of_up start s given history last all few legal up
 DisksAfter-given ended.ReadFault start s given history last all few legal up = back_of_up start s given history last all few legal up
 DisksAfter-given ended.TooLong start s given history last all few legal up = back_of_up start s given history last all few legal up
 DisksAfter-given ended.LogFull start s given history last all few legal up = back_of_up start s given history last all few legal up

@@ -111,7 +111,7 @@ faultless grain disks entries last legal none =
 
 -- ---- it is done
 
--- but for faults, a full history and too long an input
+-- but for faults, a full history, too long an input and a block that the input doesn't end
 done-by :
     (e : Ended) (form : Form) (source source' : SourceState) (call : Call) (runs : Runs) (bytes : List ℕ) →
     EndsAs e (session_of e form source source' call) runs bytes →
@@ -119,13 +119,15 @@ done-by :
     NoneFailed call.sink.faults call.sink'.faults →
     status_of e ≢ status.LogFull →
     status_of e ≢ status.TooLong →
+    status_of e ≢ status.Unended →
     (status_of e ≡ status.Done) ⊎ (status_of e ≡ status.NoMemory)
-done-by ended.Done form source source' call runs bytes ends readable writable room short = inl refl
-done-by ended.ReadFault form source source' call runs bytes ends readable writable room short = absurd (readable ends.0)
-done-by ended.TooLong form source source' call runs bytes ends readable writable room short = absurd (short refl)
-done-by ended.LogFull form source source' call runs bytes ends readable writable room short = absurd (room refl)
-done-by ended.WriteFault form source source' call runs bytes ends readable writable room short = absurd (writable ends.0)
-done-by ended.NoMemory form source source' call runs bytes ends readable writable room short = inr refl
+done-by ended.Done form source source' call runs bytes ends readable writable room short whole = inl refl
+done-by ended.Unended form source source' call runs bytes ends readable writable room short whole = absurd (whole refl)
+done-by ended.ReadFault form source source' call runs bytes ends readable writable room short whole = absurd (readable ends.0)
+done-by ended.TooLong form source source' call runs bytes ends readable writable room short whole = absurd (short refl)
+done-by ended.LogFull form source source' call runs bytes ends readable writable room short whole = absurd (room refl)
+done-by ended.WriteFault form source source' call runs bytes ends readable writable room short whole = absurd (writable ends.0)
+done-by ended.NoMemory form source source' call runs bytes ends readable writable room short whole = inr refl
 
 -- ---- both
 
@@ -138,7 +140,7 @@ pub completes :
     DisksAfter call.status call.disks call.disks' call.history.entries last →
     Completes grain source source' call last
 completes e form grain source source' call runs bytes last is ends legal few after =
-    let Done : Status → Type 0 = λ s. s ≢ status.LogFull → s ≢ status.TooLong → (s ≡ status.Done) ⊎ (s ≡ status.NoMemory) in
+    let Done : Status → Type 0 = λ s. s ≢ status.LogFull → s ≢ status.TooLong → s ≢ status.Unended → (s ≡ status.Done) ⊎ (s ≡ status.NoMemory) in
     record {
       done = λ readable writable. subst Done (sym is) (done-by e form source source' call runs bytes ends readable writable);
       served = λ none.

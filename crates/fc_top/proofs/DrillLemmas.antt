@@ -1,8 +1,11 @@
 -- A drill ends as a session that is read from memory.
-use Rattle.std.proofs.Common.{◌≡◌, ℕ, ◌≤◌, List, [], ◌∷◌, ◌++◌, length, Option, Some, None, refl, sym, subst, arith, ap, ◌∙◌, length-append, inl, inr}
+use Rattle.std.proofs.Common.{◌≡◌, ℕ, ◌≤◌, List, [], ◌∷◌, ◌++◌, length, Option, Some, None, refl, sym, subst, arith, ap, ◌∙◌, length-append, append-nil, true, false, is_some, IfSome, inl, inr}
+use Rattle.std.proofs.lemmas.Bool.{false≢true}
 use Rattle.std.specs.Option.{option_map}
 use Rattle.fc_base.specs.Count.{HasRisen}
 use Rattle.fc_base.specs.declared.size.GrainSize.TheVariants.{K64}
+use Rattle.fc_blocks.specs.Segments.{cut}
+use Rattle.fc_entry.specs.Lines.{all_lines}
 use Rattle.fc_gen.specs.Session.{session_text}
 use Rattle.fc_io.specs.Source.{SourceState}
 use Rattle.fc_run.specs.Headline.{EndsAs}
@@ -10,6 +13,7 @@ use Rattle.fc_run.specs.Takes.{EachGave}
 use Rattle.fc_run.specs.declared.ended.Ended.{Ended}
 use Rattle.fc_run.specs.declared.ended.Ended.TheVariants as ended
 use Rattle.fc_run.specs.declared.form.Form.TheVariants.{Summary}
+use Rattle.fc_top.proofs.DrillLines.{drill_closed}
 use Rattle.fc_top.proofs.QuietSource.{EachGave-quiet}
 use Rattle.fc_top.proofs.SessionLength.{session_text-short}
 use Rattle.fc_top.proofs.Statuses.{same_ended}
@@ -32,6 +36,22 @@ taken-le text bytes (Some rest) gave =
     let some : Some text ≡ Some (bytes ++ rest) = gave in
     let whole : text ≡ bytes ++ rest = cc some in
     omega (arith, ap length whole, length-append bytes rest)
+
+-- at its end all of a text was taken
+taken-all : (text bytes : List ℕ) (left : Option (List ℕ)) → Some text ≡ option_map (λ rest. bytes ++ rest) left → IfSome left (λ rest. rest ≡ []) → text ≡ bytes
+taken-all text bytes None gave end =
+    let none : Some text ≡ None = gave in
+    absurd (cc none)
+taken-all text bytes (Some rest) gave end =
+    let some : Some text ≡ Some (bytes ++ rest) = gave in
+    let whole : text ≡ bytes ++ rest = cc some in
+    whole ∙ (ap (λ r. bytes ++ r) end ∙ append-nil bytes)
+
+-- no block is open after it
+never_open : (number : ℕ) (bytes : List ℕ) → session_text number ≡ bytes → is_some (cut (all_lines bytes)).open_block ≡ true → ⊥
+never_open number bytes whole is_open =
+    let closed : is_some (cut (all_lines bytes)).open_block ≡ false = ap (λ bs. is_some (cut (all_lines bs)).open_block) (sym whole) ∙ ap is_some (drill_closed number) in
+    false≢true (sym closed ∙ is_open)
 
 pub drill_ends :
     (number : ℕ) (left : SourceState) (call : Call) →
@@ -61,6 +81,10 @@ drill_ends number left call same gave ends =
             length-append long.0 (long.1 ∷ []),
             long.3,
           );
+      closed = λ is.
+          let e : ends.ended ≡ ended.Unended = same_ended ended.Unended ends.ended (sym ends.status ∙ is) in
+          let unended : P ended.Unended = subst P e ends.session.ends in
+          never_open number ends.session.bytes (taken-all (session_text number) ends.session.bytes left.left ends.session.gave unended.0) unended.3;
       ends = ends;
     }
 

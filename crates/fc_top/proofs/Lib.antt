@@ -2,6 +2,8 @@
 pub mod WordLemmas
 pub mod Statuses
 pub mod SessionOver
+pub mod Cutting
+pub mod Names
 pub mod LineAnswers
 pub mod OwnerLemmas
 pub mod Backs
@@ -9,6 +11,7 @@ pub mod CompleteLemmas
 pub mod PlainLemmas
 pub mod QuietSource
 pub mod SessionLength
+pub mod DrillLines
 pub mod DrillLemmas
 pub mod TheoremLemmas
 pub mod OutcomeLemmas

@@ -1,5 +1,5 @@
 -- A line more: what was answered goes on to be a run of lines, and the history only grows.
-use Rattle.std.proofs.Common.{◌≡◌, ℕ, ◌<◌, List, [], ◌∷◌, ◌++◌, codes, length, refl, sym, ◌∙◌, ap, subst, arith, Result, Ok, Err, Option, Some, None, append-nil}
+use Rattle.std.proofs.Common.{◌≡◌, ℕ, suc, ◌<◌, List, [], ◌∷◌, ◌++◌, codes, length, refl, sym, ◌∙◌, ap, subst, arith, Result, Ok, Err, Option, Some, None, append-nil}
 use Rattle.std.specs.Option.{option_map}
 use Rattle.std.specs.List.{All}
 use Rattle.std.proofs.lemmas.List.Elements.{All-append, All-cons, All-nil}
@@ -8,17 +8,18 @@ use Rattle.fc_agenda.specs.Goes.{Goes, stays, passes, begins, answers, GoesSome}
 use Rattle.fc_base.specs.declared.ids.GrainNo.{GrainNo}
 use Rattle.fc_base.specs.declared.request.Request.{Request}
 use Rattle.fc_base.specs.declared.size.GrainSize.{GrainSize}
-use Rattle.fc_blocks.specs.Segments.{Segment, single}
+use Rattle.fc_blocks.specs.Blocks.{Opened}
+use Rattle.fc_blocks.specs.Segments.{Segment, cut}
 use Rattle.fc_entry.specs.HistoryState.{HistoryState}
 use Rattle.fc_entry.specs.Text.{HasNames}
 use Rattle.fc_entry.specs.declared.entry.Entry.{Entry}
 use Rattle.fc_entry.specs.declared.stop.Stop.{Stop}
 use Rattle.fc_entry.specs.declared.stop.Stop.TheVariants.{LogFull, NoMemory}
-use Rattle.fc_legal.proofs.Alone.{AreSteps-goes, alone_append, behind_alone, main_asks, none_begins, passes_alone}
+use Rattle.fc_legal.proofs.Alone.{AreSteps-goes, behind_alone, main_asks, none_begins, passes_alone}
 use Rattle.fc_legal.proofs.Appending.{IsRun-append, IsPartialRun-append, WantsMore-append}
 use Rattle.fc_legal.specs.Added.{Adds, Answered, IsOf, StaysUp}
 use Rattle.fc_legal.specs.Agenda.{Agenda, Asks, Reading, Session, Own, Seconds, Faults, Actors, behind_entry, next_asked, session_rules}
-use Rattle.fc_legal.specs.Run.{IsRun, IsPartialRun, WantsMore, lines_alone}
+use Rattle.fc_legal.specs.Run.{IsRun, IsPartialRun, WantsMore}
 use Rattle.fc_legal.specs.Seconds.{Work, fill_of, next_fill}
 use Rattle.fc_legal.specs.Whole.{Whole}
 use Rattle.fc_legal.specs.WithoutBlocks.{IsWithoutBlocks}
@@ -29,46 +30,52 @@ use Rattle.law_together.proofs.Kept.{AreSteps-keeps}
 
 -- ---- one line behind others
 
+-- A line was taken, which ends these segments.
 pub line_leaves :
-    (answer : Result (Unit {0}) Stop) (grain : GrainSize) (w mid : Whole) (Stands : HistoryState → Whole → Type 0) (Kept : Type 0) (Now : Whole → Type 0)
-    (lines : List (List ℕ)) (line : List ℕ) (old new : HistoryState) →
-    IsRun grain reading w (lines_alone lines) old.entries mid →
-    Answered answer Now (session_rules grain reading) (Session (single line ∷ [])) mid old new →
+    (answer : Result (Unit {0}) Stop) (grain : GrainSize) (w mid : Whole) (GoesOn : Option Opened → Type 0) (Stands : HistoryState → Whole → Type 0) (Kept : Type 0) (Now : Whole → Type 0)
+    (lines more : List (List ℕ)) (ended : List Segment) (old new : HistoryState) →
+    (cut more).segments ≡ (cut lines).segments ++ ended →
+    GoesOn (cut more).open_block →
+    IsRun grain reading w (cut lines).segments old.entries mid →
+    Answered answer Now (session_rules grain reading) (Session ended) mid old new →
     StaysUp answer ((last : Whole) → Now last → Stands new last) →
     Kept →
-    LineLeaves answer (runs_of grain w Stands Kept) (lines ++ line ∷ []) new
-line_leaves (Ok done) grain w mid Stands Kept Now lines line old new run answered up kept =
-    let P : List Entry → Type 0 = λ es. IsRun grain reading w (lines_alone (lines ++ line ∷ [])) es answered.0 in
+    LineLeaves answer (runs_of grain w GoesOn Stands Kept) more new
+line_leaves (Ok done) grain w mid GoesOn Stands Kept Now lines more ended old new segments goes_on run answered up kept =
+    let P : List Entry → Type 0 = λ es. IsRun grain reading w (cut more).segments es answered.0 in
     let Q : List Segment → Type 0 = λ segs. IsRun grain reading w segs (old.entries ++ answered.2.more) answered.0 in
     record {
       last = answered.0;
       told = answered.1.1;
       stands = up answered.0 answered.1.0;
-      holds = subst P (sym answered.2.entries)
-          (subst Q (sym (alone_append lines (line ∷ []))) (IsRun-append grain reading w mid answered.0 (lines_alone lines) (single line ∷ []) old.entries answered.2.more run answered.2.are));
+      holds = (
+        subst P (sym answered.2.entries)
+            (subst Q (sym segments) (IsRun-append grain reading w mid answered.0 (cut lines).segments ended old.entries answered.2.more run answered.2.are)),
+        goes_on,
+      );
     }
-line_leaves (Err LogFull) grain w mid Stands Kept Now lines line old new run answered up kept =
+line_leaves (Err LogFull) grain w mid GoesOn Stands Kept Now lines more ended old new segments goes_on run answered up kept =
     let at = answered.1 in
-    let P : List Entry → Type 0 = λ es. WantsMore grain reading w (lines_alone (lines ++ line ∷ [])) es at.0 in
+    let P : List Entry → Type 0 = λ es. WantsMore grain reading w (cut more).segments es at.0 in
     let Q : List Segment → Type 0 = λ segs. WantsMore grain reading w segs (old.entries ++ at.2.more) at.0 in (
       record {
         last = at.0;
         told = at.1.1;
         stands = up at.0 at.1.0;
         holds = subst P (sym at.2.entries)
-            (subst Q (sym (alone_append lines (line ∷ []))) (WantsMore-append grain reading w mid at.0 (lines_alone lines) (single line ∷ []) old.entries at.2.more run at.2.are));
+            (subst Q (sym segments) (WantsMore-append grain reading w mid at.0 (cut lines).segments ended old.entries at.2.more run at.2.are));
       },
       answered.0,
     )
-line_leaves (Err NoMemory) grain w mid Stands Kept Now lines line old new run answered up kept =
-    let P : List Entry → Type 0 = λ es. IsPartialRun grain reading w (lines_alone (lines ++ line ∷ [])) es answered.0 in
+line_leaves (Err NoMemory) grain w mid GoesOn Stands Kept Now lines more ended old new segments goes_on run answered up kept =
+    let P : List Entry → Type 0 = λ es. IsPartialRun grain reading w (cut more).segments es answered.0 in
     let Q : List Segment → Type 0 = λ segs. IsPartialRun grain reading w segs (old.entries ++ answered.2.more) answered.0 in
     record {
       last = answered.0;
       told = answered.1;
       stands = kept;
       holds = subst P (sym answered.2.entries)
-          (subst Q (sym (alone_append lines (line ∷ []))) (IsPartialRun-append grain reading w mid answered.0 (lines_alone lines) (single line ∷ []) old.entries answered.2.more run answered.2.are));
+          (subst Q (sym segments) (IsPartialRun-append grain reading w mid answered.0 (cut lines).segments ended old.entries answered.2.more run answered.2.are));
     }
 
 -- ---- what an answer adds
@@ -168,16 +175,16 @@ history_grows grain read a w old new alone told some = record {
 }
 
 pub names_stay :
-    (grain : GrainSize) (read : Reading) (a : Agenda) (w : Whole) (old new : HistoryState) →
+    (grain : GrainSize) (read : Reading) (a : Agenda) (w : Whole) (names : List (List ℕ)) (old new : HistoryState) →
     IsWithoutBlocks a →
     IsOf w old →
-    w.actors ≡ codes "main" ∷ [] →
+    old.actors ≡ codes "main" ∷ names →
     AddsSome grain read a w old new →
     HasNames old →
     HasNames new
-names_stay grain read a w old new alone told main some named =
+names_stay grain read a w names old new alone told main some named =
     let actors : new.actors ≡ old.actors = actors_stay grain read a w old new alone told some in
-    let one : length old.actors ≡ 1 = ap length (sym told.actors ∙ main) in
+    let some_name : length old.actors ≡ suc (length names) = ap length main in
     let P : List (List ℕ) → Type 0 = λ names. All (λ (entry : Entry). entry.actor < length names) new.entries in
     let Q : List Entry → Type 0 = λ es. All (λ (entry : Entry). entry.actor < length old.actors) es in
     subst P (sym actors)
@@ -186,6 +193,6 @@ names_stay grain read a w old new alone told main some named =
     (λ i d inside.
     omega (
       arith,
-      one,
+      some_name,
       goes_by_main grain read a some.adds.are.end w some.last some.adds.more alone some.adds.are.goes i d inside,
     ))))

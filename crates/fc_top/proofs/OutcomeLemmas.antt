@@ -1,8 +1,8 @@
 -- Calls that end in one way have one outcome, by the law of one outcome.
-use Rattle.std.proofs.Common.{◌≡◌, ℕ, ◌+◌, ◌%◌, ◌^◌, Bool, cond, List, [], ◌∷◌, ◌++◌, length, take, codes, Option, Some, None, IfSome, refl, sym, subst, ap, ◌∙◌, append-nil, append_assoc, inl, inr, ◌⊎◌}
+use Rattle.std.proofs.Common.{◌≡◌, ℕ, ◌+◌, ◌%◌, ◌^◌, Bool, cond, List, [], ◌∷◌, ◌++◌, length, take, drop, codes, Option, Some, None, IfSome, refl, sym, subst, ap, ◌∙◌, append-nil, append_assoc, inl, inr, ◌⊎◌}
 use Rattle.std.specs.List.{count_by, sum_by}
 use Rattle.std.specs.Option.{option_map}
-use Rattle.std.proofs.lemmas.List.{length-map}
+use Rattle.std.proofs.lemmas.List.{length-map, take-append-drop}
 use Rattle.std.proofs.Math.Seq.{take-append_seam}
 use Rattle.std.proofs.lemmas.List.Sums.{sum_by-cons}
 use Rattle.fc_agenda.proofs.Going.{GoesSome-asking}
@@ -12,7 +12,7 @@ use Rattle.fc_args.specs.declared.asked.Asked.TheVariants.{Run, Drill, Check, St
 use Rattle.fc_base.specs.Pools.{Pool}
 use Rattle.fc_base.specs.declared.size.GrainSize.{GrainSize}
 use Rattle.fc_base.specs.declared.size.GrainSize.TheVariants.{K64}
-use Rattle.fc_blocks.specs.Segments.{Segment}
+use Rattle.fc_blocks.specs.Segments.{Segment, cut}
 use Rattle.fc_determined.proofs.Determined.{determined_law_holds}
 use Rattle.fc_determined.specs.Law.{IsOneOutcome}
 use Rattle.fc_determined.specs.Smooth.{AreSmooth, TellTheSame, but_for_faults, told_by, without_faults}
@@ -23,14 +23,15 @@ use Rattle.fc_entry.specs.declared.entry.Entry.{Entry}
 use Rattle.fc_gen.specs.Session.{session_text}
 use Rattle.fc_io.specs.Sink.{held_with}
 use Rattle.fc_io.specs.Source.{SourceState}
-use Rattle.fc_legal.proofs.Alone.{AreSteps-goes, alone_append, alone_lines}
+use Rattle.fc_legal.proofs.Alone.{AreSteps-goes}
 use Rattle.fc_legal.proofs.Appending.{WantsMore-more}
 use Rattle.fc_legal.specs.Added.{IsOf}
 use Rattle.fc_legal.specs.Agenda.{Agenda, Session, session_rules}
-use Rattle.fc_legal.specs.Run.{IsRun, WantsMore, lines_alone}
+use Rattle.fc_legal.specs.Run.{IsRun, WantsMore}
 use Rattle.fc_legal.specs.Whole.{Whole, opened}
+use Rattle.fc_legal.specs.WithoutBlocks.{AreLines as AreLinesAlone}
 use Rattle.fc_run.specs.Headline.{EndsAs}
-use Rattle.fc_run.specs.Input.{AreLines, Gave, OfFirstTaken, input_limit}
+use Rattle.fc_run.specs.Input.{AreLines, Gave, IsAtEnd, OfFirstTaken, input_limit}
 use Rattle.fc_run.specs.Summary.{gives_bytes, is_done_write, refuses, bytes_sum, reads_of, writes_of, moves_in, refused_of, sum_of, summary_text, form_text}
 use Rattle.fc_run.specs.declared.ended.Ended.{Ended}
 use Rattle.fc_run.specs.declared.ended.Ended.TheVariants as ended
@@ -39,11 +40,13 @@ use Rattle.fc_run.specs.declared.form.Form.TheVariants.{Text, Summary}
 use Rattle.fc_top.specs.Call.{Call, empty, session_of, status_of}
 use Rattle.fc_top.specs.DisksBack.{first_told}
 use Rattle.fc_top.specs.Ends.{Ends, drill_source}
-use Rattle.fc_top.specs.OneOutcome.{WentAlike, HaveOneOutcome, TookOf, ReadsOf, IsByBytes, form_of, HasBytes, OutcomeLaw}
+use Rattle.fc_top.specs.OneOutcome.{WentAlike, HaveOneOutcome, TookOf, ReadsOf, IsByBytes, HaveNoBlock, AsksNoBlock, form_of, HasBytes, OutcomeLaw}
 use Rattle.fc_top.specs.PlainEnds.{PlainEnds}
 use Rattle.fc_top.specs.PlainRuns.{plain_runs}
 use Rattle.fc_top.specs.Reading.{reading}
 use Rattle.fc_top.specs.declared.status.Status.TheVariants as status
+use Rattle.fc_top.proofs.Cutting.{HasMoreSegments, AreLines-front, cut_more}
+use Rattle.fc_top.proofs.DrillLines.{drill_alone}
 use Rattle.law_together.proofs.Kept.{AreSteps-keeps}
 use Rattle.fc_top.proofs.Statuses.{same_ended}
 
@@ -118,17 +121,17 @@ taken_first bytes taken source' lines took (inr all) =
 full_of :
     (grain : GrainSize) (w last : Whole) (bytes taken : List ℕ) (source' : SourceState) (entries : List Entry) →
     TookOf bytes taken source' →
-    OfFirstTaken source' taken (λ first. WantsMore grain reading w (lines_alone first) entries last) →
-    WantsMore grain reading w (lines_alone (all_lines bytes)) entries last
+    OfFirstTaken source' taken (λ first. WantsMore grain reading w (cut first).segments entries last) →
+    WantsMore grain reading w (cut (all_lines bytes)).segments entries last
 full_of grain w last bytes taken source' entries took full =
     let of = full.of in
     let lines = taken_first bytes taken source' full.lines took full.are in
-    let P : List (List ℕ) → Type 0 = λ ls. WantsMore grain reading w (lines_alone ls) entries last in
+    let grown : HasMoreSegments (cut of.first).segments (cut (of.first ++ (of.rest ++ lines.rest))).segments = cut_more of.first (of.rest ++ lines.rest) in
+    let P : List (List ℕ) → Type 0 = λ ls. WantsMore grain reading w (cut ls).segments entries last in
     let Q : List Segment → Type 0 = λ segs. WantsMore grain reading w segs entries last in
     subst P
     (sym (lines.split ∙ (ap (λ ls. ls ++ lines.rest) of.split ∙ append_assoc of.first of.rest lines.rest)))
-    (subst Q (sym (alone_append of.first (of.rest ++ lines.rest)))
-    (WantsMore-more grain reading w last (lines_alone of.first) (lines_alone (of.rest ++ lines.rest)) entries of.holds))
+    (subst Q (sym grown.is) (WantsMore-more grain reading w last (cut of.first).segments grown.more entries of.holds))
 
 -- Up to the limit the bytes of two inputs that are too long are the same.
 front_of : (bytes kept rest : List ℕ) → bytes ≡ kept ++ rest → length kept ≡ input_limit → take input_limit bytes ≡ kept
@@ -137,13 +140,33 @@ front_of bytes kept rest split long = ap (take input_limit) split ∙ (ap (λ n.
 kept_of : (bytes taken kept rest : List ℕ) (past : ℕ) → bytes ≡ taken ++ rest → taken ≡ kept ++ past ∷ [] → bytes ≡ kept ++ past ∷ rest
 kept_of bytes taken kept rest past split cut = split ∙ (ap (λ bs. bs ++ rest) cut ∙ append_assoc kept (past ∷ []) rest)
 
--- What the entries of a session are that ended so, over these bytes.
+-- What the entries of a session are that ended so, over these bytes: a run of these lines, or the first of them.
+abbrev lines_by : Ended → List ℕ → List (List ℕ)
+lines_by ended.TooLong bytes = ended_lines (take input_limit bytes)
+lines_by _ bytes = all_lines bytes
+
+abbrev segments_by : Ended → List ℕ → List Segment
+segments_by e bytes = (cut (lines_by e bytes)).segments
+
 abbrev TellsOf : Ended → GrainSize → List ℕ → Whole → Whole → List Entry → Type 0
-TellsOf ended.Done grain bytes w last entries = IsRun grain reading w (lines_alone (all_lines bytes)) entries last
+TellsOf ended.Done grain bytes w last entries = IsRun grain reading w (segments_by ended.Done bytes) entries last
+TellsOf ended.Unended grain bytes w last entries = IsRun grain reading w (segments_by ended.Unended bytes) entries last
 TellsOf ended.LogFull grain bytes w last entries =
-    WantsMore grain reading w (lines_alone (all_lines bytes)) entries last × (length entries ≡ 262144)
-TellsOf ended.TooLong grain bytes w last entries = IsRun grain reading w (lines_alone (ended_lines (take input_limit bytes))) entries last
+    WantsMore grain reading w (segments_by ended.LogFull bytes) entries last × (length entries ≡ 262144)
+TellsOf ended.TooLong grain bytes w last entries = IsRun grain reading w (segments_by ended.TooLong bytes) entries last
 TellsOf _ grain bytes w last entries = ⊥
+
+-- All lines of these bytes were taken and answered.
+all_answered :
+    (grain : GrainSize) (bytes taken : List ℕ) (source' : SourceState) (entries : List Entry) (w last : Whole) →
+    TookOf bytes taken source' →
+    IsAtEnd source' →
+    IsRun grain reading w (cut (all_lines taken)).segments entries last →
+    IsRun grain reading w (cut (all_lines bytes)).segments entries last
+all_answered grain bytes taken source' entries w last took end run =
+    let whole : bytes ≡ taken = took.split ∙ (ap (λ rest. taken ++ rest) (took.end end) ∙ append-nil taken) in
+    let P : List ℕ → Type 0 = λ bs. IsRun grain reading w (cut (all_lines bs)).segments entries last in
+    subst P (sym whole) run
 
 tells_of :
     (e : Ended) (form : Form) (grain : GrainSize) (bytes taken : List ℕ) (source source' : SourceState) (call : Call) (w last : Whole) →
@@ -152,18 +175,32 @@ tells_of :
     EndsAs e (session_of e form source source' call) (plain_runs grain w last) taken →
     TellsOf e grain bytes w last call.history.entries
 tells_of ended.Done form grain bytes taken source source' call w last by_bytes took ends =
-    let whole : bytes ≡ taken = took.split ∙ (ap (λ rest. taken ++ rest) (took.end ends.0) ∙ append-nil taken) in
-    let P : List ℕ → Type 0 = λ bs. IsRun grain reading w (lines_alone (all_lines bs)) call.history.entries last in
-    subst P (sym whole) ends.2
+    all_answered grain bytes taken source' call.history.entries w last took ends.0 ends.2
+tells_of ended.Unended form grain bytes taken source source' call w last by_bytes took ends =
+    all_answered grain bytes taken source' call.history.entries w last took ends.0 ends.2
 tells_of ended.LogFull form grain bytes taken source source' call w last by_bytes took ends =
     (full_of grain w last bytes taken source' call.history.entries took ends.1, ends.2)
 tells_of ended.TooLong form grain bytes taken source source' call w last by_bytes took ends =
-    let cut = kept_of bytes taken ends.0 took.rest ends.1 took.split ends.2 in
-    let P : List ℕ → Type 0 = λ bs. IsRun grain reading w (lines_alone (ended_lines bs)) call.history.entries last in
-    subst P (sym (front_of bytes ends.0 (ends.1 ∷ took.rest) cut ends.3)) ends.4
+    let kept = kept_of bytes taken ends.0 took.rest ends.1 took.split ends.2 in
+    let P : List ℕ → Type 0 = λ bs. IsRun grain reading w (cut (ended_lines bs)).segments call.history.entries last in
+    subst P (sym (front_of bytes ends.0 (ends.1 ∷ took.rest) kept ends.3)) ends.4
 tells_of ended.ReadFault form grain bytes taken source source' call w last by_bytes took ends = absurd by_bytes
 tells_of ended.WriteFault form grain bytes taken source source' call w last by_bytes took ends = absurd by_bytes
 tells_of ended.NoMemory form grain bytes taken source source' call w last by_bytes took ends = absurd by_bytes
+
+-- No block ends in those lines either.
+alone_by : (e : Ended) (bytes : List ℕ) → HaveNoBlock bytes → AreLinesAlone (segments_by e bytes)
+alone_by ended.TooLong bytes alone =
+    let first : List ℕ = take input_limit bytes in
+    let grown = all_lines-grow first (drop input_limit bytes) in
+    AreLines-front (ended_lines first) grown.more (all_lines bytes)
+    (ap all_lines (sym (take-append-drop input_limit bytes)) ∙ grown.is) alone
+alone_by ended.Done bytes alone = alone
+alone_by ended.Unended bytes alone = alone
+alone_by ended.LogFull bytes alone = alone
+alone_by ended.ReadFault bytes alone = alone
+alone_by ended.WriteFault bytes alone = alone
+alone_by ended.NoMemory bytes alone = alone
 
 -- All of its text was written.
 got_text :
@@ -171,83 +208,90 @@ got_text :
     IsByBytes (status_of e) →
     EndsAs e (session_of e form source source' call) (plain_runs grain w last) taken →
     call.sink'.held ≡ held_with call.sink.held (form_text form call.history)
-got_text ended.Done form grain taken source source' call w last by_bytes ends = ends.3.0
+got_text ended.Done form grain taken source source' call w last by_bytes ends = ends.4.0
+got_text ended.Unended form grain taken source source' call w last by_bytes ends = ends.4.0
 got_text ended.LogFull form grain taken source source' call w last by_bytes ends = ends.3.0
 got_text ended.TooLong form grain taken source source' call w last by_bytes ends = ends.5.0
 got_text ended.ReadFault form grain taken source source' call w last by_bytes ends = absurd by_bytes
 got_text ended.WriteFault form grain taken source source' call w last by_bytes ends = absurd by_bytes
 got_text ended.NoMemory form grain taken source source' call w last by_bytes ends = absurd by_bytes
 
--- Two that ended so over the same bytes have one outcome.
+-- Two that ended so over the same bytes, in which no block ends, have one outcome.
 one_of_two :
     (e : Ended) (grain : GrainSize) (bytes : List ℕ) (w v last other : Whole) (xs ys : List Entry) →
+    AreLinesAlone (segments_by e bytes) →
     TellTheSame w v →
     AreSmooth xs →
     AreSmooth ys →
     TellsOf e grain bytes w last xs →
     TellsOf e grain bytes v other ys →
     IsOneOutcome xs ys last other
-one_of_two ended.Done grain bytes w v last other xs ys same smooth smooth_other one two =
-    determined_law_holds.whole grain reading (Session (lines_alone (all_lines bytes))) w v last other xs ys (alone_lines (all_lines bytes)) same smooth smooth_other one two
-one_of_two ended.TooLong grain bytes w v last other xs ys same smooth smooth_other one two =
-    determined_law_holds.whole grain reading (Session (lines_alone (ended_lines (take input_limit bytes)))) w v last other xs ys (alone_lines (ended_lines (take input_limit bytes))) same smooth smooth_other one two
-one_of_two ended.LogFull grain bytes w v last other xs ys same smooth smooth_other one two =
-    let a : Agenda = Session (lines_alone (all_lines bytes)) in
-    determined_law_holds.as_many grain reading a w v last other xs ys (alone_lines (all_lines bytes)) same smooth smooth_other
+one_of_two ended.Done grain bytes w v last other xs ys alone same smooth smooth_other one two =
+    determined_law_holds.whole grain reading (Session (segments_by ended.Done bytes)) w v last other xs ys alone same smooth smooth_other one two
+one_of_two ended.Unended grain bytes w v last other xs ys alone same smooth smooth_other one two =
+    determined_law_holds.whole grain reading (Session (segments_by ended.Unended bytes)) w v last other xs ys alone same smooth smooth_other one two
+one_of_two ended.TooLong grain bytes w v last other xs ys alone same smooth smooth_other one two =
+    determined_law_holds.whole grain reading (Session (segments_by ended.TooLong bytes)) w v last other xs ys alone same smooth smooth_other one two
+one_of_two ended.LogFull grain bytes w v last other xs ys alone same smooth smooth_other one two =
+    let a : Agenda = Session (segments_by ended.LogFull bytes) in
+    determined_law_holds.as_many grain reading a w v last other xs ys alone same smooth smooth_other
     (GoesSome-asking (session_rules grain reading) a w last xs one.0)
     (GoesSome-asking (session_rules grain reading) a v other ys two.0)
     (one.1 ∙ sym two.1)
-one_of_two ended.ReadFault grain bytes w v last other xs ys same smooth smooth_other one two = absurd one
-one_of_two ended.WriteFault grain bytes w v last other xs ys same smooth smooth_other one two = absurd one
-one_of_two ended.NoMemory grain bytes w v last other xs ys same smooth smooth_other one two = absurd one
+one_of_two ended.ReadFault grain bytes w v last other xs ys alone same smooth smooth_other one two = absurd one
+one_of_two ended.WriteFault grain bytes w v last other xs ys alone same smooth smooth_other one two = absurd one
+one_of_two ended.NoMemory grain bytes w v last other xs ys alone same smooth smooth_other one two = absurd one
 
 -- ---- two calls
 
 -- Lines that were answered bring no new name.
 lines_name :
-    (grain : GrainSize) (w last : Whole) (lines : List (List ℕ)) (end : Agenda) (entries : List Entry) →
-    Goes (session_rules grain reading) (Session (lines_alone lines)) w entries end last →
+    (grain : GrainSize) (w last : Whole) (segs : List Segment) (end : Agenda) (entries : List Entry) →
+    AreLinesAlone segs →
+    Goes (session_rules grain reading) (Session segs) w entries end last →
     last.actors ≡ w.actors
-lines_name grain w last lines end entries goes =
-    (AreSteps-keeps grain w last entries (AreSteps-goes grain reading (Session (lines_alone lines)) end w last entries (alone_lines lines) goes)).actors
+lines_name grain w last segs end entries alone goes =
+    (AreSteps-keeps grain w last entries (AreSteps-goes grain reading (Session segs) end w last entries alone goes)).actors
 
 actors_told :
-    (e : Ended) (form : Form) (grain : GrainSize) (bytes : List ℕ) (source source' : SourceState) (call : Call) (w last : Whole) →
-    IsByBytes (status_of e) →
-    EndsAs e (session_of e form source source' call) (plain_runs grain w last) bytes →
+    (e : Ended) (grain : GrainSize) (bytes : List ℕ) (w last : Whole) (entries : List Entry) →
+    AreLinesAlone (segments_by e bytes) →
+    TellsOf e grain bytes w last entries →
     last.actors ≡ w.actors
-actors_told ended.Done form grain bytes source source' call w last by_bytes ends =
-    lines_name grain w last (all_lines bytes) ends.2.end call.history.entries ends.2.goes
-actors_told ended.LogFull form grain bytes source source' call w last by_bytes ends =
-    lines_name grain w last ends.1.of.first ends.1.of.holds.end call.history.entries ends.1.of.holds.goes
-actors_told ended.TooLong form grain bytes source source' call w last by_bytes ends =
-    lines_name grain w last (ended_lines ends.0) ends.4.end call.history.entries ends.4.goes
-actors_told ended.ReadFault form grain bytes source source' call w last by_bytes ends = absurd by_bytes
-actors_told ended.WriteFault form grain bytes source source' call w last by_bytes ends = absurd by_bytes
-actors_told ended.NoMemory form grain bytes source source' call w last by_bytes ends = absurd by_bytes
+actors_told ended.Done grain bytes w last entries alone tells =
+    lines_name grain w last (segments_by ended.Done bytes) tells.end entries alone tells.goes
+actors_told ended.Unended grain bytes w last entries alone tells =
+    lines_name grain w last (segments_by ended.Unended bytes) tells.end entries alone tells.goes
+actors_told ended.LogFull grain bytes w last entries alone tells =
+    lines_name grain w last (segments_by ended.LogFull bytes) tells.0.end entries alone tells.0.goes
+actors_told ended.TooLong grain bytes w last entries alone tells =
+    lines_name grain w last (segments_by ended.TooLong bytes) tells.end entries alone tells.goes
+actors_told ended.ReadFault grain bytes w last entries alone tells = absurd tells
+actors_told ended.WriteFault grain bytes w last entries alone tells = absurd tells
+actors_told ended.NoMemory grain bytes w last entries alone tells = absurd tells
 
 -- The actors of a history of which all is told are those that it began with.
 actors_are :
-    (form : Form) (grain : GrainSize) (source source' : SourceState) (call : Call) →
-    PlainEnds form grain source source' call →
+    (form : Form) (grain : GrainSize) (bytes : List ℕ) (source source' : SourceState) (call : Call) →
+    (ends : PlainEnds form grain source source' call) →
     IsByBytes call.status →
+    AreLinesAlone (segments_by ends.ended bytes) →
+    TellsOf ends.ended grain bytes (first_told call.disks) ends.last call.history.entries →
     call.history.actors ≡ codes "main" ∷ []
-actors_are form grain source source' call ends by_bytes = named ends.named
+actors_are form grain bytes source source' call ends by_bytes alone tells = named ends.named
   where
     named : IsOf ends.last call.history ⊎ ((call.status ≡ status.NoMemory) × (call.history ≡ empty)) → call.history.actors ≡ codes "main" ∷ []
-    named (inl of) =
-        sym of.actors
-        ∙ actors_told ends.ended form grain ends.session.bytes source source' call (first_told call.disks) ends.last
-        (subst IsByBytes ends.status by_bytes) ends.session.ends
+    named (inl of) = sym of.actors ∙ actors_told ends.ended grain bytes (first_told call.disks) ends.last call.history.entries alone tells
     named (inr starved) = absurd (subst IsByBytes starved.0 by_bytes)
 
 sessions :
     (form : Form) (grain : GrainSize) (bytes : List ℕ) (call other : Call) →
+    HaveNoBlock bytes →
     WentAlike call other →
     ReadsOf form grain bytes call →
     ReadsOf form grain bytes other →
     HaveOneOutcome form call other
-sessions form grain bytes call other alike a b =
+sessions form grain bytes call other alone alike a b =
     let e : Ended = a.ends.ended in
     let w : Whole = first_told call.disks in
     let v : Whole = first_told other.disks in
@@ -259,12 +303,12 @@ sessions form grain bytes call other alike a b =
     tells_of b.ends.ended form grain bytes b.ends.session.bytes b.source b.source' other v b.ends.last by_bytes_other b.took b.ends.session.ends in
     let P : Ended → Type 0 = λ x. TellsOf x grain bytes v b.ends.last other.history.entries in
     let one : IsOneOutcome call.history.entries other.history.entries a.ends.last b.ends.last =
-    one_of_two e grain bytes w v a.ends.last b.ends.last call.history.entries other.history.entries
+    one_of_two e grain bytes w v a.ends.last b.ends.last call.history.entries other.history.entries (alone_by e bytes alone)
     (ap (λ (pools : List Pool). without_faults (opened pools)) alike.dealt) alike.smooth alike.smooth_other tells (subst P same tells_other) in
     let text : form_text form other.history ≡ form_text form call.history =
     told_one form call.history other.history
-    (actors_are form grain b.source b.source' other b.ends (subst IsByBytes (sym alike.status) alike.by_bytes)
-    ∙ sym (actors_are form grain a.source a.source' call a.ends alike.by_bytes)) one.entries in
+    (actors_are form grain bytes b.source b.source' other b.ends (subst IsByBytes (sym alike.status) alike.by_bytes) (alone_by b.ends.ended bytes alone) tells_other
+    ∙ sym (actors_are form grain bytes a.source a.source' call a.ends alike.by_bytes (alone_by e bytes alone) tells)) one.entries in
     record {
       entries = one.entries;
       text = text;
@@ -312,6 +356,12 @@ abbrev bytes_of : Asked → List ℕ → List ℕ
 bytes_of (Drill number) bytes = session_text number
 bytes_of _ bytes = bytes
 
+no_block : (asked : Asked) (bytes : List ℕ) → AsksNoBlock asked bytes → HaveNoBlock (bytes_of asked bytes)
+no_block (Run options) bytes alone = alone
+no_block (Drill number) bytes alone = drill_alone number
+no_block Check bytes alone = alone
+no_block (Stop number) bytes alone = alone
+
 reads_of_asked :
     (asked : Asked) (bytes : List ℕ) (call : Call) →
     HasBytes asked bytes call.source →
@@ -339,7 +389,7 @@ pub outcome_law_holds : OutcomeLaw
 outcome_law_holds =
     record {
       sessions = sessions;
-      calls = λ asked bytes call other alike has has_other theorem theorem_other.
-          sessions (form_of asked) (grain_asked asked) (bytes_of asked bytes) call other alike
+      calls = λ asked bytes call other alone alike has has_other theorem theorem_other.
+          sessions (form_of asked) (grain_asked asked) (bytes_of asked bytes) call other (no_block asked bytes alone) alike
           (reads_of_asked asked bytes call has theorem.ends) (reads_of_asked asked bytes other has_other theorem_other.ends);
     }

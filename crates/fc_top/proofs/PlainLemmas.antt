@@ -1,6 +1,7 @@
 -- How a call ends that ran a session, or for which memory was wanted before.
-use Rattle.std.proofs.Common.{◌≡◌, ◌⊎◌, ◌≤◌, List, [], ◌∷◌, codes, length, refl, sym, subst, ap, inl, inr, arith}
+use Rattle.std.proofs.Common.{◌≡◌, ℕ, ◌⊎◌, ◌≤◌, Option, List, [], ◌∷◌, codes, length, refl, sym, subst, ap, inl, inr, arith}
 use Rattle.fc_base.specs.declared.size.GrainSize.{GrainSize}
+use Rattle.fc_blocks.specs.Blocks.{Opened}
 use Rattle.fc_entry.specs.HistoryState.{HistoryState}
 use Rattle.fc_entry.specs.declared.entry.Entry.{Entry}
 use Rattle.fc_io.specs.Source.{SourceState}
@@ -10,17 +11,18 @@ use Rattle.fc_legal.specs.Legal.{IsLegal}
 use Rattle.fc_legal.specs.Whole.{Whole}
 use Rattle.fc_mdisk.specs.Disk.{DiskState}
 use Rattle.fc_run.specs.Headline.{Session, SessionEnds}
+use Rattle.fc_run.specs.Input.{Gave}
 use Rattle.fc_run.specs.declared.ended.Ended.{Ended}
 use Rattle.fc_run.specs.declared.ended.Ended.TheVariants as ended
 use Rattle.fc_run.specs.declared.form.Form.{Form}
 use Rattle.fc_stands.specs.Store.{StoreView}
 use Rattle.fc_top.proofs.CompleteLemmas.{completes}
-use Rattle.fc_top.proofs.SessionOver.{Over, kept_of, session_over, starved_at_once, gave_nothing}
+use Rattle.fc_top.proofs.SessionOver.{kept_of, session_over, starved_at_once, gave_nothing}
 use Rattle.fc_top.specs.Call.{Call, empty, session_of, status_of}
 use Rattle.fc_top.specs.DisksBack.{first_told, DisksAfter}
 use Rattle.fc_top.specs.PlainEnds.{PlainEnds}
 use Rattle.fc_top.specs.PlainRuns.{plain_runs}
-use Rattle.fc_top.specs.StoreRuns.{HasDisks, IsUp, StandsOr, Start, runs_of, store_runs}
+use Rattle.fc_top.specs.StoreRuns.{HasDisks, IsOver, IsUp, SessionOver, StandsOr, Start, store_runs}
 use Rattle.fc_top.specs.declared.status.Status.{Status}
 use Rattle.fc_top.specs.declared.status.Status.TheVariants as status
 
@@ -31,16 +33,14 @@ ComeBack grain call Stands =
     DisksAfter call.status call.disks call.disks' call.history.entries last
 
 pub plain_ends :
-    (form : Form) (grain : GrainSize) (source source' : SourceState) (call : Call) (e : Ended) (Stands : HistoryState → Whole → Type 0) (Kept : Type 0) →
-    ((history : HistoryState) (last : Whole) → Stands history last → Kept) →
+    (form : Form) (grain : GrainSize) (source source' : SourceState) (call : Call) (e : Ended) (Stands : HistoryState → Whole → Type 0) (Kept : Type 0) (bytes : List ℕ) →
     call.status ≡ status_of e →
-    SessionEnds (session_of e form source source' call) (runs_of grain (first_told call.disks) Stands Kept) →
+    Gave source bytes source' →
+    IsOver grain (first_told call.disks) Stands Kept e (session_of e form source source' call) bytes →
     length call.history.entries ≤ 262144 →
     ComeBack grain call (λ last. StandsOr e (Stands call.history last) Kept) →
     PlainEnds form grain source source' call
-plain_ends form grain source source' call e Stands Kept keeps is ends few back =
-    let over : Over grain (first_told call.disks) Stands Kept e (session_of e form source source' call) ends.bytes =
-    session_over grain (first_told call.disks) Stands Kept e (session_of e form source source' call) ends.bytes keeps ends.ends in
+plain_ends form grain source source' call e Stands Kept bytes is gave over few back =
     let disks = back over.last over.legal over.stands in
     record {
       last = over.last;
@@ -48,9 +48,9 @@ plain_ends form grain source source' call e Stands Kept keeps is ends few back =
       status = is;
       legal = over.legal;
       named = inl over.told;
-      session = record { bytes = ends.bytes; gave = ends.gave; ends = over.ends };
+      session = record { bytes = bytes; gave = gave; ends = over.ends };
       disks = disks;
-      complete = completes e form grain source source' call (plain_runs grain (first_told call.disks) over.last) ends.bytes over.last is over.ends
+      complete = completes e form grain source source' call (plain_runs grain (first_told call.disks) over.last) bytes over.last is over.ends
           over.legal few disks;
     }
 
@@ -88,16 +88,22 @@ starved_ends form grain source source' call is same_source same_sink none named 
     or_empty (inr none) = inr (is, none)
 
 -- The store has the disks that were handed in, however the session ended.
-pub session_disks :
-    (start : Start) (store : StoreView) (s : Session) →
-    SessionEnds s (store_runs store start) →
-    HasDisks start store
-session_disks start store s ends =
-    let Stands : HistoryState → Whole → Type 0 = λ history last. IsUp start store history last in
-    let Kept : Type 0 = HasDisks start store in
-    let over : Over start.grain (first_told start.disks) Stands Kept s.ended s ends.bytes =
-    session_over start.grain (first_told start.disks) Stands Kept s.ended s ends.bytes (λ history last up. up.disks) ends.ends in
-    kept_of s.ended (Stands s.history over.last) Kept (λ up. up.disks) over.stands
+pub session_disks : (start : Start) (store : StoreView) (s : Session) → SessionOver start store s → HasDisks start store
+session_disks start store s ended =
+    kept_of s.ended (IsUp start store s.history ended.over.last) (HasDisks start store) (λ up. up.disks) ended.over.stands
+
+-- A session from a store that has a run of no lines.
+pub store_over :
+    (Able : Type 0) (start : Start) (reader : Option Opened) (store : StoreView) (s : Session) →
+    SessionEnds s (store_runs Able reader store start) →
+    SessionOver start store s
+store_over Able start reader store s ends =
+    record {
+      bytes = ends.bytes;
+      gave = ends.gave;
+      over = session_over start.grain (first_told start.disks) (λ open_block. (open_block ≡ reader) × Able)
+          (λ history last. IsUp start store history last) (HasDisks start store) s.ended s ends.bytes (λ history last up. up.disks) ends.ends;
+    }
 
 -- `main` has its name, and nothing is answered yet.
 pub main_told : (disks : List DiskState) (history : HistoryState) → history ≡ record { actors = codes "main" ∷ []; entries = [] } → IsOf (first_told disks) history

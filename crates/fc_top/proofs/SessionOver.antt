@@ -3,14 +3,14 @@ use Rattle.std.proofs.Common.{◌≡◌, ◌⊎◌, ℕ, List, [], ◌++◌, inl
 use Rattle.std.specs.Option.{option_map}
 use Rattle.std.proofs.lemmas.List.{append-nil}
 use Rattle.fc_base.specs.declared.size.GrainSize.{GrainSize}
+use Rattle.fc_blocks.specs.Blocks.{Opened}
+use Rattle.fc_blocks.specs.Segments.{cut}
 use Rattle.fc_entry.specs.HistoryState.{HistoryState}
 use Rattle.fc_entry.specs.declared.entry.Entry.{Entry}
 use Rattle.fc_io.specs.Sink.{SinkState, held_with}
 use Rattle.fc_io.specs.Source.{SourceState}
 use Rattle.fc_legal.proofs.Appending.{IsLegal-run, IsLegal-partial, IsLegal-wants, IsRun-nil}
-use Rattle.fc_legal.specs.Added.{IsOf}
-use Rattle.fc_legal.specs.Legal.{IsLegal}
-use Rattle.fc_legal.specs.Run.{IsRun, lines_alone}
+use Rattle.fc_legal.specs.Run.{IsRun}
 use Rattle.fc_legal.specs.Whole.{Whole}
 use Rattle.fc_run.specs.Headline.{Session, EndsAs}
 use Rattle.fc_run.specs.Summary.{form_text}
@@ -19,15 +19,7 @@ use Rattle.fc_run.specs.declared.ended.Ended.{Ended}
 use Rattle.fc_run.specs.declared.ended.Ended.TheVariants as ended
 use Rattle.fc_top.specs.PlainRuns.{plain_runs}
 use Rattle.fc_top.specs.Reading.{reading}
-use Rattle.fc_top.specs.StoreRuns.{runs_of, StandsOr}
-
--- What is told at the end, by the way that it ended.
-pub record Over (grain : GrainSize) (w : Whole) (Stands : HistoryState → Whole → Type 0) (Kept : Type 0) (e : Ended) (s : Session) (bytes : List ℕ) : Type 0 where
-  pub last : Whole
-  pub ends : EndsAs e s (plain_runs grain w last) bytes
-  pub legal : IsLegal grain w s.history.entries last
-  pub told : IsOf last s.history
-  pub stands : StandsOr e (Stands s.history last) Kept
+use Rattle.fc_top.specs.StoreRuns.{IsOver, runs_of, StandsOr}
 
 -- This holds of the same first lines.
 first_taken :
@@ -42,94 +34,104 @@ first_taken source bytes Holds Of taken holds = record {
 
 -- A call of the sink failed.
 write_fault :
-    (grain : GrainSize) (w : Whole) (Stands : HistoryState → Whole → Type 0) (Kept : Type 0) (s : Session) (bytes : List ℕ)
-    (ends : EndsAs ended.WriteFault s (runs_of grain w Stands Kept) bytes) →
-    (runs_of grain w Stands Kept).Whole ends.2.of.first s.history ⊎ (runs_of grain w Stands Kept).Full ends.2.of.first s.history →
-    Over grain w Stands Kept ended.WriteFault s bytes
-write_fault grain w Stands Kept s bytes ends (inl at) = record {
+    (grain : GrainSize) (w : Whole) (GoesOn : Option Opened → Type 0) (Stands : HistoryState → Whole → Type 0) (Kept : Type 0) (s : Session) (bytes : List ℕ)
+    (ends : EndsAs ended.WriteFault s (runs_of grain w GoesOn Stands Kept) bytes) →
+    (runs_of grain w GoesOn Stands Kept).Whole ends.2.of.first s.history ⊎ (runs_of grain w GoesOn Stands Kept).Full ends.2.of.first s.history →
+    IsOver grain w Stands Kept ended.WriteFault s bytes
+write_fault grain w GoesOn Stands Kept s bytes ends (inl at) = record {
   last = at.last;
-  ends = (ends.0, ends.1, first_taken s.source' bytes _ _ ends.2 (inl at.holds), ends.3);
-  legal = IsLegal-run grain reading w at.last (lines_alone ends.2.of.first) s.history.entries at.holds;
+  ends = (ends.0, ends.1, first_taken s.source' bytes _ _ ends.2 (inl at.holds.0), ends.3);
+  legal = IsLegal-run grain reading w at.last (cut ends.2.of.first).segments s.history.entries at.holds.0;
   told = at.told;
   stands = at.stands;
 }
-write_fault grain w Stands Kept s bytes ends (inr at) = record {
+write_fault grain w GoesOn Stands Kept s bytes ends (inr at) = record {
   last = at.last;
   ends = (ends.0, ends.1, first_taken s.source' bytes _ _ ends.2 (inr at.holds), ends.3);
-  legal = IsLegal-wants grain reading w at.last (lines_alone ends.2.of.first) s.history.entries at.holds;
+  legal = IsLegal-wants grain reading w at.last (cut ends.2.of.first).segments s.history.entries at.holds;
   told = at.told;
   stands = at.stands;
 }
 
 -- Memory was wanted.
 starved :
-    (grain : GrainSize) (w : Whole) (Stands : HistoryState → Whole → Type 0) (Kept : Type 0) (s : Session) (bytes : List ℕ)
+    (grain : GrainSize) (w : Whole) (GoesOn : Option Opened → Type 0) (Stands : HistoryState → Whole → Type 0) (Kept : Type 0) (s : Session) (bytes : List ℕ)
     (keeps : (history : HistoryState) (last : Whole) → Stands history last → Kept)
-    (ends : EndsAs ended.NoMemory s (runs_of grain w Stands Kept) bytes) →
-    (runs_of grain w Stands Kept).Whole ends.1.of.first s.history ⊎ (runs_of grain w Stands Kept).Front ends.1.of.first s.history →
-    Over grain w Stands Kept ended.NoMemory s bytes
-starved grain w Stands Kept s bytes keeps ends (inl at) = record {
+    (ends : EndsAs ended.NoMemory s (runs_of grain w GoesOn Stands Kept) bytes) →
+    (runs_of grain w GoesOn Stands Kept).Whole ends.1.of.first s.history ⊎ (runs_of grain w GoesOn Stands Kept).Front ends.1.of.first s.history →
+    IsOver grain w Stands Kept ended.NoMemory s bytes
+starved grain w GoesOn Stands Kept s bytes keeps ends (inl at) = record {
   last = at.last;
-  ends = (ends.0, first_taken s.source' bytes _ _ ends.1 (inl at.holds), ends.2);
-  legal = IsLegal-run grain reading w at.last (lines_alone ends.1.of.first) s.history.entries at.holds;
+  ends = (ends.0, first_taken s.source' bytes _ _ ends.1 (inl at.holds.0), ends.2);
+  legal = IsLegal-run grain reading w at.last (cut ends.1.of.first).segments s.history.entries at.holds.0;
   told = at.told;
   stands = keeps s.history at.last at.stands;
 }
-starved grain w Stands Kept s bytes keeps ends (inr at) = record {
+starved grain w GoesOn Stands Kept s bytes keeps ends (inr at) = record {
   last = at.last;
   ends = (ends.0, first_taken s.source' bytes _ _ ends.1 (inr at.holds), ends.2);
-  legal = IsLegal-partial grain reading w at.last (lines_alone ends.1.of.first) s.history.entries at.holds;
+  legal = IsLegal-partial grain reading w at.last (cut ends.1.of.first).segments s.history.entries at.holds;
   told = at.told;
   stands = at.stands;
 }
 
 pub session_over :
-    (grain : GrainSize) (w : Whole) (Stands : HistoryState → Whole → Type 0) (Kept : Type 0) (e : Ended) (s : Session) (bytes : List ℕ) →
+    (grain : GrainSize) (w : Whole) (GoesOn : Option Opened → Type 0) (Stands : HistoryState → Whole → Type 0) (Kept : Type 0) (e : Ended) (s : Session) (bytes : List ℕ) →
     ((history : HistoryState) (last : Whole) → Stands history last → Kept) →
-    EndsAs e s (runs_of grain w Stands Kept) bytes →
-    Over grain w Stands Kept e s bytes
-session_over grain w Stands Kept ended.Done s bytes keeps ends =
+    EndsAs e s (runs_of grain w GoesOn Stands Kept) bytes →
+    IsOver grain w Stands Kept e s bytes
+session_over grain w GoesOn Stands Kept ended.Done s bytes keeps ends =
     let at = ends.2 in
     record {
       last = at.last;
-      ends = (ends.0, ends.1, at.holds, ends.3);
-      legal = IsLegal-run grain reading w at.last _ s.history.entries at.holds;
+      ends = (ends.0, ends.1, at.holds.0, ends.3, ends.4);
+      legal = IsLegal-run grain reading w at.last _ s.history.entries at.holds.0;
       told = at.told;
       stands = at.stands;
     }
-session_over grain w Stands Kept ended.ReadFault s bytes keeps ends =
+session_over grain w GoesOn Stands Kept ended.Unended s bytes keeps ends =
     let at = ends.2 in
     record {
       last = at.last;
-      ends = (ends.0, ends.1, at.holds, ends.3);
-      legal = IsLegal-run grain reading w at.last _ s.history.entries at.holds;
+      ends = (ends.0, ends.1, at.holds.0, ends.3, ends.4);
+      legal = IsLegal-run grain reading w at.last _ s.history.entries at.holds.0;
       told = at.told;
       stands = at.stands;
     }
-session_over grain w Stands Kept ended.TooLong s bytes keeps ends =
+session_over grain w GoesOn Stands Kept ended.ReadFault s bytes keeps ends =
+    let at = ends.2 in
+    record {
+      last = at.last;
+      ends = (ends.0, ends.1, at.holds.0, ends.3);
+      legal = IsLegal-run grain reading w at.last _ s.history.entries at.holds.0;
+      told = at.told;
+      stands = at.stands;
+    }
+session_over grain w GoesOn Stands Kept ended.TooLong s bytes keeps ends =
     let at = ends.4 in
     record {
       last = at.last;
-      ends = (ends.0, ends.1, ends.2, ends.3, at.holds, ends.5);
-      legal = IsLegal-run grain reading w at.last _ s.history.entries at.holds;
+      ends = (ends.0, ends.1, ends.2, ends.3, at.holds.0, ends.5);
+      legal = IsLegal-run grain reading w at.last _ s.history.entries at.holds.0;
       told = at.told;
       stands = at.stands;
     }
-session_over grain w Stands Kept ended.LogFull s bytes keeps ends =
+session_over grain w GoesOn Stands Kept ended.LogFull s bytes keeps ends =
     let at = ends.1.of.holds in
     record {
       last = at.last;
       ends = (ends.0, first_taken s.source' bytes _ _ ends.1 at.holds, ends.2, ends.3);
-      legal = IsLegal-wants grain reading w at.last (lines_alone ends.1.of.first) s.history.entries at.holds;
+      legal = IsLegal-wants grain reading w at.last (cut ends.1.of.first).segments s.history.entries at.holds;
       told = at.told;
       stands = at.stands;
     }
-session_over grain w Stands Kept ended.WriteFault s bytes keeps ends = write_fault grain w Stands Kept s bytes ends ends.2.of.holds
-session_over grain w Stands Kept ended.NoMemory s bytes keeps ends = starved grain w Stands Kept s bytes keeps ends ends.1.of.holds
+session_over grain w GoesOn Stands Kept ended.WriteFault s bytes keeps ends = write_fault grain w GoesOn Stands Kept s bytes ends ends.2.of.holds
+session_over grain w GoesOn Stands Kept ended.NoMemory s bytes keeps ends = starved grain w GoesOn Stands Kept s bytes keeps ends ends.1.of.holds
 
 -- This is kept in any case.
 pub kept_of : (e : Ended) (stands kept : Type 0) → (stands → kept) → StandsOr e stands kept → kept
 kept_of ended.Done stands kept keeps at = keeps at
+kept_of ended.Unended stands kept keeps at = keeps at
 kept_of ended.ReadFault stands kept keeps at = keeps at
 kept_of ended.TooLong stands kept keeps at = keeps at
 kept_of ended.LogFull stands kept keeps at = keeps at

@@ -15,10 +15,11 @@ ended_by status.LogFull = Some ended.LogFull
 ended_by status.WriteFault = Some ended.WriteFault
 ended_by status.NoMemory = Some ended.NoMemory
 ended_by status.Usage = None
-ended_by status.Unended = None
+ended_by status.Unended = Some ended.Unended
 
 ended_of : (e : Ended) → ended_by (status_of e) ≡ Some e
 ended_of ended.Done = refl
+ended_of ended.Unended = refl
 ended_of ended.ReadFault = refl
 ended_of ended.TooLong = refl
 ended_of ended.LogFull = refl
@@ -29,3 +30,9 @@ pub same_ended : (e other : Ended) → status_of other ≡ status_of e → other
 same_ended e other same =
     let some : Some other ≡ Some e = sym (ended_of other) ∙ (ap ended_by same ∙ ended_of e) in
     cc some
+
+-- A session that was run isn't told as words outside of the grammar.
+pub never_usage : (e : Ended) → status_of e ≡ status.Usage → ⊥
+never_usage e is =
+    let none : None ≡ Some e = sym (ap ended_by is) ∙ ended_of e in
+    cc none

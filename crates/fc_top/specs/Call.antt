@@ -29,6 +29,7 @@ empty = record { actors = []; entries = [] }
 -- The status of a call whose session ended so.
 abbrev pub status_of : Ended → Status
 status_of ended.Done = status.Done
+status_of ended.Unended = status.Unended
 status_of ended.ReadFault = status.ReadFault
 status_of ended.TooLong = status.TooLong
 status_of ended.LogFull = status.LogFull

@@ -47,8 +47,9 @@ pub record IsWhole (grain : GrainSize) (w : Whole) (entries : List Entry) (last 
 
 -- Of a call that reads this source, and after whose last entry this is told.
 pub record Completes (grain : GrainSize) (source source' : SourceState) (call : Call) (last : Whole) : Type 0 where
-  -- where it could be read and written, and wasn't too long, it is done, or memory was wanted
+  -- where it could be read and written, wasn't too long, and ends no block short, it is done, or memory was wanted
   pub done : NoneFailed source.faults source'.faults → NoneFailed call.sink.faults call.sink'.faults →
-      call.status ≢ status.LogFull → call.status ≢ status.TooLong → (call.status ≡ status.Done) ⊎ (call.status ≡ status.NoMemory)
+      call.status ≢ status.LogFull → call.status ≢ status.TooLong → call.status ≢ status.Unended →
+      (call.status ≡ status.Done) ⊎ (call.status ≡ status.NoMemory)
   -- where no disk failed, all is served, whatever the status
   pub served : NoDiskFailed call.status call.disks' last → IsWhole grain (first_told call.disks) call.history.entries last

@@ -35,11 +35,12 @@ drill_source number = record { left = Some (session_text number); failing = Some
 -- the call isn't touched.
 pub record DrillEnds (number : ℕ) (call : Call) : Type 0 where
   pub source : call.source' ≡ call.source
-  -- what is left of the generated session; reading it never fails, and it isn't too long
+  -- what is left of the generated session; reading it never fails, it isn't too long, and it doesn't end inside a block
   pub left : SourceState
   pub no_fault : left.faults ≡ 0
   pub readable : call.status ≢ status.ReadFault
   pub fits : call.status ≢ status.TooLong
+  pub closed : call.status ≢ status.Unended
   pub ends : PlainEnds Summary K64 (drill_source number) left call
 
 -- `check` and `stop` aren't built, so no words ask for them.

@@ -1,12 +1,16 @@
 -- One outcome of a call of the program: two calls that ask for the same, over disks of the same kinds in each lane and over the
--- same bytes, which end in one way, and in which no entry answers a disk fault or missing memory, tell the same and write the same.
+-- same bytes, in which no block ends, that end in one way, and in which no entry answers a disk fault or missing memory, tell the
+-- same and write the same. Of the actors of a block each may be next, so a block has many outcomes.
 use Rattle.std.specs.Prelude.{◌≡◌, ℕ, List, [], ◌++◌, Some}
 use Rattle.fc_args.specs.declared.asked.Asked.{Asked}
 use Rattle.fc_args.specs.declared.asked.Asked.TheVariants.{Drill}
 use Rattle.fc_base.specs.declared.limits.TheConstants.{LANES}
 use Rattle.fc_base.specs.declared.size.GrainSize.{GrainSize}
+use Rattle.fc_blocks.specs.Segments.{cut}
 use Rattle.fc_determined.specs.Smooth.{AreSmooth, told_by}
+use Rattle.fc_entry.specs.Lines.{all_lines}
 use Rattle.fc_io.specs.Source.{SourceState}
+use Rattle.fc_legal.specs.WithoutBlocks.{AreLines}
 use Rattle.fc_mdisk.specs.Disk.{DiskState}
 use Rattle.fc_run.specs.Input.{IsAtEnd}
 use Rattle.fc_run.specs.Summary.{form_text}
@@ -17,7 +21,7 @@ use Rattle.fc_top.specs.Call.{Call}
 use Rattle.fc_top.specs.PlainEnds.{PlainEnds}
 use Rattle.fc_top.specs.Theorem.{Theorem}
 use Rattle.fc_top.specs.declared.status.Status.{Status}
-use Rattle.fc_top.specs.declared.status.Status.TheVariants.{Done, LogFull, TooLong}
+use Rattle.fc_top.specs.declared.status.Status.TheVariants.{Done, Unended, LogFull, TooLong}
 
 -- In each lane stand as many disks of each kind.
 abbrev pub AreAlikeDealt : List DiskState → List DiskState → Type 0
@@ -26,9 +30,14 @@ AreAlikeDealt disks other = pools_dealt LANES other ≡ pools_dealt LANES disks
 -- The bytes alone decide when a call ends so.
 abbrev pub IsByBytes : Status → Type 0
 IsByBytes Done = Unit {0}
+IsByBytes Unended = Unit {0}
 IsByBytes LogFull = Unit {0}
 IsByBytes TooLong = Unit {0}
 IsByBytes _ = ⊥
+
+-- No block ends in these bytes: all segments of their lines are single lines.
+abbrev pub HaveNoBlock : List ℕ → Type 0
+HaveNoBlock bytes = AreLines (cut (all_lines bytes)).segments
 
 -- Two calls over disks dealt alike that end in one such way, and in neither of which an entry answers a disk fault or missing memory.
 pub record WentAlike (call other : Call) : Type 0 where
@@ -68,11 +77,16 @@ abbrev pub HasBytes : Asked → List ℕ → SourceState → Type 0
 HasBytes (Drill number) bytes source = Unit {0}
 HasBytes _ bytes source = source.left ≡ Some bytes
 
+-- No block ends in the bytes of a run. The generated session of a drill has none in any case.
+abbrev pub AsksNoBlock : Asked → List ℕ → Type 0
+AsksNoBlock (Drill number) bytes = Unit {0}
+AsksNoBlock _ bytes = HaveNoBlock bytes
+
 pub record OutcomeLaw : Type 0 where
   -- two sessions that took of the same bytes
-  pub sessions : (form : Form) (grain : GrainSize) (bytes : List ℕ) (call other : Call) → WentAlike call other →
+  pub sessions : (form : Form) (grain : GrainSize) (bytes : List ℕ) (call other : Call) → HaveNoBlock bytes → WentAlike call other →
       ReadsOf form grain bytes call → ReadsOf form grain bytes other → HaveOneOutcome form call other
   -- two calls of the program whose sources have the same bytes
-  pub calls : (asked : Asked) (bytes : List ℕ) (call other : Call) → WentAlike call other →
+  pub calls : (asked : Asked) (bytes : List ℕ) (call other : Call) → AsksNoBlock asked bytes → WentAlike call other →
       HasBytes asked bytes call.source → HasBytes asked bytes other.source →
       Theorem (Some asked) call → Theorem (Some asked) other → HaveOneOutcome (form_of asked) call other

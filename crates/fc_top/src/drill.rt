@@ -7,6 +7,7 @@ ghost use Rattle.fc_mdisk.specs.Disk.{IsFresh};
 ghost use Rattle.fc_top.specs.Call.{empty};
 ghost use Rattle.fc_top.specs.Ends.{DrillEnds};
 
+use crate::gate::Gate;
 use crate::plain::run_plain;
 use crate::status::Status;
 use fc_base::outcome::NoMemory;
@@ -18,16 +19,20 @@ use fc_io::sink::Sink;
 use fc_mdisk::mdisk::Mdisk;
 use fc_run::form::Form;
 use std::alloc::Global;
+use std::sync::Wait;
+use std::thread::Threads;
 
 /// The greatest piece that a drill takes of its session.
 const PIECE_BYTES: usize = 65_536;
 
 /// Runs the generated session of a number, and writes the summary of its history.
-pub(crate) fn run_drill<K: Sink, D: Mdisk>(
+pub(crate) fn run_drill<R: Threads + Wait + Sync, K: Sink, D: Mdisk + Send, G: Gate>(
+    rt: &R,
     alloc: Global,
     number: u64,
     sink: &mut K,
     disks: &mut Vec<D>,
+    gate: &G,
     history: &mut History,
 ) -> Status
     requires empty { history.old ≡ empty }
@@ -53,12 +58,14 @@ pub(crate) fn run_drill<K: Sink, D: Mdisk>(
     };
     let mut source = MemSource::new(bytes, PIECE_BYTES, Vec::new(alloc));
     run_plain(
+        rt,
         alloc,
         Form::Summary,
         GrainSize::K64,
         &mut source,
         sink,
         disks,
+        gate,
         history,
     )
 }

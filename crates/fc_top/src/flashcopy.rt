@@ -20,14 +20,18 @@ use fc_io::source::Source;
 use fc_mdisk::mdisk::Mdisk;
 use fc_run::form::Form;
 use std::alloc::Global;
+use std::sync::Wait;
+use std::thread::Threads;
 
 /// Runs what is asked for, over any disks. What isn't built isn't asked for.
-fn run_asked<S: Source, K: Sink, D: Mdisk>(
+fn run_asked<R: Threads + Wait + Sync, S: Source, K: Sink, D: Mdisk + Send, G: Gate>(
+    rt: &R,
     alloc: Global,
     asked: Asked,
     source: &mut S,
     sink: &mut K,
     disks: &mut Vec<D>,
+    gate: &G,
     history: &mut History,
 ) -> Status
     requires built { is_offered asked ≡ true }
@@ -49,28 +53,31 @@ fn run_asked<S: Source, K: Sink, D: Mdisk>(
     match asked {
         Asked::Run(options) => {
             run_plain(
+                rt,
                 alloc,
                 Form::Text,
                 options.grain,
                 source,
                 sink,
                 disks,
+                gate,
                 history,
             )
         }
-        Asked::Drill(number) => run_drill(alloc, number, sink, disks, history),
+        Asked::Drill(number) => run_drill(rt, alloc, number, sink, disks, gate, history),
         Asked::Check | Asked::Stop(_) => unreachable!(),
     }
 }
 
 /// `flashcopy` over any disks.
-pub fn flashcopy_over<S: Source, K: Sink, G: Gate, D: Mdisk>(
+pub fn flashcopy_over<R: Threads + Wait + Sync, S: Source, K: Sink, G: Gate, D: Mdisk + Send>(
+    rt: &R,
     alloc: Global,
     words: &[&str],
     source: &mut S,
     sink: &mut K,
     disks: &mut Vec<D>,
-    _gate: &G,
+    gate: &G,
     history: &mut History,
 ) -> Status
     requires empty { history.old ≡ empty }
@@ -89,7 +96,7 @@ pub fn flashcopy_over<S: Source, K: Sink, G: Gate, D: Mdisk>(
         }) }
 {
     match read_words(alloc, words) {
-        Ok(Some(asked)) => run_asked(alloc, asked, source, sink, disks, history),
+        Ok(Some(asked)) => run_asked(rt, alloc, asked, source, sink, disks, gate, history),
         Ok(None) => Status::Usage,
         Err(NoMemory) => Status::NoMemory,
     }
@@ -111,9 +118,10 @@ pub type BoxedDisk = Box<dyn Mdisk + Send>;
 /// written and sent on (specs/PlainEnds, and fc_run's specs/Headline); the disks come back as specs/DisksBack says; where no call
 /// failed and there is room it is done, and where no disk failed its accesses are answered, but for want of memory
 /// (specs/Complete). Two calls that ask for the same, and in which nothing failed, write the same (specs/OneOutcome). Each call of
-/// the source but the last gives a byte or more (fc_run's specs/Takes). The gate only delays, and isn't reached before there are
-/// blocks.
-pub fn flashcopy<S: Source, K: Sink, G: Gate>(
+/// the source but the last gives a byte or more (fc_run's specs/Takes). The actors of a block are threads of the runtime, and the
+/// gate only delays them: it is reached by each actor at each of its requests. A call over a session with blocks may wait.
+pub fn flashcopy<R: Threads + Wait + Sync, S: Source, K: Sink, G: Gate>(
+    rt: &R,
     alloc: Global,
     words: &[&str],
     source: &mut S,
@@ -137,5 +145,5 @@ pub fn flashcopy<S: Source, K: Sink, G: Gate>(
           history = history.new;
         }) }
 {
-    flashcopy_over(alloc, words, source, sink, disks, gate, history)
+    flashcopy_over(rt, alloc, words, source, sink, disks, gate, history)
 }

@@ -9,15 +9,16 @@
 //! nothing failed all is done and served, but for want of memory (`specs/Complete`), and then there is one outcome
 //! (`specs/OneOutcome`, the contract of `outcome_law`).
 //!
-//! In reading order: `status`, `gate`, `built`, `owner` (the store answers a line), `plain` (a session over disks),
-//! `drill`, `flashcopy`, `outcome`.
+//! In reading order: `status`, `owner` (lines and blocks are answered), `plain` (a session over disks), `drill`,
+//! `flashcopy`, `outcome`.
 #![tactic(auto)]
 
-mod built;
 mod drill;
 pub mod flashcopy;
-pub mod gate;
 pub mod outcome;
 mod owner;
 mod plain;
 pub mod status;
+
+/// The gate that may delay the actors of a block.
+pub use fc_tasks::gate;

@@ -1,6 +1,6 @@
 //! A session over disks: read from a source, answered by the store, and written to a sink.
 
-ghost use Rattle.std.specs.Prelude.{◌≡◌, ◌≢◌, ◌≤◌, ◌<◌, ◌^◌, [], ◌∷◌, List, map, length, codes, vec_len, vec_capacity, OnOk, OnErr};
+ghost use Rattle.std.specs.Prelude.{◌≡◌, ◌≢◌, ◌≤◌, ◌<◌, ◌^◌, [], ◌∷◌, List, None, map, length, codes, vec_len, vec_capacity, OnOk, OnErr};
 ghost use Rattle.std.specs.List.{All};
 ghost use Rattle.fc_grains.specs.Grains.{pool_of, silent_of, total_of};
 ghost use Rattle.fc_io.specs.Source.{SourceState};
@@ -12,21 +12,30 @@ ghost use Rattle.fc_stands.specs.Store.{StandsFor};
 ghost use Rattle.fc_top.specs.Call.{empty};
 ghost use Rattle.fc_top.specs.DisksBack.{first_told};
 ghost use Rattle.fc_top.specs.PlainEnds.{PlainEnds};
+ghost use Rattle.fc_top.specs.StoreRuns.{CanRun, IsBlockRun, RunsBlocks, SessionOver};
 
-use crate::owner::Owner;
+use crate::gate::Gate;
+use crate::owner::{Owner, SingleLines};
 use crate::status::Status;
 use fc_base::name::Name;
 use fc_base::outcome::NoMemory;
 use fc_base::size::GrainSize;
+use fc_blocks::block::BlockRead;
+use fc_blocks::reader::BlockReader;
 use fc_entry::history::History;
+use fc_entry::stop::Stop;
 use fc_io::sink::Sink;
 use fc_io::source::Source;
 use fc_mdisk::mdisk::Mdisk;
+use fc_run::ended::Ended;
 use fc_run::form::Form;
 use fc_run::session::run_session;
 use fc_store::store::Store;
+use fc_together::block::run_block;
 use std::alloc::Global;
 use std::mem;
+use std::sync::Wait;
+use std::thread::Threads;
 
 /// Gives `main` its name: actor 0.
 fn add_main(alloc: Global, history: &mut History) -> Result<(), NoMemory>
@@ -44,21 +53,58 @@ fn add_main(alloc: Global, history: &mut History) -> Result<(), NoMemory>
     }
 }
 
+/// Runs a session over the store of its owner, who has read no line yet.
+fn run_owner<
+    S: Source,
+    K: Sink,
+    L: SingleLines,
+    F: Fn(&mut L, BlockRead, &mut History) -> Result<(), Stop>,
+>(form: Form, source: &mut S, sink: &mut K, owner: &mut Owner<L, F>, history: &mut History) -> Ended
+    requires able { RunsBlocks L.view (F.pre owner.old.run) (F.post owner.old.run) }
+    requires reader { owner.old.reader ≡ None }
+    requires stands { (old : List DiskState) × StandsFor (L.view owner.old.store) (first_told old)
+        × (disks_in (L.view owner.old.store).lanes ≡ pool_of old)
+        × (silent_of old ≡ 0 → AreQuiet (L.view owner.old.store).lanes) }
+    requires main { history.old ≡ record { actors = codes "main" ∷ []; entries = [] } }
+    ensures over { (old : List DiskState) → StandsFor (L.view owner.old.store) (first_told old)
+        → disks_in (L.view owner.old.store).lanes ≡ pool_of old
+        → (silent_of old ≡ 0 → AreQuiet (L.view owner.old.store).lanes)
+        → SessionOver (record { grain = (L.view owner.old.store).control.grain; disks = old })
+        (L.view owner.new.store)
+        (record {
+          ended = result;
+          form = form;
+          source = S.meaning source.old;
+          source' = S.meaning source.new;
+          sink = K.meaning sink.old;
+          sink' = K.meaning sink.new;
+          history = history.new;
+        }) }
+    ensures takes { EachGave (S.meaning source.old) (S.meaning source.new) }
+    ensures limit { length history.new.entries ≤ 262144 }
+{
+    run_session(owner.alloc, form, source, sink, owner, history)
+}
+
 /// Runs a session over a store, and gives its disks into room that was taken for them.
-fn run_store<S: Source, K: Sink, D: Mdisk>(
+fn run_store<R: Threads + Wait + Sync, S: Source, K: Sink, D: Mdisk + Send, G: Gate>(
+    rt: &R,
     alloc: Global,
     form: Form,
     store: Store<D>,
     source: &mut S,
     sink: &mut K,
     disks: &mut Vec<D>,
+    gate: &G,
     history: &mut History,
 ) -> Status
-    requires stands { (old : List DiskState) × StandsFor store (first_told old) × (disks_in store.lanes ≡ pool_of old) × (silent_of old ≡ 0 → AreQuiet store.lanes) }
+    requires stands { (old : List DiskState) × StandsFor store (first_told old)
+        × (disks_in store.lanes ≡ pool_of old) × (silent_of old ≡ 0 → AreQuiet store.lanes) }
     requires main { history.old ≡ record { actors = codes "main" ∷ []; entries = [] } }
     requires none { disks.old.items ≡ [] }
     requires room { total_of (disks_in store.lanes) ≤ vec_capacity disks.old }
-    ensures ends { (old : List DiskState) (outer outer' : SourceState) → StandsFor store (first_told old) → disks_in store.lanes ≡ pool_of old → (silent_of old ≡ 0 → AreQuiet store.lanes)
+    ensures ends { (old : List DiskState) (outer outer' : SourceState) → StandsFor store (first_told old)
+        → disks_in store.lanes ≡ pool_of old → (silent_of old ≡ 0 → AreQuiet store.lanes)
         → PlainEnds form store.control.grain (S.meaning source.old) (S.meaning source.new)
         (record {
           status = result;
@@ -74,21 +120,32 @@ fn run_store<S: Source, K: Sink, D: Mdisk>(
     ensures limit { length history.new.entries ≤ 262144 }
     ensures ran { result ≢ Status.Usage }
 {
-    let mut owner = Owner { alloc, store };
-    let ended = run_session(alloc, form, source, sink, &mut owner, history);
-    let Owner { alloc: _, store } = owner;
+    let run = |store: &mut Store<D>, block: BlockRead, history: &mut History| -> Result<(), Stop>
+        requires { CanRun store.old history.old block }
+        ensures { IsBlockRun result store.old store.new block history.old history.new }
+    { run_block(rt, alloc, store, block, gate, history) };
+    let mut owner = Owner {
+        alloc,
+        reader: BlockReader::new(),
+        store,
+        run,
+    };
+    let ended = run_owner(form, source, sink, &mut owner, history);
+    let Owner { store, .. } = owner;
     store.give_disks(disks);
     Status::of(ended)
 }
 
 /// Runs a session over disks with grains of this size, and writes its history in this form.
-pub(crate) fn run_plain<S: Source, K: Sink, D: Mdisk>(
+pub(crate) fn run_plain<R: Threads + Wait + Sync, S: Source, K: Sink, D: Mdisk + Send, G: Gate>(
+    rt: &R,
     alloc: Global,
     form: Form,
     grain: GrainSize,
     source: &mut S,
     sink: &mut K,
     disks: &mut Vec<D>,
+    gate: &G,
     history: &mut History,
 ) -> Status
     requires empty { history.old ≡ empty }
@@ -119,7 +176,7 @@ pub(crate) fn run_plain<S: Source, K: Sink, D: Mdisk>(
     };
     let taken = mem::replace(disks, room);
     match Store::new(alloc, grain, taken) {
-        Ok(store) => run_store(alloc, form, store, source, sink, disks, history),
+        Ok(store) => run_store(rt, alloc, form, store, source, sink, disks, gate, history),
         Err(NoMemory) => Status::NoMemory,
     }
 }

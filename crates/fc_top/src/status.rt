@@ -9,7 +9,7 @@ use fc_run::ended::Ended;
 /// How a call ended (docs/MANUAL.md, "Statuses").
 #[derive(Clone, Copy, Debug, PartialEq, Eq)]
 pub enum Status {
-    /// The input was read to its end and every line was answered.
+    /// The input was read to its end and every line was answered. No block is open.
     Done,
     /// The words aren't in the grammar. Nothing was read or written.
     Usage,
@@ -23,7 +23,7 @@ pub enum Status {
     LogFull,
     /// The input has more than 67,108,864 bytes. The lines that ended before were answered.
     TooLong,
-    /// The input ended inside a block, which wasn't run.
+    /// The input was read to its end inside a block, which wasn't run. Every line before it was answered.
     Unended,
 }
 
@@ -50,6 +50,7 @@ impl Status {
     {
         match ended {
             Ended::Done => Status::Done,
+            Ended::Unended => Status::Unended,
             Ended::ReadFault => Status::ReadFault,
             Ended::TooLong => Status::TooLong,
             Ended::LogFull => Status::LogFull,

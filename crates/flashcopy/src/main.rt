@@ -6,21 +6,20 @@
 
 mod disks;
 
-use crate::disks::make_ready;
-use fc_base::limits::LANES;
+use crate::disks::program_disks;
 use fc_entry::history::History;
+use fc_io::sink::Sink;
+use fc_io::source::Source;
 use fc_io::std_sink::StdSink;
 use fc_io::std_source::StdSource;
-use fc_mdisk::mdisk::Mdisk;
-use fc_mdisk::mem::MemDisk;
-use fc_mdisk::thin::ThinDisk;
 use fc_top::flashcopy::flashcopy;
 use fc_top::gate::FreeGate;
+use fc_top::status::Status;
+use std::alloc::Global;
 use std::env;
 use std::process::ExitCode;
-
-/// The disks of each kind for each lane.
-const DISKS_PER_LANE: u32 = 512;
+use std::sync::Wait;
+use std::thread::Threads;
 
 /// The exit status where memory is wanted.
 const NO_MEMORY: u8 = 5;
@@ -28,30 +27,40 @@ const NO_MEMORY: u8 = 5;
 /// The exit status where the words can't be read.
 const USAGE: u8 = 2;
 
+/// Runs what the words ask for, over the program's disks.
+fn run<R: Threads + Wait + Sync, S: Source, K: Sink>(
+    rt: &R,
+    alloc: Global,
+    texts: &[String],
+    source: &mut S,
+    sink: &mut K,
+) -> Status {
+    let mut words: Vec<&str> = Vec::new(alloc);
+    for text in texts {
+        match words.push(text.as_str()) {
+            Ok(()) => {}
+            Err(_) => return Status::NoMemory,
+        }
+    }
+    let mut disks = match program_disks(alloc) {
+        Ok(disks) => disks,
+        Err(_) => return Status::NoMemory,
+    };
+    let mut history = History::new(alloc);
+    flashcopy(
+        rt,
+        alloc,
+        &words,
+        source,
+        sink,
+        &mut disks,
+        &FreeGate,
+        &mut history,
+    )
+}
+
 fn main(rt: HostRuntime) -> ExitCode {
     let alloc = rt.alloc();
-    let mut disks: Vec<Box<dyn Mdisk + Send>> = Vec::new(alloc);
-    for _ in 0..DISKS_PER_LANE * LANES {
-        match Box::new(alloc, MemDisk::new(alloc)) {
-            Ok(disk) => match disks.push(disk) {
-                Ok(()) => {}
-                Err(_) => return ExitCode::from(NO_MEMORY),
-            },
-            Err(_) => return ExitCode::from(NO_MEMORY),
-        }
-    }
-    for _ in 0..DISKS_PER_LANE * LANES {
-        match Box::new(alloc, ThinDisk::new(alloc)) {
-            Ok(disk) => match disks.push(disk) {
-                Ok(()) => {}
-                Err(_) => return ExitCode::from(NO_MEMORY),
-            },
-            Err(_) => return ExitCode::from(NO_MEMORY),
-        }
-    }
-    if disks.len() >= 1 << 30 || !make_ready(&mut disks) {
-        return ExitCode::from(NO_MEMORY);
-    }
     let arguments = match env::args(&rt) {
         Ok(arguments) => arguments,
         Err(_) => return ExitCode::from(USAGE),
@@ -59,13 +68,6 @@ fn main(rt: HostRuntime) -> ExitCode {
     let mut texts: Vec<String> = Vec::new(alloc);
     for argument in arguments.skip(1) {
         match texts.push(argument) {
-            Ok(()) => {}
-            Err(_) => return ExitCode::from(NO_MEMORY),
-        }
-    }
-    let mut words: Vec<&str> = Vec::new(alloc);
-    for text in &texts {
-        match words.push(text.as_str()) {
             Ok(()) => {}
             Err(_) => return ExitCode::from(NO_MEMORY),
         }
@@ -78,15 +80,6 @@ fn main(rt: HostRuntime) -> ExitCode {
         Ok(sink) => sink,
         Err(_) => return ExitCode::from(NO_MEMORY),
     };
-    let mut history = History::new(alloc);
-    let status = flashcopy(
-        alloc,
-        &words,
-        &mut source,
-        &mut sink,
-        &mut disks,
-        &FreeGate,
-        &mut history,
-    );
+    let status = run(&rt, alloc, &texts, &mut source, &mut sink);
     ExitCode::from(status.code())
 }

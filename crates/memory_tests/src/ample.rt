@@ -27,29 +27,29 @@ fn is_ample(
 
 #[test]
 fn a_volume(rt: HostRuntime) -> Result<(), AllocError> {
-    is_ample(&rt, run_flat(rt.alloc(), FIRST_VOLUME), FIRST_VOLUME)
+    is_ample(&rt, run_flat(&rt, rt.alloc(), FIRST_VOLUME), FIRST_VOLUME)
 }
 
 #[test]
 fn a_copy_that_is_stopped(rt: HostRuntime) -> Result<(), AllocError> {
     is_ample(
         &rt,
-        run_flat(rt.alloc(), COMPLETE_STOPPED),
+        run_flat(&rt, rt.alloc(), COMPLETE_STOPPED),
         COMPLETE_STOPPED,
     )
 }
 
 #[test]
 fn a_copy_that_is_started_again(rt: HostRuntime) -> Result<(), AllocError> {
-    is_ample(&rt, run_flat(rt.alloc(), STARTED_AGAIN), STARTED_AGAIN)
+    is_ample(&rt, run_flat(&rt, rt.alloc(), STARTED_AGAIN), STARTED_AGAIN)
 }
 
 #[test]
 fn an_incremental_copy(rt: HostRuntime) -> Result<(), AllocError> {
-    is_ample(&rt, run_flat(rt.alloc(), INCREMENTAL), INCREMENTAL)
+    is_ample(&rt, run_flat(&rt, rt.alloc(), INCREMENTAL), INCREMENTAL)
 }
 
 #[test]
 fn thin_volumes(rt: HostRuntime) -> Result<(), AllocError> {
-    is_ample(&rt, run_thin(rt.alloc(), THIN_WRITTEN), THIN_WRITTEN)
+    is_ample(&rt, run_thin(&rt, rt.alloc(), THIN_WRITTEN), THIN_WRITTEN)
 }

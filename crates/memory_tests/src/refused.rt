@@ -19,29 +19,29 @@ fn passes(rt: &impl Abort, ran: Result<Outcome, AllocError>, session: Session) {
 
 #[test]
 fn a_volume(rt: HostRuntime) {
-    passes(&rt, run_flat(rt.alloc(), FIRST_VOLUME), FIRST_VOLUME);
+    passes(&rt, run_flat(&rt, rt.alloc(), FIRST_VOLUME), FIRST_VOLUME);
 }
 
 #[test]
 fn a_copy_that_is_stopped(rt: HostRuntime) {
     passes(
         &rt,
-        run_flat(rt.alloc(), COMPLETE_STOPPED),
+        run_flat(&rt, rt.alloc(), COMPLETE_STOPPED),
         COMPLETE_STOPPED,
     );
 }
 
 #[test]
 fn a_copy_that_is_started_again(rt: HostRuntime) {
-    passes(&rt, run_flat(rt.alloc(), STARTED_AGAIN), STARTED_AGAIN);
+    passes(&rt, run_flat(&rt, rt.alloc(), STARTED_AGAIN), STARTED_AGAIN);
 }
 
 #[test]
 fn an_incremental_copy(rt: HostRuntime) {
-    passes(&rt, run_flat(rt.alloc(), INCREMENTAL), INCREMENTAL);
+    passes(&rt, run_flat(&rt, rt.alloc(), INCREMENTAL), INCREMENTAL);
 }
 
 #[test]
 fn thin_volumes(rt: HostRuntime) {
-    passes(&rt, run_thin(rt.alloc(), THIN_WRITTEN), THIN_WRITTEN);
+    passes(&rt, run_thin(&rt, rt.alloc(), THIN_WRITTEN), THIN_WRITTEN);
 }

@@ -9,6 +9,8 @@ use fc_mdisk::mdisk::Mdisk;
 use session_runs::sessions::{Outcome, flat_disks, run_over};
 use session_runs::texts::Session;
 use std::alloc::{AllocError, Global};
+use std::sync::Wait;
+use std::thread::Threads;
 
 /// How many disks there are: eight for each lane.
 pub const DISKS: u32 = 32;
@@ -17,11 +19,17 @@ pub const DISKS: u32 = 32;
 const PIECE: usize = 4_096;
 
 /// Runs a session over these disks.
-fn run<D: Mdisk>(alloc: Global, disks: Vec<D>, session: Session) -> Result<Outcome, AllocError>
+fn run<R: Threads + Wait + Sync, D: Mdisk + Send>(
+    rt: &R,
+    alloc: Global,
+    disks: Vec<D>,
+    session: Session,
+) -> Result<Outcome, AllocError>
     requires few { vec_len disks < 2 ^ 30 }
     requires fresh { All IsFresh (map D.meaning disks.items) }
 {
     run_over(
+        rt,
         alloc,
         disks,
         session.grain,
@@ -33,13 +41,21 @@ fn run<D: Mdisk>(alloc: Global, disks: Vec<D>, session: Session) -> Result<Outco
 }
 
 /// Runs a session over flat disks.
-pub fn run_flat(alloc: Global, session: Session) -> Result<Outcome, AllocError> {
+pub fn run_flat<R: Threads + Wait + Sync>(
+    rt: &R,
+    alloc: Global,
+    session: Session,
+) -> Result<Outcome, AllocError> {
     let disks = flat_disks(alloc, DISKS)?;
-    run(alloc, disks, session)
+    run(rt, alloc, disks, session)
 }
 
 /// Runs a session over thin disks.
-pub fn run_thin(alloc: Global, session: Session) -> Result<Outcome, AllocError> {
+pub fn run_thin<R: Threads + Wait + Sync>(
+    rt: &R,
+    alloc: Global,
+    session: Session,
+) -> Result<Outcome, AllocError> {
     let disks = thin_disks(alloc, DISKS)?;
-    run(alloc, disks, session)
+    run(rt, alloc, disks, session)
 }

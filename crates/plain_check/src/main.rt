@@ -27,6 +27,8 @@ use fc_top::flashcopy::flashcopy_over;
 use fc_top::gate::FreeGate;
 use std::alloc::Global;
 use std::io;
+use std::sync::Wait;
+use std::thread::Threads;
 
 /// The numbers of the sessions.
 const SESSIONS: u64 = 3;
@@ -35,7 +37,12 @@ const SESSIONS: u64 = 3;
 const DISKS: u32 = 64;
 
 /// Runs the session of a number over these disks, and compares its reads.
-fn run<D: Mdisk>(alloc: Global, number: u64, mut disks: Vec<D>) -> io::Result<Compared>
+fn run<R: Threads + Wait + Sync, D: Mdisk + Send>(
+    rt: &R,
+    alloc: Global,
+    number: u64,
+    mut disks: Vec<D>,
+) -> io::Result<Compared>
     requires few { vec_len disks ≤ DISKS }
     requires fresh { All IsFresh (map D.meaning disks.items) }
 {
@@ -48,6 +55,7 @@ fn run<D: Mdisk>(alloc: Global, number: u64, mut disks: Vec<D>) -> io::Result<Co
     let mut history = History::new(alloc);
     let words = ["run", "--grain", "64"];
     let _status = flashcopy_over(
+        rt,
         alloc,
         &words,
         &mut source,
@@ -72,9 +80,9 @@ fn print_compared<R: Print>(
 fn main(rt: HostRuntime) -> io::Result<()> {
     let alloc = rt.alloc();
     for number in 1..SESSIONS + 1 {
-        let sound = run(alloc, number, sound_disks(alloc, DISKS)?)?;
+        let sound = run(&rt, alloc, number, sound_disks(alloc, DISKS)?)?;
         print_compared(&rt, number, "sound disks", &sound)?;
-        let failing = run(alloc, number, failing_disks(alloc, DISKS)?)?;
+        let failing = run(&rt, alloc, number, failing_disks(alloc, DISKS)?)?;
         print_compared(&rt, number, "failing disks", &failing)?;
     }
     Ok(())

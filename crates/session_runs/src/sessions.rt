@@ -14,6 +14,8 @@ use fc_top::flashcopy::flashcopy_over;
 use fc_top::gate::FreeGate;
 use fc_top::status::Status;
 use std::alloc::{AllocError, Global};
+use std::sync::Wait;
+use std::thread::Threads;
 
 /// What came of a session.
 #[derive(Drop)]
@@ -46,7 +48,8 @@ fn settled_in(history: &History) -> usize {
 
 /// Runs a session over these disks at this grain, read in pieces of so many bytes, with failing calls. The disks that
 /// the program gives back stand in the list then.
-pub fn run_on<D: Mdisk>(
+pub fn run_on<R: Threads + Wait + Sync, D: Mdisk + Send>(
+    rt: &R,
     alloc: Global,
     disks: &mut Vec<D>,
     grain: &str,
@@ -64,6 +67,7 @@ pub fn run_on<D: Mdisk>(
     let mut history = History::new(alloc);
     let words = ["run", "--grain", grain];
     let status = flashcopy_over(
+        rt,
         alloc,
         &words,
         &mut source,
@@ -82,7 +86,8 @@ pub fn run_on<D: Mdisk>(
 }
 
 /// As `run_on`, over disks that nobody asks for afterwards.
-pub fn run_over<D: Mdisk>(
+pub fn run_over<R: Threads + Wait + Sync, D: Mdisk + Send>(
+    rt: &R,
     alloc: Global,
     mut disks: Vec<D>,
     grain: &str,
@@ -96,6 +101,7 @@ pub fn run_over<D: Mdisk>(
     requires fresh { All IsFresh (map D.meaning disks.items) }
 {
     run_on(
+        rt,
         alloc,
         &mut disks,
         grain,
@@ -107,7 +113,8 @@ pub fn run_over<D: Mdisk>(
 }
 
 /// Runs a session at grain 64 over one flat disk for each of the four lanes.
-pub fn run(
+pub fn run<R: Threads + Wait + Sync>(
+    rt: &R,
     alloc: Global,
     session: &[u8],
     piece: usize,
@@ -123,6 +130,7 @@ pub fn run(
         MemDisk::new(alloc),
     ]?;
     run_over(
+        rt,
         alloc,
         disks,
         "64",

@@ -4,23 +4,25 @@ use fc_top::status::Status;
 use session_runs::sessions::run;
 use std::alloc::{AllocError, Global};
 use std::process::Abort;
+use std::sync::Wait;
+use std::thread::Threads;
 
 /// A session is answered by this text.
-fn is_answered(
-    rt: &impl Abort,
+fn is_answered<R: Abort + Threads + Wait + Sync>(
+    rt: &R,
     alloc: Global,
     session: &[u8],
     text: &[u8],
 ) -> Result<(), AllocError> {
-    let outcome = run(alloc, session, 64, Vec::new(alloc), Vec::new(alloc))?;
+    let outcome = run(rt, alloc, session, 64, Vec::new(alloc), Vec::new(alloc))?;
     assert!(rt; outcome.status == Status::Done);
     assert!(rt; outcome.written.as_slice() == text);
     Ok(())
 }
 
 /// A line of so many bytes with this end is answered by this text.
-fn is_answered_with(
-    rt: &impl Abort,
+fn is_answered_with<R: Abort + Threads + Wait + Sync>(
+    rt: &R,
     alloc: Global,
     bytes: usize,
     end: &[u8],

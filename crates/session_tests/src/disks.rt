@@ -122,6 +122,7 @@ fn the_disks_that_come_back_are_the_very_ones(rt: HostRuntime) -> Result<(), All
     let alloc = rt.alloc();
     let mut disks = marked_disks(alloc, DISKS)?;
     let outcome = run_on(
+        &rt,
         alloc,
         &mut disks,
         "64",

@@ -8,6 +8,8 @@ use session_runs::sessions::{Outcome, flat_disks, run_over};
 use session_runs::texts::{COMPLETE_STOPPED, FIRST_VOLUME, NIGHTS_WORK, RESTORED_WRITE, Session};
 use std::alloc::{AllocError, Global};
 use std::process::Abort;
+use std::sync::Wait;
+use std::thread::Threads;
 
 /// How many disks there are: eight for each lane.
 const DISKS: u32 = 32;
@@ -19,7 +21,8 @@ const PIECE: usize = 16;
 const MOST_CALLS: u64 = 5_000;
 
 /// Runs a session with failing calls.
-fn run(
+fn run<R: Threads + Wait + Sync>(
+    rt: &R,
     alloc: Global,
     grain: &str,
     lines: &[u8],
@@ -28,6 +31,7 @@ fn run(
 ) -> Result<Outcome, AllocError> {
     let disks = flat_disks(alloc, DISKS)?;
     run_over(
+        rt,
         alloc,
         disks,
         grain,
@@ -63,10 +67,15 @@ fn ended_lines(lines: &[u8], bytes: usize) -> usize {
 
 /// Each take fails once, in a session each line of which has an entry at least: then the entries are the first of all,
 /// and their text is whole. The take behind the end of the session is never made.
-fn each_take_fails(rt: &impl Abort, alloc: Global, session: Session) -> Result<(), AllocError> {
+fn each_take_fails<R: Abort + Threads + Wait + Sync>(
+    rt: &R,
+    alloc: Global,
+    session: Session,
+) -> Result<(), AllocError> {
     let mut most = 0usize;
     for number in 1..MOST_CALLS {
         let outcome = run(
+            rt,
             alloc,
             session.grain,
             session.lines,
@@ -97,8 +106,8 @@ fn each_take_fails(rt: &impl Abort, alloc: Global, session: Session) -> Result<(
 
 /// Each call of the sink fails once, a put or a flush: then the sink got a front of the text, and as nothing more is taken, maybe
 /// not all lines are answered.
-fn each_put_fails(
-    rt: &impl Abort,
+fn each_put_fails<R: Abort + Threads + Wait + Sync>(
+    rt: &R,
     alloc: Global,
     grain: &str,
     lines: &[u8],
@@ -109,6 +118,7 @@ fn each_put_fails(
     let mut most = 0usize;
     for number in 1..MOST_CALLS {
         let outcome = run(
+            rt,
             alloc,
             grain,
             lines,
@@ -135,11 +145,16 @@ fn each_put_fails(
 }
 
 /// How many calls of its sink a session of the first volume makes, read in pieces of so many bytes.
-fn calls_of_sink(alloc: Global, piece: usize) -> Result<u64, AllocError>
+fn calls_of_sink<R: Threads + Wait + Sync>(
+    rt: &R,
+    alloc: Global,
+    piece: usize,
+) -> Result<u64, AllocError>
     requires { 0 < piece }
 {
     for number in 1..MOST_CALLS {
         let outcome = run_over(
+            rt,
             alloc,
             flat_disks(alloc, DISKS)?,
             FIRST_VOLUME.grain,
@@ -176,8 +191,8 @@ fn each_answer_is_sent_on_before_more_is_taken(rt: HostRuntime) -> Result<(), Al
     let alloc = rt.alloc();
     // taken at once, the three answers are sent on once, and once more at the end; in pieces of five bytes, of which none ends
     // two lines, each answer is sent on by itself
-    let at_once = calls_of_sink(alloc, 65_536)?;
-    let apart = calls_of_sink(alloc, 5)?;
+    let at_once = calls_of_sink(&rt, alloc, 65_536)?;
+    let apart = calls_of_sink(&rt, alloc, 5)?;
     assert!(rt; at_once > 4);
     assert_eq!(rt; apart, at_once.saturating_add(2));
     Ok(())

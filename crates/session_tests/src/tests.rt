@@ -38,6 +38,20 @@ const ONE_VOLUME_TEXT: &[u8] =
 
 const NO_DISK_TEXT: &[u8] = b"0 main mkvdisk -size 1 -> refused no disk\n";
 
+/// A volume is made and written, and a block begins that the input ends.
+const UNENDED_BLOCK: &[u8] = b"mkvdisk -name A -size 1
+write A 0 1 5a
+together
+actor first host
+write A 0 1 11
+";
+
+/// What stands before the block is answered, and nothing in it.
+const UNENDED_BLOCK_TEXT: &[u8] =
+    b"0 main mkvdisk -name A -size 1 -> Virtual Disk, id [0], successfully created
+1 main write 0 0 1 5a -> ok
+";
+
 /// How many disks there are: one for each lane.
 const DISKS: usize = 4;
 
@@ -48,6 +62,7 @@ const PIECE: usize = 211;
 fn the_first_volume_is_made_written_and_read(rt: HostRuntime) -> Result<(), AllocError> {
     let alloc = rt.alloc();
     let outcome = run(
+        &rt,
         alloc,
         FIRST_VOLUME.lines,
         65_536,
@@ -63,7 +78,7 @@ fn the_first_volume_is_made_written_and_read(rt: HostRuntime) -> Result<(), Allo
 #[test]
 fn nothing_comes_of_nothing(rt: HostRuntime) -> Result<(), AllocError> {
     let alloc = rt.alloc();
-    let outcome = run(alloc, b"", 5, Vec::new(alloc), Vec::new(alloc))?;
+    let outcome = run(&rt, alloc, b"", 5, Vec::new(alloc), Vec::new(alloc))?;
     assert!(rt; outcome.status == Status::Done);
     assert_eq!(rt;
         (outcome.written.len(), outcome.entries, outcome.disks),
@@ -75,7 +90,14 @@ fn nothing_comes_of_nothing(rt: HostRuntime) -> Result<(), AllocError> {
 #[test]
 fn a_volume_takes_its_disks_for_good(rt: HostRuntime) -> Result<(), AllocError> {
     let alloc = rt.alloc();
-    let outcome = run(alloc, ONE_VOLUME, 65_536, Vec::new(alloc), Vec::new(alloc))?;
+    let outcome = run(
+        &rt,
+        alloc,
+        ONE_VOLUME,
+        65_536,
+        Vec::new(alloc),
+        Vec::new(alloc),
+    )?;
     assert!(rt; outcome.status == Status::Done);
     assert!(rt; outcome.written.as_slice() == ONE_VOLUME_TEXT);
     assert_eq!(rt; (outcome.entries, outcome.disks), (12, DISKS));
@@ -83,9 +105,29 @@ fn a_volume_takes_its_disks_for_good(rt: HostRuntime) -> Result<(), AllocError> 
 }
 
 #[test]
+fn a_block_that_the_input_ends_is_not_run(rt: HostRuntime) -> Result<(), AllocError> {
+    let alloc = rt.alloc();
+    for piece in [7, 65_536] {
+        let outcome = run(
+            &rt,
+            alloc,
+            UNENDED_BLOCK,
+            piece,
+            Vec::new(alloc),
+            Vec::new(alloc),
+        )?;
+        assert!(rt; outcome.status == Status::Unended);
+        assert!(rt; outcome.written.as_slice() == UNENDED_BLOCK_TEXT);
+        assert_eq!(rt; (outcome.entries, outcome.disks), (2, DISKS));
+    }
+    Ok(())
+}
+
+#[test]
 fn no_volume_is_made_without_disks(rt: HostRuntime) -> Result<(), AllocError> {
     let alloc = rt.alloc();
     let outcome = run_over(
+        &rt,
         alloc,
         flat_disks(alloc, 0)?,
         "64",
@@ -106,6 +148,7 @@ fn the_fourth_take_fails_before_the_first_line_has_ended(
 ) -> Result<(), AllocError> {
     let alloc = rt.alloc();
     let outcome = run(
+        &rt,
         alloc,
         FIRST_VOLUME.lines,
         5,
@@ -124,6 +167,7 @@ fn the_fourth_take_fails_before_the_first_line_has_ended(
 fn the_first_put_fails(rt: HostRuntime) -> Result<(), AllocError> {
     let alloc = rt.alloc();
     let outcome = run(
+        &rt,
         alloc,
         FIRST_VOLUME.lines,
         65_536,
@@ -144,6 +188,7 @@ fn nothing_is_taken_after_a_failed_put(rt: HostRuntime) -> Result<(), AllocError
     let alloc = rt.alloc();
     // of pieces of five bytes none ends two lines, so the first answer is put before the second line ends
     let outcome = run(
+        &rt,
         alloc,
         FIRST_VOLUME.lines,
         5,
@@ -163,7 +208,7 @@ fn pieces_of_any_size_give_one_history(rt: HostRuntime) -> Result<(), AllocError
     let wanted = all_answers(alloc, &lines)?;
     assert_eq!(rt; wanted.entries, 14);
     for piece in [1, 7, 4_097, 65_536] {
-        let outcome = run(alloc, &bytes, piece, Vec::new(alloc), Vec::new(alloc))?;
+        let outcome = run(&rt, alloc, &bytes, piece, Vec::new(alloc), Vec::new(alloc))?;
         assert!(rt; outcome.status == Status::Done);
         assert!(rt; outcome.written.as_slice() == wanted.text.as_slice());
         assert_eq!(rt; (outcome.entries, outcome.disks), (wanted.entries, DISKS));
@@ -180,14 +225,14 @@ fn each_take_fails_once(rt: HostRuntime) -> Result<(), AllocError> {
     let takes = bytes.len().div_ceil(PIECE);
     for before in 0..takes + 1 {
         let failing = vec![in alloc; before as u64 + 1]?;
-        let outcome = run(alloc, &bytes, PIECE, failing, Vec::new(alloc))?;
+        let outcome = run(&rt, alloc, &bytes, PIECE, failing, Vec::new(alloc))?;
         let wanted = answers_within(alloc, &lines, PIECE.saturating_mul(before))?;
         assert!(rt; outcome.status == Status::ReadFault);
         assert_eq!(rt; (outcome.entries, outcome.disks), (wanted.entries, DISKS));
         assert!(rt; outcome.written.as_slice() == wanted.text.as_slice());
     }
     let failing = vec![in alloc; takes as u64 + 2]?;
-    let outcome = run(alloc, &bytes, PIECE, failing, Vec::new(alloc))?;
+    let outcome = run(&rt, alloc, &bytes, PIECE, failing, Vec::new(alloc))?;
     assert!(rt; outcome.status == Status::Done);
     assert_eq!(rt; outcome.entries, 14);
     Ok(())

@@ -11,6 +11,8 @@ use fc_top::flashcopy::flashcopy_over;
 use fc_top::gate::FreeGate;
 use std::alloc::{AllocError, Global};
 use std::io;
+use std::sync::Wait;
+use std::thread::Threads;
 
 /// The greatest number of disks of a session.
 const MOST_DISKS: u32 = 1_000_000;
@@ -75,7 +77,11 @@ pub fn session_of(alloc: Global, line: &str) -> Result<Option<Session>, AllocErr
 }
 
 /// Runs a session, and prints its name and its entries. Nothing of no session.
-pub fn print_session<R: Print>(rt: &R, alloc: Global, session: &Session) -> io::Result<()> {
+pub fn print_session<R: Print + Threads + Wait + Sync>(
+    rt: &R,
+    alloc: Global,
+    session: &Session,
+) -> io::Result<()> {
     if session.name.is_empty() {
         return Ok(());
     }
@@ -87,6 +93,7 @@ pub fn print_session<R: Print>(rt: &R, alloc: Global, session: &Session) -> io::
     let mut history = History::new(alloc);
     let words = ["run", "--grain", session.grain.as_str()];
     let _status = flashcopy_over(
+        rt,
         alloc,
         &words,
         &mut source,

@@ -13,7 +13,7 @@ abbrev texts : List (Bor (List ℕ)) → List (List ℕ)
 texts = map (λ word. word.now)
 
 pub run_asked-requires-clause-built : goal.run_asked-requires-clause-built
-run_asked-requires-clause-built g c =
+run_asked-requires-clause-built g c = λ κs within.
     asked-built (texts c.args.words.now) c.in-Ok-Some.asked (sym c.in-Ok-Some.ensures ∙ c.in-Ok-Some.field-0-is)
 
 pub returns-in-Ok-Some : goal.returns-in-Ok-Some

@@ -65,7 +65,7 @@ returns-in-Err-new-clause-ends g c = λ outer outer'.
 
 -- The store has the disks that were handed in.
 pub run_store-requires-clause-stands : goal.run_store-requires-clause-stands
-run_store-requires-clause-stands g c =
+run_store-requires-clause-stands g c = λ κs within.
     let same = c.replace-taken.ensures.value in (
       map g.D.Mdisk.meaning c.args.disks.now.items,
       subst (λ v. StandsFor c.in-Ok-new.store (first_told (map g.D.Mdisk.meaning v.items))) same c.in-Ok-new.ensures.stands,

@@ -1,5 +1,5 @@
-use Rattle.std.proofs.Common.{◌≡◌, ◌%◌, refl, sym, ap, ◌∙◌, subst}
-use Rattle.fc_actors.specs.Scripts.{WorkSuits}
+use Rattle.std.proofs.Common.{refl, ap, ◌∙◌, subst}
+use Rattle.fc_actors.specs.Scripts.{WorkSuits, work_left}
 use Rattle.fc_actors.specs.Spans.{turn_of}
 use Rattle.fc_actors.proofs.Lines.{turn_left, turns_more}
 use Rattle.fc_actors.proofs.script.ActorScript.act_in.Goals as goal
@@ -17,6 +17,16 @@ returns-in-Lines-clause-same g c = record {
   work = λ s suits. c.next_grain.ensures.suits s (subst (WorkSuits s) c.in-Lines.is suits);
 }
 
+pub returns-in-Lines-clause-goes : goal.returns-in-Lines-clause-goes
+returns-in-Lines-clause-goes g c =
+    let self = c.args.self.now in let done = c.next_grain.ensures in record {
+      asked = ap (work_left self.grain self.lanes) c.in-Lines.is ∙ done.asked;
+      actor = done.actor.0;
+      same = refl;
+      number = done.actor.1;
+      work = λ t suits. done.suits t (subst (WorkSuits t) c.in-Lines.is suits);
+    }
+
 pub returns-in-Turns-clause-goes : goal.returns-in-Turns-clause-goes
 returns-in-Turns-clause-goes g c =
     let self = c.args.self.now in let can = c.requires.can in let left = turn_left self.grain self.lanes can.i c.in-Turns.next c.in-Turns.turns c.in-Turns.cleans self.work c.in-Turns.is can.needs in
@@ -26,4 +36,5 @@ returns-in-Turns-clause-goes g c =
       actor = asked.actor_is;
       same = refl;
       number = asked.number_is;
+      work = λ t suits. tt;
     }

@@ -12,7 +12,7 @@ use Rattle.fc_meta.proofs.meta.Meta.make_all.Goals as goal
 
 pub loop-done-init : goal.loop-done-init
 loop-done-init g c =
-    record { going = going g.M.MetaDisk.seen g.M.MetaDisk.may_leave g.M.MetaDisk.moment g.M.MetaDisk.left_since g.met.M.MetaDisk.only_now c.args.calls.now c.args.self.now c.requires.rests c.requires.order; calls = refl; quiet = refl }
+    record { going = going g.M.MetaDisk.seen g.M.MetaDisk.may_leave g.M.MetaDisk.moment g.M.MetaDisk.left_since g.met.M.MetaDisk.only_now c.args.calls.now c.args.self.now c.requires.rests c.requires.order; calls = refl; quiet = refl; size = refl }
 
 pub make-requires : goal.make-requires
 make-requires g c =
@@ -55,6 +55,7 @@ loop-done-preserved g c =
       calls = counted_on c.args.calls.now c.loop-done.done c.index-calls-done.result (g.M.MetaDisk.calls c.args.self.now.disk) (g.M.MetaDisk.calls c.loop-done.self.disk) (g.M.MetaDisk.calls c.make.new.self.disk)
           c.index-calls-done.is c.loop-done-test.true c.loop-done.invariant.calls c.in-Ok.ensures.calls;
       quiet = c.in-Ok.ensures.quiet ∙ c.loop-done.invariant.quiet;
+      size = c.make.ensures.size ∙ c.loop-done.invariant.size;
     }
 
 pub returns-clause-at : goal.returns-clause-at
@@ -86,6 +87,14 @@ pub returns-in-Err-clause-calls : goal.returns-in-Err-clause-calls
 returns-in-Err-clause-calls g c =
     refused_holds _ (c.make.new.self ≡ c.loop-done.self) c.in-Err.error c.in-Err.ensures.refused
     (λ same. ap (λ (m : Meta g.row.M.Denot). g.M.MetaDisk.calls m.disk) same ∙ c.loop-done.invariant.calls)
+
+pub returns-in-Err-clause-quiet : goal.returns-in-Err-clause-quiet
+returns-in-Err-clause-quiet g c =
+    refused_holds _ (c.make.new.self ≡ c.loop-done.self) c.in-Err.error c.in-Err.ensures.refused
+    (λ same. ap (λ (m : Meta g.row.M.Denot). g.M.MetaDisk.fault_count m.disk) same ∙ c.loop-done.invariant.quiet)
+
+pub returns-in-Err-clause-size : goal.returns-in-Err-clause-size
+returns-in-Err-clause-size g c = c.make.ensures.size ∙ c.loop-done.invariant.size
 
 pub returns-clause-calls : goal.returns-clause-calls
 returns-clause-calls g c =

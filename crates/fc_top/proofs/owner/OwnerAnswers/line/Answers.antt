@@ -1,66 +1,86 @@
--- What was read is answered.
-use Rattle.std.proofs.Common.{Ok, Err, ap, refl}
-use Rattle.fc_entry.specs.declared.stop.Stop.TheVariants.{NoMemory}
-use Rattle.fc_top.proofs.OwnerLemmas.{fault_read, line_grows, line_named, line_starved, reading_of, store_answers, store_stands}
-use Rattle.fc_control.specs.Control.{ControlState}
-use Rattle.fc_top.specs.Reading.{reading}
+-- The line was single, or of a block that is still open, or it ended one; or memory was wanted to read it.
+use Rattle.std.proofs.Common.{◌≡◌, ◌∷◌, []}
+use Rattle.fc_blocks.specs.Segments.{single, together}
+use Rattle.fc_blocks.specs.declared.block.Taken.TheVariants.{Single, Block}
+use Rattle.fc_run.proofs.GrowingLemmas.{GrowsTo-same}
+use Rattle.fc_top.proofs.OwnerLemmas.{block_grows, can_run, line_grows, line_named, store_answers, store_starved, taken_as}
+use Rattle.fc_top.specs.StoreRuns.{RunsBlocks}
 use Rattle.fc_top.proofs.owner.OwnerAnswers.line.Goals as goal
 
-pub answer_line-requires-clause-stands : goal.answer_line-requires-clause-stands
-answer_line-requires-clause-stands g c =
-    store_stands c.requires.stands.0 c.args.self.now.store c.requires.stands.1 c.args.history.now c.requires.stands.2
+pub run_one-requires-clause-able : goal.run_one-requires-clause-able
+run_one-requires-clause-able g c = c.requires.stands.2.holds.1.1
 
-pub push_unread-requires-clause-stands : goal.push_unread-requires-clause-stands
-push_unread-requires-clause-stands g c =
-    store_stands c.requires.stands.0 c.args.self.now.store c.requires.stands.1 c.args.history.now c.requires.stands.2
+pub run_one-requires-clause-can : goal.run_one-requires-clause-can
+run_one-requires-clause-can g c =
+    let whole = c.requires.stands.2 in
+    let is : c.in-Ok-Block.field-0 ≡ Block c.in-Ok-Block.block = let a = c.in-Ok-Block.field-0-is in let b = c.in-Ok-Block.block-is in cc in
+    let next = taken_as c.in-Ok-Block.field-0 (Block c.in-Ok-Block.block) c.args.self.now.reader c.read.new.self c.requires.stands.1 c.args.line.now is
+    (c.in-Ok-Block.ensures.ok c.requires.stands.1 whole.holds.1.0) in
+    can_run (RunsBlocks {S = g.row.S.Denot} g.S.SingleLines.view (goal.F-pre g c.args.self.now.run) (goal.F-post g c.args.self.now.run)) c.requires.stands.0
+    c.args.self.now.reader c.read.new.self (g.S.SingleLines.view c.args.self.now.store) c.requires.stands.1 c.requires.stands.1 c.args.line.now c.args.history.now
+    c.in-Ok-Block.block whole c.requires.room next
 
-pub returns-in-Ok-clause-answered : goal.returns-in-Ok-clause-answered
-returns-in-Ok-clause-answered g c = λ start lines before.
-    store_answers c.answer_line.result start c.args.self.now.store c.answer_line.new.store lines c.args.line.now c.args.history.now c.answer_line.new.history
-    (λ w told. c.answer_line.ensures.answered c.args.line.now w
-    (reading_of w.books c.args.line.now (Ok c.in-Ok.line) c.in-Ok.ensures.value) told)
-    c.answer_line.ensures.grain c.answer_line.ensures.disks c.answer_line.ensures.quiet before
+pub returns-in-Ok-Single-clause-answered : goal.returns-in-Ok-Single-clause-answered
+returns-in-Ok-Single-clause-answered g c = λ start lines whole.
+    let is : c.in-Ok-Single.field-0 ≡ Single c.in-Ok-Single.line = let a = c.in-Ok-Single.field-0-is in let b = c.in-Ok-Single.line-is in cc in
+    let next = taken_as c.in-Ok-Single.field-0 (Single c.in-Ok-Single.line) c.args.self.now.reader c.read.new.self lines c.args.line.now is
+    (c.in-Ok-Single.ensures.ok lines whole.holds.1.0) in
+    store_answers (RunsBlocks {S = g.row.S.Denot} g.S.SingleLines.view (goal.F-pre g c.args.self.now.run) (goal.F-post g c.args.self.now.run)) c.answer.result start
+    c.args.self.now.reader c.read.new.self (Single c.in-Ok-Single.line) (g.S.SingleLines.view c.args.self.now.store) (g.S.SingleLines.view c.answer.new.self) lines c.args.line.now
+    (single c.args.line.now ∷ []) c.args.history.now c.answer.new.history
+    (λ w told. c.answer.ensures.answered c.args.line.now w next.told.1 told)
+    c.answer.ensures.grain c.answer.ensures.disks c.answer.ensures.quiet next next.told.0 whole
 
-pub returns-in-Ok-clause-named : goal.returns-in-Ok-clause-named
-returns-in-Ok-clause-named g c =
-    line_named c.answer_line.result c.requires.stands.0 c.args.self.now.store c.answer_line.new.store c.requires.stands.1 c.args.line.now c.args.history.now c.answer_line.new.history
-    (λ w told. c.answer_line.ensures.answered c.args.line.now w
-    (reading_of w.books c.args.line.now (Ok c.in-Ok.line) c.in-Ok.ensures.value) told) c.requires.stands.2
+pub returns-in-Ok-Single-clause-named : goal.returns-in-Ok-Single-clause-named
+returns-in-Ok-Single-clause-named g c =
+    let whole = c.requires.stands.2 in
+    let is : c.in-Ok-Single.field-0 ≡ Single c.in-Ok-Single.line = let a = c.in-Ok-Single.field-0-is in let b = c.in-Ok-Single.line-is in cc in
+    let next = taken_as c.in-Ok-Single.field-0 (Single c.in-Ok-Single.line) c.args.self.now.reader c.read.new.self c.requires.stands.1 c.args.line.now is
+    (c.in-Ok-Single.ensures.ok c.requires.stands.1 whole.holds.1.0) in
+    line_named (RunsBlocks {S = g.row.S.Denot} g.S.SingleLines.view (goal.F-pre g c.args.self.now.run) (goal.F-post g c.args.self.now.run)) c.answer.result c.requires.stands.0
+    c.args.self.now.reader (g.S.SingleLines.view c.args.self.now.store) (g.S.SingleLines.view c.answer.new.self) c.requires.stands.1 c.args.line.now c.args.history.now c.answer.new.history
+    (λ w told. c.answer.ensures.answered c.args.line.now w next.told.1 told) whole
 
-pub returns-in-Ok-clause-grows : goal.returns-in-Ok-clause-grows
-returns-in-Ok-clause-grows g c =
-    line_grows c.answer_line.result c.requires.stands.0 c.args.self.now.store c.answer_line.new.store c.requires.stands.1 c.args.line.now c.args.history.now c.answer_line.new.history
-    (λ w told. c.answer_line.ensures.answered c.args.line.now w
-    (reading_of w.books c.args.line.now (Ok c.in-Ok.line) c.in-Ok.ensures.value) told) c.requires.stands.2
+pub returns-in-Ok-Single-clause-grows : goal.returns-in-Ok-Single-clause-grows
+returns-in-Ok-Single-clause-grows g c =
+    let whole = c.requires.stands.2 in
+    let is : c.in-Ok-Single.field-0 ≡ Single c.in-Ok-Single.line = let a = c.in-Ok-Single.field-0-is in let b = c.in-Ok-Single.line-is in cc in
+    let next = taken_as c.in-Ok-Single.field-0 (Single c.in-Ok-Single.line) c.args.self.now.reader c.read.new.self c.requires.stands.1 c.args.line.now is
+    (c.in-Ok-Single.ensures.ok c.requires.stands.1 whole.holds.1.0) in
+    line_grows (RunsBlocks {S = g.row.S.Denot} g.S.SingleLines.view (goal.F-pre g c.args.self.now.run) (goal.F-post g c.args.self.now.run)) c.answer.result c.requires.stands.0
+    c.args.self.now.reader (g.S.SingleLines.view c.args.self.now.store) (g.S.SingleLines.view c.answer.new.self) c.requires.stands.1 c.args.line.now c.args.history.now c.answer.new.history
+    (λ w told. c.answer.ensures.answered c.args.line.now w next.told.1 told) whole
 
-pub returns-in-Err-Fault-clause-answered : goal.returns-in-Err-Fault-clause-answered
-returns-in-Err-Fault-clause-answered g c = λ start lines before.
-    store_answers c.push_unread.result start c.args.self.now.store c.push_unread.new.self lines c.args.line.now c.args.history.now c.push_unread.new.history
-    (λ w told. c.push_unread.ensures.answered reading c.args.line.now w
-    (reading_of w.books c.args.line.now (Err c.in-Err-Fault.fault)
-    (fault_read c.in-Err-Fault.field-0 c.in-Err-Fault.fault _ c.in-Err-Fault.field-0-is c.in-Err-Fault.ensures.value)) told)
-    (ap (λ (k : ControlState). k.grain) c.push_unread.ensures.control) c.push_unread.ensures.disks c.push_unread.ensures.quiet before
+pub returns-in-Ok-Nothing-clause-grows : goal.returns-in-Ok-Nothing-clause-grows
+returns-in-Ok-Nothing-clause-grows g c = GrowsTo-same c.args.history.now
 
-pub returns-in-Err-Fault-clause-named : goal.returns-in-Err-Fault-clause-named
-returns-in-Err-Fault-clause-named g c =
-    line_named c.push_unread.result c.requires.stands.0 c.args.self.now.store c.push_unread.new.self c.requires.stands.1 c.args.line.now c.args.history.now c.push_unread.new.history
-    (λ w told. c.push_unread.ensures.answered reading c.args.line.now w
-    (reading_of w.books c.args.line.now (Err c.in-Err-Fault.fault)
-    (fault_read c.in-Err-Fault.field-0 c.in-Err-Fault.fault _ c.in-Err-Fault.field-0-is c.in-Err-Fault.ensures.value)) told) c.requires.stands.2
+pub returns-in-Ok-Block-clause-answered : goal.returns-in-Ok-Block-clause-answered
+returns-in-Ok-Block-clause-answered g c = λ start lines whole.
+    let is : c.in-Ok-Block.field-0 ≡ Block c.in-Ok-Block.block = let a = c.in-Ok-Block.field-0-is in let b = c.in-Ok-Block.block-is in cc in
+    let next = taken_as c.in-Ok-Block.field-0 (Block c.in-Ok-Block.block) c.args.self.now.reader c.read.new.self lines c.args.line.now is
+    (c.in-Ok-Block.ensures.ok lines whole.holds.1.0) in
+    let ran = c.run_one.ensures.ran in
+    store_answers (RunsBlocks {S = g.row.S.Denot} g.S.SingleLines.view (goal.F-pre g c.args.self.now.run) (goal.F-post g c.args.self.now.run)) c.run_one.result start
+    c.args.self.now.reader c.read.new.self (Block c.in-Ok-Block.block) (g.S.SingleLines.view c.args.self.now.store) (g.S.SingleLines.view c.run_one.new.store) lines c.args.line.now
+    (together c.in-Ok-Block.block ∷ []) c.args.history.now c.run_one.new.history
+    ran.answered ran.grain ran.disks ran.quiet next next.told whole
 
-pub returns-in-Err-Fault-clause-grows : goal.returns-in-Err-Fault-clause-grows
-returns-in-Err-Fault-clause-grows g c =
-    line_grows c.push_unread.result c.requires.stands.0 c.args.self.now.store c.push_unread.new.self c.requires.stands.1 c.args.line.now c.args.history.now c.push_unread.new.history
-    (λ w told. c.push_unread.ensures.answered reading c.args.line.now w
-    (reading_of w.books c.args.line.now (Err c.in-Err-Fault.fault)
-    (fault_read c.in-Err-Fault.field-0 c.in-Err-Fault.fault _ c.in-Err-Fault.field-0-is c.in-Err-Fault.ensures.value)) told) c.requires.stands.2
+pub returns-in-Ok-Block-clause-named : goal.returns-in-Ok-Block-clause-named
+returns-in-Ok-Block-clause-named g c = c.run_one.ensures.ran.named
 
-pub returns-in-Err-NoMemory-clause-answered : goal.returns-in-Err-NoMemory-clause-answered
-returns-in-Err-NoMemory-clause-answered g c = λ start lines before.
-    store_answers (Err NoMemory) start c.args.self.now.store c.args.self.now.store lines c.args.line.now c.args.history.now c.args.history.now
-    (line_starved c.args.self.now.store c.args.line.now c.args.history.now) refl refl (λ quiet. tt) before
+pub returns-in-Ok-Block-clause-grows : goal.returns-in-Ok-Block-clause-grows
+returns-in-Ok-Block-clause-grows g c =
+    block_grows (RunsBlocks {S = g.row.S.Denot} g.S.SingleLines.view (goal.F-pre g c.args.self.now.run) (goal.F-post g c.args.self.now.run)) c.run_one.result c.requires.stands.0
+    c.args.self.now.reader (g.S.SingleLines.view c.args.self.now.store) (g.S.SingleLines.view c.run_one.new.store) c.requires.stands.1 c.in-Ok-Block.block c.args.history.now c.run_one.new.history
+    c.run_one.ensures.ran c.requires.stands.2
 
-pub returns-in-Err-NoMemory-clause-grows : goal.returns-in-Err-NoMemory-clause-grows
-returns-in-Err-NoMemory-clause-grows g c =
-    line_grows (Err NoMemory) c.requires.stands.0 c.args.self.now.store c.args.self.now.store c.requires.stands.1 c.args.line.now
-    c.args.history.now c.args.history.now (line_starved c.args.self.now.store c.args.line.now c.args.history.now) c.requires.stands.2
+pub returns-in-Ok-Block-clause-limit : goal.returns-in-Ok-Block-clause-limit
+returns-in-Ok-Block-clause-limit g c = c.run_one.ensures.ran.limit
+
+pub returns-in-Err-clause-answered : goal.returns-in-Err-clause-answered
+returns-in-Err-clause-answered g c = λ start lines whole.
+    store_starved (RunsBlocks {S = g.row.S.Denot} g.S.SingleLines.view (goal.F-pre g c.args.self.now.run) (goal.F-post g c.args.self.now.run)) start
+    c.args.self.now.reader c.read.new.self (g.S.SingleLines.view c.args.self.now.store) lines c.args.line.now c.args.history.now whole
+
+pub returns-in-Err-clause-grows : goal.returns-in-Err-clause-grows
+returns-in-Err-clause-grows g c = GrowsTo-same c.args.history.now

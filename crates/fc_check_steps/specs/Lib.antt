@@ -1,0 +1,2 @@
+-- Where an entry ended among steps.
+pub mod Steps

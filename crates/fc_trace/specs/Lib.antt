@@ -1,0 +1,3 @@
+-- The trace form of a history.
+pub mod Notes
+pub mod Trace
