@@ -66,27 +66,27 @@ belongs (Some actor) b line =
 -- ---- `actor` lines
 
 -- The name is `main`'s, or was used in the block.
-abbrev pub is_used : Opened → List ℕ → Bool
-is_used b name = bytes_eq name (codes "main") || list_any (λ (actor : ActorRead). bytes_eq name actor.name) (all_actors b)
+abbrev pub name_is_used : Opened → List ℕ → Bool
+name_is_used b name = bytes_eq name (codes "main") || list_any (λ (actor : ActorRead). bytes_eq name actor.name) (all_actors b)
 
 -- The fault of an `actor` line that has this name, before any other of it: the name is used, or there are as many actors
 -- as a block may have.
 abbrev pub name_fault : Opened → Option (List ℕ) → Option WordFault
 name_fault b None = None
 name_fault b (Some name) =
-    if is_used b name then Some (BadName 2) else (if nat_le MAX_ACTORS (length (all_actors b)) then Some (Limit MAX_ACTORS) else None)
+    if name_is_used b name then Some (BadName 2) else (if nat_le MAX_ACTORS (length (all_actors b)) then Some (Limit MAX_ACTORS) else None)
 
 -- A faulty one: `main` is told of it, and no actor is at hand.
 abbrev pub without_actor : Opened → WordFault → Opened
 without_actor b fault = record { faults = b.faults ++ fault ∷ []; before = all_actors b; actor = None }
 
 -- A good one: an actor is at hand that has no lines yet.
-abbrev pub with_actor : Opened → List ℕ → Role → Opened
-with_actor b name role =
+abbrev pub with_next_actor : Opened → List ℕ → Role → Opened
+with_next_actor b name role =
     record { faults = b.faults; before = all_actors b; actor = Some (record { name = name; role = role; lines = [] }) }
 
 abbrev pub next_actor : Option WordFault → Opened → List ℕ → Role → Opened
-next_actor None b name role = with_actor b name role
+next_actor None b name role = with_next_actor b name role
 next_actor (Some fault) b name role = without_actor b fault
 
 -- ---- a line
@@ -104,13 +104,13 @@ abbrev pub faulty_line : Option (List (List ℕ)) → Opened → WordFault → O
 faulty_line None b fault = belongs b.actor b (Unread fault)
 faulty_line (Some words) b fault = without_actor b (unwrap_or (name_fault b (first_name words)) fault)
 
-abbrev pub line_read : Result Line WordFault → Opened → List ℕ → After
-line_read (Ok End) b line = closed (whole b)
-line_read (Ok Blank) b line = open_on b
-line_read (Ok (Actor name role)) b line = open_on (next_actor (name_fault b (Some name)) b name role)
-line_read (Ok other) b line = open_on (belongs b.actor b (Read other))
-line_read (Err fault) b line = open_on (faulty_line (actor_words line) b fault)
+abbrev pub after_line : Result Line WordFault → Opened → List ℕ → After
+after_line (Ok End) b line = closed (whole b)
+after_line (Ok Blank) b line = open_on b
+after_line (Ok (Actor name role)) b line = open_on (next_actor (name_fault b (Some name)) b name role)
+after_line (Ok other) b line = open_on (belongs b.actor b (Read other))
+after_line (Err fault) b line = open_on (faulty_line (actor_words line) b fault)
 
 -- A line of a block, read where it stands.
 unfoldable pub block_step : Opened → List ℕ → After
-block_step b line = line_read (line_of (scope_in b.actor) line) b line
+block_step b line = after_line (line_of (scope_in b.actor) line) b line

@@ -4,7 +4,7 @@ ghost use Rattle.std.specs.Prelude.{◌≡◌, length, nat_le, ◌∷◌, ◌++�
 ghost use Rattle.std.specs.List.{list_any};
 ghost use Rattle.std.specs.Str.{bytes_eq};
 ghost use Rattle.fc_blocks.specs.ActorLines.{actor_words};
-ghost use Rattle.fc_blocks.specs.Blocks.{all_actors, belongs, block_step, faulty_line, has_lines, is_used, just_opened, name_fault, next_actor, scope_in, scope_under, to_main, whole, with_actor, without_actor};
+ghost use Rattle.fc_blocks.specs.Blocks.{all_actors, belongs, block_step, faulty_line, has_lines, name_is_used, just_opened, name_fault, next_actor, scope_in, scope_under, to_main, whole, with_next_actor, without_actor};
 ghost use Rattle.fc_blocks.specs.Reading.{LeavesBlock};
 
 use crate::actor_line::{actor_name, actor_part};
@@ -108,7 +108,7 @@ impl OpenBlock {
 
     /// Whether the name is `main`'s, or was used in the block.
     fn is_name_used(&self, name: &[u8]) -> bool
-        ensures { result ≡ is_used self.now name.now }
+        ensures { result ≡ name_is_used self.now name.now }
     {
         let before = have_name(self.before.as_slice(), name);
         let at_hand = match &self.actor {
@@ -185,7 +185,7 @@ impl OpenBlock {
 
     /// Begins an actor, which is at hand then. Refused, the block is as it was.
     fn begin_actor(&mut self, alloc: Global, name: Name, role: Role) -> Result<(), NoMemory>
-        ensures ok { OnOk result (self.new ≡ with_actor self.old name role) }
+        ensures ok { OnOk result (self.new ≡ with_next_actor self.old name role) }
         ensures err { OnErr result (self.new ≡ self.old) }
     {
         if self.before.reserve(1).is_err() {

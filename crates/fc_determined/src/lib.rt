@@ -1,4 +1,4 @@
-//! The law of one outcome: where nothing failed, the lines of a session determine its history.
+//! The law of one outcome: where nothing failed and no block is among them, the lines of a session determine its history.
 //!
 //! What an entry may answer is a relation (`fc_legal`): a disk may fail, and memory may be missing. The law says that nothing
 //! else is left open. What is still to be asked, lines of a session, requests of one line or seconds that pass, is an agenda.

@@ -1,4 +1,4 @@
-//! A gate that may delay the actors of a block.
+//! A gate that may delay actors.
 
 /// When an actor comes to the gate.
 #[derive(Clone, Copy, Debug, PartialEq, Eq)]
@@ -9,7 +9,7 @@ pub enum Moment {
     Answered,
 }
 
-/// A gate only delays: `reach` is called by each actor of a block at both moments of each request.
+/// A gate only delays: `reach` is called by each actor at both moments of each request.
 pub trait Gate: Sync {
     /// The actor comes to the gate with this request of its script, counted from 0.
     fn reach(&self, actor: u32, request: u32, moment: Moment);

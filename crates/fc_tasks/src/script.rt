@@ -47,14 +47,15 @@ pub trait Script<W, E, P: Part<W, E>>: Send + Drop {
     /// The number of the actor, for the gate.
     fn actor(&self) -> u32;
 
-    /// Makes room in the part that the next request needs, so that the request takes no memory. The part keeps its share of
-    /// whatever it had one of.
+    /// Makes room in the part that the next request needs, so that no move of the request takes memory. The part keeps its
+    /// share of whatever it had one of.
     fn make_room(&self, part: &mut P) -> Result<(), NoMemory>
         ensures ok { OnOk result (has_room self.now part.new) }
         ensures stays { (w : W) (p : ℕ) (x0 : P) →
             P.fits x0 w p part.old → P.fits x0 w p part.new };
 
-    /// Does the next request, which needs one part. Takes no memory.
+    /// Does the next request, which needs one part. No move of it takes memory; what it answers may, and then it answers that
+    /// memory was missing.
     ///
     /// Whatever is told then of which the part has its share, the entry leads from it to what comes next, of which the part as
     /// it is then has its share, and all others keep theirs.
@@ -73,7 +74,8 @@ pub trait Script<W, E, P: Part<W, E>>: Send + Drop {
             suits self.old openings limit → suits self.new openings limit }
         ensures fewer { most self.new < most self.old };
 
-    /// Does the next request, which needs all parts. Takes no memory.
+    /// Does the next request, which needs all parts. No move of it takes memory; what it answers may, and then it answers that
+    /// memory was missing.
     fn act_over(&mut self, parts: &mut Vec<P>) -> E
         requires can { (needed self.old ≡ Needs.All)
             × (openings : List P) × (limit : ℕ) × suits self.old openings limit

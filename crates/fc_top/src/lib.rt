@@ -9,6 +9,9 @@
 //! nothing failed all is done and served, but for want of memory (`specs/Complete`), and then there is one outcome
 //! (`specs/OneOutcome`, the contract of `outcome_law`).
 //!
+//! A call may wait: the actors of a block run on threads, and one waits where another has the turn. The gate that a caller gives
+//! may delay actors, and changes nothing of what a call promises.
+//!
 //! In reading order: `status`, `owner` (lines and blocks are answered), `plain` (a session over disks), `drill`,
 //! `flashcopy`, `outcome`.
 #![tactic(auto)]

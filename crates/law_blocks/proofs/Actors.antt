@@ -16,7 +16,7 @@ use Rattle.fc_base.specs.declared.fault.WordFault.{WordFault}
 use Rattle.fc_base.specs.declared.fault.WordFault.TheVariants.{BadName, Limit}
 use Rattle.fc_base.specs.declared.limits.TheConstants.{MAX_ACTORS}
 use Rattle.fc_blocks.specs.ActorLines.{actor_words, first_name}
-use Rattle.fc_blocks.specs.Blocks.{Opened, all_actors, scope_in, has_lines, to_main, belongs, is_used, name_fault, without_actor, next_actor, After, open_on, closed, faulty_line, line_read, block_step}
+use Rattle.fc_blocks.specs.Blocks.{Opened, all_actors, scope_in, has_lines, to_main, belongs, name_is_used, name_fault, without_actor, next_actor, After, open_on, closed, faulty_line, after_line, block_step}
 use Rattle.fc_blocks.specs.Reading.{script_line}
 use Rattle.fc_blocks.specs.Segments.{Segment, single, together, Cut, no_lines, outside, inside, line_cut, cut_step, cut}
 use Rattle.law_blocks.specs.Law.{IsReadUnder, IsActor, names_of, AreActors, BlocksLaw}
@@ -130,7 +130,7 @@ next_sound : (b : Opened) (name : List ℕ) (role : Role) (fault : Option WordFa
     AreActors (all_actors (next_actor fault b name role))
 next_sound b name role (Some fault) is are = without_sound b fault are
 next_sound b name role None is are =
-    let none = fault_none (is_used b name) (nat_le MAX_ACTORS (length (all_actors b))) (BadName 2) (Limit MAX_ACTORS) is in
+    let none = fault_none (name_is_used b name) (nat_le MAX_ACTORS (length (all_actors b))) (BadName 2) (Limit MAX_ACTORS) is in
     let new = or_false (bytes_eq name (codes "main")) (list_any (λ (a : ActorRead). bytes_eq name a.name) (all_actors b)) none.0 in
     let room : length (all_actors b) < MAX_ACTORS = grind (arith, nat_tests) in
     actor_more (all_actors b) name role are (any_false (λ (a : ActorRead). bytes_eq name a.name) (all_actors b) new.1) new.0 room
@@ -140,7 +140,7 @@ faulty_sound : (b : Opened) (words : Option (List (List ℕ))) (fault : WordFaul
 faulty_sound b None fault bytes is are = belongs_sound b b.actor (Unread fault) refl bytes (ap script_line (sym is)) are
 faulty_sound b (Some words) fault bytes is are = without_sound b (unwrap_or (name_fault b (first_name words)) fault) are
 
-read_sound : (b : Opened) (line : List ℕ) (read : Result Line WordFault) → line_of (scope_in b.actor) line ≡ read → AreActors (all_actors b) → IsSound (line_read read b line)
+read_sound : (b : Opened) (line : List ℕ) (read : Result Line WordFault) → line_of (scope_in b.actor) line ≡ read → AreActors (all_actors b) → IsSound (after_line read b line)
 read_sound b line (Ok End) is are = are
 read_sound b line (Ok Blank) is are = are
 read_sound b line (Ok (Actor name role)) is are = next_sound b name role (name_fault b (Some name)) refl are
