@@ -6,13 +6,16 @@
 
 mod disks;
 
-use crate::disks::program_disks;
+use crate::disks::make_ready;
+use fc_base::limits::LANES;
 use fc_entry::history::History;
 use fc_io::sink::Sink;
 use fc_io::source::Source;
 use fc_io::std_sink::StdSink;
 use fc_io::std_source::StdSource;
-use fc_top::flashcopy::flashcopy;
+use fc_mdisk::mem::MemDisk;
+use fc_mdisk::thin::ThinDisk;
+use fc_top::flashcopy::{BoxedDisk, flashcopy};
 use fc_top::gate::FreeGate;
 use fc_top::status::Status;
 use std::alloc::Global;
@@ -21,42 +24,68 @@ use std::process::ExitCode;
 use std::sync::Wait;
 use std::thread::Threads;
 
+/// The disks of each kind for each lane.
+const DISKS_PER_LANE: u32 = 512;
+
 /// The exit status where memory is wanted.
 const NO_MEMORY: u8 = 5;
 
 /// The exit status where the words can't be read.
 const USAGE: u8 = 2;
 
-/// Runs what the words ask for, over the program's disks.
-fn run<R: Threads + Wait + Sync, S: Source, K: Sink>(
+/// Runs what the words ask for, over these disks, once they are made ready.
+fn run_over<R: Threads + Wait + Sync, S: Source, K: Sink>(
     rt: &R,
     alloc: Global,
-    texts: &[String],
+    words: &[&str],
     source: &mut S,
     sink: &mut K,
+    disks: &mut Vec<BoxedDisk>,
 ) -> Status {
-    let mut words: Vec<&str> = Vec::new(alloc);
-    for text in texts {
-        match words.push(text.as_str()) {
-            Ok(()) => {}
-            Err(_) => return Status::NoMemory,
-        }
+    if disks.len() >= 1 << 30 || !make_ready(disks) {
+        return Status::NoMemory;
     }
-    let mut disks = match program_disks(alloc) {
-        Ok(disks) => disks,
-        Err(_) => return Status::NoMemory,
-    };
     let mut history = History::new(alloc);
     flashcopy(
         rt,
         alloc,
-        &words,
+        words,
         source,
         sink,
-        &mut disks,
+        disks,
         &FreeGate,
         &mut history,
     )
+}
+
+/// Runs what the words ask for, over the program's disks: flat ones, and as many thin ones behind them.
+fn run<R: Threads + Wait + Sync, S: Source, K: Sink>(
+    rt: &R,
+    alloc: Global,
+    words: &[&str],
+    source: &mut S,
+    sink: &mut K,
+) -> Status {
+    let mut disks: Vec<BoxedDisk> = Vec::new(alloc);
+    for _ in 0..DISKS_PER_LANE * LANES {
+        match Box::new(alloc, MemDisk::new(alloc)) {
+            Ok(disk) => match disks.push(disk) {
+                Ok(()) => {}
+                Err(_) => return Status::NoMemory,
+            },
+            Err(_) => return Status::NoMemory,
+        }
+    }
+    for _ in 0..DISKS_PER_LANE * LANES {
+        match Box::new(alloc, ThinDisk::new(alloc)) {
+            Ok(disk) => match disks.push(disk) {
+                Ok(()) => {}
+                Err(_) => return Status::NoMemory,
+            },
+            Err(_) => return Status::NoMemory,
+        }
+    }
+    run_over(rt, alloc, words, source, sink, &mut disks)
 }
 
 fn main(rt: HostRuntime) -> ExitCode {
@@ -72,6 +101,13 @@ fn main(rt: HostRuntime) -> ExitCode {
             Err(_) => return ExitCode::from(NO_MEMORY),
         }
     }
+    let mut words: Vec<&str> = Vec::new(alloc);
+    for text in &texts {
+        match words.push(text.as_str()) {
+            Ok(()) => {}
+            Err(_) => return ExitCode::from(NO_MEMORY),
+        }
+    }
     let mut source = match StdSource::new(alloc, rt.stdin().lock()) {
         Ok(source) => source,
         Err(_) => return ExitCode::from(NO_MEMORY),
@@ -80,6 +116,6 @@ fn main(rt: HostRuntime) -> ExitCode {
         Ok(sink) => sink,
         Err(_) => return ExitCode::from(NO_MEMORY),
     };
-    let status = run(&rt, alloc, &texts, &mut source, &mut sink);
+    let status = run(&rt, alloc, &words, &mut source, &mut sink);
     ExitCode::from(status.code())
 }
