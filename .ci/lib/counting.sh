@@ -56,6 +56,13 @@ count_gate() { # STATUS FILE
     fi
 }
 
+# What a gate that ended badly said of what failed, once more: at most 60 lines.
+said_of_failures() { # FILE
+    echo "== what the gate of the proofs said of what failed"
+    grep -E '^FAILED: |FAILED: |NOT REFUSED|NOT TRIED|: error|^rt: .* (hides|not proved|killed|fails)|^hides|logic=not-proved' -- "$1" |
+        cut -c 1-300 | tail -n 60
+}
+
 # Runs the built program on what comes in, and leaves its output and its status behind.
 run_program() { # WORD..
     timeout "$most_seconds" "$program" "$@" >"$room/out" 2>"$room/err"
