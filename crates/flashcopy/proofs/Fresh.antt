@@ -1,6 +1,6 @@
 -- Fresh disks, one more of them or all.
-use Rattle.std.proofs.Common.{◌≡◌, ℕ, ◌+◌, ◌<◌, List, ◌++◌, take, drop, map, get_or, length, slice_set, below_more, subst, sym, ◌∙◌, ap, arith}
-use Rattle.std.proofs.lemmas.List.{map-set, get_or-set_same, get_or-set_other, length-map, length-set, take_at}
+use Rattle.std.proofs.Common.{ℕ, ◌+◌, ◌<◌, List, map, get_or, length, slice_set, below_more, subst, ◌∙◌, ap, arith}
+use Rattle.std.proofs.lemmas.List.{map-set, get_or-set_same, get_or-set_other, length-map, length-set}
 use Rattle.std.proofs.lemmas.List.Elements.{All-get_or}
 use Rattle.std.specs.List.{All}
 use Rattle.fc_mdisk.specs.Disk.{DiskState, IsFresh}
@@ -34,13 +34,3 @@ fresh_there f xs i new inside all =
     omega (arith, there, ap length (map-set f xs i new), length-set (map f xs) i (f new)) in
     subst IsFresh (ap (λ disks. get_or disks i (f new)) (map-set f xs i new) ∙ get_or-set_same (map f xs) i (f new) (f new) there)
     (All-get_or IsFresh (map f (slice_set xs i new)) i (f new) within all)
-
--- disks that are as many as a vector holds, and stand in front of what was behind them, are what it holds
-pub fresh_held :
-    {A : Type 0} →
-    (f : A → DiskState) (disks items : List A) (held : ℕ) →
-    length disks ≡ held →
-    All IsFresh (map f disks) →
-    All IsFresh (map f (take held (disks ++ drop (length disks) items)))
-fresh_held f disks items held size fresh =
-    subst (λ xs. All IsFresh (map f xs)) (sym (take_at disks (drop (length disks) items) held size)) fresh
