@@ -1,0 +1,7 @@
+mod Verdicts
+mod Spots
+mod Stepping
+mod Turning
+mod Within
+mod Answering
+mod Lawful
