@@ -1,5 +1,5 @@
 -- The parts of an answer together: by the access of a volume, and by the steps that are owed.
-use Rattle.std.proofs.Common.{◌≡◌, ◌↔◌, ℕ, ◌<◌, ◌+◌, ◌≤◌, ◌%◌, Bool, true, false, IsTrue, Option, Some, None, Result, Ok, Err, IfOk, List, length, refl, sym, ap, subst, ◌∙◌}
+use Rattle.std.proofs.Common.{◌≡◌, ◌↔◌, ℕ, ◌+◌, ◌≤◌, ◌%◌, Bool, true, false, IsTrue, Option, Some, None, Result, IfOk, List, length, refl, sym, ap, subst, ◌∙◌}
 use Rattle.std.specs.Prelude.{MatchOption}
 use Rattle.std.proofs.lemmas.Bool.{both_ways}
 use Rattle.std.proofs.lemmas.Result.{IfOk-weaker}
@@ -12,7 +12,6 @@ use Rattle.fc_base.specs.declared.outcome.NoMemory.{NoMemory}
 use Rattle.fc_base.specs.declared.request.ReadPart.{ReadPart}
 use Rattle.fc_base.specs.declared.request.Reply.{Reply}
 use Rattle.fc_base.specs.declared.request.Reply.TheVariants.{Idle}
-use Rattle.fc_base.specs.declared.request.Request.{Request}
 use Rattle.fc_base.specs.declared.request.WritePart.{WritePart}
 use Rattle.fc_base.specs.declared.size.GrainSize.{GrainSize}
 use Rattle.fc_base.specs.declared.state.Access.{Access}
@@ -23,11 +22,11 @@ use Rattle.fc_rules.specs.GrainAnswers.{ByAccess, ReadAnswers, WriteAnswers, Fil
 use Rattle.fc_rules.specs.LaneRight.{TurnAnswers}
 use Rattle.fc_rules.specs.LaneTold.{LaneVolume, lane_access, is_thin_in}
 use Rattle.fc_rules.specs.Spot.{Spot}
-use Rattle.fc_rules.specs.Steps.{DiskStep, HasDone, HasDoneNothing, HasFailed, HasNoMemory, steps_of_fill, steps_of_write}
+use Rattle.fc_rules.specs.Steps.{DiskStep, HasDoneNothing, HasFailed, HasNoMemory, steps_of_fill, steps_of_write}
 use Rattle.fc_check_lane.specs.Known.{Known, spot_in}
 use Rattle.fc_check_lane.specs.Steps.{CanWrite, CanWriteTo}
 use Rattle.fc_check_lane.specs.Turns.{filled_in, next_in}
-use Rattle.fc_check_lane.specs.Answers.{HasGrain, IsInsideIn, IsOfLane, IsOfGrain, ReadIn, WriteIn, VolumeWriteIn, MappingFillIn, FillIn, TurnIn, RequestIn, IsNextIn, CanBeWritten}
+use Rattle.fc_check_lane.specs.Answers.{HasGrain, IsInsideIn, IsOfLane, IsOfGrain, ReadIn, WriteIn, VolumeWriteIn, MappingFillIn, FillIn, TurnIn, CanBeWritten}
 use Rattle.fc_check_lane.specs.declared.turn.Work.{Work}
 use Rattle.fc_check_lane.proofs.Verdicts.{iff_along, iff_trans, false_is}
 
@@ -141,7 +140,6 @@ of_grain_fit k number lanes entry so same f = iff_trans f (iff_along (λ n. IsOf
 pub and_fit : (A B : Type 0) (r : Result Bool NoMemory) → A → IfOk r (λ so. IsTrue so ↔ B) → IfOk r (λ so. IsTrue so ↔ (A × B))
 and_fit A B r a found = IfOk-weaker r (λ so. IsTrue so ↔ B) (λ so. IsTrue so ↔ (A × B)) (λ so f. iff_trans f (λ b. (a, b), λ p. p.1)) found
 
-
 -- a volume that isn't online
 pub read_away : (k : Known) (volumes : List LaneVolume) (part : ReadPart) (a : Access) (entry : Entry) (so : Bool) → volumes ≡ k.volumes → a ≡ lane_access volumes part.volume →
     IsTrue so ↔ ByAccess a entry (ReadAnswers k.grain (spot_in k (grain_of_block k.grain part.block)) part entry entry.reply) → IsTrue so ↔ ReadIn k part entry
@@ -198,27 +196,6 @@ turn_elsewhere here e f = false_is (λ p. both_ways here e (f.1 p.1))
 
 pub idle_fit : (k : Known) (work : Work) (i : ℕ) (entry : Entry) (so : Bool) → None ≡ next_in work k i → IsTrue so ↔ ((entry.reply ≡ Idle) × HasDoneNothing entry) → IsTrue so ↔ TurnIn work k i entry
 idle_fit k work i entry so is f = iff_trans f (iff_along (λ (o : Option (MapId × GrainNo)). TurnAnswers (λ m grain e. FillIn work k m grain e) o entry) None (next_in work k i) is)
-
--- ---- the request and the number
-
-pub request_fit : (k : Known) (a b : Request) (entry : Entry) (r : Result Bool NoMemory) → b ≡ a → IfOk r (λ so. IsTrue so ↔ RequestIn k a entry) → IfOk r (λ so. CanBeWritten k → IsTrue so ↔ RequestIn k b entry)
-request_fit k a b entry r is found =
-    IfOk-weaker r (λ so. IsTrue so ↔ RequestIn k a entry) (λ so. CanBeWritten k → IsTrue so ↔ RequestIn k b entry)
-    (λ so f can. iff_trans f (iff_along (λ (z : Request). RequestIn k z entry) a b (sym is))) found
-
-pub request_can_fit : (k : Known) (a b : Request) (entry : Entry) (r : Result Bool NoMemory) → b ≡ a → IfOk r (λ so. CanBeWritten k → IsTrue so ↔ RequestIn k a entry) → IfOk r (λ so. CanBeWritten k → IsTrue so ↔ RequestIn k b entry)
-request_can_fit k a b entry r is found =
-    IfOk-weaker r (λ so. CanBeWritten k → IsTrue so ↔ RequestIn k a entry) (λ so. CanBeWritten k → IsTrue so ↔ RequestIn k b entry)
-    (λ so f can. iff_trans (f can) (iff_along (λ (z : Request). RequestIn k z entry) a b (sym is))) found
-
-pub next_fit : (k : Known) (entry : Entry) (count : ℕ) (r : Result Bool NoMemory) → entry.number ≡ count → count ≡ k.entries → IfOk r (λ so. CanBeWritten k → IsTrue so ↔ RequestIn k entry.request entry) →
-    IfOk r (λ so. CanBeWritten k → IsTrue so ↔ IsNextIn k entry)
-next_fit k entry count r is same found =
-    IfOk-weaker r (λ so. CanBeWritten k → IsTrue so ↔ RequestIn k entry.request entry) (λ so. CanBeWritten k → IsTrue so ↔ IsNextIn k entry)
-    (λ so f can. iff_trans (f can) (λ a. record { number = is ∙ same; right = a }, λ n. n.right)) found
-
-pub not_next : (k : Known) (entry : Entry) (count : ℕ) → (entry.number ≡ count → ⊥) → count ≡ k.entries → IsTrue false ↔ IsNextIn k entry
-not_next k entry count other same = false_is (λ n. other (n.number ∙ sym same))
 
 -- ---- where an access lies
 

@@ -1,5 +1,5 @@
 -- What may come next by what is kept is a right step.
-use Rattle.std.proofs.Common.{◌≡◌, ◌↔◌, ℕ, ◌<◌, ◌%◌, Bool, IsTrue, Option, Some, None, Result, IfOk, length, refl, sym, ap, subst, ◌∙◌}
+use Rattle.std.proofs.Common.{◌≡◌, ◌↔◌, ℕ, ◌<◌, Bool, IsTrue, Option, Some, None, Result, IfOk, refl, sym, subst}
 use Rattle.std.proofs.lemmas.Result.{IfOk-weaker}
 use Rattle.fc_base.specs.declared.ids.GrainNo.{GrainNo}
 use Rattle.fc_base.specs.declared.ids.MapId.{MapId}
@@ -10,20 +10,18 @@ use Rattle.fc_base.specs.declared.size.GrainSize.{GrainSize}
 use Rattle.fc_books.specs.Sound.{AreSound}
 use Rattle.fc_entry.specs.Picture.{grain_of_block}
 use Rattle.fc_entry.specs.declared.entry.Entry.{Entry}
-use Rattle.fc_legal.specs.Steps.{Step, RequestStep, LaneStep, AccessStep, TurnStep, after_access}
+use Rattle.fc_legal.specs.Steps.{RequestStep, LaneStep, AccessStep, TurnStep, after_access}
 use Rattle.fc_legal.specs.Whole.{Whole, lanes, lane_of_grain, lane_at, part_at, single_lane, as_one}
 use Rattle.fc_rules.specs.LaneRight.{LaneAnswers, CopyAnswers, CleanAnswers, TurnAnswers}
 use Rattle.fc_rules.specs.LaneTurn.{next_copy, next_clean}
 use Rattle.fc_check_lane.specs.Known.{Known, known_of}
-use Rattle.fc_check_lane.specs.Answers.{IsInsideIn, IsOfLane, IsOfGrain, ReadIn, WriteIn, FillIn, TurnIn, RequestIn, IsNextIn, CanBeWritten}
+use Rattle.fc_check_lane.specs.Answers.{IsOfLane, IsOfGrain, ReadIn, WriteIn, FillIn, TurnIn, RequestIn, IsNextIn, CanBeWritten}
 use Rattle.fc_check_lane.specs.Next.{IsOfLanes, IsNext}
-use Rattle.fc_check_lane.specs.Turns.{next_in}
-use Rattle.fc_check_lane.specs.declared.turn.Work.{Work}
 use Rattle.fc_check_lane.specs.declared.turn.Work.TheVariants.{Copying, Cleaning}
 use Rattle.fc_check_lane.proofs.Within.{inside_same, can_be_written}
 use Rattle.fc_check_lane.proofs.Spots.{read_same, write_same, copy_same, clean_same}
 use Rattle.fc_check_lane.proofs.Turning.{next_copy_is, next_clean_is}
-use Rattle.fc_check_lane.proofs.Verdicts.{iff_along, iff_trans, iff_both, iff_three}
+use Rattle.fc_check_lane.proofs.Verdicts.{iff_along, iff_sym, iff_trans}
 
 -- a right step, whatever is told after it
 abbrev Steps : GrainSize → Whole → Request → Entry → Type 0
@@ -74,23 +72,20 @@ turn_steps grain w i Answers work entry A f = (
 with_lanes : {A B : Type 0} → A ↔ B → A ↔ (Unit {0} × B)
 with_lanes f = (λ a. (tt, f.0 a), λ p. f.1 p.1)
 
-flip : {A B : Type 0} → A ↔ B → B ↔ A
-flip f = (f.1, f.0)
-
 request_steps : (grain : GrainSize) (w : Whole) (request : Request) (entry : Entry) → entry.request ≡ request →
     RequestIn (known_of grain w) request entry ↔ (IsOfLanes request × Steps grain w request entry)
 request_steps grain w (Command command) entry q = (λ a. absurd a, λ a. absurd a.0)
 request_steps grain w (Unread fault) entry q = (λ a. absurd a, λ a. absurd a.0)
 request_steps grain w (Read part) entry q =
     with_lanes (inside_steps (λ next. AccessStep grain w (grain_of_block grain part.block) entry next) (inside_same grain w part.volume part.block part.count)
-    (access_steps grain w (grain_of_block grain part.block) (Read part) entry (ReadIn (known_of grain w) part entry) q (flip (read_same (known_of grain w) part entry))))
+    (access_steps grain w (grain_of_block grain part.block) (Read part) entry (ReadIn (known_of grain w) part entry) q (iff_sym (read_same (known_of grain w) part entry))))
 request_steps grain w (Write part) entry q =
     with_lanes (inside_steps (λ next. AccessStep grain w (grain_of_block grain part.block) entry next) (inside_same grain w part.volume part.block part.count)
-    (access_steps grain w (grain_of_block grain part.block) (Write part) entry (WriteIn (known_of grain w) part entry) q (flip (write_same (known_of grain w) part entry))))
+    (access_steps grain w (grain_of_block grain part.block) (Write part) entry (WriteIn (known_of grain w) part entry) q (iff_sym (write_same (known_of grain w) part entry))))
 request_steps grain w (Copy m g) entry q =
-    with_lanes (access_steps grain w g.0 (Copy m g) entry (FillIn Copying (known_of grain w) m g entry) q (flip (copy_same (known_of grain w) m g entry)))
+    with_lanes (access_steps grain w g.0 (Copy m g) entry (FillIn Copying (known_of grain w) m g entry) q (iff_sym (copy_same (known_of grain w) m g entry)))
 request_steps grain w (Clean m g) entry q =
-    with_lanes (access_steps grain w g.0 (Clean m g) entry (FillIn Cleaning (known_of grain w) m g entry) q (flip (clean_same (known_of grain w) m g entry)))
+    with_lanes (access_steps grain w g.0 (Clean m g) entry (FillIn Cleaning (known_of grain w) m g entry) q (iff_sym (clean_same (known_of grain w) m g entry)))
 request_steps grain w (CopyTurn lane) entry q =
     with_lanes (turn_steps grain w lane (CopyAnswers (single_lane grain) (as_one w)) (next_copy (lane_at grain w lane) (part_at grain w lane)) entry (TurnIn Copying (known_of grain w) lane entry)
     (λ il. turn_same (CopyAnswers (single_lane grain) (as_one w)) (λ m g e. FillIn Copying (known_of grain w) m g e) _ _ entry (next_copy_is grain w lane il) (λ m g. copy_same (known_of grain w) m g entry)))

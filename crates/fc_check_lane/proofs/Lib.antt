@@ -5,3 +5,4 @@ mod Turning
 mod Within
 mod Answering
 mod Lawful
+mod KnownExamples

@@ -1,6 +1,6 @@
 -- Moves of a write or a fill as its steps, and what its own write loses.
 use mathlib.Core.Path.{fun_ext}
-use Rattle.std.proofs.Common.{◌≡◌, ◌↔◌, ℕ, ◌<◌, true, false, Bool, IsTrue, Option, Some, None, List, [], ◌∷◌, ◌++◌, length, map, fold, cond, refl, sym, ap, ap₂, subst, ◌∙◌}
+use Rattle.std.proofs.Common.{◌≡◌, ℕ, ◌<◌, Bool, Some, None, List, [], ◌∷◌, ◌++◌, length, map, fold, cond, refl, sym, ap, ap₂, subst, ◌∙◌}
 use Rattle.fc_base.specs.Column.{Column}
 use Rattle.fc_base.specs.Moves.{fill_moves, write_moves, after_moves}
 use Rattle.fc_base.specs.Plan.{move_at, moves_of_fill, moves_of_write}

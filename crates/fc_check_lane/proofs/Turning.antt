@@ -1,21 +1,20 @@
 -- The least grain of a lane, found place by place; and the turns of a lane by its part of what is told.
 use mathlib.Core.Path.{fun_ext}
-use Rattle.std.proofs.Common.{◌≡◌, ◌↔◌, ℕ, zero, suc, ◌+◌, ◌<◌, ◌≤◌, Bool, true, false, cond, Option, Some, None, List, length, get_or, option_map, is_some, refl, sym, ap, ap₂, subst, ◌∙◌, arith, inl, inr, ◌⊎◌}
+use Rattle.std.proofs.Common.{◌≡◌, ℕ, zero, suc, ◌<◌, ◌≤◌, Bool, true, false, cond, Option, Some, None, List, length, get_or, option_map, is_some, refl, sym, ap, ap₂, subst, ◌∙◌, arith, inl, inr}
 use Rattle.std.proofs.lemmas.Bool.{cases_lt}
 use Rattle.fc_base.specs.Column.{first_below}
-use Rattle.fc_base.specs.Sheet.{Slot, slot_at, mapping_place}
+use Rattle.fc_base.specs.Sheet.{Slot, mapping_place}
 use Rattle.fc_base.specs.declared.ids.GrainNo.{GrainNo}
 use Rattle.fc_base.specs.declared.ids.MapId.{MapId}
 use Rattle.fc_base.specs.declared.size.GrainSize.{GrainSize}
-use Rattle.fc_entry.specs.declared.entry.Entry.{Entry}
 use Rattle.fc_legal.specs.Whole.{Whole, lanes, lane_at, part_at}
-use Rattle.fc_parts.proofs.Numbers.{IsLane, IsOf, all_place, none_in, number_is_of, place_of_number}
+use Rattle.fc_parts.proofs.Numbers.{IsLane, all_place, none_in, number_is_of, place_of_number}
 use Rattle.fc_parts.proofs.Spots.{copied_parts, cleaned_parts}
 use Rattle.fc_parts.proofs.Views.{parts, mapping_parts, size_parts}
 use Rattle.fc_pick.proofs.First.{find_first, find_none}
-use Rattle.fc_pick.specs.Next.{can_work, work_of, next_work}
+use Rattle.fc_pick.specs.Next.{can_work, next_work}
 use Rattle.fc_pick.specs.declared.work.WorkFlags.{WorkFlags}
-use Rattle.fc_rules.specs.LaneTold.{LaneOf, number_at, grains_in, place_of}
+use Rattle.fc_rules.specs.LaneTold.{LaneOf, number_at, grains_in}
 use Rattle.fc_rules.specs.LaneTurn.{copied_slot, cleaned_slot, grains_of, least_grain, next_copy, next_clean}
 use Rattle.fc_check_lane.specs.Known.{Known, known_of}
 use Rattle.fc_check_lane.specs.Turns.{has_work, filled_in, lane_in, least_in, next_in}
@@ -167,7 +166,7 @@ pub next_found : (work : Work) (k : Known) (i index : ℕ) (items : List WorkFla
     so ≡ has_work work (get_or items index d) → so ≡ true → o ≡ least_in work k i (get_or items index d).map.0 → o ≡ Some grain → Some ((get_or items index d).map, grain) ≡ next_in work k i
 next_found work k i index items d grain so o same none within flag e least found =
     let P : List WorkFlags → Type 0 = λ xs.
-        NoneWorks work k i xs index → index < length xs → has_work work (get_or xs index d) ≡ true → Some grain ≡ least_in work k i (get_or xs index d).map.0 → Some ((get_or xs index d).map, grain) ≡ next_in work k i in
+    NoneWorks work k i xs index → index < length xs → has_work work (get_or xs index d) ≡ true → Some grain ≡ least_in work k i (get_or xs index d).map.0 → Some ((get_or xs index d).map, grain) ≡ next_in work k i in
     let here : P k.flags = λ none within has got. work_found work k i index d grain none within has got in
     subst P (sym same) here none within (sym flag ∙ e) (sym found ∙ least)
 

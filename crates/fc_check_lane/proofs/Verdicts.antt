@@ -1,5 +1,5 @@
 -- What tests decide.
-use Rattle.std.proofs.Common.{◌≡◌, ◌↔◌, Bool, true, false, ◌&&◌, IsTrue, refl, sym, subst}
+use Rattle.std.proofs.Common.{◌≡◌, ◌↔◌, false, IsTrue, refl, sym, subst}
 use Rattle.std.proofs.lemmas.Bool.{both_ways}
 use Rattle.fc_base.specs.declared.state.Access.{Access}
 use Rattle.fc_base.specs.declared.state.Access.TheVariants.{Online, Offline, NotAccessible}
@@ -16,12 +16,6 @@ iff_trans f g = (λ a. g.0 (f.0 a), λ c. f.1 (g.1 c))
 pub iff_along : {X : Type 0} (P : X → Type 0) (a b : X) → a ≡ b → P a ↔ P b
 iff_along P a b e = (subst P e, subst P (sym e))
 
-pub iff_both : {A B C D : Type 0} → A ↔ C → B ↔ D → (A × B) ↔ (C × D)
-iff_both f g = (λ p. (f.0 p.0, g.0 p.1), λ q. (f.1 q.0, g.1 q.1))
-
-pub iff_three : {A B C D E F : Type 0} → A ↔ D → B ↔ E → C ↔ F → (A × B × C) ↔ (D × E × F)
-iff_three f g h = (λ p. (f.0 p.0, g.0 p.1, h.0 p.2), λ q. (f.1 q.0, g.1 q.1, h.1 q.2))
-
 -- by the access of a volume
 pub access_iff : (access : Access) (entry : Entry) (P Q : Type 0) → P ↔ Q → ByAccess access entry P ↔ ByAccess access entry Q
 access_iff Online entry P Q f = f
@@ -31,11 +25,3 @@ access_iff (NotAccessible map) entry P Q f = (λ a. a, λ a. a)
 -- what never holds is not answered
 pub false_is : {P : Type 0} → (P → ⊥) → IsTrue false ↔ P
 false_is none = (λ t. absurd (both_ways false refl t), λ p. absurd (none p))
-
-pub false_by : {P : Type 0} (b : Bool) → b ≡ false → (P → ⊥) → IsTrue b ↔ P
-false_by b e none = (λ t. absurd (both_ways b e t), λ p. absurd (none p))
-
--- two questions one after the other
-pub both_fit : {A B C : Type 0} (a b : Bool) → (IsTrue a ↔ A) → (IsTrue b ↔ B) → (A → B → C) → (C → A) → (C → B) → IsTrue (a && b) ↔ C
-both_fit true b f g join left right = (λ t. join (f.0 refl) (g.0 t), λ c. g.1 (right c))
-both_fit false b f g join left right = (λ t. absurd (both_ways false refl t), λ c. f.1 (left c))

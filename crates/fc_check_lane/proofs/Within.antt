@@ -1,10 +1,8 @@
 -- Which blocks are inside a volume, by what is kept and by the table; and that volumes of sound books can be written.
-use Rattle.std.proofs.Common.{◌≡◌, ◌↔◌, ℕ, zero, suc, ◌<◌, ◌≤◌, List, [], ◌∷◌, length, map, get_or, Some, Contains, refl, sym, ap, subst, ◌∙◌, arith, ◌⊎◌, inl, inr}
-use Rattle.std.proofs.lemmas.List.Elements.{Contains-get_or}
+use Rattle.std.proofs.Common.{◌≡◌, ◌↔◌, ℕ, zero, suc, ◌<◌, ◌≤◌, List, [], ◌∷◌, length, map, get_or, Some, Contains, refl, sym, ap, subst, ◌∙◌, arith}
 use Rattle.fc_base.specs.Sheet.{live_place, slot_at}
 use Rattle.fc_base.specs.declared.ids.VolId.{VolId}
 use Rattle.fc_base.specs.declared.size.GrainSize.{GrainSize}
-use Rattle.fc_base.specs.declared.volume.Volume.{Volume}
 use Rattle.fc_books.specs.Sound.{AreSound}
 use Rattle.fc_entry.specs.Picture.{grain_of_block}
 use Rattle.fc_legal.specs.Steps.{IsInside}
@@ -23,6 +21,7 @@ map_in {X} {Y} f xs x found = (found.0, lt xs found.0 found.1, at xs found.0 fou
     lt [] k h = absurd (omega arith)
     lt (y ∷ ys) zero h = omega arith
     lt (y ∷ ys) (suc k) h = let r = lt ys k (omega arith) in omega arith
+
     at : (ys : List X) (k : ℕ) → k < length ys → get_or ys k x ≡ x → get_or (map f ys) k (f x) ≡ f x
     at [] k h e = refl
     at (y ∷ ys) zero h e = ap f e
@@ -66,6 +65,7 @@ inside_same grain w volume block count = (to, from)
           in_one = i.in_one;
           inside = subst (λ (n : ℕ). grain_of_block grain block < n) (sym (ap (λ (z : VolumeSize). z.grains) c.gives)) i.has.inside;
         }
+
     from : IsInside grain w.books.tables volume block count → IsInsideIn (known_of grain w) volume block count
     from i =
         record {
@@ -92,15 +92,6 @@ can_be_written grain w s volume number has t there =
     record { sound = s.sheet; there = live.there; is_live = live.is_live; inside = subst (λ n. number < n) (sym size) has.inside }
 
 -- ---- found among the volumes, one by one
-
-pub grain_found : (k : Known) (volume : VolId) (number : ℕ) (sizes : List VolumeSize) (i : ℕ) (s d : VolumeSize) → sizes ≡ k.sizes → i < length sizes → s ≡ get_or sizes i d → s.volume.0 ≡ volume.0 → number < s.grains → HasGrain k volume number
-grain_found k volume number sizes i s d same lt at id inside =
-    record {
-      of = s;
-      there = subst (λ (z : List VolumeSize). Contains z s) same (subst (λ (z : VolumeSize). Contains sizes z) (sym at) (Contains-get_or sizes i d lt));
-      id_is = id;
-      inside = inside;
-    }
 
 pub no_grain : (k : Known) (volume : VolId) (number : ℕ) (sizes : List VolumeSize) (n : ℕ) → sizes ≡ k.sizes → length sizes ≤ n →
     ((j : ℕ) (d : VolumeSize) → j < n → (get_or sizes j d).volume.0 ≡ volume.0 → number < (get_or sizes j d).grains → ⊥) → HasGrain k volume number → ⊥

@@ -20,5 +20,4 @@ mod volume;
 mod writing;
 
 pub use known::Known;
-pub use turn::Work;
 pub use volume::VolumeSize;

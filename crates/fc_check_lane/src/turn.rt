@@ -43,10 +43,7 @@ impl Known {
             Some(place)
                 if sheet.is_live(place)
                     && number < sheet.grains(place)
-                    && !sheet.holds(place, number) =>
-            {
-                Some(place)
-            }
+                    && !sheet.holds(place, number) => { Some(place) }
             _ => None,
         }
     }
@@ -84,12 +81,7 @@ impl Known {
     }
 
     /// The least grain of a lane that such work of a mapping could fill. Refused also where its number is 2^32 or more.
-    fn least_grain(
-        &self,
-        work: Work,
-        map: MapId,
-        lane: usize,
-    ) -> Result<Option<GrainNo>, NoMemory>
+    fn least_grain(&self, work: Work, map: MapId, lane: usize) -> Result<Option<GrainNo>, NoMemory>
         requires { lane < length self.now.faults }
         ensures { IfOk result (λ least. least ≡ least_in work self.now lane map.0) }
     {
@@ -141,7 +133,10 @@ fn grains_in_lane(grains: usize, lane: usize, lanes: usize) -> Result<usize, NoM
 fn number_in_lane(place: usize, lane: usize, lanes: usize) -> Result<u32, NoMemory>
     ensures { IfOk result (λ number. (grain : GrainSize) → number ≡ number_at (record { lane = lane; lanes = lanes; grain = grain }) place) }
 {
-    match place.checked_mul(lanes).and_then(|first| first.checked_add(lane)) {
+    match place
+        .checked_mul(lanes)
+        .and_then(|first| first.checked_add(lane))
+    {
         Some(number) => u32::try_from(number).map_err(|_| NoMemory),
         None => Err(NoMemory),
     }

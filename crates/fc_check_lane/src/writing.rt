@@ -47,7 +47,13 @@ impl Known {
     }
 
     /// Whether a medium error is a right answer of a write.
-    fn medium_error_of_write_fits(&self, part: WritePart, live: usize, number: u32, entry: &Entry) -> bool
+    fn medium_error_of_write_fits(
+        &self,
+        part: WritePart,
+        live: usize,
+        number: u32,
+        entry: &Entry,
+    ) -> bool
         ensures { IsTrue result ↔ WriteAnswers self.now.grain (spot_in self.now number) part live entry.now MediumError }
     {
         self.cannot_write(part, number) && has_done_nothing(entry)
@@ -105,9 +111,7 @@ impl Known {
     {
         match reply {
             Reply::Done => self.done_fits(alloc, part, live, number, entry),
-            Reply::MediumError => {
-                Ok(self.medium_error_of_write_fits(part, live, number, entry))
-            }
+            Reply::MediumError => { Ok(self.medium_error_of_write_fits(part, live, number, entry)) }
             Reply::DiskFault => self.fault_fits(alloc, part, live, number, entry),
             Reply::NoMemory => self.want_fits(alloc, part, live, number, entry),
             _ => Ok(false),

@@ -1,5 +1,5 @@
 use Rattle.std.proofs.Common.{arith}
-use Rattle.fc_check_lane.proofs.Within.{grain_found, no_grain}
+use Rattle.fc_check_lane.proofs.Within.{no_grain}
 use Rattle.fc_check_lane.proofs.known.Known.grain_of.Goals as goal
 
 pub returns : goal.returns
