@@ -1,0 +1,9 @@
+use Rattle.fc_rules.specs.Steps.{HasFailed}
+use Rattle.fc_check_lane.specs.Known.{spot_in}
+use Rattle.fc_check_lane.proofs.Answering.{fill_fit, failed_fit}
+use Rattle.fc_check_lane.proofs.known.Known.fault_of_fill_fits.Goals as goal
+
+pub returns : goal.returns
+returns c =
+    fill_fit c.args.self.now c.args.number c.args.place (λ z. HasFailed (spot_in c.args.self.now c.args.number) z c.args.entry.now) _ _ _
+    c.as_slice.ensures.value c.in_ok-steps.ensures (failed_fit c.args.self.now c.args.number _ c.args.entry.now _ c.has_failed.ensures)

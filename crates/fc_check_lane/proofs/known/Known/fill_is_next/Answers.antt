@@ -1,0 +1,9 @@
+use Rattle.fc_check_lane.specs.Answers.{IsOfGrain, FillIn}
+use Rattle.fc_check_lane.proofs.Answering.{here_fit, elsewhere_fit}
+use Rattle.fc_check_lane.proofs.known.Known.fill_is_next.Goals as goal
+
+pub returns-then-here : goal.returns-then-here
+returns-then-here c = here_fit (IsOfGrain c.args.self.now c.args.grain.0 c.args.entry.now) (FillIn c.args.work c.args.self.now c.args.map c.args.grain c.args.entry.now) _ _ c.if-here.true c.is_of_grain-here.ensures c.fill_answers.ensures
+
+pub returns-else-here : goal.returns-else-here
+returns-else-here c = elsewhere_fit _ c.if-here.false c.is_of_grain-here.ensures

@@ -1,0 +1,23 @@
+//! Whether an entry of a lane may come next after what was told: a judge's answer, from its own plain record.
+//!
+//! The record, `Known`, has no chain, bitmap, lane or store of what makes entries: chains are a plain list of slots
+//! (`model_slots`, `fc_model`), plain volumes have one byte for each block (`fc_check_picture`). `Known::is_next` answers exactly
+//! whether the entry is a right step of a legal history (`fc_legal`, `specs/Steps`), for every read, write, copy, cleaning and
+//! worker's turn; only want of memory is free.
+//!
+//! To read: `volume` and `known` (the record), `inside` (where an access lies), `steps` (what a write or a fill does), `reading`,
+//! `writing` and `filling` (what each may answer), `turn` (which grain a worker takes), and `next`, which has the call.
+#![tactic(auto)]
+
+mod filling;
+mod inside;
+mod known;
+mod next;
+mod reading;
+mod steps;
+mod turn;
+mod volume;
+mod writing;
+
+pub use known::Known;
+pub use volume::VolumeSize;

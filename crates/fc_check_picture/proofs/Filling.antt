@@ -1,0 +1,44 @@
+-- Parts of filled blocks.
+use Rattle.std.proofs.Common.{◌≡◌, ℕ, zero, suc, ◌+◌, ◌*◌, List, [], ◌∷◌, ◌++◌, take, drop, length, replicate, append_assoc, refl, sym, ap, ◌∙◌, arith}
+use Rattle.std.proofs.Math.Seq.{drop-append-add, take-append-add}
+use Rattle.std.proofs.lemmas.List.{length-replicate}
+use Rattle.fc_check_picture.specs.Blocks.{filled}
+
+block_first : (size n : ℕ) → size * suc n ≡ size + size * n
+block_first size n = omega arith
+
+abbrev none : List ℕ
+none = []
+
+drop_none : (n : ℕ) → drop n none ≡ none
+drop_none zero = refl
+drop_none (suc n) = refl
+
+take_none : (n : ℕ) → take n none ≡ none
+take_none zero = refl
+take_none (suc n) = refl
+
+-- behind, and up to, so many blocks
+pub drop_filled : (size n : ℕ) (blocks : List ℕ) → drop (size * n) (filled size blocks) ≡ filled size (drop n blocks)
+drop_filled size zero blocks = let e : size * zero ≡ zero = omega arith in ap (λ z. drop z (filled size blocks)) e
+drop_filled size (suc n) [] = drop_none (size * suc n)
+drop_filled size (suc n) (b ∷ bs) =
+    let len : length (replicate size b) ≡ size = length-replicate size b in
+    let e : size * suc n ≡ length (replicate size b) + size * n = block_first size n ∙ ap (λ z. z + size * n) (sym len) in
+    ap (λ z. drop z (replicate size b ++ filled size bs)) e ∙ (drop-append-add (replicate size b) (filled size bs) (size * n) ∙ drop_filled size n bs)
+
+pub take_filled : (size n : ℕ) (blocks : List ℕ) → take (size * n) (filled size blocks) ≡ filled size (take n blocks)
+take_filled size zero blocks = let e : size * zero ≡ zero = omega arith in ap (λ z. take z (filled size blocks)) e
+take_filled size (suc n) [] = take_none (size * suc n)
+take_filled size (suc n) (b ∷ bs) =
+    let len : length (replicate size b) ≡ size = length-replicate size b in
+    let e : size * suc n ≡ length (replicate size b) + size * n = block_first size n ∙ ap (λ z. z + size * n) (sym len) in
+    ap (λ z. take z (replicate size b ++ filled size bs)) e
+    ∙ (take-append-add (replicate size b) (filled size bs) (size * n) ∙ ap (λ z. replicate size b ++ z) (take_filled size n bs))
+
+pub part_filled : (size from count : ℕ) (blocks : List ℕ) → take (size * count) (drop (size * from) (filled size blocks)) ≡ filled size (take count (drop from blocks))
+part_filled size from count blocks = ap (take (size * count)) (drop_filled size from blocks) ∙ take_filled size count (drop from blocks)
+
+pub filled_append : (size : ℕ) (xs ys : List ℕ) → filled size (xs ++ ys) ≡ filled size xs ++ filled size ys
+filled_append size [] ys = refl
+filled_append size (x ∷ xs) ys = ap (λ z. replicate size x ++ z) (filled_append size xs ys) ∙ sym (append_assoc (replicate size x) (filled size xs) (filled size ys))

@@ -1,0 +1,2 @@
+-- What contracts of plain volumes of one byte a block cite.
+pub mod Blocks
