@@ -9,3 +9,4 @@ pub mod Effects
 pub mod NoteLemmas
 pub mod Told
 pub mod Steps
+pub mod Worked
