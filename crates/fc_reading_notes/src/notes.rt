@@ -1,6 +1,6 @@
 //! All that an entry did.
 
-ghost use Rattle.std.specs.Prelude.{◌≡◌, ◌≤◌, IfErr, IfOk, OnErr, OnOk, length, take, true};
+ghost use Rattle.std.specs.Prelude.{◌≡◌, ◌≤◌, IfErr, IfOk, OnErr, OnOk, false, length, take, true};
 ghost use Rattle.fc_reading.specs.Pieces.{Reads};
 ghost use Rattle.fc_reading.specs.Stops.{StopsAt};
 ghost use Rattle.fc_reading_notes.specs.Answers.{ReadsOr};
@@ -47,26 +47,30 @@ pub struct Told {
     pub notes: Notes,
 }
 
-/// Takes a line, of anything or, past the moves, of an effect.
-fn take_note(alloc: Global, moving: bool, bytes: &[u8]) -> Result<(Note, &[u8]), ReadStop>
-    ensures { ReadsOr (λ found. (found.0, found.1.now)) result (note_at moving bytes.now) }
+/// Takes the line of an effect, as it may stand behind all moves.
+fn take_late_note(alloc: Global, bytes: &[u8]) -> Result<(Note, &[u8]), ReadStop>
+    ensures { ReadsOr (λ found. (found.0, found.1.now)) result (note_at false bytes.now) }
 {
-    if !moving {
-        let words: [&[u8]; 7] = [
-            b"+ make ",
-            b"+ remove ",
-            b"+ trigger\n",
-            b"+ trigger ",
-            b"+ cut ",
-            b"+ state ",
-            b"+ gone ",
-        ];
-        let (index, rest) = one_of(&words, bytes)?;
-        return match take_effect(alloc, index, rest) {
-            Ok((effect, rest)) => Ok((Note::Changed(effect), rest)),
-            Err(stop) => Err(stop),
-        };
+    let words: [&[u8]; 7] = [
+        b"+ make ",
+        b"+ remove ",
+        b"+ trigger\n",
+        b"+ trigger ",
+        b"+ cut ",
+        b"+ state ",
+        b"+ gone ",
+    ];
+    let (index, rest) = one_of(&words, bytes)?;
+    match take_effect(alloc, index, rest) {
+        Ok((effect, rest)) => Ok((Note::Changed(effect), rest)),
+        Err(stop) => Err(stop),
     }
+}
+
+/// Takes a line of any kind, as it may stand behind moves alone.
+fn take_any_note(alloc: Global, bytes: &[u8]) -> Result<(Note, &[u8]), ReadStop>
+    ensures { ReadsOr (λ found. (found.0, found.1.now)) result (note_at true bytes.now) }
+{
     let words: [&[u8]; 9] = [
         b"+ move ",
         b"+ torn ",
@@ -92,6 +96,17 @@ fn take_note(alloc: Global, moving: bool, bytes: &[u8]) -> Result<(Note, &[u8]),
             Ok((effect, rest)) => Ok((Note::Changed(effect), rest)),
             Err(stop) => Err(stop),
         },
+    }
+}
+
+/// Takes a line: of any kind as long as moves may stand there, else of an effect.
+fn take_note(alloc: Global, moving: bool, bytes: &[u8]) -> Result<(Note, &[u8]), ReadStop>
+    ensures { ReadsOr (λ found. (found.0, found.1.now)) result (note_at moving bytes.now) }
+{
+    if moving {
+        take_any_note(alloc, bytes)
+    } else {
+        take_late_note(alloc, bytes)
     }
 }
 
