@@ -1,0 +1,151 @@
+-- Nothing read, a choice by the first byte, and a number with one of some words behind it are read exactly.
+use Rattle.std.proofs.Common.{◌≡◌, ℕ, zero, suc, ◌^◌, ◌<◌, Bool, true, false, List, [], ◌∷◌, ◌++◌, length, get_or, decimal, Result, Ok, Err, refl, sym, ap, subst, ◌∙◌, arith, lit<, inl, inr}
+use Rattle.std.specs.Prelude.{◌⊎◌, not}
+use Rattle.std.specs.List.{list_all}
+use Rattle.std.proofs.lemmas.Bool.{false≢true}
+use Rattle.fc_reading.specs.Readers.{is_decimal, number_at, one_of_at}
+use Rattle.fc_reading_notes.specs.Lines.{ending_at}
+use Rattle.fc_reading_notes.specs.Lists.{by_first, starts_with}
+use Rattle.fc_reading.proofs.Exact.{Ends, Exact, Exact-then, SameStart, Stops, Takes, ok_is, ok_no_err}
+use Rattle.fc_reading.proofs.Numbers.{Exact-number, IsUpTo, cases}
+use Rattle.fc_reading.proofs.Words.{Ends-nothing, Exact-one_of, IsIndexOf, at_false, at_true, both, is_code, nothing}
+
+-- ---- nothing read
+
+abbrev pub Is : {V : Type 0} → V → V → Type 0
+Is value other = other ≡ value
+
+pub Exact-none : {V : Type 0} (value : V) → Exact (Is value) (λ v. []) nothing (λ (bytes : List ℕ). Ok (value, bytes))
+Exact-none {V} value = record {
+  takes =
+      λ bytes v rest e.
+      let P : V × List ℕ → Type 0 = λ z. Takes (Is value) (λ v. []) nothing bytes z.0 z.1 in
+      let at : P (value, bytes) = record { fits = refl; split = refl; ends = Ends-nothing bytes } in
+      subst P (ok_is _ _ e) at;
+  again = λ v rest fits ends. ap (λ w. Ok (w, rest)) (sym fits);
+  stops = λ bytes left e. absurd (ok_no_err _ _ e);
+}
+
+-- ---- a choice by the first byte
+
+still : (first : ℕ) (front rest u : List ℕ) (t : Bool) → SameStart rest u → starts_with first (front ++ rest) ≡ t → starts_with first (front ++ u) ≡ t
+still first (b ∷ front) rest u t same e = e
+still first [] [] [] t same e = e
+still first [] [] (b ∷ u) t same e = absurd same
+still first [] (a ∷ rest) [] t same e = absurd same
+still first [] (a ∷ rest) (b ∷ u) t same e = ap (λ x. starts_with first (x ∷ [])) (sym same) ∙ e
+
+abbrev pub Either : {V : Type 0} → (V → Type 0) → (V → Type 0) → V → Type 0
+Either Fits Others v = Fits v ⊎ Others v
+
+pub Exact-by_first :
+    {V : Type 0} (first : ℕ) (Here Other : V → Type 0) (text : V → List ℕ) (here other : List ℕ → Result (V × List ℕ) ℕ) →
+    Exact Here text nothing here → Exact Other text nothing other →
+    ((v : V) (rest : List ℕ) → Here v → starts_with first (text v ++ rest) ≡ true) →
+    ((v : V) (rest : List ℕ) → Other v → starts_with first (text v ++ rest) ≡ false) →
+    Exact (Either Here Other) text nothing (by_first first here other)
+Exact-by_first {V} first Here Other text here other exact1 exact2 begins apart = record {
+  takes = takes;
+  again = again;
+  stops = stops;
+}
+  where
+    on : (bytes : List ℕ) (r : Result (V × List ℕ) ℕ) → starts_with first bytes ≡ true → by_first first here other bytes ≡ r → here bytes ≡ r
+    on bytes r t e = sym (at_true (starts_with first bytes) (here bytes) (other bytes) t) ∙ e
+
+    off : (bytes : List ℕ) (r : Result (V × List ℕ) ℕ) → starts_with first bytes ≡ false → by_first first here other bytes ≡ r → other bytes ≡ r
+    off bytes r t e = sym (at_false (starts_with first bytes) (here bytes) (other bytes) t) ∙ e
+
+    takes : (bytes : List ℕ) (v : V) (rest : List ℕ) → by_first first here other bytes ≡ Ok (v, rest) → Takes (Either Here Other) text nothing bytes v rest
+    takes bytes v rest e =
+        elim (cases (starts_with first bytes)) [
+          | inl t ↦
+              let s = exact1.takes bytes v rest (on bytes (Ok (v, rest)) t e) in
+              record { fits = inl s.fits; split = s.split; ends = s.ends }
+          | inr t ↦
+              let s = exact2.takes bytes v rest (off bytes (Ok (v, rest)) t e) in
+              record { fits = inr s.fits; split = s.split; ends = s.ends }
+        ]
+
+    again : (v : V) (rest : List ℕ) → Either Here Other v → Ends nothing rest → by_first first here other (text v ++ rest) ≡ Ok (v, rest)
+    again v rest (inl fits) ends =
+        at_true (starts_with first (text v ++ rest)) (here (text v ++ rest)) (other (text v ++ rest)) (begins v rest fits) ∙ exact1.again v rest fits ends
+    again v rest (inr fits) ends =
+        at_false (starts_with first (text v ++ rest)) (here (text v ++ rest)) (other (text v ++ rest)) (apart v rest fits) ∙ exact2.again v rest fits ends
+
+    stops : (bytes : List ℕ) (left : ℕ) → by_first first here other bytes ≡ Err left → Stops (Either Here Other) text (by_first first here other) bytes left
+    stops bytes left e =
+        elim (cases (starts_with first bytes)) [
+          | inl t ↦
+              let s = exact1.stops bytes left (on bytes (Err left) t e) in
+              record {
+                front = s.front;
+                rest = s.rest;
+                split = s.split;
+                left_is = s.left_is;
+                value = s.value;
+                fits = inl s.fits;
+                more = s.more;
+                begins = s.begins;
+                again =
+                    λ u same.
+                    at_true (starts_with first (s.front ++ u)) (here (s.front ++ u)) (other (s.front ++ u))
+                    (still first s.front s.rest u true same (ap (starts_with first) (sym s.split) ∙ t))
+                    ∙ s.again u same;
+              }
+          | inr t ↦
+              let s = exact2.stops bytes left (off bytes (Err left) t e) in
+              record {
+                front = s.front;
+                rest = s.rest;
+                split = s.split;
+                left_is = s.left_is;
+                value = s.value;
+                fits = inr s.fits;
+                more = s.more;
+                begins = s.begins;
+                again =
+                    λ u same.
+                    at_false (starts_with first (s.front ++ u)) (here (s.front ++ u)) (other (s.front ++ u))
+                    (still first s.front s.rest u false same (ap (starts_with first) (sym s.split) ∙ t))
+                    ∙ s.again u same;
+              }
+        ]
+
+-- ---- a number with one of some words behind it
+
+-- no digit begins the word, which isn't empty
+abbrev pub no_digit : List ℕ → Bool
+no_digit [] = false
+no_digit (byte ∷ word) = not (is_decimal byte)
+
+not_true : (b : Bool) → not b ≡ true → b ≡ false
+not_true true h = absurd (false≢true h)
+not_true false h = refl
+
+word_ends : (word rest : List ℕ) → no_digit word ≡ true → Ends is_decimal (word ++ rest)
+word_ends [] rest h = absurd (false≢true h)
+word_ends (byte ∷ word) rest h = not_true (is_decimal byte) h
+
+pub words_end : (words : List (List ℕ)) (i : ℕ) (rest : List ℕ) → list_all no_digit words ≡ true → i < length words → Ends is_decimal (get_or words i [] ++ rest)
+words_end [] i rest h inside = absurd (omega (arith, inside))
+words_end (word ∷ words) zero rest h inside = word_ends word rest (both (no_digit word) (list_all no_digit words) h).0
+words_end (word ∷ words) (suc i) rest h inside =
+    words_end words i rest (both (no_digit word) (list_all no_digit words) h).1 (omega (arith, inside))
+
+abbrev pub IsEnding : List (List ℕ) → ℕ × ℕ → Type 0
+IsEnding words x = IsUpTo 4294967295 x.0 × IsIndexOf words x.1
+
+abbrev pub ending_text : List (List ℕ) → ℕ × ℕ → List ℕ
+ending_text words x = decimal x.0 ++ get_or words x.1 []
+
+pub small : 4294967295 < 2 ^ 64
+small = lit< tt
+
+pub Exact-ending :
+    (word : List ℕ) (words : List (List ℕ)) → is_code (word ∷ words) ≡ true → list_all no_digit (word ∷ words) ≡ true →
+    Exact (IsEnding (word ∷ words)) (ending_text (word ∷ words)) nothing (ending_at (word ∷ words))
+Exact-ending word words code apart =
+    Exact-then (IsUpTo 4294967295) decimal is_decimal (number_at 4294967295) (λ n. IsIndexOf (word ∷ words)) (λ n i. get_or (word ∷ words) i []) nothing
+    (λ n. one_of_at (word ∷ words)) (Exact-number 4294967295 small) (λ n fits. Exact-one_of word words code) (λ n fits. (0, omega arith))
+    (λ n i rest fits inside ends. words_end (word ∷ words) i rest apart inside)

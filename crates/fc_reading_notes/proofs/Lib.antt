@@ -1,0 +1,12 @@
+-- Readers of lists, and of the lines of what an entry did, are exact.
+pub mod Lists
+pub mod Whiles
+pub mod BetweenLemmas
+pub mod Choices
+pub mod LineLemmas
+pub mod Ranges
+pub mod Effects
+pub mod NoteLemmas
+pub mod Told
+pub mod Steps
+pub mod Worked
