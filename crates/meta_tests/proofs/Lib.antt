@@ -1,0 +1,2 @@
+-- Lemmas on the account of a disk's calls.
+pub mod Accounts
