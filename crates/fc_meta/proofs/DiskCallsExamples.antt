@@ -2,12 +2,12 @@
 use Rattle.std.proofs.Common.{◌≡◌, ℕ, Bool, true, false, List, [], ◌∷◌, inl, inr, refl}
 use Rattle.std.specs.Prelude.{replicate}
 use Rattle.fc_image.specs.declared.image.MetaImage.{MetaImage}
-use Rattle.fc_metadisk.specs.Calls.{DiskCall, Writes, Syncs, Made, one_made, all_made, AreCutShort}
+use Rattle.fc_metadisk.specs.Calls.{Writes, Syncs, one_made, all_made, AreCutShort}
 use Rattle.fc_format.specs.declared.half.Half.{Half}
 use Rattle.fc_format.specs.declared.half.Half.TheVariants.{First, Second}
 use Rattle.fc_format.specs.Bytes.{half_bytes, batch_bytes}
 use Rattle.fc_meta.specs.declared.meta.Meta.{Meta}
-use Rattle.fc_meta.specs.DiskCalls.{open_calls, note_calls, sync_calls, clear_calls, fill_calls, turn_calls, fold_calls}
+use Rattle.fc_meta.specs.DiskCalls.{open_calls, note_calls, sync_calls, fold_calls}
 
 abbrev at_half : Half → Bool → Meta (List ℕ)
 at_half half wide = record { disk = replicate 8 0; half = half; generation = 6; other_is_open = wide; used = 2; next = 2 }

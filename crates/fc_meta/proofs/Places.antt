@@ -1,9 +1,8 @@
 -- Where the calls of a writer write, and what its answers tell of its disk's calls.
-use Rattle.std.proofs.Common.{◌≡◌, ◌⊎◌, inl, inr, ℕ, ◌+◌, Bool, true, false, List, [], ◌∷◌, take, length, refl, sym, ap, ◌∙◌, subst, arith}
+use Rattle.std.proofs.Common.{◌≡◌, ◌⊎◌, inl, inr, ℕ, ◌+◌, Bool, true, false, List, [], ◌∷◌, take, length, refl, ap, ◌∙◌, subst, arith}
 use Rattle.std.specs.Prelude.{Result, Ok, Err, is_err, OnOk, OnErr, IsErrOf}
-use Rattle.fc_image.specs.declared.record.MetaRecord.{MetaRecord}
 use Rattle.fc_image.specs.declared.image.MetaImage.{MetaImage}
-use Rattle.fc_metadisk.specs.Calls.{DiskCall, Writes, Syncs}
+use Rattle.fc_metadisk.specs.Calls.{Syncs}
 use Rattle.fc_format.specs.declared.half.Half.{Half}
 use Rattle.fc_format.specs.Bytes.{half_bytes}
 use Rattle.fc_format.specs.Halves.{half_start, other_half}

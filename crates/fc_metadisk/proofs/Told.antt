@@ -1,5 +1,5 @@
 -- Calls of a disk that come one after the other.
-use Rattle.std.proofs.Common.{◌≡◌, inl, inr, ⊎_elim, true, false, List, [], ◌∷◌, ◌++◌, refl, sym, ap, ◌∙◌, subst}
+use Rattle.std.proofs.Common.{◌≡◌, inl, inr, ⊎_elim, true, false, List, [], ◌∷◌, ◌++◌, refl, sym, ap, subst}
 use Rattle.fc_metadisk.specs.Calls.{DiskCall, Made, one_made, all_made, AreCutShort}
 
 abbrev fine : DiskCall → Made

@@ -3,7 +3,7 @@
 ghost use Rattle.std.specs.Prelude.{◌≡◌, ◌++◌, List, [], ◌∷◌, true};
 ghost use Rattle.fc_metadisk.specs.Disk.{IsRange, bytes_at, bytes_put, Torn, Follows, Only, Elapses};
 ghost use Rattle.meta_tests.specs.Account.{HasKept};
-ghost use Rattle.meta_tests.proofs.Accounts.{kept_none, kept_both};
+ghost use Rattle.meta_tests.specs.Accounts.{kept_none, kept_both};
 
 use fc_base::outcome::Failed;
 use fc_metadisk::MetaDisk;

@@ -1,4 +1,4 @@
-use Rattle.std.proofs.Common.{ℕ, ◌+◌, ◌⊎◌, inl, inr, true, false, List, [], ◌∷◌, length, subst, arith}
+use Rattle.std.proofs.Common.{ℕ, ◌+◌, ◌⊎◌, inl, inr, true, false, List, ◌∷◌, length, subst, arith}
 use Rattle.fc_metadisk.specs.Disk.{Torn}
 use Rattle.fc_metadisk.proofs.Rows.{torn_none}
 use Rattle.fc_format.specs.Halves.{half_start}

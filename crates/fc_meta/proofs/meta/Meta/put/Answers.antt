@@ -2,7 +2,7 @@ use Rattle.std.proofs.Common.{ℕ, List, inl, inr, ⊎_elim, ◌∙◌}
 use Rattle.fc_meta.specs.Answers.{found_with, LeavesFound, LeavesEither}
 use Rattle.fc_meta.specs.States.{found, awaited}
 use Rattle.fc_meta.proofs.Moments.{joined, weaker}
-use Rattle.std.proofs.Common.{ap, subst}
+use Rattle.std.proofs.Common.{subst}
 use Rattle.std.proofs.lemmas.Result.{err_from_is_err_and}
 use Rattle.fc_metadisk.specs.Calls.{DiskCall, all_made, AreCutShort}
 use Rattle.fc_metadisk.proofs.Told.{all_behind, cut_after, cut_before}

@@ -1,5 +1,5 @@
 use Rattle.fc_meta.proofs.Calls.{turn_room, turn_run, turn_found, turn_rests}
-use Rattle.std.proofs.Common.{ℕ, List, [], ◌∷◌, ap, ◌∙◌, subst}
+use Rattle.std.proofs.Common.{ℕ, [], ◌∷◌, ap, ◌∙◌, subst}
 use Rattle.fc_metadisk.specs.Calls.{all_made, AreCutShort}
 use Rattle.fc_format.specs.declared.half.Half.{Half}
 use Rattle.fc_format.specs.Halves.{half_start}

@@ -1,2 +1,0 @@
--- Lemmas on the account of a disk's calls.
-pub mod Accounts
