@@ -4,9 +4,11 @@ pub mod Gates
 pub mod Crash
 pub mod Again
 pub mod Moments
+pub mod Places
 pub mod Done
 pub mod Calls
 pub mod Opening
 pub mod Runs
 pub mod SeriesExamples
+pub mod DiskCallsExamples
 pub mod Recovered

@@ -4,4 +4,5 @@ pub mod Standing
 pub mod Answers
 pub mod Recovering
 pub mod States
+pub mod DiskCalls
 pub mod Order

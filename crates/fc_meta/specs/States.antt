@@ -1,9 +1,10 @@
 -- How far a writer is: at rest, or in the middle of a batch or a fold.
-use Rattle.std.specs.Prelude.{◌≡◌, ℕ, ◌+◌, false, List, Result, Ok, Err}
+use Rattle.std.specs.Prelude.{◌≡◌, ℕ, ◌+◌, Bool, false, List, Result, Ok, Err}
 use Rattle.fc_image.specs.declared.record.MetaRecord.{MetaRecord}
 use Rattle.fc_image.specs.declared.image.MetaImage.{MetaImage}
 use Rattle.fc_metadisk.specs.Disk.{Only}
-use Rattle.fc_format.specs.Halves.{Found, Image, recovered, half_size, other_half}
+use Rattle.fc_format.specs.declared.half.Half.{Half}
+use Rattle.fc_format.specs.Halves.{Found, Image, recovered, half_size, half_start, other_half}
 use Rattle.fc_meta.specs.declared.error.MetaError.{MetaError}
 use Rattle.fc_meta.specs.declared.error.RecoverError.{RecoverError}
 use Rattle.fc_meta.specs.declared.meta.Meta.{Meta}
@@ -15,6 +16,14 @@ use Rattle.fc_meta.specs.Recovering.{IsCause}
 
 abbrev pub disk_of : {D : Type 0} → Meta D → D
 disk_of meta = meta.disk
+
+-- the half that is read
+abbrev pub read_half : {D : Type 0} → Meta D → Half
+read_half meta = meta.half
+
+-- whether the gate of the other half is open
+abbrev pub other_open : {D : Type 0} → Meta D → Bool
+other_open meta = meta.other_is_open
 
 -- the generation of the image that is read
 abbrev pub generation_of : {D : Type 0} → Meta D → ℕ
@@ -32,6 +41,13 @@ module _ {D : Type 0} (seen : D → List ℕ) where
   -- the bytes of a half
   abbrev pub room_of : Meta D → ℕ
   room_of meta = half_size (seen meta.disk)
+
+  -- the places at which the half that is read begins, and the other one
+  abbrev pub start_now : Meta D → ℕ
+  start_now meta = half_start meta.half (seen meta.disk)
+
+  abbrev pub other_start : Meta D → ℕ
+  other_start meta = half_start (other_half meta.half) (seen meta.disk)
 
   -- what the disk stands for
   abbrev pub found : Meta D → Found

@@ -3,8 +3,10 @@
 ghost use Rattle.std.specs.Prelude.{◌≡◌, ◌+◌, ◌≤◌, ◌<◌, ◌^◌, length, true, is_err, OnOk, OnErr};
 ghost use Rattle.fc_base.specs.Count.{FaultsAfter};
 ghost use Rattle.fc_metadisk.specs.Disk.{bytes_put, LeavesOnly, Only};
+ghost use Rattle.fc_metadisk.specs.Calls.{all_made, AreCutShort};
 ghost use Rattle.fc_format.specs.Halves.{half_size, half_start};
 ghost use Rattle.fc_meta.specs.Answers.{MayTear, more_calls, IsStopped};
+ghost use Rattle.fc_meta.specs.DiskCalls.{write_and_sync};
 
 use fc_base::outcome::Failed;
 use fc_format::Half;
@@ -48,6 +50,10 @@ pub(crate) fn write_synced<M: MetaDisk>(
         (MayTear (half_start half (M.seen disk.old) + at) (length bytes.now) (M.may_leave disk.old)) }
     ensures made { OnOk result (M.calls disk.new ≡ more_calls 2 (M.calls disk.old)) }
     ensures stopped { OnErr result (IsStopped 2 (M.calls disk.old) (M.calls disk.new)) }
+    ensures done { OnOk result (M.leads disk.old
+        (all_made (write_and_sync (half_start half (M.seen disk.old) + at) bytes.now)) disk.new) }
+    ensures cut_short { OnErr result (AreCutShort (λ made. M.leads disk.old made disk.new)
+        (write_and_sync (half_start half (M.seen disk.old) + at) bytes.now)) }
     ensures cause { FaultsAfter true (is_err result) (M.fault_count disk.old)
         (M.fault_count disk.new) }
 {

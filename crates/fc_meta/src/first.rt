@@ -3,13 +3,15 @@
 ghost use Rattle.std.specs.Prelude.{◌≡◌, ◌<◌, ◌≤◌, ◌+◌, false, length, replicate, IfOk, IfErr, OnOk, IsErrOf};
 ghost use Rattle.fc_base.specs.Count.{HasRisen};
 ghost use Rattle.fc_metadisk.specs.Disk.{LeavesOnly, Only};
+ghost use Rattle.fc_metadisk.specs.Calls.{all_made, AreCutShort};
 ghost use Rattle.fc_format.specs.declared.half.Half.TheVariants.{First};
 ghost use Rattle.fc_format.specs.Bytes.{half_bytes};
 ghost use Rattle.fc_format.specs.Ranges.{HasGoodIds};
 ghost use Rattle.fc_format.specs.Halves.{Image, NoImage, half_size};
 ghost use Rattle.fc_meta.specs.Standing.{Rests};
 ghost use Rattle.fc_meta.specs.Answers.{LeavesEither, more_calls, IsStopped};
-ghost use Rattle.fc_meta.specs.States.{generation_of, used_of, found, opened_disk, IsResting};
+ghost use Rattle.fc_meta.specs.States.{read_half, other_open, generation_of, used_of, found, opened_disk, IsResting};
+ghost use Rattle.fc_meta.specs.DiskCalls.{open_calls};
 
 use crate::disk::{half_len, write_synced};
 use crate::error::MetaError;
@@ -30,6 +32,8 @@ impl<M: MetaDisk> Meta<M> {
         requires ids { HasGoodIds image.now }
         ensures rests { IfOk result (λ meta. IsResting M.seen M.may_leave meta) }
         ensures found { IfOk result (λ meta. found M.seen meta ≡ Image image.now) }
+        ensures half { IfOk result (λ meta. read_half meta ≡ First) }
+        ensures other { IfOk result (λ meta. other_open meta ≡ false) }
         ensures generation { IfOk result (λ meta. generation_of meta ≡ 1) }
         ensures used { IfOk result (λ meta. used_of meta ≡ length (half_bytes 1 image.now)) }
         ensures size { length (M.seen (opened_disk result)) ≡ length (M.seen disk) }
@@ -50,6 +54,10 @@ impl<M: MetaDisk> Meta<M> {
         ensures made { OnOk result (M.calls (opened_disk result) ≡ more_calls 4 (M.calls disk)) }
         ensures stopped { IfErr result
             (λ e. e.1 ≡ MetaError.Failed → IsStopped 4 (M.calls disk) (M.calls e.0)) }
+        ensures done { OnOk result (M.leads disk (all_made (open_calls image.now))
+            (opened_disk result)) }
+        ensures cut_short { IfErr result (λ e. e.1 ≡ MetaError.Failed → AreCutShort
+            (λ made. M.leads disk made e.0) (open_calls image.now)) }
     {
         let mut disk = disk;
         match write_first(alloc, &mut disk, image) {
@@ -94,6 +102,9 @@ fn write_first<M: MetaDisk>(
     ensures made { OnOk result (M.calls disk.new ≡ more_calls 4 (M.calls disk.old)) }
     ensures stopped { IsErrOf result MetaError.Failed → IsStopped 4 (M.calls disk.old)
         (M.calls disk.new) }
+    ensures done { OnOk result (M.leads disk.old (all_made (open_calls image.now)) disk.new) }
+    ensures cut_short { IsErrOf result MetaError.Failed → AreCutShort
+        (λ made. M.leads disk.old made disk.new) (open_calls image.now) }
 {
     let bytes = half_with(alloc, 1, image)?;
     if half_len(disk) as usize <= bytes.len() {

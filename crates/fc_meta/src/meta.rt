@@ -1,13 +1,15 @@
 //! The writer: batches and folds.
 
-ghost use Rattle.std.specs.Prelude.{◌≡◌, ◌<◌, ◌≤◌, ◌+◌, ◌^◌, ◌↔◌, length, nat_le, true, is_err, OnOk, OnErr, IsErrOf};
+ghost use Rattle.std.specs.Prelude.{◌≡◌, ◌<◌, ◌≤◌, ◌+◌, ◌^◌, ◌↔◌, length, nat_le, true, false, is_err, OnOk, OnErr, IsErrOf};
 ghost use Rattle.fc_base.specs.Count.{HasRisen};
 ghost use Rattle.fc_metadisk.specs.Disk.{LeavesOnly};
+ghost use Rattle.fc_metadisk.specs.Calls.{all_made, AreCutShort};
 ghost use Rattle.fc_format.specs.Bytes.{batch_bytes, half_bytes};
 ghost use Rattle.fc_format.specs.Ranges.{HasGoodIds};
-ghost use Rattle.fc_format.specs.Halves.{Image};
+ghost use Rattle.fc_format.specs.Halves.{Image, other_half};
 ghost use Rattle.fc_meta.specs.Answers.{found_with, LeavesFound, LeavesEither, PassesHalf, more_calls, IsStopped};
-ghost use Rattle.fc_meta.specs.States.{disk_of, generation_of, used_of, next_of, room_of, found, awaited, filled, IsResting, IsWaiting, IsCleared, IsFilled};
+ghost use Rattle.fc_meta.specs.States.{disk_of, read_half, other_open, generation_of, used_of, next_of, room_of, found, awaited, filled, IsResting, IsWaiting, IsCleared, IsFilled};
+ghost use Rattle.fc_meta.specs.DiskCalls.{note_calls, sync_calls, clear_calls, fill_calls, turn_calls};
 
 use crate::disk::{half_len, start_of, write_synced};
 use crate::error::MetaError;
@@ -51,6 +53,8 @@ impl<M: MetaDisk> Meta<M> {
         ensures found { OnOk result (found M.seen self.new ≡ found M.seen self.old) }
         ensures awaited { OnOk result
             (awaited M.seen self.new ≡ found_with (found M.seen self.old) records.now) }
+        ensures half { OnOk result (read_half self.new ≡ read_half self.old) }
+        ensures other { OnOk result (other_open self.new ≡ other_open self.old) }
         ensures generation { OnOk result (generation_of self.new ≡ generation_of self.old) }
         ensures used { OnOk result (used_of self.new ≡ used_of self.old) }
         ensures next { OnOk result
@@ -70,6 +74,11 @@ impl<M: MetaDisk> Meta<M> {
             (M.calls (disk_of self.new) ≡ more_calls 1 (M.calls (disk_of self.old))) }
         ensures stopped { IsErrOf result MetaError.Failed → IsStopped 1
             (M.calls (disk_of self.old)) (M.calls (disk_of self.new)) }
+        ensures done { OnOk result (M.leads (disk_of self.old)
+            (all_made (note_calls M.seen self.old records.now)) (disk_of self.new)) }
+        ensures cut_short { IsErrOf result MetaError.Failed → AreCutShort
+            (λ made. M.leads (disk_of self.old) made (disk_of self.new))
+            (note_calls M.seen self.old records.now) }
     {
         if !self.fits(records) {
             return Err(MetaError::Full);
@@ -87,6 +96,8 @@ impl<M: MetaDisk> Meta<M> {
         requires { IsWaiting M.seen M.may_leave self.old }
         ensures rests { OnOk result (IsResting M.seen M.may_leave self.new) }
         ensures found { OnOk result (found M.seen self.new ≡ awaited M.seen self.old) }
+        ensures half { OnOk result (read_half self.new ≡ read_half self.old) }
+        ensures other { OnOk result (other_open self.new ≡ other_open self.old) }
         ensures generation { OnOk result (generation_of self.new ≡ generation_of self.old) }
         ensures used { OnOk result (used_of self.new ≡ next_of self.old) }
         ensures size { length (M.seen (disk_of self.new)) ≡ length (M.seen (disk_of self.old)) }
@@ -101,6 +112,11 @@ impl<M: MetaDisk> Meta<M> {
             (M.calls (disk_of self.new) ≡ more_calls 3 (M.calls (disk_of self.old))) }
         ensures stopped { IsErrOf result MetaError.Failed → IsStopped 3
             (M.calls (disk_of self.old)) (M.calls (disk_of self.new)) }
+        ensures done { OnOk result (M.leads (disk_of self.old)
+            (all_made (sync_calls M.seen self.old)) (disk_of self.new)) }
+        ensures cut_short { IsErrOf result MetaError.Failed → AreCutShort
+            (λ made. M.leads (disk_of self.old) made (disk_of self.new))
+            (sync_calls M.seen self.old) }
     {
         self.disk.sync()?;
         write_synced(&mut self.disk, self.half, self.used, &[1])?;
@@ -114,6 +130,8 @@ impl<M: MetaDisk> Meta<M> {
         requires { IsResting M.seen M.may_leave self.old }
         ensures cleared { OnOk result (IsCleared M.seen M.may_leave self.new) }
         ensures found { OnOk result (found M.seen self.new ≡ found M.seen self.old) }
+        ensures half { OnOk result (read_half self.new ≡ read_half self.old) }
+        ensures other { OnOk result (other_open self.new ≡ false) }
         ensures generation { OnOk result (generation_of self.new ≡ generation_of self.old) }
         ensures used { OnOk result (used_of self.new ≡ used_of self.old) }
         ensures size { length (M.seen (disk_of self.new)) ≡ length (M.seen (disk_of self.old)) }
@@ -128,6 +146,11 @@ impl<M: MetaDisk> Meta<M> {
             (M.calls (disk_of self.new) ≡ more_calls 2 (M.calls (disk_of self.old))) }
         ensures stopped { IsErrOf result MetaError.Failed → IsStopped 2
             (M.calls (disk_of self.old)) (M.calls (disk_of self.new)) }
+        ensures done { OnOk result (M.leads (disk_of self.old)
+            (all_made (clear_calls M.seen self.old)) (disk_of self.new)) }
+        ensures cut_short { IsErrOf result MetaError.Failed → AreCutShort
+            (λ made. M.leads (disk_of self.old) made (disk_of self.new))
+            (clear_calls M.seen self.old) }
     {
         let closed = [0];
         let count = usize::from(self.other_is_open);
@@ -147,6 +170,8 @@ impl<M: MetaDisk> Meta<M> {
         ensures is_filled { OnOk result (IsFilled M.seen M.may_leave self.new) }
         ensures found { OnOk result (found M.seen self.new ≡ found M.seen self.old) }
         ensures filled { OnOk result (filled M.seen self.new ≡ Image image.now) }
+        ensures half { OnOk result (read_half self.new ≡ read_half self.old) }
+        ensures other { OnOk result (other_open self.new ≡ false) }
         ensures generation { OnOk result (generation_of self.new ≡ generation_of self.old) }
         ensures used { OnOk result (used_of self.new ≡ used_of self.old) }
         ensures next { OnOk result
@@ -170,6 +195,11 @@ impl<M: MetaDisk> Meta<M> {
             (M.calls (disk_of self.new) ≡ more_calls 2 (M.calls (disk_of self.old))) }
         ensures stopped { IsErrOf result MetaError.Failed → IsStopped 2
             (M.calls (disk_of self.old)) (M.calls (disk_of self.new)) }
+        ensures done { OnOk result (M.leads (disk_of self.old)
+            (all_made (fill_calls M.seen self.old image.now)) (disk_of self.new)) }
+        ensures cut_short { IsErrOf result MetaError.Failed → AreCutShort
+            (λ made. M.leads (disk_of self.old) made (disk_of self.new))
+            (fill_calls M.seen self.old image.now) }
     {
         if self.generation == u64::MAX {
             return Err(MetaError::Full);
@@ -189,6 +219,8 @@ impl<M: MetaDisk> Meta<M> {
         requires { IsFilled M.seen M.may_leave self.old }
         ensures rests { OnOk result (IsResting M.seen M.may_leave self.new) }
         ensures found { OnOk result (found M.seen self.new ≡ filled M.seen self.old) }
+        ensures half { OnOk result (read_half self.new ≡ other_half (read_half self.old)) }
+        ensures other { OnOk result (other_open self.new ≡ true) }
         ensures generation { OnOk result (generation_of self.new ≡ generation_of self.old + 1) }
         ensures used { OnOk result (used_of self.new ≡ next_of self.old) }
         ensures size { length (M.seen (disk_of self.new)) ≡ length (M.seen (disk_of self.old)) }
@@ -203,6 +235,11 @@ impl<M: MetaDisk> Meta<M> {
             (M.calls (disk_of self.new) ≡ more_calls 2 (M.calls (disk_of self.old))) }
         ensures stopped { IsErrOf result MetaError.Failed → IsStopped 2
             (M.calls (disk_of self.old)) (M.calls (disk_of self.new)) }
+        ensures done { OnOk result (M.leads (disk_of self.old)
+            (all_made (turn_calls M.seen self.old)) (disk_of self.new)) }
+        ensures cut_short { IsErrOf result MetaError.Failed → AreCutShort
+            (λ made. M.leads (disk_of self.old) made (disk_of self.new))
+            (turn_calls M.seen self.old) }
     {
         let half = self.half.other();
         write_synced(&mut self.disk, half, 0, &[1])?;

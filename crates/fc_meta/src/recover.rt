@@ -1,8 +1,9 @@
 //! What a disk of metadata stands for, read again.
 
-ghost use Rattle.std.specs.Prelude.{◌≡◌, ◌⊎◌, ◌<◌, ◌≤◌, ◌+◌, ◌^◌, List, ℕ, length, drop, IfOk, IfErr, OnOk, OnErr, IsErrOf, is_err, true};
+ghost use Rattle.std.specs.Prelude.{◌≡◌, ◌⊎◌, ◌<◌, ◌≤◌, ◌+◌, ◌^◌, List, ℕ, [], length, drop, IfOk, IfErr, OnOk, OnErr, IsErrOf, is_err, true, false};
 ghost use Rattle.fc_base.specs.Count.{FaultsAfter, HasRisen, one_more};
 ghost use Rattle.fc_metadisk.specs.Disk.{LeavesOnly, Only};
+ghost use Rattle.fc_metadisk.specs.Calls.{Syncs, one_made};
 ghost use Rattle.fc_format.specs.Halves.{half_of, half_size, half_start, front, least_half, recovered, IsHalfRead};
 ghost use Rattle.fc_meta.specs.Standing.{Rests};
 ghost use Rattle.fc_meta.specs.States.{found, recovered_disk, IsResting, IsAnswer};
@@ -53,6 +54,10 @@ impl<M: MetaDisk> Meta<M> {
         ensures calm { IfErr result
             (λ e. (e.1 ≡ RecoverError.Failed) ⊎ (M.fault_count e.0 ≡ M.fault_count disk)) }
         ensures made { M.calls (recovered_disk result) ≡ one_more (M.calls disk) }
+        ensures done { OnOk result (M.leads disk (one_made Syncs false) (recovered_disk result)) }
+        ensures cut_short { IfErr result
+            (λ e. M.leads disk (one_made Syncs false) e.0 ⊎
+            ((e.1 ≡ RecoverError.Failed) × M.leads disk (one_made Syncs true) e.0)) }
     {
         let mut disk = disk;
         match read_disk(alloc, &mut disk) {
@@ -87,6 +92,10 @@ fn read_disk<M: MetaDisk>(alloc: Global, disk: &mut M) -> Result<Standing, Recov
     ensures calm { IfErr result
         (λ e. (e ≡ RecoverError.Failed) ⊎ (M.fault_count disk.new ≡ M.fault_count disk.old)) }
     ensures made { M.calls disk.new ≡ one_more (M.calls disk.old) }
+    ensures done { OnOk result (M.leads disk.old (one_made Syncs false) disk.new) }
+    ensures cut_short { IfErr result
+        (λ e. M.leads disk.old (one_made Syncs false) disk.new ⊎
+        ((e ≡ RecoverError.Failed) × M.leads disk.old (one_made Syncs true) disk.new)) }
 {
     disk.sync()?;
     let first = read_generation(disk, Half::First)?;
@@ -111,6 +120,7 @@ fn read_generation<M: MetaDisk>(disk: &mut M, half: Half) -> Result<Option<u64>,
     ensures crash { (c : List ℕ) → M.may_leave disk.new c → M.may_leave disk.old c }
     ensures any_moment { LeavesOnly M.moment M.left_since disk.old disk.new (M.may_leave disk.old) }
     ensures calls { M.calls disk.new ≡ M.calls disk.old }
+    ensures made { M.leads disk.old [] disk.new }
     ensures cause { FaultsAfter true (is_err result) (M.fault_count disk.old)
         (M.fault_count disk.new) }
 {
@@ -162,6 +172,7 @@ fn read_image<M: MetaDisk>(
     ensures crash { (c : List ℕ) → M.may_leave disk.new c → M.may_leave disk.old c }
     ensures any_moment { LeavesOnly M.moment M.left_since disk.old disk.new (M.may_leave disk.old) }
     ensures calls { M.calls disk.new ≡ M.calls disk.old }
+    ensures made { M.leads disk.old [] disk.new }
     ensures failed { IsErrOf result RecoverError.Failed → HasRisen (M.fault_count disk.old)
         (M.fault_count disk.new) }
     ensures kept { M.fault_count disk.old ≤ M.fault_count disk.new }

@@ -4,9 +4,11 @@ ghost use Rattle.std.specs.Prelude.{◌≡◌, ◌⊎◌, ◌<◌, ◌+◌, List
 ghost use Rattle.std.specs.List.{sum_by};
 ghost use Rattle.fc_base.specs.Count.{HasRisen};
 ghost use Rattle.fc_metadisk.specs.Disk.{LeavesOnly};
+ghost use Rattle.fc_metadisk.specs.Calls.{all_made, AreCutShort};
 ghost use Rattle.fc_meta.specs.Answers.{LeavesEither, LeavesFound, more_calls, IsStopped};
 ghost use Rattle.fc_meta.specs.States.{disk_of, found, IsResting};
 ghost use Rattle.fc_meta.specs.Order.{AtRest, IsReadyFor, IsMade, coming, HasNoRoom, TakesMemory, OfFirst, disk_calls, AreInOrder, IsAt, stage_behind, stands, LeavesFront, UnlessFailed};
+ghost use Rattle.fc_meta.specs.DiskCalls.{calls_of};
 
 use crate::error::MetaError;
 use crate::meta::Meta;
@@ -50,6 +52,11 @@ impl<M: MetaDisk> Meta<M> {
         ensures room { OnOk result (HasNoRoom M.seen call.now self.old → ⊥) }
         ensures stopped { IsErrOf result MetaError.Failed → IsStopped (disk_calls call.now)
             (M.calls (disk_of self.old)) (M.calls (disk_of self.new)) }
+        ensures done { OnOk result (M.leads (disk_of self.old)
+            (all_made (calls_of M.seen call.now self.old)) (disk_of self.new)) }
+        ensures cut_short { IsErrOf result MetaError.Failed → AreCutShort
+            (λ made. M.leads (disk_of self.old) made (disk_of self.new))
+            (calls_of M.seen call.now self.old) }
     {
         match call {
             Call::Note(records) => self.note(alloc, records.as_slice()),
@@ -93,6 +100,10 @@ impl<M: MetaDisk> Meta<M> {
             (M.fault_count (disk_of self.new) ≡ M.fault_count (disk_of self.old)) }
         ensures calls { UnlessFailed result.1 (M.calls (disk_of self.new) ≡ more_calls
             (sum_by disk_calls (take result.0 calls.now)) (M.calls (disk_of self.old))) }
+        ensures stopped { IsErrOf result.1 MetaError.Failed → OfFirst
+            (λ call. IsStopped (disk_calls call)
+            (more_calls (sum_by disk_calls (take result.0 calls.now)) (M.calls (disk_of self.old)))
+            (M.calls (disk_of self.new))) (drop result.0 calls.now) }
     {
         for (done, call) in calls.iter().enumerate() {
             match self.make(alloc, call) {

@@ -1,13 +1,15 @@
 //! Whole steps: a batch, and a fold.
 
-ghost use Rattle.std.specs.Prelude.{◌≡◌, ◌<◌, ◌≤◌, ◌+◌, ◌↔◌, ◌⊎◌, length, OnOk, OnErr, IsErrOf};
+ghost use Rattle.std.specs.Prelude.{◌≡◌, ◌<◌, ◌≤◌, ◌+◌, ◌↔◌, ◌⊎◌, length, true, OnOk, OnErr, IsErrOf};
 ghost use Rattle.fc_base.specs.Count.{HasRisen};
 ghost use Rattle.fc_metadisk.specs.Disk.{LeavesOnly};
+ghost use Rattle.fc_metadisk.specs.Calls.{all_made, AreCutShort};
 ghost use Rattle.fc_format.specs.Bytes.{batch_bytes, half_bytes};
 ghost use Rattle.fc_format.specs.Ranges.{HasGoodIds};
-ghost use Rattle.fc_format.specs.Halves.{Image};
+ghost use Rattle.fc_format.specs.Halves.{Image, other_half};
 ghost use Rattle.fc_meta.specs.Answers.{found_with, LeavesEither, PassesHalf, more_calls, IsStopped};
-ghost use Rattle.fc_meta.specs.States.{disk_of, generation_of, used_of, room_of, found, IsResting};
+ghost use Rattle.fc_meta.specs.States.{disk_of, read_half, other_open, generation_of, used_of, room_of, found, IsResting};
+ghost use Rattle.fc_meta.specs.DiskCalls.{clear_calls, put_calls, fold_calls};
 
 use crate::error::MetaError;
 use crate::meta::Meta;
@@ -24,6 +26,8 @@ impl<M: MetaDisk> Meta<M> {
         ensures rests { OnOk result (IsResting M.seen M.may_leave self.new) }
         ensures found { OnOk result
             (found M.seen self.new ≡ found_with (found M.seen self.old) records.now) }
+        ensures half { OnOk result (read_half self.new ≡ read_half self.old) }
+        ensures other { OnOk result (other_open self.new ≡ other_open self.old) }
         ensures generation { OnOk result (generation_of self.new ≡ generation_of self.old) }
         ensures used { OnOk result
             (used_of self.new ≡ used_of self.old + length (batch_bytes records.now)) }
@@ -43,6 +47,11 @@ impl<M: MetaDisk> Meta<M> {
             (M.calls (disk_of self.new) ≡ more_calls 4 (M.calls (disk_of self.old))) }
         ensures stopped { IsErrOf result MetaError.Failed → IsStopped 4
             (M.calls (disk_of self.old)) (M.calls (disk_of self.new)) }
+        ensures done { OnOk result (M.leads (disk_of self.old)
+            (all_made (put_calls M.seen self.old records.now)) (disk_of self.new)) }
+        ensures cut_short { IsErrOf result MetaError.Failed → AreCutShort
+            (λ made. M.leads (disk_of self.old) made (disk_of self.new))
+            (put_calls M.seen self.old records.now) }
     {
         self.note(alloc, records)?;
         self.sync()
@@ -57,6 +66,8 @@ impl<M: MetaDisk> Meta<M> {
         requires ids { HasGoodIds image.now }
         ensures rests { OnOk result (IsResting M.seen M.may_leave self.new) }
         ensures found { OnOk result (found M.seen self.new ≡ Image image.now) }
+        ensures half { OnOk result (read_half self.new ≡ other_half (read_half self.old)) }
+        ensures other { OnOk result (other_open self.new ≡ true) }
         ensures generation { OnOk result (generation_of self.new ≡ generation_of self.old + 1) }
         ensures used { OnOk result
             (used_of self.new ≡ length (half_bytes (generation_of self.old + 1) image.now)) }
@@ -81,6 +92,14 @@ impl<M: MetaDisk> Meta<M> {
             (M.calls (disk_of self.new) ≡ more_calls 6 (M.calls (disk_of self.old))) }
         ensures stopped { IsErrOf result MetaError.Failed → IsStopped 6
             (M.calls (disk_of self.old)) (M.calls (disk_of self.new)) }
+        ensures done { OnOk result (M.leads (disk_of self.old)
+            (all_made (fold_calls M.seen self.old image.now)) (disk_of self.new)) }
+        ensures cut_short { IsErrOf result MetaError.Failed → AreCutShort
+            (λ made. M.leads (disk_of self.old) made (disk_of self.new))
+            (fold_calls M.seen self.old image.now) }
+        ensures begun { OnErr result (IsErrOf result MetaError.Failed ⊎
+            M.leads (disk_of self.old) (all_made (clear_calls M.seen self.old))
+            (disk_of self.new)) }
     {
         self.clear_other()?;
         self.fill_other(alloc, image)?;

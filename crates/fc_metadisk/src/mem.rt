@@ -1,6 +1,6 @@
 //! A disk in memory.
 
-ghost use Rattle.std.specs.Prelude.{◌≡◌, ◌<◌, ◌≤◌, ◌+◌, ◌^◌, ◌⊎◌, List, ℕ, length, replicate, is_err, false, IfOk, OnOk, IsOk};
+ghost use Rattle.std.specs.Prelude.{◌≡◌, ◌<◌, ◌≤◌, ◌+◌, ◌^◌, ◌⊎◌, ⊤, List, ℕ, length, replicate, is_err, false, IfOk, OnOk, IsOk};
 ghost use Rattle.std.proofs.Common.{inr, refl};
 ghost use Rattle.fc_base.specs.Count.{one_more, FaultsAfter};
 ghost use Rattle.fc_metadisk.specs.Disk.{IsRange, bytes_at, bytes_put, Torn, Follows, Only, Elapses};
@@ -94,11 +94,18 @@ impl MetaDisk for MemMeta {
 
     ghost calls = { λ d. d.calls };
 
+    // It keeps no account of its calls.
+    ghost leads = { λ d made e. ⊤ };
+
     ghost reads = { λ d. refl };
 
     ghost counts_now = { λ d t c le now. now };
 
     ghost only_now = { λ d c left. left };
+
+    ghost leads_nowhere = { λ d. tt };
+
+    ghost leads_on = { λ a b c first rest one two. tt };
 
     fn size(&self) -> u32 {
         self.bytes.len() as u32

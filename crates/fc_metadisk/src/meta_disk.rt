@@ -1,15 +1,18 @@
 //! The trait of disks that metadata lives on.
 
-ghost use Rattle.std.specs.Prelude.{◌≡◌, ◌≤◌, ◌+◌, List, ℕ, length, true, is_err, OnOk};
+ghost use Rattle.std.specs.Prelude.{◌≡◌, ◌≤◌, ◌+◌, List, [], ◌++◌, ℕ, length, true, is_err, OnOk};
 ghost use Rattle.fc_base.specs.Count.{one_more, FaultsAfter};
 ghost use Rattle.fc_metadisk.specs.Disk.{IsRange, bytes_at, bytes_put, Torn, Follows, Only, Elapses};
+ghost use Rattle.fc_metadisk.specs.Calls.{Made, Writes, Syncs, one_made};
 
 use fc_base::outcome::Failed;
 
 /// A row of bytes that may fail at any call, and of which a crash leaves what was synced and, of what was written since, any
 /// bytes.
 ///
-/// Writes and syncs are counted, and so are the calls that failed; each count stands still at 2^64 - 1.
+/// Writes and syncs are counted, and so are the calls that failed; each count stands still at 2^64 - 1. A disk may keep account of
+/// which writes and syncs it was asked for, in which order, and which of them failed (`leads`): what a caller proves of its
+/// calls holds for each such account.
 pub trait MetaDisk: Drop {
     /// The bytes that a read gives.
     ghost seen: { Self → List ℕ };
@@ -29,6 +32,9 @@ pub trait MetaDisk: Drop {
     /// How many writes and syncs there were.
     ghost calls: { Self → ℕ };
 
+    /// These writes and syncs, in this order, lead from the one to the other, by the disk's own account.
+    ghost leads: { Self → List Made → Self → Type 0 };
+
     /// The number of bytes, which never changes.
     fn size(&self) -> u32
         ensures { result ≡ length (seen self.now) };
@@ -45,6 +51,7 @@ pub trait MetaDisk: Drop {
         ensures crash { (c : List ℕ) → may_leave self.new c → may_leave self.old c }
         ensures time { Elapses (moment self.old) (moment self.new) (left_since self.old) (left_since self.new) (may_leave self.new) }
         ensures calls { calls self.new ≡ calls self.old }
+        ensures made { leads self.old [] self.new }
         ensures cause { FaultsAfter true (is_err result) (fault_count self.old) (fault_count self.new) };
 
     /// Writes the bytes from `at` on. Until a sync answers Ok, a crash may leave any bytes in their range; after Failed the
@@ -56,6 +63,7 @@ pub trait MetaDisk: Drop {
         ensures crash { Follows (Torn at (length bytes.now)) (may_leave self.old) (may_leave self.new) }
         ensures time { Elapses (moment self.old) (moment self.new) (left_since self.old) (left_since self.new) (may_leave self.new) }
         ensures calls { calls self.new ≡ one_more (calls self.old) }
+        ensures made { leads self.old (one_made (Writes at bytes.now) (is_err result)) self.new }
         ensures cause { FaultsAfter true (is_err result) (fault_count self.old) (fault_count self.new) };
 
     /// After Ok a crash leaves what a read gives. Failed, a crash may leave what it might before.
@@ -65,6 +73,7 @@ pub trait MetaDisk: Drop {
         ensures crash { (c : List ℕ) → may_leave self.new c → may_leave self.old c }
         ensures time { Elapses (moment self.old) (moment self.new) (left_since self.old) (left_since self.new) (may_leave self.new) }
         ensures calls { calls self.new ≡ one_more (calls self.old) }
+        ensures made { leads self.old (one_made Syncs (is_err result)) self.new }
         ensures cause { FaultsAfter true (is_err result) (fault_count self.old) (fault_count self.new) };
 
     /// A disk as it reads is one that a crash may leave.
@@ -75,4 +84,10 @@ pub trait MetaDisk: Drop {
 
     /// Since this moment there is no other.
     ghost only_now: { (disk : Self) (c : List ℕ) → left_since disk (moment disk) c → may_leave disk c };
+
+    /// No call leads from a disk to itself.
+    ghost leads_nowhere: { (disk : Self) → leads disk [] disk };
+
+    /// Calls, and others behind them.
+    ghost leads_on: { (a b c : Self) (first rest : List Made) → leads a first b → leads b rest c → leads a (first ++ rest) c };
 }

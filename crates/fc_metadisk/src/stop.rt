@@ -1,6 +1,6 @@
 //! A disk that stops at a call.
 
-ghost use Rattle.std.specs.Prelude.{◌≡◌, ◌<◌, ◌≤◌, ◌+◌, ◌-◌, ◌^◌, ◌⊎◌, List, ℕ, length, replicate, nat_le, if◌then◌else◌, is_err, true, IfOk, OnOk, OnErr};
+ghost use Rattle.std.specs.Prelude.{◌≡◌, ◌<◌, ◌≤◌, ◌+◌, ◌-◌, ◌^◌, ◌⊎◌, ⊤, List, ℕ, length, replicate, nat_le, if◌then◌else◌, is_err, true, IfOk, OnOk, OnErr};
 ghost use Rattle.std.specs.Bool.{OnTrue, OnFalse};
 ghost use Rattle.std.proofs.Common.{inl, refl};
 ghost use Rattle.fc_base.specs.Count.{one_more, FaultsAfter};
@@ -132,11 +132,18 @@ impl MetaDisk for StopMeta {
 
     ghost calls = { λ d. d.calls };
 
+    // It keeps no account of its calls.
+    ghost leads = { λ d made e. ⊤ };
+
     ghost reads = { λ d. inl refl };
 
     ghost counts_now = { λ d t c le now. now };
 
     ghost only_now = { λ d c left. left };
+
+    ghost leads_nowhere = { λ d. tt };
+
+    ghost leads_on = { λ a b c first rest one two. tt };
 
     fn size(&self) -> u32 {
         self.bytes.len() as u32

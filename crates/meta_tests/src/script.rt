@@ -5,6 +5,7 @@ ghost use Rattle.fc_metadisk.specs.Disk.{Only};
 ghost use Rattle.fc_format.specs.Ranges.{HasGoodIds};
 ghost use Rattle.fc_meta.specs.States.{IsResting};
 
+use crate::kept::KeptMeta;
 use fc_base::ids::{GrainNo, VolId};
 use fc_base::list::List;
 use fc_base::outcome::NoMemory;
@@ -126,6 +127,17 @@ pub fn stopped_at(alloc: Global, stop: u32) -> Result<MemMeta, NoMemory>
         Err(disk) => disk,
     };
     Ok(disk.after())
+}
+
+/// Plays the script over a disk that stops at this call and keeps account of its calls, and answers that disk.
+pub fn kept_until(alloc: Global, stop: u32) -> Result<KeptMeta<StopMeta>, NoMemory>
+    requires { 0 < stop }
+{
+    let disk = KeptMeta::new(alloc, StopMeta::new(alloc, SIZE, stop)?);
+    match play(alloc, disk) {
+        Ok(meta) => Ok(meta.into_disk()),
+        Err(disk) => Ok(disk),
+    }
 }
 
 /// Recovers, and goes on with a batch, a fold and a batch. The disk comes back in either case.

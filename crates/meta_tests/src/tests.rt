@@ -1,6 +1,8 @@
-//! What is found after each stop of the script, and on damaged disks.
+//! What is found after each stop of the script, and on damaged disks; and which calls of its disk the script makes.
 
-use crate::script::{SIZE, goes_on, image, small, stopped_at};
+use crate::kept::{Asked, Kept};
+use crate::script::{SIZE, goes_on, image, kept_until, small, stopped_at};
+use crate::whole;
 use fc_base::ids::{GrainNo, VolId};
 use fc_base::list::List;
 use fc_format::half_with;
@@ -237,5 +239,166 @@ fn calls_end_with_the_first_that_is_refused(rt: HostRuntime) -> Result<(), Fail>
     let (done, answer) = meta.make_all(alloc, &calls);
     assert_eq!(rt; answer, Err(MetaError::Full));
     assert_eq!(rt; done, 2);
+    Ok(())
+}
+
+/// What the script asks its disk for. A half has 256 bytes. An image has 60, and stands behind gate, generation and length from
+/// byte 13 on, with a closed gate at 73; a batch of one failed write has 15 bytes from its length to the closed gate behind it.
+/// The gate of the second half is closed until the first fold, whose first write has no bytes.
+const ASKED: [Asked; 38] = [
+    // the first image
+    Asked::Write(1, 73),
+    Asked::Sync,
+    Asked::Write(0, 1),
+    Asked::Sync,
+    // grain 1
+    Asked::Write(74, 15),
+    Asked::Sync,
+    Asked::Write(73, 1),
+    Asked::Sync,
+    // grain 2
+    Asked::Write(89, 15),
+    Asked::Sync,
+    Asked::Write(88, 1),
+    Asked::Sync,
+    // a fold into the second half
+    Asked::Write(256, 0),
+    Asked::Sync,
+    Asked::Write(257, 73),
+    Asked::Sync,
+    Asked::Write(256, 1),
+    Asked::Sync,
+    // grain 4
+    Asked::Write(330, 15),
+    Asked::Sync,
+    Asked::Write(329, 1),
+    Asked::Sync,
+    // a fold into the first half
+    Asked::Write(0, 1),
+    Asked::Sync,
+    Asked::Write(1, 73),
+    Asked::Sync,
+    Asked::Write(0, 1),
+    Asked::Sync,
+    // a fold into the second half
+    Asked::Write(256, 1),
+    Asked::Sync,
+    Asked::Write(257, 73),
+    Asked::Sync,
+    Asked::Write(256, 1),
+    Asked::Sync,
+    // grain 7
+    Asked::Write(330, 15),
+    Asked::Sync,
+    Asked::Write(329, 1),
+    Asked::Sync,
+];
+
+#[test]
+fn the_disk_is_asked_in_order(rt: HostRuntime) -> Result<(), Fail> {
+    let alloc = rt.alloc();
+    for done in 0..39u32 {
+        // all calls before this one answer Ok
+        let disk = kept_until(alloc, done + 1).expect(&rt, "memory");
+        let account = disk.account().expect(&rt, "memory");
+        // the call that fails is the last one
+        let wanted = if done < 38 { done as usize + 1 } else { 38 };
+        assert_eq!(rt; account.len(), wanted, "behind {done} calls");
+        for (place, (kept, asked)) in account.iter().zip(ASKED.iter()).enumerate() {
+            let wanted = Kept {
+                asked: *asked,
+                failed: place == done as usize,
+            };
+            assert_eq!(rt; *kept, wanted, "behind {done} calls, call {place}");
+        }
+    }
+    Ok(())
+}
+
+/// As `DAMAGED`, of the disk that `whole` makes: an image of 183 bytes with each part once, a batch with each record.
+const EACH_DAMAGED: [(u32, u32, Option<u32>); 54] = [
+    (1, 8, None),
+    // the length of the image
+    (9, 12, Some(9)),
+    (13, 32, None),
+    // volumes: more than one, and the second has no name; id, name, grains, kind
+    (33, 36, Some(52)),
+    (37, 40, None),
+    (41, 42, Some(41)),
+    (43, 46, None),
+    (47, 47, Some(47)),
+    // mappings: more than one, and the second has no name; id, name, source, target, group, state, rates, marks, grains, mark
+    (48, 51, Some(85)),
+    (52, 55, None),
+    (56, 57, Some(56)),
+    (58, 69, None),
+    (70, 70, Some(70)),
+    (71, 72, None),
+    (73, 73, Some(73)),
+    (74, 74, Some(74)),
+    (75, 75, Some(75)),
+    (76, 79, None),
+    (80, 80, Some(80)),
+    // groups: more than one, and the second has no name; id, name
+    (81, 84, Some(95)),
+    (85, 88, None),
+    (89, 90, Some(89)),
+    // chains: more than one, and the fifth has no label; label
+    (91, 94, Some(193)),
+    (95, 102, None),
+    // slots: more than one, and the fifth word that the second holds isn't there; birth, volume, whether live, mapping, words
+    (103, 106, Some(189)),
+    (107, 118, None),
+    (119, 119, Some(119)),
+    (120, 123, None),
+    (124, 127, Some(192)),
+    (128, 135, None),
+    // rows of lost grains: more than one, and the sixth isn't there; volume, words
+    (136, 139, Some(196)),
+    (140, 143, None),
+    (144, 147, Some(196)),
+    (148, 155, None),
+    // rows of changes: more than one, and the second isn't there; mapping, source, target, changed and kept words
+    (156, 159, Some(196)),
+    (160, 171, None),
+    (172, 175, Some(192)),
+    (176, 183, None),
+    (184, 187, Some(196)),
+    (188, 195, None),
+    // the gate of the batch, its length
+    (196, 196, None),
+    (197, 200, Some(197)),
+    // a move
+    (201, 201, Some(201)),
+    (202, 217, None),
+    (218, 218, Some(218)),
+    (219, 219, Some(219)),
+    // a write
+    (220, 220, Some(220)),
+    (221, 228, None),
+    // a failed write
+    (229, 229, Some(229)),
+    (230, 237, None),
+    (238, 238, Some(238)),
+    // a write that is about to begin
+    (239, 239, Some(239)),
+    (240, 247, None),
+    // the last gate, what stands behind it, and the other half, which is closed
+    (248, 511, None),
+];
+
+#[test]
+fn each_damaged_part_is_told_by_its_field(rt: HostRuntime) -> Result<(), Fail> {
+    let alloc = rt.alloc();
+    for (first, last, wanted) in EACH_DAMAGED {
+        for at in first..=last {
+            let disk = spoiled(whole::disk(alloc).expect(&rt, "memory"), at);
+            let wanted = match wanted {
+                Some(at) => Some(RecoverError::Damaged(at)),
+                None => None,
+            };
+            assert_eq!(rt; bytes_found(alloc, disk).err(), wanted, "byte {at}");
+        }
+    }
     Ok(())
 }

@@ -1,4 +1,4 @@
-use Rattle.std.proofs.Common.{◌≡◌, ℕ, ◌≤◌, List, Option, sym, ap, ◌∙◌, subst}
+use Rattle.std.proofs.Common.{◌≡◌, ℕ, ◌≤◌, List, inl, Option, sym, ap, ◌∙◌, subst}
 use Rattle.std.proofs.lemmas.Result.{err_from_is_err_and}
 use Rattle.fc_format.specs.declared.half.Half.TheVariants.{First, Second}
 use Rattle.fc_format.specs.Halves.{half_of, half_size, least_half}
@@ -70,3 +70,37 @@ returns-in_ok-image-in-Some-clause-any_moment g c =
     joined g.M.MetaDisk.moment g.M.MetaDisk.left_since c.args.disk.now c.read_generation-2.new.disk c.read_image.new.disk P two
     (weaker g.M.MetaDisk.moment g.M.MetaDisk.left_since c.read_generation-2.new.disk c.read_image.new.disk (g.M.MetaDisk.may_leave c.read_generation-2.new.disk) P
     (λ r now. c.sync.ensures.crash r (c.read_generation.ensures.crash r (c.read_generation-2.ensures.crash r now))) c.read_image.ensures.any_moment)
+
+pub returns-in_err-first-clause-cut_short : goal.returns-in_err-first-clause-cut_short
+returns-in_err-first-clause-cut_short g c =
+    let led1 = g.met.M.MetaDisk.leads_on c.args.disk.now c.sync.new.self c.read_generation.new.disk _ _ c.in_ok-sync.ensures.made c.read_generation.ensures.made in
+    let p = err_from_is_err_and c.from_residual-in_err-first.result c.from_residual-in_err-first.ensures.1 in
+    rw (p.1, p.2) (inl led1)
+
+pub returns-in_err-second-clause-cut_short : goal.returns-in_err-second-clause-cut_short
+returns-in_err-second-clause-cut_short g c =
+    let led1 = g.met.M.MetaDisk.leads_on c.args.disk.now c.sync.new.self c.read_generation.new.disk _ _ c.in_ok-sync.ensures.made c.read_generation.ensures.made in
+    let led2 = g.met.M.MetaDisk.leads_on c.args.disk.now c.read_generation.new.disk c.read_generation-2.new.disk _ _ led1 c.read_generation-2.ensures.made in
+    let p = err_from_is_err_and c.from_residual-in_err-second.result c.from_residual-in_err-second.ensures.1 in
+    rw (p.1, p.2) (inl led2)
+
+pub returns-in_err-image-in-Some-clause-cut_short : goal.returns-in_err-image-in-Some-clause-cut_short
+returns-in_err-image-in-Some-clause-cut_short g c =
+    let led1 = g.met.M.MetaDisk.leads_on c.args.disk.now c.sync.new.self c.read_generation.new.disk _ _ c.in_ok-sync.ensures.made c.read_generation.ensures.made in
+    let led2 = g.met.M.MetaDisk.leads_on c.args.disk.now c.read_generation.new.disk c.read_generation-2.new.disk _ _ led1 c.read_generation-2.ensures.made in
+    let led3 = g.met.M.MetaDisk.leads_on c.args.disk.now c.read_generation-2.new.disk c.read_image.new.disk _ _ led2 c.read_image.ensures.made in
+    let p = err_from_is_err_and c.from_residual-in_err-image-in-Some.result c.from_residual-in_err-image-in-Some.ensures.1 in
+    rw (p.1, p.2) (inl led3)
+
+pub returns-in-None-clause-cut_short : goal.returns-in-None-clause-cut_short
+returns-in-None-clause-cut_short g c =
+    let led1 = g.met.M.MetaDisk.leads_on c.args.disk.now c.sync.new.self c.read_generation.new.disk _ _ c.in_ok-sync.ensures.made c.read_generation.ensures.made in
+    let led2 = g.met.M.MetaDisk.leads_on c.args.disk.now c.read_generation.new.disk c.read_generation-2.new.disk _ _ led1 c.read_generation-2.ensures.made in
+    inl led2
+
+pub returns-in_ok-image-in-Some-clause-done : goal.returns-in_ok-image-in-Some-clause-done
+returns-in_ok-image-in-Some-clause-done g c =
+    let led1 = g.met.M.MetaDisk.leads_on c.args.disk.now c.sync.new.self c.read_generation.new.disk _ _ c.in_ok-sync.ensures.made c.read_generation.ensures.made in
+    let led2 = g.met.M.MetaDisk.leads_on c.args.disk.now c.read_generation.new.disk c.read_generation-2.new.disk _ _ led1 c.read_generation-2.ensures.made in
+    let led3 = g.met.M.MetaDisk.leads_on c.args.disk.now c.read_generation-2.new.disk c.read_image.new.disk _ _ led2 c.read_image.ensures.made in
+    led3

@@ -1,6 +1,11 @@
 use Rattle.std.proofs.Common.{◌≡◌, ℕ, true, false, [], ◌∷◌, length, take, refl, sym, ap, ◌∙◌, arith, length-take}
 use Rattle.fc_meta.proofs.Crash.{rests_found}
 use Rattle.fc_meta.proofs.Calls.{clear_run, clear_rests, small_room}
+use Rattle.fc_metadisk.specs.Calls.{all_made, AreCutShort}
+use Rattle.fc_format.specs.declared.half.Half.{Half}
+use Rattle.fc_format.specs.Halves.{half_start}
+use Rattle.fc_meta.specs.DiskCalls.{write_and_sync}
+use Rattle.fc_meta.proofs.Places.{same_write, closed_by, behind_none}
 use Rattle.fc_meta.proofs.meta.Meta.clear_other.Goals as goal
 
 pub write_synced-requires : goal.write_synced-requires
@@ -36,3 +41,19 @@ returns-clause-found g c =
     let none : c.args.self.now.other_is_open ≡ false → c.from-count.result ≡ 0 = λ shut. rw shut at c.from-count.ensures in
     let rests = clear_rests g.M.MetaDisk.seen g.M.MetaDisk.may_leave g.M.MetaDisk.moment g.M.MetaDisk.left_since g.met.M.MetaDisk.only_now c.args.self.now c.requires c.other.result c.other.ensures c.write_synced.new.disk (take c.from-count.result (0 ∷ [])) (λ wide. ap (λ (n : ℕ). take n (0 ∷ [])) (one wide)) (λ shut. ap (λ (n : ℕ). take n (0 ∷ [])) (none shut)) c.in_ok-write_synced.ensures.bytes in
     rests_found _ _ _ _ _ (g.M.MetaDisk.seen c.write_synced.new.disk) rests ∙ sym (rests_found _ _ _ _ _ (g.M.MetaDisk.seen c.args.self.now.disk) c.requires.rests)
+
+pub returns-in_err-write_synced-clause-cut_short : goal.returns-in_err-write_synced-clause-cut_short
+returns-in_err-write_synced-clause-cut_short g c told =
+    let one : c.args.self.now.other_is_open ≡ true → c.from-count.result ≡ 1 = λ wide. rw wide at c.from-count.ensures in
+    let none : c.args.self.now.other_is_open ≡ false → c.from-count.result ≡ 0 = λ shut. rw shut at c.from-count.ensures in
+    let at = behind_none (half_start c.other.result (g.M.MetaDisk.seen c.args.self.now.disk)) ∙ ap (λ (h : Half). half_start h (g.M.MetaDisk.seen c.args.self.now.disk)) c.other.ensures in
+    same_write (λ n b. AreCutShort (λ made. g.M.MetaDisk.leads c.args.self.now.disk made c.write_synced.new.disk) (write_and_sync n b)) _ _ _ _ at (closed_by c.args.self.now.other_is_open c.from-count.result one none)
+    c.in_err-write_synced.ensures.cut_short
+
+pub returns-clause-done : goal.returns-clause-done
+returns-clause-done g c =
+    let one : c.args.self.now.other_is_open ≡ true → c.from-count.result ≡ 1 = λ wide. rw wide at c.from-count.ensures in
+    let none : c.args.self.now.other_is_open ≡ false → c.from-count.result ≡ 0 = λ shut. rw shut at c.from-count.ensures in
+    let at = behind_none (half_start c.other.result (g.M.MetaDisk.seen c.args.self.now.disk)) ∙ ap (λ (h : Half). half_start h (g.M.MetaDisk.seen c.args.self.now.disk)) c.other.ensures in
+    same_write (λ n b. g.M.MetaDisk.leads c.args.self.now.disk (all_made (write_and_sync n b)) c.write_synced.new.disk) _ _ _ _ at (closed_by c.args.self.now.other_is_open c.from-count.result one none)
+    c.in_ok-write_synced.ensures.done

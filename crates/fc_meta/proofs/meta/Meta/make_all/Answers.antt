@@ -8,6 +8,7 @@ use Rattle.fc_meta.specs.States.{found}
 use Rattle.fc_meta.specs.Answers.{more_calls}
 use Rattle.fc_meta.specs.Order.{AtRest, HasNoRoom, TakesMemory, OfFirst, disk_calls, IsAt, stage_behind, stands, LeavesFront}
 use Rattle.fc_meta.proofs.Runs.{going, stands_now, is_at, leaves_now, split, is_ready, leaves_either, moments_more, going_on, whole, counted_on, refused_holds, full_same}
+use Rattle.fc_meta.specs.Answers.{IsStopped}
 use Rattle.fc_meta.proofs.meta.Meta.make_all.Goals as goal
 
 pub loop-done-init : goal.loop-done-init
@@ -111,3 +112,10 @@ pub returns-in-Err-clause-no_memory : goal.returns-in-Err-clause-no_memory
 returns-in-Err-clause-no_memory g c is =
     subst (OfFirst TakesMemory) (sym (split g.M.MetaDisk.seen g.M.MetaDisk.may_leave g.M.MetaDisk.moment g.M.MetaDisk.left_since c.args.calls.now c.loop-done.done c.args.self.now c.loop-done.self c.loop-done.invariant.going c.index-calls-done.result c.index-calls-done.is c.loop-done-test.true))
     (c.in-Err.ensures.no_memory is)
+
+pub returns-in-Err-clause-stopped : goal.returns-in-Err-clause-stopped
+returns-in-Err-clause-stopped g c is =
+    let before = more_calls (sum_by disk_calls (take c.loop-done.done c.args.calls.now)) (g.M.MetaDisk.calls c.args.self.now.disk) in
+    subst (OfFirst (λ (call : Call). IsStopped (disk_calls call) before (g.M.MetaDisk.calls c.make.new.self.disk)))
+    (sym (split g.M.MetaDisk.seen g.M.MetaDisk.may_leave g.M.MetaDisk.moment g.M.MetaDisk.left_since c.args.calls.now c.loop-done.done c.args.self.now c.loop-done.self c.loop-done.invariant.going c.index-calls-done.result c.index-calls-done.is c.loop-done-test.true))
+    (subst (λ (n : ℕ). IsStopped (disk_calls c.index-calls-done.result) n (g.M.MetaDisk.calls c.make.new.self.disk)) c.loop-done.invariant.calls (c.in-Err.ensures.stopped is))
