@@ -27,11 +27,11 @@ pub record Free (slots : List Slot) (p : ℕ) : Type 0 where
   pub is_old : (slot_at slots p).is_live ≡ false
   pub unneeded : IsNeeded slots p → ⊥
 
-free_of : (slots : List Slot) (b : ℕ) (f : FitsDrop slots b) → Free slots f.place
+pub free_of : (slots : List Slot) (b : ℕ) (f : FitsDrop slots b) → Free slots f.place
 free_of slots b f = record { there = (birth_place_at slots b f.place f.is_there).0; is_old = f.is_old; unneeded = f.unneeded }
 
 -- who is live isn't the slot, and reads elsewhere
-not_it : (slots : List Slot) (p k : ℕ) → Free slots p → (slot_at slots k).is_live ≡ true → k ≢ p
+pub not_it : (slots : List Slot) (p k : ℕ) → Free slots p → (slot_at slots k).is_live ≡ true → k ≢ p
 not_it slots p k f l e = both_ways (slot_at slots p).is_live f.is_old (ap (λ (z : ℕ). (slot_at slots z).is_live) (sym e) ∙ l)
 
 -- a live slot and its holder, by their places without the slot
@@ -63,7 +63,7 @@ seen slots p f g k h kl l i =
       ]
     ]
 
-small_of : (s : Sheet) (b : ℕ) (f : FitsDrop s.slots b) → dropped b s ≡ without f.place s
+pub small_of : (s : Sheet) (b : ℕ) (f : FitsDrop s.slots b) → dropped b s ≡ without f.place s
 small_of s b f = ap (λ (o : Option ℕ). at_place without o s) f.is_there
 
 pub taken_back : (v g : ℕ) (s : Sheet) (b : ℕ) → FitsDrop s.slots b → FitsTaken (dropped b s).slots v g → FitsTaken s.slots v g

@@ -316,8 +316,8 @@ all_same (suc (suc g)) e = e
 -- metadata may say so much, and so little
 marked_or_not : AreMarked (rows (false ∷ true ∷ [])) (rows (true ∷ true ∷ [])) (rows (false ∷ true ∷ [])) × AreMarked (rows (true ∷ true ∷ [])) (rows (true ∷ true ∷ [])) (rows (false ∷ true ∷ []))
 marked_or_not = (
-  (record { map = refl; source = refl; target = refl; into = refl; size = refl; true_now = all_same; not_less = λ g e. e }, tt),
-  (record { map = refl; source = refl; target = refl; into = refl; size = refl; true_now = λ g e. e; not_less = all_same }, tt),
+  (record { kept_is = refl; least_is = refl; kept_size = refl; least_size = refl; true_now = all_same; not_less = λ g e. e }, tt),
+  (record { kept_is = refl; least_is = refl; kept_size = refl; least_size = refl; true_now = λ g e. e; not_less = all_same }, tt),
 )
 
 -- but no grain that the history counts as changed may be left out

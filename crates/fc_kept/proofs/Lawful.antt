@@ -18,7 +18,10 @@ use Rattle.fc_kept.proofs.Changing.{moved_first, written_first, torn_first}
 use Rattle.fc_kept.proofs.Unneeded.{taken_loses, kept_loses, lost_loses, keeps_taken, keeps_kept, keeps_lost}
 use Rattle.fc_kept.proofs.Dropping.{taken_back, lost_back, drops_sound, drops_more, drops_show, drops_taken, drops_lost, mapped_drops}
 use Rattle.fc_kept.proofs.Lanes.{parts_drop}
+use Rattle.fc_kept.proofs.Marking.{mark_law}
 use Rattle.fc_kept.proofs.OneLane.{another_in}
+use Rattle.fc_kept.proofs.SameGrain.{another_same}
+use Rattle.fc_kept.proofs.Recovering.{recovers}
 use Rattle.fc_kept.proofs.Soundly.{sheet_sound, kept_sound}
 use Rattle.fc_kept.proofs.UnderWay.{under_way}
 
@@ -76,4 +79,4 @@ drop_law =
     }
 
 pub kept_law_holds : KeptLaw
-kept_law_holds = record { images = image_law; drops = drop_law; one_grain = record { under_way = under_way; in_lane = another_in } }
+kept_law_holds = record { images = image_law; drops = drop_law; marks = mark_law; one_grain = record { under_way = under_way; in_lane = another_in; same = λ s t picture one i d. another_same picture one d i }; recovers = recovers }

@@ -8,7 +8,10 @@ pub mod Changing
 pub mod Unneeded
 pub mod Dropping
 pub mod Lanes
+pub mod Marking
 pub mod UnderWay
 pub mod OneLane
+pub mod SameGrain
+pub mod Recovering
 pub mod Lawful
 pub mod Examples

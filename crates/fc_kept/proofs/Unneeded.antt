@@ -92,7 +92,7 @@ lost_is v g t z e = ap (λ (x : Bool). cond x (with_held t (set t.held g false))
 by_held : (s t : Slot) (x : ℕ) → s ≡ t → Holds t x → Holds s x
 by_held s t x e h = ap (λ (z : Slot). get_or z.held x false) e ∙ h
 
-cleared_held : (held : List Bool) (g x : ℕ) → get_or (set held g false) x false ≡ true → get_or held x false ≡ true
+pub cleared_held : (held : List Bool) (g x : ℕ) → get_or (set held g false) x false ≡ true → get_or held x false ≡ true
 cleared_held [] g x e = e
 cleared_held (b ∷ bs) zero zero e = absurd cc
 cleared_held (b ∷ bs) zero (suc x) e = e

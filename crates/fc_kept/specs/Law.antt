@@ -1,14 +1,21 @@
 -- The laws on which recovery rests.
-use Rattle.std.specs.Prelude.{◌≡◌, ℕ, ◌<◌, true, Option, length}
+use Rattle.std.specs.Prelude.{◌≡◌, ℕ, ◌<◌, true, Option, List, length, fold}
 use Rattle.fc_base.specs.Safety.{IsFree}
 use Rattle.fc_base.specs.Sheet.{Sheet, slot_at, column}
 use Rattle.fc_base.specs.SheetFacts.{IsSound}
 use Rattle.fc_base.specs.SheetStep.{dropped}
+use Rattle.fc_base.specs.declared.decision.LaneEvent.{LaneEvent}
+use Rattle.fc_base.specs.declared.request.Request.{Request}
+use Rattle.fc_base.specs.declared.size.GrainSize.{GrainSize}
+use Rattle.fc_changed.specs.Notes.{Note}
+use Rattle.fc_changed.specs.Notes.Note.{Wrote}
+use Rattle.fc_changed.specs.Row.{Row, after_note}
 use Rattle.fc_entry.specs.Picture.{Content, Picture, changed_at}
 use Rattle.fc_image.specs.Records.{after_record}
 use Rattle.fc_image.specs.declared.image.MetaImage.{MetaImage}
 use Rattle.fc_image.specs.declared.record.MetaRecord.{MetaRecord}
-use Rattle.fc_legal.specs.Whole.{part_of_sheet, part_of_picture}
+use Rattle.fc_legal.specs.Steps.{rows_after}
+use Rattle.fc_legal.specs.Whole.{Whole, part_of_sheet, part_of_picture}
 use Rattle.fc_pictures.specs.Law.{StoredAt}
 use Rattle.fc_rules.specs.LaneTold.{LaneOf}
 use Rattle.fc_rules.specs.Shows.{Stored, Shows}
@@ -16,7 +23,11 @@ use Rattle.fc_kept.specs.Kept.{Kept, sheet_kept, kept_after}
 use Rattle.fc_kept.specs.Images.{tables_in, kept_in, meta_of}
 use Rattle.fc_kept.specs.Sound.{IsSoundKept, IsSoundImage, FitsRecord, FitsChains}
 use Rattle.fc_kept.specs.Drops.{DropsTo}
-use Rattle.fc_kept.specs.OneGrain.{Another, another, with_another, one_at}
+use Rattle.fc_kept.specs.Marks.{AreMarked, least_asked, least_events}
+use Rattle.fc_kept.specs.OneGrain.{Another, another, with_another, one_at, IsMarkedOne}
+use Rattle.fc_kept.specs.Prefix.{Prefix}
+use Rattle.fc_kept.specs.Disks.{NamedDisk}
+use Rattle.fc_kept.specs.Recoverable.{Says, ShowsAll, Recoverable}
 
 pub record ImageLaw : Type 0 where
   -- what metadata says is said by its image
@@ -42,6 +53,23 @@ pub record DropLaw : Type 0 where
   pub stays_sound : (s : Sheet) (r : MetaRecord) → IsSound s → FitsChains s r → IsSound (sheet_kept s r)
   pub stays : (s t : Sheet) (r : MetaRecord) → IsSound s → DropsTo s t → FitsChains t r → DropsTo (sheet_kept s r) (sheet_kept t r)
 
+-- Which grains count as changed.
+pub record MarkLaw : Type 0 where
+  pub itself : (rows : List Row) → AreMarked rows rows rows
+  -- what is noted of an event or an entry is noted to all three
+  pub noted : (kept now least : List Row) (notes : List Note) → AreMarked kept now least →
+      AreMarked (fold after_note kept notes) (fold after_note now notes) (fold after_note least notes)
+  -- so is what is noted of a decision's events, each on the chains as they are before it
+  pub decided : (s : Sheet) (kept now least : List Row) (events : List LaneEvent) → AreMarked kept now least →
+      AreMarked (least_events s now kept events) (rows_after s now events) (least_events s now least events)
+  -- a write that was asked for counts in the least rows; and it may be marked before it is done
+  pub asked : (l : LaneOf) (kept now least : List Row) (asked : Option Request) → AreMarked kept now least →
+      AreMarked kept now (least_asked l least asked)
+  pub begun : (kept now least : List Row) (v g : ℕ) → AreMarked kept now least →
+      AreMarked (after_note kept (Wrote v g)) now (after_note least (Wrote v g))
+  -- and once is enough
+  pub twice : (rows : List Row) (v g : ℕ) → after_note (after_note rows (Wrote v g)) (Wrote v g) ≡ after_note rows (Wrote v g)
+
 -- While one physical grain holds something else, and no metadata tells of it.
 pub record GrainLaw : Type 0 where
   -- where nobody else reads the volume's grain, the chains show what plain volumes hold, but for it
@@ -53,8 +81,20 @@ pub record GrainLaw : Type 0 where
   pub in_lane : (l : LaneOf) (s : Sheet) (picture : Picture) (one : Option Another) → l.lane < l.lanes →
       part_of_picture l (with_another one s.slots picture)
       ≡ with_another (one_at l one) (part_of_sheet l s).slots (part_of_picture l picture)
+  -- it is the same on metadata's chains and on the store's
+  pub same : (s t : Sheet) (picture : Picture) (one : Option Another) → IsSound s → DropsTo s t →
+      with_another one s.slots picture ≡ with_another one t.slots picture
+
+-- What shows on the store's chains may be recovered on metadata's.
+abbrev pub RecoverLaw : Type 0
+RecoverLaw =
+    (grain : GrainSize) (disks : List (List NamedDisk)) (k : Kept) (w now : Whole) (least least_now : List Row) (asked : Option Request) (one : Option Another) →
+    Prefix grain w least asked now least_now → Says grain disks k now least_now → ShowsAll grain disks k now one now.books.sheet →
+    IsMarkedOne one now.books.sheet.slots k.rows → Recoverable grain disks k w least asked one
 
 pub record KeptLaw : Type 0 where
   pub images : ImageLaw
   pub drops : DropLaw
+  pub marks : MarkLaw
   pub one_grain : GrainLaw
+  pub recovers : RecoverLaw

@@ -60,14 +60,13 @@ LeastStep grain w least request entry next least' = least' ≡ least_entry (sing
 
 -- ---- rows between
 
--- A row that is kept, for the row of the history and the least row: of the same mapping; and where it has both volumes the same
--- the history has, too, and it has them so where the least row does.
+-- The row that metadata has, for that of the history and the least row: of these three nothing differs but the grains at which both
+-- volumes are the same. Where metadata has a grain so, the history has; and metadata has it so where the least row does.
 pub record IsMarked (kept now least : Row) : Type 0 where
-  pub map : kept.map ≡ now.map
-  pub source : kept.source ≡ now.source
-  pub target : kept.target ≡ now.target
-  pub into : kept.into ≡ now.into
-  pub size : length kept.same ≡ length now.same
+  pub kept_is : kept ≡ record now { same = kept.same }
+  pub least_is : least ≡ record now { same = least.same }
+  pub kept_size : length kept.same ≡ length now.same
+  pub least_size : length least.same ≡ length now.same
   pub true_now : (g : ℕ) → has kept.same g ≡ true → has now.same g ≡ true
   pub not_less : (g : ℕ) → has least.same g ≡ true → has kept.same g ≡ true
 
