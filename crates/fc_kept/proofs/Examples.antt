@@ -46,13 +46,13 @@ use Rattle.fc_kept.specs.Deeds.{Deed, Deed.Data, Deed.Note, Deed.Fold, deeds_of_
 
 -- ---- parts
 
-abbrev grain_no : ℕ → GrainNo
+abbrev pub grain_no : ℕ → GrainNo
 grain_no g = record { 0 = g }
 
-abbrev slot_id : ℕ → SlotId
+abbrev pub slot_id : ℕ → SlotId
 slot_id b = record { 0 = b }
 
-abbrev tables : Tables
+abbrev pub tables : Tables
 tables =
     record {
       volumes = volume 0 (codes "A") 2 ∷ volume 1 (codes "B") 2 ∷ [];
@@ -61,13 +61,13 @@ tables =
     }
 
 -- where B holds so much
-abbrev chain_with : List Bool → Sheet
+abbrev pub chain_with : List Bool → Sheet
 chain_with held = record { births = 3; slots = slot 0 0 0 None (true ∷ true ∷ []) ∷ slot 2 0 1 (Some 0) held ∷ [] }
 
-abbrev lost_with : List Bool → List LostGrains
+abbrev pub lost_with : List Bool → List LostGrains
 lost_with b = record { volume = 0; lost = false ∷ false ∷ [] } ∷ record { volume = 1; lost = b } ∷ []
 
-abbrev kept_with : List Bool → Kept
+abbrev pub kept_with : List Bool → Kept
 kept_with held =
     record {
       tables = tables;
@@ -79,20 +79,20 @@ kept_with held =
       lost = lost_with (false ∷ false ∷ []);
     }
 
-abbrev started : Kept
+abbrev pub started : Kept
 started = kept_with (false ∷ false ∷ [])
 
-abbrev copied : Kept
+abbrev pub copied : Kept
 copied = kept_with (true ∷ false ∷ [])
 
 -- three contents
-abbrev ones : Content
+abbrev pub ones : Content
 ones = Bytes (1 ∷ [])
 
-abbrev twos : Content
+abbrev pub twos : Content
 twos = Bytes (2 ∷ [])
 
-abbrev nulls : Content
+abbrev pub nulls : Content
 nulls = Bytes (0 ∷ [])
 
 -- ---- records
@@ -159,7 +159,7 @@ read_again = refl
 -- ---- the one grain
 
 -- B's data are written, and not yet its record: its live slot lacks the grain and reads at A, so the grain is under it
-abbrev plain : ℕ → Content → Content → PlainVolume
+abbrev pub plain : ℕ → Content → Content → PlainVolume
 plain v first under = record { volume = vol v; now = first ∷ nulls ∷ []; under = under ∷ nulls ∷ [] }
 
 data_of_the_move :
@@ -227,7 +227,7 @@ one_drop = drop nobody_needs_it refl same
 
 -- ---- the steps of the write, and where a stop may leave the history
 
-abbrev whole_with : List Bool → Content → Whole
+abbrev pub whole_with : List Bool → Content → Whole
 whole_with held a =
     record {
       actors = codes "main" ∷ [];
@@ -247,22 +247,22 @@ whole_with held a =
       entries = 5;
     }
 
-abbrev part : WritePart
+abbrev pub part : WritePart
 part = record { volume = vol 0; block = 0; count = 1; byte = 34 }
 
-abbrev the_move : Move
+abbrev pub the_move : Move
 the_move = record { slot = slot_id 2; volume = vol 1; grain = grain_no 0; in_place = false }
 
-abbrev move_step : DiskStep
+abbrev pub move_step : DiskStep
 move_step = record { volume = 1; move = Some the_move; calls = 2; side = Under }
 
-abbrev own_step : DiskStep
+abbrev pub own_step : DiskStep
 own_step = record { volume = 0; move = None; calls = 2; side = Now }
 
-abbrev before : Whole
+abbrev pub before : Whole
 before = whole_with (false ∷ false ∷ []) ones
 
-its_steps : AreStepsOf K64 before (Write part) ((move_step ∷ []) ++ own_step ∷ [])
+pub its_steps : AreStepsOf K64 before (Write part) ((move_step ∷ []) ++ own_step ∷ [])
 unfolding live_place first_below last_below holder first_reader places_by_birth old_slots is_in_place asks next_behind write_asks list_with_asked list_all_with_asked write_moves taken moved after_moves
 its_steps = (refl, (refl, refl))
 
@@ -274,7 +274,7 @@ stop_before = acknowledged (Some (Write part))
 after_the_move : moved_to K64 before (move_step ∷ []) ≡ whole_with (true ∷ false ∷ []) ones
 after_the_move = refl
 
-stop_behind : Prefix K64 before [] (Some (Write part)) (whole_with (true ∷ false ∷ []) ones) []
+pub stop_behind : Prefix K64 before [] (Some (Write part)) (whole_with (true ∷ false ∷ []) ones) []
 stop_behind = moves (Write part) (move_step ∷ []) (own_step ∷ []) its_steps
 
 -- ---- marks
@@ -326,7 +326,7 @@ mark_left_out h = let e : false ≡ true = h.0.true_now zero refl in cc
 
 -- ---- disks
 
-abbrev disk_with : List (List ℕ) → DiskState
+abbrev pub disk_with : List (List ℕ) → DiskState
 disk_with grains = record (blank Flat None) { grains = grains }
 
 abbrev disks : List NamedDisk

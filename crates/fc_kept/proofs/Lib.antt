@@ -15,3 +15,4 @@ pub mod SameGrain
 pub mod Recovering
 pub mod Lawful
 pub mod Examples
+mod StopExamples
