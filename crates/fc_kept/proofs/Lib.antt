@@ -16,3 +16,4 @@ pub mod Recovering
 pub mod Lawful
 pub mod Examples
 mod StopExamples
+mod FoldExamples

@@ -1,11 +1,11 @@
 -- What is recovered after a stop, on the closed example: A was about to be written, and its grain was moved to B before.
-use Rattle.std.proofs.Common.{◌≡◌, ℕ, zero, suc, ◌<◌, Bool, true, false, Option, Some, None, List, [], ◌∷◌, length, codes, Contains, All, refl, sym, ap, subst, ◌∙◌, arith, inl, inr}
+use Rattle.std.proofs.Common.{◌≡◌, ℕ, zero, suc, ◌<◌, true, false, Some, None, List, [], ◌∷◌, length, codes, Contains, refl, sym, ap, subst, ◌∙◌, arith, inl, inr}
 use Rattle.std.specs.Prelude.{IsSome, slice_index_or}
 use Rattle.std.specs.Option.{ForSome}
 use Rattle.fc_base.specs.Column.{last_below, first_below, holder}
 use Rattle.fc_base.specs.Need.{is_complete}
-use Rattle.fc_base.specs.RestoreGraph.{Edge, Way, Way.last_edge, Way.next_edge, HasNoLoop}
-use Rattle.fc_base.specs.Sheet.{Slot, Sheet, slot_at, shape_of, column, live_place, mapping_place}
+use Rattle.fc_base.specs.RestoreGraph.{Edge, Way, Way.last_edge, Way.next_edge}
+use Rattle.fc_base.specs.Sheet.{Slot, slot_at, shape_of, column, live_place, mapping_place}
 use Rattle.fc_base.specs.SheetFacts.{IsSound}
 use Rattle.fc_base.specs.Tables.{volume_with}
 use Rattle.fc_base.specs.declared.disk.DiskKind.TheVariants.{Flat}
@@ -18,7 +18,7 @@ use Rattle.fc_books.proofs.Examples.{vol, volume, mapping}
 use Rattle.fc_books.specs.Accesses.{is_idle}
 use Rattle.fc_books.specs.Sound.{AreSound, IsOfTables, SlotByState}
 use Rattle.fc_decided.proofs.Lists.{in_cases, none_in, first_in}
-use Rattle.fc_entry.specs.Picture.{Content, Bytes, PlainVolume, Picture, content_at}
+use Rattle.fc_entry.specs.Picture.{Bytes, PlainVolume, Picture, content_at}
 use Rattle.fc_legal.specs.Whole.{Whole, lane_at, part_of_sheet, part_of_picture}
 use Rattle.fc_rules.specs.LaneTold.{LaneOf, grains_in}
 use Rattle.fc_rules.specs.Shows.{Stored, Shown, Shows}
@@ -28,7 +28,7 @@ use Rattle.fc_kept.specs.Drops.{DropsTo.same}
 use Rattle.fc_kept.specs.Disks.{NamedDisk, disk_of, stored_on, FitDisks}
 use Rattle.fc_kept.specs.OneGrain.{Another, with_another}
 use Rattle.fc_kept.specs.Recoverable.{disks_at, Says, ShowsAll, Recoverable}
-use Rattle.fc_kept.proofs.Examples.{tables, chain_with, started, copied, ones, twos, nulls, plain, whole_with, part, move_step, own_step, before, disk_with, stop_behind}
+use Rattle.fc_kept.proofs.Examples.{tables, chain_with, started, copied, ones, twos, nulls, plain, whole_with, part, before, disk_with, stop_behind}
 
 -- ---- cases
 
