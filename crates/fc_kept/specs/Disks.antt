@@ -33,8 +33,8 @@ on_disk l (Some disk) g = Bytes (grain_at disk.disk.grains g)
 abbrev pub stored_on : LaneOf → List NamedDisk → Kept → Stored
 stored_on l disks k v g = if is_lost_in k.lost v (number_at l g) then Lost else on_disk l (disk_of disks v) g
 
--- A lane's disks fit the tables: a volume's disk has its kind and its grains of the lane; and of one volume at most, which came
--- last, there may be none yet, but then a disk of its kind for a new volume.
+-- A lane's disks fit the tables: a volume's disk has its kind and its grains of the lane; and of one volume at most there may be
+-- none yet, but then a disk of its kind for a new volume. A volume's disk is the first with its id.
 pub record FitDisks (l : LaneOf) (disks : List NamedDisk) (t : Tables) : Type 0 where
   pub named : (v : Volume) (disk : NamedDisk) → Contains t.volumes v → disk_of disks v.id.0 ≡ Some disk →
       (disk.disk.kind ≡ v.kind) × (length disk.disk.grains ≡ grains_in l v.grains)

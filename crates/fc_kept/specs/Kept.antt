@@ -1,5 +1,5 @@
 -- All that metadata says, of all grains, and what a record makes of it.
-use Rattle.std.specs.Prelude.{ℕ, Bool, false, ◌==◌, if◌then◌else◌, cond, List, [], ◌∷◌, map, fold, slice_set}
+use Rattle.std.specs.Prelude.{ℕ, Bool, true, false, ◌==◌, if◌then◌else◌, cond, List, [], ◌∷◌, map, fold, slice_set}
 use Rattle.fc_base.specs.Sheet.{Sheet}
 use Rattle.fc_base.specs.SheetStep.{sheet_moved, sheet_written, sheet_torn}
 use Rattle.fc_base.specs.Tables.{Tables}
@@ -56,7 +56,7 @@ lost_put v g value row = if row.volume == v then record row { lost = slice_set r
 abbrev pub lost_kept : List LostGrains → MetaRecord → List LostGrains
 lost_kept lost (Pair slot volume grain in_place empty) = cond in_place lost (map (lost_put volume.0 grain.0 empty) lost)
 lost_kept lost (Written volume grain) = map (lost_put volume.0 grain.0 false) lost
-lost_kept lost (Torn volume grain side) = map (lost_put volume.0 grain.0 Bool.true) lost
+lost_kept lost (Torn volume grain side) = map (lost_put volume.0 grain.0 true) lost
 lost_kept lost (Changing volume grain) = lost
 
 abbrev pub kept_after : Kept → MetaRecord → Kept

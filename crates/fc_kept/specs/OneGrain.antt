@@ -8,7 +8,8 @@ use Rattle.fc_entry.specs.Picture.{Content, PlainVolume, Picture, changed_at}
 use Rattle.fc_rules.specs.LaneTold.{LaneOf, place_of}
 use Rattle.fc_rules.specs.Steps.{reads_own}
 
--- The grain, and what it holds by now: what it held, what is written, or lost where metadata has it so.
+-- The grain, and what it holds by now: what it held, what is written, any bytes after a write that failed; or lost, where metadata
+-- has it so.
 pub record Another : Type 0 where
   pub volume : ℕ
   pub grain : ℕ
