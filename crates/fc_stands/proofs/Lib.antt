@@ -17,6 +17,8 @@ pub mod PhaseAll
 pub mod Arming
 pub mod OneAdded
 pub mod Quieting
+pub mod ArmedRows
+pub mod Arms
 pub mod CommandSteps
 pub mod CommandPhases
 pub mod CommandLogs

@@ -1,4 +1,5 @@
 -- Lemmas, one subject a file.
 pub mod EffectRanges
 pub mod StoreParts
+pub mod Readying
 pub mod Planning

@@ -1,6 +1,10 @@
-use Rattle.std.proofs.Common.{sym, subst}
+use Rattle.std.proofs.Common.{ap, sym, subst}
+use Rattle.fc_base.specs.declared.request.Reply.{Reply}
 use Rattle.fc_entry.specs.declared.entry.Entry.{Entry}
+use Rattle.fc_lanes.specs.AllLanes.{EachLane}
+use Rattle.fc_stands.specs.Armed.{ArmsAs}
 use Rattle.fc_stands.specs.Leading.{LeadsOn}
+use Rattle.fc_stands.proofs.Arms.{starved_armed, then_arms}
 use Rattle.fc_stands.proofs.CommandRuns.{can_decide, can_settle, leads_unsettled, leads_whole}
 use Rattle.fc_stands.proofs.Frames.{all_go_on, all_go_on_quiet}
 use Rattle.fc_store.proofs.store.Store.command_entry.Goals as goal
@@ -26,3 +30,14 @@ returns-clause-lanes g c = all_go_on c.args.self.now.lanes c.settle_all.new.self
 pub returns-clause-quiet : goal.returns-clause-quiet
 returns-clause-quiet g c = λ unarmed.
     all_go_on_quiet c.args.self.now.lanes c.settle_all.new.self.lanes c.settled_entry.new.self.lanes c.settle_all.ensures.quiet (c.settled_entry.ensures.quiet unarmed)
+
+pub returns-clause-armed : goal.returns-clause-armed
+returns-clause-armed g c =
+    then_arms c.settled_entry.new.self.control.tables c.args.command c.settled_entry.result.reply c.args.self.now.lanes c.settle_all.new.self.lanes c.settled_entry.new.self.lanes
+    c.settle_all.ensures.lanes c.settle_all.ensures.armed c.settled_entry.ensures.armed
+
+pub returns-in-Err-clause-armed : goal.returns-in-Err-clause-armed
+returns-in-Err-clause-armed g c =
+    let Arms : Reply → Type 0 = λ r. EachLane (ArmsAs c.settle_all.new.self.control.tables c.args.command r) c.args.self.now.lanes c.settle_all.new.self.lanes in
+    subst Arms (sym (ap (λ (entry : Entry). entry.reply) c.starved_entry.ensures.entry))
+    (starved_armed c.settle_all.new.self.control.tables c.args.command c.args.self.now.lanes c.settle_all.new.self.lanes c.settle_all.ensures.armed)
