@@ -10,6 +10,8 @@ use Rattle.fc_base.specs.declared.size.GrainSize.TheVariants.{K64}
 use Rattle.fc_base.specs.declared.volume.Volume.{Volume}
 use Rattle.fc_rules.specs.LaneTold.{LaneOf}
 use Rattle.fc_stands.specs.Armed.{due_after}
+use Rattle.fc_stands.specs.Arming.{armed_in}
+use Rattle.fc_base.specs.declared.request.Request.TheVariants.{Command as Asked}
 
 -- Two volumes, `prod` with the id 0 and `log` with the id 3.
 abbrev prod : Volume
@@ -56,3 +58,18 @@ that_stayed = refl
 -- Any other command leaves them.
 pub after_seconds : due_after two lane_1 (Advance 1) Done 3 2 ≡ 2
 after_seconds = refl
+
+-- ---- in a history
+
+-- Grain 5 is one of lane 1 of 4, and of no other lane; and only an `armfault` that was done arms.
+pub armed_there : armed_in 1 4 (Asked (Armfault (Id 3) 5 7)) Done ≡ 7
+armed_there = refl
+
+pub armed_elsewhere : armed_in 2 4 (Asked (Armfault (Id 3) 5 7)) Done ≡ 0
+armed_elsewhere = refl
+
+pub armed_not : armed_in 1 4 (Asked (Armfault (Id 3) 5 7)) NoMemory ≡ 0
+armed_not = refl
+
+pub armed_by_seconds : armed_in 1 4 (Asked (Advance 1)) Done ≡ 0
+armed_by_seconds = refl

@@ -16,6 +16,7 @@ pub mod Frames
 pub mod PhaseAll
 pub mod Arming
 pub mod OneAdded
+pub mod Within
 pub mod Quieting
 pub mod ArmedRows
 pub mod Arms

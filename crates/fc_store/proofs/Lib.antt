@@ -2,4 +2,5 @@
 pub mod EffectRanges
 pub mod StoreParts
 pub mod Readying
+pub mod GivenBack
 pub mod Planning
