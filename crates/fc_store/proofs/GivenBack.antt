@@ -1,5 +1,5 @@
 -- One lane more gives its disks back.
-use Rattle.std.proofs.Common.{◌≡◌, List, [], ◌∷◌, ◌++◌, refl, sym, ◌∙◌, ap}
+use Rattle.std.proofs.Common.{List, [], ◌∷◌, ◌++◌, refl, sym, ◌∙◌, ap}
 use Rattle.std.proofs.lemmas.List.{append-nil, append_assoc}
 use Rattle.fc_grains.specs.Grains.{AreAllOf}
 use Rattle.fc_lane.specs.Lane.{LaneView}
