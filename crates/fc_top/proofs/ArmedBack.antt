@@ -1,7 +1,7 @@
 -- The armed faults of the disks that come back, lane by lane.
 use Rattle.std.proofs.Common.{◌≡◌, ℕ, suc, ◌+◌, ◌<◌, ◌≤◌, Option, IfSome, List, [], ◌∷◌, ◌++◌, length, map, reverse, slice_index_or, refl, sym, ◌∙◌, ap, subst, arith}
 use Rattle.std.specs.List.{All, AllPairs}
-use Rattle.std.proofs.lemmas.List.{get_or-map, length-map, length-reverse, reverse-append}
+use Rattle.std.proofs.lemmas.List.{get_or-map, get_or_default, length-map, length-reverse, reverse-append}
 use Rattle.std.proofs.lemmas.List.Elements.{All-append, All-cons, All-head, All-nil, All-tail}
 use Rattle.std.proofs.lemmas.Simd.{map-map}
 use Rattle.fc_base.specs.declared.disk.DiskKind.TheVariants.{Flat}
@@ -64,7 +64,7 @@ each_within : (most : ℕ) (vs : List VolumeGrains) → AllPairs (λ (x y : Volu
 each_within most vs rise is = λ k d lt.
     let v : VolumeGrains = slice_index_or vs k d in
     let P : VolumeGrains → Type 0 = λ x. IfSome x.due (λ n. n ≤ most) in
-    subst P (volume_of-at vs v.volume.0 k d rise lt refl) (is v.volume.0)
+    subst P (volume_of-at vs v.volume.0 k d rise lt (λ e. ap (λ (x : VolumeGrains). x.volume.0) (get_or_default vs k e d lt))) (is v.volume.0)
 
 -- ---- their disks
 
@@ -115,10 +115,12 @@ lanes_back : (entries : List Entry) (grain : GrainSize) (w : Whole) (first : ℕ
 lanes_back entries grain w first [] disks rising at within by_lane = by_lane
 lanes_back entries grain w first (v ∷ vs) disks rising at within by_lane =
     let P : ℕ → Type 0 = λ i. IsLaneAt grain w i v in
-    let here : IsLaneAt grain w first v = subst P (omega arith) (at 0 v (omega arith)) in
+    let start : first + 0 ≡ first = omega arith in
+    let here : IsLaneAt grain w first v = subst P start (at 0 v (omega arith)) in
     let behind : (i : ℕ) (d : LaneView) → i < length vs → IsLaneAt grain w (first + 1 + i) (slice_index_or vs i d) = λ i d lt.
     let Q : ℕ → Type 0 = λ n. IsLaneAt grain w n (slice_index_or vs i d) in
-    subst Q (omega arith) (at (suc i) d (omega (arith, lt))) in
+    let up : first + suc i ≡ first + 1 + i = omega arith in
+    subst Q up (at (suc i) d (omega (arith, lt))) in
     let of_v : LaneView → Type 0 = λ x. IsArmedWithin (most_armed x.lane x.lanes entries) x in (
       by_lane.0,
       by_lane.1,
@@ -134,5 +136,6 @@ armed_back entries s w stands disks within by_lane =
     let P : ℕ → Type 0 = λ n. AreOfLanes entries (lanes w) (length w.books.tables.volumes) 0 n disks in
     let at : (i : ℕ) (d : LaneView) → i < length s.lanes → IsLaneAt s.control.grain w (0 + i) (slice_index_or s.lanes i d) = λ i d lt.
     let Q : ℕ → Type 0 = λ n. IsLaneAt s.control.grain w n (slice_index_or s.lanes i d) in
-    subst Q (omega arith) (stands.each i d lt) in
+    let same : i ≡ 0 + i = omega arith in
+    subst Q same (stands.each i d lt) in
     subst P stands.count (lanes_back entries s.control.grain w 0 s.lanes disks stands.stands.sound.tables.volumes.rising at within by_lane)
