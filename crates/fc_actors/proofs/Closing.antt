@@ -10,7 +10,7 @@ use Rattle.fc_base.specs.declared.request.Request.TheVariants.{Command as Asked}
 use Rattle.fc_base.specs.declared.size.GrainSize.{GrainSize}
 use Rattle.fc_desk.specs.Control.{ControlState}
 use Rattle.fc_entry.specs.declared.entry.Entry.{Entry}
-use Rattle.fc_lane.specs.Lane.{LaneView, IsSameLane, KeepsQuiet}
+use Rattle.fc_lane.specs.Lane.{LaneView, IsSameLane}
 use Rattle.fc_lanes.specs.AllLanes.{EachLane}
 use Rattle.fc_legal.specs.Steps.{Step}
 use Rattle.fc_legal.specs.Whole.{Whole, lanes}
@@ -20,6 +20,7 @@ use Rattle.fc_shares.specs.Situation.{Situation, HasControl, HasLane, IsSound, L
 use Rattle.fc_shares.proofs.Lawful.{share_law_holds}
 use Rattle.fc_stands.specs.Arming.{arms}
 use Rattle.fc_stands.specs.Leading.{LeadsOn}
+use Rattle.fc_stands.specs.Quiet.{KeepsFaults}
 use Rattle.fc_stands.specs.Store.{StandsFor, StoreView}
 use Rattle.fc_store.specs.StoreParts.{lane_parts, parts_view}
 use Rattle.fc_store.specs.declared.store_part.StorePart.{StorePart}
@@ -143,7 +144,7 @@ abbrev pub Did : {D : Type 0} → List (StorePart D) → List (StorePart D) → 
 Did xs news command entry = (st : StoreView) → xs ≡ parts_view st → (new : StoreView) × (news ≡ parts_view new)
     × ((v : Whole) → StandsFor st v → v.entries < 262144 → LeadsOn st.control.grain v entry new)
     × (new.control.grain ≡ st.control.grain) × EachLane IsSameLane st.lanes new.lanes
-    × (arms (Asked command) entry.reply ≡ false → EachLane KeepsQuiet st.lanes new.lanes)
+    × (arms (Asked command) entry.reply ≡ false → EachLane KeepsFaults st.lanes new.lanes)
 
 module _ {D : Type 0} (s : ActorScript D) (openings xs : List (StorePart D)) (first limit : ℕ) (w0 w : Situation) (suits : Suits s openings limit) (told : Told openings first limit w0 w) (long : length xs ≡ length openings) (fit : FitAll openings w xs) where
   pub over_leads : (news : List (StorePart D)) (command : Command) (entry : Entry) → IsOfBlock command → entry.request ≡ Asked command → Did xs news command entry →

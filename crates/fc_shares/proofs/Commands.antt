@@ -10,7 +10,7 @@ use Rattle.fc_legal.specs.Whole.{Whole}
 use Rattle.fc_stands.specs.Store.{AreLanesOf, StandsFor, StoreView}
 use Rattle.fc_shares.specs.Law.{AllLead, HaveShares, KeepsLane, LeadOn, numbered}
 use Rattle.fc_shares.specs.Situation.{Situation, HasLane}
-use Rattle.fc_shares.proofs.Lanes.{quiet_on, same_on}
+use Rattle.fc_shares.proofs.Lanes.{faults_on, same_on}
 
 -- ---- a command
 
@@ -36,7 +36,7 @@ module _ (first s : Situation) (openings : List LaneView) (old new : StoreView) 
         within = omega (arith, inside, stands.count);
         stands = lanes_next i d inside;
         same = same_on opening then now had.same (keeps.each i d before).0;
-        quiet = quiet_on opening then now had.quiet (keeps.each i d before).1;
+        faults = faults_on opening then now had.faults (keeps.each i d before).1;
       }
 
   pub command : AllLead first s openings new entry

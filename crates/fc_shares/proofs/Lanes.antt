@@ -1,8 +1,9 @@
 -- Shares of lanes, as the lanes go on.
 use Rattle.std.proofs.Common.{ℕ, ◌≡◌, refl, ◌∙◌, sym, subst}
-use Rattle.fc_lane.specs.Lane.{LaneView, IsSameLane, KeepsQuiet, of}
+use Rattle.fc_lane.specs.Lane.{LaneView, IsSameLane, of}
 use Rattle.fc_legal.specs.Whole.{lanes, lane_at}
 use Rattle.fc_stands.proofs.Turning.{same_lane}
+use Rattle.fc_stands.specs.Quiet.{KeepsFaults}
 use Rattle.fc_shares.specs.Situation.{Situation, HasLane}
 
 -- ---- a lane since it began
@@ -19,14 +20,17 @@ same_on u v w first then = record {
   silent = then.silent ∙ first.silent;
 }
 
-pub quiet_here : (v : LaneView) → KeepsQuiet v v
-quiet_here v quiet = (quiet, refl)
+pub faults_here : (v : LaneView) → KeepsFaults v v
+faults_here v = record { quiet = λ quiet. (quiet, refl); near = λ most within. within }
 
-pub quiet_on : (u v w : LaneView) → KeepsQuiet u v → KeepsQuiet v w → KeepsQuiet u w
-quiet_on u v w first then quiet =
-    let mid = first quiet in
-    let last = then mid.0 in
-    (last.0, last.1 ∙ mid.1)
+pub faults_on : (u v w : LaneView) → KeepsFaults u v → KeepsFaults v w → KeepsFaults u w
+faults_on u v w first then = record {
+  quiet = λ quiet.
+      let mid = first.quiet quiet in
+      let last = then.quiet mid.0 in
+      (last.0, last.1 ∙ mid.1);
+  near = λ most within. then.near most (first.near most within);
+}
 
 -- ---- its share
 
@@ -49,7 +53,7 @@ roomy s i opening v plan entry share =
         stands = record { lane = record { parts = follows.lane.parts; faults = follows.lane.faults; calls = follows.lane.calls }; rows = follows.rows; alike = follows.alike };
       };
       same = record { lane = share.same.lane; lanes = share.same.lanes; grain = share.same.grain; disks = share.same.disks; silent = share.same.silent };
-      quiet = share.quiet;
+      faults = record { quiet = share.faults.quiet; near = share.faults.near };
     }
 
 pub ready : (s : Situation) (i : ℕ) (opening old new : LaneView) → HasLane s i opening old → new ≡ record old { plan_room = new.plan_room; entry_room = new.entry_room } → HasLane s i opening new

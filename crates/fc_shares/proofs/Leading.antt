@@ -5,7 +5,7 @@ use Rattle.fc_base.specs.declared.request.Request.{Request}
 use Rattle.fc_desk.specs.Control.{ControlState}
 use Rattle.fc_entry.specs.declared.entry.Entry.{Entry}
 use Rattle.fc_follow.specs.Following.{followed_entry}
-use Rattle.fc_lane.specs.Lane.{LaneView, IsFollowing, IsSameLane, KeepsQuiet}
+use Rattle.fc_lane.specs.Lane.{LaneView, IsFollowing, IsSameLane}
 use Rattle.fc_legal.specs.Steps.{after_access, one_more}
 use Rattle.fc_legal.specs.Whole.{lanes, lane_at, part_at, followed_at}
 use Rattle.fc_parts.specs.Law.{IsInVolume, IsOfLane}
@@ -13,12 +13,13 @@ use Rattle.fc_parts.proofs.Lawful.{part_law_holds}
 use Rattle.fc_parts.proofs.Marked.{right_marked}
 use Rattle.fc_rules.specs.LaneRight.{IsRightInLane}
 use Rattle.fc_stands.specs.Apart.{IsRefusalOf}
+use Rattle.fc_stands.specs.Quiet.{KeepsFaults}
 use Rattle.fc_stands.proofs.Accessing.{access_step, few_stay, lane_stands, lanes_stay, other_stands}
 use Rattle.fc_stands.proofs.OneMore.{lane_still, still_few, still_stands}
 use Rattle.fc_stands.proofs.Turning.{by_request}
 use Rattle.fc_shares.specs.Law.{ApartLeads, LaneLeads, refused_entry}
 use Rattle.fc_shares.specs.Situation.{Situation, HasControl, HasLane, IsSound}
-use Rattle.fc_shares.proofs.Lanes.{quiet_on, same_on}
+use Rattle.fc_shares.proofs.Lanes.{faults_on, same_on}
 
 -- ---- an entry of a lane
 
@@ -33,7 +34,7 @@ module _ (first s : Situation) (i : ℕ) (opening old new : LaneView) (entry : E
     (of : IsOfLane s.grain s.whole i entry.request) (inside : IsInVolume s.grain s.whole entry.request)
     (right : IsRightInLane (lane_at s.grain s.whole i) (part_at s.grain s.whole i) entry)
     (now : IsFollowing new (followed_entry (lane_at s.grain s.whole i) (followed_at s.grain s.whole i) entry))
-    (same : IsSameLane old new) (quiet : KeepsQuiet old new) (few : entry.calls ≤ 2 ^ 32) where
+    (same : IsSameLane old new) (faults : KeepsFaults old new) (few : entry.calls ≤ 2 ^ 32) where
   right_next : IsRightInLane (lane_at s.grain s.whole i) (part_at s.grain s.whole i) (next_entry s entry)
   right_next = right_marked s.whole.entries entry.actor entry (lane_at s.grain s.whole i) (part_at s.grain s.whole i) right
 
@@ -60,7 +61,7 @@ module _ (first s : Situation) (i : ℕ) (opening old new : LaneView) (entry : E
         (same.lane ∙ share.stands.lane, same.lanes ∙ share.stands.lanes_are, same.grain ∙ share.stands.grain_is)
         now;
     same = same_on opening old new share.same same;
-    quiet = quiet_on opening old new share.quiet quiet;
+    faults = faults_on opening old new share.faults faults;
   }
 
   control_next : (c : ControlState) → HasControl s c → HasControl (after_lane s i entry) c
@@ -80,7 +81,7 @@ module _ (first s : Situation) (i : ℕ) (opening old new : LaneView) (entry : E
     within = subst (λ n. j < n) (sym lanes_next) has.within;
     stands = other_stands s.grain sound.decisions s.whole i (next_entry s entry) j at sound.stands share.within of right_next has.within apart has.stands;
     same = has.same;
-    quiet = has.quiet;
+    faults = has.faults;
   }
 
   pub lane : LaneLeads first s i opening new entry
@@ -129,5 +130,5 @@ apart first s actor request refusal sound is = record {
   };
   counted = refl;
   control = λ c has. record { books = has.books; grain = has.grain };
-  each = λ j other now has. record { within = has.within; stands = lane_still s.grain s.whole j now has.stands; same = has.same; quiet = has.quiet };
+  each = λ j other now has. record { within = has.within; stands = lane_still s.grain s.whole j now has.stands; same = has.same; faults = has.faults };
 }

@@ -6,7 +6,7 @@ use Rattle.fc_legal.specs.Whole.{Whole}
 use Rattle.fc_stands.specs.Store.{AreLanesOf, StandsFor, StoreView}
 use Rattle.fc_shares.specs.Law.{HaveShares, Opens}
 use Rattle.fc_shares.specs.Situation.{Situation}
-use Rattle.fc_shares.proofs.Lanes.{same_here, quiet_here}
+use Rattle.fc_shares.proofs.Lanes.{faults_here, same_here}
 
 pub opening : (store : StoreView) (w : Whole) → StandsFor store w → Opens store w
 opening store w stands = record {
@@ -23,7 +23,7 @@ opening store w stands = record {
   control = record { books = stands.control; grain = refl };
   each = λ i d inside.
       let v : LaneView = slice_index_or store.lanes i d in
-      record { within = omega (arith, inside, stands.count); stands = stands.each i d inside; same = same_here v; quiet = quiet_here v };
+      record { within = omega (arith, inside, stands.count); stands = stands.each i d inside; same = same_here v; faults = faults_here v };
 }
 
 pub closing : (first s : Situation) (openings : List LaneView) (store : StoreView) → HaveShares first s openings store → StandsFor store s.whole

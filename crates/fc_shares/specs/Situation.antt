@@ -3,10 +3,11 @@ use Rattle.std.specs.Prelude.{◌≡◌, ℕ, ◌*◌, ◌<◌, ◌≤◌}
 use Rattle.fc_base.specs.declared.size.GrainSize.{GrainSize}
 use Rattle.fc_desk.specs.Control.{ControlState}
 use Rattle.fc_entry.specs.declared.entry.Entry.{Entry}
-use Rattle.fc_lane.specs.Lane.{LaneView, IsSameLane, KeepsQuiet}
+use Rattle.fc_lane.specs.Lane.{LaneView, IsSameLane}
 use Rattle.fc_legal.specs.Stands.{Stands}
 use Rattle.fc_legal.specs.Steps.{Step}
 use Rattle.fc_legal.specs.Whole.{Whole, lanes}
+use Rattle.fc_stands.specs.Quiet.{KeepsFaults}
 use Rattle.fc_stands.specs.Store.{AreFewCalls, IsControlOf, IsLaneAt}
 
 -- The grain size, and what the history tells.
@@ -23,12 +24,13 @@ pub record HasControl (s : Situation) (c : ControlState) : Type 0 where
   pub books : IsControlOf c s.whole.books
   pub grain : c.grain ≡ s.grain
 
--- The share of a lane, which began as `opening`: since then it has the same disks, and none fails where none could fail then.
+-- The share of a lane, which began as `opening`: since then it has the same disks, none fails where none could fail then, and no
+-- fault was armed.
 pub record HasLane (s : Situation) (i : ℕ) (opening v : LaneView) : Type 0 where
   pub within : i < lanes s.whole
   pub stands : IsLaneAt s.grain s.whole i v
   pub same : IsSameLane opening v
-  pub quiet : KeepsQuiet opening v
+  pub faults : KeepsFaults opening v
 
 -- What holds of every situation that entries lead to from the first: the grain size, the lanes, the actors' names and the volumes
 -- stay; at most two decisions were made for each entry, and the calls of lanes are few.

@@ -6,6 +6,7 @@ use Rattle.fc_base.specs.Pools.{Pool}
 use Rattle.fc_lane.specs.Lane.{LaneView, IsSameLane, KeepsQuiet}
 use Rattle.fc_lanes.specs.AllLanes.{EachLane}
 use Rattle.fc_lanes.specs.Dealing.{disks_in}
+use Rattle.fc_stands.specs.Armed.{KeepsArmed}
 
 -- ---- one lane
 
@@ -53,6 +54,12 @@ all_stay_quiet ls = each_stays KeepsQuiet quiet_stays ls
 
 pub all_go_on_quiet : (xs ys zs : List LaneView) → EachLane KeepsQuiet xs ys → EachLane KeepsQuiet ys zs → EachLane KeepsQuiet xs zs
 all_go_on_quiet xs ys zs first second = each_goes_on KeepsQuiet quiet_goes_on xs ys zs first second
+
+pub all_stay_armed : (ls : List LaneView) → EachLane KeepsArmed ls ls
+all_stay_armed ls = each_stays KeepsArmed (λ v id n due. due) ls
+
+pub all_go_on_armed : (xs ys zs : List LaneView) → EachLane KeepsArmed xs ys → EachLane KeepsArmed ys zs → EachLane KeepsArmed xs zs
+all_go_on_armed xs ys zs first second = each_goes_on KeepsArmed (λ a b c one two id n due. two id n (one id n due)) xs ys zs first second
 
 -- ---- their disks
 

@@ -16,7 +16,10 @@ pub mod Frames
 pub mod PhaseAll
 pub mod Arming
 pub mod OneAdded
+pub mod Within
 pub mod Quieting
+pub mod ArmedRows
+pub mod Arms
 pub mod CommandSteps
 pub mod CommandPhases
 pub mod CommandLogs

@@ -20,11 +20,12 @@ use Rattle.fc_legal.specs.Added.{StaysUp}
 use Rattle.fc_legal.specs.Steps.{after_settling}
 use Rattle.fc_stands.specs.Arming.{ArmNothing, arms}
 use Rattle.fc_stands.specs.Phase.{IsDone, IsReserved}
-use Rattle.fc_stands.specs.Quiet.{AreQuiet, NeverFails, QuietBy}
+use Rattle.fc_stands.specs.Quiet.{AreArmedWithin, AreQuiet, NeverFails, QuietBy}
 use Rattle.fc_stands.specs.Settling.{CanDecide, CanSettle, IsDecisionOn, IsSettling}
 use Rattle.fc_stands.specs.Store.{StoreView}
 use Rattle.fc_stands.proofs.Arming.{command_arms, settling_arms}
 use Rattle.fc_stands.proofs.Frames.{all_go_on_quiet}
+use Rattle.fc_stands.proofs.Within.{StaysWithin, entry_within, quiet_within}
 
 -- ---- lanes
 
@@ -71,25 +72,35 @@ decided_quiet old mid new command d reply can decision reserved done replied una
 
 -- An entry was logged, or memory was wanted for it.
 pub quiet_logged :
-    (result : Result (Unit {0}) Stop) (ls : List LaneView) (before after : HistoryState) (entry : Entry) →
+    (result : Result (Unit {0}) Stop) (old ls : List LaneView) (before after : HistoryState) (entry : Entry) →
     (ArmNothing before.entries → arms entry.request entry.reply ≡ false → AreQuiet ls) →
+    EachLane (StaysWithin entry.request entry.reply) old ls → AreArmedWithin before.entries old →
     OnOk result (after ≡ record before { entries = before.entries ++ entry ∷ [] }) →
     IfErr result (λ stop. stop ≡ NoMemory) →
     StaysUp result (QuietBy after.entries ls)
-quiet_logged (Ok done) ls before after entry quiet ok stop = λ none.
+quiet_logged (Ok done) old ls before after entry quiet stays armed ok stop =
     let P : Entry → Type 0 = λ e. arms e.request e.reply ≡ false in
-    let all : ArmNothing (before.entries ++ entry ∷ []) = subst ArmNothing (ap (λ (h : HistoryState). h.entries) ok) none in
-    quiet (all_but_last P before.entries entry all) (of_last P before.entries entry all)
-quiet_logged (Err LogFull) ls before after entry quiet ok stop = let never : LogFull ≡ NoMemory = stop in cc
-quiet_logged (Err NoMemory) ls before after entry quiet ok stop = tt
+    let Q : HistoryState → Type 0 = λ h. QuietBy h.entries ls in
+    subst Q (sym ok)
+    record {
+      quiet = λ none. quiet (all_but_last P before.entries entry none) (of_last P before.entries entry none);
+      armed = entry_within before.entries entry old ls stays armed;
+    }
+quiet_logged (Err LogFull) old ls before after entry quiet stays armed ok stop = let never : LogFull ≡ NoMemory = stop in cc
+quiet_logged (Err NoMemory) old ls before after entry quiet stays armed ok stop = tt
 
 -- Likewise of an entry of which the call says something.
 pub quiet_says :
-    (result : Result Bool Stop) (ls : List LaneView) (before after : HistoryState) (entry : Entry) (said : Bool) →
+    (result : Result Bool Stop) (old ls : List LaneView) (before after : HistoryState) (entry : Entry) (said : Bool) →
     (ArmNothing before.entries → arms entry.request entry.reply ≡ false → AreQuiet ls) →
+    EachLane (StaysWithin entry.request entry.reply) old ls → AreArmedWithin before.entries old →
     IfOk result (λ done. (done ≡ said) × (after ≡ record before { entries = before.entries ++ entry ∷ [] })) →
     IfErr result (λ stop. stop ≡ NoMemory) →
     StaysUp result (QuietBy after.entries ls)
-quiet_says (Ok done) ls before after entry said quiet ok stop = quiet_logged (Ok tt) ls before after entry quiet ok.1 stop
-quiet_says (Err LogFull) ls before after entry said quiet ok stop = let never : LogFull ≡ NoMemory = stop in cc
-quiet_says (Err NoMemory) ls before after entry said quiet ok stop = tt
+quiet_says (Ok done) old ls before after entry said quiet stays armed ok stop = quiet_logged (Ok tt) old ls before after entry quiet stays armed ok.1 stop
+quiet_says (Err LogFull) old ls before after entry said quiet stays armed ok stop = let never : LogFull ≡ NoMemory = stop in cc
+quiet_says (Err NoMemory) old ls before after entry said quiet stays armed ok stop = tt
+
+-- Lanes that begin quiet.
+pub quiet_begins : (ls : List LaneView) → AreQuiet ls → QuietBy [] ls
+quiet_begins ls quiet = record { quiet = λ none. quiet; armed = quiet_within ls quiet }

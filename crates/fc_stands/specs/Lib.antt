@@ -3,6 +3,7 @@ pub mod Store
 pub mod Apart
 pub mod Arming
 pub mod Quiet
+pub mod Armed
 pub mod Phase
 pub mod Settling
 pub mod Leading

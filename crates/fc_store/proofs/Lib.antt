@@ -1,4 +1,6 @@
 -- Lemmas, one subject a file.
 pub mod EffectRanges
 pub mod StoreParts
+pub mod Readying
+pub mod GivenBack
 pub mod Planning

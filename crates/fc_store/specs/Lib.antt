@@ -5,3 +5,4 @@ pub use Rattle.fc_stands.specs.Arming
 pub use Rattle.fc_stands.specs.Quiet
 pub mod Effects
 pub mod StoreParts
+pub mod GivenBack

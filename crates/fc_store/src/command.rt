@@ -9,11 +9,12 @@ ghost use Rattle.fc_lanes.specs.Dealing.{disks_in};
 ghost use Rattle.fc_legal.specs.Added.{IsTold, StaysUp, TellsSome};
 ghost use Rattle.fc_legal.specs.Whole.{Whole};
 ghost use Rattle.fc_stands.specs.Apart.{entry_apart};
+ghost use Rattle.fc_stands.specs.Armed.{ArmsAs};
 ghost use Rattle.fc_stands.specs.Arming.{arms};
 ghost use Rattle.fc_stands.specs.Leading.{LeadsOn};
 ghost use Rattle.fc_stands.specs.Logged.{Logged, whether_done};
 ghost use Rattle.fc_stands.specs.Phase.{IsDecided};
-ghost use Rattle.fc_stands.specs.Quiet.{QuietBy};
+ghost use Rattle.fc_stands.specs.Quiet.{KeepsFaults, QuietBy};
 ghost use Rattle.fc_stands.specs.Settling.{CanDecide, IsSettled};
 ghost use Rattle.fc_stands.specs.Store.{StandsFor};
 
@@ -59,7 +60,8 @@ impl<D: Mdisk> Store<D> {
 
     /// Does a command, which is no access, by an actor: all is settled, and then it is decided and done. Want of memory is its
     /// reply: then nothing is done, or all is settled alone. The entry leads on to what the store then stands for; its number is
-    /// 0 until it is kept. Each lane stays the lane that it is, and as quiet as it was unless the entry arms a fault.
+    /// 0 until it is kept. Each lane stays the lane that it is, and as quiet as it was unless the entry arms a fault: an `armfault`
+    /// that is done arms the disk of the volume that it names, in its grain's lane, with its number, and nothing else arms one.
     pub fn command_entry(&mut self, actor: u32, command: Command) -> Entry
         requires can { (w : Whole) × StandsFor self.old w × (w.entries < MAX_ENTRIES) }
         requires decided { IsDecided command }
@@ -67,7 +69,8 @@ impl<D: Mdisk> Store<D> {
         ensures asked { IsAsked 0 actor (Request.Command command) result }
         ensures grain { self.new.control.grain ≡ self.old.control.grain }
         ensures lanes { EachLane IsSameLane self.old.lanes self.new.lanes }
-        ensures quiet { arms (Request.Command command) result.reply ≡ false → EachLane KeepsQuiet self.old.lanes self.new.lanes }
+        ensures quiet { arms (Request.Command command) result.reply ≡ false → EachLane KeepsFaults self.old.lanes self.new.lanes }
+        ensures armed { EachLane (ArmsAs self.new.control.tables command result.reply) self.old.lanes self.new.lanes }
     {
         let effects = match self.settle_all() {
             Ok(effects) => effects,
@@ -89,6 +92,7 @@ impl<D: Mdisk> Store<D> {
         ensures grain { self.new.control.grain ≡ self.old.control.grain }
         ensures lanes { EachLane IsSameLane self.old.lanes self.new.lanes }
         ensures quiet { arms (Request.Command command) result.reply ≡ false → EachLane KeepsQuiet self.old.lanes self.new.lanes }
+        ensures armed { EachLane (ArmsAs self.new.control.tables command result.reply) self.old.lanes self.new.lanes }
     {
         let (reply, all) = match self.decide_all(&command, &effects) {
             Ok(decided) => decided,

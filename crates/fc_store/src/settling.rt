@@ -1,6 +1,7 @@
 //! The two phases of a command: all is settled, and then what the command asks is decided and done.
 
-ghost use Rattle.std.specs.Prelude.{◌≡◌, ◌++◌, List as Items};
+ghost use Rattle.std.specs.Prelude.{◌≡◌, ◌++◌, List as Items, IfOk, OnErr};
+ghost use Rattle.fc_stands.specs.Armed.{ArmsAs, KeepsArmed};
 ghost use Rattle.fc_stands.specs.Quiet.{AnswersUnarmed};
 ghost use Rattle.fc_base.specs.declared.request.Effect.{Effect};
 ghost use Rattle.fc_lane.specs.Lane.{IsSameLane, KeepsQuiet};
@@ -26,6 +27,7 @@ impl<D: Mdisk> Store<D> {
         ensures grain { self.new.control.grain ≡ self.old.control.grain }
         ensures lanes { EachLane IsSameLane self.old.lanes self.new.lanes }
         ensures quiet { EachLane KeepsQuiet self.old.lanes self.new.lanes }
+        ensures armed { EachLane KeepsArmed self.old.lanes self.new.lanes }
     {
         let decision = match self.plan_settling() {
             Ok(decision) => decision,
@@ -52,6 +54,8 @@ impl<D: Mdisk> Store<D> {
         ensures grain { self.new.control.grain ≡ self.old.control.grain }
         ensures lanes { EachLane IsSameLane self.old.lanes self.new.lanes }
         ensures quiet { AnswersUnarmed result command.now → EachLane KeepsQuiet self.old.lanes self.new.lanes }
+        ensures armed { IfOk result (λ answer. EachLane (ArmsAs self.new.control.tables command.now answer.0) self.old.lanes self.new.lanes) }
+        ensures starved { OnErr result (EachLane KeepsArmed self.old.lanes self.new.lanes) }
     {
         let decision = match self.plan_command(command) {
             Ok(decision) => decision,

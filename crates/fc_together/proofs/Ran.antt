@@ -17,6 +17,7 @@ use Rattle.fc_scripts.specs.Ways.{AreOfDifferent}
 use Rattle.fc_shares.specs.Law.{situation_of}
 use Rattle.fc_stands.specs.Arming.{ArmNothing, arms}
 use Rattle.fc_stands.specs.Quiet.{AreQuiet, QuietBy}
+use Rattle.fc_stands.proofs.Within.{more_within}
 use Rattle.fc_stands.specs.Store.{StandsFor, StoreView}
 use Rattle.fc_store.specs.StoreParts.{parts_view}
 use Rattle.fc_store.specs.declared.store_part.StorePart.{StorePart}
@@ -111,9 +112,15 @@ module _ {D : Type 0} where
       stays_quiet quiet = run_law_holds.quiet old new w (makings_of answers) told.0 run quiet
 
       quiet_told : (after : HistoryState) → FirstTold (makings_of answers) before after → QuietBy before.entries old.lanes → QuietBy after.entries new.lanes
-      quiet_told after t quiet none =
-          let P : HistoryState → Type 0 = λ h. ArmNothing h.entries in
-          stays_quiet (quiet (armed_by_none before.entries t.front (subst P t.new_is none)))
+      quiet_told after t quiet =
+          let P : HistoryState → Type 0 = λ h. QuietBy h.entries new.lanes in
+          let keeps = run_law_holds.lanes old new w (makings_of answers) told.0 run in
+          subst P (sym t.new_is)
+          record {
+            quiet = λ none. stays_quiet (quiet.quiet (armed_by_none before.entries t.front none));
+            armed = more_within before.entries t.front old.lanes new.lanes
+                (record { count = keeps.count; each = λ i d inside. ((keeps.each i d inside).0, (keeps.each i d inside).1.near) }) quiet.armed;
+          }
 
       pub quiet_result : (result : Result (Unit {0}) Stop) (after : HistoryState) → AnswersTold result answers before after →
           QuietBy before.entries old.lanes → StaysUp result (QuietBy after.entries new.lanes)

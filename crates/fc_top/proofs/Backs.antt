@@ -21,7 +21,9 @@ use Rattle.fc_top.specs.Call.{status_of}
 use Rattle.fc_top.specs.DisksBack.{AreBack, AreCounted, DisksAfter, first_told}
 use Rattle.fc_top.specs.StoreRuns.{HasDisks, IsUp, Start, StandsOr}
 use Rattle.fc_stands.specs.Arming.{ArmNothing}
-use Rattle.fc_stands.specs.Quiet.{AreQuiet}
+use Rattle.fc_stands.specs.Quiet.{AreQuiet, QuietBy}
+use Rattle.fc_store.specs.GivenBack.{AreByLane}
+use Rattle.fc_top.proofs.ArmedBack.{armed_back}
 use Rattle.law_together.proofs.Kept.{IsLegal-keeps}
 
 few-counted : (n m : ℕ) → n ≤ m * 2 ^ 32 → m ≤ 262144 → n + 1 < 2 ^ 64
@@ -108,9 +110,10 @@ AreBack-all :
     w.entries ≤ 262144 →
     disks_in s.lanes ≡ pool_of old →
     AreAllIn s.lanes given →
-    (ArmNothing history → silent_of old ≡ 0 → AreQuiet s.lanes) →
+    (silent_of old ≡ 0 → QuietBy history s.lanes) →
+    AreByLane s.lanes given →
     AreBack old given history w
-AreBack-all old given s history w stands entries many all quiet =
+AreBack-all old given s history w stands entries many all quiet by_lane =
     let d : LaneView = lane_in s w stands in
     let calls_are = calls_told s w d stands entries in
     let faults_are = faults_told s w d stands in
@@ -127,34 +130,37 @@ AreBack-all old given s history w stands entries many all quiet =
       counted =
           let told : sum w.faults ≡ faults_in s.lanes = ap sum (sym faults_are) ∙ sum-map faults_of_lane s.lanes in
           omega (arith, told, all.counted);
-      quiet = λ none told. let q = quiet none told in all.faults (counted-quiet s.lanes q) ∙ faults-quiet s.lanes q;
+      quiet = λ none told. let q = (quiet told).quiet none in all.faults (counted-quiet s.lanes q) ∙ faults-quiet s.lanes q;
+      armed = λ told. armed_back history s w stands given (quiet told).armed by_lane;
     }
 
 -- after a legal history of no more than the greatest number of entries
 back_of_up :
     (start : Start) (s : StoreView) (given : List DiskState) (history : HistoryState) (last : Whole) →
     AreAllIn s.lanes given →
+    AreByLane s.lanes given →
     length history.entries ≤ 262144 →
     IsLegal start.grain (first_told start.disks) history.entries last →
     IsUp start s history last →
     AreBack start.disks given history.entries last
-back_of_up start s given history last all few legal up =
+back_of_up start s given history last all by_lane few legal up =
     AreBack-all start.disks given s history.entries last up.stands
     (omega (arith, few, (IsLegal-keeps start.grain (first_told start.disks) last history.entries legal).entries)) up.disks all
-    (λ none told. up.quiet told none)
+    up.quiet by_lane
 
 -- The disks that a store gave after a session.
 pub DisksAfter-given :
     (e : Ended) (start : Start) (s : StoreView) (given : List DiskState) (history : HistoryState) (last : Whole) →
     AreAllIn s.lanes given →
+    AreByLane s.lanes given →
     length history.entries ≤ 262144 →
     IsLegal start.grain (first_told start.disks) history.entries last →
     StandsOr e (IsUp start s history last) (HasDisks start s) →
     DisksAfter (status_of e) start.disks given history.entries last
-DisksAfter-given ended.NoMemory start s given history last all few legal up = tt
-DisksAfter-given ended.Done start s given history last all few legal up = back_of_up start s given history last all few legal up
-DisksAfter-given ended.Unended start s given history last all few legal up = back_of_up start s given history last all few legal up
-DisksAfter-given ended.ReadFault start s given history last all few legal up = back_of_up start s given history last all few legal up
-DisksAfter-given ended.TooLong start s given history last all few legal up = back_of_up start s given history last all few legal up
-DisksAfter-given ended.LogFull start s given history last all few legal up = back_of_up start s given history last all few legal up
-DisksAfter-given ended.WriteFault start s given history last all few legal up = back_of_up start s given history last all few legal up
+DisksAfter-given ended.NoMemory start s given history last all by_lane few legal up = tt
+DisksAfter-given ended.Done start s given history last all by_lane few legal up = back_of_up start s given history last all by_lane few legal up
+DisksAfter-given ended.Unended start s given history last all by_lane few legal up = back_of_up start s given history last all by_lane few legal up
+DisksAfter-given ended.ReadFault start s given history last all by_lane few legal up = back_of_up start s given history last all by_lane few legal up
+DisksAfter-given ended.TooLong start s given history last all by_lane few legal up = back_of_up start s given history last all by_lane few legal up
+DisksAfter-given ended.LogFull start s given history last all by_lane few legal up = back_of_up start s given history last all by_lane few legal up
+DisksAfter-given ended.WriteFault start s given history last all by_lane few legal up = back_of_up start s given history last all by_lane few legal up

@@ -6,6 +6,7 @@ pub mod Cutting
 pub mod Names
 pub mod LineAnswers
 pub mod OwnerLemmas
+pub mod ArmedBack
 pub mod Backs
 pub mod CompleteLemmas
 pub mod PlainLemmas

@@ -29,6 +29,7 @@ use Rattle.fc_legal.specs.Whole.{Whole}
 use Rattle.fc_run.specs.Runs.{GrowsTo, LineLeaves}
 use Rattle.fc_lanes.specs.Dealing.{disks_in}
 use Rattle.fc_stands.specs.Quiet.{AreQuiet, QuietBy}
+use Rattle.fc_stands.proofs.Quieting.{quiet_begins}
 use Rattle.fc_stands.specs.Store.{StoreView, StandsFor}
 use Rattle.fc_top.proofs.Cutting.{HasMoreSegments, cut_more}
 use Rattle.fc_top.proofs.LineAnswers.{AddsSome, adds_some, history_grows, line_leaves, names_stay}
@@ -240,6 +241,6 @@ store_begins Able start reader store history able none is grain stands disks qui
     record {
       last = first_told start.disks;
       told = record { actors = refl; entries = refl };
-      stands = record { stands = stands; grain_is = grain; disks = disks; quiet = λ told none. quiet told };
+      stands = record { stands = stands; grain_is = grain; disks = disks; quiet = λ told. quiet_begins store.lanes (quiet told) };
       holds = (IsRun-nil start.grain reading (first_told start.disks), (sym none, able));
     }

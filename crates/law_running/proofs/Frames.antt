@@ -1,10 +1,11 @@
 -- What the parts of a store keep while actors hold them, and what stays where names come.
 use Rattle.std.proofs.Common.{◌≡◌, List, length, sym, ◌∙◌, arith}
 use Rattle.fc_blocks.specs.declared.block.BlockRead.{BlockRead}
-use Rattle.fc_lane.specs.Lane.{LaneView, IsSameLane, KeepsQuiet}
+use Rattle.fc_lane.specs.Lane.{LaneView, IsSameLane}
 use Rattle.fc_lanes.specs.AllLanes.{EachLane}
 use Rattle.fc_lanes.specs.Dealing.{disks_in}
 use Rattle.fc_legal.specs.Whole.{Whole, lanes, part_at}
+use Rattle.fc_shares.specs.Law.{KeepsLane}
 use Rattle.fc_stands.proofs.Frames.{same_disks}
 use Rattle.fc_stands.proofs.Quieting.{each_keeps}
 use Rattle.fc_stands.specs.Quiet.{AreQuiet}
@@ -29,7 +30,15 @@ module _ (store new : StoreView) (w : Whole) (makings : List Making) where
   pub quiet_stays : StandsFor store w → IsRun store new w makings → AreQuiet store.lanes → AreQuiet new.lanes
   quiet_stays stands run = each_keeps store.lanes new.lanes record {
     count = same_count stands run;
-    each = λ i d inside. (run.shares.each i d (omega (arith, inside, same_count stands run))).quiet;
+    each = λ i d inside. (run.shares.each i d (omega (arith, inside, same_count stands run))).faults.quiet;
+  }
+
+  pub lanes_stay : StandsFor store w → IsRun store new w makings → EachLane KeepsLane store.lanes new.lanes
+  lanes_stay stands run = record {
+    count = same_count stands run;
+    each = λ i d inside.
+        let has = run.shares.each i d (omega (arith, inside, same_count stands run)) in
+        (has.same, has.faults);
   }
 
 pub stands_named : (store : StoreView) (w : Whole) (block : BlockRead) → StandsFor store w → StandsFor store (named w block)

@@ -7,6 +7,7 @@ use Rattle.fc_entry.specs.HistoryState.{HistoryState}
 use Rattle.fc_entry.specs.declared.entry.Entry.{Entry}
 use Rattle.fc_entry.specs.declared.stop.Stop.{Stop}
 use Rattle.fc_entry.specs.declared.stop.Stop.TheVariants.{LogFull, NoMemory}
+use Rattle.fc_lanes.specs.AllLanes.{EachLane}
 use Rattle.fc_lanes.specs.Dealing.{disks_in}
 use Rattle.fc_legal.specs.Added.{Answered, IsOf}
 use Rattle.fc_legal.specs.Agenda.{Reading, session_rules, with_names}
@@ -14,7 +15,7 @@ use Rattle.fc_legal.specs.Scripts.{Script}
 use Rattle.fc_legal.specs.Whole.{Whole}
 use Rattle.fc_merge.specs.Merging.{IsMerged, all_of}
 use Rattle.fc_scripts.specs.Ways.{AreOfDifferent}
-use Rattle.fc_shares.specs.Law.{HaveShares, LeadOn, situation_of}
+use Rattle.fc_shares.specs.Law.{HaveShares, KeepsLane, LeadOn, situation_of}
 use Rattle.fc_stands.specs.Quiet.{AreQuiet}
 use Rattle.fc_stands.specs.Store.{StandsFor, StoreView}
 use Rattle.law_together.specs.Asking.{AllAsked, AllBegan, OneWants}
@@ -57,6 +58,9 @@ pub record RunLaw : Type 0 where
       IsRun store new w makings → disks_in new.lanes ≡ disks_in store.lanes
   pub quiet : (store new : StoreView) (w : Whole) (makings : List Making) → StandsFor store w →
       IsRun store new w makings → AreQuiet store.lanes → AreQuiet new.lanes
+  -- nor is a fault armed in any lane
+  pub lanes : (store new : StoreView) (w : Whole) (makings : List Making) → StandsFor store w →
+      IsRun store new w makings → EachLane KeepsLane store.lanes new.lanes
   -- who stands for what is told does so when names have come
   pub named_stands : (store : StoreView) (w : Whole) (block : BlockRead) → StandsFor store w → StandsFor store (named w block)
   -- with the faults of which `main` was told before, it answers the block

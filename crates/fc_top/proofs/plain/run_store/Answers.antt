@@ -63,6 +63,6 @@ returns-clause-ends g c = λ old outer outer' stands counted calm.
     c.run_owner-ended.ensures.limit
     (λ last legal up.
     let after : DisksAfter (status_of e) old (map g.D.Mdisk.meaning given) history.entries last =
-    DisksAfter-given e start store (map g.D.Mdisk.meaning given) history last c.give_disks.ensures.2 c.run_owner-ended.ensures.limit legal up in
+    DisksAfter-given e start store (map g.D.Mdisk.meaning given) history last c.give_disks.ensures.2 c.give_disks.ensures.3 c.run_owner-ended.ensures.limit legal up in
     subst (λ s. DisksAfter s old (map g.D.Mdisk.meaning c.give_disks.new.into.items) history.entries last) (sym c.of.ensures)
     (subst (λ (ds : List DiskState). DisksAfter (status_of e) old ds history.entries last) (ap (map g.D.Mdisk.meaning) (sym back)) after))

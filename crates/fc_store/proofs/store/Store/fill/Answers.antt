@@ -10,7 +10,8 @@ use Rattle.fc_legal.specs.Seconds.{fill_of}
 use Rattle.std.proofs.Common.{Bool}
 use Rattle.fc_stands.proofs.Parting.{inside}
 use Rattle.fc_stands.proofs.Quieting.{keeps_roomy, one_keeps, quiet_says}
-use Rattle.fc_stands.specs.Quiet.{AreQuiet}
+use Rattle.fc_stands.proofs.Within.{calls_near, one_stays_within, roomy_near, roomy_same}
+use Rattle.fc_stands.specs.Quiet.{AreArmedWithin, AreQuiet}
 use Rattle.fc_store.proofs.store.Store.fill.Goals as goal
 
 pub returns-then-is_full-clause-filled : goal.returns-then-is_full-clause-filled
@@ -67,9 +68,16 @@ returns-clause-quiet g c = λ quiet.
     (ap (λ n. c.args.grain.0 % n) (many ∙ ap (λ (s : StoreView). length s.lanes) (sym same)))
     (c.index_mut-lane.ensures.value ∙ ap (λ (s : StoreView). slice_index_or s.lanes (c.args.grain.0 % c.len.result) c.index_mut-lane.result.now) (sym same))
     c.in-Ok.ensures.same) in
-    quiet_says c.log_fill.result (slice_set c.self.inside.lanes.items (c.args.grain.0 % c.len.result) c.fill_lane-entry.new.lane) c.args.history.now c.log_fill.new.history c.fill_lane-entry.result _
+    quiet_says c.log_fill.result c.self.inside.lanes.items (slice_set c.self.inside.lanes.items (c.args.grain.0 % c.len.result) c.fill_lane-entry.new.lane) c.args.history.now c.log_fill.new.history
+    c.fill_lane-entry.result _
     (λ none unarmed.
     one_keeps c.self.inside.lanes.items (c.args.grain.0 % c.len.result) c.index_mut-lane.result.now c.fill_lane-entry.new.lane there c.index_mut-lane.ensures.value
     (keeps_roomy c.index_mut-lane.result.now c.make_room.new.self c.fill_lane-entry.new.lane (ap (λ (v : LaneView). v.grains) c.in-Ok.ensures.same) c.fill_lane-entry.ensures.quiet)
-    (subst (λ (s : StoreView). AreQuiet s.lanes) same (quiet none)))
+    (subst (λ (s : StoreView). AreQuiet s.lanes) same (quiet.quiet none)))
+    (one_stays_within c.fill_lane-entry.result.request c.fill_lane-entry.result.reply c.self.inside.lanes.items (c.args.grain.0 % c.len.result) c.index_mut-lane.result.now c.fill_lane-entry.new.lane there
+    c.index_mut-lane.ensures.value
+    (roomy_same c.index_mut-lane.result.now c.make_room.new.self c.fill_lane-entry.new.lane c.make_room.new.self.plan_room c.make_room.new.self.entry_room c.in-Ok.ensures.same c.fill_lane-entry.ensures.same)
+    (roomy_near c.index_mut-lane.result.now c.make_room.new.self c.fill_lane-entry.new.lane (ap (λ (v : LaneView). v.grains) c.in-Ok.ensures.same)
+    (calls_near c.fill_lane-entry.result.calls c.make_room.new.self c.fill_lane-entry.new.lane c.fill_lane-entry.ensures.disks.nearer)))
+    (subst (λ (s : StoreView). AreArmedWithin c.args.history.now.entries s.lanes) same quiet.armed)
     c.log_fill.ensures.ok c.log_fill.ensures.stop

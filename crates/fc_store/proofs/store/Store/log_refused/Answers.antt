@@ -9,6 +9,7 @@ use Rattle.fc_stands.specs.Store.{StandsFor}
 use Rattle.fc_stands.proofs.Turns.{IsTurn, history_full, led_turn, turn_logged}
 use Rattle.fc_stands.proofs.Turning.{refused_leads}
 use Rattle.fc_stands.proofs.Quieting.{quiet_logged}
+use Rattle.fc_stands.proofs.Within.{all_stay_within}
 use Rattle.fc_store.proofs.store.Store.log_refused.Goals as goal
 
 pub returns-then-is_full-clause-answered : goal.returns-then-is_full-clause-answered
@@ -27,4 +28,5 @@ returns-clause-answered g c = λ w told.
 
 pub returns-clause-quiet : goal.returns-clause-quiet
 returns-clause-quiet g c = λ quiet.
-    quiet_logged c.log.result c.args.self.now.lanes c.args.history.now c.log.new.history (record c.refused_entry-entry.result { number = c.len.result }) (λ none unarmed. quiet none) c.log.ensures.ok c.log.ensures.stop
+    quiet_logged c.log.result c.args.self.now.lanes c.args.self.now.lanes c.args.history.now c.log.new.history (record c.refused_entry-entry.result { number = c.len.result }) (λ none unarmed. quiet.quiet none)
+    (all_stay_within c.refused_entry-entry.result.request c.refused_entry-entry.result.reply c.args.self.now.lanes) quiet.armed c.log.ensures.ok c.log.ensures.stop

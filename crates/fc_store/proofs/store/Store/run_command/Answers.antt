@@ -45,5 +45,5 @@ returns-clause-disks g c = same_disks c.args.self.now.lanes c.command_entry-entr
 pub returns-clause-quiet : goal.returns-clause-quiet
 returns-clause-quiet g c = λ quiet.
     log_quiet c.log_done.result c.args.self.now c.command_entry-entry.new.self c.args.command c.args.history.now c.log_done.new.history c.command_entry-entry.result
-    c.command_entry-entry.ensures.quiet c.command_entry-entry.ensures.asked
+    c.command_entry-entry.ensures.quiet c.command_entry-entry.ensures.asked c.command_entry-entry.new.self.control.tables c.command_entry-entry.ensures.lanes c.command_entry-entry.ensures.armed
     (numbered c.log_done.result c.args.history.now c.log_done.new.history c.command_entry-entry.result _ c.len.ensures c.log_done.ensures.ok) c.log_done.ensures.stop quiet

@@ -12,7 +12,8 @@ use Rattle.fc_stands.proofs.Ranging.{disks_stay, is_part_of}
 use Rattle.fc_stands.proofs.Parting.{can_access, inside, turn}
 use Rattle.fc_stands.proofs.Turning.{is_in_grain}
 use Rattle.fc_stands.proofs.Quieting.{keeps_roomy, one_keeps, quiet_logged}
-use Rattle.fc_stands.specs.Quiet.{AreQuiet}
+use Rattle.fc_stands.proofs.Within.{calls_near, one_stays_within, roomy_near, roomy_same}
+use Rattle.fc_stands.specs.Quiet.{AreArmedWithin, AreQuiet}
 use Rattle.fc_store.proofs.store.Store.run_part.Goals as goal
 
 pub returns-then-is_full-clause-answered : goal.returns-then-is_full-clause-answered
@@ -98,9 +99,16 @@ returns-clause-quiet g c = λ quiet.
     (ap (λ n. c.args.grain % n) (many ∙ ap (λ (s : StoreView). length s.lanes) (sym same)))
     (c.index_mut-lane.ensures.value ∙ ap (λ (s : StoreView). slice_index_or s.lanes (c.args.grain % c.len.result) c.index_mut-lane.result.now) (sym same))
     c.in-Ok.ensures.same) in
-    quiet_logged c.log.result (slice_set c.self.inside.lanes.items (c.args.grain % c.len.result) c.access_lane-entry.new.lane) c.args.history.now c.log.new.history c.access_lane-entry.result
+    quiet_logged c.log.result c.self.inside.lanes.items (slice_set c.self.inside.lanes.items (c.args.grain % c.len.result) c.access_lane-entry.new.lane) c.args.history.now c.log.new.history
+    c.access_lane-entry.result
     (λ none unarmed.
     one_keeps c.self.inside.lanes.items (c.args.grain % c.len.result) c.index_mut-lane.result.now c.access_lane-entry.new.lane there c.index_mut-lane.ensures.value
     (keeps_roomy c.index_mut-lane.result.now c.make_room.new.self c.access_lane-entry.new.lane (ap (λ (v : LaneView). v.grains) c.in-Ok.ensures.same) c.access_lane-entry.ensures.quiet)
-    (subst (λ (s : StoreView). AreQuiet s.lanes) same (quiet none)))
+    (subst (λ (s : StoreView). AreQuiet s.lanes) same (quiet.quiet none)))
+    (one_stays_within c.access_lane-entry.result.request c.access_lane-entry.result.reply c.self.inside.lanes.items (c.args.grain % c.len.result) c.index_mut-lane.result.now c.access_lane-entry.new.lane there
+    c.index_mut-lane.ensures.value
+    (roomy_same c.index_mut-lane.result.now c.make_room.new.self c.access_lane-entry.new.lane c.make_room.new.self.plan_room c.make_room.new.self.entry_room c.in-Ok.ensures.same c.access_lane-entry.ensures.same)
+    (roomy_near c.index_mut-lane.result.now c.make_room.new.self c.access_lane-entry.new.lane (ap (λ (v : LaneView). v.grains) c.in-Ok.ensures.same)
+    (calls_near c.access_lane-entry.result.calls c.make_room.new.self c.access_lane-entry.new.lane c.access_lane-entry.ensures.disks.nearer)))
+    (subst (λ (s : StoreView). AreArmedWithin c.args.history.now.entries s.lanes) same quiet.armed)
     c.log.ensures.ok c.log.ensures.stop

@@ -1,5 +1,6 @@
 use Rattle.fc_stands.proofs.CommandPhases.{settling_can, settling_done}
-use Rattle.fc_stands.proofs.Frames.{all_go_on, all_stay, all_stay_quiet}
+use Rattle.fc_stands.proofs.Arms.{settled_armed}
+use Rattle.fc_stands.proofs.Frames.{all_go_on, all_stay, all_stay_armed, all_stay_quiet}
 use Rattle.fc_stands.proofs.Quieting.{settled_quiet}
 use Rattle.fc_store.proofs.store.Store.settle_all.Goals as goal
 
@@ -24,3 +25,10 @@ returns-in-Err-clause-lanes g c = all_stay c.args.self.now.lanes
 
 pub returns-in-Err-clause-quiet : goal.returns-in-Err-clause-quiet
 returns-in-Err-clause-quiet g c = all_stay_quiet c.args.self.now.lanes
+
+pub returns-clause-armed : goal.returns-clause-armed
+returns-clause-armed g c =
+    settled_armed c.args.self.now c.reserve_all.new.self c.apply_all.new.self c.in-Ok.decision c.requires.stands c.in-Ok.ensures c.reserve_all.ensures.reserved c.apply_all.ensures.done
+
+pub returns-in-Err-clause-armed : goal.returns-in-Err-clause-armed
+returns-in-Err-clause-armed g c = all_stay_armed c.args.self.now.lanes
