@@ -22,6 +22,7 @@ use Rattle.fc_kept.proofs.Marking.{mark_law}
 use Rattle.fc_kept.proofs.OneLane.{another_in}
 use Rattle.fc_kept.proofs.SameGrain.{another_same}
 use Rattle.fc_kept.proofs.Recovering.{recovers}
+use Rattle.fc_kept.proofs.Tidy.{image_sound, image_stays}
 use Rattle.fc_kept.proofs.Soundly.{sheet_sound, kept_sound}
 use Rattle.fc_kept.proofs.UnderWay.{under_way}
 
@@ -63,7 +64,7 @@ stays s t (Changing volume grain) sound d f = d
 -- ---- all
 
 image_law : ImageLaw
-image_law = record { said = said; recorded = recorded; sound = kept_sound }
+image_law = record { said = said; recorded = recorded; image_sound = image_sound; image_stays = image_stays; sound = kept_sound }
 
 drop_law : DropLaw
 drop_law =

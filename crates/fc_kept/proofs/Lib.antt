@@ -4,6 +4,7 @@ pub mod Sizes
 pub mod Said
 pub mod Recorded
 pub mod Soundly
+pub mod Tidy
 pub mod Changing
 pub mod Unneeded
 pub mod Dropping

@@ -126,7 +126,7 @@ slots_kept s (Changing volume grain) = λ i. record s { slots = sym (map-id s.sl
 vol_at : (a b : VolId) → a.0 ≡ b.0 → a ≡ b
 vol_at a b e = ap (λ (z : ℕ). let w : VolId = record { 0 = z } in w) e
 
-within : (t : Tables) (v w : VolId) (g : ℕ) → g < size_in t w → w.0 ≡ v.0 → g < size_in t v
+pub within : (t : Tables) (v w : VolId) (g : ℕ) → g < size_in t w → w.0 ≡ v.0 → g < size_in t v
 within t v w g lt e = let q : size_in t w ≡ size_in t v = ap (size_in t) (vol_at w v e) in omega arith
 
 slot_recorded : (t : Tables) (label : ℕ) (slot : MetaSlot) (r : MetaRecord) → IsTidy (size_in t slot.volume) slot.held → FitsRecord t r →

@@ -121,6 +121,7 @@ kept_sound k r s f =
       rows = rows_sound k.tables k.rows r s.rows;
       into = rows_into k.rows r s.into;
       lost = lost_sounds k.tables k.lost r s.lost;
+      grains = s.grains;
       births = let b = s.births in omega (arith, e, b);
       volume_ids = s.volume_ids;
       mapping_ids = s.mapping_ids;

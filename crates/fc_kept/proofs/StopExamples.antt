@@ -1,5 +1,5 @@
 -- What is recovered after a stop, on the closed example: A was about to be written, and its grain was moved to B before.
-use Rattle.std.proofs.Common.{◌≡◌, ℕ, zero, suc, ◌<◌, true, false, Some, None, List, [], ◌∷◌, length, codes, Contains, refl, sym, ap, subst, ◌∙◌, arith, inl, inr}
+use Rattle.std.proofs.Common.{◌^◌, ◌≡◌, ℕ, zero, suc, ◌<◌, true, false, Some, None, List, [], ◌∷◌, length, codes, Contains, refl, sym, ap, subst, ◌∙◌, arith, inl, inr}
 use Rattle.std.specs.Prelude.{IsSome, slice_index_or}
 use Rattle.std.specs.Option.{ForSome}
 use Rattle.fc_base.specs.Column.{last_below, first_below, holder}
@@ -175,6 +175,7 @@ copied_sound =
         volumes = refl;
         sizes = λ k d. below_two (λ k. length (slice_index_or copied.lost k d).lost ≡ size_in tables record { 0 = (slice_index_or copied.lost k d).volume }) refl refl k;
       };
+      grains = λ k d. below_two (λ k. (slice_index_or tables.volumes k d).grains < 2 ^ 32) (omega arith) (omega arith) k;
       births = omega arith;
       volume_ids = omega arith;
       mapping_ids = omega arith;

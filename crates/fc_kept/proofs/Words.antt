@@ -11,10 +11,10 @@ use Rattle.fc_kept.specs.Images.{words_from, words_of}
 
 -- ---- a bit put
 
-with_is : (words : List ℕ) (g : ℕ) → with_bit words g ≡ with_grain words g
+pub with_is : (words : List ℕ) (g : ℕ) → with_bit words g ≡ with_grain words g
 with_is words g = ap (λ (x : ℕ). set words (g / 64) (bit_or (get_or words (g / 64) 0) x)) (sym (one_shl (g % 64) 64 (omega arith)))
 
-without_is : (words : List ℕ) (g : ℕ) → without_bit words g ≡ without_grain words g
+pub without_is : (words : List ℕ) (g : ℕ) → without_bit words g ≡ without_grain words g
 without_is words g = ap (λ (x : ℕ). set words (g / 64) (bit_and (get_or words (g / 64) 0) (2 ^ 64 - 1 - x))) (sym (one_shl (g % 64) 64 (omega arith)))
 
 pub put_grains : (n : ℕ) (words : List ℕ) (g : ℕ) (b : Bool) → length words ≡ words_for n → g < n → grains_of n (bit_put words g b) ≡ set (grains_of n words) g b

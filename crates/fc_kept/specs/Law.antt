@@ -35,7 +35,10 @@ pub record ImageLaw : Type 0 where
   -- a record does to the image what it does to all that it says
   pub recorded : (image : MetaImage) (r : MetaRecord) → IsSoundImage image → FitsRecord (tables_in image) r →
       kept_in (after_record image r) ≡ kept_after (kept_in image) r
-  -- which stays sound, where the record fits the chains
+  -- all of it stays sound, where the record fits the chains
+  pub image_sound : (k : Kept) → IsSoundKept k → IsSoundImage (meta_of k)
+  pub image_stays : (image : MetaImage) (r : MetaRecord) → IsSoundImage image → FitsRecord (tables_in image) r →
+      FitsChains (kept_in image).sheet r → IsSoundImage (after_record image r)
   pub sound : (k : Kept) (r : MetaRecord) → IsSoundKept k → FitsChains k.sheet r → IsSoundKept (kept_after k r)
 
 -- From the sheet of metadata to that of the store, which has dropped old slots that nobody needs.

@@ -45,12 +45,14 @@ pub record AreLost (t : Tables) (lost : List LostGrains) : Type 0 where
   pub volumes : map (λ (row : LostGrains). row.volume) lost ≡ map (λ (v : Volume). v.id.0) t.volumes
   pub sizes : All (λ (row : LostGrains). length row.lost ≡ size_in t record { 0 = row.volume }) lost
 
--- The books are sound, the rows and the lost grains are of their tables, and there are ids and births left to give.
+-- The books are sound, the rows and the lost grains are of their tables, a u32 counts a volume's grains, and there are ids and births
+-- left to give.
 pub record IsSoundKept (k : Kept) : Type 0 where
   pub books : AreSound (books_of k)
   pub rows : AreRows k.tables k.rows
   pub into : All IsInto k.rows
   pub lost : AreLost k.tables k.lost
+  pub grains : All (λ (v : Volume). v.grains < 2 ^ 32) k.tables.volumes
   pub births : k.sheet.births < 2 ^ 63
   pub volume_ids : k.next_volume < 2 ^ 32 - 1
   pub mapping_ids : k.next_mapping < 2 ^ 32 - 1
