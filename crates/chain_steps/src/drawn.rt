@@ -1,6 +1,6 @@
 //! Drawn events and grains.
 
-ghost use Rattle.std.specs.Prelude.{◌≡◌, ◌<◌, ◌%◌};
+ghost use Rattle.std.specs.Prelude.{◌≡◌, ◌%◌};
 
 use crate::draws::Draws;
 use crate::events::Lane;
@@ -121,9 +121,8 @@ pub fn draw_event(
 
 /// A number of a grain of the lane.
 pub fn draw_number(draws: &mut Draws, lane: Lane) -> u32
-    requires { lane.lane < lane.lanes }
     ensures { result % lane.lanes ≡ lane.lane }
 {
     let drawn = draws.below(GRAINS);
-    drawn - drawn % lane.lanes as u32 + lane.lane as u32
+    drawn - drawn % u32::from(lane.lanes) + u32::from(lane.lane)
 }

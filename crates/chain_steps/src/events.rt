@@ -1,6 +1,7 @@
-//! Events and torn writes, done in the chains of a lane and in the plain sheet of the same slots.
+//! The chains of a lane and the plain sheet of the same slots, side by side: events and torn writes, done in both.
 
-ghost use Rattle.std.specs.Prelude.{◌≡◌, ◌<◌, ◌%◌, OnOk};
+ghost use Rattle.std.specs.Prelude.{◌≡◌, ◌<◌, ◌/◌, ◌%◌, ◌↔◌, IsTrue};
+ghost use Rattle.fc_base.specs.SheetFits.{FitsLost};
 
 use crate::fits::fits;
 use crate::taken::{fits_lost, fits_taken};
@@ -13,74 +14,104 @@ use fc_chain::Cascade;
 use fc_model::PlainSheet;
 use std::alloc::Global;
 
-/// The lane: its number, and how many there are.
+/// A lane: its number, and how many there are.
 #[derive(Clone, Copy)]
 pub struct Lane {
     /// Its number.
     pub lane: u8,
     /// How many there are.
     pub lanes: u8,
+    ghost within: { lane < lanes },
 }
 
-/// Does an event in both, where it fits, and answers whether it did. After `NoMemory` the two may differ.
-pub fn do_event(
-    alloc: Global,
-    chains: &mut Cascade,
-    plain: &mut PlainSheet,
-    lane: Lane,
-    event: LaneEvent,
-) -> Result<bool, NoMemory>
-    requires here { chains.old.lane ≡ lane.lane }
-    requires of { chains.old.lanes ≡ lane.lanes }
-    requires within { lane.lane < lane.lanes }
-    requires same { chains.old.sheet ≡ plain.old }
-    ensures here { chains.new.lane ≡ lane.lane }
-    ensures of { chains.new.lanes ≡ lane.lanes }
-    ensures same { OnOk result (chains.new.sheet ≡ plain.new) }
-{
-    if !fits(alloc, plain, &event)? {
-        return Ok(false);
+impl Lane {
+    /// Where a grain stands among those of its lane, by its number in the volume.
+    pub fn place(self, number: u32) -> usize
+        ensures { result ≡ number / self.lanes }
+    {
+        (number / u32::from(self.lanes)) as usize
     }
-    let mut next = plain.copy(alloc)?;
-    next.step(alloc, &event, lane.lane, lane.lanes)?;
-    let _births = next.births();
-    let mut events = List::new(alloc);
-    events.push(event)?;
-    chains.reserve(&events)?;
-    chains.apply_event(&events.as_slice()[0]);
-    *plain = next;
-    Ok(true)
+
+    /// Whether the lane has the grain with this number in a volume.
+    pub fn has(self, number: u32) -> bool
+        ensures { IsTrue result ↔ (number % self.lanes ≡ self.lane) }
+    {
+        number % u32::from(self.lanes) == u32::from(self.lane)
+    }
 }
 
-/// Tears a grain of a volume of the lane in both, where nobody else needs it, and answers whether it did. Where the volume's own
-/// slot reads an old slot of the volume, the write tears what the volume shows, whatever the side.
-pub fn do_torn(
-    chains: &mut Cascade,
-    plain: &mut PlainSheet,
-    lane: Lane,
-    volume: VolId,
-    number: u32,
-    side: Side,
-) -> bool
-    requires here { chains.old.lane ≡ lane.lane }
-    requires of { chains.old.lanes ≡ lane.lanes }
-    requires of_lane { number % lane.lanes ≡ lane.lane }
-    requires within { lane.lane < lane.lanes }
-    requires same { chains.old.sheet ≡ plain.old }
-    ensures here { chains.new.lane ≡ lane.lane }
-    ensures of { chains.new.lanes ≡ lane.lanes }
-    ensures same { chains.new.sheet ≡ plain.new }
+/// The chains of a lane and the plain sheet of the same slots, which always say the same.
+#[derive(Drop)]
+pub struct Both {
+    /// Where both take memory.
+    pub alloc: Global,
+    /// The lane.
+    pub lane: Lane,
+    /// Its chains.
+    pub chains: Cascade,
+    /// The plain sheet.
+    pub plain: PlainSheet,
+    ghost here: { chains.lane ≡ lane.lane },
+    ghost of: { chains.lanes ≡ lane.lanes },
+    ghost same: { chains.sheet ≡ plain },
+}
+
+impl Both {
+    /// One lane of so many, without slots.
+    pub fn new(alloc: Global, lane: u8, lanes: u8) -> Both
+        requires { lane < lanes }
+        ensures here { result.lane.lane ≡ lane }
+        ensures of { result.lane.lanes ≡ lanes }
+    {
+        Both {
+            alloc,
+            lane: Lane { lane, lanes },
+            chains: Cascade::new(alloc, lane, lanes),
+            plain: PlainSheet::new(alloc),
+        }
+    }
+
+    /// Does an event in both, where it fits, and answers whether it did. After `NoMemory` the slots are as they were.
+    pub fn do_event(&mut self, event: LaneEvent) -> Result<bool, NoMemory>
+        ensures { self.new.lane ≡ self.old.lane }
+    {
+        if !fits(self.alloc, &self.plain, &event)? {
+            return Ok(false);
+        }
+        let mut next = self.plain.copy(self.alloc)?;
+        next.step(self.alloc, &event, self.lane.lane, self.lane.lanes)?;
+        let _births = next.births();
+        let mut events = List::new(self.alloc);
+        events.push(event)?;
+        self.chains.reserve(&events)?;
+        self.chains.apply_event(&events.as_slice()[0]);
+        self.plain = next;
+        Ok(true)
+    }
+
+    /// Tears a grain of a volume of the lane in both, where nobody else needs it, and answers whether it did. Where the volume's
+    /// own slot reads an old slot of the volume, the write tears what the volume shows, whatever the side.
+    pub fn do_torn(&mut self, volume: VolId, number: u32, side: Side) -> bool
+        requires { number % self.old.lane.lanes ≡ self.old.lane.lane }
+        ensures { self.new.lane ≡ self.old.lane }
+    {
+        let grain = self.lane.place(number);
+        if !fits_taken(&self.plain, volume, grain) {
+            return false;
+        }
+        let side = side_torn(&self.plain, volume, grain, side);
+        self.chains.torn(volume, number, side);
+        self.plain.torn(volume, grain, side);
+        true
+    }
+}
+
+/// The side that a torn write leaves: what the volume shows, where the volume's own slot reads an old slot of the volume.
+fn side_torn(plain: &PlainSheet, volume: VolId, grain: usize, side: Side) -> Side
+    ensures { result ≡ Side.Under → FitsLost plain.now.slots volume.0 grain }
 {
-    let grain = (number / lane.lanes as u32) as usize;
-    if !fits_taken(plain, volume, grain) {
-        return false;
+    if fits_lost(plain, volume, grain) {
+        return side;
     }
-    if !fits_lost(plain, volume, grain) {
-        chains.torn(volume, number, Side::Now);
-        plain.torn(volume, grain, Side::Now);
-        return true;
-    }
-    chains.torn(volume, number, side);
-    plain.torn(volume, grain, side);
-    true
+    Side::Now
 }

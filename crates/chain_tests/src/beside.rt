@@ -1,18 +1,16 @@
 //! Moves, writes and copies in the chains of a lane and in the plain sheet of the same slots, and whether both tell the same.
 
-ghost use Rattle.std.specs.Prelude.{◌≡◌, ◌<◌, ◌%◌, OnOk, IsTrue, false};
+ghost use Rattle.std.specs.Prelude.{◌≡◌, ◌%◌, IsTrue, false};
 ghost use Rattle.fc_base.specs.SheetFits.{FitsTaken};
-ghost use Rattle.fc_chain.specs.Chains.{IsOfLane};
+ghost use Rattle.fc_chain.specs.Planning.{CanPlan};
 
-use chain_steps::events::Lane;
+use chain_steps::events::Both;
 use chain_steps::taken::fits_taken;
 use fc_base::ids::{GrainNo, MapId, SlotId, VolId};
 use fc_base::move_plan::MovePlan;
 use fc_base::outcome::NoMemory;
 use fc_base::request::{Move, Planned};
-use fc_chain::Cascade;
 use fc_model::PlainSheet;
-use std::alloc::Global;
 use std::process::Abort;
 
 /// Whether a move fits: in place it always does.
@@ -23,56 +21,30 @@ fn fits_move(plain: &PlainSheet, volume: VolId, grain: usize, in_place: bool) ->
 }
 
 /// Makes a move of a grain of the lane in both.
-fn make_move(
-    rt: &impl Abort,
-    chains: &mut Cascade,
-    plain: &mut PlainSheet,
-    lane: Lane,
-    number: u32,
-    next: Move,
-)
-    requires here { chains.old.lane ≡ lane.lane }
-    requires of { chains.old.lanes ≡ lane.lanes }
-    requires of_lane { IsOfLane chains.old number }
-    requires within { lane.lane < lane.lanes }
-    requires same { chains.old.sheet ≡ plain.old }
-    ensures here { chains.new.lane ≡ lane.lane }
-    ensures of { chains.new.lanes ≡ lane.lanes }
-    ensures same { chains.new.sheet ≡ plain.new }
+fn make_move(rt: &impl Abort, both: &mut Both, number: u32, next: Move)
+    requires { number % both.old.lane.lanes ≡ both.old.lane.lane }
+    ensures { both.new.lane ≡ both.old.lane }
 {
-    let grain = (number / lane.lanes as u32) as usize;
-    match plain.slot_place(next.slot) {
+    let grain = both.lane.place(number);
+    match both.plain.slot_place(next.slot) {
         Some(place) => {
-            let volume = plain.volume(place);
-            let fits = fits_move(plain, volume, grain, next.in_place);
+            let volume = both.plain.volume(place);
+            let fits = fits_move(&both.plain, volume, grain, next.in_place);
             assert!(rt; fits);
-            chains.moved(next.slot, number, next.in_place);
-            plain.moved(volume, grain, next.in_place);
+            both.chains.moved(next.slot, number, next.in_place);
+            both.plain.moved(volume, grain, next.in_place);
         }
         None => assert!(rt; false),
     }
 }
 
 /// Makes moves of a grain of the lane in both, one after the other.
-fn make_moves(
-    rt: &impl Abort,
-    chains: &mut Cascade,
-    plain: &mut PlainSheet,
-    lane: Lane,
-    number: u32,
-    moves: &[Move],
-)
-    requires here { chains.old.lane ≡ lane.lane }
-    requires of { chains.old.lanes ≡ lane.lanes }
-    requires of_lane { number % lane.lanes ≡ lane.lane }
-    requires within { lane.lane < lane.lanes }
-    requires same { chains.old.sheet ≡ plain.old }
-    ensures here { chains.new.lane ≡ lane.lane }
-    ensures of { chains.new.lanes ≡ lane.lanes }
-    ensures same { chains.new.sheet ≡ plain.new }
+fn make_moves(rt: &impl Abort, both: &mut Both, number: u32, moves: &[Move])
+    requires { number % both.old.lane.lanes ≡ both.old.lane.lane }
+    ensures { both.new.lane ≡ both.old.lane }
 {
     for next in moves {
-        make_move(rt, chains, plain, lane, number, *next);
+        make_move(rt, both, number, *next);
     }
 }
 
@@ -81,81 +53,75 @@ fn are_same(planned: &[Move], moves: &[Move]) -> bool {
     planned.len() == moves.len() && planned.iter().zip(moves).all(|(one, other)| *one == *other)
 }
 
+/// Plans the moves that a grain of the lane owes, which are these, and makes them in both.
+fn make_planned(
+    rt: &impl Abort,
+    both: &mut Both,
+    number: u32,
+    planned: Planned,
+    moves: &[Move],
+) -> Result<(), NoMemory>
+    requires of_lane { number % both.old.lane.lanes ≡ both.old.lane.lane }
+    requires fits { CanPlan both.old.plain.slots both.old.lane.lane both.old.lane.lanes planned }
+    ensures { both.new.lane ≡ both.old.lane }
+{
+    let mut plan = MovePlan::new(both.alloc, both.plain.len())?;
+    both.chains.plan(planned, &mut plan);
+    assert!(rt; are_same(plan.as_slice(), moves));
+    make_moves(rt, both, number, plan.as_slice());
+    Ok(())
+}
+
 /// Writes a grain of a volume of the lane in both, after the moves that it owes; answers whether the volume is there.
 pub fn do_write(
     rt: &impl Abort,
-    alloc: Global,
-    chains: &mut Cascade,
-    plain: &mut PlainSheet,
-    lane: Lane,
+    both: &mut Both,
     volume: VolId,
     number: u32,
 ) -> Result<bool, NoMemory>
-    requires here { chains.old.lane ≡ lane.lane }
-    requires of { chains.old.lanes ≡ lane.lanes }
-    requires of_lane { number % lane.lanes ≡ lane.lane }
-    requires within { lane.lane < lane.lanes }
-    requires same { chains.old.sheet ≡ plain.old }
-    ensures here { chains.new.lane ≡ lane.lane }
-    ensures of { chains.new.lanes ≡ lane.lanes }
-    ensures same { OnOk result (chains.new.sheet ≡ plain.new) }
+    requires { number % both.old.lane.lanes ≡ both.old.lane.lane }
+    ensures { both.new.lane ≡ both.old.lane }
 {
-    let grain = (number / lane.lanes as u32) as usize;
-    let live = match plain.live_place(volume) {
+    let live = match both.plain.live_place(volume) {
         Some(live) => live,
         None => return Ok(false),
     };
-    let moves = plain.write_moves(alloc, Some(live), grain, GrainNo(number))?;
-    let mut plan = MovePlan::new(alloc, plain.len())?;
-    let write = Planned::Write {
-        volume,
-        grain: GrainNo(number),
-    };
-    chains.plan(write, &mut plan);
-    assert!(rt; are_same(plan.as_slice(), moves.as_slice()));
-    make_moves(rt, chains, plain, lane, number, plan.as_slice());
-    assert!(rt; fits_taken(plain, volume, grain));
-    chains.written(volume, number);
-    plain.written(volume, grain);
+    let place = both.lane.place(number);
+    let grain = GrainNo(number);
+    let moves = both
+        .plain
+        .write_moves(both.alloc, Some(live), place, grain)?;
+    let write = Planned::Write { volume, grain };
+    make_planned(rt, both, number, write, moves.as_slice())?;
+    assert!(rt; fits_taken(&both.plain, volume, place));
+    both.chains.written(volume, number);
+    both.plain.written(volume, place);
     Ok(true)
 }
 
 /// Fills a slot at a grain of the lane in both, where it is live and lacks the grain; answers whether it was.
 pub fn do_fill(
     rt: &impl Abort,
-    alloc: Global,
-    chains: &mut Cascade,
-    plain: &mut PlainSheet,
-    lane: Lane,
+    both: &mut Both,
     slot: SlotId,
     number: u32,
 ) -> Result<bool, NoMemory>
-    requires here { chains.old.lane ≡ lane.lane }
-    requires of { chains.old.lanes ≡ lane.lanes }
-    requires of_lane { number % lane.lanes ≡ lane.lane }
-    requires within { lane.lane < lane.lanes }
-    requires same { chains.old.sheet ≡ plain.old }
-    ensures here { chains.new.lane ≡ lane.lane }
-    ensures of { chains.new.lanes ≡ lane.lanes }
-    ensures same { OnOk result (chains.new.sheet ≡ plain.new) }
+    requires { number % both.old.lane.lanes ≡ both.old.lane.lane }
+    ensures { both.new.lane ≡ both.old.lane }
 {
-    let grain = (number / lane.lanes as u32) as usize;
-    let place = match plain.slot_place(slot) {
-        Some(place) => place,
+    let plain = &both.plain;
+    let at = match plain.slot_place(slot) {
+        Some(at) => at,
         None => return Ok(false),
     };
-    if grain >= plain.grains(place) || !plain.is_live(place) || plain.holds(place, grain) {
+    let place = both.lane.place(number);
+    if place >= plain.grains(at) || !plain.is_live(at) || plain.holds(at, place) {
         return Ok(false);
     }
-    let moves = plain.fill_moves(alloc, place, grain, GrainNo(number))?;
-    let mut plan = MovePlan::new(alloc, plain.len())?;
-    let fill = Planned::Fill {
-        slot,
-        grain: GrainNo(number),
-    };
-    chains.plan(fill, &mut plan);
-    assert!(rt; are_same(plan.as_slice(), moves.as_slice()));
-    make_moves(rt, chains, plain, lane, number, plan.as_slice());
+    let grain = GrainNo(number);
+    let moves = plain.fill_moves(both.alloc, at, place, grain)?;
+    let fill = Planned::Fill { slot, grain };
+    make_planned(rt, both, number, fill, moves.as_slice())?;
     Ok(true)
 }
 
@@ -171,28 +137,18 @@ fn named(plain: &PlainSheet, place: Option<usize>) -> Option<SlotId> {
 const GRAINS: u32 = 8;
 
 /// Both tell the same holder of a slot at a grain of the lane, and with `whole` the same needer.
-fn assert_same_at(
-    rt: &impl Abort,
-    chains: &Cascade,
-    plain: &PlainSheet,
-    lane: Lane,
-    slot: SlotId,
-    number: u32,
-    whole: bool,
-)
-    requires of { chains.now.lanes ≡ lane.lanes }
-    requires of_lane { IsOfLane chains.now number }
-    requires within { lane.lane < lane.lanes }
-    requires same { chains.now.sheet ≡ plain.now }
+fn assert_same_at(rt: &impl Abort, both: &Both, slot: SlotId, number: u32, whole: bool)
+    requires { number % both.now.lane.lanes ≡ both.now.lane.lane }
 {
-    let grain = (number / lane.lanes as u32) as usize;
+    let plain = &both.plain;
+    let grain = both.lane.place(number);
     match plain.slot_place(slot) {
         Some(place) => {
             let holder = named(plain, plain.holder(place, grain));
-            assert_eq!(rt; chains.holder(slot, number), holder);
+            assert_eq!(rt; both.chains.holder(slot, number), holder);
             if whole {
                 let needer = named(plain, plain.needer(place, grain));
-                assert_eq!(rt; chains.needer(slot, number), needer);
+                assert_eq!(rt; both.chains.needer(slot, number), needer);
             }
         }
         None => assert!(rt; false),
@@ -200,19 +156,8 @@ fn assert_same_at(
 }
 
 /// Both tell the same of a slot, and with `whole` also who needs it.
-fn assert_same_slot(
-    rt: &impl Abort,
-    chains: &Cascade,
-    plain: &PlainSheet,
-    lane: Lane,
-    slot: SlotId,
-    whole: bool,
-)
-    requires here { chains.now.lane ≡ lane.lane }
-    requires of { chains.now.lanes ≡ lane.lanes }
-    requires within { lane.lane < lane.lanes }
-    requires same { chains.now.sheet ≡ plain.now }
-{
+fn assert_same_slot(rt: &impl Abort, both: &Both, slot: SlotId, whole: bool) {
+    let (chains, plain) = (&both.chains, &both.plain);
     match plain.slot_place(slot) {
         Some(place) => {
             assert_eq!(rt; chains.volume(slot), plain.volume(place));
@@ -225,21 +170,17 @@ fn assert_same_slot(
         None => assert!(rt; false),
     }
     for number in 0..GRAINS {
-        if number % lane.lanes as u32 == lane.lane as u32 {
-            assert_same_at(rt, chains, plain, lane, slot, number, whole);
+        if both.lane.has(number) {
+            assert_same_at(rt, both, slot, number, whole);
         }
     }
 }
 
 /// Both tell the same of eight volumes, twelve mappings and all slots; with `whole` also who needs and who uses them.
-pub fn assert_same(rt: &impl Abort, chains: &Cascade, plain: &PlainSheet, lane: Lane, whole: bool)
-    requires here { chains.now.lane ≡ lane.lane }
-    requires of { chains.now.lanes ≡ lane.lanes }
-    requires within { lane.lane < lane.lanes }
-    requires same { chains.now.sheet ≡ plain.now }
-{
+pub fn assert_same(rt: &impl Abort, both: &Both, whole: bool) {
+    let (chains, plain) = (&both.chains, &both.plain);
     for place in 0..plain.len() {
-        assert_same_slot(rt, chains, plain, lane, plain.slot(place), whole);
+        assert_same_slot(rt, both, plain.slot(place), whole);
     }
     for volume in 0..8 {
         let volume = VolId(volume);

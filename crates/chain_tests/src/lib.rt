@@ -8,6 +8,8 @@
 #[cfg(test)]
 mod beside;
 #[cfg(test)]
+mod commands;
+#[cfg(test)]
 mod list;
 #[cfg(test)]
 mod mended;

@@ -4,9 +4,9 @@
 ghost use Rattle.std.specs.Prelude.{◌+◌, ◌^◌, ◌<◌, ◌≤◌, OnOk};
 ghost use Rattle.fc_events.specs.Room.{slots_made as made_by};
 
-use crate::worked::{A, B, C, make, trigger};
+use crate::commands::Command::{self, Detach, Drop, Make, Remove, Retire, Split, Start};
+use crate::commands::{A, B, C};
 use fc_base::decision::LaneEvent;
-use fc_base::ids::{MapId, SlotId, VolId};
 use fc_base::outcome::NoMemory;
 use fc_events::events::step;
 use fc_events::room::{slots_made, widest};
@@ -16,6 +16,21 @@ use fc_places::mend::mend;
 use std::alloc::Global;
 use std::process::Abort;
 use std::test::Fail;
+
+/// Commands of each kind.
+const COMMANDS: [Command; 11] = [
+    Make(A),
+    Make(B),
+    Make(C),
+    Start(1, A, B),
+    Start(0, A, C),
+    Retire(0),
+    Split(1),
+    Drop(4),
+    Start(2, A, B),
+    Detach(2),
+    Remove(A),
+];
 
 /// Makes room for the event and does it, in a lane that has every grain.
 fn apply(rt: &impl Abort, table: &mut SlotTable, event: LaneEvent) -> Result<(), NoMemory>
@@ -30,46 +45,14 @@ fn apply(rt: &impl Abort, table: &mut SlotTable, event: LaneEvent) -> Result<(),
     Ok(())
 }
 
-/// Does the event, and mends a list of the slots.
-fn apply_and_mend(
-    rt: &impl Abort,
-    table: &mut SlotTable,
-    event: LaneEvent,
-    entries: &mut Vec<Entry>,
-    by: By,
-) -> Result<(), NoMemory>
-    requires few { made_by event ≤ 2 }
-    requires births { table.old.sheet.births + 2 < 2 ^ 64 }
-    ensures { OnOk result (table.new.sheet.births ≤ table.old.sheet.births + 2) }
-{
-    apply(rt, table, event)?;
-    assert!(rt; mend(entries, table.as_slice(), by));
-    Ok(())
-}
-
-/// A list is mended through events of each kind.
+/// A list is mended through commands of each kind.
 fn assert_mended(rt: &impl Abort, alloc: Global, by: By) -> Result<(), Fail> {
     let mut table = SlotTable::new(alloc);
-    let mut entries = Vec::with_capacity(alloc, 8)?;
-    apply_and_mend(rt, &mut table, make(A), &mut entries, by)?;
-    apply_and_mend(rt, &mut table, make(B), &mut entries, by)?;
-    apply_and_mend(rt, &mut table, make(C), &mut entries, by)?;
-    let event = trigger(alloc, 1, A, B)?;
-    apply_and_mend(rt, &mut table, event, &mut entries, by)?;
-    let event = trigger(alloc, 0, A, C)?;
-    apply_and_mend(rt, &mut table, event, &mut entries, by)?;
-    let event = LaneEvent::Retire { map: MapId(0) };
-    apply_and_mend(rt, &mut table, event, &mut entries, by)?;
-    let event = LaneEvent::Split { map: MapId(1) };
-    apply_and_mend(rt, &mut table, event, &mut entries, by)?;
-    let event = LaneEvent::Drop { slot: SlotId(4) };
-    apply_and_mend(rt, &mut table, event, &mut entries, by)?;
-    let event = trigger(alloc, 2, A, B)?;
-    apply_and_mend(rt, &mut table, event, &mut entries, by)?;
-    let event = LaneEvent::Detach { map: MapId(2) };
-    apply_and_mend(rt, &mut table, event, &mut entries, by)?;
-    let event = LaneEvent::Remove { volume: VolId(A) };
-    apply_and_mend(rt, &mut table, event, &mut entries, by)?;
+    let mut entries: Vec<Entry> = Vec::with_capacity(alloc, 8)?;
+    for command in &COMMANDS {
+        apply(rt, &mut table, command.event(alloc)?)?;
+        assert!(rt; mend(&mut entries, table.as_slice(), by));
+    }
     Ok(())
 }
 

@@ -1,17 +1,12 @@
 //! Generated steps, in one lane, in two and in four.
 
-ghost use Rattle.std.specs.Prelude.{◌≡◌, ◌<◌, OnOk};
-
 use crate::beside::{assert_same, do_fill, do_write};
 use chain_steps::drawn::{VOLUMES, draw_event, draw_number, draw_slot};
 use chain_steps::draws::Draws;
-use chain_steps::events::{Lane, do_event, do_torn};
+use chain_steps::events::Both;
 use fc_base::ids::VolId;
 use fc_base::outcome::NoMemory;
 use fc_base::request::Side;
-use fc_chain::Cascade;
-use fc_model::PlainSheet;
-use std::alloc::Global;
 use std::process::Abort;
 use std::test::Fail;
 
@@ -25,24 +20,10 @@ struct Done {
 }
 
 /// Draws up to eight events, until one fits and is done in both; answers whether one was.
-fn do_some_event(
-    alloc: Global,
-    draws: &mut Draws,
-    chains: &mut Cascade,
-    plain: &mut PlainSheet,
-    lane: Lane,
-) -> Result<bool, NoMemory>
-    requires here { chains.old.lane ≡ lane.lane }
-    requires of { chains.old.lanes ≡ lane.lanes }
-    requires within { lane.lane < lane.lanes }
-    requires same { chains.old.sheet ≡ plain.old }
-    ensures here { chains.new.lane ≡ lane.lane }
-    ensures of { chains.new.lanes ≡ lane.lanes }
-    ensures same { OnOk result (chains.new.sheet ≡ plain.new) }
-{
+fn do_some_event(draws: &mut Draws, both: &mut Both) -> Result<bool, NoMemory> {
     for _ in 0..8 {
-        let event = draw_event(alloc, draws, plain)?;
-        if do_event(alloc, chains, plain, lane, event)? {
+        let event = draw_event(both.alloc, draws, &both.plain)?;
+        if both.do_event(event)? {
             return Ok(true);
         }
     }
@@ -52,41 +33,27 @@ fn do_some_event(
 /// Does a drawn event, write, fill or torn write in both.
 fn step(
     rt: &impl Abort,
-    alloc: Global,
     draws: &mut Draws,
-    chains: &mut Cascade,
-    plain: &mut PlainSheet,
-    lane: Lane,
+    both: &mut Both,
     done: &mut Done,
-) -> Result<(), NoMemory>
-    requires here { chains.old.lane ≡ lane.lane }
-    requires of { chains.old.lanes ≡ lane.lanes }
-    requires within { lane.lane < lane.lanes }
-    requires same { chains.old.sheet ≡ plain.old }
-    ensures here { chains.new.lane ≡ lane.lane }
-    ensures of { chains.new.lanes ≡ lane.lanes }
-    ensures same { OnOk result (chains.new.sheet ≡ plain.new) }
-{
+) -> Result<(), NoMemory> {
     let kind = draws.below(16);
     if kind < 8 {
-        if do_some_event(alloc, draws, chains, plain, lane)? {
-            done.events = done.events.saturating_add(1);
-        }
+        let is_done = do_some_event(draws, both)?;
+        done.events = done.events.saturating_add(u32::from(is_done));
         return Ok(());
     }
-    let number = draw_number(draws, lane);
+    let number = draw_number(draws, both.lane);
     if kind < 13 {
-        let slot = draw_slot(draws, plain);
-        if do_fill(rt, alloc, chains, plain, lane, slot, number)? {
-            done.fills = done.fills.saturating_add(1);
-        }
+        let slot = draw_slot(draws, &both.plain);
+        let is_done = do_fill(rt, both, slot, number)?;
+        done.fills = done.fills.saturating_add(u32::from(is_done));
         return Ok(());
     }
     let volume = VolId(draws.below(VOLUMES));
     if kind < 15 {
-        if do_write(rt, alloc, chains, plain, lane, volume, number)? {
-            done.writes = done.writes.saturating_add(1);
-        }
+        let is_done = do_write(rt, both, volume, number)?;
+        done.writes = done.writes.saturating_add(u32::from(is_done));
         return Ok(());
     }
     let side = if draws.below(2) == 0 {
@@ -94,19 +61,14 @@ fn step(
     } else {
         Side::Under
     };
-    if do_torn(chains, plain, lane, volume, number, side) {
-        done.torn = done.torn.saturating_add(1);
-    }
+    let is_done = both.do_torn(volume, number, side);
+    done.torn = done.torn.saturating_add(u32::from(is_done));
     Ok(())
 }
 
-/// Does so many drawn steps in a lane, and compares both after each.
-fn run(rt: &impl Abort, alloc: Global, seed: u64, steps: u32, lane: Lane) -> Result<Done, NoMemory>
-    requires { lane.lane < lane.lanes }
-{
+/// Does so many drawn steps in a lane, compares both after each, and asserts that enough of each kind were done to tell something.
+fn run(rt: &impl Abort, seed: u64, steps: u32, mut both: Both) -> Result<(), NoMemory> {
     let mut draws = Draws::of(seed);
-    let mut chains = Cascade::new(alloc, lane.lane, lane.lanes);
-    let mut plain = PlainSheet::new(alloc);
     let mut done = Done {
         events: 0,
         writes: 0,
@@ -114,18 +76,11 @@ fn run(rt: &impl Abort, alloc: Global, seed: u64, steps: u32, lane: Lane) -> Res
         torn: 0,
     };
     for number in 0..steps {
-        step(
-            rt,
-            alloc,
-            &mut draws,
-            &mut chains,
-            &mut plain,
-            lane,
-            &mut done,
-        )?;
-        assert_same(rt, &chains, &plain, lane, number % 16 == 0);
+        step(rt, &mut draws, &mut both, &mut done)?;
+        assert_same(rt, &both, number % 16 == 0);
     }
-    Ok(done)
+    assert_many(rt, &done, steps);
+    Ok(())
 }
 
 /// Enough steps of each kind were done to tell something.
@@ -139,29 +94,25 @@ fn assert_many(rt: &impl Abort, done: &Done, steps: u32) {
 
 #[test]
 fn a_lane_with_every_grain(rt: HostRuntime) -> Result<(), Fail> {
-    let lane = Lane { lane: 0, lanes: 1 };
-    let done = run(&rt, rt.alloc(), 1, 4_000, lane)?;
-    assert_many(&rt, &done, 4_000);
+    run(&rt, 1, 4_000, Both::new(rt.alloc(), 0, 1))?;
     Ok(())
 }
 
 #[test]
 fn the_second_lane_of_two(rt: HostRuntime) -> Result<(), Fail> {
-    let lane = Lane { lane: 1, lanes: 2 };
-    let done = run(&rt, rt.alloc(), 2, 4_000, lane)?;
-    assert_many(&rt, &done, 4_000);
+    run(&rt, 2, 4_000, Both::new(rt.alloc(), 1, 2))?;
     Ok(())
 }
 
 #[test]
 fn each_lane_of_four(rt: HostRuntime) -> Result<(), Fail> {
-    for number in 0..4 {
-        let lane = Lane {
-            lane: number,
-            lanes: 4,
-        };
-        let done = run(&rt, rt.alloc(), 3 + number as u64, 1_500, lane)?;
-        assert_many(&rt, &done, 1_500);
+    for lane in 0..4 {
+        run(
+            &rt,
+            3 + u64::from(lane),
+            1_500,
+            Both::new(rt.alloc(), lane, 4),
+        )?;
     }
     Ok(())
 }

@@ -12,6 +12,9 @@ use std::alloc::Global;
 /// A move as it is told: slot, volume, grain, and whether it is in place.
 pub type Told = (u64, u32, u32, bool);
 
+/// Where a volume is read: volume, grain, and the slot.
+pub type Read = (u32, u32, u64);
+
 /// A sheet, and the moves so far.
 #[derive(Drop)]
 pub struct Story {
@@ -45,6 +48,16 @@ impl Story {
                 grains,
                 kind: DiskKind::Flat,
             })?;
+        }
+        Ok(story)
+    }
+
+    /// Volumes of so many grains each, with ids from 0, each but the first a copy of the one before; the mapping of a copy has the
+    /// id of its source.
+    pub fn cascade(alloc: Global, volumes: u32, grains: u32) -> Result<Story, NoMemory> {
+        let mut story = Story::of(alloc, volumes, grains)?;
+        for target in 1..volumes {
+            story.start(&[pair(target - 1, target - 1, target)])?;
         }
         Ok(story)
     }
@@ -165,14 +178,15 @@ impl Story {
     }
 
     /// The slot at which the volume is read.
-    pub fn holder(&self, volume: u32, grain: u32) -> Option<u64> {
-        match self.sheet.live_place(VolId(volume)) {
-            Some(live) => match self.sheet.holder(live, grain as usize) {
-                Some(holder) => Some(self.sheet.slot(holder).0),
-                None => None,
-            },
-            None => None,
-        }
+    fn holder(&self, volume: u32, grain: u32) -> Option<u64> {
+        let live = self.sheet.live_place(VolId(volume))?;
+        let holder = self.sheet.holder(live, grain as usize)?;
+        Some(self.sheet.slot(holder).0)
+    }
+
+    /// Whether each of these volumes is read, at a grain, at a slot.
+    pub fn is_read_at(&self, wanted: &[Read]) -> bool {
+        wanted.iter().all(|(volume, grain, slot)| self.holder(*volume, *grain) == Some(*slot))
     }
 
     /// Whether the mapping's slot is needed.
