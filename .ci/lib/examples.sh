@@ -5,6 +5,9 @@
 # How many examples there are at the least: fewer are a mistake.
 least_examples=60
 
+# How many traces there are at the least.
+least_traces=38
+
 # ---- each example is a session, its words and its history, and begins with a comment
 examples_whole() {
     echo "== the examples' files"
@@ -54,4 +57,29 @@ examples_proved() {
     run_program run </dev/null
     is "no input: status" 0 "$status"
     holds "no input: something was written" wrote_nothing
+}
+
+# ---- traces: those of traces/ were worked out by another program, for the examples of the same names
+traces_proved() {
+    echo "== traces of examples, by the proved program"
+    local count=0 name trace words
+    for trace in traces/*; do
+        name=${trace#traces/}
+        mapfile -t words <"examples/$name.args"
+        run_program "${words[@]}" --trace <"examples/$name"
+        holds "the trace of $name differs" cmp -s "$room/out" "$trace"
+        is "the trace of $name: status" 0 "$status"
+        count=$((count + 1))
+    done
+    is_at_least "traces" "$least_traces" "$count"
+    # without a line there is the first line alone, and the plain text of any session stands in its trace
+    run_program run --trace --grain 64 </dev/null
+    is "the trace of no input" "trace 64 4 flat 512 512 512 512 thin 512 512 512 512" "$(<"$room/out")"
+    for name in examples/*.args; do
+        name=${name%.args}
+        mapfile -t words <"$name.args"
+        run_program "${words[@]}" --trace <"$name"
+        holds "$name: its trace without its first line, lines of what was done and ends isn't its text" \
+            cmp -s <(tail -n +2 -- "$room/out" | grep -v -e '^+' -e '^\.$') "$name.stdout"
+    done
 }

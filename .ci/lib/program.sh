@@ -10,6 +10,9 @@ run --grain 64
 run --grain 256
 run --grain=64
 run --grain=256
+run --trace
+run --trace --grain 64
+run --grain 64 --trace
 END
 }
 
@@ -72,11 +75,10 @@ run -h
 run --version
 run -V
 run -
-run --trace
 run --trace=true
-run --trace --grain 64
-run --grain 64 --trace
 run --trace --trace
+run --trace --grain 64 --trace
+run --trace 64
 run --cache 1
 run --cache=1024
 run --cache 1 --grain=64

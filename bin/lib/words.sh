@@ -23,6 +23,8 @@ of several actors at once. SESSION is a file; without it the session comes from 
 
 options of run and try:
   --grain 64, --grain 256   grains of so many KiB (256 unless given); also --grain=64, --grain=256
+  --trace                   the history as a trace, which says of each entry all that it did (docs/TRACE.md);
+                            not with the options below
   --summary                 on standard error, behind the history: its entries, and how many are refused, unread
                             and disk faults
   --explain                 on standard error: each refused line with its number, the word that it is about, and
@@ -58,7 +60,7 @@ strict_status=10
 meaning() { # STATUS
     case $1 in
         1) echo "the program ended with a status that it doesn't have" ;;
-        2) echo "usage: flashcopy run [--grain 64|256] [SESSION], or flashcopy drill N (see --help)" ;;
+        2) echo "usage: flashcopy run [--grain 64|256] [--trace] [SESSION], or flashcopy drill N (see --help)" ;;
         3) echo "standard input failed; the lines that had ended were answered" ;;
         4) echo "standard output failed; it got a front of what was to be printed" ;;
         5) echo "memory was wanted and not had" ;;
@@ -118,7 +120,7 @@ read_drill_words() { # N
 }
 
 read_run_words() { # [OPTION].. [SESSION]
-    local has_grain=0 has_session=0
+    local has_grain=0 has_session=0 has_trace=0
     words=(run)
     while (($# > 0)); do
         case $1 in
@@ -133,7 +135,11 @@ read_run_words() { # [OPTION].. [SESSION]
                     grain=${1#--grain=}
                 fi
                 [[ $grain == 64 || $grain == 256 ]] || return 1
-                words=(run --grain "$grain")
+                words+=(--grain "$grain")
+                ;;
+            --trace)
+                ((has_trace++ == 0)) || return 1
+                words+=(--trace)
                 ;;
             --summary) ((wants_summary++ == 0)) || return 1 ;;
             --explain) ((wants_explain++ == 0)) || return 1 ;;
@@ -146,4 +152,6 @@ read_run_words() { # [OPTION].. [SESSION]
         esac
         shift
     done
+    # what is said afterwards is made of the history's text
+    ((has_trace == 0 || wants_summary + wants_explain + is_strict == 0))
 }

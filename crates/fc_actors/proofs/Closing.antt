@@ -1,16 +1,16 @@
 -- A command over all parts: they make a store that stands for what is told, and each has its share of what comes next.
-use Rattle.std.proofs.Common.{◌≡◌, ℕ, zero, suc, ◌<◌, ◌≤◌, vec_capacity, false, List, [], ◌∷◌, All, length, slice_index_or, refl, sym, ap, ap₂, ◌∙◌, subst, arith}
+use Rattle.std.proofs.Common.{◌≡◌, ℕ, zero, suc, ◌<◌, ◌≤◌, vec_capacity, false, true≢false, List, [], ◌∷◌, All, length, slice_index_or, refl, sym, ap, ap₂, ◌∙◌, subst, arith}
 use mathlib.Core.Option.{some, some-injective, some-ne-none}
 use lib.ListN.{get_elem?}
 use Rattle.fc_base.specs.declared.command.Command.{Command}
-use Rattle.fc_base.specs.declared.command.Command.TheVariants.{Armfault}
+use Rattle.fc_base.specs.declared.command.Command.TheVariants.{Armfault, Mkvdisk}
 use Rattle.fc_base.specs.declared.request.Reply.{Reply}
 use Rattle.fc_base.specs.declared.request.Request.{Request}
 use Rattle.fc_base.specs.declared.request.Request.TheVariants.{Command as Asked}
 use Rattle.fc_base.specs.declared.size.GrainSize.{GrainSize}
 use Rattle.fc_desk.specs.Control.{ControlState}
 use Rattle.fc_entry.specs.declared.entry.Entry.{Entry}
-use Rattle.fc_lane.specs.Lane.{LaneView, IsSameLane}
+use Rattle.fc_lane.specs.Lane.{LaneView, IsSameLane, KeepsQuiet}
 use Rattle.fc_lanes.specs.AllLanes.{EachLane}
 use Rattle.fc_legal.specs.Steps.{Step}
 use Rattle.fc_legal.specs.Whole.{Whole, lanes}
@@ -18,9 +18,10 @@ use Rattle.fc_shares.specs.Law.{HaveShares}
 use Rattle.fc_shares.specs.Law.{AllLead as LeadAll}
 use Rattle.fc_shares.specs.Situation.{Situation, HasControl, HasLane, IsSound, LeadsTo, entries_told}
 use Rattle.fc_shares.proofs.Lawful.{share_law_holds}
-use Rattle.fc_stands.specs.Arming.{arms}
+use Rattle.fc_stands.proofs.Since.{command_near}
+use Rattle.fc_stands.specs.Armed.{ArmsAs}
+use Rattle.fc_stands.specs.Arming.{SetsNothing, arms}
 use Rattle.fc_stands.specs.Leading.{LeadsOn}
-use Rattle.fc_stands.specs.Quiet.{KeepsFaults}
 use Rattle.fc_stands.specs.Store.{StandsFor, StoreView}
 use Rattle.fc_store.specs.StoreParts.{lane_parts, parts_view}
 use Rattle.fc_store.specs.declared.store_part.StorePart.{StorePart}
@@ -139,12 +140,19 @@ no_arms : (command : Command) (reply : Reply) → ((volume : _) (grain calls : �
 no_arms (Armfault volume grain calls) reply other = absurd (other volume grain calls refl)
 no_arms command reply other = refl
 
+-- One of a block sets no armed fault.
+sets_nothing : (command : Command) (reply : Reply) → IsOfBlock command → SetsNothing (Asked command) reply
+sets_nothing (Armfault volume grain calls) reply block = absurd (block.no_fault volume grain calls refl)
+sets_nothing (Mkvdisk name size unit thin) reply block = absurd (true≢false block.no_volume)
+sets_nothing command reply block = λ names id lane lanes. refl
+
 -- What a command over all parts did, whatever store they were.
 abbrev pub Did : {D : Type 0} → List (StorePart D) → List (StorePart D) → Command → Entry → Type 0
 Did xs news command entry = (st : StoreView) → xs ≡ parts_view st → (new : StoreView) × (news ≡ parts_view new)
     × ((v : Whole) → StandsFor st v → v.entries < 262144 → LeadsOn st.control.grain v entry new)
     × (new.control.grain ≡ st.control.grain) × EachLane IsSameLane st.lanes new.lanes
-    × (arms (Asked command) entry.reply ≡ false → EachLane KeepsFaults st.lanes new.lanes)
+    × (arms (Asked command) entry.reply ≡ false → EachLane KeepsQuiet st.lanes new.lanes)
+    × EachLane (ArmsAs new.control.tables command entry.reply) st.lanes new.lanes
 
 module _ {D : Type 0} (s : ActorScript D) (openings xs : List (StorePart D)) (first limit : ℕ) (w0 w : Situation) (suits : Suits s openings limit) (told : Told openings first limit w0 w) (long : length xs ≡ length openings) (fit : FitAll openings w xs) where
   pub over_leads : (news : List (StorePart D)) (command : Command) (entry : Entry) → IsOfBlock command → entry.request ≡ Asked command → Did xs news command entry →
@@ -159,8 +167,14 @@ module _ {D : Type 0} (s : ActorScript D) (openings xs : List (StorePart D)) (fi
       let step : Step w.grain w.whole numbered on.0 = subst (λ (size : GrainSize). Step size w.whole numbered on.0) here.shares.control.grain on.1 in
       let volumes = volumes_law_holds.steps w.grain w.whole numbered on.0 (subst (λ (r : Request). asks_of_volumes r ≡ false) (sym asked) block.no_volume) step in
       let quiet = did.5 (no_arms command entry.reply block.no_fault) in
-      let led : LeadAll w0 w suits.store.lanes new entry = share_law_holds.command w0 w suits.store.lanes here.store new entry on.0 here.shares step on.2 on.3 volumes on.4 did.3
-      record { count = did.4.count; each = λ i d inside. (did.4.each i d inside, quiet.each i d inside) } in
+      let unset : SetsNothing (Asked command) entry.reply = sets_nothing command entry.reply block in
+      let near = command_near new.control.tables command entry.reply in
+      let led : LeadAll w0 w suits.store.lanes new entry = share_law_holds.command w0 w suits.store.lanes here.store new entry on.0 here.shares step
+      (subst (λ (r : Request). SetsNothing r entry.reply) (sym asked) unset) on.2 on.3 volumes on.4 did.3
+      record {
+        count = did.4.count;
+        each = λ i d inside. (did.4.each i d inside, quiet.each i d inside, near (slice_index_or here.store.lanes i d) (slice_index_or new.lanes i d) unset (did.6.each i d inside));
+      } in
       record {
         next = led.next;
         leads = led.leads;

@@ -2,13 +2,13 @@
 
 ghost use Rattle.std.specs.Prelude.{◌≡◌, ◌+◌, ◌≤◌, ◌<◌, ◌++◌, ◌∷◌, ℕ, [], List, length, false};
 ghost use Rattle.std.specs.Prelude.{vec_len, vec_capacity};
-ghost use Rattle.fc_lane.specs.Lane.{IsAsked, IsSameLane, LaneView};
+ghost use Rattle.fc_lane.specs.Lane.{IsAsked, IsSameLane, KeepsQuiet, LaneView};
 ghost use Rattle.fc_lanes.specs.AllLanes.{EachLane};
 ghost use Rattle.fc_legal.specs.Whole.{Whole};
+ghost use Rattle.fc_stands.specs.Armed.{ArmsAs};
 ghost use Rattle.fc_stands.specs.Arming.{arms};
 ghost use Rattle.fc_stands.specs.Leading.{LeadsOn};
 ghost use Rattle.fc_stands.specs.Phase.{IsDecided};
-ghost use Rattle.fc_stands.specs.Quiet.{KeepsFaults};
 ghost use Rattle.fc_stands.specs.Store.{StandsFor, StoreView};
 ghost use Rattle.fc_store.specs.StoreParts.{lane_parts, parts_view};
 
@@ -78,7 +78,8 @@ pub(crate) fn command_over<D: Mdisk>(
         LeadsOn s.control.grain w result.0 new)
         × (new.control.grain ≡ s.control.grain) × EachLane IsSameLane s.lanes new.lanes
         × (arms (Request.Command command) result.0.reply ≡ false →
-        EachLane KeepsFaults s.lanes new.lanes) }
+        EachLane KeepsQuiet s.lanes new.lanes)
+        × EachLane (ArmsAs new.control.tables command result.0.reply) s.lanes new.lanes }
     ensures asked { IsAsked 0 actor (Request.Command command) result.0 }
     ensures tray { (result.1.items ≡ []) × (vec_len parts.old ≤ vec_capacity result.1 + 1) }
 {

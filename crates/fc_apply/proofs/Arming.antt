@@ -10,7 +10,7 @@ use Rattle.fc_base.specs.declared.decision.LaneEvent.{LaneEvent}
 use Rattle.fc_base.specs.declared.decision.LaneEvent.TheVariants.{Make, Remove, Trigger, Retire, Detach, Split, Force, Drop, Forget, NoteCut, Access, Work, Arm}
 use Rattle.fc_mdisk.specs.Disk.{DiskState, cleared}
 use Rattle.fc_grains.specs.Calls.{HasMade, HasRemoved}
-use Rattle.fc_grains.specs.Grains.{GrainsState}
+use Rattle.fc_grains.specs.Grains.{GrainsState, next_place}
 use Rattle.fc_grains.specs.Volumes.{VolumeGrains, HoldsNothing, armed, changed, is_there, volume_of, without}
 use Rattle.fc_rules.specs.LaneTold.{LaneOf}
 use Rattle.fc_steps.proofs.Stored.{changed_here, changed_other}
@@ -137,8 +137,8 @@ idle_same g = idle_by g g refl refl
 
 pub idle_made : (old new : GrainsState) (id : ℕ) → HasMade old id new → IdleAfter old new
 idle_made old new id made = record {
-  places = made.place ∷ [];
-  taken = made.taken;
+  places = next_place old.reserved old.pool ∷ [];
+  taken = ap (λ (g : GrainsState). g.pooled) made.made;
   more = [];
   put = ap (λ (g : GrainsState). g.aside) made.made ∙ sym (append-nil old.aside);
   empty = All-nil HoldsNothing;

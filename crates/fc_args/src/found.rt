@@ -1,43 +1,21 @@
 //! What is asked for by the matches of a parse.
 
 ghost use Rattle.std.specs.Prelude.{◌≡◌, ◌+◌, ◌&&◌, if◌then◌else◌, Some, None, is_some, unwrap_or, option_map};
-ghost use Rattle.std.specs.Char.{is_digit};
-ghost use Rattle.std.specs.List.{list_all};
 ghost use Rattle.clap.specs.Words.{first_of, found_of, rows_of, subcommand_rows_of};
-ghost use Rattle.fc_words.specs.Values.{is_numeral, grain_size_of};
+ghost use Rattle.fc_words.specs.Values.{grain_size_of};
 ghost use Rattle.fc_args.specs.Grammar.{number_within, drill_number, cache_parts, options_of_words, read_if_given};
 ghost use Rattle.fc_args.specs.Matches.{given_in, is_true, command_in, found_in};
 
 use crate::asked::{Asked, RunOptions};
 use clap::ArgMatches;
 use fc_base::size::GrainSize;
+use fc_words::values::is_numeral_word;
 
 /// The most parts that a write cache holds.
 const MOST_PARTS: u32 = 1024;
 
 /// The most digits of a number.
 const NUMBER_DIGITS: usize = 20;
-
-/// Whether the byte is a decimal digit.
-fn is_digit_byte(byte: u8) -> bool
-    ensures { result ≡ is_digit byte 10 }
-{
-    byte >= b'0' && byte <= b'9'
-}
-
-/// Whether all bytes are decimal digits.
-fn are_digits(word: &[u8]) -> bool
-    ensures { result ≡ list_all (λ byte. is_digit byte 10) word.now }
-{
-    word.iter().all(|byte| is_digit_byte(*byte))
-}
-
-/// Whether the word is one decimal digit or more, and nothing else.
-fn is_numeral_word(word: &[u8]) -> bool
-    ensures { result ≡ is_numeral word.now }
-{
-    word.len() > 0 && are_digits(word)
-}
 
 /// The number of 1 to 20 decimal digits.
 fn number(word: &str) -> Option<u64>

@@ -16,7 +16,7 @@ pub const GRAIN_HELP: &str = "The size of a grain in KiB (256 unless told)";
 /// `run --trace`.
 pub const TRACE_HELP: &str = "Write the history as a trace, which a checker can read";
 /// Whether `run --trace` is built.
-pub const TRACE_IS_BUILT: bool = false;
+pub const TRACE_IS_BUILT: bool = true;
 
 /// `run --cache`.
 pub const CACHE_HELP: &str =

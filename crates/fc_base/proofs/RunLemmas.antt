@@ -1,15 +1,9 @@
 -- One more run behind canonical runs.
-use Rattle.std.proofs.Common.{refl, ◌≡◌, ◌≢◌, ℕ, ◌+◌, ◌-◌, ◌<◌, ◌≤◌, List, [], ◌∷◌, ◌++◌, replicate, zero, suc, add-zero, append_assoc, ◌∙◌, ap, sym, subst, arith, take, drop, get_or, length, length-drop, length-append}
+use Rattle.std.proofs.Common.{refl, ◌≡◌, ◌≢◌, Bool, true, false, cond, ℕ, ◌+◌, ◌-◌, ◌<◌, ◌≤◌, List, [], ◌∷◌, ◌++◌, replicate, zero, suc, add-zero, append_assoc, ◌∙◌, ap, sym, subst, arith, take, drop, get_or, length, length-drop, length-append}
 use Rattle.std.proofs.lemmas.List.{append-nil, get_or-drop, take_more, take-append-drop}
 use Rattle.std.proofs.Math.Seq.{take-add, take-append_seam}
 use Rattle.fc_base.specs.declared.runs.Run.{Run}
-use Rattle.fc_base.specs.Runs.{expanded, IsCanonical}
-
--- the last run, if there is one, has another byte
-abbrev pub EndsOtherwise : List Run → ℕ → Type 0
-EndsOtherwise [] byte = Unit {0}
-EndsOtherwise (run ∷ []) byte = run.byte ≢ byte
-EndsOtherwise (_ ∷ run ∷ runs) byte = EndsOtherwise (run ∷ runs) byte
+use Rattle.fc_base.specs.Runs.{expanded, EndsOtherwise, IsCanonical}
 
 pub expanded-push : (runs : List Run) (run : Run) → expanded (runs ++ run ∷ []) ≡ expanded runs ++ replicate run.count run.byte
 expanded-push [] run = append-nil _
@@ -27,6 +21,16 @@ IsCanonical-push [] run canonical ends counts = (counts, tt, tt)
 IsCanonical-push (first ∷ []) run canonical ends counts = (canonical.0, (λ e. ends (sym e)), (counts, tt, tt))
 IsCanonical-push (first ∷ second ∷ runs) run canonical ends counts =
     (canonical.0, canonical.1, IsCanonical-push (second ∷ runs) run canonical.2 ends counts)
+
+-- pushed or refused, they are canonical
+pub IsCanonical-pushed :
+    (done : Bool) (runs : List Run) (run : Run) →
+    IsCanonical runs →
+    EndsOtherwise runs run.byte →
+    0 < run.count →
+    IsCanonical (cond done (runs ++ run ∷ []) runs)
+IsCanonical-pushed true runs run canonical ends counts = IsCanonical-push runs run canonical ends counts
+IsCanonical-pushed false runs run canonical ends counts = canonical
 
 pub EndsOtherwise-push : (runs : List Run) (run : Run) (byte : ℕ) → run.byte ≢ byte → EndsOtherwise (runs ++ run ∷ []) byte
 EndsOtherwise-push [] run byte other = other

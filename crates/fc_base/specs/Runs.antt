@@ -12,6 +12,12 @@ abbrev pub StartsOtherwise : ℕ → List Run → Type 0
 StartsOtherwise byte [] = Unit {0}
 StartsOtherwise byte (run ∷ runs) = run.byte ≢ byte
 
+-- the last run, if there is one, has another byte
+abbrev pub EndsOtherwise : List Run → ℕ → Type 0
+EndsOtherwise [] byte = Unit {0}
+EndsOtherwise (run ∷ []) byte = run.byte ≢ byte
+EndsOtherwise (_ ∷ run ∷ runs) byte = EndsOtherwise (run ∷ runs) byte
+
 -- no run is empty, and no two neighbours have the same byte
 abbrev pub IsCanonical : List Run → Type 0
 IsCanonical [] = Unit {0}

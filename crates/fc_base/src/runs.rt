@@ -1,8 +1,8 @@
 //! Runs of equal bytes.
 
-ghost use Rattle.std.specs.Prelude.{◌≡◌, ◌≢◌, ◌<◌, ◌≤◌, ◌^◌, length, IfOk, take, drop, replicate, slice_index, ◌-◌, ◌++◌};
+ghost use Rattle.std.specs.Prelude.{◌≡◌, ◌≢◌, ◌<◌, ◌≤◌, ◌^◌, length, IfOk, take, drop, replicate, slice_index, ◌-◌, [], ◌∷◌, ◌++◌, OnOk, OnErr};
 ghost use Rattle.fc_base.specs.declared.runs.Run.{Run};
-ghost use Rattle.fc_base.specs.Runs.{expanded, IsCanonical};
+ghost use Rattle.fc_base.specs.Runs.{expanded, EndsOtherwise, IsCanonical};
 
 use crate::outcome::NoMemory;
 use std::alloc::Global;
@@ -37,6 +37,28 @@ impl Model for Runs {
 }
 
 impl Runs {
+    /// No byte. Takes no memory.
+    pub fn new(alloc: Global) -> Self
+        ensures { result ≡ [] }
+    {
+        Runs {
+            runs: Vec::new(alloc),
+        }
+    }
+
+    /// Puts a run behind all others: it isn't empty, and the last one has another byte. Refused, the runs are as they were.
+    pub fn push(&mut self, run: Run) -> Result<(), NoMemory>
+        requires counts { 0 < run.count }
+        requires behind { EndsOtherwise self.old run.byte }
+        ensures ok { OnOk result (self.new ≡ self.old ++ run ∷ []) }
+        ensures err { OnErr result (self.new ≡ self.old) }
+    {
+        match self.runs.push(run) {
+            Ok(()) => Ok(()),
+            Err(_) => Err(NoMemory),
+        }
+    }
+
     /// The runs of these bytes, of which there are fewer than 2^32.
     pub fn of(alloc: Global, bytes: &[u8]) -> Result<Runs, NoMemory>
         requires { length bytes.now < 2 ^ 32 }

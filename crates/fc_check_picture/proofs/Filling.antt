@@ -1,7 +1,7 @@
 -- Parts of filled blocks.
 use Rattle.std.proofs.Common.{◌≡◌, ℕ, zero, suc, ◌+◌, ◌*◌, List, [], ◌∷◌, ◌++◌, take, drop, length, replicate, append_assoc, refl, sym, ap, ◌∙◌, arith}
 use Rattle.std.proofs.Math.Seq.{drop-append-add, take-append-add}
-use Rattle.std.proofs.lemmas.List.{length-replicate}
+use Rattle.std.proofs.lemmas.List.{length-replicate, replicate-append-replicate}
 use Rattle.fc_check_picture.specs.Blocks.{filled}
 
 block_first : (size n : ℕ) → size * suc n ≡ size + size * n
@@ -42,3 +42,9 @@ part_filled size from count blocks = ap (take (size * count)) (drop_filled size 
 pub filled_append : (size : ℕ) (xs ys : List ℕ) → filled size (xs ++ ys) ≡ filled size xs ++ filled size ys
 filled_append size [] ys = refl
 filled_append size (x ∷ xs) ys = ap (λ z. replicate size x ++ z) (filled_append size xs ys) ∙ sym (append_assoc (replicate size x) (filled size xs) (filled size ys))
+
+pub filled_replicate : (size n byte : ℕ) → filled size (replicate n byte) ≡ replicate (n * size) byte
+filled_replicate size zero byte = let e : zero * size ≡ zero = omega arith in ap (λ z. replicate z byte) (sym e)
+filled_replicate size (suc n) byte =
+    let e : size + n * size ≡ suc n * size = omega arith in
+    ap (λ z. replicate size byte ++ z) (filled_replicate size n byte) ∙ (replicate-append-replicate size (n * size) byte ∙ ap (λ z. replicate z byte) e)

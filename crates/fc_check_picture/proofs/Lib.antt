@@ -1,3 +1,5 @@
 mod Filling
 mod Runs
+mod Writes
+mod Volumes
 mod BlocksExamples

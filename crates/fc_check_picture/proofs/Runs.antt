@@ -1,7 +1,7 @@
 -- Runs of blocks as runs of bytes.
 use Rattle.std.proofs.Common.{◌≡◌, ◌↔◌, ℕ, zero, suc, ◌+◌, ◌*◌, ◌<◌, Bool, IsTrue, Option, Some, Result, IfOk, List, [], ◌∷◌, ◌++◌, take, drop, length, get_or, map, replicate, refl, sym, ap, ap₂, subst, ◌∙◌, arith}
 use Rattle.std.proofs.Math.Nat.{mul-pos}
-use Rattle.std.proofs.lemmas.List.{replicate-append-replicate, take_more, length-map, get_or-map}
+use Rattle.std.proofs.lemmas.List.{take_more, length-map, get_or-map}
 use Rattle.fc_base.specs.Grain.{block_bytes}
 use Rattle.fc_base.specs.Runs.{expanded, StartsOtherwise, IsCanonical}
 use Rattle.fc_base.specs.declared.runs.Run.{Run}
@@ -10,13 +10,7 @@ use Rattle.fc_entry.specs.Picture.{Content, Bytes}
 use Rattle.fc_entry.specs.Reads.{IsRightIn}
 use Rattle.fc_determined.proofs.Canonical.{canonical_one}
 use Rattle.fc_check_picture.specs.Blocks.{filled, content_of, widened}
-use Rattle.fc_check_picture.proofs.Filling.{filled_append, part_filled}
-
-filled_replicate : (size n byte : ℕ) → filled size (replicate n byte) ≡ replicate (n * size) byte
-filled_replicate size zero byte = let e : zero * size ≡ zero = omega arith in ap (λ z. replicate z byte) (sym e)
-filled_replicate size (suc n) byte =
-    let e : size + n * size ≡ suc n * size = omega arith in
-    ap (λ z. replicate size byte ++ z) (filled_replicate size n byte) ∙ (replicate-append-replicate size (n * size) byte ∙ ap (λ z. replicate z byte) e)
+use Rattle.fc_check_picture.proofs.Filling.{filled_append, filled_replicate, part_filled}
 
 widened_expands : (size : ℕ) (runs : List Run) → expanded (map (widened size) runs) ≡ filled size (expanded runs)
 widened_expands size [] = refl

@@ -1,15 +1,16 @@
 //! What one grain of a plain volume holds.
 
-ghost use Rattle.std.specs.Prelude.{◌≡◌, ◌↔◌, ℕ, ◌*◌, ◌<◌, ◌^◌, Some, None, IfOk, IsTrue, take, drop, map, length};
+ghost use Rattle.std.specs.Prelude.{◌≡◌, ◌↔◌, ℕ, ◌*◌, ◌<◌, ◌^◌, ◌++◌, Some, None, IfOk, OnOk, IsTrue, take, drop, map, length, replicate};
 ghost use Rattle.fc_base.specs.Grain.{block_bytes};
 ghost use Rattle.fc_base.specs.Runs.{expanded, IsCanonical};
-ghost use Rattle.fc_entry.specs.Picture.{Lost, is_lost};
+ghost use Rattle.fc_entry.specs.Picture.{Bytes, Lost, is_lost, written, zeros};
 ghost use Rattle.fc_entry.specs.Reads.{IsRightIn};
 ghost use Rattle.fc_check_picture.specs.Blocks.{filled, widened};
 
 use fc_base::limits::BLOCK_BYTES;
 use fc_base::outcome::NoMemory;
 use fc_base::runs::{Run, Runs};
+use fc_base::size::GrainSize;
 use std::alloc::Global;
 use std::marker::Model;
 
@@ -27,12 +28,62 @@ impl Model for Blocks {
     ghost view = { λ b. b.bytes.items };
 }
 
+/// A list of so many equal bytes.
+fn equal_bytes(alloc: Global, byte: u8, count: usize) -> Result<Vec<u8>, NoMemory>
+    ensures { IfOk result (λ bytes. bytes.items ≡ replicate count byte) }
+{
+    match vec![in alloc; byte; count] {
+        Ok(bytes) => Ok(bytes),
+        Err(_) => Err(NoMemory),
+    }
+}
+
+/// Puts bytes at the end.
+fn append(bytes: &mut Vec<u8>, more: &[u8]) -> Result<(), NoMemory>
+    ensures { OnOk result (bytes.new.items ≡ bytes.old.items ++ more.now) }
+{
+    match bytes.extend_from_slice(more) {
+        Ok(()) => Ok(()),
+        Err(_) => Err(NoMemory),
+    }
+}
+
 impl Blocks {
+    /// So many blocks with one byte.
+    fn filled(alloc: Global, byte: u8, count: usize) -> Result<Blocks, NoMemory>
+        ensures { IfOk result (λ blocks. blocks ≡ replicate count byte) }
+    {
+        let bytes = equal_bytes(alloc, byte, count)?;
+        Ok(Blocks { bytes })
+    }
+
+    /// Other blocks like these.
+    fn copy(&self, alloc: Global) -> Result<Blocks, NoMemory>
+        ensures { IfOk result (λ blocks. blocks ≡ self.now) }
+    {
+        match Vec::from_slice(alloc, self.bytes.as_slice()) {
+            Ok(bytes) => Ok(Blocks { bytes }),
+            Err(_) => Err(NoMemory),
+        }
+    }
+
     /// The byte of each block.
     fn as_slice(&self) -> &[u8]
         ensures { result.now ≡ self.now }
     {
         self.bytes.as_slice()
+    }
+
+    /// These blocks with one byte in `count` of them from the block `from` on.
+    fn with(&self, alloc: Global, from: usize, count: usize, byte: u8) -> Result<Blocks, NoMemory>
+        ensures { IfOk result (λ blocks. blocks ≡ take from self.now ++ replicate count byte ++ drop count (drop from self.now)) }
+    {
+        let middle = equal_bytes(alloc, byte, count)?;
+        let mut bytes = Vec::new(alloc);
+        append(&mut bytes, front_of(self.as_slice(), from))?;
+        append(&mut bytes, middle.as_slice())?;
+        append(&mut bytes, rest_of(rest_of(self.as_slice(), from), count))?;
+        Ok(Blocks { bytes })
     }
 }
 
@@ -106,6 +157,67 @@ impl Model for Grain {
 }
 
 impl Grain {
+    /// A grain of so many blocks with one byte.
+    fn filled(alloc: Global, byte: u8, count: usize) -> Result<Grain, NoMemory>
+        ensures { IfOk result (λ grain. grain ≡ Bytes (replicate (block_bytes * count) byte)) }
+    {
+        let blocks = Blocks::filled(alloc, byte, count)?;
+        Ok(Grain {
+            blocks: Some(blocks),
+        })
+    }
+
+    /// A grain of zeros.
+    pub(crate) fn zeros(alloc: Global, size: GrainSize) -> Result<Grain, NoMemory>
+        ensures { IfOk result (λ grain. grain ≡ zeros size) }
+    {
+        Grain::filled(alloc, 0, size.blocks() as usize)
+    }
+
+    /// A grain that was lost.
+    pub(crate) fn lost() -> Grain
+        ensures { result ≡ Lost }
+    {
+        Grain { blocks: None }
+    }
+
+    /// Another grain like it.
+    pub(crate) fn copy(&self, alloc: Global) -> Result<Grain, NoMemory>
+        ensures { IfOk result (λ grain. grain ≡ self.now) }
+    {
+        match &self.blocks {
+            Some(blocks) => {
+                let blocks = blocks.copy(alloc)?;
+                Ok(Grain {
+                    blocks: Some(blocks),
+                })
+            }
+            None => Ok(Grain::lost()),
+        }
+    }
+
+    /// What it holds after `count` blocks were written with one byte from the block `from` on; a lost grain is
+    /// written whole.
+    pub(crate) fn after_write(
+        &self,
+        alloc: Global,
+        from: usize,
+        count: usize,
+        byte: u8,
+    ) -> Result<Grain, NoMemory>
+        ensures { IfOk result (λ grain. grain ≡ written (block_bytes * from) (block_bytes * count) byte self.now) }
+    {
+        match &self.blocks {
+            Some(blocks) => {
+                let blocks = blocks.with(alloc, from, count, byte)?;
+                Ok(Grain {
+                    blocks: Some(blocks),
+                })
+            }
+            None => Grain::filled(alloc, byte, count),
+        }
+    }
+
     /// Whether it was lost.
     pub(crate) fn is_lost(&self) -> bool
         ensures { result ≡ is_lost self.now }
@@ -113,7 +225,8 @@ impl Grain {
         self.blocks.is_none()
     }
 
-    /// Whether runs stand for what `count` of its blocks hold from the block `from` on; no runs do where it was lost.
+    /// Whether runs stand for what `count` of its blocks hold from the block `from` on; no runs do where it was
+    /// lost.
     pub(crate) fn holds(
         &self,
         alloc: Global,

@@ -1,14 +1,18 @@
 //! All plain volumes.
 
-ghost use Rattle.std.specs.Prelude.{◌≡◌, ◌↔◌, ◌*◌, [], IfOk, IsTrue};
+ghost use Rattle.std.specs.Prelude.{◌≡◌, ◌↔◌, ◌*◌, [], IfOk, OnOk, IsTrue};
 ghost use Rattle.fc_base.specs.Grain.{block_bytes};
-ghost use Rattle.fc_entry.specs.Picture.{volume_in, now_at, is_lost};
+ghost use Rattle.fc_entry.specs.Picture.{changed_at, volume_in, now_at, is_lost};
+ghost use Rattle.fc_entry.specs.PlainStep.{after_effects, after_torn, after_write};
 ghost use Rattle.fc_entry.specs.Reads.{IsRightIn};
 
+use crate::changes::{do_effects, tear_grain, write_blocks};
 use crate::volume::Volume;
 use fc_base::ids::VolId;
 use fc_base::outcome::NoMemory;
+use fc_base::request::{Effect, Torn, WritePart};
 use fc_base::runs::Runs;
+use fc_base::size::GrainSize;
 use std::alloc::Global;
 use std::marker::Model;
 
@@ -48,8 +52,8 @@ impl Picture {
         true
     }
 
-    /// Whether runs stand for what `count` blocks of a volume's grain hold from the block `from` on; no runs do where the grain
-    /// was lost or isn't there. Refused for want of memory alone.
+    /// Whether runs stand for what `count` blocks of a volume's grain hold from the block `from` on; no runs do
+    /// where the grain was lost or isn't there. Refused for want of memory alone.
     pub fn holds(
         &self,
         alloc: Global,
@@ -67,5 +71,33 @@ impl Picture {
             }
         }
         Ok(false)
+    }
+
+    /// Blocks of one grain were written with one byte, in each volume with the id. Refused for want of memory
+    /// alone; then it may stand for anything.
+    pub fn write(&mut self, alloc: Global, size: GrainSize, part: WritePart) -> Result<(), NoMemory>
+        ensures { OnOk result (self.new ≡ changed_at part.volume (after_write size part) self.old) }
+    {
+        write_blocks(alloc, size, self.volumes.as_mut_slice(), part)
+    }
+
+    /// A failed write left any bytes in a grain, of each volume with the id.
+    pub fn tear(&mut self, torn: Torn)
+        ensures { self.new ≡ changed_at torn.volume (after_torn torn) self.old }
+    {
+        tear_grain(self.volumes.as_mut_slice(), torn);
+    }
+
+    /// Does the effects of a command, in their order. Refused for want of memory alone; then it may stand for
+    /// anything.
+    pub fn apply(
+        &mut self,
+        alloc: Global,
+        size: GrainSize,
+        effects: &[Effect],
+    ) -> Result<(), NoMemory>
+        ensures { OnOk result (self.new ≡ after_effects size self.old effects.now) }
+    {
+        do_effects(alloc, size, &mut self.volumes, effects)
     }
 }

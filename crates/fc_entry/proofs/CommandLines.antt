@@ -67,30 +67,29 @@ mkvdisk_line name size unit thin =
     (option_words (codes "-size") (decimal size)) (given_words (codes "-unit") unit_word unit)
     (flag_words (codes "-thin") thin)
 
+-- a line with a volume and two numbers, and one more of a write
+abbrev pub access : List ℕ → Ref → ℕ → ℕ → List ℕ
+access line volume first second = line ++ ref_word volume ++ (codes " " ++ two_numbers first second)
+
+pub read_line : (volume : Ref) (block count : ℕ) → access (codes "read ") volume block count ≡ command_text (command.Read volume block count)
+read_line volume block count = simp append_assoc
+
+pub armfault_line : (volume : Ref) (grain calls : ℕ) → access (codes "armfault ") volume grain calls ≡ command_text (command.Armfault volume grain calls)
+armfault_line volume grain calls = simp append_assoc
+
+write_joined : (line object numbers byte : List ℕ) → concat ((line ++ object ++ numbers) ∷ byte ∷ []) ≡ line ++ (object ++ (numbers ++ byte))
+write_joined line object numbers byte = simp (append_assoc, append-nil)
+
 abbrev pub write_parts : Ref → ℕ → ℕ → ℕ → List (List ℕ)
-write_parts volume block count byte =
-    (codes "write " ++ ref_word volume) ∷ (codes " " ++ two_numbers block count) ∷ (codes " " ++ byte_word byte) ∷ []
+write_parts volume block count byte = access (codes "write ") volume block count ∷ (codes " " ++ byte_word byte) ∷ []
 
 pub write_line :
     (volume : Ref) (block count byte : ℕ) →
     concat (write_parts volume block count byte) ≡ command_text (command.Write volume block count byte)
-write_line volume block count byte = simp (append_assoc, append-nil)
-
-abbrev pub read_parts : Ref → ℕ → ℕ → List (List ℕ)
-read_parts volume block count = (codes "read " ++ ref_word volume) ∷ (codes " " ++ two_numbers block count) ∷ []
-
-pub read_line :
-    (volume : Ref) (block count : ℕ) →
-    concat (read_parts volume block count) ≡ command_text (command.Read volume block count)
-read_line volume block count = simp (append_assoc, append-nil)
-
-abbrev pub armfault_parts : Ref → ℕ → ℕ → List (List ℕ)
-armfault_parts volume grain calls = (codes "armfault " ++ ref_word volume) ∷ (codes " " ++ two_numbers grain calls) ∷ []
-
-pub armfault_line :
-    (volume : Ref) (grain calls : ℕ) →
-    concat (armfault_parts volume grain calls) ≡ command_text (command.Armfault volume grain calls)
-armfault_line volume grain calls = simp (append_assoc, append-nil)
+write_line volume block count byte =
+    let joined : codes "write " ++ (ref_word volume ++ ((codes " " ++ two_numbers block count) ++ (codes " " ++ byte_word byte)))
+    ≡ command_text (command.Write volume block count byte) = simp append_assoc in
+    write_joined (codes "write ") (ref_word volume) (codes " " ++ two_numbers block count) (codes " " ++ byte_word byte) ∙ joined
 
 new_mapping_joined :
     (line : List ℕ) (source target name group : List (List ℕ)) →

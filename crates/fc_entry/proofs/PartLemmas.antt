@@ -19,6 +19,12 @@ pub data Sequence : SinkState → List (List ℕ) → Bool → SinkState → Typ
   -- the last part, written or failed
   last : {a : SinkState} {t : List ℕ} {failed : Bool} {c : SinkState} → Written a t failed c → Sequence a (t ∷ []) failed c
 
+-- the same text, said in another way
+pub Written-as : {a : SinkState} {t u : List ℕ} {failed : Bool} {c : SinkState} → t ≡ u → Written a t failed c → Written a u failed c
+Written-as {a} {t} {u} {failed} {c} same written =
+    let P : List ℕ → Type 0 = λ text. Written a text failed c in
+    subst P same written
+
 whole :
     (a : SinkState) (ts : List (List ℕ)) (failed : Bool) (c : SinkState) →
     Sequence a ts failed c →
@@ -26,9 +32,7 @@ whole :
 whole a [] failed c sequence = elim sequence [ ]
 whole a (t ∷ ts) true c (cut h) = Written-cut a t (concat ts) c h
 whole a (t ∷ ts) failed c (next {b = b} h rest) = Written-then a t b (concat ts) failed c h (whole b ts failed c rest)
-whole a (t ∷ []) failed c (last h) =
-    let P : List ℕ → Type 0 = λ u. Written a u failed c in
-    subst P (sym (append-nil t)) h
+whole a (t ∷ []) failed c (last h) = Written-as (sym (append-nil t)) h
 
 -- so the text that the parts make was written
 pub Written-parts :
@@ -36,6 +40,4 @@ pub Written-parts :
     concat ts ≡ u →
     Sequence a ts failed c →
     Written a u failed c
-Written-parts {a} ts {u} {failed} {c} is_text sequence =
-    let P : List ℕ → Type 0 = λ u. Written a u failed c in
-    subst P is_text (whole a ts failed c sequence)
+Written-parts {a} ts {u} {failed} {c} is_text sequence = Written-as is_text (whole a ts failed c sequence)

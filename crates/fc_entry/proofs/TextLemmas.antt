@@ -1,25 +1,25 @@
--- The text of an entry as the parts that are put one after the other, and the text of a history that grows.
+-- The line of an entry as the parts that are put one after the other, and the text of a history that grows.
 use Rattle.std.proofs.Common.{◌≡◌, ℕ, List, [], ◌∷◌, ◌++◌, take, drop, codes, decimal, ap, sym, ◌∙◌, append_assoc}
 use Rattle.std.proofs.lemmas.List.{append-nil, take-append-drop}
 use Rattle.std.proofs.lemmas.List.Concat.{flat_map-append}
 use Rattle.std.specs.List.{concat, flat_map}
 use Rattle.fc_entry.specs.declared.entry.Entry.{Entry}
-use Rattle.fc_entry.specs.Text.{entry_text, reply_text, request_text, rows_text, text_by}
+use Rattle.fc_entry.specs.Text.{entry_text, line_text, reply_text, request_text}
 
-abbrev pub entry_parts : List ℕ → Entry → List (List ℕ)
-entry_parts actor entry =
+abbrev pub line_parts : List ℕ → Entry → List (List ℕ)
+line_parts actor entry =
     (decimal entry.number ++ codes " " ++ actor ++ codes " ") ∷ request_text entry.request ∷ codes " -> "
-    ∷ reply_text entry.reply ∷ codes "\n" ∷ rows_text entry.reply ∷ []
+    ∷ reply_text entry.reply ∷ codes "\n" ∷ []
 
 joined :
-    (number actor request reply rows : List ℕ) →
-    concat ((number ++ codes " " ++ actor ++ codes " ") ∷ request ∷ codes " -> " ∷ reply ∷ codes "\n" ∷ rows ∷ [])
-    ≡ number ++ codes " " ++ actor ++ codes " " ++ request ++ codes " -> " ++ reply ++ codes "\n" ++ rows
-joined number actor request reply rows = simp (append_assoc, append-nil)
+    (number actor request reply : List ℕ) →
+    concat ((number ++ codes " " ++ actor ++ codes " ") ∷ request ∷ codes " -> " ∷ reply ∷ codes "\n" ∷ [])
+    ≡ number ++ codes " " ++ actor ++ codes " " ++ request ++ codes " -> " ++ reply ++ codes "\n"
+joined number actor request reply = simp (append_assoc, append-nil)
 
-pub entry_parts-joined : (actor : List ℕ) (entry : Entry) → concat (entry_parts actor entry) ≡ text_by actor entry
-entry_parts-joined actor entry =
-    joined (decimal entry.number) actor (request_text entry.request) (reply_text entry.reply) (rows_text entry.reply)
+pub line_parts-joined : (actor : List ℕ) (entry : Entry) → concat (line_parts actor entry) ≡ line_text actor entry
+line_parts-joined actor entry =
+    joined (decimal entry.number) actor (request_text entry.request) (reply_text entry.reply)
 
 -- the text of the entries so far, and behind it the text of the others, is the whole text
 pub entries_text-joined :

@@ -9,4 +9,5 @@ pub mod Refused
 pub mod Lines
 pub mod Spaced
 pub mod Text
+pub mod Phrase
 pub mod Written

@@ -149,13 +149,21 @@ request_text (request.Clean map grain) = codes "clean " ++ two_numbers map.0 gra
 request_text (request.CopyTurn lane) = codes "copyturn " ++ decimal lane
 request_text (request.CleanTurn lane) = codes "cleanturn " ++ decimal lane
 
+-- the line of an entry of the actor with this name
+abbrev pub line_text : List ℕ → Entry → List ℕ
+line_text actor entry =
+    decimal entry.number ++ codes " " ++ actor ++ codes " " ++ request_text entry.request ++ codes " -> "
+    ++ reply_text entry.reply ++ codes "\n"
+
+-- the same, where these are the names of actors
+abbrev pub entry_line : List (List ℕ) → Entry → List ℕ
+entry_line actors entry = line_text (slice_index_or actors entry.actor []) entry
+
 -- an entry of the actor with this name: its line, and behind it the rows of its report
 abbrev pub text_by : List ℕ → Entry → List ℕ
-text_by actor entry =
-    decimal entry.number ++ codes " " ++ actor ++ codes " " ++ request_text entry.request ++ codes " -> "
-    ++ reply_text entry.reply ++ codes "\n" ++ rows_text entry.reply
+text_by actor entry = line_text actor entry ++ rows_text entry.reply
 
--- an entry, where these are the names of actors
+-- the same, where these are the names of actors
 abbrev pub entry_text : List (List ℕ) → Entry → List ℕ
 entry_text actors entry = text_by (slice_index_or actors entry.actor []) entry
 

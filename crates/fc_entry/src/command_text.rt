@@ -5,6 +5,7 @@ ghost use Rattle.std.specs.List.{join_with_byte};
 ghost use Rattle.fc_base.specs.CommandText.{command_text, command_words, delim_words, flag_words, given_words, grain_size_word, name_word, object_words, option_words, ref_word, unit_word, way_words};
 ghost use Rattle.fc_base.specs.declared.command.Command.TheVariants as command;
 ghost use Rattle.fc_entry.specs.Spaced.{spaced};
+ghost use Rattle.fc_entry.specs.Text.{two_numbers};
 ghost use Rattle.fc_entry.specs.Written.{Written};
 
 use crate::parts::{byte_digits, put_all, put_number, put_numbers, put_text, put_word};
@@ -212,6 +213,21 @@ fn put_mkvdisk<K: Sink>(
     put_size(size, unit, thin, sink)
 }
 
+/// Puts a line's name, its volume, and two numbers behind it.
+fn put_access<K: Sink>(
+    line: &[u8],
+    volume: &Ref,
+    first: u32,
+    second: u32,
+    sink: &mut K,
+) -> Result<(), Failed>
+    ensures { Written (K.meaning sink.old) (line.now ++ ref_word volume.now ++ (codes " " ++ two_numbers first second))
+        (is_err result) (K.meaning sink.new) }
+{
+    put_reference(line, volume, sink)?;
+    put_numbers(sink, b" ", first, second)
+}
+
 /// Puts a line that writes blocks.
 fn put_write<K: Sink>(
     volume: &Ref,
@@ -223,27 +239,8 @@ fn put_write<K: Sink>(
     ensures { Written (K.meaning sink.old) (command_text (command.Write volume.now block count byte)) (is_err result)
         (K.meaning sink.new) }
 {
-    put_reference(b"write ", volume, sink)?;
-    put_numbers(sink, b" ", block, count)?;
+    put_access(b"write ", volume, block, count, sink)?;
     put_word(sink, b" ", &byte_digits(byte))
-}
-
-/// Puts a line that reads blocks.
-fn put_read<K: Sink>(volume: &Ref, block: u32, count: u32, sink: &mut K) -> Result<(), Failed>
-    ensures { Written (K.meaning sink.old) (command_text (command.Read volume.now block count)) (is_err result)
-        (K.meaning sink.new) }
-{
-    put_reference(b"read ", volume, sink)?;
-    put_numbers(sink, b" ", block, count)
-}
-
-/// Puts a line that lets a coming call of a disk fail.
-fn put_armfault<K: Sink>(volume: &Ref, grain: u32, calls: u32, sink: &mut K) -> Result<(), Failed>
-    ensures { Written (K.meaning sink.old) (command_text (command.Armfault volume.now grain calls)) (is_err result)
-        (K.meaning sink.new) }
-{
-    put_reference(b"armfault ", volume, sink)?;
-    put_numbers(sink, b" ", grain, calls)
 }
 
 /// Puts the line of a new mapping as far as its group.
@@ -350,12 +347,12 @@ pub fn put_command<K: Sink>(command: &Command, sink: &mut K) -> Result<(), Faile
             volume,
             block,
             count,
-        } => put_read(volume, *block, *count, sink),
+        } => put_access(b"read ", volume, *block, *count, sink),
         Command::Armfault {
             volume,
             grain,
             calls,
-        } => put_armfault(volume, *grain, *calls, sink),
+        } => put_access(b"armfault ", volume, *grain, *calls, sink),
         Command::Advance { seconds } => put_number(sink, b"advance -seconds ", *seconds),
         Command::Mkfcmap {
             source,

@@ -31,23 +31,23 @@ pub fn put_text<K: Sink>(sink: &mut K, text: &[u8]) -> Result<(), Failed>
     sink.put(text)
 }
 
-/// Puts a text and a word behind it.
-pub(crate) fn put_word<K: Sink>(sink: &mut K, text: &[u8], word: &[u8]) -> Result<(), Failed>
+/// Puts a text and a word behind it. Failed, a front of both was added.
+pub fn put_word<K: Sink>(sink: &mut K, text: &[u8], word: &[u8]) -> Result<(), Failed>
     ensures { Written (K.meaning sink.old) (text.now ++ word.now) (is_err result) (K.meaning sink.new) }
 {
     put_all(sink, &[text, word])
 }
 
-/// Puts a text and a number behind it.
-pub(crate) fn put_number<K: Sink>(sink: &mut K, text: &[u8], number: u32) -> Result<(), Failed>
+/// Puts a text and a decimal number behind it. Failed, a front of both was added.
+pub fn put_number<K: Sink>(sink: &mut K, text: &[u8], number: u32) -> Result<(), Failed>
     ensures { Written (K.meaning sink.old) (text.now ++ decimal number) (is_err result) (K.meaning sink.new) }
 {
     let mut digits = Buffer::new();
     put_all(sink, &[text, digits.format(number).as_bytes()])
 }
 
-/// Puts a text and two numbers behind it.
-pub(crate) fn put_numbers<K: Sink>(
+/// Puts a text and two decimal numbers behind it, with a space between them. Failed, a front of it all was added.
+pub fn put_numbers<K: Sink>(
     sink: &mut K,
     text: &[u8],
     first: u32,

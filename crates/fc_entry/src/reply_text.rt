@@ -6,7 +6,8 @@ ghost use Rattle.fc_entry.specs.Text.{made_text, refusal_text, reply_text, rows_
 ghost use Rattle.fc_entry.specs.Written.{Written};
 
 use crate::parts::{byte_digits, put_all, put_number, put_numbers, put_text, put_word};
-use crate::refusal_text::{put_refusal, state_word};
+use crate::phrase::put_phrase;
+use crate::refusal_text::{refusal_phrase, state_word};
 use fc_base::fault::{Kind, Refusal};
 use fc_base::ids::MapId;
 use fc_base::list::List;
@@ -115,11 +116,11 @@ fn put_refused<K: Sink>(refusal: &Refusal, sink: &mut K) -> Result<(), Failed>
     ensures { Written (K.meaning sink.old) (codes "refused " ++ refusal_text refusal.now) (is_err result) (K.meaning sink.new) }
 {
     put_text(sink, b"refused ")?;
-    put_refusal(refusal, sink)
+    put_phrase(refusal_phrase(refusal), sink)
 }
 
-/// Puts what was answered, in one line.
-pub(crate) fn put_reply<K: Sink>(reply: &Reply, sink: &mut K) -> Result<(), Failed>
+/// Puts what was answered, as it stands in the entry's line. Failed, a front of it was added.
+pub fn put_reply<K: Sink>(reply: &Reply, sink: &mut K) -> Result<(), Failed>
     ensures { Written (K.meaning sink.old) (reply_text reply.now) (is_err result) (K.meaning sink.new) }
 {
     match reply {
@@ -151,8 +152,8 @@ fn put_rows<K: Sink>(rows: &[List<u8>], sink: &mut K) -> Result<(), Failed>
     Ok(())
 }
 
-/// Puts the rows of a reply, a line each: those of a report, or none.
-pub(crate) fn put_reply_rows<K: Sink>(reply: &Reply, sink: &mut K) -> Result<(), Failed>
+/// Puts the rows of a reply, a line each: those of a report, or none. Failed, a front of them was added.
+pub fn put_reply_rows<K: Sink>(reply: &Reply, sink: &mut K) -> Result<(), Failed>
     ensures { Written (K.meaning sink.old) (rows_text reply.now) (is_err result) (K.meaning sink.new) }
 {
     match reply {

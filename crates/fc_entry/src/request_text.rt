@@ -60,8 +60,8 @@ fn put_write_part<K: Sink>(part: WritePart, sink: &mut K) -> Result<(), Failed>
     )
 }
 
-/// Puts what was asked.
-pub(crate) fn put_request<K: Sink>(request: &Request, sink: &mut K) -> Result<(), Failed>
+/// Puts what was asked, as it stands in the entry's line. Failed, a front of it was added.
+pub fn put_request<K: Sink>(request: &Request, sink: &mut K) -> Result<(), Failed>
     ensures { Written (K.meaning sink.old) (request_text request.now) (is_err result) (K.meaning sink.new) }
 {
     match request {

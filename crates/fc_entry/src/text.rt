@@ -3,7 +3,7 @@
 ghost use Rattle.std.specs.Prelude.{◌<◌, ◌≤◌, ◌++◌, length, drop, codes, decimal, is_err, slice_get, IfSome};
 ghost use Rattle.std.specs.List.{flat_map};
 ghost use Rattle.std.specs.Option.{ForSome};
-ghost use Rattle.fc_entry.specs.Text.{HasNames, entry_text, history_text, text_by};
+ghost use Rattle.fc_entry.specs.Text.{HasNames, entry_line, entry_text, history_text, line_text};
 ghost use Rattle.fc_entry.specs.Written.{Written};
 
 use crate::entry::Entry;
@@ -24,16 +24,28 @@ fn put_head<K: Sink>(number: u64, actor: &[u8], sink: &mut K) -> Result<(), Fail
     put_all(sink, &[digits.format(number).as_bytes(), b" ", actor, b" "])
 }
 
-/// Puts the text of an entry of the actor with this name.
-fn put_entry_by<K: Sink>(actor: &[u8], entry: &Entry, sink: &mut K) -> Result<(), Failed>
-    ensures { Written (K.meaning sink.old) (text_by actor.now entry.now) (is_err result) (K.meaning sink.new) }
+/// Puts the line of an entry of the actor with this name.
+fn put_line_by<K: Sink>(actor: &[u8], entry: &Entry, sink: &mut K) -> Result<(), Failed>
+    ensures { Written (K.meaning sink.old) (line_text actor.now entry.now) (is_err result) (K.meaning sink.new) }
 {
     put_head(entry.number, actor, sink)?;
     put_request(&entry.request, sink)?;
     put_text(sink, b" -> ")?;
     put_reply(&entry.reply, sink)?;
-    put_text(sink, b"\n")?;
-    put_reply_rows(&entry.reply, sink)
+    put_text(sink, b"\n")
+}
+
+/// Puts the line of the entry with this number, without the rows of its report. Its actor needs a name. Takes no memory.
+/// Failed, a front of the line was added, and the sink's count of faults rose in this call or stands at its last value.
+pub fn put_line<K: Sink>(history: &History, index: usize, sink: &mut K) -> Result<(), Failed>
+    requires within { index < length history.now.entries }
+    requires named { ForSome (slice_get history.now.entries index) (λ entry. entry.actor < length history.now.actors) }
+    ensures { IfSome (slice_get history.now.entries index) (λ entry.
+        Written (K.meaning sink.old) (entry_line history.now.actors entry) (is_err result) (K.meaning sink.new)) }
+{
+    let entry = history.entry(index);
+    let actor = history.actor_name(entry.actor);
+    put_line_by(actor.as_bytes(), entry, sink)
 }
 
 /// Puts the text of the entry with this number: its line, and behind it the rows of its report. Its actor needs a
@@ -46,8 +58,8 @@ pub fn put_entry<K: Sink>(history: &History, index: usize, sink: &mut K) -> Resu
         Written (K.meaning sink.old) (entry_text history.now.actors entry) (is_err result) (K.meaning sink.new)) }
 {
     let entry = history.entry(index);
-    let actor = history.actor_name(entry.actor);
-    put_entry_by(actor.as_bytes(), entry, sink)
+    put_line(history, index, sink)?;
+    put_reply_rows(&entry.reply, sink)
 }
 
 /// Puts the texts of the entries from number `from` on, in order. Each actor needs a name. Takes no memory. Failed, a

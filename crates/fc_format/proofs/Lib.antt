@@ -3,6 +3,7 @@ pub mod Steps
 pub mod Puts
 pub mod RoundTrip
 pub mod Batches
+pub mod Made
 pub mod Parts
 pub mod Counts
 pub mod HalfReads

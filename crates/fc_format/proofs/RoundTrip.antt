@@ -2,6 +2,7 @@
 use Rattle.std.proofs.Common.{◌≡◌, ℕ, suc, ◌+◌, ◌^◌, ◌<◌, Bool, true, false, List, [], ◌∷◌, ◌++◌, length, take, drop, All, IsTrue, Option, Some, None, refl, sym, ap, ◌∙◌, subst, arith, append_assoc, length-append}
 use Rattle.std.proofs.lemmas.List.Elements.{All-head, All-tail}
 use Rattle.std.proofs.Math.Seq.{take_at, drop_at}
+use Rattle.std.specs.Prelude.{option_map}
 use Rattle.std.specs.List.{flat_map}
 use Rattle.byteorder.specs.Endian.{big_bytes}
 use Rattle.byteorder.specs.Numbers.{big_number-reads_back, length-bytes_high_first}
@@ -23,10 +24,10 @@ use Rattle.fc_image.specs.declared.image.MetaChain.{MetaChain}
 use Rattle.fc_image.specs.declared.image.MetaLost.{MetaLost}
 use Rattle.fc_image.specs.declared.image.MetaChanges.{MetaChanges}
 use Rattle.fc_image.specs.declared.image.MetaImage.{MetaImage}
-use Rattle.fc_format.specs.Bytes.{byte, no_id, flag_code, kind_code, side_code, state_code, volume_code, mapping_code, group_code, name_bytes, list_bytes, words_bytes, volume_bytes, mapping_bytes, group_bytes, slot_bytes, chain_bytes, lost_bytes, changes_bytes, image_bytes}
+use Rattle.fc_format.specs.Bytes.{byte, no_id, id_code, flag_code, kind_code, side_code, state_code, volume_code, mapping_code, group_code, name_bytes, list_bytes, words_bytes, volume_bytes, mapping_bytes, group_bytes, slot_bytes, chain_bytes, lost_bytes, changes_bytes, image_bytes}
 use Rattle.fc_format.specs.Reading.{Got, Reader, and_then, number, choice, name, items, list}
 use Rattle.fc_format.specs.Fields.{flag, flag_of, kind, kind_of, side, side_of, state, state_of, byte_value, id_of, optional, volume_id, mapping_id, group_id, words, volume, mapping, group, slot, chain, lost, changes, image}
-use Rattle.fc_format.specs.Ranges.{AreWords, IsTypedVolume, IsTypedMapping, IsTypedGroup, IsTypedSlot, IsTypedChain, IsTypedLost, IsTypedChanges, IsTypedImage, IsVolumeId, IsMappingId, IsGroupId}
+use Rattle.fc_format.specs.Ranges.{AreWords, IsIdCode, IsTypedVolume, IsTypedMapping, IsTypedGroup, IsTypedSlot, IsTypedChain, IsTypedLost, IsTypedChanges, IsTypedImage, IsVolumeId, IsMappingId, IsGroupId}
 use Rattle.fc_format.proofs.Steps.{number_there, choice_right, name_right, optional_is, id_there}
 
 -- ---- One after the other
@@ -105,23 +106,24 @@ name_back text good rest end =
 pub id_good : (n : ℕ) → n < no_id → id_of n ≡ Some n
 id_good n small = id_there n (λ e. let l : n < n = subst (λ (z : ℕ). n < z) (sym e) small in absurd (omega arith))
 
+pub id_back : {I : Type 0} (number_of : I → ℕ) (named : ℕ → I) → ((i : I) → named (number_of i) ≡ i) → (o : Option I) → id_code number_of o < 2 ^ 32 → IsIdCode number_of o
+    → (rest : List ℕ) (end : ℕ) → optional (λ n. option_map named n) (record { bytes = big_bytes 4 (id_code number_of o) ++ rest; end = end }) ≡ Got o (record { bytes = rest; end = end })
+id_back number_of named same (Some id) small good rest end =
+    optional_is _ _ (record { bytes = rest; end = end }) (number_of id) (Some id) (number_back 4 (number_of id) small rest end)
+    (sym (ap (option_map named) (id_good (number_of id) good) ∙ ap (λ z. Some z) (same id)))
+id_back number_of named same None small good rest end = optional_is _ _ (record { bytes = rest; end = end }) no_id None (number_back 4 no_id small rest end) refl
+
 pub volume_id_back : (o : Option VolId) → volume_code o < 2 ^ 32 → IsVolumeId o → (rest : List ℕ) (end : ℕ)
     → optional volume_id (record { bytes = big_bytes 4 (volume_code o) ++ rest; end = end }) ≡ Got o (record { bytes = rest; end = end })
-volume_id_back (Some id) small good rest end =
-    optional_is volume_id _ (record { bytes = rest; end = end }) id.0 (Some id) (number_back 4 id.0 small rest end) (sym (ap volume_id (id_good id.0 good)))
-volume_id_back None small good rest end = optional_is volume_id _ (record { bytes = rest; end = end }) no_id None (number_back 4 no_id small rest end) refl
+volume_id_back o = id_back (λ v. v.0) (λ n. record { 0 = n }) (λ v. refl) o
 
 pub mapping_id_back : (o : Option MapId) → mapping_code o < 2 ^ 32 → IsMappingId o → (rest : List ℕ) (end : ℕ)
     → optional mapping_id (record { bytes = big_bytes 4 (mapping_code o) ++ rest; end = end }) ≡ Got o (record { bytes = rest; end = end })
-mapping_id_back (Some id) small good rest end =
-    optional_is mapping_id _ (record { bytes = rest; end = end }) id.0 (Some id) (number_back 4 id.0 small rest end) (sym (ap mapping_id (id_good id.0 good)))
-mapping_id_back None small good rest end = optional_is mapping_id _ (record { bytes = rest; end = end }) no_id None (number_back 4 no_id small rest end) refl
+mapping_id_back o = id_back (λ m. m.0) (λ n. record { 0 = n }) (λ m. refl) o
 
 pub group_id_back : (o : Option GroupId) → group_code o < 2 ^ 32 → IsGroupId o → (rest : List ℕ) (end : ℕ)
     → optional group_id (record { bytes = big_bytes 4 (group_code o) ++ rest; end = end }) ≡ Got o (record { bytes = rest; end = end })
-group_id_back (Some id) small good rest end =
-    optional_is group_id _ (record { bytes = rest; end = end }) id.0 (Some id) (number_back 4 id.0 small rest end) (sym (ap group_id (id_good id.0 good)))
-group_id_back None small good rest end = optional_is group_id _ (record { bytes = rest; end = end }) no_id None (number_back 4 no_id small rest end) refl
+group_id_back o = id_back (λ g. g.0) (λ n. record { 0 = n }) (λ g. refl) o
 
 -- ---- Lists
 

@@ -51,17 +51,18 @@ state_code Stopped = 6
 abbrev pub no_id : ℕ
 no_id = 2 ^ 32 - 1
 
+abbrev pub id_code : {I : Type 0} → (I → ℕ) → Option I → ℕ
+id_code number (Some id) = number id
+id_code number None = no_id
+
 abbrev pub volume_code : Option VolId → ℕ
-volume_code (Some id) = id.0
-volume_code None = no_id
+volume_code id = id_code (λ v. v.0) id
 
 abbrev pub mapping_code : Option MapId → ℕ
-mapping_code (Some id) = id.0
-mapping_code None = no_id
+mapping_code id = id_code (λ m. m.0) id
 
 abbrev pub group_code : Option GroupId → ℕ
-group_code (Some id) = id.0
-group_code None = no_id
+group_code id = id_code (λ g. g.0) id
 
 -- a name has its length before it
 unfoldable pub name_bytes : List ℕ → List ℕ

@@ -1,5 +1,5 @@
 -- The readers of the parts of an image, each its writer's steps in the same order.
-use Rattle.std.specs.Prelude.{ℕ, Bool, true, false, ◌==◌, if◌then◌else◌, List, length, Option, Some, None}
+use Rattle.std.specs.Prelude.{ℕ, Bool, true, false, ◌==◌, if◌then◌else◌, List, length, Option, Some, None, option_map}
 use Rattle.fc_base.specs.declared.disk.DiskKind.{DiskKind}
 use Rattle.fc_base.specs.declared.disk.DiskKind.TheVariants.{Flat, Thin}
 use Rattle.fc_base.specs.declared.state.MapState.{MapState}
@@ -59,16 +59,13 @@ abbrev pub id_of : ℕ → Option ℕ
 id_of n = if n == no_id then None else Some n
 
 abbrev pub volume_id : Option ℕ → Option VolId
-volume_id (Some id) = Some (record { 0 = id })
-volume_id None = None
+volume_id n = option_map (λ n. record { 0 = n }) n
 
 abbrev pub mapping_id : Option ℕ → Option MapId
-mapping_id (Some id) = Some (record { 0 = id })
-mapping_id None = None
+mapping_id n = option_map (λ n. record { 0 = n }) n
 
 abbrev pub group_id : Option ℕ → Option GroupId
-group_id (Some id) = Some (record { 0 = id })
-group_id None = None
+group_id n = option_map (λ n. record { 0 = n }) n
 
 -- an id that may be absent
 unfoldable pub optional : {A : Type 0} → (Option ℕ → A) → Reader A
@@ -184,6 +181,12 @@ image = do
   })
 
 -- ---- Records
+
+abbrev pub record_code : RecordKind → ℕ
+record_code OfPair = 1
+record_code OfWritten = 2
+record_code OfTorn = 3
+record_code OfChanging = 4
 
 abbrev pub record_kind_of : ℕ → Option RecordKind
 record_kind_of n =

@@ -82,17 +82,18 @@ IsTypedRecord (Changing volume grain) = (volume.0 < 2 ^ 32) × (grain.0 < 2 ^ 32
 
 -- ---- What is asked of an image: the number that stands for an absent id is no id
 
+abbrev pub IsIdCode : {I : Type 0} → (I → ℕ) → Option I → Type 0
+IsIdCode number (Some id) = number id < no_id
+IsIdCode number None = ⊤
+
 abbrev pub IsVolumeId : Option VolId → Type 0
-IsVolumeId (Some id) = id.0 < no_id
-IsVolumeId None = ⊤
+IsVolumeId id = IsIdCode (λ v. v.0) id
 
 abbrev pub IsMappingId : Option MapId → Type 0
-IsMappingId (Some id) = id.0 < no_id
-IsMappingId None = ⊤
+IsMappingId id = IsIdCode (λ m. m.0) id
 
 abbrev pub IsGroupId : Option GroupId → Type 0
-IsGroupId (Some id) = id.0 < no_id
-IsGroupId None = ⊤
+IsGroupId id = IsIdCode (λ g. g.0) id
 
 -- each id that may be absent is below the number that stands for an absent one
 pub record HasGoodIds (i : MetaImage) : Type 0 where

@@ -25,6 +25,10 @@ infixl 10 ◌>>=◌
 abbrev pub ◌>>=◌ : {A B : Type 0} → Reader A → (A → Reader B) → Reader B
 first >>= next = λ left. and_then (first left) next
 
+-- the values of two readers, one after the other
+abbrev pub both : {A B : Type 0} → Reader A → Reader B → Reader (A × B)
+both first second = first >>= (λ a. second >>= (λ b. Got (a, b)))
+
 -- What a call that reads answers and leaves. Want of memory alone is free.
 abbrev pub IsRead : {A : Type 0} → Reading A → Result A ReadError → Left → Type 0
 IsRead reading (Ok a) left = reading ≡ Got a left

@@ -2,33 +2,27 @@
 
 ghost use Rattle.std.specs.Prelude.{◌≡◌, ◌<◌, ◌≤◌, ◌^◌, ◌++◌, List, ℕ, ⊤, All, IsTrue, true, length, IfOk, OnOk};
 ghost use Rattle.std.specs.List.{flat_map};
-ghost use Rattle.byteorder.specs.Endian.{big_bytes};
+ghost use Rattle.std.specs.Result.{result_map_both};
+ghost use Rattle.byteorder.specs.Endian.{big_bytes, big_number};
 ghost use Rattle.fc_base.specs.Names.{is_name};
-ghost use Rattle.fc_format.specs.Bytes.{byte, flag_code, kind_code, side_code, state_code, name_bytes, list_bytes, words_bytes, volume_code, mapping_code, group_code};
+ghost use Rattle.fc_format.specs.Bytes.{name_bytes, list_bytes, words_bytes};
 ghost use Rattle.fc_format.specs.Left.{Left};
-ghost use Rattle.fc_format.specs.Reading.{Reading, number, name, items, list, IsRead, items_read};
-ghost use Rattle.fc_format.specs.Fields.{flag, flag_of, kind, kind_of, side, side_of, state, state_of, byte_value, optional, volume_id, mapping_id, group_id, words};
+ghost use Rattle.fc_format.specs.Reading.{Reading, number, name, both, items, list, IsRead, items_read};
+ghost use Rattle.fc_format.specs.Fields.{words};
 ghost use Rattle.fc_format.specs.Ranges.{AreWords};
 
 use crate::cursor::{Cursor, ReadError};
 use byteorder::{BigEndian, ByteOrder};
-use fc_base::disk::DiskKind;
-use fc_base::ids::{GroupId, MapId, VolId};
 use fc_base::list::List;
 use fc_base::name::Name;
 use fc_base::outcome::NoMemory;
-use fc_base::request::Side;
-use fc_base::state::MapState;
 use fc_image::Words;
 use std::alloc::Global;
 
-/// A part of an image.
-pub(crate) trait Field: Drop + Sized {
+/// What is written as bytes.
+pub(crate) trait Put {
     /// The bytes that stand for it.
     ghost bytes_of: { Self → List ℕ };
-
-    /// What bytes are read as.
-    ghost reading: { Left → Reading Self };
 
     /// Its numbers are of their types.
     ghost is_typed: { Self → Type 0 };
@@ -37,6 +31,12 @@ pub(crate) trait Field: Drop + Sized {
     fn put(&self, out: &mut Vec<u8>) -> Result<(), NoMemory>
         ensures bytes { OnOk result (out.new.items ≡ out.old.items ++ bytes_of self.now) }
         ensures typed { OnOk result (is_typed self.now) };
+}
+
+/// What is read from bytes.
+pub(crate) trait Field: Drop + Sized {
+    /// What bytes are read as.
+    ghost reading: { Left → Reading Self };
 
     /// Takes one off the front.
     fn read(alloc: Global, cursor: &mut Cursor) -> Result<Self, ReadError>
@@ -63,57 +63,70 @@ pub(crate) fn put_count(out: &mut Vec<u8>, count: usize) -> Result<(), NoMemory>
     put_bytes(out, &bytes[4..])
 }
 
-impl Field for u8 {
-    ghost bytes_of = { byte };
+/// Two parts, one behind the other.
+#[derive(Drop)]
+pub(crate) struct Two<'a, A, B>(pub(crate) &'a A, pub(crate) &'a B);
 
-    ghost reading = { byte_value };
+impl<'a, A: Put, B: Put> Put for Two<'a, A, B> {
+    ghost bytes_of = { λ two. A.bytes_of two.0.now ++ B.bytes_of two.1.now };
 
-    ghost is_typed = { λ n. n < 2 ^ 8 };
+    ghost is_typed = { λ two. A.is_typed two.0.now × B.is_typed two.1.now };
 
     fn put(&self, out: &mut Vec<u8>) -> Result<(), NoMemory> {
-        put_bytes(out, &[*self])
-    }
-
-    fn read(_alloc: Global, cursor: &mut Cursor) -> Result<Self, ReadError> {
-        match cursor.first() {
-            Some(byte) => {
-                cursor.skip(1);
-                Ok(byte)
-            }
-            None => Err(cursor.damaged()),
-        }
+        self.0.put(out)?;
+        self.1.put(out)?;
+        Ok(())
     }
 }
 
-impl Field for u32 {
-    ghost bytes_of = { big_bytes 4 };
+impl<A: Field, B: Field> Field for (A, B) {
+    ghost reading = { both A.reading B.reading };
 
-    ghost reading = { number 4 };
+    fn read(alloc: Global, cursor: &mut Cursor) -> Result<Self, ReadError> {
+        let first = A::read(alloc, cursor)?;
+        let second = B::read(alloc, cursor)?;
+        Ok((first, second))
+    }
+}
+
+/// Passes over a number of so many bytes, and answers the bytes from it on. Damaged where fewer are left.
+fn take_number<'a>(cursor: &mut Cursor<'a>, count: usize) -> Result<&'a [u8], ReadError>
+    ensures there { IfOk result (λ bytes. count ≤ length bytes.now) }
+    ensures number { IsRead (number count cursor.old)
+        (result_map_both (λ bytes. big_number count bytes.now) (λ error. error) result)
+        cursor.new }
+{
+    let bytes = cursor.bytes();
+    if bytes.len() < count {
+        return Err(cursor.damaged());
+    }
+    cursor.skip(count);
+    Ok(bytes)
+}
+
+impl Put for u32 {
+    ghost bytes_of = { big_bytes 4 };
 
     ghost is_typed = { λ n. n < 2 ^ 32 };
 
     fn put(&self, out: &mut Vec<u8>) -> Result<(), NoMemory> {
-        let mut buffer = [0u8; 4];
-        let bytes: &mut [u8] = &mut buffer;
-        BigEndian::write_u32(bytes, *self);
-        put_bytes(out, bytes)
-    }
-
-    fn read(_alloc: Global, cursor: &mut Cursor) -> Result<Self, ReadError> {
-        let bytes = cursor.bytes();
-        if bytes.len() < 4 {
-            return Err(cursor.damaged());
-        }
-        let number = BigEndian::read_u32(bytes);
-        cursor.skip(4);
-        Ok(number)
+        put_count(out, *self as usize)
     }
 }
 
-impl Field for u64 {
-    ghost bytes_of = { big_bytes 8 };
+impl Field for u32 {
+    ghost reading = { number 4 };
 
-    ghost reading = { number 8 };
+    fn read(_alloc: Global, cursor: &mut Cursor) -> Result<Self, ReadError> {
+        match take_number(cursor, 4) {
+            Ok(bytes) => Ok(BigEndian::read_u32(bytes)),
+            Err(error) => Err(error),
+        }
+    }
+}
+
+impl Put for u64 {
+    ghost bytes_of = { big_bytes 8 };
 
     ghost is_typed = { λ n. n < 2 ^ 64 };
 
@@ -123,263 +136,21 @@ impl Field for u64 {
         BigEndian::write_u64(bytes, *self);
         put_bytes(out, bytes)
     }
+}
+
+impl Field for u64 {
+    ghost reading = { number 8 };
 
     fn read(_alloc: Global, cursor: &mut Cursor) -> Result<Self, ReadError> {
-        let bytes = cursor.bytes();
-        if bytes.len() < 8 {
-            return Err(cursor.damaged());
-        }
-        let number = BigEndian::read_u64(bytes);
-        cursor.skip(8);
-        Ok(number)
-    }
-}
-
-/// The mark that a byte stands for.
-fn flag_of(code: u8) -> Option<bool>
-    ensures { result ≡ flag_of code }
-{
-    match code {
-        0 => Some(false),
-        1 => Some(true),
-        _ => None,
-    }
-}
-
-impl Field for bool {
-    ghost bytes_of = { λ value. byte (flag_code value) };
-
-    ghost reading = { flag };
-
-    ghost is_typed = { λ value. ⊤ };
-
-    fn put(&self, out: &mut Vec<u8>) -> Result<(), NoMemory> {
-        put_bytes(out, &[u8::from(*self)])
-    }
-
-    fn read(_alloc: Global, cursor: &mut Cursor) -> Result<Self, ReadError> {
-        match cursor.first() {
-            Some(code) => match flag_of(code) {
-                Some(value) => {
-                    cursor.skip(1);
-                    Ok(value)
-                }
-                None => Err(cursor.damaged()),
-            },
-            None => Err(cursor.damaged()),
+        match take_number(cursor, 8) {
+            Ok(bytes) => Ok(BigEndian::read_u64(bytes)),
+            Err(error) => Err(error),
         }
     }
 }
 
-/// The kind of disk that a byte stands for.
-fn kind_of(code: u8) -> Option<DiskKind>
-    ensures { result ≡ kind_of code }
-{
-    match code {
-        0 => Some(DiskKind::Flat),
-        1 => Some(DiskKind::Thin),
-        _ => None,
-    }
-}
-
-impl Field for DiskKind {
-    ghost bytes_of = { λ value. byte (kind_code value) };
-
-    ghost reading = { kind };
-
-    ghost is_typed = { λ value. ⊤ };
-
-    fn put(&self, out: &mut Vec<u8>) -> Result<(), NoMemory> {
-        let code = match self {
-            DiskKind::Flat => 0,
-            DiskKind::Thin => 1,
-        };
-        put_bytes(out, &[code])
-    }
-
-    fn read(_alloc: Global, cursor: &mut Cursor) -> Result<Self, ReadError> {
-        match cursor.first() {
-            Some(code) => match kind_of(code) {
-                Some(value) => {
-                    cursor.skip(1);
-                    Ok(value)
-                }
-                None => Err(cursor.damaged()),
-            },
-            None => Err(cursor.damaged()),
-        }
-    }
-}
-
-/// The side that a byte stands for.
-fn side_of(code: u8) -> Option<Side>
-    ensures { result ≡ side_of code }
-{
-    match code {
-        0 => Some(Side::Now),
-        1 => Some(Side::Under),
-        _ => None,
-    }
-}
-
-impl Field for Side {
-    ghost bytes_of = { λ value. byte (side_code value) };
-
-    ghost reading = { side };
-
-    ghost is_typed = { λ value. ⊤ };
-
-    fn put(&self, out: &mut Vec<u8>) -> Result<(), NoMemory> {
-        let code = match self {
-            Side::Now => 0,
-            Side::Under => 1,
-        };
-        put_bytes(out, &[code])
-    }
-
-    fn read(_alloc: Global, cursor: &mut Cursor) -> Result<Self, ReadError> {
-        match cursor.first() {
-            Some(code) => match side_of(code) {
-                Some(value) => {
-                    cursor.skip(1);
-                    Ok(value)
-                }
-                None => Err(cursor.damaged()),
-            },
-            None => Err(cursor.damaged()),
-        }
-    }
-}
-
-/// The state that a byte stands for.
-fn state_of(code: u8) -> Option<MapState>
-    ensures { result ≡ state_of code }
-{
-    match code {
-        0 => Some(MapState::Empty),
-        1 => Some(MapState::IdleOrCopied),
-        2 => Some(MapState::Preparing),
-        3 => Some(MapState::Prepared),
-        4 => Some(MapState::Copying),
-        5 => Some(MapState::Stopping),
-        6 => Some(MapState::Stopped),
-        _ => None,
-    }
-}
-
-impl Field for MapState {
-    ghost bytes_of = { λ value. byte (state_code value) };
-
-    ghost reading = { state };
-
-    ghost is_typed = { λ value. ⊤ };
-
-    fn put(&self, out: &mut Vec<u8>) -> Result<(), NoMemory> {
-        let code = match self {
-            MapState::Empty => 0,
-            MapState::IdleOrCopied => 1,
-            MapState::Preparing => 2,
-            MapState::Prepared => 3,
-            MapState::Copying => 4,
-            MapState::Stopping => 5,
-            MapState::Stopped => 6,
-        };
-        put_bytes(out, &[code])
-    }
-
-    fn read(_alloc: Global, cursor: &mut Cursor) -> Result<Self, ReadError> {
-        match cursor.first() {
-            Some(code) => match state_of(code) {
-                Some(value) => {
-                    cursor.skip(1);
-                    Ok(value)
-                }
-                None => Err(cursor.damaged()),
-            },
-            None => Err(cursor.damaged()),
-        }
-    }
-}
-
-/// The number that stands for an absent id.
-const NO_ID: u32 = u32::MAX;
-
-impl Field for Option<VolId> {
-    ghost bytes_of = { λ id. big_bytes 4 (volume_code id) };
-
-    ghost reading = { optional volume_id };
-
-    ghost is_typed = { λ id. volume_code id < 2 ^ 32 };
-
-    fn put(&self, out: &mut Vec<u8>) -> Result<(), NoMemory> {
-        let number = match self {
-            Some(id) => id.0,
-            None => NO_ID,
-        };
-        number.put(out)
-    }
-
-    fn read(alloc: Global, cursor: &mut Cursor) -> Result<Self, ReadError> {
-        let id = u32::read(alloc, cursor)?;
-        if id == NO_ID {
-            return Ok(None);
-        }
-        Ok(Some(VolId(id)))
-    }
-}
-
-impl Field for Option<MapId> {
-    ghost bytes_of = { λ id. big_bytes 4 (mapping_code id) };
-
-    ghost reading = { optional mapping_id };
-
-    ghost is_typed = { λ id. mapping_code id < 2 ^ 32 };
-
-    fn put(&self, out: &mut Vec<u8>) -> Result<(), NoMemory> {
-        let number = match self {
-            Some(id) => id.0,
-            None => NO_ID,
-        };
-        number.put(out)
-    }
-
-    fn read(alloc: Global, cursor: &mut Cursor) -> Result<Self, ReadError> {
-        let id = u32::read(alloc, cursor)?;
-        if id == NO_ID {
-            return Ok(None);
-        }
-        Ok(Some(MapId(id)))
-    }
-}
-
-impl Field for Option<GroupId> {
-    ghost bytes_of = { λ id. big_bytes 4 (group_code id) };
-
-    ghost reading = { optional group_id };
-
-    ghost is_typed = { λ id. group_code id < 2 ^ 32 };
-
-    fn put(&self, out: &mut Vec<u8>) -> Result<(), NoMemory> {
-        let number = match self {
-            Some(id) => id.0,
-            None => NO_ID,
-        };
-        number.put(out)
-    }
-
-    fn read(alloc: Global, cursor: &mut Cursor) -> Result<Self, ReadError> {
-        let id = u32::read(alloc, cursor)?;
-        if id == NO_ID {
-            return Ok(None);
-        }
-        Ok(Some(GroupId(id)))
-    }
-}
-
-impl Field for Name {
+impl Put for Name {
     ghost bytes_of = { name_bytes };
-
-    ghost reading = { name };
 
     ghost is_typed = { λ text. IsTrue (is_name text) };
 
@@ -388,6 +159,10 @@ impl Field for Name {
         put_bytes(out, &[bytes.len() as u8])?;
         put_bytes(out, bytes)
     }
+}
+
+impl Field for Name {
+    ghost reading = { name };
 
     fn read(alloc: Global, cursor: &mut Cursor) -> Result<Self, ReadError> {
         let count = match cursor.first() {
@@ -410,7 +185,7 @@ impl Field for Name {
 }
 
 /// Puts items one after the other at the end.
-pub(crate) fn put_items<T: Field>(out: &mut Vec<u8>, all: &[T]) -> Result<(), NoMemory>
+pub(crate) fn put_items<T: Put>(out: &mut Vec<u8>, all: &[T]) -> Result<(), NoMemory>
     ensures bytes { OnOk result (out.new.items ≡ out.old.items ++ flat_map T.bytes_of all.now) }
     ensures typed { OnOk result (All T.is_typed all.now) }
 {
@@ -421,7 +196,7 @@ pub(crate) fn put_items<T: Field>(out: &mut Vec<u8>, all: &[T]) -> Result<(), No
 }
 
 /// Puts a list behind its count.
-pub(crate) fn put_list<T: Field>(out: &mut Vec<u8>, all: &[T]) -> Result<(), NoMemory>
+pub(crate) fn put_list<T: Put>(out: &mut Vec<u8>, all: &[T]) -> Result<(), NoMemory>
     ensures bytes { OnOk result (out.new.items ≡ out.old.items ++ list_bytes T.bytes_of all.now) }
     ensures typed { OnOk result (All T.is_typed all.now) }
 {
@@ -453,16 +228,18 @@ pub(crate) fn take_list<T: Field>(alloc: Global, cursor: &mut Cursor) -> Result<
     take_items(alloc, cursor, count)
 }
 
-impl<T: Field> Field for List<T> {
+impl<T: Put> Put for List<T> {
     ghost bytes_of = { list_bytes T.bytes_of };
-
-    ghost reading = { list T.reading };
 
     ghost is_typed = { All T.is_typed };
 
     fn put(&self, out: &mut Vec<u8>) -> Result<(), NoMemory> {
         put_list(out, self.as_slice())
     }
+}
+
+impl<T: Field> Field for List<T> {
+    ghost reading = { list T.reading };
 
     fn read(alloc: Global, cursor: &mut Cursor) -> Result<Self, ReadError> {
         match take_list(alloc, cursor) {
@@ -472,16 +249,18 @@ impl<T: Field> Field for List<T> {
     }
 }
 
-impl Field for Words {
+impl Put for Words {
     ghost bytes_of = { words_bytes };
-
-    ghost reading = { words };
 
     ghost is_typed = { AreWords };
 
     fn put(&self, out: &mut Vec<u8>) -> Result<(), NoMemory> {
         put_list(out, self.as_slice())
     }
+}
+
+impl Field for Words {
+    ghost reading = { words };
 
     fn read(alloc: Global, cursor: &mut Cursor) -> Result<Self, ReadError> {
         match take_list(alloc, cursor) {

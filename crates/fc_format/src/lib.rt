@@ -10,14 +10,16 @@
 //!   doesn't continue the format (`specs/Reading.antt`, `specs/Fields.antt`).
 //! - What a whole disk stands for: `recovered` of `specs/Halves.antt`.
 //!
-//! To read: the four files of `specs/`, then `half`, `cursor`, `field`, `tables`, `chains`, `whole`, `records`, `write`, `read`.
+//! To read: the four files of `specs/`, then `half`, `cursor`, `field`, `codes`, `ids`, `tables`, `chains`, `whole`, `records`, `write`, `read`.
 //! `proofs/RoundTrip.antt` shows that what is written is read.
 #![tactic(auto)]
 
 mod chains;
+mod codes;
 mod cursor;
 mod field;
 mod half;
+mod ids;
 mod read;
 mod records;
 mod tables;

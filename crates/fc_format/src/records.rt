@@ -1,13 +1,14 @@
 //! Records.
 
-ghost use Rattle.std.specs.Prelude.{◌≡◌, ◌++◌, OnOk};
+ghost use Rattle.std.specs.Prelude.{◌≡◌};
 ghost use Rattle.fc_format.specs.Bytes.{record_bytes};
-ghost use Rattle.fc_format.specs.Reading.{choice, IsRead};
-ghost use Rattle.fc_format.specs.Fields.{record_kind_of, pair, written, torn, changing, one_record};
+ghost use Rattle.fc_format.specs.Reading.{IsRead};
+ghost use Rattle.fc_format.specs.Fields.{record_code, record_kind_of, pair, written, torn, changing, one_record};
 ghost use Rattle.fc_format.specs.Ranges.{IsTypedRecord};
 
+use crate::codes::Code;
 use crate::cursor::{Cursor, ReadError};
-use crate::field::Field;
+use crate::field::{Field, Put, Two};
 use fc_base::ids::{GrainNo, SlotId, VolId};
 use fc_base::outcome::NoMemory;
 use fc_base::request::Side;
@@ -27,32 +28,28 @@ pub(crate) enum RecordKind {
     Changing,
 }
 
-/// The record that a byte stands for.
-fn record_kind_of(code: u8) -> Option<RecordKind>
-    ensures { result ≡ record_kind_of code }
-{
-    match code {
-        1 => Some(RecordKind::Pair),
-        2 => Some(RecordKind::Written),
-        3 => Some(RecordKind::Torn),
-        4 => Some(RecordKind::Changing),
-        _ => None,
-    }
-}
+impl Code for RecordKind {
+    ghost code_of = { record_code };
 
-/// Takes the byte that says which record it is off the front.
-fn take_kind(cursor: &mut Cursor) -> Result<RecordKind, ReadError>
-    ensures { IsRead (choice record_kind_of cursor.old) result cursor.new }
-{
-    match cursor.first() {
-        Some(code) => match record_kind_of(code) {
-            Some(kind) => {
-                cursor.skip(1);
-                Ok(kind)
-            }
-            None => Err(cursor.damaged()),
-        },
-        None => Err(cursor.damaged()),
+    ghost meaning = { record_kind_of };
+
+    fn code(self) -> u8 {
+        match self {
+            RecordKind::Pair => 1,
+            RecordKind::Written => 2,
+            RecordKind::Torn => 3,
+            RecordKind::Changing => 4,
+        }
+    }
+
+    fn with_code(code: u8) -> Option<RecordKind> {
+        match code {
+            1 => Some(RecordKind::Pair),
+            2 => Some(RecordKind::Written),
+            3 => Some(RecordKind::Torn),
+            4 => Some(RecordKind::Changing),
+            _ => None,
+        }
     }
 }
 
@@ -60,120 +57,64 @@ fn take_kind(cursor: &mut Cursor) -> Result<RecordKind, ReadError>
 fn take_pair(alloc: Global, cursor: &mut Cursor) -> Result<MetaRecord, ReadError>
     ensures { IsRead (pair cursor.old) result cursor.new }
 {
-    let slot = u64::read(alloc, cursor)?;
-    let volume = u32::read(alloc, cursor)?;
-    let grain = u32::read(alloc, cursor)?;
-    let in_place = bool::read(alloc, cursor)?;
-    let empty = bool::read(alloc, cursor)?;
-    Ok(MetaRecord::Pair {
-        slot: SlotId(slot),
-        volume: VolId(volume),
-        grain: GrainNo(grain),
-        in_place,
-        empty,
-    })
+    match Field::read(alloc, cursor) {
+        Ok((slot, (volume, (grain, (in_place, empty))))) => Ok(MetaRecord::Pair {
+            slot: SlotId(slot),
+            volume: VolId(volume),
+            grain: GrainNo(grain),
+            in_place,
+            empty,
+        }),
+        Err(error) => Err(error),
+    }
 }
 
 /// Takes the fields of a write off the front.
 fn take_written(alloc: Global, cursor: &mut Cursor) -> Result<MetaRecord, ReadError>
     ensures { IsRead (written cursor.old) result cursor.new }
 {
-    let volume = u32::read(alloc, cursor)?;
-    let grain = u32::read(alloc, cursor)?;
-    Ok(MetaRecord::Written {
-        volume: VolId(volume),
-        grain: GrainNo(grain),
-    })
+    match Field::read(alloc, cursor) {
+        Ok((volume, grain)) => Ok(MetaRecord::Written {
+            volume: VolId(volume),
+            grain: GrainNo(grain),
+        }),
+        Err(error) => Err(error),
+    }
 }
 
 /// Takes the fields of a failed write off the front.
 fn take_torn(alloc: Global, cursor: &mut Cursor) -> Result<MetaRecord, ReadError>
     ensures { IsRead (torn cursor.old) result cursor.new }
 {
-    let volume = u32::read(alloc, cursor)?;
-    let grain = u32::read(alloc, cursor)?;
-    let side = Side::read(alloc, cursor)?;
-    Ok(MetaRecord::Torn {
-        volume: VolId(volume),
-        grain: GrainNo(grain),
-        side,
-    })
+    match Field::read(alloc, cursor) {
+        Ok((volume, (grain, side))) => Ok(MetaRecord::Torn {
+            volume: VolId(volume),
+            grain: GrainNo(grain),
+            side,
+        }),
+        Err(error) => Err(error),
+    }
 }
 
 /// Takes the fields of a write that is about to begin off the front.
 fn take_changing(alloc: Global, cursor: &mut Cursor) -> Result<MetaRecord, ReadError>
     ensures { IsRead (changing cursor.old) result cursor.new }
 {
-    let volume = u32::read(alloc, cursor)?;
-    let grain = u32::read(alloc, cursor)?;
-    Ok(MetaRecord::Changing {
-        volume: VolId(volume),
-        grain: GrainNo(grain),
-    })
+    match Field::read(alloc, cursor) {
+        Ok((volume, grain)) => Ok(MetaRecord::Changing {
+            volume: VolId(volume),
+            grain: GrainNo(grain),
+        }),
+        Err(error) => Err(error),
+    }
 }
 
-/// Puts a move at the end.
-fn put_pair(
-    out: &mut Vec<u8>,
-    slot: SlotId,
-    volume: VolId,
-    grain: GrainNo,
-    in_place: bool,
-    empty: bool,
-) -> Result<(), NoMemory>
-    ensures bytes { OnOk result (out.new.items ≡ out.old.items ++ record_bytes (MetaRecord.Pair slot volume grain in_place empty)) }
-    ensures typed { OnOk result (IsTypedRecord (MetaRecord.Pair slot volume grain in_place empty)) }
-{
-    1u8.put(out)?;
-    slot.0.put(out)?;
-    volume.0.put(out)?;
-    grain.0.put(out)?;
-    in_place.put(out)?;
-    empty.put(out)?;
-    Ok(())
-}
-
-/// Puts a write at the end.
-fn put_written(out: &mut Vec<u8>, volume: VolId, grain: GrainNo) -> Result<(), NoMemory>
-    ensures bytes { OnOk result (out.new.items ≡ out.old.items ++ record_bytes (MetaRecord.Written volume grain)) }
-    ensures typed { OnOk result (IsTypedRecord (MetaRecord.Written volume grain)) }
-{
-    2u8.put(out)?;
-    volume.0.put(out)?;
-    grain.0.put(out)?;
-    Ok(())
-}
-
-/// Puts a failed write at the end.
-fn put_torn(out: &mut Vec<u8>, volume: VolId, grain: GrainNo, side: Side) -> Result<(), NoMemory>
-    ensures bytes { OnOk result (out.new.items ≡ out.old.items ++ record_bytes (MetaRecord.Torn volume grain side)) }
-    ensures typed { OnOk result (IsTypedRecord (MetaRecord.Torn volume grain side)) }
-{
-    3u8.put(out)?;
-    volume.0.put(out)?;
-    grain.0.put(out)?;
-    side.put(out)?;
-    Ok(())
-}
-
-/// Puts a write that is about to begin at the end.
-fn put_changing(out: &mut Vec<u8>, volume: VolId, grain: GrainNo) -> Result<(), NoMemory>
-    ensures bytes { OnOk result (out.new.items ≡ out.old.items ++ record_bytes (MetaRecord.Changing volume grain)) }
-    ensures typed { OnOk result (IsTypedRecord (MetaRecord.Changing volume grain)) }
-{
-    4u8.put(out)?;
-    volume.0.put(out)?;
-    grain.0.put(out)?;
-    Ok(())
-}
-
-impl Field for MetaRecord {
+impl Put for MetaRecord {
     ghost bytes_of = { record_bytes };
-
-    ghost reading = { one_record };
 
     ghost is_typed = { IsTypedRecord };
 
+    #[tactic(auto, unfolding(crate::specs::Bytes::record_bytes))]
     fn put(&self, out: &mut Vec<u8>) -> Result<(), NoMemory> {
         match *self {
             MetaRecord::Pair {
@@ -182,19 +123,39 @@ impl Field for MetaRecord {
                 grain,
                 in_place,
                 empty,
-            } => put_pair(out, slot, volume, grain, in_place, empty),
-            MetaRecord::Written { volume, grain } => put_written(out, volume, grain),
+            } => {
+                let told = Two(
+                    &slot.0,
+                    &Two(&volume.0, &Two(&grain.0, &Two(&in_place, &empty))),
+                );
+                Two(&RecordKind::Pair, &told).put(out)?;
+                Ok(())
+            }
+            MetaRecord::Written { volume, grain } => {
+                Two(&RecordKind::Written, &Two(&volume.0, &grain.0)).put(out)?;
+                Ok(())
+            }
             MetaRecord::Torn {
                 volume,
                 grain,
                 side,
-            } => put_torn(out, volume, grain, side),
-            MetaRecord::Changing { volume, grain } => put_changing(out, volume, grain),
+            } => {
+                Two(&RecordKind::Torn, &Two(&volume.0, &Two(&grain.0, &side))).put(out)?;
+                Ok(())
+            }
+            MetaRecord::Changing { volume, grain } => {
+                Two(&RecordKind::Changing, &Two(&volume.0, &grain.0)).put(out)?;
+                Ok(())
+            }
         }
     }
+}
+
+impl Field for MetaRecord {
+    ghost reading = { one_record };
 
     fn read(alloc: Global, cursor: &mut Cursor) -> Result<Self, ReadError> {
-        let kind = take_kind(cursor)?;
+        let kind = RecordKind::read(alloc, cursor)?;
         match kind {
             RecordKind::Pair => take_pair(alloc, cursor),
             RecordKind::Written => take_written(alloc, cursor),

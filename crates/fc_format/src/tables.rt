@@ -5,7 +5,7 @@ ghost use Rattle.fc_format.specs.Fields.{volume, mapping, group};
 ghost use Rattle.fc_format.specs.Ranges.{IsTypedVolume, IsTypedMapping, IsTypedGroup};
 
 use crate::cursor::{Cursor, ReadError};
-use crate::field::Field;
+use crate::field::{Field, Put, Two};
 use fc_base::disk::DiskKind;
 use fc_base::ids::{GroupId, MapId, VolId};
 use fc_base::name::Name;
@@ -14,110 +14,116 @@ use fc_base::state::MapState;
 use fc_base::volume::{Group, Mapping, Volume};
 use std::alloc::Global;
 
-impl Field for Volume {
+impl Put for Volume {
     ghost bytes_of = { volume_bytes };
-
-    ghost reading = { volume };
 
     ghost is_typed = { IsTypedVolume };
 
+    #[tactic(auto, unfolding(crate::specs::Bytes::volume_bytes))]
     fn put(&self, out: &mut Vec<u8>) -> Result<(), NoMemory> {
-        self.id.0.put(out)?;
-        self.name.put(out)?;
-        self.grains.put(out)?;
-        self.kind.put(out)?;
+        Two(&self.id.0, &Two(&self.name, &Two(&self.grains, &self.kind))).put(out)?;
         Ok(())
-    }
-
-    fn read(alloc: Global, cursor: &mut Cursor) -> Result<Self, ReadError> {
-        let id = u32::read(alloc, cursor)?;
-        let name = Name::read(alloc, cursor)?;
-        let grains = u32::read(alloc, cursor)?;
-        let kind = DiskKind::read(alloc, cursor)?;
-        Ok(Volume {
-            id: VolId(id),
-            name,
-            grains,
-            kind,
-        })
     }
 }
 
-impl Field for Mapping {
-    ghost bytes_of = { mapping_bytes };
+impl Field for Volume {
+    ghost reading = { volume };
 
-    ghost reading = { mapping };
+    fn read(alloc: Global, cursor: &mut Cursor) -> Result<Self, ReadError> {
+        match <(u32, (Name, (u32, DiskKind)))>::read(alloc, cursor) {
+            Ok(parts) => {
+                let (grains, kind) = parts.1.1;
+                Ok(Volume {
+                    id: VolId(parts.0),
+                    name: parts.1.0,
+                    grains,
+                    kind,
+                })
+            }
+            Err(error) => Err(error),
+        }
+    }
+}
+
+// The fields of a mapping behind its name, in order: its ends and its group, ..
+type Ends = (u32, (u32, Option<GroupId>));
+// .. its state and its rates, ..
+type Course = (MapState, (u8, u8));
+// .. whether it is incremental, deletes itself, and restores, ..
+type Marks = (bool, (bool, bool));
+// .. how many grains were held when it left, and whether it was complete.
+type Progress = (u32, bool);
+
+impl Put for Mapping {
+    ghost bytes_of = { mapping_bytes };
 
     ghost is_typed = { IsTypedMapping };
 
     fn put(&self, out: &mut Vec<u8>) -> Result<(), NoMemory> {
-        self.id.0.put(out)?;
-        self.name.put(out)?;
-        self.source.0.put(out)?;
-        self.target.0.put(out)?;
-        self.group.put(out)?;
-        self.state.put(out)?;
-        self.copy_rate.put(out)?;
-        self.clean_rate.put(out)?;
-        self.incremental.put(out)?;
-        self.autodelete.put(out)?;
-        self.restoring.put(out)?;
-        self.held_at_leave.put(out)?;
-        self.complete.put(out)?;
+        let names = Two(&self.id.0, &self.name);
+        let ends = Two(&self.source.0, &Two(&self.target.0, &self.group));
+        let course = Two(&self.state, &Two(&self.copy_rate, &self.clean_rate));
+        let marks = Two(&self.incremental, &Two(&self.autodelete, &self.restoring));
+        let progress = Two(&self.held_at_leave, &self.complete);
+        Two(&names, &Two(&ends, &Two(&course, &Two(&marks, &progress)))).put(out)?;
         Ok(())
     }
+}
+
+impl Field for Mapping {
+    ghost reading = { mapping };
 
     fn read(alloc: Global, cursor: &mut Cursor) -> Result<Self, ReadError> {
-        let id = u32::read(alloc, cursor)?;
-        let name = Name::read(alloc, cursor)?;
-        let source = u32::read(alloc, cursor)?;
-        let target = u32::read(alloc, cursor)?;
-        let group = Option::<GroupId>::read(alloc, cursor)?;
-        let state = MapState::read(alloc, cursor)?;
-        let copy_rate = u8::read(alloc, cursor)?;
-        let clean_rate = u8::read(alloc, cursor)?;
-        let incremental = bool::read(alloc, cursor)?;
-        let autodelete = bool::read(alloc, cursor)?;
-        let restoring = bool::read(alloc, cursor)?;
-        let held_at_leave = u32::read(alloc, cursor)?;
-        let complete = bool::read(alloc, cursor)?;
-        Ok(Mapping {
-            id: MapId(id),
-            name,
-            source: VolId(source),
-            target: VolId(target),
-            group,
-            state,
-            copy_rate,
-            clean_rate,
-            incremental,
-            autodelete,
-            restoring,
-            held_at_leave,
-            complete,
-        })
+        match <((u32, Name), (Ends, (Course, (Marks, Progress))))>::read(alloc, cursor) {
+            Ok(parts) => {
+                let (ends, (course, (marks, progress))) = parts.1;
+                let (source, (target, group)) = ends;
+                let (state, (copy_rate, clean_rate)) = course;
+                let (incremental, (autodelete, restoring)) = marks;
+                let (held_at_leave, complete) = progress;
+                Ok(Mapping {
+                    id: MapId(parts.0.0),
+                    name: parts.0.1,
+                    source: VolId(source),
+                    target: VolId(target),
+                    group,
+                    state,
+                    copy_rate,
+                    clean_rate,
+                    incremental,
+                    autodelete,
+                    restoring,
+                    held_at_leave,
+                    complete,
+                })
+            }
+            Err(error) => Err(error),
+        }
+    }
+}
+
+impl Put for Group {
+    ghost bytes_of = { group_bytes };
+
+    ghost is_typed = { IsTypedGroup };
+
+    #[tactic(auto, unfolding(crate::specs::Bytes::group_bytes))]
+    fn put(&self, out: &mut Vec<u8>) -> Result<(), NoMemory> {
+        Two(&self.id.0, &self.name).put(out)?;
+        Ok(())
     }
 }
 
 impl Field for Group {
-    ghost bytes_of = { group_bytes };
-
     ghost reading = { group };
 
-    ghost is_typed = { IsTypedGroup };
-
-    fn put(&self, out: &mut Vec<u8>) -> Result<(), NoMemory> {
-        self.id.0.put(out)?;
-        self.name.put(out)?;
-        Ok(())
-    }
-
     fn read(alloc: Global, cursor: &mut Cursor) -> Result<Self, ReadError> {
-        let id = u32::read(alloc, cursor)?;
-        let name = Name::read(alloc, cursor)?;
-        Ok(Group {
-            id: GroupId(id),
-            name,
-        })
+        match Field::read(alloc, cursor) {
+            Ok((id, name)) => Ok(Group {
+                id: GroupId(id),
+                name,
+            }),
+            Err(error) => Err(error),
+        }
     }
 }

@@ -5,7 +5,7 @@ ghost use Rattle.std.specs.List.{sum_by};
 ghost use Rattle.fc_format.specs.Bytes.{half_bytes, batch_bytes, record_bytes, records_bytes};
 ghost use Rattle.fc_format.specs.Ranges.{IsTypedImage, IsTypedRecord};
 
-use crate::field::{Field, put_bytes, put_count, put_items};
+use crate::field::{Put, put_bytes, put_count, put_items};
 use fc_base::outcome::NoMemory;
 use fc_image::{MetaImage, MetaRecord};
 use std::alloc::Global;

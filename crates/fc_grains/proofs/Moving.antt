@@ -11,9 +11,10 @@ use Rattle.fc_base.specs.Pools.{pool_without}
 use Rattle.fc_base.specs.declared.outcome.NoMemory.{NoMemory}
 use Rattle.fc_base.specs.declared.size.GrainSize.{GrainSize}
 use Rattle.fc_mdisk.specs.Disk.{DiskState, cleared}
+use Rattle.fc_mdisk.specs.Disks.{disk_at}
 use Rattle.fc_entry.specs.Picture.{Bytes, zeros}
 use Rattle.fc_grains.specs.Calls.{HasMade, HasReadied, HasRemoved}
-use Rattle.fc_grains.specs.Grains.{AreAllOf, GrainsState, IsUnarmed, by_kind, NewVolume, next_of, one_if_silent, opened, pool_of, silent_of, stopped}
+use Rattle.fc_grains.specs.Grains.{AreAllOf, GrainsState, IsUnarmed, by_kind, NewVolume, next_of, next_place, one_if_silent, opened, pool_of, silent_of, stopped}
 use Rattle.fc_grains.specs.Kept.{AddUp, IsKept, all_disks, state_of}
 use Rattle.fc_grains.specs.Parts.{HasZeros, IsWhole, PoolState, SameDisks, VolumeDiskState, contents, disks_of, grains_of, left_of, new_of}
 use Rattle.fc_grains.specs.Volumes.{VolumeGrains, HoldAll, HoldsGrains, HoldsNothing, without}
@@ -124,14 +125,15 @@ module _ (grain : GrainSize) (volumes : List VolumeDiskState) (pool pool' : Pool
       let part : silent_of (all_disks volumes pool aside) ≡ sum_by f ds + sum_by f (disks_of pool ++ aside) = sum_by-append f ds (disks_of pool ++ aside) in
       omega (arith, none, part, sum_by-append f (disks_of pool) aside, same f, sum_by-cons f v.disk (disks_of pool'))
 
-  pub has_made : next_of (map new_of pool.reserved) ≡ new → left_of pool' ≡ pool_without new.kind (left_of pool) → (place : ℕ) × (disks_of pool' ≡ remove (disks_of pool) place)
+  pub has_made : next_of (map new_of pool.reserved) ≡ new → left_of pool' ≡ pool_without new.kind (left_of pool)
+      → v.disk ≡ disk_at (disks_of pool) (next_place (map new_of pool.reserved) (left_of pool)) → disks_of pool' ≡ remove (disks_of pool) (next_place (map new_of pool.reserved) (left_of pool))
       → HasMade (state_of grain volumes pool aside buffer sums) id (state_of grain (volumes ++ v ∷ []) pool' aside buffer sums)
-  has_made next left taken =
+  has_made next left first taken =
       let P : NewVolume → Type 0 = λ n. state_of grain (volumes ++ v ∷ []) pool' aside buffer sums ≡ record (state_of grain volumes pool aside buffer sums) {
         volumes = map grains_of volumes ++ record { volume = record { 0 = id }; kind = n.kind; contents = replicate n.grains (zeros grain); due = v.disk.due } ∷ [];
         pool = pool_without n.kind (left_of pool);
         reserved = drop 1 (map new_of pool.reserved);
-        pooled = disks_of pool';
+        pooled = remove (disks_of pool) (next_place (map new_of pool.reserved) (left_of pool));
       } in
       let held : contents v.lost v.disk.grains ≡ replicate new.grains (zeros grain) =
       (λ k. contents (unmarked k) (has_zeros k)) ∙ contents-replicate new.grains (replicate pool.bytes 0) ∙ ap (λ (n : ℕ). replicate new.grains (Bytes (replicate n 0))) kept.pool_size in
@@ -140,6 +142,7 @@ module _ (grain : GrainSize) (volumes : List VolumeDiskState) (pool pool' : Pool
       λ k. record { volume = record { 0 = is k }; kind = kind_is k; contents = held k; due = v.disk.due } in
       record {
         due = v.disk.due;
+        due_is = ap (λ (d : DiskState). d.due) first;
         unarmed = unarmed;
         told = λ none. told_new v.disk.due unarmed (silent_new none);
         made = subst P (sym next)
@@ -149,7 +152,7 @@ module _ (grain : GrainSize) (volumes : List VolumeDiskState) (pool pool' : Pool
               pool = left k;
               reserved = (ap (map new_of) reserved ∙ sym (drop-map new_of 1 pool.reserved)) k;
               buffer = buffer;
-              pooled = disks_of pool';
+              pooled = taken k;
               aside = aside;
               disks = same_kinds (all_disks (volumes ++ v ∷ []) pool' aside) (all_disks volumes pool aside) (same_made volumes pool pool' aside v same) k;
               silent = same_silent (all_disks (volumes ++ v ∷ []) pool' aside) (all_disks volumes pool aside) (same_made volumes pool pool' aside v same) k;
@@ -157,8 +160,6 @@ module _ (grain : GrainSize) (volumes : List VolumeDiskState) (pool pool' : Pool
               faults = sums.faults;
               write_faults = sums.write_faults;
             });
-        place = taken.0;
-        taken = taken.1;
       }
 
 map-remove : {A B : Type 0} (f : A → B) (xs : List A) (i : ℕ) → map f (remove xs i) ≡ remove (map f xs) i

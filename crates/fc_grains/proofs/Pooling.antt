@@ -1,18 +1,18 @@
 -- The disks for new volumes.
-use Rattle.std.proofs.Common.{◌≡◌, ℕ, ◌+◌, ◌-◌, ◌<◌, ◌≤◌, None, Bool, true, false, not, cond, List, [], ◌∷◌, ◌++◌, filter, length, map, drop, get_or, slice_set, refl, sym, ◌∙◌, ap, subst, arith}
+use Rattle.std.proofs.Common.{◌≡◌, ℕ, suc, ◌+◌, ◌-◌, ◌<◌, ◌≤◌, None, Bool, true, false, not, cond, List, [], ◌∷◌, ◌++◌, filter, length, map, drop, get_or, slice_set, refl, sym, ◌∙◌, ap, subst, arith}
 use Rattle.std.specs.List.{All, remove, sum_by, count_by}
 use Rattle.std.proofs.Math.Seq.{map-set_same}
 use Rattle.std.proofs.lemmas.List.{append-nil, append_assoc, length-append, length-drop, map-append}
 use Rattle.std.proofs.lemmas.List.Edits.{remove-append_right}
 use Rattle.std.proofs.lemmas.List.Elements.{filter-append}
-use Rattle.std.proofs.lemmas.List.{get_or_append_left, get_or_push}
+use Rattle.std.proofs.lemmas.List.{get_or_append_left, get_or-append-add, get_or_push, set-append_left}
 use Rattle.std.proofs.lemmas.List.Sums.{sum_by-cons, sum_by-append, sum_by_push}
 use Rattle.fc_base.specs.declared.disk.DiskKind.{DiskKind}
 use Rattle.fc_base.specs.declared.disk.DiskKind.TheVariants.{Flat, Thin}
 use Rattle.fc_mdisk.specs.Disk.{DiskState, blank, is_flat, cleared, formatted}
-use Rattle.fc_mdisk.specs.Disks.{disk_at}
-use Rattle.fc_grains.specs.Grains.{IsUnarmed}
-use Rattle.fc_grains.specs.Parts.{AreReady, QueuesState, SameDisks, disks_in, queue_of, with_queue}
+use Rattle.fc_mdisk.specs.Disks.{disk_at, formatted_at}
+use Rattle.fc_grains.specs.Grains.{IsUnarmed, next_of, next_place, place_in}
+use Rattle.fc_grains.specs.Parts.{AreReady, PoolState, QueuesState, SameDisks, disks_in, disks_of, formatted_in, left_in, left_of, new_of, queue_of, with_queue}
 use Rattle.fc_grains.specs.declared.pool.Reserved.{Reserved}
 
 -- the disks that were handed in are those that aren't sorted yet and those that are
@@ -110,29 +110,50 @@ enough bytes queues (r ∷ rest) ready =
 first_removed : (d : DiskState) (ds : List DiskState) → remove (d ∷ ds) 0 ≡ ds
 first_removed d ds = refl
 
-pub taken_at : (kind : DiskKind) (queues : QueuesState) → 0 < length (queue_of kind queues)
-    → (place : ℕ) × (disks_in (with_queue kind (drop 1 (queue_of kind queues)) queues) ≡ remove (disks_in queues) place)
-taken_at Flat queues some = (0, by queues.flat some)
+taken_at : (kind : DiskKind) (queues : QueuesState) → 0 < length (queue_of kind queues)
+    → disks_in (with_queue kind (drop 1 (queue_of kind queues)) queues) ≡ remove (disks_in queues) (place_in kind 0 (left_in queues))
+taken_at Flat queues some = by queues.flat some
   where
     by : (flat : List DiskState) → 0 < length flat → drop 1 flat ++ queues.thin ≡ remove (flat ++ queues.thin) 0
     by [] none = absurd (omega arith)
     by (d ∷ flat) more = sym (first_removed d (flat ++ queues.thin))
-taken_at Thin queues some = (length queues.flat, by queues.thin some)
+taken_at Thin queues some = by queues.thin some
   where
-    by : (thin : List DiskState) → 0 < length thin → queues.flat ++ drop 1 thin ≡ remove (queues.flat ++ thin) (length queues.flat)
+    by : (thin : List DiskState) → 0 < length thin → queues.flat ++ drop 1 thin ≡ remove (queues.flat ++ thin) (length queues.flat + 0)
     by [] none = absurd (omega arith)
     by (d ∷ thin) more =
-        let zero_is : length queues.flat - length queues.flat ≡ 0 = omega arith in
+        let zero_is : length queues.flat + 0 - length queues.flat ≡ 0 = omega arith in
         ap (λ (ds : List DiskState). queues.flat ++ ds) (sym (first_removed d thin))
         ∙ ap (λ (n : ℕ). queues.flat ++ remove (d ∷ thin) n) (sym zero_is)
-        ∙ sym (remove-append_right queues.flat (d ∷ thin) (length queues.flat) (length queues.flat) refl (omega arith))
+        ∙ sym (remove-append_right queues.flat (d ∷ thin) (length queues.flat) (length queues.flat + 0) refl (omega arith))
+
+-- where the disk of a queue stands among all
+at_place : (kind : DiskKind) (queues : QueuesState) (place : ℕ) → place < length (queue_of kind queues)
+    → disk_at (disks_in queues) (place_in kind place (left_in queues)) ≡ disk_at (queue_of kind queues) place
+at_place Flat queues place within = get_or_append_left queues.flat queues.thin (blank Flat None) place within
+at_place Thin queues place within = get_or-append-add queues.flat queues.thin place (blank Flat None)
+
+set_behind : {X : Type 0} (xs ys : List X) (i : ℕ) (x : X) → slice_set (xs ++ ys) (length xs + i) x ≡ xs ++ slice_set ys i x
+set_behind [] ys i x = ap (λ (n : ℕ). slice_set ys n x) (omega arith)
+set_behind {X} (y ∷ xs) ys i x =
+    let next : suc (length xs) + i ≡ suc (length xs + i) = omega arith in
+    ap (λ (n : ℕ). slice_set (y ∷ (xs ++ ys)) n x) next ∙ ap (λ (zs : List X). y ∷ zs) (set_behind xs ys i x)
+
+pub formatted_there : (kind : DiskKind) (queues : QueuesState) (place grains bytes : ℕ) → place < length (queue_of kind queues)
+    → disks_in (formatted_in kind place grains bytes queues) ≡ formatted_at (place_in kind place (left_in queues)) grains bytes (disks_in queues)
+formatted_there Flat queues place grains bytes within =
+    sym (set-append_left queues.flat queues.thin place (formatted (disk_at queues.flat place) grains bytes) within)
+    ∙ ap (λ (d : DiskState). slice_set (queues.flat ++ queues.thin) place (formatted d grains bytes)) (sym (at_place Flat queues place within))
+formatted_there Thin queues place grains bytes within =
+    sym (set_behind queues.flat queues.thin place (formatted (disk_at queues.thin place) grains bytes))
+    ∙ ap (λ (d : DiskState). slice_set (queues.flat ++ queues.thin) (length queues.flat + place) (formatted d grains bytes)) (sym (at_place Thin queues place within))
 
 -- a disk that was formatted is as it was, but for its grains
 one_cleared : (queue : List DiskState) (place grains bytes : ℕ) → map cleared (slice_set queue place (formatted (disk_at queue place) grains bytes)) ≡ map cleared queue
 one_cleared queue place grains bytes = map-set_same cleared queue place (formatted (disk_at queue place) grains bytes) (blank Flat None) refl
 
 pub all_cleared : (kind : DiskKind) (queues : QueuesState) (place grains bytes : ℕ)
-    → map cleared (disks_in (with_queue kind (slice_set (queue_of kind queues) place (formatted (disk_at (queue_of kind queues) place) grains bytes)) queues)) ≡ map cleared (disks_in queues)
+    → map cleared (disks_in (formatted_in kind place grains bytes queues)) ≡ map cleared (disks_in queues)
 all_cleared Flat queues place grains bytes =
     map-append cleared (slice_set queues.flat place (formatted (disk_at queues.flat place) grains bytes)) queues.thin
     ∙ ap (λ (ds : List DiskState). ds ++ map cleared queues.thin) (one_cleared queues.flat place grains bytes)
@@ -142,8 +163,28 @@ all_cleared Thin queues place grains bytes =
     ∙ ap (λ (ds : List DiskState). map cleared queues.flat ++ ds) (one_cleared queues.thin place grains bytes)
     ∙ sym (map-append cleared queues.flat queues.thin)
 
--- the first of the volumes to come has a disk
-pub first_there : (bytes : ℕ) (queues : QueuesState) (reserved : List Reserved) (r : Reserved) → AreReady bytes queues reserved → 0 < length reserved → r ≡ get_or reserved 0 r
-    → 0 < length (queue_of r.kind queues)
-first_there bytes queues [] r ready some e = absurd (omega arith)
-first_there bytes queues (x ∷ rest) r ready some e = subst (λ (y : Reserved). 0 < length (queue_of y.kind queues)) (sym e) ready.0
+-- the first of the volumes to come takes a disk
+module _ (pool : PoolState) (r : Reserved) (ready : AreReady pool.bytes pool.queues pool.reserved) (some : 0 < length pool.reserved) (first : r ≡ get_or pool.reserved 0 r) where
+  there : 0 < length (queue_of r.kind pool.queues)
+  there = by pool.reserved ready some first
+    where
+      by : (reserved : List Reserved) → AreReady pool.bytes pool.queues reserved → 0 < length reserved → r ≡ get_or reserved 0 r → 0 < length (queue_of r.kind pool.queues)
+      by [] has more e = absurd (omega arith)
+      by (x ∷ rest) has more e = subst (λ (y : Reserved). 0 < length (queue_of y.kind pool.queues)) (sym e) has.0
+
+  next_kind : r.kind ≡ (next_of (map new_of pool.reserved)).kind
+  next_kind = by pool.reserved some first
+    where
+      by : (reserved : List Reserved) → 0 < length reserved → r ≡ get_or reserved 0 r → r.kind ≡ (next_of (map new_of reserved)).kind
+      by [] more e = absurd (omega arith)
+      by (x ∷ rest) more e = ap (λ (y : Reserved). y.kind) e
+
+  pub first_taken : disk_at (queue_of r.kind pool.queues) 0 ≡ disk_at (disks_of pool) (next_place (map new_of pool.reserved) (left_of pool))
+  first_taken =
+      sym (at_place r.kind pool.queues 0 there)
+      ∙ ap (λ (kind : DiskKind). disk_at (disks_of pool) (place_in kind 0 (left_of pool))) next_kind
+
+  pub rest_taken : disks_in (with_queue r.kind (drop 1 (queue_of r.kind pool.queues)) pool.queues) ≡ remove (disks_of pool) (next_place (map new_of pool.reserved) (left_of pool))
+  rest_taken =
+      taken_at r.kind pool.queues there
+      ∙ ap (λ (kind : DiskKind). remove (disks_of pool) (place_in kind 0 (left_of pool))) next_kind

@@ -1,22 +1,19 @@
 -- The disks that are ready for the volumes to come.
-use Rattle.std.proofs.Common.{◌≡◌, ℕ, zero, suc, ◌+◌, ◌<◌, Bool, false, cond, List, [], ◌∷◌, ◌++◌, length, map, drop, replicate, slice_set, Result, Ok, Err, is_ok, is_err, true≢false, refl, sym, ◌∙◌, ap, subst, arith}
+use Rattle.std.proofs.Common.{◌≡◌, ℕ, zero, suc, ◌+◌, ◌<◌, Bool, false, cond, List, [], ◌∷◌, ◌++◌, length, map, drop, replicate, Result, Ok, Err, is_ok, is_err, true≢false, refl, sym, ◌∙◌, ap, subst, arith}
 use Rattle.std.proofs.lemmas.List.{length-replicate}
 use Rattle.std.proofs.lemmas.List.Sums.{sum_by-cons}
 use Rattle.fc_base.specs.declared.disk.DiskKind.{DiskKind}
 use Rattle.fc_base.specs.declared.disk.DiskKind.TheVariants.{Flat, Thin}
 use Rattle.fc_base.specs.Pools.{of_kind}
-use Rattle.fc_mdisk.specs.Disk.{DiskState, formatted}
-use Rattle.fc_mdisk.specs.Disks.{disk_at}
-use Rattle.fc_grains.specs.Grains.{NewVolume, is_of_kind, reserved_of}
-use Rattle.fc_grains.specs.Parts.{AreReady, IsReady, QueuesState, left_in, new_of, queue_of, with_queue}
+use Rattle.fc_mdisk.specs.Disk.{DiskState}
+use Rattle.fc_mdisk.specs.Disks.{disk_at, formatted_at}
+use Rattle.fc_grains.specs.Grains.{NewVolume, free_place, is_of_kind, place_in, reserved_of}
+use Rattle.fc_grains.specs.Parts.{AreReady, IsReady, QueuesState, disks_in, formatted_in, left_in, new_of, queue_of, with_queue}
 use Rattle.fc_grains.specs.declared.pool.Reserved.{Reserved}
+use Rattle.fc_grains.proofs.Pooling.{formatted_there}
 
 abbrev two : List DiskState → List DiskState → QueuesState
 two flat thin = record { flat = flat; thin = thin }
-
--- the queues when a disk was formatted
-abbrev pub formatted_in : DiskKind → ℕ → ℕ → ℕ → QueuesState → QueuesState
-formatted_in kind place grains bytes q = with_queue kind (slice_set (queue_of kind q) place (formatted (disk_at (queue_of kind q) place) grains bytes)) q
 
 -- the last of the volumes to come
 last_ready : (kind : DiskKind) (bytes grains place : ℕ) (lost : List Bool) (flat thin : List DiskState) → lost ≡ replicate grains false → place ≡ 0 → place < length (queue_of kind (two flat thin))
@@ -88,3 +85,12 @@ reserved_ready r kind lost bytes grains old mid new q q' place unmarked same ite
     let Q : List Reserved → Type 0 = λ rs. AreReady bytes (formatted_in kind place grains bytes q) rs in
     subst P (sym formats) (subst Q (sym added)
     (ready_more kind lost bytes grains unmarked old q.flat q.thin place at (omega (arith, of_kind-left kind q)) ready))
+
+pub formatted_free : (kind : DiskKind) (bytes grains : ℕ) (old mid : List Reserved) (q q' : QueuesState) (place : ℕ) → mid ≡ old → place ≡ reserved_of kind (map new_of mid)
+    → reserved_of kind (map new_of old) < of_kind kind (left_in q) → q' ≡ formatted_in kind place grains bytes q
+    → disks_in q' ≡ formatted_at (free_place kind (map new_of old) (left_in q)) grains bytes (disks_in q)
+formatted_free kind bytes grains old mid q q' place same is some formats =
+    let at : place ≡ reserved_of kind (map new_of old) = is ∙ ap (λ (rs : List Reserved). reserved_of kind (map new_of rs)) same in
+    ap disks_in formats
+    ∙ formatted_there kind q place grains bytes (omega (arith, at, of_kind-left kind q))
+    ∙ ap (λ (n : ℕ). formatted_at (place_in kind n (left_in q)) grains bytes (disks_in q)) at

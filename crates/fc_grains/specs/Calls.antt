@@ -7,8 +7,9 @@ use Rattle.fc_base.specs.Grain.{grain_bytes}
 use Rattle.fc_base.specs.Pools.{pool_without}
 use Rattle.fc_base.specs.declared.disk.DiskError.{DiskError}
 use Rattle.fc_mdisk.specs.Disk.{DiskState, write_failed, MayAnswer, cleared}
+use Rattle.fc_mdisk.specs.Disks.{disk_at}
 use Rattle.fc_entry.specs.Picture.{Bytes, zeros}
-use Rattle.fc_grains.specs.Grains.{GrainsState, NewVolume, next_of}
+use Rattle.fc_grains.specs.Grains.{GrainsState, NewVolume, next_of, next_place}
 use Rattle.fc_grains.specs.Volumes.{volume_of, stored, changed, called, after_write, without, HoldsGrains}
 use Rattle.fc_grains.specs.declared.copy_error.CopyError.{CopyError}
 use Rattle.fc_grains.specs.declared.copy_error.CopyError.TheVariants.{Read, Write}
@@ -59,9 +60,10 @@ pub record HasRemoved (old : GrainsState) (volume : ℕ) (new : GrainsState) : T
   pub held : HoldsGrains (volume_of old.volumes volume) disk
   pub removed : new ≡ record old { volumes = without volume old.volumes; aside = old.aside ++ cleared disk ∷ [] }
 
--- The next new volume was made, with zeros, over a disk of the pool, at this place, with no armed fault.
+-- The next new volume was made, with zeros, over the first disk of its kind in the pool, with no armed fault.
 pub record HasMade (old : GrainsState) (volume : ℕ) (new : GrainsState) : Type 0 where
   pub due : Option ℕ
+  pub due_is : due ≡ (disk_at old.pooled (next_place old.reserved old.pool)).due
   pub unarmed : IfSome due (λ n. n ≡ 0)
   pub told : old.silent ≡ 0 → due ≡ Some 0
   pub made : new ≡ record old {
@@ -73,7 +75,5 @@ pub record HasMade (old : GrainsState) (volume : ℕ) (new : GrainsState) : Type
     } ∷ [];
     pool = pool_without (next_of old.reserved).kind old.pool;
     reserved = drop 1 old.reserved;
-    pooled = new.pooled;
+    pooled = remove old.pooled (next_place old.reserved old.pool);
   }
-  pub place : ℕ
-  pub taken : new.pooled ≡ remove old.pooled place

@@ -73,6 +73,19 @@ abbrev pub next_of : List NewVolume → NewVolume
 next_of [] = record { kind = Flat; grains = 0 }
 next_of (new ∷ reserved) = new
 
+-- Where a disk of a kind stands in the pool that has so many of its kind before it: the flat disks come first.
+abbrev pub place_in : DiskKind → ℕ → Pool → ℕ
+place_in Flat before pool = before
+place_in Thin before pool = pool.flat + before
+
+-- Where the disk stands that the next new volume gets: the first of its kind.
+abbrev pub next_place : List NewVolume → Pool → ℕ
+next_place reserved pool = place_in (next_of reserved).kind 0 pool
+
+-- Where the first disk of a kind stands that no new volume gets.
+abbrev pub free_place : DiskKind → List NewVolume → Pool → ℕ
+free_place kind reserved pool = place_in kind (reserved_of kind reserved) pool
+
 -- A disk that tells its armed fault has none.
 abbrev pub IsUnarmed : DiskState → Type 0
 IsUnarmed disk = IfSome disk.due (λ n. n ≡ 0)

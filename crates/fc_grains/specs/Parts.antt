@@ -9,7 +9,7 @@ use Rattle.fc_base.specs.declared.disk.DiskKind.{DiskKind}
 use Rattle.fc_base.specs.declared.disk.DiskKind.TheVariants.{Flat, Thin}
 use Rattle.fc_base.specs.declared.ids.VolId.{VolId}
 use Rattle.fc_mdisk.specs.Disk.{DiskState, cleared}
-use Rattle.fc_mdisk.specs.Disks.{disk_at}
+use Rattle.fc_mdisk.specs.Disks.{disk_at, formatted_at}
 use Rattle.fc_entry.specs.Picture.{Content, Bytes, Lost}
 use Rattle.fc_grains.specs.Grains.{NewVolume, IsUnarmed}
 use Rattle.fc_grains.specs.Volumes.{VolumeGrains}
@@ -57,6 +57,10 @@ queue_of Thin queues = queues.thin
 abbrev pub with_queue : DiskKind → List DiskState → QueuesState → QueuesState
 with_queue Flat queue queues = record queues { flat = queue }
 with_queue Thin queue queues = record queues { thin = queue }
+
+-- The queues, when a disk of that kind was formatted.
+abbrev pub formatted_in : DiskKind → ℕ → ℕ → ℕ → QueuesState → QueuesState
+formatted_in kind place grains bytes queues = with_queue kind (formatted_at place grains bytes (queue_of kind queues)) queues
 
 abbrev pub disks_in : QueuesState → List DiskState
 disks_in queues = queues.flat ++ queues.thin

@@ -2,9 +2,11 @@
 
 ghost use Rattle.std.specs.Prelude.{◌≡◌, ◌+◌, ◌^◌, ◌<◌, ◌≤◌, ◌∷◌, ◌++◌, [], true, length, map, reverse, vec_len, vec_capacity, List, IfOk, OnOk, OnErr};
 ghost use Rattle.std.specs.List.{All};
+ghost use Rattle.fc_base.specs.Grain.{grain_bytes};
 ghost use Rattle.fc_base.specs.Pools.{of_kind};
+ghost use Rattle.fc_mdisk.specs.Disks.{formatted_at};
 ghost use Rattle.fc_grains.specs.Calls.{HasMade, HasReadied, HasRemoved};
-ghost use Rattle.fc_grains.specs.Grains.{AreAllOf, IsUnarmed, opened, reserved_of, total_of};
+ghost use Rattle.fc_grains.specs.Grains.{AreAllOf, IsUnarmed, free_place, opened, reserved_of, total_of};
 ghost use Rattle.fc_grains.specs.Parts.{VolumeDiskState};
 ghost use Rattle.fc_grains.specs.Volumes.{VolumeGrains, armed, changed, is_there};
 
@@ -48,11 +50,12 @@ impl<D: Mdisk> Grains<D> {
         }
     }
 
-    /// Makes ready for one more new volume of so many grains, so that `make` takes no memory: the first disk of the kind that no other
-    /// new volume takes is formatted, and stays in the pool. Refused, all is as it was.
+    /// Makes ready for one more new volume of so many grains, so that `make` takes no memory: the first disk of the
+    /// kind that no other new volume gets is formatted, and stays in the pool. Refused, all is as it was.
     pub fn reserve(&mut self, kind: DiskKind, grains: u32) -> Result<(), NoMemory>
         requires { reserved_of kind self.old.reserved < of_kind kind self.old.pool }
         ensures ok { OnOk result (HasReadied self.old (self.old.reserved ++ record { kind = kind; grains = grains } ∷ []) self.new) }
+        ensures formatted { OnOk result (self.new.pooled ≡ formatted_at (free_place kind self.old.reserved self.old.pool) grains (grain_bytes self.old.grain) self.old.pooled) }
         ensures err { OnErr result (self.new ≡ self.old) }
     {
         let coming = self.pool.reserved() + 1;
@@ -72,8 +75,9 @@ impl<D: Mdisk> Grains<D> {
         self.pool.release();
     }
 
-    /// Makes the next of the new volumes that `reserve` made ready for, in its order. It gets this id, which is above those
-    /// of all volumes, and its grains are zeros. Takes no memory and calls no disk.
+    /// Makes the next of the new volumes that `reserve` made ready for, in its order, over the first disk of its
+    /// kind. It gets this id, which is above those of all volumes, and its grains are zeros. Takes no memory and
+    /// calls no disk.
     pub fn make(&mut self, volume: VolId)
         requires reserved { 0 < length self.old.reserved }
         requires newest { All (λ (v : VolumeGrains). v.volume.0 < volume.0) self.old.volumes }

@@ -1,10 +1,11 @@
 //! The disks for new volumes.
 
-ghost use Rattle.std.specs.Prelude.{◌≡◌, ℕ, ◌+◌, ◌^◌, ◌<◌, ◌≤◌, ◌∷◌, ◌++◌, [], false, length, drop, map, replicate, vec_len, vec_capacity, List, IfOk, OnOk, OnErr};
+ghost use Rattle.std.specs.Prelude.{◌≡◌, ◌+◌, ◌^◌, ◌<◌, ◌≤◌, ◌∷◌, ◌++◌, [], false, length, drop, map, replicate, vec_len, vec_capacity, List, IfOk, OnOk, OnErr};
 ghost use Rattle.std.specs.List.{All, remove};
 ghost use Rattle.fc_base.specs.Pools.{of_kind, pool_without};
 ghost use Rattle.fc_mdisk.specs.Disk.{cleared};
-ghost use Rattle.fc_grains.specs.Grains.{IsUnarmed, by_kind, pool_of, reserved_of, next_of};
+ghost use Rattle.fc_mdisk.specs.Disks.{disk_at, formatted_at};
+ghost use Rattle.fc_grains.specs.Grains.{IsUnarmed, by_kind, free_place, next_of, next_place, pool_of, reserved_of};
 ghost use Rattle.fc_grains.specs.Parts.{HasZeros, SameDisks, disks_of, left_of, new_of};
 
 use crate::queues::Queues;
@@ -100,6 +101,7 @@ impl<D: Mdisk> Pool<D> {
         ensures left { left_of self.new ≡ left_of self.old }
         ensures disks { SameDisks (disks_of self.new) (disks_of self.old) }
         ensures cleared { map cleared (disks_of self.new) ≡ map cleared (disks_of self.old) }
+        ensures formatted { OnOk result (disks_of self.new ≡ formatted_at (free_place kind (map new_of self.old.reserved) (left_of self.old)) grains self.old.bytes (disks_of self.old)) }
     {
         let lost = match GrainSet::new(alloc, grains) {
             Ok(lost) => lost,
@@ -138,7 +140,8 @@ impl<D: Mdisk> Pool<D> {
         ensures reserved { self.new.reserved ≡ drop 1 self.old.reserved }
         ensures left { left_of self.new ≡ pool_without (next_of (map new_of self.old.reserved)).kind (left_of self.old) }
         ensures disks { SameDisks (result.disk ∷ disks_of self.new) (disks_of self.old) }
-        ensures taken { (place : ℕ) × (disks_of self.new ≡ remove (disks_of self.old) place) }
+        ensures first { result.disk ≡ disk_at (disks_of self.old) (next_place (map new_of self.old.reserved) (left_of self.old)) }
+        ensures taken { disks_of self.new ≡ remove (disks_of self.old) (next_place (map new_of self.old.reserved) (left_of self.old)) }
     {
         let next = self.reserved.remove(0);
         let disk = self.queues.take_first(next.kind);

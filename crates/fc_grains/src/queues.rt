@@ -1,11 +1,10 @@
 //! Disks of both kinds, in the order in which they are taken.
 
-ghost use Rattle.std.specs.Prelude.{◌≡◌, ◌+◌, ◌^◌, ◌<◌, ◌≤◌, ◌∷◌, ◌++◌, length, drop, map, slice_set, vec_len, vec_capacity, List, IfOk, OnOk, OnErr};
+ghost use Rattle.std.specs.Prelude.{◌≡◌, ◌+◌, ◌^◌, ◌<◌, ◌≤◌, ◌∷◌, ◌++◌, length, drop, map, vec_len, vec_capacity, List, IfOk, OnOk, OnErr};
 ghost use Rattle.std.specs.List.{All};
-ghost use Rattle.fc_mdisk.specs.Disk.{formatted};
 ghost use Rattle.fc_mdisk.specs.Disks.{disk_at};
 ghost use Rattle.fc_grains.specs.Grains.{IsUnarmed, by_kind, pool_of};
-ghost use Rattle.fc_grains.specs.Parts.{SameDisks, disks_in, left_in, queue_of, with_queue};
+ghost use Rattle.fc_grains.specs.Parts.{SameDisks, disks_in, formatted_in, left_in, queue_of, with_queue};
 
 use fc_base::disk::DiskKind;
 use fc_base::outcome::NoMemory;
@@ -93,7 +92,7 @@ impl<D: Mdisk> Queues<D> {
         bytes: u32,
     ) -> Result<(), NoMemory>
         requires { place < length (queue_of kind self.old) }
-        ensures ok { OnOk result (self.new ≡ with_queue kind (slice_set (queue_of kind self.old) place (formatted (disk_at (queue_of kind self.old) place) grains bytes)) self.old) }
+        ensures ok { OnOk result (self.new ≡ formatted_in kind place grains bytes self.old) }
         ensures err { OnErr result (self.new ≡ self.old) }
     {
         match kind {

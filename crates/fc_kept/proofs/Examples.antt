@@ -42,7 +42,7 @@ use Rattle.fc_kept.specs.Marks.{AreMarked, least_asked, least_entry}
 use Rattle.fc_kept.specs.OneGrain.{another, with_another, IsMarkedOne}
 use Rattle.fc_kept.specs.Prefix.{AreStepsOf, moved_to, Prefix, Prefix.acknowledged, Prefix.moves}
 use Rattle.fc_kept.specs.Disks.{NamedDisk, stored_on}
-use Rattle.fc_kept.specs.Deeds.{Deed, Deed.Data, Deed.Note, Deed.Fold, deeds_of_move, deeds_of_own, deeds_of_stop, deeds_of_command}
+use Rattle.fc_kept.specs.Actions.{Action, Action.Data, Action.Note, Action.Fold, actions_of_move, actions_of_own, actions_of_stop, actions_of_command}
 
 -- ---- parts
 
@@ -338,29 +338,29 @@ on_the_disk = refl
 lost_by_metadata : stored_on (single_lane K64) disks (record copied { lost = record { volume = 0; lost = true ∷ false ∷ [] } ∷ [] }) 0 0 ≡ Lost
 lost_by_metadata = refl
 
--- ---- deeds
+-- ---- actions
 
-deeds_of_the_move : deeds_of_move move_step the_move ≡ Data move_step ∷ Note pair ∷ []
-deeds_of_the_move = refl
+actions_of_the_move : actions_of_move move_step the_move ≡ Data move_step ∷ Note pair ∷ []
+actions_of_the_move = refl
 
-deeds_of_the_write : deeds_of_own [] own_step 0 ≡ Data own_step ∷ Note (Written (vol 0) (grain_no 0)) ∷ []
-deeds_of_the_write = refl
+actions_of_the_write : actions_of_own [] own_step 0 ≡ Data own_step ∷ Note (Written (vol 0) (grain_no 0)) ∷ []
+actions_of_the_write = refl
 
-deeds_of_a_first_write : deeds_of_own (rows (true ∷ true ∷ [])) own_step 0 ≡ Note (Changing (vol 0) (grain_no 0)) ∷ Data own_step ∷ Note (Written (vol 0) (grain_no 0)) ∷ []
-deeds_of_a_first_write = refl
+actions_of_a_first_write : actions_of_own (rows (true ∷ true ∷ [])) own_step 0 ≡ Note (Changing (vol 0) (grain_no 0)) ∷ Data own_step ∷ Note (Written (vol 0) (grain_no 0)) ∷ []
+actions_of_a_first_write = refl
 
-deeds_of_a_second_write : deeds_of_own (rows (false ∷ true ∷ [])) own_step 0 ≡ Data own_step ∷ Note (Written (vol 0) (grain_no 0)) ∷ []
-deeds_of_a_second_write = refl
+actions_of_a_second_write : actions_of_own (rows (false ∷ true ∷ [])) own_step 0 ≡ Data own_step ∷ Note (Written (vol 0) (grain_no 0)) ∷ []
+actions_of_a_second_write = refl
 
 -- nothing is copied where the grain is lost, nor in place
-deeds_of_an_empty_move : deeds_of_move (record move_step { calls = 0 }) the_move ≡ Note (Pair (slot_id 2) (vol 1) (grain_no 0) false true) ∷ []
-deeds_of_an_empty_move = refl
+actions_of_an_empty_move : actions_of_move (record move_step { calls = 0 }) the_move ≡ Note (Pair (slot_id 2) (vol 1) (grain_no 0) false true) ∷ []
+actions_of_an_empty_move = refl
 
-deeds_in_place : deeds_of_move (record move_step { calls = 0 }) (record the_move { in_place = true }) ≡ Note (Pair (slot_id 2) (vol 1) (grain_no 0) true false) ∷ []
-deeds_in_place = refl
+actions_in_place : actions_of_move (record move_step { calls = 0 }) (record the_move { in_place = true }) ≡ Note (Pair (slot_id 2) (vol 1) (grain_no 0) true false) ∷ []
+actions_in_place = refl
 
-deeds_of_a_failed_write : deeds_of_stop (Some record { volume = vol 0; grain = grain_no 0; side = Now }) ≡ Note (Torn (vol 0) (grain_no 0) Now) ∷ []
-deeds_of_a_failed_write = refl
+actions_of_a_failed_write : actions_of_stop (Some record { volume = vol 0; grain = grain_no 0; side = Now }) ≡ Note (Torn (vol 0) (grain_no 0) Now) ∷ []
+actions_of_a_failed_write = refl
 
 -- a command that only reports does nothing
 abbrev says : Decision
@@ -369,24 +369,24 @@ says = record { reply = Done; effects = []; events = []; changes = [] }
 abbrev starts : Decision
 starts = record says { effects = State (map_id 0) Copying ∷ [] }
 
-of_a_report : deeds_of_command says says ≡ []
+of_a_report : actions_of_command says says ≡ []
 of_a_report = refl
 
-of_a_start : deeds_of_command says starts ≡ Fold ∷ []
+of_a_start : actions_of_command says starts ≡ Fold ∷ []
 of_a_start = refl
 
-of_a_settling : deeds_of_command starts says ≡ Fold ∷ []
+of_a_settling : actions_of_command starts says ≡ Fold ∷ []
 of_a_settling = refl
 
 -- Two volumes, a write, a mapping, its start, and the write above. Metadata is opened by four calls of its disk, a record takes four
 -- more and a fold six.
-abbrev calls_of : Deed → ℕ
+abbrev calls_of : Action → ℕ
 calls_of (Data step) = 0
 calls_of (Note r) = 4
 calls_of Fold = 6
 
-abbrev session : List Deed
-session = Fold ∷ Fold ∷ (deeds_of_own [] own_step 0 ++ Fold ∷ Fold ∷ (deeds_of_move move_step the_move ++ deeds_of_own [] own_step 0))
+abbrev session : List Action
+session = Fold ∷ Fold ∷ (actions_of_own [] own_step 0 ++ Fold ∷ Fold ∷ (actions_of_move move_step the_move ++ actions_of_own [] own_step 0))
 
 forty_calls : 4 + sum (map calls_of session) ≡ 40
 forty_calls = refl

@@ -20,7 +20,7 @@ use Rattle.fc_entry.specs.declared.entry.Entry.{Entry}
 use Rattle.fc_legal.specs.Steps.{Step, CommandLeft.decided, after_settling, decided_on}
 use Rattle.fc_legal.specs.Whole.{Whole}
 use Rattle.std.specs.Fmt.{digits}
-use Rattle.fc_kept.specs.Deeds.{Deed.Fold, deeds_of_command}
+use Rattle.fc_kept.specs.Actions.{Action.Fold, actions_of_command}
 use Rattle.fc_kept.specs.Marks.{LeastStep, LeastLeft.decided as least_decided}
 use Rattle.fc_kept.specs.Prefix.{Prefix, Prefix.acknowledged, Prefix.whole}
 use Rattle.fc_kept.proofs.Examples.{nulls, plain}
@@ -75,7 +75,7 @@ entry =
     }
 
 -- it changes the tables, and so metadata is made anew
-is_a_fold : deeds_of_command (settle unmade.books) (decided_on K64 (after_settling K64 unmade) making None) ≡ Fold ∷ []
+is_a_fold : actions_of_command (settle unmade.books) (decided_on K64 (after_settling K64 unmade) making None) ≡ Fold ∷ []
 unfolding first_below last_below holder first_reader live_place mapping_place work_events digits settling
 is_a_fold = refl
 

@@ -7,6 +7,6 @@ pub mod Marks
 pub mod OneGrain
 pub mod Prefix
 pub mod Disks
-pub mod Deeds
+pub mod Actions
 pub mod Recoverable
 pub mod Law

@@ -7,8 +7,8 @@
 //!
 //! To read: `specs/Kept` (all that metadata says, and what a record makes of it), `Images` (the image that says it), `Sound`,
 //! `Drops` (old slots that nobody needs), `Marks` (grains that count as changed), `OneGrain` (the grain that a write of a disk
-//! changes before metadata tells of it), `Prefix` (where the history may stand), `Disks`, `Deeds` (what an entry does, deed by
-//! deed), `Recoverable`; then `Law`, what is proved; then `proofs/`: the definitions on closed examples (`Examples`, `StopExamples`,
+//! changes before metadata tells of it), `Prefix` (where the history may stand), `Disks`, `Actions` (what an entry does, action by
+//! action), `Recoverable`; then `Law`, what is proved; then `proofs/`: the definitions on closed examples (`Examples`, `StopExamples`,
 //! `FoldExamples`), and the law.
 #![tactic(auto)]
 

@@ -3,14 +3,17 @@ use Rattle.std.proofs.Common.{◌≡◌, ℕ, zero, suc, ◌+◌, ◌-◌, ◌^�
 use Rattle.fc_base.specs.Count.{one_more}
 use Rattle.fc_base.specs.Sheet.{Sheet}
 use Rattle.fc_base.specs.declared.request.Move.{Move}
+use Rattle.fc_base.specs.declared.request.Reply.{Reply}
+use Rattle.fc_base.specs.declared.request.Request.{Request}
 use Rattle.fc_base.specs.declared.request.Torn.{Torn}
 use Rattle.fc_base.specs.declared.request.WritePart.{WritePart}
 use Rattle.fc_chain.specs.Chains.{Chains}
 use Rattle.fc_entry.specs.declared.entry.Entry.{Entry}
 use Rattle.fc_entry.specs.declared.entry.Past.TheVariants.{Step}
 use Rattle.fc_grains.specs.Grains.{GrainsState, stopped}
-use Rattle.fc_lane.specs.Entering.{SameBeside}
+use Rattle.fc_lane.specs.Entering.{HasEntered, SameBeside}
 use Rattle.fc_lane.specs.Lane.{LaneView, IsLaneOf, IsSameLane, KeepsDisks, of}
+use Rattle.fc_steps.specs.Asking.{steps_entry}
 use Rattle.fc_steps.specs.Moving.{more, IsTornBy, SameLane}
 use Rattle.fc_steps.specs.StepsEnd.{StandsAt, StepsEnd, StepsStand, torn_in}
 use Rattle.fc_steps.specs.declared.stop.Stop.{Stop}
@@ -18,9 +21,10 @@ use Rattle.fc_steps.specs.declared.stop.Stop.TheVariants.{Failed, NoMemory}
 use Rattle.fc_steps.proofs.Moving.{same_lane}
 use Rattle.fc_steps.proofs.Nearer.{come_still}
 use Rattle.fc_steps.proofs.StepsMade.{none_counted}
+use Rattle.fc_rules.specs.LaneRight.{LaneAnswers, done_write}
 use Rattle.fc_rules.specs.LaneTold.{LaneOf, LaneTold, told_past}
 use Rattle.fc_rules.specs.Spot.{Spot}
-use Rattle.fc_rules.specs.Steps.{DiskStep as OneStep}
+use Rattle.fc_rules.specs.Steps.{DiskStep as OneStep, HasDoneNothing}
 
 -- ---- counts
 
@@ -101,3 +105,30 @@ disks_stay grains = record { nearer = come_still grains.volumes; torn_by_write =
 
 pub disks_as : (entry plain : Entry) (old new : GrainsState) → entry ≡ plain → KeepsDisks plain.calls plain.torn old new → KeepsDisks entry.calls entry.torn old new
 disks_as entry plain old new is keeps = subst (λ (e : Entry). KeepsDisks e.calls e.torn old new) (sym is) keeps
+
+-- ---- an entry for which nothing is done
+
+pub nothing_entered : (v : LaneView) (Fits : LaneTold → Type 0) (number actor : ℕ) (request : Request) (reply : Reply) (entry : Entry) → done_write request reply ≡ None →
+    ((told : LaneTold) → IsLaneOf v told → Fits told → (e : Entry) → e.reply ≡ reply → HasDoneNothing e → LaneAnswers (of v) told request e) →
+    entry ≡ steps_entry v.lane number actor request reply v.grains.faults v.grains.faults [] 0 None → HasEntered v Fits number actor request entry v
+nothing_entered v Fits number actor request reply entry none answers is =
+    let plain : Entry = steps_entry v.lane number actor request reply v.grains.faults v.grains.faults [] 0 None in
+    subst (λ (z : Entry). HasEntered v Fits number actor request z v) (sym is) (record {
+      right = λ told s fits. (
+        record {
+          place = refl;
+          faults_before = s.faults;
+          faults_kept = omega arith;
+          no_effects = refl;
+          answers = answers told s fits plain refl (record { moves = refl; calls = refl; untorn = refl });
+        },
+        subst (λ (o : Option WritePart). IsLaneOf v (told_past (of v) told (Step number o [] None v.grains.faults 0))) (sym none)
+            (lane_after v v told number None [] 0 None s (record { lane = refl; lanes = refl; volumes = refl; flags = refl; changes = refl }) (nothing_stands v told s)),
+      );
+      asked = record { number_is = refl; actor_is = refl; request_is = refl };
+      same = record { lane = refl; lanes = refl; grain = refl; disks = refl; silent = refl };
+      quiet = λ q. (q, refl);
+      disks = disks_stay v.grains;
+      plan_room = refl;
+      changes = refl;
+    })

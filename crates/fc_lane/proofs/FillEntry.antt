@@ -6,22 +6,27 @@ use Rattle.fc_base.specs.declared.ids.GrainNo.{GrainNo}
 use Rattle.fc_base.specs.declared.ids.MapId.{MapId}
 use Rattle.fc_base.specs.declared.ids.SlotId.{SlotId}
 use Rattle.fc_base.specs.declared.request.Move.{Move}
+use Rattle.fc_base.specs.declared.request.Reply.{Reply}
 use Rattle.fc_base.specs.declared.request.Reply.TheVariants.{Moved}
 use Rattle.fc_base.specs.declared.request.Request.{Request}
-use Rattle.fc_base.specs.declared.request.Request.TheVariants.{Copy, Clean}
+use Rattle.fc_base.specs.declared.request.WritePart.{WritePart}
 use Rattle.fc_chain.specs.Chains.{found}
 use Rattle.fc_entry.specs.declared.entry.Entry.{Entry}
 use Rattle.fc_entry.specs.declared.entry.Past.{Past}
 use Rattle.fc_entry.specs.declared.entry.Past.TheVariants.{Step}
 use Rattle.fc_grains.specs.Grains.{GrainsState}
 use Rattle.fc_lane.specs.Entering.{HasEntered, HasFilled, IsFill}
-use Rattle.fc_steps.specs.Asking.{steps_entry}
+use Rattle.fc_lane.specs.Workers.{IsFilled, ask_of, filled_slot}
+use Rattle.fc_lane.specs.declared.worker.Worker.{Worker}
+use Rattle.fc_lane.specs.declared.worker.Worker.TheVariants.{Copier, Cleaner}
+use Rattle.fc_steps.specs.Asking.{done_of, reply_in, request_of, steps_entry}
 use Rattle.fc_lane.specs.Lane.{LaneView, IsLaneOf, of}
 use Rattle.fc_steps.specs.StepsEnd.{StepsEnd, torn_in}
 use Rattle.fc_steps.specs.declared.stop.Stop.{Stop}
 use Rattle.fc_steps.specs.declared.stop.Stop.TheVariants.{Failed, NoMemory}
 use Rattle.fc_steps.proofs.Ending.{entry_done, entry_failed, entry_refused}
 use Rattle.fc_lane.proofs.Entering.{disks_after, disks_as, lane_after, same_after}
+use Rattle.fc_lane.proofs.Workers.{done_moved, fill_answers, fill_writes_none}
 use Rattle.fc_pictures.proofs.Agreeing.{lane_law_holds}
 use Rattle.fc_rules.specs.GrainAnswers.{FillAnswers}
 use Rattle.fc_rules.specs.LaneRight.{IsRightInLane, LaneAnswers, MappingFill, record_of}
@@ -29,15 +34,15 @@ use Rattle.fc_rules.specs.LaneTold.{LaneTold, place_of, told_past}
 use Rattle.fc_rules.specs.LaneTurn.{cleaned_slot, copied_slot, spot_at}
 use Rattle.fc_rules.specs.Spot.{Spot}
 use Rattle.fc_rules.specs.Steps.{steps_of_fill}
-use Rattle.fc_steps.proofs.Filling.{some_of, copied_place, cleaned_place, named}
+use Rattle.fc_steps.proofs.Filling.{some_of, copied_place, cleaned_place}
+use Rattle.fc_steps.proofs.Naming.{named}
 
 module _ (v : LaneView) (m : MapId) (grain : GrainNo) (of_lane : grain.0 % v.lanes ≡ v.lane) where
   abbrev g : ℕ
   g = place_of (of v) grain.0
 
-  pub copy_fill : (told : LaneTold) (slot : SlotId) → IsLaneOf v told → IsSome (copied_slot told.sheet.slots m.0 g) → birth_place v.chains.sheet.slots slot.0 ≡ mapping_place v.chains.sheet.slots m.0 →
-      (k : ℕ) × (copied_slot told.sheet.slots m.0 g ≡ Some k) × IsFill (of v) told slot.0 grain.0 k
-  copy_fill told slot s some is =
+  pub copier_fills : (slot : SlotId) → birth_place v.chains.sheet.slots slot.0 ≡ mapping_place v.chains.sheet.slots m.0 → IsFilled v Copier m grain slot.0
+  copier_fills slot is told s some =
       let x = some_of (copied_slot told.sheet.slots m.0 g) some in
       let f = lane_law_holds.copy_slot told.sheet.slots m.0 g x.0 x.1 in
       let sheet = s.parts.sheet_is in (
@@ -51,10 +56,9 @@ module _ (v : LaneView) (m : MapId) (grain : GrainNo) (of_lane : grain.0 % v.lan
         },
       )
 
-  pub clean_fill : (told : LaneTold) (slot name : SlotId) → IsLaneOf v told → IsSome (cleaned_slot told.sheet.slots m.0 g) → birth_place v.chains.sheet.slots slot.0 ≡ mapping_place v.chains.sheet.slots m.0 →
-      ((x : ℕ) → birth_place v.chains.sheet.slots slot.0 ≡ Some x → Some name ≡ found v.chains.sheet.slots (needer (column v.chains.sheet.slots (grain.0 / v.chains.lanes)) x)) →
-      (k : ℕ) × (cleaned_slot told.sheet.slots m.0 g ≡ Some k) × IsFill (of v) told name.0 grain.0 k
-  clean_fill told slot name s some is needs =
+  pub cleaner_fills : (slot name : SlotId) → birth_place v.chains.sheet.slots slot.0 ≡ mapping_place v.chains.sheet.slots m.0 →
+      ((x : ℕ) → birth_place v.chains.sheet.slots slot.0 ≡ Some x → Some name ≡ found v.chains.sheet.slots (needer (column v.chains.sheet.slots (grain.0 / v.chains.lanes)) x)) → IsFilled v Cleaner m grain name.0
+  cleaner_fills slot name is needs told s some =
       let sheet = s.parts.sheet_is in
       let sound = s.parts.beside.stands.sound in
       let k = some_of (cleaned_slot told.sheet.slots m.0 g) some in
@@ -74,28 +78,16 @@ module _ (v : LaneView) (m : MapId) (grain : GrainNo) (of_lane : grain.0 % v.lan
 
 -- ---- the entry
 
-fill_answers : (spot : Spot) (k lane number actor : ℕ) (request : Request) (map : MapId) (grain : GrainNo) (old new : GrainsState) (moves : List Move) (calls : ℕ) (stop : Option Stop) → grain.0 ≡ spot.number →
+fill_ended : (spot : Spot) (k lane number actor : ℕ) (request : Request) (map : MapId) (grain : GrainNo) (old new : GrainsState) (moves : List Move) (calls : ℕ) (stop : Option Stop) → grain.0 ≡ spot.number →
     StepsEnd spot (steps_of_fill spot k) moves calls stop old new →
     let entry = steps_entry lane number actor request (Moved map grain) old.faults new.faults moves calls stop in
     FillAnswers spot map.0 k entry entry.reply
-fill_answers spot k lane number actor request map grain old new moves calls None at e =
+fill_ended spot k lane number actor request map grain old new moves calls None at e =
     (refl, at, entry_done lane number actor request (Moved map grain) old new spot (steps_of_fill spot k) moves calls e)
-fill_answers spot k lane number actor request map grain old new moves calls (Some (Failed torn)) at e =
+fill_ended spot k lane number actor request map grain old new moves calls (Some (Failed torn)) at e =
     entry_failed lane number actor request (Moved map grain) old new spot (steps_of_fill spot k) moves calls torn e
-fill_answers spot k lane number actor request map grain old new moves calls (Some NoMemory) at e =
+fill_ended spot k lane number actor request map grain old new moves calls (Some NoMemory) at e =
     entry_refused lane number actor request (Moved map grain) old new spot (steps_of_fill spot k) moves calls e
-
-copy_told : (m : MapId) (grain : GrainNo) (lane number actor before after : ℕ) (moves : List Move) (calls : ℕ) (stop : Option Stop) →
-    record_of (steps_entry lane number actor (Copy m grain) (Moved m grain) before after moves calls stop) ≡ Step number None moves (torn_in stop) after calls
-copy_told m grain lane number actor before after moves calls None = refl
-copy_told m grain lane number actor before after moves calls (Some (Failed torn)) = refl
-copy_told m grain lane number actor before after moves calls (Some NoMemory) = refl
-
-clean_told : (m : MapId) (grain : GrainNo) (lane number actor before after : ℕ) (moves : List Move) (calls : ℕ) (stop : Option Stop) →
-    record_of (steps_entry lane number actor (Clean m grain) (Moved m grain) before after moves calls stop) ≡ Step number None moves (torn_in stop) after calls
-clean_told m grain lane number actor before after moves calls None = refl
-clean_told m grain lane number actor before after moves calls (Some (Failed torn)) = refl
-clean_told m grain lane number actor before after moves calls (Some NoMemory) = refl
 
 module _ (v new : LaneView) (slot : SlotId) (m : MapId) (grain : GrainNo) (number actor : ℕ) (moves : List Move) (calls : ℕ) (stop : Option Stop) (f : HasFilled v slot.0 grain.0 moves calls stop new) where
   abbrev at : ℕ
@@ -108,7 +100,7 @@ module _ (v new : LaneView) (slot : SlotId) (m : MapId) (grain : GrainNo) (numbe
   fill_right request entry told k s fill answers told_is is =
       let x = f.ends told k s fill in
       let plain : Entry = steps_entry v.lane number actor request (Moved m grain) v.grains.faults new.grains.faults moves calls stop in
-      let filled : FillAnswers (spot_at (of v) told grain.0) m.0 k plain plain.reply = fill_answers (spot_at (of v) told grain.0) k v.lane number actor request m grain v.grains new.grains moves calls stop refl x.0 in
+      let filled : FillAnswers (spot_at (of v) told grain.0) m.0 k plain plain.reply = fill_ended (spot_at (of v) told grain.0) k v.lane number actor request m grain v.grains new.grains moves calls stop refl x.0 in
       let right : LaneAnswers (of v) told request entry = answers (subst (λ (z : Entry). FillAnswers (spot_at (of v) told grain.0) m.0 k z z.reply) (sym is) filled) in (
         record {
           place = ap (λ (e : Entry). e.place) is;
@@ -135,27 +127,17 @@ module _ (v new : LaneView) (slot : SlotId) (m : MapId) (grain : GrainNo) (numbe
         changes = f.beside.changes;
       }
 
-  pub copy_entered : (entry : Entry) → grain.0 % v.lanes ≡ v.lane → (told : LaneTold) × IsLaneOf v told × IsSome (copied_slot told.sheet.slots m.0 at) →
-      birth_place v.chains.sheet.slots slot.0 ≡ mapping_place v.chains.sheet.slots m.0 →
-      entry ≡ steps_entry v.lane number actor (Copy m grain) (Moved m grain) v.grains.faults new.grains.faults moves calls stop →
-      HasEntered v (λ told. IsSome (copied_slot told.sheet.slots m.0 at)) number actor (Copy m grain) entry new
-  copy_entered entry of_lane can slot_is is =
-      let x = copy_fill v m grain of_lane can.0 slot can.1 can.2 slot_is in
-      entered (λ told. IsSome (copied_slot told.sheet.slots m.0 at)) (Copy m grain) entry (can.0, x.0, can.1, x.2)
+  -- by the worker
+  pub work_entered : (worker : Worker) (entry : Entry) → IsFilled v worker m grain slot.0 → (told : LaneTold) × IsLaneOf v told × IsSome (filled_slot worker told.sheet.slots m.0 at) →
+      entry ≡ steps_entry v.lane number actor (request_of (ask_of worker m grain)) (done_of (ask_of worker m grain)) v.grains.faults new.grains.faults moves calls stop →
+      HasEntered v (λ told. IsSome (filled_slot worker told.sheet.slots m.0 at)) number actor (request_of (ask_of worker m grain)) entry new
+  work_entered worker entry filled can e =
+      let asked : Request = request_of (ask_of worker m grain) in
+      let is : entry ≡ steps_entry v.lane number actor asked (Moved m grain) v.grains.faults new.grains.faults moves calls stop =
+      e ∙ ap (λ (r : Reply). steps_entry v.lane number actor asked r v.grains.faults new.grains.faults moves calls stop) (done_moved worker m grain) in
+      let x = filled can.0 can.1 can.2 in
+      entered (λ told. IsSome (filled_slot worker told.sheet.slots m.0 at)) asked entry (can.0, x.0, can.1, x.2)
       (λ told s some.
-      let y = copy_fill v m grain of_lane told slot s some slot_is in
-      fill_right (Copy m grain) entry told y.0 s y.2 (λ a. subst (λ (o : Option ℕ). MappingFill (of v) told m.0 grain.0 o entry) (sym y.1) a)
-      (ap record_of is ∙ copy_told m grain v.lane number actor v.grains.faults new.grains.faults moves calls stop) is) is
-
-  pub clean_entered : (first : SlotId) (entry : Entry) → grain.0 % v.lanes ≡ v.lane → (told : LaneTold) × IsLaneOf v told × IsSome (cleaned_slot told.sheet.slots m.0 at) →
-      birth_place v.chains.sheet.slots first.0 ≡ mapping_place v.chains.sheet.slots m.0 →
-      ((x : ℕ) → birth_place v.chains.sheet.slots first.0 ≡ Some x → Some slot ≡ found v.chains.sheet.slots (needer (column v.chains.sheet.slots (grain.0 / v.chains.lanes)) x)) →
-      entry ≡ steps_entry v.lane number actor (Clean m grain) (Moved m grain) v.grains.faults new.grains.faults moves calls stop →
-      HasEntered v (λ told. IsSome (cleaned_slot told.sheet.slots m.0 at)) number actor (Clean m grain) entry new
-  clean_entered first entry of_lane can slot_is needs is =
-      let x = clean_fill v m grain of_lane can.0 first slot can.1 can.2 slot_is needs in
-      entered (λ told. IsSome (cleaned_slot told.sheet.slots m.0 at)) (Clean m grain) entry (can.0, x.0, can.1, x.2)
-      (λ told s some.
-      let y = clean_fill v m grain of_lane told first slot s some slot_is needs in
-      fill_right (Clean m grain) entry told y.0 s y.2 (λ a. subst (λ (o : Option ℕ). MappingFill (of v) told m.0 grain.0 o entry) (sym y.1) a)
-      (ap record_of is ∙ clean_told m grain v.lane number actor v.grains.faults new.grains.faults moves calls stop) is) is
+      let y = filled told s some in
+      fill_right asked entry told y.0 s y.2 (λ a. fill_answers worker (of v) told m grain entry (subst (λ (o : Option ℕ). MappingFill (of v) told m.0 grain.0 o entry) (sym y.1) a))
+      (ap record_of is ∙ ap (λ (o : Option WritePart). Step number o moves (torn_in stop) new.grains.faults calls) (fill_writes_none worker m grain (reply_in (Moved m grain) stop))) is) is

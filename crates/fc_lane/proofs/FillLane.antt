@@ -14,7 +14,7 @@ use Rattle.fc_lane.specs.Lane.{LaneView, IsLaneOf, IsReady, of}
 use Rattle.fc_steps.specs.StepsEnd.{CanMakeMoves, StepsEnd, StepsStand, torn_in}
 use Rattle.fc_steps.specs.declared.stop.Stop.{Stop}
 use Rattle.fc_lane.proofs.Entering.{stands_at}
-use Rattle.fc_steps.proofs.Writable.{some_live}
+use Rattle.fc_lane.proofs.Room.{count_told, few_moves, moves_fit}
 use Rattle.fc_moves.proofs.Filling.{filled}
 use Rattle.fc_moves.proofs.Listing.{reached_root}
 use Rattle.fc_moves.proofs.Members.{not_in_nil}
@@ -79,27 +79,14 @@ module _ (v : LaneView) (slot number place : ℕ) (w : CanFillHere v slot number
         let ks : List ℕ = fill_moves (column told.sheet.slots (number / v.lanes)) k in
         let e : length plan ≡ length ks = ap (length {A = Move}) (plan_of told k stands fill) ∙ length-map ks (move_at told.sheet.slots (number / v.lanes) number) in
         let short : length ks ≤ volume_count told.sheet.slots = fill_short told.sheet (number / v.lanes) k stands.parts.beside.stands.sound fill.live fill.lacks in
-        let same : volume_count told.sheet.slots ≡ volume_count v.chains.sheet.slots = ap (λ (z : Sheet). volume_count z.slots) (sym stands.parts.sheet_is) in
+        let same = count_told v told stands in
         omega arith
 
     pub fill_few : length plan < 2 ^ 30
-    fill_few =
-        let short = plan_short in
-        let few = w.ready.few in
-        omega arith
+    fill_few = few_moves v w.ready (length plan) plan_short
 
     pub fill_fits : length plan ≤ v.entry_room
-    fill_fits =
-        let short = plan_short in
-        let room = w.ready.entry in
-        omega arith
-
-    pub fill_some : 0 < v.entry_room
-    fill_some =
-        let some : 0 < volume_count told.sheet.slots = some_live told.sheet.slots k fill.live.there fill.live.is_live in
-        let same : volume_count told.sheet.slots ≡ volume_count v.chains.sheet.slots = ap (λ (z : Sheet). volume_count z.slots) (sym stands.parts.sheet_is) in
-        let room = w.ready.entry in
-        omega arith
+    fill_fits = moves_fit v w.ready (length plan) plan_short
 
     runs : (told' : LaneTold) (k' : ℕ) (s : IsLaneOf v told') → IsFill (of v) told' slot number k' → CanMakeMoves (of v) told' number (fill_moves (column told'.sheet.slots (number / v.lanes)) k') v.chains v.grains
     runs told' k' s f = record {

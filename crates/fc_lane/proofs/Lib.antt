@@ -4,9 +4,11 @@ pub mod LaneEvents
 pub mod Reading
 pub mod ReadAnswers
 pub mod Entering
+pub mod Room
 pub mod WriteEntry
 pub mod WriteLane
 pub mod FillLane
+pub mod Workers
 pub mod FillEntry
 pub mod Turns
 pub mod Followed

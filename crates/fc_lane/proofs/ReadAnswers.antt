@@ -59,8 +59,8 @@ stands_read : (s : Sheet) (picture : Picture) (old new : GrainsState) (failed : 
 stands_read s picture old new failed r st = record {
   sound = st.sound;
   sized = λ k kl. (let h : HasGrains s.slots old.volumes k = st.sized k kl in record {
-    there = r.there (slot_at s.slots k).volume ∙ h.there;
-    size = r.size (slot_at s.slots k).volume ∙ h.size;
+    there = r.same.there (slot_at s.slots k).volume ∙ h.there;
+    size = r.same.sizes (slot_at s.slots k).volume ∙ h.size;
   });
   shows = stored_shows s.slots picture (stored old.volumes) (stored new.volumes) (λ i g il. r.stored_same (slot_at s.slots i).volume g) st.shows;
 }

@@ -84,25 +84,6 @@ write_right v new told part t number actor moves calls stop entry s b w online w
           (lane_after v new told number (write_in part stop) moves calls (torn_in stop) s b x),
     )
 
--- nothing was done: how the volume may be reached, or a lost grain, forbids it
-pub untouched_right : (v : LaneView) (told : LaneTold) (part : WritePart) (number actor : ℕ) (reply : Reply) (entry : Entry) → IsLaneOf v told →
-    ((e : Entry) → e.reply ≡ reply → HasDoneNothing e → ByAccess (lane_access told.volumes part.volume) e (VolumeWrite (of v) told part (live_place told.sheet.slots part.volume.0) e)) →
-    done_write (Write part) reply ≡ None → entry ≡ steps_entry v.lane number actor (Write part) reply v.grains.faults v.grains.faults [] 0 None →
-    IsRightInLane (of v) told entry × IsLaneOf v (told_past (of v) told (record_of entry))
-untouched_right v told part number actor reply entry s answers none is =
-    let plain : Entry = steps_entry v.lane number actor (Write part) reply v.grains.faults v.grains.faults [] 0 None in
-    subst (λ (z : Entry). IsRightInLane (of v) told z × IsLaneOf v (told_past (of v) told (record_of z))) (sym is) (
-      record {
-        place = refl;
-        faults_before = s.faults;
-        faults_kept = omega arith;
-        no_effects = refl;
-        answers = answers plain refl (record { moves = refl; calls = refl; untorn = refl });
-      },
-      subst (λ (o : Option WritePart). IsLaneOf v (told_past (of v) told (Step number o [] None v.grains.faults 0))) (sym none)
-          (lane_after v v told number None [] 0 None s (record { lane = refl; lanes = refl; volumes = refl; flags = refl; changes = refl }) (nothing_stands v told s)),
-    )
-
 -- a volume that isn't online answers how it may be reached
 pub unreached : (told : LaneTold) (part : WritePart) (a : Access) (reply : Reply) (e : Entry) (answers : Type 0) → lane_access told.volumes part.volume ≡ a → ((e' : Entry) → e'.reply ≡ reply → HasDoneNothing e' → ByAccess a e' answers) →
     e.reply ≡ reply → HasDoneNothing e → ByAccess (lane_access told.volumes part.volume) e answers

@@ -22,9 +22,10 @@ use Rattle.fc_steps.specs.Asking.{steps_entry}
 use Rattle.fc_lane.specs.Lane.{LaneView, IsLaneOf, IsReady, of}
 use Rattle.fc_steps.specs.StepsEnd.{StandsAt, StepsEnd, StepsStand, torn_in}
 use Rattle.fc_steps.specs.declared.stop.Stop.{Stop}
-use Rattle.fc_lane.proofs.Entering.{disks_after, disks_as, disks_stay, same_after, stands_at}
-use Rattle.fc_lane.proofs.WriteEntry.{fits_write, lost_answers, unreached, untouched_right, write_right}
-use Rattle.fc_steps.proofs.Writable.{some_live, write_short}
+use Rattle.fc_lane.proofs.Entering.{disks_after, disks_as, nothing_entered, same_after, stands_at}
+use Rattle.fc_lane.proofs.WriteEntry.{fits_write, lost_answers, unreached, write_right}
+use Rattle.fc_lane.proofs.Room.{count_told, few_moves, moves_fit, some_room}
+use Rattle.fc_steps.proofs.Writable.{write_short}
 use Rattle.fc_steps.proofs.Writable.{plan_of_write}
 use Rattle.fc_rules.specs.GrainAnswers.{ByAccess, cannot_write}
 use Rattle.fc_rules.specs.LaneFits.{FitsPart}
@@ -69,30 +70,17 @@ module _ (v : LaneView) (part : WritePart) (grain place : ℕ) (w : IsWritable v
       let ks : List ℕ = write_moves (column told.sheet.slots g) f.0 in
       let e : length plan ≡ length ks = ap (length {A = Move}) (planned told f.0 s f.1).plan_is ∙ length-map ks (move_at told.sheet.slots g (grain_of_block (of v).grain part.block)) in
       let short : length ks ≤ volume_count told.sheet.slots = write_short told.sheet g f.0 f.1.sound f.1.live in
-      let same : volume_count told.sheet.slots ≡ volume_count v.chains.sheet.slots = ap (λ (z : Sheet). volume_count z.slots) (sym s.parts.sheet_is) in
+      let same = count_told v told s in
       omega arith
 
   pub plan_few : length plan < 2 ^ 30
-  plan_few =
-      let short = plan_short in
-      let few = w.ready.few in
-      omega arith
+  plan_few = few_moves v w.ready (length plan) plan_short
 
   pub plan_fits : length plan ≤ v.entry_room
-  plan_fits =
-      let short = plan_short in
-      let room = w.ready.entry in
-      omega arith
+  plan_fits = moves_fit v w.ready (length plan) plan_short
 
-  pub some_room : 0 < v.entry_room
-  some_room =
-      let told = w.can.0 in
-      let s = w.can.1 in
-      let f = fits_write v told part s w.can.2 in
-      let some : 0 < volume_count told.sheet.slots = some_live told.sheet.slots f.0 f.1.live.there f.1.live.is_live in
-      let same : volume_count told.sheet.slots ≡ volume_count v.chains.sheet.slots = ap (λ (z : Sheet). volume_count z.slots) (sym s.parts.sheet_is) in
-      let room = w.ready.entry in
-      omega arith
+  pub plan_some : 0 < v.entry_room
+  plan_some = let f = fits_write v w.can.0 part w.can.1 w.can.2 in some_room v w.ready w.can.0 f.0 w.can.1 f.1.live.there f.1.live.is_live
 
   pub write_entered : (new : LaneView) (number actor : ℕ) (moves : List Move) (calls : ℕ) (stop : Option Stop) (entry : Entry) → SameBeside v new → new.plan_room ≡ v.plan_room →
       ((l : LaneOf) (told : LaneTold) (t : ℕ) → IsPlannedWrite l told part t v.chains v.grains plan grain place → StepsEnd (spot_of l told part) (steps_of_write l.grain (spot_of l told part) part t) moves calls stop v.grains new.grains
@@ -122,15 +110,8 @@ pub untouched_entered : (v : LaneView) (part : WritePart) (number actor : ℕ) (
     ByAccess (lane_access told.volumes part.volume) e (VolumeWrite (of v) told part (live_place told.sheet.slots part.volume.0) e)) →
     done_write (Write part) reply ≡ None → entry ≡ steps_entry v.lane number actor (Write part) reply v.grains.faults v.grains.faults [] 0 None →
     HasEntered v (λ told. FitsPart (of v) told part.volume part.block part.count) number actor (Write part) entry v
-untouched_entered v part number actor reply entry answers none is = record {
-  right = λ told s f. untouched_right v told part number actor reply entry s (answers told s f) none is;
-  asked = record { number_is = ap (λ (e : Entry). e.number) is; actor_is = ap (λ (e : Entry). e.actor) is; request_is = ap (λ (e : Entry). e.request) is };
-  same = record { lane = refl; lanes = refl; grain = refl; disks = refl; silent = refl };
-  quiet = λ q. (q, refl);
-  disks = disks_as entry _ v.grains v.grains is (disks_stay v.grains);
-  plan_room = refl;
-  changes = refl;
-}
+untouched_entered v part number actor reply entry answers none is =
+    nothing_entered v (λ told. FitsPart (of v) told part.volume part.block part.count) number actor (Write part) reply entry none answers is
 
 -- how the volume may be reached, as it is told
 access_told : (v : LaneView) (told : LaneTold) (part : WritePart) (a : Access) → IsLaneOf v told → lane_access v.accesses.volumes part.volume ≡ a → lane_access told.volumes part.volume ≡ a

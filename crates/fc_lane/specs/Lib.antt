@@ -2,4 +2,5 @@
 pub mod Lane
 pub mod Entering
 pub mod Turns
+pub mod Workers
 pub mod Applying

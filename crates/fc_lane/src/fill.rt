@@ -1,19 +1,19 @@
 //! Copies and cleanings of one grain: fills of a slot.
 
 ghost use Rattle.std.specs.Prelude.{◌≡◌, ℕ, ◌%◌, IsSome};
-ghost use Rattle.fc_base.specs.declared.request.Request.TheVariants.{Copy, Clean};
 ghost use Rattle.fc_lane.specs.Entering.{HasEntered, HasFilled, IsFill};
 ghost use Rattle.fc_lane.specs.Lane.{IsLaneOf, IsReady, of};
+ghost use Rattle.fc_lane.specs.Workers.{IsFilled, ask_of, filled_slot};
 ghost use Rattle.fc_rules.specs.LaneTold.{LaneTold, place_of};
-ghost use Rattle.fc_rules.specs.LaneTurn.{cleaned_slot, copied_slot};
+ghost use Rattle.fc_steps.specs.Asking.{request_of};
 
 use crate::lane::Lane;
+use crate::worker::{Worker, ask_of};
 use fc_base::ids::{GrainNo, MapId, SlotId};
 use fc_base::list::List;
 use fc_base::request::{Move, Planned};
 use fc_entry::entry::Entry;
 use fc_mdisk::mdisk::Mdisk;
-use fc_steps::ask::Ask;
 use fc_steps::body::StepEnd;
 use fc_steps::roomy::room_for;
 use std::alloc::Global;
@@ -44,54 +44,44 @@ impl<D: Mdisk> Lane<D> {
         }
     }
 
-    /// Copies a grain of a mapping in the background: its target gets its own copy, after all moves that this asks for. It
-    /// stops at the first call of a disk that fails; what was done before stays done.
-    pub(crate) fn copy_told(
-        &mut self,
-        alloc: Global,
-        number: u64,
-        actor: u32,
-        map: MapId,
-        grain: GrainNo,
-    ) -> Entry
-        requires can { (told : LaneTold) × IsLaneOf self.old told × IsSome (copied_slot told.sheet.slots map.0 (place_of (of self.old) grain.0)) }
-        requires of_lane { grain.0 % self.old.lanes ≡ self.old.lane }
-        requires ready { IsReady self.old }
-        ensures { HasEntered self.old (λ told. IsSome (copied_slot told.sheet.slots map.0 (place_of (of self.old) grain.0))) number actor (Copy map grain) result self.new }
+    /// The slot that a worker fills for a mapping.
+    fn filled_slot(&self, worker: Worker, map: MapId, grain: GrainNo) -> SlotId
+        requires can { (told : LaneTold) × IsLaneOf self.now told × IsSome (filled_slot worker told.sheet.slots map.0 (place_of (of self.now) grain.0)) }
+        requires of_lane { grain.0 % self.now.lanes ≡ self.now.lane }
+        ensures { IsFilled self.now worker map grain result.0 }
     {
         let Some(slot) = self.body.cascade.slot(map) else {
             unreachable!()
         };
-        let before = self.body.grains.faults();
-        let filled = self.fill(alloc, slot, grain);
-        let ask = Ask::Copy { map, grain };
-        self.ended(alloc, number, actor, ask, before, filled.moves, filled.end)
+        match worker {
+            Worker::Copier => slot,
+            Worker::Cleaner => match self.body.cascade.needer(slot, grain.0) {
+                Some(needer) => needer,
+                None => unreachable!(),
+            },
+        }
     }
 
-    /// Hands on a grain of a mapping's target to the copy that needs it, after all moves that this asks for. It stops at
+    /// What a worker does of a grain of a mapping: a slot gets its own copy, after all moves that this asks for. It stops at
     /// the first call of a disk that fails; what was done before stays done.
-    pub(crate) fn clean_told(
+    pub(crate) fn fill_told(
         &mut self,
         alloc: Global,
         number: u64,
         actor: u32,
+        worker: Worker,
         map: MapId,
         grain: GrainNo,
     ) -> Entry
-        requires can { (told : LaneTold) × IsLaneOf self.old told × IsSome (cleaned_slot told.sheet.slots map.0 (place_of (of self.old) grain.0)) }
+        requires can { (told : LaneTold) × IsLaneOf self.old told × IsSome (filled_slot worker told.sheet.slots map.0 (place_of (of self.old) grain.0)) }
         requires of_lane { grain.0 % self.old.lanes ≡ self.old.lane }
         requires ready { IsReady self.old }
-        ensures { HasEntered self.old (λ told. IsSome (cleaned_slot told.sheet.slots map.0 (place_of (of self.old) grain.0))) number actor (Clean map grain) result self.new }
+        ensures { HasEntered self.old (λ told. IsSome (filled_slot worker told.sheet.slots map.0 (place_of (of self.old) grain.0))) number actor (request_of (ask_of worker map grain)) result self.new }
     {
-        let Some(slot) = self.body.cascade.slot(map) else {
-            unreachable!()
-        };
-        let Some(needer) = self.body.cascade.needer(slot, grain.0) else {
-            unreachable!()
-        };
+        let slot = self.filled_slot(worker, map, grain);
         let before = self.body.grains.faults();
-        let filled = self.fill(alloc, needer, grain);
-        let ask = Ask::Clean { map, grain };
+        let filled = self.fill(alloc, slot, grain);
+        let ask = ask_of(worker, map, grain);
         self.ended(alloc, number, actor, ask, before, filled.moves, filled.end)
     }
 }

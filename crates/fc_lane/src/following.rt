@@ -16,6 +16,7 @@ ghost use Rattle.fc_rules.specs.LaneTold.{place_of};
 ghost use Rattle.fc_rules.specs.LaneTurn.{cleaned_slot, copied_slot};
 
 use crate::lane::Lane;
+use crate::worker::Worker;
 use fc_base::ids::{GrainNo, MapId};
 use fc_base::request::{Pick, ReadPart, Reply, Request, Side, WritePart};
 use fc_entry::entry::Entry;
@@ -115,7 +116,7 @@ impl<D: Mdisk> Lane<D> {
         requires ready { IsReady self.old }
         ensures { HasFollowed self.old (λ told. IsSome (copied_slot told.sheet.slots map.0 (place_of (of self.old) grain.0))) number actor (Copy map grain) result self.new }
     {
-        let entry = self.copy_told(alloc, number, actor, map, grain);
+        let entry = self.fill_told(alloc, number, actor, Worker::Copier, map, grain);
         self.note(&entry);
         entry
     }
@@ -135,7 +136,7 @@ impl<D: Mdisk> Lane<D> {
         requires ready { IsReady self.old }
         ensures { HasFollowed self.old (λ told. IsSome (cleaned_slot told.sheet.slots map.0 (place_of (of self.old) grain.0))) number actor (Clean map grain) result self.new }
     {
-        let entry = self.clean_told(alloc, number, actor, map, grain);
+        let entry = self.fill_told(alloc, number, actor, Worker::Cleaner, map, grain);
         self.note(&entry);
         entry
     }
@@ -148,7 +149,7 @@ impl<D: Mdisk> Lane<D> {
         requires ready { IsReady self.old }
         ensures { HasFollowed self.old (λ told. CanPick (of self.old) (copied_slot told.sheet.slots) pick) number actor (copy_of self.old.lane pick) result self.new }
     {
-        let entry = self.copy_turn_told(alloc, number, actor, pick);
+        let entry = self.turn_told(alloc, number, actor, Worker::Copier, pick);
         self.note(&entry);
         entry
     }
@@ -161,7 +162,7 @@ impl<D: Mdisk> Lane<D> {
         requires ready { IsReady self.old }
         ensures { HasFollowed self.old (λ told. CanPick (of self.old) (cleaned_slot told.sheet.slots) pick) number actor (clean_of self.old.lane pick) result self.new }
     {
-        let entry = self.clean_turn_told(alloc, number, actor, pick);
+        let entry = self.turn_told(alloc, number, actor, Worker::Cleaner, pick);
         self.note(&entry);
         entry
     }

@@ -1,14 +1,16 @@
 //! Background work: a worker's turn.
 
 ghost use Rattle.std.specs.Prelude.{◌≡◌};
-ghost use Rattle.fc_base.specs.declared.request.Request.TheVariants.{CleanTurn, CopyTurn};
-ghost use Rattle.fc_lane.specs.Lane.{IsAsked, IsLaneOf, IsReady, IsSameLane, KeepsDisks, KeepsQuiet, of};
-ghost use Rattle.fc_lane.specs.Turns.{CanPick, clean_of, copy_of};
-ghost use Rattle.fc_rules.specs.LaneRight.{IsRightInLane, record_of};
-ghost use Rattle.fc_rules.specs.LaneTold.{LaneTold, told_past};
+ghost use Rattle.fc_base.specs.declared.request.Pick.TheVariants.{Any};
+ghost use Rattle.fc_lane.specs.Entering.{HasEntered};
+ghost use Rattle.fc_lane.specs.Lane.{IsLaneOf, IsReady, of};
+ghost use Rattle.fc_lane.specs.Turns.{CanPick};
+ghost use Rattle.fc_lane.specs.Workers.{filled_slot, next_of, pick_of};
+ghost use Rattle.fc_rules.specs.LaneTold.{LaneTold};
 ghost use Rattle.fc_rules.specs.LaneTurn.{cleaned_slot, copied_slot, least_grain, next_clean, next_copy};
 
 use crate::lane::Lane;
+use crate::worker::{Worker, turn_of};
 use fc_base::ids::{GrainNo, MapId};
 use fc_base::request::{Pick, Reply, Request};
 use fc_entry::entry::Entry;
@@ -57,99 +59,51 @@ impl<D: Mdisk> Lane<D> {
         self.work.next_clean(&self.body)
     }
 
-    /// A copy of the first mapping by id that has one to make in the lane, at its least grain. Idle exactly where none has.
-    fn copy_first(&mut self, alloc: Global, number: u64, actor: u32) -> Entry
-        requires stands { (told : LaneTold) × IsLaneOf self.old told }
-        requires ready { IsReady self.old }
-        ensures right { (told : LaneTold) → IsLaneOf self.old told → IsRightInLane (of self.old) told result × IsLaneOf self.new (told_past (of self.old) told (record_of result)) }
-        ensures asked { IsAsked number actor (CopyTurn self.old.lane) result }
-        ensures same { IsSameLane self.old self.new }
-        ensures quiet { KeepsQuiet self.old self.new }
-        ensures disks { KeepsDisks result.calls result.torn self.old.grains self.new.grains }
-        ensures plan_room { self.new.plan_room ≡ self.old.plan_room }
-        ensures changes { self.new.changes ≡ self.old.changes }
+    /// The first mapping by id that has work for the worker in the lane, and the least grain of it.
+    fn next_of(&self, worker: Worker) -> Option<(MapId, GrainNo)>
+        ensures { (told : LaneTold) → IsLaneOf self.now told → result ≡ next_of worker (of self.now) told }
     {
-        let request = Request::CopyTurn { lane: self.lane };
-        match self.next_copy() {
-            Some((map, grain)) => turned(self.copy_told(alloc, number, actor, map, grain), request),
-            None => self.untouched(alloc, number, actor, request, Reply::Idle),
+        match worker {
+            Worker::Copier => self.next_copy(),
+            Worker::Cleaner => self.next_clean(),
         }
     }
 
-    /// A cleaning of the first mapping by id that has one to make in the lane, at its least grain. Idle exactly where none
-    /// has.
-    fn clean_first(&mut self, alloc: Global, number: u64, actor: u32) -> Entry
+    /// The next piece of the worker's work in the lane. Idle exactly where there is none.
+    fn work_next(&mut self, alloc: Global, number: u64, actor: u32, worker: Worker) -> Entry
         requires stands { (told : LaneTold) × IsLaneOf self.old told }
         requires ready { IsReady self.old }
-        ensures right { (told : LaneTold) → IsLaneOf self.old told → IsRightInLane (of self.old) told result × IsLaneOf self.new (told_past (of self.old) told (record_of result)) }
-        ensures asked { IsAsked number actor (CleanTurn self.old.lane) result }
-        ensures same { IsSameLane self.old self.new }
-        ensures quiet { KeepsQuiet self.old self.new }
-        ensures disks { KeepsDisks result.calls result.torn self.old.grains self.new.grains }
-        ensures plan_room { self.new.plan_room ≡ self.old.plan_room }
-        ensures changes { self.new.changes ≡ self.old.changes }
+        ensures { HasEntered self.old (λ told. CanPick (of self.old) (filled_slot worker told.sheet.slots) Any) number actor (pick_of worker self.old.lane Any) result self.new }
     {
-        let request = Request::CleanTurn { lane: self.lane };
-        match self.next_clean() {
+        let request = turn_of(worker, self.lane);
+        match self.next_of(worker) {
             Some((map, grain)) => turned(
-                self.clean_told(alloc, number, actor, map, grain),
+                self.fill_told(alloc, number, actor, worker, map, grain),
                 request,
             ),
             None => self.untouched(alloc, number, actor, request, Reply::Idle),
         }
     }
 
-    /// A copier's turn: a copy of the first mapping by id that has one to make in the lane, at its least grain, and Idle exactly
-    /// where none has; or the copy of a mapping's grain that is named. It stops at the first call of a disk that fails; what
-    /// was done before stays done.
-    pub(crate) fn copy_turn_told(
+    /// A worker's turn: the next piece of its work in the lane, and Idle exactly where there is none; or the grain of a mapping
+    /// that is named. It stops at the first call of a disk that fails; what was done before stays done.
+    pub(crate) fn turn_told(
         &mut self,
         alloc: Global,
         number: u64,
         actor: u32,
+        worker: Worker,
         pick: Pick,
     ) -> Entry
-        requires can { (told : LaneTold) × IsLaneOf self.old told × CanPick (of self.old) (copied_slot told.sheet.slots) pick }
+        requires can { (told : LaneTold) × IsLaneOf self.old told × CanPick (of self.old) (filled_slot worker told.sheet.slots) pick }
         requires ready { IsReady self.old }
-        ensures right { (told : LaneTold) → IsLaneOf self.old told → CanPick (of self.old) (copied_slot told.sheet.slots) pick →
-            IsRightInLane (of self.old) told result × IsLaneOf self.new (told_past (of self.old) told (record_of result)) }
-        ensures asked { IsAsked number actor (copy_of self.old.lane pick) result }
-        ensures same { IsSameLane self.old self.new }
-        ensures quiet { KeepsQuiet self.old self.new }
-        ensures disks { KeepsDisks result.calls result.torn self.old.grains self.new.grains }
-        ensures plan_room { self.new.plan_room ≡ self.old.plan_room }
-        ensures changes { self.new.changes ≡ self.old.changes }
+        ensures { HasEntered self.old (λ told. CanPick (of self.old) (filled_slot worker told.sheet.slots) pick) number actor (pick_of worker self.old.lane pick) result self.new }
     {
         match pick {
-            Pick::Any => self.copy_first(alloc, number, actor),
-            Pick::Grain { map, grain } => self.copy_told(alloc, number, actor, map, grain),
-        }
-    }
-
-    /// A cleaner's turn: a cleaning of the first mapping by id that has one to make in the lane, at its least grain, and Idle
-    /// exactly where none has; or the cleaning of a mapping's grain that is named. It stops at the first call of a disk that
-    /// fails; what was done before stays done.
-    pub(crate) fn clean_turn_told(
-        &mut self,
-        alloc: Global,
-        number: u64,
-        actor: u32,
-        pick: Pick,
-    ) -> Entry
-        requires can { (told : LaneTold) × IsLaneOf self.old told × CanPick (of self.old) (cleaned_slot told.sheet.slots) pick }
-        requires ready { IsReady self.old }
-        ensures right { (told : LaneTold) → IsLaneOf self.old told → CanPick (of self.old) (cleaned_slot told.sheet.slots) pick →
-            IsRightInLane (of self.old) told result × IsLaneOf self.new (told_past (of self.old) told (record_of result)) }
-        ensures asked { IsAsked number actor (clean_of self.old.lane pick) result }
-        ensures same { IsSameLane self.old self.new }
-        ensures quiet { KeepsQuiet self.old self.new }
-        ensures disks { KeepsDisks result.calls result.torn self.old.grains self.new.grains }
-        ensures plan_room { self.new.plan_room ≡ self.old.plan_room }
-        ensures changes { self.new.changes ≡ self.old.changes }
-    {
-        match pick {
-            Pick::Any => self.clean_first(alloc, number, actor),
-            Pick::Grain { map, grain } => self.clean_told(alloc, number, actor, map, grain),
+            Pick::Any => self.work_next(alloc, number, actor, worker),
+            Pick::Grain { map, grain } => {
+                self.fill_told(alloc, number, actor, worker, map, grain)
+            }
         }
     }
 }

@@ -1,14 +1,15 @@
 -- The grains of a thin disk of which one was written.
-use Rattle.std.proofs.Common.{◌≡◌, ℕ, zero, suc, ◌+◌, ◌<◌, ◌≤◌, ◌^◌, Bool, true, false, not, cond, List, ◌∷◌, length, map, replicate, slice_set, slice_index_or, refl, sym, ◌∙◌, ap, arith, Fits, w32}
+use Rattle.std.proofs.Common.{◌≡◌, ℕ, zero, suc, ◌+◌, ◌<◌, ◌≤◌, ◌^◌, Bool, true, false, not, cond, List, ◌∷◌, length, map, replicate, slice_set, slice_index_or, inl, inr, refl, sym, ◌∙◌, ap, arith, Fits, w32}
 use Rattle.std.specs.List.{count_by}
-use Rattle.std.proofs.lemmas.List.{map-set, get_or-map, get_or-set_same, length-map, length-set}
+use Rattle.std.proofs.lemmas.List.{map-set, get_or-map, get_or-set_same, length-append, length-drop, length-map, length-set, length-take}
 use Rattle.std.proofs.lemmas.List.Sums.{sum_by-set, count_by-le-length}
 use mir.Val.{bool_byte}
+use Rattle.fc_base.specs.declared.disk.DiskKind.TheVariants.{Thin}
 use Rattle.fc_mdisk.specs.declared.thin_grains.ThinGrain.{ThinGrain}
-use Rattle.fc_mdisk.specs.declared.thin_grains.ThinGrain.TheVariants.{Unwritten, Lost}
+use Rattle.fc_mdisk.specs.declared.thin_grains.ThinGrain.TheVariants.{Unwritten, Lost, Written}
 use Rattle.fc_mdisk.specs.Disk.{grain_at}
-use Rattle.fc_mdisk.specs.Grains.{GrainsState}
-use Rattle.fc_mdisk.specs.Thin.{bytes_of, is_reached}
+use Rattle.fc_mdisk.specs.Grains.{GrainsState, IsTorn, half_written}
+use Rattle.fc_mdisk.specs.Thin.{bytes_of, is_reached, torn}
 
 abbrev state : ℕ → List ThinGrain → GrainsState
 state width grains = record { grains = map (bytes_of width) grains; occupied = map is_reached grains }
@@ -24,6 +25,19 @@ one_counted true true n m e reached = omega arith
 one_counted false true n m e reached = omega arith
 one_counted true false n m e reached = cc
 one_counted false false n m e reached = cc
+
+-- what a write that fails leaves
+torn_is : (width : ℕ) (old : ThinGrain) (bytes : List ℕ) → IsTorn Thin bytes (bytes_of width old) (torn width old bytes)
+torn_is width Unwritten bytes = inr refl
+torn_is width Lost bytes = inr refl
+torn_is width (Written kept) bytes = inl refl
+
+half_size : (bytes old : List ℕ) → length bytes ≡ length old → length (half_written bytes old) ≡ length bytes
+half_size bytes old size = simp (length-append, length-take, length-drop) (omega arith)
+
+pub torn_size : (bytes old new : List ℕ) → length bytes ≡ length old → IsTorn Thin bytes old new → length new ≡ length bytes
+torn_size bytes old new size (inl half) = ap length half ∙ half_size bytes old size
+torn_size bytes old new size (inr same) = ap length same ∙ sym size
 
 module _ (width g : ℕ) (grains : List ThinGrain) (seen : GrainsState) (old : ThinGrain)
     (view_is : state width grains ≡ seen) (in_range : g < length seen.grains) (read : old ≡ slice_index_or grains g old) where
@@ -49,6 +63,10 @@ module _ (width g : ℕ) (grains : List ThinGrain) (seen : GrainsState) (old : T
 
   pub bytes_left : (new : ThinGrain) → grain_at (map (bytes_of width) (slice_set grains g new)) g ≡ bytes_of width new
   bytes_left new = ap (λ (all : List (List ℕ)). grain_at all g) (grains_left new) ∙ get_or-set_same seen.grains g (bytes_of width new) _ in_range
+
+  pub torn_left : (new : ThinGrain) (bytes : List ℕ) → bytes_of width new ≡ torn width old bytes
+      → IsTorn Thin bytes (grain_at seen.grains g) (grain_at (map (bytes_of width) (slice_set grains g new)) g)
+  torn_left new bytes is = rw (old_bytes, bytes_left new, is) (torn_is width old bytes)
 
   pub written_left : (new : ThinGrain) (bytes : List ℕ) → bytes_of width new ≡ bytes → is_reached new ≡ true
       → state width (slice_set grains g new) ≡ record { grains = slice_set seen.grains g bytes; occupied = slice_set seen.occupied g true }

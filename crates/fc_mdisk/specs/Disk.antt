@@ -14,7 +14,7 @@ pub record DiskState : Type 0 where
   pub kind : DiskKind
   -- the bytes of each grain
   pub grains : List (List ℕ)
-  -- for each grain, whether it occupies memory
+  -- for each grain, whether it occupies memory: of a thin disk, whether a write reached it, also one that failed
   pub occupied : List Bool
   -- the reads and writes
   pub calls : ℕ

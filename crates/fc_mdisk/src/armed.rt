@@ -1,7 +1,8 @@
 //! A disk in memory that fails where a fault was armed.
 
-ghost use Rattle.std.specs.Prelude.{◌≡◌, Some};
-ghost use Rattle.fc_mdisk.specs.Disk.{blank};
+ghost use Rattle.std.specs.Prelude.{◌≡◌, ◌<◌, IsTrue, Some, length};
+ghost use Rattle.fc_mdisk.specs.Disk.{AfterWrite, blank, grain_at, write_failed};
+ghost use Rattle.fc_mdisk.specs.Grains.{IsTorn};
 
 use crate::counts::{Counts, comes_due};
 use crate::grains::Grains;
@@ -92,7 +93,13 @@ impl<G: Grains> Mdisk for ArmedDisk<G> {
         Ok(())
     }
 
-    fn write(&mut self, grain: u32, bytes: &[u8]) -> Result<(), DiskError> {
+    /// A write that fails leaves the first half of the bytes, on a thin disk only where the grain has memory.
+    fn write(&mut self, grain: u32, bytes: &[u8]) -> Result<(), DiskError>
+        requires in_range { grain < length self.old.grains }
+        requires whole { length bytes.now ≡ length (grain_at self.old.grains grain) }
+        ensures disk { AfterWrite self.old grain bytes.now result self.new }
+        ensures torn { IsTrue (write_failed result) → IsTorn G.KIND bytes.now (grain_at self.old.grains grain) (grain_at self.new.grains grain) }
+    {
         let failed = comes_due(&mut self.due);
         self.counts.add_write(failed);
         if failed {

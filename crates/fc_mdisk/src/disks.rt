@@ -1,8 +1,8 @@
 //! Several disks, each at its place.
 
 ghost use Rattle.std.specs.Prelude.{◌≡◌, ◌<◌, length, map, is_err, slice_set, OnOk, OnErr};
-ghost use Rattle.fc_mdisk.specs.Disk.{DiskState, grain_at, used_of, AfterRead, AfterWrite, formatted, cleared, armed};
-ghost use Rattle.fc_mdisk.specs.Disks.{disk_at, ChangesOnly};
+ghost use Rattle.fc_mdisk.specs.Disk.{DiskState, grain_at, used_of, AfterRead, AfterWrite, cleared, armed};
+ghost use Rattle.fc_mdisk.specs.Disks.{disk_at, formatted_at, ChangesOnly};
 
 use crate::mdisk::Mdisk;
 use fc_base::disk::{DiskError, DiskKind};
@@ -82,7 +82,7 @@ impl<D: Mdisk> Disks<D> {
     /// Formats a disk (`Mdisk::format`). Refused, all are as they were.
     pub fn format(&mut self, place: usize, grains: u32, bytes: u32) -> Result<(), NoMemory>
         requires { place < length self.old }
-        ensures ok { OnOk result (self.new ≡ slice_set self.old place (formatted (disk_at self.old place) grains bytes)) }
+        ensures ok { OnOk result (self.new ≡ formatted_at place grains bytes self.old) }
         ensures err { OnErr result (self.new ≡ self.old) }
     {
         self.disks[place].format(grains, bytes)

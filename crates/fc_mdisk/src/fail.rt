@@ -1,9 +1,10 @@
 //! A flat disk that fails when it is told to.
 
-ghost use Rattle.std.specs.Prelude.{◌≡◌, ◌<◌, length, is_err, None, OnOk, OnErr};
+ghost use Rattle.std.specs.Prelude.{◌≡◌, ◌<◌, length, is_err, IsTrue, None, OnOk, OnErr};
 ghost use Rattle.fc_base.specs.declared.disk.DiskKind.TheVariants.{Flat};
 ghost use Rattle.fc_mdisk.specs.Disk.{blank, grain_at, AfterRead, AfterWrite, formatted, armed, cleared, write_failed};
 ghost use Rattle.fc_mdisk.specs.Failing.{fails_next};
+ghost use Rattle.fc_mdisk.specs.Grains.{IsTorn};
 
 use crate::counts::Counts;
 use crate::flat::FlatGrains;
@@ -123,6 +124,7 @@ impl Mdisk for FailDisk {
         requires whole { length bytes.now ≡ length (grain_at self.old.disk.grains grain) }
         ensures disk { AfterWrite self.old.disk grain bytes.now result self.new.disk }
         ensures told { write_failed result ≡ fails_next self.old }
+        ensures torn { IsTrue (write_failed result) → IsTorn Flat bytes.now (grain_at self.old.disk.grains grain) (grain_at self.new.disk.grains grain) }
         ensures failing { self.new.failing ≡ self.old.failing }
     {
         let failed = self.fails_next();

@@ -4,7 +4,7 @@ ghost use Rattle.std.specs.Prelude.{◌≡◌, ◌<◌, true, [], length, replic
 ghost use Rattle.fc_base.specs.declared.disk.DiskKind.{DiskKind};
 ghost use Rattle.fc_base.specs.declared.disk.DiskKind.TheVariants.{Thin};
 ghost use Rattle.fc_mdisk.specs.Disk.{grain_at, used_as, is_flat};
-ghost use Rattle.fc_mdisk.specs.Grains.{GrainsState};
+ghost use Rattle.fc_mdisk.specs.Grains.{GrainsState, IsTorn};
 
 use fc_base::disk::DiskKind;
 use fc_base::outcome::NoMemory;
@@ -55,11 +55,12 @@ pub trait Grains: Drop {
         ensures err { OnErr result (state self.new ≡ state self.old) }
         ensures refused { OnErr result (KIND ≡ Thin) };
 
-    /// A write that fails: it leaves the first half of the bytes in the memory that its grain occupies, and takes none.
+    /// A write that fails: it leaves the first half of the bytes where its grain has memory, and takes none.
     fn tear(&mut self, grain: u32, bytes: &[u8])
         requires in_range { grain < length (state self.old).grains }
         requires whole { length bytes.now ≡ length (grain_at (state self.old).grains grain) }
         ensures size { length (grain_at (state self.new).grains grain) ≡ length bytes.now }
+        ensures half { IsTorn KIND bytes.now (grain_at (state self.old).grains grain) (grain_at (state self.new).grains grain) }
         ensures others { (state self.new).grains ≡ slice_set (state self.old).grains grain (grain_at (state self.new).grains grain) }
         ensures reached { (state self.new).occupied ≡ slice_set (state self.old).occupied grain true };
 }

@@ -5,7 +5,8 @@ ghost use Rattle.std.specs.List.{count_by};
 ghost use Rattle.fc_base.specs.declared.disk.DiskKind.TheVariants.{Thin};
 ghost use Rattle.fc_mdisk.specs.declared.thin_grains.ThinGrain.TheVariants.{Unwritten};
 ghost use Rattle.fc_mdisk.specs.Disk.{grain_at};
-ghost use Rattle.fc_mdisk.specs.Thin.{bytes_of, is_reached, Takes};
+ghost use Rattle.fc_mdisk.specs.Grains.{half_written};
+ghost use Rattle.fc_mdisk.specs.Thin.{bytes_of, has_memory, is_reached, torn, Takes};
 
 use crate::grains::Grains;
 use fc_base::disk::DiskKind;
@@ -35,12 +36,13 @@ impl ThinGrain {
         }
     }
 
-    /// Writes the whole grain. Refused, it is as it was.
+    /// Writes the whole grain. Refused, which it is only without memory of its own, it is as it was.
     fn write(&mut self, alloc: Global, bytes: &[u8]) -> Result<(), NoMemory>
         requires { Takes self.old bytes.now }
         ensures bytes { OnOk result ((width : ℕ) → bytes_of width self.new ≡ bytes.now) }
         ensures reached { OnOk result (is_reached self.new ≡ true) }
         ensures err { OnErr result (self.new ≡ self.old) }
+        ensures refused { OnErr result (has_memory self.old ≡ false) }
     {
         if let ThinGrain::Written(kept) = self {
             kept.as_mut_slice().copy_from_slice(bytes);
@@ -58,16 +60,25 @@ impl ThinGrain {
     /// A write that fails: it leaves the first half of the bytes, or no memory where there was none.
     fn tear(&mut self, bytes: &[u8])
         requires { Takes self.old bytes.now }
-        ensures size { (width : ℕ) → length (bytes_of width self.new) ≡ length (bytes_of width self.old) }
+        ensures bytes { (width : ℕ) → bytes_of width self.new ≡ torn width self.old bytes.now }
+        ensures memory { has_memory self.new ≡ has_memory self.old }
         ensures reached { is_reached self.new ≡ true }
     {
         if let ThinGrain::Written(kept) = self {
-            let half = bytes.len() / 2;
-            kept.as_mut_slice()[..half].copy_from_slice(&bytes[..half]);
+            write_half(kept.as_mut_slice(), bytes);
         } else {
             *self = ThinGrain::Lost;
         }
     }
+}
+
+/// Writes the first half of the bytes over those of a grain.
+fn write_half(kept: &mut [u8], bytes: &[u8])
+    requires { length kept.old ≡ length bytes.now }
+    ensures { kept.new ≡ half_written bytes.now kept.old }
+{
+    let half = bytes.len() / 2;
+    kept[..half].copy_from_slice(&bytes[..half]);
 }
 
 /// The grains of a thin disk. Contracts see the list of their bytes, and which of them a write reached.

@@ -5,6 +5,7 @@ pub mod Crash
 pub mod Again
 pub mod Moments
 pub mod Places
+pub mod Inside
 pub mod Done
 pub mod Calls
 pub mod Opening

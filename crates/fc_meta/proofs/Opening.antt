@@ -11,7 +11,7 @@ use Rattle.fc_meta.specs.Answers.{with_gate, LeavesEither, MayTear}
 use Rattle.fc_meta.proofs.Sides.{same_size}
 use Rattle.fc_meta.proofs.Crash.{none_found, torn_blank, torn_opening, zeros_shut}
 use Rattle.fc_meta.proofs.Done.{first_row, first_torn, first_staged, first_rests}
-use Rattle.fc_meta.proofs.Moments.{started}
+use Rattle.fc_meta.proofs.Moments.{started, joined}
 use Rattle.fc_meta.proofs.Calls.{torn_run}
 
 module _ {D : Type 0} (seen : D → List ℕ) (may_leave : D → List ℕ → Type 0) (moment : D → ℕ) (left_since : D → ℕ → List ℕ → Type 0)
@@ -57,10 +57,14 @@ module _ {D : Type 0} (seen : D → List ℕ) (may_leave : D → List ℕ → Ty
       pub second_room : 1 ≤ half_size (seen mid)
       second_room = subst (λ (z : List ℕ). 1 ≤ half_size z) (sym stands) row_room
 
-      pub second_run : (new : D) → Only (seen mid) (may_leave mid) → LeavesOnly moment left_since mid new (MayTear 0 1 (may_leave mid)) → LeavesOnly moment left_since mid new (LeavesEither NoImage (Image i))
+      second_run : (new : D) → Only (seen mid) (may_leave mid) → LeavesOnly moment left_since mid new (MayTear 0 1 (may_leave mid)) → LeavesOnly moment left_since mid new (LeavesEither NoImage (Image i))
       second_run new only run =
           torn_run seen may_leave moment left_since mid new (seen mid) 0 0 1 (LeavesEither NoImage (Image i)) only refl
           (λ r t. torn_opening row both_shut.0 both_shut.1 1 (length (half_bytes 1 i)) i r staged (subst (λ (z : List ℕ). Torn 0 1 z r) stands t) row_room) run
+
+      pub whole_run : (new : D) → LeavesOnly moment left_since disk mid (MayTear 1 (length bytes) (may_leave disk)) → Only (seen mid) (may_leave mid)
+          → LeavesOnly moment left_since mid new (MayTear 0 1 (may_leave mid)) → LeavesOnly moment left_since disk new (LeavesEither NoImage (Image i))
+      whole_run new first only second = joined moment left_since disk mid new (LeavesEither NoImage (Image i)) (first_run mid first) (second_run new only second)
 
       pub opened_rests : (new : D) (next : ℕ) → seen new ≡ bytes_put 0 (1 ∷ []) (seen mid) → next ≡ length bytes → Rests First 1 next false i (seen new)
       opened_rests new next gate ends =

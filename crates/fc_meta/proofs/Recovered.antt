@@ -1,5 +1,5 @@
 -- What a disk is found to stand for when it is read.
-use Rattle.std.proofs.Common.{◌≡◌, ◌⊎◌, inl, inr, ℕ, ◌+◌, ◌-◌, ◌<◌, ◌≤◌, Bool, true, false, cond, leb, ltb, eqb, List, ◌++◌, length, take, drop, Some, None, refl, sym, ap, ◌∙◌, subst, arith, length-take, length-drop}
+use Rattle.std.proofs.Common.{◌≡◌, ◌⊎◌, inl, inr, ℕ, ◌+◌, ◌-◌, ◌<◌, ◌≤◌, Bool, true, false, cond, leb, ltb, eqb, List, ◌++◌, length, take, drop, Option, Some, None, refl, sym, ap, ◌∙◌, subst, arith, length-take, length-drop}
 use Rattle.std.proofs.lemmas.Bool.Decides.{nat_tests}
 use Rattle.std.proofs.Math.Seq.{take_all, take_at}
 use Rattle.std.proofs.lemmas.List.{get_or-take}
@@ -79,6 +79,13 @@ none_picked true false g h e = cc
 none_picked false true g h e = cc
 none_picked true true g h e = either (ltb g h) (λ lt. cc (rw lt at e)) (λ ge. cc (rw ge at e))
 
+-- the generations that were read of a row that stayed as it was
+pub both_read : (disk one two : List ℕ) (first second : Option ℕ) → one ≡ disk → two ≡ one → first ≡ open_generation (half_of First one) → second ≡ open_generation (half_of Second two)
+    → current_of first second ≡ current_of (open_generation (half_of First disk)) (open_generation (half_of Second disk))
+both_read disk one two first second same again f s =
+    ap (λ (z : Option ℕ). current_of z second) (f ∙ ap (λ (z : List ℕ). open_generation (half_of First z)) same)
+    ∙ ap (λ (z : Option ℕ). current_of (open_generation (half_of First disk)) z) (s ∙ ap (λ (z : List ℕ). open_generation (half_of Second z)) (again ∙ same))
+
 module _ (disk : List ℕ) where
   pub none_read : None ≡ current_of (open_generation (half_of First disk)) (open_generation (half_of Second disk)) → recovered disk ≡ NoImage
   none_read e =
@@ -157,6 +164,14 @@ read_long half disk out start len n long at size count read =
     let t = length-take n (drop (start + 9) disk) in
     let d = length-drop (start + 9) disk in
     ap length read ∙ omega (arith, s, t, d, long, at, size, count)
+
+-- the bytes behind the front of a half, read into a vector and seen through it
+pub front_read : (half : Half) (disk out items bytes : List ℕ) (start len count n : ℕ) → 13 ≤ half_size disk → start ≡ half_start half disk → len ≡ half_size disk → count ≡ n → n ≡ len - 9
+    → out ≡ bytes_at (start + 9) count disk → bytes ≡ take n (out ++ drop (length out) items) → bytes ≡ drop front (half_of half disk)
+front_read half disk out items bytes start len count n long at size held few read value =
+    let k : count ≡ len - 9 = held ∙ few in
+    value ∙ (slice_back out items n (read_long half disk out start len count long at size k read ∙ held)
+    ∙ rest_is half disk out start len long at size (read ∙ ap (λ (m : ℕ). bytes_at (start + 9) m disk) k))
 
 pub half_read_as : (bytes row : List ℕ) (end end2 : ℕ) (r : Result (MetaImage × ℕ) ReadError) → bytes ≡ row → end ≡ end2 → IsHalfRead bytes end r → IsHalfRead row end2 r
 half_read_as bytes row end end2 r e f h = subst (λ (z : List ℕ). IsHalfRead z end2 r) e (subst (λ (k : ℕ). IsHalfRead bytes k r) f h)

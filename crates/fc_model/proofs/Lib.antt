@@ -1,3 +1,4 @@
 mod Mapping
 mod Splitting
 mod Loops
+mod AllGrains

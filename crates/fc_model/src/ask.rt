@@ -1,16 +1,16 @@
 //! The questions to the sheet, and the moves and writes that change its pairs.
 
-ghost use Rattle.std.specs.Prelude.{◌≡◌, ◌<◌, ◌↔◌, IfSome, IfOk, IsTrue, length, true, false};
+ghost use Rattle.std.specs.Prelude.{◌≡◌, ◌<◌, ◌↔◌, ℕ, Contains, IfSome, IfOk, IsTrue, length, true, false};
 ghost use Rattle.fc_base.specs.Column.{holder, needer};
 ghost use Rattle.fc_base.specs.Need.{IsNeeded, is_complete};
 ghost use Rattle.fc_base.specs.Plan.{moves_of_fill, moves_of_write};
-ghost use Rattle.fc_base.specs.RestoreGraph.{IsUsed};
+ghost use Rattle.fc_base.specs.RestoreGraph.{Edge, IsUsed};
 ghost use Rattle.fc_base.specs.Sheet.{slot_at, shape_of, column, live_place, mapping_place, birth_place, volume_grains};
 ghost use Rattle.fc_base.specs.SheetStep.{sheet_moved, sheet_written, sheet_torn, triggered};
 ghost use Rattle.model_slots.specs.Answers.{HasDependents, IsWidth};
 ghost use Rattle.fc_model.specs.Graph.{LoopFound};
 
-use crate::graph::finds_loop;
+use crate::graph::{finds_loop, has_edge, volumes_of};
 use crate::sheet::PlainSheet;
 use fc_base::ids::{GrainNo, MapId, SlotId, VolId};
 use fc_base::list::List;
@@ -21,7 +21,7 @@ use model_slots::find::{grains_of_volume, place_of_birth, place_of_live, place_o
 use model_slots::moves::{fill_moves_of, write_moves_of};
 use model_slots::need::{dependents_of, needed_somewhere, used_as_source, widest};
 use model_slots::places::{
-    birth_at, chain_at, grains_of, holds_at, is_complete_at, is_live_at, volume_at,
+    birth_at, chain_at, grains_of, held_at, holds_at, is_complete_at, is_live_at, volume_at,
 };
 use std::alloc::Global;
 
@@ -74,6 +74,13 @@ impl PlainSheet {
         ensures { result ≡ length (slot_at self.now.slots place).held }
     {
         grains_of(self.slots(), place)
+    }
+
+    /// For each grain of the slot at a place whether it holds it; past the last place no marks.
+    pub fn held(&self, place: usize) -> &[bool]
+        ensures { result.now ≡ (slot_at self.now.slots place).held }
+    {
+        held_at(self.slots(), place)
     }
 
     /// Whether the slot at a place holds the grain.
@@ -225,12 +232,34 @@ impl PlainSheet {
         finds_loop(alloc, self.slots())
     }
 
+    /// Whether an edge of the restore graph runs from a volume to another.
+    pub fn has_edge(&self, from: u32, to: u32) -> bool
+        ensures { IsTrue result ↔ Edge (shape_of self.now.slots) from to }
+    {
+        has_edge(self.slots(), from, to)
+    }
+
+    /// The volumes of all slots, each once.
+    pub fn volumes(&self, alloc: Global) -> Result<Vec<u32>, NoMemory>
+        ensures { IfOk result (λ volumes. (k : ℕ) → k < length self.now.slots → Contains volumes.items (slot_at self.now.slots k).volume) }
+    {
+        volumes_of(alloc, self.slots())
+    }
+
+    /// Another sheet, as this one is right after these pairs were triggered.
+    pub fn triggered(&self, alloc: Global, pairs: &[Pair]) -> Result<PlainSheet, NoMemory>
+        ensures { IfOk result (λ next. next ≡ triggered pairs.now self.now) }
+    {
+        let mut next = self.copy(alloc)?;
+        next.trigger(alloc, pairs)?;
+        Ok(next)
+    }
+
     /// Whether the restore graph has a loop right after these pairs were triggered.
     pub fn has_loop_after(&self, alloc: Global, pairs: &[Pair]) -> Result<bool, NoMemory>
         ensures { IfOk result (λ found. LoopFound (shape_of (triggered pairs.now self.now).slots) found) }
     {
-        let mut next = self.copy(alloc)?;
-        next.trigger(alloc, pairs)?;
+        let next = self.triggered(alloc, pairs)?;
         next.has_loop(alloc)
     }
 }

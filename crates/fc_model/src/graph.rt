@@ -27,7 +27,7 @@ fn has_live_of_behind(slots: &[Slot], place: usize, volume: u32) -> bool
 }
 
 /// Whether an edge runs from a volume to another.
-fn has_edge(slots: &[Slot], from: u32, to: u32) -> bool
+pub(crate) fn has_edge(slots: &[Slot], from: u32, to: u32) -> bool
     ensures { IsTrue result ↔ Edge (shape_of slots.now) from to }
 {
     if from == to {
@@ -80,7 +80,7 @@ fn list_volume(volumes: &mut Vec<u32>, volume: u32) -> Result<(), NoMemory>
 }
 
 /// The volumes of all slots, each once.
-fn volumes_of(alloc: Global, slots: &[Slot]) -> Result<Vec<u32>, NoMemory>
+pub(crate) fn volumes_of(alloc: Global, slots: &[Slot]) -> Result<Vec<u32>, NoMemory>
     ensures { IfOk result (λ volumes. (k : ℕ) → k < length slots.now → Contains volumes.items (slot_at slots.now k).volume) }
 {
     let mut volumes = Vec::new(alloc);

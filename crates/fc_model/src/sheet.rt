@@ -3,6 +3,7 @@
 ghost use Rattle.std.specs.Prelude.{◌≡◌, ℕ, ◌+◌, ◌<◌, ◌≤◌, [], ◌∷◌, ◌++◌, length, map, insert, replicate, false, IfOk, OnOk};
 ghost use Rattle.fc_base.specs.Sheet.{no_slots, slot_at};
 ghost use Rattle.fc_base.specs.SheetStep.{with_chain, without, aged, placed, split_at, grain_taken, grain_kept, grain_lost};
+ghost use Rattle.fc_books.specs.After.{holding};
 
 use crate::hold::{keep_grain, lose_grain, split_chain, take_grain};
 use fc_base::outcome::NoMemory;
@@ -122,6 +123,14 @@ impl PlainSheet {
         ensures { self.new ≡ split_at place self.old }
     {
         split_chain(&mut self.slots, place);
+    }
+
+    /// The slot at a place holds the grains of a set, and no others.
+    pub(crate) fn hold_only(&mut self, place: usize, set: &[bool])
+        requires { place < length self.old.slots }
+        ensures { self.new ≡ holding set.now place self.old }
+    {
+        self.slots[place].hold_only(set);
     }
 
     /// The volume's live slot gets the grain, and its older slots lose it.

@@ -3,6 +3,7 @@
 ghost use Rattle.std.specs.Prelude.{◌≡◌, ℕ, ◌<◌, length, fold, OnOk, OnErr};
 ghost use Rattle.fc_base.specs.Sheet.{slot_at, live_place, mapping_place, birth_place};
 ghost use Rattle.fc_base.specs.SheetStep.{at_place, left_place, removed, started_empty, triggered, retired_at, detached_at, split_at, forced_at, forced_map, dropped, sheet_step};
+ghost use Rattle.fc_books.specs.After.{holding};
 ghost use Rattle.fc_model.specs.Lanes.{grains_in_lane};
 
 use crate::sheet::PlainSheet;
@@ -206,6 +207,24 @@ impl PlainSheet {
                 Ok(())
             }
             _ => Ok(()),
+        }
+    }
+
+    /// Does what an event of a command does to the chains at all grains. It asks nothing of the event. Refused, also where the
+    /// births come to 2^64, a part of it may be done.
+    pub fn step_all(&mut self, alloc: Global, event: &LaneEvent) -> Result<(), NoMemory>
+        ensures { OnOk result (self.new ≡ sheet_step (λ grains. grains) self.old event.now) }
+    {
+        self.do_event(alloc, event, 0, 1)
+    }
+
+    /// The slot of a mapping holds the grains of a set, and no others, if it has one.
+    pub fn begin_with(&mut self, map: MapId, set: &[bool])
+        ensures { self.new ≡ at_place (holding set.now) (mapping_place self.old.slots map.0) self.old }
+    {
+        match place_of_mapping(self.slots(), map.0) {
+            Some(place) => self.hold_only(place, set),
+            None => {}
         }
     }
 

@@ -25,7 +25,7 @@ pub fn tell_faults<D: Mdisk>(
     requires room { length history.old.entries ≤ MAX_ENTRIES }
     ensures told { (w : Whole) → IsTold (StandsFor store.now) history.old w →
         FaultsTold result (StandsFor store.now) store.now.control.grain w faults.now history.old history.new }
-    ensures quiet { QuietBy history.old.entries store.now.lanes → StaysUp result (QuietBy history.new.entries store.now.lanes) }
+    ensures quiet { QuietBy history.old.entries store.now → StaysUp result (QuietBy history.new.entries store.now) }
     ensures limit { length history.new.entries ≤ MAX_ENTRIES }
 {
     for fault in faults {

@@ -26,7 +26,7 @@ kept_or : (k : Bool) (u y : Content) → cond (not k) u y ≡ cond k y u
 kept_or true u y = refl
 kept_or false u y = refl
 
-cut_step : (kept : List Range) (nows unders : List Content) (i : ℕ) → i < length nows →
+pub cut_step : (kept : List Range) (nows unders : List Content) (i : ℕ) → i < length nows →
     cut_from kept i (drop i nows) (drop i unders) ≡ cut_at kept nows unders i ∷ cut_from kept (i + 1) (drop (i + 1) nows) (drop (i + 1) unders)
 cut_step kept nows unders i lt =
     let y : Content = content_at nows i in

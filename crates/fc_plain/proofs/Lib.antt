@@ -1,4 +1,4 @@
-mod Lists
+pub mod Lists
 mod Writes
 mod BlockLemmas
-mod Cuts
+pub mod Cuts

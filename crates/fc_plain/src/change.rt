@@ -14,7 +14,7 @@ use fc_base::size::GrainSize;
 use std::alloc::Global;
 
 /// The grain in which a block stands.
-pub(crate) fn grain_at(grain: GrainSize, block: u64) -> u64
+pub fn grain_at(grain: GrainSize, block: u64) -> u64
     ensures { result ≡ grain_of_block grain block }
 {
     match grain {

@@ -64,7 +64,7 @@ fn others_of(alloc: Global, volumes: &[Volume], id: VolId) -> Result<Vec<Volume>
 }
 
 /// The source of a volume in a trigger's pairs, if it is a target there.
-fn source_of(pairs: &[Pair], target: VolId) -> Option<VolId>
+pub fn source_of(pairs: &[Pair], target: VolId) -> Option<VolId>
     ensures { result ≡ source_in pairs.now target }
 {
     for pair in pairs {
@@ -122,7 +122,7 @@ fn triggered_volumes(
 }
 
 /// Whether a grain is in these ranges.
-fn keeps(kept: &[Range], grain: usize) -> bool
+pub fn is_kept(kept: &[Range], grain: usize) -> bool
     ensures { result ≡ is_kept kept.now grain }
 {
     kept.iter().any(|range| range.first as usize <= grain && grain <= range.last as usize)
@@ -139,7 +139,7 @@ fn cut_grain(
     requires { place < length now.now }
     ensures { IfOk result (λ g. g ≡ cut_at kept.now now.now under.now place) }
 {
-    if place < under.len() && !keeps(kept, place) {
+    if place < under.len() && !is_kept(kept, place) {
         under[place].copy(alloc)
     } else {
         now[place].copy(alloc)

@@ -16,5 +16,7 @@ mod plain;
 mod reading;
 mod volume;
 
+pub use change::grain_at;
+pub use effect::{is_kept, source_of};
 pub use plain::Plain;
 pub use reading::PlainRead;

@@ -9,7 +9,7 @@ use Rattle.fc_trace.specs.declared.header.LaneDisks.{LaneDisks}
 use Rattle.fc_reading.specs.Header.{AreFour, IsHeader, beginnings, header_at, header_of}
 use Rattle.fc_reading.specs.Readers.{field_at, four_at, is_decimal, one_of_at, then_read}
 use Rattle.fc_reading.specs.Stops.{StopsAt}
-use Rattle.fc_reading.specs.declared.header.Header.{Header}
+use Rattle.fc_trace.specs.declared.header.Header.{Header}
 use Rattle.fc_reading.proofs.Exact.{Ends, Exact, Exact-map}
 use Rattle.fc_reading.proofs.Fields.{Exact-and, Exact-field}
 use Rattle.fc_reading.proofs.StopsLemmas.{Exact-stops_at, take-front}

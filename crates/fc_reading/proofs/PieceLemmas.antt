@@ -9,7 +9,7 @@ use Rattle.fc_reading.proofs.Words.{at_false, at_true, one_of-within}
 one_more : (j : ℕ) → suc j ≡ j + 1
 one_more j = omega arith
 
-drop-one : {A : Type 0} (l : List A) (j : ℕ) (d : A) → j < length l → drop j l ≡ get_or l j d ∷ drop (j + 1) l
+pub drop-one : {A : Type 0} (l : List A) (j : ℕ) (d : A) → j < length l → drop j l ≡ get_or l j d ∷ drop (j + 1) l
 drop-one l j d inside = drop-cons l j d inside ∙ ap (λ n. get_or l j d ∷ drop n l) (one_more j)
 
 -- ---- a word

@@ -4,7 +4,7 @@ use Rattle.fc_base.specs.declared.size.GrainSize.{GrainSize}
 use Rattle.fc_base.specs.declared.size.GrainSize.TheVariants.{K64, K256}
 use Rattle.fc_trace.specs.Trace.{header_text}
 use Rattle.fc_trace.specs.declared.header.LaneDisks.{LaneDisks}
-use Rattle.fc_reading.specs.declared.header.Header.{Header}
+use Rattle.fc_trace.specs.declared.header.Header.{Header}
 use Rattle.fc_reading.specs.Readers.{four_at, map_read, one_of_at, then_read}
 
 -- numbers of disks below 2^32

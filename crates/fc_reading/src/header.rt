@@ -9,16 +9,7 @@ ghost use Rattle.fc_reading.specs.Stops.{StopsAt};
 
 use crate::pieces::{Malformed, field, one_of};
 use fc_base::size::GrainSize;
-use fc_trace::header::LaneDisks;
-
-/// What the store of a trace was made of.
-#[derive(Clone, Copy, Debug, PartialEq, Eq)]
-pub struct Header {
-    /// The size of its grains.
-    pub grain: GrainSize,
-    /// How many disks of each kind each of its four lanes has.
-    pub lanes: [LaneDisks; 4],
-}
+use fc_trace::header::{Header, LaneDisks};
 
 /// The greatest number of disks.
 const MOST: u64 = 4_294_967_295;

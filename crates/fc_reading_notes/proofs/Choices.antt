@@ -1,11 +1,11 @@
 -- Nothing read, a choice by the first byte, and a number with one of some words behind it are read exactly.
-use Rattle.std.proofs.Common.{◌≡◌, ℕ, zero, suc, ◌^◌, ◌<◌, Bool, true, false, List, [], ◌∷◌, ◌++◌, length, get_or, decimal, Result, Ok, Err, refl, sym, ap, subst, ◌∙◌, arith, lit<, inl, inr}
+use Rattle.std.proofs.Common.{◌≡◌, ℕ, zero, suc, ◌^◌, ◌<◌, ◌==◌, Bool, true, false, List, [], ◌∷◌, ◌++◌, length, get_or, decimal, Result, Ok, Err, refl, sym, ap, subst, ◌∙◌, arith, lit<, inl, inr}
 use Rattle.std.specs.Prelude.{◌⊎◌, not}
 use Rattle.std.specs.List.{list_all}
 use Rattle.std.proofs.lemmas.Bool.{false≢true}
 use Rattle.fc_reading.specs.Readers.{is_decimal, number_at, one_of_at}
 use Rattle.fc_reading_notes.specs.Lines.{ending_at}
-use Rattle.fc_reading_notes.specs.Lists.{by_first, starts_with}
+use Rattle.fc_reading_notes.specs.Lists.{begins, by_first, choice, starts_with}
 use Rattle.fc_reading.proofs.Exact.{Ends, Exact, Exact-then, SameStart, Stops, Takes, ok_is, ok_no_err}
 use Rattle.fc_reading.proofs.Numbers.{Exact-number, IsUpTo, cases}
 use Rattle.fc_reading.proofs.Words.{Ends-nothing, Exact-one_of, IsIndexOf, at_false, at_true, both, is_code, nothing}
@@ -28,37 +28,37 @@ Exact-none {V} value = record {
 
 -- ---- a choice by the first byte
 
-still : (first : ℕ) (front rest u : List ℕ) (t : Bool) → SameStart rest u → starts_with first (front ++ rest) ≡ t → starts_with first (front ++ u) ≡ t
-still first (b ∷ front) rest u t same e = e
-still first [] [] [] t same e = e
-still first [] [] (b ∷ u) t same e = absurd same
-still first [] (a ∷ rest) [] t same e = absurd same
-still first [] (a ∷ rest) (b ∷ u) t same e = ap (λ x. starts_with first (x ∷ [])) (sym same) ∙ e
+pub begins-same : (test : ℕ → Bool) (front rest u : List ℕ) (t : Bool) → SameStart rest u → begins test (front ++ rest) ≡ t → begins test (front ++ u) ≡ t
+begins-same test (b ∷ front) rest u t same e = e
+begins-same test [] [] [] t same e = e
+begins-same test [] [] (b ∷ u) t same e = absurd same
+begins-same test [] (a ∷ rest) [] t same e = absurd same
+begins-same test [] (a ∷ rest) (b ∷ u) t same e = ap test (sym same) ∙ e
 
 abbrev pub Either : {V : Type 0} → (V → Type 0) → (V → Type 0) → V → Type 0
 Either Fits Others v = Fits v ⊎ Others v
 
-pub Exact-by_first :
-    {V : Type 0} (first : ℕ) (Here Other : V → Type 0) (text : V → List ℕ) (here other : List ℕ → Result (V × List ℕ) ℕ) →
-    Exact Here text nothing here → Exact Other text nothing other →
-    ((v : V) (rest : List ℕ) → Here v → starts_with first (text v ++ rest) ≡ true) →
-    ((v : V) (rest : List ℕ) → Other v → starts_with first (text v ++ rest) ≡ false) →
-    Exact (Either Here Other) text nothing (by_first first here other)
-Exact-by_first {V} first Here Other text here other exact1 exact2 begins apart = record {
+pub Exact-choice :
+    {V : Type 0} (test : ℕ → Bool) (Here Other : V → Type 0) (text : V → List ℕ) (joins : ℕ → Bool) (here other : List ℕ → Result (V × List ℕ) ℕ) →
+    Exact Here text joins here → Exact Other text joins other →
+    ((v : V) (rest : List ℕ) → Here v → begins test (text v ++ rest) ≡ true) →
+    ((v : V) (rest : List ℕ) → Other v → begins test (text v ++ rest) ≡ false) →
+    Exact (Either Here Other) text joins (choice test here other)
+Exact-choice {V} test Here Other text joins here other exact1 exact2 begin apart = record {
   takes = takes;
   again = again;
   stops = stops;
 }
   where
-    on : (bytes : List ℕ) (r : Result (V × List ℕ) ℕ) → starts_with first bytes ≡ true → by_first first here other bytes ≡ r → here bytes ≡ r
-    on bytes r t e = sym (at_true (starts_with first bytes) (here bytes) (other bytes) t) ∙ e
+    on : (bytes : List ℕ) (r : Result (V × List ℕ) ℕ) → begins test bytes ≡ true → choice test here other bytes ≡ r → here bytes ≡ r
+    on bytes r t e = sym (at_true (begins test bytes) (here bytes) (other bytes) t) ∙ e
 
-    off : (bytes : List ℕ) (r : Result (V × List ℕ) ℕ) → starts_with first bytes ≡ false → by_first first here other bytes ≡ r → other bytes ≡ r
-    off bytes r t e = sym (at_false (starts_with first bytes) (here bytes) (other bytes) t) ∙ e
+    off : (bytes : List ℕ) (r : Result (V × List ℕ) ℕ) → begins test bytes ≡ false → choice test here other bytes ≡ r → other bytes ≡ r
+    off bytes r t e = sym (at_false (begins test bytes) (here bytes) (other bytes) t) ∙ e
 
-    takes : (bytes : List ℕ) (v : V) (rest : List ℕ) → by_first first here other bytes ≡ Ok (v, rest) → Takes (Either Here Other) text nothing bytes v rest
+    takes : (bytes : List ℕ) (v : V) (rest : List ℕ) → choice test here other bytes ≡ Ok (v, rest) → Takes (Either Here Other) text joins bytes v rest
     takes bytes v rest e =
-        elim (cases (starts_with first bytes)) [
+        elim (cases (begins test bytes)) [
           | inl t ↦
               let s = exact1.takes bytes v rest (on bytes (Ok (v, rest)) t e) in
               record { fits = inl s.fits; split = s.split; ends = s.ends }
@@ -67,15 +67,15 @@ Exact-by_first {V} first Here Other text here other exact1 exact2 begins apart =
               record { fits = inr s.fits; split = s.split; ends = s.ends }
         ]
 
-    again : (v : V) (rest : List ℕ) → Either Here Other v → Ends nothing rest → by_first first here other (text v ++ rest) ≡ Ok (v, rest)
+    again : (v : V) (rest : List ℕ) → Either Here Other v → Ends joins rest → choice test here other (text v ++ rest) ≡ Ok (v, rest)
     again v rest (inl fits) ends =
-        at_true (starts_with first (text v ++ rest)) (here (text v ++ rest)) (other (text v ++ rest)) (begins v rest fits) ∙ exact1.again v rest fits ends
+        at_true (begins test (text v ++ rest)) (here (text v ++ rest)) (other (text v ++ rest)) (begin v rest fits) ∙ exact1.again v rest fits ends
     again v rest (inr fits) ends =
-        at_false (starts_with first (text v ++ rest)) (here (text v ++ rest)) (other (text v ++ rest)) (apart v rest fits) ∙ exact2.again v rest fits ends
+        at_false (begins test (text v ++ rest)) (here (text v ++ rest)) (other (text v ++ rest)) (apart v rest fits) ∙ exact2.again v rest fits ends
 
-    stops : (bytes : List ℕ) (left : ℕ) → by_first first here other bytes ≡ Err left → Stops (Either Here Other) text (by_first first here other) bytes left
+    stops : (bytes : List ℕ) (left : ℕ) → choice test here other bytes ≡ Err left → Stops (Either Here Other) text (choice test here other) bytes left
     stops bytes left e =
-        elim (cases (starts_with first bytes)) [
+        elim (cases (begins test bytes)) [
           | inl t ↦
               let s = exact1.stops bytes left (on bytes (Err left) t e) in
               record {
@@ -89,8 +89,8 @@ Exact-by_first {V} first Here Other text here other exact1 exact2 begins apart =
                 begins = s.begins;
                 again =
                     λ u same.
-                    at_true (starts_with first (s.front ++ u)) (here (s.front ++ u)) (other (s.front ++ u))
-                    (still first s.front s.rest u true same (ap (starts_with first) (sym s.split) ∙ t))
+                    at_true (begins test (s.front ++ u)) (here (s.front ++ u)) (other (s.front ++ u))
+                    (begins-same test s.front s.rest u true same (ap (begins test) (sym s.split) ∙ t))
                     ∙ s.again u same;
               }
           | inr t ↦
@@ -106,11 +106,19 @@ Exact-by_first {V} first Here Other text here other exact1 exact2 begins apart =
                 begins = s.begins;
                 again =
                     λ u same.
-                    at_false (starts_with first (s.front ++ u)) (here (s.front ++ u)) (other (s.front ++ u))
-                    (still first s.front s.rest u false same (ap (starts_with first) (sym s.split) ∙ t))
+                    at_false (begins test (s.front ++ u)) (here (s.front ++ u)) (other (s.front ++ u))
+                    (begins-same test s.front s.rest u false same (ap (begins test) (sym s.split) ∙ t))
                     ∙ s.again u same;
               }
         ]
+
+pub Exact-by_first :
+    {V : Type 0} (first : ℕ) (Here Other : V → Type 0) (text : V → List ℕ) (here other : List ℕ → Result (V × List ℕ) ℕ) →
+    Exact Here text nothing here → Exact Other text nothing other →
+    ((v : V) (rest : List ℕ) → Here v → starts_with first (text v ++ rest) ≡ true) →
+    ((v : V) (rest : List ℕ) → Other v → starts_with first (text v ++ rest) ≡ false) →
+    Exact (Either Here Other) text nothing (by_first first here other)
+Exact-by_first {V} first Here Other text here other = Exact-choice {V = V} (λ byte. byte == first) Here Other text nothing here other
 
 -- ---- a number with one of some words behind it
 

@@ -468,23 +468,24 @@ Exact-nothing_kept =
 begins_none : (kept : List Range) (rest : List ℕ) → IsNone kept → starts_with 110 (kept_line kept ++ rest) ≡ true
 begins_none kept rest is = ap (λ k. starts_with 110 (kept_line k ++ rest)) is
 
-begins_digit : (n : ℕ) (more : List ℕ) → n ≤ 4294967295 → starts_with 110 (decimal n ++ more) ≡ false
-begins_digit n more within =
-    decimal_by_steps (λ m ds. (rest : List ℕ) → starts_with 110 (ds ++ rest) ≡ false) one next n (omega (arith, within, small)) more
+-- no other byte than a digit begins a number
+pub begins_digit : (byte : ℕ) → is_decimal byte ≡ false → (n : ℕ) (more : List ℕ) → n ≤ 4294967295 → starts_with byte (decimal n ++ more) ≡ false
+begins_digit byte other n more within =
+    decimal_by_steps (λ m ds. (rest : List ℕ) → starts_with byte (ds ++ rest) ≡ false) one next n (omega (arith, within, small)) more
   where
-    letter : (m : ℕ) → m < 10 → (48 + m == 110) ≡ false
+    letter : (m : ℕ) → m < 10 → (48 + m == byte) ≡ false
     letter m digit = grind (arith, nat_tests)
 
-    one : (m : ℕ) → m < 10 → (rest : List ℕ) → starts_with 110 (((48 + m) ∷ []) ++ rest) ≡ false
+    one : (m : ℕ) → m < 10 → (rest : List ℕ) → starts_with byte (((48 + m) ∷ []) ++ rest) ≡ false
     one m digit rest = letter m digit
 
-    next : (m : ℕ) (ds : List ℕ) → 10 ≤ m → ((rest : List ℕ) → starts_with 110 (ds ++ rest) ≡ false) → (rest : List ℕ) → starts_with 110 ((ds ++ ((48 + m % 10) ∷ [])) ++ rest) ≡ false
-    next m ds large before rest = ap (starts_with 110) (append_assoc ds ((48 + m % 10) ∷ []) rest) ∙ before ((48 + m % 10) ∷ rest)
+    next : (m : ℕ) (ds : List ℕ) → 10 ≤ m → ((rest : List ℕ) → starts_with byte (ds ++ rest) ≡ false) → (rest : List ℕ) → starts_with byte ((ds ++ ((48 + m % 10) ∷ [])) ++ rest) ≡ false
+    next m ds large before rest = ap (starts_with byte) (append_assoc ds ((48 + m % 10) ∷ []) rest) ∙ before ((48 + m % 10) ∷ rest)
 
 line_begins : (range : Range) (more : List ℕ) → range.first ≤ 4294967295 → starts_with 110 (range_text range ++ more) ≡ false
 line_begins range more within =
     ap (starts_with 110) (append_assoc (decimal range.first) (cond (eqb range.first range.last) [] (codes "-" ++ decimal range.last)) more)
-    ∙ begins_digit range.first (cond (eqb range.first range.last) [] (codes "-" ++ decimal range.last) ++ more) within
+    ∙ begins_digit 110 refl range.first (cond (eqb range.first range.last) [] (codes "-" ++ decimal range.last) ++ more) within
 
 begins_other : (kept : List Range) (rest : List ℕ) → AreSome kept → starts_with 110 (kept_line kept ++ rest) ≡ false
 begins_other [] rest some = absurd some

@@ -15,21 +15,21 @@ use Rattle.fc_reading.proofs.Words.{at_false, at_true}
 
 -- ---- items that say whether one more follows
 
-items_none : {V : Type 0} (r : Result (List V × List ℕ) ℕ) → r ≡ behind_items [] r
+pub items_none : {V : Type 0} (r : Result (List V × List ℕ) ℕ) → r ≡ behind_items [] r
 items_none (Ok y) = refl
 items_none (Err n) = refl
 
-items_more : {V : Type 0} (found : List V) (v : V) (r : Result (List V × List ℕ) ℕ) → behind_items found (r >>= (λ y. Ok (v ∷ y.0, y.1))) ≡ behind_items (found ++ v ∷ []) r
+pub items_more : {V : Type 0} (found : List V) (v : V) (r : Result (List V × List ℕ) ℕ) → behind_items found (r >>= (λ y. Ok (v ∷ y.0, y.1))) ≡ behind_items (found ++ v ∷ []) r
 items_more found v (Ok y) = ap (λ vs. Ok (vs, y.1)) (sym (append_assoc found (v ∷ []) y.0))
 items_more found v (Err n) = refl
 
-none_done : (n : ℕ) → n ≡ n - 0
+pub none_done : (n : ℕ) → n ≡ n - 0
 none_done n = omega arith
 
-one_done : (n counter : ℕ) → counter < n → n - counter ≡ suc (n - (counter + 1))
+pub one_done : (n counter : ℕ) → counter < n → n - counter ≡ suc (n - (counter + 1))
 one_done n counter inside = omega (arith, inside)
 
-all_done : (n counter : ℕ) → n ≤ counter → n - counter ≡ 0
+pub all_done : (n counter : ℕ) → n ≤ counter → n - counter ≡ 0
 all_done n counter past = omega (arith, past)
 
 pub chain-start :

@@ -65,13 +65,13 @@ Exact-no_head = record {
     again (Some calls) rest has is = absurd has
     again None rest has is = is
 
-Exact-head : (in_lane : Bool) → Exact (HasCalls in_lane) head_text nothing (head_at in_lane)
+pub Exact-head : (in_lane : Bool) → Exact (HasCalls in_lane) head_text nothing (head_at in_lane)
 Exact-head true =
     Exact-map {V = LaneCalls} {W = Option LaneCalls} IsCalls calls_text_of nothing calls_at (HasCalls true) head_text Some Exact-calls
     (λ calls fits. (fits, refl)) some_calls
 Exact-head false = Exact-no_head
 
-some_head : (in_lane : Bool) → (head : Option LaneCalls) × HasCalls in_lane head
+pub some_head : (in_lane : Bool) → (head : Option LaneCalls) × HasCalls in_lane head
 some_head true = (Some (record { calls = 0; faults_before = 0; faults_after = 0 }), (omega arith, (omega arith, omega arith)))
 some_head false = (None, tt)
 

@@ -17,10 +17,14 @@ chain_at item next (suc most) state bytes =
 abbrev pub chain : {S V : Type 0} → (S → List ℕ → Result ((V × Bool) × List ℕ) ℕ) → (S → V → S) → S → List ℕ → Result (List V × List ℕ) ℕ
 chain item next state bytes = chain_at item next (length bytes) state bytes
 
+-- whether a byte of this kind comes first
+abbrev pub begins : (ℕ → Bool) → List ℕ → Bool
+begins test [] = false
+begins test (byte ∷ bytes) = test byte
+
 -- whether this byte comes first
 abbrev pub starts_with : ℕ → List ℕ → Bool
-starts_with first [] = false
-starts_with first (byte ∷ bytes) = byte == first
+starts_with first = begins (λ byte. byte == first)
 
 -- items, no more than so many, as long as this byte comes first
 abbrev pub while_at : {S V : Type 0} → ℕ → (S → List ℕ → Result (V × List ℕ) ℕ) → (S → V → S) → ℕ → S → List ℕ → Result (List V × List ℕ) ℕ
@@ -34,9 +38,13 @@ while_at first item next (suc most) state bytes =
 abbrev pub while_first : {S V : Type 0} → ℕ → (S → List ℕ → Result (V × List ℕ) ℕ) → (S → V → S) → S → List ℕ → Result (List V × List ℕ) ℕ
 while_first first item next state bytes = while_at first item next (length bytes) state bytes
 
--- one of two readings, by whether this byte comes first
+-- one of two readings, by whether a byte of this kind comes first
+abbrev pub choice : {V : Type 0} → (ℕ → Bool) → (List ℕ → Result (V × List ℕ) ℕ) → (List ℕ → Result (V × List ℕ) ℕ) → List ℕ → Result (V × List ℕ) ℕ
+choice test here other bytes = if begins test bytes then here bytes else other bytes
+
+-- the same by whether this byte comes first
 abbrev pub by_first : {V : Type 0} → ℕ → (List ℕ → Result (V × List ℕ) ℕ) → (List ℕ → Result (V × List ℕ) ℕ) → List ℕ → Result (V × List ℕ) ℕ
-by_first first here other bytes = if starts_with first bytes then here bytes else other bytes
+by_first first = choice (λ byte. byte == first)
 
 -- what is read behind these items
 abbrev pub behind_items : {V : Type 0} → List V → Result (List V × List ℕ) ℕ → Result (List V × List ℕ) ℕ

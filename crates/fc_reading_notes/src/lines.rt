@@ -31,7 +31,7 @@ pub struct LaneCalls {
 const MOST: u64 = 4_294_967_295;
 
 /// Takes a number of 32 bits from the front, and the word that must stand behind it.
-fn take_id<'a>(behind: &[u8], bytes: &'a [u8]) -> Result<(u32, &'a [u8]), Malformed>
+pub fn take_id<'a>(behind: &[u8], bytes: &'a [u8]) -> Result<(u32, &'a [u8]), Malformed>
     ensures { Reads (λ found. (found.0, found.1.now)) result (id_at behind.now bytes.now) }
 {
     let (value, rest) = field(MOST, behind, bytes)?;
@@ -39,14 +39,17 @@ fn take_id<'a>(behind: &[u8], bytes: &'a [u8]) -> Result<(u32, &'a [u8]), Malfor
 }
 
 /// Takes a number of 64 bits from the front, and the word that must stand behind it.
-fn take_count<'a>(behind: &[u8], bytes: &'a [u8]) -> Result<(u64, &'a [u8]), Malformed>
+pub fn take_count<'a>(behind: &[u8], bytes: &'a [u8]) -> Result<(u64, &'a [u8]), Malformed>
     ensures { Reads (λ found. (found.0, found.1.now)) result (count_at behind.now bytes.now) }
 {
     field(u64::MAX, behind, bytes)
 }
 
 /// Takes a number of 32 bits from the front, and one of some words behind it, by its number.
-fn take_ending<'a>(words: &[&[u8]], bytes: &'a [u8]) -> Result<(u32, usize, &'a [u8]), Malformed>
+pub fn take_ending<'a>(
+    words: &[&[u8]],
+    bytes: &'a [u8],
+) -> Result<(u32, usize, &'a [u8]), Malformed>
     ensures { Reads (λ found. ((found.0, found.1), found.2.now)) result (ending_at (map (λ word. word.now) words.now) bytes.now) }
 {
     let (value, rest) = number(MOST, bytes)?;
@@ -102,7 +105,7 @@ pub(crate) fn take_torn(bytes: &[u8]) -> Result<(Torn, &[u8]), Malformed>
 }
 
 /// The state with this number, in the order in which they are declared.
-fn state_of(number: usize) -> MapState
+pub fn state_of(number: usize) -> MapState
     ensures { result ≡ state_of number }
 {
     match number {

@@ -155,7 +155,7 @@ fn begins_line(bytes: &[u8]) -> bool
 }
 
 /// Takes all lines of what an entry moved, spoiled and changed.
-fn take_notes(alloc: Global, bytes: &[u8]) -> Result<(Notes, &[u8]), ReadStop>
+pub fn take_notes(alloc: Global, bytes: &[u8]) -> Result<(Notes, &[u8]), ReadStop>
     ensures { ReadsOr (λ found. (found.0, found.1.now)) result (notes_at bytes.now) }
 {
     let mut notes = Notes::new(alloc);
@@ -182,7 +182,7 @@ fn take_notes(alloc: Global, bytes: &[u8]) -> Result<(Notes, &[u8]), ReadStop>
 }
 
 /// Takes the calls and faults of an entry of a lane, and nothing of another.
-fn take_head(in_lane: bool, bytes: &[u8]) -> Result<(Option<LaneCalls>, &[u8]), Malformed>
+pub fn take_head(in_lane: bool, bytes: &[u8]) -> Result<(Option<LaneCalls>, &[u8]), Malformed>
     ensures { Reads (λ found. (found.0, found.1.now)) result (head_at in_lane bytes.now) }
 {
     if in_lane {

@@ -1,5 +1,5 @@
 -- From how a session was read and written to how it ended.
-use Rattle.std.proofs.Common.{◌≡◌, ℕ, ◌+◌, ◌≤◌, Bool, true, false, List, [], ◌∷◌, ◌++◌, length, length-append, refl, sym, ap, subst, arith, inl, inr, Option, Some, None}
+use Rattle.std.proofs.Common.{◌≡◌, ℕ, ◌+◌, ◌≤◌, Bool, true, false, List, [], ◌∷◌, ◌++◌, length, length-append, refl, sym, subst, arith, inl, inr, Option, Some, None}
 use Rattle.std.specs.Option.{option_map}
 use Rattle.std.proofs.lemmas.List.{append-nil}
 use Rattle.fc_entry.specs.HistoryState.{HistoryState}
@@ -10,9 +10,10 @@ use Rattle.fc_io.specs.Sink.{SinkState}
 use Rattle.fc_io.specs.Source.{SourceState}
 use Rattle.fc_run.specs.Headline.{EndsAs, Session, SessionEnds}
 use Rattle.fc_run.specs.Input.{OfFirst, OfFirstTaken, input_limit}
-use Rattle.fc_run.specs.Output.{HasFailed, HasGot, IsPut, IsWritten, text_so_far}
+use Rattle.fc_run.specs.Output.{HasFailed, HasGot, IsPut, IsWritten, behind_first_line, first_line, text_so_far}
 use Rattle.fc_run.specs.ReadTo.{EndsInput, SessionRead, ended_for, is_write_fault}
 use Rattle.fc_run.specs.Runs.{Runs}
+use Rattle.fc_run.proofs.OutputLemmas.{HasFailed-unbegun, HasFailed-whole, IsWritten-behind, held_nothing}
 use Rattle.fc_run.specs.Summary.{form_text}
 use Rattle.fc_run.specs.declared.ended.Ended.{Ended}
 use Rattle.fc_run.specs.declared.ended.Ended.TheVariants as ended
@@ -59,14 +60,15 @@ past_length bytes kept past is full =
 
 -- the sink failed before the end of input
 pub SessionEnds-unwritten :
-    (of form : Form) (put : ℕ) (source source' : SourceState) (sink sink' : SinkState) (runs : Runs) (history : HistoryState) →
+    (of form : Form) (put : ℕ) (source source' : SourceState) (sink begun sink' : SinkState) (runs : Runs) (history : HistoryState) →
     of ≡ form →
+    HasGot sink (first_line of) begun →
     SessionRead ending.WriteFault source source' runs history →
-    IsPut sink of put history true sink' →
+    IsPut begun of put history true sink' →
     SessionEnds (session_of ended.WriteFault form source source' sink sink' history) runs
-SessionEnds-unwritten of form put source source' sink sink' runs history same read puts =
+SessionEnds-unwritten of form put source source' sink begun sink' runs history same begins read puts =
     let P : Form → Type 0 = λ f. HasFailed sink (form_text f history) sink' in
-    let cut : HasFailed sink (form_text form history) sink' = subst P same puts.cut in
+    let cut : HasFailed sink (form_text form history) sink' = subst P same (HasFailed-whole sink begun sink' of history begins puts.cut) in
     record {
       bytes = read.bytes;
       gave = read.gave;
@@ -202,44 +204,63 @@ is_write_fault-other (ending.Stopped stop) other = refl
 
 -- what was left of the text was to be written behind what was put
 written_behind :
-    (e : Ending) (failed : Bool) (first out form : Form) (put : ℕ) (sink mid sink' : SinkState) (history : HistoryState) →
+    (e : Ending) (failed : Bool) (first out form : Form) (put : ℕ) (sink begun mid sink' : SinkState) (history : HistoryState) →
     (e ≡ ending.WriteFault → ⊥) →
     first ≡ form →
     out ≡ first →
-    IsPut sink first put history (is_write_fault e) mid →
-    ((start : SinkState) → HasGot start (text_so_far out put history) mid → IsWritten start (form_text out history) failed sink') →
+    HasGot sink (first_line first) begun →
+    IsPut begun first put history (is_write_fault e) mid →
+    ((start : SinkState) → HasGot start (text_so_far out put history) mid → IsWritten start (behind_first_line out history) failed sink') →
     IsWritten sink (form_text form history) failed sink'
-written_behind e failed first out form put sink mid sink' history other same kept puts writes =
-    let P : Bool → Type 0 = λ b. IsPut sink first put history b mid in
-    let Q : Form → Type 0 = λ f. HasGot sink (text_so_far f put history) mid → IsWritten sink (form_text f history) failed sink' in
+written_behind e failed first out form put sink begun mid sink' history other same kept begins puts writes =
+    let P : Bool → Type 0 = λ b. IsPut begun first put history b mid in
+    let Q : Form → Type 0 = λ f. HasGot begun (text_so_far f put history) mid → IsWritten begun (behind_first_line f history) failed sink' in
     let R : Form → Type 0 = λ f. IsWritten sink (form_text f history) failed sink' in
-    let so_far : IsPut sink first put history false mid = subst P (is_write_fault-other e other) puts in
-    subst R same (subst Q kept (writes sink) so_far.got)
+    let so_far : IsPut begun first put history false mid = subst P (is_write_fault-other e other) puts in
+    subst R same (IsWritten-behind sink begun sink' first history failed begins (subst Q kept (writes begun) so_far.got))
 
 -- how the session ended is what was computed
 pub SessionEnds-by :
-    (result : Ended) (e : Ending) (failed : Bool) (first out form : Form) (put : ℕ) (source source' : SourceState) (sink mid sink' : SinkState) (runs : Runs) (history : HistoryState) →
+    (result : Ended) (e : Ending) (failed : Bool) (first out form : Form) (put : ℕ) (source source' : SourceState) (sink begun mid sink' : SinkState) (runs : Runs) (history : HistoryState) →
     result ≡ ended_for e failed →
     (e ≡ ending.WriteFault → ⊥) →
     first ≡ form →
     out ≡ first →
+    HasGot sink (first_line first) begun →
     SessionRead e source source' runs history →
-    IsPut sink first put history (is_write_fault e) mid →
-    ((start : SinkState) → HasGot start (text_so_far out put history) mid → IsWritten start (form_text out history) failed sink') →
+    IsPut begun first put history (is_write_fault e) mid →
+    ((start : SinkState) → HasGot start (text_so_far out put history) mid → IsWritten start (behind_first_line out history) failed sink') →
     SessionEnds (session_of result form source source' sink sink' history) runs
-SessionEnds-by result e failed first out form put source source' sink mid sink' runs history is other same kept read puts writes =
+SessionEnds-by result e failed first out form put source source' sink begun mid sink' runs history is other same kept begins read puts writes =
     let P : Ended → Type 0 = λ r. SessionEnds (session_of r form source source' sink sink' history) runs in
     subst P (sym is)
     (SessionEnds-written e failed form source source' sink sink' runs history other read
-    (written_behind e failed first out form put sink mid sink' history other same kept puts writes))
+    (written_behind e failed first out form put sink begun mid sink' history other same kept begins puts writes))
 
 gave_nothing : (left : Option (List ℕ)) → left ≡ option_map (λ rest. [] ++ rest) left
 gave_nothing None = refl
 gave_nothing (Some rest) = refl
 
-held_nothing : (held : Option (List ℕ)) → held ≡ option_map (λ bytes. bytes ++ []) held
-held_nothing None = refl
-held_nothing (Some bytes) = ap Some (sym (append-nil bytes))
+-- the sink failed before anything was read
+pub SessionEnds-unbegun :
+    (of form : Form) (source : SourceState) (sink sink' : SinkState) (runs : Runs) (history : HistoryState) →
+    of ≡ form →
+    runs.Whole [] history →
+    HasFailed sink (first_line of) sink' →
+    SessionEnds (session_of ended.WriteFault form source source sink sink' history) runs
+SessionEnds-unbegun of form source sink sink' runs history same whole failed =
+    let P : Form → Type 0 = λ f. HasFailed sink (form_text f history) sink' in
+    let cut : HasFailed sink (form_text form history) sink' = subst P same (HasFailed-unbegun sink sink' of history failed) in
+    record {
+      bytes = [];
+      gave = gave_nothing source.left;
+      ends = (
+        cut.risen,
+        omega arith,
+        record { lines = []; are = inl refl; of = OfFirst-all [] _ (inl whole) },
+        cut.front,
+      );
+    }
 
 -- memory was wanted before anything was read
 pub SessionEnds-starved :

@@ -1,4 +1,4 @@
--- What a session writes: the text of its history, or a summary of it in one line:
+-- What a session writes: the text of its history, the same as a trace, or a summary of it in one line:
 --     entries E reads R writes W moves M refused F sum S
 use Rattle.std.specs.Prelude.{ℕ, ◌%◌, ◌^◌, Bool, true, false, List, ◌++◌, length, codes, decimal}
 use Rattle.std.specs.List.{count_by, sum, sum_by}
@@ -10,6 +10,7 @@ use Rattle.fc_base.specs.declared.request.Reply.TheVariants.{Bytes, Done, Refuse
 use Rattle.fc_entry.specs.declared.entry.Entry.{Entry}
 use Rattle.fc_entry.specs.HistoryState.{HistoryState}
 use Rattle.fc_entry.specs.Text.{history_text}
+use Rattle.fc_trace.specs.Trace.{trace_text}
 use Rattle.fc_run.specs.declared.form.Form.{Form}
 use Rattle.fc_run.specs.declared.form.Form.TheVariants as form
 
@@ -63,4 +64,5 @@ summary_text history =
 -- the text of a history in this form
 abbrev pub form_text : Form → HistoryState → List ℕ
 form_text form.Text history = history_text history
+form_text (form.Trace header) history = trace_text header.grain header.lanes history
 form_text form.Summary history = summary_text history

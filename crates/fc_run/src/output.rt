@@ -1,10 +1,10 @@
 //! What a session writes: each answer before more input is taken, or a summary at the end.
 
-ghost use Rattle.std.specs.Prelude.{◌≡◌, ◌≤◌, length, is_err, OnOk};
+ghost use Rattle.std.specs.Prelude.{◌≡◌, ◌≤◌, length, is_err, OnErr, OnOk};
 ghost use Rattle.fc_entry.specs.Text.{HasNames};
+ghost use Rattle.fc_entry.specs.Written.{Written};
 ghost use Rattle.fc_io.specs.Sink.{SinkState};
-ghost use Rattle.fc_run.specs.Output.{HasGot, IsOut, IsPut, IsWritten, text_so_far};
-ghost use Rattle.fc_run.specs.Summary.{form_text};
+ghost use Rattle.fc_run.specs.Output.{HasFailed, HasGot, IsOut, IsPut, IsWritten, behind_first_line, first_line, tells_each, text_left, text_so_far};
 
 use crate::form::Form;
 use crate::summary::put_summary;
@@ -12,6 +12,8 @@ use fc_base::outcome::Failed;
 use fc_entry::history::History;
 use fc_entry::text::put_entries;
 use fc_io::sink::Sink;
+use fc_trace::header::put_header;
+use fc_trace::trace::put_all_traced;
 
 /// In which form a session writes its history, and how much of it is put.
 #[derive(Clone, Copy)]
@@ -30,11 +32,23 @@ impl Output {
         Output { form, put: 0 }
     }
 
+    /// Puts the first line of a trace; of any other form nothing. Failed, the sink got a front of it.
+    pub fn begin<K: Sink>(&self, sink: &mut K) -> Result<(), Failed>
+        ensures got { OnOk result (HasGot (K.meaning sink.old) (first_line self.now.form) (K.meaning sink.new)) }
+        ensures cut { OnErr result (HasFailed (K.meaning sink.old) (first_line self.now.form) (K.meaning sink.new)) }
+    {
+        match &self.form {
+            Form::Trace(header) => put_header(header.grain, &header.lanes, sink),
+            Form::Text | Form::Summary => Ok(()),
+        }
+    }
+
     /// Puts the texts of the entries that weren't put yet and sends them on; without such entries, and of a summary,
     /// nothing. Failed, the sink got a front of the text.
     pub fn write_new<K: Sink>(&mut self, history: &History, sink: &mut K) -> Result<(), Failed>
         requires within { self.old.put ≤ length history.now.entries }
         requires named { HasNames history.now }
+        requires limit { length history.now.entries ≤ 262144 }
         ensures form { self.new.form ≡ self.old.form }
         ensures within { self.new.put ≤ length history.now.entries }
         ensures out { OnOk result (IsOut self.old self.new history.now (K.meaning sink.new)) }
@@ -42,46 +56,63 @@ impl Output {
             → HasGot before (text_so_far self.old.form self.old.put history.now) (K.meaning sink.old)
             → IsPut before self.old.form self.new.put history.now (is_err result) (K.meaning sink.new) }
     {
-        match self.form {
-            Form::Summary => Ok(()),
-            Form::Text => {
-                let put = self.put;
-                if put == history.len() {
-                    return Ok(());
-                }
-                self.put = history.len();
-                put_and_send(put, history, sink)
-            }
+        let put = self.put;
+        if !tells_each(self.form) || put == history.len() {
+            return Ok(());
         }
+        self.put = history.len();
+        put_and_send(self.form, put, history, sink)
     }
 
-    /// Puts the rest of the text, or the summary, and sends on what waits. Failed, the sink got a front of the text.
+    /// Puts the rest of the text or of the trace, or the summary, and sends on what waits. Failed, the sink got a front of
+    /// the text.
     pub fn write_rest<K: Sink>(self, history: &History, sink: &mut K) -> Result<(), Failed>
         requires within { self.put ≤ length history.now.entries }
         requires named { HasNames history.now }
         requires limit { length history.now.entries ≤ 262144 }
         ensures { (before : SinkState) → HasGot before (text_so_far self.form self.put history.now) (K.meaning sink.old)
-            → IsWritten before (form_text self.form history.now) (is_err result) (K.meaning sink.new) }
+            → IsWritten before (behind_first_line self.form history.now) (is_err result) (K.meaning sink.new) }
     {
-        match self.form {
-            Form::Text => put_and_send(self.put, history, sink),
-            Form::Summary => match put_summary(history, sink) {
-                Ok(()) => sink.flush(),
-                Err(failed) => Err(failed),
-            },
-        }
+        put_and_send(self.form, self.put, history, sink)
     }
 }
 
-/// Puts the texts of the entries from this number on and sends on what waits.
-fn put_and_send<K: Sink>(put: usize, history: &History, sink: &mut K) -> Result<(), Failed>
+/// Whether each answer is written before more is taken.
+fn tells_each(form: Form) -> bool
+    ensures { result ≡ tells_each form }
+{
+    !matches!(form, Form::Summary)
+}
+
+/// Puts the entries from this number on, in text or as a trace; or the summary.
+fn put_left<K: Sink>(form: Form, put: usize, history: &History, sink: &mut K) -> Result<(), Failed>
     requires within { put ≤ length history.now.entries }
     requires named { HasNames history.now }
-    ensures written { (before : SinkState) → HasGot before (text_so_far Form.Text put history.now) (K.meaning sink.old)
-        → IsWritten before (form_text Form.Text history.now) (is_err result) (K.meaning sink.new) }
+    requires limit { length history.now.entries ≤ 262144 }
+    ensures { Written (K.meaning sink.old) (text_left form put history.now) (is_err result) (K.meaning sink.new) }
+{
+    match form {
+        Form::Text => put_entries(history, put, sink),
+        Form::Trace(_) => put_all_traced(history, put, sink),
+        Form::Summary => put_summary(history, sink),
+    }
+}
+
+/// The same, and sends on what waits.
+fn put_and_send<K: Sink>(
+    form: Form,
+    put: usize,
+    history: &History,
+    sink: &mut K,
+) -> Result<(), Failed>
+    requires within { put ≤ length history.now.entries }
+    requires named { HasNames history.now }
+    requires limit { length history.now.entries ≤ 262144 }
+    ensures written { (before : SinkState) → HasGot before (text_so_far form put history.now) (K.meaning sink.old)
+        → IsWritten before (behind_first_line form history.now) (is_err result) (K.meaning sink.new) }
     ensures sent { OnOk result ((K.meaning sink.new).sent ≡ (K.meaning sink.new).held) }
 {
-    match put_entries(history, put, sink) {
+    match put_left(form, put, history, sink) {
         Ok(()) => sink.flush(),
         Err(failed) => Err(failed),
     }

@@ -70,8 +70,9 @@ fn read_session<S: Source, K: Sink, A: Answers>(
 }
 
 /// Runs a session of which nothing is answered yet: reads it to its end, answers its lines and writes the history in this
-/// form. The text of each answer is put and sent on before more input is taken, a summary at the end; where the sink fails
-/// before the end of input, nothing more is taken and nothing more is put.
+/// form. The first line of a trace is put before anything is taken; the text of each answer, or its trace, is put and sent on
+/// before more input is taken, a summary at the end; where the sink fails before the end of input, nothing more is taken and
+/// nothing more is put.
 pub fn run_session<S: Source, K: Sink, A: Answers>(
     alloc: Global,
     form: Form,
@@ -97,9 +98,14 @@ pub fn run_session<S: Source, K: Sink, A: Answers>(
     ensures limit { length history.new.entries ≤ 262144 }
 {
     let mut output = Output::new(form);
-    let ending = read_session(alloc, source, &mut output, sink, answers, history);
-    match ending {
-        Ending::WriteFault => Ended::WriteFault,
-        _ => ended_by(ending, &output.write_rest(history, sink)),
+    match output.begin(sink) {
+        Ok(()) => {
+            let ending = read_session(alloc, source, &mut output, sink, answers, history);
+            match ending {
+                Ending::WriteFault => Ended::WriteFault,
+                _ => ended_by(ending, &output.write_rest(history, sink)),
+            }
+        }
+        Err(_) => Ended::WriteFault,
     }
 }

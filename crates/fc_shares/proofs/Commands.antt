@@ -2,28 +2,43 @@
 use Rattle.std.proofs.Common.{◌≡◌, ℕ, suc, ◌+◌, ◌<◌, List, [], ◌∷◌, length, slice_index_or, refl, sym, ◌∙◌, ap, subst, arith}
 use Rattle.fc_base.specs.declared.size.GrainSize.{GrainSize}
 use Rattle.fc_entry.specs.declared.entry.Entry.{Entry}
+use Rattle.fc_grains.specs.Grains.{stopped}
+use Rattle.fc_grains.specs.Volumes.{volume_of}
 use Rattle.fc_lane.specs.Lane.{LaneView}
 use Rattle.fc_lanes.specs.AllLanes.{EachLane}
 use Rattle.fc_legal.specs.Legal.{AreSteps}
 use Rattle.fc_legal.specs.Steps.{Step}
-use Rattle.fc_legal.specs.Whole.{Whole}
-use Rattle.fc_stands.specs.Store.{AreLanesOf, StandsFor, StoreView}
+use Rattle.fc_legal.specs.Whole.{Whole, lanes, part_at}
+use Rattle.fc_stands.specs.Arming.{SetsNothing, calls_in}
+use Rattle.fc_stands.specs.Quiet.{KeepsFaults}
+use Rattle.fc_stands.specs.Store.{AreLanesOf, IsLaneAt, StandsFor, StoreView}
+use Rattle.fc_stands.proofs.Calls.{step_tells}
+use Rattle.fc_stands.proofs.Since.{since_more}
 use Rattle.fc_shares.specs.Law.{AllLead, HaveShares, KeepsLane, LeadOn, numbered}
 use Rattle.fc_shares.specs.Situation.{Situation, HasLane}
-use Rattle.fc_shares.proofs.Lanes.{faults_on, same_on}
+use Rattle.fc_shares.proofs.Lanes.{faults_by, faults_on, same_on}
 
 -- ---- a command
 
 module _ (first s : Situation) (openings : List LaneView) (old new : StoreView) (entry : Entry) (next : Whole)
     (shares : HaveShares first s openings old)
     (step : Step s.grain s.whole (record entry { number = s.whole.entries }) next)
-    (counted : next.entries ≡ s.whole.entries + 1) (actors : next.actors ≡ s.whole.actors) (volumes : next.books.tables.volumes ≡ s.whole.books.tables.volumes)
+    (unset : SetsNothing entry.request entry.reply) (counted : next.entries ≡ s.whole.entries + 1) (actors : next.actors ≡ s.whole.actors) (volumes : next.books.tables.volumes ≡ s.whole.books.tables.volumes)
     (stands : StandsFor new next) (grain : new.control.grain ≡ old.control.grain)
-    (keeps : EachLane KeepsLane old.lanes new.lanes) where
+    (keeps : EachLane (KeepsLane 0) old.lanes new.lanes) where
   lanes_next : AreLanesOf s.grain next new.lanes
   lanes_next =
       let P : GrainSize → Type 0 = λ size. AreLanesOf size next new.lanes in
       subst P (grain ∙ shares.control.grain) stands.each
+
+  -- Whatever calls are told of it.
+  faults_next : (i : ℕ) (then now : LaneView) → i < lanes s.whole → IsLaneAt s.grain s.whole i then → IsLaneAt s.grain next i now → KeepsLane 0 then now → KeepsFaults then now
+  unfolding part_at
+  faults_next i then now within was is kept =
+      let calls : ℕ = calls_in i entry.place entry.calls in
+      let told = (step_tells s.grain s.whole (record entry { number = s.whole.entries }) next step).each i (omega (arith, within, shares.sound.stands.each_lane.calls)) in
+      faults_by then now (slice_index_or s.whole.calls i 0) calls was.stands.lane.calls (is.stands.lane.calls ∙ ap stopped told) kept.1
+      (λ id s is. since_more 0 calls (volume_of now.grains.volumes id).due s (omega arith) (kept.2 id s is))
 
   each_next : (i : ℕ) (d : LaneView) → i < length new.lanes → HasLane (record { grain = s.grain; whole = next }) i (slice_index_or openings i d) (slice_index_or new.lanes i d)
   each_next i d inside =
@@ -36,13 +51,13 @@ module _ (first s : Situation) (openings : List LaneView) (old new : StoreView) 
         within = omega (arith, inside, stands.count);
         stands = lanes_next i d inside;
         same = same_on opening then now had.same (keeps.each i d before).0;
-        faults = faults_on opening then now had.faults (keeps.each i d before).1;
+        faults = faults_on opening then now had.faults (faults_next i then now had.within had.stands (lanes_next i d inside) (keeps.each i d before));
       }
 
   pub command : AllLead first s openings new entry
   command = record {
     next = record { grain = s.grain; whole = next };
-    leads = record { step = step; grain = refl };
+    leads = record { step = step; grain = refl; unset = unset };
     counted = counted;
     shares = record {
       sound = record {

@@ -1,5 +1,5 @@
 -- An entry of a lane, or of no lane, leads on to a situation in which all parts have their shares.
-use Rattle.std.proofs.Common.{◌≡◌, ◌≢◌, ℕ, ◌^◌, ◌<◌, ◌≤◌, refl, ◌∙◌, sym, subst, arith}
+use Rattle.std.proofs.Common.{◌≡◌, ◌≢◌, ℕ, ◌^◌, ◌<◌, ◌≤◌, slice_index_or, refl, ◌∙◌, sym, subst, arith}
 use Rattle.fc_base.specs.declared.fault.Refusal.{Refusal}
 use Rattle.fc_base.specs.declared.request.Request.{Request}
 use Rattle.fc_desk.specs.Control.{ControlState}
@@ -15,11 +15,12 @@ use Rattle.fc_rules.specs.LaneRight.{IsRightInLane}
 use Rattle.fc_stands.specs.Apart.{IsRefusalOf}
 use Rattle.fc_stands.specs.Quiet.{KeepsFaults}
 use Rattle.fc_stands.proofs.Accessing.{access_step, few_stay, lane_stands, lanes_stay, other_stands}
+use Rattle.fc_stands.proofs.Since.{lane_sets_nothing, refused_sets_nothing}
 use Rattle.fc_stands.proofs.OneMore.{lane_still, still_few, still_stands}
 use Rattle.fc_stands.proofs.Turning.{by_request}
-use Rattle.fc_shares.specs.Law.{ApartLeads, LaneLeads, refused_entry}
+use Rattle.fc_shares.specs.Law.{ApartLeads, KeepsLane, LaneLeads, refused_entry}
 use Rattle.fc_shares.specs.Situation.{Situation, HasControl, HasLane, IsSound}
-use Rattle.fc_shares.proofs.Lanes.{faults_on, same_on}
+use Rattle.fc_shares.proofs.Lanes.{faults_by, faults_on, same_on}
 
 -- ---- an entry of a lane
 
@@ -34,9 +35,16 @@ module _ (first s : Situation) (i : ℕ) (opening old new : LaneView) (entry : E
     (of : IsOfLane s.grain s.whole i entry.request) (inside : IsInVolume s.grain s.whole entry.request)
     (right : IsRightInLane (lane_at s.grain s.whole i) (part_at s.grain s.whole i) entry)
     (now : IsFollowing new (followed_entry (lane_at s.grain s.whole i) (followed_at s.grain s.whole i) entry))
-    (same : IsSameLane old new) (faults : KeepsFaults old new) (few : entry.calls ≤ 2 ^ 32) where
+    (keeps : KeepsLane entry.calls old new) (few : entry.calls ≤ 2 ^ 32) where
   right_next : IsRightInLane (lane_at s.grain s.whole i) (part_at s.grain s.whole i) (next_entry s entry)
   right_next = right_marked s.whole.entries entry.actor entry (lane_at s.grain s.whole i) (part_at s.grain s.whole i) right
+
+  same : IsSameLane old new
+  same = keeps.0
+
+  faults : KeepsFaults old new
+  unfolding part_at
+  faults = faults_by old new (slice_index_or s.whole.calls i 0) entry.calls share.stands.stands.lane.calls now.lane.calls keeps.1 keeps.2
 
   lanes_next : lanes (after_lane s i entry).whole ≡ lanes s.whole
   lanes_next = lanes_stay s.grain s.whole i (next_entry s entry)
@@ -90,6 +98,7 @@ module _ (first s : Situation) (i : ℕ) (opening old new : LaneView) (entry : E
     leads = record {
       step = access_step s.grain sound.decisions s.whole i (next_entry s entry) sound.stands share.within of inside right_next refl;
       grain = refl;
+      unset = lane_sets_nothing (lane_at s.grain s.whole i) (part_at s.grain s.whole i) entry.request entry entry.reply right.answers;
     };
     sound = sound_next;
     counted = refl;
@@ -117,6 +126,7 @@ apart first s actor request refusal sound is = record {
           };
     };
     grain = refl;
+    unset = refused_sets_nothing request refusal;
   };
   sound = record {
     grain = sound.grain;

@@ -2,7 +2,7 @@
 use Rattle.std.proofs.Common.{slice_index_or, List, refl, sym, subst, arith}
 use Rattle.fc_base.specs.declared.size.GrainSize.{GrainSize}
 use Rattle.fc_lane.specs.Lane.{LaneView}
-use Rattle.fc_legal.specs.Whole.{Whole}
+use Rattle.fc_legal.specs.Whole.{Whole, part_at}
 use Rattle.fc_stands.specs.Store.{AreLanesOf, StandsFor, StoreView}
 use Rattle.fc_shares.specs.Law.{HaveShares, Opens}
 use Rattle.fc_shares.specs.Situation.{Situation}
@@ -23,7 +23,7 @@ opening store w stands = record {
   control = record { books = stands.control; grain = refl };
   each = λ i d inside.
       let v : LaneView = slice_index_or store.lanes i d in
-      record { within = omega (arith, inside, stands.count); stands = stands.each i d inside; same = same_here v; faults = faults_here v };
+      record { within = omega (arith, inside, stands.count); stands = stands.each i d inside; same = same_here v; faults = faults_here v (part_at store.control.grain w i).calls (stands.each i d inside).stands.lane.calls };
 }
 
 pub closing : (first s : Situation) (openings : List LaneView) (store : StoreView) → HaveShares first s openings store → StandsFor store s.whole

@@ -9,7 +9,7 @@ use Rattle.fc_desk.specs.Control.{ControlState}
 use Rattle.fc_entry.specs.Picture.{grain_of_block}
 use Rattle.fc_entry.specs.declared.entry.Entry.{Entry}
 use Rattle.fc_follow.specs.Following.{followed_entry}
-use Rattle.fc_lane.specs.Lane.{LaneView, IsFollowing, IsSameLane, of}
+use Rattle.fc_lane.specs.Lane.{LaneView, IsFollowing, IsSameLane, KeepsQuiet, of}
 use Rattle.fc_lanes.specs.AllLanes.{EachLane}
 use Rattle.fc_legal.specs.Legal.{AreSteps}
 use Rattle.fc_legal.specs.Steps.{IsInside, Step}
@@ -18,7 +18,8 @@ use Rattle.fc_parts.specs.Law.{IsInVolume, IsOfLane}
 use Rattle.fc_rules.specs.LaneFits.{FitsPart}
 use Rattle.fc_rules.specs.LaneRight.{IsRightInLane}
 use Rattle.fc_stands.specs.Apart.{IsRefusalOf, entry_apart}
-use Rattle.fc_stands.specs.Quiet.{KeepsFaults}
+use Rattle.fc_stands.specs.Arming.{SetsNothing}
+use Rattle.fc_stands.specs.Quiet.{KeepsNear}
 use Rattle.fc_stands.specs.Store.{StandsFor, StoreView}
 use Rattle.fc_shares.specs.Situation.{Situation, HasControl, HasLane, IsSound, LeadsTo}
 
@@ -65,9 +66,10 @@ pub record ApartLeads (first s : Situation) (entry : Entry) : Type 0 where
 abbrev pub refused_entry : ℕ → Request → Refusal → Entry
 refused_entry actor request refusal = entry_apart 0 actor UnderControl request (Refused refusal) []
 
--- A lane stays the lane that it is, none of its disks fails where none could, and no fault is armed.
-abbrev pub KeepsLane : LaneView → LaneView → Type 0
-KeepsLane old new = IsSameLane old new × KeepsFaults old new
+-- A lane stays the lane that it is, none of its disks fails where none could, and no fault is armed: each comes nearer by so many
+-- calls at most.
+abbrev pub KeepsLane : ℕ → LaneView → LaneView → Type 0
+KeepsLane calls old new = IsSameLane old new × KeepsQuiet old new × KeepsNear calls old new
 
 -- A command's entry leads on, and all parts as they now are have their shares of what comes next.
 pub record AllLead (first s : Situation) (openings : List LaneView) (store : StoreView) (entry : Entry) : Type 0 where
@@ -98,20 +100,20 @@ pub record ShareLaw : Type 0 where
       IsOfLane s.grain s.whole i entry.request → IsInVolume s.grain s.whole entry.request →
       IsRightInLane (lane_at s.grain s.whole i) (part_at s.grain s.whole i) entry →
       IsFollowing new (followed_entry (lane_at s.grain s.whole i) (followed_at s.grain s.whole i) entry) →
-      IsSameLane old new → KeepsFaults old new → entry.calls ≤ 2 ^ 32 →
+      KeepsLane entry.calls old new → entry.calls ≤ 2 ^ 32 →
       LaneLeads first s i opening new entry
   -- so does a refusal
   pub apart : (first s : Situation) (actor : ℕ) (request : Request) (refusal : Refusal) →
       IsSound first s → IsRefusalOf s.grain s.whole request refusal →
       ApartLeads first s (refused_entry actor request refusal)
-  -- so does a command that makes and removes no volume
+  -- so does a command that makes and removes no volume, and sets no armed fault
   pub command :
       (first s : Situation) (openings : List LaneView) (old new : StoreView) (entry : Entry) (next : Whole) →
       HaveShares first s openings old →
-      Step s.grain s.whole (record entry { number = s.whole.entries }) next →
+      Step s.grain s.whole (record entry { number = s.whole.entries }) next → SetsNothing entry.request entry.reply →
       next.entries ≡ s.whole.entries + 1 → next.actors ≡ s.whole.actors →
       next.books.tables.volumes ≡ s.whole.books.tables.volumes →
-      StandsFor new next → new.control.grain ≡ old.control.grain → EachLane KeepsLane old.lanes new.lanes →
+      StandsFor new next → new.control.grain ≡ old.control.grain → EachLane (KeepsLane 0) old.lanes new.lanes →
       AllLead first s openings new entry
   -- entries that lead on are steps of the history, by their numbers
   pub steps : (s last : Situation) (n : ℕ) (entries : List Entry) →

@@ -7,6 +7,7 @@ use Rattle.fc_lane.specs.Lane.{LaneView, IsSameLane}
 use Rattle.fc_legal.specs.Stands.{Stands}
 use Rattle.fc_legal.specs.Steps.{Step}
 use Rattle.fc_legal.specs.Whole.{Whole, lanes}
+use Rattle.fc_stands.specs.Arming.{SetsNothing}
 use Rattle.fc_stands.specs.Quiet.{KeepsFaults}
 use Rattle.fc_stands.specs.Store.{AreFewCalls, IsControlOf, IsLaneAt}
 
@@ -25,7 +26,7 @@ pub record HasControl (s : Situation) (c : ControlState) : Type 0 where
   pub grain : c.grain ≡ s.grain
 
 -- The share of a lane, which began as `opening`: since then it has the same disks, none fails where none could fail then, and no
--- fault was armed.
+-- fault was armed: each comes nearer by the calls of the lane.
 pub record HasLane (s : Situation) (i : ℕ) (opening v : LaneView) : Type 0 where
   pub within : i < lanes s.whole
   pub stands : IsLaneAt s.grain s.whole i v
@@ -44,7 +45,8 @@ pub record IsSound (first s : Situation) : Type 0 where
   pub stands : Stands decisions s.whole
   pub calls : AreFewCalls s.whole
 
--- An entry with this number leads from one situation to the next.
+-- An entry with this number leads from one situation to the next. It sets no armed fault.
 pub record LeadsTo (s : Situation) (number : ℕ) (entry : Entry) (next : Situation) : Type 0 where
   pub step : Step s.grain s.whole (record entry { number = number }) next.whole
   pub grain : next.grain ≡ s.grain
+  pub unset : SetsNothing entry.request entry.reply

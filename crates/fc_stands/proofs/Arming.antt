@@ -1,6 +1,6 @@
 -- What is settled or decided arms no fault, but for an `armfault` that is done; and what that and a new volume do to armed faults.
 use Rattle.std.proofs.Common.{◌≡◌, ℕ, ◌%◌, ◌==◌, Bool, true, false, cond, ◌&&◌, List, [], ◌∷◌, ◌++◌, fold, map, filter, flat_map, slice_index_or, Option, Some, None, Result, Ok, Err, refl, sym, ap, ◌∙◌, true≢false}
-use Rattle.std.specs.Option.{option_map_or}
+use Rattle.std.specs.Option.{option_map_or, unwrap_or}
 use Rattle.std.specs.List.{All}
 use Rattle.std.proofs.lemmas.List.Elements.{All-append, All-cons, All-contains, All-head, All-nil, All-tail}
 use Rattle.std.proofs.lemmas.List.Sums.{fold-append}
@@ -290,17 +290,23 @@ module _ (l : LaneOf) (id : ℕ) where
   pub settling_leaves : (n : ℕ) (b : Books) → fold (armed_event l id) n (settle b).events ≡ n
   settling_leaves n b = idle_leaves n (settle b).events (settling_idle b)
 
-  neither : (a : Bool) (calls n : ℕ) → n ≡ cond (a && false) calls n
+  -- Set where this holds, or left.
+  if_set : (b : Bool) (calls n : ℕ) → cond b calls n ≡ unwrap_or (cond b (Some calls) None) n
+  if_set true calls n = refl
+  if_set false calls n = refl
+
+  neither : (a : Bool) (calls n : ℕ) → n ≡ unwrap_or (cond (a && false) (Some calls) None) n
   neither true calls n = refl
   neither false calls n = refl
 
   arm_sets : (n number calls : ℕ) (found : Option Volume) →
-      fold (armed_event l id) n (for_one found (λ v. arm v number calls)).events ≡ cond ((number % l.lanes == l.lane) && option_map_or (λ (v : Volume). v.id.0 == id) found false) calls n
+      fold (armed_event l id) n (for_one found (λ v. arm v number calls)).events
+      ≡ unwrap_or (cond ((number % l.lanes == l.lane) && option_map_or (λ (v : Volume). v.id.0 == id) found false) (Some calls) None) n
   arm_sets n number calls None = neither (number % l.lanes == l.lane) calls n
-  arm_sets n number calls (Some v) = refl
+  arm_sets n number calls (Some v) = if_set ((number % l.lanes == l.lane) && (v.id.0 == id)) calls n
 
   done_sets : (n : ℕ) (grain : GrainSize) (b : Books) (command : Command) → fold (armed_event l id) n (done grain b command).events ≡ due_after b.tables l command (replied grain b command) id n
-  done_sets n grain b (Mkvdisk name size unit thin) = refl
+  done_sets n grain b (Mkvdisk name size unit thin) = if_set (b.next_volume == id) 0 n
   done_sets n grain b (Armfault volume number calls) = arm_sets n number calls (volume_named b.tables volume)
   done_sets n grain b command = idle_leaves n (done grain b command).events (done_idle grain b command tt)
 

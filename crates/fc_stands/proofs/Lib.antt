@@ -16,7 +16,8 @@ pub mod Frames
 pub mod PhaseAll
 pub mod Arming
 pub mod OneAdded
-pub mod Within
+pub mod Since
+pub mod Calls
 pub mod Quieting
 pub mod ArmedRows
 pub mod Arms

@@ -1,6 +1,7 @@
 -- Lanes stay quiet, unless an entry tells of an armed fault.
 use Rattle.std.proofs.Common.{◌≡◌, ℕ, ◌+◌, ◌<◌, Bool, [], ◌∷◌, ◌++◌, Result, Ok, Err, OnOk, IfErr, false, List, length, slice_index_or, slice_set, sym, ◌∙◌, ap, subst, arith}
 use Rattle.std.specs.Prelude.{IfOk}
+use Rattle.std.specs.List.{All}
 use Rattle.std.proofs.lemmas.List.Elements.{All-set}
 use Rattle.fc_base.specs.declared.command.Command.{Command}
 use Rattle.fc_base.specs.declared.decision.Decision.{Decision}
@@ -20,12 +21,12 @@ use Rattle.fc_legal.specs.Added.{StaysUp}
 use Rattle.fc_legal.specs.Steps.{after_settling}
 use Rattle.fc_stands.specs.Arming.{ArmNothing, arms}
 use Rattle.fc_stands.specs.Phase.{IsDone, IsReserved}
-use Rattle.fc_stands.specs.Quiet.{AreArmedWithin, AreQuiet, NeverFails, QuietBy}
+use Rattle.fc_stands.specs.Quiet.{AreQuiet, IsArmedBy, NeverFails, QuietBy}
 use Rattle.fc_stands.specs.Settling.{CanDecide, CanSettle, IsDecisionOn, IsSettling}
 use Rattle.fc_stands.specs.Store.{StoreView}
 use Rattle.fc_stands.proofs.Arming.{command_arms, settling_arms}
 use Rattle.fc_stands.proofs.Frames.{all_go_on_quiet}
-use Rattle.fc_stands.proofs.Within.{StaysWithin, entry_within, quiet_within}
+use Rattle.fc_stands.proofs.Since.{GoesBy, entry_armed, quiet_armed}
 
 -- ---- lanes
 
@@ -72,35 +73,37 @@ decided_quiet old mid new command d reply can decision reserved done replied una
 
 -- An entry was logged, or memory was wanted for it.
 pub quiet_logged :
-    (result : Result (Unit {0}) Stop) (old ls : List LaneView) (before after : HistoryState) (entry : Entry) →
-    (ArmNothing before.entries → arms entry.request entry.reply ≡ false → AreQuiet ls) →
-    EachLane (StaysWithin entry.request entry.reply) old ls → AreArmedWithin before.entries old →
+    (result : Result (Unit {0}) Stop) (old new : StoreView) (before after : HistoryState) (entry : Entry) →
+    (ArmNothing before.entries → arms entry.request entry.reply ≡ false → AreQuiet new.lanes) →
+    EachLane (GoesBy entry old.control.tables.volumes new.control.tables.volumes) old.lanes new.lanes →
+    All (IsArmedBy before.entries old.control.tables.volumes) old.lanes →
     OnOk result (after ≡ record before { entries = before.entries ++ entry ∷ [] }) →
     IfErr result (λ stop. stop ≡ NoMemory) →
-    StaysUp result (QuietBy after.entries ls)
-quiet_logged (Ok done) old ls before after entry quiet stays armed ok stop =
+    StaysUp result (QuietBy after.entries new)
+quiet_logged (Ok done) old new before after entry quiet goes armed ok stop =
     let P : Entry → Type 0 = λ e. arms e.request e.reply ≡ false in
-    let Q : HistoryState → Type 0 = λ h. QuietBy h.entries ls in
+    let Q : HistoryState → Type 0 = λ h. QuietBy h.entries new in
     subst Q (sym ok)
     record {
       quiet = λ none. quiet (all_but_last P before.entries entry none) (of_last P before.entries entry none);
-      armed = entry_within before.entries entry old ls stays armed;
+      armed = entry_armed before.entries entry old.control.tables.volumes new.control.tables.volumes old.lanes new.lanes goes armed;
     }
-quiet_logged (Err LogFull) old ls before after entry quiet stays armed ok stop = let never : LogFull ≡ NoMemory = stop in cc
-quiet_logged (Err NoMemory) old ls before after entry quiet stays armed ok stop = tt
+quiet_logged (Err LogFull) old new before after entry quiet goes armed ok stop = let never : LogFull ≡ NoMemory = stop in cc
+quiet_logged (Err NoMemory) old new before after entry quiet goes armed ok stop = tt
 
 -- Likewise of an entry of which the call says something.
 pub quiet_says :
-    (result : Result Bool Stop) (old ls : List LaneView) (before after : HistoryState) (entry : Entry) (said : Bool) →
-    (ArmNothing before.entries → arms entry.request entry.reply ≡ false → AreQuiet ls) →
-    EachLane (StaysWithin entry.request entry.reply) old ls → AreArmedWithin before.entries old →
+    (result : Result Bool Stop) (old new : StoreView) (before after : HistoryState) (entry : Entry) (said : Bool) →
+    (ArmNothing before.entries → arms entry.request entry.reply ≡ false → AreQuiet new.lanes) →
+    EachLane (GoesBy entry old.control.tables.volumes new.control.tables.volumes) old.lanes new.lanes →
+    All (IsArmedBy before.entries old.control.tables.volumes) old.lanes →
     IfOk result (λ done. (done ≡ said) × (after ≡ record before { entries = before.entries ++ entry ∷ [] })) →
     IfErr result (λ stop. stop ≡ NoMemory) →
-    StaysUp result (QuietBy after.entries ls)
-quiet_says (Ok done) old ls before after entry said quiet stays armed ok stop = quiet_logged (Ok tt) old ls before after entry quiet stays armed ok.1 stop
-quiet_says (Err LogFull) old ls before after entry said quiet stays armed ok stop = let never : LogFull ≡ NoMemory = stop in cc
-quiet_says (Err NoMemory) old ls before after entry said quiet stays armed ok stop = tt
+    StaysUp result (QuietBy after.entries new)
+quiet_says (Ok done) old new before after entry said quiet goes armed ok stop = quiet_logged (Ok tt) old new before after entry quiet goes armed ok.1 stop
+quiet_says (Err LogFull) old new before after entry said quiet goes armed ok stop = let never : LogFull ≡ NoMemory = stop in cc
+quiet_says (Err NoMemory) old new before after entry said quiet goes armed ok stop = tt
 
--- Lanes that begin quiet.
-pub quiet_begins : (ls : List LaneView) → AreQuiet ls → QuietBy [] ls
-quiet_begins ls quiet = record { quiet = λ none. quiet; armed = quiet_within ls quiet }
+-- A store whose lanes begin quiet.
+pub quiet_begins : (s : StoreView) → AreQuiet s.lanes → QuietBy [] s
+quiet_begins s quiet = record { quiet = λ none. quiet; armed = quiet_armed s.control.tables.volumes s.lanes quiet }

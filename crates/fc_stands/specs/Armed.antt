@@ -1,19 +1,18 @@
 -- What commands leave of the armed faults of disks, lane by lane.
-use Rattle.std.specs.Prelude.{ℕ, ◌%◌, ◌==◌, ◌&&◌, Bool, false, cond, List}
+use Rattle.std.specs.Prelude.{ℕ, ◌==◌, Bool, false, List, unwrap_or}
 use Rattle.std.specs.Option.{option_map_or}
 use Rattle.fc_apply.specs.Parts.{ArmedBy, IsArmedAt}
 use Rattle.fc_base.specs.Tables.{Tables, volume_named}
 use Rattle.fc_base.specs.declared.command.Command.{Command}
-use Rattle.fc_base.specs.declared.command.Command.TheVariants.{Armfault, Mkvdisk}
 use Rattle.fc_base.specs.declared.decision.LaneEvent.{LaneEvent}
-use Rattle.fc_base.specs.declared.fault.Kind.TheVariants.{Vdisk}
 use Rattle.fc_base.specs.declared.name.Ref.{Ref}
 use Rattle.fc_base.specs.declared.request.Reply.{Reply}
-use Rattle.fc_base.specs.declared.request.Reply.TheVariants.{Done, Made}
+use Rattle.fc_base.specs.declared.request.Request.TheVariants.{Command as Asked}
 use Rattle.fc_base.specs.declared.volume.Volume.{Volume}
 use Rattle.fc_grains.specs.Volumes.{volume_of}
 use Rattle.fc_lane.specs.Lane.{LaneView, of}
 use Rattle.fc_rules.specs.LaneTold.{LaneOf}
+use Rattle.fc_stands.specs.Arming.{set_by}
 
 -- The armed fault of a volume's disk in a lane is so many calls away, where the disk tells it; 0 for none.
 abbrev pub IsDueIn : LaneView → ℕ → ℕ → Type 0
@@ -23,12 +22,9 @@ IsDueIn v id n = IsArmedAt n (volume_of v.grains.volumes id).due
 abbrev pub refers_to_volume : Tables → Ref → ℕ → Bool
 refers_to_volume t r id = option_map_or (λ (v : Volume). v.id.0 == id) (volume_named t r) false
 
--- How many calls away it is after a command that was answered so: an `armfault` that is done sets it where its volume is the one
--- that is named and its grain one of the lane's; a volume that comes has none. Nothing else changes it.
+-- How many calls away it is after a command that was answered so: what this sets by the tables, if it sets it; else as it was.
 abbrev pub due_after : Tables → LaneOf → Command → Reply → ℕ → ℕ → ℕ
-due_after t l (Armfault volume grain calls) Done id n = cond ((grain % l.lanes == l.lane) && refers_to_volume t volume id) calls n
-due_after t l (Mkvdisk name size unit thin) (Made Vdisk made) id n = cond (made == id) 0 n
-due_after t l command reply id n = n
+due_after t l command reply id n = unwrap_or (set_by (λ r. refers_to_volume t r id) id l.lane l.lanes (Asked command) reply) n
 
 -- A lane after such a command.
 abbrev pub ArmsAs : Tables → Command → Reply → LaneView → LaneView → Type 0

@@ -3,6 +3,6 @@
 //! To read: `specs/Store` (a store as contracts see it, and when it stands for what a history tells), `specs/Phase` and
 //! `specs/Settling` (the two phases of a command), `specs/Apart` (an entry that no lane makes), `specs/Leading` (what an entry
 //! leads on to), `specs/Logged` (an entry that is logged, and agendas that entries bring on), `specs/Passing` (seconds that
-//! pass), `specs/Arming` and `specs/Quiet` (disks that never fail unless an entry armed a fault, and which faults are armed),
-//! `specs/Armed` (what a command leaves of armed faults); then `proofs/`.
+//! pass), `specs/Arming` and `specs/Quiet` (what entries tell of armed faults; disks that never fail unless an entry armed one, and
+//! armed faults as the entries tell), `specs/Armed` (what a command leaves of armed faults); then `proofs/`.
 #![tactic(auto)]

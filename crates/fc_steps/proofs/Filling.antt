@@ -1,16 +1,13 @@
 -- Which slot a copy or a cleaning fills, and at which grain.
 use Rattle.std.proofs.Common.{◌≡◌, ℕ, ◌<◌, ◌%◌, Bool, true, false, cond, Option, Some, None, IsSome, List, length, refl, sym, ap, subst, ◌∙◌, inl, inr, slice_index_or, is_some, option_map, option_and_then, find}
 use Rattle.fc_base.specs.Column.{needer, first_below}
-use Rattle.fc_base.specs.Sheet.{Slot, Sheet, slot_at, slot_id, column, birth_place, mapping_place}
-use Rattle.fc_base.specs.SheetFacts.{IsSound}
+use Rattle.fc_base.specs.Sheet.{Slot, slot_at, column, mapping_place}
 use Rattle.fc_base.specs.declared.ids.GrainNo.{GrainNo}
 use Rattle.fc_base.specs.declared.ids.MapId.{MapId}
-use Rattle.fc_base.specs.declared.ids.SlotId.{SlotId}
-use Rattle.fc_chain.specs.Chains.{found}
-use Rattle.fc_steps.proofs.Naming.{birth_place_is}
 use Rattle.fc_moves.proofs.Search.{cases_option, first_some}
 use Rattle.fc_rules.specs.LaneTold.{place_of, LaneOf, number_at}
 use Rattle.fc_rules.specs.LaneTurn.{cleaned_slot, copied_slot, lacks_at, needer_at, grains_of, least_grain}
+use Rattle.fc_steps.proofs.Naming.{some_is}
 use Rattle.std.proofs.lemmas.Nat.{div-mul-add, mod-mul-add}
 use Rattle.fc_pick.specs.Next.{next_work, work_of, can_work}
 use Rattle.fc_pick.specs.declared.work.WorkFlags.{WorkFlags}
@@ -38,27 +35,7 @@ cleaned_place slots m g k e =
       | inr x ↦ (x.0, x.1, sym (ap (λ o. needer_at slots o g) x.1) ∙ e)
     ]
 
--- a slot by its name
-pub named : (s : Sheet) (k : ℕ) (name : SlotId) (o : Option ℕ) → IsSound s → k < length s.slots → o ≡ Some k → Some name ≡ found s.slots o → birth_place s.slots name.0 ≡ Some k
-named s k name o sound below e f =
-    let same : name ≡ slot_id s.slots k = some_is (f ∙ ap (found s.slots) e) in
-    ap (λ (z : SlotId). birth_place s.slots z.0) same ∙ birth_place_is s k sound.names below
-  where
-    some_is : {x y : SlotId} → Some x ≡ Some y → x ≡ y
-    some_is {x} {y} e = ap (or_this x) e
-      where
-        or_this : SlotId → Option SlotId → SlotId
-        or_this a None = a
-        or_this a (Some b) = b
-
 -- ---- at which grain
-
-some_is : {A : Type 0} {x y : A} → Some x ≡ Some y → x ≡ y
-some_is {A} {x} {y} e = ap (or_this x) e
-  where
-    or_this : A → Option A → A
-    or_this a None = a
-    or_this a (Some b) = b
 
 work_by : (least : MapId → Option GrainNo) (row : WorkFlags) (o : Option GrainNo) (m : MapId) (g : GrainNo) → least row.map ≡ o → option_map {U = MapId × GrainNo} (λ (x : GrainNo). (row.map, x)) o ≡ Some (m, g) → least m ≡ Some g
 work_by least row None m g e q = absurd cc

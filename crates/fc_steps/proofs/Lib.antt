@@ -6,11 +6,11 @@ pub mod Moving
 pub mod MoveEnds
 pub mod StepsMade
 pub mod StepsLoop
+pub mod Shown
 pub mod WritePrepare
 pub mod WriteOwn
 pub mod WriteAll
 pub mod Writable
-pub mod Shown
 pub mod Turning
 pub mod Filling
 pub mod Ending

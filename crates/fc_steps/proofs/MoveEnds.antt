@@ -14,6 +14,7 @@ use Rattle.fc_chain.specs.Chains.{Chains}
 use Rattle.fc_entry.specs.Picture.{Content, Bytes, Lost, is_lost}
 use Rattle.fc_grains.specs.Grains.{GrainsState}
 use Rattle.fc_grains.specs.declared.copy_error.CopyError.{CopyError}
+use Rattle.fc_grains.specs.declared.copy_error.CopyError.TheVariants.{Write}
 use Rattle.fc_grains.specs.Calls.{HasRead, HasWritten, HasCopied}
 use Rattle.fc_grains.specs.Volumes.{VolumeGrains, volume_of, stored, is_there, changed, holding}
 use Rattle.fc_pictures.specs.Law.{StoredAt, StoredMoved}
@@ -22,13 +23,10 @@ use Rattle.fc_steps.specs.declared.body.StepEnd.{StepEnd}
 use Rattle.fc_steps.specs.declared.stop.Stop.{Stop}
 use Rattle.fc_steps.specs.declared.stop.Stop.TheVariants.{Failed, NoMemory}
 use Rattle.fc_steps.proofs.Moving.{not_counted, one_holder, lost_is, source_at, changed_same, Source, ReadDone, read_done, wrote_done, wrote_stored, failed_done, failed_stored, refused_done, refused_stored, stored_after, counted_then, risen_then, same_then}
+use Rattle.fc_steps.specs.Reading.{HasHolder, IsOfHolder}
 use Rattle.fc_steps.specs.Standing.{AllSized}
 use Rattle.fc_steps.proofs.Nearer.{come_changed, come_still, nearer_still}
 use Rattle.fc_steps.proofs.Stored.{stored_at, holds_size}
-
--- the slot of a move has one place
-pub one_place : (chains : Chains) (g k i : ℕ) (m : Move) → CanMove chains g m k → CanMove chains g m i → k ≡ i
-one_place chains g k i m a b = one_holder (birth_place chains.sheet.slots m.slot.0) k i a.is_there b.is_there
 
 abbrev moved_to : Chains → ℕ → ℕ → Bool → Chains
 moved_to chains v g in_place = record chains { sheet = sheet_moved v g in_place chains.sheet }
@@ -91,6 +89,21 @@ ends_as chains after old new g k n o m end e x = subst (λ (z : StepEnd). MoveEn
 
 -- ---- one copy
 
+-- what a write after a read finds
+pub record Target (old mid : GrainsState) (to g : ℕ) : Type 0 where
+  pub there : is_there mid.volumes to ≡ true
+  pub inside : g < length (volume_of mid.volumes to).contents
+
+target_at : (s : Sheet) (old mid : GrainsState) (g k h to : ℕ) → Source s old.volumes g k h → to ≡ (slot_at s.slots k).volume → ReadDone old mid false → Target old mid to g
+target_at s old mid g k h to src et r =
+    let size_to = r.same.sizes to in
+    let same_to : length (volume_of old.volumes to).contents ≡ length (volume_of old.volumes (slot_at s.slots k).volume).contents = ap (λ z. length (volume_of old.volumes z).contents) et in
+    let inside = src.target_inside in
+    record {
+      there = r.same.there to ∙ (ap (λ z. is_there old.volumes z) et ∙ src.target_there);
+      inside = omega arith;
+    }
+
 -- the calls of a copy that was done
 pub copied_ends : {A : Type 0} (chains after : Chains) (old new : GrainsState) (g k h from to : ℕ) (m : Move) (a : A) → CanMove chains g m k → m.in_place ≡ false → Source chains.sheet old.volumes g k h →
     from ≡ (slot_at chains.sheet.slots h).volume → to ≡ (slot_at chains.sheet.slots k).volume → is_lost (stored old.volumes from g) ≡ false →
@@ -98,15 +111,10 @@ pub copied_ends : {A : Type 0} (chains after : Chains) (old new : GrainsState) (
     HasCopied {A = A} old from to g (Ok a) new → MoveEnds chains old g k m 2 None after new × SameLane old new
 copied_ends {A} chains after old new g k h from to m a can f src ef et lost e x =
     let mid : GrainsState = x.0 in
-    let there_from : is_there old.volumes from ≡ true = ap (λ z. is_there old.volumes z) ef ∙ src.there in
-    let r = read_done old mid from g false there_from x.1 in
-    let there_to : is_there mid.volumes to ≡ true = r.there to ∙ (ap (λ z. is_there old.volumes z) et ∙ src.target_there) in
-    let size_to = r.size to in
-    let same_to : length (volume_of old.volumes to).contents ≡ length (volume_of old.volumes (slot_at chains.sheet.slots k).volume).contents = ap (λ z. length (volume_of old.volumes z).contents) et in
-    let inside = src.target_inside in
-    let lt : g < length (volume_of mid.volumes to).contents = omega arith in
-    let w = wrote_done {A = A} mid new to g a there_to x.2 in
-    let st : StoredAt (stored mid.volumes) to g (Bytes mid.buffer) (stored new.volumes) = wrote_stored {A = A} mid new to g a there_to lt x.2 in
+    let r = read_done old mid from g false (ap (λ z. is_there old.volumes z) ef ∙ src.there) x.1 in
+    let t = target_at chains.sheet old mid g k h to src et r in
+    let w = wrote_done {A = A} mid new to g a t.there x.2 in
+    let st : StoredAt (stored mid.volumes) to g (Bytes mid.buffer) (stored new.volumes) = wrote_stored {A = A} mid new to g a t.there t.inside x.2 in
     let content : Bytes mid.buffer ≡ stored old.volumes (slot_at chains.sheet.slots h).volume g = sym x.1.bytes ∙ ap (λ z. stored old.volumes z g) ef in
     let st_old : StoredAt (stored old.volumes) (slot_at chains.sheet.slots k).volume g (stored old.volumes (slot_at chains.sheet.slots h).volume g) (stored new.volumes) =
     subst (λ (z : ℕ). StoredAt (stored old.volumes) z g (stored old.volumes (slot_at chains.sheet.slots h).volume g) (stored new.volumes)) et
@@ -125,27 +133,12 @@ read_failed_ends chains old new g k h from m f src ef lost x =
     let lost_h : is_lost (stored old.volumes (slot_at chains.sheet.slots h).volume g) ≡ false = ap (λ z. is_lost (stored old.volumes z g)) (sym ef) ∙ lost in
     (read_fails chains old new g k h m f src.holds lost_h r.stored_same r.counted, r.same)
 
--- what a write after a read finds
-pub record Target (old mid : GrainsState) (to g : ℕ) : Type 0 where
-  pub there : is_there mid.volumes to ≡ true
-  pub inside : g < length (volume_of mid.volumes to).contents
-
-target_at : (s : Sheet) (old mid : GrainsState) (g k h to : ℕ) → Source s old.volumes g k h → to ≡ (slot_at s.slots k).volume → ReadDone old mid false → Target old mid to g
-target_at s old mid g k h to src et r =
-    let size_to = r.size to in
-    let same_to : length (volume_of old.volumes to).contents ≡ length (volume_of old.volumes (slot_at s.slots k).volume).contents = ap (λ z. length (volume_of old.volumes z).contents) et in
-    let inside = src.target_inside in
-    record {
-      there = r.there to ∙ (ap (λ z. is_there old.volumes z) et ∙ src.target_there);
-      inside = omega arith;
-    }
-
 -- the write failed
-pub write_failed_ends : {A : Type 0} (chains after : Chains) (old mid new : GrainsState) (g k h from to : ℕ) (m : Move) (torn : Torn) → CanMove chains g m k → m.in_place ≡ false → Source chains.sheet old.volumes g k h →
+pub write_failed_ends : {A : Type 0} (chains after : Chains) (old new : GrainsState) (g k h from to : ℕ) (m : Move) (torn : Torn) → CanMove chains g m k → m.in_place ≡ false → Source chains.sheet old.volumes g k h →
     from ≡ (slot_at chains.sheet.slots h).volume → to ≡ (slot_at chains.sheet.slots k).volume → is_lost (stored old.volumes from g) ≡ false →
     torn ≡ record { volume = m.volume; grain = m.grain; side = Under } → after ≡ record chains { sheet = sheet_torn m.volume.0 (m.grain.0 / chains.lanes) Under chains.sheet } →
-    HasRead old from g false mid → HasWritten {A = A} mid to g (Err Fails) new → MoveEnds chains old g k m 2 (Some (Failed (Some torn))) after new × SameLane old new
-write_failed_ends {A} chains after old mid new g k h from to m torn can f src ef et lost is e x y =
+    HasCopied {A = A} old from to g (Err (Write Fails)) new → MoveEnds chains old g k m 2 (Some (Failed (Some torn))) after new × SameLane old new
+write_failed_ends {A} chains after old new g k h from to m torn can f src ef et lost is e (mid, x, y) =
     let r = read_done old mid from g false (ap (λ z. is_there old.volumes z) ef ∙ src.there) x in
     let t = target_at chains.sheet old mid g k h to src et r in
     let w = failed_done {A = A} mid new to g t.there y in
@@ -155,10 +148,10 @@ write_failed_ends {A} chains after old mid new g k h from to m torn can f src ef
     (write_fails chains after old new g k h m torn can f src.holds lost_h is e st_k (risen_then old.write_faults mid.write_faults new.write_faults r.counted.writes_kept (w.torn_by_write refl)) (counted_then old mid new 1 1 true r.counted w.counted refl), same_then old mid new r.same w.same)
 
 -- the write wanted memory
-pub refused_ends : {A : Type 0} (chains : Chains) (old mid new : GrainsState) (g k h from to : ℕ) (m : Move) → m.in_place ≡ false → Source chains.sheet old.volumes g k h →
+pub refused_ends : {A : Type 0} (chains : Chains) (old new : GrainsState) (g k h from to : ℕ) (m : Move) → m.in_place ≡ false → Source chains.sheet old.volumes g k h →
     from ≡ (slot_at chains.sheet.slots h).volume → to ≡ (slot_at chains.sheet.slots k).volume → is_lost (stored old.volumes from g) ≡ false →
-    HasRead old from g false mid → HasWritten {A = A} mid to g (Err NoRoom) new → MoveEnds chains old g k m 2 (Some NoMemory) chains new × SameLane old new
-refused_ends {A} chains old mid new g k h from to m f src ef et lost x y =
+    HasCopied {A = A} old from to g (Err (Write NoRoom)) new → MoveEnds chains old g k m 2 (Some NoMemory) chains new × SameLane old new
+refused_ends {A} chains old new g k h from to m f src ef et lost (mid, x, y) =
     let r = read_done old mid from g false (ap (λ z. is_there old.volumes z) ef ∙ src.there) x in
     let t = target_at chains.sheet old mid g k h to src et r in
     let w = refused_done {A = A} mid new to g t.there y in
@@ -193,13 +186,26 @@ empty_ends chains after old new g k h from m can f src ef lost n e =
           (n ∙ ap (λ (b : List ℕ). record old { volumes = changed m.volume.0 (holding g Lost) old.volumes; buffer = b }) (sym (ap (λ (s : GrainsState). s.buffer) n))),
     )
 
+-- the holder of the slot that is moved
+pub can_source : (chains : Chains) (vs : List VolumeGrains) (g k : ℕ) (m : Move) → IsSound chains.sheet → AllSized chains.sheet vs → CanMove chains g m k → HasHolder chains (birth_place chains.sheet.slots m.slot.0) m.grain.0
+can_source chains vs g k m sound sized can =
+    let src = source_at chains.sheet vs g k sound sized can.safe.there can.safe.is_live can.inside in
+    record {
+      sound = sound;
+      of_lane = can.of_lane;
+      slot = k;
+      there = can.is_there;
+      source = src.0;
+      holds = subst (λ (z : ℕ). holder (column chains.sheet.slots z) k ≡ Some src.0) (sym can.place) src.1.holds;
+    }
+
 -- the volume that a move reads
-pub sourced : (chains : Chains) (vs : List VolumeGrains) (g k from : ℕ) (m : Move) → IsSound chains.sheet → AllSized chains.sheet vs → CanMove chains g m k →
-    ((i h : ℕ) → birth_place chains.sheet.slots m.slot.0 ≡ Some i → holder (column chains.sheet.slots (m.grain.0 / chains.lanes)) i ≡ Some h → from ≡ (slot_at chains.sheet.slots h).volume) →
+pub sourced : (chains : Chains) (vs : List VolumeGrains) (g k from : ℕ) (m : Move) → IsSound chains.sheet → AllSized chains.sheet vs → CanMove chains g m k → IsOfHolder chains (birth_place chains.sheet.slots m.slot.0) m.grain.0 from →
     (h : ℕ) × Source chains.sheet vs g k h × (from ≡ (slot_at chains.sheet.slots h).volume)
+unfolding can_source
 sourced chains vs g k from m sound sized can is =
     let src = source_at chains.sheet vs g k sound sized can.safe.there can.safe.is_live can.inside in
-    (src.0, src.1, is k src.0 can.is_there (subst (λ (z : ℕ). holder (column chains.sheet.slots z) k ≡ Some src.0) (sym can.place) src.1.holds))
+    (src.0, src.1, is k src.0 can.is_there (can_source chains vs g k m sound sized can).holds)
 
 -- why a copy wasn't done
 pub copied_as : (A : Type 0) (old new : GrainsState) (from to g : ℕ) (e d : CopyError) → e ≡ d → HasCopied {A = A} old from to g (Err e) new → HasCopied {A = A} old from to g (Err d) new

@@ -11,6 +11,7 @@ use Rattle.fc_base.specs.declared.disk.DiskError.TheVariants.{Failed, NoMemory}
 use Rattle.fc_entry.specs.Picture.{Content, Bytes, Lost, is_lost}
 use Rattle.fc_grains.specs.Calls.{HasRead, HasWritten}
 use Rattle.fc_grains.specs.Grains.{GrainsState}
+use Rattle.fc_grains.specs.Quiet.{IsQuiet}
 use Rattle.fc_grains.proofs.Quiet.{quiet_read, quiet_written}
 use Rattle.fc_steps.specs.Standing.{kind_of_grains, HasGrains, AllSized}
 use Rattle.std.proofs.lemmas.List.Elements.{All-cons}
@@ -19,6 +20,7 @@ use Rattle.fc_mdisk.specs.Disk.{write_failed}
 use Rattle.fc_moves.proofs.Readers.{IsHolder, holder_is}
 use Rattle.fc_pictures.specs.Law.{StoredAt}
 use Rattle.fc_steps.specs.Moving.{Counted, SameLane, SameKinds, more}
+use Rattle.fc_steps.proofs.Naming.{some_is}
 use Rattle.fc_steps.proofs.Nearer.{come_changed, come_then, nearer_called}
 use Rattle.fc_steps.proofs.Stored.{KeepsId, KeepsContents, KeepsSize, changed_here, changed_other, stored_stays, stored_at, holds_size, contents_size, there_stays, size_stays}
 
@@ -109,32 +111,43 @@ same_then old mid new a b =
       quiet = λ q. let p = a.quiet q in let r = b.quiet p.0 in (r.0, r.1 ∙ p.1);
     }
 
--- a state whose volumes changed so, by no call
-pub changed_same : (old new : GrainsState) (f : VolumeGrains → VolumeGrains) (id : ℕ) → KeepsId f → KeepsKind f → KeepsSize f → KeepsDue f → is_there old.volumes id ≡ true →
-    new ≡ record old { volumes = changed id f old.volumes; buffer = new.buffer } → SameLane old new
-changed_same old new f id keeps kind size due t e =
-    let vs : new.volumes ≡ changed id f old.volumes = ap (λ (s : GrainsState). s.volumes) e in
+-- the parts that neither calls nor changes of volumes touch
+abbrev beside : GrainsState → GrainsState
+beside s = record s { volumes = []; buffer = []; calls = 0; faults = 0; write_faults = 0 }
+
+-- a state of which the volume with this id changed so
+changed_lane : (old new : GrainsState) (f : VolumeGrains → VolumeGrains) (id : ℕ) → KeepsId f → KeepsKind f → KeepsSize f → is_there old.volumes id ≡ true → new.volumes ≡ changed id f old.volumes →
+    beside new ≡ beside old → (IsQuiet old → IsQuiet new × (new.faults ≡ old.faults)) → SameLane old new
+changed_lane old new f id keeps kind size t vs rest quiet =
     record {
-      grain = ap (λ (s : GrainsState). s.grain) e;
-      pool = ap (λ (s : GrainsState). s.pool) e;
-      reserved = ap (λ (s : GrainsState). s.reserved) e;
-      pooled = ap (λ (s : GrainsState). s.pooled) e;
-      aside = ap (λ (s : GrainsState). s.aside) e;
-      disks = ap (λ (s : GrainsState). s.disks) e;
-      silent = ap (λ (s : GrainsState). s.silent) e;
+      grain = ap (λ (s : GrainsState). s.grain) rest;
+      pool = ap (λ (s : GrainsState). s.pool) rest;
+      reserved = ap (λ (s : GrainsState). s.reserved) rest;
+      pooled = ap (λ (s : GrainsState). s.pooled) rest;
+      aside = ap (λ (s : GrainsState). s.aside) rest;
+      disks = ap (λ (s : GrainsState). s.disks) rest;
+      silent = ap (λ (s : GrainsState). s.silent) rest;
       ids = ap (λ (z : List VolumeGrains). map (λ (v : VolumeGrains). v.volume) z) vs ∙ ids_stay f keeps id old.volumes;
       kinds = λ v. ap (λ (z : List VolumeGrains). (volume_of z v).kind) vs ∙ kinds_stay f keeps kind old.volumes id t v;
       each = ap (λ (z : List VolumeGrains). map kind_of_grains z) vs ∙ each_stays f keeps kind id old.volumes;
       there = λ x. ap (λ (z : List VolumeGrains). is_there z x) vs ∙ there_stays f keeps old.volumes id x;
       sizes = λ x. ap (λ (z : List VolumeGrains). length (volume_of z x).contents) vs ∙ size_stays f keeps size old.volumes id x t;
-      quiet = λ q. (
-        record {
-          told = ap (λ (s : GrainsState). s.silent) e ∙ q.told;
-          unarmed = subst (λ (z : List VolumeGrains). All IsUnarmed z) (sym vs) (unarmed_stays f due id old.volumes q.unarmed);
-        },
-        ap (λ (s : GrainsState). s.faults) e,
-      );
+      quiet = quiet;
     }
+
+-- it changed by no call
+pub changed_same : (old new : GrainsState) (f : VolumeGrains → VolumeGrains) (id : ℕ) → KeepsId f → KeepsKind f → KeepsSize f → KeepsDue f → is_there old.volumes id ≡ true →
+    new ≡ record old { volumes = changed id f old.volumes; buffer = new.buffer } → SameLane old new
+changed_same old new f id keeps kind size due t e =
+    let vs : new.volumes ≡ changed id f old.volumes = ap (λ (s : GrainsState). s.volumes) e in
+    changed_lane old new f id keeps kind size t vs (ap beside e)
+    (λ q. (
+      record {
+        told = ap (λ (s : GrainsState). s.silent) e ∙ q.told;
+        unarmed = subst (λ (z : List VolumeGrains). All IsUnarmed z) (sym vs) (unarmed_stays f due id old.volumes q.unarmed);
+      },
+      ap (λ (s : GrainsState). s.faults) e,
+    ))
 
 -- ---- one call, and two
 
@@ -161,6 +174,10 @@ pub not_counted : (old new : GrainsState) → new.calls ≡ old.calls → new.fa
 not_counted old new c f w nearer =
     record { calls_are = c; kept = omega (arith, f); risen = λ t. absurd cc; writes_kept = omega (arith, w); nearer = nearer }
 
+cause_of : (failed : Bool) (a b : ℕ) → OnTrue failed (HasRisen a b) → failed ≡ true → HasRisen a b
+cause_of true a b c e = c
+cause_of false a b c e = absurd cc
+
 -- a read
 called_id : KeepsId called
 called_id v = refl
@@ -174,8 +191,6 @@ called_kind v = refl
 pub record ReadDone (old : GrainsState) (mid : GrainsState) (failed : Bool) : Type 0 where
   pub same : SameLane old mid
   pub stored_same : (w y : ℕ) → stored mid.volumes w y ≡ stored old.volumes w y
-  pub there : (x : ℕ) → is_there mid.volumes x ≡ is_there old.volumes x
-  pub size : (x : ℕ) → length (volume_of mid.volumes x).contents ≡ length (volume_of old.volumes x).contents
   pub counted : Counted old 1 failed mid
 
 pub read_done : (old mid : GrainsState) (v g : ℕ) (failed : Bool) → is_there old.volumes v ≡ true → HasRead old v g failed mid → ReadDone old mid failed
@@ -183,24 +198,8 @@ read_done old mid v g failed t h =
     let vs : mid.volumes ≡ changed v called old.volumes = ap (λ (s : GrainsState). s.volumes) h.rest in
     let writes : mid.write_faults ≡ old.write_faults = ap (λ (s : GrainsState). s.write_faults) h.rest in
     record {
-      same = record {
-        grain = ap (λ (s : GrainsState). s.grain) h.rest;
-        pool = ap (λ (s : GrainsState). s.pool) h.rest;
-        reserved = ap (λ (s : GrainsState). s.reserved) h.rest;
-        pooled = ap (λ (s : GrainsState). s.pooled) h.rest;
-        aside = ap (λ (s : GrainsState). s.aside) h.rest;
-        disks = ap (λ (s : GrainsState). s.disks) h.rest;
-        silent = ap (λ (s : GrainsState). s.silent) h.rest;
-        ids = ap (λ (z : List VolumeGrains). map (λ (x : VolumeGrains). x.volume) z) vs ∙ ids_stay called called_id v old.volumes;
-        kinds = λ w. ap (λ (z : List VolumeGrains). (volume_of z w).kind) vs ∙ kinds_stay called called_id called_kind old.volumes v t w;
-        each = ap (λ (z : List VolumeGrains). map kind_of_grains z) vs ∙ each_stays called called_id called_kind v old.volumes;
-        there = λ x. ap (λ (z : List VolumeGrains). is_there z x) vs ∙ there_stays called called_id old.volumes v x;
-        sizes = λ x. ap (λ (z : List VolumeGrains). length (volume_of z x).contents) vs ∙ size_stays called called_id (contents_size called called_contents) old.volumes v x t;
-        quiet = λ q. let s = quiet_read old mid v g failed q t h in (s.quiet, s.faults);
-      };
+      same = changed_lane old mid called v called_id called_kind (contents_size called called_contents) t vs (ap beside h.rest) (λ q. let s = quiet_read old mid v g failed q t h in (s.quiet, s.faults));
       stored_same = λ w y. ap (λ (z : List VolumeGrains). stored z w y) vs ∙ stored_stays called called_id called_contents old.volumes v t w y;
-      there = λ x. ap (λ (z : List VolumeGrains). is_there z x) vs ∙ there_stays called called_id old.volumes v x;
-      size = λ x. ap (λ (z : List VolumeGrains). length (volume_of z x).contents) vs ∙ size_stays called called_id (contents_size called called_contents) old.volumes v x t;
       counted = record {
         calls_are = h.call.calls;
         kept = h.call.faults.kept;
@@ -209,16 +208,10 @@ read_done old mid v g failed t h =
         nearer = come_changed 1 called called_id (λ x. nearer_called x.due) v old.volumes mid.volumes t vs;
       };
     }
-  where
-    cause_of : (failed : Bool) (a b : ℕ) → OnTrue failed (HasRisen a b) → failed ≡ true → HasRisen a b
-    cause_of true a b c e = c
-    cause_of false a b c e = absurd cc
 
 -- a write
 pub record WriteDone (old : GrainsState) (new : GrainsState) (v g : ℕ) (failed : Bool) : Type 0 where
   pub same : SameLane old new
-  pub there : (x : ℕ) → is_there new.volumes x ≡ is_there old.volumes x
-  pub size : (x : ℕ) → length (volume_of new.volumes x).contents ≡ length (volume_of old.volumes x).contents
   pub counted : Counted old 1 failed new
   pub torn_by_write : failed ≡ true → HasRisen old.write_faults new.write_faults
 
@@ -228,23 +221,7 @@ write_done {A} old new v g answer keeps kind size near t h =
     let f : VolumeGrains → VolumeGrains = after_write answer g old.buffer in
     let vs : new.volumes ≡ changed v f old.volumes = ap (λ (s : GrainsState). s.volumes) h.rest in
     record {
-      same = record {
-        grain = ap (λ (s : GrainsState). s.grain) h.rest;
-        pool = ap (λ (s : GrainsState). s.pool) h.rest;
-        reserved = ap (λ (s : GrainsState). s.reserved) h.rest;
-        pooled = ap (λ (s : GrainsState). s.pooled) h.rest;
-        aside = ap (λ (s : GrainsState). s.aside) h.rest;
-        disks = ap (λ (s : GrainsState). s.disks) h.rest;
-        silent = ap (λ (s : GrainsState). s.silent) h.rest;
-        ids = ap (λ (z : List VolumeGrains). map (λ (x : VolumeGrains). x.volume) z) vs ∙ ids_stay f keeps v old.volumes;
-        kinds = λ w. ap (λ (z : List VolumeGrains). (volume_of z w).kind) vs ∙ kinds_stay f keeps kind old.volumes v t w;
-        each = ap (λ (z : List VolumeGrains). map kind_of_grains z) vs ∙ each_stays f keeps kind v old.volumes;
-        there = λ x. ap (λ (z : List VolumeGrains). is_there z x) vs ∙ there_stays f keeps old.volumes v x;
-        sizes = λ x. ap (λ (z : List VolumeGrains). length (volume_of z x).contents) vs ∙ size_stays f keeps size old.volumes v x t;
-        quiet = λ q. let s = quiet_written {A = A} old new v g answer q t h in (s.quiet, s.faults);
-      };
-      there = λ x. ap (λ (z : List VolumeGrains). is_there z x) vs ∙ there_stays f keeps old.volumes v x;
-      size = λ x. ap (λ (z : List VolumeGrains). length (volume_of z x).contents) vs ∙ size_stays f keeps size old.volumes v x t;
+      same = changed_lane old new f v keeps kind size t vs (ap beside h.rest) (λ q. let s = quiet_written {A = A} old new v g answer q t h in (s.quiet, s.faults));
       counted = record {
         calls_are = h.call.calls;
         kept = h.call.faults.kept;
@@ -254,10 +231,6 @@ write_done {A} old new v g answer keeps kind size near t h =
       };
       torn_by_write = cause_of (write_failed answer) old.write_faults new.write_faults h.write_faults.cause;
     }
-  where
-    cause_of : (failed : Bool) (a b : ℕ) → OnTrue failed (HasRisen a b) → failed ≡ true → HasRisen a b
-    cause_of true a b c e = c
-    cause_of false a b c e = absurd cc
 
 pub wrote_done : {A : Type 0} (old new : GrainsState) (v g : ℕ) (a : A) → is_there old.volumes v ≡ true → HasWritten {A = A} old v g (Ok a) new → WriteDone old new v g false
 wrote_done {A} old new v g a t h = write_done {A = A} old new v g (Ok a) (λ x. refl) (λ x. refl) (holds_size (after_write {A = A} (Ok a) g old.buffer) g (Bytes old.buffer) (λ x. refl)) (λ x. nearer_called x.due) t h
@@ -324,15 +297,7 @@ source_at s vs g k sound sized kl live inside =
     )
 
 pub one_holder : (o : Option ℕ) (h i : ℕ) → o ≡ Some h → o ≡ Some i → h ≡ i
-one_holder None h i e q = absurd cc
-one_holder (Some x) h i e q = some_is (sym e ∙ q)
-  where
-    some_is : {x y : ℕ} → Some x ≡ Some y → x ≡ y
-    some_is {x} {y} e = ap (λ o. or_zero o) e
-      where
-        or_zero : Option ℕ → ℕ
-        or_zero None = 0
-        or_zero (Some z) = z
+one_holder o h i e q = some_is (sym e ∙ q)
 
 pub lost_is : (c : Content) → is_lost c ≡ true → c ≡ Lost
 lost_is (Bytes b) e = absurd cc

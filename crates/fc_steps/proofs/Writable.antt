@@ -13,9 +13,11 @@ use Rattle.fc_entry.specs.Picture.{grain_of_block, is_lost}
 use Rattle.fc_entry.specs.Writes.{covers_grain}
 use Rattle.fc_grains.specs.Grains.{GrainsState}
 use Rattle.fc_grains.specs.Volumes.{stored, volume_of}
+use Rattle.fc_steps.specs.Reading.{HasHolder, IsOfHolder}
 use Rattle.fc_steps.specs.WriteStep.{FitsWrite, spot_of}
 use Rattle.fc_steps.specs.StepsEnd.{StandsAt}
 use Rattle.fc_steps.proofs.Moving.{Source, source_at, one_holder}
+use Rattle.fc_steps.proofs.Shown.{ShownIn, holder_shown, volume_shown}
 use Rattle.fc_moves.proofs.Writing.{written}
 use Rattle.fc_pictures.specs.Law.{now_of}
 use Rattle.fc_pictures.proofs.Lawful.{picture_law_holds}
@@ -51,20 +53,15 @@ module _ (l : LaneOf) (told : LaneTold) (part : WritePart) (t : ℕ) (chains : C
   pub shows_first : ℕ
   shows_first = (slot_at slots source.0).volume
 
-  pub first_held : (n : ℕ) → n ≡ number → (k : ℕ) × (h : ℕ) × (live_place chains.sheet.slots part.volume.0 ≡ Some k) × (holder (column chains.sheet.slots (n / chains.lanes)) k ≡ Some h)
-  first_held n e = (
-    t,
-    source.0,
-    ap (λ (s : Sheet). live_place s.slots part.volume.0) at.sheet_is ∙ w.place,
-    (λ i. holder (column (at.sheet_is i).slots (e i / at.lanes_are i)) t) ∙ source.1.holds,
-  )
+  first_shown : ShownIn l told.sheet part.volume.0 t number source.0 chains
+  first_shown = record { lane_is = at.lane_is; lanes_are = at.lanes_are; sheet_is = at.sheet_is; sound = w.sound; place = w.place; of_lane = w.fits.of_lane; holds = source.1.holds }
 
-  pub first_from : (from n : ℕ) → n ≡ number → ((k h : ℕ) → live_place chains.sheet.slots part.volume.0 ≡ Some k → holder (column chains.sheet.slots (n / chains.lanes)) k ≡ Some h → from ≡ (slot_at chains.sheet.slots h).volume) →
-      from ≡ shows_first
+  pub first_held : (n : ℕ) → n ≡ number → HasHolder chains (live_place chains.sheet.slots part.volume.0) n
+  first_held = holder_shown l told.sheet part.volume.0 t number source.0 chains first_shown
+
+  pub first_from : (from n : ℕ) → n ≡ number → IsOfHolder chains (live_place chains.sheet.slots part.volume.0) n from → from ≡ shows_first
   unfolding shows_first
-  first_from from n e is =
-      is t source.0 (ap (λ (s : Sheet). live_place s.slots part.volume.0) at.sheet_is ∙ w.place) ((λ i. holder (column (at.sheet_is i).slots (e i / at.lanes_are i)) t) ∙ source.1.holds)
-      ∙ ap (λ (s : Sheet). (slot_at s.slots source.0).volume) at.sheet_is
+  first_from = volume_shown l told.sheet part.volume.0 t number source.0 chains first_shown
 
   pub first_inside : (from place : ℕ) → from ≡ shows_first → place ≡ g → place < length (volume_of old.volumes from).contents
   unfolding shows_first
@@ -72,12 +69,6 @@ module _ (l : LaneOf) (told : LaneTold) (part : WritePart) (t : ℕ) (chains : C
       let q : length (volume_of old.volumes from).contents ≡ length (volume_of old.volumes (slot_at slots source.0).volume).contents = ap (λ z. length (volume_of old.volumes z).contents) e in
       let lt = source.1.inside in
       omega arith
-
-  pub first_of_lane : (n : ℕ) → n ≡ number → n % chains.lanes ≡ chains.lane
-  first_of_lane n e = (λ i. e i % at.lanes_are i) ∙ (w.fits.of_lane ∙ sym at.lane_is)
-
-  first_sound : IsSound chains.sheet
-  first_sound = subst IsSound (sym at.sheet_is) w.sound
 
   shown : spot.now part.volume.0 ≡ stored old.volumes shows_first g
   unfolding shows_first

@@ -4,33 +4,33 @@ use Rattle.std.proofs.lemmas.Bool.{eq-eqb}
 use Rattle.fc_base.specs.Column.{holder}
 use Rattle.fc_base.specs.Grain.{block_bytes, grain_blocks, grain_bytes}
 use Rattle.fc_base.specs.Moves.{after_moves, write_moves}
-use Rattle.fc_base.specs.Sheet.{Sheet, slot_at, shape_of, column, live_place, slot_id, birth_place}
+use Rattle.fc_base.specs.Sheet.{Sheet, slot_at, shape_of, column, live_place}
 use Rattle.fc_base.specs.SheetFacts.{IsSound}
 use Rattle.fc_base.specs.SheetFits.{FitsTaken, FitsLost}
 use Rattle.fc_base.specs.SheetStep.{sheet_torn, sheet_written}
 use Rattle.fc_base.specs.declared.disk.DiskError.{DiskError}
 use Rattle.fc_base.specs.declared.disk.DiskError.TheVariants.{Failed as Fails, NoMemory as NoRoom}
 use Rattle.fc_base.specs.declared.disk.DiskKind.TheVariants.{Thin}
-use Rattle.fc_base.specs.declared.ids.SlotId.{SlotId}
 use Rattle.fc_base.specs.declared.request.Side.{Side}
 use Rattle.fc_base.specs.declared.request.Side.TheVariants.{Now, Under}
 use Rattle.fc_base.specs.declared.request.Torn.{Torn}
 use Rattle.fc_base.specs.declared.request.WritePart.{WritePart}
 use Rattle.fc_base.specs.declared.size.GrainSize.{GrainSize}
-use Rattle.fc_chain.specs.Chains.{Chains, found}
+use Rattle.fc_chain.specs.Chains.{Chains}
 use Rattle.fc_entry.specs.Picture.{Content, Bytes, Lost, byte_in_grain, grain_of_block, written, is_lost}
 use Rattle.fc_entry.specs.Writes.{calls_of_write, covers_grain}
 use Rattle.fc_grains.specs.Calls.{HasWritten}
 use Rattle.fc_grains.specs.Grains.{GrainsState}
 use Rattle.fc_grains.specs.Volumes.{is_there, volume_of, stored}
 use Rattle.fc_steps.specs.Moving.{Counted, SameLane}
+use Rattle.fc_steps.specs.Reading.{HasHolder, IsOfHolder}
 use Rattle.fc_steps.specs.Standing.{AllSized}
 use Rattle.fc_steps.specs.WriteStep.{CanWriteOwn, IsInGrain, IsPrepared, OwnEnds, OwnStands, spot_of}
 use Rattle.fc_steps.specs.declared.body.StepEnd.{StepEnd}
 use Rattle.fc_steps.specs.declared.stop.Stop.{Stop}
 use Rattle.fc_steps.specs.declared.stop.Stop.TheVariants.{Failed, NoMemory}
 use Rattle.fc_steps.proofs.Moving.{Source, source_at, one_holder, risen_then, same_then, stored_after, wrote_done, wrote_stored, failed_done, failed_stored, refused_done, refused_stored}
-use Rattle.fc_steps.proofs.Naming.{birth_place_is}
+use Rattle.fc_steps.proofs.Shown.{ShownIn, holder_shown, volume_shown}
 use Rattle.fc_steps.proofs.StepsMade.{both_counted, counted_any, sized_again, size_torn, size_written, thin_told}
 use Rattle.fc_steps.proofs.WritePrepare.{bytes_of_blocks}
 use Rattle.fc_pictures.specs.Law.{StoredAt, now_of}
@@ -45,21 +45,6 @@ use Rattle.fc_rules.specs.Spot.{Spot}
 use Rattle.fc_rules.specs.Steps.{DiskStep, is_of_volume, own_step, reads_own}
 use Rattle.fc_sheets.proofs.Columns.{shape_torn, shape_written}
 use Rattle.fc_sheets.proofs.Finding.{live_place_at, live_place_is}
-
--- ---- the live slot of a volume, by its name
-
-pub live_named : (s : Sheet) (v k : ℕ) (name : SlotId) (o : Option SlotId) → IsSound s → live_place s.slots v ≡ Some k → o ≡ found s.slots (live_place s.slots v) → o ≡ Some name →
-    birth_place s.slots name.0 ≡ Some k
-live_named s v k name o sound e f n =
-    let same : name ≡ slot_id s.slots k = some_is (sym n ∙ (f ∙ ap (found s.slots) e)) in
-    ap (λ (z : SlotId). birth_place s.slots z.0) same ∙ birth_place_is s k sound.names (live_place_at s.slots v k e).there
-  where
-    some_is : {x y : SlotId} → Some x ≡ Some y → x ≡ y
-    some_is {x} {y} e = ap (or_this x) e
-      where
-        or_this : SlotId → Option SlotId → SlotId
-        or_this a None = a
-        or_this a (Some b) = b
 
 -- ---- counts
 
@@ -111,9 +96,6 @@ module _ (l : LaneOf) (told : LaneTold) (part : WritePart) (t : ℕ) (chains : C
       let live = can_write.live in
       live_place_is before.slots part.volume.0 t can.stands.sound.one_live (record { there = live.there; is_live = live.is_live; of_volume = volume_is })
 
-  pub own_sound : IsSound chains.sheet
-  own_sound = subst IsSound (sym can.sheet_is) can.stands.sound
-
   -- ---- the volume that it shows
 
   source : (h : ℕ) × Source before old.volumes g t h
@@ -124,23 +106,15 @@ module _ (l : LaneOf) (told : LaneTold) (part : WritePart) (t : ℕ) (chains : C
   pub shows_from : ℕ
   shows_from = (slot_at before.slots source.0).volume
 
-  own_place : live_place chains.sheet.slots part.volume.0 ≡ Some t
-  own_place = ap (λ (s : Sheet). live_place s.slots part.volume.0) can.sheet_is ∙ place_before
+  own_shown : ShownIn l before part.volume.0 t number source.0 chains
+  own_shown = record { lane_is = can.lane_is; lanes_are = can.lanes_are; sheet_is = can.sheet_is; sound = can.stands.sound; place = place_before; of_lane = can.is.fits.of_lane; holds = source.1.holds }
 
-  own_holds : (n : ℕ) → n ≡ number → holder (column chains.sheet.slots (n / chains.lanes)) t ≡ Some source.0
-  own_holds n e = (λ i. holder (column (can.sheet_is i).slots (e i / can.lanes_are i)) t) ∙ source.1.holds
+  pub own_held : (n : ℕ) → n ≡ number → HasHolder chains (live_place chains.sheet.slots part.volume.0) n
+  own_held = holder_shown l before part.volume.0 t number source.0 chains own_shown
 
-  pub own_held : (n : ℕ) → n ≡ number → (k : ℕ) × (h : ℕ) × (live_place chains.sheet.slots part.volume.0 ≡ Some k) × (holder (column chains.sheet.slots (n / chains.lanes)) k ≡ Some h)
-  own_held n e = (t, source.0, own_place, own_holds n e)
-
-  pub own_of_lane : (n : ℕ) → n ≡ number → n % chains.lanes ≡ chains.lane
-  own_of_lane n e = (λ i. e i % can.lanes_are i) ∙ (can.is.fits.of_lane ∙ sym can.lane_is)
-
-  pub own_from : (from n : ℕ) → n ≡ number → ((k h : ℕ) → live_place chains.sheet.slots part.volume.0 ≡ Some k → holder (column chains.sheet.slots (n / chains.lanes)) k ≡ Some h → from ≡ (slot_at chains.sheet.slots h).volume) →
-      from ≡ shows_from
+  pub own_from : (from n : ℕ) → n ≡ number → IsOfHolder chains (live_place chains.sheet.slots part.volume.0) n from → from ≡ shows_from
   unfolding shows_from
-  own_from from n e is =
-      is t source.0 own_place (own_holds n e) ∙ ap (λ (s : Sheet). (slot_at s.slots source.0).volume) can.sheet_is
+  own_from = volume_shown l before part.volume.0 t number source.0 chains own_shown
 
   -- what it shows
   shown : spot.now part.volume.0 ≡ stored old.volumes shows_from g
@@ -152,13 +126,6 @@ module _ (l : LaneOf) (told : LaneTold) (part : WritePart) (t : ℕ) (chains : C
       sym (ap (λ (v : ℕ). now_of told.picture v g) volume_is) ∙ (r.2 ∙ ap (λ (h : ℕ). stored old.volumes (slot_at before.slots h).volume g) same)
 
   -- ---- what it needs
-
-  pub own_in_grain : IsInGrain old.grain part
-  own_in_grain =
-      let fits = can.is.fits.in_one in
-      let e : block_bytes * grain_blocks l.grain ≡ grain_bytes l.grain = bytes_of_blocks l.grain in
-      let x : IsInGrain l.grain part = record { some = can.is.fits.some; fits = omega arith } in
-      subst (λ (z : GrainSize). IsInGrain z part) (sym can.grain_is) x
 
   pub own_there : (from : ℕ) → from ≡ shows_from → is_there old.volumes from ≡ true
   unfolding shows_from
@@ -345,3 +312,33 @@ own_ends_as l told part t chains after old new n m o end e q x =
 -- why a write wasn't done
 pub written_as : (A : Type 0) (old new : GrainsState) (v g : ℕ) (e d : DiskError) → e ≡ d → HasWritten {A = A} old v g (Err e) new → HasWritten {A = A} old v g (Err d) new
 written_as A old new v g e d q x = subst (λ (z : DiskError). HasWritten {A = A} old v g (Err z) new) q x
+
+-- ---- what its calls need
+
+-- a write that can be done, of the grain with this number, at this place among the lane's
+abbrev CanOwn : WritePart → ℕ → ℕ → Chains → GrainsState → Type 0
+CanOwn part n place chains old =
+    (l : LaneOf) × (told : LaneTold) × (t : ℕ) × CanWriteOwn l told part t chains old × (n ≡ grain_of_block l.grain part.block) × (place ≡ place_of l (grain_of_block l.grain part.block))
+
+-- the write of a volume that shows the grain of this one
+pub record OwnNeeds (part : WritePart) (n place from : ℕ) (chains : Chains) (old : GrainsState) : Type 0 where
+  pub there : is_there old.volumes from ≡ true
+  pub inside : place < length (volume_of old.volumes from).contents
+  pub readable : (is_lost (stored old.volumes from place) && not (covers_grain old.grain part)) ≡ false
+  pub target : (mid : GrainsState) → IsPrepared old.grain part (stored old.volumes from place) false old mid →
+      (is_there mid.volumes part.volume.0 ≡ true) × (place < length (volume_of mid.volumes part.volume.0).contents)
+  pub fits : FitsTaken chains.sheet.slots part.volume.0 (n / chains.lanes)
+  pub fits_lost : (side : Side) → side ≡ cond (from == part.volume.0) Now Under → side ≡ Under → FitsLost chains.sheet.slots part.volume.0 (n / chains.lanes)
+
+pub own_needs : (part : WritePart) (n place from : ℕ) (chains : Chains) (old : GrainsState) → CanOwn part n place chains old → IsOfHolder chains (live_place chains.sheet.slots part.volume.0) n from →
+    OwnNeeds part n place from chains old
+own_needs part n place from chains old (l, told, t, can, number, at) is =
+    let e = own_from l told part t chains old can from n number is in
+    record {
+      there = own_there l told part t chains old can from e;
+      inside = own_inside l told part t chains old can from place e at;
+      readable = own_readable l told part t chains old can from place e at;
+      target = λ mid p. target_mid l told part t chains old can from place mid mid e at p;
+      fits = own_fits l told part t chains old can n number;
+      fits_lost = λ side is under. own_fits_lost l told part t chains old can n side number (own_side l told part t chains old can from side e is) under;
+    }

@@ -1,9 +1,9 @@
 -- What the read of a grain leaves.
-use Rattle.std.specs.Prelude.{◌≡◌, ℕ, ◌/◌, ◌%◌, true, false, Some}
+use Rattle.std.specs.Prelude.{◌≡◌, ℕ, ◌/◌, ◌%◌, true, false, Option, Some}
 use Rattle.fc_base.specs.Column.{holder}
 use Rattle.fc_base.specs.Sheet.{Sheet, slot_at, column, live_place}
 use Rattle.fc_base.specs.SheetFacts.{IsSound}
-use Rattle.fc_chain.specs.Chains.{Chains}
+use Rattle.fc_chain.specs.Chains.{Chains, IsOfLane, in_lane}
 use Rattle.fc_entry.specs.Picture.{is_lost}
 use Rattle.fc_grains.specs.Calls.{HasRead}
 use Rattle.fc_grains.specs.Grains.{GrainsState}
@@ -12,6 +12,20 @@ use Rattle.fc_steps.specs.Standing.{AllSized}
 use Rattle.fc_steps.specs.declared.read.GrainRead.{GrainRead}
 use Rattle.fc_steps.specs.declared.read.GrainRead.TheVariants.{Done, IsLost, Failed}
 use Rattle.fc_pictures.specs.StepsLaw.{IsLiveAt}
+
+-- The slot at this place, if it is one, has a holder of the grain of this number, which is one of the lane's.
+pub record HasHolder (chains : Chains) (place : Option ℕ) (number : ℕ) : Type 0 where
+  pub sound : IsSound chains.sheet
+  pub of_lane : IsOfLane chains number
+  pub slot : ℕ
+  pub there : place ≡ Some slot
+  pub source : ℕ
+  pub holds : holder (column chains.sheet.slots (in_lane chains number)) slot ≡ Some source
+
+-- This is the volume of that holder.
+abbrev pub IsOfHolder : Chains → Option ℕ → ℕ → ℕ → Type 0
+IsOfHolder chains place number volume =
+    (k h : ℕ) → place ≡ Some k → holder (column chains.sheet.slots (in_lane chains number)) k ≡ Some h → volume ≡ (slot_at chains.sheet.slots h).volume
 
 -- The volume has the grain of this number, at this place among the lane's.
 pub record CanRead (chains : Chains) (grains : GrainsState) (volume number place : ℕ) : Type 0 where

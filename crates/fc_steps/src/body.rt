@@ -1,13 +1,12 @@
 //! The chains and the physical grains of a lane, as the steps of an entry change them.
 
 ghost use Rattle.std.specs.Prelude.{◌≡◌, ◌<◌, ◌≤◌, ℕ, Some, None, length};
-ghost use Rattle.fc_base.specs.Column.{holder};
-ghost use Rattle.fc_base.specs.Sheet.{slot_at, column, birth_place};
+ghost use Rattle.fc_base.specs.Sheet.{birth_place};
 ghost use Rattle.fc_base.specs.SheetFacts.{IsSound};
 ghost use Rattle.fc_base.specs.declared.request.Side.TheVariants.{Under};
 ghost use Rattle.fc_steps.specs.declared.stop.Stop.TheVariants.{Failed};
-ghost use Rattle.fc_chain.specs.Chains.{IsOfLane, in_lane};
 ghost use Rattle.fc_steps.specs.Moving.{CanMove, MoveEnds, SameLane};
+ghost use Rattle.fc_steps.specs.Reading.{HasHolder, IsOfHolder};
 ghost use Rattle.fc_steps.specs.Standing.{HasGrains};
 
 use crate::stop::Stop;
@@ -40,10 +39,8 @@ pub struct StepEnd {
 impl<D: Mdisk> Body<D> {
     /// The volume whose physical grain a slot shows.
     pub(crate) fn source_of(&self, slot: SlotId, grain: u32) -> VolId
-        requires sound { IsSound self.now.cascade.sheet }
-        requires of_lane { IsOfLane self.now.cascade grain }
-        requires held { (k : ℕ) × (h : ℕ) × (birth_place self.now.cascade.sheet.slots slot.0 ≡ Some k) × (holder (column self.now.cascade.sheet.slots (in_lane self.now.cascade grain)) k ≡ Some h) }
-        ensures { (k h : ℕ) → birth_place self.now.cascade.sheet.slots slot.0 ≡ Some k → holder (column self.now.cascade.sheet.slots (in_lane self.now.cascade grain)) k ≡ Some h → result.0 ≡ (slot_at self.now.cascade.sheet.slots h).volume }
+        requires { HasHolder self.now.cascade (birth_place self.now.cascade.sheet.slots slot.0) grain }
+        ensures { IsOfHolder self.now.cascade (birth_place self.now.cascade.sheet.slots slot.0) grain result.0 }
     {
         match self.cascade.holder(slot, grain) {
             Some(holder) => self.cascade.volume(holder),

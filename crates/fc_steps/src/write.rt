@@ -1,14 +1,12 @@
 //! The write that an entry asks for, with its moves before it.
 
-ghost use Rattle.std.specs.Prelude.{◌≡◌, ◌+◌, ◌*◌, ◌<◌, ◌≤◌, ◌^◌, [], ℕ, Some, cond, false, length, is_err, ◌==◌, ◌&&◌, not, true, ◌%◌};
-ghost use Rattle.fc_base.specs.Column.{holder};
-ghost use Rattle.fc_base.specs.Sheet.{slot_at, column, live_place};
-ghost use Rattle.fc_base.specs.SheetFacts.{IsSound};
+ghost use Rattle.std.specs.Prelude.{◌≡◌, ◌+◌, ◌*◌, ◌<◌, ◌≤◌, ◌^◌, [], ℕ, cond, false, length, is_err, ◌==◌, ◌&&◌, not, true, ◌%◌};
+ghost use Rattle.fc_base.specs.Sheet.{live_place};
 ghost use Rattle.fc_base.specs.declared.request.Side.TheVariants.{Now, Under};
-ghost use Rattle.fc_chain.specs.Chains.{IsOfLane, in_lane};
 ghost use Rattle.fc_entry.specs.Picture.{byte_in_grain, grain_of_block, is_lost};
 ghost use Rattle.fc_entry.specs.Writes.{calls_of_write, covers_grain};
 ghost use Rattle.fc_grains.specs.Volumes.{is_there, stored, volume_of};
+ghost use Rattle.fc_steps.specs.Reading.{HasHolder, IsOfHolder};
 ghost use Rattle.fc_steps.specs.WriteStep.{CanWriteOwn, IsInGrain, IsPlannedWrite, IsPrepared, OwnEnds, spot_of, write_in, FitsWrite};
 ghost use Rattle.fc_steps.specs.StepsEnd.{StepsEnd, StepsStand, torn_in, StandsAt};
 ghost use Rattle.fc_rules.specs.Steps.{steps_of_write};
@@ -84,10 +82,8 @@ fn prepare<D: Mdisk>(
 impl<D: Mdisk> Body<D> {
     /// The volume whose physical grain a volume shows.
     pub(crate) fn shown_by(&self, volume: VolId, grain: u32) -> VolId
-        requires sound { IsSound self.now.cascade.sheet }
-        requires of_lane { IsOfLane self.now.cascade grain }
-        requires held { (k : ℕ) × (h : ℕ) × (live_place self.now.cascade.sheet.slots volume.0 ≡ Some k) × (holder (column self.now.cascade.sheet.slots (in_lane self.now.cascade grain)) k ≡ Some h) }
-        ensures { (k h : ℕ) → live_place self.now.cascade.sheet.slots volume.0 ≡ Some k → holder (column self.now.cascade.sheet.slots (in_lane self.now.cascade grain)) k ≡ Some h → result.0 ≡ (slot_at self.now.cascade.sheet.slots h).volume }
+        requires { HasHolder self.now.cascade (live_place self.now.cascade.sheet.slots volume.0) grain }
+        ensures { IsOfHolder self.now.cascade (live_place self.now.cascade.sheet.slots volume.0) grain result.0 }
     {
         match self.cascade.live(volume) {
             Some(slot) => self.source_of(slot, grain),

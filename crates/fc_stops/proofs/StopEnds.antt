@@ -18,6 +18,7 @@ use Rattle.fc_books.specs.Accesses.{is_copying, is_idle}
 use Rattle.fc_books.specs.Books.{Books, Deed, nothing, told, ◌then◌, all_deeds}
 use Rattle.fc_books.specs.Copies.{is_whole}
 use Rattle.fc_books.specs.Ending.{ends_in, ends_by, goes_from, comes_to, as_left, cut_of, leaves_by}
+use Rattle.fc_books.specs.Groups.{acts_on}
 use Rattle.fc_books.specs.Stopping.{stop_event, stops_with}
 use Rattle.fc_stops.specs.Stops.{leaves_asked, is_among, those, ends_those, stop_asked, changes_in, changes_some, leaves_in, leaves_some, forgets_some, IsStopEvent, AreStopEvents, AreStopChanges, IsStop}
 
@@ -154,22 +155,37 @@ can_stop Stopping Plain whole = false
 can_stop Stopping SplitOff whole = false
 can_stop state way whole = true
 
-abbrev Leads : Result MapState Refusal → Type 0
-Leads next = (state : MapState) × (next ≡ Ok state) × (is_copying state ≡ false)
+-- the state in which a stop ends a mapping isn't stopped again
+abbrev pub Ends : StopWay → Result MapState Refusal → Type 0
+Ends way next = (state : MapState) × (next ≡ Ok state) × (acts_on way state ≡ false)
 
-copying_leads : (way : StopWay) (whole needed : Bool) → can_stop Copying way whole ≡ true → Leads (next_state Copying (stop_event way) whole needed)
-copying_leads Plain whole true e = (Stopping, refl, refl)
-copying_leads Plain whole false e = (Stopped, refl, refl)
-copying_leads ByForce true needed e = (IdleOrCopied, refl, refl)
-copying_leads ByForce false needed e = (Stopped, refl, refl)
-copying_leads SplitOff true needed e = (IdleOrCopied, refl, refl)
-copying_leads SplitOff false needed e = grind (arith, e)
+pub copying_ends : (way : StopWay) (whole needed : Bool) → can_stop Copying way whole ≡ true → Ends way (next_state Copying (stop_event way) whole needed)
+copying_ends Plain whole true e = (Stopping, refl, refl)
+copying_ends Plain whole false e = (Stopped, refl, refl)
+copying_ends ByForce true needed e = (IdleOrCopied, refl, refl)
+copying_ends ByForce false needed e = (Stopped, refl, refl)
+copying_ends SplitOff true needed e = (IdleOrCopied, refl, refl)
+copying_ends SplitOff false needed e = grind (arith, e)
 
-stopping_leads : (way : StopWay) (whole complete needed : Bool) → can_stop Stopping way whole ≡ true → Leads (next_state Stopping (stop_event way) complete needed)
-stopping_leads Plain whole complete needed e = grind (arith, e)
-stopping_leads SplitOff whole complete needed e = grind (arith, e)
-stopping_leads ByForce whole true needed e = (IdleOrCopied, refl, refl)
-stopping_leads ByForce whole false needed e = (Stopped, refl, refl)
+pub stopping_ends : (way : StopWay) (whole complete needed : Bool) → can_stop Stopping way whole ≡ true → Ends way (next_state Stopping (stop_event way) complete needed)
+stopping_ends Plain whole complete needed e = grind (arith, e)
+stopping_ends SplitOff whole complete needed e = grind (arith, e)
+stopping_ends ByForce whole true needed e = (IdleOrCopied, refl, refl)
+stopping_ends ByForce whole false needed e = (Stopped, refl, refl)
+
+pub not_copying : (way : StopWay) (state : MapState) → acts_on way state ≡ false → is_copying state ≡ false
+not_copying way Copying e = by_way way e
+  where
+    by_way : (w : StopWay) → acts_on w Copying ≡ false → true ≡ false
+    by_way Plain e = e
+    by_way ByForce e = e
+    by_way SplitOff e = e
+not_copying way Empty e = refl
+not_copying way IdleOrCopied e = refl
+not_copying way Preparing e = refl
+not_copying way Prepared e = refl
+not_copying way Stopping e = refl
+not_copying way Stopped e = refl
 
 leaving : (way : StopWay) (needed : Bool) (ids : List MapId) (b : Books) (m : Mapping) (n : ℕ) (end : Deed) → AreKnown ids b.tables.mappings → ((m.id.0 == n) ≡ true → changes_some n end.changes ≡ true) → leaves_in n (leaves_asked way needed ids m.id) ≡ true → changes_some n (end then ends_those way ids b).changes ≡ true
 leaving Plain true ids b m n end known ends e = then_left end nothing n (ends e)
@@ -207,24 +223,24 @@ left_whole way needed ids b m end known part ends =
     left_of true c none e = refl
     left_of false c none e = grind (arith, none, e)
 
-by_leads : (next : Result MapState Refusal) (b : Books) (m : Mapping) (way : StopWay) (needed : Bool) (ids : List MapId) → AreKnown ids b.tables.mappings → Leads next → IsStop (told (leaves_asked way needed ids m.id ∷ []) then (leaves_by next b m then ends_those way ids b))
-by_leads next b m way needed ids known leads =
-    rw leads.1
-    (left_whole way needed ids b m (leaves_by (Ok leads.0) b m) known
-    (part_then (cut_of b m) (ends_in leads.0 (as_left b m)) (cut_part b m (is_whole b m) refl) (ends_in_part leads.0 (as_left b m) leads.2))
-    (leaves_changes b m leads.0))
+by_ends : (next : Result MapState Refusal) (b : Books) (m : Mapping) (way : StopWay) (needed : Bool) (ids : List MapId) → AreKnown ids b.tables.mappings → Ends way next → IsStop (told (leaves_asked way needed ids m.id ∷ []) then (leaves_by next b m then ends_those way ids b))
+by_ends next b m way needed ids known (state, is, e) =
+    rw is
+    (left_whole way needed ids b m (leaves_by (Ok state) b m) known
+    (part_then (cut_of b m) (ends_in state (as_left b m)) (cut_part b m (is_whole b m) refl) (ends_in_part state (as_left b m) (not_copying way state e)))
+    (leaves_changes b m state))
 
-forced_leads : (next : Result MapState Refusal) (b : Books) (m : Mapping) (ids : List MapId) → AreKnown ids b.tables.mappings → Leads next → IsStop (told (Force m.id ids ∷ []) then (ends_by next m then ends_those ByForce ids b))
-forced_leads next b m ids known leads =
-    rw leads.1 (left_whole ByForce false ids b m (ends_in leads.0 m) known (ends_in_part leads.0 m leads.2) (ends_in_changes leads.0 m))
+forced_ends : (next : Result MapState Refusal) (b : Books) (m : Mapping) (way : StopWay) (ids : List MapId) → AreKnown ids b.tables.mappings → Ends way next → IsStop (told (Force m.id ids ∷ []) then (ends_by next m then ends_those ByForce ids b))
+forced_ends next b m way ids known (state, is, e) =
+    rw is (left_whole ByForce false ids b m (ends_in state m) known (ends_in_part state m (not_copying way state e)) (ends_in_changes state m))
 
 ended : (next : Result MapState Refusal) (m : Mapping) → ((state : MapState) → next ≡ Ok state → is_copying state ≡ false) → IsStop (ends_by next m)
 ended (Err refusal) m ends = stop_nothing
 ended (Ok state) m ends = (ends_in_part state m (ends state refl)).is_stop
 
 pub stop_is : (state : MapState) (way : StopWay) (needed : Bool) (ids : List MapId) (b : Books) (m : Mapping) → AreKnown ids b.tables.mappings → can_stop state way (is_whole b m) ≡ true → IsStop (stop_asked state way needed ids b m)
-stop_is Copying way needed ids b m known can = by_leads (next_state Copying (stop_event way) (is_whole b m) needed) b m way needed ids known (copying_leads way (is_whole b m) needed can)
-stop_is Stopping way needed ids b m known can = forced_leads (next_state Stopping (stop_event way) m.complete needed) b m ids known (stopping_leads way (is_whole b m) m.complete needed can)
+stop_is Copying way needed ids b m known can = by_ends (next_state Copying (stop_event way) (is_whole b m) needed) b m way needed ids known (copying_ends way (is_whole b m) needed can)
+stop_is Stopping way needed ids b m known can = forced_ends (next_state Stopping (stop_event way) m.complete needed) b m way ids known (stopping_ends way (is_whole b m) m.complete needed can)
 stop_is Empty Plain needed ids b m known can = stop_nothing
 stop_is Empty ByForce needed ids b m known can = stop_nothing
 stop_is Empty SplitOff needed ids b m known can = stop_nothing

@@ -1,5 +1,5 @@
 -- A group is stopped: what is reached after each member, and what is decided.
-use Rattle.std.proofs.Common.{◌≡◌, ◌∙◌, sym, ap, subst, ℕ, zero, suc, ◌+◌, ◌<◌, ◌≤◌, Bool, true, false, cond, not, ◌&&◌, ◌||◌, ◌==◌, nat_lt, List, [], ◌∷◌, ◌++◌, length, map, take, AllPairs, All, get_or, Option, Some, None, Contains, inl, inr, refl, arith, add-one}
+use Rattle.std.proofs.Common.{◌≡◌, ◌∙◌, sym, ap, subst, ℕ, zero, suc, ◌+◌, ◌<◌, ◌≤◌, Bool, true, false, cond, not, ◌&&◌, ◌||◌, ◌==◌, nat_lt, List, [], ◌∷◌, ◌++◌, length, map, take, AllPairs, All, get_or, None, Contains, inl, inr, refl, arith, add-one}
 use Rattle.std.specs.List.{list_any, filter, flat_map}
 use Rattle.std.proofs.lemmas.Bool.{eqb-true, eq-eqb}
 use Rattle.std.proofs.lemmas.List.{take_all}
@@ -10,29 +10,28 @@ use Rattle.fc_base.specs.SheetView.{AreMappings, DependsOn, needed_of}
 use Rattle.fc_base.specs.declared.command.StopWay.{StopWay}
 use Rattle.fc_base.specs.declared.command.StopWay.TheVariants.{Plain, Force as ByForce, Split as SplitOff}
 use Rattle.fc_base.specs.declared.decision.Decision.{Decision}
-use Rattle.fc_base.specs.declared.fault.Refusal.{Refusal}
-use Rattle.fc_base.specs.declared.fault.Refusal.TheVariants.{NotAllowed, NotComplete}
+use Rattle.fc_base.specs.declared.fault.Refusal.TheVariants.{NotAllowed}
 use Rattle.fc_base.specs.declared.ids.GroupId.{GroupId}
 use Rattle.fc_base.specs.declared.ids.MapId.{MapId}
 use Rattle.fc_base.specs.declared.request.Reply.{Reply}
 use Rattle.fc_base.specs.declared.state.MapState.{MapState}
-use Rattle.fc_base.specs.declared.state.MapState.TheVariants.{Empty, IdleOrCopied, Preparing, Prepared, Copying, Stopping, Stopped}
+use Rattle.fc_base.specs.declared.state.MapState.TheVariants.{Stopping}
 use Rattle.fc_base.specs.declared.volume.Change.{Change}
 use Rattle.fc_base.specs.declared.volume.Mapping.{Mapping}
 use Rattle.fc_books.specs.Books.{Books, Deed, nothing, ◌then◌}
-use Rattle.fc_books.specs.Copies.{held, total, is_whole, has_slot_among, places_behind}
+use Rattle.fc_books.specs.Copies.{is_whole, has_slot_among, places_behind}
 use Rattle.fc_books.specs.Deciding.{with_work}
 use Rattle.fc_books.specs.Groups.{acts_on, is_member, members, some_in, group_state}
 use Rattle.fc_books.specs.RefusedStarts.{not_complete, for_each, split_refusals, empty_group}
 use Rattle.fc_books.specs.Sound.{AreSound}
 use Rattle.fc_books.specs.Stopping.{stop_group}
-use Rattle.fc_entry.specs.Refused.{first_of, where_}
+use Rattle.fc_entry.specs.Refused.{where_}
 use Rattle.fc_registry.proofs.Places.{IsAbove, Rises, rises}
 use Rattle.fc_stops.proofs.StopAsked.{any_of, any_in, id_found, dependent_known, has_slot, slot_has}
 use Rattle.fc_stops.proofs.StopEnds.{can_stop, stop_nothing}
 use Rattle.fc_stops.proofs.StopLeft.{PlainLeft}
 use Rattle.fc_stops.proofs.StopMember.{sheet_by, Reached}
-use Rattle.fc_stops.proofs.StopParts.{stops_concluded}
+use Rattle.fc_stops.proofs.StopParts.{alone, can_where, first_none, stops_concluded}
 use Rattle.fc_stops.proofs.StopReach.{needed_reads, reads_needed, reads_mapping, mapping_reads, mapping_apart, out_or_not}
 use Rattle.fc_stops.proofs.StopSlots.{stays_same}
 use Rattle.fc_stops.proofs.StopSteps.{reached_next}
@@ -150,34 +149,17 @@ answer_there SplitOff b d m sound reached same = (false, [], refl)
 
 -- ---- a stop that isn't refused
 
-first_none : (o : Option Refusal) (rest : List (Option Refusal)) → first_of (o ∷ rest) ≡ None → (o ≡ None) × (first_of rest ≡ None)
-first_none None rest e = (refl, e)
-first_none (Some refusal) rest e = grind (arith, e)
-
-whole_by : (whole : Bool) (refusal : Refusal) → where_ (not whole) refusal ≡ None → whole ≡ true
-whole_by true refusal e = refl
-whole_by false refusal e = grind (arith, e)
+acts_force : (way : StopWay) → acts_on way Stopping ≡ true → way ≡ ByForce
+acts_force Plain e = grind (arith, e)
+acts_force ByForce e = refl
+acts_force SplitOff e = grind (arith, e)
 
 can_acts : (state : MapState) (way : StopWay) (b : Books) (m : Mapping) → acts_on way state ≡ true → not_complete way b m ≡ None → can_stop state way (is_whole b m) ≡ true
-can_acts Copying Plain b m acts none = refl
-can_acts Copying ByForce b m acts none = refl
-can_acts Copying SplitOff b m acts none = whole_by (is_whole b m) (NotComplete (held b m) (total b m)) none
-can_acts Stopping Plain b m acts none = grind (arith, acts)
-can_acts Stopping ByForce b m acts none = refl
-can_acts Stopping SplitOff b m acts none = grind (arith, acts)
-can_acts Empty way b m acts none = refl
-can_acts IdleOrCopied way b m acts none = refl
-can_acts Preparing way b m acts none = refl
-can_acts Prepared way b m acts none = refl
-can_acts Stopped way b m acts none = refl
+can_acts state way b m acts none = can_where state way b m (λ is. let P : MapState → Type 0 = λ st. acts_on way st ≡ true in acts_force way (subst P is acts)) none
 
 one_none : (way : StopWay) (b : Books) (m : Mapping) (acts : Bool) → acts_on way m.state ≡ acts → acts ≡ true → cond (acts_on way m.state) (not_complete way b m) None ≡ None → not_complete way b m ≡ None
 one_none way b m true is e none = sym (ap (λ c. cond c (not_complete way b m) None) is) ∙ none
 one_none way b m false is e none = grind (arith, e)
-
-alone : (o : Option Refusal) → first_of (o ∷ []) ≡ None → o ≡ None
-alone None e = refl
-alone (Some refusal) e = grind (arith, e)
 
 none_at : (way : StopWay) (g : GroupId) (b : Books) (y : Mapping) (ys : List Mapping) (m : Mapping) (j : ℕ) → (for_each (split_refusals way b) (filter (is_member g) ys) ≡ None → Contains ys m → not_complete way b m ≡ None) → j < length (y ∷ ys) → get_or (y ∷ ys) j m ≡ m → (c : Bool) → is_member g y ≡ c → is_member g m ≡ true → acts_on way m.state ≡ true → for_each (split_refusals way b) (cond c (y ∷ filter (is_member g) ys) (filter (is_member g) ys)) ≡ None → not_complete way b m ≡ None
 none_at way g b y ys m zero rest lt e true is member acts none =

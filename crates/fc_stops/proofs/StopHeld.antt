@@ -1,65 +1,19 @@
 -- What the slot of a mapping holds stays as the slots of others leave.
-use Rattle.std.proofs.Common.{◌≡◌, ◌∙◌, sym, ap, ℕ, zero, suc, Bool, true, false, cond, ◌||◌, ◌==◌, eqb, List, [], ◌∷◌, length, map, fold, remove, set, Option, Some, None, refl, arith}
-use Rattle.std.specs.List.{list_any}
-use Rattle.std.proofs.lemmas.Bool.{eqb-true}
-use Rattle.fc_base.specs.Column.{first_below, is_at}
+use Rattle.std.proofs.Common.{◌≡◌, ◌∙◌, sym, ap, ℕ, zero, suc, Bool, true, false, cond, ◌||◌, ◌==◌, eqb, List, [], ◌∷◌, map, fold, remove, set, Option, Some, None, refl, arith}
+use Rattle.std.specs.List.{list_any, find}
+use Rattle.std.proofs.lemmas.Bool.{eqb-true, eq-eqb}
+use Rattle.fc_base.specs.Column.{is_at}
 use Rattle.fc_base.specs.Sheet.{Slot, Sheet, slot_at, mapping_place}
 use Rattle.fc_base.specs.SheetStep.{at_place, retired_at, detached_at, split_at, split_from, relabelled, forced_at, forced_map, without, aged}
-use Rattle.fc_base.specs.SheetView.{held_at, held_of}
+use Rattle.fc_base.specs.SheetView.{held_of}
 use Rattle.fc_base.specs.declared.decision.LaneEvent.{LaneEvent}
 use Rattle.fc_base.specs.declared.decision.LaneEvent.TheVariants.{Make, Remove, Trigger, Retire, Detach, Split, Force, Drop, Forget, NoteCut, Access, Work, Arm}
 use Rattle.fc_base.specs.declared.ids.MapId.{MapId}
 use Rattle.fc_books.specs.After.{sheet_after}
 use Rattle.fc_books.proofs.Unchanged.{held_of-behind}
+use Rattle.fc_desk.proofs.Slots.{is_of, held_in as found_held, held_found}
+use Rattle.fc_sheets.proofs.Finding.{mapping_place_at}
 use Rattle.fc_stops.specs.Stops.{leaves_in, leaves_some, IsStopEvent, AreStopEvents}
-
--- ---- the first slot of the mapping, from the front
-
-next : Option ℕ → Bool → ℕ → Option ℕ
-next (Some k) b n = Some k
-next None b n = cond b (Some n) None
-
-next_is : (o : Option ℕ) (b : Bool) (n : ℕ) → elim o [ Some k ↦ Some k | None ↦ cond b (Some n) None ] ≡ next o b n
-unfolding next
-next_is None b n = refl
-next_is (Some k) b n = refl
-
-first_next : (test : ℕ → Bool) (n : ℕ) → first_below test (suc n) ≡ next (first_below test n) (test n) n
-unfolding first_below
-first_next test n = next_is (first_below test n) (test n) n
-
-front : Bool → Option ℕ → Option ℕ
-front true o = Some 0
-front false None = None
-front false (Some k) = Some (suc k)
-
-front_next : (a : Bool) (o : Option ℕ) (b : Bool) (n : ℕ) → next (front a o) b (suc n) ≡ front a (next o b n)
-unfolding next front
-front_next true o b n = refl
-front_next false None true n = refl
-front_next false None false n = refl
-front_next false (Some k) b n = refl
-
-front_none : (a : Bool) → next None a 0 ≡ front a None
-unfolding next front
-front_none true = refl
-front_none false = refl
-
-first_none : (test : ℕ → Bool) → first_below test 0 ≡ None
-unfolding first_below
-first_none test = refl
-
-first_front : (test : ℕ → Bool) (n : ℕ) → first_below test (suc n) ≡ front (test 0) (first_below (λ k. test (suc k)) n)
-first_front test zero = first_next test 0 ∙ ap (λ o. next o (test 0) 0) (first_none test) ∙ front_none (test 0) ∙ ap (front (test 0)) (sym (first_none (λ k. test (suc k))))
-first_front test (suc n) =
-    first_next test (suc n)
-    ∙ ap (λ o. next o (test (suc n)) (suc n)) (first_front test n)
-    ∙ front_next (test 0) (first_below (λ k. test (suc k)) n) (test (suc n)) n
-    ∙ ap (front (test 0)) (sym (first_next (λ k. test (suc k)) n))
-
-place_front : (s : Slot) (ss : List Slot) (m : ℕ) → mapping_place (s ∷ ss) m ≡ front (is_at s.mapping m) (mapping_place ss m)
-unfolding mapping_place
-place_front s ss m = first_front (λ k. is_at (slot_at (s ∷ ss) k).mapping m) (length ss)
 
 -- ---- what it holds, slot by slot
 
@@ -67,23 +21,17 @@ held_in : List Slot → ℕ → List Bool
 held_in [] m = []
 held_in (s ∷ ss) m = cond (is_at s.mapping m) s.held (held_in ss m)
 
-held_front : (s : Slot) (ss : List Slot) (a : Bool) (o : Option ℕ) → held_at (s ∷ ss) (front a o) ≡ cond a s.held (held_at ss o)
-unfolding front
-held_front s ss true o = refl
-held_front s ss false None = refl
-held_front s ss false (Some k) = refl
+held_first : (b : Bool) (s : Slot) (o : Option Slot) → found_held (cond b (Some s) o) ≡ cond b s.held (found_held o)
+held_first true s o = refl
+held_first false s o = refl
 
-no_place : (m : ℕ) → mapping_place [] m ≡ None
-unfolding mapping_place first_below
-no_place m = refl
+found_in : (slots : List Slot) (m : ℕ) → found_held (find (is_of m) slots) ≡ held_in slots m
+unfolding held_in
+found_in [] m = refl
+found_in (s ∷ ss) m = held_first (is_at s.mapping m) s (find (is_of m) ss) ∙ ap (cond (is_at s.mapping m) s.held) (found_in ss m)
 
 held_of-in : (slots : List Slot) (m : ℕ) → held_of slots m ≡ held_in slots m
-unfolding held_in
-held_of-in [] m = ap (held_at []) (no_place m)
-held_of-in (s ∷ ss) m =
-    ap (held_at (s ∷ ss)) (place_front s ss m)
-    ∙ held_front s ss (is_at s.mapping m) (mapping_place ss m)
-    ∙ ap (cond (is_at s.mapping m) s.held) (held_of-in ss m)
+held_of-in slots m = held_found slots m ∙ found_in slots m
 
 -- ---- one slot changes
 
@@ -155,16 +103,8 @@ forced_holds : (s : Sheet) (k m : ℕ) → is_at (slot_at s.slots k).mapping m �
 forced_holds s k m other = forced_by s k m (slot_at s.slots k).is_live other
 
 -- the slot at the place of a mapping isn't another one's
-front_at : (s : Slot) (ss : List Slot) (x k : ℕ) (a : Bool) (o : Option ℕ) → is_at s.mapping x ≡ a → ((j : ℕ) → o ≡ Some j → is_at (slot_at ss j).mapping x ≡ true) → front a o ≡ Some k → is_at (slot_at (s ∷ ss) k).mapping x ≡ true
-unfolding front
-front_at s ss x k true o is rest e = let here : 0 ≡ k = grind (arith, e) in ap (λ j. is_at (slot_at (s ∷ ss) j).mapping x) (sym here) ∙ is
-front_at s ss x k false None is rest e = grind (arith, e)
-front_at s ss x k false (Some j) is rest e = let here : suc j ≡ k = grind (arith, e) in ap (λ i. is_at (slot_at (s ∷ ss) i).mapping x) (sym here) ∙ rest j refl
-
 pub place_at : (slots : List Slot) (x k : ℕ) → mapping_place slots x ≡ Some k → is_at (slot_at slots k).mapping x ≡ true
-place_at [] x k e = grind (arith, e, no_place x)
-place_at (s ∷ ss) x k e =
-    front_at s ss x k (is_at s.mapping x) (mapping_place ss x) refl (λ j f. place_at ss x j f) (sym (place_front s ss x) ∙ e)
+place_at slots x k e = ap (λ o. is_at o x) (mapping_place_at slots x k e).1 ∙ eq-eqb x x refl
 
 apart_at : (o : Option ℕ) (x m : ℕ) → is_at o x ≡ true → (x == m) ≡ false → is_at o m ≡ false
 apart_at None x m e other = refl

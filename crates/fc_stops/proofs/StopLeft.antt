@@ -47,17 +47,22 @@ from_has slots m n x =
     let there : x.reader < length slots = x.there in
     record { place = x.from; there = omega (arith, before, there); named = x.from_is; is = tt }
 
+-- whoever left and has a slot left before a mapping without one did
+left_before : (slots : List Slot) (out more : ℕ → Bool) (x n : ℕ) → (Has Any slots x → ⊥) → Grows out (is_it x) more → more n ≡ true → Has Any slots n → out n ≡ true
+unfolding is_it
+left_before slots out more x n none grows is has =
+    elim (grows.either n is) [
+      | inl was ↦ was
+      | inr here ↦ absurd (none (let P : ℕ → Type 0 = λ z. Has Any slots z in subst P (sym (eqb-true x n here)) has))
+    ]
+
 -- a mapping without a slot
 pub plain_none : (s t : Sheet) (out more : ℕ → Bool) (x : ℕ) → PlainLeft s t out → (Has Any s.slots x → ⊥) → Grows out (is_it x) more → PlainLeft s t more
-unfolding is_it
 plain_none s t out more x left none grows =
     record {
       sound = left.sound;
       stays = stays_more out more s.slots t.slots grows.before left.stays;
-      quiet = λ m n is r. elim (grows.either n is) [
-        | inl was ↦ left.quiet m n was r
-        | inr here ↦ none (let P : ℕ → Type 0 = λ z. Has Any s.slots z in subst P (sym (eqb-true x n here)) (left.stays.had n (reader_has t.slots m n r)))
-      ];
+      quiet = λ m n is r. left.quiet m n (left_before s.slots out more x n none grows is (left.stays.had n (reader_has t.slots m n r))) r;
     }
 
 other_name : (slots : List Slot) (k x n : ℕ) → (slot_at slots k).mapping ≡ Some x → (x == n) ≡ false → (slot_at slots k).mapping ≡ Some n → ⊥
@@ -153,19 +158,12 @@ pub record ForceLeft (s t : Sheet) (out : ℕ → Bool) : Type 0 where
   pub closed : ClosedOut out s.slots
 
 pub force_none : (s t : Sheet) (out more : ℕ → Bool) (x : ℕ) → ForceLeft s t out → (Has Any s.slots x → ⊥) → Grows out (is_it x) more → ForceLeft s t more
-unfolding is_it
 force_none s t out more x left none grows =
     record {
       sound = left.sound;
       stays = stays_more out more s.slots t.slots grows.before left.stays;
-      none = λ n is h. elim (grows.either n is) [
-        | inl was ↦ left.none n was h
-        | inr here ↦ none (let P : ℕ → Type 0 = λ z. Has Any s.slots z in subst P (sym (eqb-true x n here)) (left.stays.had n h))
-      ];
-      closed = λ e n r is. elim (grows.either e is) [
-        | inl was ↦ grows.old n (left.closed e n r was)
-        | inr here ↦ absurd (none (let P : ℕ → Type 0 = λ z. Has Any s.slots z in subst P (sym (eqb-true x e here)) (from_has s.slots e n r)))
-      ];
+      none = λ n is h. left.none n (left_before s.slots out more x n none grows is (left.stays.had n h)) h;
+      closed = λ e n r is. grows.old n (left.closed e n r (left_before s.slots out more x e none grows is (from_has s.slots e n r)));
     }
 
 unfoldable pub among_ids : List MapId → ℕ → Bool

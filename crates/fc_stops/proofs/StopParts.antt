@@ -1,5 +1,5 @@
 -- A stop put together, and what is decided of it.
-use Rattle.std.proofs.Common.{◌≡◌, ◌∙◌, sym, ap, ℕ, ◌+◌, ◌<◌, ◌≤◌, Bool, true, false, cond, not, ◌==◌, List, [], ◌∷◌, ◌++◌, map, take, length, get_or, Option, Some, None, Result, Ok, Err, OnOk, refl, arith}
+use Rattle.std.proofs.Common.{◌≡◌, ◌∙◌, sym, ap, subst, ℕ, ◌+◌, ◌<◌, ◌≤◌, Bool, true, false, cond, not, ◌==◌, List, [], ◌∷◌, ◌++◌, map, take, length, get_or, Option, Some, None, Result, Ok, Err, OnOk, refl, arith}
 use Rattle.std.specs.List.{list_any, flat_map}
 use Rattle.std.specs.Option.{option_and_then}
 use Rattle.std.proofs.lemmas.List.{take_more, take_all}
@@ -111,32 +111,43 @@ asked_is Stopped way needed ids b m sound answer can is = refl
 
 -- ---- a stop that isn't refused
 
-first_none : (o : Option Refusal) (rest : List (Option Refusal)) → first_of (o ∷ rest) ≡ None → (o ≡ None) × (first_of rest ≡ None)
+pub first_none : (o : Option Refusal) (rest : List (Option Refusal)) → first_of (o ∷ rest) ≡ None → (o ≡ None) × (first_of rest ≡ None)
 first_none None rest e = (refl, e)
 first_none (Some refusal) rest e = grind (arith, e)
 
-whole_by : (whole : Bool) (refusal : Refusal) → first_of (where_ (not whole) refusal ∷ []) ≡ None → whole ≡ true
+pub alone : (o : Option Refusal) → first_of (o ∷ []) ≡ None → o ≡ None
+alone None e = refl
+alone (Some refusal) e = grind (arith, e)
+
+whole_by : (whole : Bool) (refusal : Refusal) → where_ (not whole) refusal ≡ None → whole ≡ true
 whole_by true refusal e = refl
 whole_by false refusal e = grind (arith, e)
 
-can_by : (state : MapState) (way : StopWay) (b : Books) (m : Mapping) → refused_by (next_state state (stop_event way) true false) ≡ None → first_of (not_complete way b m ∷ []) ≡ None → can_stop state way (is_whole b m) ≡ true
-can_by Copying Plain b m by rest = refl
-can_by Copying ByForce b m by rest = refl
-can_by Copying SplitOff b m by rest = whole_by (is_whole b m) (NotComplete (held b m) (total b m)) rest
-can_by Stopping Plain b m by rest = grind (arith, by)
-can_by Stopping ByForce b m by rest = refl
-can_by Stopping SplitOff b m by rest = grind (arith, by)
-can_by Empty way b m by rest = refl
-can_by IdleOrCopied way b m by rest = refl
-can_by Preparing way b m by rest = refl
-can_by Prepared way b m by rest = refl
-can_by Stopped way b m by rest = refl
+-- a stopping mapping is stopped by force alone, and an incomplete copy isn't split
+pub can_where : (state : MapState) (way : StopWay) (b : Books) (m : Mapping) → (state ≡ Stopping → way ≡ ByForce) → not_complete way b m ≡ None → can_stop state way (is_whole b m) ≡ true
+can_where Copying Plain b m force none = refl
+can_where Copying ByForce b m force none = refl
+can_where Copying SplitOff b m force none = whole_by (is_whole b m) (NotComplete (held b m) (total b m)) none
+can_where Stopping Plain b m force none = let e : Plain ≡ ByForce = force refl in absurd cc
+can_where Stopping ByForce b m force none = refl
+can_where Stopping SplitOff b m force none = let e : SplitOff ≡ ByForce = force refl in absurd cc
+can_where Empty way b m force none = refl
+can_where IdleOrCopied way b m force none = refl
+can_where Preparing way b m force none = refl
+can_where Prepared way b m force none = refl
+can_where Stopped way b m force none = refl
+
+by_force : (way : StopWay) → refused_by (next_state Stopping (stop_event way) true false) ≡ None → way ≡ ByForce
+by_force Plain e = grind (arith, e)
+by_force ByForce e = refl
+by_force SplitOff e = grind (arith, e)
 
 can_from : (way : StopWay) (b : Books) (m : Mapping) → refused_stop way b m ≡ None → can_stop m.state way (is_whole b m) ≡ true
 can_from way b m e =
     let grouped = first_none (in_group m) (by_state (stop_event way) m ∷ not_complete way b m ∷ []) e in
     let by = first_none (by_state (stop_event way) m) (not_complete way b m ∷ []) grouped.1 in
-    can_by m.state way b m by.0 by.1
+    let P : MapState → Type 0 = λ state. refused_by (next_state state (stop_event way) true false) ≡ None in
+    can_where m.state way b m (λ is. by_force way (subst P is by.0)) (alone (not_complete way b m) by.1)
 
 abbrev with_reply : Reply → Deed → List LaneEvent → Decision
 with_reply reply d work = record { reply = reply; effects = d.effects; events = d.events ++ work; changes = d.changes }

@@ -114,35 +114,33 @@ holder_aged old new g j h a x =
       nearest = λ i hi ij c t. x.nearest i hi ij (a.chain i ∙ (c ∙ sym (a.chain j))) (ap (λ (bits : List Bool). get_or bits g false) (a.held i) ∙ t);
     }
 
-pub aged_reads : (slots : List Slot) (k m n : ℕ) → k < length slots → Reads (set slots k (age (slot_at slots k))) m n → Reads slots m n
-aged_reads slots k m n lt x =
-    let new : List Slot = set slots k (age (slot_at slots k)) in
-    let a = aged_is slots k lt in
+-- whoever reads does so in another list where the slots are their mappings' too
+reads_there : (old new : List Slot) (m n : ℕ) (x : Reads old m n) → length new ≡ length old → ((j : ℕ) → (slot_at new j).mapping ≡ (slot_at old j).mapping) → (slot_at new x.reader).is_live ≡ true →
+    IsHolder (column new x.grain) x.reader x.from → Reads new m n
+reads_there old new m n x count mapping live holds =
     record {
       from = x.from;
       reader = x.reader;
       grain = x.grain;
-      there = (let count : length new ≡ length slots = a.count in let there : x.reader < length new = x.there in omega (arith, count, there));
-      from_is = sym (a.mapping x.from) ∙ x.from_is;
-      reader_is = sym (a.mapping x.reader) ∙ x.reader_is;
-      live = a.live x.reader x.live;
-      holds = holder_aged slots new x.grain x.reader x.from a x.holds;
+      there = (let there : x.reader < length old = x.there in omega (arith, count, there));
+      from_is = mapping x.from ∙ x.from_is;
+      reader_is = mapping x.reader ∙ x.reader_is;
+      live = live;
+      holds = holds;
     }
+
+pub aged_reads : (slots : List Slot) (k m n : ℕ) → k < length slots → Reads (set slots k (age (slot_at slots k))) m n → Reads slots m n
+aged_reads slots k m n lt x =
+    let new : List Slot = set slots k (age (slot_at slots k)) in
+    let a = aged_is slots k lt in
+    reads_there new slots m n x (sym a.count) (λ j. sym (a.mapping j)) (a.live x.reader x.live) (holder_aged slots new x.grain x.reader x.from a x.holds)
 
 pub reads_aged : (slots : List Slot) (k m n : ℕ) → k < length slots → ((slot_at slots k).mapping ≡ Some n → ⊥) → Reads slots m n → Reads (set slots k (age (slot_at slots k))) m n
 reads_aged slots k m n lt other x =
     let new : List Slot = set slots k (age (slot_at slots k)) in
     let a = aged_is slots k lt in
-    record {
-      from = x.from;
-      reader = x.reader;
-      grain = x.grain;
-      there = (let count : length new ≡ length slots = a.count in let there : x.reader < length slots = x.there in omega (arith, count, there));
-      from_is = a.mapping x.from ∙ x.from_is;
-      reader_is = a.mapping x.reader ∙ x.reader_is;
-      live = ap (λ (t : Slot). t.is_live) (aged_other slots k x.reader lt (λ same. other (let P : ℕ → Type 0 = λ z. (slot_at slots z).mapping ≡ Some n in subst P same x.reader_is))) ∙ x.live;
-      holds = aged_holder slots new x.grain x.reader x.from a x.holds;
-    }
+    let same = aged_other slots k x.reader lt (λ here. other (let P : ℕ → Type 0 = λ z. (slot_at slots z).mapping ≡ Some n in subst P here x.reader_is)) in
+    reads_there slots new m n x a.count a.mapping (ap (λ (t : Slot). t.is_live) same ∙ x.live) (aged_holder slots new x.grain x.reader x.from a x.holds)
 
 -- no live slot is its mapping's any more
 pub aged_quiet : (slots : List Slot) (k m n : ℕ) → k < length slots → ((j : ℕ) → j < length slots → (slot_at slots j).mapping ≡ Some n → j ≡ k) → Reads (set slots k (age (slot_at slots k))) m n → ⊥

@@ -1,9 +1,9 @@
 -- What is reached by one more stop.
-use Rattle.std.proofs.Common.{◌≡◌, ◌∙◌, sym, ap, subst, ℕ, Bool, true, false, cond, ◌&&◌, ◌||◌, ◌==◌, nat_lt, List, [], ◌∷◌, ◌++◌, fold, Some, None, Result, Ok, Contains, inl, inr, ◌⊎◌, refl, arith}
+use Rattle.std.proofs.Common.{◌≡◌, ◌∙◌, sym, ap, subst, ℕ, Bool, true, false, cond, ◌&&◌, ◌||◌, ◌==◌, nat_lt, List, [], ◌∷◌, ◌++◌, fold, Some, Result, Contains, inl, inr, ◌⊎◌, refl, arith}
 use Rattle.std.specs.List.{list_any}
 use Rattle.std.proofs.lemmas.Bool.{eqb-true, eq-eqb, or_left, or_right}
 use Rattle.std.proofs.lemmas.List.Folds.{list_any-append}
-use Rattle.fc_base.specs.Sheet.{Sheet, mapping_place}
+use Rattle.fc_base.specs.Sheet.{Slot, Sheet, slot_at, mapping_place}
 use Rattle.fc_base.specs.SheetStep.{at_place, retired_at, detached_at}
 use Rattle.fc_base.specs.SheetView.{needed_of}
 use Rattle.fc_base.specs.States.{next_state}
@@ -17,20 +17,21 @@ use Rattle.fc_base.specs.declared.state.MapState.{MapState}
 use Rattle.fc_base.specs.declared.state.MapState.TheVariants.{Empty, IdleOrCopied, Preparing, Prepared, Copying, Stopping, Stopped}
 use Rattle.fc_base.specs.declared.volume.Change.{Change}
 use Rattle.fc_base.specs.declared.volume.Mapping.{Mapping}
-use Rattle.fc_books.specs.Accesses.{is_idle, is_copying}
+use Rattle.fc_books.specs.Accesses.{is_idle, is_prepared, is_copying, is_stopping}
 use Rattle.fc_books.specs.After.{sheet_after}
 use Rattle.fc_books.specs.Books.{Books, Deed, nothing, told, ◌then◌, all_deeds}
 use Rattle.fc_books.specs.Copies.{is_whole}
 use Rattle.fc_books.specs.Ending.{ends_in, ends_by, goes_from, comes_to, as_left, cut_of, leaves_by}
 use Rattle.fc_books.specs.Groups.{acts_on}
-use Rattle.fc_books.specs.Sound.{AreSound, SlotByState}
+use Rattle.fc_books.specs.Sound.{AreSound, HasSlot, SlotByState}
 use Rattle.fc_books.specs.Stopping.{stop_event, stops_with}
 use Rattle.fc_sheets.proofs.Finding.{mapping_place_at, mapping_place_is, mapping_place_none}
 use Rattle.fc_stops.proofs.StopAsked.{same_tests}
-use Rattle.fc_stops.proofs.StopEnds.{AreKnown, can_stop, stop_is, stop_then, IsPart, part_then, part_nothing, cut_part, ends_in_part, those_part, those_changes}
+use Rattle.fc_stops.proofs.StopEnds.{AreKnown, Ends, can_stop, copying_ends, not_copying, stopping_ends, stop_is, stop_then, IsPart, part_then, part_nothing, cut_part, ends_in_part, those_part, those_changes}
 use Rattle.fc_stops.proofs.StopLeft.{Grows, is_it, among_ids, PlainLeft, plain_none, plain_retired, plain_detached, ForceLeft, force_none, force_forced}
 use Rattle.fc_stops.proofs.StopMember.{LeftBy, AreDone, sheet_by, Reached, left_answer, left_known, left_needed}
 use Rattle.fc_stops.proofs.StopOrder.{no_sets}
+use Rattle.fc_stops.proofs.StopReach.{not_both}
 use Rattle.fc_stops.proofs.StopSlots.{Has, Any, Live}
 use Rattle.fc_stops.specs.Stops.{is_among, those, stop_asked, changes_in, changes_some, leaves_in, leaves_some, IsStopEvent, AreStopEvents}
 use Rattle.fc_stops.specs.StopGroups.{IsLeftAnswer}
@@ -79,20 +80,20 @@ some_those b ids n known =
     same_tests (changes_some n (all_deeds (stops_with b) (those ids b.tables.mappings)).changes) (list_any (λ (id : MapId). id.0 == n) ids)
     (only_those b ids b.tables.mappings n) (λ there. those_changes b ids b.tables.mappings n there (known n there))
 
+both_quiet : (a b : Bool) → (a || b) ≡ false → (a ≡ false) × (b ≡ false)
+both_quiet true b e = grind (arith, e)
+both_quiet false b e = (refl, e)
+
 grows_by : (xs ys : List Change) (left : ℕ → Bool) → ((n : ℕ) → changes_some n ys ≡ left n) → Grows (λ n. changes_some n xs) left (λ n. changes_some n (xs ++ ys))
 grows_by xs ys left is =
     record {
-      before = λ n e. (both_false (changes_some n xs) (changes_some n ys) (sym (list_any-append (changes_in n) xs ys) ∙ e)).0;
-      now = λ n e. sym (is n) ∙ (both_false (changes_some n xs) (changes_some n ys) (sym (list_any-append (changes_in n) xs ys) ∙ e)).1;
+      before = λ n e. (both_quiet (changes_some n xs) (changes_some n ys) (sym (list_any-append (changes_in n) xs ys) ∙ e)).0;
+      now = λ n e. sym (is n) ∙ (both_quiet (changes_some n xs) (changes_some n ys) (sym (list_any-append (changes_in n) xs ys) ∙ e)).1;
       either = λ n e. elim (one_true (changes_some n xs) (changes_some n ys) (sym (list_any-append (changes_in n) xs ys) ∙ e)) [ inl a ↦ inl a | inr b ↦ inr (sym (is n) ∙ b) ];
       old = λ n e. list_any-append (changes_in n) xs ys ∙ or_left (changes_some n xs) (changes_some n ys) e;
       new = λ n e. list_any-append (changes_in n) xs ys ∙ or_right (changes_some n xs) (changes_some n ys) (is n ∙ e);
     }
   where
-    both_false : (a b : Bool) → (a || b) ≡ false → (a ≡ false) × (b ≡ false)
-    both_false true b e = grind (arith, e)
-    both_false false b e = (refl, e)
-
     one_true : (a b : Bool) → (a || b) ≡ true → (a ≡ true) ⊎ (b ≡ true)
     one_true true b e = inl refl
     one_true false b e = inr e
@@ -113,10 +114,6 @@ event_still s (Force x ds) is quiet = grind (arith, quiet x.0, or_left (x.0 == x
 event_still s (Forget x) is quiet = refl
 event_still s (NoteCut x source target) is quiet = refl
 event_still s (Access volume access) is quiet = refl
-
-both_quiet : (a b : Bool) → (a || b) ≡ false → (a ≡ false) × (b ≡ false)
-both_quiet true b e = grind (arith, e)
-both_quiet false b e = (refl, e)
 
 events_still : (s : Sheet) (es : List LaneEvent) → AreStopEvents es → ((n : ℕ) → leaves_some n es ≡ false) → fold (sheet_after no_sets) s es ≡ s
 events_still s [] are quiet = refl
@@ -139,30 +136,22 @@ event_sheet b d x e part =
 
 -- ---- the slot of a mapping, by its state
 
+by_state : (state : MapState) (b : Books) (m : Mapping) → AreSound b → Contains b.tables.mappings m → m.state ≡ state → SlotByState state b.sheet.slots m
+by_state state b m sound in' is = let P : MapState → Type 0 = λ st. SlotByState st b.sheet.slots m in subst P is (sound.agree.by_state m in')
+
+place_has : (P : Slot → Type 0) (b : Books) (m : Mapping) (is_live : Bool) (slot : HasSlot b.sheet.slots m is_live) → P (slot_at b.sheet.slots slot.place) → Has P b.sheet.slots m.id.0
+place_has P b m is_live slot is = let at = mapping_place_at b.sheet.slots m.id.0 slot.place slot.is_there in record { place = slot.place; there = at.0; named = at.1; is = is }
+
 copying_has : (b : Books) (m : Mapping) → AreSound b → Contains b.tables.mappings m → m.state ≡ Copying → Has Live b.sheet.slots m.id.0
-copying_has b m sound in' is =
-    let P : MapState → Type 0 = λ st. SlotByState st b.sheet.slots m in
-    let slot : SlotByState Copying b.sheet.slots m = subst P is (sound.agree.by_state m in') in
-    let at = mapping_place_at b.sheet.slots m.id.0 slot.place slot.is_there in
-    record { place = slot.place; there = at.0; named = at.1; is = slot.liveness }
+copying_has b m sound in' is = let slot = by_state Copying b m sound in' is in place_has Live b m true slot slot.liveness
 
 stopping_has : (b : Books) (m : Mapping) → AreSound b → Contains b.tables.mappings m → m.state ≡ Stopping → Has Any b.sheet.slots m.id.0
-stopping_has b m sound in' is =
-    let P : MapState → Type 0 = λ st. SlotByState st b.sheet.slots m in
-    let slot : SlotByState Stopping b.sheet.slots m = subst P is (sound.agree.by_state m in') in
-    let at = mapping_place_at b.sheet.slots m.id.0 slot.place slot.is_there in
-    record { place = slot.place; there = at.0; named = at.1; is = tt }
+stopping_has b m sound in' is = place_has Any b m false (by_state Stopping b m sound in' is) tt
 
 prepared_none : (b : Books) (m : Mapping) → AreSound b → Contains b.tables.mappings m → m.state ≡ Prepared → Has Any b.sheet.slots m.id.0 → ⊥
-prepared_none b m sound in' is x =
-    let P : MapState → Type 0 = λ st. SlotByState st b.sheet.slots m in
-    let none : mapping_place b.sheet.slots m.id.0 ≡ None = subst P is (sound.agree.by_state m in') in
-    mapping_place_none b.sheet.slots m.id.0 none x.place x.there x.named
+prepared_none b m sound in' is x = mapping_place_none b.sheet.slots m.id.0 (by_state Prepared b m sound in' is) x.place x.there x.named
 
 -- ---- a state that a stop leads to isn't stopped again
-
-Ends : StopWay → Result MapState Refusal → Type 0
-Ends way next = (state : MapState) × (next ≡ Ok state) × (acts_on way state ≡ false)
 
 done_then : (way : StopWay) (xs ys : List Change) → AreDone way xs → AreDone way ys → AreDone way (xs ++ ys)
 done_then way [] ys p q = q
@@ -186,25 +175,28 @@ all_done b (y ∷ ys) = done_then ByForce (stops_with b y).changes (all_deeds (s
 
 -- ---- one more stop
 
+-- the slot of a copying mapping leaves its place by an event
+plain_by : (f : ℕ → Sheet → Sheet) (e : LaneEvent) (b : Books) (d : Deed) (m : Mapping) (end : Deed) → sheet_after no_sets (sheet_by b d) e ≡ at_place f (mapping_place (sheet_by b d).slots m.id.0) (sheet_by b d) →
+    AreSound b → Reached Plain b d → Contains b.tables.mappings m → m.state ≡ Copying → changes_some m.id.0 d.changes ≡ false → IsPart end → ((n : ℕ) → changes_some n end.changes ≡ (m.id.0 == n)) →
+    ((k : ℕ) (more : ℕ → Bool) → mapping_place (sheet_by b d).slots m.id.0 ≡ Some k → (slot_at (sheet_by b d).slots k).is_live ≡ true → Grows (λ n. changes_some n d.changes) (is_it m.id.0) more → PlainLeft b.sheet (f k (sheet_by b d)) more) →
+    PlainLeft b.sheet (sheet_by b (d then (told (e ∷ []) then end))) (λ n. changes_some n (d.changes ++ end.changes))
+unfolding is_it
+plain_by f e b d m end moves sound reached in' is same part some leaves =
+    let left : PlainLeft b.sheet (sheet_by b d) (λ n. changes_some n d.changes) = reached.left in
+    let h = left.stays.live m.id.0 same (copying_has b m sound in' is) in
+    let at : mapping_place (sheet_by b d).slots m.id.0 ≡ Some h.place = mapping_place_is (sheet_by b d).slots m.id.0 h.place left.sound.mappings h.there h.named in
+    let out : ℕ → Bool = λ n. changes_some n (d.changes ++ end.changes) in
+    let P : Sheet → Type 0 = λ t. PlainLeft b.sheet t out in
+    subst P (ap (λ o. at_place f o (sheet_by b d)) (sym at) ∙ sym moves ∙ event_sheet b d end e part) (leaves h.place out at h.is (grows_by d.changes end.changes (is_it m.id.0) some))
+
 plain_copying : (needed : Bool) (b : Books) (d : Deed) (m : Mapping) (end : Deed) → AreSound b → Reached Plain b d → Contains b.tables.mappings m → m.state ≡ Copying → changes_some m.id.0 d.changes ≡ false → nat_lt 0 (needed_of (sheet_by b d).slots m.id.0) ≡ needed → IsPart end → ((n : ℕ) → changes_some n end.changes ≡ (m.id.0 == n)) →
     LeftBy Plain b.sheet (sheet_by b (d then (told (cond needed (Retire m.id) (Detach m.id) ∷ []) then end))) (λ n. changes_some n (d.changes ++ end.changes))
-unfolding is_it
 plain_copying true b d m end sound reached in' is same need part some =
-    let left : PlainLeft b.sheet (sheet_by b d) (λ n. changes_some n d.changes) = reached.left in
-    let h = left.stays.live m.id.0 same (copying_has b m sound in' is) in
-    let at : mapping_place (sheet_by b d).slots m.id.0 ≡ Some h.place = mapping_place_is (sheet_by b d).slots m.id.0 h.place left.sound.mappings h.there h.named in
-    let out : ℕ → Bool = λ n. changes_some n (d.changes ++ end.changes) in
-    let P : Sheet → Type 0 = λ t. PlainLeft b.sheet t out in
-    subst P (ap (λ o. at_place retired_at o (sheet_by b d)) (sym at) ∙ event_sheet b d end (Retire m.id) part)
-    (plain_retired b.sheet (sheet_by b d) (λ n. changes_some n d.changes) out m.id.0 h.place left at h.is (grows_by d.changes end.changes (is_it m.id.0) some))
+    plain_by retired_at (Retire m.id) b d m end refl sound reached in' is same part some
+    (λ k more at live grows. plain_retired b.sheet (sheet_by b d) (λ n. changes_some n d.changes) more m.id.0 k reached.left at live grows)
 plain_copying false b d m end sound reached in' is same need part some =
-    let left : PlainLeft b.sheet (sheet_by b d) (λ n. changes_some n d.changes) = reached.left in
-    let h = left.stays.live m.id.0 same (copying_has b m sound in' is) in
-    let at : mapping_place (sheet_by b d).slots m.id.0 ≡ Some h.place = mapping_place_is (sheet_by b d).slots m.id.0 h.place left.sound.mappings h.there h.named in
-    let out : ℕ → Bool = λ n. changes_some n (d.changes ++ end.changes) in
-    let P : Sheet → Type 0 = λ t. PlainLeft b.sheet t out in
-    subst P (ap (λ o. at_place detached_at o (sheet_by b d)) (sym at) ∙ event_sheet b d end (Detach m.id) part)
-    (plain_detached b.sheet (sheet_by b d) (λ n. changes_some n d.changes) out m.id.0 h.place left at h.is need (grows_by d.changes end.changes (is_it m.id.0) some))
+    plain_by detached_at (Detach m.id) b d m end refl sound reached in' is same part some
+    (λ k more at live grows. plain_detached b.sheet (sheet_by b d) (λ n. changes_some n d.changes) more m.id.0 k reached.left at live need grows)
 
 force_left : (b : Books) (d : Deed) (m : Mapping) (ids : List MapId) (end : Deed) → AreSound b → Reached ByForce b d → changes_some m.id.0 d.changes ≡ false → IsLeftAnswer ByForce b.sheet.slots d.changes m.id.0 true ids → Has Any b.sheet.slots m.id.0 → IsPart end → ((n : ℕ) → changes_some n end.changes ≡ (m.id.0 == n)) →
     LeftBy ByForce b.sheet (sheet_by b (d then (told (Force m.id ids ∷ []) then (end then all_deeds (stops_with b) (those ids b.tables.mappings))))) (λ n. changes_some n (d.changes ++ (end then all_deeds (stops_with b) (those ids b.tables.mappings)).changes))
@@ -228,46 +220,13 @@ force_left b d m ids end sound reached same answer has part some =
 any_live : (b : Books) (m : Mapping) → Has Live b.sheet.slots m.id.0 → Has Any b.sheet.slots m.id.0
 any_live b m h = record { place = h.place; there = h.there; named = h.named; is = tt }
 
--- what a stop of a copying mapping does after its slot left
-copying_ends : (way : StopWay) (b : Books) (m : Mapping) (needed : Bool) → can_stop Copying way (is_whole b m) ≡ true → Ends way (next_state Copying (stop_event way) (is_whole b m) needed)
-unfolding Ends
-copying_ends way b m needed can = by_way way (is_whole b m) needed can
-  where
-    by_way : (w : StopWay) (whole n : Bool) → can_stop Copying w whole ≡ true → (state : MapState) × (next_state Copying (stop_event w) whole n ≡ Ok state) × (acts_on w state ≡ false)
-    by_way Plain whole true e = (Stopping, refl, refl)
-    by_way Plain whole false e = (Stopped, refl, refl)
-    by_way ByForce true n e = (IdleOrCopied, refl, refl)
-    by_way ByForce false n e = (Stopped, refl, refl)
-    by_way SplitOff true n e = (IdleOrCopied, refl, refl)
-    by_way SplitOff false n e = grind (arith, e)
-
-stopping_ends : (complete needed : Bool) → Ends ByForce (next_state Stopping (stop_event ByForce) complete needed)
-unfolding Ends
-stopping_ends true needed = (IdleOrCopied, refl, refl)
-stopping_ends false needed = (Stopped, refl, refl)
-
 -- the end of a mapping, as a part
 record EndPart (way : StopWay) (m : Mapping) (end : Deed) : Type 0 where
   part : IsPart end
   done : AreDone way end.changes
   some : (n : ℕ) → changes_some n end.changes ≡ (m.id.0 == n)
 
-not_copying : (way : StopWay) (state : MapState) → acts_on way state ≡ false → is_copying state ≡ false
-not_copying way Copying e = by_way way e
-  where
-    by_way : (w : StopWay) → acts_on w Copying ≡ false → true ≡ false
-    by_way Plain e = e
-    by_way ByForce e = e
-    by_way SplitOff e = e
-not_copying way Empty e = refl
-not_copying way IdleOrCopied e = refl
-not_copying way Preparing e = refl
-not_copying way Prepared e = refl
-not_copying way Stopping e = refl
-not_copying way Stopped e = refl
-
 left_end : (way : StopWay) (b : Books) (m : Mapping) (next : Result MapState Refusal) → Ends way next → EndPart way m (leaves_by next b m)
-unfolding Ends
 left_end way b m next ends =
     let P : Result MapState Refusal → Type 0 = λ x. EndPart way m (leaves_by x b m) in
     subst P (sym ends.1)
@@ -278,7 +237,6 @@ left_end way b m next ends =
     })
 
 idle_end : (way : StopWay) (m : Mapping) (next : Result MapState Refusal) → Ends way next → EndPart way m (ends_by next m)
-unfolding Ends
 idle_end way m next ends =
     let P : Result MapState Refusal → Type 0 = λ x. EndPart way m (ends_by x m) in
     subst P (sym ends.1)
@@ -302,26 +260,42 @@ answer_known Plain b cs m needed ids sound answer = none_known b ids answer.1
 answer_known ByForce b cs m needed ids sound answer = left_known b cs m ids sound answer
 answer_known SplitOff b cs m needed ids sound answer = none_known b ids answer
 
-prepared_plain : (b : Books) (d : Deed) (m : Mapping) (end : Deed) → AreSound b → Reached Plain b d → Contains b.tables.mappings m → m.state ≡ Prepared → IsPart end → ((n : ℕ) → changes_some n end.changes ≡ (m.id.0 == n)) → LeftBy Plain b.sheet (sheet_by b (d then end)) (λ n. changes_some n (d.changes ++ end.changes))
+-- a prepared mapping, which has no slot
+prepared_left : (Left : Sheet → (ℕ → Bool) → Type 0) (b : Books) (d : Deed) (m : Mapping) → AreSound b → Contains b.tables.mappings m → m.state ≡ Prepared →
+    ((more : ℕ → Bool) → (Has Any b.sheet.slots m.id.0 → ⊥) → Grows (λ n. changes_some n d.changes) (is_it m.id.0) more → Left (sheet_by b d) more) →
+    Left (sheet_by b (d then ends_in Stopped m)) (λ n. changes_some n (d.changes ++ (ends_in Stopped m).changes))
 unfolding is_it
-prepared_plain b d m end sound reached in' is part some =
-    let left : PlainLeft b.sheet (sheet_by b d) (λ n. changes_some n d.changes) = reached.left in
+prepared_left Left b d m sound in' is left =
+    let end : Deed = ends_in Stopped m in
     let out : ℕ → Bool = λ n. changes_some n (d.changes ++ end.changes) in
-    let P : Sheet → Type 0 = λ t. PlainLeft b.sheet t out in
-    subst P (part_sheet b d end part) (plain_none b.sheet (sheet_by b d) (λ n. changes_some n d.changes) out m.id.0 left (prepared_none b m sound in' is) (grows_by d.changes end.changes (is_it m.id.0) some))
+    let P : Sheet → Type 0 = λ t. Left t out in
+    subst P (part_sheet b d end (ends_in_part Stopped m refl)) (left out (prepared_none b m sound in' is) (grows_by d.changes end.changes (is_it m.id.0) (some_end Stopped m)))
 
-prepared_force : (b : Books) (d : Deed) (m : Mapping) (end : Deed) → AreSound b → Reached ByForce b d → Contains b.tables.mappings m → m.state ≡ Prepared → IsPart end → ((n : ℕ) → changes_some n end.changes ≡ (m.id.0 == n)) → LeftBy ByForce b.sheet (sheet_by b (d then end)) (λ n. changes_some n (d.changes ++ end.changes))
-unfolding is_it
-prepared_force b d m end sound reached in' is part some =
-    let left : ForceLeft b.sheet (sheet_by b d) (λ n. changes_some n d.changes) = reached.left in
-    let out : ℕ → Bool = λ n. changes_some n (d.changes ++ end.changes) in
-    let P : Sheet → Type 0 = λ t. ForceLeft b.sheet t out in
-    subst P (part_sheet b d end part) (force_none b.sheet (sheet_by b d) (λ n. changes_some n d.changes) out m.id.0 left (prepared_none b m sound in' is) (grows_by d.changes end.changes (is_it m.id.0) some))
+prepared_next : (way : StopWay) (b : Books) (d : Deed) (m : Mapping) → Reached way b d → acts_on way Stopped ≡ false →
+    LeftBy way b.sheet (sheet_by b (d then ends_in Stopped m)) (λ n. changes_some n (d.changes ++ (ends_in Stopped m).changes)) → Reached way b (d then ends_in Stopped m)
+prepared_next way b d m reached e left =
+    let end : Deed = ends_in Stopped m in
+    record {
+      stop = stop_then d end reached.stop (ends_in_part Stopped m refl).is_stop;
+      done = done_then way d.changes end.changes reached.done (end_done way Stopped m e);
+      left = left;
+    }
+
+-- a state in which a mapping isn't stopped, not even by force
+acts_not : (way : StopWay) (state : MapState) → acts_on ByForce state ≡ false → acts_on way state ≡ true → ⊥
+acts_not way state none acts = not_both (acts_on way state) acts (by_way way)
+  where
+    by_way : (w : StopWay) → acts_on w state ≡ false
+    by_way Plain =
+        let apart = both_quiet (is_prepared state) (is_copying state || is_stopping state) none in
+        ap (λ c. c || is_copying state) apart.0 ∙ (both_quiet (is_copying state) (is_stopping state) apart.1).0
+    by_way ByForce = none
+    by_way SplitOff = (both_quiet (is_copying state) (is_stopping state) (both_quiet (is_prepared state) (is_copying state || is_stopping state) none).1).0
 
 -- What is reached by one more stop.
 pub reached_next : (state : MapState) (way : StopWay) (b : Books) (d : Deed) (m : Mapping) (needed : Bool) (ids : List MapId) → AreSound b → Reached way b d → Contains b.tables.mappings m → m.state ≡ state → changes_some m.id.0 d.changes ≡ false → acts_on way state ≡ true → can_stop state way (is_whole b m) ≡ true → IsLeftAnswer way b.sheet.slots d.changes m.id.0 needed ids → Reached way b (d then stop_asked state way needed ids b m)
 reached_next Copying Plain b d m needed ids sound reached in' is same acts can answer =
-    let e = behind_nothing Plain m (leaves_by (next_state Copying (stop_event Plain) (is_whole b m) needed) b m) (left_end Plain b m (next_state Copying (stop_event Plain) (is_whole b m) needed) (copying_ends Plain b m needed can)) in
+    let e = behind_nothing Plain m (leaves_by (next_state Copying (stop_event Plain) (is_whole b m) needed) b m) (left_end Plain b m (next_state Copying (stop_event Plain) (is_whole b m) needed) (copying_ends Plain (is_whole b m) needed can)) in
     record {
       stop = stop_then d (stop_asked Copying Plain needed ids b m) reached.stop (stop_is Copying Plain needed ids b m (answer_known Plain b d.changes m needed ids sound answer) can);
       done = done_then Plain d.changes (stop_asked Copying Plain needed ids b m).changes reached.done e.done;
@@ -329,7 +303,7 @@ reached_next Copying Plain b d m needed ids sound reached in' is same acts can a
           (left_needed b d m needed ids sound reached same answer) e.part e.some;
     }
 reached_next Copying SplitOff b d m needed ids sound reached in' is same acts can answer =
-    let e = behind_nothing SplitOff m (leaves_by (next_state Copying (stop_event SplitOff) (is_whole b m) needed) b m) (left_end SplitOff b m (next_state Copying (stop_event SplitOff) (is_whole b m) needed) (copying_ends SplitOff b m needed can)) in
+    let e = behind_nothing SplitOff m (leaves_by (next_state Copying (stop_event SplitOff) (is_whole b m) needed) b m) (left_end SplitOff b m (next_state Copying (stop_event SplitOff) (is_whole b m) needed) (copying_ends SplitOff (is_whole b m) needed can)) in
     record {
       stop = stop_then d (stop_asked Copying SplitOff needed ids b m) reached.stop (stop_is Copying SplitOff needed ids b m (answer_known SplitOff b d.changes m needed ids sound answer) can);
       done = done_then SplitOff d.changes (stop_asked Copying SplitOff needed ids b m).changes reached.done e.done;
@@ -337,7 +311,7 @@ reached_next Copying SplitOff b d m needed ids sound reached in' is same acts ca
     }
 reached_next Copying ByForce b d m needed ids sound reached in' is same acts can answer =
     let end : Deed = leaves_by (next_state Copying (stop_event ByForce) (is_whole b m) needed) b m in
-    let e = left_end ByForce b m (next_state Copying (stop_event ByForce) (is_whole b m) needed) (copying_ends ByForce b m needed can) in
+    let e = left_end ByForce b m (next_state Copying (stop_event ByForce) (is_whole b m) needed) (copying_ends ByForce (is_whole b m) needed can) in
     record {
       stop = stop_then d (stop_asked Copying ByForce needed ids b m) reached.stop (stop_is Copying ByForce needed ids b m (answer_known ByForce b d.changes m needed ids sound answer) can);
       done = done_then ByForce d.changes (stop_asked Copying ByForce needed ids b m).changes reached.done (done_then ByForce end.changes (all_deeds (stops_with b) (those ids b.tables.mappings)).changes e.done (all_done b (those ids b.tables.mappings)));
@@ -345,50 +319,22 @@ reached_next Copying ByForce b d m needed ids sound reached in' is same acts can
     }
 reached_next Stopping ByForce b d m needed ids sound reached in' is same acts can answer =
     let end : Deed = ends_by (next_state Stopping (stop_event ByForce) m.complete needed) m in
-    let e = idle_end ByForce m (next_state Stopping (stop_event ByForce) m.complete needed) (stopping_ends m.complete needed) in
+    let e = idle_end ByForce m (next_state Stopping (stop_event ByForce) m.complete needed) (stopping_ends ByForce (is_whole b m) m.complete needed can) in
     record {
       stop = stop_then d (stop_asked Stopping ByForce needed ids b m) reached.stop (stop_is Stopping ByForce needed ids b m (answer_known ByForce b d.changes m needed ids sound answer) can);
       done = done_then ByForce d.changes (stop_asked Stopping ByForce needed ids b m).changes reached.done (done_then ByForce end.changes (all_deeds (stops_with b) (those ids b.tables.mappings)).changes e.done (all_done b (those ids b.tables.mappings)));
       left = force_left b d m ids end sound reached same answer (stopping_has b m sound in' is) e.part e.some;
     }
 reached_next Prepared Plain b d m needed ids sound reached in' is same acts can answer =
-    let end : Deed = ends_in Stopped m in
-    record {
-      stop = stop_then d end reached.stop (ends_in_part Stopped m refl).is_stop;
-      done = done_then Plain d.changes end.changes reached.done (end_done Plain Stopped m refl);
-      left = prepared_plain b d m end sound reached in' is (ends_in_part Stopped m refl) (some_end Stopped m);
-    }
+    prepared_next Plain b d m reached refl
+    (prepared_left (PlainLeft b.sheet) b d m sound in' is (λ more. plain_none b.sheet (sheet_by b d) (λ n. changes_some n d.changes) more m.id.0 reached.left))
 reached_next Prepared ByForce b d m needed ids sound reached in' is same acts can answer =
-    let end : Deed = ends_in Stopped m in
-    record {
-      stop = stop_then d end reached.stop (ends_in_part Stopped m refl).is_stop;
-      done = done_then ByForce d.changes end.changes reached.done (end_done ByForce Stopped m refl);
-      left = prepared_force b d m end sound reached in' is (ends_in_part Stopped m refl) (some_end Stopped m);
-    }
+    prepared_next ByForce b d m reached refl
+    (prepared_left (ForceLeft b.sheet) b d m sound in' is (λ more. force_none b.sheet (sheet_by b d) (λ n. changes_some n d.changes) more m.id.0 reached.left))
 reached_next Prepared SplitOff b d m needed ids sound reached in' is same acts can answer = grind (arith, acts)
 reached_next Stopping Plain b d m needed ids sound reached in' is same acts can answer = grind (arith, acts)
 reached_next Stopping SplitOff b d m needed ids sound reached in' is same acts can answer = grind (arith, acts)
-reached_next Empty way b d m needed ids sound reached in' is same acts can answer = absurd (acts_not way acts)
-  where
-    acts_not : (w : StopWay) → acts_on w Empty ≡ true → ⊥
-    acts_not Plain e = grind (arith, e)
-    acts_not ByForce e = grind (arith, e)
-    acts_not SplitOff e = grind (arith, e)
-reached_next IdleOrCopied way b d m needed ids sound reached in' is same acts can answer = absurd (acts_not way acts)
-  where
-    acts_not : (w : StopWay) → acts_on w IdleOrCopied ≡ true → ⊥
-    acts_not Plain e = grind (arith, e)
-    acts_not ByForce e = grind (arith, e)
-    acts_not SplitOff e = grind (arith, e)
-reached_next Preparing way b d m needed ids sound reached in' is same acts can answer = absurd (acts_not way acts)
-  where
-    acts_not : (w : StopWay) → acts_on w Preparing ≡ true → ⊥
-    acts_not Plain e = grind (arith, e)
-    acts_not ByForce e = grind (arith, e)
-    acts_not SplitOff e = grind (arith, e)
-reached_next Stopped way b d m needed ids sound reached in' is same acts can answer = absurd (acts_not way acts)
-  where
-    acts_not : (w : StopWay) → acts_on w Stopped ≡ true → ⊥
-    acts_not Plain e = grind (arith, e)
-    acts_not ByForce e = grind (arith, e)
-    acts_not SplitOff e = grind (arith, e)
+reached_next Empty way b d m needed ids sound reached in' is same acts can answer = absurd (acts_not way Empty refl acts)
+reached_next IdleOrCopied way b d m needed ids sound reached in' is same acts can answer = absurd (acts_not way IdleOrCopied refl acts)
+reached_next Preparing way b d m needed ids sound reached in' is same acts can answer = absurd (acts_not way Preparing refl acts)
+reached_next Stopped way b d m needed ids sound reached in' is same acts can answer = absurd (acts_not way Stopped refl acts)

@@ -4,3 +4,4 @@ pub mod StoreParts
 pub mod Readying
 pub mod GivenBack
 pub mod Planning
+pub mod Coming

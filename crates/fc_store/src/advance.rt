@@ -45,7 +45,7 @@ impl<D: Mdisk> Store<D> {
         ensures less { IfOk result (λ goes. OnTrue goes (work.new.credit < work.old.credit)) }
         ensures control { self.new.control ≡ self.old.control }
         ensures disks { disks_in self.new.lanes ≡ disks_in self.old.lanes }
-        ensures quiet { QuietBy history.old.entries self.old.lanes → StaysUp result (QuietBy history.new.entries self.new.lanes) }
+        ensures quiet { QuietBy history.old.entries self.old → StaysUp result (QuietBy history.new.entries self.new) }
         ensures limit { length history.new.entries ≤ MAX_ENTRIES }
     {
         let grain = match self.next_grain(work) {
@@ -76,7 +76,7 @@ impl<D: Mdisk> Store<D> {
             Passed result (StandsFor self.new) self.old.control.grain w (at seconds over (gained work.old) left) (between seconds (over ++ work.new ∷ []) left) history.old history.new }
         ensures control { self.new.control ≡ self.old.control }
         ensures disks { disks_in self.new.lanes ≡ disks_in self.old.lanes }
-        ensures quiet { QuietBy history.old.entries self.old.lanes → StaysUp result (QuietBy history.new.entries self.new.lanes) }
+        ensures quiet { QuietBy history.old.entries self.old → StaysUp result (QuietBy history.new.entries self.new) }
         ensures limit { length history.new.entries ≤ MAX_ENTRIES }
     {
         work.gain();
@@ -97,7 +97,7 @@ impl<D: Mdisk> Store<D> {
             Passed result (StandsFor self.new) self.old.control.grain w (between (suc seconds) works.old []) (between seconds works.new []) history.old history.new }
         ensures control { self.new.control ≡ self.old.control }
         ensures disks { disks_in self.new.lanes ≡ disks_in self.old.lanes }
-        ensures quiet { QuietBy history.old.entries self.old.lanes → StaysUp result (QuietBy history.new.entries self.new.lanes) }
+        ensures quiet { QuietBy history.old.entries self.old → StaysUp result (QuietBy history.new.entries self.new) }
         ensures limit { length history.new.entries ≤ MAX_ENTRIES }
     {
         for place in 0..works.len() {
@@ -118,7 +118,7 @@ impl<D: Mdisk> Store<D> {
             Brought result (StandsFor self.new) (session_rules self.old.control.grain read) (Seconds (seconds_begun seconds (all_work w.books)) []) (Session []) w history.old history.new }
         ensures grain { self.new.control.grain ≡ self.old.control.grain }
         ensures disks { disks_in self.new.lanes ≡ disks_in self.old.lanes }
-        ensures quiet { QuietBy history.old.entries self.old.lanes → StaysUp result (QuietBy history.new.entries self.new.lanes) }
+        ensures quiet { QuietBy history.old.entries self.old → StaysUp result (QuietBy history.new.entries self.new) }
         ensures limit { length history.new.entries ≤ MAX_ENTRIES }
     {
         let mut works = match work_by(self.alloc, &self.control) {

@@ -14,7 +14,7 @@ ghost use Rattle.fc_stands.specs.Arming.{arms};
 ghost use Rattle.fc_stands.specs.Leading.{LeadsOn};
 ghost use Rattle.fc_stands.specs.Logged.{Logged, whether_done};
 ghost use Rattle.fc_stands.specs.Phase.{IsDecided};
-ghost use Rattle.fc_stands.specs.Quiet.{KeepsFaults, QuietBy};
+ghost use Rattle.fc_stands.specs.Quiet.{QuietBy};
 ghost use Rattle.fc_stands.specs.Settling.{CanDecide, IsSettled};
 ghost use Rattle.fc_stands.specs.Store.{StandsFor};
 
@@ -47,7 +47,7 @@ impl<D: Mdisk> Store<D> {
             Logged result whether_done (StandsFor self.new) self.old.control.grain w (Request.Command command) history.old history.new }
         ensures grain { self.new.control.grain ≡ self.old.control.grain }
         ensures disks { disks_in self.new.lanes ≡ disks_in self.old.lanes }
-        ensures quiet { QuietBy history.old.entries self.old.lanes → StaysUp result (QuietBy history.new.entries self.new.lanes) }
+        ensures quiet { QuietBy history.old.entries self.old → StaysUp result (QuietBy history.new.entries self.new) }
         ensures limit { length history.new.entries ≤ MAX_ENTRIES }
     {
         if is_full(history) {
@@ -69,7 +69,7 @@ impl<D: Mdisk> Store<D> {
         ensures asked { IsAsked 0 actor (Request.Command command) result }
         ensures grain { self.new.control.grain ≡ self.old.control.grain }
         ensures lanes { EachLane IsSameLane self.old.lanes self.new.lanes }
-        ensures quiet { arms (Request.Command command) result.reply ≡ false → EachLane KeepsFaults self.old.lanes self.new.lanes }
+        ensures quiet { arms (Request.Command command) result.reply ≡ false → EachLane KeepsQuiet self.old.lanes self.new.lanes }
         ensures armed { EachLane (ArmsAs self.new.control.tables command result.reply) self.old.lanes self.new.lanes }
     {
         let effects = match self.settle_all() {

@@ -55,7 +55,7 @@ impl<D: Mdisk> Store<D> {
             Filled result (StandsFor self.new) self.old.control.grain w work.now grain history.old history.new }
         ensures control { self.new.control ≡ self.old.control }
         ensures disks { disks_in self.new.lanes ≡ disks_in self.old.lanes }
-        ensures quiet { QuietBy history.old.entries self.old.lanes → StaysUp result (QuietBy history.new.entries self.new.lanes) }
+        ensures quiet { QuietBy history.old.entries self.old → StaysUp result (QuietBy history.new.entries self.new) }
         ensures limit { length history.new.entries ≤ MAX_ENTRIES }
     {
         if is_full(history) {

@@ -72,7 +72,7 @@ impl<D: Mdisk> Store<D> {
             Logged result anything (StandsFor self.new) self.old.control.grain w (part_of self.old.control.grain access volume block count grain) history.old history.new }
         ensures control { self.new.control ≡ self.old.control }
         ensures disks { disks_in self.new.lanes ≡ disks_in self.old.lanes }
-        ensures quiet { QuietBy history.old.entries self.old.lanes → StaysUp result (QuietBy history.new.entries self.new.lanes) }
+        ensures quiet { QuietBy history.old.entries self.old → StaysUp result (QuietBy history.new.entries self.new) }
         ensures limit { length history.new.entries ≤ MAX_ENTRIES }
     {
         if is_full(history) {
@@ -109,7 +109,7 @@ impl<D: Mdisk> Store<D> {
             (Own (map (part_of self.old.control.grain access volume block count) (touched self.old.control.grain block count)) 0 []) w history.old history.new }
         ensures control { self.new.control ≡ self.old.control }
         ensures disks { disks_in self.new.lanes ≡ disks_in self.old.lanes }
-        ensures quiet { QuietBy history.old.entries self.old.lanes → StaysUp result (QuietBy history.new.entries self.new.lanes) }
+        ensures quiet { QuietBy history.old.entries self.old → StaysUp result (QuietBy history.new.entries self.new) }
         ensures limit { length history.new.entries ≤ MAX_ENTRIES }
     {
         let (first, last) = touched_grains(self.control.grain(), block, count);
@@ -134,7 +134,7 @@ impl<D: Mdisk> Store<D> {
         requires refused { (w : Whole) → IsTold (StandsFor self.now) history.old w → IsRefusalOf self.now.control.grain w request refusal }
         ensures answered { (w : Whole) → IsTold (StandsFor self.now) history.old w →
             Logged result anything (StandsFor self.now) self.now.control.grain w request history.old history.new }
-        ensures quiet { QuietBy history.old.entries self.now.lanes → StaysUp result (QuietBy history.new.entries self.now.lanes) }
+        ensures quiet { QuietBy history.old.entries self.now → StaysUp result (QuietBy history.new.entries self.now) }
         ensures limit { length history.new.entries ≤ MAX_ENTRIES }
     {
         if is_full(history) {
@@ -175,7 +175,7 @@ impl<D: Mdisk> Store<D> {
             (Own (command_asked self.old.control.grain w.books (command_of access volume block count)) 0 []) w history.old history.new }
         ensures control { self.new.control ≡ self.old.control }
         ensures disks { disks_in self.new.lanes ≡ disks_in self.old.lanes }
-        ensures quiet { QuietBy history.old.entries self.old.lanes → StaysUp result (QuietBy history.new.entries self.new.lanes) }
+        ensures quiet { QuietBy history.old.entries self.old → StaysUp result (QuietBy history.new.entries self.new) }
         ensures limit { length history.new.entries ≤ MAX_ENTRIES }
     {
         match self.taken(&volume, block, count) {
@@ -194,7 +194,7 @@ impl<D: Mdisk> Store<D> {
         requires room { length history.old.entries ≤ MAX_ENTRIES }
         ensures answered { (w : Whole) → IsTold (StandsFor self.now) history.old w →
             Logged result anything (StandsFor self.now) self.now.control.grain w (Request.Unread fault) history.old history.new }
-        ensures quiet { QuietBy history.old.entries self.now.lanes → StaysUp result (QuietBy history.new.entries self.now.lanes) }
+        ensures quiet { QuietBy history.old.entries self.now → StaysUp result (QuietBy history.new.entries self.now) }
         ensures limit { length history.new.entries ≤ MAX_ENTRIES }
     {
         self.log_refused(history, Request::Unread(fault), Refusal::Words(fault))
@@ -209,7 +209,7 @@ impl<D: Mdisk> Store<D> {
             Answered result (StandsFor self.new) (session_rules self.old.control.grain read) (Session (single bytes ∷ [])) w history.old history.new }
         ensures control { self.new.control ≡ self.old.control }
         ensures disks { disks_in self.new.lanes ≡ disks_in self.old.lanes }
-        ensures quiet { QuietBy history.old.entries self.old.lanes → StaysUp result (QuietBy history.new.entries self.new.lanes) }
+        ensures quiet { QuietBy history.old.entries self.old → StaysUp result (QuietBy history.new.entries self.new) }
         ensures limit { length history.new.entries ≤ MAX_ENTRIES }
     {
         self.log_unread(fault, history)

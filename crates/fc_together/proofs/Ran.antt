@@ -1,7 +1,7 @@
 -- What running the scripts of a block's actors leaves, from what they did over the store and what of it is told.
-use Rattle.std.proofs.Common.{◌≡◌, ℕ, ◌+◌, ◌==◌, ◌≤◌, true, false, List, [], ◌∷◌, ◌++◌, length, All, Result, Ok, Err, refl, sym, ◌∙◌, ap, subst, arith}
+use Rattle.std.proofs.Common.{◌≡◌, ℕ, ◌+◌, ◌==◌, ◌≤◌, true, List, [], ◌∷◌, length, All, Result, Ok, Err, refl, sym, ◌∙◌, ap, subst, arith}
 use Rattle.std.specs.List.{list_any}
-use Rattle.std.proofs.lemmas.List.{append-nil, get_or_append_left, length-append}
+use Rattle.std.proofs.lemmas.List.{append-nil}
 use Rattle.std.proofs.lemmas.List.Elements.{All-head, All-nil, All-tail}
 use Rattle.fc_base.specs.declared.size.GrainSize.{GrainSize}
 use Rattle.fc_entry.specs.HistoryState.{HistoryState}
@@ -15,9 +15,7 @@ use Rattle.fc_legal.specs.Whole.{Whole}
 use Rattle.fc_scripts.proofs.Left.{left_by, own}
 use Rattle.fc_scripts.specs.Ways.{AreOfDifferent}
 use Rattle.fc_shares.specs.Law.{situation_of}
-use Rattle.fc_stands.specs.Arming.{ArmNothing, arms}
-use Rattle.fc_stands.specs.Quiet.{AreQuiet, QuietBy}
-use Rattle.fc_stands.proofs.Within.{more_within}
+use Rattle.fc_stands.specs.Quiet.{QuietBy}
 use Rattle.fc_stands.specs.Store.{StandsFor, StoreView}
 use Rattle.fc_store.specs.StoreParts.{parts_view}
 use Rattle.fc_store.specs.declared.store_part.StorePart.{StorePart}
@@ -75,11 +73,6 @@ ran_none Stands grain w asked history is differ = (
 
 -- ---- what was done
 
-armed_by_none : (old front : List Entry) → ArmNothing (old ++ front) → ArmNothing old
-armed_by_none old front none = λ k d inside.
-    let P : Entry → Type 0 = λ e. arms e.request e.reply ≡ false in
-    subst P (get_or_append_left old front d k inside) (none k d (omega (arith, inside, length-append old front)))
-
 module _ {D : Type 0} where
   pub all_suit : (parts : List (StorePart D)) (scripts : List (ActorScript D)) → All (λ (s : ActorScript D). Suits s parts 262144) scripts →
       AllSuit {E = Entry} {P = StorePart D} needs_of SuitsYard GoesOn scripts parts 262144
@@ -108,29 +101,20 @@ module _ {D : Type 0} where
       pub same_disks : disks_in new.lanes ≡ disks_in old.lanes
       same_disks = run_law_holds.disks old new w (makings_of answers) told.0 run
 
-      stays_quiet : AreQuiet old.lanes → AreQuiet new.lanes
-      stays_quiet quiet = run_law_holds.quiet old new w (makings_of answers) told.0 run quiet
-
-      quiet_told : (after : HistoryState) → FirstTold (makings_of answers) before after → QuietBy before.entries old.lanes → QuietBy after.entries new.lanes
-      quiet_told after t quiet =
-          let P : HistoryState → Type 0 = λ h. QuietBy h.entries new.lanes in
-          let keeps = run_law_holds.lanes old new w (makings_of answers) told.0 run in
-          subst P (sym t.new_is)
-          record {
-            quiet = λ none. stays_quiet (quiet.quiet (armed_by_none before.entries t.front none));
-            armed = more_within before.entries t.front old.lanes new.lanes
-                (record { count = keeps.count; each = λ i d inside. ((keeps.each i d inside).0, (keeps.each i d inside).1.near) }) quiet.armed;
-          }
-
-      pub quiet_result : (result : Result (Unit {0}) Stop) (after : HistoryState) → AnswersTold result answers before after →
-          QuietBy before.entries old.lanes → StaysUp result (QuietBy after.entries new.lanes)
-      quiet_result (Ok done) after t quiet = quiet_told after (told_first (Ok done) answers before after t) quiet
-      quiet_result (Err LogFull) after t quiet = quiet_told after (told_first (Err LogFull) answers before after t) quiet
-      quiet_result (Err NoMemory) after t quiet = tt
-
       module _ (asked : List Script) (same : AreScripts scripts asked) (differ : AreOfDifferent asked) where
         makings : AreMakings (makings_of answers)
         makings = makings_made asked same differ
+
+        quiet_told : (after : HistoryState) → AllTold (makings_of answers) before after → QuietBy before.entries old → QuietBy after.entries new
+        quiet_told after t quiet =
+            let P : HistoryState → Type 0 = λ h. QuietBy h.entries new in
+            subst P (sym t.new_is) (run_law_holds.quiet old new w (makings_of answers) t.merged before told.0 told.1 makings run t.merges quiet)
+
+        pub quiet_result : (result : Result (Unit {0}) Stop) (after : HistoryState) → AnswersTold result answers before after →
+            QuietBy before.entries old → StaysUp result (QuietBy after.entries new)
+        quiet_result (Ok done) after t quiet = quiet_told after t.1 quiet
+        quiet_result (Err LogFull) after t quiet = quiet_told after t.1 quiet
+        quiet_result (Err NoMemory) after t quiet = tt
 
         pub limit_kept : (after : HistoryState) → FirstTold (makings_of answers) before after → length after.entries ≤ 262144
         limit_kept after t =

@@ -51,8 +51,8 @@ pub fn run_block<R: Threads + Wait + Sync, D: Mdisk + Send, G: Gate>(
         (Session (together block ∷ [])) w history.old history.new }
     ensures grain { store.new.control.grain ≡ store.old.control.grain }
     ensures disks { disks_in store.new.lanes ≡ disks_in store.old.lanes }
-    ensures quiet { QuietBy history.old.entries store.old.lanes →
-        StaysUp result (QuietBy history.new.entries store.new.lanes) }
+    ensures quiet { QuietBy history.old.entries store.old →
+        StaysUp result (QuietBy history.new.entries store.new) }
     ensures named { HasNames history.old → HasNames history.new }
     ensures names { (names : List (List ℕ)) × (history.new.actors ≡ history.old.actors ++ names) }
     ensures limit { length history.new.entries ≤ MAX_ENTRIES }

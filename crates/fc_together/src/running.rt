@@ -53,8 +53,8 @@ pub(crate) fn run_scripts<R: Threads + Wait + Sync, D: Mdisk + Send, G: Gate>(
         history.old history.new }
     ensures grain { store.new.control.grain ≡ store.old.control.grain }
     ensures disks { disks_in store.new.lanes ≡ disks_in store.old.lanes }
-    ensures quiet { QuietBy history.old.entries store.old.lanes →
-        StaysUp result (QuietBy history.new.entries store.new.lanes) }
+    ensures quiet { QuietBy history.old.entries store.old →
+        StaysUp result (QuietBy history.new.entries store.new) }
     ensures names { history.new.actors ≡ history.old.actors }
     ensures limit { length history.new.entries ≤ MAX_ENTRIES }
 {

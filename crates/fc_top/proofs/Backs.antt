@@ -20,7 +20,6 @@ use Rattle.fc_run.specs.declared.ended.Ended.TheVariants as ended
 use Rattle.fc_top.specs.Call.{status_of}
 use Rattle.fc_top.specs.DisksBack.{AreBack, AreCounted, DisksAfter, first_told}
 use Rattle.fc_top.specs.StoreRuns.{HasDisks, IsUp, Start, StandsOr}
-use Rattle.fc_stands.specs.Arming.{ArmNothing}
 use Rattle.fc_stands.specs.Quiet.{AreQuiet, QuietBy}
 use Rattle.fc_store.specs.GivenBack.{AreByLane}
 use Rattle.fc_top.proofs.ArmedBack.{armed_back}
@@ -110,7 +109,7 @@ AreBack-all :
     w.entries ≤ 262144 →
     disks_in s.lanes ≡ pool_of old →
     AreAllIn s.lanes given →
-    (silent_of old ≡ 0 → QuietBy history s.lanes) →
+    (silent_of old ≡ 0 → QuietBy history s) →
     AreByLane s.lanes given →
     AreBack old given history w
 AreBack-all old given s history w stands entries many all quiet by_lane =

@@ -14,5 +14,6 @@ pub mod QuietSource
 pub mod SessionLength
 pub mod DrillLines
 pub mod DrillLemmas
+pub mod TracedLemmas
 pub mod TheoremLemmas
 pub mod OutcomeLemmas

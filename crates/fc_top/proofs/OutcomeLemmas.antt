@@ -1,6 +1,7 @@
 -- Calls that end in one way have one outcome, by the law of one outcome.
-use Rattle.std.proofs.Common.{◌≡◌, ℕ, ◌+◌, ◌%◌, ◌^◌, Bool, cond, List, [], ◌∷◌, ◌++◌, length, take, drop, codes, Option, Some, None, IfSome, refl, sym, subst, ap, ◌∙◌, append-nil, append_assoc, inl, inr, ◌⊎◌}
+use Rattle.std.proofs.Common.{◌≡◌, ℕ, ◌+◌, ◌%◌, ◌^◌, Bool, true, false, cond, if◌then◌else◌, List, [], ◌∷◌, ◌++◌, length, map, take, drop, codes, Option, Some, None, IfSome, refl, sym, subst, ap, ◌∙◌, append-nil, append_assoc, inl, inr, ◌⊎◌}
 use Rattle.std.specs.List.{count_by, sum_by}
+use Rattle.std.specs.Bool.{OnFalse}
 use Rattle.std.specs.Option.{option_map}
 use Rattle.std.proofs.lemmas.List.{length-map, take-append-drop}
 use Rattle.std.proofs.Math.Seq.{take-append_seam}
@@ -9,6 +10,7 @@ use Rattle.fc_agenda.proofs.Going.{GoesSome-asking}
 use Rattle.fc_agenda.specs.Goes.{Goes}
 use Rattle.fc_args.specs.declared.asked.Asked.{Asked}
 use Rattle.fc_args.specs.declared.asked.Asked.TheVariants.{Run, Drill, Check, Stop}
+use Rattle.fc_args.specs.declared.asked.RunOptions.{RunOptions}
 use Rattle.fc_base.specs.Pools.{Pool}
 use Rattle.fc_base.specs.declared.size.GrainSize.{GrainSize}
 use Rattle.fc_base.specs.declared.size.GrainSize.TheVariants.{K64}
@@ -30,20 +32,22 @@ use Rattle.fc_legal.specs.Agenda.{Agenda, Session, session_rules}
 use Rattle.fc_legal.specs.Run.{IsRun, WantsMore}
 use Rattle.fc_legal.specs.Whole.{Whole, opened}
 use Rattle.fc_legal.specs.WithoutBlocks.{AreLines as AreLinesAlone}
+use Rattle.fc_mdisk.specs.Disk.{DiskState}
 use Rattle.fc_run.specs.Headline.{EndsAs}
 use Rattle.fc_run.specs.Input.{AreLines, Gave, IsAtEnd, OfFirstTaken, input_limit}
 use Rattle.fc_run.specs.Summary.{gives_bytes, is_done_write, refuses, bytes_sum, reads_of, writes_of, moves_in, refused_of, sum_of, summary_text, form_text}
 use Rattle.fc_run.specs.declared.ended.Ended.{Ended}
 use Rattle.fc_run.specs.declared.ended.Ended.TheVariants as ended
 use Rattle.fc_run.specs.declared.form.Form.{Form}
-use Rattle.fc_run.specs.declared.form.Form.TheVariants.{Text, Summary}
+use Rattle.fc_run.specs.declared.form.Form.TheVariants.{Text, Trace, Summary}
 use Rattle.fc_top.specs.Call.{Call, empty, session_of, status_of}
 use Rattle.fc_top.specs.DisksBack.{first_told}
 use Rattle.fc_top.specs.Ends.{Ends, drill_source}
-use Rattle.fc_top.specs.OneOutcome.{WentAlike, HaveOneOutcome, TookOf, ReadsOf, IsByBytes, HaveNoBlock, AsksNoBlock, form_of, HasBytes, OutcomeLaw}
+use Rattle.fc_top.specs.OneOutcome.{WentAlike, HaveOneOutcome, TookOf, ReadsOf, IsByBytes, HaveNoBlock, AsksNoBlock, AreAlikeDealt, form_of, HasBytes, OutcomeLaw, tells_faults}
 use Rattle.fc_top.specs.PlainEnds.{PlainEnds}
 use Rattle.fc_top.specs.PlainRuns.{plain_runs}
 use Rattle.fc_top.specs.Reading.{reading}
+use Rattle.fc_top.specs.Traced.{lane_disks}
 use Rattle.fc_top.specs.declared.status.Status.TheVariants as status
 use Rattle.fc_top.proofs.Cutting.{HasMoreSegments, AreLines-front, cut_more}
 use Rattle.fc_top.proofs.DrillLines.{drill_alone}
@@ -84,8 +88,9 @@ told_one :
     (form : Form) (history other : HistoryState) →
     other.actors ≡ history.actors →
     told_by other.entries ≡ told_by history.entries →
-    form_text form other ≡ form_text form history
+    OnFalse (tells_faults form) (form_text form other ≡ form_text form history)
 told_one Text history other actors told = determined_law_holds.text history other actors told
+told_one (Trace header) history other actors told = tt
 told_one Summary history other actors told = summary_one history other told
 
 written_one :
@@ -284,6 +289,10 @@ actors_are form grain bytes source source' call ends by_bytes alone tells = name
     named (inl of) = sym of.actors ∙ actors_told ends.ended grain bytes (first_told call.disks) ends.last call.history.entries alone tells
     named (inr starved) = absurd (subst IsByBytes starved.0 by_bytes)
 
+OnFalse-map : {P Q : Type 0} → (b : Bool) → (P → Q) → OnFalse b P → OnFalse b Q
+OnFalse-map false f p = f p
+OnFalse-map true f p = tt
+
 sessions :
     (form : Form) (grain : GrainSize) (bytes : List ℕ) (call other : Call) →
     HaveNoBlock bytes →
@@ -305,16 +314,17 @@ sessions form grain bytes call other alone alike a b =
     let one : IsOneOutcome call.history.entries other.history.entries a.ends.last b.ends.last =
     one_of_two e grain bytes w v a.ends.last b.ends.last call.history.entries other.history.entries (alone_by e bytes alone)
     (ap (λ (pools : List Pool). without_faults (opened pools)) alike.dealt) alike.smooth alike.smooth_other tells (subst P same tells_other) in
-    let text : form_text form other.history ≡ form_text form call.history =
+    let text : OnFalse (tells_faults form) (form_text form other.history ≡ form_text form call.history) =
     told_one form call.history other.history
     (actors_are form grain bytes b.source b.source' other b.ends (subst IsByBytes (sym alike.status) alike.by_bytes) (alone_by b.ends.ended bytes alone) tells_other
     ∙ sym (actors_are form grain bytes a.source a.source' call a.ends alike.by_bytes (alone_by e bytes alone) tells)) one.entries in
     record {
       entries = one.entries;
       text = text;
-      written = written_one call.sink.held call.sink'.held other.sink.held other.sink'.held (form_text form call.history) (form_text form other.history) text
+      written = OnFalse-map (tells_faults form) (λ text. written_one call.sink.held call.sink'.held other.sink.held other.sink'.held (form_text form call.history) (form_text form other.history) text
           (got_text e form grain a.ends.session.bytes a.source a.source' call w a.ends.last by_bytes a.ends.session.ends)
-          (got_text b.ends.ended form grain b.ends.session.bytes b.source b.source' other v b.ends.last by_bytes_other b.ends.session.ends);
+          (got_text b.ends.ended form grain b.ends.session.bytes b.source b.source' other v b.ends.last by_bytes_other b.ends.session.ends))
+          text;
     }
 
 -- ---- calls of the program
@@ -366,7 +376,7 @@ reads_of_asked :
     (asked : Asked) (bytes : List ℕ) (call : Call) →
     HasBytes asked bytes call.source →
     Ends (Some asked) call →
-    ReadsOf (form_of asked) (grain_asked asked) (bytes_of asked bytes) call
+    ReadsOf (form_of asked call.disks) (grain_asked asked) (bytes_of asked bytes) call
 reads_of_asked (Run options) bytes call has run =
     let ends = run.ends in
     record {
@@ -385,11 +395,23 @@ reads_of_asked (Drill number) bytes call has ends =
       took = took_of (session_text number) ends.ends.session.bytes (drill_source number) ends.left refl ends.ends.session.gave;
     }
 
+abbrev form_over : RunOptions → List Pool → Form
+form_over options pools = if options.trace then Trace (record { grain = options.grain; lanes = map lane_disks pools }) else Text
+
+-- Disks dealt alike are told alike.
+same_form : (asked : Asked) (disks other : List DiskState) → AreAlikeDealt disks other → form_of asked other ≡ form_of asked disks
+same_form (Run options) disks other alike = ap (λ pools. form_over options pools) alike
+same_form (Drill number) disks other alike = refl
+same_form Check disks other alike = refl
+same_form (Stop number) disks other alike = refl
+
 pub outcome_law_holds : OutcomeLaw
 outcome_law_holds =
     record {
       sessions = sessions;
       calls = λ asked bytes call other alone alike has has_other theorem theorem_other.
-          sessions (form_of asked) (grain_asked asked) (bytes_of asked bytes) call other (no_block asked bytes alone) alike
-          (reads_of_asked asked bytes call has theorem.ends) (reads_of_asked asked bytes other has_other theorem_other.ends);
+          let P : Form → Type 0 = λ form. ReadsOf form (grain_asked asked) (bytes_of asked bytes) other in
+          sessions (form_of asked call.disks) (grain_asked asked) (bytes_of asked bytes) call other (no_block asked bytes alone) alike
+          (reads_of_asked asked bytes call has theorem.ends)
+          (subst P (same_form asked call.disks other.disks alike.dealt) (reads_of_asked asked bytes other has_other theorem_other.ends));
     }

@@ -90,7 +90,7 @@ pub store_answers :
     AnswersEnded answer store now ended old new →
     now.control.grain ≡ store.control.grain →
     disks_in now.lanes ≡ disks_in store.lanes →
-    (QuietBy old.entries store.lanes → StaysUp answer (QuietBy new.entries now.lanes)) →
+    (QuietBy old.entries store → StaysUp answer (QuietBy new.entries now)) →
     (next : IsNext taken before after lines line) →
     next.ended ≡ ended →
     (store_runs Able before store start).Whole lines old →
@@ -241,6 +241,6 @@ store_begins Able start reader store history able none is grain stands disks qui
     record {
       last = first_told start.disks;
       told = record { actors = refl; entries = refl };
-      stands = record { stands = stands; grain_is = grain; disks = disks; quiet = λ told. quiet_begins store.lanes (quiet told) };
+      stands = record { stands = stands; grain_is = grain; disks = disks; quiet = λ told. quiet_begins store (quiet told) };
       holds = (IsRun-nil start.grain reading (first_told start.disks), (sym none, able));
     }

@@ -9,12 +9,13 @@ use Rattle.fc_entry.specs.HistoryState.{HistoryState}
 use Rattle.fc_io.specs.Source.{SourceState}
 use Rattle.fc_run.proofs.TakesLemmas.{EachGave-none}
 use Rattle.fc_run.specs.Takes.{EachGave}
-use Rattle.fc_run.specs.declared.form.Form.TheVariants.{Text, Summary}
+use Rattle.fc_run.specs.declared.form.Form.TheVariants.{Summary}
 use Rattle.fc_top.proofs.DrillLemmas.{drill_ends}
 use Rattle.fc_top.proofs.PlainLemmas.{starved_ends}
-use Rattle.fc_top.proofs.WordLemmas.{run-plain}
+use Rattle.fc_top.proofs.WordLemmas.{run-uncached}
 use Rattle.fc_top.specs.Call.{Call, empty}
 use Rattle.fc_top.specs.Ends.{AsksNothing, Ends, drill_source}
+use Rattle.fc_top.specs.Traced.{run_form}
 use Rattle.fc_top.specs.Theorem.{Theorem}
 use Rattle.fc_top.specs.declared.status.Status.TheVariants as status
 
@@ -81,11 +82,9 @@ theorem_unasked asked call none is idle =
 
 starved : (asked : Asked) (call : Call) → is_offered asked ≡ true → call.status ≡ status.NoMemory → IsIdle call → Ends (Some asked) call
 starved (Run options) call built is idle =
-    let plain = run-plain options built in
     record {
-      traceless = plain.0;
-      cacheless = plain.1;
-      ends = starved_ends Text options.grain call.source call.source' call is idle.source idle.sink
+      cacheless = run-uncached options built;
+      ends = starved_ends (run_form options call.disks) options.grain call.source call.source' call is idle.source idle.sink
           (ap (λ (h : HistoryState). h.entries) idle.history) (inr idle.history);
     }
 starved (Drill number) call built is idle =

@@ -1,7 +1,7 @@
 -- What words ask for is built.
 use Rattle.std.proofs.Common.{◌≡◌, ℕ, Bool, true, false, List, Option, Some, None, cond, refl, subst}
 use Rattle.std.proofs.lemmas.Bool.{false≢true}
-use Rattle.std.specs.Prelude.{option_and_then, is_some, not, ◌&&◌}
+use Rattle.std.specs.Prelude.{option_and_then, is_some, not}
 use Rattle.fc_args.specs.Grammar.{asked_by, if_built, in_full, is_offered}
 use Rattle.fc_args.specs.declared.asked.Asked.{Asked}
 use Rattle.fc_args.specs.declared.asked.Asked.TheVariants.{Run}
@@ -25,11 +25,10 @@ built_of (Some of) asked is = built_if of asked (is_offered of) refl is
 pub asked-built : (words : List (List ℕ)) (asked : Asked) → asked_by words ≡ Some asked → is_offered asked ≡ true
 asked-built words asked is = built_of (in_full words) asked is
 
--- a run that is built has neither a trace nor a write cache
-plain : (trace : Bool) (cache : Option ℕ) → (not trace && not (is_some cache)) ≡ true → (trace ≡ false) × (cache ≡ None)
-plain false None built = (refl, refl)
-plain false (Some parts) built = absurd (false≢true built)
-plain true cache built = absurd (false≢true built)
+-- a run that is built has no write cache
+none_cached : (cache : Option ℕ) → not (is_some cache) ≡ true → cache ≡ None
+none_cached None built = refl
+none_cached (Some parts) built = absurd (false≢true built)
 
-pub run-plain : (options : RunOptions) → is_offered (Run options) ≡ true → (options.trace ≡ false) × (options.cache ≡ None)
-run-plain options built = plain options.trace options.cache built
+pub run-uncached : (options : RunOptions) → is_offered (Run options) ≡ true → options.cache ≡ None
+run-uncached options built = none_cached options.cache built

@@ -1,14 +1,15 @@
 -- How a call ends, by what its words ask for.
-use Rattle.std.specs.Prelude.{◌≡◌, ◌≢◌, ◌⊎◌, ℕ, false, [], Option, Some, None}
+use Rattle.std.specs.Prelude.{◌≡◌, ◌≢◌, ◌⊎◌, ℕ, [], Option, Some, None}
 use Rattle.fc_args.specs.declared.asked.Asked.{Asked}
 use Rattle.fc_args.specs.declared.asked.Asked.TheVariants.{Run, Drill, Check, Stop}
 use Rattle.fc_args.specs.declared.asked.RunOptions.{RunOptions}
 use Rattle.fc_base.specs.declared.size.GrainSize.TheVariants.{K64}
 use Rattle.fc_gen.specs.Session.{session_text}
 use Rattle.fc_io.specs.Source.{SourceState}
-use Rattle.fc_run.specs.declared.form.Form.TheVariants.{Text, Summary}
+use Rattle.fc_run.specs.declared.form.Form.TheVariants.{Summary}
 use Rattle.fc_top.specs.Call.{Call, empty}
 use Rattle.fc_top.specs.PlainEnds.{PlainEnds}
+use Rattle.fc_top.specs.Traced.{run_form}
 use Rattle.fc_top.specs.declared.status.Status.TheVariants as status
 
 -- The words aren't in the grammar: the status says so, or memory was wanted before it was known. Nothing is read, answered or
@@ -20,12 +21,11 @@ pub record AsksNothing (call : Call) : Type 0 where
   pub disks : call.disks' ≡ call.disks
   pub history : call.history ≡ empty
 
--- A run: a session with grains of the size that is asked for, and its history in text. No words ask for a trace or a write cache
--- yet, since they aren't built.
+-- A run: a session with grains of the size that is asked for, and its history in text or as a trace. No words ask for a write
+-- cache yet, since it isn't built.
 pub record RunEnds (options : RunOptions) (call : Call) : Type 0 where
-  pub traceless : options.trace ≡ false
   pub cacheless : options.cache ≡ None
-  pub ends : PlainEnds Text options.grain call.source call.source' call
+  pub ends : PlainEnds (run_form options call.disks) options.grain call.source call.source' call
 
 -- The source of a drill: the generated session of its number, in memory, where no call fails.
 abbrev pub drill_source : ℕ → SourceState

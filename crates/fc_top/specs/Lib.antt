@@ -6,6 +6,7 @@ pub mod PlainRuns
 pub mod DisksBack
 pub mod Complete
 pub mod PlainEnds
+pub mod Traced
 pub mod Ends
 pub mod Theorem
 pub mod OneOutcome

@@ -1,9 +1,10 @@
 -- One outcome of a call of the program: two calls that ask for the same, over disks of the same kinds in each lane and over the
 -- same bytes, in which no block ends, that end in one way, and in which no entry answers a disk fault or missing memory, tell the
 -- same and write the same. Of the actors of a block each may be next, so a block has many outcomes.
-use Rattle.std.specs.Prelude.{◌≡◌, ℕ, List, [], ◌++◌, Some}
+use Rattle.std.specs.Prelude.{◌≡◌, ℕ, Bool, true, false, List, [], ◌++◌, Some}
+use Rattle.std.specs.Bool.{OnFalse}
 use Rattle.fc_args.specs.declared.asked.Asked.{Asked}
-use Rattle.fc_args.specs.declared.asked.Asked.TheVariants.{Drill}
+use Rattle.fc_args.specs.declared.asked.Asked.TheVariants.{Drill, Run}
 use Rattle.fc_base.specs.declared.limits.TheConstants.{LANES}
 use Rattle.fc_base.specs.declared.size.GrainSize.{GrainSize}
 use Rattle.fc_blocks.specs.Segments.{cut}
@@ -15,11 +16,12 @@ use Rattle.fc_mdisk.specs.Disk.{DiskState}
 use Rattle.fc_run.specs.Input.{IsAtEnd}
 use Rattle.fc_run.specs.Summary.{form_text}
 use Rattle.fc_run.specs.declared.form.Form.{Form}
-use Rattle.fc_run.specs.declared.form.Form.TheVariants.{Text, Summary}
+use Rattle.fc_run.specs.declared.form.Form.TheVariants.{Text, Trace, Summary}
 use Rattle.fc_lanes.specs.Dealing.{pools_dealt}
 use Rattle.fc_top.specs.Call.{Call}
 use Rattle.fc_top.specs.PlainEnds.{PlainEnds}
 use Rattle.fc_top.specs.Theorem.{Theorem}
+use Rattle.fc_top.specs.Traced.{run_form}
 use Rattle.fc_top.specs.declared.status.Status.{Status}
 use Rattle.fc_top.specs.declared.status.Status.TheVariants.{Done, Unended, LogFull, TooLong}
 
@@ -47,12 +49,17 @@ pub record WentAlike (call other : Call) : Type 0 where
   pub smooth : AreSmooth call.history.entries
   pub smooth_other : AreSmooth other.history.entries
 
--- Entries tell the same, but for the faults that disks counted; their text in this form is the same; and where the two sinks held
--- the same before, they do after.
+-- A trace tells the faults that disks counted.
+abbrev pub tells_faults : Form → Bool
+tells_faults (Trace header) = true
+tells_faults form = false
+
+-- Entries tell the same, but for the faults that disks counted; but for a trace their text in this form is the same, and where the
+-- two sinks held the same before, they do after.
 pub record HaveOneOutcome (form : Form) (call other : Call) : Type 0 where
   pub entries : told_by other.history.entries ≡ told_by call.history.entries
-  pub text : form_text form other.history ≡ form_text form call.history
-  pub written : other.sink.held ≡ call.sink.held → other.sink'.held ≡ call.sink'.held
+  pub text : OnFalse (tells_faults form) (form_text form other.history ≡ form_text form call.history)
+  pub written : OnFalse (tells_faults form) (other.sink.held ≡ call.sink.held → other.sink'.held ≡ call.sink'.held)
 
 -- The bytes that were taken are the first of these; all of them, where the source is at its end.
 pub record TookOf (bytes taken : List ℕ) (source' : SourceState) : Type 0 where
@@ -68,9 +75,10 @@ pub record ReadsOf (form : Form) (grain : GrainSize) (bytes : List ℕ) (call : 
   pub took : TookOf bytes ends.session.bytes source'
 
 -- In which form it is written.
-abbrev pub form_of : Asked → Form
-form_of (Drill number) = Summary
-form_of _ = Text
+abbrev pub form_of : Asked → List DiskState → Form
+form_of (Run options) disks = run_form options disks
+form_of (Drill number) disks = Summary
+form_of _ disks = Text
 
 -- The source of a run has these bytes. A drill doesn't touch its source.
 abbrev pub HasBytes : Asked → List ℕ → SourceState → Type 0
@@ -89,4 +97,4 @@ pub record OutcomeLaw : Type 0 where
   -- two calls of the program whose sources have the same bytes
   pub calls : (asked : Asked) (bytes : List ℕ) (call other : Call) → AsksNoBlock asked bytes → WentAlike call other →
       HasBytes asked bytes call.source → HasBytes asked bytes other.source →
-      Theorem (Some asked) call → Theorem (Some asked) other → HaveOneOutcome (form_of asked) call other
+      Theorem (Some asked) call → Theorem (Some asked) other → HaveOneOutcome (form_of asked call.disks) call other

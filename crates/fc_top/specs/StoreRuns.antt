@@ -58,12 +58,12 @@ pub record Start : Type 0 where
   pub disks : List DiskState
 
 -- The store stands for what is told. It has the disks that were handed in, and none of them fails, unless one came with an armed
--- fault that it doesn't tell, or an entry armed one.
+-- fault that it doesn't tell, or an entry armed one; their armed faults are as the entries tell.
 pub record IsUp (start : Start) (store : StoreView) (history : HistoryState) (last : Whole) : Type 0 where
   pub stands : StandsFor store last
   pub grain_is : store.control.grain ≡ start.grain
   pub disks : disks_in store.lanes ≡ pool_of start.disks
-  pub quiet : silent_of start.disks ≡ 0 → QuietBy history.entries store.lanes
+  pub quiet : silent_of start.disks ≡ 0 → QuietBy history.entries store
 
 -- It has the disks that were handed in.
 abbrev pub HasDisks : Start → StoreView → Type 0
@@ -107,7 +107,7 @@ pub record IsBlockRun (answer : Result (Unit {0}) Stop) (store now : StoreView) 
       Answered answer (StandsFor now) (session_rules store.control.grain reading) (Asking (together block ∷ [])) w old new
   pub grain : now.control.grain ≡ store.control.grain
   pub disks : disks_in now.lanes ≡ disks_in store.lanes
-  pub quiet : QuietBy old.entries store.lanes → StaysUp answer (QuietBy new.entries now.lanes)
+  pub quiet : QuietBy old.entries store → StaysUp answer (QuietBy new.entries now)
   pub named : HasNames old → HasNames new
   pub names : (names : List (List ℕ)) × (new.actors ≡ old.actors ++ names)
   pub limit : length new.entries ≤ 262144

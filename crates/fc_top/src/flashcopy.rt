@@ -11,6 +11,7 @@ use crate::drill::run_drill;
 use crate::gate::Gate;
 use crate::plain::run_plain;
 use crate::status::Status;
+use crate::traced::run_form;
 use fc_args::asked::Asked;
 use fc_args::reading::read_words;
 use fc_base::outcome::NoMemory;
@@ -18,7 +19,6 @@ use fc_entry::history::History;
 use fc_io::sink::Sink;
 use fc_io::source::Source;
 use fc_mdisk::mdisk::Mdisk;
-use fc_run::form::Form;
 use std::alloc::Global;
 use std::sync::Wait;
 use std::thread::Threads;
@@ -52,10 +52,11 @@ fn run_asked<R: Threads + Wait + Sync, S: Source, K: Sink, D: Mdisk + Send, G: G
 {
     match asked {
         Asked::Run(options) => {
+            let form = run_form(options, disks.as_slice());
             run_plain(
                 rt,
                 alloc,
-                Form::Text,
+                form,
                 options.grain,
                 source,
                 sink,
@@ -106,7 +107,7 @@ pub fn flashcopy_over<R: Threads + Wait + Sync, S: Source, K: Sink, G: Gate, D: 
 pub type BoxedDisk = Box<dyn Mdisk + Send>;
 
 /// Runs a session: reads it from the source to its end, answers its lines over the disks, and writes the text of each answer to the
-/// sink before more input is taken. For a drill the session is the generated one of a number, the source isn't touched, and the
+/// sink before more input is taken; or its trace, behind a first line that says what the store is made of. For a drill the session is the generated one of a number, the source isn't touched, and the
 /// summary of the history is written.
 ///
 /// The words are those of docs/MANUAL.md (fc_args' specs/Grammar). Where they aren't in the grammar the answer is Usage, or NoMemory
@@ -117,7 +118,8 @@ pub type BoxedDisk = Box<dyn Mdisk + Send>;
 /// actors that are told; by the answer it is known which bytes were taken, which of their lines the history answers, and what was
 /// written and sent on (specs/PlainEnds, and fc_run's specs/Headline); the disks come back as specs/DisksBack says; where no call
 /// failed and there is room it is done, and where no disk failed its accesses are answered, but for want of memory
-/// (specs/Complete). Two calls that ask for the same, and in which nothing failed, write the same (specs/OneOutcome). Each call of
+/// (specs/Complete). Two calls that ask for the same, and in which nothing failed, write the same, but for the faults that a trace
+/// tells (specs/OneOutcome). Each call of
 /// the source but the last gives a byte or more (fc_run's specs/Takes). The actors of a block are threads of the runtime, and the
 /// gate only delays them: it is reached by each actor at each of its requests. A call over a session with blocks may wait.
 pub fn flashcopy<R: Threads + Wait + Sync, S: Source, K: Sink, G: Gate>(

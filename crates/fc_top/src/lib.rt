@@ -12,8 +12,8 @@
 //! A call may wait: the actors of a block run on threads, and one waits where another has the turn. The gate that a caller gives
 //! may delay actors, and changes nothing of what a call promises.
 //!
-//! In reading order: `status`, `owner` (lines and blocks are answered), `plain` (a session over disks), `drill`,
-//! `flashcopy`, `outcome`.
+//! In reading order: `status`, `owner` (lines and blocks are answered), `plain` (a session over disks), `traced`
+//! (in which form it is written), `drill`, `flashcopy`, `outcome`.
 #![tactic(auto)]
 
 mod drill;
@@ -22,6 +22,7 @@ pub mod outcome;
 mod owner;
 mod plain;
 pub mod status;
+mod traced;
 
 /// The gate that may delay the actors of a block.
 pub use fc_tasks::gate;

@@ -41,8 +41,8 @@ pub trait SingleLines {
             (Session (single bytes ∷ [])) w history.old history.new }
         ensures grain { (view self.new).control.grain ≡ (view self.old).control.grain }
         ensures disks { disks_in (view self.new).lanes ≡ disks_in (view self.old).lanes }
-        ensures quiet { QuietBy history.old.entries (view self.old).lanes
-            → StaysUp result (QuietBy history.new.entries (view self.new).lanes) }
+        ensures quiet { QuietBy history.old.entries (view self.old)
+            → StaysUp result (QuietBy history.new.entries (view self.new)) }
         ensures limit { length history.new.entries ≤ 262144 };
 }
 

@@ -1,20 +1,17 @@
 -- The texts of a trace as the parts that are put one after the other.
-use Rattle.std.proofs.Common.{◌≡◌, ℕ, ◌-◌, ◌≤◌, List, [], ◌∷◌, ◌++◌, codes, decimal, length, get_or, take, drop, refl, sym, ap, ◌∙◌, append_assoc, arith}
+use Rattle.std.proofs.Common.{◌≡◌, ℕ, ◌-◌, ◌≤◌, List, [], ◌∷◌, ◌++◌, codes, decimal, length, get_or, take, drop, append_assoc, arith}
 use Rattle.std.proofs.lemmas.List.{append-nil}
 use Rattle.std.specs.List.{concat, flat_map}
 use Rattle.fc_base.specs.Grain.{grain_kib}
 use Rattle.fc_base.specs.declared.ranges.Range.{Range}
 use Rattle.fc_base.specs.declared.request.Pair.{Pair}
-use Rattle.fc_base.specs.declared.request.Reply.{Reply}
-use Rattle.fc_base.specs.declared.request.Reply.TheVariants as reply
-use Rattle.fc_base.specs.declared.request.Request.{Request}
 use Rattle.fc_base.specs.declared.size.GrainSize.{GrainSize}
 use Rattle.fc_entry.specs.declared.entry.Entry.{Entry}
-use Rattle.fc_entry.specs.Text.{request_text, reply_text, rows_text, text_by}
+use Rattle.fc_entry.specs.Text.{entry_line, rows_text}
 use Rattle.fc_entry.proofs.JoinLemmas.{join_with_byte-first}
 use Rattle.fc_trace.specs.declared.header.LaneDisks.{LaneDisks}
 use Rattle.fc_trace.specs.Notes.{calls_text, effect_text, kept_text, move_text, notes_text, pair_text, range_text, torn_text}
-use Rattle.fc_trace.specs.Trace.{entry_line, header_text, line_text, traced_text}
+use Rattle.fc_trace.specs.Trace.{header_text, traced_text}
 
 -- three texts, one behind the other
 pub three : (a b c : List ℕ) → concat (a ∷ b ∷ c ∷ []) ≡ a ++ b ++ c
@@ -43,72 +40,6 @@ header_parts-joined grain lanes =
     header_joined (codes "trace ") (decimal (grain_kib grain)) (codes " ") (decimal (length lanes)) (codes " flat")
     (flat_map (λ (lane : LaneDisks). codes " " ++ decimal lane.flat) lanes) (codes " thin")
     (flat_map (λ (lane : LaneDisks). codes " " ++ decimal lane.thin) lanes) (codes "\n")
-
-abbrev pub report_line_parts : ℕ → List ℕ → Request → ℕ → List (List ℕ)
-report_line_parts number actor request rows =
-    (decimal number ++ codes " " ++ actor ++ codes " ") ∷ request_text request
-    ∷ (codes " -> rows " ++ decimal rows ++ codes "\n") ∷ []
-
-pub report_line_parts-joined :
-    (number : ℕ) (actor : List ℕ) (request : Request) (rows : ℕ) →
-    concat (report_line_parts number actor request rows)
-    ≡ (decimal number ++ codes " " ++ actor ++ codes " ") ++ request_text request
-    ++ (codes " -> rows " ++ decimal rows ++ codes "\n")
-report_line_parts-joined number actor request rows =
-    three (decimal number ++ codes " " ++ actor ++ codes " ") (request_text request)
-    (codes " -> rows " ++ decimal rows ++ codes "\n")
-
--- the text before the number of rows, in one part or in two
-line_joined : (head request arrow word rows end : List ℕ) → head ++ request ++ ((arrow ++ word) ++ rows ++ end) ≡ head ++ request ++ arrow ++ (word ++ rows) ++ end
-line_joined head request arrow word rows end = simp (append_assoc)
-
--- the line of an entry whose answer is a report
-pub report_line :
-    (actor : List ℕ) (entry : Entry) (rows : List (List ℕ)) →
-    entry.reply ≡ reply.Listed rows →
-    (decimal entry.number ++ codes " " ++ actor ++ codes " ") ++ request_text entry.request
-    ++ (codes " -> rows " ++ decimal (length rows) ++ codes "\n")
-    ≡ line_text actor entry
-report_line actor entry rows is =
-    line_joined (decimal entry.number ++ codes " " ++ actor ++ codes " ") (request_text entry.request) (codes " -> ") (codes "rows ") (decimal (length rows)) (codes "\n")
-    ∙ ap (λ (r : Reply). decimal entry.number ++ codes " " ++ actor ++ codes " " ++ request_text entry.request ++ codes " -> " ++ reply_text r ++ codes "\n") (sym is)
-
--- the same, with the name and the number of rows as they were looked up
-pub report_line_at :
-    (name actor : List ℕ) (entry : Entry) (rows : List (List ℕ)) (count : ℕ) →
-    entry.reply ≡ reply.Listed rows →
-    count ≡ length rows →
-    name ≡ actor →
-    (decimal entry.number ++ codes " " ++ name ++ codes " ") ++ request_text entry.request
-    ++ (codes " -> rows " ++ decimal count ++ codes "\n")
-    ≡ line_text actor entry
-report_line_at name actor entry rows count is counted named =
-    ap (λ (a : List ℕ). (decimal entry.number ++ codes " " ++ a ++ codes " ") ++ request_text entry.request ++ (codes " -> rows " ++ decimal count ++ codes "\n")) named
-    ∙ ap (λ (n : ℕ). (decimal entry.number ++ codes " " ++ actor ++ codes " ") ++ request_text entry.request ++ (codes " -> rows " ++ decimal n ++ codes "\n")) counted
-    ∙ report_line actor entry rows is
-
--- no other reply has rows
-pub no_rows : (r : Reply) → ((rows : List (List ℕ)) → r ≡ reply.Listed rows → ⊥) → rows_text r ≡ []
-no_rows reply.Done not = refl
-no_rows (reply.Made kind id) not = refl
-no_rows (reply.Bytes runs) not = refl
-no_rows (reply.Listed rows) not = absurd (not rows refl)
-no_rows (reply.Moved map grain) not = refl
-no_rows reply.Idle not = refl
-no_rows (reply.Offline map state) not = refl
-no_rows (reply.NotAccessible map) not = refl
-no_rows reply.DiskFault not = refl
-no_rows reply.MediumError not = refl
-no_rows reply.NoMemory not = refl
-no_rows (reply.Refused refusal) not = refl
-
--- so an entry's line is its whole text
-pub line_alone :
-    (actor : List ℕ) (entry : Entry) →
-    ((rows : List (List ℕ)) → entry.reply ≡ reply.Listed rows → ⊥) →
-    text_by actor entry ≡ line_text actor entry
-line_alone actor entry not =
-    ap (λ rows. line_text actor entry ++ rows) (no_rows entry.reply not) ∙ append-nil (line_text actor entry)
 
 -- ranges: the first, and each of the others behind a comma
 pub kept_first :

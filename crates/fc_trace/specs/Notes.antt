@@ -1,5 +1,5 @@
 -- What the trace form tells of an entry beside its text: a line for each thing, which begins with `+`.
-use Rattle.std.specs.Prelude.{ℕ, ◌==◌, Bool, true, false, if◌then◌else◌, List, [], ◌∷◌, ◌++◌, Option, Some, None, map, codes, decimal}
+use Rattle.std.specs.Prelude.{ℕ, ◌==◌, Bool, if◌then◌else◌, List, [], ◌∷◌, ◌++◌, Option, Some, None, map, codes, decimal}
 use Rattle.std.specs.List.{flat_map, join_with_byte}
 use Rattle.fc_base.specs.declared.ranges.Range.{Range}
 use Rattle.fc_base.specs.declared.request.Effect.{Effect}

@@ -7,12 +7,19 @@
 use Rattle.std.specs.Prelude.{ℕ, List, [], ◌++◌, length, codes, decimal, slice_index_or}
 use Rattle.std.specs.List.{flat_map}
 use Rattle.fc_base.specs.Grain.{grain_kib}
+use Rattle.fc_base.specs.declared.disk.DiskKind.{DiskKind}
+use Rattle.fc_base.specs.declared.disk.DiskKind.TheVariants.{Flat, Thin}
 use Rattle.fc_base.specs.declared.size.GrainSize.{GrainSize}
 use Rattle.fc_entry.specs.declared.entry.Entry.{Entry}
 use Rattle.fc_entry.specs.HistoryState.{HistoryState}
-use Rattle.fc_entry.specs.Text.{reply_text, request_text, rows_text}
+use Rattle.fc_entry.specs.Text.{line_text, rows_text}
 use Rattle.fc_trace.specs.declared.header.LaneDisks.{LaneDisks}
 use Rattle.fc_trace.specs.Notes.{notes_text}
+
+-- how many disks of a kind were handed in for a lane
+abbrev pub disks_of : DiskKind → LaneDisks → ℕ
+disks_of Flat lane = lane.flat
+disks_of Thin lane = lane.thin
 
 -- the first line: the grain in KiB, the lanes, and how many disks of each kind were handed in for each lane
 abbrev pub header_text : GrainSize → List LaneDisks → List ℕ
@@ -21,16 +28,6 @@ header_text grain lanes =
     ++ codes " flat" ++ flat_map (λ lane. codes " " ++ decimal lane.flat) lanes
     ++ codes " thin" ++ flat_map (λ lane. codes " " ++ decimal lane.thin) lanes
     ++ codes "\n"
-
--- the line of an entry of the actor with this name
-abbrev pub line_text : List ℕ → Entry → List ℕ
-line_text actor entry =
-    decimal entry.number ++ codes " " ++ actor ++ codes " " ++ request_text entry.request ++ codes " -> "
-    ++ reply_text entry.reply ++ codes "\n"
-
--- the same, where these are the names of actors
-abbrev pub entry_line : List (List ℕ) → Entry → List ℕ
-entry_line actors entry = line_text (slice_index_or actors entry.actor []) entry
 
 -- an entry of the actor with this name: its line, what it did, the rows of its report, and its end
 abbrev pub traced_by : List ℕ → Entry → List ℕ

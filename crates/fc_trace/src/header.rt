@@ -1,14 +1,15 @@
 //! The first line of a trace.
 
-ghost use Rattle.std.specs.Prelude.{◌++◌, codes, decimal, is_err, length};
+ghost use Rattle.std.specs.Prelude.{◌≡◌, ◌++◌, codes, decimal, is_err, length};
 ghost use Rattle.std.specs.List.{flat_map};
 ghost use Rattle.fc_base.specs.Grain.{grain_kib};
 ghost use Rattle.fc_entry.specs.Written.{Written};
-ghost use Rattle.fc_trace.specs.Trace.{header_text};
+ghost use Rattle.fc_trace.specs.Trace.{disks_of, header_text};
 
+use fc_base::disk::DiskKind;
 use fc_base::outcome::Failed;
 use fc_base::size::GrainSize;
-use fc_entry::parts::{put_all, put_text};
+use fc_entry::parts::{put_all, put_number, put_text};
 use fc_io::sink::Sink;
 use itoa::Buffer;
 
@@ -21,35 +22,34 @@ pub struct LaneDisks {
     pub thin: u32,
 }
 
-/// Puts a number behind a space.
-fn put_count<K: Sink>(count: u32, sink: &mut K) -> Result<(), Failed>
-    ensures { Written (K.meaning sink.old) (codes " " ++ decimal count) (is_err result) (K.meaning sink.new) }
-{
-    let mut digits = Buffer::new();
-    put_all(sink, &[b" ", digits.format(count).as_bytes()])
+/// What the store of a trace was made of.
+#[derive(Clone, Copy, Debug, PartialEq, Eq)]
+pub struct Header {
+    /// The size of its grains.
+    pub grain: GrainSize,
+    /// How many disks of each kind were handed in for each of its four lanes.
+    pub lanes: [LaneDisks; 4],
 }
 
-/// Puts how many flat disks each lane has.
-fn put_flat<K: Sink>(lanes: &[LaneDisks], sink: &mut K) -> Result<(), Failed>
-    ensures { Written (K.meaning sink.old) (flat_map (λ lane. codes " " ++ decimal lane.flat) lanes.now) (is_err result)
-        (K.meaning sink.new) }
-{
-    for lane in lanes {
-        match put_count(lane.flat, sink) {
-            Ok(()) => {}
-            Err(failed) => return Err(failed),
+impl LaneDisks {
+    /// How many disks of this kind were handed in.
+    fn of(self, kind: DiskKind) -> u32
+        ensures { result ≡ disks_of kind self }
+    {
+        match kind {
+            DiskKind::Flat => self.flat,
+            DiskKind::Thin => self.thin,
         }
     }
-    Ok(())
 }
 
-/// Puts how many thin disks each lane has.
-fn put_thin<K: Sink>(lanes: &[LaneDisks], sink: &mut K) -> Result<(), Failed>
-    ensures { Written (K.meaning sink.old) (flat_map (λ lane. codes " " ++ decimal lane.thin) lanes.now) (is_err result)
-        (K.meaning sink.new) }
+/// Puts how many disks of this kind each lane has, each number behind a space.
+fn put_counts<K: Sink>(lanes: &[LaneDisks], kind: DiskKind, sink: &mut K) -> Result<(), Failed>
+    ensures { Written (K.meaning sink.old) (flat_map (λ lane. codes " " ++ decimal (disks_of kind lane)) lanes.now)
+        (is_err result) (K.meaning sink.new) }
 {
     for lane in lanes {
-        match put_count(lane.thin, sink) {
+        match put_number(sink, b" ", lane.of(kind)) {
             Ok(()) => {}
             Err(failed) => return Err(failed),
         }
@@ -88,8 +88,8 @@ pub fn put_header<K: Sink>(
     ensures { Written (K.meaning sink.old) (header_text grain lanes.now) (is_err result) (K.meaning sink.new) }
 {
     put_store(grain, lanes.len(), sink)?;
-    put_flat(lanes, sink)?;
+    put_counts(lanes, DiskKind::Flat, sink)?;
     put_text(sink, b" thin")?;
-    put_thin(lanes, sink)?;
+    put_counts(lanes, DiskKind::Thin, sink)?;
     put_text(sink, b"\n")
 }

@@ -5,13 +5,11 @@
 //! call of the sink fails, a front of the text was written, and they answer so (`fc_entry`'s `Written`). The form is said in
 //! docs/TRACE.md.
 //!
-//! In reading order: `header`, the first line; `trace`, entries and a whole history; then what an entry is put by: `line`,
-//! its line and its rows, with `request`, what was asked; and `notes`, what it did, with `ranges` of grains.
+//! In reading order: `header`, the first line; `trace`, entries and a whole history; then what stands behind an entry's
+//! line: `notes`, what it did, with `ranges` of grains.
 #![tactic(auto)]
 
 pub mod header;
-pub mod line;
 pub mod notes;
 pub mod ranges;
-mod request;
 pub mod trace;

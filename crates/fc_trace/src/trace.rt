@@ -8,12 +8,13 @@ ghost use Rattle.fc_entry.specs.Written.{Written};
 ghost use Rattle.fc_trace.specs.Trace.{trace_text, traced_text};
 
 use crate::header::{LaneDisks, put_header};
-use crate::line::{put_line, put_report_rows};
 use crate::notes::put_notes;
 use fc_base::outcome::Failed;
 use fc_base::size::GrainSize;
 use fc_entry::history::History;
 use fc_entry::parts::put_text;
+use fc_entry::reply_text::put_reply_rows;
+use fc_entry::text::put_line;
 use fc_io::sink::Sink;
 
 /// Puts the entry with this number in trace form: its line, what it did, the rows of its report, and a line `.`. Its actor
@@ -28,7 +29,7 @@ pub fn put_traced<K: Sink>(history: &History, index: usize, sink: &mut K) -> Res
     let entry = history.entry(index);
     put_line(history, index, sink)?;
     put_notes(entry, sink)?;
-    put_report_rows(&entry.reply, sink)?;
+    put_reply_rows(&entry.reply, sink)?;
     put_text(sink, b".\n")
 }
 

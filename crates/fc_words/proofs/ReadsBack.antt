@@ -87,22 +87,6 @@ Reads-more verb s f o words most more command rest = record {
   few = let few = rest.few in omega arith;
 }
 
--- an option that may be given
-pub Reads-given : {T : Type 0} (verb : Verb) (setting : Setting) (put : Option T → Settings) (word : T → List ℕ) (Good : T → Type 0) (value : Option T) (f : Flags) (o : Operands) (words : List (List ℕ)) (most : ℕ) (command : Command) →
-    begins_with 45 (option_spelling (OfSetting setting)) ≡ true →
-    is_word (option_spelling (OfSetting setting)) ≡ true →
-    option_of verb (option_spelling (OfSetting setting)) ≡ Some (OfSetting setting) →
-    is_set setting (put None) ≡ false →
-    ((x : T) → Good x → is_word (word x) ≡ true) →
-    ((x : T) → Good x → (at : ℕ) → set setting at (word x) (put None) ≡ Ok (put (Some x))) →
-    IfSome value Good →
-    Reads verb (put value) f o words most command →
-    Reads verb (put None) f o (given_words (option_spelling (OfSetting setting)) word value ++ words) (most + 2) command
-Reads-given verb setting put word Good None f o words most command dash option named fresh is sets good rest =
-    Reads-more verb (put None) f o words most 2 command rest
-Reads-given verb setting put word Good (Some x) f o words most command dash option named fresh is sets good rest =
-    Reads-setting verb setting (put None) (put (Some x)) f o (word x) words most command dash option named fresh (is x good) (sets x good) rest
-
 -- an option without a value that may be given, behind what is given
 pub Reads-raised : (verb : Verb) (flag : Flag) (put : Bool → Flags) (given : Bool) {s : Settings} {o : Operands} {words : List (List ℕ)} {most : ℕ} {command : Command} →
     begins_with 45 (option_spelling (OfFlag flag)) ≡ true →

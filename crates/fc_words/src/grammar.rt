@@ -149,42 +149,6 @@ pub enum Operand {
     Turns,
 }
 
-const NAME: LineOption = LineOption::Setting(Setting::Name);
-
-const SIZE: LineOption = LineOption::Setting(Setting::Size);
-
-const UNIT: LineOption = LineOption::Setting(Setting::Unit);
-
-const SOURCE: LineOption = LineOption::Setting(Setting::Source);
-
-const TARGET: LineOption = LineOption::Setting(Setting::Target);
-
-const GROUP: LineOption = LineOption::Setting(Setting::Group);
-
-const COPY_RATE: LineOption = LineOption::Setting(Setting::CopyRate);
-
-const CLEAN_RATE: LineOption = LineOption::Setting(Setting::CleanRate);
-
-const GRAIN_SIZE: LineOption = LineOption::Setting(Setting::GrainSize);
-
-const SECONDS: LineOption = LineOption::Setting(Setting::Seconds);
-
-const DELIM: LineOption = LineOption::Setting(Setting::Delim);
-
-const THIN: LineOption = LineOption::Flag(Flag::Thin);
-
-const INCREMENTAL: LineOption = LineOption::Flag(Flag::Incremental);
-
-const AUTODELETE: LineOption = LineOption::Flag(Flag::Autodelete);
-
-const RESTORE: LineOption = LineOption::Flag(Flag::Restore);
-
-const PREP: LineOption = LineOption::Flag(Flag::Prep);
-
-const FORCE: LineOption = LineOption::Flag(Flag::Force);
-
-const SPLIT: LineOption = LineOption::Flag(Flag::Split);
-
 impl Verb {
     /// All lines, in the manual's order.
     pub fn all() -> &'static [Verb]
@@ -294,29 +258,40 @@ impl Verb {
         ensures { result.now ≡ options_of self }
     {
         match self {
-            Verb::MakeVolume => &[NAME, SIZE, UNIT, THIN],
-            Verb::PassTime => &[SECONDS],
-            Verb::MakeMapping => &[
-                SOURCE,
-                TARGET,
-                NAME,
-                GROUP,
-                COPY_RATE,
-                CLEAN_RATE,
-                GRAIN_SIZE,
-                INCREMENTAL,
-                AUTODELETE,
+            Verb::MakeVolume => &[
+                LineOption::Setting(Setting::Name),
+                LineOption::Setting(Setting::Size),
+                LineOption::Setting(Setting::Unit),
+                LineOption::Flag(Flag::Thin),
             ],
-            Verb::MakeGroup => &[NAME],
-            Verb::PrepareMapping | Verb::PrepareGroup => &[RESTORE],
-            Verb::StartMapping | Verb::StartGroup => &[PREP, RESTORE],
-            Verb::StopMapping | Verb::StopGroup => &[FORCE, SPLIT],
-            Verb::RemoveMapping | Verb::RemoveGroup => &[FORCE],
+            Verb::PassTime => &[LineOption::Setting(Setting::Seconds)],
+            Verb::MakeMapping => &[
+                LineOption::Setting(Setting::Source),
+                LineOption::Setting(Setting::Target),
+                LineOption::Setting(Setting::Name),
+                LineOption::Setting(Setting::Group),
+                LineOption::Setting(Setting::CopyRate),
+                LineOption::Setting(Setting::CleanRate),
+                LineOption::Setting(Setting::GrainSize),
+                LineOption::Flag(Flag::Incremental),
+                LineOption::Flag(Flag::Autodelete),
+            ],
+            Verb::MakeGroup => &[LineOption::Setting(Setting::Name)],
+            Verb::PrepareMapping | Verb::PrepareGroup => &[LineOption::Flag(Flag::Restore)],
+            Verb::StartMapping | Verb::StartGroup => &[
+                LineOption::Flag(Flag::Prep),
+                LineOption::Flag(Flag::Restore),
+            ],
+            Verb::StopMapping | Verb::StopGroup => &[
+                LineOption::Flag(Flag::Force),
+                LineOption::Flag(Flag::Split),
+            ],
+            Verb::RemoveMapping | Verb::RemoveGroup => &[LineOption::Flag(Flag::Force)],
             Verb::ListMappings
             | Verb::ListGroups
             | Verb::ListVolumes
             | Verb::ShowProgress
-            | Verb::ListDependents => &[DELIM],
+            | Verb::ListDependents => &[LineOption::Setting(Setting::Delim)],
             _ => &[],
         }
     }
@@ -357,30 +332,52 @@ impl Verb {
     }
 }
 
+impl Setting {
+    /// The word that names the option.
+    pub fn spelling(self) -> &'static [u8]
+        ensures { result.now ≡ option_spelling (LineOption.Setting self) }
+    {
+        match self {
+            Setting::Name => b"-name",
+            Setting::Size => b"-size",
+            Setting::Unit => b"-unit",
+            Setting::Source => b"-source",
+            Setting::Target => b"-target",
+            Setting::Group => b"-consistgrp",
+            Setting::CopyRate => b"-copyrate",
+            Setting::CleanRate => b"-cleanrate",
+            Setting::GrainSize => b"-grainsize",
+            Setting::Seconds => b"-seconds",
+            Setting::Delim => b"-delim",
+        }
+    }
+}
+
+impl Flag {
+    /// The word that names the option.
+    pub fn spelling(self) -> &'static [u8]
+        ensures { result.now ≡ option_spelling (LineOption.Flag self) }
+    {
+        match self {
+            Flag::Thin => b"-thin",
+            Flag::Incremental => b"-incremental",
+            Flag::Autodelete => b"-autodelete",
+            Flag::Restore => b"-restore",
+            Flag::Prep => b"-prep",
+            Flag::Force => b"-force",
+            Flag::Split => b"-split",
+        }
+    }
+}
+
 impl LineOption {
     /// The word that names the option.
     pub fn spelling(self) -> &'static [u8]
         ensures { result.now ≡ option_spelling self }
     {
         match self {
-            LineOption::Setting(Setting::Name) => b"-name",
-            LineOption::Setting(Setting::Size) => b"-size",
-            LineOption::Setting(Setting::Unit) => b"-unit",
-            LineOption::Setting(Setting::Source) => b"-source",
-            LineOption::Setting(Setting::Target) => b"-target",
-            LineOption::Setting(Setting::Group) => b"-consistgrp",
-            LineOption::Setting(Setting::CopyRate) => b"-copyrate",
-            LineOption::Setting(Setting::CleanRate) => b"-cleanrate",
-            LineOption::Setting(Setting::GrainSize) => b"-grainsize",
-            LineOption::Setting(Setting::Seconds) => b"-seconds",
-            LineOption::Setting(Setting::Delim) => b"-delim",
-            LineOption::Flag(Flag::Thin) => b"-thin",
-            LineOption::Flag(Flag::Incremental) => b"-incremental",
-            LineOption::Flag(Flag::Autodelete) => b"-autodelete",
-            LineOption::Flag(Flag::Restore) => b"-restore",
-            LineOption::Flag(Flag::Prep) => b"-prep",
-            LineOption::Flag(Flag::Force) => b"-force",
-            LineOption::Flag(Flag::Split) => b"-split",
+            LineOption::Setting(setting) => setting.spelling(),
+            LineOption::Flag(flag) => flag.spelling(),
         }
     }
 }

@@ -19,5 +19,5 @@ pub mod grammar;
 pub mod line;
 mod reader;
 pub mod refused;
-mod values;
+pub mod values;
 mod words;

@@ -30,8 +30,8 @@ fn are_digits(word: &[u8]) -> bool
     word.iter().all(|byte| is_digit_byte(*byte))
 }
 
-/// Whether the word is one decimal digit or more, and nothing else.
-fn is_numeral_word(word: &[u8]) -> bool
+/// Whether the word is one decimal digit or more, and nothing else. False of the empty word.
+pub fn is_numeral_word(word: &[u8]) -> bool
     ensures { result ≡ is_numeral word.now }
 {
     word.len() > 0 && are_digits(word)
@@ -69,7 +69,7 @@ fn number(word: &[u8]) -> Option<u32>
 }
 
 /// A number below 2^32.
-pub fn read_number(word: &[u8], at: u32) -> Result<u32, WordFault>
+pub(crate) fn read_number(word: &[u8], at: u32) -> Result<u32, WordFault>
     ensures { result ≡ ok_or (number_of word.now) (WordFault.BadNumber at) }
 {
     number(word).ok_or(WordFault::BadNumber(at))
@@ -88,7 +88,7 @@ fn hex_digit(byte: u8) -> Option<u8>
 }
 
 /// Two hexadecimal digits of either case.
-pub fn read_byte(word: &[u8], at: u32) -> Result<u8, WordFault>
+pub(crate) fn read_byte(word: &[u8], at: u32) -> Result<u8, WordFault>
     ensures { result ≡ ok_or (byte_of word.now) (WordFault.BadNumber at) }
 {
     match word {
@@ -101,7 +101,7 @@ pub fn read_byte(word: &[u8], at: u32) -> Result<u8, WordFault>
 }
 
 /// One printable byte other than the space.
-pub fn read_delim(word: &[u8], at: u32) -> Result<u8, WordFault>
+pub(crate) fn read_delim(word: &[u8], at: u32) -> Result<u8, WordFault>
     ensures { result ≡ ok_or (delim_of word.now) (WordFault.BadName at) }
 {
     match word {
@@ -111,7 +111,7 @@ pub fn read_delim(word: &[u8], at: u32) -> Result<u8, WordFault>
 }
 
 /// A number of turns, 1 to 10,000.
-pub fn read_turns(word: &[u8], at: u32) -> Result<u32, WordFault>
+pub(crate) fn read_turns(word: &[u8], at: u32) -> Result<u32, WordFault>
     ensures { result ≡ ok_or (turns_of word.now) (WordFault.BadNumber at) }
 {
     match number(word) {
@@ -121,7 +121,7 @@ pub fn read_turns(word: &[u8], at: u32) -> Result<u32, WordFault>
 }
 
 /// `kb`, `mb` or `gb`.
-pub fn read_unit(word: &[u8], at: u32) -> Result<Unit, WordFault>
+pub(crate) fn read_unit(word: &[u8], at: u32) -> Result<Unit, WordFault>
     ensures { result ≡ ok_or (unit_of word.now) (WordFault.BadNumber at) }
 {
     if word == b"kb".as_slice() {
@@ -136,7 +136,7 @@ pub fn read_unit(word: &[u8], at: u32) -> Result<Unit, WordFault>
 }
 
 /// `64` or `256`.
-pub fn read_grain_size(word: &[u8], at: u32) -> Result<GrainSize, WordFault>
+pub(crate) fn read_grain_size(word: &[u8], at: u32) -> Result<GrainSize, WordFault>
     ensures { result ≡ ok_or (grain_size_of word.now) (WordFault.BadNumber at) }
 {
     if word == b"64".as_slice() {
@@ -149,7 +149,7 @@ pub fn read_grain_size(word: &[u8], at: u32) -> Result<GrainSize, WordFault>
 }
 
 /// `host`, `admin`, `copier` or `cleaner`.
-pub fn read_role(word: &[u8], at: u32) -> Result<RoleWord, WordFault>
+pub(crate) fn read_role(word: &[u8], at: u32) -> Result<RoleWord, WordFault>
     ensures { result ≡ ok_or (role_of word.now) (WordFault.BadNumber at) }
 {
     if word == b"host".as_slice() {
@@ -166,7 +166,7 @@ pub fn read_role(word: &[u8], at: u32) -> Result<RoleWord, WordFault>
 }
 
 /// A name.
-pub fn read_name(alloc: Global, word: &[u8], at: u32) -> Result<Name, WordRefused>
+pub(crate) fn read_name(alloc: Global, word: &[u8], at: u32) -> Result<Name, WordRefused>
     ensures { Answers result (ok_or (name_of word.now) (WordFault.BadName at)) }
 {
     match Name::new(alloc, word) {
@@ -177,7 +177,7 @@ pub fn read_name(alloc: Global, word: &[u8], at: u32) -> Result<Name, WordRefuse
 }
 
 /// An object by its id, where the word is digits, or by its name.
-pub fn read_ref(alloc: Global, word: &[u8], at: u32) -> Result<Ref, WordRefused>
+pub(crate) fn read_ref(alloc: Global, word: &[u8], at: u32) -> Result<Ref, WordRefused>
     ensures { Answers result (ref_at at word.now) }
 {
     if is_numeral_word(word) {

@@ -1,11 +1,8 @@
 -- What the parts of a store keep while actors hold them, and what stays where names come.
 use Rattle.std.proofs.Common.{◌≡◌, List, length, sym, ◌∙◌, arith}
 use Rattle.fc_blocks.specs.declared.block.BlockRead.{BlockRead}
-use Rattle.fc_lane.specs.Lane.{LaneView, IsSameLane}
-use Rattle.fc_lanes.specs.AllLanes.{EachLane}
 use Rattle.fc_lanes.specs.Dealing.{disks_in}
-use Rattle.fc_legal.specs.Whole.{Whole, lanes, part_at}
-use Rattle.fc_shares.specs.Law.{KeepsLane}
+use Rattle.fc_legal.specs.Whole.{Whole, part_at}
 use Rattle.fc_stands.proofs.Frames.{same_disks}
 use Rattle.fc_stands.proofs.Quieting.{each_keeps}
 use Rattle.fc_stands.specs.Quiet.{AreQuiet}
@@ -18,7 +15,7 @@ module _ (store new : StoreView) (w : Whole) (makings : List Making) where
   pub same_grain : IsRun store new w makings → new.control.grain ≡ store.control.grain
   same_grain run = run.shares.control.grain ∙ run.shares.sound.grain
 
-  same_count : StandsFor store w → IsRun store new w makings → length new.lanes ≡ length store.lanes
+  pub same_count : StandsFor store w → IsRun store new w makings → length new.lanes ≡ length store.lanes
   same_count stands run = run.shares.count ∙ run.shares.sound.lanes_are ∙ sym stands.count
 
   pub disks_stay : StandsFor store w → IsRun store new w makings → disks_in new.lanes ≡ disks_in store.lanes
@@ -31,14 +28,6 @@ module _ (store new : StoreView) (w : Whole) (makings : List Making) where
   quiet_stays stands run = each_keeps store.lanes new.lanes record {
     count = same_count stands run;
     each = λ i d inside. (run.shares.each i d (omega (arith, inside, same_count stands run))).faults.quiet;
-  }
-
-  pub lanes_stay : StandsFor store w → IsRun store new w makings → EachLane KeepsLane store.lanes new.lanes
-  lanes_stay stands run = record {
-    count = same_count stands run;
-    each = λ i d inside.
-        let has = run.shares.each i d (omega (arith, inside, same_count stands run)) in
-        (has.same, has.faults);
   }
 
 pub stands_named : (store : StoreView) (w : Whole) (block : BlockRead) → StandsFor store w → StandsFor store (named w block)

@@ -26,7 +26,7 @@ length-numbered n [] = refl
 length-numbered n (entry ∷ entries) = omega (arith, length-numbered (suc n) entries)
 
 module _ (store new : StoreView) (w : Whole) (makings : List Making) (old : HistoryState) (told : IsOf w old) (made : AreMakings makings) (run : IsRun store new w makings) where
-  merged_is : (merged : List Entry) → MergesTo old makings merged → merged ≡ numbered w.entries run.entries
+  pub merged_is : (merged : List Entry) → MergesTo old makings merged → merged ≡ numbered w.entries run.entries
   merged_is merged m =
       let P : ℕ → Type 0 = λ n. IsMerged n (length (all_of (map own_of makings))) (map own_of makings) merged in
       merge_law_holds.merged w.entries run.entries merged makings made run.drawn (subst P (sym told.entries) m)
@@ -47,7 +47,12 @@ module _ (store new : StoreView) (w : Whole) (makings : List Making) (old : Hist
         entries = omega (arith, counted.0, told.entries, length-append old.entries more);
       }
 
-  stands : StandsFor new run.last.whole
+  pub last_entries : run.last.whole.entries ≡ w.entries + length run.entries
+  last_entries =
+      let steps = share_law_holds.steps (situation_of store w) run.last w.entries run.entries run.leads in
+      omega (arith, (steps_law_holds.counted store.control.grain w run.last.whole (numbered w.entries run.entries) steps).0, length-numbered w.entries run.entries)
+
+  pub stands : StandsFor new run.last.whole
   stands = share_law_holds.closing (situation_of store w) run.last store.lanes new run.shares
 
   pub ran_all : (scripts : List Script) (merged : List Entry) → AllAsked (map own_of makings) scripts → MergesTo old makings merged →

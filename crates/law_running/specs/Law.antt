@@ -7,16 +7,14 @@ use Rattle.fc_entry.specs.HistoryState.{HistoryState}
 use Rattle.fc_entry.specs.declared.entry.Entry.{Entry}
 use Rattle.fc_entry.specs.declared.stop.Stop.{Stop}
 use Rattle.fc_entry.specs.declared.stop.Stop.TheVariants.{LogFull, NoMemory}
-use Rattle.fc_lanes.specs.AllLanes.{EachLane}
 use Rattle.fc_lanes.specs.Dealing.{disks_in}
 use Rattle.fc_legal.specs.Added.{Answered, IsOf}
-use Rattle.fc_legal.specs.Agenda.{Reading, session_rules, with_names}
+use Rattle.fc_legal.specs.Agenda.{Reading, session_rules}
 use Rattle.fc_legal.specs.Scripts.{Script}
 use Rattle.fc_legal.specs.Whole.{Whole}
 use Rattle.fc_merge.specs.Merging.{IsMerged, all_of}
 use Rattle.fc_scripts.specs.Ways.{AreOfDifferent}
-use Rattle.fc_shares.specs.Law.{HaveShares, KeepsLane, LeadOn, situation_of}
-use Rattle.fc_stands.specs.Quiet.{AreQuiet}
+use Rattle.fc_stands.specs.Quiet.{QuietBy}
 use Rattle.fc_stands.specs.Store.{StandsFor, StoreView}
 use Rattle.law_together.specs.Asking.{AllAsked, AllBegan, OneWants}
 use Rattle.law_together.specs.Making.{AreMakings, Making, own_of}
@@ -51,16 +49,15 @@ pub record RunLaw : Type 0 where
   pub limit : (store new : StoreView) (w : Whole) (makings : List Making) (merged front rest : List Entry) (old : HistoryState) →
       IsOf w old → AreMakings makings → IsRun store new w makings →
       MergesTo old makings merged → merged ≡ front ++ rest → length (old.entries ++ front) ≤ 262144
-  -- the grain size and the disks stay, and where no disk could fail, none can
+  -- the grain size and the disks stay
   pub grain : (store new : StoreView) (w : Whole) (makings : List Making) →
       IsRun store new w makings → new.control.grain ≡ store.control.grain
   pub disks : (store new : StoreView) (w : Whole) (makings : List Making) → StandsFor store w →
       IsRun store new w makings → disks_in new.lanes ≡ disks_in store.lanes
-  pub quiet : (store new : StoreView) (w : Whole) (makings : List Making) → StandsFor store w →
-      IsRun store new w makings → AreQuiet store.lanes → AreQuiet new.lanes
-  -- nor is a fault armed in any lane
-  pub lanes : (store new : StoreView) (w : Whole) (makings : List Making) → StandsFor store w →
-      IsRun store new w makings → EachLane KeepsLane store.lanes new.lanes
+  -- where no disk could fail, none can, and armed faults are as the entries tell
+  pub quiet : (store new : StoreView) (w : Whole) (makings : List Making) (merged : List Entry) (old : HistoryState) →
+      StandsFor store w → IsOf w old → AreMakings makings → IsRun store new w makings → MergesTo old makings merged →
+      QuietBy old.entries store → QuietBy (old.entries ++ merged) new
   -- who stands for what is told does so when names have come
   pub named_stands : (store : StoreView) (w : Whole) (block : BlockRead) → StandsFor store w → StandsFor store (named w block)
   -- with the faults of which `main` was told before, it answers the block

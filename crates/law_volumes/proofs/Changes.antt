@@ -45,7 +45,7 @@ changes_keep b [] apart = refl
 changes_keep b (change ∷ changes) apart = changes_keep (after_table_change b change) changes apart.1 ∙ change_keeps b change apart.0
 
 -- Lanes' events change no table.
-events_keep : (restarts : ℕ → List Bool) (b : Books) (events : List LaneEvent) → (fold (after_event restarts) b events).tables ≡ b.tables
+pub events_keep : (restarts : ℕ → List Bool) (b : Books) (events : List LaneEvent) → (fold (after_event restarts) b events).tables ≡ b.tables
 events_keep restarts b [] = refl
 events_keep restarts b (event ∷ events) = events_keep restarts (after_event restarts b event) events
 

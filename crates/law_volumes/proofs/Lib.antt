@@ -2,6 +2,7 @@
 pub mod Changes
 pub mod Deeds
 pub mod Steps
+pub mod Coming
 pub mod Lines
 pub mod Scripts
 pub mod Volumes

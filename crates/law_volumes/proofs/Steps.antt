@@ -20,12 +20,12 @@ use Rattle.law_volumes.specs.Law.{is_of_volumes, asks_of_volumes}
 use Rattle.law_volumes.proofs.Deeds.{settle_keeps, decide_keeps}
 
 -- The volumes that are told of.
-abbrev volumes : Whole → List Volume
+abbrev pub volumes : Whole → List Volume
 volumes w = w.books.tables.volumes
 
 -- ---- commands
 
-settling_keeps : (grain : GrainSize) (w : Whole) → volumes (after_settling grain w) ≡ volumes w
+pub settling_keeps : (grain : GrainSize) (w : Whole) → volumes (after_settling grain w) ≡ volumes w
 settling_keeps grain w = settle_keeps w.books (restarts w.rows)
 
 left_keeps : (grain : GrainSize) (w : Whole) (command : Command) (reply : Reply) (effects : List Effect) (left : Whole) → is_of_volumes command ≡ false →

@@ -1,16 +1,20 @@
 -- The law of volumes: nothing but `mkvdisk` and `rmvdisk` changes the table of volumes, and nobody in a block asks for one of
 -- them.
-use Rattle.std.specs.Prelude.{◌≡◌, ◌≢◌, ℕ, Bool, true, false, List, Option, Ok, All, Contains}
+use Rattle.std.specs.Prelude.{◌≡◌, ◌≢◌, ◌⊎◌, ℕ, Bool, true, false, List, Option, Ok, All, Contains}
 use Rattle.fc_base.specs.declared.command.Command.{Command}
 use Rattle.fc_base.specs.declared.command.Command.TheVariants.{Mkvdisk, Rmvdisk}
 use Rattle.fc_base.specs.declared.command.Line.TheVariants.{Command as CommandLine}
 use Rattle.fc_base.specs.declared.command.Scope.{Scope}
 use Rattle.fc_base.specs.declared.command.Scope.TheVariants.{Free}
 use Rattle.fc_base.specs.declared.decision.Decision.{Decision}
+use Rattle.fc_base.specs.declared.fault.Kind.TheVariants.{Vdisk}
 use Rattle.fc_base.specs.declared.ids.VolId.{VolId}
+use Rattle.fc_base.specs.declared.request.Reply.{Reply}
+use Rattle.fc_base.specs.declared.request.Reply.TheVariants.{Made}
 use Rattle.fc_base.specs.declared.request.Request.{Request}
 use Rattle.fc_base.specs.declared.request.Request.TheVariants.{Command as Asked}
 use Rattle.fc_base.specs.declared.size.GrainSize.{GrainSize}
+use Rattle.fc_base.specs.declared.volume.Volume.{Volume}
 use Rattle.fc_blocks.specs.Segments.{together, cut}
 use Rattle.fc_blocks.specs.declared.block.BlockRead.{BlockRead}
 use Rattle.fc_books.specs.Books.{Books}
@@ -33,6 +37,11 @@ abbrev pub asks_of_volumes : Request → Bool
 asks_of_volumes (Asked command) = is_of_volumes command
 asks_of_volumes request = false
 
+-- A request that was answered so made the volume with this id.
+abbrev pub Makes : Request → Reply → ℕ → Type 0
+Makes (Asked (Mkvdisk name size unit thin)) (Made Vdisk made) id = made ≡ id
+Makes request reply id = ⊥
+
 -- Some requests of which none does.
 abbrev pub AskOfNoVolume : List Request → Type 0
 AskOfNoVolume requests = All (λ request. asks_of_volumes request ≡ false) requests
@@ -49,6 +58,9 @@ pub record VolumesLaw : Type 0 where
   -- so does each entry that is right after what was told, but for those two: a turn, an access and a refusal among them
   pub steps : (grain : GrainSize) (w : Whole) (entry : Entry) (next : Whole) →
       asks_of_volumes entry.request ≡ false → Step grain w entry next → next.books.tables.volumes ≡ w.books.tables.volumes
+  -- and what is there after any entry that is right was there before it, or a `mkvdisk` made it
+  pub comes : (grain : GrainSize) (w : Whole) (entry : Entry) (next : Whole) → Step grain w entry next →
+      (v : Volume) → Contains next.books.tables.volumes v → Contains w.books.tables.volumes v ⊎ Makes entry.request entry.reply v.id.0
   -- no line in a block is one of those two commands, and none asks for it
   pub lines : (scope : Scope) (line : List ℕ) (command : Command) →
       scope ≢ Free → line_of scope line ≡ Ok (CommandLine command) → is_of_volumes command ≡ false

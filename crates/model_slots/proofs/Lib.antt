@@ -3,3 +3,4 @@ mod Lists
 mod Columns
 mod Asking
 pub mod Needs
+pub mod Marks

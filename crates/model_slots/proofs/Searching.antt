@@ -40,12 +40,10 @@ pub last_done : (test : ℕ → Bool) (n m : ℕ) (found : Option ℕ) → found
 last_done test n m found f a b = let e : n ≡ m = omega arith in f ∙ ap (last_below test) e
 
 -- an answer is below the bound
-pub first_within : (test : ℕ → Bool) (n : ℕ) (found : Option ℕ) → found ≡ first_below test n → IfSome found (λ k. k < n)
-first_within test zero found f = subst (λ (o : Option ℕ). IfSome o (λ k. k < zero)) (first_start test ∙ sym f) tt
-first_within test (suc n) found f =
-    subst (λ (o : Option ℕ). IfSome o (λ k. k < suc n)) (sym (f ∙ first_step test n)) (by_cases (first_below test n) (test n) (first_within test n (first_below test n) refl))
+pub within_more : (n : ℕ) (found new : Option ℕ) (passes : Bool) → IfSome found (λ k. k < n) → new ≡ first_with found n passes → IfSome new (λ k. k < n + 1)
+within_more n found new passes lt e = subst (λ (o : Option ℕ). IfSome o (λ k. k < n + 1)) (sym e) (by_cases found passes lt)
   where
-    by_cases : (o : Option ℕ) (passes : Bool) → IfSome o (λ k. k < n) → IfSome (first_with o n passes) (λ k. k < suc n)
+    by_cases : (o : Option ℕ) (passes : Bool) → IfSome o (λ k. k < n) → IfSome (first_with o n passes) (λ k. k < n + 1)
     by_cases (Some k) passes lt = omega arith
     by_cases None true lt = omega arith
     by_cases None false lt = tt

@@ -6,7 +6,7 @@ ghost use Rattle.fc_base.specs.Moves.{is_in_place, none_holds_behind, next_behin
 ghost use Rattle.fc_base.specs.Sheet.{slot_at, column, shape_of};
 
 use crate::places::{birth_at, holds_at, in_one_chain, is_live_at, is_old_at, volume_at};
-use crate::search::{first_so_far, is_place, last_so_far};
+use crate::search::{first_place, first_so_far, is_place, last_so_far};
 use crate::slot::Slot;
 use fc_base::outcome::NoMemory;
 use std::alloc::Global;
@@ -52,11 +52,10 @@ pub fn reader_of(slots: &[Slot], but: usize, of: usize, grain: usize) -> Option<
     ensures value { result ≡ first_reader (column slots.now grain) but of }
     ensures bound { IfSome result (λ k. k < length slots.now) }
 {
-    let mut found = None;
-    for place in 0..slots.len() {
-        found = first_so_far(found, place, reads_from(slots, place, but, of, grain));
-    }
-    found
+    first_place(
+        slots.len(),
+        |place| reads_from(slots, place, but, of, grain),
+    )
 }
 
 /// Whether a slot's holder is an old slot of its own volume.

@@ -5,7 +5,7 @@ ghost use Rattle.fc_base.specs.Sheet.{slot_at, live_place, mapping_place, birth_
 ghost use Rattle.fc_base.specs.SheetStep.{has_after};
 
 use crate::places::{birth_at, grains_of, in_one_chain, is_live_at, is_of_mapping, volume_at};
-use crate::search::{first_so_far, last_so_far};
+use crate::search::{first_place, last_so_far};
 use crate::slot::Slot;
 
 /// Whether a place is the live slot of the volume.
@@ -20,11 +20,7 @@ pub fn place_of_live(slots: &[Slot], volume: u32) -> Option<usize>
     ensures value { result ≡ live_place slots.now volume }
     ensures bound { IfSome result (λ k. k < length slots.now) }
 {
-    let mut found = None;
-    for place in 0..slots.len() {
-        found = first_so_far(found, place, is_live_of(slots, place, volume));
-    }
-    found
+    first_place(slots.len(), |place| is_live_of(slots, place, volume))
 }
 
 /// The place of the mapping's slot.
@@ -32,11 +28,7 @@ pub fn place_of_mapping(slots: &[Slot], mapping: u32) -> Option<usize>
     ensures value { result ≡ mapping_place slots.now mapping }
     ensures bound { IfSome result (λ k. k < length slots.now) }
 {
-    let mut found = None;
-    for place in 0..slots.len() {
-        found = first_so_far(found, place, is_of_mapping(slots, place, mapping));
-    }
-    found
+    first_place(slots.len(), |place| is_of_mapping(slots, place, mapping))
 }
 
 /// Whether the slot at a place has this birth.
@@ -51,11 +43,7 @@ pub fn place_of_birth(slots: &[Slot], birth: u64) -> Option<usize>
     ensures value { result ≡ birth_place slots.now birth }
     ensures bound { IfSome result (λ k. k < length slots.now) }
 {
-    let mut found = None;
-    for place in 0..slots.len() {
-        found = first_so_far(found, place, is_born(slots, place, birth));
-    }
-    found
+    first_place(slots.len(), |place| is_born(slots, place, birth))
 }
 
 /// How many grains the volume has.

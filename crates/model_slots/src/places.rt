@@ -54,6 +54,17 @@ pub(crate) fn is_of_mapping(slots: &[Slot], place: usize, mapping: u32) -> bool
     place < slots.len() && slots[place].is_of(mapping)
 }
 
+/// For each grain of the slot at a place whether it holds it.
+pub fn held_at(slots: &[Slot], place: usize) -> &[bool]
+    ensures { result.now ≡ (slot_at slots.now place).held }
+{
+    if place < slots.len() {
+        slots[place].held()
+    } else {
+        &[]
+    }
+}
+
 /// Whether the slot at a place holds the grain.
 pub fn holds_at(slots: &[Slot], place: usize, grain: usize) -> bool
     ensures { result ≡ slice_index_or (slot_at slots.now place).held grain false }

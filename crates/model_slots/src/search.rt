@@ -1,8 +1,8 @@
 //! The first and the last place that passes a test, so far.
 
-ghost use Rattle.std.specs.Prelude.{◌≡◌, ℕ};
-ghost use Rattle.fc_base.specs.Column.{is_at};
-ghost use Rattle.model_slots.specs.Search.{first_with, last_with};
+ghost use Rattle.std.specs.Prelude.{◌≡◌, ℕ, ◌<◌, Bool, IfSome};
+ghost use Rattle.fc_base.specs.Column.{first_below, is_at};
+ghost use Rattle.model_slots.specs.Search.{Tests, first_with, last_with};
 
 /// The first place that passes, after one more place.
 pub(crate) fn first_so_far(found: Option<usize>, place: usize, passes: bool) -> Option<usize>
@@ -13,6 +13,19 @@ pub(crate) fn first_so_far(found: Option<usize>, place: usize, passes: bool) -> 
         None if passes => Some(place),
         None => None,
     }
+}
+
+/// The first place below an end that passes a test.
+pub(crate) fn first_place<F: Fn(usize) -> bool>(end: usize, passes: F) -> Option<usize>
+    requires { F.IsAlwaysCallable passes }
+    ensures value { (test : ℕ → Bool) → Tests (F.post passes) test → result ≡ first_below test end }
+    ensures bound { IfSome result (λ k. k < end) }
+{
+    let mut found = None;
+    for place in 0..end {
+        found = first_so_far(found, place, passes(place));
+    }
+    found
 }
 
 /// The last place that passes, after one more place.

@@ -4,6 +4,7 @@ ghost use Rattle.std.specs.Prelude.{◌≡◌, ℕ, true, false, None, Some, rep
 ghost use Rattle.fc_base.specs.Column.{is_at};
 ghost use Rattle.fc_base.specs.Need.{is_complete};
 ghost use Rattle.fc_base.specs.SheetStep.{split_from, grain_taken, grain_kept, grain_lost};
+ghost use Rattle.fc_books.specs.After.{of_length};
 
 use fc_base::outcome::NoMemory;
 use std::alloc::Global;
@@ -35,6 +36,22 @@ fn marks(alloc: Global, mark: bool, count: usize) -> Result<Vec<bool>, NoMemory>
     match vec![in alloc; mark; count] {
         Ok(marks) => Ok(marks),
         Err(_) => Err(NoMemory),
+    }
+}
+
+/// The mark at a place; past the last one there is none.
+fn has_mark(marks: &[bool], place: usize) -> bool
+    ensures { result ≡ slice_index_or marks.now place false }
+{
+    place < marks.len() && marks[place]
+}
+
+/// Marks become those of a set, as far as there are so many.
+fn set_marks(marks: &mut [bool], set: &[bool])
+    ensures { marks.new ≡ of_length (length marks.old) set.now }
+{
+    for place in 0..marks.len() {
+        marks[place] = has_mark(set, place);
     }
 }
 
@@ -135,7 +152,14 @@ impl Slot {
     pub fn holds(&self, grain: usize) -> bool
         ensures { result ≡ slice_index_or self.now.held grain false }
     {
-        grain < self.held.len() && self.held[grain]
+        has_mark(self.held.as_slice(), grain)
+    }
+
+    /// For each grain whether it holds it.
+    pub fn held(&self) -> &[bool]
+        ensures { result.now ≡ self.now.held }
+    {
+        self.held.as_slice()
     }
 
     /// How many grains its volume has on the sheet.
@@ -201,5 +225,12 @@ impl Slot {
         if !self.is_live && self.volume == volume && grain < self.held.len() {
             self.held[grain] = false;
         }
+    }
+
+    /// It holds the grains of a set, and no others.
+    pub fn hold_only(&mut self, set: &[bool])
+        ensures { self.new ≡ record self.old { held = of_length (length self.old.held) set.now } }
+    {
+        set_marks(self.held.as_mut_slice(), set);
     }
 }

@@ -1,5 +1,5 @@
-use Rattle.fc_entry.proofs.CommandLines.{join_with_byte-spaced, list_line, mkfcmap_line, mkfcmap_parts, object_line}
-use Rattle.fc_entry.proofs.PartLemmas.{Written-parts, cut, last, next}
+use Rattle.fc_entry.proofs.CommandLines.{armfault_line, join_with_byte-spaced, list_line, mkfcmap_line, mkfcmap_parts, object_line, read_line}
+use Rattle.fc_entry.proofs.PartLemmas.{Written-as, Written-parts, cut, last, next}
 use Rattle.fc_entry.proofs.command_text.put_command.Goals as goal
 
 pub returns-in-Mkvdisk : goal.returns-in-Mkvdisk
@@ -12,10 +12,10 @@ pub returns-in-Write : goal.returns-in-Write
 returns-in-Write g c = rw c.in-Write.is c.put_write.ensures
 
 pub returns-in-Read : goal.returns-in-Read
-returns-in-Read g c = rw c.in-Read.is c.put_read.ensures
+returns-in-Read g c = rw c.in-Read.is (Written-as (read_line c.in-Read.volume c.in-Read.block c.in-Read.count) c.put_access.ensures)
 
 pub returns-in-Armfault : goal.returns-in-Armfault
-returns-in-Armfault g c = rw c.in-Armfault.is c.put_armfault.ensures
+returns-in-Armfault g c = rw c.in-Armfault.is (Written-as (armfault_line c.in-Armfault.volume c.in-Armfault.grain c.in-Armfault.calls) c.put_access-in-Armfault.ensures)
 
 pub returns-in-Advance : goal.returns-in-Advance
 returns-in-Advance g c = rw c.in-Advance.is c.put_number.ensures

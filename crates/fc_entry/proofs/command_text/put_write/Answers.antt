@@ -2,17 +2,12 @@ use Rattle.fc_entry.proofs.CommandLines.{write_line, write_parts}
 use Rattle.fc_entry.proofs.PartLemmas.{Written-parts, cut, last, next}
 use Rattle.fc_entry.proofs.command_text.put_write.Goals as goal
 
-pub returns-in_err-put_reference : goal.returns-in_err-put_reference
-returns-in_err-put_reference g c =
+pub returns-in_err-put_access : goal.returns-in_err-put_access
+returns-in_err-put_access g c =
     rw c.from_residual.ensures.0
-    (Written-parts (write_parts c.args.volume.now c.args.block c.args.count c.args.byte) (write_line c.args.volume.now c.args.block c.args.count c.args.byte) (cut c.in_err-put_reference.ensures))
-
-pub returns-in_err-put_numbers : goal.returns-in_err-put_numbers
-returns-in_err-put_numbers g c =
-    rw c.from_residual-in_err-put_numbers.ensures.0
-    (Written-parts (write_parts c.args.volume.now c.args.block c.args.count c.args.byte) (write_line c.args.volume.now c.args.block c.args.count c.args.byte) (next c.in_ok-put_reference.ensures (cut c.in_err-put_numbers.ensures)))
+    (Written-parts (write_parts c.args.volume.now c.args.block c.args.count c.args.byte) (write_line c.args.volume.now c.args.block c.args.count c.args.byte) (cut c.in_err-put_access.ensures))
 
 pub returns : goal.returns
 returns g c =
     Written-parts (write_parts c.args.volume.now c.args.block c.args.count c.args.byte) (write_line c.args.volume.now c.args.block c.args.count c.args.byte)
-    (next c.in_ok-put_reference.ensures (next c.in_ok-put_numbers.ensures (last (rw c.byte_digits.ensures at c.put_word.ensures))))
+    (next c.in_ok-put_access.ensures (last (rw c.byte_digits.ensures at c.put_word.ensures)))

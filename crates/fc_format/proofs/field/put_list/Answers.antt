@@ -8,4 +8,4 @@ use Rattle.fc_format.proofs.field.put_list.Goals as goal
 pub returns-clause-bytes : goal.returns-clause-bytes
 unfolding list_bytes
 returns-clause-bytes g c =
-    then_put c.args.out.now.items (big_bytes 4 (length c.args.all.now)) (flat_map g.T.Field.bytes_of c.args.all.now) c.in_ok-put_count.ensures c.in_ok-put_items.ensures.bytes
+    then_put c.args.out.now.items (big_bytes 4 (length c.args.all.now)) (flat_map g.T.Put.bytes_of c.args.all.now) c.in_ok-put_count.ensures c.in_ok-put_items.ensures.bytes

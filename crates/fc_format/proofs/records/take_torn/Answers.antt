@@ -1,28 +1,9 @@
 use Rattle.std.proofs.Common.{refl}
-use Rattle.std.proofs.lemmas.Result.{err_from_is_err_and}
-use Rattle.fc_format.specs.Reading.{number}
-use Rattle.fc_format.specs.Fields.{side, torn}
-use Rattle.fc_format.proofs.Steps.{fails_as}
+use Rattle.fc_format.proofs.Made.{torn_made, fails}
 use Rattle.fc_format.proofs.records.take_torn.Goals as goal
 
-pub returns-in_err-volume : goal.returns-in_err-volume
-unfolding torn
-returns-in_err-volume c =
-    let p = err_from_is_err_and c.from_residual.result c.from_residual.ensures.1 in
-    rw (p.1, p.2) (fails_as (torn c.args.cursor.now) (number 4 c.args.cursor.now) _ _ _ (λ at h. rw (h) refl) c.in_err-volume.ensures)
+pub returns-in-Ok : goal.returns-in-Ok
+returns-in-Ok c = rw (torn_made.same c.args.cursor.now, c.in-Ok.ensures) refl
 
-pub returns-in_err-grain : goal.returns-in_err-grain
-unfolding torn
-returns-in_err-grain c =
-    let p = err_from_is_err_and c.from_residual-in_err-grain.result c.from_residual-in_err-grain.ensures.1 in
-    rw (p.1, p.2) (fails_as (torn c.args.cursor.now) (number 4 c.read.new.cursor) _ _ _ (λ at h. rw (c.in_ok-volume.ensures, h) refl) c.in_err-grain.ensures)
-
-pub returns-in_err-side : goal.returns-in_err-side
-unfolding torn
-returns-in_err-side c =
-    let p = err_from_is_err_and c.from_residual-in_err-side.result c.from_residual-in_err-side.ensures.1 in
-    rw (p.1, p.2) (fails_as (torn c.args.cursor.now) (side c.read-2.new.cursor) _ _ _ (λ at h. rw (c.in_ok-volume.ensures, c.in_ok-grain.ensures, h) refl) c.in_err-side.ensures)
-
-pub returns : goal.returns
-unfolding torn
-returns c = rw (c.in_ok-volume.ensures, c.in_ok-grain.ensures, c.in_ok-side.ensures) refl
+pub returns-in-Err : goal.returns-in-Err
+returns-in-Err c = fails torn_made c.args.cursor.now c.in-Err.error c.read.new.cursor c.read.new.cursor c.in-Err.ensures

@@ -1,10 +1,7 @@
-use Rattle.std.proofs.Common.{◌≡◌, ℕ, ◌+◌, ◌≤◌, List, [], ◌∷◌, subst, length, sym, ap, ◌∙◌, arith}
-use Rattle.std.proofs.lemmas.Bool.Decides.{nat_tests}
+use Rattle.std.proofs.Common.{◌≡◌, ℕ, List, [], ◌∷◌, subst, sym, ◌∙◌}
 use Rattle.fc_format.specs.Bytes.{half_bytes}
-use Rattle.fc_format.specs.Halves.{Image, NoImage, half_size}
-use Rattle.fc_meta.specs.Answers.{LeavesEither}
-use Rattle.fc_meta.proofs.Moments.{joined}
-use Rattle.fc_meta.proofs.Opening.{blank, first_run, second_run, opened_rests}
+use Rattle.fc_meta.proofs.Inside.{behind_gate}
+use Rattle.fc_meta.proofs.Opening.{blank, first_run, whole_run, opened_rests}
 use Rattle.fc_metadisk.specs.Calls.{all_made, AreCutShort}
 use Rattle.fc_metadisk.proofs.Told.{all_behind, cut_after, cut_before}
 use Rattle.fc_meta.specs.DiskCalls.{write_and_sync}
@@ -18,35 +15,23 @@ returns-then-half_len-len-clause-any_moment g c = blank g.M.MetaDisk.seen g.M.Me
 
 pub returns-in_err-write_synced-clause-any_moment : goal.returns-in_err-write_synced-clause-any_moment
 returns-in_err-write_synced-clause-any_moment g c =
-    let is : c.deref.result.now ≡ half_bytes 1 c.args.image.now = c.deref.ensures.value ∙ c.in_ok-bytes.ensures.bytes in
-    let counts : c.len.result ≡ length (half_bytes 1 c.args.image.now) = c.len.ensures ∙ (sym c.deref.ensures.len ∙ ap length is) in
-    let inside : 1 + length (half_bytes 1 c.args.image.now) ≤ half_size (g.M.MetaDisk.seen c.args.disk.now) = grind (arith, nat_tests, counts, c.half_len.ensures.value, c.if-half_len-len.false) in
-    first_run g.M.MetaDisk.seen g.M.MetaDisk.may_leave g.M.MetaDisk.moment g.M.MetaDisk.left_since g.met.M.MetaDisk.only_now c.args.disk.now c.args.image.now c.requires.zeros c.requires.synced c.deref.result.now is inside c.write_synced.new.disk c.write_synced.ensures.any_moment
+    let w = behind_gate c.deref.ensures.value c.in_ok-bytes.ensures.bytes c.len.ensures c.deref.ensures.len c.half_len.ensures.value c.if-half_len-len.false in
+    first_run g.M.MetaDisk.seen g.M.MetaDisk.may_leave g.M.MetaDisk.moment g.M.MetaDisk.left_since g.met.M.MetaDisk.only_now c.args.disk.now c.args.image.now c.requires.zeros c.requires.synced c.deref.result.now w.is w.inside c.write_synced.new.disk c.write_synced.ensures.any_moment
 
 pub returns-in_err-write_synced-2-clause-any_moment : goal.returns-in_err-write_synced-2-clause-any_moment
 returns-in_err-write_synced-2-clause-any_moment g c =
-    let is : c.deref.result.now ≡ half_bytes 1 c.args.image.now = c.deref.ensures.value ∙ c.in_ok-bytes.ensures.bytes in
-    let counts : c.len.result ≡ length (half_bytes 1 c.args.image.now) = c.len.ensures ∙ (sym c.deref.ensures.len ∙ ap length is) in
-    let inside : 1 + length (half_bytes 1 c.args.image.now) ≤ half_size (g.M.MetaDisk.seen c.args.disk.now) = grind (arith, nat_tests, counts, c.half_len.ensures.value, c.if-half_len-len.false) in
-    joined g.M.MetaDisk.moment g.M.MetaDisk.left_since c.args.disk.now c.write_synced.new.disk c.write_synced-2.new.disk (LeavesEither NoImage (Image c.args.image.now))
-    (first_run g.M.MetaDisk.seen g.M.MetaDisk.may_leave g.M.MetaDisk.moment g.M.MetaDisk.left_since g.met.M.MetaDisk.only_now c.args.disk.now c.args.image.now c.requires.zeros c.requires.synced c.deref.result.now is inside c.write_synced.new.disk c.write_synced.ensures.any_moment)
-    (second_run g.M.MetaDisk.seen g.M.MetaDisk.may_leave g.M.MetaDisk.moment g.M.MetaDisk.left_since g.met.M.MetaDisk.only_now c.args.disk.now c.args.image.now c.requires.zeros c.requires.synced c.deref.result.now is inside c.in_ok-bytes.ensures.typed c.requires.ids c.half_len.ensures.small c.write_synced.new.disk c.in_ok-write_synced.ensures.bytes c.write_synced-2.new.disk c.in_ok-write_synced.ensures.durable c.write_synced-2.ensures.any_moment)
+    let w = behind_gate c.deref.ensures.value c.in_ok-bytes.ensures.bytes c.len.ensures c.deref.ensures.len c.half_len.ensures.value c.if-half_len-len.false in
+    whole_run g.M.MetaDisk.seen g.M.MetaDisk.may_leave g.M.MetaDisk.moment g.M.MetaDisk.left_since g.met.M.MetaDisk.only_now c.args.disk.now c.args.image.now c.requires.zeros c.requires.synced c.deref.result.now w.is w.inside c.in_ok-bytes.ensures.typed c.requires.ids c.half_len.ensures.small c.write_synced.new.disk c.in_ok-write_synced.ensures.bytes c.write_synced-2.new.disk c.write_synced.ensures.any_moment c.in_ok-write_synced.ensures.durable c.write_synced-2.ensures.any_moment
 
 pub returns-clause-any_moment : goal.returns-clause-any_moment
 returns-clause-any_moment g c =
-    let is : c.deref.result.now ≡ half_bytes 1 c.args.image.now = c.deref.ensures.value ∙ c.in_ok-bytes.ensures.bytes in
-    let counts : c.len.result ≡ length (half_bytes 1 c.args.image.now) = c.len.ensures ∙ (sym c.deref.ensures.len ∙ ap length is) in
-    let inside : 1 + length (half_bytes 1 c.args.image.now) ≤ half_size (g.M.MetaDisk.seen c.args.disk.now) = grind (arith, nat_tests, counts, c.half_len.ensures.value, c.if-half_len-len.false) in
-    joined g.M.MetaDisk.moment g.M.MetaDisk.left_since c.args.disk.now c.write_synced.new.disk c.write_synced-2.new.disk (LeavesEither NoImage (Image c.args.image.now))
-    (first_run g.M.MetaDisk.seen g.M.MetaDisk.may_leave g.M.MetaDisk.moment g.M.MetaDisk.left_since g.met.M.MetaDisk.only_now c.args.disk.now c.args.image.now c.requires.zeros c.requires.synced c.deref.result.now is inside c.write_synced.new.disk c.write_synced.ensures.any_moment)
-    (second_run g.M.MetaDisk.seen g.M.MetaDisk.may_leave g.M.MetaDisk.moment g.M.MetaDisk.left_since g.met.M.MetaDisk.only_now c.args.disk.now c.args.image.now c.requires.zeros c.requires.synced c.deref.result.now is inside c.in_ok-bytes.ensures.typed c.requires.ids c.half_len.ensures.small c.write_synced.new.disk c.in_ok-write_synced.ensures.bytes c.write_synced-2.new.disk c.in_ok-write_synced.ensures.durable c.write_synced-2.ensures.any_moment)
+    let w = behind_gate c.deref.ensures.value c.in_ok-bytes.ensures.bytes c.len.ensures c.deref.ensures.len c.half_len.ensures.value c.if-half_len-len.false in
+    whole_run g.M.MetaDisk.seen g.M.MetaDisk.may_leave g.M.MetaDisk.moment g.M.MetaDisk.left_since g.met.M.MetaDisk.only_now c.args.disk.now c.args.image.now c.requires.zeros c.requires.synced c.deref.result.now w.is w.inside c.in_ok-bytes.ensures.typed c.requires.ids c.half_len.ensures.small c.write_synced.new.disk c.in_ok-write_synced.ensures.bytes c.write_synced-2.new.disk c.write_synced.ensures.any_moment c.in_ok-write_synced.ensures.durable c.write_synced-2.ensures.any_moment
 
 pub returns-clause-rests : goal.returns-clause-rests
 returns-clause-rests g c =
-    let is : c.deref.result.now ≡ half_bytes 1 c.args.image.now = c.deref.ensures.value ∙ c.in_ok-bytes.ensures.bytes in
-    let counts : c.len.result ≡ length (half_bytes 1 c.args.image.now) = c.len.ensures ∙ (sym c.deref.ensures.len ∙ ap length is) in
-    let inside : 1 + length (half_bytes 1 c.args.image.now) ≤ half_size (g.M.MetaDisk.seen c.args.disk.now) = grind (arith, nat_tests, counts, c.half_len.ensures.value, c.if-half_len-len.false) in
-    opened_rests g.M.MetaDisk.seen g.M.MetaDisk.may_leave g.M.MetaDisk.moment g.M.MetaDisk.left_since g.met.M.MetaDisk.only_now c.args.disk.now c.args.image.now c.requires.zeros c.requires.synced c.deref.result.now is inside c.in_ok-bytes.ensures.typed c.requires.ids c.half_len.ensures.small c.write_synced.new.disk c.in_ok-write_synced.ensures.bytes c.write_synced-2.new.disk c.len-2.result c.in_ok-write_synced-2.ensures.bytes (c.len-2.ensures ∙ sym c.deref.ensures.len)
+    let w = behind_gate c.deref.ensures.value c.in_ok-bytes.ensures.bytes c.len.ensures c.deref.ensures.len c.half_len.ensures.value c.if-half_len-len.false in
+    opened_rests g.M.MetaDisk.seen g.M.MetaDisk.may_leave g.M.MetaDisk.moment g.M.MetaDisk.left_since g.met.M.MetaDisk.only_now c.args.disk.now c.args.image.now c.requires.zeros c.requires.synced c.deref.result.now w.is w.inside c.in_ok-bytes.ensures.typed c.requires.ids c.half_len.ensures.small c.write_synced.new.disk c.in_ok-write_synced.ensures.bytes c.write_synced-2.new.disk c.len-2.result c.in_ok-write_synced-2.ensures.bytes (c.len-2.ensures ∙ sym c.deref.ensures.len)
 
 pub returns-in_err-write_synced-clause-cut_short : goal.returns-in_err-write_synced-clause-cut_short
 returns-in_err-write_synced-clause-cut_short g c told =

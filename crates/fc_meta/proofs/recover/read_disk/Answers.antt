@@ -1,61 +1,32 @@
-use Rattle.std.proofs.Common.{◌≡◌, ℕ, ◌≤◌, List, inl, Option, sym, ap, ◌∙◌, subst}
+use Rattle.std.proofs.Common.{ℕ, ◌≤◌, List, inl, sym, ◌∙◌, subst}
 use Rattle.std.proofs.lemmas.Result.{err_from_is_err_and}
-use Rattle.fc_format.specs.declared.half.Half.TheVariants.{First, Second}
-use Rattle.fc_format.specs.Halves.{half_of, half_size, least_half}
-use Rattle.fc_meta.specs.Recovering.{open_generation, current_of, IsImageRead, IsBadHalf}
+use Rattle.fc_format.specs.Halves.{half_size, least_half}
+use Rattle.fc_meta.specs.Recovering.{IsImageRead, IsBadHalf}
 use Rattle.fc_meta.proofs.Moments.{started, goes_on, joined, weaker}
-use Rattle.fc_meta.proofs.Recovered.{none_read, facts_of, read_room, read_rests, bad_cause}
+use Rattle.fc_meta.proofs.Recovered.{both_read, none_read, facts_of, read_room, read_rests, bad_cause}
 use Rattle.fc_meta.proofs.recover.read_disk.Goals as goal
 
 pub read_image-requires : goal.read_image-requires
 read_image-requires g c =
-    let seen1 = c.sync.ensures.seen in
-    let seen2 = c.read_generation.ensures.seen ∙ seen1 in
-    let seen3 = c.read_generation-2.ensures.seen ∙ seen2 in
-    let one = c.in_ok-first.ensures.value ∙ ap (λ (z : List ℕ). open_generation (half_of First z)) seen1 in
-    let two = c.in_ok-second.ensures.value ∙ ap (λ (z : List ℕ). open_generation (half_of Second z)) seen2 in
-    let both : current_of c.in_ok-first.first c.in_ok-second.second ≡ current_of (open_generation (half_of First (g.M.MetaDisk.seen c.args.disk.now))) (open_generation (half_of Second (g.M.MetaDisk.seen c.args.disk.now))) =
-    ap (λ (z : Option ℕ). current_of z c.in_ok-second.second) one ∙ ap (λ (z : Option ℕ). current_of (open_generation (half_of First (g.M.MetaDisk.seen c.args.disk.now))) z) two in
-    let f = facts_of (g.M.MetaDisk.seen c.args.disk.now) c.in-Some.current (c.in-Some.ensures ∙ both) in
-    subst (λ (z : List ℕ). least_half ≤ half_size z) (sym seen3) (read_room (g.M.MetaDisk.seen c.args.disk.now) c.in-Some.current f)
+    let f = facts_of (g.M.MetaDisk.seen c.args.disk.now) c.in-Some.current (c.in-Some.ensures ∙ both_read _ _ _ _ _ c.sync.ensures.seen c.read_generation.ensures.seen c.in_ok-first.ensures.value c.in_ok-second.ensures.value) in
+    subst (λ (z : List ℕ). least_half ≤ half_size z) (sym (c.read_generation-2.ensures.seen ∙ (c.read_generation.ensures.seen ∙ c.sync.ensures.seen))) (read_room (g.M.MetaDisk.seen c.args.disk.now) c.in-Some.current f)
 
 pub returns-in_err-image-in-Some-clause-cause : goal.returns-in_err-image-in-Some-clause-cause
 returns-in_err-image-in-Some-clause-cause g c =
-    let seen1 = c.sync.ensures.seen in
-    let seen2 = c.read_generation.ensures.seen ∙ seen1 in
-    let seen3 = c.read_generation-2.ensures.seen ∙ seen2 in
-    let one = c.in_ok-first.ensures.value ∙ ap (λ (z : List ℕ). open_generation (half_of First z)) seen1 in
-    let two = c.in_ok-second.ensures.value ∙ ap (λ (z : List ℕ). open_generation (half_of Second z)) seen2 in
-    let both : current_of c.in_ok-first.first c.in_ok-second.second ≡ current_of (open_generation (half_of First (g.M.MetaDisk.seen c.args.disk.now))) (open_generation (half_of Second (g.M.MetaDisk.seen c.args.disk.now))) =
-    ap (λ (z : Option ℕ). current_of z c.in_ok-second.second) one ∙ ap (λ (z : Option ℕ). current_of (open_generation (half_of First (g.M.MetaDisk.seen c.args.disk.now))) z) two in
-    let f = facts_of (g.M.MetaDisk.seen c.args.disk.now) c.in-Some.current (c.in-Some.ensures ∙ both) in
+    let f = facts_of (g.M.MetaDisk.seen c.args.disk.now) c.in-Some.current (c.in-Some.ensures ∙ both_read _ _ _ _ _ c.sync.ensures.seen c.read_generation.ensures.seen c.in_ok-first.ensures.value c.in_ok-second.ensures.value) in
     let p = err_from_is_err_and c.from_residual-in_err-image-in-Some.result c.from_residual-in_err-image-in-Some.ensures.1 in
     rw (p.1, p.2) (bad_cause (g.M.MetaDisk.seen c.args.disk.now) c.in-Some.current f c.in_err-image-in-Some.field-0.0
-    (subst (λ (z : List ℕ). IsBadHalf c.in-Some.current.half z c.in_err-image-in-Some.field-0.0) seen3 c.in_err-image-in-Some.ensures.told))
+    (subst (λ (z : List ℕ). IsBadHalf c.in-Some.current.half z c.in_err-image-in-Some.field-0.0) (c.read_generation-2.ensures.seen ∙ (c.read_generation.ensures.seen ∙ c.sync.ensures.seen)) c.in_err-image-in-Some.ensures.told))
 
 pub returns-in-None-clause-cause : goal.returns-in-None-clause-cause
 returns-in-None-clause-cause g c =
-    let seen1 = c.sync.ensures.seen in
-    let seen2 = c.read_generation.ensures.seen ∙ seen1 in
-    let seen3 = c.read_generation-2.ensures.seen ∙ seen2 in
-    let one = c.in_ok-first.ensures.value ∙ ap (λ (z : List ℕ). open_generation (half_of First z)) seen1 in
-    let two = c.in_ok-second.ensures.value ∙ ap (λ (z : List ℕ). open_generation (half_of Second z)) seen2 in
-    let both : current_of c.in_ok-first.first c.in_ok-second.second ≡ current_of (open_generation (half_of First (g.M.MetaDisk.seen c.args.disk.now))) (open_generation (half_of Second (g.M.MetaDisk.seen c.args.disk.now))) =
-    ap (λ (z : Option ℕ). current_of z c.in_ok-second.second) one ∙ ap (λ (z : Option ℕ). current_of (open_generation (half_of First (g.M.MetaDisk.seen c.args.disk.now))) z) two in
-    none_read (g.M.MetaDisk.seen c.args.disk.now) (c.in-None.ensures ∙ both)
+    none_read (g.M.MetaDisk.seen c.args.disk.now) (c.in-None.ensures ∙ both_read _ _ _ _ _ c.sync.ensures.seen c.read_generation.ensures.seen c.in_ok-first.ensures.value c.in_ok-second.ensures.value)
 
 pub returns-in_ok-image-in-Some-clause-rests : goal.returns-in_ok-image-in-Some-clause-rests
 returns-in_ok-image-in-Some-clause-rests g c =
-    let seen1 = c.sync.ensures.seen in
-    let seen2 = c.read_generation.ensures.seen ∙ seen1 in
-    let seen3 = c.read_generation-2.ensures.seen ∙ seen2 in
-    let one = c.in_ok-first.ensures.value ∙ ap (λ (z : List ℕ). open_generation (half_of First z)) seen1 in
-    let two = c.in_ok-second.ensures.value ∙ ap (λ (z : List ℕ). open_generation (half_of Second z)) seen2 in
-    let both : current_of c.in_ok-first.first c.in_ok-second.second ≡ current_of (open_generation (half_of First (g.M.MetaDisk.seen c.args.disk.now))) (open_generation (half_of Second (g.M.MetaDisk.seen c.args.disk.now))) =
-    ap (λ (z : Option ℕ). current_of z c.in_ok-second.second) one ∙ ap (λ (z : Option ℕ). current_of (open_generation (half_of First (g.M.MetaDisk.seen c.args.disk.now))) z) two in
-    let f = facts_of (g.M.MetaDisk.seen c.args.disk.now) c.in-Some.current (c.in-Some.ensures ∙ both) in
+    let f = facts_of (g.M.MetaDisk.seen c.args.disk.now) c.in-Some.current (c.in-Some.ensures ∙ both_read _ _ _ _ _ c.sync.ensures.seen c.read_generation.ensures.seen c.in_ok-first.ensures.value c.in_ok-second.ensures.value) in
     read_rests (g.M.MetaDisk.seen c.args.disk.now) c.in-Some.current f c.in_ok-image-in-Some.image c.in_ok-image-in-Some.used
-    (subst (λ (z : List ℕ). IsImageRead c.in-Some.current.half c.in_ok-image-in-Some.image c.in_ok-image-in-Some.used z) seen3 c.in_ok-image-in-Some.ensures.image)
+    (subst (λ (z : List ℕ). IsImageRead c.in-Some.current.half c.in_ok-image-in-Some.image c.in_ok-image-in-Some.used z) (c.read_generation-2.ensures.seen ∙ (c.read_generation.ensures.seen ∙ c.sync.ensures.seen)) c.in_ok-image-in-Some.ensures.image)
 
 pub returns-in_ok-image-in-Some-clause-any_moment : goal.returns-in_ok-image-in-Some-clause-any_moment
 returns-in_ok-image-in-Some-clause-any_moment g c =

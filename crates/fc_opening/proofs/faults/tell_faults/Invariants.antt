@@ -15,5 +15,5 @@ invariant-loop-fault g l = record {
       SoFar (StandsFor l.store) l.store.control.grain w l.faults (faults_asked (drop l.fault-index l.faults)) l.initial.history l.history;
   stands : TellsSome (StandsFor l.store) l.history;
   room : length l.history.entries ≤ MAX_ENTRIES;
-  quiet : QuietBy l.initial.history.entries l.store.lanes → QuietBy l.history.entries l.store.lanes;
+  quiet : QuietBy l.initial.history.entries l.store → QuietBy l.history.entries l.store;
 }

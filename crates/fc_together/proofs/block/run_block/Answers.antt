@@ -110,7 +110,7 @@ returns-in-Ok-prepare-clause-answered g c = λ read w told.
 pub returns-in-Ok-prepare-clause-quiet : goal.returns-in-Ok-prepare-clause-quiet
 returns-in-Ok-prepare-clause-quiet g c = λ quiet.
     let named_is = c.in-Ok-add_names.ensures.ok ∙ ap (λ (actors : List ActorRead). record c.tell_faults.new.history { actors = names_with c.tell_faults.new.history.actors actors }) c.as_slice-2.ensures in
-    let P : List Entry → Type 0 = λ es. QuietBy es c.args.store.now.lanes in
+    let P : List Entry → Type 0 = λ es. QuietBy es c.args.store.now in
     c.run_scripts.ensures.quiet (subst P (sym (same_entries c.args.block c.tell_faults.new.history c.add_names.new.history named_is)) (c.in-Ok.ensures.quiet quiet))
 
 pub returns-in-Ok-prepare-clause-named : goal.returns-in-Ok-prepare-clause-named

@@ -41,7 +41,7 @@ returns-in-Ok-clause-disks g c =
 pub returns-in-Ok-clause-quiet : goal.returns-in-Ok-clause-quiet
 returns-in-Ok-clause-quiet g c = λ quiet.
     quiet_result c.args.store.now c.act_over_store.new.store c.len.result c.args.scripts.items c.in-Ok.answers.items c.args.history.now c.len.ensures c.in-Ok.ensures.acted
-    c.requires.stands.0 c.requires.stands.1 c.tell_answers.result c.tell_answers.new.history c.tell_answers.ensures.told quiet
+    c.requires.stands.0 c.requires.stands.1 c.requires.asked.0 c.requires.asked.1 c.requires.asked.2 c.tell_answers.result c.tell_answers.new.history c.tell_answers.ensures.told quiet
 
 pub returns-in-Ok-clause-names : goal.returns-in-Ok-clause-names
 returns-in-Ok-clause-names g c =

@@ -1,12 +1,15 @@
 -- By what is asked for.
-use Rattle.std.proofs.Common.{◌≡◌, true, map, subst}
+use Rattle.std.proofs.Common.{◌≡◌, ◌∙◌, true, ap, map, subst}
 use Rattle.fc_args.specs.Grammar.{is_offered}
 use Rattle.fc_args.specs.declared.asked.Asked.{Asked}
 use Rattle.fc_args.specs.declared.asked.Asked.TheVariants.{Run, Drill}
 use Rattle.fc_run.proofs.TakesLemmas.{EachGave-none}
 use Rattle.fc_top.proofs.TheoremLemmas.{theorem_of}
-use Rattle.fc_top.proofs.WordLemmas.{run-plain}
+use Rattle.fc_top.proofs.WordLemmas.{run-uncached}
+use Rattle.fc_run.specs.declared.form.Form.{Form}
 use Rattle.fc_top.specs.Call.{Call}
+use Rattle.fc_top.specs.PlainEnds.{PlainEnds}
+use Rattle.fc_top.specs.Traced.{run_form}
 use Rattle.fc_top.proofs.flashcopy.run_asked.Goals as goal
 
 pub returns-in-Run : goal.returns-in-Run
@@ -24,11 +27,15 @@ returns-in-Run g c =
       history = c.run_plain.new.history;
     } in
     let P : Asked → Type 0 = λ a. is_offered a ≡ true in
-    let plain = run-plain c.in-Run.options (subst P c.in-Run.is c.requires.built) in
+    let form = c.run_form-form.ensures ∙ ap (λ items. run_form c.in-Run.options (map g.D.Mdisk.meaning items)) c.as_slice.ensures.value in
+    let Q : Form → Type 0 = λ form. PlainEnds form c.in-Run.options.grain source source' call in
     record {
       theorem = theorem_of c.args.asked (Run c.in-Run.options) call c.in-Run.is c.run_plain.ensures.ran
           c.run_plain.ensures.takes c.run_plain.ensures.limit
-          record { traceless = plain.0; cacheless = plain.1; ends = c.run_plain.ensures.ends source source' };
+          record {
+            cacheless = run-uncached c.in-Run.options (subst P c.in-Run.is c.requires.built);
+            ends = subst Q form (c.run_plain.ensures.ends source source');
+          };
     }
 
 pub returns-in-Drill : goal.returns-in-Drill

@@ -7,22 +7,22 @@ returns-in_err-put_store g c =
     rw c.from_residual.ensures.0
     (Written-parts (header_parts c.args.grain c.args.lanes.now) (header_parts-joined c.args.grain c.args.lanes.now) (cut c.in_err-put_store.ensures))
 
-pub returns-in_err-put_flat : goal.returns-in_err-put_flat
-returns-in_err-put_flat g c =
-    rw c.from_residual-in_err-put_flat.ensures.0
-    (Written-parts (header_parts c.args.grain c.args.lanes.now) (header_parts-joined c.args.grain c.args.lanes.now) (next c.in_ok-put_store.ensures (cut c.in_err-put_flat.ensures)))
+pub returns-in_err-put_counts : goal.returns-in_err-put_counts
+returns-in_err-put_counts g c =
+    rw c.from_residual-in_err-put_counts.ensures.0
+    (Written-parts (header_parts c.args.grain c.args.lanes.now) (header_parts-joined c.args.grain c.args.lanes.now) (next c.in_ok-put_store.ensures (cut c.in_err-put_counts.ensures)))
 
 pub returns-in_err-put_text : goal.returns-in_err-put_text
 returns-in_err-put_text g c =
     rw c.from_residual-in_err-put_text.ensures.0
-    (Written-parts (header_parts c.args.grain c.args.lanes.now) (header_parts-joined c.args.grain c.args.lanes.now) (next c.in_ok-put_store.ensures (next c.in_ok-put_flat.ensures (cut c.in_err-put_text.ensures))))
+    (Written-parts (header_parts c.args.grain c.args.lanes.now) (header_parts-joined c.args.grain c.args.lanes.now) (next c.in_ok-put_store.ensures (next c.in_ok-put_counts.ensures (cut c.in_err-put_text.ensures))))
 
-pub returns-in_err-put_thin : goal.returns-in_err-put_thin
-returns-in_err-put_thin g c =
-    rw c.from_residual-in_err-put_thin.ensures.0
-    (Written-parts (header_parts c.args.grain c.args.lanes.now) (header_parts-joined c.args.grain c.args.lanes.now) (next c.in_ok-put_store.ensures (next c.in_ok-put_flat.ensures (next c.in_ok-put_text.ensures (cut c.in_err-put_thin.ensures)))))
+pub returns-in_err-put_counts-2 : goal.returns-in_err-put_counts-2
+returns-in_err-put_counts-2 g c =
+    rw c.from_residual-in_err-put_counts-2.ensures.0
+    (Written-parts (header_parts c.args.grain c.args.lanes.now) (header_parts-joined c.args.grain c.args.lanes.now) (next c.in_ok-put_store.ensures (next c.in_ok-put_counts.ensures (next c.in_ok-put_text.ensures (cut c.in_err-put_counts-2.ensures)))))
 
 pub returns : goal.returns
 returns g c =
     Written-parts (header_parts c.args.grain c.args.lanes.now) (header_parts-joined c.args.grain c.args.lanes.now)
-    (next c.in_ok-put_store.ensures (next c.in_ok-put_flat.ensures (next c.in_ok-put_text.ensures (next c.in_ok-put_thin.ensures (last c.put_text-2.ensures)))))
+    (next c.in_ok-put_store.ensures (next c.in_ok-put_counts.ensures (next c.in_ok-put_text.ensures (next c.in_ok-put_counts-2.ensures (last c.put_text-2.ensures)))))

@@ -1,5 +1,5 @@
 -- The items before this one were put.
-use Rattle.std.proofs.Common.{◌++◌, take, false, codes, decimal}
+use Rattle.std.proofs.Common.{take, false}
 use Rattle.std.specs.List.{flat_map}
 use Rattle.fc_trace.specs.Notes.{move_text}
 use Rattle.fc_entry.specs.Written.{Written}

@@ -1,4 +1,4 @@
-use Rattle.std.proofs.Common.{ℕ, List, ◌++◌, get_or}
+use Rattle.std.proofs.Common.{ℕ, List, get_or}
 use Rattle.fc_base.specs.declared.ranges.Range.{Range}
 use Rattle.fc_trace.specs.Notes.{range_text}
 use Rattle.fc_trace.proofs.TraceParts.{kept_first}

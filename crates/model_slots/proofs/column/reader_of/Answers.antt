@@ -1,17 +1,8 @@
-use Rattle.std.proofs.Common.{arith}
-use Rattle.fc_base.specs.Column.{first_reader}
-use Rattle.model_slots.proofs.Searching.{first_start, first_more, first_done, first_within}
+use Rattle.std.proofs.Common.{rules, ◌&&◌, not, eqb}
+use Rattle.fc_base.specs.Column.{is_at, holder, first_reader}
+use Rattle.fc_base.specs.Sheet.{slot_at, column}
 use Rattle.model_slots.proofs.column.reader_of.Goals as goal
-
-pub loop-place-init : goal.loop-place-init
-loop-place-init c = first_start _
-
-pub loop-place-preserved : goal.loop-place-preserved
-loop-place-preserved c = first_more _ _ _ _ _ c.loop-place.invariant c.reads_from.ensures c.first_so_far-found.ensures
 
 pub returns-clause-value : goal.returns-clause-value
 unfolding first_reader
-returns-clause-value c = first_done _ _ _ _ c.loop-place.invariant (omega arith) (omega arith)
-
-pub returns-clause-bound : goal.returns-clause-bound
-returns-clause-bound c = first_within _ _ _ (first_done _ _ _ _ c.loop-place.invariant (omega arith) (omega arith))
+returns-clause-value c = c.first_place.ensures.value (λ k. (slot_at c.args.slots.now k).is_live && (not (eqb k c.args.but) && is_at (holder (column c.args.slots.now c.args.grain) k) c.args.of)) (λ k passes answered. search rules)

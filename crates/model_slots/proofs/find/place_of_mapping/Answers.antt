@@ -1,17 +1,8 @@
-use Rattle.std.proofs.Common.{arith}
-use Rattle.fc_base.specs.Sheet.{mapping_place}
-use Rattle.model_slots.proofs.Searching.{first_start, first_more, first_done, first_within}
+use Rattle.std.proofs.Common.{rules}
+use Rattle.fc_base.specs.Column.{is_at}
+use Rattle.fc_base.specs.Sheet.{slot_at, mapping_place}
 use Rattle.model_slots.proofs.find.place_of_mapping.Goals as goal
-
-pub loop-place-init : goal.loop-place-init
-loop-place-init c = first_start _
-
-pub loop-place-preserved : goal.loop-place-preserved
-loop-place-preserved c = first_more _ _ _ _ _ c.loop-place.invariant c.is_of_mapping.ensures c.first_so_far-found.ensures
 
 pub returns-clause-value : goal.returns-clause-value
 unfolding mapping_place
-returns-clause-value c = first_done _ _ _ _ c.loop-place.invariant (omega arith) (omega arith)
-
-pub returns-clause-bound : goal.returns-clause-bound
-returns-clause-bound c = first_within _ _ _ (first_done _ _ _ _ c.loop-place.invariant (omega arith) (omega arith))
+returns-clause-value c = c.first_place.ensures.value (λ k. is_at (slot_at c.args.slots.now k).mapping c.args.mapping) (λ k passes answered. search rules)

@@ -14,19 +14,19 @@ returns-in_err-kind c =
 pub returns-in-Pair : goal.returns-in-Pair
 unfolding one_record
 returns-in-Pair c =
-    answers_as (one_record c.args.cursor.now) (pair c.take_kind.new.cursor) c.take_pair.result c.take_pair.new.cursor (rw (c.in_ok-kind.ensures, c.in-Pair.is) refl) c.take_pair.ensures
+    answers_as (one_record c.args.cursor.now) (pair c.read.new.cursor) c.take_pair.result c.take_pair.new.cursor (rw (c.in_ok-kind.ensures, c.in-Pair.is) refl) c.take_pair.ensures
 
 pub returns-in-Written : goal.returns-in-Written
 unfolding one_record
 returns-in-Written c =
-    answers_as (one_record c.args.cursor.now) (written c.take_kind.new.cursor) c.take_written.result c.take_written.new.cursor (rw (c.in_ok-kind.ensures, c.in-Written.is) refl) c.take_written.ensures
+    answers_as (one_record c.args.cursor.now) (written c.read.new.cursor) c.take_written.result c.take_written.new.cursor (rw (c.in_ok-kind.ensures, c.in-Written.is) refl) c.take_written.ensures
 
 pub returns-in-Torn : goal.returns-in-Torn
 unfolding one_record
 returns-in-Torn c =
-    answers_as (one_record c.args.cursor.now) (torn c.take_kind.new.cursor) c.take_torn.result c.take_torn.new.cursor (rw (c.in_ok-kind.ensures, c.in-Torn.is) refl) c.take_torn.ensures
+    answers_as (one_record c.args.cursor.now) (torn c.read.new.cursor) c.take_torn.result c.take_torn.new.cursor (rw (c.in_ok-kind.ensures, c.in-Torn.is) refl) c.take_torn.ensures
 
 pub returns-in-Changing : goal.returns-in-Changing
 unfolding one_record
 returns-in-Changing c =
-    answers_as (one_record c.args.cursor.now) (changing c.take_kind.new.cursor) c.take_changing.result c.take_changing.new.cursor (rw (c.in_ok-kind.ensures, c.in-Changing.is) refl) c.take_changing.ensures
+    answers_as (one_record c.args.cursor.now) (changing c.read.new.cursor) c.take_changing.result c.take_changing.new.cursor (rw (c.in_ok-kind.ensures, c.in-Changing.is) refl) c.take_changing.ensures

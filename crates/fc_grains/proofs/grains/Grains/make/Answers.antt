@@ -33,4 +33,4 @@ returns g c =
     (subst P (sym items)
     (has_made c.self.inside.grain c.self.inside.volumes.items c.self.inside.pool c.take_next-disk.new.self _ _ _ c.self.inside.volumes.cap c.self.inside.volumes.cap c.self.inside.aside.cap c.self.invariant c.take_next-disk.result (next_of (map new_of c.self.inside.pool.reserved))
     c.take_next-disk.ensures.kind c.take_next-disk.ensures.zeros c.take_next-disk.ensures.unmarked c.take_next-disk.ensures.unarmed c.take_next-disk.ensures.bytes c.take_next-disk.ensures.reserved
-    (omega (arith, length-map c.self.inside.pool.reserved new_of)) c.take_next-disk.ensures.disks c.args.volume.0 (λ k. (c.take_next-disk.ensures.volume k).0) newest refl c.take_next-disk.ensures.left c.take_next-disk.ensures.taken))
+    (omega (arith, length-map c.self.inside.pool.reserved new_of)) c.take_next-disk.ensures.disks c.args.volume.0 (λ k. (c.take_next-disk.ensures.volume k).0) newest refl c.take_next-disk.ensures.left c.take_next-disk.ensures.first c.take_next-disk.ensures.taken))

@@ -3,4 +3,4 @@ use Rattle.fc_lane.proofs.lane.Lane.copy.Goals as goal
 
 pub returns : goal.returns
 returns g c =
-    entry_followed c.args.self.now c.copy_told-entry.new.self c.note.new.self _ c.args.number c.args.actor _ c.copy_told-entry.result c.copy_told-entry.ensures c.note.ensures
+    entry_followed c.args.self.now c.fill_told-entry.new.self c.note.new.self _ c.args.number c.args.actor _ c.fill_told-entry.result c.fill_told-entry.ensures c.note.ensures

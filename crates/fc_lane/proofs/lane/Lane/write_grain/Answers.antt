@@ -7,14 +7,14 @@ use Rattle.fc_steps.specs.Asking.{steps_entry}
 use Rattle.fc_lane.specs.Lane.{LaneView, of}
 use Rattle.fc_steps.specs.Plans.{room_of}
 use Rattle.fc_rules.specs.LaneFits.{FitsPart}
-use Rattle.fc_lane.proofs.WriteLane.{IsWritable, plan_few, plan_fits, some_room, write_entered, write_planned}
+use Rattle.fc_lane.proofs.WriteLane.{IsWritable, plan_few, plan_fits, plan_some, write_entered, write_planned}
 use Rattle.fc_lane.proofs.lane.Lane.write_grain.Goals as goal
 
 pub room_for-made-requires-clause-some : goal.room_for-made-requires-clause-some
 room_for-made-requires-clause-some g c =
     let w = subst (λ (z : LaneView). IsWritable z c.args.part c.args.grain.0 c.args.place) (sym c.self.view_is)
     (record { can = c.requires.can; writable = c.requires.writable; ready = c.requires.ready; online = c.requires.online; number_is = c.requires.number; place_is = c.requires.place }) in
-    some_room _ c.args.part c.args.grain.0 c.args.place w c.plan.new.self.moves (ap (λ (z : PlannedMoves). z.moves) c.plan.ensures)
+    plan_some _ c.args.part c.args.grain.0 c.args.place w c.plan.new.self.moves (ap (λ (z : PlannedMoves). z.moves) c.plan.ensures)
 
 pub room_for-made-requires-clause-room : goal.room_for-made-requires-clause-room
 room_for-made-requires-clause-room g c =

@@ -1,11 +1,12 @@
-use Rattle.std.proofs.Common.{◌≡◌, ◌+◌, ◌^◌, ◌<◌, ◌≤◌, length, sym, ap, ◌∙◌, arith}
+use Rattle.std.proofs.Common.{◌≡◌, ◌+◌, sym, ap, ◌∙◌, arith}
 use Rattle.std.proofs.lemmas.Bool.Decides.{nat_tests}
 use Rattle.fc_format.specs.Bytes.{half_bytes}
-use Rattle.fc_format.specs.Halves.{half_size, half_start}
+use Rattle.fc_format.specs.Halves.{half_start}
 use Rattle.fc_meta.proofs.Calls.{still, fill_run, fill_is_filled, fill_found, fill_filled}
 use Rattle.fc_metadisk.specs.Calls.{all_made, AreCutShort}
 use Rattle.fc_format.specs.declared.half.Half.{Half}
 use Rattle.fc_meta.specs.DiskCalls.{write_and_sync}
+use Rattle.fc_meta.proofs.Inside.{behind_gate}
 use Rattle.fc_meta.proofs.Places.{same_write}
 use Rattle.fc_meta.proofs.meta.Meta.fill_other.Goals as goal
 
@@ -20,49 +21,28 @@ returns-then-half_len-len-clause-any_moment g c = still g.M.MetaDisk.seen g.M.Me
 
 pub returns-in_err-write_synced-clause-any_moment : goal.returns-in_err-write_synced-clause-any_moment
 returns-in_err-write_synced-clause-any_moment g c =
-    let is : c.deref.result.now ≡ half_bytes (c.args.self.now.generation + 1) c.args.image.now = c.deref.ensures.value ∙ c.in_ok-bytes.ensures.bytes in
-    let counts : c.len.result ≡ length (half_bytes (c.args.self.now.generation + 1) c.args.image.now) = c.len.ensures ∙ (sym c.deref.ensures.len ∙ ap length is) in
-    let inside : 1 + length (half_bytes (c.args.self.now.generation + 1) c.args.image.now) ≤ half_size (g.M.MetaDisk.seen c.args.self.now.disk) =
-    grind (arith, nat_tests, counts, c.half_len.ensures.value, c.if-half_len-len.false) in
-    fill_run g.M.MetaDisk.seen g.M.MetaDisk.may_leave g.M.MetaDisk.moment g.M.MetaDisk.left_since g.met.M.MetaDisk.only_now c.args.self.now c.requires.cleared c.other.result c.other.ensures c.args.image.now c.deref.result.now is inside c.write_synced.new.disk c.write_synced.ensures.any_moment
+    let w = behind_gate c.deref.ensures.value c.in_ok-bytes.ensures.bytes c.len.ensures c.deref.ensures.len c.half_len.ensures.value c.if-half_len-len.false in
+    fill_run g.M.MetaDisk.seen g.M.MetaDisk.may_leave g.M.MetaDisk.moment g.M.MetaDisk.left_since g.met.M.MetaDisk.only_now c.args.self.now c.requires.cleared c.other.result c.other.ensures c.args.image.now c.deref.result.now w.is w.inside c.write_synced.new.disk c.write_synced.ensures.any_moment
 
 pub returns-clause-any_moment : goal.returns-clause-any_moment
 returns-clause-any_moment g c =
-    let is : c.deref.result.now ≡ half_bytes (c.args.self.now.generation + 1) c.args.image.now = c.deref.ensures.value ∙ c.in_ok-bytes.ensures.bytes in
-    let counts : c.len.result ≡ length (half_bytes (c.args.self.now.generation + 1) c.args.image.now) = c.len.ensures ∙ (sym c.deref.ensures.len ∙ ap length is) in
-    let inside : 1 + length (half_bytes (c.args.self.now.generation + 1) c.args.image.now) ≤ half_size (g.M.MetaDisk.seen c.args.self.now.disk) =
-    grind (arith, nat_tests, counts, c.half_len.ensures.value, c.if-half_len-len.false) in
-    fill_run g.M.MetaDisk.seen g.M.MetaDisk.may_leave g.M.MetaDisk.moment g.M.MetaDisk.left_since g.met.M.MetaDisk.only_now c.args.self.now c.requires.cleared c.other.result c.other.ensures c.args.image.now c.deref.result.now is inside c.write_synced.new.disk c.write_synced.ensures.any_moment
+    let w = behind_gate c.deref.ensures.value c.in_ok-bytes.ensures.bytes c.len.ensures c.deref.ensures.len c.half_len.ensures.value c.if-half_len-len.false in
+    fill_run g.M.MetaDisk.seen g.M.MetaDisk.may_leave g.M.MetaDisk.moment g.M.MetaDisk.left_since g.met.M.MetaDisk.only_now c.args.self.now c.requires.cleared c.other.result c.other.ensures c.args.image.now c.deref.result.now w.is w.inside c.write_synced.new.disk c.write_synced.ensures.any_moment
 
 pub returns-clause-is_filled : goal.returns-clause-is_filled
 returns-clause-is_filled g c =
-    let is : c.deref.result.now ≡ half_bytes (c.args.self.now.generation + 1) c.args.image.now = c.deref.ensures.value ∙ c.in_ok-bytes.ensures.bytes in
-    let counts : c.len.result ≡ length (half_bytes (c.args.self.now.generation + 1) c.args.image.now) = c.len.ensures ∙ (sym c.deref.ensures.len ∙ ap length is) in
-    let inside : 1 + length (half_bytes (c.args.self.now.generation + 1) c.args.image.now) ≤ half_size (g.M.MetaDisk.seen c.args.self.now.disk) =
-    grind (arith, nat_tests, counts, c.half_len.ensures.value, c.if-half_len-len.false) in
-    let low : c.args.self.now.generation + 1 < 2 ^ 64 = grind (arith, nat_tests, c.fits-self, c.if-self.false) in
-    let ends : c.len-2.result ≡ length c.deref.result.now = c.len-2.ensures ∙ sym c.deref.ensures.len in
-    fill_is_filled g.M.MetaDisk.seen g.M.MetaDisk.may_leave g.M.MetaDisk.moment g.M.MetaDisk.left_since g.met.M.MetaDisk.only_now c.args.self.now c.requires.cleared c.other.result c.other.ensures c.args.image.now c.deref.result.now is inside c.write_synced.new.disk c.in_ok-write_synced.ensures.bytes c.in_ok-bytes.ensures.typed c.requires.ids low c.half_len.ensures.small c.len-2.result ends c.in_ok-write_synced.ensures.durable
+    let w = behind_gate c.deref.ensures.value c.in_ok-bytes.ensures.bytes c.len.ensures c.deref.ensures.len c.half_len.ensures.value c.if-half_len-len.false in
+    fill_is_filled g.M.MetaDisk.seen g.M.MetaDisk.may_leave g.M.MetaDisk.moment g.M.MetaDisk.left_since g.met.M.MetaDisk.only_now c.args.self.now c.requires.cleared c.other.result c.other.ensures c.args.image.now c.deref.result.now w.is w.inside c.write_synced.new.disk c.in_ok-write_synced.ensures.bytes c.in_ok-bytes.ensures.typed c.requires.ids (grind (arith, nat_tests, c.fits-self, c.if-self.false)) c.half_len.ensures.small c.len-2.result (c.len-2.ensures ∙ sym c.deref.ensures.len) c.in_ok-write_synced.ensures.durable
 
 pub returns-clause-found : goal.returns-clause-found
 returns-clause-found g c =
-    let is : c.deref.result.now ≡ half_bytes (c.args.self.now.generation + 1) c.args.image.now = c.deref.ensures.value ∙ c.in_ok-bytes.ensures.bytes in
-    let counts : c.len.result ≡ length (half_bytes (c.args.self.now.generation + 1) c.args.image.now) = c.len.ensures ∙ (sym c.deref.ensures.len ∙ ap length is) in
-    let inside : 1 + length (half_bytes (c.args.self.now.generation + 1) c.args.image.now) ≤ half_size (g.M.MetaDisk.seen c.args.self.now.disk) =
-    grind (arith, nat_tests, counts, c.half_len.ensures.value, c.if-half_len-len.false) in
-    let low : c.args.self.now.generation + 1 < 2 ^ 64 = grind (arith, nat_tests, c.fits-self, c.if-self.false) in
-    let ends : c.len-2.result ≡ length c.deref.result.now = c.len-2.ensures ∙ sym c.deref.ensures.len in
-    fill_found g.M.MetaDisk.seen g.M.MetaDisk.may_leave g.M.MetaDisk.moment g.M.MetaDisk.left_since g.met.M.MetaDisk.only_now c.args.self.now c.requires.cleared c.other.result c.other.ensures c.args.image.now c.deref.result.now is inside c.write_synced.new.disk c.in_ok-write_synced.ensures.bytes c.in_ok-bytes.ensures.typed c.requires.ids low c.half_len.ensures.small c.len-2.result ends
+    let w = behind_gate c.deref.ensures.value c.in_ok-bytes.ensures.bytes c.len.ensures c.deref.ensures.len c.half_len.ensures.value c.if-half_len-len.false in
+    fill_found g.M.MetaDisk.seen g.M.MetaDisk.may_leave g.M.MetaDisk.moment g.M.MetaDisk.left_since g.met.M.MetaDisk.only_now c.args.self.now c.requires.cleared c.other.result c.other.ensures c.args.image.now c.deref.result.now w.is w.inside c.write_synced.new.disk c.in_ok-write_synced.ensures.bytes c.in_ok-bytes.ensures.typed c.requires.ids (grind (arith, nat_tests, c.fits-self, c.if-self.false)) c.half_len.ensures.small c.len-2.result (c.len-2.ensures ∙ sym c.deref.ensures.len)
 
 pub returns-clause-filled : goal.returns-clause-filled
 returns-clause-filled g c =
-    let is : c.deref.result.now ≡ half_bytes (c.args.self.now.generation + 1) c.args.image.now = c.deref.ensures.value ∙ c.in_ok-bytes.ensures.bytes in
-    let counts : c.len.result ≡ length (half_bytes (c.args.self.now.generation + 1) c.args.image.now) = c.len.ensures ∙ (sym c.deref.ensures.len ∙ ap length is) in
-    let inside : 1 + length (half_bytes (c.args.self.now.generation + 1) c.args.image.now) ≤ half_size (g.M.MetaDisk.seen c.args.self.now.disk) =
-    grind (arith, nat_tests, counts, c.half_len.ensures.value, c.if-half_len-len.false) in
-    let low : c.args.self.now.generation + 1 < 2 ^ 64 = grind (arith, nat_tests, c.fits-self, c.if-self.false) in
-    let ends : c.len-2.result ≡ length c.deref.result.now = c.len-2.ensures ∙ sym c.deref.ensures.len in
-    fill_filled g.M.MetaDisk.seen g.M.MetaDisk.may_leave g.M.MetaDisk.moment g.M.MetaDisk.left_since g.met.M.MetaDisk.only_now c.args.self.now c.requires.cleared c.other.result c.other.ensures c.args.image.now c.deref.result.now is inside c.write_synced.new.disk c.in_ok-write_synced.ensures.bytes c.in_ok-bytes.ensures.typed c.requires.ids low c.half_len.ensures.small c.len-2.result ends
+    let w = behind_gate c.deref.ensures.value c.in_ok-bytes.ensures.bytes c.len.ensures c.deref.ensures.len c.half_len.ensures.value c.if-half_len-len.false in
+    fill_filled g.M.MetaDisk.seen g.M.MetaDisk.may_leave g.M.MetaDisk.moment g.M.MetaDisk.left_since g.met.M.MetaDisk.only_now c.args.self.now c.requires.cleared c.other.result c.other.ensures c.args.image.now c.deref.result.now w.is w.inside c.write_synced.new.disk c.in_ok-write_synced.ensures.bytes c.in_ok-bytes.ensures.typed c.requires.ids (grind (arith, nat_tests, c.fits-self, c.if-self.false)) c.half_len.ensures.small c.len-2.result (c.len-2.ensures ∙ sym c.deref.ensures.len)
 
 pub returns-in_err-write_synced-clause-cut_short : goal.returns-in_err-write_synced-clause-cut_short
 returns-in_err-write_synced-clause-cut_short g c told =

@@ -7,8 +7,8 @@ pub returns-then-part-blocks : goal.returns-then-part-blocks
 returns-then-part-blocks g c l told t at w number place =
     ap not (sym (whole_writable l told c.args.part t c.args.self.now.cascade c.args.self.now.grains at w (c.if-part-blocks.true ∙ (c.blocks-2.ensures ∙ ap grain_blocks c.grain.ensures))))
 
-pub shown_by-source-requires-clause-held : goal.shown_by-source-requires-clause-held
-shown_by-source-requires-clause-held g c =
+pub shown_by-source-requires : goal.shown_by-source-requires
+shown_by-source-requires g c =
     first_held c.requires.can.0 c.requires.can.1 c.args.part c.requires.can.2 c.args.self.now.cascade c.args.self.now.grains c.requires.can.3 c.requires.can.4 c.args.grain c.requires.can.5
 
 pub is_lost-requires : goal.is_lost-requires

@@ -2,13 +2,11 @@ use Rattle.std.proofs.Common.{◌≡◌, ◌∙◌, true, false, refl, sym, ap, 
 use Rattle.fc_entry.specs.Picture.{is_lost}
 use Rattle.fc_grains.specs.Volumes.{stored}
 use Rattle.fc_steps.specs.declared.read.GrainRead.TheVariants.{Done, IsLost, Failed}
-use Rattle.fc_steps.proofs.Shown.{shown, from_inside, read_ended, read_was}
+use Rattle.fc_steps.proofs.Shown.{can_show, from_inside, read_ended, read_was}
 use Rattle.fc_steps.proofs.body.Body.read_shown.Goals as goal
 
-pub shown_by-source-requires-clause-held : goal.shown_by-source-requires-clause-held
-shown_by-source-requires-clause-held g c =
-    let s = shown c.args.self.now.cascade c.args.self.now.grains c.args.volume.0 c.args.grain c.args.place c.requires.can in
-    (c.requires.can.reader, s.source, c.requires.can.live, s.holds)
+pub shown_by-source-requires : goal.shown_by-source-requires
+shown_by-source-requires g c = can_show c.args.self.now.cascade c.args.self.now.grains c.args.volume.0 c.args.grain c.args.place c.requires.can
 
 pub is_lost-requires : goal.is_lost-requires
 is_lost-requires g c = from_inside c.args.self.now.cascade c.args.self.now.grains c.args.volume.0 c.args.grain c.args.place c.requires.can c.shown_by-source.result.0 c.shown_by-source.ensures

@@ -6,10 +6,9 @@ use Rattle.fc_steps.proofs.body.Body.source_of.Goals as goal
 
 pub volume-requires : goal.volume-requires
 volume-requires g c =
-    let k = c.requires.held.0 in
-    let h = c.requires.held.1 in
+    let r = c.requires in
     let s = c.args.self.now.cascade.sheet in
-    let e = holder_named s (in_lane c.args.self.now.cascade c.args.grain) c.args.slot.0 k h c.in-Some.holder c.holder.result c.requires.sound c.requires.held.2 c.requires.held.3 (c.holder.ensures k c.requires.held.2) c.in-Some.is in
+    let e = holder_named s (in_lane c.args.self.now.cascade c.args.grain) c.args.slot.0 r.slot r.source c.in-Some.holder c.holder.result r.sound r.there r.holds (c.holder.ensures r.slot r.there) c.in-Some.is in
     subst (λ (z : Option ℕ). IsSome z) (sym e) cc
 
 pub returns : goal.returns

@@ -1,95 +1,49 @@
-use Rattle.std.proofs.Common.{ℕ, Some, None, ap, sym, subst, ◌∙◌, refl}
+use Rattle.std.proofs.Common.{◌≡◌, ℕ, Some, None, ap, sym, subst, ◌∙◌, refl}
 use Rattle.fc_base.specs.declared.disk.DiskError.TheVariants.{Failed as Fails, NoMemory as NoRoom}
 use Rattle.fc_base.specs.declared.size.GrainSize.{GrainSize}
+use Rattle.fc_entry.specs.Picture.{grain_of_block}
 use Rattle.fc_entry.specs.Writes.{calls_of_write}
-use Rattle.fc_steps.specs.WriteStep.{OwnEnds}
+use Rattle.fc_rules.specs.LaneTold.{LaneOf, LaneTold}
+use Rattle.fc_steps.specs.WriteStep.{CanWriteOwn, OwnEnds}
 use Rattle.fc_steps.specs.declared.stop.Stop.TheVariants.{Failed, NoMemory}
-use Rattle.fc_steps.proofs.WriteOwn.{own_held, own_from, own_there, own_inside, own_readable, own_unread, own_done, own_torn, own_refused, own_side, own_fits, own_fits_lost, own_ends_as, written_as, target_mid}
+use Rattle.fc_steps.proofs.WriteOwn.{OwnNeeds, own_held, own_needs, own_from, own_unread, own_done, own_torn, own_refused, own_side, own_ends_as, shows_from, written_as}
+use Rattle.fc_steps.proofs.body.Body.write_own.Given as given
 use Rattle.fc_steps.proofs.body.Body.write_own.Goals as goal
+use Rattle.fc_steps.proofs.body.Body.write_own.Goals.{After-shown_by-source}
 
-pub shown_by-source-requires-clause-held : goal.shown_by-source-requires-clause-held
-shown_by-source-requires-clause-held g c =
+pub shown_by-source-requires : goal.shown_by-source-requires
+shown_by-source-requires g c =
     own_held c.requires.can.0 c.requires.can.1 c.args.part c.requires.can.2 c.args.self.now.cascade c.args.self.now.grains c.requires.can.3 c.args.grain.0 c.requires.can.4
 
+-- what the calls need
+needs : (g : given.Over) (c : After-shown_by-source g) → OwnNeeds c.args.part c.args.grain.0 c.args.place c.shown_by-source.result.0 c.args.self.now.cascade c.args.self.now.grains
+needs g c = own_needs c.args.part c.args.grain.0 c.args.place c.shown_by-source.result.0 c.args.self.now.cascade c.args.self.now.grains c.requires.can c.shown_by-source.ensures
+
 pub prepare-requires-clause-there : goal.prepare-requires-clause-there
-prepare-requires-clause-there g c =
-    let l = c.requires.can.0 in
-    let told = c.requires.can.1 in
-    let t = c.requires.can.2 in
-    let can = c.requires.can.3 in
-    let number = c.requires.can.4 in
-    let place = c.requires.can.5 in
-    let from = own_from l told c.args.part t c.args.self.now.cascade c.args.self.now.grains can c.shown_by-source.result.0 c.args.grain.0 number c.shown_by-source.ensures in
-    own_there l told c.args.part t c.args.self.now.cascade c.args.self.now.grains can c.shown_by-source.result.0 from
+prepare-requires-clause-there g c = (needs g (goal.at.prepare-requires-clause-there g c).After-shown_by-source).there
 
 pub prepare-requires-clause-inside : goal.prepare-requires-clause-inside
-prepare-requires-clause-inside g c =
-    let l = c.requires.can.0 in
-    let told = c.requires.can.1 in
-    let t = c.requires.can.2 in
-    let can = c.requires.can.3 in
-    let number = c.requires.can.4 in
-    let place = c.requires.can.5 in
-    let from = own_from l told c.args.part t c.args.self.now.cascade c.args.self.now.grains can c.shown_by-source.result.0 c.args.grain.0 number c.shown_by-source.ensures in
-    own_inside l told c.args.part t c.args.self.now.cascade c.args.self.now.grains can c.shown_by-source.result.0 c.args.place from place
+prepare-requires-clause-inside g c = (needs g (goal.at.prepare-requires-clause-inside g c).After-shown_by-source).inside
 
 pub prepare-requires-clause-readable : goal.prepare-requires-clause-readable
-prepare-requires-clause-readable g c =
-    let l = c.requires.can.0 in
-    let told = c.requires.can.1 in
-    let t = c.requires.can.2 in
-    let can = c.requires.can.3 in
-    let number = c.requires.can.4 in
-    let place = c.requires.can.5 in
-    let from = own_from l told c.args.part t c.args.self.now.cascade c.args.self.now.grains can c.shown_by-source.result.0 c.args.grain.0 number c.shown_by-source.ensures in
-    own_readable l told c.args.part t c.args.self.now.cascade c.args.self.now.grains can c.shown_by-source.result.0 c.args.place from place
+prepare-requires-clause-readable g c = (needs g (goal.at.prepare-requires-clause-readable g c).After-shown_by-source).readable
+
+pub write-requires : goal.write-requires
+write-requires g c = ((needs g (goal.at.write-requires g c).After-shown_by-source).target c.prepare.new.grains c.in-Ok.ensures).1
+
+pub written-requires-clause-fits : goal.written-requires-clause-fits
+written-requires-clause-fits g c = (needs g (goal.at.written-requires-clause-fits g c).After-shown_by-source).fits
+
+pub torn-requires-clause-fits : goal.torn-requires-clause-fits
+torn-requires-clause-fits g c = (needs g (goal.at.torn-requires-clause-fits g c).After-shown_by-source).fits
+
+pub torn-requires-clause-under : goal.torn-requires-clause-under
+torn-requires-clause-under g c = (needs g (goal.at.torn-requires-clause-under g c).After-shown_by-source).fits_lost c.side_of-side.result c.side_of-side.ensures
 
 pub returns-in-Err-clause-ends : goal.returns-in-Err-clause-ends
 returns-in-Err-clause-ends g c l told t can number place =
     own_ends_as l told c.args.part t c.args.self.now.cascade c.args.self.now.cascade c.args.self.now.grains c.prepare.new.grains 1 1 (Some (Failed None)) c.failed.result c.failed.ensures refl
     (own_unread l told c.args.part t c.args.self.now.cascade c.args.self.now.grains can c.shown_by-source.result.0 c.args.place c.prepare.new.grains c.in-Err.ensures)
-
-pub write-requires : goal.write-requires
-write-requires g c =
-    let l = c.requires.can.0 in
-    let told = c.requires.can.1 in
-    let t = c.requires.can.2 in
-    let can = c.requires.can.3 in
-    let number = c.requires.can.4 in
-    let place = c.requires.can.5 in
-    let from = own_from l told c.args.part t c.args.self.now.cascade c.args.self.now.grains can c.shown_by-source.result.0 c.args.grain.0 number c.shown_by-source.ensures in
-    (target_mid l told c.args.part t c.args.self.now.cascade c.args.self.now.grains can c.shown_by-source.result.0 c.args.place c.prepare.new.grains c.prepare.new.grains from place c.in-Ok.ensures).1
-
-pub written-requires-clause-fits : goal.written-requires-clause-fits
-written-requires-clause-fits g c =
-    let l = c.requires.can.0 in
-    let told = c.requires.can.1 in
-    let t = c.requires.can.2 in
-    let can = c.requires.can.3 in
-    let number = c.requires.can.4 in
-    let place = c.requires.can.5 in
-    own_fits l told c.args.part t c.args.self.now.cascade c.args.self.now.grains can c.args.grain.0 number
-
-pub torn-requires-clause-fits : goal.torn-requires-clause-fits
-torn-requires-clause-fits g c =
-    let l = c.requires.can.0 in
-    let told = c.requires.can.1 in
-    let t = c.requires.can.2 in
-    let can = c.requires.can.3 in
-    let number = c.requires.can.4 in
-    let place = c.requires.can.5 in
-    own_fits l told c.args.part t c.args.self.now.cascade c.args.self.now.grains can c.args.grain.0 number
-
-pub torn-requires-clause-under : goal.torn-requires-clause-under
-torn-requires-clause-under g c =
-    let l = c.requires.can.0 in
-    let told = c.requires.can.1 in
-    let t = c.requires.can.2 in
-    let can = c.requires.can.3 in
-    let number = c.requires.can.4 in
-    let place = c.requires.can.5 in
-    let from = own_from l told c.args.part t c.args.self.now.cascade c.args.self.now.grains can c.shown_by-source.result.0 c.args.grain.0 number c.shown_by-source.ensures in
-    own_fits_lost l told c.args.part t c.args.self.now.cascade c.args.self.now.grains can c.args.grain.0 c.side_of-side.result number (own_side l told c.args.part t c.args.self.now.cascade c.args.self.now.grains can c.shown_by-source.result.0 c.side_of-side.result from c.side_of-side.ensures)
 
 pub returns-in-Ok-write-clause-ends : goal.returns-in-Ok-write-clause-ends
 returns-in-Ok-write-clause-ends g c l told t can number place =

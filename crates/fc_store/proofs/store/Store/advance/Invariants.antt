@@ -18,7 +18,7 @@ invariant-loop-left g l = record {
   room : length l.history.entries ≤ MAX_ENTRIES;
   control : l.self.control ≡ l.initial.self.control;
   disks : disks_in l.self.lanes ≡ disks_in l.initial.self.lanes;
-  quiet : QuietBy l.initial.history.entries l.initial.self.lanes → QuietBy l.history.entries l.self.lanes;
+  quiet : QuietBy l.initial.history.entries l.initial.self → QuietBy l.history.entries l.self;
 }
 
 abbrev pub decreases-loop-left : goal.decreases-loop-left

@@ -7,7 +7,6 @@ use Rattle.fc_stands.specs.Leading.{LeadsOn}
 use Rattle.fc_stands.proofs.Arms.{starved_armed, then_arms}
 use Rattle.fc_stands.proofs.CommandRuns.{can_decide, can_settle, leads_unsettled, leads_whole}
 use Rattle.fc_stands.proofs.Frames.{all_go_on, all_go_on_quiet}
-use Rattle.fc_stands.proofs.Within.{faults_kept}
 use Rattle.fc_store.proofs.store.Store.command_entry.Goals as goal
 
 pub settle_all-requires : goal.settle_all-requires
@@ -41,11 +40,7 @@ returns-in-Err-clause-armed g c =
 
 pub returns-clause-quiet : goal.returns-clause-quiet
 returns-clause-quiet g c = λ unarmed.
-    faults_kept c.settled_entry.new.self.control.tables c.args.command c.settled_entry.result.reply c.args.self.now.lanes c.settled_entry.new.self.lanes unarmed
-    (all_go_on_quiet c.args.self.now.lanes c.settle_all.new.self.lanes c.settled_entry.new.self.lanes c.settle_all.ensures.quiet (c.settled_entry.ensures.quiet unarmed))
-    (returns-clause-armed g c)
+    all_go_on_quiet c.args.self.now.lanes c.settle_all.new.self.lanes c.settled_entry.new.self.lanes c.settle_all.ensures.quiet (c.settled_entry.ensures.quiet unarmed)
 
 pub returns-in-Err-clause-quiet : goal.returns-in-Err-clause-quiet
-returns-in-Err-clause-quiet g c = λ unarmed.
-    faults_kept c.settle_all.new.self.control.tables c.args.command c.starved_entry.result.reply c.args.self.now.lanes c.settle_all.new.self.lanes unarmed c.settle_all.ensures.quiet
-    (returns-in-Err-clause-armed g c)
+returns-in-Err-clause-quiet g c = λ unarmed. c.settle_all.ensures.quiet

@@ -1,5 +1,5 @@
 -- The grain has something to do in its lane, and its entry is right.
-use Rattle.std.proofs.Common.{◌≡◌, ◌%◌, ◌<◌, length, slice_index_or, slice_set, subst, sym, ◌∙◌, ap, arith}
+use Rattle.std.proofs.Common.{◌≡◌, ◌%◌, ◌<◌, List, length, slice_index_or, slice_set, subst, sym, ◌∙◌, ap, arith}
 use Rattle.fc_lane.specs.Lane.{LaneView}
 use Rattle.fc_stands.specs.Passing.{Filled}
 use Rattle.fc_stands.specs.Store.{StandsFor, StoreView}
@@ -10,8 +10,8 @@ use Rattle.fc_legal.specs.Seconds.{fill_of}
 use Rattle.std.proofs.Common.{Bool}
 use Rattle.fc_stands.proofs.Parting.{inside}
 use Rattle.fc_stands.proofs.Quieting.{keeps_roomy, one_keeps, quiet_says}
-use Rattle.fc_stands.proofs.Within.{calls_near, one_stays_within, roomy_near, roomy_same}
-use Rattle.fc_stands.specs.Quiet.{AreArmedWithin, AreQuiet}
+use Rattle.fc_stands.proofs.Since.{one_goes_by}
+use Rattle.fc_stands.specs.Quiet.{QuietBy}
 use Rattle.fc_store.proofs.store.Store.fill.Goals as goal
 
 pub returns-then-is_full-clause-filled : goal.returns-then-is_full-clause-filled
@@ -68,16 +68,22 @@ returns-clause-quiet g c = λ quiet.
     (ap (λ n. c.args.grain.0 % n) (many ∙ ap (λ (s : StoreView). length s.lanes) (sym same)))
     (c.index_mut-lane.ensures.value ∙ ap (λ (s : StoreView). slice_index_or s.lanes (c.args.grain.0 % c.len.result) c.index_mut-lane.result.now) (sym same))
     c.in-Ok.ensures.same) in
-    quiet_says c.log_fill.result c.self.inside.lanes.items (slice_set c.self.inside.lanes.items (c.args.grain.0 % c.len.result) c.fill_lane-entry.new.lane) c.args.history.now c.log_fill.new.history
-    c.fill_lane-entry.result _
+    let can = can_fill c.args.self.now c.requires.stands.0 c.args.grain (c.args.grain.0 % c.len.result) c.index_mut-lane.result.now c.make_room.new.self
+    c.make_room.new.self.plan_room c.make_room.new.self.entry_room c.requires.stands.1.0
+    (ap (λ n. c.args.grain.0 % n) (many ∙ ap (λ (s : StoreView). length s.lanes) (sym same)))
+    (c.index_mut-lane.ensures.value ∙ ap (λ (s : StoreView). slice_index_or s.lanes (c.args.grain.0 % c.len.result) c.index_mut-lane.result.now) (sym same))
+    c.in-Ok.ensures.same
+    c.args.work.now (c.requires.next c.requires.stands.0 c.requires.stands.1.0) in
+    let Store : List LaneView → StoreView = λ ls. record { control = c.self.inside.control; lanes = ls } in
+    let old : StoreView = Store c.self.inside.lanes.items in
+    let new : StoreView = Store (slice_set c.self.inside.lanes.items (c.args.grain.0 % c.len.result) c.fill_lane-entry.new.lane) in
+    let before : QuietBy c.args.history.now.entries old = subst (λ (s : StoreView). QuietBy c.args.history.now.entries s) same quiet in
+    quiet_says c.log_fill.result old new c.args.history.now c.log_fill.new.history c.fill_lane-entry.result _
     (λ none unarmed.
-    one_keeps c.self.inside.lanes.items (c.args.grain.0 % c.len.result) c.index_mut-lane.result.now c.fill_lane-entry.new.lane there c.index_mut-lane.ensures.value
+    one_keeps old.lanes (c.args.grain.0 % c.len.result) c.index_mut-lane.result.now c.fill_lane-entry.new.lane there c.index_mut-lane.ensures.value
     (keeps_roomy c.index_mut-lane.result.now c.make_room.new.self c.fill_lane-entry.new.lane (ap (λ (v : LaneView). v.grains) c.in-Ok.ensures.same) c.fill_lane-entry.ensures.quiet)
-    (subst (λ (s : StoreView). AreQuiet s.lanes) same (quiet.quiet none)))
-    (one_stays_within c.fill_lane-entry.result.request c.fill_lane-entry.result.reply c.self.inside.lanes.items (c.args.grain.0 % c.len.result) c.index_mut-lane.result.now c.fill_lane-entry.new.lane there
-    c.index_mut-lane.ensures.value
-    (roomy_same c.index_mut-lane.result.now c.make_room.new.self c.fill_lane-entry.new.lane c.make_room.new.self.plan_room c.make_room.new.self.entry_room c.in-Ok.ensures.same c.fill_lane-entry.ensures.same)
-    (roomy_near c.index_mut-lane.result.now c.make_room.new.self c.fill_lane-entry.new.lane (ap (λ (v : LaneView). v.grains) c.in-Ok.ensures.same)
-    (calls_near c.fill_lane-entry.result.calls c.make_room.new.self c.fill_lane-entry.new.lane c.fill_lane-entry.ensures.disks.nearer)))
-    (subst (λ (s : StoreView). AreArmedWithin c.args.history.now.entries s.lanes) same quiet.armed)
-    c.log_fill.ensures.ok c.log_fill.ensures.stop
+    (before.quiet none))
+    (one_goes_by c.fill_lane-entry.result old.control.tables.volumes old.lanes (c.args.grain.0 % c.len.result) c.index_mut-lane.result.now c.make_room.new.self c.fill_lane-entry.new.lane
+    c.make_room.new.self.plan_room c.make_room.new.self.entry_room can.0.told there c.index_mut-lane.ensures.value c.in-Ok.ensures.same
+    (c.fill_lane-entry.ensures.right can.0 can.1 can.2).0 c.fill_lane-entry.ensures.same c.fill_lane-entry.ensures.disks.nearer)
+    before.armed c.log_fill.ensures.ok c.log_fill.ensures.stop

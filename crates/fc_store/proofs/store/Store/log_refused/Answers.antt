@@ -4,12 +4,13 @@ use Rattle.fc_base.specs.declared.request.Place.TheVariants.{Control}
 use Rattle.fc_base.specs.declared.request.Reply.TheVariants.{Refused}
 use Rattle.fc_entry.specs.declared.entry.Entry.{Entry}
 use Rattle.fc_stands.specs.Apart.{entry_apart}
+use Rattle.fc_stands.specs.Arming.{SetsNothing}
 use Rattle.fc_stands.specs.Leading.{LeadsOn}
-use Rattle.fc_stands.specs.Store.{StandsFor}
+use Rattle.fc_stands.specs.Store.{StandsFor, StoreView}
 use Rattle.fc_stands.proofs.Turns.{IsTurn, history_full, led_turn, turn_logged}
 use Rattle.fc_stands.proofs.Turning.{refused_leads}
 use Rattle.fc_stands.proofs.Quieting.{quiet_logged}
-use Rattle.fc_stands.proofs.Within.{all_stay_within}
+use Rattle.fc_stands.proofs.Since.{all_stay_by, refused_sets_nothing}
 use Rattle.fc_store.proofs.store.Store.log_refused.Goals as goal
 
 pub returns-then-is_full-clause-answered : goal.returns-then-is_full-clause-answered
@@ -28,5 +29,8 @@ returns-clause-answered g c = λ w told.
 
 pub returns-clause-quiet : goal.returns-clause-quiet
 returns-clause-quiet g c = λ quiet.
-    quiet_logged c.log.result c.args.self.now.lanes c.args.self.now.lanes c.args.history.now c.log.new.history (record c.refused_entry-entry.result { number = c.len.result }) (λ none unarmed. quiet.quiet none)
-    (all_stay_within c.refused_entry-entry.result.request c.refused_entry-entry.result.reply c.args.self.now.lanes) quiet.armed c.log.ensures.ok c.log.ensures.stop
+    let made : Entry = c.refused_entry-entry.result in
+    let store : StoreView = c.args.self.now in
+    quiet_logged c.log.result store store c.args.history.now c.log.new.history (record made { number = c.len.result }) (λ none unarmed. quiet.quiet none)
+    (all_stay_by (record made { number = c.len.result }) store.control.tables.volumes store.lanes
+    (subst (λ (e : Entry). SetsNothing e.request e.reply) (sym c.refused_entry-entry.ensures) (refused_sets_nothing c.args.request c.args.refusal))) quiet.armed c.log.ensures.ok c.log.ensures.stop

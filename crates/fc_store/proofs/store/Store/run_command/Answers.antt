@@ -1,15 +1,18 @@
 use Rattle.std.proofs.Common.{◌≡◌, ℕ, Bool, Result, length, sym, subst, arith}
-use Rattle.fc_stands.specs.Store.{StandsFor}
+use Rattle.fc_stands.specs.Store.{StandsFor, StoreView}
 use Rattle.fc_entry.specs.HistoryState.{HistoryState}
 use Rattle.fc_entry.specs.declared.entry.Entry.{Entry}
 use Rattle.fc_entry.specs.declared.stop.Stop.{Stop}
 use Rattle.fc_legal.specs.Added.{StaysUp}
+use Rattle.fc_legal.specs.Whole.{Whole}
+use Rattle.fc_stands.specs.Leading.{LeadsOn}
 use Rattle.fc_stands.specs.Logged.{Logged, whether_done}
 use Rattle.fc_stands.specs.Quiet.{QuietBy}
 use Rattle.fc_base.specs.declared.request.Request.TheVariants.{Command as Asked}
 use Rattle.fc_stands.proofs.CommandLogs.{IsLoggedAs, log_led, log_quiet}
 use Rattle.fc_stands.proofs.Frames.{same_disks}
 use Rattle.fc_stands.proofs.Turns.{history_full}
+use Rattle.fc_store.proofs.Coming.{volumes_come, volumes_ordered}
 use Rattle.fc_store.proofs.store.Store.run_command.Goals as goal
 
 pub returns-then-is_full-clause-answered : goal.returns-then-is_full-clause-answered
@@ -21,7 +24,7 @@ returns-then-is_full-clause-answered g c = λ w told.
 
 pub returns-then-is_full-clause-quiet : goal.returns-then-is_full-clause-quiet
 returns-then-is_full-clause-quiet g c = λ quiet.
-    let P : Result Bool Stop → Type 0 = λ result. StaysUp result (QuietBy c.args.history.now.entries c.args.self.now.lanes) in
+    let P : Result Bool Stop → Type 0 = λ result. StaysUp result (QuietBy c.args.history.now.entries c.args.self.now) in
     subst P (sym c.full.ensures) quiet
 
 pub command_entry-entry-requires-clause-can : goal.command_entry-entry-requires-clause-can
@@ -44,6 +47,13 @@ returns-clause-disks g c = same_disks c.args.self.now.lanes c.command_entry-entr
 
 pub returns-clause-quiet : goal.returns-clause-quiet
 returns-clause-quiet g c = λ quiet.
-    log_quiet c.log_done.result c.args.self.now c.command_entry-entry.new.self c.args.command c.args.history.now c.log_done.new.history c.command_entry-entry.result
-    c.command_entry-entry.ensures.quiet c.command_entry-entry.ensures.asked c.command_entry-entry.new.self.control.tables c.command_entry-entry.ensures.lanes c.command_entry-entry.ensures.armed
-    (numbered c.log_done.result c.args.history.now c.log_done.new.history c.command_entry-entry.result _ c.len.ensures c.log_done.ensures.ok) c.log_done.ensures.stop quiet
+    let old : StoreView = c.args.self.now in
+    let new : StoreView = c.command_entry-entry.new.self in
+    let entry : Entry = c.command_entry-entry.result in
+    let w : Whole = c.requires.stands.0 in
+    let leads : LeadsOn old.control.grain w entry new = c.command_entry-entry.ensures.right w c.requires.stands.1.0 (omega (arith, c.if-is_full.ensures.room, c.requires.stands.1.1.entries)) in
+    log_quiet c.log_done.result old new c.args.command c.args.history.now c.log_done.new.history entry
+    c.command_entry-entry.ensures.quiet c.command_entry-entry.ensures.asked (volumes_ordered new leads.0 leads.4)
+    (volumes_come old new w c.args.command entry c.requires.stands.1.0 leads c.command_entry-entry.ensures.asked.request_is)
+    c.command_entry-entry.ensures.lanes c.command_entry-entry.ensures.armed
+    (numbered c.log_done.result c.args.history.now c.log_done.new.history entry _ c.len.ensures c.log_done.ensures.ok) c.log_done.ensures.stop quiet

@@ -1,5 +1,5 @@
 -- The access fits the lane of its grain, and its entry is right.
-use Rattle.std.proofs.Common.{arith, ◌≡◌, ◌%◌, length, slice_index_or, slice_set, subst, sym, ◌∙◌, ap, ◌<◌}
+use Rattle.std.proofs.Common.{arith, ◌≡◌, ◌%◌, List, length, slice_index_or, slice_set, subst, sym, ◌∙◌, ap, ◌<◌}
 use Rattle.fc_stands.specs.Store.{StandsFor}
 use Rattle.fc_lanes.specs.Asking.{part_of}
 use Rattle.fc_stands.specs.Store.{StoreView}
@@ -12,8 +12,8 @@ use Rattle.fc_stands.proofs.Ranging.{disks_stay, is_part_of}
 use Rattle.fc_stands.proofs.Parting.{can_access, inside, turn}
 use Rattle.fc_stands.proofs.Turning.{is_in_grain}
 use Rattle.fc_stands.proofs.Quieting.{keeps_roomy, one_keeps, quiet_logged}
-use Rattle.fc_stands.proofs.Within.{calls_near, one_stays_within, roomy_near, roomy_same}
-use Rattle.fc_stands.specs.Quiet.{AreArmedWithin, AreQuiet}
+use Rattle.fc_stands.proofs.Since.{one_goes_by}
+use Rattle.fc_stands.specs.Quiet.{QuietBy}
 use Rattle.fc_store.proofs.store.Store.run_part.Goals as goal
 
 pub returns-then-is_full-clause-answered : goal.returns-then-is_full-clause-answered
@@ -99,16 +99,26 @@ returns-clause-quiet g c = λ quiet.
     (ap (λ n. c.args.grain % n) (many ∙ ap (λ (s : StoreView). length s.lanes) (sym same)))
     (c.index_mut-lane.ensures.value ∙ ap (λ (s : StoreView). slice_index_or s.lanes (c.args.grain % c.len.result) c.index_mut-lane.result.now) (sym same))
     c.in-Ok.ensures.same) in
-    quiet_logged c.log.result c.self.inside.lanes.items (slice_set c.self.inside.lanes.items (c.args.grain % c.len.result) c.access_lane-entry.new.lane) c.args.history.now c.log.new.history
-    c.access_lane-entry.result
+    let can = can_access c.args.self.now c.requires.stands.0 c.args.grain (c.args.grain % c.len.result) c.index_mut-lane.result.now c.make_room.new.self
+    c.make_room.new.self.plan_room c.make_room.new.self.entry_room c.requires.stands.1.0
+    (ap (λ n. c.args.grain % n) (many ∙ ap (λ (s : StoreView). length s.lanes) (sym same)))
+    (c.index_mut-lane.ensures.value ∙ ap (λ (s : StoreView). slice_index_or s.lanes (c.args.grain % c.len.result) c.index_mut-lane.result.now) (sym same))
+    c.in-Ok.ensures.same
+    c.requires.there.0 c.args.volume _ _ c.requires.there.1 c.requires.there.2
+    (is_in_grain c.args.self.now.control.grain c.grain.result c.args.block c.args.count c.args.grain _ _
+    (c.grain.ensures ∙ ap (λ (s : StoreView). s.control.grain) (sym same))
+    c.blocks_in-first.ensures.first c.blocks_in-first.ensures.count c.requires.some c.requires.begins c.requires.ends)
+    c.requires.there.3 in
+    let Store : List LaneView → StoreView = λ ls. record { control = c.self.inside.control; lanes = ls } in
+    let old : StoreView = Store c.self.inside.lanes.items in
+    let new : StoreView = Store (slice_set c.self.inside.lanes.items (c.args.grain % c.len.result) c.access_lane-entry.new.lane) in
+    let before : QuietBy c.args.history.now.entries old = subst (λ (s : StoreView). QuietBy c.args.history.now.entries s) same quiet in
+    quiet_logged c.log.result old new c.args.history.now c.log.new.history c.access_lane-entry.result
     (λ none unarmed.
-    one_keeps c.self.inside.lanes.items (c.args.grain % c.len.result) c.index_mut-lane.result.now c.access_lane-entry.new.lane there c.index_mut-lane.ensures.value
+    one_keeps old.lanes (c.args.grain % c.len.result) c.index_mut-lane.result.now c.access_lane-entry.new.lane there c.index_mut-lane.ensures.value
     (keeps_roomy c.index_mut-lane.result.now c.make_room.new.self c.access_lane-entry.new.lane (ap (λ (v : LaneView). v.grains) c.in-Ok.ensures.same) c.access_lane-entry.ensures.quiet)
-    (subst (λ (s : StoreView). AreQuiet s.lanes) same (quiet.quiet none)))
-    (one_stays_within c.access_lane-entry.result.request c.access_lane-entry.result.reply c.self.inside.lanes.items (c.args.grain % c.len.result) c.index_mut-lane.result.now c.access_lane-entry.new.lane there
-    c.index_mut-lane.ensures.value
-    (roomy_same c.index_mut-lane.result.now c.make_room.new.self c.access_lane-entry.new.lane c.make_room.new.self.plan_room c.make_room.new.self.entry_room c.in-Ok.ensures.same c.access_lane-entry.ensures.same)
-    (roomy_near c.index_mut-lane.result.now c.make_room.new.self c.access_lane-entry.new.lane (ap (λ (v : LaneView). v.grains) c.in-Ok.ensures.same)
-    (calls_near c.access_lane-entry.result.calls c.make_room.new.self c.access_lane-entry.new.lane c.access_lane-entry.ensures.disks.nearer)))
-    (subst (λ (s : StoreView). AreArmedWithin c.args.history.now.entries s.lanes) same quiet.armed)
-    c.log.ensures.ok c.log.ensures.stop
+    (before.quiet none))
+    (one_goes_by c.access_lane-entry.result old.control.tables.volumes old.lanes (c.args.grain % c.len.result) c.index_mut-lane.result.now c.make_room.new.self c.access_lane-entry.new.lane
+    c.make_room.new.self.plan_room c.make_room.new.self.entry_room can.0.told there c.index_mut-lane.ensures.value c.in-Ok.ensures.same
+    (c.access_lane-entry.ensures.right can.0 can.1 can.2).0 c.access_lane-entry.ensures.same c.access_lane-entry.ensures.disks.nearer)
+    before.armed c.log.ensures.ok c.log.ensures.stop

@@ -1,0 +1,6 @@
+use Rattle.std.proofs.lemmas.Result.{IfOk-weaker}
+use Rattle.fc_check_picture.proofs.Writes.{zero_blocks}
+use Rattle.fc_check_picture.proofs.grain.Grain.zeros.Goals as goal
+
+pub returns : goal.returns
+returns c = IfOk-weaker c.filled.result _ _ (λ g e. zero_blocks c.args.size _ g c.blocks-2.ensures e) c.filled.ensures

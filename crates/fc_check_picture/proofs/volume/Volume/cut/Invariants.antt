@@ -1,0 +1,6 @@
+use Rattle.fc_check_picture.proofs.Volumes.{CutSo}
+use Rattle.fc_check_picture.proofs.volume.Volume.cut.Given as goal
+
+-- the grains so far are cut
+abbrev pub invariant-loop-place : goal.invariant-loop-place
+invariant-loop-place l = CutSo l.kept l.initial.self l.self l.place

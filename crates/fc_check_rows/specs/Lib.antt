@@ -1,0 +1,2 @@
+-- What contracts of rows of marks cite.
+pub mod Marks

@@ -1,7 +1,0 @@
-use Rattle.std.proofs.Common.{rules}
-use Rattle.fc_format.specs.Bytes.{words_bytes}
-use Rattle.fc_format.proofs.field.WordsField.put.Goals as goal
-
-pub returns-clause-bytes : goal.returns-clause-bytes
-unfolding words_bytes
-returns-clause-bytes c = search rules

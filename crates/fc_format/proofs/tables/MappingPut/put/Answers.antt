@@ -1,0 +1,7 @@
+use Rattle.std.proofs.Common.{append_assoc, ◌∙◌}
+use Rattle.fc_format.specs.Bytes.{mapping_bytes}
+use Rattle.fc_format.proofs.tables.MappingPut.put.Goals as goal
+
+pub returns-clause-bytes : goal.returns-clause-bytes
+unfolding mapping_bytes
+returns-clause-bytes c = c.in_ok-put.ensures.bytes ∙ simp append_assoc

@@ -1,0 +1,3 @@
+-- Reading an entry of a trace back.
+pub mod Exchanges
+pub mod Entries

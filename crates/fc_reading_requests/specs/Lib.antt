@@ -1,0 +1,10 @@
+-- Reading what was asked back.
+pub mod Asked
+pub mod Parts
+pub mod Lines
+pub mod Mappings
+pub mod Runs
+pub mod Reports
+pub mod Requests
+pub mod Answered
+pub mod Back
