@@ -1,7 +1,5 @@
 -- Lemmas, one subject a file.
 pub mod EffectRanges
 pub mod StoreParts
-pub mod Readying
-pub mod GivenBack
 pub mod Planning
 pub mod Coming

@@ -5,4 +5,3 @@ pub use Rattle.fc_stands.specs.Arming
 pub use Rattle.fc_stands.specs.Quiet
 pub mod Effects
 pub mod StoreParts
-pub mod GivenBack
