@@ -25,7 +25,7 @@ use fc_base::size::GrainSize;
 use fc_entry::entry::Entry;
 use fc_lane::lane::Lane;
 use fc_mdisk::mdisk::Mdisk;
-use fc_store::apart::refused_entry;
+use fc_stands::apart::refused_entry;
 use fc_tasks::script::Needs;
 use std::alloc::Global;
 use std::collections::VecDeque;

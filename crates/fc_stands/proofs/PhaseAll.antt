@@ -17,7 +17,7 @@ use Rattle.fc_lanes.specs.AllLanes.{IsLaneAfter, IsLaneReady, EachLane, CanAllDo
 use Rattle.fc_stands.specs.Phase.{StandsAt, IsDecidedAt, IsControlAfter, CanControlDo, CanPrepare, IsReadyFor, IsReserved, IsDone}
 use Rattle.fc_stands.specs.Store.{StoreView, AreLanesOf}
 use Rattle.fc_stands.proofs.PhaseStands.{ready_stands, decision_stands}
-use Rattle.fc_stands.proofs.Frames.{all_stay, all_stay_armed, all_stay_quiet}
+use Rattle.fc_stands.proofs.Frames.{all_go_on, all_stay, all_stay_armed, all_stay_quiet}
 
 -- ---- made ready
 
@@ -125,3 +125,7 @@ all_done old mid new d control each after lanes =
       quiet = λ none. record { count = all.count; each = λ i v lt. (all.each i v lt).quiet none };
       armed = record { count = all.count; each = λ i v lt. (all.each i v lt).armed };
     }
+
+-- Made ready, and then done: each lane stays the lane that it is.
+pub lanes_through : {old mid new : StoreView} {d : Decision} → IsReserved old mid → IsDone d mid new → EachLane IsSameLane old.lanes new.lanes
+lanes_through {old} {mid} {new} reserved done = all_go_on old.lanes mid.lanes new.lanes reserved.lanes done.lanes

@@ -18,8 +18,6 @@ ghost use Rattle.fc_stands.specs.Quiet.{QuietBy};
 ghost use Rattle.fc_stands.specs.Settling.{CanDecide, IsSettled};
 ghost use Rattle.fc_stands.specs.Store.{StandsFor};
 
-use crate::apart::entry_apart;
-use crate::log::{is_full, log_done};
 use crate::store::Store;
 use fc_base::command::Command;
 use fc_base::limits::MAX_ENTRIES;
@@ -30,6 +28,8 @@ use fc_entry::entry::Entry;
 use fc_entry::history::History;
 use fc_entry::stop::Stop;
 use fc_mdisk::mdisk::Mdisk;
+use fc_stands::apart::entry_apart;
+use fc_stands::log::{is_done, is_full, log_telling};
 use std::alloc::Global;
 
 impl<D: Mdisk> Store<D> {
@@ -55,7 +55,8 @@ impl<D: Mdisk> Store<D> {
         }
         let mut entry = self.command_entry(0, command);
         entry.number = history.len() as u64;
-        log_done(history, entry)
+        let done = is_done(&entry);
+        log_telling(history, entry, done)
     }
 
     /// Does a command, which is no access, by an actor: all is settled, and then it is decided and done. Want of memory is its
