@@ -42,7 +42,7 @@ pub record DecidersLaw : Type 0 where
   -- commands can be decided on what was reached
   pub can_decide : (decisions : ℕ) (w : Whole) → decisions < 2 ^ 32 → IsReached decisions w → CanDecide w
   -- a settling can be done on it, and then what is decided of a command
-  pub settling : (grain : GrainSize) (decisions : ℕ) (w : Whole) → decisions + 1 < 2 ^ 32 → IsReached decisions w →
+  pub settling : (grain : GrainSize) (decisions : ℕ) (w : Whole) → decisions + 2 < 2 ^ 32 → IsReached decisions w →
       CanLeave grain decisions w (settle w.books)
   pub deciding : (grain : GrainSize) (decisions : ℕ) (w : Whole) (command : Command) (loop : Option (List VolId)) →
       decisions + 3 < 2 ^ 32 → IsReached decisions w → IsLoopOf grain (after_settling grain w).books command loop →
