@@ -9,13 +9,15 @@
 //! - `apply` makes exactly the change `after_change` of `fc_base/specs/Tables.antt`, and takes no memory;
 //! - in every registry the ids of a kind rise, and no two objects of a kind have one name.
 //!
-//! In reading order: this file, `objects` (ids, names and copies of the objects), `indexed` (one table over `indexmap`).
+//! In reading order: this file, `objects` (ids, names and copies of the objects), `indexed` (one table over `indexmap`), `copy`
+//! (copies of all tables).
 #![tactic(auto)]
 
 ghost use Rattle.std.specs.Prelude.{◌≡◌, ◌<◌, IsNone, IsSome, IfSome, IsOk, is_some, OnOk, OnErr, option_copied, slice_get, length, if◌then◌else◌, MatchOption};
 ghost use Rattle.std.specs.Option.{ForSome};
 ghost use Rattle.fc_base.specs.Tables.{no_tables, volume_named, mapping_named, group_named, volume_with, mapping_with, group_with, id_with_name, partner_of, after_change, Fits, room_asked, IsOrdered};
 
+mod copy;
 mod indexed;
 mod objects;
 
