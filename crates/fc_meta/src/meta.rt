@@ -46,9 +46,10 @@ impl<M: MetaDisk> Meta<M> {
     /// Full exactly if the batch passes the half; after Full and NoMemory nothing was written, and the writer is as before.
     pub fn note(&mut self, alloc: Global, records: &[MetaRecord]) -> Result<(), MetaError>
         requires { IsResting M.seen M.may_leave self.old }
-        ensures promise { Promise M.seen M.moment M.left_since M.fault_count M.calls M.leads M.may_leave
-            (Note records.now) self.old self.new result }
-        ensures full { HasNoRoom M.seen (Note records.now) self.old → IsErrOf result MetaError.Full }
+        ensures promise { Promise M.seen M.moment M.left_since M.fault_count M.calls M.leads
+            M.may_leave (Note records.now) self.old self.new result }
+        ensures full { HasNoRoom M.seen (Note records.now) self.old →
+            IsErrOf result MetaError.Full }
     {
         if !self.fits(records) {
             return Err(MetaError::Full);

@@ -29,7 +29,8 @@ impl<M: MetaDisk> Meta<M> {
             (found M.seen self.new ≡ found_with (found M.seen self.old) records.now) }
         ensures head { OnOk result
             (head_of self.new ≡ head_with (length (batch_bytes records.now)) (head_of self.old)) }
-        ensures full { IsErrOf result MetaError.Full ↔ HasNoRoom M.seen (Note records.now) self.old }
+        ensures full { IsErrOf result MetaError.Full ↔
+            HasNoRoom M.seen (Note records.now) self.old }
         ensures refused { OnErr result (IsErrOf result MetaError.Failed ⊎ (self.new ≡ self.old)) }
         ensures treats { TreatsDisk M.seen M.moment M.left_since M.fault_count M.calls M.leads
             (found_with (found M.seen self.old) records.now)
@@ -49,8 +50,8 @@ impl<M: MetaDisk> Meta<M> {
         ensures rests { OnOk result (IsResting M.seen M.may_leave self.new) }
         ensures found { OnOk result (found M.seen self.new ≡ Image image.now) }
         ensures head { OnOk result
-            (head_of self.new ≡ head_turned (length (half_bytes (generation_of self.old + 1) image.now))
-            (head_of self.old)) }
+            (head_of self.new ≡ head_turned
+            (length (half_bytes (generation_of self.old + 1) image.now)) (head_of self.old)) }
         ensures full { IsErrOf result MetaError.Full →
             PassesHalf (generation_of self.old) image.now (room_of M.seen self.old) }
         ensures stays { OnErr result (IsErrOf result MetaError.Failed ⊎
