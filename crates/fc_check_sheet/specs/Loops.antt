@@ -1,5 +1,5 @@
 -- The least volume on a loop, and the way from there.
-use Rattle.std.specs.Prelude.{◌≡◌, ℕ, ◌<◌, ◌≤◌, Option, Some, None, List, slice_index_or}
+use Rattle.std.specs.Prelude.{◌≡◌, ◌⊎◌, ℕ, ◌<◌, ◌≤◌, Option, Some, None, List, slice_index_or}
 use Rattle.fc_loops.specs.Routes.{RouteBy}
 use Rattle.fc_check_sheet.specs.declared.distances.Distance.{Distance}
 use Rattle.fc_check_sheet.specs.declared.links.Link.{Link}
@@ -21,6 +21,14 @@ pub record IsLeastOnLoop (E : ℕ → ℕ → Type 0) (volumes : List ℕ) (boun
 abbrev pub LeastOnLoop : (ℕ → ℕ → Type 0) → List ℕ → ℕ → Option ℕ → Type 0
 LeastOnLoop E volumes bound None = (k : ℕ) → k < bound → IsOnLoop E (slice_index_or volumes k 0) → ⊥
 LeastOnLoop E volumes bound (Some v) = IsLeastOnLoop E volumes bound v
+
+-- The volume is less than the least so far and on a loop, and takes its place; or that stays.
+abbrev pub TriesLoop : (ℕ → ℕ → Type 0) → ℕ → Option ℕ → Option ℕ → Type 0
+TriesLoop E v least new = (IsLess v least × IsOnLoop E v × (new ≡ Some v)) ⊎ ((IsLess v least → IsOnLoop E v → ⊥) × (new ≡ least))
+
+-- A link leads from here to a volume that is so far away and less than the least so far.
+abbrev pub Betters : Link → List Distance → ℕ → ℕ → Option ℕ → Type 0
+Betters link distances here away next = (link.from ≡ here) × IsLess link.to next × (distance_in distances link.to ≡ Some away)
 
 -- One of the first links leads from here to the volume, which is so far away.
 pub record IsStep (links : List Link) (distances : List Distance) (here away bound v : ℕ) : Type 0 where

@@ -7,7 +7,7 @@ ghost use Rattle.fc_base.specs.declared.ids.VolId.{VolId as VolumeId};
 ghost use Rattle.fc_loops.specs.Routes.{IsBestLoop};
 ghost use Rattle.fc_check_sheet.specs.Links.{HasLink};
 ghost use Rattle.fc_check_sheet.specs.Distances.{distance_in, AreDistances};
-ghost use Rattle.fc_check_sheet.specs.Loops.{IsLess, IsOnLoop, LeastNext, LeastOnLoop};
+ghost use Rattle.fc_check_sheet.specs.Loops.{IsLess, IsOnLoop, Betters, LeastNext, LeastOnLoop, TriesLoop};
 
 use crate::distances::{Distance, distance_of, distances_to};
 use crate::links::{Link, links_of};
@@ -35,6 +35,25 @@ fn is_on_loop(alloc: Global, links: &[Link], volume: u32) -> Result<bool, NoMemo
     Ok(distance_of(&distances, volume).is_some())
 }
 
+/// The volume, if it is less than the least so far and on a loop; otherwise the least so far.
+fn lesser_on_loop(
+    alloc: Global,
+    links: &[Link],
+    volume: u32,
+    least: Option<u32>,
+) -> Result<Option<u32>, NoMemory>
+    ensures { IfOk result (λ now. TriesLoop (HasLink links.now) volume least now) }
+{
+    if !is_less(volume, least) {
+        return Ok(least);
+    }
+    if is_on_loop(alloc, links, volume)? {
+        Ok(Some(volume))
+    } else {
+        Ok(least)
+    }
+}
+
 /// The least of the volumes that are on a loop.
 fn least_on_loop(
     alloc: Global,
@@ -45,11 +64,24 @@ fn least_on_loop(
 {
     let mut least = None;
     for volume in volumes {
-        if is_less(*volume, least) && is_on_loop(alloc, links, *volume)? {
-            least = Some(*volume);
-        }
+        least = lesser_on_loop(alloc, links, *volume, least)?;
     }
     Ok(least)
+}
+
+/// Whether a link leads from here to a volume that is so far away from the start and less than the least so far.
+fn betters(
+    link: Link,
+    distances: &[Distance],
+    here: u32,
+    away: usize,
+    next: Option<u32>,
+) -> bool
+    ensures { IsTrue result ↔ Betters link distances.now here away next }
+{
+    link.from == here
+        && is_less(link.to, next)
+        && distance_of(distances, link.to) == Some(away)
 }
 
 /// The least volume so far away from the start to which a link leads from here.
@@ -58,10 +90,7 @@ fn next_volume(links: &[Link], distances: &[Distance], here: u32, away: usize) -
 {
     let mut next = None;
     for link in links {
-        if link.from == here
-            && is_less(link.to, next)
-            && distance_of(distances, link.to) == Some(away)
-        {
+        if betters(*link, distances, here, away, next) {
             next = Some(link.to);
         }
     }
