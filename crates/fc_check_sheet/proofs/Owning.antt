@@ -1,8 +1,7 @@
--- The mappings whose slots stand at some places, the least first.
-use Rattle.std.proofs.Common.{◌≡◌, ◌⊎◌, ◌↔◌, ℕ, ◌+◌, ◌<◌, ◌≤◌, Bool, true, false, min, Option, Some, None, List, [], ◌∷◌, ◌++◌, length, get_or, refl, sym, ap, subst, ◌∙◌, arith, inl, inr}
-use Rattle.std.specs.Prelude.{Contains, nat_le, cond}
+-- The mappings whose slots stand at some places.
+use Rattle.std.proofs.Common.{◌≡◌, ◌↔◌, ℕ, ◌+◌, ◌<◌, ◌≤◌, Option, Some, None, List, [], ◌∷◌, ◌++◌, length, get_or, refl, sym, ap, subst, ◌∙◌, arith, inl, inr}
+use Rattle.std.specs.Prelude.{Contains}
 use Rattle.std.proofs.lemmas.Bool.{cases_lt}
-use Rattle.std.proofs.lemmas.Bool.Decides.{nat_tests}
 use Rattle.std.proofs.lemmas.List.{get_or_default}
 use Rattle.std.proofs.lemmas.List.Elements.{Contains-get_or, Contains-append_left, Contains-push, Contains-push_cases}
 use Rattle.std.proofs.lemmas.List.Quantifiers.{all_pairs_push}
@@ -10,161 +9,85 @@ use Rattle.fc_base.specs.Need.{ReadsAt, IsDependent}
 use Rattle.fc_base.specs.Sheet.{Slot, mapping_place}
 use Rattle.fc_base.specs.SheetView.{AreMappings, IsRisingIds, ReadsMapping, DependsOn}
 use Rattle.fc_base.specs.declared.ids.MapId.{MapId}
+use Rattle.fc_base.specs.declared.volume.Mapping.{Mapping}
+use Rattle.fc_sheets.proofs.Finding.{mapping_place_at}
 use Rattle.model_slots.specs.Answers.{HasDependents}
-use Rattle.fc_check_sheet.specs.Owners.{IsOwner, lesser_from, OwnsFrom, IsLeastOwner, LeastOwner}
+use Rattle.fc_check_sheet.specs.Owners.{IsOwner}
+use Rattle.fc_check_sheet.specs.View.{AreListed}
 
--- ---- the least, place by place
-
-pub no_owner : (slots : List Slot) (places : List ℕ) (least : ℕ) → LeastOwner slots places 0 least None
-no_owner slots places least = λ n o. (let lt : o.at < 0 = o.below in omega arith)
-
--- whose slot stands at the place
-abbrev pub Owns : List Slot → ℕ → Option ℕ → Type 0
-Owns slots place owner = (n : ℕ) → (mapping_place slots n ≡ Some place) ↔ (owner ≡ Some n)
-
--- the last place is this one, or the slot stands at one before
-last_or : (slots : List Slot) (places : List ℕ) (i least n : ℕ) → OwnsFrom slots places (i + 1) least n → OwnsFrom slots places i least n ⊎ (mapping_place slots n ≡ Some (get_or places i 0))
-last_or slots places i least n o =
-    let below : o.at < i + 1 = o.below in
-    elim (cases_lt o.at i) [
-      | inl lt ↦ inl (record { at = o.at; below = lt; there = o.there; from = o.from })
-      | inr ge ↦ (let same : o.at ≡ i = omega arith in inr (o.there ∙ ap (λ z. Some (get_or places z 0)) same))
-    ]
-
-further : (slots : List Slot) (places : List ℕ) (i least n : ℕ) → OwnsFrom slots places i least n → OwnsFrom slots places (i + 1) least n
-further slots places i least n o = record { at = o.at; below = (let lt : o.at < i = o.below in omega arith); there = o.there; from = o.from }
-
--- no mapping from the bound on has its slot here
-none_here : (slots : List Slot) (places : List ℕ) (i least : ℕ) (found : Option ℕ) → ((n : ℕ) → least ≤ n → mapping_place slots n ≡ Some (get_or places i 0) → ⊥) → LeastOwner slots places i least found → LeastOwner slots places (i + 1) least found
-none_here slots places i least None never l = λ n o. elim (last_or slots places i least n o) [ inl before ↦ l n before | inr here ↦ never n o.from here ]
-none_here slots places i least (Some m) never l =
-    record {
-      owns = further slots places i least m l.owns;
-      least_one = λ n o. elim (last_or slots places i least n o) [ inl before ↦ l.least_one n before | inr here ↦ absurd (never n o.from here) ];
-    }
-
-one_here : (slots : List Slot) (places : List ℕ) (i least m : ℕ) → least ≤ m → mapping_place slots m ≡ Some (get_or places i 0) → OwnsFrom slots places (i + 1) least m
-one_here slots places i least m le e = record { at = i; below = omega arith; there = e; from = le }
-
--- one mapping has its slot here, and its id is no less than the bound
-some_here : (slots : List Slot) (places : List ℕ) (i least m : ℕ) (found : Option ℕ) → least ≤ m → mapping_place slots m ≡ Some (get_or places i 0) → ((n : ℕ) → mapping_place slots n ≡ Some (get_or places i 0) → n ≡ m) →
-    LeastOwner slots places i least found → LeastOwner slots places (i + 1) least (lesser_from least found (Some m))
-some_here slots places i least m None le e one l =
-    let P : Bool → Type 0 = λ z. LeastOwner slots places (i + 1) least (cond z (Some m) None) in
-    let t : nat_le least m ≡ true = grind (arith, nat_tests, le) in
-    subst P (sym t) (record {
-      owns = one_here slots places i least m le e;
-      least_one = λ n o. elim (last_or slots places i least n o) [ inl before ↦ absurd (l n before) | inr here ↦ (let q : n ≡ m = one n here in omega arith) ];
-    })
-some_here slots places i least m (Some k) le e one l =
-    let P : Bool → Type 0 = λ z. LeastOwner slots places (i + 1) least (cond z (Some (min k m)) (Some k)) in
-    let t : nat_le least m ≡ true = grind (arith, nat_tests, le) in
-    subst P (sym t) (record {
-      owns = elim (cases_lt k m) [
-        | inl lt ↦ (let q : k ≡ min k m = omega arith in let Q : ℕ → Type 0 = λ z. OwnsFrom slots places (i + 1) least z in subst Q q (further slots places i least k l.owns))
-        | inr ge ↦ (let q : m ≡ min k m = omega arith in let Q : ℕ → Type 0 = λ z. OwnsFrom slots places (i + 1) least z in subst Q q (one_here slots places i least m le e))
-      ];
-      least_one = λ n o. elim (last_or slots places i least n o) [ inl before ↦ (let b : k ≤ n = l.least_one n before in omega arith) | inr here ↦ (let q : n ≡ m = one n here in omega arith) ];
-    })
-
--- its id is less than the bound
-low_here : (slots : List Slot) (places : List ℕ) (i least m : ℕ) (found : Option ℕ) → m < least → LeastOwner slots places (i + 1) least found → LeastOwner slots places (i + 1) least (lesser_from least found (Some m))
-low_here slots places i least m None lt l =
-    let P : Bool → Type 0 = λ z. LeastOwner slots places (i + 1) least (cond z (Some m) None) in
-    let t : nat_le least m ≡ false = grind (arith, nat_tests, lt) in subst P (sym t) l
-low_here slots places i least m (Some k) lt l =
-    let P : Bool → Type 0 = λ z. LeastOwner slots places (i + 1) least (cond z (Some (min k m)) (Some k)) in
-    let t : nat_le least m ≡ false = grind (arith, nat_tests, lt) in subst P (sym t) l
-
-owner_here : (slots : List Slot) (places : List ℕ) (i least : ℕ) (found owner : Option ℕ) → Owns slots (get_or places i 0) owner → LeastOwner slots places i least found → LeastOwner slots places (i + 1) least (lesser_from least found owner)
-owner_here slots places i least found None owns l = none_here slots places i least found (λ n le e. (let q : None ≡ Some n = (owns n).0 e in cc)) l
-owner_here slots places i least found (Some m) owns l =
-    elim (cases_lt m least) [
-      | inl lt ↦ low_here slots places i least m found lt (none_here slots places i least found (λ n le e. (let q : Some m ≡ Some n = (owns n).0 e in let same : m ≡ n = cc in omega arith)) l)
-      | inr le ↦ some_here slots places i least m found le ((owns m).1 refl) (λ n e. (let q : Some m ≡ Some n = (owns n).0 e in cc)) l
-    ]
-
-pub owner_more : (slots : List Slot) (places : List ℕ) (i least place : ℕ) (found owner new : Option ℕ) → i < length places → place ≡ get_or places i place → Owns slots place owner → new ≡ lesser_from least found owner →
-    LeastOwner slots places i least found → LeastOwner slots places (i + 1) least new
-owner_more slots places i least place found owner new lt is owns e l =
-    let P : Option ℕ → Type 0 = λ z. LeastOwner slots places (i + 1) least z in
-    let Q : ℕ → Type 0 = λ z. Owns slots z owner in
-    subst P (sym e) (owner_here slots places i least found owner (subst Q (is ∙ get_or_default places i place 0 lt) owns) l)
-
-pub owner_done : (slots : List Slot) (places : List ℕ) (i least : ℕ) (found : Option ℕ) → i ≤ length places → length places ≤ i → LeastOwner slots places i least found → LeastOwner slots places (length places) least found
-owner_done slots places i least found a b l = let same : i ≡ length places = omega arith in let P : ℕ → Type 0 = λ z. LeastOwner slots places z least found in subst P same l
-
--- ---- all of them, one after another
+-- ---- mapping by mapping
 
 abbrev named : ℕ → MapId
 named n = record { 0 = n }
 
--- those whose ids are less than a bound
-pub record OwnersBelow (slots : List Slot) (places : List ℕ) (least : ℕ) (maps : List MapId) : Type 0 where
+-- those of the first mappings
+pub record OwnersAmong (slots : List Slot) (places : List ℕ) (mappings : List Mapping) (bound : ℕ) (maps : List MapId) : Type 0 where
   pub rising : IsRisingIds maps
-  pub below : (n : MapId) → Contains maps n → n.0 < least
+  pub below : (n : MapId) → Contains maps n → (k : ℕ) (d : Mapping) → bound ≤ k → k < length mappings → n.0 < (get_or mappings k d).id.0
   pub only : (n : MapId) → Contains maps n → IsOwner slots places n.0
-  pub all : (n : MapId) → n.0 < least → IsOwner slots places n.0 → Contains maps n
+  pub all : (k : ℕ) (d : Mapping) → k < bound → k < length mappings → IsOwner slots places (get_or mappings k d).id.0 → Contains maps (get_or mappings k d).id
 
-pub none_below : (slots : List Slot) (places : List ℕ) (maps : List MapId) → maps ≡ [] → OwnersBelow slots places 0 maps
-none_below slots places maps e =
-    let P : List MapId → Type 0 = λ z. OwnersBelow slots places 0 z in
+pub none_among : (slots : List Slot) (places : List ℕ) (mappings : List Mapping) (maps : List MapId) → maps ≡ [] → OwnersAmong slots places mappings 0 maps
+none_among slots places mappings maps e =
+    let P : List MapId → Type 0 = λ z. OwnersAmong slots places mappings 0 z in
     subst P (sym e) (record {
       rising = λ i j d lt jn. absurd (omega arith);
       below = λ n c. (let lt : c.0 < 0 = c.1 in absurd (omega arith));
       only = λ n c. (let lt : c.0 < 0 = c.1 in absurd (omega arith));
-      all = λ n lt o. absurd (omega arith);
+      all = λ k d lt. absurd (omega arith);
     })
 
-owns_from : (slots : List Slot) (places : List ℕ) (least n : ℕ) → least ≤ n → IsOwner slots places n → OwnsFrom slots places (length places) least n
-owns_from slots places least n le o =
-    let c = o.listed in
-    let lt : c.0 < length places = c.1 in
-    let is : get_or places c.0 o.place ≡ o.place = c.2 in
-    record { at = c.0; below = lt; there = o.there ∙ ap Some (sym is ∙ get_or_default places c.0 o.place 0 lt); from = le }
-
-is_owner : (slots : List Slot) (places : List ℕ) (least n : ℕ) → OwnsFrom slots places (length places) least n → IsOwner slots places n
-is_owner slots places least n o = record { place = get_or places o.at 0; listed = Contains-get_or places o.at 0 o.below; there = o.there }
-
-pub one_more_owner : (slots : List Slot) (places : List ℕ) (least m : ℕ) (found : Option ℕ) (maps new : List MapId) → found ≡ Some m → LeastOwner slots places (length places) least found → new ≡ maps ++ named m ∷ [] →
-    OwnersBelow slots places least maps → OwnersBelow slots places (m + 1) new
-one_more_owner slots places least m found maps new f l e s = subst P (sym e) (with_one (subst Q f l))
+pub owner_taken : (slots : List Slot) (places : List ℕ) (mappings : List Mapping) (i : ℕ) (m : Mapping) (maps new : List MapId) → AreListed slots mappings → i < length mappings → m ≡ get_or mappings i m → IsOwner slots places m.id.0 →
+    new ≡ maps ++ m.id ∷ [] → OwnersAmong slots places mappings i maps → OwnersAmong slots places mappings (i + 1) new
+owner_taken slots places mappings i m maps new listed lt is o e s =
+    let P : List MapId → Type 0 = λ z. OwnersAmong slots places mappings (i + 1) z in
+    subst P (sym e) (record {
+      rising = all_pairs_push (λ (x y : MapId). x.0 < y.0) maps m.id s.rising (λ k d kn. last_before (get_or maps k d) (s.below (get_or maps k d) (Contains-get_or maps k d kn)));
+      below = λ n c k d le kl. elim (Contains-push_cases maps m.id n c) [
+        | inl b ↦ s.below n b k d (omega arith) kl
+        | inr q ↦ (let r : (get_or mappings i d).id.0 < (get_or mappings k d).id.0 = listed.rising i k d (omega arith) kl in
+            let f : m.id.0 ≡ n.0 = ap (λ (x : MapId). x.0) q in let g : (get_or mappings i d).id.0 ≡ m.id.0 = ap (λ (x : Mapping). x.id.0) (at d) in omega arith)
+      ];
+      only = λ n c. elim (Contains-push_cases maps m.id n c) [ inl b ↦ s.only n b | inr q ↦ (let Q : MapId → Type 0 = λ z. IsOwner slots places z.0 in subst Q q o) ];
+      all = λ k d below kl own. elim (cases_lt k i) [
+        | inl l ↦ Contains-append_left maps (m.id ∷ []) (get_or mappings k d).id (s.all k d l kl own)
+        | inr ge ↦ (let q : k ≡ i = omega arith in let f : m ≡ get_or mappings k d = sym (at d) ∙ ap (λ z. get_or mappings z d) (sym q) in
+            let Q : Mapping → Type 0 = λ z. Contains (maps ++ m.id ∷ []) z.id in subst Q f (Contains-push maps m.id))
+      ];
+    })
   where
-    P : List MapId → Type 0
-    P z = OwnersBelow slots places (m + 1) z
+    at : (d : Mapping) → get_or mappings i d ≡ m
+    at d = get_or_default mappings i d m lt ∙ sym is
 
-    Q : Option ℕ → Type 0
-    Q z = LeastOwner slots places (length places) least z
+    last_before : (n : MapId) → ((k : ℕ) (d : Mapping) → i ≤ k → k < length mappings → n.0 < (get_or mappings k d).id.0) → n.0 < m.id.0
+    last_before n below = let b : n.0 < (get_or mappings i m).id.0 = below i m (omega arith) lt in let g : (get_or mappings i m).id.0 ≡ m.id.0 = ap (λ (x : Mapping). x.id.0) (at m) in omega arith
 
-    with_one : IsLeastOwner slots places (length places) least m → OwnersBelow slots places (m + 1) (maps ++ named m ∷ [])
-    with_one first =
-        let from : least ≤ m = first.owns.from in
-        record {
-          rising = all_pairs_push (λ (x y : MapId). x.0 < y.0) maps (named m) s.rising (λ k d kn. (let b : (get_or maps k d).0 < least = s.below (get_or maps k d) (Contains-get_or maps k d kn) in omega arith));
-          below = λ n c. elim (Contains-push_cases maps (named m) n c) [ inl o ↦ (let b : n.0 < least = s.below n o in omega arith) | inr q ↦ (let b : m ≡ n.0 = ap (λ (x : MapId). x.0) q in omega arith) ];
-          only = λ n c. elim (Contains-push_cases maps (named m) n c) [
-            | inl o ↦ s.only n o
-            | inr q ↦ (let R : MapId → Type 0 = λ z. IsOwner slots places z.0 in subst R q (is_owner slots places least m first.owns))
-          ];
-          all = λ n lt o. elim (cases_lt n.0 least) [
-            | inl b ↦ Contains-append_left maps (named m ∷ []) n (s.all n b o)
-            | inr ge ↦ (let le : m ≤ n.0 = first.least_one n.0 (owns_from slots places least n.0 ge o) in let q : m ≡ n.0 = omega arith in
-                let R : MapId → Type 0 = λ z. Contains (maps ++ named m ∷ []) z in subst R (ap named q) (Contains-push maps (named m)))
-          ];
-        }
+pub owner_passed : (slots : List Slot) (places : List ℕ) (mappings : List Mapping) (i : ℕ) (m : Mapping) (maps : List MapId) → i < length mappings → m ≡ get_or mappings i m → (IsOwner slots places m.id.0 → ⊥) →
+    OwnersAmong slots places mappings i maps → OwnersAmong slots places mappings (i + 1) maps
+owner_passed slots places mappings i m maps lt is never s = record {
+  rising = s.rising;
+  below = λ n c k d le kl. s.below n c k d (omega arith) kl;
+  only = s.only;
+  all = λ k d below kl own. elim (cases_lt k i) [
+    | inl l ↦ s.all k d l kl own
+    | inr ge ↦ (let q : k ≡ i = omega arith in let f : get_or mappings k d ≡ m = ap (λ z. get_or mappings z d) q ∙ (get_or_default mappings i d m lt ∙ sym is) in
+        let Q : Mapping → Type 0 = λ z. IsOwner slots places z.id.0 in absurd (never (subst Q f own)))
+  ];
+}
 
-pub all_owners : (slots : List Slot) (places : List ℕ) (least : ℕ) (found : Option ℕ) (maps : List MapId) → found ≡ None → LeastOwner slots places (length places) least found → OwnersBelow slots places least maps → AreMappings (IsOwner slots places) maps
-all_owners slots places least found maps f l s = done (subst Q f l)
+pub all_owners : (slots : List Slot) (places : List ℕ) (mappings : List Mapping) (i : ℕ) (maps : List MapId) → AreListed slots mappings → length mappings ≤ i → OwnersAmong slots places mappings i maps → AreMappings (IsOwner slots places) maps
+all_owners slots places mappings i maps listed le s = record { rising = s.rising; only = s.only; all = all }
   where
-    Q : Option ℕ → Type 0
-    Q z = LeastOwner slots places (length places) least z
-
-    done : LeastOwner slots places (length places) least None → AreMappings (IsOwner slots places) maps
-    done none = record {
-      rising = s.rising;
-      only = s.only;
-      all = λ n o. elim (cases_lt n.0 least) [ inl lt ↦ s.all n lt o | inr ge ↦ absurd (none n.0 (owns_from slots places least n.0 ge o)) ];
-    }
+    all : (n : MapId) → IsOwner slots places n.0 → Contains maps n
+    all n o =
+        let at = mapping_place_at slots n.0 o.place o.there in
+        let m = listed.owned o.place n.0 at.0 at.1 in
+        let c = m.1 in
+        let lt : c.0 < length mappings = c.1 in
+        let is : (get_or mappings c.0 m.0).id.0 ≡ n.0 = ap (λ (x : Mapping). x.id.0) c.2 ∙ m.2 in
+        let P : ℕ → Type 0 = λ z. IsOwner slots places z in
+        let Q : MapId → Type 0 = λ z. Contains maps z in
+        subst Q (ap named is) (s.all c.0 m.0 (omega arith) lt (subst P (sym is) o))
 
 -- ---- who reads from a mapping's slot, and who depends on it
 

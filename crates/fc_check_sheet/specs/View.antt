@@ -1,7 +1,8 @@
 -- A plain sheet, marks of grains and counts of disks together, as decisions on commands see them.
-use Rattle.std.specs.Prelude.{ℕ, ◌<◌, ◌^◌, List, length, map}
+use Rattle.std.specs.Prelude.{◌≡◌, ℕ, ◌<◌, ◌^◌, Some, List, length, map, AllPairs, Contains}
 use Rattle.fc_base.specs.Pools.{Pool}
 use Rattle.fc_base.specs.Sheet.{Slot, slot_at}
+use Rattle.fc_base.specs.declared.volume.Mapping.{Mapping}
 use Rattle.fc_changed.specs.Row.{Row, restart_in}
 use Rattle.fc_check_sheet.specs.declared.pool.LanePool.{LanePool}
 
@@ -9,6 +10,11 @@ use Rattle.fc_check_sheet.specs.declared.pool.LanePool.{LanePool}
 pub record IsSmall (slots : List Slot) (rows : List Row) : Type 0 where
   pub held : (k : ℕ) → length (slot_at slots k).held < 2 ^ 32
   pub restarts : (m : ℕ) → length (restart_in m rows) < 2 ^ 32
+
+-- Mappings by id, and each that has a slot.
+pub record AreListed (slots : List Slot) (mappings : List Mapping) : Type 0 where
+  pub rising : AllPairs (λ (a b : Mapping). a.id.0 < b.id.0) mappings
+  pub owned : (k n : ℕ) → k < length slots → (slot_at slots k).mapping ≡ Some n → (m : Mapping) × Contains mappings m × (m.id.0 ≡ n)
 
 -- The disks that lanes have for new volumes.
 abbrev pub pool_of : LanePool → Pool

@@ -6,7 +6,7 @@ ghost use Rattle.fc_base.specs.Sheet.{shape_of};
 ghost use Rattle.fc_base.specs.SheetStep.{triggered};
 ghost use Rattle.fc_base.specs.SheetView.{AreMappings, ReadsMapping, DependsOn, LoopAnswer, held_of};
 ghost use Rattle.fc_follow.specs.Following.{restarts};
-ghost use Rattle.fc_check_sheet.specs.View.{IsSmall, pools_of};
+ghost use Rattle.fc_check_sheet.specs.View.{AreListed, IsSmall, pools_of};
 
 use crate::counts::{count_marks, needed_grains};
 use crate::kept::ranges_of;
@@ -22,16 +22,18 @@ use fc_base::outcome::NoMemory;
 use fc_base::ranges::Ranges;
 use fc_base::request::Pair;
 use fc_base::sheet::Sheet;
+use fc_base::volume::Mapping;
 use fc_check_rows::Rows;
 use fc_model::PlainSheet;
 use std::alloc::Global;
 use std::marker::Model;
 
-/// The chains at all grains, the changed grains of incremental mappings, and the disks that each lane has for new
-/// volumes, as decisions on commands ask for them.
+/// The chains at all grains, beside the table of mappings, the changed grains of incremental mappings, and the disks
+/// that each lane has for new volumes, as decisions on commands ask for them.
 #[derive(Drop)]
 pub struct PlainView<'a> {
     sheet: &'a PlainSheet,
+    mappings: &'a [Mapping],
     rows: &'a Rows,
     pools: &'a [LanePool],
 }
@@ -39,13 +41,13 @@ pub struct PlainView<'a> {
 impl<'a> Model for PlainView<'a> {
     ghost use Rattle.fc_base.specs.SheetView.{SheetView};
     ghost use Rattle.fc_follow.specs.Following.{restarts};
-    ghost use Rattle.fc_check_sheet.specs.View.{IsSmall, pools_of};
+    ghost use Rattle.fc_check_sheet.specs.View.{AreListed, IsSmall, pools_of};
 
     ghost Value = { SheetView };
 
     ghost view = { λ v. record { sheet = v.sheet.now; restarts = restarts v.rows.now; pools = pools_of v.pools.now } };
 
-    ghost invariant = { λ v. IsSmall v.sheet.now.slots v.rows.now };
+    ghost invariant = { λ v. IsSmall v.sheet.now.slots v.rows.now × AreListed v.sheet.now.slots v.mappings.now };
 }
 
 /// What the slot of a mapping holds: a mark for each of its grains; no marks where it has no slot.
@@ -62,40 +64,55 @@ fn held_marks(sheet: &PlainSheet, map: MapId) -> &[bool]
 fn direct_in(
     alloc: Global,
     sheet: &PlainSheet,
+    mappings: &[Mapping],
     map: MapId,
 ) -> Result<List<MapId>, NoMemory>
+    requires { AreListed sheet.now.slots mappings.now }
     ensures { IfOk result (λ maps. AreMappings (ReadsMapping sheet.now.slots map.0) maps) }
 {
     let Some(from) = sheet.mapping_place(map) else {
         return Ok(List::new(alloc));
     };
     let places = readers_of(alloc, sheet, from)?;
-    owners_of(alloc, sheet, places.as_slice())
+    owners_of(alloc, sheet, mappings, places.as_slice())
 }
 
 /// The mappings, by id, whose slots are dependents of the mapping's slot.
 fn dependents_in(
     alloc: Global,
     sheet: &PlainSheet,
+    mappings: &[Mapping],
     map: MapId,
 ) -> Result<List<MapId>, NoMemory>
+    requires { AreListed sheet.now.slots mappings.now }
     ensures { IfOk result (λ maps. AreMappings (DependsOn sheet.now.slots map.0) maps) }
 {
     let Some(on) = sheet.mapping_place(map) else {
         return Ok(List::new(alloc));
     };
     let places = sheet.dependents(alloc, on)?;
-    owners_of(alloc, sheet, places.as_slice())
+    owners_of(alloc, sheet, mappings, places.as_slice())
 }
 
 impl<'a> PlainView<'a> {
-    /// The view of a sheet of all grains, of what is kept of incremental mappings, and of the disks that each lane
-    /// has for new volumes.
-    pub fn new(sheet: &'a PlainSheet, rows: &'a Rows, pools: &'a [LanePool]) -> Self
-        requires { IsSmall sheet.now.slots rows.now }
+    /// The view of a sheet of all grains, beside the table of mappings, of what is kept of incremental mappings, and of
+    /// the disks that each lane has for new volumes.
+    pub fn new(
+        sheet: &'a PlainSheet,
+        mappings: &'a [Mapping],
+        rows: &'a Rows,
+        pools: &'a [LanePool],
+    ) -> Self
+        requires small { IsSmall sheet.now.slots rows.now }
+        requires listed { AreListed sheet.now.slots mappings.now }
         ensures { result ≡ record { sheet = sheet.now; restarts = restarts rows.now; pools = pools_of pools.now } }
     {
-        PlainView { sheet, rows, pools }
+        PlainView {
+            sheet,
+            mappings,
+            rows,
+            pools,
+        }
     }
 }
 
@@ -111,7 +128,7 @@ impl<'a> Sheet for PlainView<'a> {
     }
 
     fn direct(&self, alloc: Global, map: MapId) -> Result<List<MapId>, NoMemory> {
-        direct_in(alloc, self.sheet, map)
+        direct_in(alloc, self.sheet, self.mappings, map)
     }
 
     fn needed(&self, map: MapId) -> u32 {
@@ -131,7 +148,7 @@ impl<'a> Sheet for PlainView<'a> {
     }
 
     fn dependents(&self, alloc: Global, map: MapId) -> Result<List<MapId>, NoMemory> {
-        dependents_in(alloc, self.sheet, map)
+        dependents_in(alloc, self.sheet, self.mappings, map)
     }
 
     fn unneeded(&self, alloc: Global) -> Result<List<SlotId>, NoMemory> {

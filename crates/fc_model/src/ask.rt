@@ -21,8 +21,7 @@ use model_slots::find::{grains_of_volume, place_of_birth, place_of_live, place_o
 use model_slots::moves::{fill_moves_of, write_moves_of};
 use model_slots::need::{dependents_of, needed_somewhere, used_as_source, widest};
 use model_slots::places::{
-    birth_at, chain_at, grains_of, held_at, holds_at, is_complete_at, is_live_at, mapping_at,
-    volume_at,
+    birth_at, chain_at, grains_of, held_at, holds_at, is_complete_at, is_live_at, volume_at,
 };
 use std::alloc::Global;
 
@@ -68,13 +67,6 @@ impl PlainSheet {
         ensures { result ≡ (slot_at self.now.slots place).is_live }
     {
         is_live_at(self.slots(), place)
-    }
-
-    /// The id of the mapping whose slot stands at a place, if any.
-    pub fn mapping(&self, place: usize) -> Option<u32>
-        ensures { result ≡ (slot_at self.now.slots place).mapping }
-    {
-        mapping_at(self.slots(), place)
     }
 
     /// How many grains the slot at a place has on the sheet.

@@ -47,17 +47,6 @@ pub fn is_live_at(slots: &[Slot], place: usize) -> bool
     place < slots.len() && slots[place].is_live()
 }
 
-/// The mapping whose slot stands at a place, if any.
-pub fn mapping_at(slots: &[Slot], place: usize) -> Option<u32>
-    ensures { result ≡ (slot_at slots.now place).mapping }
-{
-    if place < slots.len() {
-        slots[place].mapping()
-    } else {
-        None
-    }
-}
-
 /// Whether the slot at a place is this mapping's.
 pub(crate) fn is_of_mapping(slots: &[Slot], place: usize, mapping: u32) -> bool
     ensures { result ≡ is_at (slot_at slots.now place).mapping mapping }

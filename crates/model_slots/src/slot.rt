@@ -138,13 +138,6 @@ impl Slot {
         self.is_live
     }
 
-    /// The mapping whose slot it is, if any.
-    pub fn mapping(&self) -> Option<u32>
-        ensures { result ≡ self.now.mapping }
-    {
-        self.mapping
-    }
-
     /// Whether it is the slot of this mapping.
     pub fn is_of(&self, mapping: u32) -> bool
         ensures { result ≡ is_at self.now.mapping mapping }
