@@ -1,9 +1,9 @@
 -- Distances along links: what one more link, and one more level, leave of them.
-use Rattle.std.proofs.Common.{◌≡◌, ◌≢◌, ◌⊎◌, ℕ, zero, suc, ◌+◌, ◌<◌, ◌≤◌, Bool, true, false, cond, ◌||◌, eqb, is_none, Option, Some, None, List, [], ◌∷◌, ◌++◌, length, get_or, refl, sym, ap, subst, ◌∙◌, arith, inl, inr, length-append}
+use Rattle.std.proofs.Common.{◌≡◌, ◌≢◌, ◌⊎◌, ℕ, zero, suc, ◌+◌, ◌<◌, ◌≤◌, Bool, true, false, cond, ◌||◌, eqb, is_none, Option, Some, None, List, [], ◌∷◌, ◌++◌, length, get_or, drop, refl, sym, ap, subst, ◌∙◌, arith, inl, inr, length-append}
 use Rattle.std.specs.Prelude.{Contains, IsSome}
 use Rattle.std.specs.List.{count_by}
 use Rattle.std.proofs.lemmas.Bool.{cases_eq, cases_lt, eq-eqb, ne_eqb}
-use Rattle.std.proofs.lemmas.List.{get_or_default}
+use Rattle.std.proofs.lemmas.List.{drop_all, get_or_default}
 use Rattle.fc_loops.specs.Routes.{RouteBy}
 use Rattle.fc_moves.proofs.Search.{cases_option}
 use Rattle.fc_check_sheet.specs.declared.distances.Distance.{Distance}
@@ -331,3 +331,19 @@ level_done links start away bound old now any le s = record {
   longer = s.longer;
   same = s.same;
 }
+
+-- ---- the distance of a volume
+
+pub none_past : (ds : List Distance) (i v : ℕ) (found : Option ℕ) → length ds ≤ i → found ≡ distance_in (drop i ds) v → found ≡ None
+none_past ds i v found le e = e ∙ ap (λ z. distance_in z v) (drop_all i ds le)
+
+search_step : (ds : List Distance) (i v : ℕ) (d : Distance) → i < length ds → d ≡ get_or ds i d → distance_in (drop i ds) v ≡ cond (eqb d.volume v) (Some d.links) (distance_in (drop (i + 1) ds) v)
+search_step [] i v d lt is = absurd (omega arith)
+search_step (x ∷ ds) zero v d lt is = ap (λ (z : Distance). cond (eqb z.volume v) (Some z.links) (distance_in ds v)) (sym is)
+search_step (x ∷ ds) (suc i) v d lt is = search_step ds i v d (omega arith) is
+
+pub found_here : (ds : List Distance) (i v : ℕ) (d : Distance) → i < length ds → d ≡ get_or ds i d → d.volume ≡ v → distance_in ds v ≡ distance_in (drop i ds) v → Some d.links ≡ distance_in ds v
+found_here ds i v d lt is same e = sym (e ∙ (search_step ds i v d lt is ∙ ap (λ b. cond b (Some d.links) (distance_in (drop (i + 1) ds) v)) (eq-eqb d.volume v same)))
+
+pub not_here : (ds : List Distance) (i v : ℕ) (d : Distance) → i < length ds → d ≡ get_or ds i d → d.volume ≢ v → distance_in ds v ≡ distance_in (drop i ds) v → distance_in ds v ≡ distance_in (drop (i + 1) ds) v
+not_here ds i v d lt is other e = e ∙ (search_step ds i v d lt is ∙ ap (λ b. cond b (Some d.links) (distance_in (drop (i + 1) ds) v)) (ne_eqb d.volume v other))

@@ -98,8 +98,11 @@ pub(crate) fn distances_to(
 {
     let mut distances = Vec::new(alloc);
     let mut away = 0;
-    while note_level(&mut distances, links, start, away)? {
+    'levels: loop {
+        let any = note_level(&mut distances, links, start, away)?;
+        if !any {
+            return Ok(distances);
+        }
         away += 1;
     }
-    Ok(distances)
 }

@@ -5,8 +5,7 @@ ghost use Rattle.fc_base.specs.Counts.{UsedAt};
 ghost use Rattle.fc_base.specs.Sheet.{shape_of};
 ghost use Rattle.fc_base.specs.SheetStep.{triggered};
 ghost use Rattle.fc_base.specs.SheetView.{AreMappings, ReadsMapping, DependsOn, LoopAnswer, held_of};
-ghost use Rattle.fc_follow.specs.Following.{restarts};
-ghost use Rattle.fc_check_sheet.specs.View.{AreListed, IsSmall, pools_of};
+ghost use Rattle.fc_check_sheet.specs.View.{AreListed, IsSmall, pools_of, view_of};
 
 use crate::counts::{count_marks, needed_grains};
 use crate::kept::ranges_of;
@@ -40,8 +39,7 @@ pub struct PlainView<'a> {
 
 impl<'a> Model for PlainView<'a> {
     ghost use Rattle.fc_base.specs.SheetView.{SheetView};
-    ghost use Rattle.fc_follow.specs.Following.{restarts};
-    ghost use Rattle.fc_check_sheet.specs.View.{AreListed, IsSmall, pools_of};
+        ghost use Rattle.fc_check_sheet.specs.View.{AreListed, IsSmall, pools_of};
 
     ghost Value = { SheetView };
 
@@ -105,7 +103,7 @@ impl<'a> PlainView<'a> {
     ) -> Self
         requires small { IsSmall sheet.now.slots rows.now }
         requires listed { AreListed sheet.now.slots mappings.now }
-        ensures { result ≡ record { sheet = sheet.now; restarts = restarts rows.now; pools = pools_of pools.now } }
+        ensures { result ≡ record { sheet = sheet.now; rows = rows.now; pools = pools_of pools.now } }
     {
         PlainView {
             sheet,
@@ -117,7 +115,7 @@ impl<'a> PlainView<'a> {
 }
 
 impl<'a> Sheet for PlainView<'a> {
-    ghost meaning = { λ v. v };
+    ghost meaning = { view_of };
 
     fn held(&self, map: MapId) -> u32 {
         count_marks(held_marks(self.sheet, map))
