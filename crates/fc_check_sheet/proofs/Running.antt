@@ -44,23 +44,37 @@ behind_last (a ∷ []) last next gap full = (gap, full)
 behind_last (a ∷ b ∷ ranges) last next gap full = behind_last (b ∷ ranges) last next gap full
 
 -- of the grains before the end, those before `from` and those of the run are marked
+before_run : (a f l e m : Bool) → a ≡ true → f ≡ false → e ≡ true → ((a && m) || (f && l)) ≡ (e && m)
+before_run a f l e true p q r = simp (p, q, r)
+before_run a f l e false p q r = simp (p, q, r)
+
+in_gap : (a f l e m : Bool) → f ≡ false → m ≡ false → ((a && m) || (f && l)) ≡ (e && m)
+in_gap true f l true m q r = simp (q, r)
+in_gap true f l false m q r = simp (q, r)
+in_gap false f l true m q r = simp (q, r)
+in_gap false f l false m q r = simp q
+
+in_run : (a f l e m : Bool) → f ≡ true → l ≡ true → e ≡ true → m ≡ true → ((a && m) || (f && l)) ≡ (e && m)
+in_run true f l e m p q r t = simp (p, q, r, t)
+in_run false f l e m p q r t = simp (p, q, r, t)
+
+past_run : (a f l e m : Bool) → a ≡ false → l ≡ false → e ≡ false → ((a && m) || (f && l)) ≡ (e && m)
+past_run a true l e m p q r = simp (p, q, r)
+past_run a false l e m p q r = simp (p, r)
+
 passed : (from first end g : ℕ) (mark : Bool) → from ≤ first → first < end → (from ≤ g → g < first → mark ≡ false) → (first ≤ g → g < end → mark ≡ true) →
     ((ltb g from && mark) || (nat_le first g && nat_le g (end - 1))) ≡ (ltb g end && mark)
 passed from first end g mark le lt gap full =
     elim (cases_lt g from) [
-      | inl before ↦ at_mark mark (grind (arith, nat_tests, before)) (grind (arith, nat_tests, before, le)) (grind (arith, nat_tests, before, le, lt))
+      | inl before ↦ before_run (ltb g from) (nat_le first g) (nat_le g (end - 1)) (ltb g end) mark (lt-ltb g from before) (grind (arith, nat_tests)) (lt-ltb g end (omega arith))
       | inr past ↦ elim (cases_lt g first) [
-        | inl between ↦ (let m : mark ≡ false = gap past between in rw m (grind (arith, nat_tests, between)))
+        | inl between ↦ in_gap (ltb g from) (nat_le first g) (nat_le g (end - 1)) (ltb g end) mark (grind (arith, nat_tests)) (gap past between)
         | inr inside ↦ elim (cases_lt g end) [
-          | inl here ↦ (let m : mark ≡ true = full inside here in rw m (grind (arith, nat_tests, inside, here, past)))
-          | inr behind ↦ grind (arith, nat_tests, behind, past, lt)
+          | inl here ↦ in_run (ltb g from) (nat_le first g) (nat_le g (end - 1)) (ltb g end) mark (grind (arith, nat_tests)) (grind (arith, nat_tests)) (lt-ltb g end here) (full inside here)
+          | inr behind ↦ past_run (ltb g from) (nat_le first g) (nat_le g (end - 1)) (ltb g end) mark (grind (arith, nat_tests)) (grind (arith, nat_tests)) (grind (arith, nat_tests))
         ]
       ]
     ]
-  where
-    at_mark : (mark : Bool) → ltb g from ≡ true → nat_le first g ≡ false → ltb g end ≡ true → ((ltb g from && mark) || (nat_le first g && nat_le g (end - 1))) ≡ (ltb g end && mark)
-    at_mark true a b c = rw (a, b, c) refl
-    at_mark false a b c = rw (a, b, c) refl
 
 pub run_more : (marks : List Bool) (from first end : ℕ) (ranges new : List Range) → HaveRanges marks from ranges → IsNextMarked marks from first → IsRunEnd marks first end → new ≡ ranges ++ run first end ∷ [] →
     HaveRanges marks end new

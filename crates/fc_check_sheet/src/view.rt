@@ -38,12 +38,11 @@ pub struct PlainView<'a> {
 }
 
 impl<'a> Model for PlainView<'a> {
-    ghost use Rattle.fc_base.specs.SheetView.{SheetView};
-        ghost use Rattle.fc_check_sheet.specs.View.{AreListed, IsSmall, pools_of};
+    ghost use Rattle.fc_check_sheet.specs.View.{AreListed, IsSmall, Plain, pools_of};
 
-    ghost Value = { SheetView };
+    ghost Value = { Plain };
 
-    ghost view = { λ v. record { sheet = v.sheet.now; restarts = restarts v.rows.now; pools = pools_of v.pools.now } };
+    ghost view = { λ v. record { sheet = v.sheet.now; rows = v.rows.now; pools = pools_of v.pools.now } };
 
     ghost invariant = { λ v. IsSmall v.sheet.now.slots v.rows.now × AreListed v.sheet.now.slots v.mappings.now };
 }
