@@ -28,9 +28,10 @@ edge_of slots old live lt e = record {
 pub none_added : (slots : List Slot) (old : ℕ) (links : List Link) → AddsFirst slots old 0 links links
 none_added slots old links = record { kept = λ v w h. h; only = λ v w h. inl h; added = λ live lt e. absurd (omega arith) }
 
-pub edge_added : (slots : List Slot) (old n : ℕ) (before after new : List Link) → IsEdgeAt slots old n → n < length slots → new ≡ after ++ link (slot_at slots old).volume (slot_at slots n).volume ∷ [] → AddsFirst slots old n before after →
-    AddsFirst slots old (n + 1) before new
-edge_added slots old n before after new e lt is a =
+pub edge_added : (slots : List Slot) (old n from to : ℕ) (before after new : List Link) → IsEdgeAt slots old n → n < length slots → from ≡ (slot_at slots old).volume → to ≡ (slot_at slots n).volume → new ≡ after ++ link from to ∷ [] →
+    AddsFirst slots old n before after → AddsFirst slots old (n + 1) before new
+edge_added slots old n from to before after new e lt ef et made a =
+    let is : new ≡ after ++ link (slot_at slots old).volume (slot_at slots n).volume ∷ [] = made ∙ (ap (λ v. after ++ link v to ∷ []) ef ∙ ap (λ v. after ++ link (slot_at slots old).volume v ∷ []) et) in
     let x : Link = link (slot_at slots old).volume (slot_at slots n).volume in
     let P : List Link → Type 0 = λ z. AddsFirst slots old (n + 1) before z in
     subst P (sym is) (record {

@@ -18,11 +18,11 @@ use Rattle.fc_check_sheet.specs.declared.distances.Distance.{Distance}
 use Rattle.fc_check_sheet.specs.declared.links.Link.{Link}
 use Rattle.fc_check_sheet.specs.Links.{HasLink, AreEdges}
 use Rattle.fc_check_sheet.specs.Distances.{distance_in, AreDistances}
-use Rattle.fc_check_sheet.specs.Loops.{IsLess, IsOnLoop, IsLeastOnLoop, LeastOnLoop, TriesLoop, IsStep, IsLeastNext, LeastNext, Betters}
+use Rattle.fc_check_sheet.specs.Loops.{HasVolumes, IsLess, IsOnLoop, IsLeastOnLoop, LeastOnLoop, TriesLoop, IsStep, IsLeastNext, LeastNext, Betters}
 
 -- ---- distances as marks, by volume
 
-or_zero : Option ℕ → ℕ
+abbrev or_zero : Option ℕ → ℕ
 or_zero None = 0
 or_zero (Some k) = k
 
@@ -210,8 +210,12 @@ off_loop E v ds a e r = let w = a.near v r.0 r.1 in let q : None ≡ Some w.link
 pub none_on_loop : (E : ℕ → ℕ → Type 0) (volumes : List ℕ) → LeastOnLoop E volumes 0 None
 none_on_loop E volumes = λ k lt r. absurd (omega arith)
 
+-- an item, as loops give it
+pub volume_is : (volumes : List ℕ) (i : ℕ) → i < length volumes → get_or volumes i 0 ≡ get_or volumes i (get_or volumes i 0)
+volume_is volumes i lt = sym (get_or_default volumes i (get_or volumes i 0) 0 lt)
+
 pub loop_more : (E : ℕ → ℕ → Type 0) (volumes : List ℕ) (i v : ℕ) (least new : Option ℕ) → i < length volumes → v ≡ get_or volumes i v → TriesLoop E v least new → LeastOnLoop E volumes i least → LeastOnLoop E volumes (i + 1) new
-loop_more E volumes i v least new lt is t l = elim t [ inl yes ↦ taken yes | inr no ↦ (let P : Option ℕ → Type 0 = λ z. LeastOnLoop E volumes (i + 1) z in subst P (sym no.1) (passed least no.0 l)) ]
+loop_more E volumes i v least new lt is t l = elim t [ inl new_one ↦ taken new_one | inr same ↦ (let P : Option ℕ → Type 0 = λ z. LeastOnLoop E volumes (i + 1) z in subst P (sym same.1) (passed least same.0 l)) ]
   where
     at : get_or volumes i 0 ≡ v
     at = get_or_default volumes i 0 v lt ∙ sym is
@@ -238,9 +242,9 @@ loop_more E volumes i v least new lt is t l = elim t [ inl yes ↦ taken yes | i
         ]
 
     taken : IsLess v least × IsOnLoop E v × (new ≡ Some v) → LeastOnLoop E volumes (i + 1) new
-    taken yes =
+    taken t =
         let P : Option ℕ → Type 0 = λ z. LeastOnLoop E volumes (i + 1) z in
-        subst P (sym yes.2) (record { on_loop = yes.1; least = less_than least yes.0 l })
+        subst P (sym t.2) (record { on_loop = t.1; least = less_than least t.0 l })
 
 pub loop_done : (E : ℕ → ℕ → Type 0) (volumes : List ℕ) (i : ℕ) (least : Option ℕ) → i ≤ length volumes → length volumes ≤ i → LeastOnLoop E volumes i least → LeastOnLoop E volumes (length volumes) least
 loop_done E volumes i least a b l = let same : i ≡ length volumes = omega arith in let P : ℕ → Type 0 = λ z. LeastOnLoop E volumes z least in subst P same l
@@ -256,7 +260,7 @@ route_on E F h v [] w e = h v w e
 route_on E F h v (x ∷ xs) w r = (h v x r.0, route_on E F h x xs w r.1)
 
 -- a loop goes through volumes of the list
-listed : (slots : List Slot) (links : List Link) (volumes : List ℕ) → AreEdges (shape_of slots) links → ((k : ℕ) → k < length slots → Contains volumes (slot_at slots k).volume) → (v : ℕ) → IsOnLoop (HasLink links) v →
+listed : (slots : List Slot) (links : List Link) (volumes : List ℕ) → AreEdges (shape_of slots) links → HasVolumes slots volumes → (v : ℕ) → IsOnLoop (HasLink links) v →
     (k : ℕ) × (k < length volumes) × (get_or volumes k 0 ≡ v)
 listed slots links volumes edges all v r =
     let b = begins (HasLink links) v r.0 v r.1 in
@@ -268,7 +272,7 @@ listed slots links volumes edges all v r =
     (c.0, lt, get_or_default volumes c.0 0 (slot_at slots e.old).volume lt ∙ (c.2 ∙ e.old_is_from))
 
 -- no volume that is less is on a loop
-none_less : (slots : List Slot) (links : List Link) (volumes : List ℕ) (start : ℕ) → AreEdges (shape_of slots) links → ((k : ℕ) → k < length slots → Contains volumes (slot_at slots k).volume) → IsLeastOnLoop (HasLink links) volumes (length volumes) start →
+none_less : (slots : List Slot) (links : List Link) (volumes : List ℕ) (start : ℕ) → AreEdges (shape_of slots) links → HasVolumes slots volumes → IsLeastOnLoop (HasLink links) volumes (length volumes) start →
     (v : ℕ) → v < start → (xs : List ℕ) → RouteBy (HasLink links) v xs v → ⊥
 none_less slots links volumes start edges all least v lt xs r =
     let k = listed slots links volumes edges all v (xs, r) in
@@ -285,7 +289,7 @@ told_on s links first rest edges t = record {
   earliest = λ other r l. t.earliest other (route_on (Edge s) (HasLink links) edges.all first other first r) l;
 }
 
-pub none_told : (slots : List Slot) (links : List Link) (volumes : List ℕ) (found : Option ℕ) → found ≡ None → AreEdges (shape_of slots) links → ((k : ℕ) → k < length slots → Contains volumes (slot_at slots k).volume) →
+pub none_told : (slots : List Slot) (links : List Link) (volumes : List ℕ) (found : Option ℕ) → found ≡ None → AreEdges (shape_of slots) links → HasVolumes slots volumes →
     LeastOnLoop (HasLink links) volumes (length volumes) found → LoopAnswer (shape_of slots) None
 none_told slots links volumes found e edges all none =
     no_loop_is (shape_of slots) (λ v xs r.
@@ -304,7 +308,7 @@ pub loop_noted : (links : List Link) (volumes : List ℕ) (start : ℕ) (found l
 loop_noted links volumes start found long ds e least a is none = off_loop (HasLink links) start ds a (sym is ∙ none) (least_is links volumes start found e least).on_loop
 
 pub some_told : (slots : List Slot) (links : List Link) (volumes : List ℕ) (start long : ℕ) (found : Option ℕ) (ds : List Distance) (names : List VolId) → found ≡ Some start → AreEdges (shape_of slots) links →
-    ((k : ℕ) → k < length slots → Contains volumes (slot_at slots k).volume) → LeastOnLoop (HasLink links) volumes (length volumes) found → AreDistances (HasLink links) start ds → distance_in ds start ≡ Some long →
+    HasVolumes slots volumes → LeastOnLoop (HasLink links) volumes (length volumes) found → AreDistances (HasLink links) start ds → distance_in ds start ≡ Some long →
     IsBestLoop (HasLink links) start long (ids names) → LoopAnswer (shape_of slots) (Some names)
 some_told slots links volumes start long found ds names e edges all least a is best = answer names (told best)
   where

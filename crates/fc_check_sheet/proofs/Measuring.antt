@@ -1,9 +1,10 @@
 -- Distances along links: what one more link, and one more level, leave of them.
-use Rattle.std.proofs.Common.{◌≡◌, ◌≢◌, ◌⊎◌, ℕ, zero, suc, ◌+◌, ◌<◌, ◌≤◌, Bool, true, false, cond, ◌||◌, eqb, is_none, Option, Some, None, List, [], ◌∷◌, ◌++◌, length, get_or, drop, refl, sym, ap, subst, ◌∙◌, arith, inl, inr, length-append}
+use Rattle.std.proofs.Common.{◌≡◌, ◌≢◌, ◌⊎◌, ℕ, zero, suc, ◌+◌, ◌<◌, ◌≤◌, Bool, true, false, cond, ◌||◌, eqb, is_none, Option, Some, None, List, [], ◌∷◌, ◌++◌, length, get_or, drop, refl, sym, ap, subst, ◌∙◌, arith, inl, inr, add-one, length-append}
 use Rattle.std.specs.Prelude.{Contains, IsSome}
 use Rattle.std.specs.List.{count_by}
 use Rattle.std.proofs.lemmas.Bool.{cases_eq, cases_lt, eq-eqb, ne_eqb}
 use Rattle.std.proofs.lemmas.List.{drop_all, get_or_default}
+use Rattle.std.proofs.lemmas.List.Sums.{sum_by-cons}
 use Rattle.fc_loops.specs.Routes.{RouteBy}
 use Rattle.fc_moves.proofs.Search.{cases_option}
 use Rattle.fc_check_sheet.specs.declared.distances.Distance.{Distance}
@@ -44,6 +45,10 @@ there ds v k w e ne = in_pushed ds v k w e ∙ ap (λ b. cond b (Some k) (distan
 abbrev pub link_at : List Link → ℕ → Link
 link_at links k = get_or links k (record { from = 0; to = 0 })
 
+-- an item, as loops give it
+pub item_is : (links : List Link) (k : ℕ) → k < length links → link_at links k ≡ get_or links k (link_at links k)
+item_is links k lt = sym (get_or_default links k (link_at links k) (record { from = 0; to = 0 }) lt)
+
 -- after the first links
 pub record Noting (links : List Link) (start away : ℕ) (ds : List Distance) (bound : ℕ) : Type 0 where
   pub low : (v k : ℕ) → distance_in ds v ≡ Some k → k ≤ away + 1
@@ -73,7 +78,7 @@ noting_passed links start away ds bound n why = record {
 }
   where
     is_noted : (o : Option ℕ) → IsSome o → (k : ℕ) × (o ≡ Some k)
-    is_noted None s = absurd s
+    is_noted None s = let e : false ≡ true = s in absurd cc
     is_noted (Some k) s = (k, refl)
 
     at_bound : (j : ℕ) → j ≡ bound → IsAway start away ds (link_at links j).to → (k : ℕ) × (distance_in ds (link_at links j).from ≡ Some k)
@@ -210,26 +215,32 @@ all_noted links start away ds low more = record { real = low.real; near = near }
 
 -- ---- how many links are left
 
+at_most : (a b : Bool) → (a ≡ true → b ≡ true) → cond {A = ℕ} a 1 0 ≤ cond b 1 0
+at_most true b f = rw (f refl) (omega arith)
+at_most false true f = omega arith
+at_most false false f = omega arith
+
+count_cons : (p : Link → Bool) (l : Link) (links : List Link) → count_by p (l ∷ links) ≡ cond (p l) 1 0 + count_by p links
+count_cons p l links = sum_by-cons (λ x. cond (p x) 1 0) l links
+
 counted : (p q : Link → Bool) (links : List Link) → ((l : Link) → q l ≡ true → p l ≡ true) → count_by q links ≤ count_by p links
 counted p q [] h = omega arith
-counted p q (l ∷ links) h = let rest = counted p q links h in let one = at_most (q l) (p l) (h l) in omega arith
-  where
-    at_most : (a b : Bool) → (a ≡ true → b ≡ true) → cond a 1 0 ≤ cond b 1 0
-    at_most true b f = rw (f refl) (omega arith)
-    at_most false true f = omega arith
-    at_most false false f = omega arith
+counted p q (l ∷ links) h =
+    let rest : count_by q links ≤ count_by p links = counted p q links h in
+    let one : cond {A = ℕ} (q l) 1 0 ≤ cond (p l) 1 0 = at_most (q l) (p l) (h l) in
+    omega (arith, count_cons p l links, count_cons q l links)
 
 fewer_counted : (p q : Link → Bool) (links : List Link) (k : ℕ) (d : Link) → ((l : Link) → q l ≡ true → p l ≡ true) → k < length links → p (get_or links k d) ≡ true → q (get_or links k d) ≡ false → count_by q links < count_by p links
-fewer_counted p q [] k d h lt yes no = absurd (omega arith)
-fewer_counted p q (l ∷ links) zero d h lt yes no = let rest = counted p q links h in rw (yes, no) (omega arith)
-fewer_counted p q (l ∷ links) (suc k) d h lt yes no =
-    let rest = fewer_counted p q links k d h (omega arith) yes no in
-    let one = at_most (q l) (p l) (h l) in omega arith
-  where
-    at_most : (a b : Bool) → (a ≡ true → b ≡ true) → cond a 1 0 ≤ cond b 1 0
-    at_most true b f = rw (f refl) (omega arith)
-    at_most false true f = omega arith
-    at_most false false f = omega arith
+fewer_counted p q [] k d h lt was gone = absurd (omega arith)
+fewer_counted p q (l ∷ links) zero d h lt was gone =
+    let rest : count_by q links ≤ count_by p links = counted p q links h in
+    let one : cond {A = ℕ} (q l) 1 0 ≡ 0 = ap (λ (b : Bool). cond {A = ℕ} b 1 0) gone in
+    let two : cond {A = ℕ} (p l) 1 0 ≡ 1 = ap (λ (b : Bool). cond {A = ℕ} b 1 0) was in
+    omega (arith, count_cons p l links, count_cons q l links)
+fewer_counted p q (l ∷ links) (suc k) d h lt was gone =
+    let rest : count_by q links < count_by p links = fewer_counted p q links k d h (omega arith) was gone in
+    let one : cond {A = ℕ} (q l) 1 0 ≤ cond (p l) 1 0 = at_most (q l) (p l) (h l) in
+    omega (arith, count_cons p l links, count_cons q l links)
 
 abbrev is_left : List Distance → Link → Bool
 is_left ds l = is_none (distance_in ds l.from)
@@ -337,13 +348,14 @@ level_done links start away bound old now any le s = record {
 pub none_past : (ds : List Distance) (i v : ℕ) (found : Option ℕ) → length ds ≤ i → found ≡ distance_in (drop i ds) v → found ≡ None
 none_past ds i v found le e = e ∙ ap (λ z. distance_in z v) (drop_all i ds le)
 
-search_step : (ds : List Distance) (i v : ℕ) (d : Distance) → i < length ds → d ≡ get_or ds i d → distance_in (drop i ds) v ≡ cond (eqb d.volume v) (Some d.links) (distance_in (drop (i + 1) ds) v)
+search_step : (ds : List Distance) (i v : ℕ) (d : Distance) → i < length ds → d ≡ get_or ds i d → distance_in (drop i ds) v ≡ cond (eqb d.volume v) (Some d.links) (distance_in (drop (suc i) ds) v)
 search_step [] i v d lt is = absurd (omega arith)
 search_step (x ∷ ds) zero v d lt is = ap (λ (z : Distance). cond (eqb z.volume v) (Some z.links) (distance_in ds v)) (sym is)
 search_step (x ∷ ds) (suc i) v d lt is = search_step ds i v d (omega arith) is
 
 pub found_here : (ds : List Distance) (i v : ℕ) (d : Distance) → i < length ds → d ≡ get_or ds i d → d.volume ≡ v → distance_in ds v ≡ distance_in (drop i ds) v → Some d.links ≡ distance_in ds v
-found_here ds i v d lt is same e = sym (e ∙ (search_step ds i v d lt is ∙ ap (λ b. cond b (Some d.links) (distance_in (drop (i + 1) ds) v)) (eq-eqb d.volume v same)))
+found_here ds i v d lt is same e = sym (e ∙ (search_step ds i v d lt is ∙ ap (λ b. cond b (Some d.links) (distance_in (drop (suc i) ds) v)) (eq-eqb d.volume v same)))
 
 pub not_here : (ds : List Distance) (i v : ℕ) (d : Distance) → i < length ds → d ≡ get_or ds i d → d.volume ≢ v → distance_in ds v ≡ distance_in (drop i ds) v → distance_in ds v ≡ distance_in (drop (i + 1) ds) v
-not_here ds i v d lt is other e = e ∙ (search_step ds i v d lt is ∙ ap (λ b. cond b (Some d.links) (distance_in (drop (i + 1) ds) v)) (ne_eqb d.volume v other))
+not_here ds i v d lt is other e =
+    e ∙ (search_step ds i v d lt is ∙ (ap (λ b. cond b (Some d.links) (distance_in (drop (suc i) ds) v)) (ne_eqb d.volume v other) ∙ ap (λ n. distance_in (drop n ds) v) (sym (add-one i))))

@@ -1,13 +1,21 @@
 -- The least volume on a loop, and the way from there.
-use Rattle.std.specs.Prelude.{◌≡◌, ◌⊎◌, ℕ, ◌<◌, ◌≤◌, Option, Some, None, List, slice_index_or}
+use Rattle.std.specs.Prelude.{◌≡◌, ◌⊎◌, ℕ, ◌<◌, ◌≤◌, Option, Some, None, List, length, Contains, slice_index_or}
+use Rattle.fc_base.specs.Sheet.{Slot, slot_at, shape_of}
+use Rattle.fc_base.specs.SheetView.{LoopAnswer}
+use Rattle.fc_base.specs.declared.ids.VolId.{VolId}
 use Rattle.fc_loops.specs.Routes.{RouteBy}
 use Rattle.fc_check_sheet.specs.declared.distances.Distance.{Distance}
 use Rattle.fc_check_sheet.specs.declared.links.Link.{Link}
 use Rattle.fc_check_sheet.specs.Distances.{distance_in}
+use Rattle.fc_check_sheet.specs.Links.{AreEdges}
 
 abbrev pub IsLess : ℕ → Option ℕ → Type 0
 IsLess v None = Unit {0}
 IsLess v (Some least) = v < least
+
+-- The volumes of all slots are among these.
+abbrev pub HasVolumes : List Slot → List ℕ → Type 0
+HasVolumes slots volumes = (k : ℕ) → k < length slots → Contains volumes (slot_at slots k).volume
 
 -- A way leads from the volume back to it.
 abbrev pub IsOnLoop : (ℕ → ℕ → Type 0) → ℕ → Type 0
@@ -45,3 +53,7 @@ pub record IsLeastNext (links : List Link) (distances : List Distance) (here awa
 abbrev pub LeastNext : List Link → List Distance → ℕ → ℕ → ℕ → Option ℕ → Type 0
 LeastNext links distances here away bound None = (v : ℕ) → IsStep links distances here away bound v → ⊥
 LeastNext links distances here away bound (Some v) = IsLeastNext links distances here away bound v
+
+-- The loop that is told of chains whose edges are these links, and whose volumes are all among these.
+abbrev pub ToldOfLinks : List Link → List ℕ → Option (List VolId) → Type 0
+ToldOfLinks links volumes found = (slots : List Slot) → AreEdges (shape_of slots) links → HasVolumes slots volumes → LoopAnswer (shape_of slots) found

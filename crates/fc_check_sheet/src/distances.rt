@@ -83,7 +83,7 @@ fn note_level(
     let mut any = false;
     for link in links {
         let noted = note_link(distances, *link, start, away)?;
-        any = any || noted;
+        any |= noted;
     }
     Ok(any)
 }

@@ -7,7 +7,7 @@ ghost use Rattle.fc_base.specs.declared.ids.VolId.{VolId as VolumeId};
 ghost use Rattle.fc_loops.specs.Routes.{IsBestLoop};
 ghost use Rattle.fc_check_sheet.specs.Links.{HasLink};
 ghost use Rattle.fc_check_sheet.specs.Distances.{distance_in, AreDistances};
-ghost use Rattle.fc_check_sheet.specs.Loops.{IsLess, IsOnLoop, Betters, LeastNext, LeastOnLoop, TriesLoop};
+ghost use Rattle.fc_check_sheet.specs.Loops.{Betters, IsLess, IsOnLoop, LeastNext, LeastOnLoop, ToldOfLinks, TriesLoop};
 
 use crate::distances::{Distance, distance_of, distances_to};
 use crate::links::{Link, links_of};
@@ -121,6 +121,27 @@ fn best_loop(
     Ok(names)
 }
 
+/// The loop that is told of these links; the volumes are all that there are.
+fn loop_among(
+    alloc: Global,
+    links: &[Link],
+    volumes: &[u32],
+) -> Result<Option<List<VolId>>, NoMemory>
+    ensures { IfOk result (λ found. ToldOfLinks links.now volumes.now found) }
+{
+    let Some(start) = least_on_loop(alloc, links, volumes)? else {
+        return Ok(None);
+    };
+    let distances = distances_to(alloc, links, start)?;
+    let Some(long) = distance_of(&distances, start) else {
+        unreachable!();
+    };
+    match best_loop(alloc, links, &distances, start, long) {
+        Ok(names) => Ok(Some(names)),
+        Err(e) => Err(e),
+    }
+}
+
 /// The loop of the restore graph, as it is told; None exactly where there is none.
 pub(crate) fn told_loop(
     alloc: Global,
@@ -130,15 +151,5 @@ pub(crate) fn told_loop(
 {
     let links = links_of(alloc, sheet)?;
     let volumes = sheet.volumes(alloc)?;
-    let Some(start) = least_on_loop(alloc, &links, &volumes)? else {
-        return Ok(None);
-    };
-    let distances = distances_to(alloc, &links, start)?;
-    let Some(long) = distance_of(&distances, start) else {
-        unreachable!();
-    };
-    match best_loop(alloc, &links, &distances, start, long) {
-        Ok(names) => Ok(Some(names)),
-        Err(e) => Err(e),
-    }
+    loop_among(alloc, &links, &volumes)
 }
