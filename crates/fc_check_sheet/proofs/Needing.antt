@@ -5,19 +5,22 @@ use Rattle.std.proofs.lemmas.Bool.{both_ways, cases_Bool, cases_eq, cases_lt, eq
 use Rattle.std.proofs.lemmas.List.{length-set}
 use Rattle.std.proofs.lemmas.List.Elements.{Contains-append_left, Contains-push, Contains-push_cases}
 use Rattle.fc_base.specs.Column.{holder, needer}
-use Rattle.fc_base.specs.Counts.{count_below, is_needed_at, need_count_of, is_unneeded, names_below, UsedAt}
+use Rattle.fc_base.specs.Counts.{count_below, is_needed_at, need_count_of, is_unneeded, names_below}
 use Rattle.fc_base.specs.Need.{ReadsAt}
-use Rattle.fc_base.specs.RestoreGraph.{IsUsed}
-use Rattle.fc_base.specs.Sheet.{Slot, slot_at, slot_id, shape_of, column}
+use Rattle.fc_base.specs.Sheet.{Slot, slot_at, no_slot, slot_id, column}
 use Rattle.fc_base.specs.declared.ids.SlotId.{SlotId}
 use Rattle.fc_moves.proofs.Readers.{IsHolder, holder_is, is_holder, reader_is, reader_from}
 use Rattle.fc_moves.proofs.Search.{cases_option}
 use Rattle.model_slots.specs.Answers.{IsWidth}
-use Rattle.model_slots.proofs.Columns.{past_end}
 use Rattle.model_slots.proofs.Needs.{holder_within, needed_within}
 use Rattle.fc_check_sheet.specs.Needs.{AddsMarks, AreNeeded}
 
 -- ---- readers of a slot
+
+past_end : (slots : List Slot) (k : ℕ) → length slots ≤ k → slot_at slots k ≡ no_slot
+past_end [] k le = refl
+past_end (t ∷ slots) zero le = absurd (omega arith)
+past_end (t ∷ slots) (suc k) le = past_end slots k (omega arith)
 
 -- a live slot is one of the list
 pub live_there : (slots : List Slot) (k : ℕ) → (slot_at slots k).is_live ≡ true → k < length slots
@@ -226,36 +229,5 @@ unneeded_is slots marks k a =
       | inr f ↦ eq-eqb (need_count_of slots k) 0 (never_needed slots k (λ d r. both_ways (get_or marks k false) f (a.all k d r))) ∙ sym (ap not f)
     ]
 
--- ---- names
-
-pub names_more : (slots : List Slot) (test : ℕ → Bool) (n : ℕ) (names new : List SlotId) → test n ≡ true → names ≡ names_below slots test n → new ≡ names ++ slot_id slots n ∷ [] → new ≡ names_below slots test (n + 1)
-names_more slots test n names new t is e =
-    e ∙ (ap (λ z. z ++ slot_id slots n ∷ []) is ∙ (sym (ap (λ b. cond b (names_below slots test n ++ slot_id slots n ∷ []) (names_below slots test n)) t) ∙ ap (names_below slots test) (sym (add-one n))))
-
-pub names_pass : (slots : List Slot) (test : ℕ → Bool) (n : ℕ) (names : List SlotId) → test n ≡ false → names ≡ names_below slots test n → names ≡ names_below slots test (n + 1)
-names_pass slots test n names f is =
-    is ∙ (sym (ap (λ b. cond b (names_below slots test n ++ slot_id slots n ∷ []) (names_below slots test n)) f) ∙ ap (names_below slots test) (sym (add-one n)))
-
--- ---- grains at which a slot is needed
-
-pub count_more : (test : ℕ → Bool) (n c new : ℕ) (b : Bool) → b ≡ test n → c ≡ count_below test n → new ≡ c + cond b 1 0 → new ≡ count_below test (n + 1)
-count_more test n c new b t is e =
-    e ∙ (by b ∙ (ap (λ z. cond z (c + 1) c) t ∙ (ap (λ z. cond (test n) (z + 1) z) is ∙ ap (count_below test) (sym (add-one n)))))
-  where
-    by : (b : Bool) → c + cond b 1 0 ≡ cond b (c + 1) c
-    by true = refl
-    by false = omega arith
-
--- ---- sources
-
-pub used_is : (slots : List Slot) (v : ℕ) (b : Bool) → IsTrue b ↔ IsUsed (shape_of slots) v → IsTrue b ↔ UsedAt slots v
-used_is slots v b w = (λ t. to (w.0 t), λ u. w.1 (from u))
-  where
-    to : IsUsed (shape_of slots) v → UsedAt slots v
-    to u =
-        let behind : u.slot < u.live = u.behind in
-        let there : u.live < length slots = u.there in
-        (u.slot, omega arith, u.of_volume, u.live, there, behind, u.live_is_live, sym u.one_chain)
-
-    from : UsedAt slots v → IsUsed (shape_of slots) v
-    from u = record { slot = u.0; live = u.3; behind = u.5; there = u.4; one_chain = sym u.7; of_volume = u.2; live_is_live = u.6 }
+pub unneeded_here : (slots : List Slot) (marks : List Bool) (k : ℕ) → AreNeeded slots marks → (slot_at slots k).is_live ≡ false → not (get_or marks k false) ≡ is_unneeded slots k
+unneeded_here slots marks k a old = sym (unneeded_is slots marks k a) ∙ sym (ap (λ b. not b && eqb (need_count_of slots k) 0) old)
