@@ -1,8 +1,8 @@
 -- Which slots others need, and at how many grains.
-use Rattle.std.proofs.Common.{◌≡◌, ◌≢◌, ◌⊎◌, ◌↔◌, ℕ, zero, suc, ◌+◌, ◌<◌, ◌≤◌, Bool, true, false, cond, not, ◌&&◌, eqb, is_some, Option, Some, None, List, [], ◌∷◌, ◌++◌, length, get_or, set, get_or-set_same, get_or-set_other, IsTrue, refl, sym, ap, subst, ◌∙◌, arith, inl, inr, add-one}
+use Rattle.std.proofs.Common.{◌≡◌, ◌≢◌, ◌⊎◌, ◌↔◌, ℕ, zero, suc, ◌+◌, ◌<◌, ◌≤◌, Bool, true, false, cond, not, ◌&&◌, eqb, is_some, Option, Some, None, List, [], ◌∷◌, ◌++◌, length, get_or, take, drop, set, get_or-set_same, get_or-set_other, IsTrue, refl, sym, ap, subst, ◌∙◌, arith, inl, inr, add-one}
 use Rattle.std.specs.Prelude.{Contains, replicate}
 use Rattle.std.proofs.lemmas.Bool.{both_ways, cases_Bool, cases_eq, cases_lt, eq-eqb, ne_eqb}
-use Rattle.std.proofs.lemmas.List.{length-set}
+use Rattle.std.proofs.lemmas.List.{append-nil, drop_all, length-set, take_all}
 use Rattle.std.proofs.lemmas.List.Elements.{Contains-append_left, Contains-push, Contains-push_cases}
 use Rattle.fc_base.specs.Column.{holder, needer}
 use Rattle.fc_base.specs.Counts.{count_below, is_needed_at, need_count_of, is_unneeded, names_below}
@@ -182,6 +182,11 @@ needed_more slots n now new a s = record {
     | inr ge ↦ (let q : d ≡ n = omega arith in let Q : ℕ → Type 0 = λ z. ReadsAt slots k k z in a.added k (subst Q q r))
   ];
 }
+
+-- what is read back of marks that were handed out
+pub written : (old new : List Bool) (n : ℕ) → n ≡ length old → length new ≡ length old → take n (new ++ drop (length new) old) ≡ new
+written old new n size long =
+    ap (λ z. take n (new ++ z)) (drop_all (length new) old (omega arith)) ∙ (ap (take n) (append-nil new) ∙ take_all n new (omega arith))
 
 pub all_needed : (slots : List Slot) (n : ℕ) (marks : List Bool) → length slots ≤ n → NeededBelow slots n marks → AreNeeded slots marks
 all_needed slots n marks le s = record {
