@@ -1,12 +1,11 @@
 -- Distances along links: what one more link, and one more level, leave of them.
 use Rattle.std.proofs.Common.{◌≡◌, ◌≢◌, ◌⊎◌, ℕ, zero, suc, ◌+◌, ◌<◌, ◌≤◌, Bool, true, false, cond, ◌||◌, eqb, is_none, Option, Some, None, List, [], ◌∷◌, ◌++◌, length, get_or, drop, refl, sym, ap, subst, ◌∙◌, arith, inl, inr, add-one, length-append}
-use Rattle.std.specs.Prelude.{Contains, IsSome}
+use Rattle.std.specs.Prelude.{IsSome}
 use Rattle.std.specs.List.{count_by}
-use Rattle.std.proofs.lemmas.Bool.{cases_eq, cases_lt, eq-eqb, ne_eqb}
+use Rattle.std.proofs.lemmas.Bool.{cases_eq, eq-eqb, ne_eqb}
 use Rattle.std.proofs.lemmas.List.{drop_all, get_or_default}
 use Rattle.std.proofs.lemmas.List.Sums.{sum_by-cons}
 use Rattle.fc_loops.specs.Routes.{RouteBy}
-use Rattle.fc_moves.proofs.Search.{cases_option}
 use Rattle.fc_check_sheet.specs.declared.distances.Distance.{Distance}
 use Rattle.fc_check_sheet.specs.declared.links.Link.{Link}
 use Rattle.fc_check_sheet.specs.Links.{HasLink}

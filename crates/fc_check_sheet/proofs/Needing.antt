@@ -1,18 +1,17 @@
 -- Which slots others need, and at how many grains.
-use Rattle.std.proofs.Common.{◌≡◌, ◌≢◌, ◌⊎◌, ◌↔◌, ℕ, zero, suc, ◌+◌, ◌<◌, ◌≤◌, Bool, true, false, cond, not, ◌&&◌, eqb, is_some, Option, Some, None, List, [], ◌∷◌, ◌++◌, length, get_or, take, drop, set, get_or-set_same, get_or-set_other, IsTrue, refl, sym, ap, subst, ◌∙◌, arith, inl, inr, add-one}
+use Rattle.std.proofs.Common.{◌≡◌, ◌≢◌, ◌↔◌, ℕ, zero, suc, ◌+◌, ◌<◌, ◌≤◌, Bool, true, false, cond, not, ◌&&◌, eqb, is_some, Option, Some, List, [], ◌∷◌, ◌++◌, length, get_or, take, drop, set, get_or-set_same, get_or-set_other, refl, sym, ap, subst, ◌∙◌, arith, inl, inr}
 use Rattle.std.specs.Prelude.{Contains, replicate}
 use Rattle.std.proofs.lemmas.Bool.{both_ways, cases_Bool, cases_eq, cases_lt, eq-eqb, ne_eqb}
 use Rattle.std.proofs.lemmas.List.{append-nil, drop_all, length-set, take_all}
 use Rattle.std.proofs.lemmas.List.Elements.{Contains-append_left, Contains-push, Contains-push_cases}
 use Rattle.fc_base.specs.Column.{holder, needer}
-use Rattle.fc_base.specs.Counts.{count_below, is_needed_at, need_count_of, is_unneeded, names_below}
+use Rattle.fc_base.specs.Counts.{count_below, is_needed_at, need_count_of, is_unneeded}
 use Rattle.fc_base.specs.Need.{ReadsAt}
-use Rattle.fc_base.specs.Sheet.{Slot, slot_at, no_slot, slot_id, column}
-use Rattle.fc_base.specs.declared.ids.SlotId.{SlotId}
+use Rattle.fc_base.specs.Sheet.{Slot, slot_at, no_slot, column}
 use Rattle.fc_moves.proofs.Readers.{IsHolder, holder_is, is_holder, reader_is, reader_from}
 use Rattle.fc_moves.proofs.Search.{cases_option}
 use Rattle.model_slots.specs.Answers.{IsWidth}
-use Rattle.model_slots.proofs.Needs.{holder_within, needed_within}
+use Rattle.model_slots.proofs.Needs.{holder_within}
 use Rattle.fc_check_sheet.specs.Needs.{AddsMarks, AreNeeded}
 
 -- ---- readers of a slot

@@ -1,4 +1,3 @@
-use Rattle.fc_check_sheet.specs.Runs.{NextMarked}
 use Rattle.fc_check_sheet.proofs.Running.{run_more}
 use Rattle.fc_check_sheet.proofs.kept.ranges_of.Goals as goal
 

@@ -1,4 +1,4 @@
-use Rattle.std.proofs.Common.{◌≡◌, ℕ, ◌+◌, Bool, List, length, ap, sym, subst, ◌∙◌, arith}
+use Rattle.std.proofs.Common.{◌≡◌, ◌+◌, Bool, List, length, ap, sym, subst, ◌∙◌, arith}
 use Rattle.fc_base.specs.Need.{ReadsAt}
 use Rattle.fc_check_sheet.specs.Needs.{AddsMarks}
 use Rattle.fc_check_sheet.proofs.Needing.{NeededBelow, written, needed_more, all_needed}
