@@ -1,11 +1,11 @@
 -- The edges of the restore graph, slot by slot.
-use Rattle.std.proofs.Common.{◌≡◌, ◌≢◌, ℕ, ◌+◌, ◌<◌, ◌≤◌, List, [], ◌∷◌, ◌++◌, length, refl, sym, ap, subst, ◌∙◌, arith, inl, inr}
+use Rattle.std.proofs.Common.{◌≡◌, ℕ, ◌+◌, ◌<◌, List, [], ◌∷◌, ◌++◌, length, refl, sym, ap, subst, ◌∙◌, arith, inl, inr}
 use Rattle.std.proofs.lemmas.Bool.{cases_lt}
 use Rattle.std.proofs.lemmas.List.Elements.{Contains-append_left, Contains-push, Contains-push_cases}
 use Rattle.fc_base.specs.RestoreGraph.{Edge}
 use Rattle.fc_base.specs.Sheet.{Slot, slot_at, shape_of}
 use Rattle.fc_check_sheet.specs.declared.links.Link.{Link}
-use Rattle.fc_check_sheet.specs.Links.{HasLink, AreEdges, IsEdgeAt, AddsFirst, AddsLinks}
+use Rattle.fc_check_sheet.specs.Links.{HasLink, IsEdgeAt, AddsFirst, AddsLinks}
 
 abbrev pub link : ℕ → ℕ → Link
 link v w = record { from = v; to = w }
@@ -23,9 +23,6 @@ edge_of slots old live lt e = record {
   live_is_live = e.live_is_live;
   live_is_to = refl;
 }
-
-pub none_added : (slots : List Slot) (old : ℕ) (links : List Link) → AddsFirst slots old 0 links links
-none_added slots old links = record { kept = λ v w h. h; only = λ v w h. inl h; added = λ live lt e. absurd (omega arith) }
 
 pub edge_added : (slots : List Slot) (old n from to : ℕ) (before after new : List Link) → IsEdgeAt slots old n → n < length slots → from ≡ (slot_at slots old).volume → to ≡ (slot_at slots n).volume → new ≡ after ++ link from to ∷ [] →
     AddsFirst slots old n before after → AddsFirst slots old (n + 1) before new
@@ -55,18 +52,10 @@ edge_passed slots old n before after never a = record {
   ];
 }
 
-pub all_added : (slots : List Slot) (old n : ℕ) (before after : List Link) → length slots ≤ n → AddsFirst slots old n before after → AddsLinks slots old before after
-all_added slots old n before after le a = record { kept = a.kept; only = a.only; added = λ live lt e. a.added live (omega arith) e }
-
 -- the edges of the old slots so far
 pub record EdgesBelow (slots : List Slot) (n : ℕ) (links : List Link) : Type 0 where
   pub only : (v w : ℕ) → HasLink links v w → Edge (shape_of slots) v w
   pub all : (old live : ℕ) → old < n → live < length slots → IsEdgeAt slots old live → HasLink links (slot_at slots old).volume (slot_at slots live).volume
-
-pub no_edges : (slots : List Slot) (links : List Link) → links ≡ [] → EdgesBelow slots 0 links
-no_edges slots links e =
-    let P : List Link → Type 0 = λ z. EdgesBelow slots 0 z in
-    subst P (sym e) (record { only = λ v w h. (let lt : h.0 < 0 = h.1 in absurd (omega arith)); all = λ old live lt there f. absurd (omega arith) })
 
 pub edges_more : (slots : List Slot) (n : ℕ) (links new : List Link) → AddsLinks slots n links new → EdgesBelow slots n links → EdgesBelow slots (n + 1) new
 edges_more slots n links new a s = record {
@@ -76,22 +65,3 @@ edges_more slots n links new a s = record {
     | inr ge ↦ (let q : n ≡ old = omega arith in let Q : ℕ → Type 0 = λ z. IsEdgeAt slots z live → HasLink new (slot_at slots z).volume (slot_at slots live).volume in subst Q q (a.added live there) e)
   ];
 }
-
-pub all_edges : (slots : List Slot) (n : ℕ) (links : List Link) → length slots ≤ n → EdgesBelow slots n links → AreEdges (shape_of slots) links
-all_edges slots n links le s = record { only = s.only; all = found }
-  where
-    found : (v w : ℕ) → Edge (shape_of slots) v w → HasLink links v w
-    found v w e =
-        let before : e.old < e.live = e.before in
-        let there : e.live < length slots = e.there in
-        let differ : (slot_at slots e.old).volume ≢ (slot_at slots e.live).volume = λ q. e.other (sym e.old_is_from ∙ (q ∙ e.live_is_to)) in
-        let h : HasLink links (slot_at slots e.old).volume (slot_at slots e.live).volume = s.all e.old e.live (omega arith) there (record {
-          before = before;
-          old_is_old = e.old_is_old;
-          live_is_live = e.live_is_live;
-          one_chain = e.one_chain;
-          other = differ;
-        }) in
-        let P : ℕ → Type 0 = λ z. HasLink links z w in
-        let Q : ℕ → Type 0 = λ z. HasLink links (slot_at slots e.old).volume z in
-        subst P e.old_is_from (subst Q e.live_is_to h)

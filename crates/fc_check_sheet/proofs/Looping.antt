@@ -11,7 +11,7 @@ use Rattle.fc_base.specs.SheetView.{LoopAnswer}
 use Rattle.fc_base.specs.declared.ids.VolId.{VolId}
 use Rattle.fc_loops.specs.Routes.{RouteBy, IsToldBy, ToldBy, mark_at, AreMarked, IsBestLoop}
 use Rattle.fc_loops.proofs.LoopTold.{told_loop_is, no_loop_is}
-use Rattle.fc_loops.proofs.LoopWalk.{GoesOn, next_there, goes_first, goes_more, goes_last, best_told}
+use Rattle.fc_loops.proofs.LoopWalk.{GoesOn, next_there, goes_more, goes_last, best_told}
 use Rattle.fc_moves.proofs.Search.{cases_option}
 use Rattle.fc_check_sheet.specs.declared.distances.Distance.{Distance}
 use Rattle.fc_check_sheet.specs.declared.links.Link.{Link}
@@ -75,9 +75,6 @@ pub long_some : (E : ℕ → ℕ → Type 0) (start v long : ℕ) (ds : List Dis
 long_some E start v long ds a e = let s = a.real v long e in let l : length s.0 + 1 ≡ long = s.1 in omega arith
 
 -- ---- the next volume, link by link
-
-pub no_step : (links : List Link) (ds : List Distance) (here away : ℕ) → LeastNext links ds here away 0 None
-no_step links ds here away = λ v s. (let lt : s.at < 0 = s.below in omega arith)
 
 last_or : (links : List Link) (ds : List Distance) (here away i w : ℕ) (l : Link) → i < length links → l ≡ get_or links i l → IsStep links ds here away (i + 1) w →
     IsStep links ds here away i w ⊎ ((l.from ≡ here) × (l.to ≡ w) × (distance_in ds w ≡ Some away))
@@ -149,17 +146,6 @@ pub record IsOnWay (links : List Link) (ds : List Distance) (start long : ℕ) (
   pub away_is : distance_in ds here ≡ Some (away + 1)
   pub so_far : GoesOn (HasLink links) start long (ids names) here (away + 1)
 
-pub way_first : (links : List Link) (ds : List Distance) (start long : ℕ) (none names : List VolId) → AreDistances (HasLink links) start ds → distance_in ds start ≡ Some long → none ≡ [] → names ≡ none ++ (record { 0 = start }) ∷ [] →
-    IsOnWay links ds start long names start (long - 1)
-way_first links ds start long none names a e z n =
-    let pos : 0 < long = long_some (HasLink links) start start long ds a e in
-    let more : long ≡ long - 1 + 1 = omega arith in
-    let P : ℕ → Type 0 = λ x. GoesOn (HasLink links) start long (ids names) start x in
-    record {
-      away_is = e ∙ ap Some more;
-      so_far = subst P more (goes_first (HasLink links) start long (ids none) (ids names) (ap ids z) (ap ids n ∙ map-append (λ (w : VolId). w.0) none ((record { 0 = start }) ∷ [])));
-    }
-
 next_is : (links : List Link) (ds : List Distance) (here away v : ℕ) (next : Option ℕ) → next ≡ Some v → LeastNext links ds here away (length links) next → IsLeastNext links ds here away (length links) v
 next_is links ds here away v next e n = let P : Option ℕ → Type 0 = λ z. LeastNext links ds here away (length links) z in subst P e n
 
@@ -199,15 +185,6 @@ way_done links ds start long here away next names a e n w =
     ]
 
 -- ---- the least volume on a loop
-
-pub on_loop_is : (E : ℕ → ℕ → Type 0) (v k : ℕ) (ds : List Distance) → AreDistances E v ds → distance_in ds v ≡ Some k → IsOnLoop E v
-on_loop_is E v k ds a e = let r = a.real v k e in (r.0, r.2)
-
-pub off_loop : (E : ℕ → ℕ → Type 0) (v : ℕ) (ds : List Distance) → AreDistances E v ds → distance_in ds v ≡ None → IsOnLoop E v → ⊥
-off_loop E v ds a e r = let w = a.near v r.0 r.1 in let q : None ≡ Some w.links = sym e ∙ w.noted in cc
-
-pub none_on_loop : (E : ℕ → ℕ → Type 0) (volumes : List ℕ) → LeastOnLoop E volumes 0 None
-none_on_loop E volumes = λ k lt r. absurd (omega arith)
 
 -- an item, as loops give it
 pub volume_is : (volumes : List ℕ) (i : ℕ) → i < length volumes → get_or volumes i 0 ≡ get_or volumes i (get_or volumes i 0)
@@ -300,11 +277,6 @@ none_told slots links volumes found e edges all none =
 
 least_is : (links : List Link) (volumes : List ℕ) (start : ℕ) (found : Option ℕ) → found ≡ Some start → LeastOnLoop (HasLink links) volumes (length volumes) found → IsLeastOnLoop (HasLink links) volumes (length volumes) start
 least_is links volumes start found e least = let Q : Option ℕ → Type 0 = λ z. LeastOnLoop (HasLink links) volumes (length volumes) z in subst Q e least
-
--- its distance is noted
-pub loop_noted : (links : List Link) (volumes : List ℕ) (start : ℕ) (found long : Option ℕ) (ds : List Distance) → found ≡ Some start → LeastOnLoop (HasLink links) volumes (length volumes) found → AreDistances (HasLink links) start ds →
-    long ≡ distance_in ds start → long ≡ None → ⊥
-loop_noted links volumes start found long ds e least a is none = off_loop (HasLink links) start ds a (sym is ∙ none) (least_is links volumes start found e least).on_loop
 
 pub some_told : (slots : List Slot) (links : List Link) (volumes : List ℕ) (start long : ℕ) (found : Option ℕ) (ds : List Distance) (names : List VolId) → found ≡ Some start → AreEdges (shape_of slots) links →
     HasVolumes slots volumes → LeastOnLoop (HasLink links) volumes (length volumes) found → AreDistances (HasLink links) start ds → distance_in ds start ≡ Some long →

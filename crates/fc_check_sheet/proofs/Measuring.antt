@@ -1,9 +1,9 @@
 -- Distances along links: what one more link, and one more level, leave of them.
-use Rattle.std.proofs.Common.{◌≡◌, ◌≢◌, ◌⊎◌, ℕ, zero, suc, ◌+◌, ◌<◌, ◌≤◌, Bool, true, false, cond, ◌||◌, eqb, is_none, Option, Some, None, List, [], ◌∷◌, ◌++◌, length, get_or, drop, refl, sym, ap, subst, ◌∙◌, arith, inl, inr, add-one, length-append}
+use Rattle.std.proofs.Common.{◌≡◌, ◌≢◌, ◌⊎◌, ℕ, zero, suc, ◌+◌, ◌<◌, ◌≤◌, Bool, true, false, cond, ◌||◌, eqb, is_none, Option, Some, None, List, [], ◌∷◌, ◌++◌, length, get_or, refl, sym, ap, subst, ◌∙◌, arith, inl, inr, length-append}
 use Rattle.std.specs.Prelude.{IsSome}
 use Rattle.std.specs.List.{count_by}
 use Rattle.std.proofs.lemmas.Bool.{cases_eq, eq-eqb, ne_eqb}
-use Rattle.std.proofs.lemmas.List.{drop_all, get_or_default}
+use Rattle.std.proofs.lemmas.List.{get_or_default}
 use Rattle.std.proofs.lemmas.List.Sums.{sum_by-cons}
 use Rattle.fc_loops.specs.Routes.{RouteBy}
 use Rattle.fc_check_sheet.specs.declared.distances.Distance.{Distance}
@@ -55,14 +55,6 @@ pub record Noting (links : List Link) (start away : ℕ) (ds : List Distance) (b
   pub near : (v : ℕ) (xs : List ℕ) → length xs + 1 ≤ away → RouteBy (HasLink links) v xs start → IsWithin ds v (length xs + 1)
   pub done : (j : ℕ) → j < bound → IsAway start away ds (link_at links j).to → (k : ℕ) × (distance_in ds (link_at links j).from ≡ Some k)
 
-pub noting_first : (links : List Link) (start away : ℕ) (ds : List Distance) → AreNear (HasLink links) start away ds → Noting links start away ds 0
-noting_first links start away ds n = record {
-  low = λ v k e. (let le : k ≤ away = n.low v k e in omega arith);
-  real = n.real;
-  near = n.near;
-  done = λ j lt a. absurd (omega arith);
-}
-
 -- a link that notes nothing
 noting_passed : (links : List Link) (start away : ℕ) (ds : List Distance) (bound : ℕ) → Noting links start away ds bound →
     IsSome (distance_in ds (link_at links bound).from) ⊎ (IsAway start away ds (link_at links bound).to → ⊥) → Noting links start away ds (bound + 1)
@@ -94,9 +86,6 @@ route_on links start away ds from to real has a =
       | inl first ↦ (let z : away ≡ 0 = first.0 in let P : ℕ → Type 0 = λ x. HasLink links from x in ([], omega arith, subst P first.1 has))
       | inr more ↦ (let r = real to away more.1 in let l : length r.0 + 1 ≡ away = r.1 in (to ∷ r.0, omega arith, (has, r.2)))
     ]
-
-has_at : (links : List Link) (k : ℕ) → k < length links → HasLink links (link_at links k).from (link_at links k).to
-has_at links k lt = (k, lt, get_or_default links k (link_at links k) (record { from = 0; to = 0 }) lt)
 
 -- a link that notes the volume from which it leads
 noting_more : (links : List Link) (start away : ℕ) (ds : List Distance) (bound from to : ℕ) → Noting links start away ds bound → bound < length links → (link_at links bound).from ≡ from → HasLink links from to → distance_in ds from ≡ None →
@@ -188,15 +177,6 @@ near_more links start away ds bound all n = record { low = n.low; real = n.real;
 
 -- ---- the end
 
-pub nothing_noted : (links : List Link) (start : ℕ) (ds : List Distance) → ds ≡ [] → AreNear (HasLink links) start 0 ds
-nothing_noted links start ds e =
-    let P : List Distance → Type 0 = λ z. AreNear (HasLink links) start 0 z in
-    subst P (sym e) (record {
-      low = λ v k n. (let s : None ≡ Some k = n in absurd cc);
-      real = λ v k n. (let s : None ≡ Some k = n in absurd cc);
-      near = λ v xs le r. absurd (omega arith);
-    })
-
 -- a level that notes nothing is the last
 pub all_noted : (links : List Link) (start away : ℕ) (ds : List Distance) → AreNear (HasLink links) start away ds → AreNear (HasLink links) start (away + 1) ds → AreDistances (HasLink links) start ds
 all_noted links start away ds low more = record { real = low.real; near = near }
@@ -266,18 +246,6 @@ pub record LevelBelow (links : List Link) (start away : ℕ) (old now : List Dis
   pub longer : any ≡ true → length old < length now
   pub same : any ≡ false → now ≡ old
 
-pub level_first : (links : List Link) (start away : ℕ) (ds : List Distance) → AreNear (HasLink links) start away ds → LevelBelow links start away ds ds false 0
-level_first links start away ds n = record {
-  noting = noting_first links start away ds n;
-  fewer = λ e. absurd cc;
-  longer = λ e. absurd cc;
-  same = λ e. refl;
-}
-
-pub level_room : (links : List Link) (start away bound : ℕ) (old now : List Distance) (any : Bool) → away ≤ length old → LevelBelow links start away old now any bound → away ≤ length now
-level_room links start away bound old now true le s = let lt : length old < length now = s.longer refl in omega arith
-level_room links start away bound old now false le s = let e : length now ≡ length old = ap length (s.same refl) in omega arith
-
 pub level_more : (links : List Link) (start away bound : ℕ) (old now new : List Distance) (any noted next : Bool) (l : Link) → bound < length links → l ≡ get_or links bound l → LevelBelow links start away old now any bound →
     NotesLink l start away now new noted → next ≡ (any || noted) → LevelBelow links start away old new next (bound + 1)
 level_more links start away bound old now new any noted next l lt is s note e = subst P (sym e) (by any noted note s)
@@ -341,20 +309,3 @@ level_done links start away bound old now any le s = record {
   longer = s.longer;
   same = s.same;
 }
-
--- ---- the distance of a volume
-
-pub none_past : (ds : List Distance) (i v : ℕ) (found : Option ℕ) → length ds ≤ i → found ≡ distance_in (drop i ds) v → found ≡ None
-none_past ds i v found le e = e ∙ ap (λ z. distance_in z v) (drop_all i ds le)
-
-search_step : (ds : List Distance) (i v : ℕ) (d : Distance) → i < length ds → d ≡ get_or ds i d → distance_in (drop i ds) v ≡ cond (eqb d.volume v) (Some d.links) (distance_in (drop (suc i) ds) v)
-search_step [] i v d lt is = absurd (omega arith)
-search_step (x ∷ ds) zero v d lt is = ap (λ (z : Distance). cond (eqb z.volume v) (Some z.links) (distance_in ds v)) (sym is)
-search_step (x ∷ ds) (suc i) v d lt is = search_step ds i v d (omega arith) is
-
-pub found_here : (ds : List Distance) (i v : ℕ) (d : Distance) → i < length ds → d ≡ get_or ds i d → d.volume ≡ v → distance_in ds v ≡ distance_in (drop i ds) v → Some d.links ≡ distance_in ds v
-found_here ds i v d lt is same e = sym (e ∙ (search_step ds i v d lt is ∙ ap (λ b. cond b (Some d.links) (distance_in (drop (suc i) ds) v)) (eq-eqb d.volume v same)))
-
-pub not_here : (ds : List Distance) (i v : ℕ) (d : Distance) → i < length ds → d ≡ get_or ds i d → d.volume ≢ v → distance_in ds v ≡ distance_in (drop i ds) v → distance_in ds v ≡ distance_in (drop (i + 1) ds) v
-not_here ds i v d lt is other e =
-    e ∙ (search_step ds i v d lt is ∙ (ap (λ b. cond b (Some d.links) (distance_in (drop (suc i) ds) v)) (ne_eqb d.volume v other) ∙ ap (λ n. distance_in (drop n ds) v) (sym (add-one i))))

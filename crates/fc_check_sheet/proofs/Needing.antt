@@ -1,5 +1,5 @@
 -- Which slots others need, and at how many grains.
-use Rattle.std.proofs.Common.{◌≡◌, ◌≢◌, ◌↔◌, ℕ, zero, suc, ◌+◌, ◌<◌, ◌≤◌, Bool, true, false, cond, not, ◌&&◌, eqb, is_some, Option, Some, List, [], ◌∷◌, ◌++◌, length, get_or, take, drop, set, get_or-set_same, get_or-set_other, refl, sym, ap, subst, ◌∙◌, arith, inl, inr}
+use Rattle.std.proofs.Common.{◌≡◌, ◌≢◌, ℕ, zero, suc, ◌+◌, ◌<◌, ◌≤◌, Bool, true, false, cond, not, ◌&&◌, eqb, is_some, Option, Some, List, [], ◌∷◌, ◌++◌, length, get_or, take, drop, set, get_or-set_same, get_or-set_other, refl, sym, ap, subst, ◌∙◌, arith, inl, inr}
 use Rattle.std.specs.Prelude.{Contains, replicate}
 use Rattle.std.proofs.lemmas.Bool.{both_ways, cases_Bool, cases_eq, cases_lt, eq-eqb, ne_eqb}
 use Rattle.std.proofs.lemmas.List.{append-nil, drop_all, length-set, take_all}
@@ -29,9 +29,6 @@ live_there slots k live =
       | inr ge ↦ absurd (both_ways (slot_at slots k).is_live (ap (λ (t : Slot). t.is_live) (past_end slots k ge)) live)
     ]
 
-pub reads_here : (slots : List Slot) (from d g : ℕ) → (d ≡ from → ⊥) → (slot_at slots d).is_live ≡ true → holder (column slots g) d ≡ Some from → ReadsAt slots from from d
-reads_here slots from d g other live e = record { grain = g; there = live_there slots d live; is_live = live; other = other; reads = e }
-
 pub never_reads : (slots : List Slot) (from d n : ℕ) → length (slot_at slots from).held ≤ n → ((g : ℕ) → g < n → holder (column slots g) d ≡ Some from → ⊥) → ReadsAt slots from from d → ⊥
 never_reads slots from d n le none r =
     let lt : r.grain < length (slot_at slots from).held = holder_within slots r.grain d from r.reads in
@@ -41,11 +38,6 @@ never_reads slots from d n le none r =
 pub record ReadersBelow (slots : List Slot) (from n : ℕ) (places : List ℕ) : Type 0 where
   pub only : (d : ℕ) → Contains places d → ReadsAt slots from from d
   pub all : (d : ℕ) → d < n → ReadsAt slots from from d → Contains places d
-
-pub no_readers_yet : (slots : List Slot) (from : ℕ) (places : List ℕ) → places ≡ [] → ReadersBelow slots from 0 places
-no_readers_yet slots from places e =
-    let P : List ℕ → Type 0 = λ z. ReadersBelow slots from 0 z in
-    subst P (sym e) (record { only = λ d c. (let lt : c.0 < 0 = c.1 in absurd (omega arith)); all = λ d lt r. absurd (omega arith) })
 
 pub one_reader : (slots : List Slot) (from n : ℕ) (places new : List ℕ) → ReadsAt slots from from n → new ≡ places ++ n ∷ [] → ReadersBelow slots from n places → ReadersBelow slots from (n + 1) new
 one_reader slots from n places new r e s =
@@ -67,9 +59,6 @@ no_reader slots from n places never s = record {
   ];
 }
 
-pub all_readers : (slots : List Slot) (from n : ℕ) (places : List ℕ) → length slots ≤ n → ReadersBelow slots from n places → (d : ℕ) → Contains places d ↔ ReadsAt slots from from d
-all_readers slots from n places le s d = (s.only d, λ r. (let lt : d < length slots = r.there in s.all d (omega arith) r))
-
 -- ---- marks
 
 pub adds_one : (P : ℕ → Type 0) (old : List Bool) (h : ℕ) → h < length old → P h → ((k : ℕ) → P k → k ≡ h) → AddsMarks P old (set old h true)
@@ -89,9 +78,6 @@ adds_one P old h lt p one = record {
     marked : (k : ℕ) → k ≡ h → get_or (set old h true) k false ≡ true
     marked k q = ap (λ z. get_or (set old h true) z false) q ∙ get_or-set_same old h true false lt
 
-pub adds_none : (P : ℕ → Type 0) (old : List Bool) → ((k : ℕ) → P k → ⊥) → AddsMarks P old old
-adds_none P old never = record { long = refl; only = λ k e. inl e; kept = λ k e. e; added = λ k p. absurd (never k p) }
-
 -- the holder at one grain
 pub adds_holder : (slots : List Slot) (place grain h : ℕ) (found : Option ℕ) (old new : List Bool) → found ≡ holder (column slots grain) place → found ≡ Some h → (h ≡ place → ⊥) → h < length old → new ≡ set old h true →
     AddsMarks (λ k. (place ≢ k) × (holder (column slots grain) place ≡ Some k)) old new
@@ -103,32 +89,9 @@ adds_holder slots place grain h found old new is f other lt e =
 pub holder_there : (slots : List Slot) (place grain h : ℕ) (found : Option ℕ) → found ≡ holder (column slots grain) place → found ≡ Some h → h ≤ place
 holder_there slots place grain h found is f = let i = holder_is (column slots grain) place h (sym is ∙ f) in i.before
 
-pub adds_no_holder : (slots : List Slot) (place grain : ℕ) (found : Option ℕ) (old : List Bool) → found ≡ holder (column slots grain) place → ((h : ℕ) → found ≡ Some h → h ≡ place) →
-    AddsMarks (λ k. (place ≢ k) × (holder (column slots grain) place ≡ Some k)) old old
-adds_no_holder slots place grain found old is none =
-    adds_none (λ k. (place ≢ k) × (holder (column slots grain) place ≡ Some k)) old (λ k p. p.0 (sym (none k (is ∙ p.1))))
-
 -- those of the grains before one
 abbrev pub ReadsBefore : List Slot → ℕ → ℕ → ℕ → Type 0
 ReadsBefore slots place n k = (g : ℕ) × (g < n) × (place ≢ k) × (holder (column slots g) place ≡ Some k)
-
-pub no_holders : (slots : List Slot) (place : ℕ) (old : List Bool) → AddsMarks (ReadsBefore slots place 0) old old
-no_holders slots place old = adds_none (ReadsBefore slots place 0) old (λ k p. (let lt : p.0 < 0 = p.1 in omega arith))
-
-pub holders_more : (slots : List Slot) (place n : ℕ) (old now new : List Bool) → AddsMarks (λ k. (place ≢ k) × (holder (column slots n) place ≡ Some k)) now new → AddsMarks (ReadsBefore slots place n) old now →
-    AddsMarks (ReadsBefore slots place (n + 1)) old new
-holders_more slots place n old now new one before = record {
-  long = one.long ∙ before.long;
-  only = λ k e. elim (one.only k e) [
-    | inr p ↦ inr (n, omega arith, p.0, p.1)
-    | inl m ↦ elim (before.only k m) [ inl o ↦ inl o | inr p ↦ inr (p.0, (let lt : p.0 < n = p.1 in omega arith), p.2, p.3) ]
-  ];
-  kept = λ k e. one.kept k (before.kept k e);
-  added = λ k p. elim (cases_lt p.0 n) [
-    | inl lt ↦ one.kept k (before.added k (p.0, lt, p.2, p.3))
-    | inr ge ↦ (let below : p.0 < n + 1 = p.1 in let q : p.0 ≡ n = omega arith in one.added k (p.2, ap (λ z. holder (column slots z) place) (sym q) ∙ p.3))
-  ];
-}
 
 pub all_holders : (slots : List Slot) (place n width : ℕ) (old new : List Bool) → (slot_at slots place).is_live ≡ true → IsWidth slots width → width ≤ n → AddsMarks (ReadsBefore slots place n) old new →
     AddsMarks (λ k. ReadsAt slots k k place) old new
@@ -145,32 +108,11 @@ all_holders slots place n width old new live wide le a = record {
         let most : length (slot_at slots k).held ≤ width = wide.most k in
         (r.grain, omega arith, r.other, r.reads)
 
-pub not_live : (slots : List Slot) (place : ℕ) (old : List Bool) → ((slot_at slots place).is_live ≡ true → ⊥) → AddsMarks (λ k. ReadsAt slots k k place) old old
-not_live slots place old never = adds_none (λ k. ReadsAt slots k k place) old (λ k r. never r.is_live)
-
 -- by the slots so far
 pub record NeededBelow (slots : List Slot) (n : ℕ) (marks : List Bool) : Type 0 where
   pub long : length marks ≡ length slots
   pub only : (k : ℕ) → get_or marks k false ≡ true → (d : ℕ) × ReadsAt slots k k d
   pub all : (k d : ℕ) → d < n → ReadsAt slots k k d → get_or marks k false ≡ true
-
-none_marked : (n k : ℕ) → get_or (replicate n false) k false ≡ false
-none_marked zero k = refl
-none_marked (suc n) zero = refl
-none_marked (suc n) (suc k) = none_marked n k
-
-length_marks : (n : ℕ) → length (replicate n false) ≡ n
-length_marks zero = refl
-length_marks (suc n) = ap suc (length_marks n)
-
-pub none_needed : (slots : List Slot) (n : ℕ) (marks : List Bool) → n ≡ length slots → marks ≡ replicate n false → NeededBelow slots 0 marks
-none_needed slots n marks len e =
-    let P : List Bool → Type 0 = λ z. NeededBelow slots 0 z in
-    subst P (sym e) (record {
-      long = length_marks n ∙ len;
-      only = λ k m. absurd (both_ways (get_or (replicate n false) k false) (none_marked n k) m);
-      all = λ k d lt r. absurd (omega arith);
-    })
 
 pub needed_more : (slots : List Slot) (n : ℕ) (now new : List Bool) → AddsMarks (λ k. ReadsAt slots k k n) now new → NeededBelow slots n now → NeededBelow slots (n + 1) new
 needed_more slots n now new a s = record {

@@ -1,5 +1,5 @@
 -- The mappings whose slots stand at some places.
-use Rattle.std.proofs.Common.{◌≡◌, ◌↔◌, ℕ, ◌+◌, ◌<◌, ◌≤◌, Option, Some, None, List, [], ◌∷◌, ◌++◌, length, get_or, sym, ap, subst, ◌∙◌, arith, inl, inr}
+use Rattle.std.proofs.Common.{◌≡◌, ◌↔◌, ℕ, ◌+◌, ◌<◌, ◌≤◌, Some, List, [], ◌∷◌, ◌++◌, length, get_or, sym, ap, subst, ◌∙◌, arith, inl, inr}
 use Rattle.std.specs.Prelude.{Contains}
 use Rattle.std.proofs.lemmas.Bool.{cases_lt}
 use Rattle.std.proofs.lemmas.List.{get_or_default}
@@ -26,16 +26,6 @@ pub record OwnersAmong (slots : List Slot) (places : List ℕ) (mappings : List 
   pub below : (n : MapId) → Contains maps n → (k : ℕ) (d : Mapping) → bound ≤ k → k < length mappings → n.0 < (get_or mappings k d).id.0
   pub only : (n : MapId) → Contains maps n → IsOwner slots places n.0
   pub all : (k : ℕ) (d : Mapping) → k < bound → k < length mappings → IsOwner slots places (get_or mappings k d).id.0 → Contains maps (get_or mappings k d).id
-
-pub none_among : (slots : List Slot) (places : List ℕ) (mappings : List Mapping) (maps : List MapId) → maps ≡ [] → OwnersAmong slots places mappings 0 maps
-none_among slots places mappings maps e =
-    let P : List MapId → Type 0 = λ z. OwnersAmong slots places mappings 0 z in
-    subst P (sym e) (record {
-      rising = λ i j d lt jn. absurd (omega arith);
-      below = λ n c. (let lt : c.0 < 0 = c.1 in absurd (omega arith));
-      only = λ n c. (let lt : c.0 < 0 = c.1 in absurd (omega arith));
-      all = λ k d lt. absurd (omega arith);
-    })
 
 pub owner_taken : (slots : List Slot) (places : List ℕ) (mappings : List Mapping) (i : ℕ) (m : Mapping) (maps new : List MapId) → AreListed slots mappings → i < length mappings → m ≡ get_or mappings i m → IsOwner slots places m.id.0 →
     new ≡ maps ++ m.id ∷ [] → OwnersAmong slots places mappings i maps → OwnersAmong slots places mappings (i + 1) new
@@ -119,18 +109,3 @@ dependents_are slots m on places maps there has a = record {
         let q : d.on ≡ on = cc in
         let P : ℕ → Type 0 = λ z. IsDependent slots z d.dependent in
         record { place = d.dependent; listed = has.all d.dependent (subst P q d.depends); there = d.dependent_there }
-
-pub no_mappings : (P : ℕ → Type 0) (maps : List MapId) → maps ≡ [] → ((n : ℕ) → P n → ⊥) → AreMappings P maps
-no_mappings P maps e never =
-    let Q : List MapId → Type 0 = λ z. AreMappings P z in
-    subst Q (sym e) (record {
-      rising = λ i j d lt jn. absurd (omega arith);
-      only = λ n c. (let lt : c.0 < 0 = c.1 in absurd (omega arith));
-      all = λ n p. absurd (never n.0 p);
-    })
-
-pub no_readers : (slots : List Slot) (m : ℕ) (found : Option ℕ) (maps : List MapId) → found ≡ mapping_place slots m → found ≡ None → maps ≡ [] → AreMappings (ReadsMapping slots m) maps
-no_readers slots m found maps f none e = no_mappings (ReadsMapping slots m) maps e (λ n r. (let q : None ≡ Some r.from = sym none ∙ (f ∙ r.from_there) in cc))
-
-pub no_dependents : (slots : List Slot) (m : ℕ) (found : Option ℕ) (maps : List MapId) → found ≡ mapping_place slots m → found ≡ None → maps ≡ [] → AreMappings (DependsOn slots m) maps
-no_dependents slots m found maps f none e = no_mappings (DependsOn slots m) maps e (λ n d. (let q : None ≡ Some d.on = sym none ∙ (f ∙ d.on_there) in cc))

@@ -1,33 +1,21 @@
 -- Ranges of marked grains, run by run.
-use Rattle.std.proofs.Common.{◌≡◌, ℕ, ◌+◌, ◌-◌, ◌<◌, ◌≤◌, Bool, true, false, ◌&&◌, ◌||◌, None, List, [], ◌∷◌, ◌++◌, get_or, refl, sym, ap, subst, ◌∙◌, arith, inl, inr}
+use Rattle.std.proofs.Common.{◌≡◌, ℕ, ◌+◌, ◌-◌, ◌<◌, ◌≤◌, Bool, true, false, ◌&&◌, ◌||◌, List, [], ◌∷◌, ◌++◌, get_or, refl, sym, ap, subst, ◌∙◌, arith, inl, inr}
 use Rattle.std.specs.Prelude.{nat_le, ltb}
 use Rattle.std.proofs.lemmas.Bool.{both_ways, cases_lt, lt-ltb}
 use Rattle.std.proofs.lemmas.Bool.Decides.{nat_tests}
 use Rattle.std.proofs.lemmas.List.Folds.{list_any-append}
 use Rattle.fc_base.specs.Ranges.{StandsBehind, is_kept}
 use Rattle.fc_base.specs.declared.ranges.Range.{Range}
-use Rattle.fc_check_sheet.specs.Runs.{IsNextMarked, NextMarked, IsRunEnd}
+use Rattle.fc_check_sheet.specs.Runs.{IsNextMarked, IsRunEnd}
 
 -- The ranges have the marked grains before one, and a range that begins with a marked grain from there on stands behind them.
 pub record HaveRanges (marks : List Bool) (from : ℕ) (ranges : List Range) : Type 0 where
   pub kept : (g : ℕ) → is_kept ranges g ≡ (ltb g from && get_or marks g false)
   pub behind : (r : Range) → from ≤ r.first → get_or marks r.first false ≡ true → r.first ≤ r.last → StandsBehind ranges r
 
-pub no_ranges : (marks : List Bool) (ranges : List Range) → ranges ≡ [] → HaveRanges marks 0 ranges
-no_ranges marks ranges e =
-    let P : List Range → Type 0 = λ z. HaveRanges marks 0 z in
-    subst P (sym e) (record { kept = λ g. before g; behind = λ r le m full. full })
-  where
-    before : (g : ℕ) → false ≡ (ltb g 0 && get_or marks g false)
-    before g = grind (arith, nat_tests)
-
 -- the run from a grain on, up to an end
 abbrev pub run : ℕ → ℕ → Range
 run first end = record { first = first; last = end - 1 }
-
-pub run_stands : (marks : List Bool) (from first end : ℕ) (ranges : List Range) → HaveRanges marks from ranges → IsNextMarked marks from first → IsRunEnd marks first end → StandsBehind ranges (run first end)
-run_stands marks from first end ranges have next ends =
-    have.behind (run first end) next.after next.marked (let a : first < end = ends.after in omega arith)
 
 kept_push : (ranges : List Range) (range : Range) (g : ℕ) → is_kept (ranges ++ range ∷ []) g ≡ (is_kept ranges g || (nat_le range.first g && nat_le g range.last))
 kept_push ranges range g =
@@ -83,7 +71,7 @@ run_more marks from first end ranges new have next ends e =
     let a : first < end = ends.after in
     subst P (sym e) (record {
       kept = λ g. kept_push ranges (run first end) g ∙ (ap (λ b. b || (nat_le first g && nat_le g (end - 1))) (have.kept g)
-      ∙ passed from first end g (get_or marks g false) next.after a (next.first g) (ends.marked g));
+          ∙ passed from first end g (get_or marks g false) next.after a (next.first g) (ends.marked g));
       behind = λ r le m full. behind_last ranges (run first end) r (past r le m) full;
     })
   where
@@ -94,14 +82,3 @@ run_more marks from first end ranges new have next ends e =
           | inl lt ↦ omega arith
           | inr ge ↦ (let same : r.first ≡ end = omega arith in absurd (both_ways (get_or marks r.first false) (ap (λ z. get_or marks z false) same ∙ ends.ends) m))
         ]
-
-pub runs_done : (marks : List Bool) (from : ℕ) (ranges : List Range) → HaveRanges marks from ranges → NextMarked marks from None → (g : ℕ) → is_kept ranges g ≡ get_or marks g false
-runs_done marks from ranges have none g =
-    have.kept g ∙ elim (cases_lt g from) [
-      | inl lt ↦ ap (λ b. b && get_or marks g false) (lt-ltb g from lt)
-      | inr ge ↦ (let m : get_or marks g false ≡ false = none g ge in rw m (and_false (ltb g from)))
-    ]
-  where
-    and_false : (b : Bool) → (b && false) ≡ false
-    and_false true = refl
-    and_false false = refl

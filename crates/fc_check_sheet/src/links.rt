@@ -15,8 +15,8 @@ pub(crate) struct Link {
     pub(crate) to: u32,
 }
 
-/// Whether the slot at the one place is old and stands before the live one of another volume at the other, in one
-/// chain.
+/// Whether the slot at the one place is old and stands before the live one of another volume at the other, in
+/// one chain.
 fn is_edge(sheet: &PlainSheet, old: usize, live: usize) -> bool
     ensures { IsTrue result ↔ IsEdgeAt sheet.now.slots old live }
 {

@@ -55,11 +55,7 @@ fn lesser_on_loop(
 }
 
 /// The least of the volumes that are on a loop.
-fn least_on_loop(
-    alloc: Global,
-    links: &[Link],
-    volumes: &[u32],
-) -> Result<Option<u32>, NoMemory>
+fn least_on_loop(alloc: Global, links: &[Link], volumes: &[u32]) -> Result<Option<u32>, NoMemory>
     ensures { IfOk result (λ found. LeastOnLoop (HasLink links.now) volumes.now (length volumes.now) found) }
 {
     let mut least = None;
@@ -69,19 +65,12 @@ fn least_on_loop(
     Ok(least)
 }
 
-/// Whether a link leads from here to a volume that is so far away from the start and less than the least so far.
-fn betters(
-    link: Link,
-    distances: &[Distance],
-    here: u32,
-    away: usize,
-    next: Option<u32>,
-) -> bool
+/// Whether a link leads from here to a volume that is so far away from the start, and less than the least so
+/// far.
+fn betters(link: Link, distances: &[Distance], here: u32, away: usize, next: Option<u32>) -> bool
     ensures { IsTrue result ↔ Betters link distances.now here away next }
 {
-    link.from == here
-        && is_less(link.to, next)
-        && distance_of(distances, link.to) == Some(away)
+    link.from == here && is_less(link.to, next) && distance_of(distances, link.to) == Some(away)
 }
 
 /// The least volume so far away from the start to which a link leads from here.
@@ -97,7 +86,8 @@ fn next_volume(links: &[Link], distances: &[Distance], here: u32, away: usize) -
     next
 }
 
-/// The shortest loop from a volume back to it, so many links long; of those as short the first in dictionary order.
+/// The shortest loop from a volume back to it, so many links long; of those as short the first in dictionary
+/// order.
 fn best_loop(
     alloc: Global,
     links: &[Link],
@@ -143,10 +133,7 @@ fn loop_among(
 }
 
 /// The loop of the restore graph, as it is told; None exactly where there is none.
-pub(crate) fn told_loop(
-    alloc: Global,
-    sheet: &PlainSheet,
-) -> Result<Option<List<VolId>>, NoMemory>
+pub(crate) fn told_loop(alloc: Global, sheet: &PlainSheet) -> Result<Option<List<VolId>>, NoMemory>
     ensures { IfOk result (λ found. LoopAnswer (shape_of sheet.now.slots) found) }
 {
     let links = links_of(alloc, sheet)?;

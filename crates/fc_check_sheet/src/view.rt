@@ -27,8 +27,8 @@ use fc_model::PlainSheet;
 use std::alloc::Global;
 use std::marker::Model;
 
-/// The chains at all grains, beside the table of mappings, the changed grains of incremental mappings, and the disks
-/// that each lane has for new volumes, as decisions on commands ask for them.
+/// The chains at all grains, the changed grains of incremental mappings, and the disks that each lane has for
+/// new volumes, as decisions on commands ask for them. Beside them stands the table of mappings.
 #[derive(Drop)]
 pub struct PlainView<'a> {
     sheet: &'a PlainSheet,
@@ -92,8 +92,8 @@ fn dependents_in(
 }
 
 impl<'a> PlainView<'a> {
-    /// The view of a sheet of all grains, beside the table of mappings, of what is kept of incremental mappings, and of
-    /// the disks that each lane has for new volumes.
+    /// The view of a sheet of all grains, of what is kept of incremental mappings, and of the disks that each
+    /// lane has for new volumes. The table of mappings has that of each slot.
     pub fn new(
         sheet: &'a PlainSheet,
         mappings: &'a [Mapping],

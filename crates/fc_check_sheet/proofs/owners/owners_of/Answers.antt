@@ -10,9 +10,9 @@ loop-mapping-preserved c =
     let P : List MapId → Type 0 = λ z. OwnersAmong c.args.sheet.now.slots c.args.places.now c.args.mappings.now (c.loop-mapping.mapping-index + 1) z in
     elim c.if-is_owner.branch [
       | then-is_owner+in_ok-push w ↦ subst P (sym w.maps-is) (owner_taken c.args.sheet.now.slots c.args.places.now c.args.mappings.now c.loop-mapping.mapping-index c.mapping-item.result c.loop-mapping.maps w.push.new.self c.requires
-        c.loop-mapping-test.true c.mapping-item.is (c.is_owner.ensures.0 w.if-is_owner.true) w.in_ok-push.ensures.ok c.loop-mapping.invariant)
+          c.loop-mapping-test.true c.mapping-item.is (c.is_owner.ensures.0 w.if-is_owner.true) w.in_ok-push.ensures.ok c.loop-mapping.invariant)
       | else-is_owner w ↦ subst P (sym w.maps-is) (owner_passed c.args.sheet.now.slots c.args.places.now c.args.mappings.now c.loop-mapping.mapping-index c.mapping-item.result c.loop-mapping.maps c.loop-mapping-test.true c.mapping-item.is
-        (λ o. both_ways c.is_owner.result w.if-is_owner.false (c.is_owner.ensures.1 o)) c.loop-mapping.invariant)
+          (λ o. both_ways c.is_owner.result w.if-is_owner.false (c.is_owner.ensures.1 o)) c.loop-mapping.invariant)
     ]
 
 pub returns : goal.returns
