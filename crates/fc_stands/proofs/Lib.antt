@@ -13,7 +13,6 @@ pub mod CommandSheet
 pub mod AskedSheet
 pub mod PhaseStands
 pub mod Frames
-pub mod EffectRanges
 pub mod PhaseAll
 pub mod Arming
 pub mod OneAdded

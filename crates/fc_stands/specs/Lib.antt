@@ -1,7 +1,6 @@
 -- When a store stands for what is told, and what its steps are.
 pub mod Store
 pub mod Apart
-pub mod Effects
 pub mod Arming
 pub mod Quiet
 pub mod Armed

@@ -5,11 +5,4 @@
 //! leads on to), `specs/Logged` (an entry that is logged, and agendas that entries bring on), `specs/Passing` (seconds that
 //! pass), `specs/Arming` and `specs/Quiet` (what entries tell of armed faults; disks that never fail unless an entry armed one, and
 //! armed faults as the entries tell), `specs/Armed` (what a command leaves of armed faults); then `proofs/`.
-//!
-//! What steps do beside lanes and control part: `apart` makes an entry that no lane makes, `log` puts an entry at the end of a
-//! history, and `effects` has the effects of a settling and of what is decided after it in one list (`specs/Effects`).
 #![tactic(auto)]
-
-pub mod apart;
-pub mod effects;
-pub mod log;

@@ -19,6 +19,8 @@ ghost use Rattle.fc_stands.specs.Settling.{CanDecide, IsSettled};
 ghost use Rattle.fc_stands.specs.Store.{StandsFor};
 
 use crate::store::Store;
+use fc_apart::apart::entry_apart;
+use fc_apart::log::{is_done, is_full, log_telling};
 use fc_base::command::Command;
 use fc_base::limits::MAX_ENTRIES;
 use fc_base::list::List;
@@ -28,8 +30,6 @@ use fc_entry::entry::Entry;
 use fc_entry::history::History;
 use fc_entry::stop::Stop;
 use fc_mdisk::mdisk::Mdisk;
-use fc_stands::apart::entry_apart;
-use fc_stands::log::{is_done, is_full, log_telling};
 use std::alloc::Global;
 
 impl<D: Mdisk> Store<D> {

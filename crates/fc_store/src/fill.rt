@@ -11,6 +11,7 @@ ghost use Rattle.fc_stands.specs.Store.{StandsFor};
 ghost use Rattle.fc_stands.specs.Passing.{Filled};
 
 use crate::store::Store;
+use fc_apart::log::{has_moved, log_telling};
 use fc_base::ids::GrainNo;
 use fc_base::limits::MAX_ENTRIES;
 use fc_entry::history::History;
@@ -18,7 +19,6 @@ use fc_entry::stop::Stop;
 use fc_lanes::fill::fill_lane;
 use fc_lanes::work::{Work, least_of};
 use fc_mdisk::mdisk::Mdisk;
-use fc_stands::log::{has_moved, log_telling};
 
 impl<D: Mdisk> Store<D> {
     /// The least grain of all lanes at which the work has something to do.

@@ -20,6 +20,8 @@ ghost use Rattle.fc_lanes.specs.Dealing.{disks_in};
 ghost use Rattle.fc_stands.specs.Store.{StandsFor};
 
 use crate::store::Store;
+use fc_apart::apart::refused_entry;
+use fc_apart::log::{is_full, log};
 use fc_base::fault::{Kind, Refusal, ValueOf, WordFault};
 use fc_base::ids::VolId;
 use fc_base::limits::{MAX_BLOCKS, MAX_ENTRIES};
@@ -32,8 +34,6 @@ use fc_entry::stop::Stop;
 use fc_lanes::access::{Access, access_lane};
 use fc_lanes::touched::{blocks_in, touched_grains};
 use fc_mdisk::mdisk::Mdisk;
-use fc_stands::apart::refused_entry;
-use fc_stands::log::{is_full, log};
 
 /// Why an access of so many blocks of a volume is refused, if it is: Limit for more than 8,192; BadValue for none, and for
 /// a block past the volume's end.

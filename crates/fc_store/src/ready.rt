@@ -6,12 +6,12 @@ ghost use Rattle.fc_stands.specs.Store.{StandsFor};
 ghost use Rattle.fc_store.specs.Ready.{IsReadyAt, IsRoomier, IsStopped};
 
 use crate::store::Store;
+use fc_apart::log::is_full;
 use fc_base::limits::MAX_ENTRIES;
 use fc_base::outcome::NoMemory;
 use fc_entry::history::History;
 use fc_entry::stop::Stop;
 use fc_mdisk::mdisk::Mdisk;
-use fc_stands::log::is_full;
 
 impl<D: Mdisk> Store<D> {
     /// The place of a grain's lane, once room for an entry was made in it, where the history has room for one too. Else the

@@ -6,18 +6,18 @@ ghost use Rattle.fc_stands.specs.Quiet.{AnswersUnarmed};
 ghost use Rattle.fc_base.specs.declared.request.Effect.{Effect};
 ghost use Rattle.fc_lane.specs.Lane.{IsSameLane, KeepsQuiet};
 ghost use Rattle.fc_lanes.specs.AllLanes.{EachLane, KeepsArmed};
-ghost use Rattle.fc_stands.specs.Effects.{IsJoined};
+ghost use Rattle.fc_apart.specs.Effects.{IsJoined};
 ghost use Rattle.fc_stands.specs.Phase.{IsDecided};
 ghost use Rattle.fc_stands.specs.Settling.{CanDecide, CanSettle, Decides, Settles};
 
 use crate::store::Store;
+use fc_apart::effects::{join, taken};
 use fc_base::command::Command;
 use fc_base::decision::Decision;
 use fc_base::list::List;
 use fc_base::outcome::NoMemory;
 use fc_base::request::{Effect, Reply};
 use fc_mdisk::mdisk::Mdisk;
-use fc_stands::effects::{join, taken};
 
 impl<D: Mdisk> Store<D> {
     /// Settles all, and tells the effects. Where no memory is had all is as it was.

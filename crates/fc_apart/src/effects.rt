@@ -2,7 +2,7 @@
 
 ghost use Rattle.std.specs.Prelude.{◌≡◌, ◌++◌, List as Items, IfOk, OnOk};
 ghost use Rattle.fc_base.specs.declared.request.Effect.{Effect};
-ghost use Rattle.fc_stands.specs.Effects.{IsJoined};
+ghost use Rattle.fc_apart.specs.Effects.{IsJoined};
 
 use fc_base::list::List;
 use fc_base::outcome::NoMemory;
