@@ -1,0 +1,118 @@
+//! The record of one way: a stub.
+
+ghost use Rattle.std.specs.Prelude.{◌≡◌, ◌↔◌, ◌<◌, ℕ, Option, List, IsTrue, IfOk, OnOk, length};
+ghost use Rattle.fc_base.specs.declared.ids.VolId.{VolId};
+ghost use Rattle.fc_books.specs.Deciding.{settle, IsLoopOf};
+ghost use Rattle.fc_books.specs.Refused.{access_refused};
+ghost use Rattle.fc_books.specs.Sound.{AreSound};
+ghost use Rattle.fc_check_lane.specs.Next.{IsNext};
+ghost use Rattle.fc_control.specs.Dispatch.{is_decided};
+ghost use Rattle.fc_legal.specs.Steps.{Step, decided_on, left_by, one_more};
+ghost use Rattle.fc_legal.specs.Whole.{Whole, opened};
+ghost use Rattle.fc_check_record.specs.Disks.{pools_told};
+ghost use Rattle.law_stands.specs.Deciders.{CanDecide, CanLeave};
+ghost use Rattle.law_stands.specs.Names.{nameless};
+
+use fc_base::command::Command;
+use fc_base::decision::Decision;
+use fc_base::fault::{Kind, Refusal};
+use fc_base::name::Ref;
+use fc_base::outcome::NoMemory;
+use fc_base::size::GrainSize;
+use fc_entry::entry::Entry;
+use fc_trace::header::LaneDisks;
+use std::alloc::Global;
+use std::marker::Model;
+
+/// What is told in one way.
+#[derive(Drop)]
+pub struct Record {
+    grain: GrainSize,
+    entries: u64,
+}
+
+impl Model for Record {
+    ghost use Rattle.std.specs.Prelude.{[]};
+    ghost use Rattle.fc_check_record.specs.Judged.{Judged};
+    ghost use Rattle.fc_legal.specs.Whole.{opened};
+
+    ghost Value = { Judged };
+
+    ghost view = { λ r. record { grain = r.grain; whole = record (opened []) { actors = []; entries = r.entries } } };
+}
+
+impl Record {
+    /// What is told before the first entry.
+    pub fn open(_alloc: Global, _grain: GrainSize, _lanes: &[LaneDisks]) -> Result<Record, NoMemory>
+        requires { 0 < length _lanes.now }
+        ensures { IfOk result (λ r. r ≡ record { grain = _grain; whole = nameless (opened (pools_told _lanes.now)) }) }
+    {
+        Err(NoMemory)
+    }
+
+    /// Whether an entry of a lane may come next.
+    pub fn is_next(&self, _alloc: Global, _entry: &Entry) -> Result<bool, NoMemory>
+        requires { AreSound self.now.whole.books }
+        ensures { IfOk result (λ yes. IsTrue yes ↔ IsNext self.now.grain self.now.whole _entry.now) }
+    {
+        Err(NoMemory)
+    }
+
+    /// Goes on behind an entry of a lane.
+    pub fn after_lane(&mut self, _alloc: Global, _entry: &Entry) -> Result<(), NoMemory>
+        requires next { IsNext self.old.grain self.old.whole _entry.now }
+        requires few { self.old.whole.entries < 262144 }
+        ensures { OnOk result ((next : Whole) → Step self.old.grain self.old.whole _entry.now next → self.new ≡ record { grain = self.old.grain; whole = next }) }
+    {
+        Err(NoMemory)
+    }
+
+    /// Goes on behind an entry of no lane.
+    pub fn one_more(&mut self)
+        requires { self.old.whole.entries < 262144 }
+        ensures { self.new ≡ record { grain = self.old.grain; whole = one_more self.old.whole } }
+    {
+        self.entries += 1;
+    }
+
+    /// Why an access is refused.
+    pub fn refused_access(&self, _volume: &Ref, _block: u32, _count: u32) -> Option<Refusal>
+        requires { AreSound self.now.whole.books }
+        ensures { result ≡ access_refused self.now.grain self.now.whole.books _volume.now _block _count }
+    {
+        let _grain = self.grain;
+        Some(Refusal::NoSuch(Kind::Vdisk))
+    }
+
+    /// What settling does.
+    pub fn settle(&self, _alloc: Global) -> Result<Decision, NoMemory>
+        requires { CanDecide self.now.whole }
+        ensures { IfOk result (λ decision. decision ≡ settle self.now.whole.books) }
+    {
+        Err(NoMemory)
+    }
+
+    /// What is decided of a command.
+    pub fn decide(&self, _alloc: Global, _command: &Command) -> Result<Decision, NoMemory>
+        requires can { CanDecide self.now.whole }
+        requires decided { IsTrue (is_decided _command.now) }
+        ensures { IfOk result (λ decision. (loop : Option (List VolId)) × IsLoopOf self.now.grain self.now.whole.books _command.now loop × (decision ≡ decided_on self.now.grain self.now.whole _command.now loop)) }
+    {
+        Err(NoMemory)
+    }
+
+    /// Leaves what a decision leaves.
+    pub fn leave(&mut self, _alloc: Global, _decision: Decision) -> Result<(), NoMemory>
+        requires { (n : ℕ) × CanLeave self.old.grain n self.old.whole _decision }
+        ensures { OnOk result (self.new ≡ record { grain = self.old.grain; whole = left_by self.old.grain self.old.whole _decision }) }
+    {
+        Err(NoMemory)
+    }
+
+    /// The same once more.
+    pub fn copy(&self, _alloc: Global) -> Result<Record, NoMemory>
+        ensures { IfOk result (λ r. r ≡ self.now) }
+    {
+        Err(NoMemory)
+    }
+}
