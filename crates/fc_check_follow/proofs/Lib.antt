@@ -1,1 +1,7 @@
-mod Tests
+mod Laws
+mod Coming
+mod Refusing
+mod Commanding
+mod Ready
+mod Requests
+mod Together

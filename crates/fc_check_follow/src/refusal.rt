@@ -24,9 +24,7 @@ impl Same for Refusal {
             (Refusal::SourceNotReady(own), Refusal::SourceNotReady(volume)) => own == volume,
             (Refusal::TargetActive(own), Refusal::TargetActive(map)) => own == map,
             (Refusal::TargetIsSource(own), Refusal::TargetIsSource(volume)) => own == volume,
-            (Refusal::RestoreLoop(own), Refusal::RestoreLoop(volumes)) => {
-                own.as_slice() == volumes.as_slice()
-            }
+            (Refusal::RestoreLoop(own), Refusal::RestoreLoop(volumes)) => own.is_same(volumes),
             (
                 Refusal::NotComplete { held, total },
                 Refusal::NotComplete {

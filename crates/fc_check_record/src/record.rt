@@ -1,6 +1,6 @@
 //! The record of one way: a stub.
 
-ghost use Rattle.std.specs.Prelude.{◌≡◌, ◌↔◌, ◌<◌, ℕ, Option, List, IsTrue, IfOk, OnOk, length};
+ghost use Rattle.std.specs.Prelude.{◌≡◌, ◌↔◌, ◌<◌, Option, List, IsTrue, IfOk, length};
 ghost use Rattle.fc_base.specs.declared.ids.VolId.{VolId};
 ghost use Rattle.fc_books.specs.Deciding.{settle, IsLoopOf};
 ghost use Rattle.fc_books.specs.Refused.{access_refused};
@@ -10,7 +10,10 @@ ghost use Rattle.fc_control.specs.Dispatch.{is_decided};
 ghost use Rattle.fc_legal.specs.Steps.{Step, decided_on, left_by, one_more};
 ghost use Rattle.fc_legal.specs.Whole.{Whole, opened};
 ghost use Rattle.fc_check_record.specs.Disks.{pools_told};
-ghost use Rattle.law_stands.specs.Deciders.{CanDecide, CanLeave};
+ghost use Rattle.fc_check_record.specs.Leaving.{CanBeLeft};
+ghost use Rattle.fc_check_sheet.specs.View.{IsSmall};
+ghost use Rattle.fc_follow.specs.Following.{restarts};
+ghost use Rattle.fc_starts.specs.Starts.{HaveRoom};
 ghost use Rattle.law_stands.specs.Names.{nameless};
 
 use fc_base::command::Command;
@@ -59,10 +62,10 @@ impl Record {
     }
 
     /// Goes on behind an entry of a lane.
-    pub fn after_lane(&mut self, _alloc: Global, _entry: &Entry) -> Result<(), NoMemory>
-        requires next { IsNext self.old.grain self.old.whole _entry.now }
-        requires few { self.old.whole.entries < 262144 }
-        ensures { OnOk result ((next : Whole) → Step self.old.grain self.old.whole _entry.now next → self.new ≡ record { grain = self.old.grain; whole = next }) }
+    pub fn after_lane(self, _alloc: Global, _entry: &Entry) -> Result<Record, NoMemory>
+        requires next { IsNext self.grain self.whole _entry.now }
+        requires few { self.whole.entries < 262144 }
+        ensures { IfOk result (λ r. (next : Whole) → Step self.grain self.whole _entry.now next → r ≡ record { grain = self.grain; whole = next }) }
     {
         Err(NoMemory)
     }
@@ -86,7 +89,7 @@ impl Record {
 
     /// What settling does.
     pub fn settle(&self, _alloc: Global) -> Result<Decision, NoMemory>
-        requires { CanDecide self.now.whole }
+        requires { IsSmall self.now.whole.books.sheet.slots self.now.whole.rows }
         ensures { IfOk result (λ decision. decision ≡ settle self.now.whole.books) }
     {
         Err(NoMemory)
@@ -94,7 +97,10 @@ impl Record {
 
     /// What is decided of a command.
     pub fn decide(&self, _alloc: Global, _command: &Command) -> Result<Decision, NoMemory>
-        requires can { CanDecide self.now.whole }
+        requires sound { AreSound self.now.whole.books }
+        requires lanes { 0 < length self.now.whole.books.pools }
+        requires room { HaveRoom self.now.whole.books (restarts self.now.whole.rows) }
+        requires small { IsSmall self.now.whole.books.sheet.slots self.now.whole.rows }
         requires decided { IsTrue (is_decided _command.now) }
         ensures { IfOk result (λ decision. (loop : Option (List VolId)) × IsLoopOf self.now.grain self.now.whole.books _command.now loop × (decision ≡ decided_on self.now.grain self.now.whole _command.now loop)) }
     {
@@ -102,9 +108,9 @@ impl Record {
     }
 
     /// Leaves what a decision leaves.
-    pub fn leave(&mut self, _alloc: Global, _decision: Decision) -> Result<(), NoMemory>
-        requires { (n : ℕ) × CanLeave self.old.grain n self.old.whole _decision }
-        ensures { OnOk result (self.new ≡ record { grain = self.old.grain; whole = left_by self.old.grain self.old.whole _decision }) }
+    pub fn leave(self, _alloc: Global, _decision: &Decision) -> Result<Record, NoMemory>
+        requires { CanBeLeft self.whole _decision.now }
+        ensures { IfOk result (λ r. r ≡ record { grain = self.grain; whole = left_by self.grain self.whole _decision.now }) }
     {
         Err(NoMemory)
     }

@@ -1,0 +1,2 @@
+//! What decisions ask of chains, answered from a plain sheet: a stub.
+#![tactic(auto)]
