@@ -1,4 +1,3 @@
--- What a judge keeps of one way in which things may have been told.
+-- What a judge keeps.
 pub mod Judged
-pub mod Disks
 pub mod Leaving

@@ -1,6 +1,6 @@
 //! The record of one way: a stub.
 
-ghost use Rattle.std.specs.Prelude.{◌≡◌, ◌↔◌, ◌<◌, Option, List, IsTrue, IfOk, length};
+ghost use Rattle.std.specs.Prelude.{◌≡◌, ◌↔◌, ◌<◌, Option, List, [], IsTrue, IfOk, length};
 ghost use Rattle.fc_base.specs.declared.ids.VolId.{VolId};
 ghost use Rattle.fc_books.specs.Deciding.{settle, IsLoopOf};
 ghost use Rattle.fc_books.specs.Refused.{access_refused};
@@ -9,12 +9,11 @@ ghost use Rattle.fc_check_lane.specs.Next.{IsNext};
 ghost use Rattle.fc_control.specs.Dispatch.{is_decided};
 ghost use Rattle.fc_legal.specs.Steps.{Step, decided_on, left_by, one_more};
 ghost use Rattle.fc_legal.specs.Whole.{Whole, opened};
-ghost use Rattle.fc_check_record.specs.Disks.{pools_told};
+ghost use Rattle.fc_check_sheet.specs.View.{pools_of};
 ghost use Rattle.fc_check_record.specs.Leaving.{CanBeLeft};
 ghost use Rattle.fc_check_sheet.specs.View.{IsSmall};
 ghost use Rattle.fc_follow.specs.Following.{restarts};
 ghost use Rattle.fc_starts.specs.Starts.{HaveRoom};
-ghost use Rattle.law_stands.specs.Names.{nameless};
 
 use fc_base::command::Command;
 use fc_base::decision::Decision;
@@ -22,8 +21,8 @@ use fc_base::fault::{Kind, Refusal};
 use fc_base::name::Ref;
 use fc_base::outcome::NoMemory;
 use fc_base::size::GrainSize;
+use fc_check_sheet::LanePool;
 use fc_entry::entry::Entry;
-use fc_trace::header::LaneDisks;
 use std::alloc::Global;
 use std::marker::Model;
 
@@ -35,20 +34,18 @@ pub struct Record {
 }
 
 impl Model for Record {
-    ghost use Rattle.std.specs.Prelude.{[]};
-    ghost use Rattle.fc_check_record.specs.Judged.{Judged};
-    ghost use Rattle.fc_legal.specs.Whole.{opened};
+    ghost use Rattle.fc_check_record.specs.Judged.{Judged, stub_whole};
 
     ghost Value = { Judged };
 
-    ghost view = { λ r. record { grain = r.grain; whole = record (opened []) { actors = []; entries = r.entries } } };
+    ghost view = { λ r. record { grain = r.grain; whole = stub_whole r.entries } };
 }
 
 impl Record {
     /// What is told before the first entry.
-    pub fn open(_alloc: Global, _grain: GrainSize, _lanes: &[LaneDisks]) -> Result<Record, NoMemory>
+    pub fn open(_alloc: Global, _grain: GrainSize, _lanes: &[LanePool]) -> Result<Record, NoMemory>
         requires { 0 < length _lanes.now }
-        ensures { IfOk result (λ r. r ≡ record { grain = _grain; whole = nameless (opened (pools_told _lanes.now)) }) }
+        ensures { IfOk result (λ r. r ≡ record { grain = _grain; whole = record (opened (pools_of _lanes.now)) { actors = [] } }) }
     {
         Err(NoMemory)
     }
@@ -73,7 +70,7 @@ impl Record {
     /// Goes on behind an entry of no lane.
     pub fn one_more(&mut self)
         requires { self.old.whole.entries < 262144 }
-        ensures { self.new ≡ record { grain = self.old.grain; whole = one_more self.old.whole } }
+        ensures { self.new ≡ record self.old { whole = one_more self.old.whole } }
     {
         self.entries += 1;
     }
