@@ -7,24 +7,28 @@ use Rattle.fc_base.specs.declared.command.Command.{Command}
 use Rattle.fc_base.specs.declared.command.Command.TheVariants.{Mkvdisk, Rmvdisk, Armfault, Mkfcmap, Prestartfcmap, Startfcmap, Stopfcmap, Rmfcmap, Mkfcconsistgrp, Prestartfcconsistgrp, Startfcconsistgrp, Stopfcconsistgrp, Rmfcconsistgrp}
 use Rattle.fc_base.specs.declared.command.StopWay.{StopWay}
 use Rattle.fc_base.specs.declared.command.StopWay.TheVariants.{Force}
+use Rattle.fc_base.specs.declared.decision.LaneEvent.TheVariants.{NoteCut}
 use Rattle.fc_base.specs.declared.fault.Refusal.{Refusal}
 use Rattle.fc_base.specs.declared.ids.MapId.{MapId}
 use Rattle.fc_base.specs.declared.ids.VolId.{VolId}
+use Rattle.fc_base.specs.declared.request.Effect.TheVariants.{Cut}
 use Rattle.fc_base.specs.declared.size.GrainSize.{GrainSize}
+use Rattle.fc_base.specs.declared.state.MapEvent.TheVariants.{Finish}
 use Rattle.fc_base.specs.declared.state.MapState.{MapState}
-use Rattle.fc_base.specs.declared.state.MapState.TheVariants.{Copying, Stopping, Stopped}
+use Rattle.fc_base.specs.declared.state.MapState.TheVariants.{Copying, Prepared, Stopping, Stopped}
 use Rattle.fc_base.specs.declared.volume.Change.{Change}
 use Rattle.fc_base.specs.declared.volume.Change.TheVariants.{AddVolume, RemoveVolume, AddMapping, RemoveMapping, SetMapping, AddGroup, RemoveGroup}
 use Rattle.fc_base.specs.declared.volume.Group.{Group}
 use Rattle.fc_base.specs.declared.volume.Mapping.{Mapping}
+use Rattle.fc_base.specs.declared.volume.Volume.{Volume}
 use Rattle.fc_books.specs.Accesses.{is_idle}
 use Rattle.fc_books.specs.After.{after_deed}
-use Rattle.fc_books.specs.Books.{Books, Deed, all_deeds}
-use Rattle.fc_books.specs.Copies.{dependents, is_whole}
+use Rattle.fc_books.specs.Books.{Books, Deed, all_deeds, nothing}
+use Rattle.fc_books.specs.Copies.{dependents, is_needed, is_whole, kept}
 use Rattle.fc_books.specs.Deciding.{answered, decide, done, for_members, for_one, refused, settle}
-use Rattle.fc_books.specs.Ending.{as_left, cut_of, ends_by, leaves_by}
+use Rattle.fc_books.specs.Ending.{as_left, comes_to, cut_of, ends_by, goes_from, leaves_by}
 use Rattle.fc_books.specs.Groups.{acts_on, members}
-use Rattle.fc_books.specs.Making.{remove_group}
+use Rattle.fc_books.specs.Making.{arm, make_mapping, new_mapping, remove_group, remove_mapping, remove_volume}
 use Rattle.fc_books.specs.Settling.{finishes, settles_in, settling}
 use Rattle.fc_books.specs.Starting.{begins, gives_way, is_superseded, prepare, start, supersedes}
 use Rattle.fc_books.specs.Stopping.{one_by_one, stop_dependents, stop_event, stop_group, stops, stops_in, stops_member, stops_with}
@@ -70,19 +74,23 @@ either_none true d e first second = first
 either_none false d e first second = second
 
 ends_none : (next : Result MapState Refusal) (m : Mapping) → Spares (ends_by next m)
-ends_none (Ok state) m = either_none (m.autodelete && is_idle state) _ _ (tt, tt) (tt, tt)
+ends_none (Ok state) m = either_none (m.autodelete && is_idle state) (goes_from state m) (comes_to state m) (tt, tt) (tt, tt)
 ends_none (Err refusal) m = tt
 
+cut_none : (b : Books) (m : Mapping) → Spares (cut_of b m)
+cut_none b m =
+    either_none (is_whole b m) nothing record { effects = Cut m.target (kept b m) ∷ []; events = NoteCut m.id m.source m.target ∷ []; changes = [] } tt tt
+
 leaves_none : (next : Result MapState Refusal) (b : Books) (m : Mapping) → Spares (leaves_by next b m)
-leaves_none next b m = both_none (cut_of b m).changes (ends_by next (as_left b m)).changes (either_none (is_whole b m) _ _ tt tt) (ends_none next (as_left b m))
+leaves_none next b m = both_none (cut_of b m).changes (ends_by next (as_left b m)).changes (cut_none b m) (ends_none next (as_left b m))
+
+finishes_none : (next : Result MapState Refusal) (b : Books) (m : Mapping) → Spares (finishes next b m)
+finishes_none (Ok state) b m = leaves_none (Ok state) b m
+finishes_none (Err refusal) b m = tt
 
 settles_none : (state : MapState) (b : Books) (m : Mapping) → Spares (settles_in state b m)
-settles_none Copying b m = finish _
-  where
-    finish : (next : Result MapState Refusal) → Spares (finishes next b m)
-    finish (Ok state) = leaves_none (Ok state) b m
-    finish (Err refusal) = tt
-settles_none Stopping b m = ends_none _ m
+settles_none Copying b m = finishes_none (next_state Copying Finish (is_whole b m) (is_needed b m)) b m
+settles_none Stopping b m = ends_none (next_state Stopping Finish m.complete (is_needed b m)) m
 settles_none state b m = tt
 
 settling_none : (b : Books) → Spares (settling b)
@@ -98,8 +106,12 @@ dependents_none Force b m = all_none (λ (d : Mapping). (stops_with b d).changes
 dependents_none way b m = tt
 
 stops_in_none : (state : MapState) (way : StopWay) (b : Books) (m : Mapping) → Spares (stops_in state way b m)
-stops_in_none Copying way b m = both_none (leaves_by _ b m).changes (stop_dependents way b m).changes (leaves_none _ b m) (dependents_none way b m)
-stops_in_none Stopping way b m = both_none (ends_by _ m).changes (stop_dependents Force b m).changes (ends_none _ m) (dependents_none Force b m)
+stops_in_none Copying way b m =
+    let next : Result MapState Refusal = next_state Copying (stop_event way) (is_whole b m) (is_needed b m) in
+    both_none (leaves_by next b m).changes (stop_dependents way b m).changes (leaves_none next b m) (dependents_none way b m)
+stops_in_none Stopping way b m =
+    let next : Result MapState Refusal = next_state Stopping (stop_event way) m.complete (is_needed b m) in
+    both_none (ends_by next m).changes (stop_dependents Force b m).changes (ends_none next m) (dependents_none Force b m)
 stops_in_none state way b m = ends_none (next_state state (stop_event way) m.complete false) m
 
 stops_none : (way : StopWay) (b : Books) (m : Mapping) → Spares (stops way b m)
@@ -108,7 +120,7 @@ stops_none way b m = stops_in_none m.state way b m
 
 member_none : (way : StopWay) (b : Books) (found : Option Mapping) → Spares (stops_member way b found)
 member_none way b None = tt
-member_none way b (Some m) = either_none (acts_on way m.state) (stops way b m) _ (stops_none way b m) tt
+member_none way b (Some m) = either_none (acts_on way m.state) (stops way b m) nothing (stops_none way b m) tt
 
 each_stops_none : (deed : Books → MapId → Deed) → ((b : Books) (id : MapId) → Spares (deed b id)) → (b : Books) (ids : List MapId) → Spares (one_by_one (λ m. []) deed b ids)
 each_stops_none deed each b [] = tt
@@ -128,17 +140,22 @@ begins_none : (state : MapState) (restore : Bool) (maps : List Mapping) → Spar
 begins_none state restore maps = all_none (λ (m : Mapping). (begins state restore m).changes) maps (λ m. (tt, tt))
 
 prepare_none : (restore : Bool) (t : Tables) (maps : List Mapping) → Spares (prepare restore t maps)
-prepare_none restore t maps = both_none (supersedes t maps).changes _ (supersedes_none t maps) (begins_none _ restore maps)
+prepare_none restore t maps =
+    both_none (supersedes t maps).changes (all_deeds (begins Prepared restore) maps).changes (supersedes_none t maps) (begins_none Prepared restore maps)
 
 start_none : (prep restore : Bool) (t : Tables) (maps : List Mapping) → Spares (start prep restore t maps)
 start_none prep restore t maps =
-    both_none (cond prep (supersedes t maps) _).changes _ (either_none prep (supersedes t maps) _ (supersedes_none t maps) tt) (begins_none Copying restore maps)
+    both_none (cond prep (supersedes t maps) nothing).changes (all_deeds (begins Copying restore) maps).changes
+    (either_none prep (supersedes t maps) nothing (supersedes_none t maps) tt) (begins_none Copying restore maps)
 
 -- groups
 remove_group_none : (t : Tables) (g : Group) → Spares (remove_group t g.id)
-remove_group_none t g = both_none (map _ (members t g.id)) (RemoveGroup g.id ∷ []) (sets (members t g.id)) (tt, tt)
+remove_group_none t g = both_none (map leaves (members t g.id)) (RemoveGroup g.id ∷ []) (sets (members t g.id)) (tt, tt)
   where
-    sets : (maps : List Mapping) → MakeNone (map (λ (m : Mapping). SetMapping (record m { group = None })) maps)
+    leaves : Mapping → Change
+    leaves m = SetMapping (record m { group = None })
+
+    sets : (maps : List Mapping) → MakeNone (map leaves maps)
     sets [] = tt
     sets (m ∷ ms) = (tt, sets ms)
 
@@ -163,19 +180,20 @@ members_few t (Some g) deed each = none_is_few (deed (members t g.id)).changes (
 
 done_few : (grain : GrainSize) (b : Books) (command : Command) → AddOne (done grain b command).changes
 done_few grain b (Mkvdisk name size unit thin) = omega arith
-done_few grain b (Rmvdisk volume) = one_none (volume_named b.tables volume) _ (λ v. (tt, tt))
-done_few grain b (Armfault volume number calls) = one_none (volume_named b.tables volume) _ (λ v. tt)
+done_few grain b (Rmvdisk volume) = one_none (volume_named b.tables volume) remove_volume (λ v. (tt, tt))
+done_few grain b (Armfault volume number calls) = one_none (volume_named b.tables volume) (λ v. arm v number calls) (λ v. tt)
 done_few grain b (Mkfcmap source target name group copy_rate clean_rate grain_size incremental autodelete) =
-    one_few (volume_named b.tables source) _ (λ s. one_few (volume_named b.tables target) _ (λ t. omega arith))
-done_few grain b (Prestartfcmap m restore) = one_none (mapping_named b.tables m) _ (λ found. prepare_none restore b.tables (found ∷ []))
-done_few grain b (Startfcmap m prep restore) = one_none (mapping_named b.tables m) _ (λ found. start_none prep restore b.tables (found ∷ []))
+    let made : Volume → Volume → Deed = λ s t. make_mapping (new_mapping b s t name group copy_rate clean_rate incremental autodelete) in
+    one_few (volume_named b.tables source) (λ s. for_one (volume_named b.tables target) (made s)) (λ s. one_few (volume_named b.tables target) (made s) (λ t. omega arith))
+done_few grain b (Prestartfcmap m restore) = one_none (mapping_named b.tables m) (λ found. prepare restore b.tables (found ∷ [])) (λ found. prepare_none restore b.tables (found ∷ []))
+done_few grain b (Startfcmap m prep restore) = one_none (mapping_named b.tables m) (λ found. start prep restore b.tables (found ∷ [])) (λ found. start_none prep restore b.tables (found ∷ []))
 done_few grain b (Stopfcmap m way) = one_none (mapping_named b.tables m) (stops way b) (stops_none way b)
-done_few grain b (Rmfcmap m force) = one_none (mapping_named b.tables m) _ (λ found. (tt, tt))
+done_few grain b (Rmfcmap m force) = one_none (mapping_named b.tables m) remove_mapping (λ found. (tt, tt))
 done_few grain b (Mkfcconsistgrp name) = omega arith
 done_few grain b (Prestartfcconsistgrp group restore) = members_few b.tables (group_named b.tables group) (prepare restore b.tables) (prepare_none restore b.tables)
 done_few grain b (Startfcconsistgrp group prep restore) = members_few b.tables (group_named b.tables group) (start prep restore b.tables) (start_none prep restore b.tables)
 done_few grain b (Stopfcconsistgrp group way) = members_few b.tables (group_named b.tables group) (stop_group way b) (stop_group_none way b)
-done_few grain b (Rmfcconsistgrp group force) = one_none (group_named b.tables group) _ (λ (g : Group). remove_group_none b.tables g)
+done_few grain b (Rmfcconsistgrp group force) = one_none (group_named b.tables group) (λ (g : Group). remove_group b.tables g.id) (λ (g : Group). remove_group_none b.tables g)
 done_few grain b command = omega arith
 
 answered_few : (sets : ℕ → List Bool) (grain : GrainSize) (b : Books) (command : Command) (refusal : Option Refusal) (loop : Option (List VolId)) → AddOne (answered sets grain b command refusal loop).changes

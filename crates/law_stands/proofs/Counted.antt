@@ -13,7 +13,7 @@ use Rattle.fc_base.specs.declared.size.GrainSize.{GrainSize}
 use Rattle.fc_books.specs.Deciding.{settle}
 use Rattle.fc_books.specs.Refused.{access_refused}
 use Rattle.fc_entry.specs.declared.entry.Entry.{Entry}
-use Rattle.fc_legal.specs.Steps.{AccessIsRefused, CommandIsRight, CommandLeft, CommandStep, IsRefused, LaneStep, RequestStep, Step, after_access, after_settling, left_by, one_more}
+use Rattle.fc_legal.specs.Steps.{AccessIsRefused, CommandIsRight, CommandLeft, CommandStep, IsRefused, LaneStep, RequestStep, Step, after_access, after_settling, decided_on, left_by, one_more}
 use Rattle.fc_legal.specs.Steps.CommandLeft.{decided, unsettled, settled_alone}
 use Rattle.fc_legal.specs.Whole.{Whole}
 
@@ -32,7 +32,7 @@ module _ {X : Type 0} (grain : GrainSize) (of : Whole → X) (change : X → X) 
   access_changes (Some refusal) is = refusal_changes refusal is
 
   left_changes : (command : Command) (reply : Reply) (effects : List Effect) (left : Whole) → CommandLeft grain w command reply effects left → of left ≡ of w
-  left_changes command reply effects left (decided loop told) = by.decision (after_settling grain w) _ ∙ by.decision w (settle w.books)
+  left_changes command reply effects left (decided loop told) = by.decision (after_settling grain w) (decided_on grain (after_settling grain w) command loop) ∙ by.decision w (settle w.books)
   left_changes command reply effects left unsettled = refl
   left_changes command reply effects left settled_alone = by.decision w (settle w.books)
 

@@ -1,11 +1,11 @@
 -- The changes of a lawful decision fit, and the id of what comes isn't the last that there is.
-use Rattle.std.proofs.Common.{◌≡◌, ℕ, suc, ◌+◌, ◌^◌, ◌<◌, ◌≤◌, List, [], ◌∷◌, filter, fold, length, Bool, refl, sym, ap, subst, ◌∙◌, arith}
+use Rattle.std.proofs.Common.{ℕ, suc, ◌+◌, ◌^◌, ◌<◌, ◌≤◌, List, [], ◌∷◌, filter, fold, length, Bool, arith}
 use Rattle.fc_base.specs.Tables.{Tables, after_change}
 use Rattle.fc_base.specs.declared.decision.Decision.{Decision}
 use Rattle.fc_base.specs.declared.decision.LaneEvent.{LaneEvent}
 use Rattle.fc_base.specs.declared.size.GrainSize.{GrainSize}
 use Rattle.fc_base.specs.declared.volume.Change.{Change}
-use Rattle.fc_base.specs.declared.volume.Change.TheVariants.{AddVolume, RemoveVolume, AddMapping, RemoveMapping, SetMapping, AddGroup, RemoveGroup}
+use Rattle.fc_base.specs.declared.volume.Change.TheVariants.{AddVolume, AddMapping, AddGroup}
 use Rattle.fc_books.specs.After.{after_event, after_table_change}
 use Rattle.fc_books.specs.Books.{Books}
 use Rattle.fc_desk.specs.Changes.{AreCountable, FitChanges, adds}

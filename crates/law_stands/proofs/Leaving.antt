@@ -1,5 +1,5 @@
 -- What a command leaves: it was decided, or for want of memory nothing was done, or all was settled.
-use Rattle.std.proofs.Common.{◌≡◌, ◌≢◌, ◌⊎◌, inl, inr, ℕ, Bool, List, ◌++◌, Option, Some, None, refl, sym, ap}
+use Rattle.std.proofs.Common.{◌≡◌, ◌≢◌, ◌⊎◌, inl, inr, ℕ, Bool, List, ◌++◌, Option, Some, None, refl, ap}
 use Rattle.fc_base.specs.declared.command.Command.{Command}
 use Rattle.fc_base.specs.declared.command.Command.TheVariants.{Mkvdisk, Mkfcmap, Mkfcconsistgrp, Lsfcmap, Lsfcconsistgrp, Lsvdisk, Lsfcmapprogress, Lsfcmapdependentmaps}
 use Rattle.fc_base.specs.declared.fault.Refusal.{Refusal}

@@ -1,5 +1,5 @@
 -- Right entries with other names of actors, and legal histories without any.
-use Rattle.std.proofs.Common.{◌≡◌, ℕ, List, [], ◌∷◌, ◌++◌, Option, Some, None, refl, sym, ap, subst, ◌∙◌}
+use Rattle.std.proofs.Common.{◌≡◌, ℕ, List, [], ◌∷◌, Option, Some, None, refl, sym, ap, subst}
 use Rattle.fc_base.specs.declared.command.Command.{Command}
 use Rattle.fc_base.specs.declared.command.Command.TheVariants.{Read as ReadLine, Write as WriteLine}
 use Rattle.fc_base.specs.declared.fault.Refusal.{Refusal}
@@ -11,9 +11,9 @@ use Rattle.fc_base.specs.declared.request.Request.TheVariants.{Command as Asked,
 use Rattle.fc_base.specs.declared.size.GrainSize.{GrainSize}
 use Rattle.fc_books.specs.Refused.{access_refused}
 use Rattle.fc_entry.specs.declared.entry.Entry.{Entry}
-use Rattle.fc_legal.proofs.Naming.{IsLegal-named, IsNamed-none, IsNext-step}
+use Rattle.fc_legal.proofs.Naming.{IsNamed-none, IsNext-step}
 use Rattle.fc_legal.specs.Legal.{AreSteps, IsLegal, IsNamed}
-use Rattle.fc_legal.specs.Steps.{AccessIsRefused, CommandIsRight, CommandLeft, CommandStep, IsInside, IsRefused, LaneStep, RequestStep, Step}
+use Rattle.fc_legal.specs.Steps.{AccessIsRefused, CommandIsRight, CommandLeft, CommandStep, IsRefused, LaneStep, RequestStep, Step}
 use Rattle.fc_legal.specs.Steps.CommandLeft.{decided, unsettled, settled_alone}
 use Rattle.fc_legal.specs.Whole.{Whole, part_at}
 use Rattle.law_stands.proofs.Counted.{names_kept}
@@ -89,10 +89,11 @@ named_back grain w entry next step =
 without_names : (grain : GrainSize) (w : Whole) (entries : List Entry) (last : Whole) → IsLegal grain w entries last → AreSteps grain (nameless w) entries (nameless last)
 without_names grain w [] last is = ap nameless is.named
 without_names grain w (entry ∷ entries) last legal =
-    let next : Whole = legal.0 in
-    (nameless next,
-    subst (λ (x : Whole). Step grain x entry (nameless next)) (ap nameless legal.1.named.named) (entry_named grain [] legal.1.before entry next legal.1.step),
-    without_names grain next entries last legal.2)
+    let next : Whole = legal.0 in (
+      nameless next,
+      subst (λ (x : Whole). Step grain x entry (nameless next)) (ap nameless legal.1.named.named) (entry_named grain [] legal.1.before entry next legal.1.step),
+      without_names grain next entries last legal.2,
+    )
 
 -- What has no names is itself, without names.
 no_names : (w : Whole) → w.actors ≡ [] → nameless w ≡ w

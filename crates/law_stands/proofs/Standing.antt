@@ -1,6 +1,5 @@
 -- What stands goes on standing: after each kind of right entry, and so through a history.
-use Rattle.std.proofs.Common.{◌≡◌, ℕ, ◌+◌, ◌*◌, ◌^◌, ◌<◌, ◌≤◌, List, [], ◌∷◌, ◌++◌, length, Option, refl, sym, ap, subst, ◌∙◌, arith}
-use Rattle.fc_base.specs.Pools.{Pool}
+use Rattle.std.proofs.Common.{◌≡◌, ℕ, ◌+◌, ◌*◌, ◌^◌, ◌<◌, ◌≤◌, List, [], ◌∷◌, ◌++◌, length, Option, refl, sym, ap, subst, arith}
 use Rattle.fc_base.specs.declared.command.Command.{Command}
 use Rattle.fc_base.specs.declared.ids.VolId.{VolId}
 use Rattle.fc_base.specs.declared.request.Effect.{Effect}
@@ -10,7 +9,6 @@ use Rattle.fc_base.specs.declared.request.Reply.{Reply}
 use Rattle.fc_base.specs.declared.request.Request.{Request}
 use Rattle.fc_base.specs.declared.request.Request.TheVariants.{Read, Write, Copy, Clean, CopyTurn, CleanTurn}
 use Rattle.fc_base.specs.declared.size.GrainSize.{GrainSize}
-use Rattle.fc_base.specs.declared.volume.Volume.{Volume}
 use Rattle.fc_books.specs.Deciding.{IsLoopOf, settle}
 use Rattle.fc_decided.proofs.Decided.{decision_law_holds}
 use Rattle.fc_decided.proofs.Opening.{opening_stands}
@@ -20,9 +18,9 @@ use Rattle.fc_follow.specs.Following.{restarts}
 use Rattle.fc_legal.specs.Lawful.{IsLawful}
 use Rattle.fc_legal.specs.Legal.{AreSteps, IsLegal, IsNamed}
 use Rattle.fc_legal.specs.Stands.{Stands}
-use Rattle.fc_legal.specs.Steps.{CommandLeft, CommandStep, RequestStep, Step, after_access, after_settling, decided_on, left_by, one_more}
+use Rattle.fc_legal.specs.Steps.{CommandLeft, CommandStep, RequestStep, Step, after_settling, decided_on, left_by, one_more}
 use Rattle.fc_legal.specs.Steps.CommandLeft.{decided, unsettled, settled_alone}
-use Rattle.fc_legal.specs.Whole.{Whole, opened}
+use Rattle.fc_legal.specs.Whole.{Whole}
 use Rattle.fc_parts.proofs.Standing.{access_stands, clean_turn_stands, copy_turn_stands}
 use Rattle.fc_parts.specs.Law.{IsAt, IsOfLane}
 use Rattle.law_stands.proofs.Counted.{entry_counted}

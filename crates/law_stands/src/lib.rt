@@ -5,9 +5,10 @@
 //! place and its reply, and what the control part (`fc_desk`, `fc_starts`) may rely on where it decides commands and does what is
 //! decided. They follow from the laws of parts (`fc_parts`) and of decisions (`fc_decided`), and speak of no lane's code.
 //!
-//! To read: `specs/Reached`, `Names`, `Commands` and `Deciders`, what is said; then `proofs/`: `Few` (few grains, through every
-//! decision), `Adding` (one object at most comes of a decision), `Counting` (ids), `Room` (grains of slots and of restart sets),
-//! `Places` (an entry by its place), `Leaving` (what commands leave), `Standing`, `Naming`, `Deciding`: the laws.
+//! To read: `specs/Reached`, `Names`, `Commands` and `Deciders`, what is said; then `proofs/`: `Counted` (what every entry changes
+//! by one rule), `Few` (few grains, through every decision), `Places` (what an entry left, by its place), `Adding` (one object at
+//! most comes of a decision), `Counting` (its id), `Room` (grains of slots and of restart sets); and the laws, in `Standing`,
+//! `Naming`, `Leaving` and `Deciding`.
 #![tactic(auto)]
 
 ghost use Rattle.law_stands.specs.Commands.{CommandsLaw};
