@@ -208,3 +208,6 @@ decision_one way left command d reply effects old new asked same left_is is =
       next_is = refl;
     })
     (λ next told. told.next_is ∙ ap (λ (x : Decision). one_more (left_by way.grain way.whole x)) (one_decision way command d asked told.loop told.is_loop ∙ asked.decision_is))
+
+pub is_decision : (way : Judged) (command : Command) (d : Decision) → ((loop : Option (List VolId)) × IsLoopOf way.grain way.whole.books command loop × (d ≡ decided_on way.grain way.whole command loop)) → IsDecision way command d
+is_decision way command d told = record { loop = told.0; is_loop = told.1; decision_is = told.2 }

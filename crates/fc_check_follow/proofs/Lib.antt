@@ -1,4 +1,5 @@
 mod Laws
+mod Tests
 mod Coming
 mod Refusing
 mod Commanding

@@ -60,3 +60,11 @@ settled_few way at = subst (λ (v : Whole). v.entries < 262144) (sym at.whole_is
 
 pub left_few : (way left : Judged) (d : Decision) → left ≡ left_on way d → way.whole.entries < 262144 → left.whole.entries < 262144
 left_few way left d is few = subst (λ (j : Judged). j.whole.entries < 262144) (sym is) few
+
+-- ---- a copy of a way
+
+pub copied_left : (way copied : Judged) (d : Decision) → IsOpen way.whole → d ≡ settle way.whole.books → copied ≡ way → CanBeLeft copied.whole d
+copied_left way copied d at is same = subst (λ (j : Judged). CanBeLeft j.whole d) (sym same) (settling_left way.grain way.whole d at is)
+
+pub copied_few : (way copied settled : Judged) (d : Decision) → IsOpen way.whole → copied ≡ way → settled ≡ left_on copied d → settled.whole.entries < 262144
+copied_few way copied settled d at same left = left_few copied settled d left (subst (λ (j : Judged). j.whole.entries < 262144) (sym same) at.few)

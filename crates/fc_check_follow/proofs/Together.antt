@@ -4,16 +4,20 @@ use Rattle.std.specs.List.{Contains}
 use Rattle.std.proofs.lemmas.Bool.Decides.{Decides-eqb}
 use Rattle.std.proofs.lemmas.List.{get_or-map, length-map}
 use Rattle.std.proofs.lemmas.List.Elements.{Contains-append_left, Contains-get_or, Contains-push, Contains-push_cases}
+use Rattle.fc_base.specs.Pools.{Pool}
 use Rattle.fc_base.specs.declared.size.GrainSize.{GrainSize}
 use Rattle.fc_entry.specs.declared.entry.Entry.{Entry}
 use Rattle.fc_legal.specs.Steps.{Step}
-use Rattle.fc_legal.specs.Whole.{Whole}
+use Rattle.fc_legal.specs.Whole.{Whole, opened}
 use Rattle.law_stands.specs.Reached.{IsReachedByEntries}
 use Rattle.fc_check_record.specs.Judged.{Judged}
+use Rattle.fc_check_sheet.specs.View.{pools_of}
+use Rattle.fc_check_sheet.specs.declared.LanePool.{LanePool}
+use Rattle.fc_trace.specs.declared.header.LaneDisks.{LaneDisks}
 use Rattle.fc_check_follow.specs.Following.{AreCandidates, AreFollowing, AreReachedAt, AreUnderWay, Came, FollowsOne, IsOpen, IsReachedAt}
-use Rattle.fc_check_follow.specs.Ways.{AreAfter}
+use Rattle.fc_check_follow.specs.Ways.{AreAfter, pools_told}
 use Rattle.fc_check_follow.proofs.Coming.{way_of}
-use Rattle.fc_check_follow.proofs.Laws.{stands}
+use Rattle.fc_check_follow.proofs.Laws.{names, stands}
 
 -- ---- ways and what is told in them
 
@@ -155,6 +159,28 @@ are_after grain entries old entry new were after = record { only = λ next there
         let here : Step told.way.grain told.way.whole entry next =
         subst (λ (g : GrainSize). Step g told.way.whole entry next) (sym of_grain) (subst (λ (v : Whole). Step grain v entry next) (sym told.told_is) step) in
         told_there new (way_of told.way.grain next) (after.all told.way next told.there here)
+
+-- ---- before the first entry
+
+pub some_pools : (pools slice : List LanePool) (lanes : List LaneDisks) → slice ≡ pools → pools_of pools ≡ pools_told lanes → 0 < length lanes → 0 < length (pools_of slice)
+some_pools pools slice lanes is same some =
+    let all : pools_of slice ≡ pools_told lanes = ap pools_of is ∙ same in
+    let counted : length (pools_of slice) ≡ length (pools_told lanes) = ap (λ (ps : List Pool). length ps) all in
+    let long : length (pools_told lanes) ≡ length lanes = length-map lanes (λ (lane : LaneDisks). record { flat = lane.flat; thin = lane.thin }) in
+    omega arith
+
+abbrev pub first_way : GrainSize → List Pool → Judged
+first_way grain pools = record { grain = grain; whole = record (opened pools) { actors = [] } }
+
+pub opened_candidates : (grain : GrainSize) (pools : List Pool) (ways : List Judged) → 0 < length pools → ways ≡ first_way grain pools ∷ [] → AreCandidates grain 0 ways
+opened_candidates grain pools ways some is = subst (AreCandidates grain 0) (sym is) record {
+  reached = λ way there. subst (IsReachedAt 0) (alone way (Contains-push_cases [] (first_way grain pools) way there)) (record { entries_are = refl; reached = names.reached 0 [] (opened pools) (stands.opened pools some) });
+  grains = λ way there. sym (ap (λ (j : Judged). j.grain) (alone way (Contains-push_cases [] (first_way grain pools) way there)));
+}
+  where
+    alone : (way : Judged) → Contains [] way ⊎ (first_way grain pools ≡ way) → first_way grain pools ≡ way
+    alone way (inl there) = absurd (no_way way there)
+    alone way (inr same) = same
 
 -- None is left: nothing is told.
 pub no_candidates : (grain : GrainSize) (entries : ℕ) (ways : List Judged) → ways ≡ [] → AreCandidates grain entries ways

@@ -1,6 +1,6 @@
 //! Entries that no lane makes.
 
-ghost use Rattle.std.specs.Prelude.{◌≡◌, ◌↔◌, IsTrue};
+ghost use Rattle.std.specs.Prelude.{◌≡◌, ◌↔◌, [], IsTrue};
 ghost use Rattle.fc_base.specs.declared.request.Reply.TheVariants.{NoMemory as WantsMemory, Refused};
 ghost use Rattle.fc_legal.specs.Steps.{IsApart};
 ghost use Rattle.fc_check_follow.specs.Following.{IsOfCommand, SaysRefused};
@@ -28,6 +28,13 @@ pub(crate) fn is_of_command(entry: &Entry) -> bool
     entry.place == Place::Every && is_apart(entry)
 }
 
+/// Whether an entry tells no effect.
+pub(crate) fn has_no_effects(entry: &Entry) -> bool
+    ensures { IsTrue result ↔ (entry.now.effects ≡ []) }
+{
+    entry.effects.as_slice().is_empty()
+}
+
 /// Whether a reply says that this was refused.
 fn is_refusal(reply: &Reply, refusal: &Refusal) -> bool
     ensures { IsTrue result ↔ (reply.now ≡ Refused refusal.now) }
@@ -45,7 +52,7 @@ pub(crate) fn says_refused(entry: &Entry, refusal: &Refusal) -> bool
     entry.place == Place::Control
         && is_apart(entry)
         && is_refusal(&entry.reply, refusal)
-        && entry.effects.as_slice().is_empty()
+        && has_no_effects(entry)
 }
 
 /// Whether a reply says that memory was wanted and not had.

@@ -7,7 +7,7 @@ ghost use Rattle.fc_control.specs.Dispatch.{is_decided};
 ghost use Rattle.fc_legal.specs.Steps.{CommandStep};
 ghost use Rattle.fc_check_follow.specs.Following.{Came, IsOpen, IsSettled, IsOfCommand, DoesNothing, LeavesAll, LeavesSettled, LeavesDecided};
 
-use crate::apart::{is_of_command, wants_memory};
+use crate::apart::{has_no_effects, is_of_command, wants_memory};
 use crate::effects::behind;
 use crate::refused::keep_one_more;
 use crate::same::{Same, all_same};
@@ -37,7 +37,7 @@ fn follow_unsettled(
     requires { IsOpen way.whole }
     ensures { OnOk result (Came way.grain (LeavesAll way.whole entry.now) after.old.items after.new.items) }
 {
-    if entry.effects.as_slice().is_empty() {
+    if has_no_effects(entry) {
         keep_one_more(way, after)
     } else {
         Ok(())

@@ -26,7 +26,8 @@ fn follow_lane(
     requires of_lanes { IsOfLanes entry.now.request }
     ensures { OnOk result (Came way.grain (Step way.grain way.whole entry.now) after.old.items after.new.items) }
 {
-    if !way.is_next(alloc, entry)? {
+    let right = way.is_next(alloc, entry)?;
+    if !right {
         return Ok(());
     }
     let next = way.after_lane(alloc, entry)?;

@@ -77,7 +77,6 @@ impl Record {
 
     /// Why an access is refused.
     pub fn refused_access(&self, _volume: &Ref, _block: u32, _count: u32) -> Option<Refusal>
-        requires { AreSound self.now.whole.books }
         ensures { result ≡ access_refused self.now.grain self.now.whole.books _volume.now _block _count }
     {
         let _grain = self.grain;
@@ -86,7 +85,8 @@ impl Record {
 
     /// What settling does.
     pub fn settle(&self, _alloc: Global) -> Result<Decision, NoMemory>
-        requires { IsSmall self.now.whole.books.sheet.slots self.now.whole.rows }
+        requires sound { AreSound self.now.whole.books }
+        requires small { IsSmall self.now.whole.books.sheet.slots self.now.whole.rows }
         ensures { IfOk result (λ decision. decision ≡ settle self.now.whole.books) }
     {
         Err(NoMemory)
