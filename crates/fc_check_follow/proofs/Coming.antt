@@ -1,5 +1,5 @@
 -- How ways come to a list.
-use Rattle.std.proofs.Common.{◌≡◌, ◌⊎◌, List, [], ◌∷◌, ◌++◌, inl, inr, refl, sym, subst, ⊎_elim}
+use Rattle.std.proofs.Common.{◌≡◌, ◌⊎◌, List, [], ◌∷◌, ◌++◌, inl, inr, refl, sym, subst}
 use Rattle.std.specs.List.{Contains}
 use Rattle.std.proofs.lemmas.List.Elements.{Contains-append_left, Contains-push, Contains-push_cases}
 use Rattle.fc_base.specs.declared.size.GrainSize.{GrainSize}
@@ -57,9 +57,11 @@ came_then grain A B old mid new first second = record {
     by_first : (next : Judged) → Contains old next ⊎ ((next.grain ≡ grain) × A next.whole) → Contains old next ⊎ ((next.grain ≡ grain) × (B next.whole ⊎ A next.whole))
     by_first next (inl in') = inl in'
     by_first next (inr told) = inr (told.0, inr told.1)
+
     by_second : (next : Judged) → Contains mid next ⊎ ((next.grain ≡ grain) × B next.whole) → Contains old next ⊎ ((next.grain ≡ grain) × (B next.whole ⊎ A next.whole))
     by_second next (inl in') = by_first next (first.only next in')
     by_second next (inr told) = inr (told.0, inl told.1)
+
     all : (next : Whole) → B next ⊎ A next → Contains new (way_of grain next)
     all next (inl told) = second.all next told
     all next (inr told) = second.kept (way_of grain next) (first.all next told)

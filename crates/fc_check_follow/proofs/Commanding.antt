@@ -21,7 +21,7 @@ use Rattle.fc_legal.specs.Whole.{Whole}
 use Rattle.law_stands.specs.Commands.{WasSettled, WasUndone}
 use Rattle.fc_check_record.specs.Judged.{Judged}
 use Rattle.fc_check_follow.specs.Following.{Came, DoesNothing, IsOfCommand, LeavesAll, LeavesDecided, LeavesSettled}
-use Rattle.fc_check_follow.proofs.Coming.{came_as, came_none, came_one, way_of}
+use Rattle.fc_check_follow.proofs.Coming.{came_as, came_none, came_one}
 use Rattle.fc_check_follow.proofs.Laws.{commands}
 
 -- A way that a decision is left on, and one entry more.
@@ -142,8 +142,8 @@ pub decided_none : (way : Judged) (settling : Decision) (command : Command) (ent
 decided_none way settling command entry old some is other =
     came_none way.grain (CommandStep way.grain way.whole command entry) old
     (λ next step.
-      let b : IsBehind way.grain way.whole command entry.reply entry.effects step.left = behind_of way.grain way.whole command entry.reply entry.effects step.left some step.leaves in
-      other b.rest (b.split ∙ ap (λ (d : Decision). d.effects ++ b.rest) (sym is)))
+    let b : IsBehind way.grain way.whole command entry.reply entry.effects step.left = behind_of way.grain way.whole command entry.reply entry.effects step.left some step.leaves in
+    other b.rest (b.split ∙ ap (λ (d : Decision). d.effects ++ b.rest) (sym is)))
 
 -- These do, and what was decided came.
 module _ (grain : GrainSize) (w : Whole) (command : Command) (entry : Entry) (rest : List Effect) where
@@ -191,8 +191,8 @@ pub decision_none : (way : Judged) (command : Command) (d : Decision) (reply : R
 decision_none way command d reply effects old asked other =
     came_none way.grain (LeavesDecided way.grain way.whole command reply effects) old
     (λ next told.
-      let one : decided_on way.grain way.whole command told.loop ≡ d = one_decision way command d asked told.loop told.is_loop in
-      other (told.reply_is ∙ ap (λ (x : Decision). x.reply) one, told.effects_are ∙ ap (λ (x : Decision). x.effects) one))
+    let one : decided_on way.grain way.whole command told.loop ≡ d = one_decision way command d asked told.loop told.is_loop in
+    other (told.reply_is ∙ ap (λ (x : Decision). x.reply) one, told.effects_are ∙ ap (λ (x : Decision). x.effects) one))
 
 pub decision_one : (way left : Judged) (command : Command) (d : Decision) (reply : Reply) (effects : List Effect) (old new : List Judged) → IsDecision way command d → (reply ≡ d.reply) × (effects ≡ d.effects) →
     left ≡ left_on way d → new ≡ old ++ counted left ∷ [] → Came way.grain (LeavesDecided way.grain way.whole command reply effects) old new

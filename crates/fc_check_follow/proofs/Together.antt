@@ -1,5 +1,5 @@
 -- All ways together.
-use Rattle.std.proofs.Common.{◌≡◌, ◌⊎◌, ◌↔◌, eqb, Bool, IsTrue, ℕ, ◌+◌, ◌*◌, ◌<◌, List, [], ◌∷◌, ◌++◌, inl, inr, length, map, get_or, refl, sym, ap, ◌∙◌, subst, arith}
+use Rattle.std.proofs.Common.{◌≡◌, ◌⊎◌, ◌↔◌, eqb, Bool, IsTrue, ℕ, ◌+◌, ◌<◌, List, [], ◌∷◌, ◌++◌, inl, inr, length, map, get_or, refl, sym, ap, ◌∙◌, subst, arith}
 use Rattle.std.specs.List.{Contains}
 use Rattle.std.proofs.lemmas.Bool.Decides.{Decides-eqb}
 use Rattle.std.proofs.lemmas.List.{get_or-map, length-map}
@@ -9,7 +9,6 @@ use Rattle.fc_base.specs.declared.size.GrainSize.{GrainSize}
 use Rattle.fc_entry.specs.declared.entry.Entry.{Entry}
 use Rattle.fc_legal.specs.Steps.{Step}
 use Rattle.fc_legal.specs.Whole.{Whole, opened}
-use Rattle.law_stands.specs.Reached.{IsReachedByEntries}
 use Rattle.fc_check_record.specs.Judged.{Judged}
 use Rattle.fc_check_sheet.specs.View.{pools_of}
 use Rattle.fc_check_sheet.specs.declared.LanePool.{LanePool}
@@ -84,10 +83,12 @@ gone_on old entry left way new after under came = record {
     of_one : (next : Judged) → Contains new next ⊎ ((next.grain ≡ way.grain) × Step way.grain way.whole entry next.whole) → FollowsOne old entry next
     of_one next (inl there) = under.only next there
     of_one next (inr told) = record { way = way; there = under.left_of_old way (Contains-push left way); grain_is = told.0; step = told.1 }
+
     by_last : (other : Judged) (next : Whole) → Step other.grain other.whole entry next → Contains left other ⊎ (way ≡ other) → Contains left other ⊎ Contains after (way_of other.grain next)
     by_last other next step (inl there) = inl there
     by_last other next step (inr is) =
         inr (subst (λ (j : Judged). Contains after (way_of j.grain next)) is (came.all next (subst (λ (j : Judged). Step j.grain j.whole entry next) (sym is) step)))
+
     by_place : (other : Judged) (next : Whole) → Step other.grain other.whole entry next → Contains (left ++ way ∷ []) other ⊎ Contains new (way_of other.grain next) → Contains left other ⊎ Contains after (way_of other.grain next)
     by_place other next step (inl there) = by_last other next step (Contains-push_cases left way other there)
     by_place other next step (inr there) = inr (came.kept (way_of other.grain next) there)
@@ -137,6 +138,7 @@ still_candidates grain entries old entry new few were after = record {
           entries_are = omega (arith, at.entries_are);
           reached = stands.by_entries follows.way.grain follows.way.whole entry next.whole (omega (arith, at.entries_are)) at.reached follows.step;
         }
+
     grain_next : (next : Judged) → FollowsOne old entry next → next.grain ≡ grain
     grain_next next follows = follows.grain_is ∙ were.grains follows.way follows.there
 
@@ -149,10 +151,12 @@ are_after grain entries old entry new were after = record { only = λ next there
       follows.way.whole,
       told_there old follows.way follows.there,
       subst (λ (v : Whole). Step grain follows.way.whole entry v) told.told_is
-      (subst (λ (g : GrainSize). Step g follows.way.whole entry told.way.whole) (were.grains follows.way follows.there) follows.step),
+          (subst (λ (g : GrainSize). Step g follows.way.whole entry told.way.whole) (were.grains follows.way follows.there) follows.step),
     )
+
     of_one : (next : Whole) → IsToldIn new next → (w : Whole) × Contains (map told_in old) w × Step grain w entry next
     of_one next told = of_way next told (after.only told.way told.there)
+
     by_way : (w next : Whole) → Step grain w entry next → IsToldIn old w → Contains (map told_in new) next
     by_way w next step told =
         let of_grain : told.way.grain ≡ grain = were.grains told.way told.there in

@@ -97,7 +97,11 @@ fn ways_after(
 
 impl Candidates {
     /// What is told before the first entry, over these disks for new volumes, lane by lane.
-    pub fn open(alloc: Global, grain: GrainSize, lanes: &[LaneDisks]) -> Result<Candidates, NoMemory>
+    pub fn open(
+        alloc: Global,
+        grain: GrainSize,
+        lanes: &[LaneDisks],
+    ) -> Result<Candidates, NoMemory>
         requires { 0 < length lanes.now }
         ensures { IfOk result (λ c. c ≡ record { grain = grain; entries = 0; ways = nameless (opened (pools_told lanes.now)) ∷ [] }) }
     {

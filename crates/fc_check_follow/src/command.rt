@@ -29,11 +29,7 @@ fn does_nothing(decision: &Decision) -> bool
 }
 
 /// Goes on behind a command that had no memory and left all as it was: there is a way where its entry has no effects.
-fn follow_unsettled(
-    way: Record,
-    entry: &Entry,
-    after: &mut Vec<Record>,
-) -> Result<(), NoMemory>
+fn follow_unsettled(way: Record, entry: &Entry, after: &mut Vec<Record>) -> Result<(), NoMemory>
     requires { IsOpen way.whole }
     ensures { OnOk result (Came way.grain (LeavesAll way.whole entry.now) after.old.items after.new.items) }
 {

@@ -1,4 +1,4 @@
-use Rattle.std.proofs.Common.{◌≡◌, ℕ, sym, subst, arith}
+use Rattle.std.proofs.Common.{◌≡◌, ℕ, subst, arith}
 use Rattle.fc_check_follow.specs.Following.{AreReachedAt}
 use Rattle.fc_check_follow.proofs.Together.{none_follow}
 use Rattle.fc_check_follow.proofs.candidates.ways_after.Goals as goal

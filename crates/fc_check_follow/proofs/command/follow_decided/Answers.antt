@@ -18,7 +18,7 @@ pub returns-in-Some : goal.returns-in-Some
 returns-in-Some c =
     on_ok_weaker c.follow_decision.result
     (decided_came c.args.way c.in_ok-settled-in-Some.settled c.in_ok-settling.settling c.args.command.now c.args.entry.now c.in-Some.effects.now c.args.after.now.items c.follow_decision.new.after.items c.requires.of_command c.requires.answered c.in_ok-settling.ensures
-      (sym c.as_slice-2.ensures ∙ (c.in-Some.ensures ∙ ap (λ (es : List Effect). es ++ c.in-Some.effects.now) c.as_slice.ensures)) c.in_ok-settled-in-Some.ensures)
+    (sym c.as_slice-2.ensures ∙ (c.in-Some.ensures ∙ ap (λ (es : List Effect). es ++ c.in-Some.effects.now) c.as_slice.ensures)) c.in_ok-settled-in-Some.ensures)
     c.follow_decision.ensures
 
 pub returns : goal.returns

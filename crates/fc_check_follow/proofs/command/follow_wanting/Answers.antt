@@ -13,12 +13,12 @@ settle-requires-clause-small c = small_of c.args.way.whole (open_can c.args.way.
 
 pub returns-then-does_nothing : goal.returns-then-does_nothing
 returns-then-does_nothing c =
-    on_ok_weaker c.follow_unsettled-then-does_nothing.result
-    (wanting_once c.args.way c.in_ok-settling.settling c.args.entry.now c.args.after.now.items c.follow_unsettled-then-does_nothing.new.after.items c.in_ok-settling.ensures (c.does_nothing.ensures.0 c.if-does_nothing.true))
-    c.follow_unsettled-then-does_nothing.ensures
+    on_ok_weaker c.follow_unsettled.result
+    (wanting_once c.args.way c.in_ok-settling.settling c.args.entry.now c.args.after.now.items c.follow_unsettled.new.after.items c.in_ok-settling.ensures (c.does_nothing.ensures.0 c.if-does_nothing.true))
+    c.follow_unsettled.ensures
 
 pub returns : goal.returns
 returns c =
-    on_ok_weaker c.follow_unsettled.result
-    (came_then c.args.way.grain (LeavesSettled c.args.way.grain c.args.way.whole c.args.entry.now) (LeavesAll c.args.way.whole c.args.entry.now) c.args.after.now.items c.follow_settled.new.after.items c.follow_unsettled.new.after.items c.in_ok-follow_settled.ensures)
-    c.follow_unsettled.ensures
+    on_ok_weaker c.follow_unsettled-2.result
+    (came_then c.args.way.grain (LeavesSettled c.args.way.grain c.args.way.whole c.args.entry.now) (LeavesAll c.args.way.whole c.args.entry.now) c.args.after.now.items c.follow_settled.new.after.items c.follow_unsettled-2.new.after.items c.in_ok-follow_settled.ensures)
+    c.follow_unsettled-2.ensures
