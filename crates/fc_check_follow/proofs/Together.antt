@@ -11,7 +11,7 @@ use Rattle.fc_legal.specs.Steps.{Step}
 use Rattle.fc_legal.specs.Whole.{Whole, opened}
 use Rattle.fc_check_record.specs.Judged.{Judged}
 use Rattle.fc_check_sheet.specs.View.{pools_of}
-use Rattle.fc_check_sheet.specs.declared.LanePool.{LanePool}
+use Rattle.fc_check_sheet.specs.declared.pool.LanePool.{LanePool}
 use Rattle.fc_trace.specs.declared.header.LaneDisks.{LaneDisks}
 use Rattle.fc_check_follow.specs.Following.{AreCandidates, AreFollowing, AreReachedAt, AreUnderWay, Came, FollowsOne, IsOpen, IsReachedAt}
 use Rattle.fc_check_follow.specs.Ways.{AreAfter, pools_told}

@@ -5,4 +5,5 @@ mod Turning
 mod Within
 mod Answering
 mod Lawful
+mod Following
 mod KnownExamples

@@ -4,3 +4,4 @@ pub mod Steps
 pub mod Turns
 pub mod Answers
 pub mod Next
+pub mod After

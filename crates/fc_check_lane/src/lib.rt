@@ -5,10 +5,15 @@
 //! whether the entry is a right step of a legal history (`fc_legal`, `specs/Steps`), for every read, write, copy, cleaning and
 //! worker's turn; only want of memory is free.
 //!
-//! To read: `volume` and `known` (the record), `inside` (where an access lies), `steps` (what a write or a fill does), `reading`,
-//! `writing` and `filling` (what each may answer), `turn` (which grain a worker takes), and `next`, which has the call.
+//! `Known::follow` keeps what such an entry did.
+//!
+//! To read: `volume`, `known` and `copy` (the record), `inside` (where an access lies), `steps` (what a write or a fill does),
+//! `reading`, `writing` and `filling` (what each may answer), `turn` (which grain a worker takes), `next`, which has the call, and
+//! `after` (what is kept after an entry).
 #![tactic(auto)]
 
+mod after;
+mod copy;
 mod filling;
 mod inside;
 mod known;
@@ -19,5 +24,6 @@ mod turn;
 mod volume;
 mod writing;
 
+pub use after::done_write;
 pub use known::Known;
 pub use volume::VolumeSize;

@@ -70,7 +70,7 @@ fn steps_of(alloc: Global, picture: &Picture, moves: &[Move]) -> Result<Vec<Step
 }
 
 /// Makes moves, in order.
-fn make_moves(sheet: &mut PlainSheet, moves: &[Move])
+pub(crate) fn make_moves(sheet: &mut PlainSheet, moves: &[Move])
     ensures { sheet.new ≡ after_all sheet.old moves.now }
 {
     for moved in moves {

@@ -114,6 +114,16 @@ fn cut_volumes(
     Ok(())
 }
 
+/// Puts a volume at the end.
+pub(crate) fn push_volume(volumes: &mut Vec<Volume>, volume: Volume) -> Result<(), NoMemory>
+    ensures { OnOk result (volumes.new.items ≡ volumes.old.items ++ volume ∷ []) }
+{
+    match volumes.push(volume) {
+        Ok(()) => Ok(()),
+        Err(_) => Err(NoMemory),
+    }
+}
+
 /// A volume of zeros comes.
 fn make_volume(
     alloc: Global,
@@ -124,11 +134,7 @@ fn make_volume(
 ) -> Result<(), NoMemory>
     ensures { OnOk result (volumes.new.items ≡ volumes.old.items ++ record { volume = id; now = replicate grains (zeros size); under = replicate grains (zeros size) } ∷ []) }
 {
-    let volume = Volume::zeros(alloc, id, size, grains)?;
-    match volumes.push(volume) {
-        Ok(()) => Ok(()),
-        Err(_) => Err(NoMemory),
-    }
+    push_volume(volumes, Volume::zeros(alloc, id, size, grains)?)
 }
 
 /// Each volume with the id goes.

@@ -6,7 +6,7 @@ ghost use Rattle.fc_entry.specs.Picture.{changed_at, volume_in, now_at, is_lost}
 ghost use Rattle.fc_entry.specs.PlainStep.{after_effects, after_torn, after_write};
 ghost use Rattle.fc_entry.specs.Reads.{IsRightIn};
 
-use crate::changes::{do_effects, tear_grain, write_blocks};
+use crate::changes::{do_effects, push_volume, tear_grain, write_blocks};
 use crate::volume::Volume;
 use fc_base::ids::VolId;
 use fc_base::outcome::NoMemory;
@@ -38,6 +38,17 @@ impl Picture {
         Picture {
             volumes: Vec::new(alloc),
         }
+    }
+
+    /// Another picture of the same volumes, which hold the same. Refused for want of memory alone.
+    pub fn copy(&self, alloc: Global) -> Result<Picture, NoMemory>
+        ensures { IfOk result (λ copy. copy ≡ self.now) }
+    {
+        let mut volumes = Vec::new(alloc);
+        for volume in self.volumes.as_slice() {
+            push_volume(&mut volumes, volume.copy(alloc)?)?;
+        }
+        Ok(Picture { volumes })
     }
 
     /// Whether a grain of a volume was lost; one that isn't there is as if lost.

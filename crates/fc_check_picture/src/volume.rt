@@ -66,6 +66,17 @@ fn zero_grains(alloc: Global, size: GrainSize, count: u32) -> Result<Vec<Grain>,
     Ok(grains)
 }
 
+/// The same grains again.
+fn copy_grains(alloc: Global, grains: &[Grain]) -> Result<Vec<Grain>, NoMemory>
+    ensures { IfOk result (λ copy. copy.items ≡ grains.now) }
+{
+    let mut copy = Vec::new(alloc);
+    for grain in grains {
+        push_grain(&mut copy, grain.copy(alloc)?)?;
+    }
+    Ok(copy)
+}
+
 /// What a volume holds, copied for another one.
 #[derive(Drop)]
 pub(crate) struct Copied {
@@ -106,6 +117,19 @@ impl Volume {
         let before = zero_grains(alloc, size, grains)?;
         Ok(Volume {
             id,
+            current,
+            before,
+        })
+    }
+
+    /// The same volume again.
+    pub(crate) fn copy(&self, alloc: Global) -> Result<Volume, NoMemory>
+        ensures { IfOk result (λ copy. copy ≡ self.now) }
+    {
+        let current = copy_grains(alloc, self.current.as_slice())?;
+        let before = copy_grains(alloc, self.before.as_slice())?;
+        Ok(Volume {
+            id: self.id,
             current,
             before,
         })
@@ -220,10 +244,7 @@ impl Volume {
     pub(crate) fn copied(&self, alloc: Global) -> Result<Copied, NoMemory>
         ensures { IfOk result (λ copied. copied ≡ self.now.now) }
     {
-        let mut grains = Vec::new(alloc);
-        for grain in self.current.as_slice() {
-            push_grain(&mut grains, grain.copy(alloc)?)?;
-        }
+        let grains = copy_grains(alloc, self.current.as_slice())?;
         Ok(Copied { grains })
     }
 

@@ -74,6 +74,22 @@ impl Row {
         }
     }
 
+    /// The same row again.
+    pub(crate) fn copy(&self, alloc: Global) -> Result<Row, NoMemory>
+        ensures { IfOk result (λ copy. copy ≡ self.now) }
+    {
+        match Vec::from_slice(alloc, self.same.as_slice()) {
+            Ok(same) => Ok(Row {
+                map: self.map,
+                source: self.source,
+                target: self.target,
+                into: self.into,
+                same,
+            }),
+            Err(_) => Err(NoMemory),
+        }
+    }
+
     /// Whether it is the row of this mapping.
     pub(crate) fn is_of(&self, map: u32) -> bool
         ensures { result ≡ is_of map self.now }

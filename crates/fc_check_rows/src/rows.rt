@@ -1,6 +1,6 @@
 //! All mappings that are followed.
 
-ghost use Rattle.std.specs.Prelude.{◌≡◌, [], ◌∷◌, ◌++◌, OnOk, map as map_list};
+ghost use Rattle.std.specs.Prelude.{◌≡◌, [], ◌∷◌, ◌++◌, IfOk, OnOk, map as map_list};
 ghost use Rattle.std.specs.List.{list_any};
 ghost use Rattle.fc_changed.specs.Notes.Note.{Began, Left, Cut, Forgotten};
 ghost use Rattle.fc_changed.specs.Row.{after_note, is_of, restart_in, row_began, row_cut, row_left, row_wrote, with_new};
@@ -88,6 +88,17 @@ impl Rows {
             Ok(()) => Ok(()),
             Err(_) => Err(NoMemory),
         }
+    }
+
+    /// Other rows of the same mappings, with the same marks. Refused for want of memory alone.
+    pub fn copy(&self, alloc: Global) -> Result<Rows, NoMemory>
+        ensures { IfOk result (λ copy. copy ≡ self.now) }
+    {
+        let mut copy = Rows::new(alloc);
+        for row in self.rows.as_slice() {
+            copy.push(row.copy(alloc)?)?;
+        }
+        Ok(copy)
     }
 
     /// A mapping is followed from a trigger on, where it isn't yet; with no grains told it isn't followed.

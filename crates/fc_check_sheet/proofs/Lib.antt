@@ -1,0 +1,6 @@
+mod Running
+mod Owning
+mod Needing
+mod Linking
+mod Measuring
+mod Looping
