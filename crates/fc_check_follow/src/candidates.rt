@@ -117,7 +117,7 @@ impl Candidates {
     }
 
     /// Goes on behind an entry: the ways are then all that may be told after it, and none is left exactly where it is no right
-    /// step from any of the ways before it. Where memory is wanted and not had, none of the ways may be left, or some.
+    /// step from any of the ways before it. Where memory is wanted and not had, the candidates stand for nothing any more.
     pub fn follow(&mut self, alloc: Global, entry: &Entry) -> Result<(), NoMemory>
         requires { self.old.entries < 262144 }
         ensures after { OnOk result (AreAfter self.old.grain self.old.ways entry.now self.new.ways) }
