@@ -1,0 +1,7 @@
+-- Traces, ways and inputs.
+pub mod Fronts
+pub mod TraceLemmas
+pub mod StopLemmas
+pub mod WayLemmas
+pub mod InputLemmas
+pub mod LawLemmas
