@@ -44,10 +44,9 @@ returns-in-Err-Malformed c =
     let stops : StopsAt (IsEntryText header.grain (length old.entries)) (drop place bytes) stopped =
     behind bytes place (λ l. StopsAt (IsEntryText header.grain (length old.entries)) l stopped) (rw c.in-Err-Malformed.field-0-is at c.in-Err-Malformed.ensures.malformed) in
     let few : length old.entries < 262144 = omega (arith, c.len.ensures, c.loop-place.invariant.known.room) in
-    rw c.in-Err-Malformed.field-0-is
-    (
-    malformed-behind header old bytes place c.loop-place.invariant.within c.loop-place.invariant.trace stopped c.loop-place-test.true stops,
-    not_full-behind header old bytes place stopped c.loop-place.invariant.within c.loop-place.invariant.trace few stops
+    rw c.in-Err-Malformed.field-0-is (
+      malformed-behind header old bytes place c.loop-place.invariant.within c.loop-place.invariant.trace stopped c.loop-place-test.true stops,
+      not_full-behind header old bytes place stopped c.loop-place.invariant.within c.loop-place.invariant.trace few stops,
     )
 
 pub returns : goal.returns
