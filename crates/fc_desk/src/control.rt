@@ -13,7 +13,7 @@ use std::marker::Model;
 #[derive(Drop)]
 pub struct Control {
     pub(crate) registry: Registry,
-    grain: GrainSize,
+    pub(crate) grain: GrainSize,
     pub(crate) next_volume: u32,
     pub(crate) next_mapping: u32,
     pub(crate) next_group: u32,

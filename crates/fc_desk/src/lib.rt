@@ -9,9 +9,9 @@
 //! no memory.
 //!
 //! In reading order: `draft` (a decision as it is put together), `ending` (how the copy of a mapping ends), `control`,
-//! `copies` (what is asked of the copy of a mapping), `settle`, `flags` (the flags in order of id), `background` (background work),
-//! `conclude`, `name` (names of new objects), `groups` (members of a group), `apply` (what a decision makes of the
-//! control part).
+//! `copy` (copies of it), `copies` (what is asked of the copy of a mapping), `settle`, `flags` (the flags in order of id),
+//! `background` (background work), `conclude`, `name` (names of new objects), `groups` (members of a group), `apply` (what a
+//! decision makes of the control part).
 #![tactic(auto)]
 
 mod apply;
@@ -19,6 +19,7 @@ mod background;
 mod conclude;
 mod control;
 mod copies;
+mod copy;
 mod draft;
 mod ending;
 mod flags;
