@@ -234,11 +234,11 @@ entry_to size number actor p fits = record {
 }
 
 -- the parts of an entry
-abbrev calls_if : Bool → LaneCalls → Option LaneCalls
+abbrev pub calls_if : Bool → LaneCalls → Option LaneCalls
 calls_if true calls = Some calls
 calls_if false calls = None
 
-abbrev parts_with : GrainSize → List ℕ → Entry → Parts
+abbrev pub parts_with : GrainSize → List ℕ → Entry → Parts
 parts_with size name entry = record {
   name = name;
   request = entry.request;
@@ -251,7 +251,7 @@ has_calls : (in_lane : Bool) (calls : LaneCalls) → AreCalls in_lane calls → 
 has_calls true calls are = are
 has_calls false calls are = tt
 
-entry_from : (size : GrainSize) (number : ℕ) (name : List ℕ) (entry : Entry) → IsName name → IsEntry size number entry → FitsParts size (parts_with size name entry)
+pub entry_from : (size : GrainSize) (number : ℕ) (name : List ℕ) (entry : Entry) → IsName name → IsEntry size number entry → FitsParts size (parts_with size name entry)
 entry_from size number name entry is_name is = record {
   is_name = is_name;
   exchange = is.exchange;
@@ -273,7 +273,7 @@ text_by name entry number calls =
     (decimal number ++ codes " " ++ name ++ codes " " ++ request_text entry.request ++ codes " -> " ++ reply_text entry.reply ++ codes "\n")
     ++ (calls ++ flat_map move_text entry.moves ++ torn_text entry.torn ++ flat_map effect_text entry.effects) ++ rows_text entry.reply ++ codes ".\n"
 
-text_from : (size : GrainSize) (number : ℕ) (name : List ℕ) (entry : Entry) → IsEntry size number entry → traced_by name entry ≡ parts_text size number (parts_with size name entry)
+pub text_from : (size : GrainSize) (number : ℕ) (name : List ℕ) (entry : Entry) → IsEntry size number entry → traced_by name entry ≡ parts_text size number (parts_with size name entry)
 text_from size number name entry is =
     let turn : Place = place_of size entry.request in
     let c : LaneCalls = calls_of entry in

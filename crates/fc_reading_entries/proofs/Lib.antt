@@ -3,4 +3,5 @@ pub mod ExchangeLemmas
 pub mod PartSteps
 pub mod PartLemmas
 pub mod EntryLemmas
+pub mod LawLemmas
 pub mod Worked

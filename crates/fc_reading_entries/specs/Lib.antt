@@ -1,3 +1,4 @@
 -- Reading an entry of a trace back.
 pub mod Exchanges
 pub mod Entries
+pub mod Laws

@@ -4,9 +4,10 @@
 //! and its end. It answers the length, or the place of the first byte with which no entry of that number goes on.
 //!
 //! In reading order: `exchanges`, what was asked and answered; `parts`, all that a text tells of an entry; `entries`, the entry
-//! itself.
+//! itself; `laws`, that each entry is read back, and that what is read next is one.
 #![tactic(auto)]
 
 pub mod entries;
 pub mod exchanges;
+pub mod laws;
 pub mod parts;
