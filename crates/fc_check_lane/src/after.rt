@@ -107,8 +107,9 @@ fn set_faults(faults: &mut [u64], lane: usize, now: u64)
 }
 
 impl Known {
-    /// Keeps what an entry of a lane did, which has no effects: what it moved, wrote and tore, its faults, and that there is one
-    /// more. It asks nothing else of the entry. Refused for want of memory alone; then a part of it may be kept.
+    /// Keeps what an entry of a lane did, which has no effects: what it moved, wrote and tore, its faults, and
+    /// that there is one more. It asks nothing else of the entry. Refused for want of memory alone; then a part
+    /// of it may be kept.
     pub fn follow(&mut self, alloc: Global, lane: usize, entry: &Entry) -> Result<(), NoMemory>
         requires no_effects { entry.now.effects ≡ [] }
         requires few { self.old.entries + 1 < 2 ^ 64 }

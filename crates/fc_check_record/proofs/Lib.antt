@@ -1,3 +1,6 @@
 mod Agreeing
 mod Entries
+mod Deciding
+mod Chaining
+mod Pooling
 mod Leaving

@@ -1,10 +1,12 @@
 -- One way that all may have been told, as a judge keeps it.
 use Rattle.std.specs.Prelude.{◌≡◌, ℕ, ◌*◌, ◌^◌, ◌≤◌, All, List, [], map}
 use Rattle.fc_base.specs.Pools.{Pool}
+use Rattle.fc_base.specs.Sheet.{Sheet}
 use Rattle.fc_base.specs.declared.size.GrainSize.{GrainSize}
 use Rattle.fc_changed.specs.Row.{Row}
 use Rattle.fc_check_lane.specs.Known.{Known, size_of}
 use Rattle.fc_desk.specs.Control.{ControlState}
+use Rattle.fc_entry.specs.Picture.{Picture}
 use Rattle.fc_legal.specs.Whole.{Whole, volumes_told}
 
 -- The grain size, and what is told. No actor has a name in it.
@@ -34,15 +36,25 @@ whole_of c k rows pools calls =
       entries = k.entries;
     }
 
+-- What entries of lanes are judged by, with the grain size, the volumes, their sizes and background work of a control part.
+abbrev pub known_from : ControlState → Sheet → Picture → List ℕ → ℕ → Known
+known_from c sheet picture faults entries =
+    record {
+      grain = c.grain;
+      volumes = volumes_told c.tables;
+      sizes = map size_of c.tables.volumes;
+      flags = c.flags;
+      sheet = sheet;
+      picture = picture;
+      faults = faults;
+      entries = entries;
+    }
+
 -- No entry makes as many calls.
 abbrev pub most_calls : ℕ
 most_calls = 2 ^ 32
 
--- What is kept twice agrees: the grain size, the volumes with how hosts may reach them, how large they are, and background work.
--- And no lane has more calls than so many entries make.
+-- What is kept twice agrees, and no lane has more calls than so many entries make.
 pub record AreOne (c : ControlState) (k : Known) (calls : List ℕ) : Type 0 where
-  pub grain : k.grain ≡ c.grain
-  pub volumes : k.volumes ≡ volumes_told c.tables
-  pub sizes : k.sizes ≡ map size_of c.tables.volumes
-  pub flags : k.flags ≡ c.flags
+  pub agrees : k ≡ known_from c k.sheet k.picture k.faults k.entries
   pub few : All (λ n. n ≤ k.entries * most_calls) calls

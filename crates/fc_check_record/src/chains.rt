@@ -67,7 +67,8 @@ impl Chains {
         }
     }
 
-    /// Events, in order. Refused for want of memory alone, or where births come to 2^64; then a part of them may be done.
+    /// Events, in order. Refused for want of memory alone, or where births come to 2^64; then a part of them
+    /// may be done.
     pub fn events(&mut self, alloc: Global, events: &[LaneEvent]) -> Result<(), NoMemory>
         ensures { OnOk result (self.new ≡ chains_after self.old events.now) }
     {

@@ -14,8 +14,9 @@ use fc_check_lane::Known;
 use std::alloc::Global;
 
 impl Record {
-    /// What is told after a decision: the tables, next ids and background work by its changes and events, chains, disks left and
-    /// what is kept of incremental mappings by its events, plain volumes by its effects. Refused for want of memory alone.
+    /// What is told after a decision: the tables, next ids and background work by its changes and events,
+    /// chains, disks left and what is kept of incremental mappings by its events, plain volumes by its effects.
+    /// Refused for want of memory alone.
     pub fn leave(self, alloc: Global, decision: &Decision) -> Result<Record, NoMemory>
         requires { CanBeLeft self.whole decision.now }
         ensures { IfOk result (λ left. left ≡ record { grain = self.grain; whole = left_by self.grain self.whole decision.now }) }

@@ -35,7 +35,7 @@ impl Model for Record {
 
     ghost Value = { Judged };
 
-    ghost view = { λ r. record { grain = r.known.grain; whole = whole_of r.control r.known r.rows (pools_of r.pools.items) r.calls.items } };
+    ghost view = { λ r. record { grain = r.control.grain; whole = whole_of r.control r.known r.rows (pools_of r.pools.items) r.calls.items } };
 
     ghost invariant = { λ r. AreOne r.control r.known r.calls.items };
 }
@@ -61,10 +61,11 @@ fn no_calls(alloc: Global, lanes: usize) -> Result<Vec<u64>, NoMemory>
 }
 
 impl Record {
-    /// What is told before the first entry, over these disks for new volumes, lane by lane. Refused for want of memory alone.
+    /// What is told before the first entry, over these disks for new volumes, lane by lane. Refused for want of
+    /// memory alone.
     pub fn open(alloc: Global, grain: GrainSize, lanes: &[LanePool]) -> Result<Record, NoMemory>
         requires { 0 < length lanes.now }
-        ensures { IfOk result (λ opened_record. opened_record ≡ record { grain = grain; whole = record (opened (pools_of lanes.now)) { actors = [] } }) }
+        ensures { IfOk result (λ first. first ≡ record { grain = grain; whole = record (opened (pools_of lanes.now)) { actors = [] } }) }
     {
         let known = Known::new(alloc, grain, lanes.len())?;
         let pools = copy_items(alloc, lanes)?;
@@ -91,7 +92,8 @@ impl Record {
         })
     }
 
-    /// One more entry is told, that did nothing: a refused access, an unread line, or one that ends a command.
+    /// One more entry is told, which did nothing: that of a refused access or an unread line; or what a command
+    /// did is there already.
     pub fn one_more(&mut self)
         requires { self.old.whole.entries < 262144 }
         ensures { self.new ≡ record self.old { whole = one_more self.old.whole } }

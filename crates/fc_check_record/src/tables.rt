@@ -2,6 +2,7 @@
 
 ghost use Rattle.std.specs.Prelude.{◌≡◌, ◌<◌, [], ◌∷◌, ◌++◌, IfOk, OnOk, length, map};
 ghost use Rattle.fc_check_lane.specs.Known.{size_of};
+ghost use Rattle.fc_check_record.specs.Judged.{known_from};
 ghost use Rattle.fc_legal.specs.Whole.{volume_told, volumes_told};
 
 use crate::record::copy_items;
@@ -89,7 +90,7 @@ pub(crate) fn known_by(
     entries: u64,
 ) -> Result<Known, NoMemory>
     requires { 0 < length faults.items }
-    ensures { IfOk result (λ known. known ≡ record { grain = control.now.grain; volumes = volumes_told control.now.tables; sizes = map size_of control.now.tables.volumes; flags = control.now.flags; sheet = sheet; picture = picture; faults = faults.items; entries = entries }) }
+    ensures { IfOk result (λ known. known ≡ known_from control.now sheet picture faults.items entries) }
 {
     let tables = control.registry();
     Ok(Known {
