@@ -42,12 +42,7 @@ impl Chains {
     }
 
     /// A trigger, whose new slots hold the restart sets that were kept before it.
-    fn trigger(
-        &mut self,
-        alloc: Global,
-        event: &LaneEvent,
-        pairs: &[Pair],
-    ) -> Result<(), NoMemory>
+    fn trigger(&mut self, alloc: Global, event: &LaneEvent, pairs: &[Pair]) -> Result<(), NoMemory>
         requires { event.now ≡ Trigger pairs.now }
         ensures { OnOk result (self.new ≡ chains_event self.old event.now) }
     {

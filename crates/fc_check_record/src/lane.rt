@@ -49,12 +49,7 @@ impl Record {
     }
 
     /// What is told after an entry of this lane, which has no effects.
-    fn after_entry_of(
-        self,
-        alloc: Global,
-        lane: usize,
-        entry: &Entry,
-    ) -> Result<Record, NoMemory>
+    fn after_entry_of(self, alloc: Global, lane: usize, entry: &Entry) -> Result<Record, NoMemory>
         requires no_effects { entry.now.effects ≡ [] }
         requires few { self.whole.entries < 262144 }
         ensures { IfOk result (λ after. after ≡ record self { whole = after_access self.grain self.whole lane entry.now }) }
