@@ -1,6 +1,0 @@
-mod Agreeing
-mod Entries
-mod Deciding
-mod Chaining
-mod Pooling
-mod Leaving
