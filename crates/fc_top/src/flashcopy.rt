@@ -7,6 +7,7 @@ ghost use Rattle.fc_mdisk.specs.Disk.{IsFresh};
 ghost use Rattle.fc_top.specs.Call.{empty};
 ghost use Rattle.fc_top.specs.Theorem.{Theorem};
 
+use crate::check::run_check;
 use crate::drill::run_drill;
 use crate::gate::Gate;
 use crate::plain::run_plain;
@@ -66,7 +67,8 @@ fn run_asked<R: Threads + Wait + Sync, S: Source, K: Sink, D: Mdisk + Send, G: G
             )
         }
         Asked::Drill(number) => run_drill(rt, alloc, number, sink, disks, gate, history),
-        Asked::Check | Asked::Stop(_) => unreachable!(),
+        Asked::Check => run_check(alloc, source, sink),
+        Asked::Stop(_) => unreachable!(),
     }
 }
 

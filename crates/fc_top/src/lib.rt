@@ -16,6 +16,7 @@
 //! (in which form it is written), `drill`, `flashcopy`, `outcome`.
 #![tactic(auto)]
 
+mod check;
 mod drill;
 pub mod flashcopy;
 pub mod outcome;
