@@ -3,10 +3,10 @@
 use fc_entry::history::History;
 use fc_io::mem_sink::MemSink;
 use fc_io::mem_source::MemSource;
-use fc_mdisk::mem::MemDisk;
 use fc_top::flashcopy::flashcopy_over;
 use fc_top::gate::Gate;
 use fc_top::status::Status;
+use made_disks::flat_disks;
 use std::alloc::{AllocError, Global};
 use std::sync::Wait;
 use std::thread::Threads;
@@ -18,16 +18,7 @@ pub fn text_of<R: Threads + Wait + Sync, G: Gate>(
     session: &[u8],
     gate: &G,
 ) -> Result<Option<String>, AllocError> {
-    let mut disks = vec![in alloc;
-        MemDisk::new(alloc),
-        MemDisk::new(alloc),
-        MemDisk::new(alloc),
-        MemDisk::new(alloc),
-        MemDisk::new(alloc),
-        MemDisk::new(alloc),
-        MemDisk::new(alloc),
-        MemDisk::new(alloc),
-    ]?;
+    let mut disks = flat_disks(alloc, 8)?;
     let mut source = MemSource::new(Vec::from_slice(alloc, session)?, 4096, Vec::new(alloc));
     let mut sink = MemSink::new(alloc, Vec::new(alloc));
     let mut history = History::new(alloc);

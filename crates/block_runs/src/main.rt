@@ -6,11 +6,10 @@
 //! how many ended for want of memory, if any did, and what the first wrong one says. With `together RUNS` it runs that session so
 //! often, and prints also how many different histories there were: `bench/together.sh` calls it so.
 //!
-//! In reading order: `together` (the session), `draws` and `generated` (the session of 40 blocks), `disks`, `tally` (what came of
+//! In reading order: `together` (the session), `draws` and `generated` (the session of 40 blocks), `tally` (what came of
 //! some runs), `runs`, and this file.
 #![tactic(auto)]
 
-mod disks;
 mod draws;
 mod generated;
 mod runs;

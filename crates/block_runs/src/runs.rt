@@ -4,7 +4,6 @@ ghost use Rattle.std.specs.Prelude.{◌≤◌, map, vec_len};
 ghost use Rattle.std.specs.List.{All};
 ghost use Rattle.fc_mdisk.specs.Disk.{IsFresh};
 
-use crate::disks::{DISKS, failing_disks, sound_disks, thin_disks};
 use crate::tally::Tally;
 use fc_base::size::GrainSize;
 use fc_entry::history::History;
@@ -14,9 +13,16 @@ use fc_judge::judge;
 use fc_mdisk::mdisk::Mdisk;
 use fc_top::flashcopy::flashcopy_over;
 use fc_top::gate::FreeGate;
+use made_disks::{failing_disks, flat_disks, thin_disks};
 use std::alloc::{AllocError, Global};
 use std::sync::Wait;
 use std::thread::Threads;
+
+/// The disks of a session: eight for each of four lanes.
+const DISKS: u32 = 32;
+
+/// The calls of each disk that fail where some do, counted from 1.
+const FAILING_CALLS: [u64; 8] = [5, 9, 30, 31, 70, 150, 151, 300];
 
 /// So many bytes are read at once.
 const PIECE: usize = 4096;
@@ -62,7 +68,7 @@ pub fn run_sound<R: Threads + Wait + Sync>(
 ) -> Result<Tally, AllocError> {
     let mut tally = Tally::new(alloc);
     for _ in 0..runs {
-        let disks = sound_disks(alloc, DISKS)?;
+        let disks = flat_disks(alloc, DISKS)?;
         run(rt, alloc, session, disks, &mut tally)?;
     }
     Ok(tally)
@@ -77,7 +83,7 @@ pub fn run_failing<R: Threads + Wait + Sync>(
 ) -> Result<Tally, AllocError> {
     let mut tally = Tally::new(alloc);
     for _ in 0..runs {
-        let disks = failing_disks(alloc, DISKS)?;
+        let disks = failing_disks(alloc, DISKS, &FAILING_CALLS)?;
         run(rt, alloc, session, disks, &mut tally)?;
     }
     Ok(tally)

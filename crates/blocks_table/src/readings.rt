@@ -4,13 +4,11 @@
 //! the faults that `main` is told of, and each actor as its name, its role and its lines. Behind all lines `open` says that
 //! a block is open.
 
-use fc_base::command::{Command, Line, Role, ScriptLine};
-use fc_base::fault::{RequiredOption, WordFault};
+use fc_base::command::{Line, ScriptLine};
 use fc_blocks::block::{ActorRead, BlockRead, Taken};
 use fc_blocks::reader::BlockReader;
-use fc_entry::command_text::put_command;
-use fc_io::mem_sink::MemSink;
 use std::alloc::{AllocError, Global};
+use tables::wording::{command_text, fault_text, role_text};
 
 /// A text that grows, in parts.
 #[derive(Drop)]
@@ -29,61 +27,23 @@ impl Text {
         if first { Ok(()) } else { self.add(between) }
     }
 
-    /// Adds a command in its canonical form.
-    fn add_command(&mut self, alloc: Global, command: &Command) -> Result<(), AllocError> {
-        let mut sink = MemSink::new(alloc, Vec::new(alloc));
-        match put_command(command, &mut sink) {
-            Ok(()) => self.add(sink.bytes()),
-            Err(_) => Err(AllocError),
-        }
-    }
-
-    /// Adds a role.
-    fn add_role(&mut self, alloc: Global, role: Role) -> Result<(), AllocError> {
-        let text = match role {
-            Role::Host => format!(in alloc; "host")?,
-            Role::Admin => format!(in alloc; "admin")?,
-            Role::Copier(turns) => format!(in alloc; "copier {turns}")?,
-            Role::Cleaner(turns) => format!(in alloc; "cleaner {turns}")?,
-        };
-        self.add(text.as_bytes())
-    }
-
-    /// Adds a fault in the manual's words.
-    fn add_fault(&mut self, alloc: Global, fault: WordFault) -> Result<(), AllocError> {
-        let text = match fault {
-            WordFault::UnknownCommand => format!(in alloc; "unknown command")?,
-            WordFault::UnknownOption(word) => format!(in alloc; "unknown option at word {word}")?,
-            WordFault::MissingOption(option) => {
-                let name = option_name(option);
-                format!(in alloc; "missing option {name}")?
-            }
-            WordFault::MissingWord(word) => format!(in alloc; "missing word {word}")?,
-            WordFault::RepeatedOption(word) => format!(in alloc; "option repeated at word {word}")?,
-            WordFault::BadNumber(word) => format!(in alloc; "bad number at word {word}")?,
-            WordFault::BadName(word) => format!(in alloc; "bad name at word {word}")?,
-            WordFault::LongLine => format!(in alloc; "long line")?,
-            WordFault::NoActor => format!(in alloc; "no actor")?,
-            WordFault::NotInBlock => format!(in alloc; "not in a block")?,
-            WordFault::Limit(limit) => format!(in alloc; "limit {limit}")?,
-        };
-        self.add(text.as_bytes())
-    }
-
     /// Adds a line, as it was read.
     fn add_line(&mut self, alloc: Global, line: &ScriptLine) -> Result<(), AllocError> {
         match line {
             ScriptLine::Read(Line::Blank) => self.add(b"blank"),
-            ScriptLine::Read(Line::Command(command)) => self.add_command(alloc, command),
+            ScriptLine::Read(Line::Command(command)) => {
+                let text = command_text(alloc, command)?;
+                self.add(text.as_slice())
+            }
             ScriptLine::Read(Line::Together) => self.add(b"together"),
             ScriptLine::Read(Line::Actor { name, role }) => {
                 self.add(b"actor ")?;
                 self.add(name.as_bytes())?;
                 self.add(b" ")?;
-                self.add_role(alloc, *role)
+                self.add(role_text(alloc, *role)?.as_bytes())
             }
             ScriptLine::Read(Line::End) => self.add(b"end"),
-            ScriptLine::Unread(fault) => self.add_fault(alloc, *fault),
+            ScriptLine::Unread(fault) => self.add(fault_text(alloc, *fault)?.as_bytes()),
         }
     }
 
@@ -91,7 +51,7 @@ impl Text {
     fn add_actor(&mut self, alloc: Global, actor: &ActorRead) -> Result<(), AllocError> {
         self.add(actor.name.as_bytes())?;
         self.add(b" ")?;
-        self.add_role(alloc, actor.role)?;
+        self.add(role_text(alloc, actor.role)?.as_bytes())?;
         let mut first = true;
         for line in actor.lines.as_slice() {
             let between: &[u8] = if first { b": " } else { b", " };
@@ -108,7 +68,7 @@ impl Text {
         let mut first = true;
         for fault in block.faults.as_slice() {
             self.part(first, b", ")?;
-            self.add_fault(alloc, *fault)?;
+            self.add(fault_text(alloc, *fault)?.as_bytes())?;
             first = false;
         }
         for actor in block.actors.as_slice() {
@@ -116,16 +76,6 @@ impl Text {
             self.add_actor(alloc, actor)?;
         }
         self.add(b"}")
-    }
-}
-
-/// The name of a required option.
-fn option_name(option: RequiredOption) -> &'static str {
-    match option {
-        RequiredOption::Size => "-size",
-        RequiredOption::Seconds => "-seconds",
-        RequiredOption::Source => "-source",
-        RequiredOption::Target => "-target",
     }
 }
 

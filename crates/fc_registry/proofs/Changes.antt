@@ -1,5 +1,6 @@
 -- Changes that add an object, and a mapping that is set.
 use Rattle.std.proofs.Common.{◌≡◌, ℕ, ◌<◌, ◌⊎◌, List, true, length, get_or, position, find, slice_get, map, set, nat_eq, Option, Some, option_map, inl, inr, refl, ap, sym, subst, ◌∙◌, arith}
+use Rattle.std.specs.Option.{ForSome}
 use Rattle.std.proofs.lemmas.List.Quantifiers.{position-Some}
 use Rattle.std.proofs.lemmas.Bool.Decides.{nat_tests}
 use Rattle.std.proofs.lemmas.List.{get_or_default}
@@ -9,7 +10,9 @@ use Rattle.fc_base.specs.declared.volume.Mapping.{Mapping}
 use Rattle.fc_base.specs.declared.volume.Group.{Group}
 use Rattle.fc_base.specs.declared.volume.Change.{Change}
 use Rattle.fc_base.specs.declared.volume.Change.TheVariants.{AddVolume, AddMapping, AddGroup}
-use Rattle.fc_base.specs.Tables.{room_asked}
+use Rattle.fc_base.specs.Tables.{Tables, Fits, room_asked}
+use Rattle.fc_registry.specs.Registry.{RegistryState}
+use Rattle.fc_registry.specs.declared.Kept.{Kept}
 use Rattle.fc_registry.proofs.Places.{find-found, within-found}
 
 -- a change that adds an object asks room for itself
@@ -19,6 +22,14 @@ pub asks_for_itself : (change : Change)
 asks_for_itself change (inl p) = subst (λ c. room_asked c ≡ Some c) (sym p.1) refl
 asks_for_itself change (inr (inl p)) = subst (λ c. room_asked c ≡ Some c) (sym p.1) refl
 asks_for_itself change (inr (inr p)) = subst (λ c. room_asked c ≡ Some c) (sym p.1) refl
+
+-- the change that is kept is the one that was reserved, so it fits
+pub kept_fits : (tables : Tables) (held : Option Kept) (kept : Kept) (change : Change) (seen : RegistryState)
+    → record { tables = tables; reserved = option_map (λ k. k.change) held } ≡ seen
+    → held ≡ Some kept → kept.change ≡ change → ForSome seen.reserved (Fits seen.tables) → Fits tables change
+kept_fits tables held kept change seen view taken is fits =
+    let told : option_map (λ k. k.change) held ≡ Some change = rw (taken, is) refl in
+    rw (← view) at (fits change (rw (← view) told))
 
 -- the row, with all of the mapping but its id and its name
 abbrev pub written : Mapping → Mapping → Mapping

@@ -1,9 +1,10 @@
 //! One table: objects in order of id, each found by its id or by its name with one hash look-up.
 
-ghost use Rattle.std.specs.Prelude.{◌≡◌, ◌+◌, ◌<◌, ◌≤◌, ◌↔◌, ℕ, List, [], ◌∷◌, ◌++◌, map, filter, find, position, All, Option, None, Some, option_copied, IsSome, IsNone, OnOk, OnErr, IfSome, length, not, bytes_eq, ◌==◌, slice_get, option_map, if◌then◌else◌};
+ghost use Rattle.std.specs.Prelude.{◌≡◌, ◌+◌, ◌<◌, ◌≤◌, ◌↔◌, ℕ, List, [], ◌∷◌, ◌++◌, map, filter, find, position, All, Option, None, Some, option_copied, IsSome, IsNone, OnOk, OnErr, IfOk, IfSome, length, not, bytes_eq, ◌==◌, slice_get, option_map, if◌then◌else◌};
 ghost use Rattle.fc_base.specs.Tables.{refers_to, IsOrdered};
 ghost use Rattle.fc_registry.specs.Index.{rows, room};
 
+use crate::objects::key_of;
 use fc_base::name::{Name, Ref};
 use fc_base::outcome::NoMemory;
 use fc_base::volume::Mapping;
@@ -108,9 +109,10 @@ impl<T: Named> Table<T> {
         }
     }
 
-    /// Makes room for one more object. Refused, the objects are as they were.
-    pub fn reserve(&mut self) -> Result<(), NoMemory>
-        ensures ok { OnOk result (0 < room self.new) }
+    /// Makes room for one more object, and gives the key of its name. Refused, the objects are as they were.
+    pub fn reserve(&mut self, alloc: Global, name: &Name) -> Result<Vec<u8>, NoMemory>
+        ensures room { OnOk result (0 < room self.new) }
+        ensures key { IfOk result (λ key. key.items ≡ name.now) }
         ensures same { rows self.new ≡ rows self.old }
     {
         match self.items.reserve(1) {
@@ -122,7 +124,7 @@ impl<T: Named> Table<T> {
             Err(_) => return Err(NoMemory),
         }
         match self.names.reserve(1) {
-            Ok(()) => Ok(()),
+            Ok(()) => key_of(alloc, name),
             Err(_) => Err(NoMemory),
         }
     }

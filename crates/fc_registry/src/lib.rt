@@ -9,13 +9,15 @@
 //! - `apply` makes exactly the change `after_change` of `fc_base/specs/Tables.antt`, and takes no memory;
 //! - in every registry the ids of a kind rise, and no two objects of a kind have one name.
 //!
-//! In reading order: this file, `objects` (ids, names and copies of the objects), `indexed` (one table over `indexmap`).
+//! In reading order: this file, `objects` (ids, names and copies of the objects), `indexed` (one table over `indexmap`), `copy`
+//! (copies of all tables).
 #![tactic(auto)]
 
 ghost use Rattle.std.specs.Prelude.{◌≡◌, ◌<◌, IsNone, IsSome, IfSome, IsOk, is_some, OnOk, OnErr, option_copied, slice_get, length, if◌then◌else◌, MatchOption};
 ghost use Rattle.std.specs.Option.{ForSome};
 ghost use Rattle.fc_base.specs.Tables.{no_tables, volume_named, mapping_named, group_named, volume_with, mapping_with, group_with, id_with_name, partner_of, after_change, Fits, room_asked, IsOrdered};
 
+mod copy;
 mod indexed;
 mod objects;
 
@@ -25,7 +27,7 @@ use fc_base::name::{Name, Ref};
 use fc_base::outcome::NoMemory;
 use fc_base::volume::{Change, Group, Mapping, Volume};
 use indexed::{Table, id_of};
-use objects::{copy_group, copy_mapping, copy_volume, first_partner, key_of};
+use objects::{copy_group, copy_mapping, copy_volume, first_partner};
 use std::alloc::Global;
 use std::marker::Model;
 
@@ -230,62 +232,26 @@ impl Registry {
     {
         self.kept = None;
         match change {
-            Change::AddVolume(volume) => self.keep_volume(alloc, volume),
-            Change::AddMapping(mapping) => self.keep_mapping(alloc, mapping),
-            Change::AddGroup(group) => self.keep_group(alloc, group),
+            Change::AddVolume(volume) => {
+                let key = self.volumes.reserve(alloc, &volume.name)?;
+                let change = Change::AddVolume(copy_volume(alloc, volume)?);
+                self.kept = Some(Kept { change, key });
+                Ok(())
+            }
+            Change::AddMapping(mapping) => {
+                let key = self.mappings.reserve(alloc, &mapping.name)?;
+                let change = Change::AddMapping(copy_mapping(alloc, mapping)?);
+                self.kept = Some(Kept { change, key });
+                Ok(())
+            }
+            Change::AddGroup(group) => {
+                let key = self.groups.reserve(alloc, &group.name)?;
+                let change = Change::AddGroup(copy_group(alloc, group)?);
+                self.kept = Some(Kept { change, key });
+                Ok(())
+            }
             _ => Ok(()),
         }
-    }
-
-    /// Keeps a copy of a new volume, and room for it.
-    fn keep_volume(&mut self, alloc: Global, volume: &Volume) -> Result<(), NoMemory>
-        requires { self.old.reserved ≡ None }
-        ensures ok { OnOk result (self.new.reserved ≡ Some (Change.AddVolume volume.now)) }
-        ensures err { OnErr result (self.new.reserved ≡ None) }
-        ensures tables { self.new.tables ≡ self.old.tables }
-    {
-        let copy = copy_volume(alloc, volume)?;
-        let key = key_of(alloc, &volume.name)?;
-        self.volumes.reserve()?;
-        self.kept = Some(Kept {
-            change: Change::AddVolume(copy),
-            key,
-        });
-        Ok(())
-    }
-
-    /// Keeps a copy of a new mapping, and room for it.
-    fn keep_mapping(&mut self, alloc: Global, mapping: &Mapping) -> Result<(), NoMemory>
-        requires { self.old.reserved ≡ None }
-        ensures ok { OnOk result (self.new.reserved ≡ Some (Change.AddMapping mapping.now)) }
-        ensures err { OnErr result (self.new.reserved ≡ None) }
-        ensures tables { self.new.tables ≡ self.old.tables }
-    {
-        let copy = copy_mapping(alloc, mapping)?;
-        let key = key_of(alloc, &mapping.name)?;
-        self.mappings.reserve()?;
-        self.kept = Some(Kept {
-            change: Change::AddMapping(copy),
-            key,
-        });
-        Ok(())
-    }
-
-    /// Keeps a copy of a new group, and room for it.
-    fn keep_group(&mut self, alloc: Global, group: &Group) -> Result<(), NoMemory>
-        requires { self.old.reserved ≡ None }
-        ensures ok { OnOk result (self.new.reserved ≡ Some (Change.AddGroup group.now)) }
-        ensures err { OnErr result (self.new.reserved ≡ None) }
-        ensures tables { self.new.tables ≡ self.old.tables }
-    {
-        let copy = copy_group(alloc, group)?;
-        let key = key_of(alloc, &group.name)?;
-        self.groups.reserve()?;
-        self.kept = Some(Kept {
-            change: Change::AddGroup(copy),
-            key,
-        });
-        Ok(())
     }
 
     /// Makes the change. It has to fit the tables, and a new object has to be the one that was reserved last.

@@ -4,9 +4,9 @@ ghost use Rattle.std.specs.Prelude.{◌<◌, ◌^◌, map, vec_len};
 ghost use Rattle.std.specs.List.{All};
 ghost use Rattle.fc_mdisk.specs.Disk.{IsFresh};
 
-use crate::disks::thin_disks;
 use fc_mdisk::mdisk::Mdisk;
-use session_runs::sessions::{Outcome, flat_disks, run_over};
+use made_disks::{flat_disks, thin_disks};
+use session_runs::sessions::{Outcome, run_over};
 use session_runs::texts::Session;
 use std::alloc::{AllocError, Global};
 use std::sync::Wait;

@@ -5,18 +5,16 @@
 //! have given theirs, and each medium error must have met a grain that is lost there. A line is printed for each session that
 //! says what came of it.
 //!
-//! In reading order: `disks`, `compared` (a history is compared), and this file.
+//! In reading order: `compared` (a history is compared), and this file.
 #![tactic(auto)]
 
 mod compared;
-mod disks;
 
 ghost use Rattle.std.specs.Prelude.{◌≤◌, map, vec_len};
 ghost use Rattle.std.specs.List.{All};
 ghost use Rattle.fc_mdisk.specs.Disk.{IsFresh};
 
 use crate::compared::{Compared, compare};
-use crate::disks::{failing_disks, sound_disks};
 use fc_base::size::GrainSize;
 use fc_entry::history::History;
 use fc_gen::session;
@@ -25,6 +23,7 @@ use fc_io::mem_source::MemSource;
 use fc_mdisk::mdisk::Mdisk;
 use fc_top::flashcopy::flashcopy_over;
 use fc_top::gate::FreeGate;
+use made_disks::{failing_disks, flat_disks};
 use std::alloc::Global;
 use std::io;
 use std::sync::Wait;
@@ -35,6 +34,9 @@ const SESSIONS: u64 = 3;
 
 /// The greatest number of disks.
 const DISKS: u32 = 64;
+
+/// The calls of each disk that fail where some do, counted from 1.
+const FAILING_CALLS: [u64; 8] = [3, 4, 11, 30, 31, 70, 150, 400];
 
 /// Runs the session of a number over these disks, and compares its reads.
 fn run<R: Threads + Wait + Sync, D: Mdisk + Send>(
@@ -80,9 +82,14 @@ fn print_compared<R: Print>(
 fn main(rt: HostRuntime) -> io::Result<()> {
     let alloc = rt.alloc();
     for number in 1..SESSIONS + 1 {
-        let sound = run(&rt, alloc, number, sound_disks(alloc, DISKS)?)?;
+        let sound = run(&rt, alloc, number, flat_disks(alloc, DISKS)?)?;
         print_compared(&rt, number, "sound disks", &sound)?;
-        let failing = run(&rt, alloc, number, failing_disks(alloc, DISKS)?)?;
+        let failing = run(
+            &rt,
+            alloc,
+            number,
+            failing_disks(alloc, DISKS, &FAILING_CALLS)?,
+        )?;
         print_compared(&rt, number, "failing disks", &failing)?;
     }
     Ok(())

@@ -1,6 +1,6 @@
-//! A session over memory, and the disks for it.
+//! A session over memory.
 
-ghost use Rattle.std.specs.Prelude.{◌<◌, ◌≤◌, ◌^◌, map, vec_len, IfOk};
+ghost use Rattle.std.specs.Prelude.{◌<◌, ◌^◌, map, vec_len};
 ghost use Rattle.std.specs.List.{All};
 ghost use Rattle.fc_mdisk.specs.Disk.{IsFresh};
 
@@ -9,10 +9,10 @@ use fc_entry::history::History;
 use fc_io::mem_sink::MemSink;
 use fc_io::mem_source::MemSource;
 use fc_mdisk::mdisk::Mdisk;
-use fc_mdisk::mem::MemDisk;
 use fc_top::flashcopy::flashcopy_over;
 use fc_top::gate::FreeGate;
 use fc_top::status::Status;
+use made_disks::flat_disks;
 use std::alloc::{AllocError, Global};
 use std::sync::Wait;
 use std::thread::Threads;
@@ -123,12 +123,7 @@ pub fn run<R: Threads + Wait + Sync>(
 ) -> Result<Outcome, AllocError>
     requires { 0 < piece }
 {
-    let disks = vec![in alloc;
-        MemDisk::new(alloc),
-        MemDisk::new(alloc),
-        MemDisk::new(alloc),
-        MemDisk::new(alloc),
-    ]?;
+    let disks = flat_disks(alloc, 4)?;
     run_over(
         rt,
         alloc,
@@ -139,16 +134,4 @@ pub fn run<R: Threads + Wait + Sync>(
         failing_takes,
         failing_puts,
     )
-}
-
-/// So many flat disks that never failed.
-pub fn flat_disks(alloc: Global, count: u32) -> Result<Vec<MemDisk>, AllocError>
-    ensures count { IfOk result (λ disks. vec_len disks ≤ count) }
-    ensures fresh { IfOk result (λ disks. All IsFresh (map ⟦<MemDisk as Mdisk>⟧.meaning disks.items)) }
-{
-    let mut disks: Vec<MemDisk> = Vec::new(alloc);
-    for made in 0..count {
-        disks.push(MemDisk::new(alloc))?;
-    }
-    Ok(disks)
 }

@@ -4,7 +4,8 @@ ghost use Rattle.std.specs.Prelude.{◌<◌};
 
 use crate::longer::{all_answers, first_lines, session};
 use fc_top::status::Status;
-use session_runs::sessions::{Outcome, flat_disks, run_over};
+use made_disks::flat_disks;
+use session_runs::sessions::{Outcome, run_over};
 use session_runs::texts::{COMPLETE_STOPPED, FIRST_VOLUME, NIGHTS_WORK, RESTORED_WRITE, Session};
 use std::alloc::{AllocError, Global};
 use std::process::Abort;

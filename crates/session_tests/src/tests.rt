@@ -2,7 +2,8 @@
 
 use crate::longer::{all_answers, answers_within, lines, session};
 use fc_top::status::Status;
-use session_runs::sessions::{flat_disks, run, run_over};
+use made_disks::flat_disks;
+use session_runs::sessions::{run, run_over};
 use session_runs::texts::FIRST_VOLUME;
 use std::alloc::AllocError;
 

@@ -4,11 +4,9 @@
 //! so many flat disks; the lines behind it are its own. Each is run, and printed as `== NAME` and its entries: the line of
 //! the entry, the lines of `trace`, the rows of a report, and a line `.`.
 //!
-//! In reading order: `disks` (the disks of a session), `running` (a session is run), `trace` (an entry is told), and this
-//! file.
+//! In reading order: `running` (a session is run), `trace` (an entry is told), and this file.
 #![tactic(auto)]
 
-mod disks;
 mod running;
 mod trace;
 

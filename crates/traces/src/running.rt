@@ -1,6 +1,5 @@
 //! A session is run, and printed.
 
-use crate::disks::flat_disks;
 use crate::trace::print_trace;
 use fc_base::request::Reply;
 use fc_entry::entry::Entry;
@@ -9,6 +8,7 @@ use fc_io::mem_sink::MemSink;
 use fc_io::mem_source::MemSource;
 use fc_top::flashcopy::flashcopy_over;
 use fc_top::gate::FreeGate;
+use made_disks::flat_disks;
 use std::alloc::{AllocError, Global};
 use std::io;
 use std::sync::Wait;
