@@ -4,4 +4,5 @@ pub mod TraceLemmas
 pub mod StopLemmas
 pub mod WayLemmas
 pub mod InputLemmas
+pub mod AnswerLemmas
 pub mod LawLemmas

@@ -1,5 +1,5 @@
 -- Where bytes stop being a trace, and where a trace has all entries that fit.
-use Rattle.std.proofs.Common.{◌≡◌, ◌⊎◌, ℕ, ◌+◌, ◌-◌, ◌<◌, ◌≤◌, List, [], ◌∷◌, ◌++◌, length, take, drop, inl, inr, refl, sym, ap, subst, ◌∙◌, append_assoc, length-append, arith}
+use Rattle.std.proofs.Common.{◌≡◌, ◌⊎◌, ℕ, zero, suc, ◌+◌, ◌-◌, ◌<◌, ◌≤◌, List, [], ◌∷◌, ◌++◌, length, take, drop, inl, inr, refl, sym, ap, subst, ◌∙◌, append_assoc, length-append, arith}
 use Rattle.std.specs.List.{concat}
 use Rattle.std.proofs.lemmas.Bool.{cases_lt}
 use Rattle.std.proofs.lemmas.List.{append-nil, length-drop, length-take-le, take-append-drop, take_all}
@@ -9,13 +9,13 @@ use Rattle.fc_entry.specs.HistoryState.{HistoryState}
 use Rattle.fc_entry.specs.declared.entry.Entry.{Entry}
 use Rattle.fc_reading.specs.Header.{IsHeader}
 use Rattle.fc_reading.specs.Stops.{StopsAt}
-use Rattle.fc_reading_entries.specs.Entries.{IsEntryText}
+use Rattle.fc_reading_entries.specs.Entries.{IsEntryText, ReadNext}
 use Rattle.fc_trace.specs.Trace.{header_text}
 use Rattle.fc_trace.specs.declared.header.Header.{Header}
 use Rattle.fc_check.specs.Traces.{AreNextTexts, BeginsTrace, IsFull, IsTrace, IsTraceOf, nothing_told}
 use Rattle.fc_check.specs.Verdict.{IsMalformedAt, IsTraceWith}
 use Rattle.fc_check.proofs.Fronts.{none_begins, none_goes_on}
-use Rattle.fc_check.proofs.TraceLemmas.{GoesOn, counted, goes_on, next_of_text, text_of_next, trace_more, trace_opened}
+use Rattle.fc_check.proofs.TraceLemmas.{GoesOn, counted, goes_on, next_alone, next_of_text, text_of_next, text_some, trace_more, trace_opened}
 
 -- ---- fronts
 
@@ -33,6 +33,18 @@ left_there bytes place inside e = absurd (omega (arith, length-drop place bytes,
 one_taken : (bytes : List ℕ) (place : ℕ) (more : List ℕ) → place < length bytes → take (place + 1) bytes ++ more ≡ [] → ⊥
 one_taken bytes place more inside e =
     omega (arith, ap length e, length-append (take (place + 1) bytes) more, length-take-le (place + 1) bytes (omega arith))
+
+-- ---- one entry read
+
+pub read_some : (size : GrainSize) (old new : HistoryState) (bytes : List ℕ) (count : ℕ) → ReadNext size old bytes count new → 0 < count
+read_some size old new bytes zero r = absurd (text_some size old new [] (next_alone size old new bytes 0 r) refl)
+read_some size old new bytes (suc count) r = omega arith
+
+pub trace_read : (header : Header) (old new : HistoryState) (bytes : List ℕ) (place count : ℕ) → place ≤ length bytes → IsTraceOf header old (take place bytes) →
+    ReadNext header.grain old (drop place bytes) count new → IsTraceOf header new (take (place + count) bytes)
+trace_read header old new bytes place count within trace r =
+    subst (IsTraceOf header new) (sym (take_on bytes place count within))
+    (trace_more header old new (take place bytes) (take count (drop place bytes)) trace (next_alone header.grain old new (drop place bytes) count r))
 
 -- ---- behind some entries
 

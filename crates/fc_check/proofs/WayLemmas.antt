@@ -1,5 +1,5 @@
 -- All that may be told after entries, entry by entry, and the first wrong one.
-use Rattle.std.proofs.Common.{◌≡◌, ◌≢◌, ℕ, zero, suc, ◌+◌, ◌<◌, ◌≤◌, Bool, true, false, cond, is_some, Contains, Option, Some, None, List, [], ◌∷◌, ◌++◌, length, take, refl, sym, ap, subst, ◌∙◌, length-append, arith}
+use Rattle.std.proofs.Common.{◌≡◌, ◌≢◌, ℕ, zero, suc, ◌+◌, ◌<◌, ◌≤◌, Bool, true, false, cond, is_some, Contains, Option, Some, None, List, [], ◌∷◌, ◌++◌, length, take, refl, sym, ap, subst, ◌∙◌, length-append, arith, rules, IsTrue}
 use Rattle.std.proofs.lemmas.List.{take-append-le, take_all, take_at}
 use Rattle.fc_base.specs.declared.size.GrainSize.{GrainSize}
 use Rattle.fc_check_follow.specs.Ways.{AreAfter, Ways, pools_told}
@@ -13,8 +13,8 @@ use Rattle.fc_trace.specs.declared.header.Header.{Header}
 use Rattle.law_stands.proofs.Naming.{names_law_holds}
 use Rattle.law_stands.specs.Names.{nameless}
 use Rattle.fc_check.specs.Progress.{AreAllWays, AreRight, IsFound, IsProgress}
-use Rattle.fc_check.specs.Traces.{nothing_told}
-use Rattle.fc_check.specs.Verdict.{AreAllRight, AreLegal, IsFirstWrong}
+use Rattle.fc_check.specs.Traces.{IsTraceOf, nothing_told}
+use Rattle.fc_check.specs.Verdict.{AreAllRight, AreLegal, IsFirstWrong, IsTraceWith}
 use Rattle.fc_check.specs.declared.judge.Progress.{Progress}
 
 -- ---- right entries, from the front and from the end
@@ -87,22 +87,22 @@ opened_by header = opened (pools_told header.lanes)
 right_opened : (header : Header) (ways : Ways) → ways ≡ record { grain = header.grain; entries = 0; ways = nameless (opened_by header) ∷ [] } → AreRight header [] ways
 right_opened header ways e =
     subst (AreRight header []) (sym e)
-    (record { grain = refl; counted = refl; ways = ways_opened header.grain (nameless (opened_by header)); some = λ none. cc })
+    (record { grain = refl; counted = refl; all = ways_opened header.grain (nameless (opened_by header)); some = λ none. cc })
 
 pub legal_of_right : (header : Header) (entries : List Entry) (ways : Ways) → AreRight header entries ways → AreLegal header entries
-legal_of_right header entries ways right = legal_where_some header.grain (opened_by header) entries ways.ways right.ways right.some
+legal_of_right header entries ways right = legal_where_some header.grain (opened_by header) entries ways.ways right.all right.some
 
 after_all : (header : Header) (entries : List Entry) (entry : Entry) (old new : Ways) → AreRight header entries old → AreAfter old.grain old.ways entry new.ways →
     AreAllWays header.grain (nameless (opened_by header)) (entries ++ entry ∷ []) new.ways
 after_all header entries entry old new right after =
-    ways_more header.grain (nameless (opened_by header)) entries entry old.ways new.ways right.ways (subst (λ (g : GrainSize). AreAfter g old.ways entry new.ways) right.grain after)
+    ways_more header.grain (nameless (opened_by header)) entries entry old.ways new.ways right.all (subst (λ (g : GrainSize). AreAfter g old.ways entry new.ways) right.grain after)
 
 right_more : (header : Header) (entries : List Entry) (entry : Entry) (old new : Ways) → AreRight header entries old → AreAfter old.grain old.ways entry new.ways →
     new.grain ≡ old.grain → new.entries ≡ old.entries + 1 → new.ways ≢ [] → AreRight header (entries ++ entry ∷ []) new
 right_more header entries entry old new right after grain counted some = record {
   grain = grain ∙ right.grain;
   counted = omega (arith, counted, right.counted, length-append entries (entry ∷ []));
-  ways = after_all header entries entry old new right after;
+  all = after_all header entries entry old new right after;
   some = some;
 }
 
@@ -157,10 +157,7 @@ progress_opened header progress none right ways = record {
 }
 
 -- one entry more
-module _
-    (header : Header) (old new : Progress) (bytes : List ℕ) (count : ℕ) (known : IsProgress header old) (few : length old.history.entries < 262144)
-    (r : ReadNext header.grain old.history bytes count new.history)
-where
+module _ (header : Header) (old new : Progress) (bytes : List ℕ) (count : ℕ) (known : IsProgress header old) (few : length old.history.entries < 262144) (r : ReadNext header.grain old.history bytes count new.history) where
   more_known : IsFound new.wrong header new.history.entries new.candidates → IsProgress header new
   more_known found = record {
     names = names_more header.grain old.history new.history bytes count r known.names;
@@ -211,3 +208,26 @@ where
       subst (λ (x : Option ℕ). IsFound x header (old.history.entries ++ r.entry ∷ []) new.candidates) (sym now)
       (wrong_now header old.history.entries r.entry old.candidates new.candidates number (known_of None before) (follows_there follows) none is)
       )
+
+-- ---- at the end
+
+pub said_right : (header : Header) (progress : Progress) (bytes : List ℕ) (count : ℕ) → progress.wrong ≡ None → count ≡ length progress.history.entries →
+    IsProgress header progress → IsTraceOf header progress.history bytes → IsTraceWith (AreAllRight count) bytes
+said_right header progress bytes count none is known trace = record {
+  header = header;
+  history = progress.history;
+  trace = trace;
+  room = known.room;
+  is_so = record {
+    all = sym is;
+    legal =
+        legal_of_right header progress.history.entries progress.candidates
+        (subst (λ (w : Option ℕ). IsFound w header progress.history.entries progress.candidates) none known.found);
+  };
+}
+
+pub is_true : (test : Bool) → test ≡ true → IsTrue test
+is_true test e = search rules
+
+pub not_true : (test : Bool) → test ≡ false → IsTrue test → ⊥
+not_true test e is = search rules

@@ -23,7 +23,7 @@ pub record AreAllWays (grain : GrainSize) (start : Whole) (entries : List Entry)
 pub record AreRight (header : Header) (entries : List Entry) (ways : Ways) : Type 0 where
   pub grain : ways.grain ≡ header.grain
   pub counted : ways.entries ≡ length entries
-  pub ways : AreAllWays header.grain (nameless (opened (pools_told header.lanes))) entries ways.ways
+  pub all : AreAllWays header.grain (nameless (opened (pools_told header.lanes))) entries ways.ways
   pub some : ways.ways ≢ []
 
 -- by the first wrong entry, where there was one

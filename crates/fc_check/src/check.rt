@@ -4,6 +4,8 @@ ghost use Rattle.std.specs.Prelude.{◌≡◌, List, ℕ, length};
 ghost use Rattle.fc_check.specs.Checked.{Answers, IsChecked};
 ghost use Rattle.fc_check.specs.Input.{EndsTaking, WereTaken};
 ghost use Rattle.fc_check.specs.Progress.{IsJudged};
+ghost use Rattle.fc_check.specs.Traces.{BeginsTrace};
+ghost use Rattle.fc_check.specs.Verdict.{IsSaid};
 ghost use Rattle.fc_io.specs.Source.{SourceState};
 
 use crate::input::{InputEnd, take_input};
@@ -13,19 +15,43 @@ use fc_entry::stop::Stop;
 use fc_io::source::Source;
 use std::alloc::Global;
 
-/// The answer, by what is said of the bytes that were taken, so many, and by how taking them ended. What is met in them comes before
-/// what ended them.
+/// The answer where nothing else is met in the bytes that were taken: the verdict at the end of all, or what ended them.
+fn at_end(verdict: Verdict, end: InputEnd) -> Result<Verdict, CheckStop>
+    ensures { (before after : SourceState) (bytes past : List ℕ) → IsSaid verdict bytes → BeginsTrace bytes
+        → EndsTaking end before past after → Answers result before bytes past after }
+{
+    match end {
+        InputEnd::Over => Ok(verdict),
+        InputEnd::Fault => Err(CheckStop::ReadFault),
+        InputEnd::TooLong => Err(CheckStop::TooLong),
+    }
+}
+
+/// The answer where this verdict is right of the bytes that were taken, so many. A byte that no trace goes on with is met in them, and
+/// comes before what ended them.
+fn first_met(verdict: Verdict, count: usize, end: InputEnd) -> Result<Verdict, CheckStop>
+    ensures { (before after : SourceState) (bytes past : List ℕ) → IsSaid verdict bytes → length bytes ≡ count
+        → EndsTaking end before past after → Answers result before bytes past after }
+{
+    match verdict {
+        Verdict::Malformed(place) => {
+            if place < count as u64 {
+                return Ok(Verdict::Malformed(place));
+            }
+            at_end(Verdict::Malformed(place), end)
+        }
+        Verdict::Yes(entries) => at_end(Verdict::Yes(entries), end),
+        Verdict::No(number) => at_end(Verdict::No(number), end),
+    }
+}
+
+/// The answer, by what is said of the bytes that were taken, so many, and by how taking them ended.
 fn answer(said: Result<Verdict, Stop>, count: usize, end: InputEnd) -> Result<Verdict, CheckStop>
     ensures { (before after : SourceState) (bytes past : List ℕ) → IsJudged said bytes → length bytes ≡ count
         → EndsTaking end before past after → Answers result before bytes past after }
 {
     match said {
-        Ok(Verdict::Malformed(place)) if place < count as u64 => Ok(Verdict::Malformed(place)),
-        Ok(verdict) => match end {
-            InputEnd::Over => Ok(verdict),
-            InputEnd::Fault => Err(CheckStop::ReadFault),
-            InputEnd::TooLong => Err(CheckStop::TooLong),
-        },
+        Ok(verdict) => first_met(verdict, count, end),
         Err(Stop::LogFull) => Err(CheckStop::LogFull),
         Err(Stop::NoMemory) => Err(CheckStop::NoMemory),
     }

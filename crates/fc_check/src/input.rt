@@ -1,12 +1,14 @@
 //! All bytes of a source.
 
-ghost use Rattle.std.specs.Prelude.{◌≡◌, ◌<◌, length, IfOk, OnErr};
+ghost use Rattle.std.specs.Prelude.{◌≡◌, ◌<◌, ◌≤◌, [], length, IfOk, OnErr};
 ghost use Rattle.fc_check.specs.Input.{AfterPast, AfterPiece, TakenSome, TakenSoFar, TakenTo};
 
 use fc_base::outcome::NoMemory;
 use fc_io::source::Source;
-use fc_run::reading::{PIECE_BYTES, zeros};
 use std::alloc::Global;
+
+/// The greatest number of bytes of a piece.
+const PIECE_BYTES: usize = 65_536;
 
 /// The greatest input.
 const INPUT_BYTES: usize = 67_108_864;
@@ -93,11 +95,11 @@ pub fn take_input<S: Source>(alloc: Global, source: &mut S) -> Result<Input, NoM
     ensures some { OnErr result (TakenSome (S.meaning source.old) (S.meaning source.new)) }
 {
     let mut bytes = Vec::new(alloc);
-    match zeros(alloc, PIECE_BYTES) {
+    match vec![in alloc; 0u8; PIECE_BYTES] {
         Ok(mut buffer) => match take_pieces(source, buffer.as_mut_slice(), &mut bytes) {
             Ok(end) => Ok(Input { bytes, end }),
             Err(refused) => Err(refused),
         },
-        Err(refused) => Err(refused),
+        Err(_) => Err(NoMemory),
     }
 }

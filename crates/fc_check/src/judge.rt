@@ -1,15 +1,17 @@
 //! A trace that is given as bytes, judged entry by entry.
 
-ghost use Rattle.std.specs.Prelude.{◌≡◌, ◌≤◌, ◌<◌, ◌+◌, ◌↔◌, [], ◌∷◌, ◌++◌, List, length, take, IfErr, IfOk, IsTrue, OnOk};
+ghost use Rattle.std.specs.Prelude.{◌≡◌, ◌≤◌, ◌<◌, ◌+◌, ◌↔◌, [], ◌∷◌, ◌++◌, List, ℕ, length, take, IfErr, IfOk, IsTrue, OnOk};
 ghost use Rattle.fc_check.specs.Progress.{IsJudged, IsProgress};
 ghost use Rattle.fc_check.specs.Traces.{IsTraceOf, nothing_told};
+ghost use Rattle.fc_check.specs.Verdict.{IsSaid};
 ghost use Rattle.fc_check_follow.specs.Ways.{AreAfter};
-ghost use Rattle.fc_entry.specs.declared.entry.Entry as told;
+ghost use Rattle.fc_entry.specs.declared.entry.Entry.{Entry};
 ghost use Rattle.fc_reading.specs.Header.{AreFour};
 ghost use Rattle.fc_reading.specs.Stops.{StopsAt};
 ghost use Rattle.fc_reading_entries.specs.Entries.{IsEntryText, ReadNext};
 ghost use Rattle.fc_reading_notes.specs.Told.{IfMalformed};
 ghost use Rattle.fc_trace.specs.Trace.{header_text};
+ghost use Rattle.fc_trace.specs.declared.header.Header.{Header};
 
 use crate::verdict::Verdict;
 use fc_base::limits::MAX_ENTRIES;
@@ -52,7 +54,7 @@ impl Progress {
 
     /// What is said at the end of the trace.
     fn verdict(&self) -> Verdict
-        ensures { (header : Header.Header) (bytes : List ℕ) → IsProgress header self.now → IsTraceOf header self.now.history bytes → IsSaid result bytes }
+        ensures { (header : Header) (bytes : List ℕ) → IsProgress header self.now → IsTraceOf header self.now.history bytes → IsSaid result bytes }
     {
         match self.wrong {
             Some(number) => Verdict::No(number),
@@ -69,7 +71,7 @@ fn follow_last(
 ) -> Result<bool, NoMemory>
     requires some { 0 < length history.now.entries }
     requires room { candidates.old.entries < 262144 }
-    ensures after { OnOk result ((before : List told.Entry) (entry : told.Entry) → history.now.entries ≡ before ++ entry ∷ []
+    ensures after { OnOk result ((before : List Entry) (entry : Entry) → history.now.entries ≡ before ++ entry ∷ []
         → AreAfter candidates.old.grain candidates.old.ways entry candidates.new.ways) }
     ensures grain { OnOk result (candidates.new.grain ≡ candidates.old.grain) }
     ensures counted { OnOk result (candidates.new.entries ≡ candidates.old.entries + 1) }
