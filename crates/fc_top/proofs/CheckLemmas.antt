@@ -1,5 +1,5 @@
 -- A check, by how it ends.
-use Rattle.std.proofs.Common.{◌≡◌, ◌≢◌, ◌≤◌, ◌⊎◌, ◌∙◌, length, ap, sym, refl, subst, arith, inl, inr, Result, Ok, Err}
+use Rattle.std.proofs.Common.{◌≡◌, ◌≢◌, ◌≤◌, ◌⊎◌, ◌∙◌, true, false, [], length, ap, sym, refl, subst, arith, inl, inr, append-nil, Result, Ok, Err}
 use Rattle.fc_check.proofs.InputLemmas.{taken_nothing}
 use Rattle.fc_check.specs.Checked.{IsChecked}
 use Rattle.fc_check.specs.Input.{TakenSome}
@@ -8,11 +8,13 @@ use Rattle.fc_check.specs.declared.verdict.CheckStop.TheVariants as stop
 use Rattle.fc_check.specs.declared.verdict.Verdict.{Verdict}
 use Rattle.fc_check.specs.declared.verdict.Verdict.TheVariants.{Yes, No, Malformed}
 use Rattle.fc_entry.specs.HistoryState.{HistoryState}
-use Rattle.fc_io.specs.Sink.{SinkState}
+use Rattle.fc_entry.specs.Written.{Written}
+use Rattle.fc_io.specs.Sink.{AddsFront, AfterFlush, SinkState}
 use Rattle.fc_io.specs.Source.{SourceState}
+use Rattle.fc_run.proofs.OutputLemmas.{HasRisen-before}
 use Rattle.fc_run.specs.Takes.{EachGave}
 use Rattle.fc_top.specs.Call.{Call, empty}
-use Rattle.fc_top.specs.CheckEnds.{CheckEnds, IsTold, status_said, status_stopped}
+use Rattle.fc_top.specs.CheckEnds.{CheckEnds, IsTold, status_said, status_stopped, verdict_line}
 use Rattle.fc_top.specs.declared.status.Status.{Status}
 use Rattle.fc_top.specs.declared.status.Status.TheVariants as status
 
@@ -86,3 +88,49 @@ told_ran (Err of) is before after told usage = stopped_ran of (sym told.0 ∙ us
 -- words that ask for a check aren't told as words outside of the grammar
 pub check_ran : (call : Call) → CheckEnds call → call.status ≢ status.Usage
 check_ran call ends = told_ran ends.answer call.status call.sink call.sink' ends.told
+
+-- ---- what was written
+
+-- The line was put, and all was sent on.
+pub told_sent :
+    (verdict : Verdict) (before mid after : SinkState) →
+    Written before (verdict_line verdict) false mid →
+    AfterFlush mid false after →
+    IsTold (Ok verdict) (status_said verdict) before after
+told_sent verdict before mid after put sent = inl (refl, (sent.held ∙ put.held, sent.sent))
+
+-- It was put, and sending it on failed.
+pub told_unsent :
+    (verdict : Verdict) (before mid after : SinkState) →
+    Written before (verdict_line verdict) false mid →
+    AfterFlush mid true after →
+    IsTold (Ok verdict) status.WriteFault before after
+told_unsent verdict before mid after put unsent =
+    let whole : AddsFront before.held (verdict_line verdict) after.held = record {
+      front = verdict_line verdict;
+      rest = [];
+      split = sym (append-nil (verdict_line verdict));
+      added = unsent.held ∙ put.held;
+    } in
+    inr (refl, (HasRisen-before before.faults mid.faults after.faults put.faults.kept unsent.faults.cause, whole))
+
+-- Putting it failed.
+pub told_unput :
+    (verdict : Verdict) (before after : SinkState) →
+    Written before (verdict_line verdict) true after →
+    IsTold (Ok verdict) status.WriteFault before after
+told_unput verdict before after put = inr (refl, (put.faults.cause, put.front))
+
+-- ---- all of a check
+
+pub check_ends :
+    (answer of : Result Verdict CheckStop) (call : Call) →
+    answer ≡ of →
+    IsChecked answer call.source call.source' →
+    IsTold of call.status call.sink call.sink' →
+    call.disks' ≡ call.disks →
+    call.history ≡ empty →
+    CheckEnds call
+check_ends answer of call is checked told disks history =
+    let P : Result Verdict CheckStop → Type 0 = λ a. IsTold a call.status call.sink call.sink' in
+    record { history = history; disks = disks; answer = answer; checked = checked; told = subst P (sym is) told }
