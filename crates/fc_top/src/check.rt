@@ -74,11 +74,7 @@ fn write_verdict<K: Sink>(verdict: Verdict, sink: &mut K) -> Status
 }
 
 /// Checks the trace that the source gives, and writes the line of its verdict.
-pub(crate) fn run_check<S: Source, K: Sink>(
-    alloc: Global,
-    source: &mut S,
-    sink: &mut K,
-) -> Status
+pub(crate) fn run_check<S: Source, K: Sink>(alloc: Global, source: &mut S, sink: &mut K) -> Status
     ensures { (disks : List DiskState) (history : HistoryState) → history ≡ empty → CheckEnds
         (record {
           status = result;
