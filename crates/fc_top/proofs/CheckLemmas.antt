@@ -93,11 +93,12 @@ check_ran call ends = told_ran ends.answer call.status call.sink call.sink' ends
 
 -- The line was put, and all was sent on.
 pub told_sent :
-    (verdict : Verdict) (before mid after : SinkState) →
+    (verdict : Verdict) (is : Status) (before mid after : SinkState) →
+    is ≡ status_said verdict →
     Written before (verdict_line verdict) false mid →
     AfterFlush mid false after →
-    IsTold (Ok verdict) (status_said verdict) before after
-told_sent verdict before mid after put sent = inl (refl, (sent.held ∙ put.held, sent.sent))
+    IsTold (Ok verdict) is before after
+told_sent verdict is before mid after said put sent = inl (said, (sent.held ∙ put.held, sent.sent))
 
 -- It was put, and sending it on failed.
 pub told_unsent :

@@ -41,11 +41,11 @@ GotFrontOf line before after = HasRisen before.faults after.faults × AddsFront 
 -- By the answer: the status, and what was written.
 abbrev pub IsTold : Result Verdict CheckStop → Status → SinkState → SinkState → Type 0
 -- the line of the verdict; or a call of the sink failed
-IsTold (Ok verdict) status before after =
-    ((status ≡ status_said verdict) × GotLine (verdict_line verdict) before after)
-    ⊎ ((status ≡ status.WriteFault) × GotFrontOf (verdict_line verdict) before after)
+IsTold (Ok verdict) is before after =
+    ((is ≡ status_said verdict) × GotLine (verdict_line verdict) before after)
+    ⊎ ((is ≡ status.WriteFault) × GotFrontOf (verdict_line verdict) before after)
 -- nothing
-IsTold (Err stop) status before after = (status ≡ status_stopped stop) × (after ≡ before)
+IsTold (Err of) is before after = (is ≡ status_stopped of) × (after ≡ before)
 
 -- A check: nothing is told in the history, and the disks are as they were.
 pub record CheckEnds (call : Call) : Type 0 where
