@@ -1,6 +1,7 @@
 -- One outcome of a call of the program: two calls that ask for the same, over disks of the same kinds in each lane and over the
 -- same bytes, in which no block ends, that end in one way, and in which no entry answers a disk fault or missing memory, tell the
--- same and write the same. Of the actors of a block each may be next, so a block has many outcomes.
+-- same and write the same. Of the actors of a block each may be next, so a block has many outcomes. Checks have no entries, and
+-- write the line of the one verdict that is right.
 use Rattle.std.specs.Prelude.{◌≡◌, ℕ, Bool, true, false, List, [], ◌++◌, Some}
 use Rattle.std.specs.Bool.{OnFalse}
 use Rattle.fc_args.specs.declared.asked.Asked.{Asked}
