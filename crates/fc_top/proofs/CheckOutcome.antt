@@ -119,7 +119,7 @@ wrote (Err of) is before after by_bytes told =
 
 -- ---- two answers
 
-says : Status → Bool
+abbrev says : Status → Bool
 says status.Done = true
 says status.Refuted = true
 says _ = false
