@@ -88,6 +88,7 @@ told_none status.WriteFault old new entries last after none = none_of_sum last.f
 told_none status.LogFull old new entries last after none = none_of_sum last.faults (omega (arith, after.counted, none))
 told_none status.TooLong old new entries last after none = none_of_sum last.faults (omega (arith, after.counted, none))
 told_none status.Unended old new entries last after none = none_of_sum last.faults (omega (arith, after.counted, none))
+told_none status.Refuted old new entries last after none = none_of_sum last.faults (omega (arith, after.counted, none))
 
 -- some disks' pools, and as many lanes
 dealt-some : (disks : List DiskState) → length (pools_dealt LANES disks) ≡ LANES

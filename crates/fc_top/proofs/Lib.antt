@@ -15,5 +15,7 @@ pub mod SessionLength
 pub mod DrillLines
 pub mod DrillLemmas
 pub mod TracedLemmas
+pub mod CheckLemmas
 pub mod TheoremLemmas
+pub mod CheckOutcome
 pub mod OutcomeLemmas

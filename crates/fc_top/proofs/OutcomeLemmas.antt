@@ -42,13 +42,15 @@ use Rattle.fc_run.specs.declared.form.Form.{Form}
 use Rattle.fc_run.specs.declared.form.Form.TheVariants.{Text, Trace, Summary}
 use Rattle.fc_top.specs.Call.{Call, empty, session_of, status_of}
 use Rattle.fc_top.specs.DisksBack.{first_told}
-use Rattle.fc_top.specs.Ends.{Ends, drill_source}
+use Rattle.fc_top.specs.Ends.{DrillEnds, RunEnds, drill_source}
 use Rattle.fc_top.specs.OneOutcome.{WentAlike, HaveOneOutcome, TookOf, ReadsOf, IsByBytes, HaveNoBlock, AsksNoBlock, AreAlikeDealt, form_of, HasBytes, OutcomeLaw, tells_faults}
 use Rattle.fc_top.specs.PlainEnds.{PlainEnds}
 use Rattle.fc_top.specs.PlainRuns.{plain_runs}
 use Rattle.fc_top.specs.Reading.{reading}
-use Rattle.fc_top.specs.Traced.{lane_disks}
+use Rattle.fc_top.specs.Theorem.{Theorem}
+use Rattle.fc_top.specs.Traced.{lane_disks, run_form}
 use Rattle.fc_top.specs.declared.status.Status.TheVariants as status
+use Rattle.fc_top.proofs.CheckOutcome.{checks}
 use Rattle.fc_top.proofs.Cutting.{HasMoreSegments, AreLines-front, cut_more}
 use Rattle.fc_top.proofs.DrillLines.{drill_alone}
 use Rattle.law_together.proofs.Kept.{AreSteps-keeps}
@@ -357,42 +359,24 @@ took_of bytes taken source source' has gave =
     let left = left_of bytes taken source.left source'.left has gave in
     record { rest = left.rest; split = left.split; end = left.end }
 
--- The grain size and the bytes of what is asked for.
-abbrev grain_asked : Asked → GrainSize
-grain_asked (Run options) = options.grain
-grain_asked _ = K64
-
-abbrev bytes_of : Asked → List ℕ → List ℕ
-bytes_of (Drill number) bytes = session_text number
-bytes_of _ bytes = bytes
-
-no_block : (asked : Asked) (bytes : List ℕ) → AsksNoBlock asked bytes → HaveNoBlock (bytes_of asked bytes)
-no_block (Run options) bytes alone = alone
-no_block (Drill number) bytes alone = drill_alone number
-no_block Check bytes alone = alone
-no_block (Stop number) bytes alone = alone
-
-reads_of_asked :
-    (asked : Asked) (bytes : List ℕ) (call : Call) →
-    HasBytes asked bytes call.source →
-    Ends (Some asked) call →
-    ReadsOf (form_of asked call.disks) (grain_asked asked) (bytes_of asked bytes) call
-reads_of_asked (Run options) bytes call has run =
-    let ends = run.ends in
+reads_of_run : (options : RunOptions) (bytes : List ℕ) (call : Call) → call.source.left ≡ Some bytes → RunEnds options call →
+    ReadsOf (run_form options call.disks) options.grain bytes call
+reads_of_run options bytes call has run =
     record {
       source = call.source;
       source' = call.source';
-      ends = ends;
-      took = took_of bytes ends.session.bytes call.source call.source' has ends.session.gave;
+      ends = run.ends;
+      took = took_of bytes run.ends.session.bytes call.source call.source' has run.ends.session.gave;
     }
-reads_of_asked Check bytes call has ends = absurd ends
-reads_of_asked (Stop number) bytes call has ends = absurd ends
-reads_of_asked (Drill number) bytes call has ends =
+
+reads_of_drill : (number : ℕ) (call : Call) → DrillEnds number call → ReadsOf Summary K64 (session_text number) call
+reads_of_drill number call drill =
+    let session = drill.ends.session in
     record {
       source = drill_source number;
-      source' = ends.left;
-      ends = ends.ends;
-      took = took_of (session_text number) ends.ends.session.bytes (drill_source number) ends.left refl ends.ends.session.gave;
+      source' = drill.left;
+      ends = drill.ends;
+      took = took_of (session_text number) session.bytes (drill_source number) drill.left refl session.gave;
     }
 
 abbrev form_over : RunOptions → List Pool → Form
@@ -405,13 +389,41 @@ same_form (Drill number) disks other alike = refl
 same_form Check disks other alike = refl
 same_form (Stop number) disks other alike = refl
 
+-- Two that ran a session, over disks dealt alike.
+by_sessions :
+    (asked : Asked) (grain : GrainSize) (bytes : List ℕ) (call other : Call) →
+    HaveNoBlock bytes →
+    WentAlike call other →
+    ReadsOf (form_of asked call.disks) grain bytes call →
+    ReadsOf (form_of asked other.disks) grain bytes other →
+    HaveOneOutcome (form_of asked call.disks) call other
+by_sessions asked grain bytes call other alone alike reads reads_other =
+    let P : Form → Type 0 = λ form. ReadsOf form grain bytes other in
+    sessions (form_of asked call.disks) grain bytes call other alone alike reads
+    (subst P (same_form asked call.disks other.disks alike.dealt) reads_other)
+
+calls :
+    (asked : Asked) (bytes : List ℕ) (call other : Call) →
+    AsksNoBlock asked bytes →
+    WentAlike call other →
+    HasBytes asked bytes call.source →
+    HasBytes asked bytes other.source →
+    Theorem (Some asked) call →
+    Theorem (Some asked) other →
+    HaveOneOutcome (form_of asked call.disks) call other
+calls (Run options) bytes call other alone alike has has_other one two =
+    by_sessions (Run options) options.grain bytes call other alone alike (reads_of_run options bytes call has one.ends)
+    (reads_of_run options bytes other has_other two.ends)
+calls (Drill number) bytes call other alone alike has has_other one two =
+    by_sessions (Drill number) K64 (session_text number) call other (drill_alone number) alike (reads_of_drill number call one.ends)
+    (reads_of_drill number other two.ends)
+calls Check bytes call other alone alike has has_other one two =
+    let checked = one.ends.checked in
+    let checked_other = two.ends.checked in
+    checks bytes call other alike.status alike.by_bytes one.ends two.ends
+    (took_of bytes (checked.bytes ++ checked.past) call.source call.source' has checked.taken.gave)
+    (took_of bytes (checked_other.bytes ++ checked_other.past) other.source other.source' has_other checked_other.taken.gave)
+calls (Stop number) bytes call other alone alike has has_other one two = absurd one.ends
+
 pub outcome_law_holds : OutcomeLaw
-outcome_law_holds =
-    record {
-      sessions = sessions;
-      calls = λ asked bytes call other alone alike has has_other theorem theorem_other.
-          let P : Form → Type 0 = λ form. ReadsOf form (grain_asked asked) (bytes_of asked bytes) other in
-          sessions (form_of asked call.disks) (grain_asked asked) (bytes_of asked bytes) call other (no_block asked bytes alone) alike
-          (reads_of_asked asked bytes call has theorem.ends)
-          (subst P (same_form asked call.disks other.disks alike.dealt) (reads_of_asked asked bytes other has_other theorem_other.ends));
-    }
+outcome_law_holds = record { sessions = sessions; calls = calls }

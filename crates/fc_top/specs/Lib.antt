@@ -7,6 +7,7 @@ pub mod DisksBack
 pub mod Complete
 pub mod PlainEnds
 pub mod Traced
+pub mod CheckEnds
 pub mod Ends
 pub mod Theorem
 pub mod OneOutcome

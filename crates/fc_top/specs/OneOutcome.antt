@@ -1,10 +1,11 @@
 -- One outcome of a call of the program: two calls that ask for the same, over disks of the same kinds in each lane and over the
 -- same bytes, in which no block ends, that end in one way, and in which no entry answers a disk fault or missing memory, tell the
--- same and write the same. Of the actors of a block each may be next, so a block has many outcomes.
+-- same and write the same. Of the actors of a block each may be next, so a block has many outcomes. Checks have no entries, and
+-- write the line of the one verdict that is right.
 use Rattle.std.specs.Prelude.{◌≡◌, ℕ, Bool, true, false, List, [], ◌++◌, Some}
 use Rattle.std.specs.Bool.{OnFalse}
 use Rattle.fc_args.specs.declared.asked.Asked.{Asked}
-use Rattle.fc_args.specs.declared.asked.Asked.TheVariants.{Drill, Run}
+use Rattle.fc_args.specs.declared.asked.Asked.TheVariants.{Check, Drill, Run}
 use Rattle.fc_base.specs.declared.limits.TheConstants.{LANES}
 use Rattle.fc_base.specs.declared.size.GrainSize.{GrainSize}
 use Rattle.fc_blocks.specs.Segments.{cut}
@@ -23,7 +24,7 @@ use Rattle.fc_top.specs.PlainEnds.{PlainEnds}
 use Rattle.fc_top.specs.Theorem.{Theorem}
 use Rattle.fc_top.specs.Traced.{run_form}
 use Rattle.fc_top.specs.declared.status.Status.{Status}
-use Rattle.fc_top.specs.declared.status.Status.TheVariants.{Done, Unended, LogFull, TooLong}
+use Rattle.fc_top.specs.declared.status.Status.TheVariants.{Done, Unended, LogFull, TooLong, Refuted}
 
 -- In each lane stand as many disks of each kind.
 abbrev pub AreAlikeDealt : List DiskState → List DiskState → Type 0
@@ -35,6 +36,7 @@ IsByBytes Done = Unit {0}
 IsByBytes Unended = Unit {0}
 IsByBytes LogFull = Unit {0}
 IsByBytes TooLong = Unit {0}
+IsByBytes Refuted = Unit {0}
 IsByBytes _ = ⊥
 
 -- No block ends in these bytes: all segments of their lines are single lines.
@@ -80,14 +82,15 @@ form_of (Run options) disks = run_form options disks
 form_of (Drill number) disks = Summary
 form_of _ disks = Text
 
--- The source of a run has these bytes. A drill doesn't touch its source.
+-- The source of a run or a check has these bytes. A drill doesn't touch its source.
 abbrev pub HasBytes : Asked → List ℕ → SourceState → Type 0
 HasBytes (Drill number) bytes source = Unit {0}
 HasBytes _ bytes source = source.left ≡ Some bytes
 
--- No block ends in the bytes of a run. The generated session of a drill has none in any case.
+-- No block ends in the bytes of a run. The generated session of a drill has none in any case, and a trace is no session.
 abbrev pub AsksNoBlock : Asked → List ℕ → Type 0
 AsksNoBlock (Drill number) bytes = Unit {0}
+AsksNoBlock Check bytes = Unit {0}
 AsksNoBlock _ bytes = HaveNoBlock bytes
 
 pub record OutcomeLaw : Type 0 where
