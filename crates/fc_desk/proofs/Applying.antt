@@ -80,29 +80,21 @@ pub record Changing (c : ControlState) (changes : List Change) (now : ControlSta
   pub reserved : AreReserved now.reserved left
   pub comes_to : fold changed now left ≡ fold changed c changes
 
-kept_tables : (c : ControlState) (change : Change) → (changed c change).tables ≡ after_change c.tables change
-kept_tables c (AddVolume volume) = refl
-kept_tables c (RemoveVolume id) = refl
-kept_tables c (AddMapping mapping) = refl
-kept_tables c (RemoveMapping id) = refl
-kept_tables c (SetMapping mapping) = refl
-kept_tables c (AddGroup group) = refl
-kept_tables c (RemoveGroup id) = refl
-
-kept_reserved : (c : ControlState) (change : Change) → (changed c change).reserved ≡ reserved_after c.reserved change
-kept_reserved c (AddVolume volume) = refl
-kept_reserved c (RemoveVolume id) = refl
-kept_reserved c (AddMapping mapping) = refl
-kept_reserved c (RemoveMapping id) = refl
-kept_reserved c (SetMapping mapping) = refl
-kept_reserved c (AddGroup group) = refl
-kept_reserved c (RemoveGroup id) = refl
+-- what a change makes of the tables and of what is reserved
+kept_after : (c : ControlState) (change : Change) → ((changed c change).tables ≡ after_change c.tables change) × ((changed c change).reserved ≡ reserved_after c.reserved change)
+kept_after c (AddVolume volume) = (refl, refl)
+kept_after c (RemoveVolume id) = (refl, refl)
+kept_after c (AddMapping mapping) = (refl, refl)
+kept_after c (RemoveMapping id) = (refl, refl)
+kept_after c (SetMapping mapping) = (refl, refl)
+kept_after c (AddGroup group) = (refl, refl)
+kept_after c (RemoveGroup id) = (refl, refl)
 
 pub changing_next : (c : ControlState) (changes : List Change) (now next : ControlState) (change : Change) (left : List Change) → Changing c changes now (change ∷ left) → next ≡ changed now change → Changing c changes next left
 changing_next c changes now next change left h is = record {
-  fits = subst (λ t. FitChanges t left) (sym (ap (λ (s : ControlState). s.tables) is ∙ kept_tables now change)) h.fits.1;
+  fits = subst (λ t. FitChanges t left) (sym (ap (λ (s : ControlState). s.tables) is ∙ (kept_after now change).0)) h.fits.1;
   countable = h.countable.1;
-  reserved = subst (λ r. AreReserved r left) (sym (ap (λ (s : ControlState). s.reserved) is ∙ kept_reserved now change)) h.reserved.1;
+  reserved = subst (λ r. AreReserved r left) (sym (ap (λ (s : ControlState). s.reserved) is ∙ (kept_after now change).1)) h.reserved.1;
   comes_to = ap (λ s. fold changed s left) is ∙ h.comes_to;
 }
 
@@ -123,7 +115,7 @@ all_changed c view (change ∷ changes) = all_changed (changed c change) view ch
 
 pub tables_changed : (c : ControlState) (changes : List Change) → (fold changed c changes).tables ≡ fold after_change c.tables changes
 tables_changed c [] = refl
-tables_changed c (change ∷ changes) = tables_changed (changed c change) changes ∙ ap (λ t. fold after_change t changes) (kept_tables c change)
+tables_changed c (change ∷ changes) = tables_changed (changed c change) changes ∙ ap (λ t. fold after_change t changes) (kept_after c change).0
 
 -- what no change touches
 pub record Same (c d : ControlState) : Type 0 where

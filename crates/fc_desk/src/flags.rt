@@ -1,12 +1,12 @@
 //! The mappings with background work, kept in order of id.
 
-ghost use Rattle.std.specs.Prelude.{◌≡◌, ◌+◌, ◌-◌, ◌<◌, ◌≤◌, length, vec_len, vec_capacity};
+ghost use Rattle.std.specs.Prelude.{◌≡◌, ◌+◌, ◌-◌, ◌<◌, ◌≤◌, vec_len, vec_capacity};
 ghost use Rattle.fc_desk.specs.Telling.{row_of};
-ghost use Rattle.fc_pick.specs.Flags.{with_flags, with_row, without_flags, before, has_mapping, IsRising, is_flagged};
+ghost use Rattle.fc_pick.specs.Flags.{with_flags, with_row, without_flags, IsRising, is_flagged};
 
 use fc_base::ids::MapId;
 use fc_base::volume::Mapping;
-use fc_pick::WorkFlags;
+use fc_pick::{WorkFlags, is_at, place_of};
 
 /// The flags of the mapping, if it has any.
 pub fn row_of(rows: &[WorkFlags], mapping: &Mapping) -> Option<WorkFlags>
@@ -67,21 +67,4 @@ pub fn clear_flags(flags: &mut Vec<WorkFlags>, map: MapId)
     if is_at(flags, place, map) {
         let _ = flags.remove(place);
     }
-}
-
-/// The place of the mapping among the rows, by id.
-fn place_of(rows: &[WorkFlags], map: MapId) -> usize
-    requires { IsRising rows.now }
-    ensures { result ≡ length (before map.0 rows.now) }
-{
-    rows.partition_point(|row| row.map.0 < map.0)
-}
-
-/// Whether the mapping's row stands at the place, which is its place by id.
-fn is_at(rows: &[WorkFlags], place: usize, map: MapId) -> bool
-    requires rising { IsRising rows.now }
-    requires place { place ≡ length (before map.0 rows.now) }
-    ensures { result ≡ has_mapping map.0 rows.now }
-{
-    place < rows.len() && rows[place].map == map
 }

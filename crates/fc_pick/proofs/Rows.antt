@@ -136,6 +136,13 @@ set_there row rows rising place is there = rw is (set_known number row.map.0 row
 pub insert_there : (row : WorkFlags) (rows : List WorkFlags) → IsRising rows → (place : ℕ) → place ≡ length (before row.map.0 rows) → has_mapping row.map.0 rows ≡ false → insert rows place row ≡ with_row row rows
 insert_there row rows rising place is new = rw is (insert_new number row.map.0 rows row (rises number rows rising) new)
 
+-- a place and an answer that were told of the rows, as they were seen
+pub placed_in : (m : ℕ) (rows : List WorkFlags) (place : ℕ) {seen : List WorkFlags} → seen ≡ rows → place ≡ length (before m seen) → place ≡ length (before m rows)
+placed_in m rows place same is = is ∙ ap (λ xs. length (before m xs)) same
+
+pub told_of : (m : ℕ) (rows : List WorkFlags) (held : Bool) {seen : List WorkFlags} {answer : Bool} → seen ≡ rows → answer ≡ has_mapping m seen → answer ≡ held → has_mapping m rows ≡ held
+told_of m rows held same is told = ap (has_mapping m) (sym same) ∙ (sym is ∙ told)
+
 -- ---- What a row that was put, or refused, leaves
 
 module _ (new old : List WorkFlags) (row : WorkFlags) (state : WorkState) (seen : rows_state old ≡ state) where

@@ -6,7 +6,8 @@
 //!   least such grain, and None exactly where there is none; a turn is a walk over the mappings with one question
 //!   of the grid for each that has the flag, up to the first with a grain;
 //! - `set` and `forget` change the flags of their mapping alone;
-//! - `track` makes a mapping known; from then on `set` of it never fails.
+//! - `track` makes a mapping known; from then on `set` of it never fails;
+//! - of rows in order of id, `place_of` gives the place of a mapping's row, and `is_at` whether the row stands there.
 //!
 //! In reading order: `grid` (what a lane tells), `work` (the flags, and what comes next).
 #![tactic(auto)]
@@ -17,4 +18,4 @@ mod tests;
 mod work;
 
 pub use grid::Grid;
-pub use work::{Work, WorkFlags};
+pub use work::{Work, WorkFlags, is_at, place_of};

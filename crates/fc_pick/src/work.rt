@@ -156,16 +156,16 @@ fn put_row(rows: &mut Vec<WorkFlags>, row: WorkFlags) -> Result<(), NoMemory>
     }
 }
 
-/// The place of the mapping among the rows, by id.
-fn place_of(rows: &[WorkFlags], map: MapId) -> usize
+/// The place of the mapping among rows in order of id: how many have a lower one.
+pub fn place_of(rows: &[WorkFlags], map: MapId) -> usize
     requires { IsRising rows.now }
     ensures { result ≡ length (before map.0 rows.now) }
 {
     rows.partition_point(|row| row.map.0 < map.0)
 }
 
-/// Whether the mapping's row stands at the place, which is its place by id.
-fn is_at(rows: &[WorkFlags], place: usize, map: MapId) -> bool
+/// Whether the mapping's row stands at the place, which has to be its place by id.
+pub fn is_at(rows: &[WorkFlags], place: usize, map: MapId) -> bool
     requires rising { IsRising rows.now }
     requires place { place ≡ length (before map.0 rows.now) }
     ensures { result ≡ has_mapping map.0 rows.now }
