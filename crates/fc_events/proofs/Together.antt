@@ -194,9 +194,13 @@ module _ (slots : List Slot) (k : ℕ) (kl : k < length slots) (fresh : (j : ℕ
 
 -- ---- the events
 
+-- what a change at a place keeps stands also where there is no place
+place_keeps : (P : Sheet → Type 0) (f : ℕ → Sheet → Sheet) (s : Sheet) (o : Option ℕ) → ((k : ℕ) → o ≡ Some k → P (f k s)) → P s → P (at_place f o s)
+place_keeps P f s None h t = t
+place_keeps P f s (Some k) h t = h k refl
+
 place_together : (f : ℕ → Sheet → Sheet) (s : Sheet) (o : Option ℕ) → ((k : ℕ) → o ≡ Some k → SheetTogether (f k s)) → SheetTogether s → SheetTogether (at_place f o s)
-place_together f s None h t = t
-place_together f s (Some k) h t = h k refl
+place_together f s o h t = place_keeps (λ (z : Sheet). SheetTogether z) f s o h t
 
 left_together : (k : ℕ) (s : Sheet) → k < length s.slots → SheetTogether s → SheetTogether (left_place k s)
 left_together k s lt t =
@@ -229,10 +233,6 @@ abbrev Spread : Sheet → Type 0
 Spread s = IsContiguous s.slots
 
 -- a trigger leaves them together, whatever the labels are
-place_spread : (f : ℕ → Sheet → Sheet) (s : Sheet) (o : Option ℕ) → ((k : ℕ) → o ≡ Some k → Spread (f k s)) → Spread s → Spread (at_place f o s)
-place_spread f s None h c = c
-place_spread f s (Some k) h c = h k refl
-
 left_spread : (k : ℕ) (s : Sheet) → k < length s.slots → Spread s → Spread (left_place k s)
 left_spread k s lt c =
     elim (cases_Bool (has_after s.slots k)) [
@@ -245,8 +245,8 @@ left_spread k s lt c =
 started_spread : (s : Sheet) (p : Pair) → Spread s → Spread (started_empty s p)
 started_spread s p c =
     let u : Sheet = at_place left_place (live_place s.slots p.target.0) s in
-    let a : Spread u = place_spread left_place s (live_place s.slots p.target.0) (λ k e. left_spread k s (live_place_at s.slots p.target.0 k e).there c) c in
-    place_spread (placed p.target.0 p.map.0 _) u (live_place u.slots p.source.0) (λ k e. contiguous_after _ u.slots (placed_follows p.target.0 p.map.0 _ k u (live_place_at u.slots p.source.0 k e).there) a) a
+    let a : Spread u = place_keeps (λ (z : Sheet). Spread z) left_place s (live_place s.slots p.target.0) (λ k e. left_spread k s (live_place_at s.slots p.target.0 k e).there c) c in
+    place_keeps (λ (z : Sheet). Spread z) (placed p.target.0 p.map.0 _) u (live_place u.slots p.source.0) (λ k e. contiguous_after _ u.slots (placed_follows p.target.0 p.map.0 _ k u (live_place_at u.slots p.source.0 k e).there) a) a
 
 pub triggered_together : (pairs : List Pair) (s : Sheet) → IsContiguous s.slots → IsContiguous (fold started_empty s pairs).slots
 triggered_together [] s c = c

@@ -51,7 +51,7 @@ turned_there f v entries old now i l lt t =
     let b : length now ≡ length old = t.size in
     omega arith
 
-pub turned_more : (f : Slot → Slot) (v : ℕ) (entries : List Entry) (old now : List Slot) (i : ℕ) (t u : Slot) → ListsVolume old v entries → i < length entries → t ≡ get_or now (entry_at entries i).place t → u ≡ f t →
+pub turned_more : (f : Slot → Slot) (v : ℕ) (entries : List Entry) (old now : List Slot) (i : ℕ) (t u : Slot) → ListsVolume old v entries → i < length entries → t ≡ get_or now (entry_at entries i).place t → u ≡ f (get_or now (entry_at entries i).place t) →
     AreTurned f entries old i now → AreTurned f entries old (i + 1) (set now (entry_at entries i).place u)
 turned_more f v entries old now i t u l lt r q a =
     let p : ℕ = (entry_at entries i).place in
@@ -60,7 +60,7 @@ turned_more f v entries old now i t u l lt r q a =
     record {
       size = length-set now p u ∙ a.size;
       turned = done_more old v entries (slot_at old) (λ k. f (slot_at old k)) (slot_at now) (slot_at (set now p u)) (length old) i p l lt refl
-          (get_or-set_same now p u no_slot pn ∙ (q ∙ ap f (sym (read_at now p t pn r) ∙ was)))
+          (get_or-set_same now p u no_slot pn ∙ (q ∙ ap f (sym r ∙ (sym (read_at now p t pn r) ∙ was))))
           (λ k ne. get_or-set_other now p k u no_slot ne) a.turned;
     }
 

@@ -1,8 +1,9 @@
 -- What room the events of a command need.
-use Rattle.std.specs.Prelude.{ℕ, ◌+◌, ◌^◌, ◌<◌, length}
+use Rattle.std.specs.Prelude.{◌≡◌, ℕ, ◌+◌, ◌^◌, ◌<◌, ◌≤◌, length}
 use Rattle.fc_base.specs.declared.decision.LaneEvent.{LaneEvent}
 use Rattle.fc_base.specs.declared.decision.LaneEvent.TheVariants.{Make, Remove, Trigger, Retire, Detach, Split, Force, Drop, Forget, NoteCut, Access, Work, Arm}
 use Rattle.fc_base.specs.Sheet.{Sheet}
+use Rattle.fc_events.specs.Table.{Table}
 
 -- How many slots an event can make: one for a volume that comes, one for each pair of a trigger, and one for each volume
 -- whose live slot leaves its chain.
@@ -40,3 +41,7 @@ grains_come local (Arm volume grain calls) = 0
 -- Births are numbers of 64 bits.
 abbrev pub BirthsFit : Sheet → Type 0
 BirthsFit s = s.births < 2 ^ 64
+
+-- At most so many of the spare sets are used, and those that are left stay as wide.
+abbrev pub UsesAtMost : ℕ → Table → Table → Type 0
+UsesAtMost count before after = (before.room ≤ after.room + count) × (after.width ≡ before.width)

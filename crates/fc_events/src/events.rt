@@ -4,7 +4,7 @@ ghost use Rattle.std.specs.Prelude.{◌≡◌, ℕ, ◌+◌, ◌^◌, ◌<◌, �
 ghost use Rattle.fc_base.specs.Sheet.{Sheet, live_place, mapping_place, volume_grains};
 ghost use Rattle.fc_base.specs.SheetStep.{at_place, has_after, removed, left_place, placed, started_empty, triggered, retired_at, detached_at, split_at, forced_at, forced_map, dropped, sheet_step};
 ghost use Rattle.fc_events.specs.LaneGrains.{lane_grains};
-ghost use Rattle.fc_events.specs.Room.{slots_made, grains_come, BirthsFit};
+ghost use Rattle.fc_events.specs.Room.{slots_made, grains_come, BirthsFit, UsesAtMost};
 
 use crate::room::grains_of_lane;
 use crate::table::SlotTable;
@@ -77,8 +77,7 @@ fn put_target(table: &mut SlotTable, pair: Pair, grains: u32)
     requires room { 0 < table.old.room }
     requires wide { grains ≤ table.old.width }
     ensures sheet { table.new.sheet ≡ at_place (placed pair.target.0 pair.map.0 (replicate grains false)) (live_place table.old.sheet.slots pair.source.0) table.old.sheet }
-    ensures room { table.old.room ≤ table.new.room + 1 }
-    ensures width { table.new.width ≡ table.old.width }
+    ensures spare { UsesAtMost 1 table.old table.new }
 {
     if let Some(place) = place_of_live(table.as_slice(), pair.source.0) {
         table.put_behind(place, pair.target.0, pair.map.0, grains);
@@ -90,8 +89,7 @@ fn start(table: &mut SlotTable, pair: Pair)
     requires births { BirthsFit (started_empty table.old.sheet pair) }
     requires room { 0 < table.old.room }
     ensures sheet { table.new.sheet ≡ started_empty table.old.sheet pair }
-    ensures room { table.old.room ≤ table.new.room + 1 }
-    ensures width { table.new.width ≡ table.old.width }
+    ensures spare { UsesAtMost 1 table.old table.new }
 {
     let grains = grains_of(table, pair.target.0);
     leave(table, pair.target.0);
@@ -103,23 +101,23 @@ fn trigger(table: &mut SlotTable, pairs: &[Pair])
     requires births { BirthsFit (triggered pairs.now table.old.sheet) }
     requires room { length pairs.now ≤ table.old.room }
     ensures sheet { table.new.sheet ≡ triggered pairs.now table.old.sheet }
-    ensures room { table.old.room ≤ table.new.room + length pairs.now }
-    ensures width { table.new.width ≡ table.old.width }
+    ensures spare { UsesAtMost (length pairs.now) table.old table.new }
 {
     for pair in pairs {
         start(table, *pair);
     }
 }
 
-/// The slot at a place becomes old; its volume gets a chain of its own.
-fn retire_at(table: &mut SlotTable, place: usize)
-    requires there { place < length table.old.sheet.slots }
-    requires births { table.old.sheet.births + 1 < 2 ^ 64 }
+/// The mapping's slot becomes old and stays for those that need it; its volume gets a chain of its own.
+fn retire(table: &mut SlotTable, map: MapId)
+    requires births { BirthsFit (at_place retired_at (mapping_place table.old.sheet.slots map.0) table.old.sheet) }
     requires room { 0 < table.old.room }
-    ensures sheet { table.new.sheet ≡ retired_at place table.old.sheet }
-    ensures room { table.old.room ≤ table.new.room + 1 }
-    ensures width { table.new.width ≡ table.old.width }
+    ensures sheet { table.new.sheet ≡ at_place retired_at (mapping_place table.old.sheet.slots map.0) table.old.sheet }
+    ensures spare { UsesAtMost 1 table.old table.new }
 {
+    let Some(place) = place_of_mapping(table.as_slice(), map.0) else {
+        return;
+    };
     let volume = table.at(place).volume();
     let grains = table.at(place).grains();
     table.age(place);
@@ -132,8 +130,7 @@ fn detach_at(table: &mut SlotTable, place: usize)
     requires births { table.old.sheet.births + 1 < 2 ^ 64 }
     requires room { 0 < table.old.room }
     ensures sheet { table.new.sheet ≡ detached_at place table.old.sheet }
-    ensures room { table.old.room ≤ table.new.room + 1 }
-    ensures width { table.new.width ≡ table.old.width }
+    ensures spare { UsesAtMost 1 table.old table.new }
 {
     let volume = table.at(place).volume();
     let grains = table.at(place).grains();
@@ -141,26 +138,12 @@ fn detach_at(table: &mut SlotTable, place: usize)
     table.add_chain(volume, grains);
 }
 
-/// The mapping's slot becomes old and stays for those that need it; its volume gets a chain of its own.
-fn retire(table: &mut SlotTable, map: MapId)
-    requires births { BirthsFit (at_place retired_at (mapping_place table.old.sheet.slots map.0) table.old.sheet) }
-    requires room { 0 < table.old.room }
-    ensures sheet { table.new.sheet ≡ at_place retired_at (mapping_place table.old.sheet.slots map.0) table.old.sheet }
-    ensures room { table.old.room ≤ table.new.room + 1 }
-    ensures width { table.new.width ≡ table.old.width }
-{
-    if let Some(place) = place_of_mapping(table.as_slice(), map.0) {
-        retire_at(table, place);
-    }
-}
-
 /// The mapping's slot is taken out; its volume gets a chain of its own.
 fn detach(table: &mut SlotTable, map: MapId)
     requires births { BirthsFit (at_place detached_at (mapping_place table.old.sheet.slots map.0) table.old.sheet) }
     requires room { 0 < table.old.room }
     ensures sheet { table.new.sheet ≡ at_place detached_at (mapping_place table.old.sheet.slots map.0) table.old.sheet }
-    ensures room { table.old.room ≤ table.new.room + 1 }
-    ensures width { table.new.width ≡ table.old.width }
+    ensures spare { UsesAtMost 1 table.old table.new }
 {
     if let Some(place) = place_of_mapping(table.as_slice(), map.0) {
         detach_at(table, place);
@@ -182,8 +165,7 @@ fn force_at(table: &mut SlotTable, place: usize)
     requires births { BirthsFit (forced_at place table.old.sheet) }
     requires room { 0 < table.old.room }
     ensures sheet { table.new.sheet ≡ forced_at place table.old.sheet }
-    ensures room { table.old.room ≤ table.new.room + 1 }
-    ensures width { table.new.width ≡ table.old.width }
+    ensures spare { UsesAtMost 1 table.old table.new }
 {
     if table.at(place).is_live() {
         detach_at(table, place);
@@ -197,8 +179,7 @@ fn force_one(table: &mut SlotTable, map: MapId)
     requires births { BirthsFit (forced_map table.old.sheet map) }
     requires room { 0 < table.old.room }
     ensures sheet { table.new.sheet ≡ forced_map table.old.sheet map }
-    ensures room { table.old.room ≤ table.new.room + 1 }
-    ensures width { table.new.width ≡ table.old.width }
+    ensures spare { UsesAtMost 1 table.old table.new }
 {
     if let Some(place) = place_of_mapping(table.as_slice(), map.0) {
         force_at(table, place);
@@ -210,8 +191,7 @@ fn force_all(table: &mut SlotTable, maps: &[MapId])
     requires births { BirthsFit (fold forced_map table.old.sheet maps.now) }
     requires room { length maps.now ≤ table.old.room }
     ensures sheet { table.new.sheet ≡ fold forced_map table.old.sheet maps.now }
-    ensures room { table.old.room ≤ table.new.room + length maps.now }
-    ensures width { table.new.width ≡ table.old.width }
+    ensures spare { UsesAtMost (length maps.now) table.old table.new }
 {
     for map in maps {
         force_one(table, *map);
@@ -232,8 +212,7 @@ fn force(table: &mut SlotTable, map: MapId, dependents: &[MapId])
     requires births { BirthsFit (fold forced_map (forced_map table.old.sheet map) dependents.now) }
     requires room { length dependents.now < table.old.room }
     ensures sheet { table.new.sheet ≡ fold forced_map (forced_map table.old.sheet map) dependents.now }
-    ensures room { table.old.room ≤ table.new.room + (length dependents.now + 1) }
-    ensures width { table.new.width ≡ table.old.width }
+    ensures spare { UsesAtMost (length dependents.now + 1) table.old table.new }
 {
     force_one(table, map);
     force_all(table, dependents);
