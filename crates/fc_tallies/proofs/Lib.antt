@@ -8,3 +8,4 @@ pub mod Retally
 pub mod Nexts
 pub mod OwnCounts
 pub mod Fronts
+pub mod Turned

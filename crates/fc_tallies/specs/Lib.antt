@@ -3,3 +3,4 @@ pub mod Tallies
 pub mod Ledger
 pub mod Nexts
 pub mod Fronts
+pub mod Turned

@@ -1,14 +1,12 @@
 //! Pairs that are got and lost, with the counts of the slots that this touches.
 
 ghost use Rattle.std.specs.Prelude.{◌≡◌, ◌+◌, ◌<◌, ◌≤◌, ◌^◌, length, slice_set, true, cond, IfSome, None};
-ghost use Rattle.fc_base.specs.SheetFits.{FitsTaken, FitsLost};
-ghost use Rattle.fc_base.specs.SheetStep.{sheet_written, sheet_moved, sheet_torn};
-ghost use Rattle.fc_base.specs.declared.request.Side.TheVariants.{Under};
 ghost use Rattle.fc_base.specs.Counts.{is_needed_at};
 ghost use Rattle.fc_slots.specs.Contiguous.{IsContiguous};
 ghost use Rattle.fc_places.specs.Directory.{ListsSlots};
 ghost use Rattle.fc_places.specs.Indexing.{ListsVolume};
 ghost use Rattle.fc_tallies.specs.Tallies.{tally_at, tally_of, tally_but, live_holder, AreTallies, AreTalliesBut, Countable};
+ghost use Rattle.fc_tallies.specs.Turned.{sheet_turned, FitsTurn};
 
 use crate::tally::Tally;
 use fc_events::table::SlotTable;
@@ -208,70 +206,49 @@ fn change_at(slots: &[Slot], directory: &Directory, volume: u32, grain: u32) -> 
     }
 }
 
-/// The volume's live slot gets the grain, and its older slots lose it.
-pub(crate) fn take(
-    table: &mut SlotTable,
-    tallies: &mut [Tally],
-    directory: &Directory,
-    volume: u32,
-    grain: u32,
-)
-    requires listed { ListsSlots table.old.sheet.slots directory.now }
-    requires countable { Countable table.old.sheet.slots }
-    requires fits { FitsTaken table.old.sheet.slots volume grain }
-    requires room { length table.old.sheet.slots ≤ length tallies.old }
-    requires tallied { AreTallies table.old.sheet.slots tallies.old }
-    ensures table { table.new ≡ record table.old { sheet = sheet_written volume grain table.old.sheet } }
-    ensures tallied { AreTallies table.new.sheet.slots tallies.new }
-{
-    let entries = directory.of_volume(volume);
-    let change = change_at(table.as_slice(), directory, volume, grain);
-    leave_out(table.as_slice(), entries, change, tallies);
-    table.take(entries, volume, grain);
-    put_in(table.as_slice(), entries, change, tallies);
+/// What becomes of a volume's pairs at a grain.
+#[derive(Clone, Copy)]
+pub(crate) enum Turn {
+    /// The live slot gets the grain, and the older slots lose it.
+    Take,
+    /// The live slot gets the grain, and nothing else changes.
+    Keep,
+    /// The older slots lose the grain.
+    Lose,
 }
 
-/// The volume's live slot gets the grain, and nothing else changes.
-pub(crate) fn keep(
-    table: &mut SlotTable,
-    tallies: &mut [Tally],
-    directory: &Directory,
-    volume: u32,
-    grain: u32,
-)
-    requires listed { ListsSlots table.old.sheet.slots directory.now }
-    requires countable { Countable table.old.sheet.slots }
-    requires room { length table.old.sheet.slots ≤ length tallies.old }
-    requires tallied { AreTallies table.old.sheet.slots tallies.old }
-    ensures table { table.new ≡ record table.old { sheet = sheet_moved volume grain true table.old.sheet } }
-    ensures tallied { AreTallies table.new.sheet.slots tallies.new }
+/// The volume's slots are turned at the grain.
+fn turn_slots(table: &mut SlotTable, entries: &[Entry], turn: Turn, volume: u32, grain: u32)
+    requires { ListsVolume table.old.sheet.slots volume entries.now }
+    ensures { table.new ≡ record table.old { sheet = sheet_turned turn volume grain table.old.sheet } }
 {
-    let entries = directory.of_volume(volume);
-    let change = change_at(table.as_slice(), directory, volume, grain);
-    leave_out(table.as_slice(), entries, change, tallies);
-    table.keep(entries, volume, grain);
-    put_in(table.as_slice(), entries, change, tallies);
+    match turn {
+        Turn::Take => table.take(entries, volume, grain),
+        Turn::Keep => table.keep(entries, volume, grain),
+        Turn::Lose => table.lose(entries, volume, grain),
+    }
 }
 
-/// The volume's older slots lose the grain.
-pub(crate) fn lose(
+/// The volume's slots are turned at the grain, and the counts of those that this touches are made anew.
+pub(crate) fn turn_pairs(
     table: &mut SlotTable,
     tallies: &mut [Tally],
     directory: &Directory,
+    turn: Turn,
     volume: u32,
     grain: u32,
 )
     requires listed { ListsSlots table.old.sheet.slots directory.now }
     requires countable { Countable table.old.sheet.slots }
-    requires fits { FitsLost table.old.sheet.slots volume grain }
+    requires fits { FitsTurn turn table.old.sheet.slots volume grain }
     requires room { length table.old.sheet.slots ≤ length tallies.old }
     requires tallied { AreTallies table.old.sheet.slots tallies.old }
-    ensures table { table.new ≡ record table.old { sheet = sheet_torn volume grain Under table.old.sheet } }
+    ensures table { table.new ≡ record table.old { sheet = sheet_turned turn volume grain table.old.sheet } }
     ensures tallied { AreTallies table.new.sheet.slots tallies.new }
 {
     let entries = directory.of_volume(volume);
     let change = change_at(table.as_slice(), directory, volume, grain);
     leave_out(table.as_slice(), entries, change, tallies);
-    table.lose(entries, volume, grain);
+    turn_slots(table, entries, turn, volume, grain);
     put_in(table.as_slice(), entries, change, tallies);
 }

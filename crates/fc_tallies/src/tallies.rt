@@ -10,7 +10,7 @@ ghost use Rattle.fc_slots.specs.Contiguous.{IsContiguous};
 ghost use Rattle.fc_places.specs.Directory.{ListsSlots};
 ghost use Rattle.fc_tallies.specs.Tallies.{tally_at, AreTallies, AreOneSize, Countable};
 
-use crate::pairs;
+use crate::pairs::{Turn, turn_pairs};
 use crate::tally::{NO_TALLY, Tally, recount};
 use fc_base::outcome::NoMemory;
 use fc_events::table::SlotTable;
@@ -99,7 +99,7 @@ impl Tallies {
         ensures slots { length self.new.tallies ≡ length self.old.tallies }
         ensures words { self.new.words ≡ self.old.words }
     {
-        pairs::take(table, &mut self.kept, directory, volume, grain);
+        turn_pairs(table, &mut self.kept, directory, Turn::Take, volume, grain);
     }
 
     /// The volume's live slot gets the grain, and nothing else changes.
@@ -113,7 +113,7 @@ impl Tallies {
         ensures slots { length self.new.tallies ≡ length self.old.tallies }
         ensures words { self.new.words ≡ self.old.words }
     {
-        pairs::keep(table, &mut self.kept, directory, volume, grain);
+        turn_pairs(table, &mut self.kept, directory, Turn::Keep, volume, grain);
     }
 
     /// The volume's older slots lose the grain.
@@ -128,6 +128,6 @@ impl Tallies {
         ensures slots { length self.new.tallies ≡ length self.old.tallies }
         ensures words { self.new.words ≡ self.old.words }
     {
-        pairs::lose(table, &mut self.kept, directory, volume, grain);
+        turn_pairs(table, &mut self.kept, directory, Turn::Lose, volume, grain);
     }
 }
