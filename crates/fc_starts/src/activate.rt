@@ -80,28 +80,14 @@ fn yields_to(pairs: &[Pair], mapping: &Mapping) -> bool
 fn has_target(pairs: &[Pair], target: VolId) -> bool
     ensures { result ≡ list_any (λ (p : Pair). p.target.0 == target.0) pairs.now }
 {
-    pairs.iter().any(|pair| is_with_target(pair, target))
-}
-
-/// Whether the pair has the target.
-fn is_with_target(pair: &Pair, target: VolId) -> bool
-    ensures { result ≡ (pair.now.target.0 == target.0) }
-{
-    pair.target.0 == target.0
+    pairs.iter().any(|pair| pair.target.0 == target.0)
 }
 
 /// Whether one of the pairs is the mapping's.
 fn has_map(pairs: &[Pair], map: MapId) -> bool
     ensures { result ≡ list_any (λ (p : Pair). p.map.0 == map.0) pairs.now }
 {
-    pairs.iter().any(|pair| is_pair_of(pair, map))
-}
-
-/// Whether the pair is the mapping's.
-fn is_pair_of(pair: &Pair, map: MapId) -> bool
-    ensures { result ≡ (pair.now.map.0 == map.0) }
-{
-    pair.map.0 == map.0
+    pairs.iter().any(|pair| pair.map.0 == map.0)
 }
 
 /// The chosen mappings come into an active state, with the option `-restore` or without it.
