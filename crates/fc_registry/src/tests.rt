@@ -26,34 +26,25 @@ fn fits(registry: &Registry, change: &Change) -> bool
 fn is_new_volume(registry: &Registry, volume: &Volume) -> bool
     ensures { IsTrue result → Fits registry.now.tables (Change.AddVolume volume.now) }
 {
-    let above = registry
-        .all_volumes()
-        .iter()
-        .all(|other| other.id.0 < volume.id.0);
-    let free = registry.check_name(Kind::Vdisk, &volume.name).is_ok();
-    above && free
+    let volumes = registry.all_volumes();
+    let above = volumes.iter().all(|other| other.id.0 < volume.id.0);
+    above && registry.check_name(Kind::Vdisk, &volume.name).is_ok()
 }
 
 fn is_new_mapping(registry: &Registry, mapping: &Mapping) -> bool
     ensures { IsTrue result → Fits registry.now.tables (Change.AddMapping mapping.now) }
 {
-    let above = registry
-        .all_mappings()
-        .iter()
-        .all(|other| other.id.0 < mapping.id.0);
-    let free = registry.check_name(Kind::Fcmap, &mapping.name).is_ok();
-    above && free
+    let mappings = registry.all_mappings();
+    let above = mappings.iter().all(|other| other.id.0 < mapping.id.0);
+    above && registry.check_name(Kind::Fcmap, &mapping.name).is_ok()
 }
 
 fn is_new_group(registry: &Registry, group: &Group) -> bool
     ensures { IsTrue result → Fits registry.now.tables (Change.AddGroup group.now) }
 {
-    let above = registry
-        .all_groups()
-        .iter()
-        .all(|other| other.id.0 < group.id.0);
-    let free = registry.check_name(Kind::Group, &group.name).is_ok();
-    above && free
+    let groups = registry.all_groups();
+    let above = groups.iter().all(|other| other.id.0 < group.id.0);
+    above && registry.check_name(Kind::Group, &group.name).is_ok()
 }
 
 /// Reserves and makes a change, which has to fit.
