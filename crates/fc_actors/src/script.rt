@@ -18,6 +18,7 @@ ghost use Rattle.fc_actors.specs.Scripts.{ItemSuits, WorkSuits, item_left, item_
 ghost use Rattle.fc_actors.specs.Scripts.{left_of, needs_of};
 
 use crate::span::{Span, access_next, turn_next};
+use fc_apart::apart::refused_entry;
 use fc_base::command::Command;
 use fc_base::fault::Refusal;
 use fc_base::request::Request;
@@ -25,7 +26,6 @@ use fc_base::size::GrainSize;
 use fc_entry::entry::Entry;
 use fc_lane::lane::Lane;
 use fc_mdisk::mdisk::Mdisk;
-use fc_store::apart::refused_entry;
 use fc_tasks::script::Needs;
 use std::alloc::Global;
 use std::collections::VecDeque;

@@ -14,8 +14,8 @@ use fc_base::size::GrainSize;
 use fc_entry::entry::Entry;
 use fc_lane::lane::Lane;
 use fc_lanes::access::{Access, access_lane};
+use fc_lanes::touched::blocks_in;
 use fc_mdisk::mdisk::Mdisk;
-use fc_store::touched::blocks_in;
 use std::alloc::Global;
 
 /// An access of blocks of a volume, of which some grains are left.

@@ -17,7 +17,7 @@ use Rattle.fc_check_sheet.specs.declared.distances.Distance.{Distance}
 use Rattle.fc_check_sheet.specs.declared.links.Link.{Link}
 use Rattle.fc_check_sheet.specs.Links.{HasLink, AreEdges}
 use Rattle.fc_check_sheet.specs.Distances.{distance_in, AreDistances}
-use Rattle.fc_check_sheet.specs.Loops.{HasVolumes, IsLess, IsOnLoop, IsLeastOnLoop, LeastOnLoop, TriesLoop, IsStep, IsLeastNext, LeastNext, Betters}
+use Rattle.fc_check_sheet.specs.Loops.{HasVolumes, IsLess, IsOnLoop, LeadsOn, IsLeastOnLoop, LeastOnLoop, TriesLoop, IsStep, IsLeastNext, LeastNext, Betters}
 
 -- ---- distances as marks, by volume
 
@@ -230,6 +230,10 @@ loop_done E volumes i least a b l = let same : i ≡ length volumes = omega arit
 begins : (E : ℕ → ℕ → Type 0) (v : ℕ) (xs : List ℕ) (w : ℕ) → RouteBy E v xs w → (x : ℕ) × E v x
 begins E v [] w e = (w, e)
 begins E v (x ∷ xs) w r = (x, r.0)
+
+-- from a volume on a loop a link leads
+pub leads_from : (links : List Link) (v : ℕ) → IsOnLoop (HasLink links) v → LeadsOn links v
+leads_from links v r = begins (HasLink links) v r.0 v r.1
 
 route_on : (E F : ℕ → ℕ → Type 0) → ((v w : ℕ) → E v w → F v w) → (v : ℕ) (xs : List ℕ) (w : ℕ) → RouteBy E v xs w → RouteBy F v xs w
 route_on E F h v [] w e = h v w e

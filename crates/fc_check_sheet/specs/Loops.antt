@@ -7,7 +7,7 @@ use Rattle.fc_loops.specs.Routes.{RouteBy}
 use Rattle.fc_check_sheet.specs.declared.distances.Distance.{Distance}
 use Rattle.fc_check_sheet.specs.declared.links.Link.{Link}
 use Rattle.fc_check_sheet.specs.Distances.{distance_in}
-use Rattle.fc_check_sheet.specs.Links.{AreEdges}
+use Rattle.fc_check_sheet.specs.Links.{AreEdges, HasLink}
 
 abbrev pub IsLess : ℕ → Option ℕ → Type 0
 IsLess v None = Unit {0}
@@ -16,6 +16,10 @@ IsLess v (Some least) = v < least
 -- The volumes of all slots are among these.
 abbrev pub HasVolumes : List Slot → List ℕ → Type 0
 HasVolumes slots volumes = (k : ℕ) → k < length slots → Contains volumes (slot_at slots k).volume
+
+-- A link leads from the volume.
+abbrev pub LeadsOn : List Link → ℕ → Type 0
+LeadsOn links v = (w : ℕ) × HasLink links v w
 
 -- A way leads from the volume back to it.
 abbrev pub IsOnLoop : (ℕ → ℕ → Type 0) → ℕ → Type 0

@@ -7,7 +7,7 @@ ghost use Rattle.fc_base.specs.declared.ids.VolId.{VolId as VolumeId};
 ghost use Rattle.fc_loops.specs.Routes.{IsBestLoop};
 ghost use Rattle.fc_check_sheet.specs.Links.{HasLink};
 ghost use Rattle.fc_check_sheet.specs.Distances.{distance_in, AreDistances};
-ghost use Rattle.fc_check_sheet.specs.Loops.{Betters, IsLess, IsOnLoop, LeastNext, LeastOnLoop, ToldOfLinks, TriesLoop};
+ghost use Rattle.fc_check_sheet.specs.Loops.{Betters, IsLess, IsOnLoop, LeadsOn, LeastNext, LeastOnLoop, ToldOfLinks, TriesLoop};
 
 use crate::distances::{Distance, distance_of, distances_to};
 use crate::links::{Link, links_of};
@@ -27,10 +27,20 @@ fn is_less(volume: u32, least: Option<u32>) -> bool
     }
 }
 
+/// Whether a link leads from a volume.
+fn leads_on(links: &[Link], volume: u32) -> bool
+    ensures { IsTrue result ↔ LeadsOn links.now volume }
+{
+    links.iter().any(|link| link.from == volume)
+}
+
 /// Whether a way leads from a volume back to it.
 fn is_on_loop(alloc: Global, links: &[Link], volume: u32) -> Result<bool, NoMemory>
     ensures { IfOk result (λ yes. IsTrue yes ↔ IsOnLoop (HasLink links.now) volume) }
 {
+    if !leads_on(links, volume) {
+        return Ok(false);
+    }
     let distances = distances_to(alloc, links, volume)?;
     Ok(distance_of(&distances, volume).is_some())
 }

@@ -67,8 +67,7 @@ pub pair_made : IsMade pair (λ p. Pair (record { 0 = p.0 }) (record { 0 = p.1.0
 unfolding pair flag
 pair_made = record { same = λ s. sym (simp then_then refl) }
 
-pub written_made : IsMade written (λ p. Written (record { 0 = p.0 }) (record { 0 = p.1 }))
-    (both (number 4) (number 4))
+pub written_made : IsMade written (λ p. Written (record { 0 = p.0 }) (record { 0 = p.1 })) (both (number 4) (number 4))
 unfolding written
 written_made = record { same = λ s. sym (simp then_then refl) }
 
@@ -77,7 +76,6 @@ pub torn_made : IsMade torn (λ p. Torn (record { 0 = p.0 }) (record { 0 = p.1.0
 unfolding torn side
 torn_made = record { same = λ s. sym (simp then_then refl) }
 
-pub changing_made : IsMade changing (λ p. Changing (record { 0 = p.0 }) (record { 0 = p.1 }))
-    (both (number 4) (number 4))
+pub changing_made : IsMade changing (λ p. Changing (record { 0 = p.0 }) (record { 0 = p.1 })) (both (number 4) (number 4))
 unfolding changing
 changing_made = record { same = λ s. sym (simp then_then refl) }

@@ -36,6 +36,10 @@ use Rattle.fc_format.proofs.Steps.{number_there, choice_right, name_right, optio
 abbrev pub ReadsBack : {A : Type 0} → Reader A → A → List ℕ → ℕ → Type 0
 ReadsBack p a w end = (rest : List ℕ) → p (record { bytes = w ++ rest; end = end }) ≡ Got a (record { bytes = rest; end = end })
 
+-- so it is for each value that keeps what it has to, with these bytes
+abbrev pub IsBack : {A : Type 0} → Reader A → (A → List ℕ) → (A → Type 0) → Type 0
+IsBack {A} p bytes_of Keeps = (x : A) → Keeps x → (rest : List ℕ) (end : ℕ) → p (record { bytes = bytes_of x ++ rest; end = end }) ≡ Got x (record { bytes = rest; end = end })
+
 pub then_back : {A B : Type 0} (p : Reader A) (next : A → Reader B) (a : A) (w more rest : List ℕ) (end : ℕ) → ((rest : List ℕ) (end : ℕ) → p (record { bytes = w ++ rest; end = end }) ≡ Got a (record { bytes = rest; end = end }))
     → and_then (p (record { bytes = (w ++ more) ++ rest; end = end })) next ≡ next a (record { bytes = more ++ rest; end = end })
 then_back p next a w more rest end back =
@@ -128,7 +132,7 @@ group_id_back o = id_back (λ g. g.0) (λ n. record { 0 = n }) (λ g. refl) o
 -- ---- Lists
 
 module _ {A : Type 0} (reader : Reader A) (f : A → List ℕ) (P : A → Type 0)
-    (back : (x : A) → P x → (rest : List ℕ) (end : ℕ) → reader (record { bytes = f x ++ rest; end = end }) ≡ Got x (record { bytes = rest; end = end })) where
+    (back : IsBack reader f P) where
   items_back : (xs : List A) → All P xs → (rest : List ℕ) (end : ℕ)
       → items reader (length xs) (record { bytes = flat_map f xs ++ rest; end = end }) ≡ Got xs (record { bytes = rest; end = end })
   unfolding items
@@ -155,8 +159,7 @@ words_back ws all counted = list_back (number 8) (big_bytes 8) (λ n. n < 2 ^ 64
 pub record IsVolume (x : Volume) : Type 0 where
   pub typed : IsTypedVolume x
 
-pub volume_back : (x : Volume) → IsVolume x → (rest : List ℕ) (end : ℕ)
-    → volume (record { bytes = volume_bytes x ++ rest; end = end }) ≡ Got x (record { bytes = rest; end = end })
+pub volume_back : IsBack volume volume_bytes IsVolume
 unfolding volume volume_bytes
 volume_back x ok rest end =
     then_back (number 4) _ x.id.0 (big_bytes 4 x.id.0) ((name_bytes x.name ++ (big_bytes 4 x.grains ++ byte (kind_code x.kind)))) rest end (number_back 4 x.id.0 ok.typed.id)
@@ -169,8 +172,7 @@ pub record IsMapping (x : Mapping) : Type 0 where
   pub typed : IsTypedMapping x
   pub group : IsGroupId x.group
 
-pub mapping_back : (x : Mapping) → IsMapping x → (rest : List ℕ) (end : ℕ)
-    → mapping (record { bytes = mapping_bytes x ++ rest; end = end }) ≡ Got x (record { bytes = rest; end = end })
+pub mapping_back : IsBack mapping mapping_bytes IsMapping
 unfolding mapping mapping_bytes
 mapping_back x ok rest end =
     then_back (number 4) _ x.id.0 (big_bytes 4 x.id.0) ((name_bytes x.name ++ (big_bytes 4 x.source.0 ++ (big_bytes 4 x.target.0 ++ (big_bytes 4 (group_code x.group) ++ (byte (state_code x.state) ++ (byte x.copy_rate ++ (byte x.clean_rate ++ (byte (flag_code x.incremental) ++ (byte (flag_code x.autodelete) ++ (byte (flag_code x.restoring) ++ (big_bytes 4 x.held_at_leave ++ byte (flag_code x.complete))))))))))))) rest end (number_back 4 x.id.0 ok.typed.id)
@@ -191,8 +193,7 @@ mapping_back x ok rest end =
 pub record IsGroup (x : Group) : Type 0 where
   pub typed : IsTypedGroup x
 
-pub group_back : (x : Group) → IsGroup x → (rest : List ℕ) (end : ℕ)
-    → group (record { bytes = group_bytes x ++ rest; end = end }) ≡ Got x (record { bytes = rest; end = end })
+pub group_back : IsBack group group_bytes IsGroup
 unfolding group group_bytes
 group_back x ok rest end =
     then_back (number 4) _ x.id.0 (big_bytes 4 x.id.0) (name_bytes x.name) rest end (number_back 4 x.id.0 ok.typed.id)
@@ -204,8 +205,7 @@ pub record IsSlot (x : MetaSlot) : Type 0 where
   pub map : IsMappingId x.map
   pub held : length x.held < 2 ^ 32
 
-pub slot_back : (x : MetaSlot) → IsSlot x → (rest : List ℕ) (end : ℕ)
-    → slot (record { bytes = slot_bytes x ++ rest; end = end }) ≡ Got x (record { bytes = rest; end = end })
+pub slot_back : IsBack slot slot_bytes IsSlot
 unfolding slot slot_bytes
 slot_back x ok rest end =
     then_back (number 8) _ x.birth.0 (big_bytes 8 x.birth.0) ((big_bytes 4 x.volume.0 ++ (byte (flag_code x.live) ++ (big_bytes 4 (mapping_code x.map) ++ words_bytes x.held)))) rest end (number_back 8 x.birth.0 ok.typed.birth)
@@ -220,8 +220,7 @@ pub record IsChain (x : MetaChain) : Type 0 where
   pub slots_counted : length x.slots < 2 ^ 32
   pub slots : All IsSlot x.slots
 
-pub chain_back : (x : MetaChain) → IsChain x → (rest : List ℕ) (end : ℕ)
-    → chain (record { bytes = chain_bytes x ++ rest; end = end }) ≡ Got x (record { bytes = rest; end = end })
+pub chain_back : IsBack chain chain_bytes IsChain
 unfolding chain chain_bytes
 chain_back x ok rest end =
     then_back (number 8) _ x.label (big_bytes 8 x.label) (list_bytes slot_bytes x.slots) rest end (number_back 8 x.label ok.typed.label)
@@ -232,8 +231,7 @@ pub record IsLost (x : MetaLost) : Type 0 where
   pub typed : IsTypedLost x
   pub lost : length x.lost < 2 ^ 32
 
-pub lost_back : (x : MetaLost) → IsLost x → (rest : List ℕ) (end : ℕ)
-    → lost (record { bytes = lost_bytes x ++ rest; end = end }) ≡ Got x (record { bytes = rest; end = end })
+pub lost_back : IsBack lost lost_bytes IsLost
 unfolding lost lost_bytes
 lost_back x ok rest end =
     then_back (number 4) _ x.volume.0 (big_bytes 4 x.volume.0) (words_bytes x.lost) rest end (number_back 4 x.volume.0 ok.typed.volume)
@@ -247,8 +245,7 @@ pub record IsChanges (x : MetaChanges) : Type 0 where
   pub changed : length x.changed < 2 ^ 32
   pub kept : length x.kept < 2 ^ 32
 
-pub changes_back : (x : MetaChanges) → IsChanges x → (rest : List ℕ) (end : ℕ)
-    → changes (record { bytes = changes_bytes x ++ rest; end = end }) ≡ Got x (record { bytes = rest; end = end })
+pub changes_back : IsBack changes changes_bytes IsChanges
 unfolding changes changes_bytes
 changes_back x ok rest end =
     then_back (number 4) _ x.map.0 (big_bytes 4 x.map.0) ((big_bytes 4 (volume_code x.last_source) ++ (big_bytes 4 (volume_code x.last_target) ++ (words_bytes x.changed ++ words_bytes x.kept)))) rest end (number_back 4 x.map.0 ok.typed.map)
@@ -273,8 +270,7 @@ pub record IsImage (x : MetaImage) : Type 0 where
   pub changes_counted : length x.changes < 2 ^ 32
   pub changes : All IsChanges x.changes
 
-pub image_back : (x : MetaImage) → IsImage x → (rest : List ℕ) (end : ℕ)
-    → image (record { bytes = image_bytes x ++ rest; end = end }) ≡ Got x (record { bytes = rest; end = end })
+pub image_back : IsBack image image_bytes IsImage
 unfolding image image_bytes
 image_back x ok rest end =
     then_back (number 8) _ x.next_birth (big_bytes 8 x.next_birth) ((big_bytes 4 x.next_volume ++ (big_bytes 4 x.next_map ++ (big_bytes 4 x.next_group ++ (list_bytes volume_bytes x.volumes ++ (list_bytes mapping_bytes x.mappings ++ (list_bytes group_bytes x.groups ++ (list_bytes chain_bytes x.chains ++ (list_bytes lost_bytes x.lost ++ list_bytes changes_bytes x.changes))))))))) rest end (number_back 8 x.next_birth ok.typed.next_birth)

@@ -120,13 +120,16 @@ impl Field for MetaChanges {
 
     fn read(alloc: Global, cursor: &mut Cursor) -> Result<Self, ReadError> {
         match Field::read(alloc, cursor) {
-            Ok((map, (last_source, (last_target, (changed, kept))))) => Ok(MetaChanges {
-                map: MapId(map),
-                last_source,
-                last_target,
-                changed,
-                kept,
-            }),
+            Ok((map, (last_source, (last_target, words)))) => {
+                let (changed, kept) = words;
+                Ok(MetaChanges {
+                    map: MapId(map),
+                    last_source,
+                    last_target,
+                    changed,
+                    kept,
+                })
+            }
             Err(error) => Err(error),
         }
     }

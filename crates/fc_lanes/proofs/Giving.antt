@@ -1,6 +1,7 @@
 -- What the lanes give back, lane by lane.
 use Rattle.std.proofs.Common.{◌≡◌, ℕ, suc, ◌+◌, ◌^◌, ◌<◌, ◌≤◌, List, [], ◌∷◌, ◌++◌, refl, sym, ap, ap₂, ◌∙◌, arith}
 use Rattle.std.specs.List.{All}
+use Rattle.std.proofs.lemmas.List.{append-nil, append_assoc}
 use Rattle.std.proofs.lemmas.List.Elements.{All-nil, All-cons}
 use Rattle.std.proofs.lemmas.List.Sums.{sum_by-append, sum_by-cons, sum_by_push}
 use Rattle.fc_base.specs.Pools.{Pool}
@@ -8,7 +9,7 @@ use Rattle.fc_grains.specs.Grains.{AreAllOf, one_if_silent, stopped, total_of}
 use Rattle.fc_grains.proofs.KindCounts.{flat-append, thin-append}
 use Rattle.fc_lane.specs.Lane.{LaneView}
 use Rattle.fc_mdisk.specs.Disk.{DiskState}
-use Rattle.fc_lanes.specs.Dealing.{AreAllIn, disks_in}
+use Rattle.fc_lanes.specs.Dealing.{AreAllIn, AreByLane, disks_in}
 
 pub all_but_last : {X : Type 0} → (P : X → Type 0) (xs : List X) (y : X) → All P (xs ++ y ∷ []) → All P xs
 all_but_last P [] y all = All-nil P
@@ -64,3 +65,14 @@ lane_given done v disks own all more = record {
     sum_by_push (λ (x : LaneView). x.grains.faults) done v,
   );
 }
+
+-- One lane more gives its disks back.
+pub lane_behind : (done : List LaneView) (v : LaneView) (disks own : List DiskState) → AreByLane done disks → AreAllOf v.grains own → AreByLane (done ++ v ∷ []) (disks ++ own)
+lane_behind [] v disks own none all = (own, [], ap (λ (ds : List DiskState). ds ++ own) none ∙ sym (append-nil own), all, refl)
+lane_behind (x ∷ xs) v disks own some all = (
+  some.0,
+  some.1 ++ own,
+  ap (λ (ds : List DiskState). ds ++ own) some.2 ∙ append_assoc some.0 some.1 own,
+  some.3,
+  lane_behind xs v some.1 own some.4 all,
+)

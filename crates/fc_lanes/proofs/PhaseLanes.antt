@@ -1,11 +1,14 @@
 -- Lanes that do something one after the other.
 use Rattle.std.proofs.Common.{◌≡◌, ◌≢◌, ℕ, ◌+◌, ◌<◌, ◌≤◌, List, [], ◌∷◌, length, slice_index_or, slice_set, refl, sym, ◌∙◌, subst, arith, ◌⊎◌, inl, inr}
-use Rattle.std.proofs.lemmas.Bool.{cases_eq}
+use Rattle.std.proofs.lemmas.Bool.{cases_eq, cases_lt}
 use Rattle.std.proofs.lemmas.List.{get_or-set_same, get_or-set_other, length-set}
 use Rattle.fc_base.specs.declared.decision.LaneEvent.{LaneEvent}
 use Rattle.fc_follow.specs.Following.{Followed, FitsFollowed}
-use Rattle.fc_lane.specs.Lane.{LaneView, CanDoEvents, IsFollowing, of}
-use Rattle.fc_lanes.specs.AllLanes.{EachLane, IsLaneReady, CanAllDo, FitAll}
+use Rattle.fc_grains.specs.Calls.{HasReadied}
+use Rattle.fc_grains.specs.Grains.{GrainsState, NewVolume}
+use Rattle.fc_grains.specs.Quiet.{IsQuiet}
+use Rattle.fc_lane.specs.Lane.{LaneView, CanDoEvents, IsFollowing, IsSameLane, of}
+use Rattle.fc_lanes.specs.AllLanes.{EachLane, IsDueIn, IsLaneReady, CanAllDo, FitAll}
 
 -- The first so many did it, and the others are as they were.
 pub record EachBelow (P : LaneView → LaneView → Type 0) (n : ℕ) (old now : List LaneView) : Type 0 where
@@ -57,8 +60,25 @@ fits_next P n old now events d b fit lt =
 abbrev pub IsMadeReady : List LaneEvent → LaneView → LaneView → Type 0
 IsMadeReady events old new = IsLaneReady old new × CanDoEvents new events
 
+-- A lane that has disks reserved keeps its armed faults.
+pub readied : (old new : LaneView) (reserved : List NewVolume) → IsSameLane old new → ((f : Followed) → IsFollowing old f → IsFollowing new f) →
+    (IsQuiet old.grains → IsQuiet new.grains) → new.grains.faults ≡ old.grains.faults → HasReadied old.grains reserved new.grains → IsLaneReady old new
+readied old new reserved same stands quiet faults has = record {
+  same = same;
+  stands = stands;
+  quiet = λ q. (quiet q, faults);
+  armed = λ id n due.
+      let P : GrainsState → Type 0 = λ g. IsDueIn (record old { grains = g }) id n in
+      subst P (sym has.rest) due;
+}
+
 as_it_was : (v : LaneView) → IsLaneReady v v
-as_it_was v = record { same = record { lane = refl; lanes = refl; grain = refl; disks = refl; silent = refl }; stands = λ told is. is; quiet = λ q. (q, refl) }
+as_it_was v = record {
+  same = record { lane = refl; lanes = refl; grain = refl; disks = refl; silent = refl };
+  stands = λ f is. is;
+  quiet = λ q. (q, refl);
+  armed = λ id n due. due;
+}
 
 -- So far, where the next finds no memory.
 pub ready_so_far : (events : List LaneEvent) (n : ℕ) (old now : List LaneView) (v e : LaneView) → EachBelow (IsMadeReady events) n old now → n < length old →
@@ -66,21 +86,8 @@ pub ready_so_far : (events : List LaneEvent) (n : ℕ) (old now : List LaneView)
 ready_so_far events n old now v e b lt done =
     let weaker : EachBelow IsLaneReady n old now = record { count = b.count; below = λ i d le. (b.below i d le).0; rest = b.rest } in
     let more : EachBelow IsLaneReady (n + 1) old (slice_set now n v) = one_more_lane IsLaneReady n old now v e weaker lt done in
-    record { count = more.count; each = λ i d le. by_place i d more (nat_cases i n) }
+    record { count = more.count; each = λ i d le. by_place i d more (cases_lt i (n + 1)) }
   where
-    nat_cases : (i n : ℕ) → (i < n + 1) ⊎ (n + 1 ≤ i)
-    nat_cases i ℕ.zero = zero_case i
-      where
-        zero_case : (i : ℕ) → (i < 0 + 1) ⊎ (0 + 1 ≤ i)
-        zero_case ℕ.zero = inl (omega arith)
-        zero_case (ℕ.suc i) = inr (omega arith)
-    nat_cases ℕ.zero (ℕ.suc n) = inl (omega arith)
-    nat_cases (ℕ.suc i) (ℕ.suc n) = lift i n (nat_cases i n)
-      where
-        lift : (i n : ℕ) → (i < n + 1) ⊎ (n + 1 ≤ i) → (ℕ.suc i < ℕ.suc n + 1) ⊎ (ℕ.suc n + 1 ≤ ℕ.suc i)
-        lift i n (inl lt) = inl (omega (arith, lt))
-        lift i n (inr le) = inr (omega (arith, le))
-
     by_place : (i : ℕ) (d : LaneView) → EachBelow IsLaneReady (n + 1) old (slice_set now n v) → (i < n + 1) ⊎ (n + 1 ≤ i) →
         IsLaneReady (slice_index_or old i d) (slice_index_or (slice_set now n v) i d)
     by_place i d more (inl lt) = more.below i d lt

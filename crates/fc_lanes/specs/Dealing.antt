@@ -1,9 +1,9 @@
--- How disks are dealt to lanes, and the lanes that begin over them.
-use Rattle.std.specs.Prelude.{◌≡◌, ℕ, ◌+◌, ◌<◌, ◌≤◌, ◌^◌, ◌%◌, ◌==◌, cond, List, [], ◌∷◌, length, map, Vec}
+-- How disks are dealt to lanes, the lanes that begin over them, and the disks that lanes give back.
+use Rattle.std.specs.Prelude.{◌≡◌, ℕ, ◌+◌, ◌<◌, ◌≤◌, ◌^◌, ◌%◌, ◌==◌, cond, List, [], ◌∷◌, ◌++◌, length, map, Vec}
 use Rattle.std.specs.List.{All, sum_by, range_with_len}
 use Rattle.fc_base.specs.Pools.{Pool}
 use Rattle.fc_base.specs.declared.size.GrainSize.{GrainSize}
-use Rattle.fc_grains.specs.Grains.{IsUnarmed, opened, pool_of, silent_of}
+use Rattle.fc_grains.specs.Grains.{AreAllOf, IsUnarmed, opened, pool_of, silent_of}
 use Rattle.fc_grains.specs.Quiet.{IsQuiet}
 use Rattle.fc_lane.specs.Lane.{LaneView, IsFollowing, begun}
 use Rattle.fc_mdisk.specs.Disk.{DiskState}
@@ -70,3 +70,8 @@ pub record AreAllIn (ls : List LaneView) (disks : List DiskState) : Type 0 where
   pub calls : All (λ (v : LaneView). v.grains.calls + 1 < 2 ^ 64) ls → calls_of disks ≡ calls_in ls
   pub faults : All (λ (v : LaneView). v.grains.faults + 1 < 2 ^ 64) ls → faults_of disks ≡ faults_in ls
   pub counted : faults_in ls ≤ faults_of disks
+
+-- They lie lane by lane: all disks of the first lane, and then those of the others.
+abbrev pub AreByLane : List LaneView → List DiskState → Type 0
+AreByLane [] disks = disks ≡ []
+AreByLane (v ∷ vs) disks = (own : List DiskState) × (rest : List DiskState) × (disks ≡ own ++ rest) × AreAllOf v.grains own × AreByLane vs rest

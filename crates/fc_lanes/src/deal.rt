@@ -3,7 +3,7 @@
 ghost use Rattle.std.specs.Prelude.{◌≡◌, ◌+◌, ◌++◌, ◌<◌, ◌≤◌, ◌^◌, [], IfOk, List, map, replicate, vec_capacity, vec_len};
 ghost use Rattle.std.specs.List.{All};
 ghost use Rattle.fc_grains.specs.Grains.{total_of};
-ghost use Rattle.fc_lanes.specs.Dealing.{AreAllIn, Begin, FitLane, all_dealt, disks_in, lists_of};
+ghost use Rattle.fc_lanes.specs.Dealing.{AreAllIn, AreByLane, Begin, FitLane, all_dealt, disks_in, lists_of};
 
 use fc_base::outcome::NoMemory;
 use fc_base::size::GrainSize;
@@ -74,10 +74,11 @@ pub fn make_lanes<D: Mdisk>(
     Ok(lanes)
 }
 
-/// Appends all disks of lanes as they are, lane by lane, to a list that has room for them.
+/// Appends all disks of lanes as they are, lane by lane in order, to a list that has room for them.
 pub fn give_lanes<D: Mdisk>(mut lanes: VecDeque<Lane<D>>, into: &mut Vec<D>)
     requires { vec_len into.old + total_of (disks_in lanes.items) ≤ vec_capacity into.old }
-    ensures { (given : List D) × (into.new.items ≡ into.old.items ++ given) × AreAllIn lanes.items (map D.meaning given) }
+    ensures { (given : List D) × (into.new.items ≡ into.old.items ++ given) × AreAllIn lanes.items (map D.meaning given)
+        × AreByLane lanes.items (map D.meaning given) }
 {
     while let Some(lane) = lanes.pop_front() {
         lane.give_disks(into);

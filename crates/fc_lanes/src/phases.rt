@@ -11,7 +11,7 @@ use fc_lane::lane::Lane;
 use fc_mdisk::mdisk::Mdisk;
 
 /// Makes all lanes ready for events that fit them, so that `apply_lanes` of these takes no memory. Refused for want of memory or
-/// not, each lane stands for what it did.
+/// not, each lane stands for what it did, and its armed faults stay.
 pub fn reserve_lanes<D: Mdisk>(lanes: &mut [Lane<D>], events: &LaneEvents) -> Result<(), NoMemory>
     requires fit { FitAll lanes.old events.now }
     requires works { WorksFirst events.now }
@@ -28,7 +28,8 @@ pub fn reserve_lanes<D: Mdisk>(lanes: &mut [Lane<D>], events: &LaneEvents) -> Re
     Ok(())
 }
 
-/// Has all lanes do what the events say, one after the other; they fit each lane, and each is ready for them. Takes no memory.
+/// Has all lanes do what the events say, one after the other; they fit each lane, and each is ready for them. The armed faults
+/// are then those that the events set. Takes no memory.
 pub fn apply_lanes<D: Mdisk>(lanes: &mut [Lane<D>], events: &LaneEvents)
     requires ready { CanAllDo lanes.old events.now }
     requires fit { FitAll lanes.old events.now }

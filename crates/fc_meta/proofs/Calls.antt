@@ -16,7 +16,7 @@ use Rattle.fc_meta.specs.Answers.{found_with, with_gate, LeavesFound, LeavesEith
 use Rattle.fc_meta.specs.States.{found, awaited, filled, IsResting, IsWaiting, IsCleared, IsFilled}
 use Rattle.fc_meta.proofs.Crash.{either, rests_found, torn_behind, torn_gate, torn_clearing, torn_filling, torn_turning}
 use Rattle.fc_meta.proofs.Done.{room, noted_rests, noted_staged, synced_rests, synced_found, cleared_rests, filled_rests, filled_staged, turned_rests, turned_found}
-use Rattle.fc_meta.proofs.Moments.{started, goes_on, weaker}
+use Rattle.fc_meta.proofs.Moments.{started, goes_on, joined, weaker}
 
 -- no bytes put
 put_nothing : (at : ℕ) (row : List ℕ) → bytes_put (at + 0) [] row ≡ row
@@ -110,7 +110,7 @@ module _ {D : Type 0} (seen : D → List ℕ) (may_leave : D → List ℕ → Ty
           (started moment left_since meta.disk (LeavesEither (found seen meta) (awaited seen meta)) (λ r left. inl (w.each r (only_now meta.disk r left) ∙ sym found_now)))
           time (λ r now. inl (w.each r (fewer r now) ∙ sym found_now))
 
-      pub sync_second : (mid new : D) → seen mid ≡ seen meta.disk → Only (seen meta.disk) (may_leave mid)
+      sync_second : (mid new : D) → seen mid ≡ seen meta.disk → Only (seen meta.disk) (may_leave mid)
           → LeavesOnly moment left_since mid new (MayTear (half_start meta.half (seen mid) + meta.used) 1 (may_leave mid))
           → LeavesOnly moment left_since mid new (LeavesEither (found seen meta) (awaited seen meta))
       sync_second mid new same only run =
@@ -118,6 +118,13 @@ module _ {D : Type 0} (seen : D → List ℕ) (may_leave : D → List ℕ → Ty
           (ap (λ (z : List ℕ). half_start meta.half z + meta.used) same)
           (λ r t. ⊎_elim (λ e. inl (e ∙ sym found_now)) (λ e. inr (e ∙ sym found_then))
           (torn_gate meta.half meta.generation meta.used meta.other_is_open w.image (seen meta.disk) w.rests meta.next w.records r w.staged t)) run
+
+      pub sync_run : (mid new : D) → ((r : List ℕ) → may_leave mid r → may_leave meta.disk r) → Elapses (moment meta.disk) (moment mid) (left_since meta.disk) (left_since mid) (may_leave mid)
+          → seen mid ≡ seen meta.disk → Only (seen meta.disk) (may_leave mid)
+          → LeavesOnly moment left_since mid new (MayTear (half_start meta.half (seen mid) + meta.used) 1 (may_leave mid))
+          → LeavesOnly moment left_since meta.disk new (LeavesEither (found seen meta) (awaited seen meta))
+      sync_run mid new fewer time same only run =
+          joined moment left_since meta.disk mid new (LeavesEither (found seen meta) (awaited seen meta)) (sync_first mid fewer time) (sync_second mid new same only run)
 
       module _ (mid new : D) (same : seen mid ≡ seen meta.disk) (put : seen new ≡ bytes_put (half_start meta.half (seen mid) + meta.used) (1 ∷ []) (seen mid)) where
         stands_synced : seen new ≡ with_gate meta.half meta.used (seen meta.disk)

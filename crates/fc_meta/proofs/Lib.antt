@@ -13,3 +13,6 @@ pub mod Runs
 pub mod SeriesExamples
 pub mod DiskCallsExamples
 pub mod Recovered
+pub mod Asked
+pub mod Promised
+pub mod Whole

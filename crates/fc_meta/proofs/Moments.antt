@@ -1,6 +1,8 @@
 -- How a run of a disk's calls goes on.
 use Rattle.std.proofs.Common.{inl, inr, ⊎_elim, ℕ, List, arith}
 use Rattle.fc_metadisk.specs.Disk.{Elapses, LeavesOnly}
+use Rattle.fc_format.specs.Halves.{Found}
+use Rattle.fc_meta.specs.Answers.{LeavesFound, LeavesEither}
 
 module _ {D : Type 0} (moment : D → ℕ) (left_since : D → ℕ → List ℕ → Type 0) where
   -- before the first call
@@ -31,3 +33,7 @@ module _ {D : Type 0} (moment : D → ℕ) (left_since : D → ℕ → List ℕ 
     each = λ c left. more c (run.each c left);
     before = λ t c le left. ⊎_elim (λ was. inl was) (λ h. inr (more c h)) (run.before t c le left);
   }
+
+  -- what leaves what stood leaves that or something else
+  pub stays : (old new : D) (before after : Found) → LeavesOnly moment left_since old new (LeavesFound before) → LeavesOnly moment left_since old new (LeavesEither before after)
+  stays old new before after run = weaker old new (LeavesFound before) (LeavesEither before after) (λ c e. inl e) run

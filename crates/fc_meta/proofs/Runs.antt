@@ -1,10 +1,9 @@
 -- What calls leave that come one after the other.
-use Rattle.std.proofs.Common.{◌≡◌, ◌⊎◌, inl, inr, ⊎_elim, ℕ, zero, suc, ◌+◌, ◌<◌, ◌≤◌, List, [], ◌∷◌, ◌++◌, length, get_or, take, drop, refl, sym, ap, ◌∙◌, subst, append_assoc, arith}
+use Rattle.std.proofs.Common.{◌≡◌, ◌⊎◌, inl, inr, ⊎_elim, ℕ, ◌+◌, ◌<◌, ◌≤◌, List, [], ◌∷◌, ◌++◌, length, get_or, take, drop, refl, sym, ap, ◌∙◌, subst, append_assoc, arith}
 use Rattle.std.specs.Prelude.{Err, IsErrOf}
 use Rattle.std.specs.List.{sum_by}
 use Rattle.std.proofs.lemmas.List.{append-nil, drop_more, take_more, take_all}
 use Rattle.std.proofs.lemmas.List.Sums.{sum_by-append, sum_by-cons}
-use Rattle.fc_base.specs.Count.{one_more}
 use Rattle.fc_image.specs.declared.record.MetaRecord.{MetaRecord}
 use Rattle.fc_image.specs.declared.image.MetaImage.{MetaImage}
 use Rattle.fc_metadisk.specs.Disk.{LeavesOnly}
@@ -17,6 +16,8 @@ use Rattle.fc_meta.specs.declared.meta.Meta.{Meta}
 use Rattle.fc_meta.specs.Answers.{found_with, LeavesEither, more_calls}
 use Rattle.fc_meta.specs.States.{found, awaited, filled, IsResting, IsWaiting, IsCleared, IsFilled}
 use Rattle.fc_meta.specs.Order.{IsReadyFor, IsMade, coming, HasNoRoom, disk_calls, Stage, AtRest, BatchNoted, OtherCleared, OtherFilled, behind, stage_behind, Comes, AreInOrder, IsAt, stands, LeavesFront, UnlessFailed}
+use Rattle.fc_meta.specs.DiskCalls.{calls_of as disk_calls_of}
+use Rattle.fc_meta.proofs.Asked.{calls_added}
 use Rattle.fc_meta.proofs.Crash.{rests_found}
 use Rattle.fc_meta.proofs.Moments.{started, joined, weaker}
 
@@ -240,9 +241,13 @@ module _ {D : Type 0} (seen : D → List ℕ) (may_leave : D → List ℕ → Ty
 
 -- ---- Calls of the disk
 
-calls_added : (m n c : ℕ) → more_calls m (more_calls n c) ≡ more_calls (n + m) c
-calls_added zero n c = ap (λ (k : ℕ). more_calls k c) (let e : n ≡ n + 0 = omega arith in e)
-calls_added (suc m) n c = ap one_more (calls_added m n c) ∙ ap (λ (k : ℕ). more_calls k c) (let e : suc (n + m) ≡ n + suc m = omega arith in e)
+-- those that a call asks for
+pub calls_counted : {D : Type 0} (seen : D → List ℕ) (call : Call) (meta : Meta D) → length (disk_calls_of seen call meta) ≡ disk_calls call
+calls_counted seen (Note records) meta = refl
+calls_counted seen Sync meta = refl
+calls_counted seen ClearOther meta = refl
+calls_counted seen (FillOther image) meta = refl
+calls_counted seen Turn meta = refl
 
 -- one call more
 pub counted_on : (calls : List Call) (done : ℕ) (call : Call) (first before now : ℕ) → call ≡ get_or calls done call → done < length calls
@@ -252,9 +257,10 @@ counted_on calls done call first before now is there so_far more =
     more ∙ (ap (more_calls (disk_calls call)) so_far
     ∙ (calls_added (disk_calls call) (sum_by disk_calls (take done calls)) first
     ∙ ap (λ (k : ℕ). more_calls k first)
-    (let last : sum_by disk_calls (call ∷ []) ≡ disk_calls call = sum_by-cons disk_calls call [] ∙ (let e : disk_calls call + 0 ≡ disk_calls call = omega arith in e) in
-    ap (λ (k : ℕ). sum_by disk_calls (take done calls) + k) (sym last) ∙ (sym (sum_by-append disk_calls (take done calls) (call ∷ []))
-    ∙ ap (sum_by disk_calls) (sym (take_more calls done call there ∙ ap (λ (z : Call). take done calls ++ z ∷ []) (sym is)))))))
+    (let turned : disk_calls call + sum_by disk_calls (take done calls) ≡ sum_by disk_calls (take done calls) + disk_calls call = omega arith in
+    let last : sum_by disk_calls (call ∷ []) ≡ disk_calls call = sum_by-cons disk_calls call [] ∙ (let e : disk_calls call + 0 ≡ disk_calls call = omega arith in e) in
+    turned ∙ (ap (λ (k : ℕ). sum_by disk_calls (take done calls) + k) (sym last) ∙ (sym (sum_by-append disk_calls (take done calls) (call ∷ []))
+    ∙ ap (sum_by disk_calls) (sym (take_more calls done call there ∙ ap (λ (z : Call). take done calls ++ z ∷ []) (sym is))))))))
 
 -- ---- Answers
 

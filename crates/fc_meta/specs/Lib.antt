@@ -6,3 +6,4 @@ pub mod Recovering
 pub mod States
 pub mod DiskCalls
 pub mod Order
+pub mod Promise

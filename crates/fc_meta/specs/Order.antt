@@ -1,6 +1,6 @@
 -- Calls of a writer, one after the other: in which order they come, and what stands behind them.
-use Rattle.std.specs.Prelude.{◌≡◌, ◌<◌, ℕ, ◌+◌, List, [], ◌∷◌, ◌++◌, length, Result, Ok, Err, ⊤}
-use Rattle.fc_format.specs.Bytes.{batch_bytes}
+use Rattle.std.specs.Prelude.{◌≡◌, ◌<◌, ℕ, false, ◌+◌, List, [], ◌∷◌, ◌++◌, length, Result, Ok, Err, ⊤}
+use Rattle.fc_format.specs.Bytes.{batch_bytes, half_bytes}
 use Rattle.fc_format.specs.Ranges.{HasGoodIds}
 use Rattle.fc_format.specs.Halves.{Found, Image, recovered}
 use Rattle.fc_meta.specs.declared.series.Call.{Call}
@@ -9,7 +9,7 @@ use Rattle.fc_meta.specs.declared.error.MetaError.{MetaError}
 use Rattle.fc_meta.specs.declared.error.MetaError.TheVariants.{Failed, NoMemory, Full}
 use Rattle.fc_meta.specs.declared.meta.Meta.{Meta}
 use Rattle.fc_meta.specs.Answers.{found_with, PassesHalf}
-use Rattle.fc_meta.specs.States.{generation_of, used_of, room_of, found, awaited, filled, IsResting, IsWaiting, IsCleared, IsFilled}
+use Rattle.fc_meta.specs.States.{Head, head_of, head_turned, generation_of, used_of, next_of, room_of, found, awaited, filled, IsResting, IsWaiting, IsCleared, IsFilled}
 
 -- ---- One call
 
@@ -26,10 +26,21 @@ module _ {D : Type 0} (seen : D → List ℕ) (may_leave : D → List ℕ → Ty
   abbrev pub IsMade : Call → Meta D → Meta D → Type 0
   IsMade (Note records) old new =
       IsWaiting seen may_leave new × (found seen new ≡ found seen old) × (awaited seen new ≡ found_with (found seen old) records)
+      × (next_of new ≡ used_of old + length (batch_bytes records))
   IsMade Sync old new = IsResting seen may_leave new × (found seen new ≡ awaited seen old)
   IsMade ClearOther old new = IsCleared seen may_leave new × (found seen new ≡ found seen old)
-  IsMade (FillOther image) old new = IsFilled seen may_leave new × (found seen new ≡ found seen old) × (filled seen new ≡ Image image)
+  IsMade (FillOther image) old new =
+      IsFilled seen may_leave new × (found seen new ≡ found seen old) × (filled seen new ≡ Image image)
+      × (next_of new ≡ length (half_bytes (generation_of old + 1) image))
   IsMade Turn old new = IsResting seen may_leave new × (found seen new ≡ filled seen old)
+
+-- where the writer then stands
+abbrev pub head_behind : {D : Type 0} → Call → Meta D → Head
+head_behind (Note records) meta = head_of meta
+head_behind Sync meta = record (head_of meta) { used = next_of meta }
+head_behind ClearOther meta = record (head_of meta) { other_is_open = false }
+head_behind (FillOther image) meta = record (head_of meta) { other_is_open = false }
+head_behind Turn meta = head_turned (next_of meta) (head_of meta)
 
 module _ {D : Type 0} (seen : D → List ℕ) where
   -- what stands once it has answered Ok

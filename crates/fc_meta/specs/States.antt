@@ -1,5 +1,5 @@
 -- How far a writer is: at rest, or in the middle of a batch or a fold.
-use Rattle.std.specs.Prelude.{◌≡◌, ℕ, ◌+◌, Bool, false, List, Result, Ok, Err}
+use Rattle.std.specs.Prelude.{◌≡◌, ℕ, ◌+◌, Bool, true, false, List, Result, Ok, Err}
 use Rattle.fc_image.specs.declared.record.MetaRecord.{MetaRecord}
 use Rattle.fc_image.specs.declared.image.MetaImage.{MetaImage}
 use Rattle.fc_metadisk.specs.Disk.{Only}
@@ -36,6 +36,24 @@ used_of meta = meta.used
 -- so many once the batch that waits is synced, or the half that was filled is turned to
 abbrev pub next_of : {D : Type 0} → Meta D → ℕ
 next_of meta = meta.next
+
+-- where a writer stands
+pub record Head : Type 0 where
+  pub half : Half
+  pub generation : ℕ
+  pub used : ℕ
+  pub other_is_open : Bool
+
+abbrev pub head_of : {D : Type 0} → Meta D → Head
+head_of meta = record { half = meta.half; generation = meta.generation; used = meta.used; other_is_open = meta.other_is_open }
+
+-- with a batch of so many bytes more
+abbrev pub head_with : ℕ → Head → Head
+head_with bytes head = record head { used = head.used + bytes }
+
+-- turned to the other half, in which so many bytes stand
+abbrev pub head_turned : ℕ → Head → Head
+head_turned used head = record { half = other_half head.half; generation = head.generation + 1; used = used; other_is_open = true }
 
 module _ {D : Type 0} (seen : D → List ℕ) where
   -- the bytes of a half

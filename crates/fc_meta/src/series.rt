@@ -1,14 +1,13 @@
 //! Calls one after the other.
 
-ghost use Rattle.std.specs.Prelude.{◌≡◌, ◌⊎◌, ◌<◌, ◌+◌, List, ℕ, length, take, drop, OnOk, OnErr, IsErrOf};
+ghost use Rattle.std.specs.Prelude.{◌≡◌, ◌<◌, ◌+◌, List, ℕ, length, take, drop, OnOk, OnErr, IsErrOf};
 ghost use Rattle.std.specs.List.{sum_by};
 ghost use Rattle.fc_base.specs.Count.{HasRisen};
 ghost use Rattle.fc_metadisk.specs.Disk.{LeavesOnly};
-ghost use Rattle.fc_metadisk.specs.Calls.{all_made, AreCutShort};
 ghost use Rattle.fc_meta.specs.Answers.{LeavesEither, LeavesFound, more_calls, IsStopped};
 ghost use Rattle.fc_meta.specs.States.{disk_of, found, IsResting};
-ghost use Rattle.fc_meta.specs.Order.{AtRest, IsReadyFor, IsMade, coming, HasNoRoom, TakesMemory, OfFirst, disk_calls, AreInOrder, IsAt, stage_behind, stands, LeavesFront, UnlessFailed};
-ghost use Rattle.fc_meta.specs.DiskCalls.{calls_of};
+ghost use Rattle.fc_meta.specs.Order.{AtRest, IsReadyFor, HasNoRoom, TakesMemory, OfFirst, disk_calls, AreInOrder, IsAt, stage_behind, stands, LeavesFront, UnlessFailed};
+ghost use Rattle.fc_meta.specs.Promise.{Promise};
 
 use crate::error::MetaError;
 use crate::meta::Meta;
@@ -36,27 +35,8 @@ impl<M: MetaDisk> Meta<M> {
     /// Makes the call, and answers as it does.
     pub fn make(&mut self, alloc: Global, call: &Call) -> Result<(), MetaError>
         requires { IsReadyFor M.seen M.may_leave call.now self.old }
-        ensures made { OnOk result (IsMade M.seen M.may_leave call.now self.old self.new) }
-        ensures refused { OnErr result (IsErrOf result MetaError.Failed ⊎ (self.new ≡ self.old)) }
-        ensures full { IsErrOf result MetaError.Full → HasNoRoom M.seen call.now self.old }
-        ensures no_memory { IsErrOf result MetaError.NoMemory → TakesMemory call.now }
-        ensures size { length (M.seen (disk_of self.new)) ≡ length (M.seen (disk_of self.old)) }
-        ensures any_moment { LeavesOnly M.moment M.left_since (disk_of self.old) (disk_of self.new)
-            (LeavesEither (found M.seen self.old) (coming M.seen call.now self.old)) }
-        ensures failed { IsErrOf result MetaError.Failed → HasRisen
-            (M.fault_count (disk_of self.old)) (M.fault_count (disk_of self.new)) }
-        ensures quiet { OnOk result
-            (M.fault_count (disk_of self.new) ≡ M.fault_count (disk_of self.old)) }
-        ensures calls { OnOk result (M.calls (disk_of self.new) ≡
-            more_calls (disk_calls call.now) (M.calls (disk_of self.old))) }
-        ensures room { OnOk result (HasNoRoom M.seen call.now self.old → ⊥) }
-        ensures stopped { IsErrOf result MetaError.Failed → IsStopped (disk_calls call.now)
-            (M.calls (disk_of self.old)) (M.calls (disk_of self.new)) }
-        ensures done { OnOk result (M.leads (disk_of self.old)
-            (all_made (calls_of M.seen call.now self.old)) (disk_of self.new)) }
-        ensures cut_short { IsErrOf result MetaError.Failed → AreCutShort
-            (λ made. M.leads (disk_of self.old) made (disk_of self.new))
-            (calls_of M.seen call.now self.old) }
+        ensures { Promise M.seen M.moment M.left_since M.fault_count M.calls M.leads M.may_leave
+            call.now self.old self.new result }
     {
         match call {
             Call::Note(records) => self.note(alloc, records.as_slice()),

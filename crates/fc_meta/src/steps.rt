@@ -1,15 +1,16 @@
 //! Whole steps: a batch, and a fold.
 
-ghost use Rattle.std.specs.Prelude.{◌≡◌, ◌<◌, ◌≤◌, ◌+◌, ◌↔◌, ◌⊎◌, length, true, OnOk, OnErr, IsErrOf};
-ghost use Rattle.fc_base.specs.Count.{HasRisen};
-ghost use Rattle.fc_metadisk.specs.Disk.{LeavesOnly};
-ghost use Rattle.fc_metadisk.specs.Calls.{all_made, AreCutShort};
+ghost use Rattle.std.specs.Prelude.{◌≡◌, ◌<◌, ◌≤◌, ◌+◌, ◌↔◌, ◌⊎◌, length, OnOk, OnErr, IsErrOf};
+ghost use Rattle.fc_metadisk.specs.Calls.{all_made};
 ghost use Rattle.fc_format.specs.Bytes.{batch_bytes, half_bytes};
 ghost use Rattle.fc_format.specs.Ranges.{HasGoodIds};
-ghost use Rattle.fc_format.specs.Halves.{Image, other_half};
-ghost use Rattle.fc_meta.specs.Answers.{found_with, LeavesEither, PassesHalf, more_calls, IsStopped};
-ghost use Rattle.fc_meta.specs.States.{disk_of, read_half, other_open, generation_of, used_of, room_of, found, IsResting};
+ghost use Rattle.fc_format.specs.Halves.{Image};
+ghost use Rattle.fc_meta.specs.declared.series.Call.TheVariants.{Note};
+ghost use Rattle.fc_meta.specs.Answers.{found_with, PassesHalf, more_calls};
+ghost use Rattle.fc_meta.specs.States.{disk_of, head_of, head_with, head_turned, generation_of, used_of, room_of, found, IsResting};
+ghost use Rattle.fc_meta.specs.Order.{HasNoRoom};
 ghost use Rattle.fc_meta.specs.DiskCalls.{clear_calls, put_calls, fold_calls};
+ghost use Rattle.fc_meta.specs.Promise.{TreatsDisk};
 
 use crate::error::MetaError;
 use crate::meta::Meta;
@@ -26,32 +27,14 @@ impl<M: MetaDisk> Meta<M> {
         ensures rests { OnOk result (IsResting M.seen M.may_leave self.new) }
         ensures found { OnOk result
             (found M.seen self.new ≡ found_with (found M.seen self.old) records.now) }
-        ensures half { OnOk result (read_half self.new ≡ read_half self.old) }
-        ensures other { OnOk result (other_open self.new ≡ other_open self.old) }
-        ensures generation { OnOk result (generation_of self.new ≡ generation_of self.old) }
-        ensures used { OnOk result
-            (used_of self.new ≡ used_of self.old + length (batch_bytes records.now)) }
-        ensures size { length (M.seen (disk_of self.new)) ≡ length (M.seen (disk_of self.old)) }
-        ensures any_moment { LeavesOnly M.moment M.left_since (disk_of self.old) (disk_of self.new)
-            (LeavesEither (found M.seen self.old)
-            (found_with (found M.seen self.old) records.now)) }
+        ensures head { OnOk result
+            (head_of self.new ≡ head_with (length (batch_bytes records.now)) (head_of self.old)) }
         ensures full { IsErrOf result MetaError.Full ↔
-            (room_of M.seen self.old < used_of self.old + 1 + length (batch_bytes records.now)) }
-        ensures unmoved { IsErrOf result MetaError.Full → self.new ≡ self.old }
-        ensures no_memory { IsErrOf result MetaError.NoMemory → self.new ≡ self.old }
-        ensures failed { IsErrOf result MetaError.Failed → HasRisen
-            (M.fault_count (disk_of self.old)) (M.fault_count (disk_of self.new)) }
-        ensures quiet { OnOk result
-            (M.fault_count (disk_of self.new) ≡ M.fault_count (disk_of self.old)) }
-        ensures made { OnOk result
-            (M.calls (disk_of self.new) ≡ more_calls 4 (M.calls (disk_of self.old))) }
-        ensures stopped { IsErrOf result MetaError.Failed → IsStopped 4
-            (M.calls (disk_of self.old)) (M.calls (disk_of self.new)) }
-        ensures done { OnOk result (M.leads (disk_of self.old)
-            (all_made (put_calls M.seen self.old records.now)) (disk_of self.new)) }
-        ensures cut_short { IsErrOf result MetaError.Failed → AreCutShort
-            (λ made. M.leads (disk_of self.old) made (disk_of self.new))
-            (put_calls M.seen self.old records.now) }
+            HasNoRoom M.seen (Note records.now) self.old }
+        ensures refused { OnErr result (IsErrOf result MetaError.Failed ⊎ (self.new ≡ self.old)) }
+        ensures treats { TreatsDisk M.seen M.moment M.left_since M.fault_count M.calls M.leads
+            (found_with (found M.seen self.old) records.now)
+            (put_calls M.seen self.old records.now) self.old self.new result }
     {
         self.note(alloc, records)?;
         self.sync()
@@ -66,14 +49,9 @@ impl<M: MetaDisk> Meta<M> {
         requires ids { HasGoodIds image.now }
         ensures rests { OnOk result (IsResting M.seen M.may_leave self.new) }
         ensures found { OnOk result (found M.seen self.new ≡ Image image.now) }
-        ensures half { OnOk result (read_half self.new ≡ other_half (read_half self.old)) }
-        ensures other { OnOk result (other_open self.new ≡ true) }
-        ensures generation { OnOk result (generation_of self.new ≡ generation_of self.old + 1) }
-        ensures used { OnOk result
-            (used_of self.new ≡ length (half_bytes (generation_of self.old + 1) image.now)) }
-        ensures size { length (M.seen (disk_of self.new)) ≡ length (M.seen (disk_of self.old)) }
-        ensures any_moment { LeavesOnly M.moment M.left_since (disk_of self.old) (disk_of self.new)
-            (LeavesEither (found M.seen self.old) (Image image.now)) }
+        ensures head { OnOk result
+            (head_of self.new ≡ head_turned
+            (length (half_bytes (generation_of self.old + 1) image.now)) (head_of self.old)) }
         ensures full { IsErrOf result MetaError.Full →
             PassesHalf (generation_of self.old) image.now (room_of M.seen self.old) }
         ensures stays { OnErr result (IsErrOf result MetaError.Failed ⊎
@@ -84,19 +62,8 @@ impl<M: MetaDisk> Meta<M> {
             (M.calls (disk_of self.new) ≡ more_calls 2 (M.calls (disk_of self.old))))) }
         ensures room { OnOk result
             (PassesHalf (generation_of self.old) image.now (room_of M.seen self.old) → ⊥) }
-        ensures failed { IsErrOf result MetaError.Failed → HasRisen
-            (M.fault_count (disk_of self.old)) (M.fault_count (disk_of self.new)) }
-        ensures quiet { OnOk result
-            (M.fault_count (disk_of self.new) ≡ M.fault_count (disk_of self.old)) }
-        ensures made { OnOk result
-            (M.calls (disk_of self.new) ≡ more_calls 6 (M.calls (disk_of self.old))) }
-        ensures stopped { IsErrOf result MetaError.Failed → IsStopped 6
-            (M.calls (disk_of self.old)) (M.calls (disk_of self.new)) }
-        ensures done { OnOk result (M.leads (disk_of self.old)
-            (all_made (fold_calls M.seen self.old image.now)) (disk_of self.new)) }
-        ensures cut_short { IsErrOf result MetaError.Failed → AreCutShort
-            (λ made. M.leads (disk_of self.old) made (disk_of self.new))
-            (fold_calls M.seen self.old image.now) }
+        ensures treats { TreatsDisk M.seen M.moment M.left_since M.fault_count M.calls M.leads
+            (Image image.now) (fold_calls M.seen self.old image.now) self.old self.new result }
         ensures begun { OnErr result (IsErrOf result MetaError.Failed ⊎
             M.leads (disk_of self.old) (all_made (clear_calls M.seen self.old))
             (disk_of self.new)) }

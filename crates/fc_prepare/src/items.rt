@@ -17,9 +17,9 @@ use fc_base::request::Request;
 use fc_base::size::GrainSize;
 use fc_copies::copy::copy_command;
 use fc_lanes::access::Access;
+use fc_lanes::touched::touched_grains;
 use fc_mdisk::mdisk::Mdisk;
 use fc_store::store::Store;
-use fc_store::touched::touched_grains;
 use std::alloc::Global;
 use std::collections::VecDeque;
 

@@ -64,18 +64,21 @@ Fed-ended (Err stop) runs bytes rest history ends empty =
     subst P (sym (ended-newline bytes)) ends
 
 pub Fed-newline :
-    {A : Type 0} (answer : Result A Stop) (runs : Runs) (bytes line asked rest : List ℕ) (history : HistoryState) →
+    {A : Type 0} (answer : Result A Stop) (runs : Runs) (bytes line asked rest : List ℕ) (history : HistoryState) (byte : ℕ) →
+    byte ≡ 10 →
     asked ≡ without_return line →
     line ≡ (lined bytes).unended →
     LineLeaves answer runs (ended_lines bytes ++ asked ∷ []) history →
     (IsOk answer → rest ≡ []) →
-    Fed answer runs (bytes ++ 10 ∷ []) rest history
-Fed-newline answer runs bytes line asked rest history asks unended leaves empty =
+    Fed answer runs (bytes ++ byte ∷ []) rest history
+Fed-newline answer runs bytes line asked rest history byte is asks unended leaves empty =
     let P : List ℕ → Type 0 = λ l. LineLeaves answer runs (ended_lines bytes ++ l ∷ []) history in
-    Fed-ended answer runs bytes rest history
+    let Q : ℕ → Type 0 = λ b. Fed answer runs (bytes ++ b ∷ []) rest history in
+    subst Q (sym is)
+    (Fed-ended answer runs bytes rest history
     (LinesEnd-answer answer runs (ended_lines bytes ++ without_return (lined bytes).unended ∷ []) history
     (subst P (asks ∙ ap without_return unended) leaves))
-    empty
+    empty)
 
 -- Where no memory was had for a byte, the lines that ended were answered.
 pub Fed-starved :

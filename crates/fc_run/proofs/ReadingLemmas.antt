@@ -13,6 +13,7 @@ use Rattle.fc_run.specs.Runs.{Runs}
 use Rattle.fc_run.specs.Taking.{GaveAny, TurnGave}
 use Rattle.fc_run.proofs.OutputLemmas.{HasRisen-before}
 use Rattle.fc_run.proofs.TakesLemmas.{SoFarGave-more, EachGave-last, EachGave-so_far, EachGave-some}
+use Rattle.fc_run.specs.declared.reading.Turn.{Turn}
 use Rattle.fc_run.specs.declared.reading.Turn.TheVariants as turn
 use Rattle.fc_run.specs.declared.reading.Ending.{Ending}
 use Rattle.fc_run.specs.declared.reading.Ending.TheVariants as ending
@@ -86,35 +87,34 @@ SoFar-more n most taken before now after Now After line rest old new so_far faul
     le : (a b c : ℕ) → a ≤ b → b ≤ c → a ≤ c
     le a b c p q = omega arith
 
--- the end of input
-pub ReadTo-end :
-    (most taken : ℕ) (before now after : SourceState) (Now After : Runs) (line rest : List ℕ) (old new : HistoryState) →
+-- the turns that are the last with nothing taken, and how reading ends then
+abbrev pub IsLast : Turn → Ending → Type 0
+IsLast turn.End ending.End = Unit {0}
+IsLast turn.Fault ending.ReadFault = Unit {0}
+IsLast _ _ = ⊥
+
+-- the end of input, or a fault
+pub ReadTo-last :
+    {taken : ℕ} {before now after : SourceState} {Now After : Runs} {line rest : List ℕ} {old new : HistoryState} (last : Turn) (ended : Ending) →
+    IsLast last ended →
     (so_far : SoFar before now Now line old taken) →
     taken ≤ input_limit →
-    TurnGave turn.End now after →
-    Turned turn.End most now after After so_far.bytes rest new →
-    ReadTo ending.End before after After rest new
-ReadTo-end most taken before now after Now After line rest old new so_far within took turned = record {
+    TurnGave last now after →
+    Turned last 0 now after After so_far.bytes rest new →
+    ReadTo ended before after After rest new
+ReadTo-last {before = before} {now} {after} turn.End ending.End is so_far within took turned = record {
   bytes = so_far.bytes;
   gave = Gave-nothing before now after so_far.bytes so_far.gave turned.1;
   takes = EachGave-last before now after so_far.takes took;
   ends = (turned.0, omega (arith, so_far.counted), turned.2);
 }
-
--- a fault
-pub ReadTo-fault :
-    (most taken : ℕ) (before now after : SourceState) (Now After : Runs) (line rest : List ℕ) (old new : HistoryState) →
-    (so_far : SoFar before now Now line old taken) →
-    taken ≤ input_limit →
-    TurnGave turn.Fault now after →
-    Turned turn.Fault most now after After so_far.bytes rest new →
-    ReadTo ending.ReadFault before after After rest new
-ReadTo-fault most taken before now after Now After line rest old new so_far within took turned = record {
+ReadTo-last {before = before} {now} {after} turn.Fault ending.ReadFault is so_far within took turned = record {
   bytes = so_far.bytes;
   gave = Gave-nothing before now after so_far.bytes so_far.gave turned.1;
   takes = EachGave-last before now after so_far.takes took;
   ends = (HasRisen-before before.faults now.faults after.faults so_far.faults turned.0, omega (arith, so_far.counted), turned.2);
 }
+ReadTo-last last ended is so_far within took turned = absurd is
 
 -- a stop
 pub ReadTo-stopped :

@@ -8,7 +8,7 @@ use Rattle.fc_entry.proofs.LineLemmas.{Grows, ended_lines-grow}
 use Rattle.fc_entry.specs.declared.stop.Stop.TheVariants.{LogFull, NoMemory}
 use Rattle.fc_io.specs.Sink.{SinkState}
 use Rattle.fc_io.specs.Source.{SourceState}
-use Rattle.fc_run.specs.Headline.{EndsAs, Session, SessionEnds}
+use Rattle.fc_run.specs.Headline.{EndsAs, EndsAtEnd, Session, SessionEnds}
 use Rattle.fc_run.specs.Input.{OfFirst, OfFirstTaken, input_limit}
 use Rattle.fc_run.specs.Output.{HasFailed, HasGot, IsPut, IsWritten, behind_first_line, first_line, text_so_far}
 use Rattle.fc_run.specs.ReadTo.{EndsInput, SessionRead, ended_for, is_write_fault}
@@ -93,6 +93,14 @@ unwritten_at_end is_open form source source' sink sink' runs history bytes ends 
   cut.front,
 )
 
+-- they were, and the text was written
+written_at_end :
+    (is_open : Bool) (e : Ended) (form : Form) (source source' : SourceState) (sink sink' : SinkState) (runs : Runs) (history : HistoryState) (bytes : List ℕ) →
+    EndsInput is_open source' runs bytes history →
+    IsWritten sink (form_text form history) false sink' →
+    EndsAtEnd is_open (session_of e form source source' sink sink' history) runs bytes
+written_at_end is_open e form source source' sink sink' runs history bytes ends written = (ends.0, ends.1, ends.2, ends.3, (written.got.held, written.sent))
+
 -- the session was read to another end, and what was left of the text was to be written
 SessionEnds-written :
     (e : Ending) (failed : Bool) (form : Form) (source source' : SourceState) (sink sink' : SinkState) (runs : Runs) (history : HistoryState) →
@@ -103,7 +111,7 @@ SessionEnds-written :
 SessionEnds-written ending.End false form source source' sink sink' runs history other read written = record {
   bytes = read.bytes;
   gave = read.gave;
-  ends = (read.ends.0, read.ends.1, read.ends.2, read.ends.3, (written.got.held, written.sent));
+  ends = written_at_end false ended.Done form source source' sink sink' runs history read.bytes read.ends written;
 }
 SessionEnds-written ending.End true form source source' sink sink' runs history other read written = record {
   bytes = read.bytes;
@@ -113,7 +121,7 @@ SessionEnds-written ending.End true form source source' sink sink' runs history 
 SessionEnds-written ending.Unended false form source source' sink sink' runs history other read written = record {
   bytes = read.bytes;
   gave = read.gave;
-  ends = (read.ends.0, read.ends.1, read.ends.2, read.ends.3, (written.got.held, written.sent));
+  ends = written_at_end true ended.Unended form source source' sink sink' runs history read.bytes read.ends written;
 }
 SessionEnds-written ending.Unended true form source source' sink sink' runs history other read written = record {
   bytes = read.bytes;

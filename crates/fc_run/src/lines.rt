@@ -1,9 +1,9 @@
 //! From bytes to lines.
 
-ghost use Rattle.std.specs.Prelude.{◌≡◌, ◌≤◌, ℕ, List, [], ◌∷◌, ◌++◌, length};
+ghost use Rattle.std.specs.Prelude.{◌≡◌, ◌≤◌, ℕ, List, [], ◌∷◌, length};
 ghost use Rattle.fc_entry.specs.Lines.{all_lines, without_return};
 ghost use Rattle.fc_entry.specs.Text.{HasNames};
-ghost use Rattle.fc_run.specs.Progress.{Progress, Fed, LinesEnd};
+ghost use Rattle.fc_run.specs.Progress.{CanFeed, Feeds, LinesEnd, Progress};
 ghost use Rattle.fc_run.specs.Runs.{GrowsTo};
 
 use crate::answers::Answers;
@@ -27,38 +27,18 @@ fn feed_byte<A: Answers>(
     answers: &mut A,
     history: &mut History,
 ) -> Result<(), Stop>
-    requires stands { (start : A.Start) × (bytes : List ℕ) × Progress (A.runs answers.old start) bytes line.old.items history.old }
-    requires room { length history.old.entries ≤ 262144 }
-    ensures fed { (start : A.Start) (bytes : List ℕ) → Progress (A.runs answers.old start) bytes line.old.items history.old
-        → Fed result (A.runs answers.new start) (bytes ++ byte ∷ []) line.new.items history.new }
+    requires { CanFeed (A.runs answers.old) line.old.items history.old }
+    ensures fed { Feeds result (A.runs answers.old) (A.runs answers.new) (byte ∷ []) line.old.items line.new.items history.old history.new }
     ensures named { HasNames history.old → HasNames history.new }
     ensures grows { GrowsTo history.old history.new }
     ensures limit { length history.new.entries ≤ 262144 }
 {
-    if byte == b'\n' {
-        end_line(line, answers, history)
-    } else {
-        match line.push(byte) {
+    if byte != b'\n' {
+        return match line.push(byte) {
             Ok(()) => Ok(()),
             Err(_) => Err(Stop::NoMemory),
-        }
+        };
     }
-}
-
-/// Ends the line at hand and answers it.
-fn end_line<A: Answers>(
-    line: &mut Vec<u8>,
-    answers: &mut A,
-    history: &mut History,
-) -> Result<(), Stop>
-    requires stands { (start : A.Start) × (bytes : List ℕ) × Progress (A.runs answers.old start) bytes line.old.items history.old }
-    requires room { length history.old.entries ≤ 262144 }
-    ensures fed { (start : A.Start) (bytes : List ℕ) → Progress (A.runs answers.old start) bytes line.old.items history.old
-        → Fed result (A.runs answers.new start) (bytes ++ 10 ∷ []) line.new.items history.new }
-    ensures named { HasNames history.old → HasNames history.new }
-    ensures grows { GrowsTo history.old history.new }
-    ensures limit { length history.new.entries ≤ 262144 }
-{
     take_return(line);
     match answers.line(line.as_slice(), history) {
         Ok(()) => {
@@ -76,10 +56,8 @@ pub fn feed<A: Answers>(
     answers: &mut A,
     history: &mut History,
 ) -> Result<(), Stop>
-    requires stands { (start : A.Start) × (bytes : List ℕ) × Progress (A.runs answers.old start) bytes line.old.items history.old }
-    requires room { length history.old.entries ≤ 262144 }
-    ensures fed { (start : A.Start) (bytes : List ℕ) → Progress (A.runs answers.old start) bytes line.old.items history.old
-        → Fed result (A.runs answers.new start) (bytes ++ piece.now) line.new.items history.new }
+    requires { CanFeed (A.runs answers.old) line.old.items history.old }
+    ensures fed { Feeds result (A.runs answers.old) (A.runs answers.new) piece.now line.old.items line.new.items history.old history.new }
     ensures named { HasNames history.old → HasNames history.new }
     ensures grows { GrowsTo history.old history.new }
     ensures limit { length history.new.entries ≤ 262144 }

@@ -3,7 +3,7 @@
 ghost use Rattle.std.specs.Prelude.{◌≡◌, ◌≤◌, ◌<◌, ℕ, List, [], length, IfOk};
 ghost use Rattle.fc_entry.specs.Text.{HasNames};
 ghost use Rattle.fc_run.specs.Output.{IsPut};
-ghost use Rattle.fc_run.specs.Progress.{Progress};
+ghost use Rattle.fc_run.specs.Progress.{CanFeed, Progress};
 ghost use Rattle.fc_run.specs.ReadTo.{Turned, TurnWithin, ReadTo, PastLimit, is_write_fault};
 ghost use Rattle.fc_run.specs.Runs.{GrowsTo};
 ghost use Rattle.fc_run.specs.Taking.{GaveAny, TurnGave};
@@ -58,8 +58,7 @@ fn take_turn<S: Source, A: Answers>(
     history: &mut History,
 ) -> Turn
     requires some { 0 < length buffer.old }
-    requires stands { (start : A.Start) × (bytes : List ℕ) × Progress (A.runs answers.old start) bytes line.old.items history.old }
-    requires room { length history.old.entries ≤ 262144 }
+    requires can { CanFeed (A.runs answers.old) line.old.items history.old }
     ensures turned { (start : A.Start) (bytes : List ℕ) → Progress (A.runs answers.old start) bytes line.old.items history.old
         → Turned result (length buffer.old) (S.meaning source.old) (S.meaning source.new)
         (A.runs answers.new start) bytes line.new.items history.new }

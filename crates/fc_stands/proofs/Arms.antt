@@ -21,11 +21,11 @@ use Rattle.fc_books.specs.Deciding.{after_decision, answered, decide, for_one, r
 use Rattle.fc_books.specs.Making.{arm}
 use Rattle.fc_follow.specs.Following.{restarts}
 use Rattle.fc_lane.specs.Lane.{LaneView, IsSameLane, of}
-use Rattle.fc_lanes.specs.AllLanes.{EachLane}
+use Rattle.fc_lanes.specs.AllLanes.{EachLane, IsDueIn, KeepsArmed}
 use Rattle.fc_legal.specs.Steps.{after_settling}
 use Rattle.fc_legal.specs.Whole.{Whole}
 use Rattle.fc_rules.specs.LaneTold.{LaneOf}
-use Rattle.fc_stands.specs.Armed.{ArmsAs, IsDueIn, KeepsArmed, due_after}
+use Rattle.fc_stands.specs.Armed.{ArmsAs, due_after}
 use Rattle.fc_stands.specs.Phase.{IsDone, IsReserved}
 use Rattle.fc_stands.specs.Settling.{CanDecide, CanSettle, IsDecisionOn, IsDoneAfter, IsSettling}
 use Rattle.fc_stands.specs.Store.{StoreView}

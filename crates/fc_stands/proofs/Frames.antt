@@ -4,9 +4,8 @@ use Rattle.std.specs.List.{sum_by}
 use Rattle.std.proofs.lemmas.List.Sums.{sum_by-cons}
 use Rattle.fc_base.specs.Pools.{Pool}
 use Rattle.fc_lane.specs.Lane.{LaneView, IsSameLane, KeepsQuiet}
-use Rattle.fc_lanes.specs.AllLanes.{EachLane}
+use Rattle.fc_lanes.specs.AllLanes.{EachLane, KeepsArmed}
 use Rattle.fc_lanes.specs.Dealing.{disks_in}
-use Rattle.fc_stands.specs.Armed.{KeepsArmed}
 
 -- ---- one lane
 

@@ -13,12 +13,11 @@ use Rattle.fc_desk.specs.Control.{ControlState, books_of}
 use Rattle.fc_lane.specs.Lane.{LaneView, IsSameLane, KeepsQuiet}
 use Rattle.fc_legal.specs.Lawful.{IsLawful, FitChanges as FitTold}
 use Rattle.fc_legal.specs.Whole.{Whole}
-use Rattle.fc_lanes.specs.AllLanes.{IsLaneAfter, IsLaneReady, EachLane, CanAllDo}
-use Rattle.fc_stands.specs.Armed.{KeepsArmed}
-use Rattle.fc_stands.specs.Phase.{StandsAt, IsDecidedAt, IsControlAfter, CanControlDo, CanPrepare, HasDoneEvents, IsReadied, IsReadyFor, IsReserved, IsDone}
+use Rattle.fc_lanes.specs.AllLanes.{IsLaneAfter, IsLaneReady, EachLane, CanAllDo, KeepsArmed}
+use Rattle.fc_stands.specs.Phase.{StandsAt, IsDecidedAt, IsControlAfter, CanControlDo, CanPrepare, IsReadyFor, IsReserved, IsDone}
 use Rattle.fc_stands.specs.Store.{StoreView, AreLanesOf}
 use Rattle.fc_stands.proofs.PhaseStands.{ready_stands, decision_stands}
-use Rattle.fc_stands.proofs.Frames.{all_stay, all_stay_armed, all_stay_quiet}
+use Rattle.fc_stands.proofs.Frames.{all_go_on, all_stay, all_stay_armed, all_stay_quiet}
 
 -- ---- made ready
 
@@ -66,16 +65,14 @@ half_reserved old new same lanes = record {
 }
 
 -- The control part, and then the lanes.
-pub all_reserved : (old mid new : StoreView) → KeepsControl old.control mid.control → mid.lanes ≡ old.lanes → new.control ≡ mid.control → EachLane IsReadied mid.lanes new.lanes → IsReserved old new
-all_reserved old mid new same lanes control readied =
-    let ready : EachLane IsLaneReady mid.lanes new.lanes = record { count = readied.count; each = λ i d lt. (readied.each i d lt).ready } in
-    record {
-      grain = ap (λ (c : ControlState). c.grain) control ∙ ap (λ (c : ControlState). c.grain) same;
-      lanes = subst (λ (ls : List LaneView). EachLane IsSameLane ls new.lanes) lanes record { count = ready.count; each = λ i d lt. (ready.each i d lt).same };
-      stands = λ decisions w stands. ready_stands decisions mid new w (control_reserved decisions old mid w same lanes stands) control ready;
-      quiet = subst (λ (ls : List LaneView). EachLane KeepsQuiet ls new.lanes) lanes record { count = ready.count; each = λ i d lt. (ready.each i d lt).quiet };
-      armed = subst (λ (ls : List LaneView). EachLane KeepsArmed ls new.lanes) lanes record { count = ready.count; each = λ i d lt. (readied.each i d lt).armed };
-    }
+pub all_reserved : (old mid new : StoreView) → KeepsControl old.control mid.control → mid.lanes ≡ old.lanes → new.control ≡ mid.control → EachLane IsLaneReady mid.lanes new.lanes → IsReserved old new
+all_reserved old mid new same lanes control ready = record {
+  grain = ap (λ (c : ControlState). c.grain) control ∙ ap (λ (c : ControlState). c.grain) same;
+  lanes = subst (λ (ls : List LaneView). EachLane IsSameLane ls new.lanes) lanes record { count = ready.count; each = λ i d lt. (ready.each i d lt).same };
+  stands = λ decisions w stands. ready_stands decisions mid new w (control_reserved decisions old mid w same lanes stands) control ready;
+  quiet = subst (λ (ls : List LaneView). EachLane KeepsQuiet ls new.lanes) lanes record { count = ready.count; each = λ i d lt. (ready.each i d lt).quiet };
+  armed = subst (λ (ls : List LaneView). EachLane KeepsArmed ls new.lanes) lanes record { count = ready.count; each = λ i d lt. (ready.each i d lt).armed };
+}
 
 pub ready_for : (old new : StoreView) (d : Decision) → CanPrepare old d → IsReserved old new → CanApply new.control d → CanAllDo new.lanes d.events → IsReadyFor new d
 ready_for old new d can reserved control lanes = record {
@@ -117,15 +114,18 @@ control_done old new d grain tables books = record {
 }
 
 -- The lanes, and then the control part.
-pub all_done : (old mid new : StoreView) (d : Decision) → mid.control ≡ old.control → EachLane (HasDoneEvents d.events) old.lanes mid.lanes → IsControlAfter mid.control new.control d → new.lanes ≡ mid.lanes → IsDone d old new
+pub all_done : (old mid new : StoreView) (d : Decision) → mid.control ≡ old.control → EachLane (IsLaneAfter d.events) old.lanes mid.lanes → IsControlAfter mid.control new.control d → new.lanes ≡ mid.lanes → IsDone d old new
 all_done old mid new d control each after lanes =
     let done : IsControlAfter old.control new.control d = subst (λ (c : ControlState). IsControlAfter c new.control d) control after in
-    let did : EachLane (HasDoneEvents d.events) old.lanes new.lanes = subst (λ (ls : List LaneView). EachLane (HasDoneEvents d.events) old.lanes ls) (sym lanes) each in
-    let all : EachLane (IsLaneAfter d.events) old.lanes new.lanes = record { count = did.count; each = λ i v lt. (did.each i v lt).after } in
+    let all : EachLane (IsLaneAfter d.events) old.lanes new.lanes = subst (λ (ls : List LaneView). EachLane (IsLaneAfter d.events) old.lanes ls) (sym lanes) each in
     record {
       grain = done.grain;
       lanes = record { count = all.count; each = λ i v lt. (all.each i v lt).same };
       stands = λ decisions w stands lawful. decision_stands decisions old new w d stands lawful done all;
       quiet = λ none. record { count = all.count; each = λ i v lt. (all.each i v lt).quiet none };
-      armed = record { count = did.count; each = λ i v lt. (did.each i v lt).armed };
+      armed = record { count = all.count; each = λ i v lt. (all.each i v lt).armed };
     }
+
+-- Made ready, and then done: each lane stays the lane that it is.
+pub lanes_through : {old mid new : StoreView} {d : Decision} → IsReserved old mid → IsDone d mid new → EachLane IsSameLane old.lanes new.lanes
+lanes_through {old} {mid} {new} reserved done = all_go_on old.lanes mid.lanes new.lanes reserved.lanes done.lanes

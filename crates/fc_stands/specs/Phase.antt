@@ -1,21 +1,19 @@
 -- The two phases of a command: a settling and what is decided after it. Each is made ready, and then done.
-use Rattle.std.specs.Prelude.{◌≡◌, ℕ, ◌+◌, ◌≤◌, List, filter, fold, length}
+use Rattle.std.specs.Prelude.{◌≡◌, ℕ, ◌+◌, ◌≤◌, filter, fold, length}
 use Rattle.fc_base.specs.SheetView.{SheetView}
 use Rattle.fc_base.specs.Tables.{after_change}
 use Rattle.fc_base.specs.declared.command.Command.{Command}
 use Rattle.fc_base.specs.declared.command.Command.TheVariants.{Read as ReadLine, Write as WriteLine}
 use Rattle.fc_base.specs.declared.decision.Decision.{Decision}
-use Rattle.fc_base.specs.declared.decision.LaneEvent.{LaneEvent}
 use Rattle.fc_books.specs.After.{after_table_change, flags_after}
 use Rattle.fc_desk.specs.Changes.{FitChanges, AreCountable, CanApply, adds}
 use Rattle.fc_desk.specs.Control.{ControlState, books_of}
-use Rattle.fc_lane.specs.Lane.{ArmsNone, IsSameLane, KeepsQuiet, LaneView}
+use Rattle.fc_lane.specs.Lane.{ArmsNone, IsSameLane, KeepsQuiet}
 use Rattle.fc_legal.specs.Lawful.{IsLawful}
 use Rattle.fc_legal.specs.Stands.{Stands}
 use Rattle.fc_legal.specs.Steps.{left_by}
 use Rattle.fc_legal.specs.Whole.{Whole, lanes}
-use Rattle.fc_lanes.specs.AllLanes.{CanAllDo, EachLane, IsLaneAfter, IsLaneReady}
-use Rattle.fc_stands.specs.Armed.{ArmsBy, KeepsArmed}
+use Rattle.fc_lanes.specs.AllLanes.{ArmsBy, CanAllDo, EachLane, KeepsArmed}
 use Rattle.fc_stands.specs.Store.{StoreView, IsControlOf, AreLanesOf, AreFewCalls}
 
 -- The store stands for what is told after so many decisions. Between the phases of a command there may be one more than its
@@ -30,18 +28,6 @@ pub record StandsAt (decisions : ℕ) (s : StoreView) (w : Whole) : Type 0 where
 -- A decision that is lawful on what the store stands for.
 abbrev pub IsDecidedAt : StoreView → Decision → Type 0
 IsDecidedAt s d = (decisions : ℕ) × (w : Whole) × StandsAt decisions s w × IsLawful s.control.grain decisions w d
-
--- ---- what a lane does
-
--- It was made ready: what it stands for and its armed faults stay.
-pub record IsReadied (old new : LaneView) : Type 0 where
-  pub ready : IsLaneReady old new
-  pub armed : KeepsArmed old new
-
--- It did events that fit it: its armed faults are those that they set.
-pub record HasDoneEvents (events : List LaneEvent) (old new : LaneView) : Type 0 where
-  pub after : IsLaneAfter events old new
-  pub armed : ArmsBy events old new
 
 -- ---- what is done
 

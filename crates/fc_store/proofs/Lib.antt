@@ -1,7 +1,7 @@
 -- Lemmas, one subject a file.
-pub mod EffectRanges
 pub mod StoreParts
-pub mod Readying
-pub mod GivenBack
+pub mod ReadyLane
+pub mod InLane
+pub mod GoingOn
 pub mod Planning
 pub mod Coming

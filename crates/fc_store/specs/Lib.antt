@@ -3,6 +3,6 @@ pub use Rattle.fc_lanes.specs.Dealing
 pub use Rattle.fc_stands.specs.Store
 pub use Rattle.fc_stands.specs.Arming
 pub use Rattle.fc_stands.specs.Quiet
-pub mod Effects
 pub mod StoreParts
-pub mod GivenBack
+pub mod Ready
+pub mod Answering

@@ -109,7 +109,7 @@ impl<D: Mdisk> Store<D> {
         Ok(())
     }
 
-    /// Lets so many seconds pass: the entries of an `advance` line after its own, by the background work that this one left.
+    /// Lets so many seconds pass, if any: the entries of an `advance` line after its own, by the background work that this one left.
     /// Stopped, the first of them are there; but for want of memory the store goes on to stand for what is told.
     pub(crate) fn advance(&mut self, seconds: u32, history: &mut History) -> Result<(), Stop>
         requires stands { TellsSome (StandsFor self.old) history.old }
@@ -121,6 +121,9 @@ impl<D: Mdisk> Store<D> {
         ensures quiet { QuietBy history.old.entries self.old → StaysUp result (QuietBy history.new.entries self.new) }
         ensures limit { length history.new.entries ≤ MAX_ENTRIES }
     {
+        if seconds == 0 {
+            return Ok(());
+        }
         let mut works = match work_by(self.alloc, &self.control) {
             Ok(works) => works,
             Err(NoMemory) => return Err(Stop::NoMemory),

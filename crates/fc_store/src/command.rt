@@ -18,9 +18,9 @@ ghost use Rattle.fc_stands.specs.Quiet.{QuietBy};
 ghost use Rattle.fc_stands.specs.Settling.{CanDecide, IsSettled};
 ghost use Rattle.fc_stands.specs.Store.{StandsFor};
 
-use crate::apart::entry_apart;
-use crate::log::{is_full, log_done};
 use crate::store::Store;
+use fc_apart::apart::entry_apart;
+use fc_apart::log::{is_done, is_full, log_telling};
 use fc_base::command::Command;
 use fc_base::limits::MAX_ENTRIES;
 use fc_base::list::List;
@@ -55,7 +55,8 @@ impl<D: Mdisk> Store<D> {
         }
         let mut entry = self.command_entry(0, command);
         entry.number = history.len() as u64;
-        log_done(history, entry)
+        let done = is_done(&entry);
+        log_telling(history, entry, done)
     }
 
     /// Does a command, which is no access, by an actor: all is settled, and then it is decided and done. Want of memory is its

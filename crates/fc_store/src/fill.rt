@@ -10,11 +10,10 @@ ghost use Rattle.fc_stands.specs.Quiet.{QuietBy};
 ghost use Rattle.fc_stands.specs.Store.{StandsFor};
 ghost use Rattle.fc_stands.specs.Passing.{Filled};
 
-use crate::log::{is_full, log_fill};
 use crate::store::Store;
+use fc_apart::log::{has_moved, log_telling};
 use fc_base::ids::GrainNo;
 use fc_base::limits::MAX_ENTRIES;
-use fc_base::outcome::NoMemory;
 use fc_entry::history::History;
 use fc_entry::stop::Stop;
 use fc_lanes::fill::fill_lane;
@@ -58,17 +57,14 @@ impl<D: Mdisk> Store<D> {
         ensures quiet { QuietBy history.old.entries self.old → StaysUp result (QuietBy history.new.entries self.new) }
         ensures limit { length history.new.entries ≤ MAX_ENTRIES }
     {
-        if is_full(history) {
-            return Err(Stop::LogFull);
-        }
-        let place = grain.0 as usize % self.lanes.len();
-        let lane = &mut self.lanes[place];
-        match lane.make_room(self.alloc) {
-            Ok(()) => {}
-            Err(NoMemory) => return Err(Stop::NoMemory),
-        }
+        let place = match self.ready_lane(grain.0, history) {
+            Ok(place) => place,
+            Err(stop) => return Err(stop),
+        };
         let number = history.len() as u64;
+        let lane = &mut self.lanes[place];
         let entry = fill_lane(self.alloc, lane, number, work, grain);
-        log_fill(history, entry)
+        let moved = has_moved(&entry);
+        log_telling(history, entry, moved)
     }
 }

@@ -4,14 +4,12 @@ ghost use Rattle.std.specs.Prelude.{◌≡◌, ◌≤◌, ◌∷◌, [], ℕ, Li
 ghost use Rattle.fc_lanes.specs.Dealing.{disks_in};
 ghost use Rattle.fc_legal.specs.Added.{Answered, IsTold, StaysUp, TellsSome};
 ghost use Rattle.fc_blocks.specs.Segments.{single};
-ghost use Rattle.fc_legal.specs.Agenda.{Session, Own, Reading, Seconds, command_seconds, session_rules};
-ghost use Rattle.fc_legal.specs.Asked.{command_asked};
-ghost use Rattle.fc_legal.specs.Seconds.{all_work, seconds_begun};
+ghost use Rattle.fc_legal.specs.Agenda.{Session, Reading, command_seconds, session_rules};
 ghost use Rattle.fc_legal.specs.Whole.{Whole};
-ghost use Rattle.fc_stands.specs.Logged.{Brought};
 ghost use Rattle.fc_stands.specs.Phase.{IsDecided};
 ghost use Rattle.fc_stands.specs.Quiet.{QuietBy};
 ghost use Rattle.fc_stands.specs.Store.{StandsFor};
+ghost use Rattle.fc_store.specs.Answering.{AnswersCommand};
 
 use crate::store::Store;
 use fc_base::command::{Command, Line};
@@ -33,31 +31,12 @@ fn seconds_of(command: &Command) -> u32
 }
 
 impl<D: Mdisk> Store<D> {
-    /// Lets so many seconds pass, if any.
-    fn let_pass(&mut self, seconds: u32, history: &mut History) -> Result<(), Stop>
-        requires stands { TellsSome (StandsFor self.old) history.old }
-        requires room { length history.old.entries ≤ MAX_ENTRIES }
-        ensures passed { (read : Reading) (w : Whole) → IsTold (StandsFor self.old) history.old w →
-            Brought result (StandsFor self.new) (session_rules self.old.control.grain read) (Seconds (seconds_begun seconds (all_work w.books)) []) (Session []) w history.old history.new }
-        ensures grain { self.new.control.grain ≡ self.old.control.grain }
-        ensures disks { disks_in self.new.lanes ≡ disks_in self.old.lanes }
-        ensures quiet { QuietBy history.old.entries self.old → StaysUp result (QuietBy history.new.entries self.new) }
-        ensures limit { length history.new.entries ≤ MAX_ENTRIES }
-    {
-        match seconds {
-            0 => Ok(()),
-            seconds => self.advance(seconds, history),
-        }
-    }
-
     /// Answers a command that is no access: it asks for itself, and where it is done its seconds pass.
     fn run_other(&mut self, command: Command, history: &mut History) -> Result<(), Stop>
         requires stands { TellsSome (StandsFor self.old) history.old }
         requires room { length history.old.entries ≤ MAX_ENTRIES }
         requires decided { IsDecided command }
-        ensures answered { (read : Reading) (w : Whole) → IsTold (StandsFor self.old) history.old w →
-            Answered result (StandsFor self.new) (session_rules self.old.control.grain read)
-            (Own (command_asked self.old.control.grain w.books command) (command_seconds command) []) w history.old history.new }
+        ensures answered { AnswersCommand result command self.old self.new history.old history.new }
         ensures grain { self.new.control.grain ≡ self.old.control.grain }
         ensures disks { disks_in self.new.lanes ≡ disks_in self.old.lanes }
         ensures quiet { QuietBy history.old.entries self.old → StaysUp result (QuietBy history.new.entries self.new) }
@@ -65,7 +44,7 @@ impl<D: Mdisk> Store<D> {
     {
         let seconds = seconds_of(&command);
         match self.run_command(command, history) {
-            Ok(true) => self.let_pass(seconds, history),
+            Ok(true) => self.advance(seconds, history),
             Ok(false) => Ok(()),
             Err(stop) => Err(stop),
         }
@@ -75,9 +54,7 @@ impl<D: Mdisk> Store<D> {
     fn run_any(&mut self, command: Command, history: &mut History) -> Result<(), Stop>
         requires stands { TellsSome (StandsFor self.old) history.old }
         requires room { length history.old.entries ≤ MAX_ENTRIES }
-        ensures answered { (read : Reading) (w : Whole) → IsTold (StandsFor self.old) history.old w →
-            Answered result (StandsFor self.new) (session_rules self.old.control.grain read)
-            (Own (command_asked self.old.control.grain w.books command) (command_seconds command) []) w history.old history.new }
+        ensures answered { AnswersCommand result command self.old self.new history.old history.new }
         ensures grain { self.new.control.grain ≡ self.old.control.grain }
         ensures disks { disks_in self.new.lanes ≡ disks_in self.old.lanes }
         ensures quiet { QuietBy history.old.entries self.old → StaysUp result (QuietBy history.new.entries self.new) }

@@ -19,21 +19,20 @@ ghost use Rattle.fc_lanes.specs.Asking.{command_of, part_of};
 ghost use Rattle.fc_lanes.specs.Dealing.{disks_in};
 ghost use Rattle.fc_stands.specs.Store.{StandsFor};
 
-use crate::apart::refused_entry;
-use crate::log::{is_full, log};
 use crate::store::Store;
-use crate::touched::{blocks_in, touched_grains};
+use fc_apart::apart::refused_entry;
+use fc_apart::log::{is_full, log};
 use fc_base::fault::{Kind, Refusal, ValueOf, WordFault};
 use fc_base::ids::VolId;
 use fc_base::limits::{MAX_BLOCKS, MAX_ENTRIES};
 use fc_base::name::Ref;
-use fc_base::outcome::NoMemory;
 use fc_base::request::Request;
 use fc_base::size::GrainSize;
 use fc_base::volume::Volume;
 use fc_entry::history::History;
 use fc_entry::stop::Stop;
 use fc_lanes::access::{Access, access_lane};
+use fc_lanes::touched::{blocks_in, touched_grains};
 use fc_mdisk::mdisk::Mdisk;
 
 /// Why an access of so many blocks of a volume is refused, if it is: Limit for more than 8,192; BadValue for none, and for
@@ -75,17 +74,13 @@ impl<D: Mdisk> Store<D> {
         ensures quiet { QuietBy history.old.entries self.old → StaysUp result (QuietBy history.new.entries self.new) }
         ensures limit { length history.new.entries ≤ MAX_ENTRIES }
     {
-        if is_full(history) {
-            return Err(Stop::LogFull);
-        }
+        let place = match self.ready_lane(grain, history) {
+            Ok(place) => place,
+            Err(stop) => return Err(stop),
+        };
         let (first, blocks) = blocks_in(self.control.grain(), block, count, grain);
-        let place = grain as usize % self.lanes.len();
-        let lane = &mut self.lanes[place];
-        match lane.make_room(self.alloc) {
-            Ok(()) => {}
-            Err(NoMemory) => return Err(Stop::NoMemory),
-        }
         let number = history.len() as u64;
+        let lane = &mut self.lanes[place];
         let entry = access_lane(self.alloc, lane, number, 0, access, volume, first, blocks);
         log(history, entry)
     }

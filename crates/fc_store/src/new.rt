@@ -6,31 +6,18 @@ ghost use Rattle.fc_stands.specs.Quiet.{AreQuiet};
 ghost use Rattle.fc_grains.specs.Grains.{pool_of, silent_of, total_of};
 ghost use Rattle.fc_legal.specs.Whole.{opened};
 ghost use Rattle.fc_mdisk.specs.Disk.{IsFresh};
-ghost use Rattle.fc_lanes.specs.Dealing.{AreAllIn, disks_in, pools_dealt, silent_in};
+ghost use Rattle.fc_lanes.specs.Dealing.{AreAllIn, AreByLane, disks_in, pools_dealt, silent_in};
 ghost use Rattle.fc_stands.specs.Store.{StandsFor};
-ghost use Rattle.fc_store.specs.GivenBack.{AreByLane};
 
 use crate::store::Store;
 use fc_base::limits::LANES;
 use fc_base::outcome::NoMemory;
 use fc_base::size::GrainSize;
 use fc_control::Control;
-use fc_lane::lane::Lane;
-use fc_lanes::deal::{deal, make_lanes};
+use fc_lanes::deal::{deal, give_lanes, make_lanes};
 use fc_mdisk::mdisk::Mdisk;
 use std::alloc::Global;
 use std::collections::VecDeque;
-
-/// Appends all disks of lanes as they are, lane by lane, to a list that has room for them.
-fn give_lanes<D: Mdisk>(mut lanes: VecDeque<Lane<D>>, into: &mut Vec<D>)
-    requires { vec_len into.old + total_of (disks_in lanes.items) ≤ vec_capacity into.old }
-    ensures { (given : List D) × (into.new.items ≡ into.old.items ++ given) × AreAllIn lanes.items (map D.meaning given)
-        × AreByLane lanes.items (map D.meaning given) }
-{
-    while let Some(lane) = lanes.pop_front() {
-        lane.give_disks(into);
-    }
-}
 
 impl<D: Mdisk> Store<D> {
     /// A store without volumes, over fresh disks, which are dealt to the lanes in turn. Refused, the disks are gone.

@@ -1,17 +1,17 @@
 //! The two phases of a command: all is settled, and then what the command asks is decided and done.
 
 ghost use Rattle.std.specs.Prelude.{◌≡◌, ◌++◌, List as Items, IfOk, OnErr};
-ghost use Rattle.fc_stands.specs.Armed.{ArmsAs, KeepsArmed};
+ghost use Rattle.fc_stands.specs.Armed.{ArmsAs};
 ghost use Rattle.fc_stands.specs.Quiet.{AnswersUnarmed};
 ghost use Rattle.fc_base.specs.declared.request.Effect.{Effect};
 ghost use Rattle.fc_lane.specs.Lane.{IsSameLane, KeepsQuiet};
-ghost use Rattle.fc_lanes.specs.AllLanes.{EachLane};
-ghost use Rattle.fc_store.specs.Effects.{IsJoined};
+ghost use Rattle.fc_lanes.specs.AllLanes.{EachLane, KeepsArmed};
+ghost use Rattle.fc_apart.specs.Effects.{IsJoined};
 ghost use Rattle.fc_stands.specs.Phase.{IsDecided};
 ghost use Rattle.fc_stands.specs.Settling.{CanDecide, CanSettle, Decides, Settles};
 
-use crate::effects::{join, taken};
 use crate::store::Store;
+use fc_apart::effects::{join, taken};
 use fc_base::command::Command;
 use fc_base::decision::Decision;
 use fc_base::list::List;

@@ -21,7 +21,7 @@ use Rattle.fc_stands.specs.Arming.{IsArmedSince, armed_since}
 use Rattle.fc_stands.specs.Quiet.{IsArmedBy}
 use Rattle.fc_stands.specs.Store.{IsLaneAt, StandsFor, StoreView}
 use Rattle.fc_steps.specs.Standing.{VolumeKind, kind_of_grains, kind_of_told}
-use Rattle.fc_store.specs.GivenBack.{AreByLane}
+use Rattle.fc_lanes.specs.Dealing.{AreByLane}
 use Rattle.fc_top.specs.DisksBack.{AreArmedBy, AreOfLane, AreOfLanes}
 
 -- ---- the volumes of a lane

@@ -13,7 +13,7 @@ use Rattle.fc_lane.specs.Lane.{LaneView}
 use Rattle.fc_legal.specs.Legal.{IsLegal}
 use Rattle.fc_legal.specs.Whole.{Whole, part_at}
 use Rattle.fc_mdisk.specs.Disk.{DiskState}
-use Rattle.fc_lanes.specs.Dealing.{AreAllIn, disks_in, faults_in}
+use Rattle.fc_lanes.specs.Dealing.{AreAllIn, AreByLane, disks_in, faults_in}
 use Rattle.fc_stands.specs.Store.{StoreView, StandsFor, IsLaneAt}
 use Rattle.fc_run.specs.declared.ended.Ended.{Ended}
 use Rattle.fc_run.specs.declared.ended.Ended.TheVariants as ended
@@ -21,7 +21,6 @@ use Rattle.fc_top.specs.Call.{status_of}
 use Rattle.fc_top.specs.DisksBack.{AreBack, AreCounted, DisksAfter, first_told}
 use Rattle.fc_top.specs.StoreRuns.{HasDisks, IsUp, Start, StandsOr}
 use Rattle.fc_stands.specs.Quiet.{AreQuiet, QuietBy}
-use Rattle.fc_store.specs.GivenBack.{AreByLane}
 use Rattle.fc_top.proofs.ArmedBack.{armed_back}
 use Rattle.law_together.proofs.Kept.{IsLegal-keeps}
 

@@ -4,9 +4,9 @@ use Rattle.fc_grains.specs.Grains.{total_of}
 use Rattle.fc_grains.proofs.KindCounts.{total-pool}
 use Rattle.fc_lane.specs.Lane.{LaneView}
 use Rattle.fc_mdisk.specs.Disk.{DiskState}
-use Rattle.fc_lanes.specs.Dealing.{AreAllIn, disks_in}
+use Rattle.fc_lanes.specs.Dealing.{AreAllIn, AreByLane, disks_in}
 use Rattle.fc_lanes.proofs.DealLists.{moved}
-use Rattle.fc_lanes.proofs.Giving.{first_lane, lane_given, nothing_given}
+use Rattle.fc_lanes.proofs.Giving.{first_lane, lane_behind, lane_given, nothing_given}
 use Rattle.fc_lanes.proofs.deal.give_lanes.Goals as goal
 
 pub loop-lane-init : goal.loop-lane-init
@@ -16,6 +16,7 @@ loop-lane-init g c = record {
   split = refl;
   items = sym (append-nil c.args.into.now.items);
   all = nothing_given;
+  by_lane = refl;
   room = c.requires;
 }
 
@@ -39,6 +40,7 @@ loop-lane-preserved g c =
           ∙ ap (λ (xs : List g.row.D.Denot). xs ++ own) c.loop-lane.invariant.items
           ∙ append_assoc c.args.into.now.items given own;
       all = subst (λ (ds : List DiskState). AreAllIn (done ++ c.in-Some.lane ∷ []) ds) (sym (map-append m given own)) (lane_given done c.in-Some.lane (map m given) (map m own) c.loop-lane.invariant.all c.give_disks.ensures.given.2);
+      by_lane = subst (λ (ds : List DiskState). AreByLane (done ++ c.in-Some.lane ∷ []) ds) (sym (map-append m given own)) (lane_behind done c.in-Some.lane (map m given) (map m own) c.loop-lane.invariant.by_lane c.give_disks.ensures.given.2);
       room = omega (
         arith,
         c.loop-lane.invariant.room,

@@ -16,7 +16,7 @@ apply-requires-clause-fit g c =
 pub loop-place-preserved : goal.loop-place-preserved
 loop-place-preserved g c =
     one_more_lane (IsLaneAfter c.args.events.now) c.loop-place.place c.args.lanes.now c.loop-place.lanes c.apply.new.self c.index-lanes-place.result c.loop-place.invariant c.loop-place-test.true
-    (record { same = c.apply.ensures.same; stands = c.apply.ensures.stands; quiet = c.apply.ensures.quiet })
+    (record { same = c.apply.ensures.same; stands = c.apply.ensures.stands; quiet = c.apply.ensures.quiet; armed = c.apply.ensures.armed })
 
 pub returns : goal.returns
 returns g c = all_below (IsLaneAfter c.args.events.now) c.loop-place.place c.args.lanes.now c.loop-place.lanes c.loop-place.invariant c.loop-place-test.false

@@ -1,4 +1,4 @@
-use Rattle.fc_lanes.proofs.PhaseLanes.{IsMadeReady, none_below, one_more_lane, fits_next, ready_so_far, all_ready, all_can}
+use Rattle.fc_lanes.proofs.PhaseLanes.{IsMadeReady, none_below, one_more_lane, fits_next, readied, ready_so_far, all_ready, all_can}
 use Rattle.fc_lanes.proofs.phases.reserve_lanes.Goals as goal
 
 pub loop-place-init : goal.loop-place-init
@@ -11,12 +11,12 @@ reserve-requires-clause-fit g c =
 pub returns-in-Err-clause-ready : goal.returns-in-Err-clause-ready
 returns-in-Err-clause-ready g c =
     ready_so_far c.args.events.now c.loop-place.place c.args.lanes.now c.loop-place.lanes c.reserve.new.self c.index-lanes-place.result c.loop-place.invariant c.loop-place-test.true
-    (record { same = c.in-Err.ensures.same; stands = c.in-Err.ensures.stands; quiet = λ q. (c.in-Err.ensures.quiet q, c.in-Err.ensures.faults) })
+    (readied _ c.reserve.new.self _ c.in-Err.ensures.same c.in-Err.ensures.stands c.in-Err.ensures.quiet c.in-Err.ensures.faults c.in-Err.ensures.disks)
 
 pub loop-place-preserved : goal.loop-place-preserved
 loop-place-preserved g c =
     one_more_lane (IsMadeReady c.args.events.now) c.loop-place.place c.args.lanes.now c.loop-place.lanes c.reserve.new.self c.index-lanes-place.result c.loop-place.invariant c.loop-place-test.true
-    (record { same = c.in-Ok.ensures.same; stands = c.in-Ok.ensures.stands; quiet = λ q. (c.in-Ok.ensures.quiet q, c.in-Ok.ensures.faults) }, c.in-Ok.ensures.ok)
+    (readied _ c.reserve.new.self _ c.in-Ok.ensures.same c.in-Ok.ensures.stands c.in-Ok.ensures.quiet c.in-Ok.ensures.faults c.in-Ok.ensures.disks, c.in-Ok.ensures.ok)
 
 pub returns-clause-ok : goal.returns-clause-ok
 returns-clause-ok g c = all_can c.args.events.now c.loop-place.place c.args.lanes.now c.loop-place.lanes c.loop-place.invariant c.loop-place-test.false

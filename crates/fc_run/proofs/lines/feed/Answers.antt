@@ -13,6 +13,14 @@ loop-byte-init g c = record {
   fed = λ start bytes before. rw (append-nil bytes) before;
 }
 
+pub feed_byte-requires : goal.feed_byte-requires
+feed_byte-requires g c = record {
+  start = c.requires.start;
+  bytes = c.requires.bytes ++ take c.loop-byte.byte-index c.args.piece.now;
+  progress = c.loop-byte.invariant.fed c.requires.start c.requires.bytes c.requires.progress;
+  room = c.loop-byte.invariant.room;
+}
+
 pub returns-in-Err-clause-fed : goal.returns-in-Err-clause-fed
 returns-in-Err-clause-fed g c = λ start bytes before.
     Fed-within c.in-Err.stop (g.A.Answers.runs c.feed_byte.new.answers start) bytes c.args.piece.now c.loop-byte.byte-index _ c.feed_byte.new.history

@@ -1,7 +1,9 @@
 -- A turn more, the turns that are the last, and the byte past the greatest input.
 use Rattle.std.proofs.Common.{arith, ◌+◌, ◌∙◌, is_err, sym, false, true, length, take, ℕ}
 use Rattle.fc_run.proofs.GrowingLemmas.{IsPut-added, IsPut-turned}
-use Rattle.fc_run.proofs.ReadingLemmas.{ReadTo-past, ReadTo-end, ReadTo-fault, ReadTo-stopped, ReadTo-unwritten, SoFar-more, within-limit}
+use Rattle.fc_run.proofs.ReadingLemmas.{ReadTo-last, ReadTo-past, ReadTo-stopped, ReadTo-unwritten, SoFar-more, within-limit}
+use Rattle.fc_run.specs.declared.reading.Ending.TheVariants as ending
+use Rattle.fc_run.specs.declared.reading.Turn.TheVariants as turn
 use Rattle.fc_run.proofs.reading.read_pieces.Goals as goal
 
 pub returns-clause-read : goal.returns-clause-read
@@ -10,6 +12,11 @@ returns-clause-read g c = λ start whole.
     (g.S.Source.meaning c.loop-taken.source) (g.S.Source.meaning c.ask_past_limit.new.source)
     (g.A.Answers.runs c.loop-taken.answers start) c.loop-taken.line.items c.loop-taken.history
     (c.loop-taken.invariant.so_far start whole) (omega arith) c.ask_past_limit.ensures.took c.ask_past_limit.ensures.ends
+
+pub take_turn-requires-clause-can : goal.take_turn-requires-clause-can
+take_turn-requires-clause-can g c =
+    let so_far = c.loop-taken.invariant.so_far c.requires.fresh.0 c.requires.fresh.1 in
+    record { start = c.requires.fresh.0; bytes = so_far.bytes; progress = so_far.progress; room = c.loop-taken.invariant.room }
 
 pub loop-taken-preserved : goal.loop-taken-preserved
 loop-taken-preserved g c =
@@ -39,22 +46,12 @@ loop-taken-preserved g c =
 pub returns-in-End-clause-read : goal.returns-in-End-clause-read
 returns-in-End-clause-read g c = λ start whole.
     let so_far = c.loop-taken.invariant.so_far start whole in
-    ReadTo-end 0 c.loop-taken.taken (g.S.Source.meaning c.args.source.now)
-    (g.S.Source.meaning c.loop-taken.source) (g.S.Source.meaning c.take_turn.new.source)
-    (g.A.Answers.runs c.loop-taken.answers start) (g.A.Answers.runs c.take_turn.new.answers start)
-    c.loop-taken.line.items c.take_turn.new.line.items c.loop-taken.history c.take_turn.new.history
-    so_far c.loop-taken.invariant.within c.in-End.ensures.took
-    (c.in-End.ensures.turned start so_far.bytes so_far.progress)
+    ReadTo-last turn.End ending.End tt so_far c.loop-taken.invariant.within c.in-End.ensures.took (c.in-End.ensures.turned start so_far.bytes so_far.progress)
 
 pub returns-in-Fault-clause-read : goal.returns-in-Fault-clause-read
 returns-in-Fault-clause-read g c = λ start whole.
     let so_far = c.loop-taken.invariant.so_far start whole in
-    ReadTo-fault 0 c.loop-taken.taken (g.S.Source.meaning c.args.source.now)
-    (g.S.Source.meaning c.loop-taken.source) (g.S.Source.meaning c.take_turn.new.source)
-    (g.A.Answers.runs c.loop-taken.answers start) (g.A.Answers.runs c.take_turn.new.answers start)
-    c.loop-taken.line.items c.take_turn.new.line.items c.loop-taken.history c.take_turn.new.history
-    so_far c.loop-taken.invariant.within c.in-Fault.ensures.took
-    (c.in-Fault.ensures.turned start so_far.bytes so_far.progress)
+    ReadTo-last turn.Fault ending.ReadFault tt so_far c.loop-taken.invariant.within c.in-Fault.ensures.took (c.in-Fault.ensures.turned start so_far.bytes so_far.progress)
 
 pub returns-in-Stopped-clause-read : goal.returns-in-Stopped-clause-read
 returns-in-Stopped-clause-read g c = λ start whole.

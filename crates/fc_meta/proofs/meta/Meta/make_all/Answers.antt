@@ -7,7 +7,7 @@ use Rattle.fc_meta.specs.declared.meta.Meta.{Meta}
 use Rattle.fc_meta.specs.States.{found}
 use Rattle.fc_meta.specs.Answers.{more_calls}
 use Rattle.fc_meta.specs.Order.{AtRest, HasNoRoom, TakesMemory, OfFirst, disk_calls, IsAt, stage_behind, stands, LeavesFront}
-use Rattle.fc_meta.proofs.Runs.{going, stands_now, is_at, leaves_now, split, is_ready, leaves_either, moments_more, going_on, whole, counted_on, refused_holds, full_same}
+use Rattle.fc_meta.proofs.Runs.{going, stands_now, is_at, leaves_now, split, is_ready, leaves_either, moments_more, going_on, whole, calls_counted, counted_on, refused_holds, full_same}
 use Rattle.fc_meta.specs.Answers.{IsStopped}
 use Rattle.fc_meta.proofs.meta.Meta.make_all.Goals as goal
 
@@ -38,25 +38,26 @@ returns-in-Err-clause-durable g c =
 pub returns-in-Err-clause-crash : goal.returns-in-Err-clause-crash
 returns-in-Err-clause-crash g c =
     leaves_either g.M.MetaDisk.seen g.M.MetaDisk.may_leave g.M.MetaDisk.moment g.M.MetaDisk.left_since c.args.calls.now c.loop-done.done c.args.self.now c.loop-done.self c.loop-done.invariant.going c.index-calls-done.result c.index-calls-done.is c.loop-done-test.true
-    g.met.M.MetaDisk.counts_now c.make.new.self.disk c.make.ensures.any_moment
+    g.met.M.MetaDisk.counts_now c.make.new.self.disk c.make.ensures.treats.any_moment
 
 pub returns-in-Err-clause-any_moment : goal.returns-in-Err-clause-any_moment
 returns-in-Err-clause-any_moment g c =
     moments_more g.M.MetaDisk.seen g.M.MetaDisk.may_leave g.M.MetaDisk.moment g.M.MetaDisk.left_since c.args.calls.now c.loop-done.done c.args.self.now c.loop-done.self c.loop-done.invariant.going c.index-calls-done.result c.index-calls-done.is c.loop-done-test.true
-    c.make.new.self.disk c.make.ensures.any_moment
+    c.make.new.self.disk c.make.ensures.treats.any_moment
 
 pub returns-in-Err-clause-failed : goal.returns-in-Err-clause-failed
 returns-in-Err-clause-failed g c =
-    λ is. subst (λ (n : ℕ). HasRisen n (g.M.MetaDisk.fault_count c.make.new.self.disk)) c.loop-done.invariant.quiet (c.in-Err.ensures.failed is)
+    λ is. subst (λ (n : ℕ). HasRisen n (g.M.MetaDisk.fault_count c.make.new.self.disk)) c.loop-done.invariant.quiet (c.in-Err.ensures.treats.asks.failed is)
 
 pub loop-done-preserved : goal.loop-done-preserved
 loop-done-preserved g c =
     record {
-      going = going_on g.M.MetaDisk.seen g.M.MetaDisk.may_leave g.M.MetaDisk.moment g.M.MetaDisk.left_since c.args.calls.now c.loop-done.done c.args.self.now c.loop-done.self c.loop-done.invariant.going c.index-calls-done.result c.index-calls-done.is c.loop-done-test.true c.make.new.self c.in-Ok.ensures.made c.make.ensures.any_moment;
+      going = going_on g.M.MetaDisk.seen g.M.MetaDisk.may_leave g.M.MetaDisk.moment g.M.MetaDisk.left_since c.args.calls.now c.loop-done.done c.args.self.now c.loop-done.self c.loop-done.invariant.going c.index-calls-done.result c.index-calls-done.is c.loop-done-test.true c.make.new.self c.in-Ok.ensures.made c.make.ensures.treats.any_moment;
       calls = counted_on c.args.calls.now c.loop-done.done c.index-calls-done.result (g.M.MetaDisk.calls c.args.self.now.disk) (g.M.MetaDisk.calls c.loop-done.self.disk) (g.M.MetaDisk.calls c.make.new.self.disk)
-          c.index-calls-done.is c.loop-done-test.true c.loop-done.invariant.calls c.in-Ok.ensures.calls;
-      quiet = c.in-Ok.ensures.quiet ∙ c.loop-done.invariant.quiet;
-      size = c.make.ensures.size ∙ c.loop-done.invariant.size;
+          c.index-calls-done.is c.loop-done-test.true c.loop-done.invariant.calls
+          (c.in-Ok.ensures.treats.asks.counted ∙ ap (λ (n : ℕ). more_calls n (g.M.MetaDisk.calls c.loop-done.self.disk)) (calls_counted g.M.MetaDisk.seen c.index-calls-done.result c.loop-done.self));
+      quiet = c.in-Ok.ensures.treats.asks.quiet ∙ c.loop-done.invariant.quiet;
+      size = c.make.ensures.treats.size ∙ c.loop-done.invariant.size;
     }
 
 pub returns-clause-at : goal.returns-clause-at
@@ -95,7 +96,7 @@ returns-in-Err-clause-quiet g c =
     (λ same. ap (λ (m : Meta g.row.M.Denot). g.M.MetaDisk.fault_count m.disk) same ∙ c.loop-done.invariant.quiet)
 
 pub returns-in-Err-clause-size : goal.returns-in-Err-clause-size
-returns-in-Err-clause-size g c = c.make.ensures.size ∙ c.loop-done.invariant.size
+returns-in-Err-clause-size g c = c.make.ensures.treats.size ∙ c.loop-done.invariant.size
 
 pub returns-clause-calls : goal.returns-clause-calls
 returns-clause-calls g c =
@@ -118,4 +119,5 @@ returns-in-Err-clause-stopped g c is =
     let before = more_calls (sum_by disk_calls (take c.loop-done.done c.args.calls.now)) (g.M.MetaDisk.calls c.args.self.now.disk) in
     subst (OfFirst (λ (call : Call). IsStopped (disk_calls call) before (g.M.MetaDisk.calls c.make.new.self.disk)))
     (sym (split g.M.MetaDisk.seen g.M.MetaDisk.may_leave g.M.MetaDisk.moment g.M.MetaDisk.left_since c.args.calls.now c.loop-done.done c.args.self.now c.loop-done.self c.loop-done.invariant.going c.index-calls-done.result c.index-calls-done.is c.loop-done-test.true))
-    (subst (λ (n : ℕ). IsStopped (disk_calls c.index-calls-done.result) n (g.M.MetaDisk.calls c.make.new.self.disk)) c.loop-done.invariant.calls (c.in-Err.ensures.stopped is))
+    (subst (λ (n : ℕ). IsStopped (disk_calls c.index-calls-done.result) n (g.M.MetaDisk.calls c.make.new.self.disk)) c.loop-done.invariant.calls
+    (subst (λ (n : ℕ). IsStopped n (g.M.MetaDisk.calls c.loop-done.self.disk) (g.M.MetaDisk.calls c.make.new.self.disk)) (calls_counted g.M.MetaDisk.seen c.index-calls-done.result c.loop-done.self) (c.in-Err.ensures.treats.asks.stopped is)))

@@ -1,43 +1,41 @@
-use Rattle.std.proofs.Common.{ℕ, List, inl, inr, ⊎_elim, ◌∙◌}
-use Rattle.fc_meta.specs.Answers.{found_with, LeavesFound, LeavesEither}
-use Rattle.fc_meta.specs.States.{found, awaited}
-use Rattle.fc_meta.proofs.Moments.{joined, weaker}
-use Rattle.std.proofs.Common.{subst}
+use Rattle.std.proofs.Common.{◌≡◌, ◌∙◌}
 use Rattle.std.proofs.lemmas.Result.{err_from_is_err_and}
-use Rattle.fc_metadisk.specs.Calls.{DiskCall, all_made, AreCutShort}
-use Rattle.fc_metadisk.proofs.Told.{all_behind, cut_after, cut_before}
-use Rattle.fc_meta.specs.DiskCalls.{note_calls, sync_calls}
-use Rattle.fc_meta.proofs.Places.{sync_same, on_ok_then}
+use Rattle.fc_meta.specs.declared.series.Call.TheVariants.{Sync}
+use Rattle.fc_meta.proofs.Places.{on_ok_then}
+use Rattle.fc_meta.proofs.Promised.{only_failed}
+use Rattle.fc_meta.proofs.Whole.{put_first, put_both, put_head}
 use Rattle.fc_meta.proofs.meta.Meta.put.Goals as goal
 
-pub returns-in_err-note-clause-any_moment : goal.returns-in_err-note-clause-any_moment
-returns-in_err-note-clause-any_moment g c =
-    let P : List ℕ → Type 0 = LeavesEither (found g.M.MetaDisk.seen c.args.self.now) (found_with (found g.M.MetaDisk.seen c.args.self.now) c.args.records.now) in
-    let noted = weaker g.M.MetaDisk.moment g.M.MetaDisk.left_since c.args.self.now.disk c.note.new.self.disk (LeavesFound (found g.M.MetaDisk.seen c.args.self.now)) P (λ r e. inl e) c.note.ensures.any_moment in
-    noted
-
-pub returns-clause-any_moment : goal.returns-clause-any_moment
-returns-clause-any_moment g c =
-    let P : List ℕ → Type 0 = LeavesEither (found g.M.MetaDisk.seen c.args.self.now) (found_with (found g.M.MetaDisk.seen c.args.self.now) c.args.records.now) in
-    let noted = weaker g.M.MetaDisk.moment g.M.MetaDisk.left_since c.args.self.now.disk c.note.new.self.disk (LeavesFound (found g.M.MetaDisk.seen c.args.self.now)) P (λ r e. inl e) c.note.ensures.any_moment in
-    joined g.M.MetaDisk.moment g.M.MetaDisk.left_since c.args.self.now.disk c.note.new.self.disk c.sync.new.self.disk P noted
-    (weaker g.M.MetaDisk.moment g.M.MetaDisk.left_since c.note.new.self.disk c.sync.new.self.disk (LeavesEither (found g.M.MetaDisk.seen c.note.new.self) (awaited g.M.MetaDisk.seen c.note.new.self)) P
-    (λ r. ⊎_elim (λ e. inl (e ∙ c.in_ok-note.ensures.found)) (λ e. inr (e ∙ c.in_ok-note.ensures.awaited))) c.sync.ensures.any_moment)
-
-pub returns-clause-done : goal.returns-clause-done
-returns-clause-done g c =
-    let same = sync_same g.M.MetaDisk.seen c.args.self.now c.note.new.self c.in_ok-note.ensures.half c.note.ensures.size c.in_ok-note.ensures.used in
-    on_ok_then c.sync.result _ _
-    (λ done. all_behind g.M.MetaDisk.leads g.met.M.MetaDisk.leads_on c.args.self.now.disk c.note.new.self.disk c.sync.new.self.disk (note_calls g.M.MetaDisk.seen c.args.self.now c.args.records.now) (sync_calls g.M.MetaDisk.seen c.args.self.now) c.in_ok-note.ensures.done
-    (subst (λ (calls : List DiskCall). g.M.MetaDisk.leads c.note.new.self.disk (all_made calls) c.sync.new.self.disk) same done)) c.sync.ensures.done
-
-pub returns-clause-cut_short : goal.returns-clause-cut_short
-returns-clause-cut_short g c told =
-    let same = sync_same g.M.MetaDisk.seen c.args.self.now c.note.new.self c.in_ok-note.ensures.half c.note.ensures.size c.in_ok-note.ensures.used in
-    cut_after g.M.MetaDisk.leads g.met.M.MetaDisk.leads_on c.args.self.now.disk c.note.new.self.disk c.sync.new.self.disk (note_calls g.M.MetaDisk.seen c.args.self.now c.args.records.now) (sync_calls g.M.MetaDisk.seen c.args.self.now) c.in_ok-note.ensures.done
-    (subst (λ (calls : List DiskCall). AreCutShort (λ made. g.M.MetaDisk.leads c.note.new.self.disk made c.sync.new.self.disk) calls) same (c.sync.ensures.cut_short told))
-
-pub returns-in_err-note-clause-cut_short : goal.returns-in_err-note-clause-cut_short
-returns-in_err-note-clause-cut_short g c =
+pub returns-in_err-note-clause-full : goal.returns-in_err-note-clause-full
+returns-in_err-note-clause-full g c =
     let p = err_from_is_err_and c.from_residual.result c.from_residual.ensures.1 in
-    rw (p.1, p.2) (λ told. cut_before (λ made. g.M.MetaDisk.leads c.args.self.now.disk made c.note.new.self.disk) (note_calls g.M.MetaDisk.seen c.args.self.now c.args.records.now) (sync_calls g.M.MetaDisk.seen c.args.self.now) (c.in_err-note.ensures.cut_short told))
+    rw (p.1, p.2) (λ told. c.in_err-note.ensures.promise.full told, λ none. c.in_err-note.ensures.full none)
+
+pub returns-in_err-note-clause-refused : goal.returns-in_err-note-clause-refused
+returns-in_err-note-clause-refused g c =
+    let p = err_from_is_err_and c.from_residual.result c.from_residual.ensures.1 in
+    rw (p.1, p.2) c.in_err-note.ensures.promise.refused
+
+pub returns-in_err-note-clause-treats : goal.returns-in_err-note-clause-treats
+returns-in_err-note-clause-treats g c =
+    let p = err_from_is_err_and c.from_residual.result c.from_residual.ensures.1 in
+    rw (p.1, p.2) (put_first g.M.MetaDisk.seen g.M.MetaDisk.moment g.M.MetaDisk.left_since g.M.MetaDisk.fault_count g.M.MetaDisk.calls g.M.MetaDisk.leads g.M.MetaDisk.may_leave g.met.M.MetaDisk.leads_on c.args.self.now c.note.new.self c.args.records.now c.in_err-note.field-0.0 c.in_err-note.ensures.promise)
+
+pub returns-clause-rests : goal.returns-clause-rests
+returns-clause-rests g c = on_ok_then c.sync.result _ _ (λ m. m.0) c.sync.ensures.made
+
+pub returns-clause-found : goal.returns-clause-found
+returns-clause-found g c = on_ok_then c.sync.result _ _ (λ m. m.1 ∙ c.in_ok-note.ensures.promise.made.2) c.sync.ensures.made
+
+pub returns-clause-head : goal.returns-clause-head
+returns-clause-head g c = put_head g.M.MetaDisk.seen g.M.MetaDisk.moment g.M.MetaDisk.left_since g.M.MetaDisk.fault_count g.M.MetaDisk.calls g.M.MetaDisk.leads g.M.MetaDisk.may_leave g.met.M.MetaDisk.leads_on c.args.self.now c.note.new.self c.args.records.now c.in_ok-note.ensures.promise c.sync.new.self c.sync.result c.sync.ensures
+
+pub returns-clause-full : goal.returns-clause-full
+returns-clause-full g c = (λ told. absurd (c.sync.ensures.full told), λ none. absurd (c.in_ok-note.ensures.promise.room none))
+
+pub returns-clause-refused : goal.returns-clause-refused
+returns-clause-refused g c =
+    only_failed g.M.MetaDisk.seen g.M.MetaDisk.moment g.M.MetaDisk.left_since g.M.MetaDisk.fault_count g.M.MetaDisk.calls g.M.MetaDisk.leads g.M.MetaDisk.may_leave Sync c.note.new.self (λ none. none) (λ none. none) c.sync.new.self c.sync.result (c.sync.new.self ≡ c.args.self.now) c.sync.ensures
+
+pub returns-clause-treats : goal.returns-clause-treats
+returns-clause-treats g c = put_both g.M.MetaDisk.seen g.M.MetaDisk.moment g.M.MetaDisk.left_since g.M.MetaDisk.fault_count g.M.MetaDisk.calls g.M.MetaDisk.leads g.M.MetaDisk.may_leave g.met.M.MetaDisk.leads_on c.args.self.now c.note.new.self c.args.records.now c.in_ok-note.ensures.promise c.sync.new.self c.sync.result c.sync.ensures

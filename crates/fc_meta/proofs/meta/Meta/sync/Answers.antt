@@ -1,49 +1,56 @@
-use Rattle.fc_meta.specs.Answers.{LeavesEither}
-use Rattle.fc_meta.specs.States.{found, awaited}
-use Rattle.fc_meta.proofs.Moments.{joined}
-use Rattle.fc_meta.proofs.Calls.{sync_room, sync_first, sync_second, sync_found, sync_rests}
-use Rattle.std.proofs.Common.{ℕ, ◌+◌, inl, List, [], ◌∷◌, subst}
+use Rattle.std.proofs.Common.{ℕ, ◌+◌, inl, inr, List, [], ◌∷◌, length, refl, ap, ◌∙◌, subst}
+use Rattle.std.proofs.lemmas.Result.{err_from_is_err_and}
+use Rattle.std.specs.Prelude.{Ok, Err}
 use Rattle.fc_metadisk.specs.Calls.{Syncs, all_made, AreCutShort}
-use Rattle.fc_metadisk.proofs.Told.{all_behind, cut_after}
 use Rattle.fc_format.specs.Halves.{half_start}
-use Rattle.fc_meta.specs.DiskCalls.{write_and_sync}
+use Rattle.fc_meta.specs.declared.series.Call.TheVariants.{Sync}
+use Rattle.fc_meta.specs.declared.error.MetaError.TheVariants.{Failed}
+use Rattle.fc_meta.specs.States.{start_now}
+use Rattle.fc_meta.specs.DiskCalls.{write_and_sync, sync_calls}
+use Rattle.fc_meta.proofs.Calls.{sync_room, sync_first, sync_run, sync_found, sync_rests}
+use Rattle.fc_meta.proofs.Asked.{asks_all, asks_some, asks_both}
+use Rattle.fc_meta.proofs.Promised.{is_made, has_failed}
 use Rattle.fc_meta.proofs.meta.Meta.sync.Goals as goal
 
-pub returns-in_err-sync-clause-any_moment : goal.returns-in_err-sync-clause-any_moment
-returns-in_err-sync-clause-any_moment g c = sync_first g.M.MetaDisk.seen g.M.MetaDisk.may_leave g.M.MetaDisk.moment g.M.MetaDisk.left_since g.met.M.MetaDisk.only_now c.args.self.now c.requires c.sync.new.self c.sync.ensures.crash c.sync.ensures.time
+pub returns-in_err-sync : goal.returns-in_err-sync
+returns-in_err-sync g c =
+    let p = err_from_is_err_and c.from_residual.result c.from_residual.ensures.1 in
+    rw (p.1, p.2) (has_failed g.M.MetaDisk.seen g.M.MetaDisk.moment g.M.MetaDisk.left_since g.M.MetaDisk.fault_count g.M.MetaDisk.calls g.M.MetaDisk.leads g.M.MetaDisk.may_leave Sync c.args.self.now (λ none. none) _ (record {
+      size = ap (λ (z : List ℕ). length z) c.sync.ensures.seen;
+      any_moment = sync_first g.M.MetaDisk.seen g.M.MetaDisk.may_leave g.M.MetaDisk.moment g.M.MetaDisk.left_since g.met.M.MetaDisk.only_now c.args.self.now c.requires c.sync.new.self c.sync.ensures.crash c.sync.ensures.time;
+      asks = asks_some g.M.MetaDisk.fault_count g.M.MetaDisk.calls g.M.MetaDisk.leads (sync_calls g.M.MetaDisk.seen c.args.self.now) c.args.self.now.disk c.sync.new.self
+          (inl c.in_err-sync.ensures.made) (inr (inr (inl c.sync.ensures.calls))) c.in_err-sync.ensures.cause.cause;
+    }))
 
 pub write_synced-requires : goal.write_synced-requires
 write_synced-requires g c = sync_room g.M.MetaDisk.seen g.M.MetaDisk.may_leave g.M.MetaDisk.moment g.M.MetaDisk.left_since g.met.M.MetaDisk.only_now c.args.self.now c.requires c.sync.new.self c.sync.ensures.seen
 
-pub returns-in_err-write_synced-clause-any_moment : goal.returns-in_err-write_synced-clause-any_moment
-returns-in_err-write_synced-clause-any_moment g c =
-    joined g.M.MetaDisk.moment g.M.MetaDisk.left_since c.args.self.now.disk c.sync.new.self c.write_synced.new.disk (LeavesEither (found g.M.MetaDisk.seen c.args.self.now) (awaited g.M.MetaDisk.seen c.args.self.now))
-    (sync_first g.M.MetaDisk.seen g.M.MetaDisk.may_leave g.M.MetaDisk.moment g.M.MetaDisk.left_since g.met.M.MetaDisk.only_now c.args.self.now c.requires c.sync.new.self c.sync.ensures.crash c.sync.ensures.time)
-    (sync_second g.M.MetaDisk.seen g.M.MetaDisk.may_leave g.M.MetaDisk.moment g.M.MetaDisk.left_since g.met.M.MetaDisk.only_now c.args.self.now c.requires c.sync.new.self c.write_synced.new.disk c.sync.ensures.seen c.in_ok-sync.ensures.durable c.write_synced.ensures.any_moment)
+pub returns-in_err-write_synced : goal.returns-in_err-write_synced
+returns-in_err-write_synced g c =
+    let p = err_from_is_err_and c.from_residual-in_err-write_synced.result c.from_residual-in_err-write_synced.ensures.1 in
+    rw (p.1, p.2) (has_failed g.M.MetaDisk.seen g.M.MetaDisk.moment g.M.MetaDisk.left_since g.M.MetaDisk.fault_count g.M.MetaDisk.calls g.M.MetaDisk.leads g.M.MetaDisk.may_leave Sync c.args.self.now (λ none. none) _ (record {
+      size = c.write_synced.ensures.size ∙ ap (λ (z : List ℕ). length z) c.sync.ensures.seen;
+      any_moment = sync_run g.M.MetaDisk.seen g.M.MetaDisk.may_leave g.M.MetaDisk.moment g.M.MetaDisk.left_since g.met.M.MetaDisk.only_now c.args.self.now c.requires c.sync.new.self c.write_synced.new.disk c.sync.ensures.crash c.sync.ensures.time c.sync.ensures.seen c.in_ok-sync.ensures.durable c.write_synced.ensures.any_moment;
+      asks = asks_both g.M.MetaDisk.fault_count g.M.MetaDisk.calls g.M.MetaDisk.leads (Syncs ∷ []) (write_and_sync (start_now g.M.MetaDisk.seen c.args.self.now + c.args.self.now.used) (1 ∷ [])) c.args.self.now.disk c.sync.new.self g.met.M.MetaDisk.leads_on (tt {0}) c.write_synced.new.disk (Err Failed)
+          (asks_all g.M.MetaDisk.fault_count g.M.MetaDisk.calls g.M.MetaDisk.leads (Syncs ∷ []) c.args.self.now.disk c.sync.new.self (tt {0}) c.in_ok-sync.ensures.made c.sync.ensures.calls c.in_ok-sync.ensures.cause.quiet)
+          (asks_some g.M.MetaDisk.fault_count g.M.MetaDisk.calls g.M.MetaDisk.leads (write_and_sync (start_now g.M.MetaDisk.seen c.args.self.now + c.args.self.now.used) (1 ∷ [])) c.sync.new.self c.write_synced.new.disk
+          (subst (λ (z : List ℕ). AreCutShort (λ made. g.M.MetaDisk.leads c.sync.new.self made c.write_synced.new.disk) (write_and_sync (half_start c.args.self.now.half z + c.args.self.now.used) (1 ∷ []))) c.sync.ensures.seen c.in_err-write_synced.ensures.cut_short)
+          c.in_err-write_synced.ensures.stopped c.in_err-write_synced.ensures.cause.cause);
+    }))
 
-pub returns-clause-rests : goal.returns-clause-rests
-returns-clause-rests g c = sync_rests g.M.MetaDisk.seen g.M.MetaDisk.may_leave g.M.MetaDisk.moment g.M.MetaDisk.left_since g.met.M.MetaDisk.only_now c.args.self.now c.requires c.sync.new.self c.write_synced.new.disk c.sync.ensures.seen c.in_ok-write_synced.ensures.bytes c.in_ok-write_synced.ensures.durable
-
-pub returns-clause-found : goal.returns-clause-found
-returns-clause-found g c = sync_found g.M.MetaDisk.seen g.M.MetaDisk.may_leave g.M.MetaDisk.moment g.M.MetaDisk.left_since g.met.M.MetaDisk.only_now c.args.self.now c.requires c.sync.new.self c.write_synced.new.disk c.sync.ensures.seen c.in_ok-write_synced.ensures.bytes
-
-pub returns-clause-any_moment : goal.returns-clause-any_moment
-returns-clause-any_moment g c =
-    joined g.M.MetaDisk.moment g.M.MetaDisk.left_since c.args.self.now.disk c.sync.new.self c.write_synced.new.disk (LeavesEither (found g.M.MetaDisk.seen c.args.self.now) (awaited g.M.MetaDisk.seen c.args.self.now))
-    (sync_first g.M.MetaDisk.seen g.M.MetaDisk.may_leave g.M.MetaDisk.moment g.M.MetaDisk.left_since g.met.M.MetaDisk.only_now c.args.self.now c.requires c.sync.new.self c.sync.ensures.crash c.sync.ensures.time)
-    (sync_second g.M.MetaDisk.seen g.M.MetaDisk.may_leave g.M.MetaDisk.moment g.M.MetaDisk.left_since g.met.M.MetaDisk.only_now c.args.self.now c.requires c.sync.new.self c.write_synced.new.disk c.sync.ensures.seen c.in_ok-sync.ensures.durable c.write_synced.ensures.any_moment)
-
-pub returns-in_err-sync-clause-cut_short : goal.returns-in_err-sync-clause-cut_short
-returns-in_err-sync-clause-cut_short g c told = inl c.in_err-sync.ensures.made
-
-pub returns-in_err-write_synced-clause-cut_short : goal.returns-in_err-write_synced-clause-cut_short
-returns-in_err-write_synced-clause-cut_short g c told =
-    cut_after g.M.MetaDisk.leads g.met.M.MetaDisk.leads_on c.args.self.now.disk c.sync.new.self c.write_synced.new.disk (Syncs ∷ []) (write_and_sync (half_start c.args.self.now.half (g.M.MetaDisk.seen c.args.self.now.disk) + c.args.self.now.used) (1 ∷ [])) c.in_ok-sync.ensures.made
-    (subst (λ (z : List ℕ). AreCutShort (λ made. g.M.MetaDisk.leads c.sync.new.self made c.write_synced.new.disk) (write_and_sync (half_start c.args.self.now.half z + c.args.self.now.used) (1 ∷ [])))
-    c.sync.ensures.seen c.in_err-write_synced.ensures.cut_short)
-
-pub returns-clause-done : goal.returns-clause-done
-returns-clause-done g c =
-    all_behind g.M.MetaDisk.leads g.met.M.MetaDisk.leads_on c.args.self.now.disk c.sync.new.self c.write_synced.new.disk (Syncs ∷ []) (write_and_sync (half_start c.args.self.now.half (g.M.MetaDisk.seen c.args.self.now.disk) + c.args.self.now.used) (1 ∷ [])) c.in_ok-sync.ensures.made
-    (subst (λ (z : List ℕ). g.M.MetaDisk.leads c.sync.new.self (all_made (write_and_sync (half_start c.args.self.now.half z + c.args.self.now.used) (1 ∷ []))) c.write_synced.new.disk)
-    c.sync.ensures.seen c.in_ok-write_synced.ensures.done)
+pub returns : goal.returns
+returns g c =
+    is_made g.M.MetaDisk.seen g.M.MetaDisk.moment g.M.MetaDisk.left_since g.M.MetaDisk.fault_count g.M.MetaDisk.calls g.M.MetaDisk.leads g.M.MetaDisk.may_leave Sync c.args.self.now _ _ (λ none. none) (
+      sync_rests g.M.MetaDisk.seen g.M.MetaDisk.may_leave g.M.MetaDisk.moment g.M.MetaDisk.left_since g.met.M.MetaDisk.only_now c.args.self.now c.requires c.sync.new.self c.write_synced.new.disk c.sync.ensures.seen c.in_ok-write_synced.ensures.bytes c.in_ok-write_synced.ensures.durable,
+      sync_found g.M.MetaDisk.seen g.M.MetaDisk.may_leave g.M.MetaDisk.moment g.M.MetaDisk.left_since g.met.M.MetaDisk.only_now c.args.self.now c.requires c.sync.new.self c.write_synced.new.disk c.sync.ensures.seen c.in_ok-write_synced.ensures.bytes,
+    )
+    refl
+    (record {
+      size = c.write_synced.ensures.size ∙ ap (λ (z : List ℕ). length z) c.sync.ensures.seen;
+      any_moment = sync_run g.M.MetaDisk.seen g.M.MetaDisk.may_leave g.M.MetaDisk.moment g.M.MetaDisk.left_since g.met.M.MetaDisk.only_now c.args.self.now c.requires c.sync.new.self c.write_synced.new.disk c.sync.ensures.crash c.sync.ensures.time c.sync.ensures.seen c.in_ok-sync.ensures.durable c.write_synced.ensures.any_moment;
+      asks = asks_both g.M.MetaDisk.fault_count g.M.MetaDisk.calls g.M.MetaDisk.leads (Syncs ∷ []) (write_and_sync (start_now g.M.MetaDisk.seen c.args.self.now + c.args.self.now.used) (1 ∷ [])) c.args.self.now.disk c.sync.new.self g.met.M.MetaDisk.leads_on (tt {0}) c.write_synced.new.disk (Ok _)
+          (asks_all g.M.MetaDisk.fault_count g.M.MetaDisk.calls g.M.MetaDisk.leads (Syncs ∷ []) c.args.self.now.disk c.sync.new.self (tt {0}) c.in_ok-sync.ensures.made c.sync.ensures.calls c.in_ok-sync.ensures.cause.quiet)
+          (asks_all g.M.MetaDisk.fault_count g.M.MetaDisk.calls g.M.MetaDisk.leads (write_and_sync (start_now g.M.MetaDisk.seen c.args.self.now + c.args.self.now.used) (1 ∷ [])) c.sync.new.self c.write_synced.new.disk _
+          (subst (λ (z : List ℕ). g.M.MetaDisk.leads c.sync.new.self (all_made (write_and_sync (half_start c.args.self.now.half z + c.args.self.now.used) (1 ∷ []))) c.write_synced.new.disk) c.sync.ensures.seen c.in_ok-write_synced.ensures.done)
+          c.in_ok-write_synced.ensures.made c.in_ok-write_synced.ensures.cause.quiet);
+    })

@@ -5,8 +5,14 @@ use Rattle.fc_legal.specs.Seconds.{Work, all_work}
 use Rattle.fc_stands.specs.Passing.{Passed, between}
 use Rattle.fc_stands.specs.Store.{IsControlOf, StandsFor, StoreView}
 use Rattle.fc_entry.specs.declared.stop.Stop.TheVariants.{NoMemory}
+use Rattle.fc_stands.proofs.Lining.{none_pass}
 use Rattle.fc_stands.proofs.Passing.{advanced, any_reading, kept, passed_nothing, passed_starved, passed_stopped, second_passed}
+use Rattle.fc_store.proofs.GoingOn.{goes_first, goes_then}
 use Rattle.fc_store.proofs.store.Store.advance.Goals as goal
+
+pub returns-then-seconds-eq0-clause-passed : goal.returns-then-seconds-eq0-clause-passed
+returns-then-seconds-eq0-clause-passed g c = λ read w told.
+    none_pass (StandsFor c.args.self.now) c.args.self.now.control.grain read w c.args.seconds c.args.history.now c.if-seconds-eq0.true told
 
 pub returns-in-Err-clause-passed : goal.returns-in-Err-clause-passed
 returns-in-Err-clause-passed g c = λ read w told.
@@ -16,16 +22,12 @@ returns-in-Err-clause-passed g c = λ read w told.
 pub loop-left-init : goal.loop-left-init
 loop-left-init g c = record {
   passed = λ w told. passed_nothing (StandsFor c.args.self.now) c.args.self.now.control.grain w (between c.args.seconds c.in-Ok.works.items []) c.args.history.now told;
-  stands = c.requires.stands;
-  room = c.requires.room;
-  control = refl;
-  disks = refl;
-  quiet = λ q. q;
+  goes = goes_first c.args.self.now c.args.history.now c.requires.stands c.requires.room;
 }
 
 pub loop-left-preserved : goal.loop-left-preserved
 loop-left-preserved g c =
-    let next = c.in-Ok-pass_all.ensures.passed c.loop-left.invariant.stands.0 0 c.loop-left.invariant.stands.1 any_reading in
+    let next = c.in-Ok-pass_all.ensures.passed c.loop-left.invariant.goes.stands.0 0 c.loop-left.invariant.goes.stands.1 any_reading in
     let many : length c.deref_mut.result.now ≡ length c.loop-left.works.items = ap (λ (ws : List Work). length ws) c.deref_mut.ensures.value in
     let counted : length c.deref_mut.result.now ≡ c.loop-left.works.len = c.deref_mut.ensures.len in
     let stays : length c.pass_all.new.works ≡ length c.deref_mut.result.now = c.pass_all.auto.works in
@@ -39,13 +41,9 @@ loop-left-preserved g c =
           subst New (sym back)
           (second_passed (Unit {0}) (Ok tt) (StandsFor c.loop-left.self) (StandsFor c.pass_all.new.self) c.args.self.now.control.grain c.loop-left.self.control.grain w
           (between c.args.seconds c.in-Ok.works.items []) c.loop-left.left c.deref_mut.result.now c.pass_all.new.works c.args.history.now c.loop-left.history c.pass_all.new.history
-          (ap (λ (s : ControlState). s.grain) c.loop-left.invariant.control) c.loop-left-test.true
+          (ap (λ (s : ControlState). s.grain) c.loop-left.invariant.goes.control) c.loop-left-test.true
           (subst Old (sym c.deref_mut.ensures.value) (c.loop-left.invariant.passed w told)) c.in-Ok-pass_all.ensures.passed);
-      stands = (next.0, next.1);
-      room = c.in-Ok-pass_all.ensures.limit;
-      control = c.in-Ok-pass_all.ensures.control ∙ c.loop-left.invariant.control;
-      disks = c.in-Ok-pass_all.ensures.disks ∙ c.loop-left.invariant.disks;
-      quiet = λ q. c.in-Ok-pass_all.ensures.quiet (c.loop-left.invariant.quiet q);
+      goes = goes_then c.loop-left.invariant.goes (next.0, next.1) c.in-Ok-pass_all.ensures.limit c.in-Ok-pass_all.ensures.control c.in-Ok-pass_all.ensures.disks c.in-Ok-pass_all.ensures.quiet;
     }
 
 pub returns-in-Err-pass_all-clause-passed : goal.returns-in-Err-pass_all-clause-passed
@@ -59,7 +57,7 @@ returns-in-Err-pass_all-clause-passed g c = λ read w told.
     c.args.history.now c.pass_all.new.history
     (second_passed (Unit {0}) (Err c.in-Err-pass_all.stop) (StandsFor c.loop-left.self) (StandsFor c.pass_all.new.self) c.args.self.now.control.grain c.loop-left.self.control.grain w
     (between c.args.seconds c.in-Ok.works.items []) c.loop-left.left c.deref_mut.result.now c.pass_all.new.works c.args.history.now c.loop-left.history c.pass_all.new.history
-    (ap (λ (s : ControlState). s.grain) c.loop-left.invariant.control) c.loop-left-test.true
+    (ap (λ (s : ControlState). s.grain) c.loop-left.invariant.goes.control) c.loop-left-test.true
     (subst Old (sym c.deref_mut.ensures.value) (c.loop-left.invariant.passed w told)) c.in-Err-pass_all.ensures.passed)) read
 
 pub returns-clause-passed : goal.returns-clause-passed
@@ -73,4 +71,4 @@ returns-clause-passed g c = λ read w told.
     (subst P none (c.loop-left.invariant.passed w told)) read
 
 pub returns-in-Err-pass_all-clause-quiet : goal.returns-in-Err-pass_all-clause-quiet
-returns-in-Err-pass_all-clause-quiet g c = λ q. c.in-Err-pass_all.ensures.quiet (c.loop-left.invariant.quiet q)
+returns-in-Err-pass_all-clause-quiet g c = λ q. c.in-Err-pass_all.ensures.quiet (c.loop-left.invariant.goes.quiet q)

@@ -3,6 +3,6 @@ use Rattle.fc_stands.specs.Store.{StoreView}
 use Rattle.fc_stands.proofs.PhaseStands.{fits_here}
 use Rattle.fc_store.proofs.store.Store.apply_in_lanes.Goals as goal
 
-pub do_events-requires-clause-fit : goal.do_events-requires-clause-fit
-do_events-requires-clause-fit g c =
+pub apply_lanes-requires-clause-fit : goal.apply_lanes-requires-clause-fit
+apply_lanes-requires-clause-fit g c =
     fits_here c.args.self.now c.args.decision.now c.as_mut_slice.result.now c.requires.decided (c.as_mut_slice.ensures.value ∙ ap (λ (s : StoreView). s.lanes) c.self.view_is)

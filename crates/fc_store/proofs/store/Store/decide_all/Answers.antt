@@ -1,6 +1,7 @@
 use Rattle.fc_stands.proofs.CommandPhases.{decision_can, decision_done}
 use Rattle.fc_stands.proofs.Arms.{decided_armed}
-use Rattle.fc_stands.proofs.Frames.{all_go_on, all_stay, all_stay_armed, all_stay_quiet}
+use Rattle.fc_stands.proofs.Frames.{all_stay, all_stay_armed, all_stay_quiet}
+use Rattle.fc_stands.proofs.PhaseAll.{lanes_through}
 use Rattle.fc_stands.proofs.Quieting.{decided_quiet}
 use Rattle.fc_store.proofs.store.Store.decide_all.Goals as goal
 
@@ -18,8 +19,7 @@ returns-clause-quiet g c =
     c.reserve_all.ensures.reserved c.apply_all.ensures.done c.told.ensures.reply
 
 pub returns-clause-lanes : goal.returns-clause-lanes
-returns-clause-lanes g c =
-    all_go_on c.args.self.now.lanes c.reserve_all.new.self.lanes c.apply_all.new.self.lanes c.reserve_all.ensures.reserved.lanes c.apply_all.ensures.done.lanes
+returns-clause-lanes g c = lanes_through c.reserve_all.ensures.reserved c.apply_all.ensures.done
 
 pub returns-in-Err-clause-lanes : goal.returns-in-Err-clause-lanes
 returns-in-Err-clause-lanes g c = all_stay c.args.self.now.lanes

@@ -1,89 +1,56 @@
 -- The grain has something to do in its lane, and its entry is right.
-use Rattle.std.proofs.Common.{◌≡◌, ◌%◌, ◌<◌, List, length, slice_index_or, slice_set, subst, sym, ◌∙◌, ap, arith}
-use Rattle.fc_lane.specs.Lane.{LaneView}
-use Rattle.fc_stands.specs.Passing.{Filled}
-use Rattle.fc_stands.specs.Store.{StandsFor, StoreView}
-use Rattle.fc_stands.proofs.Filling.{can_fill, of_lane, fill_turn}
-use Rattle.fc_stands.proofs.Turns.{history_full, turn_says}
-use Rattle.fc_stands.specs.Logged.{whether_moved}
+use Rattle.std.proofs.Common.{◌≡◌, Bool, [], ◌∷◌, ◌++◌, length, slice_set, ap, subst, arith}
+use Rattle.std.specs.Prelude.{IfOk}
 use Rattle.fc_legal.specs.Seconds.{fill_of}
-use Rattle.std.proofs.Common.{Bool}
-use Rattle.fc_stands.proofs.Parting.{inside}
-use Rattle.fc_stands.proofs.Quieting.{keeps_roomy, one_keeps, quiet_says}
-use Rattle.fc_stands.proofs.Since.{one_goes_by}
+use Rattle.fc_stands.specs.Logged.{whether_moved}
 use Rattle.fc_stands.specs.Quiet.{QuietBy}
+use Rattle.fc_stands.specs.Store.{StandsFor, StoreView}
+use Rattle.fc_stands.proofs.Quieting.{quiet_says}
+use Rattle.fc_store.proofs.InLane.{at_hand, disks_left, fill_can, fill_in_lane, fill_logged, goes_by, still_quiet}
+use Rattle.fc_store.proofs.ReadyLane.{not_logged, stays_up}
 use Rattle.fc_store.proofs.store.Store.fill.Goals as goal
 
-pub returns-then-is_full-clause-filled : goal.returns-then-is_full-clause-filled
-returns-then-is_full-clause-filled g c = λ w told.
-    history_full (StandsFor c.args.self.now) w c.args.history.now told c.requires.room (omega (arith, c.if-is_full.ensures.full))
+pub returns-in-Err-clause-filled : goal.returns-in-Err-clause-filled
+returns-in-Err-clause-filled g c = λ w told.
+    not_logged Bool c.in-Err.stop whether_moved (StandsFor c.ready_lane.new.self) c.args.self.now.control.grain w (fill_of c.args.work.now c.args.grain) c.args.history.now
+    c.in-Err.ensures.stopped c.requires.room (c.ready_lane.ensures.kept.stands w told.0, told.1)
+
+pub returns-in-Err-clause-quiet : goal.returns-in-Err-clause-quiet
+returns-in-Err-clause-quiet g c = λ quiet.
+    stays_up Bool c.in-Err.stop (QuietBy c.args.history.now.entries c.ready_lane.new.self) (c.ready_lane.ensures.kept.quiet c.args.history.now.entries quiet)
+
+pub index_mut-lane-requires : goal.index_mut-lane-requires
+index_mut-lane-requires g c = omega (arith, c.in-Ok.ensures.ready.inside, ap (λ (s : StoreView). length s.lanes) c.self.view_is, c.self.inside.lanes.ok.0)
 
 pub fill_lane-entry-requires-clause-can : goal.fill_lane-entry-requires-clause-can
 fill_lane-entry-requires-clause-can g c =
-    let same : c.args.self.now ≡ record { control = c.self.inside.control; lanes = c.self.inside.lanes.items } = sym c.self.view_is in
-    let many : c.len.result ≡ length c.self.inside.lanes.items = omega (arith, c.len.ensures) in
-    can_fill c.args.self.now c.requires.stands.0 c.args.grain (c.args.grain.0 % c.len.result) c.index_mut-lane.result.now c.make_room.new.self
-    c.make_room.new.self.plan_room c.make_room.new.self.entry_room c.requires.stands.1.0
-    (ap (λ n. c.args.grain.0 % n) (many ∙ ap (λ (s : StoreView). length s.lanes) (sym same)))
-    (c.index_mut-lane.ensures.value ∙ ap (λ (s : StoreView). slice_index_or s.lanes (c.args.grain.0 % c.len.result) c.index_mut-lane.result.now) (sym same))
-    c.in-Ok.ensures.same
-    c.args.work.now (c.requires.next c.requires.stands.0 c.requires.stands.1.0)
+    let here = at_hand c.ready_lane.ensures.kept c.in-Ok.ensures.ready c.self.view_is c.index_mut-lane.ensures.value in
+    fill_can here c.requires.stands.0 c.requires.stands.1.0 c.args.work.now (c.requires.next c.requires.stands.0 c.requires.stands.1.0)
 
 pub fill_lane-entry-requires-clause-of_lane : goal.fill_lane-entry-requires-clause-of_lane
 fill_lane-entry-requires-clause-of_lane g c =
-    let same : c.args.self.now ≡ record { control = c.self.inside.control; lanes = c.self.inside.lanes.items } = sym c.self.view_is in
-    let many : c.len.result ≡ length c.self.inside.lanes.items = omega (arith, c.len.ensures) in
-    of_lane c.args.self.now c.requires.stands.0 c.args.grain (c.args.grain.0 % c.len.result) c.index_mut-lane.result.now c.make_room.new.self
-    c.make_room.new.self.plan_room c.make_room.new.self.entry_room c.requires.stands.1.0
-    (ap (λ n. c.args.grain.0 % n) (many ∙ ap (λ (s : StoreView). length s.lanes) (sym same)))
-    (c.index_mut-lane.ensures.value ∙ ap (λ (s : StoreView). slice_index_or s.lanes (c.args.grain.0 % c.len.result) c.index_mut-lane.result.now) (sym same))
-    c.in-Ok.ensures.same
+    let here = at_hand c.ready_lane.ensures.kept c.in-Ok.ensures.ready c.self.view_is c.index_mut-lane.ensures.value in
+    fill_in_lane here c.requires.stands.0 c.requires.stands.1.0 c.args.work.now (c.requires.next c.requires.stands.0 c.requires.stands.1.0)
+
+pub fill_lane-entry-requires-clause-ready : goal.fill_lane-entry-requires-clause-ready
+fill_lane-entry-requires-clause-ready g c = (at_hand c.ready_lane.ensures.kept c.in-Ok.ensures.ready c.self.view_is c.index_mut-lane.ensures.value).ready
 
 pub returns-clause-filled : goal.returns-clause-filled
 returns-clause-filled g c = λ w told.
-    let same : c.args.self.now ≡ record { control = c.self.inside.control; lanes = c.self.inside.lanes.items } = sym c.self.view_is in
-    let many : c.len.result ≡ length c.self.inside.lanes.items = omega (arith, c.len.ensures) in
-    let left = fill_turn c.args.self.now w c.args.grain (c.args.grain.0 % c.len.result) c.index_mut-lane.result.now c.make_room.new.self
-    c.make_room.new.self.plan_room c.make_room.new.self.entry_room told.0
-    (ap (λ n. c.args.grain.0 % n) (many ∙ ap (λ (s : StoreView). length s.lanes) (sym same)))
-    (c.index_mut-lane.ensures.value ∙ ap (λ (s : StoreView). slice_index_or s.lanes (c.args.grain.0 % c.len.result) c.index_mut-lane.result.now) (sym same))
-    c.in-Ok.ensures.same
-    c.args.work.now _ c.fill_lane-entry.result c.fill_lane-entry.new.lane (c.requires.next w told.0)
-    c.fill_lane-entry.ensures.right c.fill_lane-entry.ensures.asked c.fill_lane-entry.ensures.same
-    (omega arith) (told.1.entries ∙ sym c.len-number.ensures) in
-    let Stands : StoreView → Type 0 = λ s. Filled c.log_fill.result (StandsFor (record s { lanes = slice_set s.lanes (c.args.grain.0 % c.len.result) c.fill_lane-entry.new.lane })) c.args.self.now.control.grain w
-    c.args.work.now c.args.grain c.args.history.now c.log_fill.new.history in
-    subst Stands same
-    (turn_says (StandsFor (record c.args.self.now { lanes = slice_set c.args.self.now.lanes (c.args.grain.0 % c.len.result) c.fill_lane-entry.new.lane }))
-    c.args.self.now.control.grain w _ (fill_of c.args.work.now c.args.grain) c.args.history.now c.log_fill.new.history c.fill_lane-entry.result left told.1
-    Bool c.log_fill.result whether_moved c.log_fill.ensures.ok c.log_fill.ensures.err c.log_fill.ensures.stop)
+    let here = at_hand c.ready_lane.ensures.kept c.in-Ok.ensures.ready c.self.view_is c.index_mut-lane.ensures.value in
+    let Says : Bool → Type 0 = λ b. IfOk c.log_telling.result (λ moved. (moved ≡ b) × (c.log_telling.new.history ≡ record c.args.history.now { entries = c.args.history.now.entries ++ c.fill_lane-entry.result ∷ [] })) in
+    fill_logged here w told.0 c.args.work.now (c.requires.next w told.0) c.len-number.result c.args.history.now c.log_telling.new.history c.fill_lane-entry.result c.fill_lane-entry.new.lane
+    c.log_telling.result c.fill_lane-entry.ensures (omega arith) c.len-number.ensures told (subst Says c.has_moved-moved.ensures c.log_telling.ensures.ok) c.log_telling.ensures.err c.log_telling.ensures.stop
+
+pub returns-clause-disks : goal.returns-clause-disks
+returns-clause-disks g c = disks_left (at_hand c.ready_lane.ensures.kept c.in-Ok.ensures.ready c.self.view_is c.index_mut-lane.ensures.value) c.fill_lane-entry.ensures
 
 pub returns-clause-quiet : goal.returns-clause-quiet
 returns-clause-quiet g c = λ quiet.
-    let same : c.args.self.now ≡ record { control = c.self.inside.control; lanes = c.self.inside.lanes.items } = sym c.self.view_is in
-    let many : c.len.result ≡ length c.self.inside.lanes.items = omega (arith, c.len.ensures) in
-    let there = subst (λ (s : StoreView). c.args.grain.0 % c.len.result < length s.lanes) same
-    (inside c.args.self.now c.requires.stands.0 c.args.grain.0 (c.args.grain.0 % c.len.result) c.index_mut-lane.result.now c.make_room.new.self
-    c.make_room.new.self.plan_room c.make_room.new.self.entry_room c.requires.stands.1.0
-    (ap (λ n. c.args.grain.0 % n) (many ∙ ap (λ (s : StoreView). length s.lanes) (sym same)))
-    (c.index_mut-lane.ensures.value ∙ ap (λ (s : StoreView). slice_index_or s.lanes (c.args.grain.0 % c.len.result) c.index_mut-lane.result.now) (sym same))
-    c.in-Ok.ensures.same) in
-    let can = can_fill c.args.self.now c.requires.stands.0 c.args.grain (c.args.grain.0 % c.len.result) c.index_mut-lane.result.now c.make_room.new.self
-    c.make_room.new.self.plan_room c.make_room.new.self.entry_room c.requires.stands.1.0
-    (ap (λ n. c.args.grain.0 % n) (many ∙ ap (λ (s : StoreView). length s.lanes) (sym same)))
-    (c.index_mut-lane.ensures.value ∙ ap (λ (s : StoreView). slice_index_or s.lanes (c.args.grain.0 % c.len.result) c.index_mut-lane.result.now) (sym same))
-    c.in-Ok.ensures.same
-    c.args.work.now (c.requires.next c.requires.stands.0 c.requires.stands.1.0) in
-    let Store : List LaneView → StoreView = λ ls. record { control = c.self.inside.control; lanes = ls } in
-    let old : StoreView = Store c.self.inside.lanes.items in
-    let new : StoreView = Store (slice_set c.self.inside.lanes.items (c.args.grain.0 % c.len.result) c.fill_lane-entry.new.lane) in
-    let before : QuietBy c.args.history.now.entries old = subst (λ (s : StoreView). QuietBy c.args.history.now.entries s) same quiet in
-    quiet_says c.log_fill.result old new c.args.history.now c.log_fill.new.history c.fill_lane-entry.result _
-    (λ none unarmed.
-    one_keeps old.lanes (c.args.grain.0 % c.len.result) c.index_mut-lane.result.now c.fill_lane-entry.new.lane there c.index_mut-lane.ensures.value
-    (keeps_roomy c.index_mut-lane.result.now c.make_room.new.self c.fill_lane-entry.new.lane (ap (λ (v : LaneView). v.grains) c.in-Ok.ensures.same) c.fill_lane-entry.ensures.quiet)
-    (before.quiet none))
-    (one_goes_by c.fill_lane-entry.result old.control.tables.volumes old.lanes (c.args.grain.0 % c.len.result) c.index_mut-lane.result.now c.make_room.new.self c.fill_lane-entry.new.lane
-    c.make_room.new.self.plan_room c.make_room.new.self.entry_room can.0.told there c.index_mut-lane.ensures.value c.in-Ok.ensures.same
-    (c.fill_lane-entry.ensures.right can.0 can.1 can.2).0 c.fill_lane-entry.ensures.same c.fill_lane-entry.ensures.disks.nearer)
-    before.armed c.log_fill.ensures.ok c.log_fill.ensures.stop
+    let here = at_hand c.ready_lane.ensures.kept c.in-Ok.ensures.ready c.self.view_is c.index_mut-lane.ensures.value in
+    let can = fill_can here c.requires.stands.0 c.requires.stands.1.0 c.args.work.now (c.requires.next c.requires.stands.0 c.requires.stands.1.0) in
+    let before = here.quiet c.args.history.now.entries quiet in
+    let new : StoreView = record { control = c.self.inside.control; lanes = slice_set c.self.inside.lanes.items c.in-Ok.place c.fill_lane-entry.new.lane } in
+    quiet_says c.log_telling.result (record { control = c.self.inside.control; lanes = c.self.inside.lanes.items }) new c.args.history.now c.log_telling.new.history c.fill_lane-entry.result
+    c.has_moved-moved.result
+    (λ none unarmed. still_quiet here c.fill_lane-entry.ensures (before.quiet none)) (goes_by here c.fill_lane-entry.ensures can) before.armed c.log_telling.ensures.ok c.log_telling.ensures.stop

@@ -13,23 +13,23 @@ use Rattle.fc_stands.proofs.Asked.{asks_itself}
 use Rattle.fc_stands.proofs.Lining.{command_done, command_stopped, command_undone}
 use Rattle.fc_store.proofs.store.Store.run_other.Goals as goal
 
-pub let_pass-requires-clause-stands : goal.let_pass-requires-clause-stands
-let_pass-requires-clause-stands g c =
+pub advance-requires-clause-stands : goal.advance-requires-clause-stands
+advance-requires-clause-stands g c =
     let logged = c.in-Ok-true.ensures.answered c.requires.stands.0 c.requires.stands.1 in
     (logged.next, logged.told)
 
 pub returns-in-Ok-true-clause-answered : goal.returns-in-Ok-true-clause-answered
 returns-in-Ok-true-clause-answered g c = λ read w told.
     let grain : GrainSize = c.args.self.now.control.grain in
-    let P : List Request → Type 0 = λ rs. Answered c.let_pass.result (StandsFor c.let_pass.new.self) (session_rules grain read) (Own rs (command_seconds c.args.command) []) w c.args.history.now c.let_pass.new.history in
+    let P : List Request → Type 0 = λ rs. Answered c.advance.result (StandsFor c.advance.new.self) (session_rules grain read) (Own rs (command_seconds c.args.command) []) w c.args.history.now c.advance.new.history in
     let Q : GrainSize → Type 0 = λ s. (next : Whole) → IsTold (StandsFor c.run_command.new.self) c.run_command.new.history next →
-    Brought c.let_pass.result (StandsFor c.let_pass.new.self) (session_rules s read) (Seconds (seconds_begun c.seconds_of-seconds.result (all_work next.books)) []) (Session []) next c.run_command.new.history c.let_pass.new.history in
+    Brought c.advance.result (StandsFor c.advance.new.self) (session_rules s read) (Seconds (seconds_begun c.seconds_of-seconds.result (all_work next.books)) []) (Session []) next c.run_command.new.history c.advance.new.history in
     let R : ℕ → Type 0 = λ n. (next : Whole) → IsTold (StandsFor c.run_command.new.self) c.run_command.new.history next →
-    Brought c.let_pass.result (StandsFor c.let_pass.new.self) (session_rules grain read) (Seconds (seconds_begun n (all_work next.books)) []) (Session []) next c.run_command.new.history c.let_pass.new.history in
+    Brought c.advance.result (StandsFor c.advance.new.self) (session_rules grain read) (Seconds (seconds_begun n (all_work next.books)) []) (Session []) next c.run_command.new.history c.advance.new.history in
     subst P (sym (asks_itself grain w.books c.args.command c.requires.decided))
     (command_done (StandsFor c.run_command.new.self) grain read w (Asked c.args.command) (command_seconds c.args.command) c.args.history.now c.run_command.new.history
-    c.let_pass.result (StandsFor c.let_pass.new.self) c.let_pass.new.history c.in-Ok-true.field-0 c.in-Ok-true.field-0-test (c.in-Ok-true.ensures.answered w told)
-    (subst R c.seconds_of-seconds.ensures (subst Q c.run_command.ensures.grain (λ next. c.let_pass.ensures.passed read next))))
+    c.advance.result (StandsFor c.advance.new.self) c.advance.new.history c.in-Ok-true.field-0 c.in-Ok-true.field-0-test (c.in-Ok-true.ensures.answered w told)
+    (subst R c.seconds_of-seconds.ensures (subst Q c.run_command.ensures.grain (λ next. c.advance.ensures.passed read next))))
 
 pub returns-in-Ok-false-clause-answered : goal.returns-in-Ok-false-clause-answered
 returns-in-Ok-false-clause-answered g c = λ read w told.

@@ -1,124 +1,56 @@
 -- The access fits the lane of its grain, and its entry is right.
-use Rattle.std.proofs.Common.{arith, ◌≡◌, ◌%◌, List, length, slice_index_or, slice_set, subst, sym, ◌∙◌, ap, ◌<◌}
-use Rattle.fc_stands.specs.Store.{StandsFor}
+use Rattle.std.proofs.Common.{length, slice_set, ap, arith}
 use Rattle.fc_lanes.specs.Asking.{part_of}
-use Rattle.fc_stands.specs.Store.{StoreView}
-use Rattle.fc_stands.proofs.Turns.{history_full, turn_logged}
-use Rattle.fc_base.specs.declared.request.Request.{Request}
-use Rattle.fc_stands.specs.Logged.{Logged, anything}
-use Rattle.fc_lane.specs.Lane.{LaneView}
-use Rattle.fc_lanes.specs.Dealing.{disks_in}
-use Rattle.fc_stands.proofs.Ranging.{disks_stay, is_part_of}
-use Rattle.fc_stands.proofs.Parting.{can_access, inside, turn}
-use Rattle.fc_stands.proofs.Turning.{is_in_grain}
-use Rattle.fc_stands.proofs.Quieting.{keeps_roomy, one_keeps, quiet_logged}
-use Rattle.fc_stands.proofs.Since.{one_goes_by}
+use Rattle.fc_stands.specs.Logged.{anything}
 use Rattle.fc_stands.specs.Quiet.{QuietBy}
+use Rattle.fc_stands.specs.Store.{StandsFor, StoreView}
+use Rattle.fc_stands.proofs.Quieting.{quiet_logged}
+use Rattle.fc_store.proofs.InLane.{at_hand, disks_left, goes_by, part_can, part_here, part_logged, still_quiet}
+use Rattle.fc_store.proofs.ReadyLane.{not_logged, stays_up}
 use Rattle.fc_store.proofs.store.Store.run_part.Goals as goal
 
-pub returns-then-is_full-clause-answered : goal.returns-then-is_full-clause-answered
-returns-then-is_full-clause-answered g c = λ w told.
-    history_full (StandsFor c.args.self.now) w c.args.history.now told c.requires.room (omega (arith, c.if-is_full.ensures.full))
+pub returns-in-Err-clause-answered : goal.returns-in-Err-clause-answered
+returns-in-Err-clause-answered g c = λ w told.
+    not_logged (Unit {0}) c.in-Err.stop anything (StandsFor c.ready_lane.new.self) c.args.self.now.control.grain w
+    (part_of c.args.self.now.control.grain c.args.access c.args.volume c.args.block c.args.count c.args.grain) c.args.history.now
+    c.in-Err.ensures.stopped c.requires.room (c.ready_lane.ensures.kept.stands w told.0, told.1)
+
+pub returns-in-Err-clause-quiet : goal.returns-in-Err-clause-quiet
+returns-in-Err-clause-quiet g c = λ quiet.
+    stays_up (Unit {0}) c.in-Err.stop (QuietBy c.args.history.now.entries c.ready_lane.new.self) (c.ready_lane.ensures.kept.quiet c.args.history.now.entries quiet)
+
+pub index_mut-lane-requires : goal.index_mut-lane-requires
+index_mut-lane-requires g c = omega (arith, c.in-Ok.ensures.ready.inside, ap (λ (s : StoreView). length s.lanes) c.self.view_is, c.self.inside.lanes.ok.0)
 
 pub access_lane-entry-requires-clause-can : goal.access_lane-entry-requires-clause-can
 access_lane-entry-requires-clause-can g c =
-    let same : c.args.self.now ≡ record { control = c.self.inside.control; lanes = c.self.inside.lanes.items } = sym c.self.view_is in
-    let many : c.len.result ≡ length c.self.inside.lanes.items = omega (arith, c.len.ensures) in
-    can_access c.args.self.now c.requires.stands.0 c.args.grain (c.args.grain % c.len.result) c.index_mut-lane.result.now c.make_room.new.self
-    c.make_room.new.self.plan_room c.make_room.new.self.entry_room c.requires.stands.1.0
-    (ap (λ n. c.args.grain % n) (many ∙ ap (λ (s : StoreView). length s.lanes) (sym same)))
-    (c.index_mut-lane.ensures.value ∙ ap (λ (s : StoreView). slice_index_or s.lanes (c.args.grain % c.len.result) c.index_mut-lane.result.now) (sym same))
-    c.in-Ok.ensures.same
-    c.requires.there.0 c.args.volume _ _ c.requires.there.1 c.requires.there.2
-    (is_in_grain c.args.self.now.control.grain c.grain.result c.args.block c.args.count c.args.grain _ _
-    (c.grain.ensures ∙ ap (λ (s : StoreView). s.control.grain) (sym same))
-    c.blocks_in-first.ensures.first c.blocks_in-first.ensures.count c.requires.some c.requires.begins c.requires.ends)
-    c.requires.there.3
+    let here = at_hand c.ready_lane.ensures.kept c.in-Ok.ensures.ready c.self.view_is c.index_mut-lane.ensures.value in
+    let part = part_here c.args.self.now.control _ c.args.volume c.grain.result c.args.block c.args.count c.args.grain c.blocks_in-first.result.0 c.blocks_in-first.result.1 here.control
+    c.grain.ensures c.requires.there c.requires.some c.requires.begins c.requires.ends c.blocks_in-first.ensures.first c.blocks_in-first.ensures.count in
+    part_can here c.requires.stands.0 c.requires.stands.1.0 c.args.volume c.blocks_in-first.result.0 c.blocks_in-first.result.1 part
+
+pub access_lane-entry-requires-clause-ready : goal.access_lane-entry-requires-clause-ready
+access_lane-entry-requires-clause-ready g c = (at_hand c.ready_lane.ensures.kept c.in-Ok.ensures.ready c.self.view_is c.index_mut-lane.ensures.value).ready
 
 pub returns-clause-answered : goal.returns-clause-answered
 returns-clause-answered g c = λ w told.
-    let same : c.args.self.now ≡ record { control = c.self.inside.control; lanes = c.self.inside.lanes.items } = sym c.self.view_is in
-    let many : c.len.result ≡ length c.self.inside.lanes.items = omega (arith, c.len.ensures) in
-    let left = turn c.args.self.now w c.args.grain (c.args.grain % c.len.result) c.index_mut-lane.result.now c.make_room.new.self
-    c.make_room.new.self.plan_room c.make_room.new.self.entry_room told.0
-    (ap (λ n. c.args.grain % n) (many ∙ ap (λ (s : StoreView). length s.lanes) (sym same)))
-    (c.index_mut-lane.ensures.value ∙ ap (λ (s : StoreView). slice_index_or s.lanes (c.args.grain % c.len.result) c.index_mut-lane.result.now) (sym same))
-    c.in-Ok.ensures.same
-    c.requires.there.0 c.args.volume c.args.access _ _ _ c.access_lane-entry.result c.access_lane-entry.new.lane c.requires.there.1 c.requires.there.2
-    (is_in_grain c.args.self.now.control.grain c.grain.result c.args.block c.args.count c.args.grain _ _
-    (c.grain.ensures ∙ ap (λ (s : StoreView). s.control.grain) (sym same))
-    c.blocks_in-first.ensures.first c.blocks_in-first.ensures.count c.requires.some c.requires.begins c.requires.ends)
-    c.requires.there.3 c.access_lane-entry.ensures.right c.access_lane-entry.ensures.asked c.access_lane-entry.ensures.same
-    (omega arith) (told.1.entries ∙ sym c.len-number.ensures) in
-    let New : StoreView → StoreView = λ s. record s { lanes = slice_set s.lanes (c.args.grain % c.len.result) c.access_lane-entry.new.lane } in
-    let Asks : Request → Type 0 = λ r. Logged c.log.result anything (StandsFor (New c.args.self.now)) c.args.self.now.control.grain w r c.args.history.now c.log.new.history in
-    let logged = turn_logged (StandsFor (New c.args.self.now)) c.args.self.now.control.grain w _ _ c.args.history.now c.log.new.history c.access_lane-entry.result left told.1
-    c.log.result c.log.ensures.ok c.log.ensures.err c.log.ensures.stop in
-    let asked = subst Asks (is_part_of c.args.self.now.control.grain c.grain.result c.args.access c.args.volume c.args.block c.args.count c.args.grain _ _
-    (c.grain.ensures ∙ ap (λ (s : StoreView). s.control.grain) (sym same))
-    c.blocks_in-first.ensures.first c.blocks_in-first.ensures.count) logged in
-    let Stands : StoreView → Type 0 = λ s. Logged c.log.result anything (StandsFor (New s)) c.args.self.now.control.grain w
-    (part_of c.args.self.now.control.grain c.args.access c.args.volume c.args.block c.args.count c.args.grain) c.args.history.now c.log.new.history in
-    subst Stands same asked
-
-pub returns-in-Err-clause-disks : goal.returns-in-Err-clause-disks
-returns-in-Err-clause-disks g c =
-    let same : c.args.self.now ≡ record { control = c.self.inside.control; lanes = c.self.inside.lanes.items } = sym c.self.view_is in
-    let many : c.len.result ≡ length c.self.inside.lanes.items = omega (arith, c.len.ensures) in
-    let there = subst (λ (s : StoreView). c.args.grain % c.len.result < length s.lanes) same
-    (inside c.args.self.now c.requires.stands.0 c.args.grain (c.args.grain % c.len.result) c.index_mut-lane.result.now c.make_room.new.self
-    c.make_room.new.self.plan_room c.make_room.new.self.entry_room c.requires.stands.1.0
-    (ap (λ n. c.args.grain % n) (many ∙ ap (λ (s : StoreView). length s.lanes) (sym same)))
-    (c.index_mut-lane.ensures.value ∙ ap (λ (s : StoreView). slice_index_or s.lanes (c.args.grain % c.len.result) c.index_mut-lane.result.now) (sym same))
-    c.in-Err.ensures.same) in
-    disks_stay c.self.inside.lanes.items (c.args.grain % c.len.result) c.index_mut-lane.result.now c.make_room.new.self there
-    c.index_mut-lane.ensures.value (ap (λ (v : LaneView). v.grains.disks) c.in-Err.ensures.same)
-    ∙ ap (λ (s : StoreView). disks_in s.lanes) (sym same)
+    let here = at_hand c.ready_lane.ensures.kept c.in-Ok.ensures.ready c.self.view_is c.index_mut-lane.ensures.value in
+    let part = part_here c.args.self.now.control _ c.args.volume c.grain.result c.args.block c.args.count c.args.grain c.blocks_in-first.result.0 c.blocks_in-first.result.1 here.control
+    c.grain.ensures c.requires.there c.requires.some c.requires.begins c.requires.ends c.blocks_in-first.ensures.first c.blocks_in-first.ensures.count in
+    part_logged here w told.0 c.args.volume c.blocks_in-first.result.0 c.blocks_in-first.result.1 part c.args.access c.grain.result c.args.block c.args.count c.len-number.result
+    c.args.history.now c.log.new.history c.access_lane-entry.result c.access_lane-entry.new.lane c.log.result c.grain.ensures c.blocks_in-first.ensures.first c.blocks_in-first.ensures.count
+    c.access_lane-entry.ensures (omega arith) c.len-number.ensures told c.log.ensures.ok c.log.ensures.err c.log.ensures.stop
 
 pub returns-clause-disks : goal.returns-clause-disks
-returns-clause-disks g c =
-    let same : c.args.self.now ≡ record { control = c.self.inside.control; lanes = c.self.inside.lanes.items } = sym c.self.view_is in
-    let many : c.len.result ≡ length c.self.inside.lanes.items = omega (arith, c.len.ensures) in
-    let there = subst (λ (s : StoreView). c.args.grain % c.len.result < length s.lanes) same
-    (inside c.args.self.now c.requires.stands.0 c.args.grain (c.args.grain % c.len.result) c.index_mut-lane.result.now c.make_room.new.self
-    c.make_room.new.self.plan_room c.make_room.new.self.entry_room c.requires.stands.1.0
-    (ap (λ n. c.args.grain % n) (many ∙ ap (λ (s : StoreView). length s.lanes) (sym same)))
-    (c.index_mut-lane.ensures.value ∙ ap (λ (s : StoreView). slice_index_or s.lanes (c.args.grain % c.len.result) c.index_mut-lane.result.now) (sym same))
-    c.in-Ok.ensures.same) in
-    disks_stay c.self.inside.lanes.items (c.args.grain % c.len.result) c.index_mut-lane.result.now c.access_lane-entry.new.lane there
-    c.index_mut-lane.ensures.value (c.access_lane-entry.ensures.same.disks ∙ ap (λ (v : LaneView). v.grains.disks) c.in-Ok.ensures.same)
-    ∙ ap (λ (s : StoreView). disks_in s.lanes) (sym same)
+returns-clause-disks g c = disks_left (at_hand c.ready_lane.ensures.kept c.in-Ok.ensures.ready c.self.view_is c.index_mut-lane.ensures.value) c.access_lane-entry.ensures
 
 pub returns-clause-quiet : goal.returns-clause-quiet
 returns-clause-quiet g c = λ quiet.
-    let same : c.args.self.now ≡ record { control = c.self.inside.control; lanes = c.self.inside.lanes.items } = sym c.self.view_is in
-    let many : c.len.result ≡ length c.self.inside.lanes.items = omega (arith, c.len.ensures) in
-    let there = subst (λ (s : StoreView). c.args.grain % c.len.result < length s.lanes) same
-    (inside c.args.self.now c.requires.stands.0 c.args.grain (c.args.grain % c.len.result) c.index_mut-lane.result.now c.make_room.new.self
-    c.make_room.new.self.plan_room c.make_room.new.self.entry_room c.requires.stands.1.0
-    (ap (λ n. c.args.grain % n) (many ∙ ap (λ (s : StoreView). length s.lanes) (sym same)))
-    (c.index_mut-lane.ensures.value ∙ ap (λ (s : StoreView). slice_index_or s.lanes (c.args.grain % c.len.result) c.index_mut-lane.result.now) (sym same))
-    c.in-Ok.ensures.same) in
-    let can = can_access c.args.self.now c.requires.stands.0 c.args.grain (c.args.grain % c.len.result) c.index_mut-lane.result.now c.make_room.new.self
-    c.make_room.new.self.plan_room c.make_room.new.self.entry_room c.requires.stands.1.0
-    (ap (λ n. c.args.grain % n) (many ∙ ap (λ (s : StoreView). length s.lanes) (sym same)))
-    (c.index_mut-lane.ensures.value ∙ ap (λ (s : StoreView). slice_index_or s.lanes (c.args.grain % c.len.result) c.index_mut-lane.result.now) (sym same))
-    c.in-Ok.ensures.same
-    c.requires.there.0 c.args.volume _ _ c.requires.there.1 c.requires.there.2
-    (is_in_grain c.args.self.now.control.grain c.grain.result c.args.block c.args.count c.args.grain _ _
-    (c.grain.ensures ∙ ap (λ (s : StoreView). s.control.grain) (sym same))
-    c.blocks_in-first.ensures.first c.blocks_in-first.ensures.count c.requires.some c.requires.begins c.requires.ends)
-    c.requires.there.3 in
-    let Store : List LaneView → StoreView = λ ls. record { control = c.self.inside.control; lanes = ls } in
-    let old : StoreView = Store c.self.inside.lanes.items in
-    let new : StoreView = Store (slice_set c.self.inside.lanes.items (c.args.grain % c.len.result) c.access_lane-entry.new.lane) in
-    let before : QuietBy c.args.history.now.entries old = subst (λ (s : StoreView). QuietBy c.args.history.now.entries s) same quiet in
-    quiet_logged c.log.result old new c.args.history.now c.log.new.history c.access_lane-entry.result
-    (λ none unarmed.
-    one_keeps old.lanes (c.args.grain % c.len.result) c.index_mut-lane.result.now c.access_lane-entry.new.lane there c.index_mut-lane.ensures.value
-    (keeps_roomy c.index_mut-lane.result.now c.make_room.new.self c.access_lane-entry.new.lane (ap (λ (v : LaneView). v.grains) c.in-Ok.ensures.same) c.access_lane-entry.ensures.quiet)
-    (before.quiet none))
-    (one_goes_by c.access_lane-entry.result old.control.tables.volumes old.lanes (c.args.grain % c.len.result) c.index_mut-lane.result.now c.make_room.new.self c.access_lane-entry.new.lane
-    c.make_room.new.self.plan_room c.make_room.new.self.entry_room can.0.told there c.index_mut-lane.ensures.value c.in-Ok.ensures.same
-    (c.access_lane-entry.ensures.right can.0 can.1 can.2).0 c.access_lane-entry.ensures.same c.access_lane-entry.ensures.disks.nearer)
-    before.armed c.log.ensures.ok c.log.ensures.stop
+    let here = at_hand c.ready_lane.ensures.kept c.in-Ok.ensures.ready c.self.view_is c.index_mut-lane.ensures.value in
+    let part = part_here c.args.self.now.control _ c.args.volume c.grain.result c.args.block c.args.count c.args.grain c.blocks_in-first.result.0 c.blocks_in-first.result.1 here.control
+    c.grain.ensures c.requires.there c.requires.some c.requires.begins c.requires.ends c.blocks_in-first.ensures.first c.blocks_in-first.ensures.count in
+    let can = part_can here c.requires.stands.0 c.requires.stands.1.0 c.args.volume c.blocks_in-first.result.0 c.blocks_in-first.result.1 part in
+    let before = here.quiet c.args.history.now.entries quiet in
+    let new : StoreView = record { control = c.self.inside.control; lanes = slice_set c.self.inside.lanes.items c.in-Ok.place c.access_lane-entry.new.lane } in
+    quiet_logged c.log.result (record { control = c.self.inside.control; lanes = c.self.inside.lanes.items }) new c.args.history.now c.log.new.history c.access_lane-entry.result
+    (λ none unarmed. still_quiet here c.access_lane-entry.ensures (before.quiet none)) (goes_by here c.access_lane-entry.ensures can) before.armed c.log.ensures.ok c.log.ensures.stop

@@ -1,5 +1,5 @@
 -- One grain more, and a grain at which it stops.
-use Rattle.std.proofs.Common.{◌≡◌, ℕ, ◌+◌, ◌-◌, [], map, Ok, Err, ◌∙◌, ap, subst, arith, refl}
+use Rattle.std.proofs.Common.{◌≡◌, ℕ, ◌+◌, ◌-◌, [], map, Ok, Err, ◌∙◌, ap, subst, arith}
 use Rattle.fc_base.specs.declared.request.Request.{Request}
 use Rattle.fc_base.specs.declared.size.GrainSize.{GrainSize}
 use Rattle.fc_control.specs.Control.{ControlState}
@@ -13,6 +13,7 @@ use Rattle.fc_stands.specs.Logged.{Brought, Logged, anything}
 use Rattle.fc_stands.specs.Store.{StandsFor, StoreView}
 use Rattle.fc_stands.proofs.Bringing.{brought_all, brought_stopped}
 use Rattle.fc_stands.proofs.Lining.{asks_from, one_more_number, own_begins, own_left}
+use Rattle.fc_store.proofs.GoingOn.{goes_first, goes_then}
 use Rattle.fc_store.proofs.store.Store.run_parts.Goals as goal
 
 pub loop-grain-init : goal.loop-grain-init
@@ -21,17 +22,13 @@ loop-grain-init g c = record {
       own_begins (StandsFor c.args.self.now) c.args.self.now.control.grain read w
       (map (part_of c.args.self.now.control.grain c.args.access c.args.volume c.args.block c.args.count)
       (numbers c.touched_grains-first.result.0 (c.touched_grains-first.result.1 + 1 - c.touched_grains-first.result.0))) c.args.history.now told;
-  stands = c.requires.stands;
-  room = c.requires.room;
-  control = refl;
-  disks = refl;
-  quiet = λ q. q;
+  goes = goes_first c.args.self.now c.args.history.now c.requires.stands c.requires.room;
 }
 
 pub loop-grain-preserved : goal.loop-grain-preserved
 loop-grain-preserved g c =
     let grain : GrainSize = c.args.self.now.control.grain in
-    let next = c.in-Ok.ensures.answered c.loop-grain.invariant.stands.0 c.loop-grain.invariant.stands.1 in
+    let next = c.in-Ok.ensures.answered c.loop-grain.invariant.goes.stands.0 c.loop-grain.invariant.goes.stands.1 in
     let Q : GrainSize → Type 0 = λ s. (mid : Whole) → IsTold (StandsFor c.loop-grain.self) c.loop-grain.history mid →
     Logged {A = Unit {0}} (Ok tt) anything (StandsFor c.run_part.new.self) s mid (part_of s c.args.access c.args.volume c.args.block c.args.count c.loop-grain.grain) c.loop-grain.history c.run_part.new.history in
     record {
@@ -40,12 +37,8 @@ loop-grain-preserved g c =
           (part_of grain c.args.access c.args.volume c.args.block c.args.count) c.loop-grain.grain (c.touched_grains-first.result.1 + 1)
           c.args.history.now c.loop-grain.history c.run_part.new.history
           (omega (arith, c.loop-grain-test.true)) (c.loop-grain.invariant.brought read w told)
-          (subst Q (ap (λ (s : ControlState). s.grain) c.loop-grain.invariant.control) c.in-Ok.ensures.answered);
-      stands = (next.next, next.told);
-      room = c.in-Ok.ensures.limit;
-      control = c.in-Ok.ensures.control ∙ c.loop-grain.invariant.control;
-      disks = c.in-Ok.ensures.disks ∙ c.loop-grain.invariant.disks;
-      quiet = λ q. c.in-Ok.ensures.quiet (c.loop-grain.invariant.quiet q);
+          (subst Q (ap (λ (s : ControlState). s.grain) c.loop-grain.invariant.goes.control) c.in-Ok.ensures.answered);
+      goes = goes_then c.loop-grain.invariant.goes (next.next, next.told) c.in-Ok.ensures.limit c.in-Ok.ensures.control c.in-Ok.ensures.disks c.in-Ok.ensures.quiet;
     }
 
 pub returns-in-Err-clause-answered : goal.returns-in-Err-clause-answered
@@ -66,7 +59,7 @@ returns-in-Err-clause-answered g c = λ read w told.
     (one_more_number (Err c.in-Err.stop) (StandsFor c.loop-grain.self) (StandsFor c.run_part.new.self) grain read w _ request c.loop-grain.grain end
     c.args.history.now c.loop-grain.history c.run_part.new.history
     (omega (arith, c.loop-grain-test.true)) (c.loop-grain.invariant.brought read w told)
-    (subst P (ap (λ (s : ControlState). s.grain) c.loop-grain.invariant.control) c.in-Err.ensures.answered)))))
+    (subst P (ap (λ (s : ControlState). s.grain) c.loop-grain.invariant.goes.control) c.in-Err.ensures.answered)))))
 
 pub returns-clause-answered : goal.returns-clause-answered
 returns-clause-answered g c = λ read w told.
@@ -86,7 +79,7 @@ returns-clause-answered g c = λ read w told.
     (subst P none (c.loop-grain.invariant.brought read w told))))
 
 pub returns-in-Err-clause-quiet : goal.returns-in-Err-clause-quiet
-returns-in-Err-clause-quiet g c = λ q. c.in-Err.ensures.quiet (c.loop-grain.invariant.quiet q)
+returns-in-Err-clause-quiet g c = λ q. c.in-Err.ensures.quiet (c.loop-grain.invariant.goes.quiet q)
 
 pub returns-clause-quiet : goal.returns-clause-quiet
-returns-clause-quiet g c = c.loop-grain.invariant.quiet
+returns-clause-quiet g c = c.loop-grain.invariant.goes.quiet

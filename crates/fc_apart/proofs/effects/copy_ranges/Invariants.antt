@@ -1,5 +1,5 @@
 use Rattle.std.proofs.Common.{◌≡◌, take}
-use Rattle.fc_store.proofs.effects.copy_ranges.Given as goal
+use Rattle.fc_apart.proofs.effects.copy_ranges.Given as goal
 
 abbrev pub invariant-loop-range : goal.invariant-loop-range
 invariant-loop-range l = l.copy ≡ take l.range-index l.range-items

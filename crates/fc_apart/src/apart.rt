@@ -10,7 +10,7 @@ use fc_entry::entry::Entry;
 use std::alloc::Global;
 
 /// An entry by an actor that speaks of no disk. Its number is 0 until it is kept.
-pub(crate) fn entry_apart(
+pub fn entry_apart(
     alloc: Global,
     actor: u32,
     place: Place,

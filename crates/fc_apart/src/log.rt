@@ -12,15 +12,15 @@ use fc_entry::history::History;
 use fc_entry::stop::Stop;
 
 /// Whether one more entry would pass the greatest number of entries.
-pub(crate) fn is_full(history: &History) -> bool
+pub fn is_full(history: &History) -> bool
     ensures full { OnTrue result (MAX_ENTRIES ≤ length history.now.entries) }
     ensures room { OnFalse result (length history.now.entries < MAX_ENTRIES) }
 {
     history.len() >= MAX_ENTRIES
 }
 
-/// Puts an entry at the history's end.
-pub(crate) fn log(history: &mut History, entry: Entry) -> Result<(), Stop>
+/// Puts an entry at the history's end. `NoMemory` where memory was wanted for it; the history is then as it was.
+pub fn log(history: &mut History, entry: Entry) -> Result<(), Stop>
     requires { entry.number ≡ length history.old.entries }
     ensures ok { OnOk result (history.new ≡ record history.old { entries = history.old.entries ++ entry ∷ [] }) }
     ensures err { OnErr result (history.new ≡ history.old) }
@@ -32,43 +32,29 @@ pub(crate) fn log(history: &mut History, entry: Entry) -> Result<(), Stop>
     }
 }
 
-/// Puts an entry at the history's end: whether it is done.
-pub(crate) fn log_done(history: &mut History, entry: Entry) -> Result<bool, Stop>
+/// Puts an entry at the history's end, and says this of it. `NoMemory` where memory was wanted for it; the history is then as it
+/// was.
+pub fn log_telling(history: &mut History, entry: Entry, told: bool) -> Result<bool, Stop>
     requires { entry.number ≡ length history.old.entries }
-    ensures ok { IfOk result (λ done. (done ≡ is_done entry.reply) × (history.new ≡ record history.old { entries = history.old.entries ++ entry ∷ [] })) }
+    ensures ok { IfOk result (λ tells. (tells ≡ told) × (history.new ≡ record history.old { entries = history.old.entries ++ entry ∷ [] })) }
     ensures err { OnErr result (history.new ≡ history.old) }
     ensures stop { IfErr result (λ stop. stop ≡ Stop.NoMemory) }
 {
-    let done = is_done(&entry);
     match log(history, entry) {
-        Ok(()) => Ok(done),
-        Err(stop) => Err(stop),
-    }
-}
-
-/// Puts the entry of a copy or cleaning at the history's end: whether the grain was moved.
-pub(crate) fn log_fill(history: &mut History, entry: Entry) -> Result<bool, Stop>
-    requires { entry.number ≡ length history.old.entries }
-    ensures ok { IfOk result (λ moved. (moved ≡ has_moved entry.reply) × (history.new ≡ record history.old { entries = history.old.entries ++ entry ∷ [] })) }
-    ensures err { OnErr result (history.new ≡ history.old) }
-    ensures stop { IfErr result (λ stop. stop ≡ Stop.NoMemory) }
-{
-    let moved = has_moved(&entry);
-    match log(history, entry) {
-        Ok(()) => Ok(moved),
+        Ok(()) => Ok(told),
         Err(stop) => Err(stop),
     }
 }
 
 /// Whether the entry's reply is Done.
-fn is_done(entry: &Entry) -> bool
+pub fn is_done(entry: &Entry) -> bool
     ensures { result ≡ is_done entry.now.reply }
 {
     matches!(entry.reply, Reply::Done)
 }
 
 /// Whether the entry's reply says that a grain was copied or cleaned.
-fn has_moved(entry: &Entry) -> bool
+pub fn has_moved(entry: &Entry) -> bool
     ensures { result ≡ has_moved entry.now.reply }
 {
     matches!(entry.reply, Reply::Moved { .. })

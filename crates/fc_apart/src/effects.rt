@@ -2,7 +2,7 @@
 
 ghost use Rattle.std.specs.Prelude.{◌≡◌, ◌++◌, List as Items, IfOk, OnOk};
 ghost use Rattle.fc_base.specs.declared.request.Effect.{Effect};
-ghost use Rattle.fc_store.specs.Effects.{IsJoined};
+ghost use Rattle.fc_apart.specs.Effects.{IsJoined};
 
 use fc_base::list::List;
 use fc_base::outcome::NoMemory;
@@ -73,7 +73,7 @@ fn copy_behind(alloc: Global, list: &mut List<Effect>, effects: &[Effect]) -> Re
 
 /// The effects of a settling, with those decided after it behind them. Where the settling has none there is nothing to join:
 /// the list is empty, and `taken` takes those decided.
-pub(crate) fn join(
+pub fn join(
     alloc: Global,
     settled: &List<Effect>,
     decided: &List<Effect>,
@@ -90,7 +90,7 @@ pub(crate) fn join(
 }
 
 /// All effects: the joined ones, or those decided where the settling has none. Takes no memory.
-pub(crate) fn taken(joined: List<Effect>, decided: List<Effect>) -> List<Effect>
+pub fn taken(joined: List<Effect>, decided: List<Effect>) -> List<Effect>
     ensures { (settled : Items Effect) → IsJoined settled decided joined → result ≡ settled ++ decided }
 {
     if joined.len() == 0 {

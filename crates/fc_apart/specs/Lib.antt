@@ -1,0 +1,2 @@
+-- What one list of effects holds.
+pub mod Effects
