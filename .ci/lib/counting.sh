@@ -56,6 +56,13 @@ count_gate() { # STATUS FILE
     fi
 }
 
+# How long a gate took that has just ended, by clock and by the processors.
+said_of_time() { # SECONDS
+    times >"$room/times"
+    printf '== the gate of the proofs took %d minutes of clock, and of the processors, for programs and for the system: %s\n' \
+        $(($1 / 60)) "$(tail -n 1 -- "$room/times")"
+}
+
 # What a gate that ended badly said of what failed, once more: at most 60 lines.
 said_of_failures() { # FILE
     echo "== what the gate of the proofs said of what failed"
