@@ -1,21 +1,21 @@
 -- What a decision leaves, part by part.
-use Rattle.std.proofs.Common.{◌≡◌, ℕ, All, List, [], ◌∷◌, fold, refl, sym, ap, ◌∙◌}
+use Rattle.std.proofs.Common.{◌≡◌, ℕ, All, Bool, List, [], ◌∷◌, fold, refl, sym, ap, ◌∙◌}
 use Rattle.std.proofs.lemmas.List.Elements.{All-head, All-tail}
 use Rattle.fc_base.specs.Pools.{Pool}
 use Rattle.fc_base.specs.Sheet.{Sheet}
-use Rattle.fc_base.specs.SheetStep.{sheet_step}
 use Rattle.fc_base.specs.SheetView.{SheetView}
 use Rattle.fc_base.specs.declared.decision.Decision.{Decision}
 use Rattle.fc_base.specs.declared.decision.LaneEvent.{LaneEvent}
 use Rattle.fc_base.specs.declared.decision.LaneEvent.TheVariants.{Trigger}
-use Rattle.fc_base.specs.declared.volume.Change.{Change}
+use Rattle.fc_base.specs.declared.size.GrainSize.{GrainSize}
 use Rattle.fc_books.specs.After.{after_table_change, flags_after, pools_after, sheet_after}
 use Rattle.fc_books.specs.Books.{Books}
 use Rattle.fc_books.specs.Deciding.{after_decision}
 use Rattle.fc_changed.specs.Row.{Row}
-use Rattle.fc_check_lane.specs.Known.{Known, size_of}
+use Rattle.fc_check_lane.specs.Known.{Known}
 use Rattle.fc_check_record.specs.Chains.{chains_after, chains_event}
-use Rattle.fc_check_record.specs.Judged.{whole_of}
+use Rattle.fc_check_record.proofs.Telling.{judged}
+use Rattle.fc_check_record.specs.Judged.{AreOne, Judged, whole_of}
 use Rattle.fc_check_record.specs.declared.chains.Chains.{Chains}
 use Rattle.fc_decided.proofs.Frame.{all_leave}
 use Rattle.fc_desk.specs.Control.{ControlState, books_of}
@@ -23,7 +23,6 @@ use Rattle.fc_entry.specs.Picture.{Picture}
 use Rattle.fc_entry.specs.PlainStep.{after_effects}
 use Rattle.fc_follow.specs.Following.{IsNoTrigger, TriggersFirst, restarts}
 use Rattle.fc_legal.specs.Steps.{left_by, rows_after}
-use Rattle.fc_legal.specs.Whole.{Whole}
 
 -- ---- chains
 
@@ -82,19 +81,26 @@ books_left c after k known rows noted pools left calls d first l =
     })
     ∙ sym (all_leave (restarts rows) (whole_of c k rows pools calls).books d.events d.changes)
 
-pub whole_left : (grain : GrainSize) (c after : ControlState) (k known : Known) (rows noted : List Row) (pools left : List Pool) (calls : List ℕ) (d : Decision) → TriggersFirst d.events →
-    grain ≡ k.grain → AreLeft c after k known rows noted pools left d →
-    whole_of after known noted left calls ≡ left_by grain (whole_of c k rows pools calls) d
-whole_left grain c after k known rows noted pools left calls d first size l =
+whole_left : (c after : ControlState) (k known : Known) (rows noted : List Row) (pools left : List Pool) (calls : List ℕ) (d : Decision) → TriggersFirst d.events → AreLeft c after k known rows noted pools left d →
+    whole_of after known noted left calls ≡ left_by k.grain (whole_of c k rows pools calls) d
+whole_left c after k known rows noted pools left calls d first l =
     let books = books_left c after k known rows noted pools left calls d first l in
     let rows_are : noted ≡ rows_after k.sheet rows d.events =
     l.rows_are ∙ (ap (λ (x : Chains). x.rows) l.chains_are ∙ rows_left (record { sheet = k.sheet; rows = rows }) d.events) in
     λ i. record {
       actors = [];
       books = books i;
-      picture = (l.picture ∙ ap (λ (g : GrainSize). after_effects g k.picture d.effects) (sym size)) i;
+      picture = l.picture i;
       rows = rows_are i;
       faults = l.faults i;
       calls = calls;
       entries = l.entries i;
     }
+
+pub left_told : (c after : ControlState) (k known : Known) (rows noted : List Row) (pools left : List Pool) (calls : List ℕ) (before : Judged) (d : Decision) → judged c k rows pools calls ≡ before → AreOne c k calls →
+    TriggersFirst d.events → after.grain ≡ c.grain → known.grain ≡ after.grain → AreLeft c after k known rows noted pools left d →
+    judged after known noted left calls ≡ record before { whole = left_by before.grain before.whole d }
+left_told c after k known rows noted pools left calls before d is one first e f l =
+    let grain : known.grain ≡ k.grain = f ∙ (e ∙ sym one.grain) in
+    let whole = whole_left c after k known rows noted pools left calls d first l in
+    (λ i. record { grain = grain i; whole = whole i }) ∙ ap (λ (b : Judged). record b { whole = left_by b.grain b.whole d }) is
