@@ -1,6 +1,6 @@
 //! Entries of lanes.
 
-ghost use Rattle.std.specs.Prelude.{◌≡◌, ◌↔◌, ◌+◌, ◌*◌, ◌^◌, ◌<◌, ◌≤◌, All, IfOk, IsTrue, length, slice_index_or, slice_set};
+ghost use Rattle.std.specs.Prelude.{◌≡◌, ◌↔◌, ℕ, ◌+◌, ◌^◌, ◌<◌, [], IfOk, IsTrue, slice_index_or, slice_set};
 ghost use Rattle.fc_base.specs.declared.request.Place.TheVariants.{Lane};
 ghost use Rattle.fc_books.specs.Sound.{AreSound};
 ghost use Rattle.fc_check_lane.specs.Next.{IsNext};
