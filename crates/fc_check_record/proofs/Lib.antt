@@ -1,0 +1,7 @@
+mod Firsts
+mod Agreeing
+mod Telling
+mod Entries
+mod Leaving
+mod Pooling
+mod Deciding
