@@ -13,6 +13,7 @@ use fc_base::request::Pair;
 use fc_check_rows::Rows;
 use fc_model::PlainSheet;
 use std::alloc::Global;
+use std::mem;
 
 /// Chains, and the changed grains of incremental mappings.
 #[derive(Drop)]
@@ -76,4 +77,29 @@ impl Chains {
         }
         Ok(())
     }
+}
+
+/// Does events to chains and to what is kept of incremental mappings, in order. Refused for want of memory alone, or where births come
+/// to 2^64; then they stand for nothing any more.
+pub(crate) fn follow_events(
+    alloc: Global,
+    sheet: &mut PlainSheet,
+    rows: &mut Rows,
+    events: &[LaneEvent],
+) -> Result<(), NoMemory>
+    ensures sheet { OnOk result (sheet.new ≡ (chains_after record { sheet = sheet.old; rows = rows.old } events.now).sheet) }
+    ensures rows { OnOk result (rows.new ≡ (chains_after record { sheet = sheet.old; rows = rows.old } events.now).rows) }
+{
+    let mut chains = Chains {
+        sheet: mem::replace(sheet, PlainSheet::new(alloc)),
+        rows: mem::replace(rows, Rows::new(alloc)),
+    };
+    chains.events(alloc, events)?;
+    let Chains {
+        sheet: chains_left,
+        rows: rows_left,
+    } = chains;
+    *sheet = chains_left;
+    *rows = rows_left;
+    Ok(())
 }

@@ -1,6 +1,6 @@
 //! What entries of lanes are judged by, found from the tables.
 
-ghost use Rattle.std.specs.Prelude.{◌≡◌, ◌<◌, [], ◌∷◌, ◌++◌, IfOk, OnOk, length, map};
+ghost use Rattle.std.specs.Prelude.{◌≡◌, [], ◌∷◌, ◌++◌, IfOk, OnOk, map};
 ghost use Rattle.fc_check_lane.specs.Known.{size_of};
 ghost use Rattle.fc_legal.specs.Whole.{volume_told, volumes_told};
 
@@ -8,11 +8,9 @@ use crate::record::copy_items;
 use fc_base::outcome::NoMemory;
 use fc_base::volume::Volume;
 use fc_check_lane::{Known, VolumeSize};
-use fc_check_picture::Picture;
 use fc_check_steps::LaneVolume;
 use fc_desk::Control;
 use fc_group::access_in;
-use fc_model::PlainSheet;
 use fc_registry::Registry;
 use std::alloc::Global;
 
@@ -79,27 +77,14 @@ fn tell_sizes(alloc: Global, volumes: &[Volume]) -> Result<Vec<VolumeSize>, NoMe
     Ok(sizes)
 }
 
-/// What entries of lanes are judged by, with the volumes, sizes and background work of a control part.
-pub(crate) fn known_by(
-    alloc: Global,
-    control: &Control,
-    sheet: PlainSheet,
-    picture: Picture,
-    faults: Vec<u64>,
-    entries: u64,
-) -> Result<Known, NoMemory>
-    requires { 0 < length faults.items }
-    ensures { IfOk result (λ known. known ≡ record { grain = control.now.grain; volumes = volumes_told control.now.tables; sizes = map size_of control.now.tables.volumes; flags = control.now.flags; sheet = sheet; picture = picture; faults = faults.items; entries = entries }) }
+/// The volumes, their sizes and background work that entries of lanes are judged by become those of a control part. Refused for
+/// want of memory alone; then a part of it may be done.
+pub(crate) fn renew(alloc: Global, control: &Control, known: &mut Known) -> Result<(), NoMemory>
+    ensures { OnOk result (known.new ≡ record known.old { volumes = volumes_told control.now.tables; sizes = map size_of control.now.tables.volumes; flags = control.now.flags }) }
 {
     let tables = control.registry();
-    Ok(Known {
-        grain: control.grain(),
-        volumes: tell_volumes(alloc, tables)?,
-        sizes: tell_sizes(alloc, tables.all_volumes())?,
-        flags: copy_items(alloc, control.flags())?,
-        sheet,
-        picture,
-        faults,
-        entries,
-    })
+    known.volumes = tell_volumes(alloc, tables)?;
+    known.sizes = tell_sizes(alloc, tables.all_volumes())?;
+    known.flags = copy_items(alloc, control.flags())?;
+    Ok(())
 }
