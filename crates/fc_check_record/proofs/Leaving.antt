@@ -14,6 +14,7 @@ use Rattle.fc_check_lane.specs.Known.{Known, size_of}
 use Rattle.fc_check_record.specs.Chains.{chains_after, chains_event}
 use Rattle.fc_check_record.proofs.Telling.{judged}
 use Rattle.fc_check_record.specs.Judged.{AreOne, Judged, whole_of}
+use Rattle.fc_check_record.specs.Leaving.{AreBooksLeft, chains_left, known_left}
 use Rattle.fc_check_record.specs.declared.chains.Chains.{Chains}
 use Rattle.fc_decided.proofs.Frame.{all_leave}
 use Rattle.fc_desk.specs.Control.{ControlState, books_of}
@@ -46,18 +47,13 @@ rows_left c (event ∷ events) = rows_left (chains_event c event) events
 
 -- ---- all
 
--- What a control part, what entries of lanes are judged by, what is kept of incremental mappings and disks left are after a decision.
+-- What a control part, what entries of lanes are judged by, what is kept of incremental mappings and disks left
+-- are after a decision.
 pub record AreLeft (c after : ControlState) (k known : Known) (rows noted : List Row) (pools left : List Pool) (d : Decision) : Type 0 where
-  pub books : (view : SheetView) → books_of after view ≡ record (fold after_table_change (books_of c view) d.changes) { flags = fold flags_after c.flags d.events }
+  pub books : AreBooksLeft c after d
   pub grain : after.grain ≡ c.grain
-  pub known_is : known ≡ record k {
-    volumes = volumes_told after.tables;
-    sizes = map size_of after.tables.volumes;
-    flags = after.flags;
-    sheet = (chains_after (record { sheet = k.sheet; rows = rows }) d.events).sheet;
-    picture = after_effects k.grain k.picture d.effects;
-  }
-  pub rows_are : noted ≡ (chains_after (record { sheet = k.sheet; rows = rows }) d.events).rows
+  pub known_is : known ≡ known_left after k rows d
+  pub rows_are : noted ≡ (chains_left k rows d).rows
   pub pools_are : left ≡ fold pools_after pools d.events
 
 pub one_left : (c after : ControlState) (k known : Known) (rows noted : List Row) (pools left : List Pool) (calls : List ℕ) (d : Decision) → AreOne c k calls → AreLeft c after k known rows noted pools left d → AreOne after known calls

@@ -43,12 +43,7 @@ impl Chains {
     }
 
     /// A trigger, whose new slots hold the restart sets that were kept before it.
-    fn trigger(
-        &mut self,
-        alloc: Global,
-        event: &LaneEvent,
-        pairs: &[Pair],
-    ) -> Result<(), NoMemory>
+    fn trigger(&mut self, alloc: Global, event: &LaneEvent, pairs: &[Pair]) -> Result<(), NoMemory>
         requires { event.now ≡ Trigger pairs.now }
         ensures { OnOk result (self.new ≡ chains_event self.old event.now) }
     {
@@ -68,7 +63,8 @@ impl Chains {
         }
     }
 
-    /// Events, in order. Refused for want of memory alone, or where births come to 2^64; then a part of them may be done.
+    /// Events, in order. Refused for want of memory alone, or where births come to 2^64; then a part of them
+    /// may be done.
     pub fn events(&mut self, alloc: Global, events: &[LaneEvent]) -> Result<(), NoMemory>
         ensures { OnOk result (self.new ≡ chains_after self.old events.now) }
     {
@@ -79,8 +75,8 @@ impl Chains {
     }
 }
 
-/// Does events to chains and to what is kept of incremental mappings, in order. Refused for want of memory alone, or where births come
-/// to 2^64; then they stand for nothing any more.
+/// Does events to chains and to what is kept of incremental mappings, in order. Refused for want of memory
+/// alone, or where births come to 2^64; then they stand for nothing any more.
 pub(crate) fn follow_events(
     alloc: Global,
     sheet: &mut PlainSheet,

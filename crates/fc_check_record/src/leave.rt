@@ -1,16 +1,9 @@
 //! What a decision leaves.
 
-ghost use Rattle.std.specs.Prelude.{◌≡◌, ◌≤◌, IfOk, OnOk, length, filter, fold, map};
-ghost use Rattle.fc_base.specs.SheetView.{SheetView};
-ghost use Rattle.fc_books.specs.After.{after_table_change, flags_after};
-ghost use Rattle.fc_check_lane.specs.Known.{size_of};
+ghost use Rattle.std.specs.Prelude.{◌≡◌, ◌≤◌, IfOk, OnOk, length, filter};
 ghost use Rattle.fc_desk.specs.Changes.{AreCountable, FitChanges, adds};
-ghost use Rattle.fc_desk.specs.Control.{books_of};
-ghost use Rattle.fc_entry.specs.PlainStep.{after_effects};
 ghost use Rattle.fc_legal.specs.Steps.{left_by};
-ghost use Rattle.fc_legal.specs.Whole.{volumes_told};
-ghost use Rattle.fc_check_record.specs.Chains.{chains_after};
-ghost use Rattle.fc_check_record.specs.Leaving.{CanBeLeft};
+ghost use Rattle.fc_check_record.specs.Leaving.{AreBooksLeft, CanBeLeft, chains_left, known_left};
 
 use crate::chains::follow_events;
 use crate::pools::take_for_all;
@@ -24,15 +17,11 @@ use fc_desk::Control;
 use std::alloc::Global;
 
 /// The tables, next ids and background work become those after a decision. Refused for want of memory alone.
-fn leave_control(
-    alloc: Global,
-    control: &mut Control,
-    decision: &Decision,
-) -> Result<(), NoMemory>
+fn leave_control(alloc: Global, control: &mut Control, decision: &Decision) -> Result<(), NoMemory>
     requires one { length (filter adds decision.now.changes) ≤ 1 }
     requires fits { FitChanges control.old.tables decision.now.changes }
     requires countable { AreCountable decision.now.changes }
-    ensures books { OnOk result ((view : SheetView) → books_of control.new view ≡ record (fold after_table_change (books_of control.old view) decision.now.changes) { flags = fold flags_after control.old.flags decision.now.events }) }
+    ensures books { OnOk result (AreBooksLeft control.old control.new decision.now) }
     ensures grain { OnOk result (control.new.grain ≡ control.old.grain) }
 {
     control.reserve(alloc, decision)?;
@@ -40,8 +29,9 @@ fn leave_control(
     Ok(())
 }
 
-/// What entries of lanes are judged by, and what is kept of incremental mappings, become what they are after a decision that made
-/// the control part what it is now. Refused for want of memory alone; then a part of it may be done.
+/// What entries of lanes are judged by, and what is kept of incremental mappings, become what they are after a
+/// decision that made the control part what it is now. Refused for want of memory alone; then a part of it may
+/// be done.
 fn leave_known(
     alloc: Global,
     control: &Control,
@@ -49,8 +39,8 @@ fn leave_known(
     rows: &mut Rows,
     decision: &Decision,
 ) -> Result<(), NoMemory>
-    ensures known { OnOk result (known.new ≡ record known.old { volumes = volumes_told control.now.tables; sizes = map size_of control.now.tables.volumes; flags = control.now.flags; sheet = (chains_after record { sheet = known.old.sheet; rows = rows.old } decision.now.events).sheet; picture = after_effects known.old.grain known.old.picture decision.now.effects }) }
-    ensures rows { OnOk result (rows.new ≡ (chains_after record { sheet = known.old.sheet; rows = rows.old } decision.now.events).rows) }
+    ensures known { OnOk result (known.new ≡ known_left control.now known.old rows.old decision.now) }
+    ensures rows { OnOk result (rows.new ≡ (chains_left known.old rows.old decision.now).rows) }
 {
     follow_events(alloc, &mut known.sheet, rows, decision.events.as_slice())?;
     known
@@ -60,8 +50,9 @@ fn leave_known(
 }
 
 impl Record {
-    /// What is told after a decision: the tables, next ids and background work by its changes and events, chains, disks left and
-    /// what is kept of incremental mappings by its events, plain volumes by its effects. Refused for want of memory alone.
+    /// What is told after a decision: the tables, next ids and background work by its changes and events,
+    /// chains, disks left and what is kept of incremental mappings by its events, plain volumes by its effects.
+    /// Refused for want of memory alone.
     pub fn leave(self, alloc: Global, decision: &Decision) -> Result<Record, NoMemory>
         requires { CanBeLeft self.whole decision.now }
         ensures { IfOk result (λ left. left ≡ record { grain = self.grain; whole = left_by self.grain self.whole decision.now }) }

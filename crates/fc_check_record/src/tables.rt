@@ -3,6 +3,7 @@
 ghost use Rattle.std.specs.Prelude.{◌≡◌, [], ◌∷◌, ◌++◌, IfOk, OnOk, map};
 ghost use Rattle.fc_check_lane.specs.Known.{size_of};
 ghost use Rattle.fc_legal.specs.Whole.{volume_told, volumes_told};
+ghost use Rattle.fc_check_record.specs.Leaving.{renewed};
 
 use crate::record::copy_items;
 use fc_base::outcome::NoMemory;
@@ -77,10 +78,10 @@ fn tell_sizes(alloc: Global, volumes: &[Volume]) -> Result<Vec<VolumeSize>, NoMe
     Ok(sizes)
 }
 
-/// The volumes, their sizes and background work that entries of lanes are judged by become those of a control part. Refused for
-/// want of memory alone; then a part of it may be done.
+/// The volumes, their sizes and background work that entries of lanes are judged by become those of a control
+/// part. Refused for want of memory alone; then a part of it may be done.
 pub(crate) fn renew(alloc: Global, control: &Control, known: &mut Known) -> Result<(), NoMemory>
-    ensures { OnOk result (known.new ≡ record known.old { volumes = volumes_told control.now.tables; sizes = map size_of control.now.tables.volumes; flags = control.now.flags }) }
+    ensures { OnOk result (known.new ≡ renewed control.now known.old) }
 {
     let tables = control.registry();
     known.volumes = tell_volumes(alloc, tables)?;
