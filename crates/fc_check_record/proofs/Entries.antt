@@ -2,7 +2,6 @@
 use Rattle.std.proofs.Common.{◌≡◌, ℕ, [], Result, IfOk, sym, ap, ◌∙◌}
 use Rattle.std.proofs.lemmas.Result.{IfOk-weaker}
 use Rattle.fc_base.specs.declared.outcome.NoMemory.{NoMemory}
-use Rattle.fc_base.specs.declared.request.Place.{Place}
 use Rattle.fc_base.specs.declared.request.Place.TheVariants.{Lane}
 use Rattle.fc_base.specs.declared.request.Request.{Request}
 use Rattle.fc_base.specs.declared.request.Request.TheVariants.{Command, Unread, Read, Write, Copy, Clean, CopyTurn, CleanTurn}

@@ -1,5 +1,5 @@
 -- What a decision leaves, part by part.
-use Rattle.std.proofs.Common.{◌≡◌, ℕ, All, Bool, List, [], ◌∷◌, fold, map, refl, subst, sym, ap, ◌∙◌}
+use Rattle.std.proofs.Common.{◌≡◌, ℕ, All, Bool, List, [], ◌∷◌, fold, refl, subst, sym, ap, ◌∙◌}
 use Rattle.std.proofs.lemmas.List.Elements.{All-head, All-tail}
 use Rattle.fc_base.specs.Pools.{Pool}
 use Rattle.fc_base.specs.Sheet.{Sheet}
@@ -7,21 +7,19 @@ use Rattle.fc_base.specs.SheetView.{SheetView}
 use Rattle.fc_base.specs.declared.decision.Decision.{Decision}
 use Rattle.fc_base.specs.declared.decision.LaneEvent.{LaneEvent}
 use Rattle.fc_base.specs.declared.decision.LaneEvent.TheVariants.{Trigger}
-use Rattle.fc_books.specs.After.{after_table_change, flags_after, pools_after, sheet_after}
+use Rattle.fc_books.specs.After.{pools_after, sheet_after}
 use Rattle.fc_books.specs.Deciding.{after_decision}
 use Rattle.fc_changed.specs.Row.{Row}
-use Rattle.fc_check_lane.specs.Known.{Known, size_of}
+use Rattle.fc_check_lane.specs.Known.{Known}
 use Rattle.fc_check_record.specs.Chains.{chains_after, chains_event}
 use Rattle.fc_check_record.proofs.Telling.{judged}
 use Rattle.fc_check_record.specs.Judged.{AreOne, Judged, whole_of}
 use Rattle.fc_check_record.specs.Leaving.{AreBooksLeft, chains_left, known_left}
 use Rattle.fc_check_record.specs.declared.chains.Chains.{Chains}
 use Rattle.fc_decided.proofs.Frame.{all_leave}
-use Rattle.fc_desk.specs.Control.{ControlState, books_of}
-use Rattle.fc_entry.specs.PlainStep.{after_effects}
+use Rattle.fc_desk.specs.Control.{ControlState}
 use Rattle.fc_follow.specs.Following.{IsNoTrigger, TriggersFirst, restarts}
 use Rattle.fc_legal.specs.Steps.{left_by, rows_after}
-use Rattle.fc_legal.specs.Whole.{volumes_told}
 
 -- ---- chains
 

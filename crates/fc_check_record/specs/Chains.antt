@@ -1,6 +1,5 @@
 -- Chains, and what is kept of incremental mappings, event by event.
 use Rattle.std.specs.Prelude.{fold, List}
-use Rattle.fc_base.specs.Pools.{Pool}
 use Rattle.fc_base.specs.declared.decision.LaneEvent.{LaneEvent}
 use Rattle.fc_books.specs.After.{sheet_after}
 use Rattle.fc_follow.specs.Following.{restarts, rows_event}
