@@ -91,11 +91,7 @@ pub(crate) fn follow_events(
         rows: mem::replace(rows, Rows::new(alloc)),
     };
     chains.events(alloc, events)?;
-    let Chains {
-        sheet: chains_left,
-        rows: rows_left,
-    } = chains;
-    *sheet = chains_left;
-    *rows = rows_left;
+    *sheet = chains.sheet;
+    *rows = chains.rows;
     Ok(())
 }

@@ -16,7 +16,7 @@ use fc_registry::Registry;
 use std::alloc::Global;
 
 /// A volume, and how hosts may reach it.
-fn tell_volume(tables: &Registry, volume: &Volume) -> LaneVolume
+fn lane_volume(tables: &Registry, volume: &Volume) -> LaneVolume
     ensures { result ≡ volume_told tables.now.tables volume.now }
 {
     LaneVolume {
@@ -37,14 +37,14 @@ fn push_volume(volumes: &mut Vec<LaneVolume>, volume: LaneVolume) -> Result<(), 
 }
 
 /// All volumes, and how hosts may reach them.
-fn tell_volumes(alloc: Global, tables: &Registry) -> Result<Vec<LaneVolume>, NoMemory>
-    ensures { IfOk result (λ told. told.items ≡ volumes_told tables.now.tables) }
+fn lane_volumes(alloc: Global, tables: &Registry) -> Result<Vec<LaneVolume>, NoMemory>
+    ensures { IfOk result (λ volumes. volumes.items ≡ volumes_told tables.now.tables) }
 {
-    let mut told = Vec::new(alloc);
+    let mut volumes = Vec::new(alloc);
     for volume in tables.all_volumes() {
-        push_volume(&mut told, tell_volume(tables, volume))?;
+        push_volume(&mut volumes, lane_volume(tables, volume))?;
     }
-    Ok(told)
+    Ok(volumes)
 }
 
 /// How large a volume is.
@@ -68,7 +68,7 @@ fn push_size(sizes: &mut Vec<VolumeSize>, size: VolumeSize) -> Result<(), NoMemo
 }
 
 /// How large volumes are.
-fn tell_sizes(alloc: Global, volumes: &[Volume]) -> Result<Vec<VolumeSize>, NoMemory>
+fn volume_sizes(alloc: Global, volumes: &[Volume]) -> Result<Vec<VolumeSize>, NoMemory>
     ensures { IfOk result (λ sizes. sizes.items ≡ map size_of volumes.now) }
 {
     let mut sizes = Vec::new(alloc);
@@ -84,8 +84,8 @@ pub(crate) fn renew(alloc: Global, control: &Control, known: &mut Known) -> Resu
     ensures { OnOk result (known.new ≡ renewed control.now known.old) }
 {
     let tables = control.registry();
-    known.volumes = tell_volumes(alloc, tables)?;
-    known.sizes = tell_sizes(alloc, tables.all_volumes())?;
+    known.volumes = lane_volumes(alloc, tables)?;
+    known.sizes = volume_sizes(alloc, tables.all_volumes())?;
     known.flags = copy_items(alloc, control.flags())?;
     Ok(())
 }
