@@ -62,6 +62,18 @@ impl Story {
         Ok(story)
     }
 
+    /// Such a cascade, of which one volume was written at its first grain.
+    pub fn written(
+        alloc: Global,
+        volumes: u32,
+        grains: u32,
+        volume: u32,
+    ) -> Result<Story, NoMemory> {
+        let mut story = Story::cascade(alloc, volumes, grains)?;
+        story.write(volume, 0)?;
+        Ok(story)
+    }
+
     /// An event happens.
     fn event(&mut self, event: &LaneEvent) -> Result<(), NoMemory> {
         self.sheet.step(self.alloc, event, 0, 1)
