@@ -7,6 +7,8 @@ mod replies;
 #[cfg(test)]
 mod requests;
 #[cfg(test)]
+mod stops;
+#[cfg(test)]
 mod tests;
 #[cfg(test)]
 mod told;
