@@ -1,5 +1,5 @@
-//! First lines of traces, what was asked, lines of replies, rows of reports and what entries did, good ones and malformed ones, with
-//! the byte at which they stop, worked out by hand.
+//! First lines of traces, what was asked, lines of replies, rows of reports and what entries did, good ones and
+//! malformed ones, with the byte at which they stop, worked out by hand.
 #![tactic(auto)]
 
 #[cfg(test)]

@@ -94,7 +94,8 @@ fn reads_runs(rt: HostRuntime) -> Result<(), Fail> {
     Ok(())
 }
 
-/// The place at which the bytes stop being the line of a reply. None where they are, and where memory is wanted.
+/// The place at which the bytes stop being the line of a reply. None where they are, and where memory is
+/// wanted.
 fn stops_at(rt: &HostRuntime, bytes: &[u8]) -> Option<usize> {
     place_of(read_reply(rt.alloc(), bytes))
 }
