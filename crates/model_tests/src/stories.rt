@@ -1,5 +1,5 @@
-//! The stories. Births are counted by hand: each volume takes one as it comes, each started copy and each new live slot one
-//! more.
+//! The stories. Births are counted by hand: each volume takes one as it comes, each started copy and each new
+//! live slot one more.
 
 use crate::story::{Story, pair};
 use fc_base::ids::VolId;
@@ -51,8 +51,8 @@ fn a_stopped_copy_is_cleaned_and_goes(rt: HostRuntime) -> Result<(), Fail> {
     Ok(())
 }
 
-/// A complete copy is stopped that others need, and its volume is written: its old slot has stayed for them, and goes when the
-/// nearest of them has the grain.
+/// A complete copy is stopped that others need, and its volume is written: its old slot has stayed for them,
+/// and goes when the nearest of them has the grain.
 fn assert_stays_for_dependents(rt: &impl Abort, story: &mut Story) -> Result<(), Fail> {
     assert!(rt; story.has_moved(&[(4, 1, 0, COPIED)]));
     assert_eq!(rt; (story.is_complete(0), story.is_needed(0)), (true, true));

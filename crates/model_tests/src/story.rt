@@ -52,8 +52,8 @@ impl Story {
         Ok(story)
     }
 
-    /// Volumes of so many grains each, with ids from 0, each but the first a copy of the one before; the mapping of a copy has the
-    /// id of its source.
+    /// Volumes of so many grains each, with ids from 0, each but the first a copy of the one before; the
+    /// mapping of a copy has the id of its source.
     pub fn cascade(alloc: Global, volumes: u32, grains: u32) -> Result<Story, NoMemory> {
         let mut story = Story::of(alloc, volumes, grains)?;
         for target in 1..volumes {
