@@ -64,7 +64,7 @@ commits_both v a b c d news first second are up more w0 w opens sound room fit =
   both (suc zero) x0 x at e = subst (HasShare (record { counters = map after w.counters; told = w.told + 1 }) 1) (some-injective d x e) (after_share w 1 b d more (fit 1 x0 b (omega arith) at second))
   both (suc (suc q)) x0 x at e = absurd (some-ne-none x (sym e))
 
--- the one part that a pass holds: once it was taken and a ticket was asked for, and once a number was drawn for it
+-- the one part that a pass holds: once it was taken and a ticket was asked for, and once a number was drawn
 pub still_only : (v0 v1 v2 : View Counter Tally) (p : ℕ) (x : Counter) → HoldsNone v0 → v1 ≡ took v0 p x → v2.held ≡ v1.held → HoldsOnly v2 p x
 still_only v0 v1 v2 p x free one two =
     let only = subst (λ (v : View Counter Tally). HoldsOnly v p x) (sym one) (only_took v0 p x free) in
