@@ -1,13 +1,15 @@
 -- Ways behind an entry, by its request.
-use Rattle.std.proofs.Common.{◌≡◌, false, IsTrue, List, refl, sym, subst}
+use Rattle.std.proofs.Common.{◌≡◌, ℕ, false, IsTrue, List, refl, sym, subst}
 use Rattle.std.proofs.lemmas.Bool.{both_ways}
 use Rattle.fc_base.specs.declared.command.Command.{Command}
 use Rattle.fc_base.specs.declared.command.Command.TheVariants.{Read as ReadLine, Write as WriteLine}
+use Rattle.fc_base.specs.declared.name.Ref.{Ref}
 use Rattle.fc_base.specs.declared.request.Request.{Request}
 use Rattle.fc_base.specs.declared.size.GrainSize.{GrainSize}
+use Rattle.fc_books.specs.Refused.{access_refused}
 use Rattle.fc_control.specs.Dispatch.{is_decided}
 use Rattle.fc_entry.specs.declared.entry.Entry.{Entry}
-use Rattle.fc_legal.specs.Steps.{CommandIsRight, CommandStep, RequestStep, Step}
+use Rattle.fc_legal.specs.Steps.{AccessIsRefused, CommandIsRight, CommandStep, RequestStep, Step}
 use Rattle.fc_legal.specs.Whole.{Whole}
 use Rattle.fc_check_record.specs.Judged.{Judged}
 use Rattle.fc_check_follow.specs.Following.{Came}
@@ -26,3 +28,8 @@ pub line_came : (grain : GrainSize) (w : Whole) (command : Command) (entry : Ent
 line_came grain w (ReadLine volume block count) entry old new decided came = absurd (both_ways false refl decided)
 line_came grain w (WriteLine volume block count byte) entry old new decided came = absurd (both_ways false refl decided)
 line_came grain w command entry old new decided came = came
+
+-- Of a line `write`.
+pub write_came : (grain : GrainSize) (w : Whole) (command : Command) (entry : Entry) (old new : List Judged) (volume : Ref) (block count byte : ℕ) → command ≡ WriteLine volume block count byte →
+    Came grain (AccessIsRefused (access_refused grain w.books volume block count) w entry) old new → Came grain (CommandIsRight grain w command entry) old new
+write_came grain w command entry old new volume block count byte is came = subst (λ (line : Command). Came grain (CommandIsRight grain w line entry) old new) (sym is) came

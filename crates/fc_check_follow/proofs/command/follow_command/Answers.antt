@@ -1,6 +1,11 @@
 use Rattle.std.proofs.lemmas.Result.{on_ok_weaker}
-use Rattle.fc_check_follow.proofs.Commanding.{wanting_came}
+use Rattle.fc_check_follow.proofs.Commanding.{other_came, wanting_came}
+use Rattle.fc_check_follow.proofs.Tests.{untrue}
 use Rattle.fc_check_follow.proofs.command.follow_command.Goals as goal
+
+pub returns-then-not-is_of_command : goal.returns-then-not-is_of_command
+returns-then-not-is_of_command c =
+    other_came c.args.way.grain c.args.way.whole c.args.command.now c.args.entry.now (untrue c.is_of_command.result c.if-not-is_of_command.true c.is_of_command.ensures) c.args.after.now.items
 
 pub returns-then-wants_memory : goal.returns-then-wants_memory
 returns-then-wants_memory c =
