@@ -1,0 +1,219 @@
+-- The bytes of a session, line by line and segment by segment.
+use Rattle.std.proofs.Common.{◌≡◌, ℕ, zero, suc, ◌+◌, ◌==◌, ◌<◌, ◌≤◌, Bool, true, false, not, cond, Option, Some, None, Result, Ok, Err, List, [], ◌∷◌, ◌++◌, length, take, drop, fold, append_assoc, append-nil, refl, sym, ap, subst, ◌∙◌, arith, nat_lt}
+use Rattle.std.specs.List.{position, position_or_len}
+use Rattle.std.proofs.lemmas.Bool.Decides.{nat_tests}
+use Rattle.std.proofs.lemmas.List.Sums.{fold-append}
+use Rattle.fc_base.specs.declared.command.Line.{Line}
+use Rattle.fc_base.specs.declared.command.Line.TheVariants.{Blank, Command, Together, Actor, End}
+use Rattle.fc_base.specs.declared.command.Scope.TheVariants.{Free}
+use Rattle.fc_base.specs.declared.fault.WordFault.{WordFault}
+use Rattle.fc_blocks.specs.Blocks.{After, Opened, block_step, closed, open_on}
+use Rattle.fc_blocks.specs.Reading.{IsNext}
+use Rattle.fc_blocks.specs.Segments.{Cut, Segment, cut, cut_step, inside, line_cut, no_lines, outside}
+use Rattle.fc_blocks.specs.declared.block.Taken.{Taken}
+use Rattle.fc_check_lines.specs.Bytes.{segments_in}
+use Rattle.fc_entry.specs.Lines.{Lined, all_lines, ended_lines, last_line, line_step, lined, without_return}
+use Rattle.fc_words.specs.Lines.{line_of}
+
+-- ---- lines
+
+abbrev from : List (List ℕ) → List ℕ → Lined
+from ended unended = record { ended = ended; unended = unended }
+
+abbrev pub is_newline : ℕ → Bool
+is_newline byte = byte == 10
+
+-- the lines that had ended stand before those that end later
+abbrev behind : List (List ℕ) → Lined → Lined
+behind ended l = record { ended = ended ++ l.ended; unended = l.unended }
+
+ended_byte :
+    (ended : List (List ℕ)) (open : List ℕ) (byte : ℕ) (bytes : List ℕ) (newline : Bool) →
+    ((ends : List (List ℕ)) (opens : List ℕ) → fold line_step (from ends opens) bytes ≡ behind ends (fold line_step (from [] opens) bytes)) →
+    fold line_step (cond {A = Lined} newline (from (ended ++ without_return open ∷ []) []) (from ended (open ++ byte ∷ []))) bytes
+    ≡ behind ended (fold line_step (cond {A = Lined} newline (from (without_return open ∷ []) []) (from [] (open ++ byte ∷ []))) bytes)
+ended_byte ended open byte bytes true more =
+    let line : List (List ℕ) = without_return open ∷ [] in
+    let rest : Lined = fold line_step (from [] []) bytes in
+    more (ended ++ line) []
+    ∙ ap (λ e. record { ended = e; unended = rest.unended }) (append_assoc ended line rest.ended)
+    ∙ sym (ap (behind ended) (more line []))
+ended_byte ended open byte bytes false more = more ended (open ++ byte ∷ [])
+
+ended_behind : (ended : List (List ℕ)) (open bytes : List ℕ) → fold line_step (from ended open) bytes ≡ behind ended (fold line_step (from [] open) bytes)
+ended_behind ended open [] = ap (λ e. record { ended = e; unended = open }) (sym (append-nil ended))
+ended_behind ended open (byte ∷ bytes) = ended_byte ended open byte bytes (byte == 10) (λ ends opens. ended_behind ends opens bytes)
+
+-- a first line that ends
+abbrev found : List ℕ → List ℕ → ℕ → Lined
+found open bytes n = behind (without_return (open ++ take n bytes) ∷ []) (lined (drop (suc n) bytes))
+
+at_byte :
+    (open : List ℕ) (byte : ℕ) (bytes : List ℕ) (n : ℕ) (newline : Bool) →
+    n ≡ cond (not newline) (1 + position_or_len is_newline bytes) 0 →
+    n < suc (length bytes) →
+    ((opens : List ℕ) (m : ℕ) → m ≡ position_or_len is_newline bytes → m < length bytes → fold line_step (from [] opens) bytes ≡ found opens bytes m) →
+    fold line_step (cond {A = Lined} newline (from (without_return open ∷ []) []) (from [] (open ++ byte ∷ []))) bytes ≡ found open (byte ∷ bytes) n
+at_byte open byte bytes zero true is inside more =
+    ended_behind (without_return open ∷ []) [] bytes
+    ∙ ap (λ line. behind (without_return line ∷ []) (lined bytes)) (sym (append-nil open))
+at_byte open byte bytes zero false is inside more = absurd (omega (arith, is))
+at_byte open byte bytes (suc n) true is inside more = absurd (omega (arith, is))
+at_byte open byte bytes (suc n) false is inside more =
+    more (open ++ byte ∷ []) n (omega (arith, is)) (omega (arith, inside))
+    ∙ ap (λ line. behind (without_return line ∷ []) (lined (drop (suc n) bytes))) (append_assoc open (byte ∷ []) (take n bytes))
+
+line_at : (open bytes : List ℕ) (n : ℕ) → n ≡ position_or_len is_newline bytes → n < length bytes → fold line_step (from [] open) bytes ≡ found open bytes n
+line_at open [] n is inside = absurd (omega (arith, inside))
+line_at open (byte ∷ bytes) n is inside = at_byte open byte bytes n (byte == 10) is inside (λ opens m e lt. line_at opens bytes m e lt)
+
+-- none that ends
+none_byte :
+    (open : List ℕ) (byte : ℕ) (bytes : List ℕ) (newline : Bool) →
+    cond (not newline) (1 + position_or_len is_newline bytes) 0 ≡ suc (length bytes) →
+    ((opens : List ℕ) → position_or_len is_newline bytes ≡ length bytes → fold line_step (from [] opens) bytes ≡ from [] (opens ++ bytes)) →
+    fold line_step (cond {A = Lined} newline (from (without_return open ∷ []) []) (from [] (open ++ byte ∷ []))) bytes ≡ from [] (open ++ byte ∷ bytes)
+none_byte open byte bytes true is more = absurd (omega (arith, is))
+none_byte open byte bytes false is more =
+    more (open ++ byte ∷ []) (omega (arith, is)) ∙ ap (λ line. from [] line) (append_assoc open (byte ∷ []) bytes)
+
+none_at : (open bytes : List ℕ) → position_or_len is_newline bytes ≡ length bytes → fold line_step (from [] open) bytes ≡ from [] (open ++ bytes)
+none_at open [] is = ap (λ line. from [] line) (sym (append-nil open))
+none_at open (byte ∷ bytes) is = none_byte open byte bytes (byte == 10) is (λ opens e. none_at opens bytes e)
+
+-- ---- the first line
+
+place_is : (m l n : ℕ) (inside : Bool) → nat_lt m l ≡ inside → cond inside (Some m) None ≡ Some n → (n ≡ m) × (m < l)
+place_is m l n true test is = (cc is, grind (arith, nat_tests, test))
+place_is m l n false test is = absurd (cc is)
+
+place_none : (m l : ℕ) (inside : Bool) → nat_lt m l ≡ inside → ◌≡◌ {A = Option ℕ} (cond inside (Some m) None) None → l ≤ m
+place_none m l true test is = absurd (cc is)
+place_none m l false test is = grind (arith, nat_tests, test)
+
+abbrev lines_of : Lined → List (List ℕ)
+lines_of l = l.ended ++ last_line l.unended
+
+pub first_ended : (bytes : List ℕ) (n : ℕ) → position is_newline bytes ≡ Some n →
+    (all_lines bytes ≡ without_return (take n bytes) ∷ all_lines (drop (n + 1) bytes)) × (n < length bytes)
+first_ended bytes n is =
+    let at : (n ≡ position_or_len is_newline bytes) × (position_or_len is_newline bytes < length bytes) =
+    place_is (position_or_len is_newline bytes) (length bytes) n (nat_lt (position_or_len is_newline bytes) (length bytes)) refl is in
+    let within : n < length bytes = omega (arith, at.0, at.1) in
+    let more : n + 1 ≡ suc n = omega arith in
+    (
+      ap lines_of (line_at [] bytes n at.0 within) ∙ ap (λ k. without_return (take n bytes) ∷ all_lines (drop k bytes)) (sym more),
+      within,
+    )
+
+pub first_unended : (bytes : List ℕ) → position is_newline bytes ≡ None → position_or_len is_newline bytes ≤ length bytes → 0 < length bytes → all_lines bytes ≡ bytes ∷ []
+first_unended bytes is within some =
+    let past : length bytes ≤ position_or_len is_newline bytes =
+    place_none (position_or_len is_newline bytes) (length bytes) (nat_lt (position_or_len is_newline bytes) (length bytes)) refl is in
+    ap lines_of (none_at [] bytes (omega (arith, past, within))) ∙ one bytes some
+  where
+    one : (line : List ℕ) → 0 < length line → last_line line ≡ line ∷ []
+    one [] some = absurd (omega (arith, some))
+    one (byte ∷ line) some = refl
+
+-- ---- segments
+
+abbrev cut_from : List Segment → Option Opened → Cut
+cut_from segs block = record { segments = segs; open_block = block }
+
+abbrev behind_segments : List Segment → Cut → Cut
+behind_segments segs c = record { segments = segs ++ c.segments; open_block = c.open_block }
+
+steps_behind : (segs : List Segment) (block : Option Opened) (lines : List (List ℕ)) →
+    fold cut_step (cut_from segs block) lines ≡ behind_segments segs (fold cut_step (cut_from [] block) lines)
+steps_behind segs block [] = ap (λ s. cut_from s block) (sym (append-nil segs))
+steps_behind segs block (line ∷ lines) =
+    let more : Cut = line_cut block line in
+    let rest : Cut = fold cut_step (cut_from [] more.open_block) lines in
+    steps_behind (segs ++ more.segments) more.open_block lines
+    ∙ ap (λ s. cut_from s rest.open_block) (append_assoc segs more.segments rest.segments)
+    ∙ sym (ap (behind_segments segs) (steps_behind more.segments more.open_block lines))
+
+cut_behind : (xs ys : List (List ℕ)) → (cut xs).open_block ≡ None → (cut (xs ++ ys)).segments ≡ (cut xs).segments ++ (cut ys).segments
+cut_behind xs ys none =
+    let segs : List Segment = (cut xs).segments in
+    ap (λ (c : Cut). c.segments) (fold-append cut_step no_lines xs ys)
+    ∙ ap (λ (b : Option Opened). (fold cut_step (cut_from segs b) ys).segments) none
+    ∙ ap (λ (c : Cut). c.segments) (steps_behind segs None ys)
+
+-- a line that ends a segment leaves no block open
+single_ends : (read : Result Line WordFault) (line : List ℕ) (s : Segment) → (outside read line).segments ≡ s ∷ [] → (outside read line).open_block ≡ None
+single_ends (Ok Together) line s is = absurd (cc is)
+single_ends (Ok Blank) line s is = refl
+single_ends (Ok (Command command)) line s is = refl
+single_ends (Ok (Actor name role)) line s is = refl
+single_ends (Ok End) line s is = refl
+single_ends (Err fault) line s is = refl
+
+block_ends : (after : After) (s : Segment) → (inside after).segments ≡ s ∷ [] → (inside after).open_block ≡ None
+block_ends (open_on b) s is = absurd (cc is)
+block_ends (closed block) s is = refl
+
+line_ends : (block : Option Opened) (line : List ℕ) (s : Segment) → (line_cut block line).segments ≡ s ∷ [] → (line_cut block line).open_block ≡ None
+unfolding line_cut
+line_ends None line s is = single_ends (line_of Free line) line s is
+line_ends (Some b) line s is = block_ends (block_step b line) s is
+
+one_line : (lines : List (List ℕ)) (line : List ℕ) → cut (lines ++ line ∷ []) ≡ cut_step (cut lines) line
+one_line lines line = fold-append cut_step no_lines lines (line ∷ [])
+
+-- ---- so far no segment has ended
+
+pub record SoFar (bytes rest : List ℕ) (block : Option Opened) : Type 0 where
+  pub lines : List (List ℕ)
+  pub all : all_lines bytes ≡ lines ++ all_lines rest
+  pub none : (cut lines).segments ≡ []
+  pub open_block : (cut lines).open_block ≡ block
+  pub within : length rest ≤ length bytes
+
+pub begins_so : (bytes : List ℕ) → SoFar bytes bytes None
+begins_so bytes = record { lines = []; all = refl; none = refl; open_block = refl; within = omega arith }
+
+-- one line more
+one_more : (bytes rest behind line : List ℕ) (lines : List (List ℕ)) → all_lines bytes ≡ lines ++ all_lines rest → all_lines rest ≡ line ∷ all_lines behind →
+    all_lines bytes ≡ (lines ++ line ∷ []) ++ all_lines behind
+one_more bytes rest behind line lines all first =
+    all ∙ ap (λ ls. lines ++ ls) first ∙ sym (append_assoc lines (line ∷ []) (all_lines behind))
+
+pub goes_on_so :
+    (bytes rest behind line : List ℕ) (taken : Taken) (before after : Option Opened) (so : SoFar bytes rest before) →
+    all_lines rest ≡ line ∷ all_lines behind →
+    length behind < length rest →
+    (next : IsNext taken before after so.lines line) →
+    next.ended ≡ [] →
+    SoFar bytes behind after
+goes_on_so bytes rest behind line taken before after so first less next none =
+    record {
+      lines = so.lines ++ line ∷ [];
+      all = one_more bytes rest behind line so.lines so.all first;
+      none = next.segments ∙ ap (λ segs. segs ++ next.ended) so.none ∙ none;
+      open_block = next.open_block;
+      within = omega (arith, less, so.within);
+    }
+
+pub ends_so :
+    (bytes rest behind line : List ℕ) (taken : Taken) (before after : Option Opened) (s : Segment) (so : SoFar bytes rest before) →
+    all_lines rest ≡ line ∷ all_lines behind →
+    (next : IsNext taken before after so.lines line) →
+    next.ended ≡ s ∷ [] →
+    segments_in bytes ≡ s ∷ segments_in behind
+ends_so bytes rest behind line taken before after s so first next ended =
+    let lines : List (List ℕ) = so.lines ++ line ∷ [] in
+    let segments : (cut lines).segments ≡ s ∷ [] = next.segments ∙ ap (λ segs. segs ++ next.ended) so.none ∙ ended in
+    let step : (cut lines).segments ≡ (cut so.lines).segments ++ (line_cut (cut so.lines).open_block line).segments = ap (λ (c : Cut). c.segments) (one_line so.lines line) in
+    let own : (line_cut (cut so.lines).open_block line).segments ≡ s ∷ [] =
+    sym (step ∙ ap (λ segs. segs ++ (line_cut (cut so.lines).open_block line).segments) so.none) ∙ segments in
+    let shut : (cut lines).open_block ≡ None =
+    ap (λ (c : Cut). c.open_block) (one_line so.lines line) ∙ line_ends (cut so.lines).open_block line s own in
+    ap (λ ls. (cut ls).segments) (one_more bytes rest behind line so.lines so.all first)
+    ∙ cut_behind lines (all_lines behind) shut
+    ∙ ap (λ segs. segs ++ segments_in behind) segments
+
+pub none_so : (bytes rest : List ℕ) (block : Option Opened) → SoFar bytes rest block → rest ≡ [] → segments_in bytes ≡ []
+none_so bytes rest block so none =
+    ap (λ ls. (cut ls).segments) (so.all ∙ ap (λ r. so.lines ++ all_lines r) none ∙ append-nil so.lines) ∙ so.none
