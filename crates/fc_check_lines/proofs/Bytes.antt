@@ -1,8 +1,7 @@
 -- The bytes of a session, line by line and segment by segment.
-use Rattle.std.proofs.Common.{◌≡◌, ℕ, zero, suc, ◌+◌, ◌==◌, ◌<◌, ◌≤◌, Bool, true, false, not, cond, Option, Some, None, Result, Ok, Err, List, [], ◌∷◌, ◌++◌, length, take, drop, fold, append_assoc, append-nil, refl, sym, ap, subst, ◌∙◌, arith, nat_lt}
+use Rattle.std.proofs.Common.{◌≡◌, ℕ, zero, suc, ◌+◌, ◌==◌, ◌<◌, ◌≤◌, Bool, true, false, not, cond, Option, Some, None, Result, Ok, Err, List, [], ◌∷◌, ◌++◌, length, take, drop, fold, append_assoc, append-nil, refl, sym, ap, ◌∙◌, arith}
 use Rattle.std.specs.List.{position, position_or_len}
-use Rattle.std.proofs.lemmas.Bool.Decides.{nat_tests}
-use Rattle.std.proofs.lemmas.List.Sums.{fold-append}
+use Rattle.std.proofs.lemmas.List.Sums.{fold-append, prefix_len-le-length}
 use Rattle.fc_base.specs.declared.command.Line.{Line}
 use Rattle.fc_base.specs.declared.command.Line.TheVariants.{Blank, Command, Together, Actor, End}
 use Rattle.fc_base.specs.declared.command.Scope.TheVariants.{Free}
@@ -11,8 +10,9 @@ use Rattle.fc_blocks.specs.Blocks.{After, Opened, block_step, closed, open_on}
 use Rattle.fc_blocks.specs.Reading.{IsNext}
 use Rattle.fc_blocks.specs.Segments.{Cut, Segment, cut, cut_step, inside, line_cut, no_lines, outside}
 use Rattle.fc_blocks.specs.declared.block.Taken.{Taken}
+use Rattle.fc_check_lines.proofs.Places.{place_is, place_none}
 use Rattle.fc_check_lines.specs.Bytes.{segments_in}
-use Rattle.fc_entry.specs.Lines.{Lined, all_lines, ended_lines, last_line, line_step, lined, without_return}
+use Rattle.fc_entry.specs.Lines.{Lined, all_lines, last_line, line_step, lined, without_return}
 use Rattle.fc_words.specs.Lines.{line_of}
 
 -- ---- lines
@@ -24,72 +24,64 @@ abbrev pub is_newline : ℕ → Bool
 is_newline byte = byte == 10
 
 -- the lines that had ended stand before those that end later
-abbrev behind : List (List ℕ) → Lined → Lined
-behind ended l = record { ended = ended ++ l.ended; unended = l.unended }
+abbrev later : List (List ℕ) → Lined → Lined
+later ended l = record { ended = ended ++ l.ended; unended = l.unended }
 
 ended_byte :
-    (ended : List (List ℕ)) (open : List ℕ) (byte : ℕ) (bytes : List ℕ) (newline : Bool) →
-    ((ends : List (List ℕ)) (opens : List ℕ) → fold line_step (from ends opens) bytes ≡ behind ends (fold line_step (from [] opens) bytes)) →
-    fold line_step (cond {A = Lined} newline (from (ended ++ without_return open ∷ []) []) (from ended (open ++ byte ∷ []))) bytes
-    ≡ behind ended (fold line_step (cond {A = Lined} newline (from (without_return open ∷ []) []) (from [] (open ++ byte ∷ []))) bytes)
-ended_byte ended open byte bytes true more =
-    let line : List (List ℕ) = without_return open ∷ [] in
+    (ended : List (List ℕ)) (front : List ℕ) (byte : ℕ) (bytes : List ℕ) (newline : Bool) →
+    ((ends : List (List ℕ)) (fronts : List ℕ) → fold line_step (from ends fronts) bytes ≡ later ends (fold line_step (from [] fronts) bytes)) →
+    fold line_step (cond {A = Lined} newline (from (ended ++ without_return front ∷ []) []) (from ended (front ++ byte ∷ []))) bytes
+    ≡ later ended (fold line_step (cond {A = Lined} newline (from (without_return front ∷ []) []) (from [] (front ++ byte ∷ []))) bytes)
+ended_byte ended front byte bytes true more =
+    let line : List (List ℕ) = without_return front ∷ [] in
     let rest : Lined = fold line_step (from [] []) bytes in
     more (ended ++ line) []
-    ∙ ap (λ e. record { ended = e; unended = rest.unended }) (append_assoc ended line rest.ended)
-    ∙ sym (ap (behind ended) (more line []))
-ended_byte ended open byte bytes false more = more ended (open ++ byte ∷ [])
+    ∙ ap (λ e. from e rest.unended) (append_assoc ended line rest.ended)
+    ∙ sym (ap (later ended) (more line []))
+ended_byte ended front byte bytes false more = more ended (front ++ byte ∷ [])
 
-ended_behind : (ended : List (List ℕ)) (open bytes : List ℕ) → fold line_step (from ended open) bytes ≡ behind ended (fold line_step (from [] open) bytes)
-ended_behind ended open [] = ap (λ e. record { ended = e; unended = open }) (sym (append-nil ended))
-ended_behind ended open (byte ∷ bytes) = ended_byte ended open byte bytes (byte == 10) (λ ends opens. ended_behind ends opens bytes)
+ended_behind : (ended : List (List ℕ)) (front bytes : List ℕ) → fold line_step (from ended front) bytes ≡ later ended (fold line_step (from [] front) bytes)
+ended_behind ended front [] = ap (λ e. from e front) (sym (append-nil ended))
+ended_behind ended front (byte ∷ bytes) = ended_byte ended front byte bytes (byte == 10) (λ ends fronts. ended_behind ends fronts bytes)
 
 -- a first line that ends
 abbrev found : List ℕ → List ℕ → ℕ → Lined
-found open bytes n = behind (without_return (open ++ take n bytes) ∷ []) (lined (drop (suc n) bytes))
+found front bytes n = later (without_return (front ++ take n bytes) ∷ []) (lined (drop (suc n) bytes))
 
 at_byte :
-    (open : List ℕ) (byte : ℕ) (bytes : List ℕ) (n : ℕ) (newline : Bool) →
+    (front : List ℕ) (byte : ℕ) (bytes : List ℕ) (n : ℕ) (newline : Bool) →
     n ≡ cond (not newline) (1 + position_or_len is_newline bytes) 0 →
     n < suc (length bytes) →
-    ((opens : List ℕ) (m : ℕ) → m ≡ position_or_len is_newline bytes → m < length bytes → fold line_step (from [] opens) bytes ≡ found opens bytes m) →
-    fold line_step (cond {A = Lined} newline (from (without_return open ∷ []) []) (from [] (open ++ byte ∷ []))) bytes ≡ found open (byte ∷ bytes) n
-at_byte open byte bytes zero true is inside more =
-    ended_behind (without_return open ∷ []) [] bytes
-    ∙ ap (λ line. behind (without_return line ∷ []) (lined bytes)) (sym (append-nil open))
-at_byte open byte bytes zero false is inside more = absurd (omega (arith, is))
-at_byte open byte bytes (suc n) true is inside more = absurd (omega (arith, is))
-at_byte open byte bytes (suc n) false is inside more =
-    more (open ++ byte ∷ []) n (omega (arith, is)) (omega (arith, inside))
-    ∙ ap (λ line. behind (without_return line ∷ []) (lined (drop (suc n) bytes))) (append_assoc open (byte ∷ []) (take n bytes))
+    ((fronts : List ℕ) (m : ℕ) → m ≡ position_or_len is_newline bytes → m < length bytes → fold line_step (from [] fronts) bytes ≡ found fronts bytes m) →
+    fold line_step (cond {A = Lined} newline (from (without_return front ∷ []) []) (from [] (front ++ byte ∷ []))) bytes ≡ found front (byte ∷ bytes) n
+at_byte front byte bytes zero true is inside more =
+    ended_behind (without_return front ∷ []) [] bytes
+    ∙ ap (λ line. later (without_return line ∷ []) (lined bytes)) (sym (append-nil front))
+at_byte front byte bytes zero false is inside more = absurd (omega (arith, is))
+at_byte front byte bytes (suc n) true is inside more = absurd (omega (arith, is))
+at_byte front byte bytes (suc n) false is inside more =
+    more (front ++ byte ∷ []) n (omega (arith, is)) (omega (arith, inside))
+    ∙ ap (λ line. later (without_return line ∷ []) (lined (drop (suc n) bytes))) (append_assoc front (byte ∷ []) (take n bytes))
 
-line_at : (open bytes : List ℕ) (n : ℕ) → n ≡ position_or_len is_newline bytes → n < length bytes → fold line_step (from [] open) bytes ≡ found open bytes n
-line_at open [] n is inside = absurd (omega (arith, inside))
-line_at open (byte ∷ bytes) n is inside = at_byte open byte bytes n (byte == 10) is inside (λ opens m e lt. line_at opens bytes m e lt)
+line_at : (front bytes : List ℕ) (n : ℕ) → n ≡ position_or_len is_newline bytes → n < length bytes → fold line_step (from [] front) bytes ≡ found front bytes n
+line_at front [] n is inside = absurd (omega (arith, inside))
+line_at front (byte ∷ bytes) n is inside = at_byte front byte bytes n (byte == 10) is inside (λ fronts m e lt. line_at fronts bytes m e lt)
 
 -- none that ends
 none_byte :
-    (open : List ℕ) (byte : ℕ) (bytes : List ℕ) (newline : Bool) →
+    (front : List ℕ) (byte : ℕ) (bytes : List ℕ) (newline : Bool) →
     cond (not newline) (1 + position_or_len is_newline bytes) 0 ≡ suc (length bytes) →
-    ((opens : List ℕ) → position_or_len is_newline bytes ≡ length bytes → fold line_step (from [] opens) bytes ≡ from [] (opens ++ bytes)) →
-    fold line_step (cond {A = Lined} newline (from (without_return open ∷ []) []) (from [] (open ++ byte ∷ []))) bytes ≡ from [] (open ++ byte ∷ bytes)
-none_byte open byte bytes true is more = absurd (omega (arith, is))
-none_byte open byte bytes false is more =
-    more (open ++ byte ∷ []) (omega (arith, is)) ∙ ap (λ line. from [] line) (append_assoc open (byte ∷ []) bytes)
+    ((fronts : List ℕ) → position_or_len is_newline bytes ≡ length bytes → fold line_step (from [] fronts) bytes ≡ from [] (fronts ++ bytes)) →
+    fold line_step (cond {A = Lined} newline (from (without_return front ∷ []) []) (from [] (front ++ byte ∷ []))) bytes ≡ from [] (front ++ byte ∷ bytes)
+none_byte front byte bytes true is more = absurd (omega (arith, is))
+none_byte front byte bytes false is more =
+    more (front ++ byte ∷ []) (omega (arith, is)) ∙ ap (λ line. from [] line) (append_assoc front (byte ∷ []) bytes)
 
-none_at : (open bytes : List ℕ) → position_or_len is_newline bytes ≡ length bytes → fold line_step (from [] open) bytes ≡ from [] (open ++ bytes)
-none_at open [] is = ap (λ line. from [] line) (sym (append-nil open))
-none_at open (byte ∷ bytes) is = none_byte open byte bytes (byte == 10) is (λ opens e. none_at opens bytes e)
+none_at : (front bytes : List ℕ) → position_or_len is_newline bytes ≡ length bytes → fold line_step (from [] front) bytes ≡ from [] (front ++ bytes)
+none_at front [] is = ap (λ line. from [] line) (sym (append-nil front))
+none_at front (byte ∷ bytes) is = none_byte front byte bytes (byte == 10) is (λ fronts e. none_at fronts bytes e)
 
 -- ---- the first line
-
-place_is : (m l n : ℕ) (inside : Bool) → nat_lt m l ≡ inside → cond inside (Some m) None ≡ Some n → (n ≡ m) × (m < l)
-place_is m l n true test is = (cc is, grind (arith, nat_tests, test))
-place_is m l n false test is = absurd (cc is)
-
-place_none : (m l : ℕ) (inside : Bool) → nat_lt m l ≡ inside → ◌≡◌ {A = Option ℕ} (cond inside (Some m) None) None → l ≤ m
-place_none m l true test is = absurd (cc is)
-place_none m l false test is = grind (arith, nat_tests, test)
 
 abbrev lines_of : Lined → List (List ℕ)
 lines_of l = l.ended ++ last_line l.unended
@@ -97,8 +89,7 @@ lines_of l = l.ended ++ last_line l.unended
 pub first_ended : (bytes : List ℕ) (n : ℕ) → position is_newline bytes ≡ Some n →
     (all_lines bytes ≡ without_return (take n bytes) ∷ all_lines (drop (n + 1) bytes)) × (n < length bytes)
 first_ended bytes n is =
-    let at : (n ≡ position_or_len is_newline bytes) × (position_or_len is_newline bytes < length bytes) =
-    place_is (position_or_len is_newline bytes) (length bytes) n (nat_lt (position_or_len is_newline bytes) (length bytes)) refl is in
+    let at : (n ≡ position_or_len is_newline bytes) × (position_or_len is_newline bytes < length bytes) = place_is is_newline bytes n is in
     let within : n < length bytes = omega (arith, at.0, at.1) in
     let more : n + 1 ≡ suc n = omega arith in
     (
@@ -106,11 +97,10 @@ first_ended bytes n is =
       within,
     )
 
-pub first_unended : (bytes : List ℕ) → position is_newline bytes ≡ None → position_or_len is_newline bytes ≤ length bytes → 0 < length bytes → all_lines bytes ≡ bytes ∷ []
-first_unended bytes is within some =
-    let past : length bytes ≤ position_or_len is_newline bytes =
-    place_none (position_or_len is_newline bytes) (length bytes) (nat_lt (position_or_len is_newline bytes) (length bytes)) refl is in
-    ap lines_of (none_at [] bytes (omega (arith, past, within))) ∙ one bytes some
+pub first_unended : (bytes : List ℕ) → position is_newline bytes ≡ None → 0 < length bytes → all_lines bytes ≡ bytes ∷ []
+first_unended bytes is some =
+    let past : length bytes ≤ position_or_len is_newline bytes = place_none is_newline bytes is in
+    ap lines_of (none_at [] bytes (omega (arith, past, prefix_len-le-length (λ byte. not (is_newline byte)) bytes))) ∙ one bytes some
   where
     one : (line : List ℕ) → 0 < length line → last_line line ≡ line ∷ []
     one [] some = absurd (omega (arith, some))
@@ -141,7 +131,7 @@ cut_behind xs ys none =
     ∙ ap (λ (b : Option Opened). (fold cut_step (cut_from segs b) ys).segments) none
     ∙ ap (λ (c : Cut). c.segments) (steps_behind segs None ys)
 
--- a line that ends a segment leaves no block open
+-- a line that ends a segment leaves no block front
 single_ends : (read : Result Line WordFault) (line : List ℕ) (s : Segment) → (outside read line).segments ≡ s ∷ [] → (outside read line).open_block ≡ None
 single_ends (Ok Together) line s is = absurd (cc is)
 single_ends (Ok Blank) line s is = refl

@@ -2,20 +2,20 @@
 use Rattle.std.proofs.Common.{◌≡◌, ℕ, Bool, true, false, cond, Option, Some, None, List, [], ◌∷◌, ◌++◌, refl, sym, ap, subst, ◌∙◌}
 use Rattle.std.specs.Option.{option_map}
 use Rattle.fc_agenda.proofs.Going.{Goes-append}
-use Rattle.fc_agenda.specs.Goes.{Goes, stays, passes, begins, answers, GoesSome, GoesToEnd}
+use Rattle.fc_agenda.specs.Goes.{Goes, stays, passes, begins, answers, GoesToEnd}
 use Rattle.fc_base.specs.declared.ids.GrainNo.{GrainNo}
 use Rattle.fc_base.specs.declared.request.Request.{Request}
 use Rattle.fc_base.specs.declared.size.GrainSize.{GrainSize}
 use Rattle.fc_blocks.specs.Segments.{Segment}
-use Rattle.fc_check_lines.specs.Law.{IsOneMore, LinesLaw}
+use Rattle.fc_check_lines.specs.Law.{IsOneMore}
 use Rattle.fc_check_lines.specs.Leading.{LeadTo, Waits}
 use Rattle.fc_entry.specs.declared.entry.Entry.{Entry}
-use Rattle.fc_legal.specs.Agenda.{Actors, Agenda, Asks, Begins, Faults, Own, Reading, Seconds, Session, actors_begun, behind_entry, session_rules, with_names, without_entry, without_fill}
+use Rattle.fc_legal.specs.Agenda.{Actors, Agenda, Asks, Begins, Faults, Own, Reading, Seconds, Session, actors_begun, behind_entry, session_rules, without_entry, without_fill}
 use Rattle.fc_legal.specs.Scripts.{Script, are_done, next_by, next_request}
 use Rattle.fc_legal.specs.Seconds.{Passing, Work, fill_of, next_fill}
 use Rattle.fc_legal.specs.Steps.{Step}
 use Rattle.fc_legal.specs.Whole.{Whole}
-use Rattle.fc_scripts.proofs.Left.{done_none, left_by, next_left}
+use Rattle.fc_scripts.proofs.Left.{done_none, next_left}
 use Rattle.law_stands.specs.Names.{named}
 
 some_same : {X : Type 0} (x y : X) → Some x ≡ Some y → x ≡ y
@@ -204,16 +204,3 @@ module _ (grain : GrainSize) (read : Reading) where
   whole_leads a w last entries whole =
       let P : Agenda → Type 0 = λ b. Way a w entries b last in
       record { goes = subst P whole.over whole.goes; waits = over_waits last }
-
-pub lines_law_holds : LinesLaw
-lines_law_holds =
-    record {
-      one = λ grain read a b c w v u to to'. one_place grain read a b c w v u to.goes to.waits to'.goes to'.waits;
-      names = λ grain read a b w v to. names_alone grain read a b w v to.goes;
-      waits = λ grain read a w wanted asks. asks_waits grain read a w wanted asks;
-      more = λ grain read a c w u entries entry more. goes_more grain read a c w u entries entry more;
-      only = λ grain read a c w u entries entry way. only_more grain read a c w u entries entry way;
-      some = λ grain read a b w v entries to. record { end = b; goes = to.goes };
-      whole = λ grain read a w last entries whole. whole_leads grain read a w last entries whole;
-      to_end = λ grain read a w last entries to. record { end = Session []; goes = to.goes; over = refl };
-    }

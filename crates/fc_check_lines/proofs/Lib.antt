@@ -1,8 +1,12 @@
 -- Lemmas, one subject a file.
+pub mod Places
 pub mod Leading
 pub mod Bytes
-pub mod Requests
-pub mod Passing
-pub mod Scripts
+pub mod RequestLemmas
+pub mod AskingLemmas
+pub mod SecondsPass
+pub mod ScriptLemmas
+pub mod Known
+pub mod Lawful
 pub mod Standing
 pub mod LinesExamples

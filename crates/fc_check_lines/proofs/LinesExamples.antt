@@ -1,9 +1,8 @@
 -- What is still to be asked of a session, on closed examples.
-use Rattle.std.proofs.Common.{◌≡◌, ℕ, Bool, true, false, Option, Some, None, Ok, Err, List, [], ◌∷◌, codes, refl, ap, arith}
-use Rattle.fc_agenda.specs.Goes.{stays, passes, begins}
-use Rattle.fc_base.specs.declared.command.Command.{Command}
+use Rattle.std.proofs.Common.{◌≡◌, ℕ, false, Option, Some, None, List, [], ◌∷◌, codes, refl, ap, arith}
+use Rattle.fc_agenda.specs.Goes.{stays, passes}
 use Rattle.fc_base.specs.declared.command.Command.TheVariants.{Advance, Lsvdisk}
-use Rattle.fc_base.specs.declared.fault.WordFault.TheVariants.{NotInBlock, UnknownCommand}
+use Rattle.fc_base.specs.declared.fault.WordFault.TheVariants.{NotInBlock}
 use Rattle.fc_base.specs.declared.ids.VolId.{VolId}
 use Rattle.fc_base.specs.declared.request.Reply.TheVariants.{Done}
 use Rattle.fc_base.specs.declared.request.Request.{Request}

@@ -1,5 +1,5 @@
 -- What is left of a session goes on without an entry, and behind one.
-use Rattle.std.proofs.Common.{◌≡◌, ◌≢◌, ◌↔◌, ℕ, Bool, true, false, cond, Option, Some, None, Result, Ok, Err, List, [], ◌∷◌, ◌++◌, refl, sym, ap, ap₂, subst, ◌∙◌}
+use Rattle.std.proofs.Common.{◌≡◌, ◌≢◌, ◌↔◌, ℕ, Bool, true, false, cond, Option, Some, None, Result, Ok, Err, List, [], ◌∷◌, refl, sym, ap, ap₂, subst, ◌∙◌}
 use Rattle.std.specs.Option.{option_map}
 use Rattle.fc_agenda.proofs.Going.{Goes-append, Goes-pass}
 use Rattle.fc_agenda.specs.Goes.{Goes, stays, passes, begins}
@@ -9,7 +9,6 @@ use Rattle.fc_base.specs.declared.command.Scope.TheVariants.{Free}
 use Rattle.fc_base.specs.declared.command.ScriptLine.{ScriptLine}
 use Rattle.fc_base.specs.declared.fault.WordFault.{WordFault}
 use Rattle.fc_base.specs.declared.ids.GrainNo.{GrainNo}
-use Rattle.fc_base.specs.declared.request.Reply.{Reply}
 use Rattle.fc_base.specs.declared.request.Request.{Request}
 use Rattle.fc_base.specs.declared.size.GrainSize.{GrainSize}
 use Rattle.fc_blocks.specs.Reading.{script_line}
@@ -18,8 +17,8 @@ use Rattle.fc_blocks.specs.declared.block.ActorRead.{ActorRead}
 use Rattle.fc_blocks.specs.declared.block.BlockRead.{BlockRead}
 use Rattle.fc_books.specs.Books.{Books}
 use Rattle.fc_check_lines.proofs.Leading.{over_waits}
-use Rattle.fc_check_lines.proofs.Passing.{passes_to}
-use Rattle.fc_check_lines.specs.Bytes.{BeginWith, IsSegment, by_grammar, segments_in}
+use Rattle.fc_check_lines.proofs.SecondsPass.{passes_to}
+use Rattle.fc_check_lines.specs.Bytes.{IsSegment, by_grammar, segments_in}
 use Rattle.fc_check_lines.specs.Leading.{LeadTo, Waits}
 use Rattle.fc_check_lines.specs.Passing.{PassTo, PassesUpTo, fill_asked}
 use Rattle.fc_check_lines.specs.Standing.{GoesOnTo, IsOverWith, agenda_of, left_of, script_seconds}
@@ -27,10 +26,10 @@ use Rattle.fc_check_lines.specs.declared.lines.Asking.{Asking}
 use Rattle.fc_check_lines.specs.declared.lines.Asking.TheVariants.{Nothing, Own as OwnAsked, Seconds as SecondsAsked, Faults as FaultsAsked, Actors as ActorsAsked}
 use Rattle.fc_check_lines.specs.declared.segment.SegmentRead.TheVariants.{Single, Block}
 use Rattle.fc_entry.specs.declared.entry.Entry.{Entry}
-use Rattle.fc_legal.specs.Agenda.{Actors, Agenda, Asks, Faults, Own, Reading, Seconds, Session, actors_begun, behind_entry, behind_fill, behind_own, is_done, line_seconds, next_asked, segment_read, session_rules, with_names, without_entry, without_fill}
+use Rattle.fc_legal.specs.Agenda.{Actors, Agenda, Asks, Faults, Own, Reading, Seconds, Session, behind_entry, behind_fill, is_done, line_seconds, segment_read, session_rules, without_entry, without_fill}
 use Rattle.fc_legal.specs.Asked.{asked}
-use Rattle.fc_legal.specs.Scripts.{Script, are_done, behind_first, faults_asked, line_asked, names_with, next_by, next_request, scripts_of}
-use Rattle.fc_legal.specs.Seconds.{Passing, Work, all_work, fill_at_hand, fill_of, goes_on, goes_on_with, next_fill, next_grain, saved, seconds_begun}
+use Rattle.fc_legal.specs.Scripts.{Script, are_done, behind_first, faults_asked, line_asked, names_with, next_request, scripts_of}
+use Rattle.fc_legal.specs.Seconds.{Passing, Work, all_work, fill_at_hand, fill_of, goes_on, goes_on_with, next_fill, next_grain, seconds_begun}
 use Rattle.fc_legal.specs.Whole.{Whole, lanes}
 use Rattle.fc_words.specs.Lines.{line_of}
 use Rattle.law_stands.specs.Names.{named}
@@ -98,10 +97,6 @@ module _ (grain : GrainSize) (w : Whole) where
       ∙ ap (λ (b : BlockRead). Faults (faults_asked b.faults) b.actors segs) read
 
 -- ---- what was begun goes on
-
-no_request : (requests : List Request) → requests ≢ [] → (r : Request) × (rest : List Request) × (requests ≡ r ∷ rest)
-no_request [] some = absurd (some refl)
-no_request (r ∷ rest) some = (r, rest, refl)
 
 module _ (grain : GrainSize) (read : Reading) where
   pub nothing_goes : (w : Whole) → GoesOnTo grain read Nothing w None w

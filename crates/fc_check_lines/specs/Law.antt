@@ -1,8 +1,10 @@
 -- The law of lines: which entry may come next, and where it leads, answers whether entries are a run of a session.
-use Rattle.std.specs.Prelude.{◌≡◌, ℕ, List, [], ◌∷◌, ◌++◌}
+use Rattle.std.specs.Prelude.{◌≡◌, ℕ, List, [], ◌∷◌, ◌++◌, codes}
 use Rattle.fc_agenda.specs.Goes.{Goes, GoesSome, GoesToEnd}
 use Rattle.fc_base.specs.declared.request.Request.{Request}
 use Rattle.fc_base.specs.declared.size.GrainSize.{GrainSize}
+use Rattle.fc_blocks.specs.Segments.{Segment}
+use Rattle.fc_check_lines.specs.Asked.{IsAskedBy}
 use Rattle.fc_check_lines.specs.Leading.{LeadTo, Waits}
 use Rattle.fc_entry.specs.declared.entry.Entry.{Entry}
 use Rattle.fc_legal.specs.Agenda.{Agenda, Asks, Reading, Session, behind_entry, session_rules}
@@ -41,3 +43,7 @@ pub record LinesLaw : Type 0 where
       LeadTo grain read a w entries (Session []) last
   pub to_end : (grain : GrainSize) (read : Reading) (a : Agenda) (w last : Whole) (entries : List Entry) → LeadTo grain read a w entries (Session []) last →
       GoesToEnd (session_rules grain read) a w entries last
+  -- a session of which `main` alone has a name at first asks nobody without one: whatever may be asked next is asked by a name
+  pub by_name : (grain : GrainSize) (read : Reading) (segs : List Segment) (b : Agenda) (w v : Whole) (names : List (List ℕ)) (entries : List Entry)
+      (number : ℕ) (request : Request) → w.actors ≡ codes "main" ∷ names → Goes (session_rules grain read) (Session segs) w entries b v →
+      Asks grain b v (number, request) → (name : List ℕ) × IsAskedBy grain b v name request

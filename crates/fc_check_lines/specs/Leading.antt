@@ -1,5 +1,5 @@
 -- Where the entries of a history lead in what is asked: to where nothing goes on without one more.
-use Rattle.std.specs.Prelude.{◌≡◌, ℕ, List, Option, None}
+use Rattle.std.specs.Prelude.{◌≡◌, List, None}
 use Rattle.fc_agenda.specs.Goes.{Goes}
 use Rattle.fc_base.specs.declared.size.GrainSize.{GrainSize}
 use Rattle.fc_entry.specs.declared.entry.Entry.{Entry}

@@ -27,6 +27,10 @@ works_by flags ms = map copies_of (filter (does_copy flags) ms) ++ map cleanings
 abbrev pub fill_asked : Option (Work × GrainNo) → Option Request
 fill_asked fill = option_map (λ (next : Work × GrainNo). fill_of next.0 next.1) fill
 
+-- Its grain.
+abbrev pub fill_grain : Option (Work × GrainNo) → Option GrainNo
+fill_grain fill = option_map (λ (next : Work × GrainNo). next.1) fill
+
 -- They pass from the one to the other without an entry, however lines are read and whatever stands behind them.
 abbrev pub PassTo : GrainSize → Whole → Passing → Passing → Type 0
 PassTo grain w p q = (read : Reading) (segs : List Segment) → Goes (session_rules grain read) (Seconds p segs) w [] (Seconds q segs) w

@@ -20,7 +20,8 @@ use fc_copies::copy::copy_command;
 use fc_registry::Registry;
 use std::alloc::Global;
 
-/// Whether so many blocks from this one on lie inside a volume of so many grains, and aren't more than an access may have.
+/// Whether so many blocks from this one on lie inside a volume of so many grains, and aren't more than an
+/// access may have.
 fn are_inside(size: GrainSize, grains: u32, block: u32, count: u32) -> bool
     ensures { IsTrue result ↔ AreInside size grains block count }
 {
@@ -70,7 +71,8 @@ fn whole_span(size: GrainSize, volume: VolId, block: u32, count: u32, byte: Opti
     }
 }
 
-/// Puts what an access asks, which is this command, behind other requests: a request for each grain, or itself where it is refused.
+/// Puts what an access asks, which is this command, behind other requests: a request for each grain, or itself
+/// where it is refused.
 fn push_access<T: Told>(
     alloc: Global,
     told: &T,
@@ -125,8 +127,8 @@ fn push_command<T: Told>(
     }
 }
 
-/// Puts what a line asks behind other requests, by the tables as they are told. Refused, for want of memory alone, a part of it may
-/// be there.
+/// Puts what a line asks behind other requests, by the tables as they are told. Refused, for want of memory
+/// alone, a part of it may be there.
 pub(crate) fn push_line<T: Told>(
     alloc: Global,
     told: &T,

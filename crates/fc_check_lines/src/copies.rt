@@ -1,6 +1,6 @@
 //! Copies of the actors of a block, as they were read.
 
-ghost use Rattle.std.specs.Prelude.{◌≡◌, ◌++◌, ◌∷◌, [], IfOk, OnOk};
+ghost use Rattle.std.specs.Prelude.{◌≡◌, IfOk};
 
 use fc_base::command::{Line, ScriptLine};
 use fc_base::list::List;

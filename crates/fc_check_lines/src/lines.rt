@@ -255,7 +255,8 @@ impl Asking {
         }
     }
 
-    /// The requests of a line, without the first, which was answered so; behind the last, if it is done, seconds begin.
+    /// The requests of a line, without the first, which was answered so; behind the last, if it is done,
+    /// seconds begin.
     fn behind_own<T: Told>(
         alloc: Global,
         told: &T,
@@ -335,8 +336,8 @@ impl Asking {
 }
 
 impl<'a> Lines<'a> {
-    /// What the bytes of a session may bring before the first entry, by what is told then. Refused for want of memory alone, or where
-    /// background work meets a grain with a number of 2^32 or more.
+    /// What the bytes of a session may bring before the first entry, by what is told then. Refused for want of
+    /// memory alone, or where background work meets a grain with a number of 2^32 or more.
     pub fn open<T: Told>(alloc: Global, session: &'a [u8], told: &T) -> Result<Lines<'a>, NoMemory>
         ensures { IfOk result (λ lines. LeadTo (T.grain told.now) by_grammar (Session (segments_in session.now)) (named (codes "main" ∷ []) (T.whole told.now)) []
             lines.agenda (named lines.names (T.whole told.now))) }
@@ -354,7 +355,8 @@ impl<'a> Lines<'a> {
         }
     }
 
-    /// What a session may bring behind an entry of the actor with this name, by what is told after it. Refused as `open` is.
+    /// What a session may bring behind an entry of the actor with this name, by what is told after it. Refused
+    /// as `open` is.
     pub fn follow<T: Told>(
         self,
         alloc: Global,

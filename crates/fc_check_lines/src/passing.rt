@@ -1,9 +1,8 @@
 //! Seconds that pass, as far as they pass without an entry.
 
 ghost use Rattle.std.specs.Prelude.{◌≡◌, ◌↔◌, ◌+◌, ◌<◌, ℕ, List, [], ◌∷◌, ◌++◌, IsTrue, IfOk, OnOk, None, Some, MatchBool};
-ghost use Rattle.std.specs.Option.{option_map};
 ghost use Rattle.law_stands.specs.Names.{named};
-ghost use Rattle.fc_check_lines.specs.Passing.{HasWork, PassTo, PassesUpTo, ReachesFill, fill_asked, turns_in};
+ghost use Rattle.fc_check_lines.specs.Passing.{HasWork, PassTo, PassesUpTo, ReachesFill, fill_asked, fill_grain, turns_in};
 ghost use Rattle.fc_legal.specs.Agenda.{behind_fill};
 ghost use Rattle.fc_legal.specs.Seconds.{all_work, fill_of, goes_on, has_moved, next_fill, saved, seconds_begun};
 ghost use Rattle.fc_base.specs.declared.size.GrainSize.{GrainSize};
@@ -20,8 +19,8 @@ use std::collections::VecDeque;
 use std::marker::Model;
 use std::mem;
 
-/// Seconds that pass: how many are left behind this one; of this one the work that is over, the work at hand, and the work that is
-/// left.
+/// Seconds that pass: how many are left behind this one; of this one the work that is over, the work at hand,
+/// and the work that is left.
 #[derive(Drop)]
 pub struct Passing {
     seconds: u32,
@@ -101,9 +100,10 @@ impl Passing {
         })
     }
 
-    /// The grain that the work at hand fills next: none where its credit isn't worth a grain, or it has nothing to do.
+    /// The grain that the work at hand fills next: none where its credit isn't worth a grain, or it has nothing
+    /// to do.
     fn next_fill<T: Told>(&self, told: &T) -> Result<Option<GrainNo>, NoMemory>
-        ensures { IfOk result (λ grain. option_map (λ next. next.1) (next_fill (T.grain told.now) (T.whole told.now) self.now) ≡ grain) }
+        ensures { IfOk result (λ grain. fill_grain (next_fill (T.grain told.now) (T.whole told.now) self.now) ≡ grain) }
     {
         match &self.at_hand {
             Some(work) => {
@@ -129,7 +129,8 @@ impl Passing {
         }
     }
 
-    /// The work at hand has nothing more to fill: its second is over. Or none is at hand: the next gains its second.
+    /// The work at hand has nothing more to fill: its second is over. Or none is at hand: the next gains its
+    /// second.
     fn turn<T: Told>(&mut self, told: &T) -> Result<(), NoMemory>
         requires { HasWork self.old }
         ensures passed { OnOk result (goes_on (T.grain told.now) (T.whole told.now) self.old ≡ Some self.new) }
@@ -169,12 +170,13 @@ impl Passing {
         mem::swap(&mut self.over, &mut self.left);
     }
 
-    /// Goes on to the next fill of this second: whether there is one. Where there is none, no work of this second is left.
+    /// Goes on to the next fill of this second: whether there is one. Where there is none, no work of this
+    /// second is left.
     fn to_fill<T: Told>(&mut self, told: &T) -> Result<bool, NoMemory>
         ensures passed { OnOk result ((names : List (List ℕ)) → PassTo (T.grain told.now) (named names (T.whole told.now)) self.old self.new) }
         ensures fill { IfOk result (λ fills. ReachesFill fills (T.grain told.now) (T.whole told.now) self.new) }
     {
-        while self.has_work() {
+        'turns: while self.has_work() {
             match self.next_fill(told)? {
                 Some(_) => return Ok(true),
                 None => self.turn(told)?,
@@ -183,7 +185,8 @@ impl Passing {
         Ok(false)
     }
 
-    /// The seconds pass as far as they pass without an entry: to the next fill, which is answered by true, or to their end.
+    /// The seconds pass as far as they pass without an entry: to the next fill, which is answered by true, or
+    /// to their end.
     pub(crate) fn pass<T: Told>(&mut self, told: &T) -> Result<bool, NoMemory>
         ensures passed { OnOk result ((names : List (List ℕ)) → PassTo (T.grain told.now) (named names (T.whole told.now)) self.old self.new) }
         ensures upto { IfOk result (λ fills. (names : List (List ℕ)) → PassesUpTo fills (T.grain told.now) (named names (T.whole told.now)) self.new) }
@@ -199,8 +202,8 @@ impl Passing {
         }
     }
 
-    /// Goes on behind an entry that answered the next fill so: a grain that was moved is paid, and any other answer ends the second of
-    /// the work.
+    /// Goes on behind an entry that answered the next fill so: a grain that was moved is paid, and any other
+    /// answer ends the second of the work.
     pub(crate) fn follow<T: Told>(&mut self, told: &T, reply: &Reply) -> Result<(), NoMemory>
         ensures { OnOk result ((entry : Entry) → entry.reply ≡ reply.now
             → self.new ≡ behind_fill (T.grain told.now) (T.whole told.now) self.old self.old.at_hand entry) }

@@ -1,7 +1,6 @@
 //! Requests that are left to be asked, one after the other.
 
-ghost use Rattle.std.specs.Prelude.{◌≡◌, ◌↔◌, ◌<◌, [], ◌∷◌, ◌++◌, List, IsTrue, OnOk, OnErr, IfOk, Some};
-ghost use Rattle.std.specs.VecDeque.{deque_len, deque_capacity};
+ghost use Rattle.std.specs.Prelude.{◌≡◌, ◌↔◌, [], ◌∷◌, ◌++◌, IsTrue, OnOk, IfOk, Some};
 ghost use Rattle.fc_base.specs.declared.request.Request.TheVariants.{Command as CommandAsked, Unread as UnreadAsked};
 ghost use Rattle.fc_check_lines.specs.Requests.{AsksSome, IsRest, item_left, span_left, turns_left};
 ghost use Rattle.fc_check_lines.specs.declared.requests.Item.{Item};
@@ -196,11 +195,9 @@ impl Requests {
     pub(crate) fn copy(&self, alloc: Global) -> Result<Requests, NoMemory>
         ensures { IfOk result (λ copy. copy ≡ self.now) }
     {
-        let mut items = VecDeque::new(alloc);
-        for place in 0..self.items.len() {
-            push_item(&mut items, self.items[place].copy(alloc)?)?;
-        }
-        Ok(Requests { items })
+        Ok(Requests {
+            items: copy_items(alloc, &self.items)?,
+        })
     }
 }
 
@@ -212,4 +209,15 @@ fn push_item<T: Drop>(items: &mut VecDeque<T>, item: T) -> Result<(), NoMemory>
         Ok(()) => Ok(()),
         Err(_) => Err(NoMemory),
     }
+}
+
+/// The same items again.
+fn copy_items(alloc: Global, items: &VecDeque<Item>) -> Result<VecDeque<Item>, NoMemory>
+    ensures { IfOk result (λ copy. copy.items ≡ items.now.items) }
+{
+    let mut copy = VecDeque::new(alloc);
+    for place in 0..items.len() {
+        push_item(&mut copy, items[place].copy(alloc)?)?;
+    }
+    Ok(copy)
 }

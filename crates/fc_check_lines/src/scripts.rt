@@ -137,7 +137,8 @@ fn asked_of<T: Told>(alloc: Global, told: &T, actor: &ActorRead) -> Result<Reque
     }
 }
 
-/// The scripts of these actors, in order, by the tables as they are told. Each actor has the number of its name.
+/// The scripts of these actors, in order, by the tables as they are told. Each actor has the number of its
+/// name.
 pub(crate) fn scripts_of<T: Told>(
     alloc: Global,
     told: &T,

@@ -50,8 +50,8 @@ fn first_line(bytes: &[u8]) -> (&[u8], &[u8])
     }
 }
 
-/// The first line or block of bytes, and the bytes behind it; none where they have none. A block that isn't ended is left out. Refused
-/// for want of memory alone.
+/// The first line or block of bytes, and the bytes behind it; none where they have none. A block that isn't
+/// ended is left out. Refused for want of memory alone.
 pub(crate) fn next_segment(
     alloc: Global,
     bytes: &[u8],
@@ -61,7 +61,7 @@ pub(crate) fn next_segment(
 {
     let mut reader = BlockReader::new();
     let mut rest = bytes;
-    while !rest.is_empty() {
+    'lines: while !rest.is_empty() {
         let (line, behind) = first_line(rest);
         rest = behind;
         match reader.read(alloc, line)? {

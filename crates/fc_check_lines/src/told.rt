@@ -12,7 +12,8 @@ use fc_base::size::GrainSize;
 use fc_pick::WorkFlags;
 use fc_registry::Registry;
 
-/// What was told after some entries, as far as it decides what is asked next. The names of actors in it count for nothing.
+/// What was told after some entries, as far as it decides what is asked next. The names of actors in it count
+/// for nothing.
 pub trait Told {
     /// The grain size.
     ghost grain: { Self → GrainSize };
@@ -37,8 +38,8 @@ pub trait Told {
         ensures count { result ≡ lanes (whole self.now) }
         ensures some { 0 < result };
 
-    /// The least grain of all lanes at which background work has something to do. Refused for want of memory, or where a grain has a
-    /// number of 2^32 or more.
+    /// The least grain of all lanes at which background work has something to do. Refused for want of memory,
+    /// or where a grain has a number of 2^32 or more.
     fn next_grain(&self, work: &Work) -> Result<Option<GrainNo>, NoMemory>
         ensures { IfOk result (λ next. next ≡ next_grain (grain self.now) (whole self.now) work.now) };
 }

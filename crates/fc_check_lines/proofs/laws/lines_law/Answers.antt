@@ -1,5 +1,5 @@
--- The law is proved in `Leading`.
-use Rattle.fc_check_lines.proofs.Leading.{lines_law_holds}
+-- The law is proved in `Lawful`.
+use Rattle.fc_check_lines.proofs.Lawful.{lines_law_holds}
 use Rattle.fc_check_lines.proofs.laws.lines_law.Goals as goal
 
 pub returns : goal.returns

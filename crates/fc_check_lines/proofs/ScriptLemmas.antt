@@ -1,8 +1,8 @@
 -- The script of an actor, found by its number.
-use Rattle.std.proofs.Common.{◌≡◌, ℕ, zero, suc, ◌+◌, ◌==◌, ◌<◌, Bool, true, false, not, ◌&&◌, cond, nat_lt, Option, Some, None, List, [], ◌∷◌, length, get_or, set, refl, sym, ap, subst, ◌∙◌, arith}
-use Rattle.std.specs.List.{list_all, position, position_or_len, prefix_len}
-use Rattle.std.proofs.lemmas.Bool.Decides.{nat_tests}
-use Rattle.fc_base.specs.declared.request.Request.{Request}
+use Rattle.std.proofs.Common.{◌≡◌, ℕ, zero, suc, ◌+◌, ◌==◌, ◌<◌, Bool, true, false, not, ◌&&◌, cond, Some, None, List, [], ◌∷◌, length, get_or, set, refl, ap, arith}
+use Rattle.std.specs.List.{list_all, position, position_or_len}
+use Rattle.std.proofs.lemmas.List.Sums.{prefix_len-le-length}
+use Rattle.fc_check_lines.proofs.Places.{place_is, place_none}
 use Rattle.fc_legal.specs.Scripts.{Script, are_done, asks_nothing, behind_first, behind_next, next_by, next_request}
 
 abbrev is_of : ℕ → Script → Bool
@@ -64,21 +64,22 @@ none_at (s ∷ ss) actor is = none_case s ss actor (s.actor == actor) is (λ e. 
 
 -- ---- by what a search says
 
-place_is : (m l n : ℕ) (inside : Bool) → nat_lt m l ≡ inside → cond inside (Some m) None ≡ Some n → (n ≡ m) × (m < l)
-place_is m l n true test is = (cc is, grind (arith, nat_tests, test))
-place_is m l n false test is = absurd (cc is)
-
 pub next_found : (scripts : List Script) (actor n : ℕ) (d : Script) → position (λ (s : Script). s.actor == actor) scripts ≡ Some n → next_by scripts actor ≡ next_request (get_or scripts n d).requests
 next_found scripts actor n d is =
     let at : (n ≡ place_in scripts actor) × (place_in scripts actor < length scripts) =
-    place_is (place_in scripts actor) (length scripts) n (nat_lt (place_in scripts actor) (length scripts)) refl is in
+    place_is (is_of actor) scripts n is in
     next_at scripts actor n d at.0 (omega (arith, at.0, at.1))
 
 pub behind_found : (scripts : List Script) (actor n : ℕ) (d : Script) → position (λ (s : Script). s.actor == actor) scripts ≡ Some n → behind_next scripts actor ≡ set scripts n (without_next (get_or scripts n d))
 behind_found scripts actor n d is =
     let at : (n ≡ place_in scripts actor) × (place_in scripts actor < length scripts) =
-    place_is (place_in scripts actor) (length scripts) n (nat_lt (place_in scripts actor) (length scripts)) refl is in
+    place_is (is_of actor) scripts n is in
     behind_at scripts actor n d at.0 (omega (arith, at.0, at.1))
+
+pub none_found : (scripts : List Script) (actor : ℕ) → position (λ (s : Script). s.actor == actor) scripts ≡ None → (next_by scripts actor ≡ None) × (behind_next scripts actor ≡ scripts)
+none_found scripts actor is =
+    let past : length scripts ≤ place_in scripts actor = place_none (is_of actor) scripts is in
+    none_at scripts actor (omega (arith, past, prefix_len-le-length (λ s. not (is_of actor s)) scripts))
 
 -- ---- all done
 

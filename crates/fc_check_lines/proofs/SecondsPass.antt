@@ -1,20 +1,18 @@
 -- Seconds that pass without an entry.
-use Rattle.std.proofs.Common.{◌≡◌, ◌≢◌, ℕ, zero, suc, ◌+◌, ◌*◌, ◌≤◌, ◌<◌, Bool, true, false, cond, nat_le, Option, Some, None, List, [], ◌∷◌, ◌++◌, length, refl, sym, ap, ap₂, subst, ◌∙◌, arith}
+use Rattle.std.proofs.Common.{◌≡◌, ◌≢◌, Bool, true, false, cond, nat_le, Option, Some, None, List, [], refl, ap, ap₂, subst, ◌∙◌}
 use Rattle.std.specs.Option.{option_map}
-use Rattle.std.proofs.lemmas.Bool.Decides.{nat_tests}
 use Rattle.fc_agenda.proofs.Going.{Goes-append, Goes-pass}
-use Rattle.fc_agenda.specs.Goes.{Goes, stays}
+use Rattle.fc_agenda.specs.Goes.{stays}
 use Rattle.fc_base.specs.Grain.{grain_kib}
-use Rattle.fc_base.specs.Tables.{Tables}
 use Rattle.fc_base.specs.declared.ids.GrainNo.{GrainNo}
 use Rattle.fc_base.specs.declared.request.Request.{Request}
 use Rattle.fc_base.specs.declared.size.GrainSize.{GrainSize}
 use Rattle.fc_base.specs.declared.volume.Mapping.{Mapping}
 use Rattle.fc_blocks.specs.Segments.{Segment}
 use Rattle.fc_books.specs.Books.{Books}
-use Rattle.fc_check_lines.specs.Passing.{HasWork, PassTo, PassesUpTo, ReachesFill, fill_asked, turns_in, works_by}
-use Rattle.fc_legal.specs.Agenda.{Agenda, Reading, Seconds, Session, next_of_second, session_rules, without_entry, without_fill}
-use Rattle.fc_legal.specs.Seconds.{Passing, Work, all_work, fill_at_hand, fill_of, goes_on, next_fill, next_grain, next_second}
+use Rattle.fc_check_lines.specs.Passing.{PassTo, PassesUpTo, ReachesFill, fill_asked, fill_grain, works_by}
+use Rattle.fc_legal.specs.Agenda.{Agenda, Reading, Seconds, next_of_second, session_rules, without_entry, without_fill}
+use Rattle.fc_legal.specs.Seconds.{Passing, Work, all_work, fill_at_hand, fill_of, goes_on, next_fill, next_grain}
 use Rattle.fc_legal.specs.Whole.{Whole}
 use Rattle.fc_pick.specs.declared.work.WorkFlags.{WorkFlags}
 
@@ -29,21 +27,18 @@ all_listed b flags ms works flags_are ms_are listed = listed ∙ (ap₂ works_by
 
 -- ---- fills
 
-abbrev grain_of : Option (Work × GrainNo) → Option GrainNo
-grain_of fill = option_map (λ (next : Work × GrainNo). next.1) fill
-
-pub no_fill : (fill : Option (Work × GrainNo)) → option_map (λ (next : Work × GrainNo). next.1) fill ≡ None → fill ≡ None
+pub no_fill : (fill : Option (Work × GrainNo)) → fill_grain fill ≡ None → fill ≡ None
 no_fill None e = refl
 no_fill (Some next) e = absurd (cc e)
 
-pub some_fill : (fill : Option (Work × GrainNo)) (g : GrainNo) → option_map (λ (next : Work × GrainNo). next.1) fill ≡ Some g → fill ≢ None
+pub some_fill : (fill : Option (Work × GrainNo)) (g : GrainNo) → fill_grain fill ≡ Some g → fill ≢ None
 some_fill None g e = absurd (cc e)
 some_fill (Some next) g e = λ none. absurd (cc none)
 
 module _ (grain : GrainSize) (w : Whole) where
   with_work :
       (work : Work) (g : GrainNo) (fill : Option GrainNo) (worth : Bool) →
-      option_map (λ (next : Work × GrainNo). next.1) (cond worth (option_map (λ h. (work, h)) fill) None) ≡ Some g →
+      fill_grain (cond worth (option_map (λ h. (work, h)) fill) None) ≡ Some g →
       cond worth (option_map (λ h. (work, h)) fill) None ≡ Some (work, g)
   with_work work g (Some h) true e =
       let same : h ≡ g = cc e in
@@ -52,14 +47,14 @@ module _ (grain : GrainSize) (w : Whole) where
   with_work work g fill false e = absurd (cc e)
 
   -- the fill of the work at hand
-  pub fill_is : (p : Passing) (work : Work) (g : GrainNo) → p.at_hand ≡ Some work → option_map (λ (next : Work × GrainNo). next.1) (next_fill grain w p) ≡ Some g →
+  pub fill_is : (p : Passing) (work : Work) (g : GrainNo) → p.at_hand ≡ Some work → fill_grain (next_fill grain w p) ≡ Some g →
       fill_asked (next_fill grain w p) ≡ Some (fill_of work g)
   fill_is p work g at e =
-      let P : Option Work → Type 0 = λ o. option_map (λ (next : Work × GrainNo). next.1) (fill_at_hand grain w o) ≡ Some g in
+      let P : Option Work → Type 0 = λ o. fill_grain (fill_at_hand grain w o) ≡ Some g in
       ap (λ o. fill_asked (fill_at_hand grain w o)) at
       ∙ ap fill_asked (with_work work g (next_grain grain w work) (nat_le (grain_kib grain) work.credit) (subst P at e))
 
-  pub none_asked : (p : Passing) (request : Request) → option_map (λ (next : Work × GrainNo). next.1) (next_fill grain w p) ≡ None → fill_asked (next_fill grain w p) ≡ Some request → ⊥
+  pub none_asked : (p : Passing) (request : Request) → fill_grain (next_fill grain w p) ≡ None → fill_asked (next_fill grain w p) ≡ Some request → ⊥
   none_asked p request none asked =
       let P : Option (Work × GrainNo) → Type 0 = λ fill. fill_asked fill ≡ Some request in
       absurd (cc (subst P (no_fill (next_fill grain w p) none) asked))

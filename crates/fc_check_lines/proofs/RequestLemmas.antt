@@ -1,8 +1,9 @@
 -- Requests that are left, item by item.
-use Rattle.std.proofs.Common.{◌≡◌, ◌≢◌, ℕ, zero, suc, ◌+◌, ◌-◌, ◌%◌, ◌≤◌, ◌<◌, Bool, true, false, Option, Some, None, List, [], ◌∷◌, ◌++◌, length, map, All, append_assoc, append-nil, refl, sym, ap, subst, ◌∙◌, arith}
+use Rattle.std.proofs.Common.{◌≡◌, ◌≢◌, ℕ, zero, suc, ◌+◌, ◌-◌, ◌%◌, ◌≤◌, ◌<◌, Some, None, List, [], ◌∷◌, ◌++◌, length, map, All, refl, sym, ap, subst, ◌∙◌, arith}
 use Rattle.std.specs.List.{flat_map, range_with_len, slice_index_or}
-use Rattle.std.proofs.lemmas.List.Elements.{All-head, All-tail, All-cons}
+use Rattle.std.proofs.lemmas.List.Elements.{All-head, All-tail}
 use Rattle.fc_base.specs.declared.request.Request.{Request}
+use Rattle.fc_base.specs.declared.request.Request.TheVariants.{Command as CommandAsked, Unread as UnreadAsked}
 use Rattle.fc_check_lines.specs.Requests.{AsksSome, IsRest, item_left, part_asked, span_left, turn_in, turns_left}
 use Rattle.fc_check_lines.specs.declared.requests.Item.{Item}
 use Rattle.fc_check_lines.specs.declared.requests.Item.TheVariants.{Command, Unread, Access, Turns as WorkerTurns}
@@ -71,8 +72,8 @@ turn_last t some few = turns_last (turn_at t) t.next t.left some few
 
 -- An item asks something.
 pub item_first : (item : Item) → AsksSome item → (r : Request) × (next_request (item_left item) ≡ Some r)
-item_first (Command command) some = (_, refl)
-item_first (Unread fault) some = (_, refl)
+item_first (Command command) some = (CommandAsked command, refl)
+item_first (Unread fault) some = (UnreadAsked fault, refl)
 item_first (Access span) some = (asked_in span span.next, span_first span some.0)
 item_first (WorkerTurns turns) some = (turn_at turns turns.next, turn_first turns some.0)
 
