@@ -340,3 +340,12 @@ is_over (OwnAsked requests n) segs is = absurd (cc is)
 is_over (SecondsAsked p) segs is = absurd (cc is)
 is_over (FaultsAsked requests actors) segs is = absurd (cc is)
 is_over (ActorsAsked scripts) segs is = absurd (cc is)
+
+-- What waits, and was not begun, is over.
+pub over_with : (grain : GrainSize) (read : Reading) (asking : Asking) (segs : List Segment) (v : Whole) → Waits grain read (agenda_of asking segs) v → IsOverWith asking segs
+over_with grain read Nothing [] v waits = refl
+over_with grain read Nothing (s ∷ ss) v waits = absurd (cc waits.none_passes)
+over_with grain read (OwnAsked requests n) segs v waits = tt
+over_with grain read (SecondsAsked p) segs v waits = tt
+over_with grain read (FaultsAsked requests actors) segs v waits = tt
+over_with grain read (ActorsAsked scripts) segs v waits = tt

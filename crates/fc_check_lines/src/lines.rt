@@ -6,8 +6,8 @@ ghost use Rattle.fc_check_lines.specs.Asked.{IsAskedBy, entry_by};
 ghost use Rattle.fc_check_lines.specs.Bytes.{IsSegment, by_grammar, segments_in};
 ghost use Rattle.fc_check_lines.specs.Leading.{LeadTo};
 ghost use Rattle.law_stands.specs.Names.{named};
-ghost use Rattle.fc_check_lines.specs.Standing.{GoesOnTo, agenda_of, script_seconds};
-ghost use Rattle.fc_legal.specs.Agenda.{Asks, Own, Session, behind_entry, is_done, segment_read};
+ghost use Rattle.fc_check_lines.specs.Standing.{GoesOnTo, IsOverWith, agenda_of, script_seconds};
+ghost use Rattle.fc_legal.specs.Agenda.{Asks, Own, Session, behind_entry, command_seconds, is_done, segment_read};
 ghost use Rattle.fc_legal.specs.Scripts.{are_done, faults_asked, line_asked, names_with, scripts_of};
 ghost use Rattle.fc_legal.specs.Whole.{lanes};
 ghost use Rattle.fc_check_lines.specs.declared.lines.Asking.{Asking};
@@ -71,13 +71,24 @@ impl<'a> Model for Lines<'a> {
     ghost invariant = { λ l. IsOverWith l.asking (segments_in l.rest.now) };
 }
 
+/// How many seconds a command lets pass, if it is done.
+fn seconds_of_command(command: &Command) -> u32
+    ensures { result ≡ command_seconds command.now }
+{
+    match command {
+        Command::Advance { seconds } => *seconds,
+        _ => 0,
+    }
+}
+
 /// How many seconds a line lets pass, if it is done.
 fn seconds_of(line: &ScriptLine) -> u32
     ensures { result ≡ script_seconds line.now }
 {
     match line {
-        ScriptLine::Read(Line::Command(Command::Advance { seconds })) => *seconds,
-        _ => 0,
+        ScriptLine::Read(Line::Command(command)) => seconds_of_command(command),
+        ScriptLine::Read(_) => 0,
+        ScriptLine::Unread(_) => 0,
     }
 }
 
@@ -315,7 +326,8 @@ impl Asking {
 
     /// The same again.
     fn copy(&self, alloc: Global) -> Result<Asking, NoMemory>
-        ensures { IfOk result (λ copy. (segs : List Segment) → agenda_of copy segs ≡ agenda_of self.now segs) }
+        ensures agenda { IfOk result (λ copy. (segs : List Segment) → agenda_of copy segs ≡ agenda_of self.now segs) }
+        ensures over { IfOk result (λ copy. (segs : List Segment) → IsOverWith self.now segs → IsOverWith copy segs) }
     {
         match self {
             Asking::Nothing => Ok(Asking::Nothing),

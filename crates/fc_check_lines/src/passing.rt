@@ -5,13 +5,14 @@ ghost use Rattle.law_stands.specs.Names.{named};
 ghost use Rattle.fc_check_lines.specs.Passing.{HasWork, PassTo, PassesUpTo, ReachesFill, fill_asked, fill_grain, turns_in};
 ghost use Rattle.fc_legal.specs.Agenda.{behind_fill};
 ghost use Rattle.fc_legal.specs.Seconds.{all_work, fill_of, goes_on, has_moved, next_fill, saved, seconds_begun};
+ghost use Rattle.fc_base.specs.declared.request.Request.{Request};
 ghost use Rattle.fc_base.specs.declared.size.GrainSize.{GrainSize};
 ghost use Rattle.fc_entry.specs.declared.entry.Entry.{Entry};
 ghost use Rattle.fc_legal.specs.Whole.{Whole};
 
 use crate::told::Told;
 use crate::work::{Work, all_work};
-use fc_base::ids::GrainNo;
+use fc_base::ids::{GrainNo, MapId};
 use fc_base::outcome::NoMemory;
 use fc_base::request::{Reply, Request};
 use std::alloc::Global;
@@ -57,18 +58,34 @@ fn push_work(works: &mut VecDeque<Work>, work: Work) -> Result<(), NoMemory>
     }
 }
 
-/// Whether this request is the fill of the work at the grain.
+/// Whether this is the copy of the mapping at the grain.
+fn is_copy(request: &Request, map: MapId, grain: GrainNo) -> bool
+    ensures { IsTrue result ↔ (Request.Copy map grain ≡ request.now) }
+{
+    match request {
+        Request::Copy { map: of, grain: at } => *of == map && *at == grain,
+        _ => false,
+    }
+}
+
+/// Whether this is the cleaning of the mapping at the grain.
+fn is_clean(request: &Request, map: MapId, grain: GrainNo) -> bool
+    ensures { IsTrue result ↔ (Request.Clean map grain ≡ request.now) }
+{
+    match request {
+        Request::Clean { map: of, grain: at } => *of == map && *at == grain,
+        _ => false,
+    }
+}
+
+/// Whether this is the fill of the work at the grain.
 fn is_fill(work: &Work, grain: GrainNo, request: &Request) -> bool
     ensures { IsTrue result ↔ (fill_of work.now grain ≡ request.now) }
 {
-    match request {
-        Request::Copy { map, grain: at } => {
-            !work.cleans() && *map == work.map() && *at == grain
-        }
-        Request::Clean { map, grain: at } => {
-            work.cleans() && *map == work.map() && *at == grain
-        }
-        _ => false,
+    if work.cleans() {
+        is_clean(request, work.map(), grain)
+    } else {
+        is_copy(request, work.map(), grain)
     }
 }
 

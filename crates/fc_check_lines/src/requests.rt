@@ -31,6 +31,26 @@ pub enum Item {
     Turns(Turns),
 }
 
+/// Whether this is the command.
+fn is_command(request: &Request, own: &Command) -> bool
+    ensures { IsTrue result ↔ (CommandAsked own.now ≡ request.now) }
+{
+    match request {
+        Request::Command(command) => own.is_same(command),
+        _ => false,
+    }
+}
+
+/// Whether this is a line with the fault.
+fn is_unread(request: &Request, own: WordFault) -> bool
+    ensures { IsTrue result ↔ (UnreadAsked own ≡ request.now) }
+{
+    match request {
+        Request::Unread(fault) => *fault == own,
+        _ => false,
+    }
+}
+
 /// What is left of an access behind the next grain, if anything.
 fn rest_of_access(span: Span) -> Option<Item>
     requires { AsksSome (Item.Access span) }
@@ -61,12 +81,11 @@ impl Item {
         requires { AsksSome self.now }
         ensures { IsTrue result ↔ (next_request (item_left self.now) ≡ Some request.now) }
     {
-        match (self, request) {
-            (Item::Command(own), Request::Command(command)) => own.is_same(command),
-            (Item::Unread(own), Request::Unread(fault)) => own == fault,
-            (Item::Access(span), _) => span.asks(request),
-            (Item::Turns(turns), _) => turns.asks(request),
-            _ => false,
+        match self {
+            Item::Command(own) => is_command(request, own),
+            Item::Unread(own) => is_unread(request, *own),
+            Item::Access(span) => span.asks(request),
+            Item::Turns(turns) => turns.asks(request),
         }
     }
 

@@ -1,11 +1,12 @@
 //! An access of which some grains are left.
 
 ghost use Rattle.std.specs.Prelude.{◌≡◌, ◌↔◌, ◌+◌, ◌-◌, ◌<◌, ◌≤◌, ◌^◌, IsTrue};
+ghost use Rattle.fc_base.specs.declared.request.Request.{Request};
 ghost use Rattle.fc_check_lines.specs.Requests.{part_asked};
 ghost use Rattle.fc_legal.specs.Asked.{end_in, first_in};
 
 use fc_base::ids::VolId;
-use fc_base::request::Request;
+use fc_base::request::{ReadPart, Request, WritePart};
 use fc_base::size::GrainSize;
 
 /// A read or write of blocks of a volume, of which some grains are left.
@@ -27,42 +28,64 @@ pub struct Span {
     pub left: u32,
 }
 
-impl Span {
-    /// The first of its blocks in the next grain.
-    fn first_block(self) -> u64
-        ensures { result ≡ first_in self.grain self.block self.next }
-    {
-        let begins = u64::from(self.next) * u64::from(self.grain.blocks());
-        u64::from(self.block).max(begins)
+/// Whether this is a read of these blocks.
+fn is_read(request: &Request, own: ReadPart) -> bool
+    ensures { IsTrue result ↔ (Request.Read own ≡ request.now) }
+{
+    match request {
+        Request::Read(part) => *part == own,
+        _ => false,
     }
+}
 
-    /// The first block behind those in the next grain.
-    fn end_block(self) -> u64
-        ensures { result ≡ end_in self.grain (self.block + self.count) self.next }
+/// Whether this is a write of these blocks.
+fn is_write(request: &Request, own: WritePart) -> bool
+    ensures { IsTrue result ↔ (Request.Write own ≡ request.now) }
+{
+    match request {
+        Request::Write(part) => *part == own,
+        _ => false,
+    }
+}
+
+impl Span {
+    /// Its blocks in the next grain: the first of them, and how many.
+    fn blocks(self) -> (u64, u32)
+        ensures first { result.0 ≡ first_in self.grain self.block self.next }
+        ensures count { result.1 ≡ end_in self.grain (self.block + self.count) self.next - result.0 }
     {
-        let ends = (u64::from(self.next) + 1) * u64::from(self.grain.blocks());
-        (u64::from(self.block) + u64::from(self.count)).min(ends)
+        let blocks = u64::from(self.grain.blocks());
+        let begins = u64::from(self.block);
+        let ends = begins + u64::from(self.count);
+        let first = begins.max(u64::from(self.next) * blocks);
+        let end = ends.min((u64::from(self.next) + 1) * blocks);
+        (first, end.saturating_sub(first) as u32)
     }
 
     /// Whether this is its request in the next grain.
     pub(crate) fn asks(self, request: &Request) -> bool
         ensures { IsTrue result ↔ (part_asked self.grain self.volume self.block self.count self.byte self.next ≡ request.now) }
     {
-        let first = self.first_block();
-        let count = self.end_block().saturating_sub(first);
-        match (self.byte, request) {
-            (None, Request::Read(part)) => {
-                part.volume == self.volume
-                    && part.block == first
-                    && u64::from(part.count) == count
-            }
-            (Some(byte), Request::Write(part)) => {
-                part.volume == self.volume
-                    && part.block == first
-                    && u64::from(part.count) == count
-                    && part.byte == byte
-            }
-            _ => false,
+        let volume = self.volume;
+        let (block, count) = self.blocks();
+        match self.byte {
+            None => is_read(
+                request,
+                ReadPart {
+                    volume,
+                    block,
+                    count,
+                },
+            ),
+            Some(byte) => is_write(
+                request,
+                WritePart {
+                    volume,
+                    block,
+                    count,
+                    byte,
+                },
+            ),
         }
     }
 

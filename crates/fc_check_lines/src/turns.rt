@@ -1,6 +1,7 @@
 //! A worker of whose turns some are left.
 
 ghost use Rattle.std.specs.Prelude.{◌≡◌, ◌↔◌, ◌+◌, ◌-◌, ◌<◌, ◌≤◌, ◌^◌, ◌%◌, IsTrue};
+ghost use Rattle.fc_base.specs.declared.request.Request.{Request};
 ghost use Rattle.fc_check_lines.specs.Requests.{turn_in};
 
 use fc_base::request::Request;
@@ -18,17 +19,37 @@ pub struct Turns {
     pub left: u32,
 }
 
+/// Whether this is a copier's turn in the lane.
+fn is_copy_turn(request: &Request, own: usize) -> bool
+    ensures { IsTrue result ↔ (Request.CopyTurn own ≡ request.now) }
+{
+    match request {
+        Request::CopyTurn { lane } => usize::from(*lane) == own,
+        _ => false,
+    }
+}
+
+/// Whether this is a cleaner's turn in the lane.
+fn is_clean_turn(request: &Request, own: usize) -> bool
+    ensures { IsTrue result ↔ (Request.CleanTurn own ≡ request.now) }
+{
+    match request {
+        Request::CleanTurn { lane } => usize::from(*lane) == own,
+        _ => false,
+    }
+}
+
 impl Turns {
     /// Whether this is the next turn.
     pub(crate) fn asks(self, request: &Request) -> bool
         requires { 0 < self.lanes }
         ensures { IsTrue result ↔ (turn_in self.cleans (self.next % self.lanes) ≡ request.now) }
     {
-        let own = self.next as usize % self.lanes;
-        match request {
-            Request::CopyTurn { lane } => !self.cleans && usize::from(*lane) == own,
-            Request::CleanTurn { lane } => self.cleans && usize::from(*lane) == own,
-            _ => false,
+        let lane = self.next as usize % self.lanes;
+        if self.cleans {
+            is_clean_turn(request, lane)
+        } else {
+            is_copy_turn(request, lane)
         }
     }
 
