@@ -108,30 +108,26 @@ first_unended bytes is some =
 
 -- ---- segments
 
-abbrev cut_from : List Segment → Option Opened → Cut
-cut_from segs block = record { segments = segs; open_block = block }
+-- the segments that have ended stand before those that end later
+abbrev opened_with : Option Opened → Cut
+opened_with block = record { segments = []; open_block = block }
 
-abbrev behind_segments : List Segment → Cut → Cut
-behind_segments segs c = record { segments = segs ++ c.segments; open_block = c.open_block }
-
-steps_behind : (segs : List Segment) (block : Option Opened) (lines : List (List ℕ)) →
-    fold cut_step (cut_from segs block) lines ≡ behind_segments segs (fold cut_step (cut_from [] block) lines)
-steps_behind segs block [] = ap (λ s. cut_from s block) (sym (append-nil segs))
-steps_behind segs block (line ∷ lines) =
-    let more : Cut = line_cut block line in
-    let rest : Cut = fold cut_step (cut_from [] more.open_block) lines in
-    steps_behind (segs ++ more.segments) more.open_block lines
-    ∙ ap (λ s. cut_from s rest.open_block) (append_assoc segs more.segments rest.segments)
-    ∙ sym (ap (behind_segments segs) (steps_behind more.segments more.open_block lines))
+steps_behind : (c : Cut) (lines : List (List ℕ)) → (fold cut_step c lines).segments ≡ c.segments ++ (fold cut_step (opened_with c.open_block) lines).segments
+steps_behind c [] = sym (append-nil c.segments)
+steps_behind c (line ∷ lines) =
+    let more : Cut = line_cut c.open_block line in
+    let rest : List Segment = (fold cut_step (opened_with more.open_block) lines).segments in
+    steps_behind (cut_step c line) lines
+    ∙ append_assoc c.segments more.segments rest
+    ∙ sym (ap (λ segs. c.segments ++ segs) (steps_behind (cut_step (opened_with c.open_block) line) lines))
 
 cut_behind : (xs ys : List (List ℕ)) → (cut xs).open_block ≡ None → (cut (xs ++ ys)).segments ≡ (cut xs).segments ++ (cut ys).segments
 cut_behind xs ys none =
-    let segs : List Segment = (cut xs).segments in
     ap (λ (c : Cut). c.segments) (fold-append cut_step no_lines xs ys)
-    ∙ ap (λ (b : Option Opened). (fold cut_step (cut_from segs b) ys).segments) none
-    ∙ ap (λ (c : Cut). c.segments) (steps_behind segs None ys)
+    ∙ steps_behind (cut xs) ys
+    ∙ ap (λ (b : Option Opened). (cut xs).segments ++ (fold cut_step (opened_with b) ys).segments) none
 
--- a line that ends a segment leaves no block front
+-- a line that ends a segment leaves no block open
 single_ends : (read : Result Line WordFault) (line : List ℕ) (s : Segment) → (outside read line).segments ≡ s ∷ [] → (outside read line).open_block ≡ None
 single_ends (Ok Together) line s is = absurd (cc is)
 single_ends (Ok Blank) line s is = refl
