@@ -196,7 +196,10 @@ pub(crate) fn do_ask(scripts: &[Script], actor: usize, request: &Request) -> boo
     ensures { IsTrue result ↔ (next_by scripts.now actor ≡ Some request.now) }
 {
     match place_of(scripts, actor) {
-        Some(place) => scripts[place].requests.asks(request),
+        Some(place) => {
+            let script = &scripts[place];
+            script.requests.asks(request)
+        }
         None => false,
     }
 }
@@ -206,7 +209,8 @@ pub(crate) fn take_next(scripts: &mut [Script], actor: usize)
     ensures { scripts.new ≡ behind_next scripts.old actor }
 {
     if let Some(place) = place_of(scripts, actor) {
-        scripts[place].requests.take_first();
+        let script = &mut scripts[place];
+        script.requests.take_first();
     }
 }
 
