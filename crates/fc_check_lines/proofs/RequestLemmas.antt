@@ -1,7 +1,8 @@
 -- Requests that are left, item by item.
-use Rattle.std.proofs.Common.{◌≡◌, ◌≢◌, ℕ, zero, suc, ◌+◌, ◌-◌, ◌%◌, ◌≤◌, ◌<◌, Some, None, List, [], ◌∷◌, ◌++◌, length, map, All, refl, sym, ap, subst, ◌∙◌, arith}
+use Rattle.std.proofs.Common.{◌≡◌, ◌≢◌, ℕ, zero, suc, ◌+◌, ◌-◌, ◌%◌, ◌≤◌, ◌<◌, Some, None, List, [], ◌∷◌, ◌++◌, length, map, All, append-nil, refl, sym, ap, subst, ◌∙◌, arith}
 use Rattle.std.specs.List.{flat_map, range_with_len, slice_index_or}
-use Rattle.std.proofs.lemmas.List.Elements.{All-head, All-tail}
+use Rattle.std.proofs.lemmas.Grind.{flat_map-append}
+use Rattle.std.proofs.lemmas.List.Elements.{All-head, All-push, All-tail}
 use Rattle.fc_base.specs.declared.request.Request.{Request}
 use Rattle.fc_base.specs.declared.request.Request.TheVariants.{Command as CommandAsked, Unread as UnreadAsked}
 use Rattle.fc_check_lines.specs.Requests.{AsksSome, IsRest, item_left, part_asked, span_left, turn_in, turns_left}
@@ -142,3 +143,11 @@ pub taken_all : (items others : List Item) (item : Item) → items ≡ item ∷ 
 taken_all items others item is all =
     let P : List Item → Type 0 = λ xs. All AsksSome xs in
     All-tail AsksSome item others (subst P is all)
+
+-- One item more behind the others, or not.
+pub pushed_all : (items : List Item) (item : Item) → All AsksSome items → AsksSome item → All AsksSome (items ++ item ∷ [])
+pushed_all items item all some = All-push AsksSome items item all some
+
+pub pushed_left : (items : List Item) (item : Item) → flat_map item_left (items ++ item ∷ []) ≡ flat_map item_left items ++ item_left item
+pushed_left items item =
+    flat_map-append item_left items (item ∷ []) ∙ ap (λ xs. flat_map item_left items ++ xs) (append-nil (item_left item))

@@ -377,8 +377,8 @@ impl<'a> Lines<'a> {
         entry: &Entry,
     ) -> Result<Lines<'a>, NoMemory>
         ensures { IfOk result (λ lines. LeadTo (T.grain told.now) by_grammar
-            (behind_entry (T.grain told.now) self.agenda (named self.names (T.whole told.now)) (entry_by self.names name.now entry.now))
-            (named self.names (T.whole told.now)) [] lines.agenda (named lines.names (T.whole told.now))) }
+            (behind_entry (T.grain told.now) self.entry.agenda (named self.entry.names (T.whole told.now)) (entry_by self.entry.names name.now entry.now))
+            (named self.entry.names (T.whole told.now)) [] lines.agenda (named lines.names (T.whole told.now))) }
     {
         let Lines {
             rest,

@@ -101,6 +101,7 @@ fn has_moved(reply: &Reply) -> bool
 
 impl Passing {
     /// Before the first of so many seconds, with the background work as it is told.
+    #[tactic(auto, using(crate::proofs::SecondsPass::all_listed))]
     pub(crate) fn begin<T: Told>(
         alloc: Global,
         told: &T,

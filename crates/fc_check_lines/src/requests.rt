@@ -1,6 +1,6 @@
 //! Requests that are left to be asked, one after the other.
 
-ghost use Rattle.std.specs.Prelude.{◌≡◌, ◌↔◌, [], ◌∷◌, ◌++◌, IsTrue, OnOk, IfOk, Some};
+ghost use Rattle.std.specs.Prelude.{◌≡◌, ◌↔◌, [], ◌∷◌, ◌++◌, IsTrue, OnErr, OnOk, IfOk, Some};
 ghost use Rattle.fc_base.specs.declared.request.Request.TheVariants.{Command as CommandAsked, Unread as UnreadAsked};
 ghost use Rattle.fc_check_lines.specs.Requests.{AsksSome, IsRest, item_left, span_left, turns_left};
 ghost use Rattle.fc_check_lines.specs.declared.requests.Item.{Item};
@@ -143,6 +143,7 @@ impl Requests {
     }
 
     /// Whether none are left.
+    #[tactic(auto, using(crate::proofs::RequestLemmas::none_empty, crate::proofs::RequestLemmas::empty_none))]
     pub(crate) fn is_empty(&self) -> bool
         ensures { IsTrue result ↔ (self.now ≡ []) }
     {
@@ -150,6 +151,7 @@ impl Requests {
     }
 
     /// Whether this is the next.
+    #[tactic(auto, using(crate::proofs::RequestLemmas::front_first))]
     pub(crate) fn asks(&self, request: &Request) -> bool
         ensures { IsTrue result ↔ (next_request self.now ≡ Some request.now) }
     {
@@ -160,6 +162,7 @@ impl Requests {
     }
 
     /// The next was asked: the rest is left.
+    #[tactic(auto, using(crate::proofs::RequestLemmas::taken_rest, crate::proofs::RequestLemmas::taken_last))]
     pub(crate) fn take_first(&mut self)
         ensures { self.new ≡ behind_first self.old }
     {
@@ -173,6 +176,7 @@ impl Requests {
     }
 
     /// Puts an item behind the others. Refused, for want of memory alone, they are as they were.
+    #[tactic(auto, using(crate::proofs::RequestLemmas::pushed_all, crate::proofs::RequestLemmas::pushed_left))]
     fn push(&mut self, item: Item) -> Result<(), NoMemory>
         requires { AsksSome item }
         ensures { OnOk result (self.new ≡ self.old ++ item_left item) }
@@ -222,7 +226,8 @@ impl Requests {
 
 /// Puts an item behind the others.
 fn push_item<T: Drop>(items: &mut VecDeque<T>, item: T) -> Result<(), NoMemory>
-    ensures { OnOk result (items.new.items ≡ items.old.items ++ item ∷ []) }
+    ensures ok { OnOk result (items.new.items ≡ items.old.items ++ item ∷ []) }
+    ensures err { OnErr result (items.new.items ≡ items.old.items) }
 {
     match items.push_back(item) {
         Ok(()) => Ok(()),
