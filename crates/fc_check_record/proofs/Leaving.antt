@@ -1,0 +1,100 @@
+-- What a decision leaves, part by part.
+use Rattle.std.proofs.Common.{◌≡◌, ℕ, All, List, [], ◌∷◌, fold, refl, sym, ap, ◌∙◌}
+use Rattle.std.proofs.lemmas.List.Elements.{All-head, All-tail}
+use Rattle.fc_base.specs.Pools.{Pool}
+use Rattle.fc_base.specs.Sheet.{Sheet}
+use Rattle.fc_base.specs.SheetStep.{sheet_step}
+use Rattle.fc_base.specs.SheetView.{SheetView}
+use Rattle.fc_base.specs.declared.decision.Decision.{Decision}
+use Rattle.fc_base.specs.declared.decision.LaneEvent.{LaneEvent}
+use Rattle.fc_base.specs.declared.decision.LaneEvent.TheVariants.{Trigger}
+use Rattle.fc_base.specs.declared.volume.Change.{Change}
+use Rattle.fc_books.specs.After.{after_table_change, flags_after, pools_after, sheet_after}
+use Rattle.fc_books.specs.Books.{Books}
+use Rattle.fc_books.specs.Deciding.{after_decision}
+use Rattle.fc_changed.specs.Row.{Row}
+use Rattle.fc_check_lane.specs.Known.{Known, size_of}
+use Rattle.fc_check_record.specs.Chains.{chains_after, chains_event}
+use Rattle.fc_check_record.specs.Judged.{whole_of}
+use Rattle.fc_check_record.specs.declared.chains.Chains.{Chains}
+use Rattle.fc_decided.proofs.Frame.{all_leave}
+use Rattle.fc_desk.specs.Control.{ControlState, books_of}
+use Rattle.fc_entry.specs.Picture.{Picture}
+use Rattle.fc_entry.specs.PlainStep.{after_effects}
+use Rattle.fc_follow.specs.Following.{IsNoTrigger, TriggersFirst, restarts}
+use Rattle.fc_legal.specs.Steps.{left_by, rows_after}
+use Rattle.fc_legal.specs.Whole.{Whole}
+
+-- ---- chains
+
+-- an event that is no trigger asks for no restart sets
+same_sheet : (first second : ℕ → List Bool) (s : Sheet) (event : LaneEvent) → IsNoTrigger event → sheet_after first s event ≡ sheet_after second s event
+same_sheet first second s (Trigger pairs) none = absurd none
+same_sheet first second s event none = refl
+
+untriggered : (restarts : ℕ → List Bool) (c : Chains) (events : List LaneEvent) → All IsNoTrigger events → (chains_after c events).sheet ≡ fold (sheet_after restarts) c.sheet events
+untriggered sets c [] none = refl
+untriggered sets c (event ∷ events) none =
+    untriggered sets (chains_event c event) events (All-tail IsNoTrigger event events none)
+    ∙ ap (λ s. fold (sheet_after sets) s events) (same_sheet (restarts c.rows) sets c.sheet event (All-head IsNoTrigger event events none))
+
+-- only the first may, by what was kept before all of them
+pub sheet_left : (c : Chains) (events : List LaneEvent) → TriggersFirst events → (chains_after c events).sheet ≡ fold (sheet_after (restarts c.rows)) c.sheet events
+sheet_left c [] first = refl
+sheet_left c (event ∷ events) first = untriggered (restarts c.rows) (chains_event c event) events first
+
+pub rows_left : (c : Chains) (events : List LaneEvent) → (chains_after c events).rows ≡ rows_after c.sheet c.rows events
+rows_left c [] = refl
+rows_left c (event ∷ events) = rows_left (chains_event c event) events
+
+-- ---- all
+
+-- What a control part, chains, disks left and plain volumes are after a decision.
+pub record AreLeft (c after : ControlState) (k known : Known) (rows noted : List Row) (pools left : List Pool) (d : Decision) : Type 0 where
+  pub books : (view : SheetView) → books_of after view ≡ record (fold after_table_change (books_of c view) d.changes) { flags = fold flags_after c.flags d.events }
+  pub chains : Chains
+  pub chains_are : chains ≡ chains_after (record { sheet = k.sheet; rows = rows }) d.events
+  pub sheet : known.sheet ≡ chains.sheet
+  pub rows_are : noted ≡ chains.rows
+  pub picture : known.picture ≡ after_effects k.grain k.picture d.effects
+  pub pools : left ≡ fold pools_after pools d.events
+  pub faults : known.faults ≡ k.faults
+  pub entries : known.entries ≡ k.entries
+
+abbrev view_of : Known → List Pool → SheetView
+view_of k pools = record { sheet = k.sheet; restarts = λ m. []; pools = pools }
+
+books_left : (c after : ControlState) (k known : Known) (rows noted : List Row) (pools left : List Pool) (calls : List ℕ) (d : Decision) → TriggersFirst d.events →
+    AreLeft c after k known rows noted pools left d →
+    (whole_of after known noted left calls).books ≡ after_decision (restarts rows) (whole_of c k rows pools calls).books d
+books_left c after k known rows noted pools left calls d first l =
+    let sheet : known.sheet ≡ fold (sheet_after (restarts rows)) k.sheet d.events =
+    l.sheet ∙ (ap (λ (x : Chains). x.sheet) l.chains_are ∙ sheet_left (record { sheet = k.sheet; rows = rows }) d.events first) in
+    let applied = l.books (view_of k pools) in
+    (λ i. record {
+      tables = (applied i).tables;
+      next_volume = (applied i).next_volume;
+      next_mapping = (applied i).next_mapping;
+      next_group = (applied i).next_group;
+      sheet = sheet i;
+      flags = (applied i).flags;
+      pools = l.pools i;
+    })
+    ∙ sym (all_leave (restarts rows) (whole_of c k rows pools calls).books d.events d.changes)
+
+pub whole_left : (grain : GrainSize) (c after : ControlState) (k known : Known) (rows noted : List Row) (pools left : List Pool) (calls : List ℕ) (d : Decision) → TriggersFirst d.events →
+    grain ≡ k.grain → AreLeft c after k known rows noted pools left d →
+    whole_of after known noted left calls ≡ left_by grain (whole_of c k rows pools calls) d
+whole_left grain c after k known rows noted pools left calls d first size l =
+    let books = books_left c after k known rows noted pools left calls d first l in
+    let rows_are : noted ≡ rows_after k.sheet rows d.events =
+    l.rows_are ∙ (ap (λ (x : Chains). x.rows) l.chains_are ∙ rows_left (record { sheet = k.sheet; rows = rows }) d.events) in
+    λ i. record {
+      actors = [];
+      books = books i;
+      picture = (l.picture ∙ ap (λ (g : GrainSize). after_effects g k.picture d.effects) (sym size)) i;
+      rows = rows_are i;
+      faults = l.faults i;
+      calls = calls;
+      entries = l.entries i;
+    }

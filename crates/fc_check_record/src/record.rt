@@ -1,0 +1,102 @@
+//! The record: the first one, and copies of it.
+
+ghost use Rattle.std.specs.Prelude.{◌≡◌, ◌+◌, ◌<◌, [], IfOk, length, replicate};
+ghost use Rattle.fc_check_sheet.specs.View.{pools_of};
+ghost use Rattle.fc_legal.specs.Steps.{one_more};
+ghost use Rattle.fc_legal.specs.Whole.{opened};
+
+use fc_base::outcome::NoMemory;
+use fc_base::size::GrainSize;
+use fc_check_lane::Known;
+use fc_check_rows::Rows;
+use fc_check_sheet::LanePool;
+use fc_desk::Control;
+use std::alloc::Global;
+use std::marker::Model;
+
+/// One way that all may have been told.
+#[derive(Drop)]
+pub struct Record {
+    /// The tables, the ids that come next, and background work.
+    pub(crate) control: Control,
+    /// What entries of lanes are judged by.
+    pub(crate) known: Known,
+    /// The changed grains of incremental mappings.
+    pub(crate) rows: Rows,
+    /// For each lane the disks that it has for new volumes.
+    pub(crate) pools: Vec<LanePool>,
+    /// For each lane how many calls its entries made on disks.
+    pub(crate) calls: Vec<u64>,
+}
+
+impl Model for Record {
+    ghost use Rattle.fc_check_sheet.specs.View.{pools_of};
+    ghost use Rattle.fc_check_record.specs.Judged.{AreOne, Judged, whole_of};
+
+    ghost Value = { Judged };
+
+    ghost view = { λ r. record { grain = r.known.grain; whole = whole_of r.control r.known r.rows (pools_of r.pools.items) r.calls.items } };
+
+    ghost invariant = { λ r. AreOne r.control r.known r.calls.items };
+}
+
+/// The same items again.
+pub(crate) fn copy_items<T: Copy>(alloc: Global, items: &[T]) -> Result<Vec<T>, NoMemory>
+    ensures { IfOk result (λ copy. copy.items ≡ items.now) }
+{
+    match Vec::from_slice(alloc, items) {
+        Ok(copy) => Ok(copy),
+        Err(_) => Err(NoMemory),
+    }
+}
+
+/// No calls of so many lanes.
+fn no_calls(alloc: Global, lanes: usize) -> Result<Vec<u64>, NoMemory>
+    ensures { IfOk result (λ calls. calls.items ≡ replicate lanes 0) }
+{
+    match vec![in alloc; 0; lanes] {
+        Ok(calls) => Ok(calls),
+        Err(_) => Err(NoMemory),
+    }
+}
+
+impl Record {
+    /// What is told before the first entry, over these disks for new volumes, lane by lane. Refused for want of memory alone.
+    pub fn open(alloc: Global, grain: GrainSize, lanes: &[LanePool]) -> Result<Record, NoMemory>
+        requires { 0 < length lanes.now }
+        ensures { IfOk result (λ opened_record. opened_record ≡ record { grain = grain; whole = record (opened (pools_of lanes.now)) { actors = [] } }) }
+    {
+        let known = Known::new(alloc, grain, lanes.len())?;
+        let pools = copy_items(alloc, lanes)?;
+        let calls = no_calls(alloc, lanes.len())?;
+        Ok(Record {
+            control: Control::new(alloc, grain),
+            known,
+            rows: Rows::new(alloc),
+            pools,
+            calls,
+        })
+    }
+
+    /// Another record of the same. Refused for want of memory alone.
+    pub fn copy(&self, alloc: Global) -> Result<Record, NoMemory>
+        ensures { IfOk result (λ copy. copy ≡ self.now) }
+    {
+        Ok(Record {
+            control: self.control.copy(alloc)?,
+            known: self.known.copy(alloc)?,
+            rows: self.rows.copy(alloc)?,
+            pools: copy_items(alloc, self.pools.as_slice())?,
+            calls: copy_items(alloc, self.calls.as_slice())?,
+        })
+    }
+
+    /// One more entry is told, that did nothing: a refused access, an unread line, or one that ends a command.
+    pub fn one_more(&mut self)
+        requires { self.old.whole.entries < 262144 }
+        ensures { self.new ≡ record self.old { whole = one_more self.old.whole } }
+    {
+        let known = &mut self.known;
+        known.entries += 1;
+    }
+}

@@ -1,0 +1,5 @@
+-- Lemmas, one subject a file.
+mod Spreading
+mod Targets
+mod Explaining
+mod Examples
