@@ -1,0 +1,8 @@
+use Rattle.std.proofs.Common.{◌≡◌, ◌++◌, map, take, drop}
+use Rattle.fc_plain.specs.Changes.{write_if}
+use Rattle.fc_origins.specs.Origins.{marked_part}
+use Rattle.fc_origins.proofs.changes.write_blocks.Given as goal
+
+-- the volumes so far are changed, the others as they were
+abbrev pub invariant-loop-volume : goal.invariant-loop-volume
+invariant-loop-volume l = l.volumes ≡ map (write_if l.size (marked_part l.entry l.part)) (take l.volume-index l.initial.volumes) ++ drop l.volume-index l.initial.volumes

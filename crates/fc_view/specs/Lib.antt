@@ -1,0 +1,2 @@
+-- What is known of a trace while it is drawn.
+pub mod Behind
