@@ -1,6 +1,7 @@
 # shellcheck shell=bash disable=SC2154
 # The proved program: with which kit it was built and from which sources, whether it is there, and how it is built.
-# It is sourced, not run, with `here` set to the top of the repository and `say` defined.
+# It is sourced, not run, with `here` set to the top of the repository and `say` defined. Whoever builds another program than
+# flashcopy sets `name` (its crate), `build_words` (the words of a run of it on empty input) and `built_status` (the status of it).
 
 # The logic that the proofs are claimed in (.ci/run compares it with the one at hand), and the kit that proved all of
 # them last. Another kit of the same logic proves the same.
@@ -10,19 +11,22 @@ proved_last_with=rattle-kit-13f
 # How long the first build takes, roughly, on four free processors.
 build_time="half an hour or more"
 
-crate=$here/crates/flashcopy
-program=$crate/out/flashcopy
-stamp=$crate/out/flashcopy.stamp
+name=${name:-flashcopy}
+[[ -v build_words ]] || build_words=(run)
+built_status=${built_status:-0}
+crate=$here/crates/$name
+program=$crate/out/$name
+stamp=$crate/out/$name.stamp
 
 has_kit() { command -v rt >/dev/null; }
 
 # The crates that the program stands on, and itself: crates.txt has a line 'NAME: USED..' for each, lowest first.
 crates_of_program() {
-    awk -F: '
+    awk -F: -v program="$name" '
         /^#/ || NF < 2 { next }
         { name[++n] = $1; used[$1] = $2 }
         END {
-            wanted["flashcopy"] = 1
+            wanted[program] = 1
             for (i = n; i >= 1; i--) {
                 if (!(name[i] in wanted)) continue
                 print name[i]
@@ -34,17 +38,17 @@ crates_of_program() {
 
 # A hash of all that the program is proved and built from.
 hash_of_sources() {
-    local name
+    local one
     (
         cd -- "$here" || exit 1
         {
             [[ ! -e HANDLES ]] || printf '%s\0' HANDLES
-            while IFS= read -r name; do
-                find "crates/$name/src" "crates/$name/specs" "crates/$name/proofs" -type f -print0 2>/dev/null
+            while IFS= read -r one; do
+                find "crates/$one/src" "crates/$one/specs" "crates/$one/proofs" -type f -print0 2>/dev/null
             done < <(crates_of_program)
         } | LC_ALL=C sort -z | xargs -0 sha256sum --
         # which crates use which
-        crates_of_program | while IFS= read -r name; do grep -- "^$name:" crates.txt; done
+        crates_of_program | while IFS= read -r one; do grep -- "^$one:" crates.txt; done
     ) | sha256sum | cut -d ' ' -f 1
 }
 
@@ -103,17 +107,17 @@ build() {
         return 1
     fi
     say_why_built
-    log=$(mktemp --suffix=.flashcopy-build) || return 1
+    log=$(mktemp --suffix=".$name-build") || return 1
     say "the log is $log"
-    # an empty session, so that the run behind the build prints nothing
-    (cd -- "$crate" && exec rt run -- run) </dev/null >"$log" 2>&1 &
+    # an empty input, so that the run behind the build prints next to nothing
+    (cd -- "$crate" && exec rt run -- "${build_words[@]}") </dev/null >"$log" 2>&1 &
     builder=$!
     trap 'kill "$builder" 2>/dev/null; exit 130' INT TERM
     say_progress "$builder" "$log"
     wait "$builder"
     status=$?
     trap - INT TERM
-    if ((status == 0)) && [[ -x $program ]]; then
+    if ((status == built_status)) && [[ -x $program ]]; then
         stamp_program
         rm -f -- "$log"
         say "built"
