@@ -1,10 +1,13 @@
 //! One entry more.
 
-ghost use Rattle.std.specs.Prelude.{◌≡◌, ◌<◌, ◌++◌, [], ◌∷◌, List, IfOk, OnOk, IsTrue, length};
-ghost use Rattle.fc_drawing.specs.Sources.{sources_of};
+ghost use Rattle.std.specs.Prelude.{◌≡◌, ◌<◌, ◌++◌, [], ◌∷◌, List, IfOk, OnOk, length, slice_get};
+ghost use Rattle.fc_base.specs.Grain.{grain_blocks};
+ghost use Rattle.fc_check_lane.specs.After.{chains_torn, chains_written};
+ghost use Rattle.fc_drawing.specs.Sources.{all_made, sources_of};
 ghost use Rattle.fc_entry.specs.declared.entry.Entry.{Entry as ToldEntry};
+ghost use Rattle.fc_rules.specs.LaneRight.{done_write};
 ghost use Rattle.fc_trace.specs.declared.header.Header.{Header};
-ghost use Rattle.fc_view.specs.Behind.{IsBehind};
+ghost use Rattle.fc_view.specs.Behind.{AfterStep, IsBehind, first_sheet};
 
 use crate::behind::Behind;
 use fc_base::ids::VolId;
@@ -71,7 +74,9 @@ fn follow_write(
     sheet: &mut PlainSheet,
     arrivals: &mut Arrivals,
     entry: &Entry,
-) -> Result<bool, NoMemory> {
+) -> Result<bool, NoMemory>
+    ensures { OnOk result (sheet.new ≡ chains_written size sheet.old (done_write entry.now.request entry.now.reply)) }
+{
     let (Request::Write(part), Reply::Done) = (&entry.request, &entry.reply) else {
         return Ok(false);
     };
@@ -90,7 +95,9 @@ fn follow_write(
 }
 
 /// The chains after a torn grain, if there is one.
-fn follow_torn(sheet: &mut PlainSheet, entry: &Entry) -> bool {
+fn follow_torn(sheet: &mut PlainSheet, entry: &Entry) -> bool
+    ensures { sheet.new ≡ chains_torn sheet.old entry.now.torn }
+{
     match entry.torn {
         Some(torn) => {
             sheet.torn(torn.volume, torn.grain.0 as usize, torn.side);
@@ -116,7 +123,10 @@ fn follow_lane(
     arrivals: &mut Arrivals,
     totals: &mut Totals,
     entry: &Entry,
-) -> Result<Step, NoMemory> {
+) -> Result<Step, NoMemory>
+    ensures sources { IfOk result (λ step. step.sources.items ≡ sources_of sheet.old entry.now.moves) }
+    ensures chains { OnOk result (sheet.new ≡ chains_torn (chains_written size (all_made sheet.old entry.now.moves) (done_write entry.now.request entry.now.reply)) entry.now.torn) }
+{
     let moves = entry.moves.as_slice();
     let sources = make_moves(alloc, sheet, moves)?;
     note_moves(
@@ -141,7 +151,13 @@ fn follows_alone(ways: usize, entry: &Entry) -> bool {
 impl Behind {
     /// Goes on behind the last entry of the history, and answers what it did. None where it isn't right; then, and where memory is
     /// wanted, what is known may be anything.
-    pub(crate) fn step(&mut self, alloc: Global) -> Result<Option<Step>, NoMemory> {
+    pub(crate) fn step(&mut self, alloc: Global) -> Result<Option<Step>, NoMemory>
+        requires some { 0 < length self.old.history.entries }
+        requires room { self.old.candidates.entries < 262144 }
+        ensures after { IfOk result (λ step. (header : Header) (before : List ToldEntry) (entry : ToldEntry) → self.old.history.entries ≡ before ++ entry ∷ []
+            → IsBehind header before self.old → AfterStep header before entry self.old step self.new) }
+        ensures history { self.new.history ≡ self.old.history }
+    {
         let ways = self.candidates.len();
         let entry = self.history.entry(self.history.len() - 1);
         self.candidates.follow(alloc, entry)?;

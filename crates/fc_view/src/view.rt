@@ -1,5 +1,7 @@
 //! The trace that a source gives, viewed.
 
+ghost use Rattle.fc_view.specs.Seen.{IsSeen};
+
 use crate::behind::Behind;
 use crate::draw::of_sink;
 use crate::wanted::{Form, Seen, ViewStop, Wanted};
@@ -131,7 +133,9 @@ pub fn view_bytes<K: Sink>(
     bytes: &[u8],
     wanted: Wanted,
     sink: &mut K,
-) -> Result<Seen, ViewStop> {
+) -> Result<Seen, ViewStop>
+    ensures { IsSeen result bytes.now }
+{
     let seen = match read_header(bytes) {
         Ok((header, start)) => draw_trace(alloc, &header, wanted, start, bytes, sink)?,
         Err(place) => Seen::Malformed(place as u64),
