@@ -1,6 +1,6 @@
 //! Which slots stand in which chain.
 
-ghost use Rattle.std.specs.Prelude.{◌≡◌, ◌++◌, [], ◌∷◌, IfOk, OnOk, cond, eqb, length, map, not};
+ghost use Rattle.std.specs.Prelude.{◌≡◌, ◌++◌, ◌||◌, [], ◌∷◌, IfOk, OnOk, cond, eqb, length, map, not};
 ghost use Rattle.fc_drawing.specs.Chains.{are_together, chain_at, chains_of, is_first};
 ghost use Rattle.fc_drawing.specs.Places.{any_below};
 
@@ -39,15 +39,29 @@ fn are_together(sheet: &PlainSheet, place: usize, other: usize) -> bool
     sheet.chain(place).0 == sheet.chain(other).0
 }
 
+/// Whether one was found, now or before.
+pub(crate) fn any_so_far(found: bool, passes: bool) -> bool
+    ensures { result ≡ (found || passes) }
+{
+    found || passes
+}
+
 /// Whether a slot of its chain stands before a place.
 fn follows_one(sheet: &PlainSheet, place: usize) -> bool
     ensures { result ≡ any_below (λ j. are_together sheet.now.slots j place) place }
 {
     let mut found = false;
     for other in 0..place {
-        found = found || are_together(sheet, other, place);
+        found = any_so_far(found, are_together(sheet, other, place));
     }
     found
+}
+
+/// Whether no slot of its chain stands before a place.
+fn is_first(sheet: &PlainSheet, place: usize) -> bool
+    ensures { result ≡ is_first sheet.now.slots place }
+{
+    !follows_one(sheet, place)
 }
 
 /// Puts a place at the end, where it is wanted.
@@ -80,7 +94,7 @@ fn first_places(alloc: Global, sheet: &PlainSheet) -> Result<Chain, NoMemory>
 {
     let mut places = Vec::new(alloc);
     for place in 0..sheet.len() {
-        push_place_if(&mut places, place, !follows_one(sheet, place))?;
+        push_place_if(&mut places, place, is_first(sheet, place))?;
     }
     Ok(Chain { places })
 }

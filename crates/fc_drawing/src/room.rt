@@ -4,6 +4,7 @@ ghost use Rattle.std.specs.Prelude.{◌≡◌, ◌+◌, ◌-◌, ◌<◌, ◌^�
 ghost use Rattle.fc_base.specs.Sheet.{slot_at};
 ghost use Rattle.fc_drawing.specs.Chains.{is_stored, room_of};
 
+use crate::chains::any_so_far;
 use fc_base::ids::VolId;
 use fc_model::PlainSheet;
 
@@ -20,7 +21,7 @@ fn is_stored(sheet: &PlainSheet, volume: VolId, grain: usize) -> bool
 {
     let mut found = false;
     for place in 0..sheet.len() {
-        found = found || stores(sheet, place, volume, grain);
+        found = any_so_far(found, stores(sheet, place, volume, grain));
     }
     found
 }

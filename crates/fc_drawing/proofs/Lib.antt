@@ -1,0 +1,4 @@
+-- Lemmas, one subject a file.
+mod Placing
+mod Making
+mod Examples
