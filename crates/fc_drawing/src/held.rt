@@ -25,11 +25,15 @@ pub(crate) fn put_share<K: Sink>(held: &[bool], sink: &mut K) -> Result<(), Fail
     put_count(sink, b" of ", held.len() as u64)
 }
 
+/// The mark of a grain that is held, or isn't.
+fn mark_text(held: bool) -> &'static [u8] {
+    if held { b"#" } else { b"." }
+}
+
 /// Puts a mark for each grain: `#` where it is held, `.` where it isn't.
 fn put_marks<K: Sink>(held: &[bool], sink: &mut K) -> Result<(), Failed> {
     for mark in held {
-        let text: &[u8] = if *mark { b"#" } else { b"." };
-        match put_text(sink, text) {
+        match put_text(sink, mark_text(*mark)) {
             Ok(()) => {}
             Err(failed) => return Err(failed),
         }

@@ -39,18 +39,22 @@ fn put_lacking<K: Sink>(told: Told<'_>, reason: &Reason, sink: &mut K) -> Result
     put_text(sink, b" has it\n")
 }
 
+/// How a grain came from one slot to another.
+fn way_text(in_place: bool) -> &'static [u8] {
+    if in_place {
+        b" in place from "
+    } else {
+        b" copied from "
+    }
+}
+
 /// Puts how a slot got the grain.
 fn put_arrival<K: Sink>(told: Told<'_>, arrival: &Arrival, sink: &mut K) -> Result<(), Failed> {
     put_text(sink, b"    to ")?;
     put_slot(told.registry, arrival.to, sink)?;
     match arrival.from {
         Some(from) => {
-            let how: &[u8] = if arrival.in_place {
-                b" in place from "
-            } else {
-                b" copied from "
-            };
-            put_text(sink, how)?;
+            put_text(sink, way_text(arrival.in_place))?;
             put_slot(told.registry, from, sink)?;
         }
         None => put_text(sink, b" written")?,

@@ -59,22 +59,26 @@ fn put_box<K: Sink>(
     put_text(sink, b"/>\n")
 }
 
+/// How the grains of a slot are painted, live or old.
+fn paint_of(is_live: bool) -> &'static [u8] {
+    if is_live {
+        b"fill=\"#1b6ca8\""
+    } else {
+        b"fill=\"#b08d57\""
+    }
+}
+
 /// Puts a box for each run of grains that the slot holds.
 fn put_boxes<K: Sink>(drawn: DrawnSlot<'_>, top: u64, sink: &mut K) -> Result<(), Failed> {
     let grains = drawn.held.len();
     put_box(0, grains, grains, top, b"fill=\"none\" stroke=\"#555\"", sink)?;
-    let paint: &[u8] = if drawn.is_live {
-        b"fill=\"#1b6ca8\""
-    } else {
-        b"fill=\"#b08d57\""
-    };
     let mut from = next_with(drawn.held, 0, true);
     for _ in 0..grains {
         if from >= grains {
             return Ok(());
         }
         let end = next_with(drawn.held, from, false);
-        put_box(from, end, grains, top, paint, sink)?;
+        put_box(from, end, grains, top, paint_of(drawn.is_live), sink)?;
         from = next_with(drawn.held, end, true);
     }
     Ok(())
@@ -115,7 +119,7 @@ fn put_slot_box<K: Sink>(
     put_text(sink, b"<g><title>")?;
     put_words(sheet, registry, place, drawn, sink)?;
     put_text(sink, b"</title>\n")?;
-    put_count(sink, b"<text x=\"20\" y=\"", top + 14)?;
+    put_count(sink, b"<text x=\"20\" y=\"", top.saturating_add(14))?;
     put_text(sink, b"\">")?;
     put_words(sheet, registry, place, drawn, sink)?;
     put_text(sink, b"</text>\n")?;

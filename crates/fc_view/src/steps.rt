@@ -174,8 +174,11 @@ impl Behind {
             entry,
         )?;
         if !follows_alone(ways, entry) {
+            let slots = self.sheet.len();
             self.sheet = first_chains(alloc, &self.candidates)?;
-            step.changed = !entry.effects.as_slice().is_empty();
+            step.changed = step.changed
+                || !entry.effects.as_slice().is_empty()
+                || self.sheet.len() != slots;
         }
         Ok(Some(step))
     }
