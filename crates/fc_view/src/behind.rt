@@ -3,7 +3,7 @@
 ghost use Rattle.std.specs.Prelude.{◌≡◌, IfOk};
 ghost use Rattle.fc_check.specs.Traces.{nothing_told};
 ghost use Rattle.fc_reading.specs.Header.{AreFour};
-ghost use Rattle.fc_view.specs.Behind.{IsBehindAll};
+ghost use Rattle.fc_view.specs.Behind.{IsBehind};
 
 use fc_base::outcome::NoMemory;
 use fc_base::size::GrainSize;
@@ -39,7 +39,7 @@ impl Behind {
     /// Behind the first line, nothing. Refused for want of memory alone.
     pub fn open(alloc: Global, header: &Header) -> Result<Behind, NoMemory>
         requires { AreFour header.now.lanes }
-        ensures behind { IfOk result (λ behind. IsBehindAll header.now behind) }
+        ensures behind { IfOk result (λ behind. IsBehind header.now behind) }
         ensures none { IfOk result (λ behind. behind.history ≡ nothing_told) }
     {
         let candidates = Candidates::open(alloc, header.grain, &header.lanes)?;

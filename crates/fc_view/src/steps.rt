@@ -1,13 +1,11 @@
 //! One entry more.
 
-ghost use Rattle.std.specs.Prelude.{◌≡◌, ◌<◌, ◌++◌, [], ◌∷◌, List, IfOk, OnOk, length, slice_get};
-ghost use Rattle.fc_base.specs.Grain.{grain_blocks};
+ghost use Rattle.std.specs.Prelude.{◌≡◌, ◌≢◌, ◌<◌, ◌++◌, [], ◌∷◌, List, IfOk, OnOk, Some, length};
 ghost use Rattle.fc_check_lane.specs.After.{chains_torn, chains_written};
 ghost use Rattle.fc_drawing.specs.Sources.{all_made, sources_of};
 ghost use Rattle.fc_entry.specs.declared.entry.Entry.{Entry as ToldEntry};
 ghost use Rattle.fc_rules.specs.LaneRight.{done_write};
-ghost use Rattle.fc_trace.specs.declared.header.Header.{Header};
-ghost use Rattle.fc_view.specs.Behind.{AfterStep, IsBehind, first_sheet};
+ghost use Rattle.fc_view.specs.Behind.{IsFollowed, first_sheet};
 
 use crate::behind::Behind;
 use fc_base::ids::VolId;
@@ -108,7 +106,9 @@ fn follow_torn(sheet: &mut PlainSheet, entry: &Entry) -> bool
 }
 
 /// The chains of the first way, where there is one; otherwise none.
-fn first_chains(alloc: Global, candidates: &Candidates) -> Result<PlainSheet, NoMemory> {
+fn first_chains(alloc: Global, candidates: &Candidates) -> Result<PlainSheet, NoMemory>
+    ensures { IfOk result (λ sheet. candidates.now.ways ≢ [] → first_sheet candidates.now ≡ Some sheet) }
+{
     match candidates.first() {
         Some(way) => way.sheet().copy(alloc),
         None => Ok(PlainSheet::new(alloc)),
@@ -154,8 +154,9 @@ impl Behind {
     pub(crate) fn step(&mut self, alloc: Global) -> Result<Option<Step>, NoMemory>
         requires some { 0 < length self.old.history.entries }
         requires room { self.old.candidates.entries < 262144 }
-        ensures after { IfOk result (λ step. (header : Header) (before : List ToldEntry) (entry : ToldEntry) → self.old.history.entries ≡ before ++ entry ∷ []
-            → IsBehind header before self.old → AfterStep header before entry self.old step self.new) }
+        ensures followed { IfOk result (λ step. (before : List ToldEntry) (entry : ToldEntry) → self.old.history.entries ≡ before ++ entry ∷ []
+            → IsFollowed entry self.old step self.new) }
+        ensures grain { self.new.grain ≡ self.old.grain }
         ensures history { self.new.history ≡ self.old.history }
     {
         let ways = self.candidates.len();

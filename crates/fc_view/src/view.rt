@@ -1,6 +1,11 @@
 //! The trace that a source gives, viewed.
 
-ghost use Rattle.fc_view.specs.Seen.{IsSeen};
+ghost use Rattle.std.specs.Prelude.{◌≡◌, ◌<◌, ◌≤◌, IfOk, length, take};
+ghost use Rattle.fc_check.specs.Traces.{nothing_told};
+ghost use Rattle.fc_reading.specs.Header.{AreFour};
+ghost use Rattle.fc_trace.specs.Trace.{header_text};
+ghost use Rattle.fc_view.specs.Behind.{IsBehind};
+ghost use Rattle.fc_view.specs.Seen.{IsNext, IsSeen};
 
 use crate::behind::Behind;
 use crate::draw::of_sink;
@@ -20,7 +25,8 @@ use fc_trace::header::Header;
 use std::alloc::Global;
 
 /// One entry more: it was drawn, or ends what is drawn.
-enum Next {
+#[derive(Clone, Copy, Debug, PartialEq, Eq)]
+pub enum Next {
     /// The entry is right; so many bytes are read.
     Drawn(usize),
     /// It ends so.
@@ -30,13 +36,18 @@ enum Next {
 /// Reads the next entry from the front of the bytes, the first of which stands at this place, and draws it.
 fn draw_next<K: Sink>(
     alloc: Global,
+    header: &Header,
     behind: &mut Behind,
     wanted: Wanted,
     place: usize,
     bytes: &[u8],
     sink: &mut K,
-) -> Result<Next, ViewStop> {
-    let count = match read_entry(alloc, behind.grain, &mut behind.history, bytes) {
+) -> Result<Next, ViewStop>
+    requires known { IsBehind header.now behind.old }
+    requires room { length behind.old.history.entries < 262144 }
+    ensures { IfOk result (λ next. IsNext header.now behind.old bytes.now place next behind.new) }
+{
+    let count = match read_entry(alloc, header.grain, &mut behind.history, bytes) {
         Ok(count) => count,
         Err(NotTold::Malformed(stopped)) => {
             return Ok(Next::Ends(Seen::Malformed(place.saturating_add(stopped) as u64)));
@@ -56,18 +67,26 @@ fn draw_next<K: Sink>(
 /// Draws the entries behind the first line, which ends at this place.
 fn draw_entries<K: Sink>(
     alloc: Global,
+    header: &Header,
     behind: &mut Behind,
     wanted: Wanted,
     start: usize,
     bytes: &[u8],
     sink: &mut K,
-) -> Result<Seen, ViewStop> {
+) -> Result<Seen, ViewStop>
+    requires within { start ≤ length bytes.now }
+    requires lanes { AreFour header.now.lanes }
+    requires line { take start bytes.now ≡ header_text header.now.grain header.now.lanes }
+    requires known { IsBehind header.now behind.old }
+    requires none { behind.old.history ≡ nothing_told }
+    ensures { IsSeen result bytes.now }
+{
     let mut place = start;
     while place < bytes.len() {
         if behind.history.len() == MAX_ENTRIES {
             return Err(ViewStop::LogFull);
         }
-        match draw_next(alloc, behind, wanted, place, &bytes[place..], sink)? {
+        match draw_next(alloc, header, behind, wanted, place, &bytes[place..], sink)? {
             Next::Drawn(count) => place += count,
             Next::Ends(seen) => return Ok(seen),
         }
@@ -114,12 +133,17 @@ fn draw_trace<K: Sink>(
     start: usize,
     bytes: &[u8],
     sink: &mut K,
-) -> Result<Seen, ViewStop> {
+) -> Result<Seen, ViewStop>
+    requires within { start ≤ length bytes.now }
+    requires lanes { AreFour header.now.lanes }
+    requires line { take start bytes.now ≡ header_text header.now.grain header.now.lanes }
+    ensures { IsSeen result bytes.now }
+{
     let mut behind = match Behind::open(alloc, header) {
         Ok(behind) => behind,
         Err(NoMemory) => return Err(ViewStop::NoMemory),
     };
-    let seen = draw_entries(alloc, &mut behind, wanted, start, bytes, sink)?;
+    let seen = draw_entries(alloc, header, &mut behind, wanted, start, bytes, sink)?;
     match seen {
         Seen::Right(_) => draw_totals(&behind, wanted, sink)?,
         _ => {}
