@@ -2,7 +2,7 @@
 
 use fc_view::wanted::{Form, Wanted};
 
-/// The number that decimal digits are, below 2^32, without leading zeros.
+/// The number that decimal digits are, below 2^32.
 fn read_number(text: &str) -> Option<u64> {
     match text.parse::<u32>() {
         Ok(number) => Some(u64::from(number)),
