@@ -1,9 +1,8 @@
 -- Moves that are made one after the other.
 use Rattle.std.proofs.Common.{◌≡◌, ℕ, ◌+◌, ◌<◌, ◌≤◌, Option, List, [], ◌∷◌, ◌++◌, drop, get_or, length, append_assoc, refl, sym, ap, ap₂, ◌∙◌}
-use Rattle.std.proofs.lemmas.List.{append-nil, drop_all}
+use Rattle.std.proofs.lemmas.List.{append-nil, drop_all, drop_more}
 use Rattle.fc_base.specs.Sheet.{Sheet}
 use Rattle.fc_base.specs.declared.request.Move.{Move}
-use Rattle.fc_plain.proofs.Lists.{drop_step}
 use Rattle.fc_drawing.specs.Sources.{all_made, made, source_of, sources_of}
 use Rattle.fc_drawing.specs.declared.sources.Source.{Source}
 
@@ -15,11 +14,12 @@ pub record MadeSo (first : Sheet) (moves : List Move) (now : Sheet) (sources : L
 pub made_none : (first : Sheet) (moves : List Move) → MadeSo first moves first [] 0
 made_none first moves = record { sources = refl; chains = refl }
 
-pub made_more : (first : Sheet) (moves : List Move) (now new : Sheet) (sources more : List (Option Source)) (i : ℕ) (m : Move) (source : Option Source) → i < length moves → m ≡ get_or moves i m → MadeSo first moves now sources i →
-    source ≡ source_of now m → more ≡ sources ++ source ∷ [] → new ≡ made now m → MadeSo first moves new more (i + 1)
-made_more first moves now new sources more i m source lt at so of_source pushed moved =
+pub made_more : (first : Sheet) (moves : List Move) (now new : Sheet) (sources more : List (Option Source)) (i : ℕ) (d : Move) (source : Option Source) → i < length moves → MadeSo first moves now sources i →
+    source ≡ source_of now (get_or moves i d) → more ≡ sources ++ source ∷ [] → new ≡ made now (get_or moves i d) → MadeSo first moves new more (i + 1)
+made_more first moves now new sources more i d source lt so of_source pushed moved =
+    let m : Move = get_or moves i d in
     let rest : List Move = drop (i + 1) moves in
-    let here : drop i moves ≡ m ∷ rest = drop_step moves i m lt at in
+    let here : drop i moves ≡ m ∷ rest = drop_more moves i d lt in
     record {
       sources =
         ap₂ (λ (xs : List (Option Source)) (s : Sheet). xs ++ sources_of s rest) (pushed ∙ ap (λ z. sources ++ z ∷ []) of_source) moved

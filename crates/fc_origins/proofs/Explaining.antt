@@ -1,8 +1,8 @@
 -- Where each origin stands for its byte, origins are what plain volumes hold.
-use Rattle.std.proofs.Common.{◌≡◌, ℕ, zero, suc, ◌+◌, ◌*◌, Bool, true, false, cond, not, Option, Some, None, List, [], ◌∷◌, ◌++◌, map, take, drop, set, get_or, length, replicate, refl, sym, ap, ap₂, ◌∙◌, arith, append_assoc, subst}
+use Rattle.std.proofs.Common.{◌≡◌, ℕ, zero, suc, ◌+◌, ◌*◌, Bool, true, false, cond, not, Option, Some, None, List, [], ◌∷◌, ◌++◌, map, take, drop, set, get_or, length, replicate, refl, sym, ap, ap₂, ◌∙◌, arith, append_assoc, length-append, subst}
 use Rattle.std.specs.Prelude.{fold, slice_get, slice_index_or, slice_set, ◌==◌}
 use Rattle.std.specs.List.{filter}
-use Rattle.std.proofs.lemmas.List.{append-nil, map-append, map-set, take-map, drop-map}
+use Rattle.std.proofs.lemmas.List.{map-append, map-set, take-map, drop-map}
 use Rattle.std.proofs.Math.ListN.{get_or-map}
 use Rattle.fc_base.specs.Grain.{block_bytes, grain_bytes}
 use Rattle.fc_base.specs.Ranges.{is_kept}
@@ -15,6 +15,7 @@ use Rattle.fc_base.specs.declared.request.Reply.{Reply}
 use Rattle.fc_base.specs.declared.request.Reply.TheVariants.{Done}
 use Rattle.fc_base.specs.declared.request.Request.{Request}
 use Rattle.fc_base.specs.declared.request.Request.TheVariants.{Write}
+use Rattle.fc_base.specs.declared.request.Side.{Side}
 use Rattle.fc_base.specs.declared.request.Side.TheVariants.{Now, Under}
 use Rattle.fc_base.specs.declared.request.Torn.{Torn}
 use Rattle.fc_base.specs.declared.request.WritePart.{WritePart}
@@ -41,13 +42,13 @@ map_both f g h (x ∷ xs) e = ap₂ (λ y ys. y ∷ ys) (e x) (map_both f g h xs
 
 -- ---- one grain and one volume
 
-written_by : (f : ℕ → ℕ) (from length byte origin : ℕ) (content : Content) → f origin ≡ byte → written from length byte (content_by f content) ≡ content_by f (written from length origin content)
-written_by f from length byte origin (Bytes bytes) e =
-    let middle : replicate length byte ≡ map f (replicate length origin) = ap (replicate length) (sym e) ∙ sym (map_equal f length origin) in
-    let behind : replicate length byte ++ drop (from + length) (map f bytes) ≡ map f (replicate length origin ++ drop (from + length) bytes) =
-    ap₂ (λ (xs ys : List ℕ). xs ++ ys) middle (drop-map f (from + length) bytes) ∙ sym (map-append f (replicate length origin) (drop (from + length) bytes)) in
-    ap Bytes (ap₂ (λ (xs ys : List ℕ). xs ++ ys) (take-map f from bytes) behind ∙ sym (map-append f (take from bytes) (replicate length origin ++ drop (from + length) bytes)))
-written_by f from length byte origin Lost e = ap Bytes (ap (replicate length) (sym e) ∙ sym (map_equal f length origin))
+written_by : (f : ℕ → ℕ) (from count byte origin : ℕ) (content : Content) → f origin ≡ byte → written from count byte (content_by f content) ≡ content_by f (written from count origin content)
+written_by f from count byte origin (Bytes bytes) e =
+    let middle : replicate count byte ≡ map f (replicate count origin) = ap (replicate count) (sym e) ∙ sym (map_equal f count origin) in
+    let front : take from (map f bytes) ++ replicate count byte ≡ map f (take from bytes ++ replicate count origin) =
+    ap₂ (λ (xs ys : List ℕ). xs ++ ys) (take-map f from bytes) middle ∙ sym (map-append f (take from bytes) (replicate count origin)) in
+    ap Bytes (ap₂ (λ (xs ys : List ℕ). xs ++ ys) front (drop-map f (from + count) bytes) ∙ sym (map-append f (take from bytes ++ replicate count origin) (drop (from + count) bytes)))
+written_by f from count byte origin Lost e = ap Bytes (ap (replicate count) (sym e) ∙ sym (map_equal f count origin))
 
 content_there : (f : ℕ → ℕ) (grains : List Content) (g : ℕ) → content_at (map (content_by f) grains) g ≡ content_by f (content_at grains g)
 content_there f grains g = get_or-map (content_by f) grains g Lost
@@ -64,10 +65,13 @@ write_by f grain number part v e =
     (ap (set now g) there ∙ sym (map-set (content_by f) v.now g (written from count (number + 1) (content_at v.now g))))
 
 torn_by : (f : ℕ → ℕ) (torn : Torn) (v : PlainVolume) → after_torn torn (volume_by f v) ≡ volume_by f (after_torn torn v)
-torn_by f record { volume = _; grain = g; side = Now } v =
-    ap (λ (c : List Content). record { volume = v.volume; now = c; under = map (content_by f) v.under }) (sym (map-set (content_by f) v.now g.0 Lost))
-torn_by f record { volume = _; grain = g; side = Under } v =
-    ap (λ (c : List Content). record { volume = v.volume; now = map (content_by f) v.now; under = c }) (sym (map-set (content_by f) v.under g.0 Lost))
+torn_by f torn v = by_side torn.side refl
+  where
+    by_side : (side : Side) → torn.side ≡ side → after_torn torn (volume_by f v) ≡ volume_by f (after_torn torn v)
+    by_side Now e =
+        rw e (ap (λ (c : List Content). record { volume = v.volume; now = c; under = map (content_by f) v.under }) (sym (map-set (content_by f) v.now torn.grain.0 Lost)))
+    by_side Under e =
+        rw e (ap (λ (c : List Content). record { volume = v.volume; now = map (content_by f) v.now; under = c }) (sym (map-set (content_by f) v.under torn.grain.0 Lost)))
 
 cut_by_origin : (f : ℕ → ℕ) (kept : List Range) (g : ℕ) (nows unders : List Content) → cut_from kept g (map (content_by f) nows) (map (content_by f) unders) ≡ map (content_by f) (cut_from kept g nows unders)
 cut_by_origin f kept g [] unders = refl
@@ -91,11 +95,11 @@ changed_by f id change mark p e =
 
 there_by : (f : ℕ → ℕ) (p : Picture) (id : VolId) → now_in (picture_by f p) id ≡ map (content_by f) (now_in p id)
 there_by f [] id = refl
-there_by f (v ∷ vs) id = either (v.volume.0 == id.0) refl
+there_by f (v ∷ vs) id = either (v.volume.0 == id.0) refl (there_by f vs id)
   where
-    either : (b : Bool) → (v.volume.0 == id.0) ≡ b → now_in (picture_by f (v ∷ vs)) id ≡ map (content_by f) (now_in (v ∷ vs) id)
-    either true e = rw e refl
-    either false e = rw e (there_by f vs id)
+    either : (b : Bool) → (v.volume.0 == id.0) ≡ b → now_in (picture_by f vs) id ≡ map (content_by f) (now_in vs id) → now_in (picture_by f (v ∷ vs)) id ≡ map (content_by f) (now_in (v ∷ vs) id)
+    either true e behind = rw e refl
+    either false e behind = rw e behind
 
 trigger_by : (f : ℕ → ℕ) (p : Picture) (pairs : List Pair) (v : PlainVolume) → after_trigger (picture_by f p) pairs (volume_by f v) ≡ volume_by f (after_trigger p pairs v)
 trigger_by f p pairs v = by_source (source_in pairs v.volume) refl
@@ -156,7 +160,7 @@ step_by f grain p entry none e =
 -- ---- a history
 
 -- each of these entries has its byte
-AreTold : (ℕ → ℕ) → List Entry → Type 0
+abbrev AreTold : (ℕ → ℕ) → List Entry → Type 0
 AreTold f [] = Unit {0}
 AreTold f (entry ∷ entries) = (f (entry.number + 1) ≡ byte_asked entry.request) × AreTold f entries
 
@@ -176,13 +180,9 @@ told_all front (entry ∷ rest) numbered =
     let n : entry.number + 1 ≡ suc (length front) = omega (arith, numbered.0) in
     let here : byte_by all (entry.number + 1) ≡ byte_asked entry.request = ap (byte_by all) n ∙ ap byte_of_entry (get_seam front rest entry) in
     let same : (front ++ entry ∷ []) ++ rest ≡ all = append_assoc front (entry ∷ []) rest in
-    let more : length (front ++ entry ∷ []) ≡ length front + 1 = longer front entry in
+    let more : length (front ++ entry ∷ []) ≡ length front + 1 = length-append front (entry ∷ []) in
     let behind : AreTold (byte_by ((front ++ entry ∷ []) ++ rest)) rest = told_all (front ++ entry ∷ []) rest (subst (λ k. AreNumbered k rest) (sym more) numbered.1) in
     (here, subst (λ (z : List Entry). AreTold (byte_by z) rest) same behind)
-  where
-    longer : (front : List Entry) (entry : Entry) → length (front ++ entry ∷ []) ≡ length front + 1
-    longer [] entry = refl
-    longer (x ∷ front) entry = ap suc (longer front entry)
 
 pub origins_explain : OriginLaw
 origins_explain = record { bytes = λ grain entries numbered. all_by (byte_by entries) grain [] entries refl (told_all [] entries numbered) }

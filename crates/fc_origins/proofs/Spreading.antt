@@ -1,39 +1,53 @@
 -- Pieces, and the bytes of their blocks.
 use Rattle.std.proofs.Common.{◌≡◌, ℕ, zero, suc, ◌+◌, ◌-◌, ◌*◌, ◌<◌, ◌≤◌, min, Option, Some, None, List, [], ◌∷◌, ◌++◌, take, drop, get_or, length, replicate, append_assoc, refl, sym, ap, ap₂, ◌∙◌, arith, inl, inr}
-use Rattle.std.proofs.Math.Seq.{drop-append-add, take-append-add}
-use Rattle.std.proofs.lemmas.List.{append-nil, drop_all, length-replicate, take_all, take-append-le, drop-append-le}
+use Rattle.std.proofs.Math.Seq.{drop-drop}
+use Rattle.std.proofs.lemmas.List.{append-nil, drop_all, drop_more, length-replicate}
 use Rattle.std.proofs.lemmas.Bool.{cases_lt}
 use Rattle.fc_base.specs.Grain.{block_bytes, grain_blocks, grain_bytes}
 use Rattle.fc_base.specs.declared.size.GrainSize.{GrainSize}
 use Rattle.fc_base.specs.declared.size.GrainSize.TheVariants.{K64, K256}
 use Rattle.fc_entry.specs.Picture.{Content, Bytes, Lost, written, zeros}
-use Rattle.fc_plain.proofs.Lists.{drop_step}
-use Rattle.fc_origins.specs.Pieces.{content_of, origin_of, part_of, piece_origins, spread}
+use Rattle.fc_origins.specs.Pieces.{origin_of, piece_origins, spread}
 use Rattle.fc_origins.specs.declared.pieces.Piece.{Piece}
+
+abbrev none : List ℕ
+none = []
+
+take_none : (n : ℕ) → take n none ≡ none
+take_none zero = refl
+take_none (suc n) = refl
+
+drop_none : (n : ℕ) → drop n none ≡ none
+drop_none zero = refl
+drop_none (suc n) = refl
 
 -- ---- a front and a rest of two lists
 
 take_both : (xs ys : List ℕ) (n : ℕ) → take n (xs ++ ys) ≡ take n xs ++ take (n - length xs) ys
-take_both [] ys n = let e : n - zero ≡ n = omega arith in ap (λ z. take z ys) (sym e)
-take_both (x ∷ xs) ys zero = refl
-take_both (x ∷ xs) ys (suc n) = let e : suc n - suc (length xs) ≡ n - length xs = omega arith in rw e (ap (λ z. x ∷ z) (take_both xs ys n))
+take_both [] ys n = let e : n - 0 ≡ n = omega arith in sym (ap₂ (λ (xs : List ℕ) (k : ℕ). xs ++ take k ys) (take_none n) e)
+take_both (x ∷ xs) ys zero = let e : 0 - suc (length xs) ≡ 0 = omega arith in ap (λ (k : ℕ). take k ys) (sym e)
+take_both (x ∷ xs) ys (suc n) =
+    let e : suc n - suc (length xs) ≡ n - length xs = omega arith in
+    ap (λ (z : List ℕ). x ∷ z) (take_both xs ys n) ∙ ap (λ (k : ℕ). (x ∷ take n xs) ++ take k ys) (sym e)
 
 drop_both : (xs ys : List ℕ) (n : ℕ) → drop n (xs ++ ys) ≡ drop n xs ++ drop (n - length xs) ys
-drop_both [] ys n = let e : n - zero ≡ n = omega arith in ap (λ z. drop z ys) (sym e)
-drop_both (x ∷ xs) ys zero = refl
-drop_both (x ∷ xs) ys (suc n) = let e : suc n - suc (length xs) ≡ n - length xs = omega arith in rw e (drop_both xs ys n)
+drop_both [] ys n = let e : n - 0 ≡ n = omega arith in sym (ap₂ (λ (xs : List ℕ) (k : ℕ). xs ++ drop k ys) (drop_none n) e)
+drop_both (x ∷ xs) ys zero = let e : 0 - suc (length xs) ≡ 0 = omega arith in ap (λ (k : ℕ). (x ∷ xs) ++ drop k ys) (sym e)
+drop_both (x ∷ xs) ys (suc n) = let e : suc n - suc (length xs) ≡ n - length xs = omega arith in drop_both xs ys n ∙ ap (λ (k : ℕ). drop n xs ++ drop k ys) (sym e)
 
 -- ---- equal ones
 
 take_equal : (n m x : ℕ) → take n (replicate m x) ≡ replicate (min n m) x
-take_equal zero m x = refl
-take_equal (suc n) zero x = refl
-take_equal (suc n) (suc m) x = let e : min (suc n) (suc m) ≡ suc (min n m) = omega arith in rw e (ap (λ z. x ∷ z) (take_equal n m x))
+take_equal zero m x = let e : min 0 m ≡ 0 = omega arith in ap (λ (k : ℕ). replicate k x) (sym e)
+take_equal (suc n) zero x = let e : min (suc n) 0 ≡ 0 = omega arith in ap (λ (k : ℕ). replicate k x) (sym e)
+take_equal (suc n) (suc m) x =
+    let e : min (suc n) (suc m) ≡ suc (min n m) = omega arith in
+    ap (λ (z : List ℕ). x ∷ z) (take_equal n m x) ∙ ap (λ (k : ℕ). replicate k x) (sym e)
 
 drop_equal : (n m x : ℕ) → drop n (replicate m x) ≡ replicate (m - n) x
-drop_equal zero m x = let e : m - zero ≡ m = omega arith in ap (λ z. replicate z x) (sym e)
-drop_equal (suc n) zero x = refl
-drop_equal (suc n) (suc m) x = let e : suc m - suc n ≡ m - n = omega arith in drop_equal n m x ∙ ap (λ z. replicate z x) (sym e)
+drop_equal zero m x = let e : m - 0 ≡ m = omega arith in ap (λ (k : ℕ). replicate k x) (sym e)
+drop_equal (suc n) zero x = let e : 0 - suc n ≡ 0 = omega arith in ap (λ (k : ℕ). replicate k x) (sym e)
+drop_equal (suc n) (suc m) x = let e : suc m - suc n ≡ m - n = omega arith in drop_equal n m x ∙ ap (λ (k : ℕ). replicate k x) (sym e)
 
 less_times : (size a b : ℕ) → size * a - size * b ≡ size * (a - b)
 less_times size a b =
@@ -99,11 +113,12 @@ spread_none size blocks write xs e =
 
 -- ---- one piece more of those that are put
 
-pub front_more : (size count left next i : ℕ) (from : List Piece) (pieces new whole : List ℕ) (x : Piece) → i < length from → x ≡ get_or from i x →
-    pieces ++ take (size * left) (spread size (drop i from)) ≡ whole → next ≡ left - x.blocks → new ≡ pieces ++ take (size * left) (piece_origins size x) → new ++ take (size * next) (spread size (drop (i + 1) from)) ≡ whole
-front_more size count left next i from pieces new whole x lt at before less put =
+pub front_more : (size count left next i : ℕ) (from : List Piece) (pieces new whole : List ℕ) (d : Piece) → i < length from →
+    pieces ++ take (size * left) (spread size (drop i from)) ≡ whole → next ≡ left - (get_or from i d).blocks → new ≡ pieces ++ take (size * left) (piece_origins size (get_or from i d)) → new ++ take (size * next) (spread size (drop (i + 1) from)) ≡ whole
+front_more size count left next i from pieces new whole d lt before less put =
+    let x : Piece = get_or from i d in
     let rest : List ℕ = spread size (drop (i + 1) from) in
-    let here : spread size (drop i from) ≡ piece_origins size x ++ rest = ap (spread size) (drop_step from i x lt at) in
+    let here : spread size (drop i from) ≡ piece_origins size x ++ rest = ap (spread size) (drop_more from i d lt) in
     let n : size * left - length (piece_origins size x) ≡ size * next =
     ap (λ z. size * left - z) (length_piece size x) ∙ (less_times size left x.blocks ∙ ap (λ z. size * z) (sym less)) in
     let both : take (size * left) (spread size (drop i from)) ≡ take (size * left) (piece_origins size x) ++ take (size * next) rest =
@@ -111,28 +126,18 @@ front_more size count left next i from pieces new whole x lt at before less put 
     ap (λ z. z ++ take (size * next) rest) put
     ∙ (append_assoc pieces (take (size * left) (piece_origins size x)) (take (size * next) rest) ∙ (ap (λ z. pieces ++ z) (sym both) ∙ before))
 
-pub rest_more : (size count left next i : ℕ) (from : List Piece) (pieces new whole : List ℕ) (x : Piece) → i < length from → x ≡ get_or from i x →
-    pieces ++ drop (size * left) (spread size (drop i from)) ≡ whole → next ≡ left - x.blocks → new ≡ pieces ++ drop (size * left) (piece_origins size x) → new ++ drop (size * next) (spread size (drop (i + 1) from)) ≡ whole
-rest_more size count left next i from pieces new whole x lt at before less put =
+pub rest_more : (size count left next i : ℕ) (from : List Piece) (pieces new whole : List ℕ) (d : Piece) → i < length from →
+    pieces ++ drop (size * left) (spread size (drop i from)) ≡ whole → next ≡ left - (get_or from i d).blocks → new ≡ pieces ++ drop (size * left) (piece_origins size (get_or from i d)) → new ++ drop (size * next) (spread size (drop (i + 1) from)) ≡ whole
+rest_more size count left next i from pieces new whole d lt before less put =
+    let x : Piece = get_or from i d in
     let rest : List ℕ = spread size (drop (i + 1) from) in
-    let here : spread size (drop i from) ≡ piece_origins size x ++ rest = ap (spread size) (drop_step from i x lt at) in
+    let here : spread size (drop i from) ≡ piece_origins size x ++ rest = ap (spread size) (drop_more from i d lt) in
     let n : size * left - length (piece_origins size x) ≡ size * next =
     ap (λ z. size * left - z) (length_piece size x) ∙ (less_times size left x.blocks ∙ ap (λ z. size * z) (sym less)) in
     let both : drop (size * left) (spread size (drop i from)) ≡ drop (size * left) (piece_origins size x) ++ drop (size * next) rest =
     ap (drop (size * left)) here ∙ (drop_both (piece_origins size x) rest (size * left) ∙ ap (λ z. drop (size * left) (piece_origins size x) ++ drop z rest) n) in
     ap (λ z. z ++ drop (size * next) rest) put
     ∙ (append_assoc pieces (drop (size * left) (piece_origins size x)) (drop (size * next) rest) ∙ (ap (λ z. pieces ++ z) (sym both) ∙ before))
-
-abbrev none : List ℕ
-none = []
-
-take_none : (n : ℕ) → take n none ≡ none
-take_none zero = refl
-take_none (suc n) = refl
-
-drop_none : (n : ℕ) → drop n none ≡ none
-drop_none zero = refl
-drop_none (suc n) = refl
 
 pub front_all : (size left i : ℕ) (from : List Piece) (pieces whole : List ℕ) → length from ≤ i → pieces ++ take (size * left) (spread size (drop i from)) ≡ whole → pieces ≡ whole
 front_all size left i from pieces whole le before =
@@ -146,15 +151,10 @@ rest_all size left i from pieces whole le before =
 
 -- ---- grains
 
-drop_more : (n m : ℕ) (xs : List ℕ) → drop m (drop n xs) ≡ drop (n + m) xs
-drop_more zero m xs = refl
-drop_more (suc n) m [] = drop_none m
-drop_more (suc n) m (x ∷ xs) = drop_more n m xs
-
 pub spread_written : (size from count entry : ℕ) (old new : List ℕ) (content : Content) → Bytes old ≡ content →
     new ≡ take (size * from) old ++ replicate (size * count) (entry + 1) ++ drop (size * count) (drop (size * from) old) → Bytes new ≡ written (size * from) (size * count) (entry + 1) content
 spread_written size from count entry old new content is e =
-    ap Bytes (e ∙ ap (λ z. take (size * from) old ++ replicate (size * count) (entry + 1) ++ z) (drop_more (size * from) (size * count) old))
+    ap Bytes (e ∙ ap (λ z. take (size * from) old ++ replicate (size * count) (entry + 1) ++ z) (drop-drop (size * count) (size * from) old))
     ∙ ap (written (size * from) (size * count) (entry + 1)) is
 
 zero_blocks : (size : GrainSize) → block_bytes * grain_blocks size ≡ grain_bytes size
