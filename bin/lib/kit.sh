@@ -1,7 +1,7 @@
 # shellcheck shell=bash disable=SC2154
 # The proved program: with which kit it was built and from which sources, whether it is there, and how it is built.
-# It is sourced, not run, with `here` set to the top of the repository and `say` defined. Whoever builds another program than
-# flashcopy sets `name` (its crate), `build_words` (the words of a run of it on empty input) and `built_status` (the status of it).
+# It is sourced, not run, with `say` defined, and these set: `here`, the top of the repository; `name`, the program's crate;
+# `build_words`, the words of a run of it on empty input, and `built_status`, the status of that run.
 
 # The logic that the proofs are claimed in (.ci/run compares it with the one at hand), and the kit that proved all of
 # them last. Another kit of the same logic proves the same.
@@ -11,9 +11,6 @@ proved_last_with=rattle-kit-13f
 # How long the first build takes, roughly, on four free processors.
 build_time="half an hour or more"
 
-name=${name:-flashcopy}
-[[ -v build_words ]] || build_words=(run)
-built_status=${built_status:-0}
 crate=$here/crates/$name
 program=$crate/out/$name
 stamp=$crate/out/$name.stamp
