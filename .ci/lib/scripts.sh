@@ -253,6 +253,7 @@ building() {
     # shellcheck disable=SC2016
     in_tree bash -c '
         here=$PWD
+        built_crate=flashcopy build_words=(run) built_status=0
         say() { printf "flashcopy: %s\n" "$1" >&2; }
         source bin/lib/kit.sh
         progress_seconds=1

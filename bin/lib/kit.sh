@@ -1,7 +1,7 @@
 # shellcheck shell=bash disable=SC2154
 # The proved program: with which kit it was built and from which sources, whether it is there, and how it is built.
-# It is sourced, not run, with `say` defined, and these set: `here`, the top of the repository; `name`, the program's crate;
-# `build_words`, the words of a run of it on empty input, and `built_status`, the status of that run.
+# It is sourced, not run, with `say` defined, and these set: `here`, the top of the repository; `built_crate`, the program's
+# crate; `build_words`, the words of a run of it on empty input, and `built_status`, the status of that run.
 
 # The logic that the proofs are claimed in (.ci/run compares it with the one at hand), and the kit that proved all of
 # them last. Another kit of the same logic proves the same.
@@ -11,15 +11,15 @@ proved_last_with=rattle-kit-13f
 # How long the first build takes, roughly, on four free processors.
 build_time="half an hour or more"
 
-crate=$here/crates/$name
-program=$crate/out/$name
-stamp=$crate/out/$name.stamp
+crate=$here/crates/$built_crate
+program=$crate/out/$built_crate
+stamp=$crate/out/$built_crate.stamp
 
 has_kit() { command -v rt >/dev/null; }
 
 # The crates that the program stands on, and itself: crates.txt has a line 'NAME: USED..' for each, lowest first.
 crates_of_program() {
-    awk -F: -v program="$name" '
+    awk -F: -v program="$built_crate" '
         /^#/ || NF < 2 { next }
         { name[++n] = $1; used[$1] = $2 }
         END {
@@ -104,7 +104,7 @@ build() {
         return 1
     fi
     say_why_built
-    log=$(mktemp --suffix=".$name-build") || return 1
+    log=$(mktemp --suffix=".$built_crate-build") || return 1
     say "the log is $log"
     # an empty input, so that the run behind the build prints next to nothing
     (cd -- "$crate" && exec rt run -- "${build_words[@]}") </dev/null >"$log" 2>&1 &
