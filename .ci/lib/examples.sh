@@ -83,3 +83,17 @@ traces_proved() {
             cmp -s <(tail -n +2 -- "$room/out" | grep -v -e '^+' -e '^\.$') "$name.stdout"
     done
 }
+
+# ---- drawings: those of drawings/ were worked out by another program, from the traces of the same names
+drawings_proved() {
+    echo "== drawings of traces, by the proved program"
+    local count=0 name drawn viewer=crates/fcview/out/fcview
+    for drawn in drawings/*; do
+        name=${drawn#drawings/}
+        "$viewer" <"traces/$name" >"$room/out" 2>"$room/err"
+        is "the drawing of $name: status" 0 $?
+        holds "the drawing of $name differs" cmp -s "$room/out" "$drawn"
+        count=$((count + 1))
+    done
+    is_at_least "drawings" 6 "$count"
+}
