@@ -53,7 +53,12 @@ impl Totals {
     }
 
     /// Counts one move. Refused for want of memory, it isn't counted.
-    pub fn count(&mut self, from: Option<VolId>, to: VolId, in_place: bool) -> Result<(), NoMemory> {
+    pub fn count(
+        &mut self,
+        from: Option<VolId>,
+        to: VolId,
+        in_place: bool,
+    ) -> Result<(), NoMemory> {
         for pair in self.pairs.iter_mut() {
             if pair.is_of(from, to) {
                 pair.count(in_place);

@@ -70,7 +70,9 @@ fn draw_read<K: Sink>(
     entry: &Entry,
     sink: &mut K,
 ) -> Result<(), ViewStop> {
-    let (Request::Read(read), Reply::Bytes(_) | Reply::MediumError) = (&entry.request, &entry.reply) else {
+    let (Request::Read(read), Reply::Bytes(_) | Reply::MediumError) =
+        (&entry.request, &entry.reply)
+    else {
         return Ok(());
     };
     let part = part_of(behind.grain, read);
