@@ -50,8 +50,8 @@ count_more test n count new passes f p e =
     by_cases false = refl
 
 pub count_within : (count new n : ℕ) (passes : Bool) → count ≤ n → new ≡ cond passes (count + 1) count → new ≤ n + 1
-count_within count new n true le e = omega arith
-count_within count new n false le e = omega arith
+count_within count new n true le e = let f : new ≡ count + 1 = e in omega arith
+count_within count new n false le e = let f : new ≡ count = e in omega arith
 
 pub count_done : (test : ℕ → Bool) (n m count : ℕ) → count ≡ length (places_below test n) → n ≤ m → m ≤ n → count ≡ length (places_below test m)
 count_done test n m count f a b = let e : n ≡ m = omega arith in f ∙ ap (λ z. length (places_below test z)) e
