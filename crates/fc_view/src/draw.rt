@@ -88,6 +88,15 @@ fn draw_read<K: Sink>(
     }
 }
 
+/// Says where all may have been told in several ways, of which the first is drawn.
+fn put_ways<K: Sink>(ways: usize, sink: &mut K) -> Result<(), Failed> {
+    if ways < 2 {
+        return Ok(());
+    }
+    put_count(sink, b"  the first of ", ways as u64)?;
+    put_text(sink, b" ways in which this may be\n")
+}
+
 /// Puts an entry as text: its line, why it read what it did, its moves, and the chains where they are wanted.
 fn draw_text<K: Sink>(
     alloc: Global,
@@ -104,6 +113,7 @@ fn draw_text<K: Sink>(
     if !with_chains {
         return Ok(());
     }
+    of_sink(put_ways(behind.candidates.len(), sink))?;
     let chains = of_memory(chains_of(alloc, &behind.sheet))?;
     of_sink(put_chains(
         &behind.sheet,
