@@ -22,8 +22,8 @@ made_more first moves now new sources more i d source lt so of_source pushed mov
     let here : drop i moves ≡ m ∷ rest = drop_more moves i d lt in
     record {
       copied =
-        ap₂ (λ (xs : List (Option Source)) (s : Sheet). xs ++ sources_of s rest) (pushed ∙ ap (λ z. sources ++ z ∷ []) of_source) moved
-        ∙ (append_assoc sources (source_of now m ∷ []) (sources_of (made now m) rest) ∙ (ap (λ z. sources ++ sources_of now z) (sym here) ∙ so.copied));
+          ap₂ (λ (xs : List (Option Source)) (s : Sheet). xs ++ sources_of s rest) (pushed ∙ ap (λ z. sources ++ z ∷ []) of_source) moved
+          ∙ (append_assoc sources (source_of now m ∷ []) (sources_of (made now m) rest) ∙ (ap (λ z. sources ++ sources_of now z) (sym here) ∙ so.copied));
       chains = ap (λ (s : Sheet). all_made s rest) moved ∙ (ap (all_made now) (sym here) ∙ so.chains);
     }
 

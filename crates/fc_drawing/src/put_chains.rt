@@ -65,11 +65,7 @@ fn put_chain<K: Sink>(
 }
 
 /// Puts a mapping that has no slot on a line of its own.
-fn put_idle<K: Sink>(
-    registry: &Registry,
-    mapping: &Mapping,
-    sink: &mut K,
-) -> Result<(), Failed> {
+fn put_idle<K: Sink>(registry: &Registry, mapping: &Mapping, sink: &mut K) -> Result<(), Failed> {
     put_word(sink, b"  ", mapping.name.as_bytes())?;
     put_text(sink, b": ")?;
     put_volume(registry, mapping.source, sink)?;
@@ -80,11 +76,7 @@ fn put_idle<K: Sink>(
 }
 
 /// Puts the mappings that have no slot.
-fn put_idles<K: Sink>(
-    sheet: &PlainSheet,
-    registry: &Registry,
-    sink: &mut K,
-) -> Result<(), Failed> {
+fn put_idles<K: Sink>(sheet: &PlainSheet, registry: &Registry, sink: &mut K) -> Result<(), Failed> {
     for mapping in registry.all_mappings() {
         if sheet.mapping_place(mapping.id).is_none() {
             match put_idle(registry, mapping, sink) {

@@ -71,7 +71,9 @@ fn put_trail<K: Sink>(
     grain: usize,
     sink: &mut K,
 ) -> Result<(), Failed> {
-    let mut next = told.arrivals.of(source_at(told.sheet, reason.holder), grain);
+    let mut next = told
+        .arrivals
+        .of(source_at(told.sheet, reason.holder), grain);
     for _ in 0..told.arrivals.len() {
         match next {
             Some(arrival) => {
@@ -90,7 +92,11 @@ fn put_blocks<K: Sink>(first: u64, count: u32, sink: &mut K) -> Result<(), Faile
         return put_count(sink, b"    block ", first);
     }
     put_count(sink, b"    blocks ", first)?;
-    put_count(sink, b" to ", first.saturating_add(u64::from(count)).saturating_sub(1))
+    put_count(
+        sink,
+        b" to ",
+        first.saturating_add(u64::from(count)).saturating_sub(1),
+    )
 }
 
 /// Puts a piece: which blocks it is, and by which write they came.

@@ -30,7 +30,11 @@ fn put_pair<K: Sink>(registry: &Registry, pair: &PairTotal, sink: &mut K) -> Res
 fn put_room<K: Sink>(sheet: &PlainSheet, volume: &Volume, sink: &mut K) -> Result<(), Failed> {
     put_text(sink, b"  ")?;
     put_text(sink, volume.name.as_bytes())?;
-    put_count(sink, b": ", u64::from(room_of(sheet, volume.id, volume.grains)))?;
+    put_count(
+        sink,
+        b": ",
+        u64::from(room_of(sheet, volume.id, volume.grains)),
+    )?;
     put_count(sink, b" of ", u64::from(volume.grains))?;
     put_text(sink, b" grains\n")
 }

@@ -18,7 +18,9 @@ use fc_registry::Registry;
 
 /// Where the grains of a slot begin, how wide all of them are, and how high a slot is, in pixels.
 const GRAINS_LEFT: u64 = 320;
+
 const GRAINS_WIDTH: u64 = 660;
+
 const SLOT_HEIGHT: u64 = 28;
 
 /// Where the first slot stands.
@@ -71,7 +73,14 @@ fn paint_of(is_live: bool) -> &'static [u8] {
 /// Puts a box for each run of grains that the slot holds.
 fn put_boxes<K: Sink>(drawn: DrawnSlot<'_>, top: u64, sink: &mut K) -> Result<(), Failed> {
     let grains = drawn.held.len();
-    put_box(0, grains, grains, top, b"fill=\"none\" stroke=\"#555\"", sink)?;
+    put_box(
+        0,
+        grains,
+        grains,
+        top,
+        b"fill=\"none\" stroke=\"#555\"",
+        sink,
+    )?;
     let mut from = next_with(drawn.held, 0, true);
     for _ in 0..grains {
         if from >= grains {
@@ -193,7 +202,10 @@ pub fn put_svg<K: Sink>(
         b"<svg xmlns=\"http://www.w3.org/2000/svg\" role=\"img\" width=\"1000\" height=\"",
     )?;
     put_count(sink, b"", height_of(chains))?;
-    put_text(sink, b"\" font-family=\"sans-serif\" font-size=\"13\">\n<title>")?;
+    put_text(
+        sink,
+        b"\" font-family=\"sans-serif\" font-size=\"13\">\n<title>",
+    )?;
     put_title(entry, sink)?;
     put_text(sink, b"</title>\n<text x=\"20\" y=\"28\" font-size=\"16\">")?;
     put_title(entry, sink)?;

@@ -1,6 +1,5 @@
 -- What is said of the bytes of a trace that was viewed.
 use Rattle.std.specs.Prelude.{◌≡◌, ℕ, ◌+◌, ◌≤◌, List, length, take, Result, Ok, Err}
-
 use Rattle.fc_check.specs.Traces.{IsFull}
 use Rattle.fc_check.specs.Verdict.{IsSaid}
 use Rattle.fc_check.specs.declared.verdict.Verdict.TheVariants as said

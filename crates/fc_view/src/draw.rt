@@ -43,7 +43,11 @@ pub(crate) fn of_sink(result: Result<(), Failed>) -> Result<(), ViewStop> {
 fn put_line<K: Sink>(behind: &Behind, entry: &Entry, sink: &mut K) -> Result<(), Failed> {
     put_count(sink, b"", entry.number)?;
     if (entry.actor as usize) < behind.history.actors() {
-        put_word(sink, b" ", behind.history.actor_name(entry.actor).as_bytes())?;
+        put_word(
+            sink,
+            b" ",
+            behind.history.actor_name(entry.actor).as_bytes(),
+        )?;
     }
     put_text(sink, b" ")?;
     put_request(&entry.request, sink)?;
@@ -70,8 +74,7 @@ fn draw_read<K: Sink>(
     entry: &Entry,
     sink: &mut K,
 ) -> Result<(), ViewStop> {
-    let (Request::Read(read), Reply::Bytes(_) | Reply::MediumError) =
-        (&entry.request, &entry.reply)
+    let (Request::Read(read), Reply::Bytes(_) | Reply::MediumError) = (&entry.request, &entry.reply)
     else {
         return Ok(());
     };
@@ -115,12 +118,7 @@ fn draw_text<K: Sink>(
     }
     of_sink(put_ways(behind.candidates.len(), sink))?;
     let chains = of_memory(chains_of(alloc, &behind.sheet))?;
-    of_sink(put_chains(
-        &behind.sheet,
-        way.registry(),
-        chains.as_slice(),
-        sink,
-    ))
+    of_sink(put_chains(&behind.sheet, way.registry(), chains.as_slice(), sink))
 }
 
 /// Puts the chains behind an entry as SVG, behind a line with the name of its file.

@@ -59,7 +59,14 @@ fn note_moves(
             volume: made.volume,
             is_live: true,
         };
-        arrivals.note(alloc, to, made.grain.0 as usize, number, from, made.in_place)?;
+        arrivals.note(
+            alloc,
+            to,
+            made.grain.0 as usize,
+            number,
+            from,
+            made.in_place,
+        )?;
         totals.count(volume_of(from), made.volume, made.in_place)?;
     }
     Ok(())

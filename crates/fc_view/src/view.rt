@@ -100,12 +100,7 @@ fn draw_totals<K: Sink>(behind: &Behind, wanted: Wanted, sink: &mut K) -> Result
         return Ok(());
     }
     match behind.candidates.first() {
-        Some(way) => of_sink(put_totals(
-            &behind.sheet,
-            way.registry(),
-            &behind.totals,
-            sink,
-        )),
+        Some(way) => of_sink(put_totals(&behind.sheet, way.registry(), &behind.totals, sink)),
         None => Ok(()),
     }
 }
