@@ -1,25 +1,23 @@
 -- What is kept twice agrees.
-use Rattle.std.proofs.Common.{◌≡◌, ◌↔◌, ℕ, ◌+◌, ◌*◌, ◌≤◌, ◌<◌, ◌^◌, All, Bool, IsTrue, List, [], Option, Result, IfOk, length, map, replicate, get_or, slice_index_or, slice_set, refl, subst, sym, inl, inr, arith}
+use Rattle.std.proofs.Common.{◌≡◌, ◌↔◌, ℕ, ◌+◌, ◌*◌, ◌≤◌, ◌<◌, ◌^◌, All, Bool, IsTrue, List, Option, Result, IfOk, length, replicate, slice_index_or, slice_set, refl, subst, sym, inl, inr, arith}
 use Rattle.std.proofs.Math.ListN.{get_or-eq_default}
 use Rattle.std.proofs.lemmas.Bool.{cases_lt}
 use Rattle.std.proofs.lemmas.List.Elements.{All-get_or, All-replicate, All-set, All-weaker}
 use Rattle.std.proofs.lemmas.Result.{IfOk-weaker}
 use Rattle.fc_base.specs.Pools.{Pool}
-use Rattle.fc_base.specs.Sheet.{Sheet}
 use Rattle.fc_base.specs.declared.outcome.NoMemory.{NoMemory}
 use Rattle.fc_base.specs.declared.size.GrainSize.{GrainSize}
 use Rattle.fc_base.specs.declared.volume.Change.{Change}
 use Rattle.fc_books.specs.Sound.{AreSound}
 use Rattle.fc_changed.specs.Row.{Row}
 use Rattle.fc_check_lane.specs.After.{after_entry}
-use Rattle.fc_check_lane.specs.Known.{Known, known_of, size_of}
+use Rattle.fc_check_lane.specs.Known.{Known, known_of}
 use Rattle.fc_check_lane.specs.Next.{IsNext}
 use Rattle.fc_check_record.specs.Judged.{AreOne, most_calls, whole_of}
 use Rattle.fc_check_record.proofs.Firsts.{control_first, known_first}
 use Rattle.fc_desk.specs.Control.{ControlState}
-use Rattle.fc_entry.specs.Picture.{Picture}
 use Rattle.fc_entry.specs.declared.entry.Entry.{Entry}
-use Rattle.fc_legal.specs.Whole.{Whole, volumes_told}
+use Rattle.fc_legal.specs.Whole.{Whole}
 
 -- what entries of lanes are judged by is kept of what is told
 pub known_is : (c : ControlState) (k : Known) (rows : List Row) (pools : List Pool) (calls : List ℕ) → AreOne c k calls → k ≡ known_of k.grain (whole_of c k rows pools calls)
@@ -108,21 +106,3 @@ one_after c k known calls counted i entry small e f one =
       flags = one.flags;
       few = calls_after k.entries calls i entry.calls small one.few;
     })
-
--- as a control part has it
-abbrev pub known_by : ControlState → Sheet → Picture → List ℕ → ℕ → Known
-known_by c s picture faults n =
-    record {
-      grain = c.grain;
-      volumes = volumes_told c.tables;
-      sizes = map size_of c.tables.volumes;
-      flags = c.flags;
-      sheet = s;
-      picture = picture;
-      faults = faults;
-      entries = n;
-    }
-
-pub one_by : (c : ControlState) (known : Known) (calls : List ℕ) (s : Sheet) (picture : Picture) (faults : List ℕ) (n : ℕ) → known ≡ known_by c s picture faults n → All (λ x. x ≤ n * most_calls) calls → AreOne c known calls
-one_by c known calls s picture faults n e few =
-    along c c (known_by c s picture faults n) known calls calls refl (sym e) refl (record { grain = refl; volumes = refl; sizes = refl; flags = refl; few = few })

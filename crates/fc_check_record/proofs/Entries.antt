@@ -1,11 +1,13 @@
 -- An entry that may come next is of one lane, and what is told after it.
-use Rattle.std.proofs.Common.{◌≡◌, ◌↔◌, ℕ, [], sym, ◌∙◌}
-use Rattle.fc_base.specs.declared.request.Place.{Place}
+use Rattle.std.proofs.Common.{◌≡◌, ℕ, [], Result, IfOk, sym, ap, ◌∙◌}
+use Rattle.std.proofs.lemmas.Result.{IfOk-weaker}
+use Rattle.fc_base.specs.declared.outcome.NoMemory.{NoMemory}
 use Rattle.fc_base.specs.declared.request.Place.TheVariants.{Lane}
 use Rattle.fc_base.specs.declared.request.Request.{Request}
 use Rattle.fc_base.specs.declared.request.Request.TheVariants.{Command, Unread, Read, Write, Copy, Clean, CopyTurn, CleanTurn}
 use Rattle.fc_base.specs.declared.size.GrainSize.{GrainSize}
 use Rattle.fc_check_lane.specs.Next.{IsNext, IsOfLanes}
+use Rattle.fc_check_record.specs.Judged.{Judged}
 use Rattle.fc_entry.specs.declared.entry.Entry.{Entry}
 use Rattle.fc_legal.specs.Steps.{LaneStep, RequestStep, Step, after_access}
 use Rattle.fc_legal.specs.Whole.{Whole}
@@ -41,8 +43,16 @@ pub no_effects : (grain : GrainSize) (w : Whole) (entry : Entry) → IsNext grai
 no_effects grain w entry next = (of_one grain w entry next.next next.of_lanes next.step).no_effects
 
 -- and after it this is told
-pub told_after : (grain : GrainSize) (w : Whole) (entry : Entry) (i : ℕ) → IsNext grain w entry → entry.place ≡ Lane i → (next : Whole) → Step grain w entry next → next ≡ after_access grain w i entry
+told_after : (grain : GrainSize) (w : Whole) (entry : Entry) (i : ℕ) → IsNext grain w entry → entry.place ≡ Lane i → (next : Whole) → Step grain w entry next → after_access grain w i entry ≡ next
 told_after grain w entry i is place next step =
     let one = of_one grain w entry next is.of_lanes step in
-    let same : one.lane ≡ i = cc in
-    one.next_is ∙ (λ k. after_access grain w (same k) entry)
+    let same : i ≡ one.lane = cc in
+    ap (λ (lane : ℕ). after_access grain w lane entry) same ∙ sym one.next_is
+
+pub told_by : (before : Judged) (entry : Entry) (i : ℕ) (answer : Result Judged NoMemory) → IsNext before.grain before.whole entry → entry.place ≡ Lane i →
+    IfOk answer (λ (after : Judged). after ≡ record before { whole = after_access before.grain before.whole i entry }) →
+    IfOk answer (λ (after : Judged). (next : Whole) → Step before.grain before.whole entry next → after ≡ record { grain = before.grain; whole = next })
+told_by before entry i answer is place found =
+    IfOk-weaker answer (λ (after : Judged). after ≡ record before { whole = after_access before.grain before.whole i entry })
+    (λ (after : Judged). (next : Whole) → Step before.grain before.whole entry next → after ≡ record { grain = before.grain; whole = next })
+    (λ after e next step. e ∙ ap (λ (w : Whole). record before { whole = w }) (told_after before.grain before.whole entry i is place next step)) found

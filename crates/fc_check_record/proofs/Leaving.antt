@@ -1,5 +1,5 @@
 -- What a decision leaves, part by part.
-use Rattle.std.proofs.Common.{◌≡◌, ℕ, All, Bool, List, [], ◌∷◌, fold, refl, sym, ap, ◌∙◌}
+use Rattle.std.proofs.Common.{◌≡◌, ℕ, All, Bool, List, [], ◌∷◌, fold, refl, subst, sym, ap, ◌∙◌}
 use Rattle.std.proofs.lemmas.List.Elements.{All-head, All-tail}
 use Rattle.fc_base.specs.Pools.{Pool}
 use Rattle.fc_base.specs.Sheet.{Sheet}
@@ -7,20 +7,17 @@ use Rattle.fc_base.specs.SheetView.{SheetView}
 use Rattle.fc_base.specs.declared.decision.Decision.{Decision}
 use Rattle.fc_base.specs.declared.decision.LaneEvent.{LaneEvent}
 use Rattle.fc_base.specs.declared.decision.LaneEvent.TheVariants.{Trigger}
-use Rattle.fc_base.specs.declared.size.GrainSize.{GrainSize}
-use Rattle.fc_books.specs.After.{after_table_change, flags_after, pools_after, sheet_after}
-use Rattle.fc_books.specs.Books.{Books}
+use Rattle.fc_books.specs.After.{pools_after, sheet_after}
 use Rattle.fc_books.specs.Deciding.{after_decision}
 use Rattle.fc_changed.specs.Row.{Row}
 use Rattle.fc_check_lane.specs.Known.{Known}
 use Rattle.fc_check_record.specs.Chains.{chains_after, chains_event}
 use Rattle.fc_check_record.proofs.Telling.{judged}
 use Rattle.fc_check_record.specs.Judged.{AreOne, Judged, whole_of}
+use Rattle.fc_check_record.specs.Leaving.{AreBooksLeft, chains_left, known_left}
 use Rattle.fc_check_record.specs.declared.chains.Chains.{Chains}
 use Rattle.fc_decided.proofs.Frame.{all_leave}
-use Rattle.fc_desk.specs.Control.{ControlState, books_of}
-use Rattle.fc_entry.specs.Picture.{Picture}
-use Rattle.fc_entry.specs.PlainStep.{after_effects}
+use Rattle.fc_desk.specs.Control.{ControlState}
 use Rattle.fc_follow.specs.Following.{IsNoTrigger, TriggersFirst, restarts}
 use Rattle.fc_legal.specs.Steps.{left_by, rows_after}
 
@@ -48,17 +45,18 @@ rows_left c (event ∷ events) = rows_left (chains_event c event) events
 
 -- ---- all
 
--- What a control part, chains, disks left and plain volumes are after a decision.
+-- What a control part, what entries of lanes are judged by, what is kept of incremental mappings and disks left
+-- are after a decision.
 pub record AreLeft (c after : ControlState) (k known : Known) (rows noted : List Row) (pools left : List Pool) (d : Decision) : Type 0 where
-  pub books : (view : SheetView) → books_of after view ≡ record (fold after_table_change (books_of c view) d.changes) { flags = fold flags_after c.flags d.events }
-  pub chains : Chains
-  pub chains_are : chains ≡ chains_after (record { sheet = k.sheet; rows = rows }) d.events
-  pub sheet : known.sheet ≡ chains.sheet
-  pub rows_are : noted ≡ chains.rows
-  pub picture : known.picture ≡ after_effects k.grain k.picture d.effects
-  pub pools : left ≡ fold pools_after pools d.events
-  pub faults : known.faults ≡ k.faults
-  pub entries : known.entries ≡ k.entries
+  pub books : AreBooksLeft c after d
+  pub grain : after.grain ≡ c.grain
+  pub known_is : known ≡ known_left after k rows d
+  pub rows_are : noted ≡ (chains_left k rows d).rows
+  pub pools_are : left ≡ fold pools_after pools d.events
+
+pub one_left : (c after : ControlState) (k known : Known) (rows noted : List Row) (pools left : List Pool) (calls : List ℕ) (d : Decision) → AreOne c k calls → AreLeft c after k known rows noted pools left d → AreOne after known calls
+one_left c after k known rows noted pools left calls d one l =
+    subst (λ (z : Known). AreOne after z calls) (sym l.known_is) (record { grain = one.grain ∙ sym l.grain; volumes = refl; sizes = refl; flags = refl; few = one.few })
 
 abbrev view_of : Known → List Pool → SheetView
 view_of k pools = record { sheet = k.sheet; restarts = λ m. []; pools = pools }
@@ -68,7 +66,7 @@ books_left : (c after : ControlState) (k known : Known) (rows noted : List Row) 
     (whole_of after known noted left calls).books ≡ after_decision (restarts rows) (whole_of c k rows pools calls).books d
 books_left c after k known rows noted pools left calls d first l =
     let sheet : known.sheet ≡ fold (sheet_after (restarts rows)) k.sheet d.events =
-    l.sheet ∙ (ap (λ (x : Chains). x.sheet) l.chains_are ∙ sheet_left (record { sheet = k.sheet; rows = rows }) d.events first) in
+    ap (λ (z : Known). z.sheet) l.known_is ∙ sheet_left (record { sheet = k.sheet; rows = rows }) d.events first in
     let applied = l.books (view_of k pools) in
     (λ i. record {
       tables = (applied i).tables;
@@ -77,7 +75,7 @@ books_left c after k known rows noted pools left calls d first l =
       next_group = (applied i).next_group;
       sheet = sheet i;
       flags = (applied i).flags;
-      pools = l.pools i;
+      pools = l.pools_are i;
     })
     ∙ sym (all_leave (restarts rows) (whole_of c k rows pools calls).books d.events d.changes)
 
@@ -85,22 +83,19 @@ whole_left : (c after : ControlState) (k known : Known) (rows noted : List Row) 
     whole_of after known noted left calls ≡ left_by k.grain (whole_of c k rows pools calls) d
 whole_left c after k known rows noted pools left calls d first l =
     let books = books_left c after k known rows noted pools left calls d first l in
-    let rows_are : noted ≡ rows_after k.sheet rows d.events =
-    l.rows_are ∙ (ap (λ (x : Chains). x.rows) l.chains_are ∙ rows_left (record { sheet = k.sheet; rows = rows }) d.events) in
+    let rows_are : noted ≡ rows_after k.sheet rows d.events = l.rows_are ∙ rows_left (record { sheet = k.sheet; rows = rows }) d.events in
     λ i. record {
       actors = [];
       books = books i;
-      picture = l.picture i;
+      picture = (l.known_is i).picture;
       rows = rows_are i;
-      faults = l.faults i;
+      faults = (l.known_is i).faults;
       calls = calls;
-      entries = l.entries i;
+      entries = (l.known_is i).entries;
     }
 
-pub left_told : (c after : ControlState) (k known : Known) (rows noted : List Row) (pools left : List Pool) (calls : List ℕ) (before : Judged) (d : Decision) → judged c k rows pools calls ≡ before → AreOne c k calls →
-    TriggersFirst d.events → after.grain ≡ c.grain → known.grain ≡ after.grain → AreLeft c after k known rows noted pools left d →
-    judged after known noted left calls ≡ record before { whole = left_by before.grain before.whole d }
-left_told c after k known rows noted pools left calls before d is one first e f l =
-    let grain : known.grain ≡ k.grain = f ∙ (e ∙ sym one.grain) in
+pub left_told : (c after : ControlState) (k known : Known) (rows noted : List Row) (pools left : List Pool) (calls : List ℕ) (before : Judged) (d : Decision) → judged c k rows pools calls ≡ before → TriggersFirst d.events →
+    AreLeft c after k known rows noted pools left d → judged after known noted left calls ≡ record before { whole = left_by before.grain before.whole d }
+left_told c after k known rows noted pools left calls before d is first l =
     let whole = whole_left c after k known rows noted pools left calls d first l in
-    (λ i. record { grain = grain i; whole = whole i }) ∙ ap (λ (b : Judged). record b { whole = left_by b.grain b.whole d }) is
+    (λ i. record { grain = (l.known_is i).grain; whole = whole i }) ∙ ap (λ (b : Judged). record b { whole = left_by b.grain b.whole d }) is

@@ -1,5 +1,5 @@
 -- What a record is after it was opened or copied, and after entries.
-use Rattle.std.proofs.Common.{◌≡◌, ℕ, ◌+◌, List, [], Option, length, replicate, slice_index_or, slice_set, refl, sym, ap, ◌∙◌}
+use Rattle.std.proofs.Common.{◌≡◌, ℕ, ◌+◌, List, [], Option, length, replicate, slice_index_or, slice_set, sym, ap, ◌∙◌}
 use Rattle.std.proofs.lemmas.List.{length-map}
 use Rattle.fc_base.specs.Pools.{Pool}
 use Rattle.fc_base.specs.declared.size.GrainSize.{GrainSize}

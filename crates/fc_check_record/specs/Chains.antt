@@ -1,12 +1,12 @@
 -- Chains, and what is kept of incremental mappings, event by event.
 use Rattle.std.specs.Prelude.{fold, List}
-use Rattle.fc_base.specs.Pools.{Pool}
 use Rattle.fc_base.specs.declared.decision.LaneEvent.{LaneEvent}
 use Rattle.fc_books.specs.After.{sheet_after}
 use Rattle.fc_follow.specs.Following.{restarts, rows_event}
 use Rattle.fc_check_record.specs.declared.chains.Chains.{Chains}
 
--- An event notes what it does to the chains as they are before it; the new slots of a trigger hold the restart sets before it.
+-- An event notes what it does to the chains as they are before it; the new slots of a trigger hold the restart
+-- sets before it.
 abbrev pub chains_event : Chains → LaneEvent → Chains
 chains_event c event =
     record {

@@ -12,8 +12,9 @@ pub record Judged : Type 0 where
   pub grain : GrainSize
   pub whole : Whole
 
--- What is told, by the tables, next ids and background work of a control part, by what is kept for entries of lanes, by the
--- changed grains of incremental mappings, by the disks left for new volumes, and by the calls of each lane.
+-- What is told, by the tables, next ids and background work of a control part, by what is kept for entries of
+-- lanes, by the changed grains of incremental mappings, by the disks left for new volumes, and by the calls of
+-- each lane.
 abbrev pub whole_of : ControlState → Known → List Row → List Pool → List ℕ → Whole
 whole_of c k rows pools calls =
     record {
@@ -38,8 +39,8 @@ whole_of c k rows pools calls =
 abbrev pub most_calls : ℕ
 most_calls = 2 ^ 32
 
--- What is kept twice agrees: the grain size, the volumes with how hosts may reach them, how large they are, and background work.
--- And no lane has more calls than so many entries make.
+-- What is kept twice agrees: the grain size, the volumes with how hosts may reach them, how large they are, and
+-- background work. And no lane has more calls than so many entries make.
 pub record AreOne (c : ControlState) (k : Known) (calls : List ℕ) : Type 0 where
   pub grain : k.grain ≡ c.grain
   pub volumes : k.volumes ≡ volumes_told c.tables

@@ -26,8 +26,8 @@ fn blocks_refusal(size: GrainSize, volume: &Volume, block: u32, count: u32) -> O
 }
 
 impl Record {
-    /// Why an access is refused: no volume is meant, or its blocks can't be reached. None exactly where it isn't refused, and goes to
-    /// the lanes.
+    /// Why an access is refused: no volume is meant, or its blocks can't be reached. None exactly where it
+    /// isn't refused, and goes to the lanes.
     pub fn refused_access(&self, volume: &Ref, block: u32, count: u32) -> Option<Refusal>
         ensures { result ≡ access_refused self.now.grain self.now.whole.books volume.now block count }
     {

@@ -13,6 +13,7 @@ use fc_base::request::Pair;
 use fc_check_rows::Rows;
 use fc_model::PlainSheet;
 use std::alloc::Global;
+use std::mem;
 
 /// Chains, and the changed grains of incremental mappings.
 #[derive(Drop)]
@@ -42,12 +43,7 @@ impl Chains {
     }
 
     /// A trigger, whose new slots hold the restart sets that were kept before it.
-    fn trigger(
-        &mut self,
-        alloc: Global,
-        event: &LaneEvent,
-        pairs: &[Pair],
-    ) -> Result<(), NoMemory>
+    fn trigger(&mut self, alloc: Global, event: &LaneEvent, pairs: &[Pair]) -> Result<(), NoMemory>
         requires { event.now ≡ Trigger pairs.now }
         ensures { OnOk result (self.new ≡ chains_event self.old event.now) }
     {
@@ -67,7 +63,8 @@ impl Chains {
         }
     }
 
-    /// Events, in order. Refused for want of memory alone, or where births come to 2^64; then a part of them may be done.
+    /// Events, in order. Refused for want of memory alone, or where births come to 2^64; then a part of them
+    /// may be done.
     pub fn events(&mut self, alloc: Global, events: &[LaneEvent]) -> Result<(), NoMemory>
         ensures { OnOk result (self.new ≡ chains_after self.old events.now) }
     {
@@ -76,4 +73,25 @@ impl Chains {
         }
         Ok(())
     }
+}
+
+/// Does events to chains and to what is kept of incremental mappings, in order. Refused for want of memory
+/// alone, or where births come to 2^64; then they stand for nothing any more.
+pub(crate) fn follow_events(
+    alloc: Global,
+    sheet: &mut PlainSheet,
+    rows: &mut Rows,
+    events: &[LaneEvent],
+) -> Result<(), NoMemory>
+    ensures sheet { OnOk result (sheet.new ≡ (chains_after record { sheet = sheet.old; rows = rows.old } events.now).sheet) }
+    ensures rows { OnOk result (rows.new ≡ (chains_after record { sheet = sheet.old; rows = rows.old } events.now).rows) }
+{
+    let mut chains = Chains {
+        sheet: mem::replace(sheet, PlainSheet::new(alloc)),
+        rows: mem::replace(rows, Rows::new(alloc)),
+    };
+    chains.events(alloc, events)?;
+    *sheet = chains.sheet;
+    *rows = chains.rows;
+    Ok(())
 }

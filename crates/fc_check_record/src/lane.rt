@@ -17,7 +17,8 @@ use fc_check_rows::Rows;
 use fc_entry::entry::Entry;
 use std::alloc::Global;
 
-/// Notes an entry in the changed grains of incremental mappings: its write where that was done, and what it tore.
+/// Notes an entry in the changed grains of incremental mappings: its write where that was done, and what it
+/// tore.
 fn follow_rows(rows: &mut Rows, size: GrainSize, entry: &Entry)
     ensures { rows.new ≡ rows_entry (single_lane size) rows.old entry.now }
 {
@@ -25,7 +26,8 @@ fn follow_rows(rows: &mut Rows, size: GrainSize, entry: &Entry)
     rows.follow_torn(entry.torn);
 }
 
-/// Counts the calls of an entry of a lane, among those of as many entries as there were; there may be no such lane.
+/// Counts the calls of an entry of a lane, among those of as many entries as there were; there may be no such
+/// lane.
 fn count_calls(calls: &mut [u64], lane: usize, more: u32)
     requires { (i : ℕ) → slice_index_or calls.old i 0 < 2 ^ 63 }
     ensures { calls.new ≡ slice_set calls.old lane (slice_index_or calls.old lane 0 + more) }
@@ -36,8 +38,9 @@ fn count_calls(calls: &mut [u64], lane: usize, more: u32)
 }
 
 impl Record {
-    /// Whether an entry of a lane may come next: it is a right step. The answer is no for every command and every faulty line.
-    /// Refused for want of memory alone, or where a grain that background work looks at has a number of 2^32 or more.
+    /// Whether an entry of a lane may come next: it is a right step. The answer is no for every command and
+    /// every faulty line. Refused for want of memory alone, or where a grain that background work looks at has
+    /// a number of 2^32 or more.
     pub fn is_next(&self, alloc: Global, entry: &Entry) -> Result<bool, NoMemory>
         requires { AreSound self.now.whole.books }
         ensures { IfOk result (λ yes. IsTrue yes ↔ IsNext self.now.grain self.now.whole entry.now) }
@@ -46,12 +49,7 @@ impl Record {
     }
 
     /// What is told after an entry of this lane, which has no effects.
-    fn after_entry_of(
-        self,
-        alloc: Global,
-        lane: usize,
-        entry: &Entry,
-    ) -> Result<Record, NoMemory>
+    fn after_entry_of(self, alloc: Global, lane: usize, entry: &Entry) -> Result<Record, NoMemory>
         requires no_effects { entry.now.effects ≡ [] }
         requires few { self.whole.entries < 262144 }
         ensures { IfOk result (λ after. after ≡ record self { whole = after_access self.grain self.whole lane entry.now }) }
@@ -75,8 +73,8 @@ impl Record {
         })
     }
 
-    /// What is told after an entry of a lane that may come next: what it moved, wrote and tore, its faults and calls. Refused for
-    /// want of memory alone.
+    /// What is told after an entry of a lane that may come next: what it moved, wrote and tore, its faults and
+    /// calls. Refused for want of memory alone.
     pub fn after_lane(self, alloc: Global, entry: &Entry) -> Result<Record, NoMemory>
         requires next { IsNext self.grain self.whole entry.now }
         requires few { self.whole.entries < 262144 }

@@ -1,17 +1,18 @@
 //! One way that all may have been told after the entries so far, as a judge of printed histories keeps it.
 //!
-//! A `Record` is seen as `Judged`: the grain size and the `Whole` of `fc_legal`, `specs/Whole`, with no names. It has the tables,
-//! next ids and flags of a `Control` of `fc_desk`; what `Known` of `fc_check_lane` keeps for entries of lanes; `Rows` of
-//! `fc_check_rows`; and for each lane the disks left and the calls made. There is no chain, bitmap, lane or store of what makes
-//! entries.
+//! A `Record` is seen as `Judged`: the grain size and the `Whole` of `fc_legal`, `specs/Whole`, with no names.
+//! It has the tables, next ids and flags of a `Control` of `fc_desk`; what `Known` of `fc_check_lane` keeps for
+//! entries of lanes; `Rows` of `fc_check_rows`; and for each lane the disks left and the calls made. There is
+//! no chain, bitmap, lane or store of what makes entries.
 //!
-//! `is_next` answers whether an entry of a lane may come next, and `after_lane` is what is told after it. `settle` and `decide` are
-//! what the books decide, `leave` is what a decision leaves. `refused_access` is why a line `read` or `write` is refused. All are
-//! exact; want of memory alone is free. A call that changes the record takes it and gives it back, so that one that was refused
-//! memory is gone.
+//! `is_next` answers whether an entry of a lane may come next, and `after_lane` is what is told after it.
+//! `settle` and `decide` are what the books decide, `leave` is what a decision leaves. `refused_access` is why
+//! a line `read` or `write` is refused. All are exact; want of memory alone is free. A call that changes the
+//! record takes it and gives it back, so that one that was refused memory is gone.
 //!
-//! To read: `record` (the record, the first one, and copies of it), `lane` (entries of lanes), `access` (refused accesses), `decide`
-//! (decisions), `chains`, `pools` and `tables` (what a decision does to each part), and `leave`, which does it.
+//! To read: `record` (the record, the first one, and copies of it), `lane` (entries of lanes), `access`
+//! (refused accesses), `decide` (decisions), `chains`, `pools` and `tables` (what a decision does to each
+//! part), and `leave`, which does it.
 #![tactic(auto)]
 
 mod access;

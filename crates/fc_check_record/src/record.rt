@@ -61,7 +61,8 @@ fn no_calls(alloc: Global, lanes: usize) -> Result<Vec<u64>, NoMemory>
 }
 
 impl Record {
-    /// What is told before the first entry, over these disks for new volumes, lane by lane. Refused for want of memory alone.
+    /// What is told before the first entry, over these disks for new volumes, lane by lane. Refused for want of
+    /// memory alone.
     pub fn open(alloc: Global, grain: GrainSize, lanes: &[LanePool]) -> Result<Record, NoMemory>
         requires { 0 < length lanes.now }
         ensures { IfOk result (λ opened_record. opened_record ≡ record { grain = grain; whole = record (opened (pools_of lanes.now)) { actors = [] } }) }

@@ -1,23 +1,22 @@
 //! What entries of lanes are judged by, found from the tables.
 
-ghost use Rattle.std.specs.Prelude.{◌≡◌, ◌<◌, [], ◌∷◌, ◌++◌, IfOk, OnOk, length, map};
+ghost use Rattle.std.specs.Prelude.{◌≡◌, [], ◌∷◌, ◌++◌, IfOk, OnOk, map};
 ghost use Rattle.fc_check_lane.specs.Known.{size_of};
 ghost use Rattle.fc_legal.specs.Whole.{volume_told, volumes_told};
+ghost use Rattle.fc_check_record.specs.Leaving.{renewed};
 
 use crate::record::copy_items;
 use fc_base::outcome::NoMemory;
 use fc_base::volume::Volume;
 use fc_check_lane::{Known, VolumeSize};
-use fc_check_picture::Picture;
 use fc_check_steps::LaneVolume;
 use fc_desk::Control;
 use fc_group::access_in;
-use fc_model::PlainSheet;
 use fc_registry::Registry;
 use std::alloc::Global;
 
 /// A volume, and how hosts may reach it.
-fn tell_volume(tables: &Registry, volume: &Volume) -> LaneVolume
+fn lane_volume(tables: &Registry, volume: &Volume) -> LaneVolume
     ensures { result ≡ volume_told tables.now.tables volume.now }
 {
     LaneVolume {
@@ -38,14 +37,14 @@ fn push_volume(volumes: &mut Vec<LaneVolume>, volume: LaneVolume) -> Result<(), 
 }
 
 /// All volumes, and how hosts may reach them.
-fn tell_volumes(alloc: Global, tables: &Registry) -> Result<Vec<LaneVolume>, NoMemory>
-    ensures { IfOk result (λ told. told.items ≡ volumes_told tables.now.tables) }
+fn lane_volumes(alloc: Global, tables: &Registry) -> Result<Vec<LaneVolume>, NoMemory>
+    ensures { IfOk result (λ volumes. volumes.items ≡ volumes_told tables.now.tables) }
 {
-    let mut told = Vec::new(alloc);
+    let mut volumes = Vec::new(alloc);
     for volume in tables.all_volumes() {
-        push_volume(&mut told, tell_volume(tables, volume))?;
+        push_volume(&mut volumes, lane_volume(tables, volume))?;
     }
-    Ok(told)
+    Ok(volumes)
 }
 
 /// How large a volume is.
@@ -69,7 +68,7 @@ fn push_size(sizes: &mut Vec<VolumeSize>, size: VolumeSize) -> Result<(), NoMemo
 }
 
 /// How large volumes are.
-fn tell_sizes(alloc: Global, volumes: &[Volume]) -> Result<Vec<VolumeSize>, NoMemory>
+fn volume_sizes(alloc: Global, volumes: &[Volume]) -> Result<Vec<VolumeSize>, NoMemory>
     ensures { IfOk result (λ sizes. sizes.items ≡ map size_of volumes.now) }
 {
     let mut sizes = Vec::new(alloc);
@@ -79,27 +78,14 @@ fn tell_sizes(alloc: Global, volumes: &[Volume]) -> Result<Vec<VolumeSize>, NoMe
     Ok(sizes)
 }
 
-/// What entries of lanes are judged by, with the volumes, sizes and background work of a control part.
-pub(crate) fn known_by(
-    alloc: Global,
-    control: &Control,
-    sheet: PlainSheet,
-    picture: Picture,
-    faults: Vec<u64>,
-    entries: u64,
-) -> Result<Known, NoMemory>
-    requires { 0 < length faults.items }
-    ensures { IfOk result (λ known. known ≡ record { grain = control.now.grain; volumes = volumes_told control.now.tables; sizes = map size_of control.now.tables.volumes; flags = control.now.flags; sheet = sheet; picture = picture; faults = faults.items; entries = entries }) }
+/// The volumes, their sizes and background work that entries of lanes are judged by become those of a control
+/// part. Refused for want of memory alone; then a part of it may be done.
+pub(crate) fn renew(alloc: Global, control: &Control, known: &mut Known) -> Result<(), NoMemory>
+    ensures { OnOk result (known.new ≡ renewed control.now known.old) }
 {
     let tables = control.registry();
-    Ok(Known {
-        grain: control.grain(),
-        volumes: tell_volumes(alloc, tables)?,
-        sizes: tell_sizes(alloc, tables.all_volumes())?,
-        flags: copy_items(alloc, control.flags())?,
-        sheet,
-        picture,
-        faults,
-        entries,
-    })
+    known.volumes = lane_volumes(alloc, tables)?;
+    known.sizes = volume_sizes(alloc, tables.all_volumes())?;
+    known.flags = copy_items(alloc, control.flags())?;
+    Ok(())
 }

@@ -1,6 +1,6 @@
 use Rattle.std.proofs.Common.{◌≡◌, map, take}
 use Rattle.fc_check_lane.specs.Known.{size_of}
-use Rattle.fc_check_record.proofs.tables.tell_sizes.Given as goal
+use Rattle.fc_check_record.proofs.tables.volume_sizes.Given as goal
 
 -- the volumes so far
 abbrev pub invariant-loop-volume : goal.invariant-loop-volume
