@@ -81,31 +81,30 @@ all_owners slots places mappings i maps listed le s = record { rising = s.rising
 
 -- ---- who reads from a mapping's slot, and who depends on it
 
+-- the mappings that own what is listed, by another name of what they do
+owners_are : (slots : List Slot) (places : List ℕ) (Does : ℕ → Type 0) (maps : List MapId) → ((n : ℕ) → IsOwner slots places n → Does n) → ((n : ℕ) → Does n → IsOwner slots places n) → AreMappings (IsOwner slots places) maps →
+    AreMappings Does maps
+owners_are slots places Does maps to from a = record { rising = a.rising; only = λ n c. to n.0 (a.only n c); all = λ n d. a.all n (from n.0 d) }
+
+-- a mapping has one place
+same_place : (slots : List Slot) (m p q : ℕ) → mapping_place slots m ≡ Some p → mapping_place slots m ≡ Some q → p ≡ q
+same_place slots m p q one other = let same : Some p ≡ Some q = sym one ∙ other in cc
+
 pub readers_are : (slots : List Slot) (m from : ℕ) (places : List ℕ) (maps : List MapId) → mapping_place slots m ≡ Some from → ((d : ℕ) → Contains places d ↔ ReadsAt slots from from d) → AreMappings (IsOwner slots places) maps →
     AreMappings (ReadsMapping slots m) maps
-readers_are slots m from places maps there each a = record {
-  rising = a.rising;
-  only = λ n c. (let o = a.only n c in record { from = from; reader = o.place; from_there = there; reader_there = o.there; reads = (each o.place).0 o.listed });
-  all = λ n r. a.all n (owner n.0 r);
-}
+readers_are slots m from places maps there each =
+    owners_are slots places (ReadsMapping slots m) maps
+    (λ n o. record { from = from; reader = o.place; from_there = there; reader_there = o.there; reads = (each o.place).0 o.listed })
+    (λ n r. record { place = r.reader; listed = (each r.reader).1 (at_from r.from r.reader r.from_there r.reads); there = r.reader_there })
   where
-    owner : (n : ℕ) → ReadsMapping slots m n → IsOwner slots places n
-    owner n r =
-        let same : Some r.from ≡ Some from = sym r.from_there ∙ there in
-        let q : r.from ≡ from = cc in
-        let P : ℕ → Type 0 = λ z. ReadsAt slots z z r.reader in
-        record { place = r.reader; listed = (each r.reader).1 (subst P q r.reads); there = r.reader_there }
+    at_from : (p d : ℕ) → mapping_place slots m ≡ Some p → ReadsAt slots p p d → ReadsAt slots from from d
+    at_from p d e = subst (λ z. ReadsAt slots z z d) (same_place slots m p from e there)
 
 pub dependents_are : (slots : List Slot) (m on : ℕ) (places : List ℕ) (maps : List MapId) → mapping_place slots m ≡ Some on → HasDependents slots on places → AreMappings (IsOwner slots places) maps → AreMappings (DependsOn slots m) maps
-dependents_are slots m on places maps there has a = record {
-  rising = a.rising;
-  only = λ n c. (let o = a.only n c in record { on = on; dependent = o.place; on_there = there; dependent_there = o.there; depends = has.only o.place o.listed });
-  all = λ n d. a.all n (owner n.0 d);
-}
+dependents_are slots m on places maps there has =
+    owners_are slots places (DependsOn slots m) maps
+    (λ n o. record { on = on; dependent = o.place; on_there = there; dependent_there = o.there; depends = has.only o.place o.listed })
+    (λ n d. record { place = d.dependent; listed = has.all d.dependent (at_on d.on d.dependent d.on_there d.depends); there = d.dependent_there })
   where
-    owner : (n : ℕ) → DependsOn slots m n → IsOwner slots places n
-    owner n d =
-        let same : Some d.on ≡ Some on = sym d.on_there ∙ there in
-        let q : d.on ≡ on = cc in
-        let P : ℕ → Type 0 = λ z. IsDependent slots z d.dependent in
-        record { place = d.dependent; listed = has.all d.dependent (subst P q d.depends); there = d.dependent_there }
+    at_on : (p d : ℕ) → mapping_place slots m ≡ Some p → IsDependent slots p d → IsDependent slots on d
+    at_on p d e = subst (λ z. IsDependent slots z d) (same_place slots m p on e there)

@@ -8,7 +8,8 @@ use Rattle.fc_base.specs.Ranges.{StandsBehind, is_kept}
 use Rattle.fc_base.specs.declared.ranges.Range.{Range}
 use Rattle.fc_check_sheet.specs.Runs.{IsNextMarked, IsRunEnd}
 
--- The ranges have the marked grains before one, and a range that begins with a marked grain from there on stands behind them.
+-- The ranges have the marked grains before one, and a range that begins with a marked grain from there on
+-- stands behind them.
 pub record HaveRanges (marks : List Bool) (from : ℕ) (ranges : List Range) : Type 0 where
   pub kept : (g : ℕ) → is_kept ranges g ≡ (ltb g from && get_or marks g false)
   pub behind : (r : Range) → from ≤ r.first → get_or marks r.first false ≡ true → r.first ≤ r.last → StandsBehind ranges r

@@ -25,7 +25,8 @@ pool_of lane = record { flat = lane.flat; thin = lane.thin }
 abbrev pub pools_of : List LanePool → List Pool
 pools_of lanes = map pool_of lanes
 
--- The chains at all grains, the changed grains of incremental mappings, and the disks that each lane has for new volumes.
+-- The chains at all grains, the changed grains of incremental mappings, and the disks that each lane has for
+-- new volumes.
 pub record Plain : Type 0 where
   pub sheet : Sheet
   pub rows : List Row

@@ -48,8 +48,8 @@ fn push(distances: &mut Vec<Distance>, distance: Distance) -> Result<(), NoMemor
     }
 }
 
-/// Notes the volume from which a link leads to one that is so far away, where it has no distance yet. Whether it
-/// did.
+/// Notes the volume from which a link leads to one that is so far away, where it has no distance yet. Whether
+/// it did.
 fn note_link(
     distances: &mut Vec<Distance>,
     link: Link,

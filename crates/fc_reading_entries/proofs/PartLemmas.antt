@@ -32,7 +32,6 @@ use Rattle.fc_reading_notes.proofs.Effects.{Exact-image, Image}
 use Rattle.fc_reading_notes.proofs.NoteLemmas.{Exact-notes, lines_text}
 use Rattle.fc_reading_notes.proofs.Told.{Exact-head, some_head}
 use Rattle.fc_reading_notes.proofs.Whiles.{first_joins}
-use Rattle.fc_reading_replies.proofs.Cases.{Exact-alike}
 use Rattle.fc_reading_replies.proofs.RowLemmas.{Exact-rows, row_starts, some_rows}
 use Rattle.fc_reading_requests.proofs.AllAsked.{Exact-asked}
 use Rattle.fc_reading_requests.proofs.Exactness.{Exact-ended as Exact-with_word}

@@ -34,8 +34,8 @@ use Rattle.fc_reading_entries.specs.declared.parts.Parts.{Parts}
 abbrev pub lane_of : ℕ → Place
 lane_of grain = place.Lane (grain % 4)
 
--- that of its grain's lane, or of the worker's; all turns for a command; that of the control part for a refused access and for a
--- line that couldn't be read
+-- that of its grain's lane, or of the worker's; all turns for a command; that of the control part for a refused
+-- access and for a line that couldn't be read
 abbrev pub place_of : GrainSize → Request → Place
 place_of size (request.Command (ReadLine volume block count)) = place.Control
 place_of size (request.Command (WriteLine volume block count byte)) = place.Control
@@ -84,7 +84,8 @@ pub record IsEntry (size : GrainSize) (number : ℕ) (entry : Entry) : Type 0 wh
 abbrev pub IsEntryText : GrainSize → ℕ → List ℕ → Type 0
 IsEntryText size number bytes = (name : List ℕ) × (entry : Entry) × IsName name × IsEntry size number entry × (bytes ≡ traced_by name entry)
 
--- the first bytes, so many, were read as the next entry of a history: an actor that had no number yet has the next one
+-- the first bytes, so many, were read as the next entry of a history: an actor that had no number yet has the
+-- next one
 pub record ReadNext (size : GrainSize) (old : HistoryState) (bytes : List ℕ) (count : ℕ) (new : HistoryState) : Type 0 where
   pub name : List ℕ
   pub entry : Entry

@@ -1,5 +1,5 @@
--- What was asked and what was answered, as the line of an entry tells it behind the actor's name. The reply says which request it
--- was, so what was asked says which replies may come.
+-- What was asked and what was answered, as the line of an entry tells it behind the actor's name. The reply
+-- says which request it was, so what was asked says which replies may come.
 use Rattle.std.specs.Prelude.{◌≡◌, ℕ, Bool, true, false, nat_le, unwrap_or, List, Result}
 use Rattle.fc_base.specs.declared.fault.Refusal.TheVariants.{Words}
 use Rattle.fc_base.specs.declared.fault.WordFault.{WordFault}

@@ -50,7 +50,8 @@ fn entry_of(size: GrainSize, number: u64, actor: u32, parts: Parts) -> Entry
     }
 }
 
-/// Puts an entry behind a history, of an actor with this name. Refused for want of memory, the history is as it was.
+/// Puts an entry behind a history, of an actor with this name. Refused for want of memory, the history is as it
+/// was.
 fn add(alloc: Global, size: GrainSize, parts: Parts, history: &mut History) -> Result<(), NotTold>
     requires { length history.old.actors < 2 ^ 32 }
     ensures ok { OnOk result (history.new ≡ with_entry size parts history.old) }
@@ -71,9 +72,10 @@ fn add(alloc: Global, size: GrainSize, parts: Parts, history: &mut History) -> R
     }
 }
 
-/// Reads the next entry of a history from the front of the bytes, of a store of this size of grains, and puts it behind the
-/// others: its length. An actor that isn't known yet gets the next number. Refused with the place of the first byte with which no
-/// entry of that number goes on, or the end where the bytes end too early, or for want of memory; then the history is as it was.
+/// Reads the next entry of a history from the front of the bytes, of a store of this size of grains, and puts
+/// it behind the others: its length. An actor that isn't known yet gets the next number. Refused with the place
+/// of the first byte with which no entry of that number goes on, or the end where the bytes end too early, or
+/// for want of memory; then the history is as it was.
 pub fn read_entry(
     alloc: Global,
     size: GrainSize,

@@ -23,7 +23,8 @@ fn is_id(volume: &Ref) -> bool
     matches!(volume, Ref::Id(_))
 }
 
-/// Takes the line of a reply of an access: a refusal where a line may have asked for it, another one where a host may have.
+/// Takes the line of a reply of an access: a refusal where a line may have asked for it, another one where a
+/// host may have.
 fn take_access_line(
     alloc: Global,
     refusable: bool,
@@ -63,7 +64,8 @@ pub(crate) fn take_line<'a>(
     }
 }
 
-/// The request that was asked so and has this line of a reply. There is one for each line that `take_line` reads.
+/// The request that was asked so and has this line of a reply. There is one for each line that `take_line`
+/// reads.
 pub(crate) fn request_by(asked: Asked, line: &ReplyLine) -> Request
     ensures { result ≡ request_by asked line.now }
 {

@@ -1,4 +1,5 @@
--- Nothing read, a choice by the first byte, and a number with one of some words behind it are read exactly.
+-- Nothing read, other words for what is read, a choice by the first byte, and a number with one of some words
+-- behind it are read exactly.
 use Rattle.std.proofs.Common.{◌≡◌, ℕ, zero, suc, ◌^◌, ◌<◌, ◌==◌, Bool, true, false, List, [], ◌∷◌, ◌++◌, length, get_or, decimal, Result, Ok, Err, refl, sym, ap, subst, ◌∙◌, arith, lit<, inl, inr}
 use Rattle.std.specs.Prelude.{◌⊎◌, not}
 use Rattle.std.specs.List.{list_all}
@@ -24,6 +25,68 @@ Exact-none {V} value = record {
       subst P (ok_is _ _ e) at;
   again = λ v rest fits ends. ap (λ w. Ok (w, rest)) (sym fits);
   stops = λ bytes left e. absurd (ok_no_err _ _ e);
+}
+
+-- ---- other words for what fits, and for its text
+
+-- the same values, with the same texts
+pub Exact-recast :
+    {V : Type 0} (Fits Fits2 : V → Type 0) (text text2 : V → List ℕ) (joins : ℕ → Bool) (read : List ℕ → Result (V × List ℕ) ℕ) →
+    Exact Fits text joins read →
+    ((v : V) → Fits v → Fits2 v × (text v ≡ text2 v)) →
+    ((v : V) → Fits2 v → Fits v) →
+    Exact Fits2 text2 joins read
+Exact-recast Fits Fits2 text text2 joins read exact to from = record {
+  takes =
+      λ bytes v rest e.
+      let t = exact.takes bytes v rest e in
+      let c = to v t.fits in
+      record { fits = c.0; split = t.split ∙ ap (λ x. x ++ rest) c.1; ends = t.ends };
+  again =
+      λ v rest fits ends.
+      ap (λ x. read (x ++ rest)) (sym (to v (from v fits)).1) ∙ exact.again v rest (from v fits) ends;
+  stops =
+      λ bytes left e.
+      let s = exact.stops bytes left e in
+      let c = to s.value s.fits in
+      record {
+        front = s.front;
+        rest = s.rest;
+        split = s.split;
+        left_is = s.left_is;
+        value = s.value;
+        fits = c.0;
+        more = s.more;
+        begins = sym c.1 ∙ s.begins;
+        again = s.again;
+      };
+}
+
+pub Exact-alike :
+    {V : Type 0} (Fits : V → Type 0) (text : V → List ℕ) (read : List ℕ → Result (V × List ℕ) ℕ) (Other : V → Type 0) (other : V → List ℕ) →
+    Exact Fits text nothing read →
+    ((v : V) → Fits v → Other v × (other v ≡ text v)) →
+    ((v : V) → Other v → Fits v) →
+    Exact Other other nothing read
+Exact-alike Fits text read Other other exact to from =
+    Exact-recast Fits Other text other nothing read exact (λ v fits. ((to v fits).0, sym (to v fits).1)) from
+
+-- ---- no first byte that goes on
+
+pub stops_first :
+    {V : Type 0} (Fits : V → Type 0) (text : V → List ℕ) (read : List ℕ → Result (V × List ℕ) ℕ) (bytes : List ℕ) (left : ℕ) (value : V) →
+    Fits value → left ≡ length bytes → ((u : List ℕ) → SameStart bytes u → read u ≡ Err (length u)) →
+    Stops Fits text read bytes left
+stops_first Fits text read bytes left value fits all again = record {
+  front = [];
+  rest = bytes;
+  split = refl;
+  left_is = all;
+  value = value;
+  fits = fits;
+  more = text value;
+  begins = refl;
+  again = again;
 }
 
 -- ---- a choice by the first byte

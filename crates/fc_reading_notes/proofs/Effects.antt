@@ -15,8 +15,8 @@ use Rattle.fc_reading_notes.specs.Told.{AreKept, IsEffect, IsId}
 use Rattle.fc_reading.proofs.Exact.{Exact, Exact-map, Exact-then}
 use Rattle.fc_reading.proofs.Fields.{Exact-and}
 use Rattle.fc_reading.proofs.Words.{Ends-nothing, Exact-one_of, IsIndexOf, nothing}
-use Rattle.fc_reading_notes.proofs.Choices.{Exact-none, Is}
-use Rattle.fc_reading_notes.proofs.LineLemmas.{AnyState, Exact-id, Exact-pairs, Exact-state, FitsPair, pair_line, pair_next, pairs_each, pairs_fit, pairs_joined, state_line}
+use Rattle.fc_reading_notes.proofs.Choices.{Exact-alike, Exact-none, Is}
+use Rattle.fc_reading_notes.proofs.LineLemmas.{AnyState, Exact-pairs, Exact-state, FitsPair, line_end, pair_line, pair_next, pairs_each, pairs_fit, pairs_joined, spaced, state_line}
 use Rattle.fc_reading_notes.proofs.Lists.{AllFit, all_text}
 use Rattle.fc_reading_notes.proofs.Ranges.{Exact-kept, kept_line}
 
@@ -78,39 +78,10 @@ FitsWord (suc (suc (suc (suc zero)))) e = Image OfCut a_cut e
 FitsWord (suc (suc (suc (suc (suc zero))))) e = Image OfState a_state e
 FitsWord (suc (suc (suc (suc (suc (suc n)))))) e = Image IsId a_gone e
 
-line_end : Exact IsId (λ n. decimal n ++ codes "\n") nothing (id_at (codes "\n"))
-line_end = Exact-id (codes "\n") (λ rest. refl)
-
-spaced : Exact IsId (λ n. decimal n ++ codes " ") nothing (id_at (codes " "))
-spaced = Exact-id (codes " ") (λ rest. refl)
-
 no_pairs : Exact (Is (Trigger [])) effect_line nothing (λ (bytes : List ℕ). Ok (Trigger [], bytes))
-no_pairs = record {
-  takes =
-      λ bytes e rest is.
-      let t = (Exact-none (Trigger [])).takes bytes e rest is in
-      record { fits = t.fits; split = t.split ∙ ap (λ x. x ++ rest) (no_text e t.fits); ends = t.ends };
-  again =
-      λ e rest fits ends.
-      ap (λ x. Ok (Trigger [], x ++ rest)) (sym (no_text e fits)) ∙ (Exact-none (Trigger [])).again e rest fits ends;
-  stops =
-      λ bytes left e.
-      let s = (Exact-none (Trigger [])).stops bytes left e in
-      record {
-        front = s.front;
-        rest = s.rest;
-        split = s.split;
-        left_is = s.left_is;
-        value = s.value;
-        fits = s.fits;
-        more = s.more;
-        begins = sym (no_text s.value s.fits) ∙ s.begins;
-        again = s.again;
-      };
-}
-  where
-    no_text : (e : Effect) → Is (Trigger []) e → [] ≡ effect_line e
-    no_text e is = ap effect_line (sym is)
+no_pairs =
+    Exact-alike (Is (Trigger [])) (λ e. []) (λ (bytes : List ℕ). Ok (Trigger [], bytes)) (Is (Trigger [])) effect_line (Exact-none (Trigger []))
+    (λ e is. (is, ap effect_line is)) (λ e is. is)
 
 pub Exact-effect_at : (i : ℕ) → IsIndexOf effect_words i → Exact (FitsWord i) effect_line nothing (effect_at i)
 Exact-effect_at zero inside =

@@ -27,6 +27,13 @@ small_64 = lit< tt
 pub Exact-id : (word : List ℕ) → ((rest : List ℕ) → Ends is_decimal (word ++ rest)) → Exact IsId (λ n. decimal n ++ word) nothing (id_at word)
 Exact-id word apart = Exact-field 4294967295 small word apart
 
+-- a number behind which its line ends; behind which a space stands
+pub line_end : Exact IsId (λ n. decimal n ++ codes "\n") nothing (id_at (codes "\n"))
+line_end = Exact-id (codes "\n") (λ rest. refl)
+
+pub spaced : Exact IsId (λ n. decimal n ++ codes " ") nothing (id_at (codes " "))
+spaced = Exact-id (codes " ") (λ rest. refl)
+
 pub Exact-count : (word : List ℕ) → ((rest : List ℕ) → Ends is_decimal (word ++ rest)) → Exact IsCount (λ n. decimal n ++ word) nothing (count_at word)
 Exact-count word apart = Exact-field 18446744073709551615 small_64 word apart
 
@@ -104,7 +111,7 @@ pub Exact-move : Exact IsMove move_line nothing move_at
 Exact-move =
     let ending = Exact-ending (codes "\n") (codes " in place\n" ∷ []) refl refl in
     let two = Exact-and {V = ℕ} {W = ℕ × ℕ} IsId (λ n. decimal n ++ codes " ") (id_at (codes " ")) (IsEnding move_ends) (ending_text move_ends) (ending_at move_ends)
-    (Exact-id (codes " ") (λ rest. refl)) ending (0, 0) (omega arith, omega arith) in
+    spaced ending (0, 0) (omega arith, omega arith) in
     let three = Exact-and {V = ℕ} {W = ℕ × (ℕ × ℕ)} IsCount (λ n. decimal n ++ codes " ") (count_at (codes " ")) (λ x. IsId x.0 × IsEnding move_ends x.1)
     (λ x. (decimal x.0 ++ codes " ") ++ ending_text move_ends x.1) (then_read (id_at (codes " ")) (λ v. ending_at move_ends))
     (Exact-count (codes " ") (λ rest. refl)) two (0, (0, 0)) (omega arith, (omega arith, omega arith)) in
@@ -138,10 +145,10 @@ torn_from v g Under a b = ((v, (g, 1)), (a, (b, omega arith)), refl)
 pub Exact-torn : Exact IsTorn torn_line nothing torn_at
 Exact-torn =
     let two = Exact-and {V = ℕ} {W = ℕ} IsId (λ n. decimal n ++ codes " ") (id_at (codes " ")) (IsIndexOf torn_ends) (λ i. get_or torn_ends i []) (one_of_at torn_ends)
-    (Exact-id (codes " ") (λ rest. refl)) (Exact-one_of (codes "now\n") (codes "under\n" ∷ []) refl) 0 (omega arith) in
+    spaced (Exact-one_of (codes "now\n") (codes "under\n" ∷ []) refl) 0 (omega arith) in
     let three = Exact-and {V = ℕ} {W = ℕ × ℕ} IsId (λ n. decimal n ++ codes " ") (id_at (codes " ")) (λ x. IsId x.0 × IsIndexOf torn_ends x.1)
     (λ x. (decimal x.0 ++ codes " ") ++ get_or torn_ends x.1 []) (then_read (id_at (codes " ")) (λ g. one_of_at torn_ends))
-    (Exact-id (codes " ") (λ rest. refl)) two (0, 0) (omega arith, omega arith) in
+    spaced two (0, 0) (omega arith, omega arith) in
     Exact-map {V = Tearing} {W = Torn} AreTearing tearing_text nothing (then_read (id_at (codes " ")) (λ v. then_read (id_at (codes " ")) (λ g. one_of_at torn_ends)))
     IsTorn torn_line torn_of three torn_to (λ t fits. torn_from t.volume.0 t.grain.0 t.side fits.0 fits.1)
 

@@ -1,32 +1,27 @@
 -- Ranges of grains, rising and never touching, are read exactly.
-use Rattle.std.proofs.Common.{◌≡◌, ℕ, zero, suc, ◌+◌, ◌%◌, ◌<◌, ◌≤◌, ◌==◌, Bool, true, false, cond, eqb, nat_le, List, [], ◌∷◌, ◌++◌, length, get_or, map, codes, decimal, Ok, refl, sym, ap, subst, ◌∙◌, append_assoc, length-append, arith, inl, inr}
+use Rattle.std.proofs.Common.{◌≡◌, ℕ, zero, suc, ◌+◌, ◌%◌, ◌<◌, ◌≤◌, ◌==◌, Bool, true, false, cond, eqb, nat_le, List, [], ◌∷◌, ◌++◌, get_or, map, codes, decimal, Ok, refl, sym, ap, subst, ◌∙◌, append_assoc, arith, inl, inr}
 use Rattle.std.specs.List.{join_with_byte, list_all}
 use Rattle.std.proofs.lemmas.Bool.{eq-eqb, eqb-true, false≢true}
 use Rattle.std.proofs.lemmas.Bool.Decides.{nat_tests}
 use Rattle.std.proofs.lemmas.Fmt.{decimal_by_steps}
 use Rattle.fc_base.specs.Ranges.{IsRisingFrom}
 use Rattle.fc_base.specs.declared.ranges.Range.{Range}
-use Rattle.fc_reading.specs.Readers.{is_decimal, map_read, one_of_at, the_word, then_read}
+use Rattle.fc_reading.specs.Readers.{is_decimal, map_read, one_of_at, then_read}
 use Rattle.fc_trace.specs.Notes.{kept_text, range_text}
 use Rattle.fc_reading_notes.specs.Between.{between_at}
 use Rattle.fc_reading_notes.specs.Lines.{behind_first, first_ends, kept_at, last_at, last_ends, range_at, range_of, ranges_at}
 use Rattle.fc_reading_notes.specs.Lists.{starts_with}
 use Rattle.fc_reading_notes.specs.Told.{AreKept, Each, IsId}
 use Rattle.fc_reading.proofs.Exact.{Ends, Exact, Exact-map, Exact-then}
-use Rattle.fc_reading.proofs.Fields.{AnyUnit, Exact-word}
 use Rattle.fc_reading.proofs.Numbers.{cases}
 use Rattle.fc_reading.proofs.Words.{Ends-nothing, Exact-one_of, IsIndexOf, one_of-takes, at_false, at_true, is_code, nothing}
 use Rattle.fc_reading_notes.proofs.BetweenLemmas.{Exact-between, IsBetween}
-use Rattle.fc_reading_notes.proofs.Choices.{Either, Exact-by_first, Exact-none, Is, no_digit, small, words_end}
+use Rattle.fc_reading_notes.proofs.Choices.{Exact-alike, Exact-none, Is, no_digit, small, words_end}
+use Rattle.fc_reading_notes.proofs.Commas.{Exact-or_none, NonEmpty, item_line, items_joined, line_some, sep}
 use Rattle.fc_reading_notes.proofs.Lists.{AllFit, ChainOf, Exact-chain, all_text}
 
 abbrev Part : Type 0
 Part = Range × Bool
-
--- what stands behind a range
-abbrev sep : Bool → List ℕ
-sep true = codes ","
-sep false = codes "\n"
 
 -- behind a range one more has room
 abbrev MoreFits : ℕ → Bool → Type 0
@@ -293,7 +288,7 @@ abbrev pub FitsRange : ℕ → Part → Type 0
 FitsRange least x = (least ≤ x.0.first) × ((x.0.first ≤ x.0.last) × ((x.0.last ≤ 4294967295) × (x.1 ≡ true → x.0.last + 2 ≤ 4294967295)))
 
 abbrev pub range_line : Part → List ℕ
-range_line x = range_text x.0 ++ sep x.1
+range_line = item_line range_text
 
 abbrev RangeRead : ℕ → ℕ × Part → Type 0
 RangeRead least y = IsBetween least 4294967295 y.0 × FitsRest y.0 y.1
@@ -351,17 +346,10 @@ HasRoom least = least ≤ 4294967295
 abbrev pub range_next : ℕ → Range → ℕ
 range_next least range = range.last + 2
 
-line_some : (range : Range) (more : Bool) → 1 ≤ length (range_line (range, more))
-line_some range more = omega (arith, sep_some more, length-append (range_text range) (sep more))
-  where
-    sep_some : (more : Bool) → 1 ≤ length (sep more)
-    sep_some true = omega arith
-    sep_some false = omega arith
-
 range_chain : ChainOf HasRoom FitsRange range_line range_at range_next
 range_chain = record {
   exact = λ least room. Exact-range least room;
-  some = λ least x fits. line_some x.0 x.1;
+  some = λ least x fits. line_some range_text x.0 x.1;
   next_good = λ least range room fits. fits.1.1.1 refl;
   ends = λ least room. (record { first = least; last = least }, (omega arith, (omega arith, (room, λ e. absurd (false≢true e)))));
 }
@@ -400,73 +388,22 @@ all_fit least range (next ∷ ranges) low order rising ids = (
 abbrev pub kept_line : List Range → List ℕ
 kept_line kept = kept_text kept ++ codes "\n"
 
-ranges_joined : (range : Range) (ranges : List Range) → kept_line (range ∷ ranges) ≡ all_text range_line (range ∷ ranges)
-ranges_joined range [] = refl
-ranges_joined range (next ∷ ranges) =
-    append_assoc (range_text range) (44 ∷ join_with_byte 44 (map range_text (next ∷ ranges))) (codes "\n")
-    ∙ ap (λ t. range_text range ++ 44 ∷ t) (ranges_joined next ranges)
-    ∙ sym (append_assoc (range_text range) (codes ",") (all_text range_line (next ∷ ranges)))
-
 abbrev AreSome : List Range → Type 0
-AreSome [] = ⊥
-AreSome (range ∷ ranges) = AreKept (range ∷ ranges)
-
-abbrev IsNone : List Range → Type 0
-IsNone kept = kept ≡ []
+AreSome = NonEmpty AreKept
 
 ranges_to : (ranges : List Range) → AllFit FitsRange range_next 0 ranges → AreSome ranges × (kept_line ranges ≡ all_text range_line ranges)
 ranges_to [] fits = absurd fits
 ranges_to (range ∷ ranges) fits =
     let r = rising_after 0 range ranges fits in
-    (((r.0, r.1), each_id 0 (range ∷ ranges) fits), ranges_joined range ranges)
+    (((r.0, r.1), each_id 0 (range ∷ ranges) fits), items_joined range_text range ranges)
 
-ranges_from : (ranges : List Range) → AreSome ranges → (xs : List Range) × AllFit FitsRange range_next 0 xs × (xs ≡ ranges)
+ranges_from : (ranges : List Range) → AreSome ranges → AllFit FitsRange range_next 0 ranges
 ranges_from [] some = absurd some
-ranges_from (range ∷ ranges) some = (range ∷ ranges, all_fit 0 range ranges (omega arith) some.0.0 some.0.1 some.1, refl)
+ranges_from (range ∷ ranges) some = all_fit 0 range ranges (omega arith) some.0.0 some.0.1 some.1
 
 -- the ranges' reader, by the texts of the trace
 Exact-some : Exact AreSome kept_line nothing ranges_at
-Exact-some = record {
-  takes =
-      λ bytes ranges rest e.
-      let t = Exact-ranges.takes bytes ranges rest e in
-      let to = ranges_to ranges t.fits in
-      record { fits = to.0; split = t.split ∙ ap (λ r. r ++ rest) (sym to.1); ends = t.ends };
-  again =
-      λ ranges rest some ends.
-      let from = ranges_from ranges some in
-      again ranges from.0 rest some from.1 from.2;
-  stops =
-      λ bytes left e.
-      let s = Exact-ranges.stops bytes left e in
-      let to = ranges_to s.value s.fits in
-      record {
-        front = s.front;
-        rest = s.rest;
-        split = s.split;
-        left_is = s.left_is;
-        value = s.value;
-        fits = to.0;
-        more = s.more;
-        begins = to.1 ∙ s.begins;
-        again = s.again;
-      };
-}
-  where
-    again : (ranges xs : List Range) (rest : List ℕ) → AreSome ranges → AllFit FitsRange range_next 0 xs → xs ≡ ranges → ranges_at (kept_line ranges ++ rest) ≡ Ok (ranges, rest)
-    again ranges xs rest some fits is =
-        let P : List Range → Type 0 = λ r. ranges_at (kept_line r ++ rest) ≡ Ok (r, rest) in
-        let to = ranges_to xs fits in
-        let at : P xs = ap (λ t. ranges_at (t ++ rest)) to.1 ∙ Exact-ranges.again xs rest fits (Ends-nothing rest) in
-        subst P is at
-
-Exact-nothing_kept : Exact IsNone kept_line nothing (map_read (λ u. []) (the_word (codes "none\n")))
-Exact-nothing_kept =
-    Exact-map {V = Unit {0}} {W = List Range} AnyUnit (λ u. codes "none\n") nothing (the_word (codes "none\n")) IsNone kept_line (λ u. [])
-    (Exact-word (codes "none\n")) (λ u fits. (refl, refl)) (λ kept is. (tt, tt, sym is))
-
-begins_none : (kept : List Range) (rest : List ℕ) → IsNone kept → starts_with 110 (kept_line kept ++ rest) ≡ true
-begins_none kept rest is = ap (λ k. starts_with 110 (kept_line k ++ rest)) is
+Exact-some = Exact-alike (AllFit FitsRange range_next 0) (all_text range_line) ranges_at AreSome kept_line Exact-ranges ranges_to ranges_from
 
 -- no other byte than a digit begins a number
 pub begins_digit : (byte : ℕ) → is_decimal byte ≡ false → (n : ℕ) (more : List ℕ) → n ≤ 4294967295 → starts_with byte (decimal n ++ more) ≡ false
@@ -498,42 +435,5 @@ begins_other (range ∷ next ∷ ranges) rest some =
     ∙ ap (starts_with 110) (append_assoc (range_text range) (others ++ codes "\n") rest)
     ∙ line_begins range ((others ++ codes "\n") ++ rest) (omega (arith, some.0.0, some.1.0))
 
-abbrev pub OrNone : List Range → Type 0
-OrNone = Either IsNone AreSome
-
-kept_to : (kept : List Range) → OrNone kept → AreKept kept
-kept_to [] fits = (tt, tt)
-kept_to (range ∷ ranges) (inl is) = absurd (no_cons range ranges is)
-  where
-    no_cons : (range : Range) (ranges : List Range) → range ∷ ranges ≡ [] → ⊥
-    no_cons range ranges e = absurd cc
-kept_to (range ∷ ranges) (inr some) = some
-
-kept_from : (kept : List Range) → AreKept kept → OrNone kept
-kept_from [] are = inl refl
-kept_from (range ∷ ranges) are = inr are
-
 pub Exact-kept : Exact AreKept kept_line nothing kept_at
-Exact-kept = record {
-  takes = λ bytes kept rest e. let t = either.takes bytes kept rest e in record { fits = kept_to kept t.fits; split = t.split; ends = t.ends };
-  again = λ kept rest are ends. either.again kept rest (kept_from kept are) ends;
-  stops =
-      λ bytes left e.
-      let s = either.stops bytes left e in
-      record {
-        front = s.front;
-        rest = s.rest;
-        split = s.split;
-        left_is = s.left_is;
-        value = s.value;
-        fits = kept_to s.value s.fits;
-        more = s.more;
-        begins = s.begins;
-        again = s.again;
-      };
-}
-  where
-    either : Exact OrNone kept_line nothing kept_at
-    either =
-        Exact-by_first 110 IsNone AreSome kept_line (map_read (λ u. []) (the_word (codes "none\n"))) ranges_at Exact-nothing_kept Exact-some
-        begins_none begins_other
+Exact-kept = Exact-or_none 110 (codes "none\n") AreKept kept_line ranges_at (tt, tt) refl (λ rest. refl) Exact-some begins_other

@@ -38,7 +38,7 @@ pub chain-start :
 chain-start item next s bytes =
     ap (λ n. chain_at item next n s bytes) (none_done (length bytes)) ∙ items_none (chain_at item next (length bytes - 0) s bytes)
 
-pub chain-more :
+chain-more :
     {S V : Type 0} (item : S → List ℕ → Result ((V × Bool) × List ℕ) ℕ) (next : S → V → S) (found : List V) (n counter : ℕ) (s : S) (bytes rest : List ℕ) (v : V) (more : Bool) →
     counter < n → item s bytes ≡ Ok ((v, more), rest) → more ≡ true →
     behind_items found (chain_at item next (n - counter) s bytes) ≡ behind_items (found ++ v ∷ []) (chain_at item next (n - (counter + 1)) (next s v) rest)
@@ -51,7 +51,7 @@ chain-more item next found n counter s bytes rest v more inside e goes =
     )
     ∙ items_more found v (chain_at item next (n - (counter + 1)) (next s v) rest)
 
-pub chain-last :
+chain-last :
     {S V : Type 0} (item : S → List ℕ → Result ((V × Bool) × List ℕ) ℕ) (next : S → V → S) (found : List V) (n counter : ℕ) (s : S) (bytes rest : List ℕ) (v : V) (more : Bool) →
     counter < n → item s bytes ≡ Ok ((v, more), rest) → more ≡ false →
     behind_items found (chain_at item next (n - counter) s bytes) ≡ Ok (found ++ v ∷ [], rest)
@@ -63,12 +63,29 @@ chain-last item next found n counter s bytes rest v more inside e ends =
     ∙ ap (λ m. and_more v m (chain_at item next (n - (counter + 1)) (next s v)) rest) ends
     )
 
+-- one item more, put behind those that were found: one more follows, or it is the last
+pub chain-next :
+    {S V : Type 0} (item : S → List ℕ → Result ((V × Bool) × List ℕ) ℕ) (next : S → V → S) (all : Result (List V × List ℕ) ℕ) (found new : List V) (n counter : ℕ) (s : S) (bytes rest : List ℕ) (v : V) (more : Bool) →
+    all ≡ behind_items found (chain_at item next (n - counter) s bytes) → counter < n → item s bytes ≡ Ok ((v, more), rest) → new ≡ found ++ v ∷ [] → more ≡ true →
+    all ≡ behind_items new (chain_at item next (n - (counter + 1)) (next s v) rest)
+chain-next item next all found new n counter s bytes rest v more before inside e put goes =
+    before ∙ chain-more item next found n counter s bytes rest v more inside e goes
+    ∙ ap (λ vs. behind_items vs (chain_at item next (n - (counter + 1)) (next s v) rest)) (sym put)
+
+pub chain-end :
+    {S V : Type 0} (item : S → List ℕ → Result ((V × Bool) × List ℕ) ℕ) (next : S → V → S) (all : Result (List V × List ℕ) ℕ) (found new : List V) (n counter : ℕ) (s : S) (bytes rest : List ℕ) (v : V) (more : Bool) →
+    all ≡ behind_items found (chain_at item next (n - counter) s bytes) → counter < n → item s bytes ≡ Ok ((v, more), rest) → new ≡ found ++ v ∷ [] → more ≡ false →
+    all ≡ Ok (new, rest)
+chain-end item next all found new n counter s bytes rest v more before inside e put ends =
+    before ∙ chain-last item next found n counter s bytes rest v more inside e ends ∙ ap (λ vs. Ok (vs, rest)) (sym put)
+
+-- or none can be read
 pub chain-stop :
-    {S V : Type 0} (item : S → List ℕ → Result ((V × Bool) × List ℕ) ℕ) (next : S → V → S) (found : List V) (n counter : ℕ) (s : S) (bytes : List ℕ) (left : ℕ) →
-    counter < n → item s bytes ≡ Err left →
-    behind_items found (chain_at item next (n - counter) s bytes) ≡ Err left
-chain-stop item next found n counter s bytes left inside e =
-    ap (λ k. behind_items found (chain_at item next k s bytes)) (one_done n counter inside)
+    {S V : Type 0} (item : S → List ℕ → Result ((V × Bool) × List ℕ) ℕ) (next : S → V → S) (all : Result (List V × List ℕ) ℕ) (found : List V) (n counter : ℕ) (s : S) (bytes : List ℕ) (left : ℕ) →
+    all ≡ behind_items found (chain_at item next (n - counter) s bytes) → counter < n → item s bytes ≡ Err left →
+    all ≡ Err left
+chain-stop item next all found n counter s bytes left before inside e =
+    before ∙ ap (λ k. behind_items found (chain_at item next k s bytes)) (one_done n counter inside)
     ∙ ap (behind_items found) (bind_at_err (item s bytes) (λ x. and_more x.0.0 x.0.1 (chain_at item next (n - (counter + 1)) (next s x.0.0)) x.1) left e)
 
 pub chain-full :

@@ -1,5 +1,5 @@
 -- All that an entry did is read exactly.
-use Rattle.std.proofs.Common.{◌≡◌, ℕ, ◌-◌, ◌≤◌, Bool, true, false, List, [], ◌++◌, Option, Some, None, length, take, codes, Result, Ok, Err, refl, sym, ap, ◌∙◌, append_assoc, length-append, arith}
+use Rattle.std.proofs.Common.{◌≡◌, ℕ, ◌-◌, ◌≤◌, Bool, true, false, List, [], ◌++◌, Option, Some, None, length, take, codes, Result, Ok, Err, refl, ap, ◌∙◌, append_assoc, length-append, arith}
 use Rattle.std.specs.List.{flat_map}
 use Rattle.fc_reading.specs.Readers.{the_word, then_read}
 use Rattle.fc_reading.specs.Stops.{StopsAt}
@@ -14,7 +14,7 @@ use Rattle.fc_reading.proofs.Exact.{Exact, Exact-map, Exact-then}
 use Rattle.fc_reading.proofs.Fields.{AnyUnit, Exact-and, Exact-word}
 use Rattle.fc_reading.proofs.StopsLemmas.{Exact-stops_at, take-front}
 use Rattle.fc_reading.proofs.Words.{nothing}
-use Rattle.fc_reading_notes.proofs.Choices.{Exact-none, Is}
+use Rattle.fc_reading_notes.proofs.Choices.{Exact-alike, Exact-none, Is}
 use Rattle.fc_reading_notes.proofs.LineLemmas.{Exact-calls, calls_text_of}
 use Rattle.fc_reading_notes.proofs.NoteLemmas.{Exact-notes, lines_text}
 use Rattle.fc_reading_notes.proofs.Whiles.{first_joins}
@@ -29,47 +29,15 @@ no_calls : (head : Option LaneCalls) → HasCalls false head → head ≡ None
 no_calls (Some calls) has = absurd has
 no_calls None has = refl
 
-has_none : (head : Option LaneCalls) → head ≡ None → HasCalls false head × ([] ≡ head_text head)
+has_none : (head : Option LaneCalls) → head ≡ None → HasCalls false head × (head_text head ≡ [])
 has_none (Some calls) is = absurd cc
 has_none None is = (tt, refl)
-
-Exact-no_head : Exact (HasCalls false) head_text nothing (head_at false)
-Exact-no_head = record {
-  takes =
-      λ bytes head rest e.
-      let t = none.takes bytes head rest e in
-      let has = has_none head t.fits in
-      record { fits = has.0; split = t.split ∙ ap (λ x. x ++ rest) has.1; ends = t.ends };
-  again = λ head rest has ends. again head rest has (none.again head rest (no_calls head has) ends);
-  stops =
-      λ bytes left e.
-      let s = none.stops bytes left e in
-      let has = has_none s.value s.fits in
-      record {
-        front = s.front;
-        rest = s.rest;
-        split = s.split;
-        left_is = s.left_is;
-        value = s.value;
-        fits = has.0;
-        more = s.more;
-        begins = sym has.1 ∙ s.begins;
-        again = s.again;
-      };
-}
-  where
-    none : Exact (Is None) (λ head. []) nothing (head_at false)
-    none = Exact-none None
-
-    again : (head : Option LaneCalls) (rest : List ℕ) → HasCalls false head → head_at false rest ≡ Ok (head, rest) → head_at false (head_text head ++ rest) ≡ Ok (head, rest)
-    again (Some calls) rest has is = absurd has
-    again None rest has is = is
 
 pub Exact-head : (in_lane : Bool) → Exact (HasCalls in_lane) head_text nothing (head_at in_lane)
 Exact-head true =
     Exact-map {V = LaneCalls} {W = Option LaneCalls} IsCalls calls_text_of nothing calls_at (HasCalls true) head_text Some Exact-calls
     (λ calls fits. (fits, refl)) some_calls
-Exact-head false = Exact-no_head
+Exact-head false = Exact-alike (Is None) (λ head. []) (head_at false) (HasCalls false) head_text (Exact-none None) has_none no_calls
 
 pub some_head : (in_lane : Bool) → (head : Option LaneCalls) × HasCalls in_lane head
 some_head true = (Some (record { calls = 0; faults_before = 0; faults_after = 0 }), (omega arith, (omega arith, omega arith)))

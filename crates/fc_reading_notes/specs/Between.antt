@@ -2,7 +2,8 @@
 use Rattle.std.specs.Prelude.{ℕ, zero, suc, ◌+◌, ◌*◌, ◌-◌, ◌==◌, Bool, false, ◌&&◌, ◌||◌, if◌then◌else◌, nat_le, nat_lt, List, [], ◌∷◌, length, Result, Ok, Err}
 use Rattle.fc_reading.specs.Readers.{is_decimal}
 
--- whether a number from `least` to `most` stands from `low` to `high`, or there with some digits more, fewer than so many
+-- whether a number from `least` to `most` stands from `low` to `high`, or there with some digits more, fewer
+-- than so many
 unfoldable pub reaches : ℕ → ℕ → ℕ → ℕ → ℕ → Bool
 reaches zero least most low high = false
 reaches (suc digits) least most low high =

@@ -1,5 +1,5 @@
--- All that an entry did, in the trace form: its calls and faults, where it is an entry of a lane, its moves, the grain that it
--- tore, its effects, and the line that ends the entry.
+-- All that an entry did, in the trace form: its calls and faults, where it is an entry of a lane, its moves,
+-- the grain that it tore, its effects, and the line that ends the entry.
 use Rattle.std.specs.Prelude.{◌≡◌, ℕ, ◌≤◌, Bool, true, false, List, [], ◌∷◌, ◌++◌, Option, Some, None, IfSome, Result, Ok, codes}
 use Rattle.std.specs.List.{flat_map}
 use Rattle.fc_base.specs.Ranges.{IsRising}

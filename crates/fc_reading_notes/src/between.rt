@@ -77,7 +77,8 @@ fn end_number(least: u64, value: u64, rest: &[u8]) -> Result<(u64, &[u8]), Malfo
     }
 }
 
-/// Takes a number from the front: decimal digits, without leading zeros, from `least` to `most`; and hands out what is behind it.
+/// Takes a number from the front: decimal digits, without leading zeros, from `least` to `most`; and hands out
+/// what is behind it.
 pub fn between(least: u64, most: u64, bytes: &[u8]) -> Result<(u64, &[u8]), Malformed>
     requires order { least ≤ most }
     requires small { most ≤ 4294967295 }

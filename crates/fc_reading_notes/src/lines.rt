@@ -173,8 +173,8 @@ fn take_pairs(alloc: Global, bytes: &[u8]) -> Result<(List<Pair>, &[u8]), ReadSt
     Err(ReadStop::Malformed(Malformed { left: rest.len() }))
 }
 
-/// Takes what stands behind a grain that may begin a range: the end of the line, a dash, or a comma, by its number. A dash or a
-/// comma stands there only where a grain behind it has room.
+/// Takes what stands behind a grain that may begin a range: the end of the line, a dash, or a comma, by its
+/// number. A dash or a comma stands there only where a grain behind it has room.
 fn take_first_end(first: u32, bytes: &[u8]) -> Result<(usize, &[u8]), Malformed>
     ensures { Reads (λ found. (found.0, found.1.now)) result (one_of_at (first_ends first) bytes.now) }
 {
@@ -187,8 +187,8 @@ fn take_first_end(first: u32, bytes: &[u8]) -> Result<(usize, &[u8]), Malformed>
     }
 }
 
-/// Takes what stands behind the last grain of a range: the end of the line or a comma, by its number. A comma stands there only
-/// where a grain behind it has room.
+/// Takes what stands behind the last grain of a range: the end of the line or a comma, by its number. A comma
+/// stands there only where a grain behind it has room.
 fn take_last_end(last: u32, bytes: &[u8]) -> Result<(usize, &[u8]), Malformed>
     ensures { Reads (λ found. (found.0, found.1.now)) result (one_of_at (last_ends last) bytes.now) }
 {

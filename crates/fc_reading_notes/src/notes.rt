@@ -216,9 +216,9 @@ pub enum NotTold {
     NoMemory,
 }
 
-/// Reads from the front of the bytes what an entry without a report did, as far as its line `.`: what the lines say, and their
-/// length. An entry of a lane has a line of calls and faults. Refused with the place of the first byte with which no such lines go
-/// on, or the end where the bytes end too early; or for want of memory.
+/// Reads from the front of the bytes what an entry without a report did, as far as its line `.`: what the lines
+/// say, and their length. An entry of a lane has a line of calls and faults. Refused with the place of the
+/// first byte with which no such lines go on, or the end where the bytes end too early; or for want of memory.
 pub fn read_told(alloc: Global, in_lane: bool, bytes: &[u8]) -> Result<(Told, usize), NotTold>
     ensures within { IfOk result (λ found. found.1 ≤ length bytes.now) }
     ensures found { IfOk result (λ found. take found.1 bytes.now ≡ told_text found.0) }

@@ -1,6 +1,5 @@
 -- One of some words with what stands behind it is read exactly, where each of them is.
-use Rattle.std.proofs.Common.{◌≡◌, ℕ, zero, suc, ◌<◌, ◌≤◌, true, List, [], ◌∷◌, ◌++◌, length, get_or, codes, decimal, Result, Ok, refl, sym, ap, subst, ◌∙◌, append_assoc, arith, inl, inr}
-use Rattle.std.proofs.lemmas.Bool.{cases_lt}
+use Rattle.std.proofs.Common.{◌≡◌, ℕ, ◌<◌, true, List, [], ◌∷◌, ◌++◌, length, get_or, codes, decimal, Result, Ok, refl, sym, ap, subst, ◌∙◌, append_assoc, arith}
 use Rattle.std.proofs.lemmas.List.{append-nil}
 use Rattle.fc_reading.specs.Readers.{map_read, one_of_at, then_read}
 use Rattle.fc_reading_notes.specs.Lines.{id_at}
@@ -9,39 +8,10 @@ use Rattle.fc_reading_replies.specs.Begun.{begun_at, numbered, said, twice_numbe
 use Rattle.fc_reading.proofs.Exact.{Exact, Exact-map, Exact-then, bind_at_ok}
 use Rattle.fc_reading.proofs.Fields.{Exact-and}
 use Rattle.fc_reading.proofs.Words.{Ends-nothing, Exact-one_of, IsIndexOf, is_code, nothing}
-use Rattle.fc_reading_notes.proofs.Choices.{Exact-none, Is}
+use Rattle.fc_reading_notes.proofs.Below.{AllBelow, below_at}
+use Rattle.fc_reading_notes.proofs.Choices.{Exact-alike, Exact-none, Is}
 use Rattle.fc_reading_notes.proofs.Effects.{Exact-image, Image}
-use Rattle.fc_reading_notes.proofs.LineLemmas.{Exact-id}
-
--- ---- other words for what fits, and for its text
-
-pub Exact-alike :
-    {V : Type 0} (Fits : V → Type 0) (text : V → List ℕ) (read : List ℕ → Result (V × List ℕ) ℕ) (Other : V → Type 0) (other : V → List ℕ) →
-    Exact Fits text nothing read →
-    ((v : V) → Fits v → Other v × (other v ≡ text v)) →
-    ((v : V) → Other v → Fits v) →
-    Exact Other other nothing read
-Exact-alike Fits text read Other other exact to from = record {
-  takes =
-      λ bytes v rest e.
-      let t = exact.takes bytes v rest e in
-      record { fits = (to v t.fits).0; split = t.split ∙ ap (λ x. x ++ rest) (sym (to v t.fits).1); ends = t.ends };
-  again = λ v rest is ends. ap (λ x. read (x ++ rest)) (to v (from v is)).1 ∙ exact.again v rest (from v is) ends;
-  stops =
-      λ bytes left e.
-      let s = exact.stops bytes left e in
-      record {
-        front = s.front;
-        rest = s.rest;
-        split = s.split;
-        left_is = s.left_is;
-        value = s.value;
-        fits = (to s.value s.fits).0;
-        more = s.more;
-        begins = (to s.value s.fits).1 ∙ s.begins;
-        again = s.again;
-      };
-}
+use Rattle.fc_reading_notes.proofs.LineLemmas.{line_end, spaced}
 
 -- ---- the values that a reader can give
 
@@ -73,22 +43,6 @@ pub record Case {V : Type 0} (Fits : V → Type 0) (text behind : V → List ℕ
   pub value : V
   pub given : Given read value
   pub to : (v : V) → Given read v → Fits v × (text v ≡ word ++ behind v)
-
--- each number below a bound
-abbrev pub AllBelow : (ℕ → Type 0) → ℕ → Type 0
-AllBelow P zero = Unit {0}
-AllBelow P (suc n) = AllBelow P n × P n
-
-pub below_at : (P : ℕ → Type 0) (n : ℕ) → AllBelow P n → (i : ℕ) → i < n → P i
-below_at P zero all i inside = absurd (omega (arith, inside))
-below_at P (suc n) all i inside =
-    elim (cases_lt i n) [
-      | inl below ↦ below_at P n all.0 i below
-      | inr last ↦ subst P (is_last last) all.1
-    ]
-  where
-    is_last : n ≤ i → n ≡ i
-    is_last past = omega (arith, inside, past)
 
 -- all words but the first
 abbrev pub later_words : List (List ℕ) → List (List ℕ)
@@ -157,9 +111,10 @@ given_image {R} {V} Raw raw_text raw f exact r is =
     (given.0, given.1, bind_at_ok (raw given.0) (λ x. Ok (f x.0, x.1)) (r, given.1) given.2)
 
 -- nothing behind the word
-pub case_said :
-    {V : Type 0} (Fits : V → Type 0) (text behind : V → List ℕ) (word : List ℕ) (v : V) →
-    Fits v → behind v ≡ [] → text v ≡ word → Case Fits text behind word (said v)
+abbrev pub SaidCases : {V : Type 0} → (V → Type 0) → (V → List ℕ) → (V → List ℕ) → Type 0
+SaidCases {V} Fits text behind = (word : List ℕ) (v : V) → Fits v → behind v ≡ [] → text v ≡ word → Case Fits text behind word (said v)
+
+pub case_said : {V : Type 0} (Fits : V → Type 0) (text behind : V → List ℕ) → SaidCases Fits text behind
 case_said {V} Fits text behind word v fits none whole =
     case_of Fits text behind word (Is v) (said v) exact v refl
     (λ w is. to w is)
@@ -177,21 +132,18 @@ pub given_said : {V : Type 0} (v : V) → Given (said v) v
 given_said v = ([], [], refl)
 
 -- a number behind the word
-pub line_end : Exact IsId (λ n. decimal n ++ codes "\n") nothing (id_at (codes "\n"))
-line_end = Exact-id (codes "\n") (λ rest. refl)
-
-pub spaced : Exact IsId (λ n. decimal n ++ codes " ") nothing (id_at (codes " "))
-spaced = Exact-id (codes " ") (λ rest. refl)
-
-pub case_numbered :
-    {V : Type 0} (Fits : V → Type 0) (text behind : V → List ℕ) (word : List ℕ) (f : ℕ → V) →
+abbrev pub NumberedCases : {V : Type 0} → (V → Type 0) → (V → List ℕ) → (V → List ℕ) → Type 0
+NumberedCases {V} Fits text behind =
+    (word : List ℕ) (f : ℕ → V) →
     ((n : ℕ) → IsId n → Fits (f n)) →
     ((n : ℕ) → behind (f n) ≡ decimal n ++ codes "\n") →
-    ((n : ℕ) → text (f n) ≡ word ++ (decimal n ++ codes "\n")) →
+    ((n : ℕ) → text (f n) ≡ (word ++ decimal n) ++ codes "\n") →
     Case Fits text behind word (numbered f)
+
+pub case_numbered : {V : Type 0} (Fits : V → Type 0) (text behind : V → List ℕ) → NumberedCases Fits text behind
 case_numbered {V} Fits text behind word f fits same whole =
     case_image {R = ℕ} {V = V} Fits text behind word IsId (λ n. decimal n ++ codes "\n") (id_at (codes "\n")) f line_end 0 (omega arith) fits
-    (λ n is. same n) (λ n is. whole n)
+    (λ n is. same n) (λ n is. whole n ∙ append_assoc word (decimal n) (codes "\n"))
 
 pub given_numbered : {V : Type 0} (f : ℕ → V) (n : ℕ) → IsId n → Given (numbered f) (f n)
 given_numbered {V} f n is = given_image {R = ℕ} {V = V} IsId (λ m. decimal m ++ codes "\n") (id_at (codes "\n")) f line_end n is
@@ -208,18 +160,21 @@ Exact-two =
     Exact-and {V = ℕ} {W = ℕ} IsId (λ n. decimal n ++ codes " ") (id_at (codes " ")) IsId (λ n. decimal n ++ codes "\n") (id_at (codes "\n"))
     spaced line_end 0 (omega arith)
 
-pub two_joined : (w a s b n : List ℕ) → (w ++ (a ++ s ++ b)) ++ n ≡ w ++ ((a ++ s) ++ (b ++ n))
+two_joined : (w a s b n : List ℕ) → (w ++ (a ++ s ++ b)) ++ n ≡ w ++ ((a ++ s) ++ (b ++ n))
 two_joined w a s b n = simp (append_assoc)
 
-pub case_twice :
-    {V : Type 0} (Fits : V → Type 0) (text behind : V → List ℕ) (word : List ℕ) (f : ℕ × ℕ → V) →
+abbrev pub TwiceCases : {V : Type 0} → (V → Type 0) → (V → List ℕ) → (V → List ℕ) → Type 0
+TwiceCases {V} Fits text behind =
+    (word : List ℕ) (f : ℕ × ℕ → V) →
     ((x : ℕ × ℕ) → AreTwo x → Fits (f x)) →
     ((x : ℕ × ℕ) → behind (f x) ≡ two_text x) →
-    ((x : ℕ × ℕ) → text (f x) ≡ word ++ two_text x) →
+    ((x : ℕ × ℕ) → text (f x) ≡ (word ++ (decimal x.0 ++ codes " " ++ decimal x.1)) ++ codes "\n") →
     Case Fits text behind word (twice_numbered f)
+
+pub case_twice : {V : Type 0} (Fits : V → Type 0) (text behind : V → List ℕ) → TwiceCases Fits text behind
 case_twice {V} Fits text behind word f fits same whole =
     case_image {R = ℕ × ℕ} {V = V} Fits text behind word AreTwo two_text two_at f Exact-two (0, 0) (omega arith, omega arith) fits
-    (λ x is. same x) (λ x is. whole x)
+    (λ x is. same x) (λ x is. whole x ∙ two_joined word (decimal x.0) (codes " ") (decimal x.1) (codes "\n"))
 
 pub given_twice : {V : Type 0} (f : ℕ × ℕ → V) (x : ℕ × ℕ) → AreTwo x → Given (twice_numbered f) (f x)
 given_twice {V} f x is = given_image {R = ℕ × ℕ} {V = V} AreTwo two_text two_at f Exact-two x is

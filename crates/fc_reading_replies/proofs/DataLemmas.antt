@@ -1,5 +1,5 @@
 -- The bytes of a read are read exactly.
-use Rattle.std.proofs.Common.{◌≡◌, ◌≢◌, ℕ, zero, suc, ◌+◌, ◌*◌, ◌/◌, ◌%◌, ◌<◌, ◌≤◌, ◌==◌, Bool, true, false, ◌&&◌, cond, List, [], ◌∷◌, ◌++◌, length, map, get_or, codes, decimal, Option, Some, None, Result, Ok, Err, refl, sym, ap, subst, ◌∙◌, append_assoc, length-append, arith, inl, inr}
+use Rattle.std.proofs.Common.{◌≡◌, ◌≢◌, ℕ, zero, suc, ◌+◌, ◌*◌, ◌/◌, ◌%◌, ◌<◌, ◌≤◌, ◌==◌, Bool, true, false, ◌&&◌, cond, List, [], ◌∷◌, ◌++◌, length, map, get_or, codes, decimal, Option, Some, None, Result, Ok, Err, refl, sym, ap, subst, ◌∙◌, append_assoc, arith, inl, inr}
 use Rattle.std.specs.Prelude.{not}
 use Rattle.std.specs.Fmt.{digit_glyph}
 use Rattle.std.specs.List.{join_with_byte}
@@ -8,7 +8,7 @@ use Rattle.fc_base.specs.CommandText.{byte_word}
 use Rattle.fc_base.specs.Runs.{IsCanonical}
 use Rattle.fc_base.specs.declared.runs.Run.{Run}
 use Rattle.fc_entry.specs.Text.{run_text}
-use Rattle.fc_reading.specs.Readers.{is_decimal, map_read, one_of_at, the_word, then_read}
+use Rattle.fc_reading.specs.Readers.{is_decimal, one_of_at, the_word, then_read}
 use Rattle.fc_reading_notes.specs.Between.{between_at}
 use Rattle.fc_reading_notes.specs.Lists.{starts_with}
 use Rattle.fc_reading_notes.specs.Told.{Each}
@@ -17,10 +17,10 @@ use Rattle.fc_reading.proofs.Exact.{Ends, Exact, Exact-map, Exact-then, SameStar
 use Rattle.fc_reading.proofs.Fields.{AnyUnit, Exact-and, Exact-word}
 use Rattle.fc_reading.proofs.Words.{Ends-nothing, Exact-one_of, IsIndexOf, at_false, at_true, both, cond_err, cond_ok, nothing}
 use Rattle.fc_reading_notes.proofs.BetweenLemmas.{Exact-between, IsBetween}
-use Rattle.fc_reading_notes.proofs.Choices.{Either, Exact-by_first, small}
+use Rattle.fc_reading_notes.proofs.Choices.{Exact-alike, small, stops_first}
+use Rattle.fc_reading_notes.proofs.Commas.{Exact-or_none, NonEmpty, item_line, items_joined, line_some}
 use Rattle.fc_reading_notes.proofs.Lists.{AllFit, ChainOf, Exact-chain, all_text}
 use Rattle.fc_reading_notes.proofs.Ranges.{begins_digit}
-use Rattle.fc_reading_replies.proofs.Cases.{Exact-alike}
 
 -- ---- a digit
 
@@ -91,32 +91,15 @@ Exact-digit excluded = record { takes = takes; again = again; stops = stops }
     again_end [] same = refl
     again_end (b ∷ u) same = absurd same
 
+    stops_none : (left : ℕ) (bytes : List ℕ) → left ≡ length bytes → ((u : List ℕ) → SameStart bytes u → digit_at excluded u ≡ Err (length u)) → Stops (FitsDigit excluded) digit_text (digit_at excluded) bytes left
+    stops_none left bytes all again = stops_first (FitsDigit excluded) digit_text (digit_at excluded) bytes left (some_digit excluded).0 (some_digit excluded).1 all again
+
     stops : (bytes : List ℕ) (left : ℕ) → digit_at excluded bytes ≡ Err left → Stops (FitsDigit excluded) digit_text (digit_at excluded) bytes left
-    stops [] left e = record {
-      front = [];
-      rest = [];
-      split = refl;
-      left_is = sym (err_is _ _ e);
-      value = (some_digit excluded).0;
-      fits = (some_digit excluded).1;
-      more = digit_text (some_digit excluded).0;
-      begins = refl;
-      again = again_end;
-    }
+    stops [] left e = stops_none left [] (sym (err_is _ _ e)) again_end
     stops (byte ∷ bytes) left e =
         elim (cond_err {A = ℕ × List ℕ} (stands excluded byte) (Ok (hex_value byte, bytes)) (suc (length bytes)) left e) [
           | inl here ↦ absurd (ok_no_err _ _ here.1)
-          | inr other ↦ record {
-            front = [];
-            rest = byte ∷ bytes;
-            split = refl;
-            left_is = sym other.1;
-            value = (some_digit excluded).0;
-            fits = (some_digit excluded).1;
-            more = digit_text (some_digit excluded).0;
-            begins = refl;
-            again = λ u same. again_here byte bytes u other.0 same;
-          }
+          | inr other ↦ stops_none left (byte ∷ bytes) (sym other.1) (λ u same. again_here byte bytes u other.0 same)
         ]
 
 -- ---- a byte
@@ -217,15 +200,11 @@ IsReading before x = IsBetween 1 4294967295 x.0 × IsEnd before x.1
 abbrev reading_text : Reading → List ℕ
 reading_text x = decimal x.0 ++ end_text x.1
 
-abbrev sep : Bool → List ℕ
-sep true = codes ","
-sep false = codes "\n"
-
 abbrev FitsRun : Option ℕ → Run × Bool → Type 0
 FitsRun before x = IsBetween 1 4294967295 x.0.count × FitsByte before x.0.byte
 
 abbrev run_line : Run × Bool → List ℕ
-run_line x = run_text x.0 ++ sep x.1
+run_line = item_line run_text
 
 run_joined : (c s b n : List ℕ) → c ++ s ++ b ++ n ≡ c ++ (s ++ (b ++ n))
 run_joined c s b n = simp (append_assoc)
@@ -266,17 +245,10 @@ run-found before bytes run more rest e =
 abbrev Anywhere : Option ℕ → Type 0
 Anywhere before = Unit {0}
 
-run_some : (run : Run) (more : Bool) → 1 ≤ length (run_line (run, more))
-run_some run more = omega (arith, sep_some more, length-append (run_text run) (sep more))
-  where
-    sep_some : (more : Bool) → 1 ≤ length (sep more)
-    sep_some true = omega arith
-    sep_some false = omega arith
-
 run_chain : ChainOf Anywhere FitsRun run_line run_at run_next
 run_chain = record {
   exact = λ before any. Exact-run before;
-  some = λ before x fits. run_some x.0 x.1;
+  some = λ before x fits. line_some run_text x.0 x.1;
   next_good = λ before run any fits. tt;
   ends = λ before any. (record { count = 1; byte = (some_byte before).0 }, ((omega arith, omega arith), (some_byte before).1));
 }
@@ -320,23 +292,12 @@ runs_fit before run (next ∷ runs) other canonical each = (
 abbrev pub data_line : List Run → List ℕ
 data_line runs = join_with_byte 44 (map run_text runs) ++ codes "\n"
 
-runs_joined : (run : Run) (runs : List Run) → data_line (run ∷ runs) ≡ all_text run_line (run ∷ runs)
-runs_joined run [] = refl
-runs_joined run (next ∷ runs) =
-    append_assoc (run_text run) (44 ∷ join_with_byte 44 (map run_text (next ∷ runs))) (codes "\n")
-    ∙ ap (λ t. run_text run ++ 44 ∷ t) (runs_joined next runs)
-    ∙ sym (append_assoc (run_text run) (codes ",") (all_text run_line (next ∷ runs)))
-
 abbrev AreSome : List Run → Type 0
-AreSome [] = ⊥
-AreSome (run ∷ runs) = AreRuns (run ∷ runs)
-
-abbrev AreNone : List Run → Type 0
-AreNone runs = runs ≡ []
+AreSome = NonEmpty AreRuns
 
 some_to : (runs : List Run) → AllFit FitsRun run_next None runs → AreSome runs × (data_line runs ≡ all_text run_line runs)
 some_to [] fits = absurd fits
-some_to (run ∷ runs) fits = ((canonical_after None run runs fits, each_run None (run ∷ runs) fits), runs_joined run runs)
+some_to (run ∷ runs) fits = ((canonical_after None run runs fits, each_run None (run ∷ runs) fits), items_joined run_text run runs)
 
 some_from : (runs : List Run) → AreSome runs → AllFit FitsRun run_next None runs
 some_from [] some = absurd some
@@ -344,14 +305,6 @@ some_from (run ∷ runs) some = runs_fit None run runs refl some.0 some.1
 
 Exact-some : Exact AreSome data_line nothing runs_at
 Exact-some = Exact-alike (AllFit FitsRun run_next None) (all_text run_line) runs_at AreSome data_line Exact-runs some_to some_from
-
-Exact-no_runs : Exact AreNone data_line nothing (map_read (λ u. []) (the_word (codes "\n")))
-Exact-no_runs =
-    Exact-map {V = Unit {0}} {W = List Run} AnyUnit (λ u. codes "\n") nothing (the_word (codes "\n")) AreNone data_line (λ u. [])
-    (Exact-word (codes "\n")) (λ u any. (refl, refl)) (λ runs is. (tt, tt, sym is))
-
-begins_end : (runs : List Run) (rest : List ℕ) → AreNone runs → starts_with 10 (data_line runs ++ rest) ≡ true
-begins_end runs rest is = ap (λ r. starts_with 10 (data_line r ++ rest)) is
 
 -- a run begins with a digit
 run_begins : (run : Run) (more rest : List ℕ) → run.count ≤ 4294967295 → starts_with 10 ((run_text run ++ more) ++ rest) ≡ false
@@ -370,23 +323,5 @@ begins_run (run ∷ next ∷ runs) rest some =
     ap (λ t. starts_with 10 (t ++ rest)) (append_assoc (run_text run) others (codes "\n"))
     ∙ run_begins run (others ++ codes "\n") rest some.1.0.0
 
-data_to : (runs : List Run) → Either AreNone AreSome runs → AreRuns runs × (data_line runs ≡ data_line runs)
-data_to [] fits = ((tt, tt), refl)
-data_to (run ∷ runs) (inl is) = absurd (no_cons run runs is)
-  where
-    no_cons : (run : Run) (runs : List Run) → run ∷ runs ≡ [] → ⊥
-    no_cons run runs e = absurd cc
-data_to (run ∷ runs) (inr some) = (some, refl)
-
-data_from : (runs : List Run) → AreRuns runs → Either AreNone AreSome runs
-data_from [] are = inl refl
-data_from (run ∷ runs) are = inr are
-
 pub Exact-data : Exact AreRuns data_line nothing data_at
-Exact-data =
-    Exact-alike (Either AreNone AreSome) data_line data_at AreRuns data_line
-    (
-    Exact-by_first 10 AreNone AreSome data_line (map_read (λ u. []) (the_word (codes "\n"))) runs_at Exact-no_runs Exact-some
-    begins_end begins_run
-    )
-    data_to data_from
+Exact-data = Exact-or_none 10 (codes "\n") AreRuns data_line runs_at (tt, tt) refl (λ rest. refl) Exact-some begins_run

@@ -1,17 +1,16 @@
 -- Faults of words are read exactly.
-use Rattle.std.proofs.Common.{◌≡◌, ℕ, List, [], ◌++◌, get_or, codes, decimal, refl, ◌∙◌, append_assoc, arith}
+use Rattle.std.proofs.Common.{ℕ, List, [], ◌++◌, get_or, codes, decimal, refl, append_assoc, arith}
 use Rattle.fc_base.specs.declared.fault.RequiredOption.TheVariants as required
 use Rattle.fc_base.specs.declared.fault.WordFault.{WordFault}
 use Rattle.fc_base.specs.declared.fault.WordFault.TheVariants as fault
 use Rattle.fc_entry.specs.Text.{fault_text}
 use Rattle.fc_reading.specs.Readers.{the_word, then_read}
-use Rattle.fc_reading_notes.specs.Told.{IsId}
-use Rattle.fc_reading_replies.specs.Begun.{numbered, said}
 use Rattle.fc_reading_replies.specs.Faults.{IsFault, fault_at, fault_behind, fault_words, numbered_fault, unread_at, unread_text}
 use Rattle.fc_reading.proofs.Exact.{Exact, Exact-map}
 use Rattle.fc_reading.proofs.Fields.{AnyUnit, Exact-and, Exact-word}
 use Rattle.fc_reading.proofs.Words.{IsIndexOf, nothing}
-use Rattle.fc_reading_replies.proofs.Cases.{AllBelow, Case, Exact-begun, Given, case_numbered, case_said, given_numbered, given_said, later_words}
+use Rattle.fc_reading_notes.proofs.Below.{AllBelow}
+use Rattle.fc_reading_replies.proofs.Cases.{Case, Exact-begun, Given, NumberedCases, SaidCases, case_numbered, case_said, given_numbered, given_said, later_words}
 
 abbrev pub fault_line : WordFault → List ℕ
 fault_line fault = fault_text fault ++ codes "\n"
@@ -26,15 +25,11 @@ fault_end (fault.BadName word) = decimal word ++ codes "\n"
 fault_end (fault.Limit n) = decimal n ++ codes "\n"
 fault_end fault = []
 
-whole : (word : List ℕ) (fault : WordFault) → IsFault fault → fault_end fault ≡ [] → fault_line fault ≡ word → Case IsFault fault_line fault_end word (said fault)
-whole word fault is none same = case_said IsFault fault_line fault_end word fault is none same
+whole : SaidCases IsFault fault_line fault_end
+whole = case_said IsFault fault_line fault_end
 
-number :
-    (word : List ℕ) (f : ℕ → WordFault) → ((n : ℕ) → IsId n → IsFault (f n)) → ((n : ℕ) → fault_end (f n) ≡ decimal n ++ codes "\n") →
-    ((n : ℕ) → fault_line (f n) ≡ (word ++ decimal n) ++ codes "\n") →
-    Case IsFault fault_line fault_end word (numbered f)
-number word f is same line =
-    case_numbered IsFault fault_line fault_end word f is same (λ n. line n ∙ append_assoc word (decimal n) (codes "\n"))
+number : NumberedCases IsFault fault_line fault_end
+number = case_numbered IsFault fault_line fault_end
 
 abbrev FaultAt : ℕ → Type 0
 FaultAt i = Case IsFault fault_line fault_end (get_or fault_words i []) (fault_behind i)

@@ -13,13 +13,13 @@ use Rattle.fc_base.specs.declared.state.MapState.TheVariants as state
 use Rattle.fc_entry.specs.Text.{refusal_text, volume_text}
 use Rattle.fc_reading_notes.specs.Lines.{ending_at}
 use Rattle.fc_reading_notes.specs.Told.{Each, IsId}
-use Rattle.fc_reading_replies.specs.Begun.{numbered, said, twice_numbered}
 use Rattle.fc_reading_replies.specs.Refusals.{IsRefusal, not_complete, numbered_refusal, refusal_at, refusal_behind, refusal_words, size_differs, volume_at, volume_of, volumes_at}
 use Rattle.fc_reading.proofs.Exact.{Exact, Exact-map}
 use Rattle.fc_reading.proofs.Words.{IsIndexOf, nothing}
 use Rattle.fc_reading_notes.proofs.Choices.{Exact-ending, IsEnding, ending_text}
 use Rattle.fc_reading_notes.proofs.Lists.{AllFit, ChainOf, Exact-chain, all_text}
-use Rattle.fc_reading_replies.proofs.Cases.{AllBelow, AreTwo, Case, Exact-begun, Given, case_image, case_numbered, case_said, case_twice, given_image, given_numbered, given_said, given_twice, later_words, two_joined, two_text}
+use Rattle.fc_reading_notes.proofs.Below.{AllBelow}
+use Rattle.fc_reading_replies.proofs.Cases.{Case, Exact-begun, Given, NumberedCases, SaidCases, TwiceCases, case_image, case_numbered, case_said, case_twice, given_image, given_numbered, given_said, given_twice, later_words, two_text}
 
 -- ---- the volumes of a loop
 
@@ -124,23 +124,14 @@ refusal_end (refusal.SizeDiffers source target) = two_text (source, target)
 refusal_end (refusal.RestoreLoop volumes) = all_text volume_line volumes
 refusal_end refusal = []
 
-whole : (word : List ℕ) (refusal : Refusal) → IsRefusal refusal → refusal_end refusal ≡ [] → refusal_line refusal ≡ word → Case IsRefusal refusal_line refusal_end word (said refusal)
-whole word refusal is none same = case_said IsRefusal refusal_line refusal_end word refusal is none same
+whole : SaidCases IsRefusal refusal_line refusal_end
+whole = case_said IsRefusal refusal_line refusal_end
 
-number :
-    (word : List ℕ) (f : ℕ → Refusal) → ((n : ℕ) → IsId n → IsRefusal (f n)) → ((n : ℕ) → refusal_end (f n) ≡ decimal n ++ codes "\n") →
-    ((n : ℕ) → refusal_line (f n) ≡ (word ++ decimal n) ++ codes "\n") →
-    Case IsRefusal refusal_line refusal_end word (numbered f)
-number word f is same line =
-    case_numbered IsRefusal refusal_line refusal_end word f is same (λ n. line n ∙ append_assoc word (decimal n) (codes "\n"))
+number : NumberedCases IsRefusal refusal_line refusal_end
+number = case_numbered IsRefusal refusal_line refusal_end
 
-two :
-    (word : List ℕ) (f : ℕ × ℕ → Refusal) → ((x : ℕ × ℕ) → AreTwo x → IsRefusal (f x)) → ((x : ℕ × ℕ) → refusal_end (f x) ≡ two_text x) →
-    ((x : ℕ × ℕ) → refusal_line (f x) ≡ (word ++ (decimal x.0 ++ codes " " ++ decimal x.1)) ++ codes "\n") →
-    Case IsRefusal refusal_line refusal_end word (twice_numbered f)
-two word f is same line =
-    case_twice IsRefusal refusal_line refusal_end word f is same
-    (λ x. line x ∙ two_joined word (decimal x.0) (codes " ") (decimal x.1) (codes "\n"))
+two : TwiceCases IsRefusal refusal_line refusal_end
+two = case_twice IsRefusal refusal_line refusal_end
 
 loop_line : (volumes : List VolId) → AreVolumes volumes → refusal_line (refusal.RestoreLoop volumes) ≡ codes "restore loop " ++ all_text volume_line volumes
 loop_line [] fits = absurd fits

@@ -14,7 +14,6 @@ use Rattle.fc_entry.specs.Text.{made_text, refusal_text, run_text, state_text}
 use Rattle.fc_reading.specs.Readers.{map_read, the_word, then_read}
 use Rattle.fc_reading_notes.specs.Lines.{count_at, id_at, state_at}
 use Rattle.fc_reading_notes.specs.Told.{IsCount, IsId}
-use Rattle.fc_reading_replies.specs.Begun.{said}
 use Rattle.fc_reading_replies.specs.Data.{AreRuns, data_at}
 use Rattle.fc_reading_replies.specs.Refusals.{IsRefusal, refusal_at}
 use Rattle.fc_reading_replies.specs.Replies.{IsSaid, answer_words, made_of, moved_of, not_accessible, offline_of, refused_at, refused_of, reply_at, reply_behind, reply_line, reply_words}
@@ -23,8 +22,9 @@ use Rattle.fc_reading_replies.specs.declared.replies.ReplyLine.TheVariants.{Whol
 use Rattle.fc_reading.proofs.Exact.{Exact, Exact-map}
 use Rattle.fc_reading.proofs.Fields.{AnyUnit, Exact-and, Exact-word}
 use Rattle.fc_reading.proofs.Words.{nothing}
-use Rattle.fc_reading_notes.proofs.LineLemmas.{AnyState, Exact-count, Exact-id, Exact-state, state_line}
-use Rattle.fc_reading_replies.proofs.Cases.{AllBelow, Case, Exact-begun, Given, case_image, case_numbered, case_said, case_twice, given_image, given_numbered, given_said, given_twice, later_words, spaced, two_joined, two_text}
+use Rattle.fc_reading_notes.proofs.LineLemmas.{AnyState, Exact-count, Exact-id, Exact-state, spaced, state_line}
+use Rattle.fc_reading_notes.proofs.Below.{AllBelow}
+use Rattle.fc_reading_replies.proofs.Cases.{Case, Exact-begun, Given, SaidCases, case_image, case_numbered, case_said, case_twice, given_image, given_numbered, given_said, given_twice, later_words, two_text}
 use Rattle.fc_reading_replies.proofs.DataLemmas.{Exact-data, data_line}
 use Rattle.fc_reading_replies.proofs.RefusalLemmas.{Exact-refusal, refusal_line}
 
@@ -42,8 +42,8 @@ reply_end (Whole (reply.Refused refusal)) = refusal_line refusal
 reply_end (Whole reply) = []
 reply_end (Rows rows) = decimal rows ++ codes "\n"
 
-whole : (refusable : Bool) (word : List ℕ) (line : ReplyLine) → IsSaid refusable line → reply_end line ≡ [] → reply_line line ≡ word → Case (IsSaid refusable) reply_line reply_end word (said line)
-whole refusable word line is none same = case_said (IsSaid refusable) reply_line reply_end word line is none same
+whole : (refusable : Bool) → SaidCases (IsSaid refusable) reply_line reply_end
+whole refusable = case_said (IsSaid refusable) reply_line reply_end
 
 made_joined : (m w d e n : List ℕ) → m ++ w ++ d ++ e ++ n ≡ (m ++ w) ++ (d ++ (e ++ n))
 made_joined m w d e n = simp (append_assoc)
@@ -112,13 +112,11 @@ refused =
 
 moved : (refusable : Bool) → Case (IsSaid refusable) reply_line reply_end (codes "moved ") (reply_behind 8)
 moved refusable =
-    case_twice (IsSaid refusable) reply_line reply_end (codes "moved ") moved_of (λ x is. is) (λ x. refl)
-    (λ x. two_joined (codes "moved ") (decimal x.0) (codes " ") (decimal x.1) (codes "\n"))
+    case_twice (IsSaid refusable) reply_line reply_end (codes "moved ") moved_of (λ x is. is) (λ x. refl) (λ x. refl)
 
 hidden : (refusable : Bool) → Case (IsSaid refusable) reply_line reply_end (codes "not accessible ") (reply_behind 10)
 hidden refusable =
-    case_numbered (IsSaid refusable) reply_line reply_end (codes "not accessible ") not_accessible (λ n is. is) (λ n. refl)
-    (λ n. append_assoc (codes "not accessible ") (decimal n) (codes "\n"))
+    case_numbered (IsSaid refusable) reply_line reply_end (codes "not accessible ") not_accessible (λ n is. is) (λ n. refl) (λ n. refl)
 
 abbrev ReplyAt : Bool → ℕ → Type 0
 ReplyAt refusable i = Case (IsSaid refusable) reply_line reply_end (get_or (reply_words true) i []) (reply_behind i)

@@ -11,8 +11,7 @@ use Rattle.fc_reading.proofs.Exact.{Ends, Exact, Exact-map, SameStart, Stops, Ta
 use Rattle.fc_reading.proofs.Fields.{Exact-and}
 use Rattle.fc_reading.proofs.Numbers.{cases}
 use Rattle.fc_reading.proofs.Words.{Ends-nothing, at_false, at_true, nothing}
-use Rattle.fc_reading_notes.proofs.Choices.{Exact-none, Is}
-use Rattle.fc_reading_replies.proofs.Cases.{Exact-alike}
+use Rattle.fc_reading_notes.proofs.Choices.{Exact-alike, Exact-none, Is}
 
 -- ---- the bytes up to a newline
 

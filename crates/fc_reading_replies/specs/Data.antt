@@ -1,4 +1,5 @@
--- The bytes of a read, as runs of equal bytes, read from the left: no run is empty, and no two neighbours have the same byte.
+-- The bytes of a read, as runs of equal bytes, read from the left: no run is empty, and no two neighbours have
+-- the same byte.
 use Rattle.std.specs.Prelude.{ℕ, suc, ◌+◌, ◌*◌, ◌-◌, ◌/◌, ◌%◌, ◌<◌, ◌==◌, Bool, true, not, ◌&&◌, ◌||◌, if◌then◌else◌, nat_le, List, [], ◌∷◌, length, Option, Some, None, Result, Ok, Err, codes}
 use Rattle.fc_base.specs.Runs.{IsCanonical}
 use Rattle.fc_base.specs.declared.runs.Run.{Run}

@@ -1,4 +1,5 @@
--- Why a command was refused, read from the left as far as the end of the reply's line. No fault of words is among it.
+-- Why a command was refused, read from the left as far as the end of the reply's line. No fault of words is
+-- among it.
 use Rattle.std.specs.Prelude.{ℕ, ◌-◌, ◌/◌, ◌%◌, ◌==◌, Bool, if◌then◌else◌, nat_lt, List, [], ◌∷◌, Result, codes}
 use Rattle.fc_base.specs.declared.fault.Kind.{Kind}
 use Rattle.fc_base.specs.declared.fault.Kind.TheVariants.{Vdisk, Fcmap, Group}

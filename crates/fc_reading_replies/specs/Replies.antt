@@ -1,6 +1,7 @@
--- What was answered, read from the left as far as the end of its line: the reply of anything but a line with a fault in its
--- words. The line of a report says how many rows it has. Whether it may be a refusal is said beforehand, since some requests
--- stand in an entry only where they were refused, and others only where they weren't.
+-- What was answered, read from the left as far as the end of its line: the reply of anything but a line with a
+-- fault in its words. The line of a report says how many rows it has. Whether it may be a refusal is said
+-- beforehand, since some requests stand in an entry only where they were refused, and others only where they
+-- weren't.
 use Rattle.std.specs.Prelude.{◌≡◌, ℕ, ◌-◌, ◌==◌, Bool, true, if◌then◌else◌, nat_lt, List, [], ◌∷◌, ◌++◌, length, Result, codes, decimal}
 use Rattle.fc_base.specs.declared.fault.Refusal.{Refusal}
 use Rattle.fc_base.specs.declared.request.Reply.{Reply}

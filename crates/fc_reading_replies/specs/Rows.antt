@@ -1,4 +1,5 @@
--- The rows of a report, read from the left, each up to its newline. None begins with `+`, as a line of what an entry did does.
+-- The rows of a report, read from the left, each up to its newline. None begins with `+`, as a line of what an
+-- entry did does.
 use Rattle.std.specs.Prelude.{◌≡◌, ◌≢◌, ℕ, zero, suc, ◌==◌, false, if◌then◌else◌, List, [], ◌∷◌, ◌++◌, length, Result, Ok, Err, codes}
 use Rattle.std.specs.List.{flat_map}
 use Rattle.fc_reading.specs.Readers.{◌>>=◌, map_read, then_read}

@@ -75,8 +75,9 @@ pub fn take_unread(bytes: &[u8]) -> Result<(WordFault, &[u8]), Malformed>
     take_fault(rest)
 }
 
-/// Reads from the front of the bytes the reply of a line with a fault in its words, up to its newline: the fault, and the length.
-/// Refused, with the place of the first byte with which no such reply goes on, or the end where the bytes end too early.
+/// Reads from the front of the bytes the reply of a line with a fault in its words, up to its newline: the
+/// fault, and the length. Refused, with the place of the first byte with which no such reply goes on, or the
+/// end where the bytes end too early.
 pub fn read_fault(bytes: &[u8]) -> Result<(WordFault, usize), usize>
     ensures within { IfOk result (λ found. found.1 ≤ length bytes.now) }
     ensures found { IfOk result (λ found. take found.1 bytes.now ≡ unread_text found.0) }

@@ -43,7 +43,8 @@ fn reply_of(number: usize) -> Reply
     }
 }
 
-/// Takes the whole line of a reply, or the words that begin it, by their number. Those of a refusal only where it may be one.
+/// Takes the whole line of a reply, or the words that begin it, by their number. Those of a refusal only where
+/// it may be one.
 fn take_words(refusable: bool, bytes: &[u8]) -> Result<(usize, &[u8]), Malformed>
     ensures { Reads (λ found. (found.0, found.1.now)) result (one_of_at (reply_words refusable) bytes.now) }
 {
@@ -137,7 +138,8 @@ fn take_behind(alloc: Global, words: usize, bytes: &[u8]) -> Result<(ReplyLine, 
     }
 }
 
-/// Takes the line of a reply of anything but a line with a fault in its words; one of a refusal only where it may be one.
+/// Takes the line of a reply of anything but a line with a fault in its words; one of a refusal only where it
+/// may be one.
 pub fn take_reply(
     alloc: Global,
     refusable: bool,
@@ -157,9 +159,10 @@ pub fn take_refused(alloc: Global, bytes: &[u8]) -> Result<(Refusal, &[u8]), Rea
     take_refusal(alloc, rest)
 }
 
-/// Reads from the front of the bytes the line of a reply, behind the arrow and up to its newline: what it says, and its length. It
-/// is the reply of anything but a line with a fault in its words. Refused with the place of the first byte with which no such line
-/// goes on, or the end where the bytes end too early; or for want of memory.
+/// Reads from the front of the bytes the line of a reply, behind the arrow and up to its newline: what it says,
+/// and its length. It is the reply of anything but a line with a fault in its words. Refused with the place of
+/// the first byte with which no such line goes on, or the end where the bytes end too early; or for want of
+/// memory.
 pub fn read_reply(alloc: Global, bytes: &[u8]) -> Result<(ReplyLine, usize), NotTold>
     ensures within { IfOk result (λ found. found.1 ≤ length bytes.now) }
     ensures found { IfOk result (λ found. take found.1 bytes.now ≡ reply_line found.0) }

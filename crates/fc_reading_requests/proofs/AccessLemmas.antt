@@ -15,10 +15,10 @@ use Rattle.fc_reading.proofs.Exact.{Exact, Exact-then}
 use Rattle.fc_reading.proofs.Fields.{Exact-and, Exact-field}
 use Rattle.fc_reading.proofs.Numbers.{IsUpTo}
 use Rattle.fc_reading.proofs.Words.{Ends-nothing, nothing}
-use Rattle.fc_reading_notes.proofs.Choices.{Is, small}
+use Rattle.fc_reading_notes.proofs.Choices.{Exact-recast, Is, small}
 use Rattle.fc_reading_notes.proofs.Effects.{Image}
 use Rattle.fc_reading_requests.proofs.Alternatives.{Alternative, alone_said, made}
-use Rattle.fc_reading_requests.proofs.Exactness.{Exact-ended, Exact-recast}
+use Rattle.fc_reading_requests.proofs.Exactness.{Exact-ended}
 use Rattle.fc_reading_requests.proofs.Objects.{Exact-byte, Exact-field_32, Exact-object_and, IsByte, number-of, some_object}
 
 -- ---- pieces

@@ -19,9 +19,9 @@ use Rattle.fc_reading_requests.specs.declared.asked.Asked.TheVariants.{Unread, R
 use Rattle.fc_reading.proofs.Exact.{Exact, Exact-map, Exact-then}
 use Rattle.fc_reading.proofs.StopsLemmas.{Exact-stops_at, take-front}
 use Rattle.fc_reading.proofs.Words.{Ends-nothing, IsIndexOf, nothing}
+use Rattle.fc_reading_notes.proofs.Below.{AllBelow, below_at}
 use Rattle.fc_reading_requests.proofs.AccessLemmas.{FitsAccess, clean_turns, cleanings, copies, copy_turns, reads, unread, writes}
 use Rattle.fc_reading_requests.proofs.Alternatives.{Alternative, behind_text}
-use Rattle.fc_reading_requests.proofs.Exactness.{Below, each_below}
 use Rattle.fc_reading_requests.proofs.MappingLemmas.{FitsMaking, groups, mappings, named_groups}
 use Rattle.fc_reading_requests.proofs.Options.{Exact-words, settings}
 use Rattle.fc_reading_requests.proofs.ReportLemmas.{FitsReport, delimited_list, dependents, group_lists, mapping_lists, progress, volume_list}
@@ -48,21 +48,21 @@ FitsAt i a =
 abbrev AlternativeAt : ℕ → Type 0
 AlternativeAt i = Alternative (get_or asked_words i []) (behind_word i) (FitsAt i)
 
-accesses : Below AlternativeAt 7
+accesses : AllBelow AlternativeAt 7
 accesses = (((((((tt, unread), reads), writes), copies), cleanings), copy_turns), clean_turns)
 
-with_volumes : Below AlternativeAt 12
+with_volumes : AllBelow AlternativeAt 12
 with_volumes = (((((accesses, named_volumes), volumes), removals), armfaults), advances)
 
-with_mappings : Below AlternativeAt 19
+with_mappings : AllBelow AlternativeAt 19
 with_mappings = (((((((with_volumes, mappings), groups), named_groups), prestarts), group_prestarts), mapping_removals), group_removals)
 
-all : Below AlternativeAt 29
+all : AllBelow AlternativeAt 29
 all =
     ((((((((((with_mappings, starts), group_starts), stops), group_stops), mapping_lists), group_lists), volume_list), delimited_list), progress), dependents)
 
 alternatives : (i : ℕ) → i < 29 → AlternativeAt i
-alternatives = each_below AlternativeAt 29 all
+alternatives = below_at AlternativeAt 29 all
 
 -- ---- each is begun by a word
 

@@ -1,6 +1,5 @@
--- Readers that are made of others are exact: told of otherwise, by the first byte, closed, ended by a word.
-use Rattle.std.proofs.Common.{◌≡◌, ℕ, zero, suc, ◌<◌, Bool, true, false, List, [], ◌∷◌, ◌++◌, length, Result, Ok, Err, refl, sym, ap, subst, ◌∙◌, arith, inl, inr}
-use Rattle.std.specs.Prelude.{◌⊎◌}
+-- Readers that are made of others are exact: by the first byte, closed, ended by a word.
+use Rattle.std.proofs.Common.{◌≡◌, ℕ, suc, Bool, true, false, List, [], ◌∷◌, ◌++◌, length, Result, Ok, Err, refl, sym, ap, subst, ◌∙◌, inl, inr}
 use Rattle.std.proofs.lemmas.Bool.{false≢true}
 use Rattle.std.proofs.lemmas.List.{append-nil}
 use Rattle.fc_reading.specs.Readers.{the_word, then_read}
@@ -10,42 +9,7 @@ use Rattle.fc_reading.proofs.Exact.{Ends, Exact, Exact-map, Exact-then, SameStar
 use Rattle.fc_reading.proofs.Fields.{AnyUnit, Exact-word}
 use Rattle.fc_reading.proofs.Numbers.{cases}
 use Rattle.fc_reading.proofs.Words.{Ends-nothing, at_false, at_true, nothing}
-use Rattle.fc_reading_notes.proofs.Choices.{begins-same}
-
--- ---- told of otherwise
-
--- the same values, with the same texts
-pub Exact-recast :
-    {V : Type 0} (Fits Fits2 : V → Type 0) (text text2 : V → List ℕ) (joins : ℕ → Bool) (read : List ℕ → Result (V × List ℕ) ℕ) →
-    Exact Fits text joins read →
-    ((v : V) → Fits v → Fits2 v × (text v ≡ text2 v)) →
-    ((v : V) → Fits2 v → Fits v) →
-    Exact Fits2 text2 joins read
-Exact-recast Fits Fits2 text text2 joins read exact to from = record {
-  takes =
-      λ bytes v rest e.
-      let t = exact.takes bytes v rest e in
-      let c = to v t.fits in
-      record { fits = c.0; split = t.split ∙ ap (λ x. x ++ rest) c.1; ends = t.ends };
-  again =
-      λ v rest fits ends.
-      ap (λ x. read (x ++ rest)) (sym (to v (from v fits)).1) ∙ exact.again v rest (from v fits) ends;
-  stops =
-      λ bytes left e.
-      let s = exact.stops bytes left e in
-      let c = to s.value s.fits in
-      record {
-        front = s.front;
-        rest = s.rest;
-        split = s.split;
-        left_is = s.left_is;
-        value = s.value;
-        fits = c.0;
-        more = s.more;
-        begins = sym c.1 ∙ s.begins;
-        again = s.again;
-      };
-}
+use Rattle.fc_reading_notes.proofs.Choices.{begins-same, stops_first}
 
 -- ---- closed
 
@@ -185,31 +149,13 @@ Exact-byte_of_kind test some is = record { takes = takes; again = again; stops =
     other_again byte bytes (b ∷ u) f same = refused b u (ap test (sym same) ∙ f)
 
     stops : (bytes : List ℕ) (left : ℕ) → byte_of_kind test bytes ≡ Err left → Stops (IsOfKind test) alone (byte_of_kind test) bytes left
-    stops [] left e = record {
-      front = [];
-      rest = [];
-      split = refl;
-      left_is = sym (err_is _ _ e);
-      value = some;
-      fits = is;
-      more = alone some;
-      begins = refl;
-      again = none_again;
-    }
+    stops [] left e = stops_first (IsOfKind test) alone (byte_of_kind test) [] left some is (sym (err_is _ _ e)) none_again
     stops (byte ∷ bytes) left e =
         elim (cases (test byte)) [
           | inl t ↦ absurd (ok_no_err _ _ (sym (taken byte bytes t) ∙ e))
-          | inr f ↦ record {
-            front = [];
-            rest = byte ∷ bytes;
-            split = refl;
-            left_is = sym (err_is _ _ (sym (refused byte bytes f) ∙ e));
-            value = some;
-            fits = is;
-            more = alone some;
-            begins = refl;
-            again = λ u same. other_again byte bytes u f same;
-          }
+          | inr f ↦
+              stops_first (IsOfKind test) alone (byte_of_kind test) (byte ∷ bytes) left some is (sym (err_is _ _ (sym (refused byte bytes f) ∙ e)))
+              (λ u same. other_again byte bytes u f same)
         ]
 
 -- ---- a word behind
@@ -245,17 +191,3 @@ Exact-said {V} value Fits text fits empty only = record {
       subst P (sym (only v of)) at;
   stops = λ bytes left e. absurd (ok_no_err _ _ e);
 }
-
--- ---- each number below another
-
-abbrev pub Below : (ℕ → Type 0) → ℕ → Type 0
-Below P zero = Unit {0}
-Below P (suc n) = Below P n × P n
-
-pub each_below : (P : ℕ → Type 0) (n : ℕ) → Below P n → (i : ℕ) → i < n → P i
-each_below P zero all i inside = absurd (omega (arith, inside))
-each_below P (suc n) all i inside =
-    elim (last i n inside) [ inl less ↦ each_below P n all.0 i less | inr same ↦ subst P (sym same) all.1 ]
-  where
-    last : (i n : ℕ) → i < suc n → (i < n) ⊎ (i ≡ n)
-    last i n inside = grind arith

@@ -19,9 +19,9 @@ use Rattle.fc_reading.proofs.Exact.{Exact, Exact-then}
 use Rattle.fc_reading.proofs.Fields.{Exact-and}
 use Rattle.fc_reading.proofs.Words.{nothing}
 use Rattle.fc_reading_notes.proofs.Choices.{Is}
+use Rattle.fc_reading_notes.proofs.Below.{below_at}
 use Rattle.fc_reading_notes.proofs.Effects.{Image}
 use Rattle.fc_reading_requests.proofs.Alternatives.{Alternative, alone_said, made}
-use Rattle.fc_reading_requests.proofs.Exactness.{each_below}
 use Rattle.fc_reading_requests.proofs.Names.{the_name}
 use Rattle.fc_reading_requests.proofs.Objects.{Exact-name_and, Exact-object, Exact-object_and, some_object}
 use Rattle.fc_reading_requests.proofs.Options.{AreSettings, Exact-settings, given_text, settings, settings_end, settings_text}
@@ -71,7 +71,7 @@ last_words end =
 
 last_is : (end : ℕ) → end < 12 → spaced (last_words end) ++ arrow ≡ get_or mapping_ends end []
 last_is =
-    each_below (λ end. spaced (last_words end) ++ arrow ≡ get_or mapping_ends end []) 12
+    below_at (λ end. spaced (last_words end) ++ arrow ≡ get_or mapping_ends end []) 12
     ((((((((((((tt, refl), refl), refl), refl), refl), refl), refl), refl), refl), refl), refl), refl)
 
 mapping_joined :

@@ -18,10 +18,11 @@ use Rattle.fc_reading.proofs.Exact.{Ends, Exact, Exact-map}
 use Rattle.fc_reading.proofs.Fields.{Exact-and}
 use Rattle.fc_reading.proofs.Numbers.{Exact-number, IsUpTo}
 use Rattle.fc_reading.proofs.Words.{Ends-nothing, Exact-one_of, IsIndexOf, both, nothing}
-use Rattle.fc_reading_notes.proofs.Choices.{Either, Exact-choice, small}
+use Rattle.fc_reading_notes.proofs.Choices.{Either, Exact-choice, Exact-recast, small}
+use Rattle.fc_reading_notes.proofs.Below.{below_at}
 use Rattle.fc_reading_notes.proofs.Effects.{Exact-image, Image}
 use Rattle.fc_reading_notes.proofs.LineLemmas.{Exact-id}
-use Rattle.fc_reading_requests.proofs.Exactness.{Exact-byte_of_kind, Exact-closed, Exact-ended, Exact-recast, IsOfKind, alone, each_below}
+use Rattle.fc_reading_requests.proofs.Exactness.{Exact-byte_of_kind, Exact-closed, Exact-ended, IsOfKind, alone}
 use Rattle.fc_reading_requests.proofs.Names.{Exact-name, the_name}
 
 -- ---- numbers
@@ -163,7 +164,7 @@ IsByte byte = byte < 256
 
 glyph-is : (d : ℕ) → d < 16 → digit_glyph false d ∷ [] ≡ get_or hex_digits d []
 glyph-is =
-    each_below (λ d. digit_glyph false d ∷ [] ≡ get_or hex_digits d []) 16
+    below_at (λ d. digit_glyph false d ∷ [] ≡ get_or hex_digits d []) 16
     ((((((((((((((((tt, refl), refl), refl), refl), refl), refl), refl), refl), refl), refl), refl), refl), refl), refl), refl), refl)
 
 Exact-hex : Exact (IsIndexOf hex_digits) (λ d. get_or hex_digits d []) nothing (one_of_at hex_digits)

@@ -15,7 +15,8 @@ use Rattle.fc_reading_requests.specs.declared.mappings.Settings.{Settings}
 use Rattle.fc_reading.proofs.Exact.{Ends, Exact, Exact-map, Exact-then}
 use Rattle.fc_reading.proofs.Numbers.{cases}
 use Rattle.fc_reading.proofs.Words.{Ends-nothing, Exact-one_of, IsIndexOf, at_false, at_true, is_code, nothing}
-use Rattle.fc_reading_requests.proofs.Exactness.{Exact-said, each_below}
+use Rattle.fc_reading_notes.proofs.Below.{below_at}
+use Rattle.fc_reading_requests.proofs.Exactness.{Exact-said}
 use Rattle.fc_reading_requests.proofs.Names.{Exact-name, the_name}
 use Rattle.fc_reading_requests.proofs.Objects.{Exact-number_32, Exact-object, number-of, some_object}
 
@@ -26,7 +27,7 @@ Exact-words [] code some = absurd (omega (arith, some))
 Exact-words (word ∷ words) code some = Exact-one_of word words code
 
 codes_behind : (first : ℕ) → first < 5 → is_code (drop first mapping_options) ≡ true
-codes_behind = each_below (λ first. is_code (drop first mapping_options) ≡ true) 5 (((((tt, refl), refl), refl), refl), refl)
+codes_behind = below_at (λ first. is_code (drop first mapping_options) ≡ true) 5 (((((tt, refl), refl), refl), refl), refl)
 
 abbrev IsLater : ℕ → ℕ → Type 0
 IsLater first i = (first ≤ i) × (i < 16)
@@ -56,7 +57,7 @@ is_space byte = byte == 32
 
 spaces : (i : ℕ) → i < 16 → (rest : List ℕ) → begins is_space (option_text i ++ rest) ≡ true
 spaces =
-    each_below (λ i. (rest : List ℕ) → begins is_space (option_text i ++ rest) ≡ true) 16 (
+    below_at (λ i. (rest : List ℕ) → begins is_space (option_text i ++ rest) ≡ true) 16 (
       (
         (
           (

@@ -14,10 +14,10 @@ use Rattle.fc_reading_requests.specs.declared.asked.Asked.TheVariants.{Command a
 use Rattle.fc_reading.proofs.Exact.{Exact, Exact-map, Exact-then}
 use Rattle.fc_reading.proofs.Fields.{AnyUnit, Exact-and, Exact-word}
 use Rattle.fc_reading.proofs.Words.{Ends-nothing, Exact-one_of, IsIndexOf, nothing}
-use Rattle.fc_reading_notes.proofs.Choices.{Either, Is}
+use Rattle.fc_reading_notes.proofs.Choices.{Either, Exact-recast, Is}
 use Rattle.fc_reading_notes.proofs.Effects.{Exact-image, Image}
 use Rattle.fc_reading_requests.proofs.Alternatives.{Alternative, alone_said, made}
-use Rattle.fc_reading_requests.proofs.Exactness.{Exact-recast, Exact-said}
+use Rattle.fc_reading_requests.proofs.Exactness.{Exact-said}
 use Rattle.fc_reading_requests.proofs.Objects.{Exact-delim_and, Exact-last, Exact-or_object, some_object}
 use Rattle.fc_reading_requests.proofs.RunLemmas.{last_text}
 

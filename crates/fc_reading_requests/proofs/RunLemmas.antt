@@ -17,10 +17,9 @@ use Rattle.fc_reading_requests.specs.declared.asked.Asked.{Asked}
 use Rattle.fc_reading.proofs.Exact.{Exact, Exact-map, Exact-then}
 use Rattle.fc_reading.proofs.Fields.{AnyUnit, Exact-and, Exact-word}
 use Rattle.fc_reading.proofs.Words.{Ends-nothing, Exact-one_of, IsIndexOf, nothing}
-use Rattle.fc_reading_notes.proofs.Choices.{Either}
+use Rattle.fc_reading_notes.proofs.Choices.{Either, Exact-recast}
 use Rattle.fc_reading_notes.proofs.Effects.{Exact-image, Image}
 use Rattle.fc_reading_requests.proofs.Alternatives.{Alternative, made}
-use Rattle.fc_reading_requests.proofs.Exactness.{Exact-recast}
 use Rattle.fc_reading_requests.proofs.Objects.{Exact-last, Exact-or_object, some_object}
 
 abbrev pub last_text : Ref → List ℕ

@@ -17,10 +17,10 @@ use Rattle.fc_reading.proofs.Exact.{Exact, Exact-then}
 use Rattle.fc_reading.proofs.Fields.{Exact-and}
 use Rattle.fc_reading.proofs.Words.{Exact-one_of, IsIndexOf, nothing}
 use Rattle.fc_reading_notes.proofs.Choices.{words_end}
+use Rattle.fc_reading_notes.proofs.Below.{below_at}
 use Rattle.fc_reading_notes.proofs.Effects.{Image}
 use Rattle.fc_reading_requests.proofs.AccessLemmas.{AreTwo, Exact-end, Exact-ref, Exact-two, end_text, is_zero, ref_text, two_text}
 use Rattle.fc_reading_requests.proofs.Alternatives.{Alternative, made}
-use Rattle.fc_reading_requests.proofs.Exactness.{each_below}
 use Rattle.fc_reading_requests.proofs.Objects.{Exact-last, Exact-name_and, Exact-number_32, some_object}
 
 -- ---- sizes
@@ -53,7 +53,7 @@ size_line size unit thin = join_with_byte 32 (decimal size ∷ given_words (code
 
 size_line-is : (size end : ℕ) → end < 8 → size_line size (unit_of end) (end % 2 == 1) ≡ decimal size ++ get_or size_ends end []
 size_line-is size =
-    each_below (λ end. size_line size (unit_of end) (end % 2 == 1) ≡ decimal size ++ get_or size_ends end []) 8 (
+    below_at (λ end. size_line size (unit_of end) (end % 2 == 1) ≡ decimal size ++ get_or size_ends end []) 8 (
       (
         (
           (

@@ -44,7 +44,8 @@ request_of (CopyTurn lane) reply = Some (request.CopyTurn lane)
 request_of (CleanTurn lane) reply = Some (request.CleanTurn lane)
 request_of (OfCommand command) reply = Some (request.Command command)
 
--- a reply that such a request may have: of accesses the refused ones are lines, and a line with faulty words is told its fault
+-- a reply that such a request may have: of accesses the refused ones are lines, and a line with faulty words is
+-- told its fault
 abbrev pub MayAnswer : Request → Reply → Type 0
 MayAnswer (request.Command (ReadLine volume block count)) reply = is_refused reply ≡ true
 MayAnswer (request.Command (WriteLine volume block count byte)) reply = is_refused reply ≡ true

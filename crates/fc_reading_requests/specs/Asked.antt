@@ -1,5 +1,5 @@
--- What was asked, as its text tells it. The text of a host's access and of a refused line of one is the same, and a line with a
--- fault in its words has none: the reply says which it was.
+-- What was asked, as its text tells it. The text of a host's access and of a refused line of one is the same,
+-- and a line with a fault in its words has none: the reply says which it was.
 use Rattle.std.specs.Prelude.{◌≡◌, ℕ, ◌<◌, ◌≤◌, List, ◌++◌, codes, decimal}
 use Rattle.fc_base.specs.CommandText.{byte_word, command_text, ref_word}
 use Rattle.fc_base.specs.declared.command.Command.{Command}

@@ -15,8 +15,8 @@ OrNoMemory (Ok found) IsSo = IsSo found
 OrNoMemory (Err (Malformed place)) IsSo = ⊥
 OrNoMemory (Err NoMemory) IsSo = Unit {0}
 
--- where the bytes begin with the text of a request that an entry can hold, and the arrow, they are read as it is asked, to behind
--- the arrow
+-- where the bytes begin with the text of a request that an entry can hold, and the arrow, they are read as it
+-- is asked, to behind the arrow
 abbrev pub ReadsBack : List ℕ → Result (Asked × ℕ) NotTold → Type 0
 ReadsBack bytes result =
     (request : Request) (rest : List ℕ) → IsRequest request → bytes ≡ request_text request ++ codes " -> " ++ rest →

@@ -1,4 +1,5 @@
--- The lines that make mappings and groups, each read from the left behind the word that begins it, as far as the arrow.
+-- The lines that make mappings and groups, each read from the left behind the word that begins it, as far as
+-- the arrow.
 use Rattle.std.specs.Prelude.{ℕ, suc, ◌-◌, ◌%◌, ◌==◌, if◌then◌else◌, nat_le, nat_lt, List, [], ◌∷◌, Option, Some, None, Result, codes}
 use Rattle.fc_base.specs.declared.command.Command.{Command}
 use Rattle.fc_base.specs.declared.command.Command.TheVariants as command
@@ -33,8 +34,8 @@ mapping_options = codes " -name " ∷ codes " -consistgrp " ∷ codes " -copyrat
 abbrev pub later_at : ℕ → List ℕ → Result (ℕ × List ℕ) ℕ
 later_at = one_from_at mapping_options
 
--- `next` was read, an option or an end by its number. Where it is this option, its value is read, and what stands behind it, which
--- is a later one.
+-- `next` was read, an option or an end by its number. Where it is this option, its value is read, and what
+-- stands behind it, which is a later one.
 abbrev pub given_at : {V : Type 0} → ℕ → (List ℕ → Result (V × List ℕ) ℕ) → ℕ → List ℕ → Result ((Option V × ℕ) × List ℕ) ℕ
 given_at number read next =
     if next == number then map_read (λ x. (Some x.0, x.1)) (then_read read (λ v. later_at (suc number))) else said (None, next)

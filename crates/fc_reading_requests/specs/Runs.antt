@@ -1,5 +1,5 @@
--- The lines that prepare, start, stop and remove mappings and groups, each read from the left behind the word that begins it, as far
--- as the arrow.
+-- The lines that prepare, start, stop and remove mappings and groups, each read from the left behind the word
+-- that begins it, as far as the arrow.
 use Rattle.std.specs.Prelude.{ℕ, ◌==◌, Bool, true, false, if◌then◌else◌, List, [], ◌∷◌, Result, codes}
 use Rattle.fc_base.specs.declared.command.Command.{Command}
 use Rattle.fc_base.specs.declared.command.Command.TheVariants as command

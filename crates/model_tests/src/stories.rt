@@ -1,5 +1,5 @@
-//! The stories. Births are counted by hand: each volume takes one as it comes, each started copy and each new live slot one
-//! more.
+//! The stories. Births are counted by hand: each volume takes one as it comes, each started copy and each new
+//! live slot one more.
 
 use crate::story::{Story, pair};
 use fc_base::ids::VolId;
@@ -30,8 +30,7 @@ fn a_write_copies_to_the_latest_target_alone(rt: HostRuntime) -> Result<(), Fail
 
 #[test]
 fn a_cascade_copies_one_step(rt: HostRuntime) -> Result<(), Fail> {
-    let mut story = Story::cascade(rt.alloc(), 4, 1)?;
-    story.write(1, 0)?;
+    let story = Story::written(rt.alloc(), 4, 1, 1)?;
     assert!(rt; story.has_moved(&[(5, 2, 0, COPIED)]));
     assert!(rt; story.is_read_at(&[(0, 0, 0), (1, 0, 4), (2, 0, 5), (3, 0, 5)]));
     Ok(())
@@ -39,8 +38,7 @@ fn a_cascade_copies_one_step(rt: HostRuntime) -> Result<(), Fail> {
 
 #[test]
 fn a_stopped_copy_is_cleaned_and_goes(rt: HostRuntime) -> Result<(), Fail> {
-    let mut story = Story::cascade(rt.alloc(), 3, 2)?;
-    story.write(0, 0)?;
+    let mut story = Story::written(rt.alloc(), 3, 2, 0)?;
     assert!(rt; story.has_moved(&[(3, 1, 0, COPIED)]));
     assert_eq!(rt; (story.is_complete(0), story.is_needed(0)), (false, true));
     story.retire(0)?;
@@ -53,8 +51,8 @@ fn a_stopped_copy_is_cleaned_and_goes(rt: HostRuntime) -> Result<(), Fail> {
     Ok(())
 }
 
-/// A complete copy is stopped that others need, and its volume is written: its old slot has stayed for them, and goes when the
-/// nearest of them has the grain.
+/// A complete copy is stopped that others need, and its volume is written: its old slot has stayed for them,
+/// and goes when the nearest of them has the grain.
 fn assert_stays_for_dependents(rt: &impl Abort, story: &mut Story) -> Result<(), Fail> {
     assert!(rt; story.has_moved(&[(4, 1, 0, COPIED)]));
     assert_eq!(rt; (story.is_complete(0), story.is_needed(0)), (true, true));
@@ -79,8 +77,7 @@ fn a_copy_that_is_completed_stays_for_its_dependents(rt: HostRuntime) -> Result<
 
 #[test]
 fn a_copy_that_a_write_completes_stays_for_its_dependents(rt: HostRuntime) -> Result<(), Fail> {
-    let mut story = Story::cascade(rt.alloc(), 4, 1)?;
-    story.write(0, 0)?;
+    let mut story = Story::written(rt.alloc(), 4, 1, 0)?;
     assert_stays_for_dependents(&rt, &mut story)
 }
 
@@ -130,8 +127,7 @@ fn a_write_copies_for_the_older_slot_and_then_behind(rt: HostRuntime) -> Result<
 
 #[test]
 fn a_forced_copy_takes_its_dependents_with_it(rt: HostRuntime) -> Result<(), Fail> {
-    let mut story = Story::cascade(rt.alloc(), 4, 2)?;
-    story.write(0, 0)?;
+    let mut story = Story::written(rt.alloc(), 4, 2, 0)?;
     assert!(rt; story.has_moved(&[(4, 1, 0, COPIED)]));
     assert!(rt; story.has_dependents(0, &[2, 3])?);
     story.force(0, &[1, 2])?;

@@ -52,13 +52,25 @@ impl Story {
         Ok(story)
     }
 
-    /// Volumes of so many grains each, with ids from 0, each but the first a copy of the one before; the mapping of a copy has the
-    /// id of its source.
+    /// Volumes of so many grains each, with ids from 0, each but the first a copy of the one before; the
+    /// mapping of a copy has the id of its source.
     pub fn cascade(alloc: Global, volumes: u32, grains: u32) -> Result<Story, NoMemory> {
         let mut story = Story::of(alloc, volumes, grains)?;
         for target in 1..volumes {
             story.start(&[pair(target - 1, target - 1, target)])?;
         }
+        Ok(story)
+    }
+
+    /// Such a cascade, of which one volume was written at its first grain.
+    pub fn written(
+        alloc: Global,
+        volumes: u32,
+        grains: u32,
+        volume: u32,
+    ) -> Result<Story, NoMemory> {
+        let mut story = Story::cascade(alloc, volumes, grains)?;
+        story.write(volume, 0)?;
         Ok(story)
     }
 

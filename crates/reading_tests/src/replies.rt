@@ -1,10 +1,10 @@
 //! The lines of replies, and the rows of reports.
 
+use crate::stops::place_of;
 use fc_base::fault::{Refusal, RequiredOption, WordFault};
 use fc_base::request::Reply;
 use fc_base::size::GrainSize;
 use fc_base::state::MapState;
-use fc_reading_notes::notes::NotTold;
 use fc_reading_replies::faults::read_fault;
 use fc_reading_replies::replies::{ReplyLine, read_reply};
 use fc_reading_replies::rows::take_rows;
@@ -94,12 +94,10 @@ fn reads_runs(rt: HostRuntime) -> Result<(), Fail> {
     Ok(())
 }
 
-/// The place at which the bytes stop being the line of a reply. None where they are, and where memory is wanted.
+/// The place at which the bytes stop being the line of a reply. None where they are, and where memory is
+/// wanted.
 fn stops_at(rt: &HostRuntime, bytes: &[u8]) -> Option<usize> {
-    match read_reply(rt.alloc(), bytes) {
-        Err(NotTold::Malformed(place)) => Some(place),
-        _ => None,
-    }
+    place_of(read_reply(rt.alloc(), bytes))
 }
 
 #[test]

@@ -1,11 +1,11 @@
 //! What was asked.
 
+use crate::stops::place_of;
 use fc_base::command::{Command, StopWay, Unit};
 use fc_base::fault::{Refusal, WordFault};
 use fc_base::name::Ref;
 use fc_base::request::{Reply, Request};
 use fc_base::size::GrainSize;
-use fc_reading_notes::notes::NotTold;
 use fc_reading_requests::asked::Asked;
 use fc_reading_requests::requests::read_request;
 use std::test::Fail;
@@ -118,10 +118,7 @@ fn tells_a_refused_read_from_a_hosts(rt: HostRuntime) -> Result<(), Fail> {
 
 /// The place at which the bytes stop being what was asked. None where they are, and where memory is wanted.
 fn stops_at(rt: &HostRuntime, bytes: &[u8]) -> Option<usize> {
-    match read_request(rt.alloc(), bytes) {
-        Err(NotTold::Malformed(place)) => Some(place),
-        _ => None,
-    }
+    place_of(read_request(rt.alloc(), bytes))
 }
 
 #[test]

@@ -1,8 +1,9 @@
 //! What an entry did.
 
+use crate::stops::place_of;
 use fc_base::request::{Effect, Side};
 use fc_base::state::MapState;
-use fc_reading_notes::notes::{NotTold, read_told};
+use fc_reading_notes::notes::read_told;
 use std::test::Fail;
 
 #[test]
@@ -64,10 +65,7 @@ fn reads_the_effects_of_a_command(rt: HostRuntime) -> Result<(), Fail> {
 
 /// The place at which the bytes stop being what an entry did. None where they are, and where memory is wanted.
 fn stops_at(rt: &HostRuntime, in_lane: bool, bytes: &[u8]) -> Option<usize> {
-    match read_told(rt.alloc(), in_lane, bytes) {
-        Err(NotTold::Malformed(place)) => Some(place),
-        _ => None,
-    }
+    place_of(read_told(rt.alloc(), in_lane, bytes))
 }
 
 #[test]

@@ -1,10 +1,11 @@
 -- The duties of an actor that counts.
-use Rattle.std.proofs.Common.{◌≡◌, ◌≢◌, ℕ, zero, suc, ◌+◌, ◌<◌, List, [], ◌∷◌, map, length, get_or, set, sym, refl, ap, ◌∙◌, subst, arith, length-set, get_or-set_other, get_or-set_same, Option, Some, None}
+use Rattle.std.proofs.Common.{◌≡◌, ◌≢◌, ℕ, zero, suc, ◌+◌, ◌<◌, List, [], ◌∷◌, map, length, get_or, set, sym, refl, ap, ◌∙◌, subst, arith, length-set, get_or-set_other, get_or-set_same, Option, Some, None, slice_index_or}
 use mathlib.Core.Option.{some, some-injective, some-ne-none}
 use lib.ListN.{get_elem?, length-map}
 use Rattle.fc_yard.specs.declared.rule.View.{View}
-use Rattle.fc_yard.specs.Views.{held_of, HoldsNone, HoldsAll, took}
+use Rattle.fc_yard.specs.Views.{held_of, HoldsNone, HoldsOnly, HoldsAll, took, drew}
 use Rattle.fc_yard.specs.Whole.{Commits, CommitsAll, Stays}
+use Rattle.fc_yard.proofs.Calling.{only_took, only_drew}
 use Rattle.fc_yard.proofs.Totals.{write_here, write_else}
 use Rattle.yard_tests.specs.declared.counter.Counts.{Counts}
 use Rattle.yard_tests.specs.declared.counter.Counter.{Counter}
@@ -62,6 +63,15 @@ commits_both v a b c d news first second are up more w0 w opens sound room fit =
   both zero x0 x at e = subst (HasShare (record { counters = map after w.counters; told = w.told + 1 }) 0) (some-injective c x e) (after_share w 0 a c up (fit 0 x0 a (omega arith) at first))
   both (suc zero) x0 x at e = subst (HasShare (record { counters = map after w.counters; told = w.told + 1 }) 1) (some-injective d x e) (after_share w 1 b d more (fit 1 x0 b (omega arith) at second))
   both (suc (suc q)) x0 x at e = absurd (some-ne-none x (sym e))
+
+-- the one part that a pass holds: once it was taken and a ticket was asked for, and once a number was drawn
+pub still_only : (v0 v1 v2 : View Counter Tally) (p : ℕ) (x : Counter) → HoldsNone v0 → v1 ≡ took v0 p x → v2.held ≡ v1.held → HoldsOnly v2 p x
+still_only v0 v1 v2 p x free one two =
+    let only = subst (λ (v : View Counter Tally). HoldsOnly v p x) (sym one) (only_took v0 p x free) in
+    (ap (λ held. slice_index_or held p None) two ∙ only.0, λ q n. ap (λ held. slice_index_or held q None) two ∙ only.1 q n)
+
+pub counted_only : (v0 v1 : View Counter Tally) (p : ℕ) (old new : Counter) (n : ℕ) → HoldsOnly v0 p old → v1 ≡ drew v0 p new n (One p) → HoldsOnly v1 p new
+counted_only v0 v1 p old new n only one = subst (λ (v : View Counter Tally). HoldsOnly v p new) (sym one) (only_drew v0 p old new n (One p) only)
 
 -- two parts that were taken one after the other
 pub two_held : (v0 v1 v2 : View Counter Tally) (a b : Counter) → HoldsNone v0 → v1 ≡ took v0 0 a → v2 ≡ took v1 1 b → (held_of v2 0 ≡ Some a) × (held_of v2 1 ≡ Some b)

@@ -115,7 +115,8 @@ fn act<R: Wait>(
     (pass, numbers)
 }
 
-/// So many actors beside each other over the yard's parts, from this place on. The pass comes back with all shares, and the numbers in one list.
+/// So many actors beside each other over the yard's parts, from this place on. The pass comes back with all
+/// shares, and the numbers in one list.
 pub fn crowd<R: Threads + Wait + Sync>(
     rt: &R,
     alloc: Global,

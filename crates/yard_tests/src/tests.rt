@@ -11,8 +11,8 @@ use std::thread::Threads;
 /// How many parts the yards have.
 const PARTS: usize = 5;
 
-/// What sixteen actors drew between the first number and the limit, in order of the numbers, and how often the parts were
-/// counted in all.
+/// What sixteen actors drew between the first number and the limit, in order of the numbers, and how often the
+/// parts were counted in all.
 fn run<R: Threads + Wait + Sync>(
     rt: &R,
     alloc: Global,
@@ -93,8 +93,8 @@ fn a_held_turn_is_refused_and_a_free_one_had(rt: HostRuntime) -> Result<(), Fail
     Ok(())
 }
 
-/// Splits a pass three times, counts with each of the four, and joins them in this order: the numbers drawn, and how often
-/// the parts were counted.
+/// Splits a pass three times, counts with each of the four, and joins them in this order: the numbers drawn,
+/// and how often the parts were counted.
 fn joined<R: Wait>(rt: &R, alloc: Global, backwards: bool) -> Option<(Vec<u64>, u64)> {
     let mut numbers = Vec::with_capacity(alloc, 4).ok()?;
     let mut back = Vec::with_capacity(alloc, PARTS).ok()?;
