@@ -11,7 +11,7 @@ use Rattle.fc_base.specs.declared.ids.VolId.{VolId}
 use Rattle.fc_base.specs.declared.outcome.NoMemory.{NoMemory}
 use Rattle.fc_base.specs.declared.request.ReadPart.{ReadPart}
 use Rattle.fc_base.specs.declared.request.Reply.{Reply}
-use Rattle.fc_base.specs.declared.request.Reply.TheVariants.{Done, Idle, DiskFault, MediumError, NoMemory as WantsMemory}
+use Rattle.fc_base.specs.declared.request.Reply.TheVariants.{Idle}
 use Rattle.fc_base.specs.declared.request.WritePart.{WritePart}
 use Rattle.fc_base.specs.declared.size.GrainSize.{GrainSize}
 use Rattle.fc_base.specs.declared.state.Access.{Access}
@@ -69,23 +69,9 @@ no_live_fit k part entry is = false_is (λ a. subst (λ (o : Option ℕ). Volume
 
 -- ---- what a write owes
 
--- a medium error, with nothing done, where a part of a lost grain is written
-pub lost_fit : (k : Known) (part : WritePart) (number t : ℕ) (entry : Entry) (reply : Reply) (cannot so : Bool) →
-    cannot ≡ true → cannot ≡ cannot_write k.grain (spot_in k number) part → IsTrue so ↔ ((reply ≡ MediumError) × HasDoneNothing entry) → IsTrue so ↔ WriteAnswers k.grain (spot_in k number) part t entry reply
-lost_fit k part number t entry reply cannot so on is f = iff_trans f (to, from reply)
-  where
-    lost : cannot_write k.grain (spot_in k number) part ≡ true
-    lost = sym is ∙ on
-
-    to : (reply ≡ MediumError) × HasDoneNothing entry → WriteAnswers k.grain (spot_in k number) part t entry reply
-    to p = subst (λ (z : Reply). WriteAnswers k.grain (spot_in k number) part t entry z) (sym p.0) (lost, p.1)
-
-    from : (z : Reply) → WriteAnswers k.grain (spot_in k number) part t entry z → (z ≡ MediumError) × HasDoneNothing entry
-    from MediumError a = (refl, a.1)
-    from Done a = absurd (both_ways (cannot_write k.grain (spot_in k number) part) a.0 lost)
-    from DiskFault a = absurd (both_ways (cannot_write k.grain (spot_in k number) part) a.0 lost)
-    from WantsMemory a = absurd (both_ways (cannot_write k.grain (spot_in k number) part) a.0 lost)
-    from z a = absurd a
+-- the answer is no where a part of a lost grain is written
+pub cannot_fit : {H : Type 0} (cannot kept : Bool) → cannot ≡ true → cannot ≡ kept → IsTrue false ↔ ((kept ≡ false) × H)
+cannot_fit cannot kept so is = false_is (λ p. both_ways kept p.0 (sym is ∙ so))
 
 -- and else it is that of its steps
 pub write_fit : (k : Known) (part : WritePart) (number t : ℕ) (Holds : List DiskStep → Type 0) (cannot : Bool) (slice steps : List DiskStep) (r : Result Bool NoMemory) →
@@ -95,25 +81,6 @@ write_fit k part number t Holds cannot slice steps r off is same made found =
     IfOk-weaker r (λ so. IsTrue so ↔ Holds slice) (λ so. CanWrite k number t → IsTrue so ↔ ((cannot_write k.grain (spot_in k number) part ≡ false) × Holds (steps_of_write k.grain (spot_in k number) part t)))
     (λ so f can. iff_trans f (iff_trans (iff_along Holds slice (steps_of_write k.grain (spot_in k number) part t) (same ∙ made can)) (λ h. (sym is ∙ off, h), λ p. p.1)))
     found
-
--- by its reply
-pub answer_fit : (k : Known) (part : WritePart) (number t : ℕ) (entry : Entry) (a b : Reply) (r : Result Bool NoMemory) → b ≡ a →
-    IfOk r (λ so. CanWrite k number t → IsTrue so ↔ WriteAnswers k.grain (spot_in k number) part t entry a) → IfOk r (λ so. CanWrite k number t → IsTrue so ↔ WriteAnswers k.grain (spot_in k number) part t entry b)
-answer_fit k part number t entry a b r is found =
-    IfOk-weaker r (λ so. CanWrite k number t → IsTrue so ↔ WriteAnswers k.grain (spot_in k number) part t entry a) (λ so. CanWrite k number t → IsTrue so ↔ WriteAnswers k.grain (spot_in k number) part t entry b)
-    (λ so f can. iff_trans (f can) (iff_along (λ (z : Reply). WriteAnswers k.grain (spot_in k number) part t entry z) a b (sym is))) found
-
--- no other reply answers a write whose steps are owed
-pub no_answer_fit : (k : Known) (part : WritePart) (number t : ℕ) (entry : Entry) (reply : Reply) (cannot : Bool) → cannot ≡ false → cannot ≡ cannot_write k.grain (spot_in k number) part →
-    (reply ≡ Done → ⊥) → (reply ≡ DiskFault → ⊥) → (reply ≡ WantsMemory → ⊥) → IsTrue false ↔ WriteAnswers k.grain (spot_in k number) part t entry reply
-no_answer_fit k part number t entry reply cannot off is done failed wanted = false_is (none reply done failed wanted)
-  where
-    none : (z : Reply) → (z ≡ Done → ⊥) → (z ≡ DiskFault → ⊥) → (z ≡ WantsMemory → ⊥) → WriteAnswers k.grain (spot_in k number) part t entry z → ⊥
-    none Done d f w a = d refl
-    none DiskFault d f w a = f refl
-    none WantsMemory d f w a = w refl
-    none MediumError d f w a = both_ways (cannot_write k.grain (spot_in k number) part) (sym is ∙ off) a.0
-    none z d f w a = a
 
 -- what a failure and want of memory say of a spot
 pub failed_fit : (k : Known) (number : ℕ) (slice : List DiskStep) (entry : Entry) (r : Result Bool NoMemory) →

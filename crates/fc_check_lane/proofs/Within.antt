@@ -1,5 +1,4 @@
--- Which blocks are inside a volume, by what is kept and by the table; and that volumes of sound books can be
--- written.
+-- Which blocks are inside a volume, by what is kept and by the table; and that volumes of sound books can be written.
 use Rattle.std.proofs.Common.{◌≡◌, ◌↔◌, ℕ, zero, suc, ◌<◌, ◌≤◌, List, [], ◌∷◌, length, map, get_or, Some, Contains, refl, sym, ap, subst, ◌∙◌, arith}
 use Rattle.fc_base.specs.Sheet.{live_place, slot_at}
 use Rattle.fc_base.specs.declared.ids.VolId.{VolId}

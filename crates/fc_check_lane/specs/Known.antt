@@ -10,9 +10,8 @@ use Rattle.fc_rules.specs.LaneTold.{LaneVolume, is_thin_in}
 use Rattle.fc_rules.specs.Spot.{Spot}
 use Rattle.fc_check_lane.specs.declared.volume.VolumeSize.{VolumeSize}
 
--- The grain size; the volumes, how hosts may reach each, and how large it is; the mappings with background
--- work; the chains and what plain volumes hold, at all grains; for each lane the faults of all disks that it
--- ever had; and how many entries there are.
+-- The grain size; the volumes, how hosts may reach each, and how large it is; the mappings with background work; the chains and
+-- what plain volumes hold, at all grains; for each lane the faults of all disks that it ever had; and how many entries there are.
 pub record Known : Type 0 where
   pub grain : GrainSize
   pub volumes : List LaneVolume

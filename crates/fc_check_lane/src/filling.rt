@@ -88,8 +88,7 @@ impl Known {
         }
     }
 
-    /// Whether an entry answers rightly as a copy or a cleaning of a mapping at a grain; none does where it
-    /// isn't possible.
+    /// Whether an entry answers rightly as a copy or a cleaning of a mapping at a grain; none does where it isn't possible.
     pub(crate) fn fill_answers(
         &self,
         alloc: Global,

@@ -64,8 +64,7 @@ impl Known {
         None
     }
 
-    /// The grain in which blocks lie that are inside a volume and inside one grain; None exactly where they
-    /// aren't.
+    /// The grain in which blocks lie that are inside a volume and inside one grain; None exactly where they aren't.
     pub(crate) fn grain_inside(&self, volume: VolId, block: u64, count: u32) -> Option<u32>
         ensures { MatchOption result (IsInsideIn self.now volume block count → ⊥) (λ grain. IsInsideIn self.now volume block count × (grain ≡ grain_of_block self.now.grain block)) }
     {

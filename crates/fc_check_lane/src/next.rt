@@ -195,9 +195,9 @@ impl Known {
         }
     }
 
-    /// Whether an entry of a lane may come next after a legal history of which all this was told: it is a right
-    /// step. The answer is no for every command and every faulty line. Refused for want of memory alone, or
-    /// where a grain that background work looks at has a number of 2^32 or more.
+    /// Whether an entry of a lane may come next after a legal history of which all this was told: it is a right step. The answer
+    /// is no for every command and every faulty line. Refused for want of memory alone, or where a grain that background work
+    /// looks at has a number of 2^32 or more.
     pub fn is_next(&self, alloc: Global, entry: &Entry) -> Result<bool, NoMemory>
         ensures { IfOk result (λ yes. (grain : GrainSize) (w : Whole) → AreSound w.books → self.now ≡ known_of grain w → IsTrue yes ↔ IsNext grain w entry.now) }
     {

@@ -80,8 +80,7 @@ impl Known {
         }
     }
 
-    /// The least grain of a lane that such work of a mapping could fill. Refused also where its number is 2^32
-    /// or more.
+    /// The least grain of a lane that such work of a mapping could fill. Refused also where its number is 2^32 or more.
     fn least_grain(&self, work: Work, map: MapId, lane: usize) -> Result<Option<GrainNo>, NoMemory>
         requires { lane < length self.now.faults }
         ensures { IfOk result (λ least. least ≡ least_in work self.now lane map.0) }
@@ -98,8 +97,8 @@ impl Known {
         Ok(None)
     }
 
-    /// The first mapping by id that has such work in a lane, and its least grain there. Refused also where the
-    /// number of a grain is 2^32 or more.
+    /// The first mapping by id that has such work in a lane, and its least grain there. Refused also where the number of a grain
+    /// is 2^32 or more.
     pub(crate) fn next_work(
         &self,
         work: Work,
