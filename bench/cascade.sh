@@ -10,28 +10,9 @@
 build_program
 rounds=${1:-3}
 
-# The session of a shape: the source of target k is the volume before it, or the first.
-session() { # SHAPE
-    awk -v shape="$1" -v n=262000 'BEGIN {
-        for (v = 0; v < 9; v++) print "mkvdisk -name V" v " -size 4"
-        for (v = 1; v < 9; v++) print "mkfcmap -source V" (shape == "cascade" ? v - 1 : 0) " -target V" v " -copyrate 0"
-        for (v = 1; v < 9; v++) print "startfcmap -prep " v - 1
-        state = 12345
-        for (i = 0; i < n; i++) {
-            state = (state * 16807) % 2147483647
-            volume = int(state / 8388608) % 9
-            grain = int(state / 65536) % 64
-            count = 1 + int(state / 4096) % 8
-            first = int(state / 1024) % (129 - count)
-            if (i % 2 == 0) printf "write V%d %d %d %02x\n", volume, grain * 128 + first, count, i % 256
-            else            printf "read V%d %d %d\n", volume, grain * 128 + first, count
-        }
-    }'
-}
-
 printf '%-12s %9s %9s %10s %9s %9s\n' shape seconds MiB calls copies ratio
 for shape in cascade fan; do
-    session "$shape" >"$room/session"
+    copies_read_and_written "$shape" 262000 >"$room/session"
     calls=$(disk_calls "$room/session" 64)
     fastest='' fewest=''
     for ((round = 0; round < rounds; round++)); do

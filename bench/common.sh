@@ -7,6 +7,8 @@
 #                          passed and the peak memory in MiB
 #   copies CALLS KIB       prints the seconds that so many calls take when each copies a grain of so many KiB
 #   disk_calls SESSION GRAIN   prints how many calls of disks the entries of a session tell
+#   copies_read_and_written SHAPE COUNT    prints a session of so many accesses over nine volumes of 64 grains of 64 KiB, in a
+#                          `cascade` of eight targets or a `fan` of eight targets of one source
 #   build_bench CRATE      proves and builds the program of such a crate, if that wasn't done yet
 #   best_by_turns WORD.. -- WORD..   prints the fewest nanoseconds of each of two commands, in three runs made by turns
 #   lesser NUMBER [NUMBER]     prints the lesser of two numbers, of which the second may be none
@@ -87,6 +89,25 @@ copies() { "$room/copies" "$1" "$2"; } # CALLS KIB
 
 disk_calls() { # SESSION GRAIN
     { echo "== session $2 4096"; cat "$1"; } | "$traces" | awk '$1 == "+" && $2 == "calls" { n += $3 } END { print n + 0 }'
+}
+
+# The source of target k is the volume before it, or the first. Writes and reads come in turn, each inside one grain.
+copies_read_and_written() { # SHAPE COUNT
+    awk -v shape="$1" -v n="$2" 'BEGIN {
+        for (v = 0; v < 9; v++) print "mkvdisk -name V" v " -size 4"
+        for (v = 1; v < 9; v++) print "mkfcmap -source V" (shape == "cascade" ? v - 1 : 0) " -target V" v " -copyrate 0"
+        for (v = 1; v < 9; v++) print "startfcmap -prep " v - 1
+        state = 12345
+        for (i = 0; i < n; i++) {
+            state = (state * 16807) % 2147483647
+            volume = int(state / 8388608) % 9
+            grain = int(state / 65536) % 64
+            count = 1 + int(state / 4096) % 8
+            first = int(state / 1024) % (129 - count)
+            if (i % 2 == 0) printf "write V%d %d %d %02x\n", volume, grain * 128 + first, count, i % 256
+            else            printf "read V%d %d %d\n", volume, grain * 128 + first, count
+        }
+    }'
 }
 
 build_bench() { # CRATE

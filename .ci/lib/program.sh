@@ -103,9 +103,16 @@ drill 18446744073709551617
 drill 99999999999999999999
 drill 018446744073709551615
 drill 000000000000000000000
-check
 check run
+check check
+check 1
+check -
+check --
+check --trace
+check --grain 64
 check --help
+checks
+Check
 stop
 stop 0
 stop 1
@@ -145,6 +152,8 @@ odd_words() {
     usage_is_told drill $'\t7'
     usage_is_told drill "7 8"
     usage_is_told drill $'\xef\xbc\x97'
+    usage_is_told check ""
+    usage_is_told "check "
     usage_is_told run --grain $'\xef\xbc\x96\xef\xbc\x94'
     usage_is_told run $'\xe2\x80\x93-grain' 64
     usage_is_told $'r\xc3\xbcn'
@@ -184,6 +193,10 @@ words_of_program() {
         holds "words '$line': something was written" wrote_nothing
     done < <(bad_words; printf '%s\n' --help --version -h help show build "run --summary" "try")
     odd_words
+    # a session is no trace
+    run_program check <examples/first-volume
+    is "words 'check': status" 9 "$status"
+    is "words 'check'" "malformed 0" "$(<"$room/out")"
     # usage reads nothing
     { "$program" walk; cat; } <examples/first-volume >"$room/out" 2>"$room/err"
     holds "usage took bytes of its input" cmp -s "$room/out" examples/first-volume

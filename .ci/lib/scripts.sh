@@ -109,7 +109,8 @@ words_of_script() {
         bad_words
         printf '%s\n' '--help me' '-h -h' 'help run' '--version 1' 'build now' 'show a b' 'show -x' 'show ../README' \
             'run - ' 'run a b' 'run --summary --summary' 'run --strict=1' 'try --grain 65' 'try 7 8' 'drill 7 --summary' \
-            'drill' 'show --grain 64' 'check' 'run nofile' 'run examples' 'try nofile'
+            'drill' 'show --grain 64' 'check a b' 'check --strict' 'check nofile' 'check examples' 'run nofile' 'run examples' \
+            'try nofile'
     )
     build_tree
     while IFS= read -r line; do
@@ -123,6 +124,11 @@ words_of_script() {
     holds "the session that the program gets isn't the file's" cmp -s "$tree/taken" examples/two-grains
     run_script drill 00000000000000000007
     is "the words of a drill" "drill 00000000000000000007" "$(tail -n 1 -- "$tree/words")"
+    run_script check "$top/traces/one-mapping"
+    is "the words of a check" check "$(tail -n 1 -- "$tree/words")"
+    holds "the trace that the program gets isn't the file's" cmp -s "$tree/taken" traces/one-mapping
+    run_script check <traces/torn
+    holds "the trace that the program gets isn't that of standard input" cmp -s "$tree/taken" traces/torn
 }
 
 # ---- help, the version, and the help text that is made of the program's words, where there is one
@@ -138,7 +144,7 @@ help_and_version() {
         run_script "$word"
         holds "bin/flashcopy $word isn't --help" cmp -s "$room/out" "$room/help"
     done
-    for word in show try run drill build --version --grain --summary --explain --strict; do
+    for word in show try run drill check build --version --grain --summary --explain --strict; do
         holds "bin/flashcopy --help doesn't speak of $word" grep -qF -- "$word" "$room/help"
     done
     run_script --version
@@ -264,13 +270,15 @@ building() {
 # ---- the program's status is handed on, and said in one line
 statuses() {
     echo "== statuses"
-    local number
     build_tree
-    for number in 2 3 4 5 6 7 8; do
-        echo "$number" >"$tree/status"
-        run_script run </dev/null
-        is "the program ends with $number: the script's status" "$number" "$status"
-        holds "the program ends with $number: not one line is said" complained_in_one_line
+    local number task
+    for number in 2 3 4 5 6 7 8 9; do
+        for task in run check; do
+            echo "$number" >"$tree/status"
+            run_script "$task" </dev/null
+            is "the program ends with $number in $task: the script's status" "$number" "$status"
+            holds "the program ends with $number in $task: not one line is said" complained_in_one_line
+        done
     done
     echo 6 >"$tree/status"
     run_script run --strict "$top/examples/first-volume"

@@ -9,13 +9,14 @@ usage: flashcopy show [EXAMPLE]                a session beside the history that
        flashcopy try [OPTION].. [SESSION]      runs a session with the program as it stands, unproved: about a minute
        flashcopy run [OPTION].. [SESSION]      runs a session with the proved program, and proves and builds it first
        flashcopy drill N                       the generated session of a number below 2^64, a summary of its history
+       flashcopy check [TRACE]                 whether each entry of a trace is right: its verdict, in one line
        flashcopy build                         proves and builds the program, and runs nothing
        flashcopy help, -h, --help              this text
        flashcopy --version                     the version, and the kit that the program was proved and built with
 
 A session is a list of lines: an administrator's commands, and reads and writes of hosts. Each is answered by
 an entry of the history, or by one for each grain that it touches. Lines between `together` and `end` are those
-of several actors at once. SESSION is a file; without it the session comes from standard input.
+of several actors at once. SESSION is a file; without it the session comes from standard input, and so does a TRACE.
 
     mkvdisk -name A -size 1
     write A 0 1 5a
@@ -43,6 +44,7 @@ exit status:
    6  the history is full, at 262,144 entries, and a line asks for more
    7  the input has more than 67,108,864 bytes; the lines that ended before were answered
    8  the input ended inside a block, which wasn't run; every line before it was answered
+   9  an entry of the trace that was checked isn't right, or the input is no trace
   10  with --strict: all lines were answered, and one or more was refused or couldn't be read
 END
     # what the program itself says of its words, where a crate prints that
@@ -56,11 +58,23 @@ END
 # The status of --strict, which is none of the program's.
 strict_status=10
 
+# A status of a check in words, where they are its own.
+meaning_of_check() { # STATUS
+    case $1 in
+        3) echo "standard input failed; nothing is said of the trace" ;;
+        6) echo "something stands behind entry 262,144; nothing is said of the trace" ;;
+        7) echo "the input has more than 67,108,864 bytes; nothing is said of the trace" ;;
+        9) echo "an entry of the trace isn't right, or the input is no trace" ;;
+        *) return 1 ;;
+    esac
+}
+
 # A status in words, in one line.
 meaning() { # STATUS
+    if [[ $task == check ]] && meaning_of_check "$1"; then return; fi
     case $1 in
         1) echo "the program ended with a status that it doesn't have" ;;
-        2) echo "usage: flashcopy run [--grain 64|256] [--trace] [SESSION], or flashcopy drill N (see --help)" ;;
+        2) echo "usage: flashcopy run [--grain 64|256] [--trace] [SESSION], drill N or check [TRACE] (see --help)" ;;
         3) echo "standard input failed; the lines that had ended were answered" ;;
         4) echo "standard output failed; it got a front of what was to be printed" ;;
         5) echo "memory was wanted and not had" ;;
@@ -79,10 +93,10 @@ meaning() { # STATUS
 }
 
 # Reads the words, and refuses what isn't in their grammar before anything is built or read. Sets
-#   task        run, try, drill, show, build, help or version
+#   task        run, try, drill, check, show, build, help or version
 #   words       the words that the program gets
 #   grain       64 or 256
-#   session     the session's file, or nothing for standard input
+#   session     the file of the session or trace, or nothing for standard input
 #   example     the example to show, or nothing for the list
 #   wants_summary, wants_explain, is_strict   0 or 1
 read_words() { # WORD..
@@ -97,6 +111,7 @@ read_words() { # WORD..
         build) (($# == 0)) ;;
         show) read_show_words "$@" ;;
         drill) read_drill_words "$@" ;;
+        check) read_check_words "$@" ;;
         run | try) read_run_words "$@" ;;
         *) return 1 ;;
     esac
@@ -117,6 +132,13 @@ read_drill_words() { # N
     # of as many digits each, the order of the texts is that of the numbers
     printf '%s\n' "$number" "$greatest" | LC_ALL=C sort -c 2>/dev/null || return 1
     words=(drill "$1")
+}
+
+read_check_words() { # [TRACE]
+    (($# <= 1)) || return 1
+    (($# == 0)) || [[ -n $1 && $1 != -* ]] || return 1
+    session=${1-}
+    words=(check)
 }
 
 read_run_words() { # [OPTION].. [SESSION]

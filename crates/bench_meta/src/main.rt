@@ -15,7 +15,7 @@ use fc_format::{batch_with, half_with};
 use fc_image::{LostList, MetaImage, MetaLost, MetaRecord, Words};
 use fc_meta::Meta;
 use fc_metadisk::{MemMeta, MetaDisk};
-use meta_tests::script::{begin, image_of};
+use meta_steps::first::{begin, image_of};
 use std::alloc::Global;
 use std::{env, io};
 

@@ -35,7 +35,7 @@ pub const DRILL_NUMBER_HELP: &str = "The number of the session, in 1 to 20 digit
 pub const CHECK_HELP: &str =
     "Read a trace from standard input, and say whether each of its entries is right";
 /// Whether `check` is built.
-pub const CHECK_IS_BUILT: bool = false;
+pub const CHECK_IS_BUILT: bool = true;
 
 /// `stop`.
 pub const STOP_HELP: &str =

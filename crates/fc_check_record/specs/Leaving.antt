@@ -30,11 +30,11 @@ AreBooksLeft c after d =
 abbrev pub renewed : ControlState → Known → Known
 renewed c k = record k { volumes = volumes_told c.tables; sizes = map size_of c.tables.volumes; flags = c.flags }
 
--- Chains and changed grains after a decision, and all that entries of lanes are judged by, where it made the
--- control part this.
+-- Chains and changed grains after a decision.
 abbrev pub chains_left : Known → List Row → Decision → Chains
 chains_left k rows d = chains_after (record { sheet = k.sheet; rows = rows }) d.events
 
+-- All that entries of lanes are judged by after a decision that made the control part this.
 abbrev pub known_left : ControlState → Known → List Row → Decision → Known
 known_left c k rows d =
     record (renewed c k) { sheet = (chains_left k rows d).sheet; picture = after_effects k.grain k.picture d.effects }

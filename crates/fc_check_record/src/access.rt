@@ -6,6 +6,7 @@ ghost use Rattle.fc_entry.specs.Refused.{blocks_refusal};
 
 use crate::record::Record;
 use fc_base::fault::{Kind, Refusal, ValueOf};
+use fc_base::limits::MAX_BLOCKS;
 use fc_base::name::Ref;
 use fc_base::size::GrainSize;
 use fc_base::volume::Volume;
@@ -14,8 +15,8 @@ use fc_base::volume::Volume;
 fn blocks_refusal(size: GrainSize, volume: &Volume, block: u32, count: u32) -> Option<Refusal>
     ensures { result ≡ blocks_refusal size volume.now block count }
 {
-    if count > 8192 {
-        return Some(Refusal::Limit(8192));
+    if count > MAX_BLOCKS {
+        return Some(Refusal::Limit(MAX_BLOCKS));
     }
     let blocks = u64::from(volume.grains) * u64::from(size.blocks());
     if count == 0 || blocks < u64::from(block) + u64::from(count) {

@@ -7,8 +7,10 @@
 //!
 //! `is_next` answers whether an entry of a lane may come next, and `after_lane` is what is told after it.
 //! `settle` and `decide` are what the books decide, `leave` is what a decision leaves. `refused_access` is why
-//! a line `read` or `write` is refused. All are exact; want of memory alone is free. A call that changes the
-//! record takes it and gives it back, so that one that was refused memory is gone.
+//! a line `read` or `write` is refused. What they answer is exact. Want of memory is free; `is_next` may be
+//! refused so, too, where a grain that background work looks at has a number of 2^32 or more, and `leave` where
+//! births come to 2^64. A call that changes the record takes it and gives it back, so that one that was refused
+//! memory is gone.
 //!
 //! To read: `record` (the record, the first one, and copies of it), `lane` (entries of lanes), `access`
 //! (refused accesses), `decide` (decisions), `chains`, `pools` and `tables` (what a decision does to each

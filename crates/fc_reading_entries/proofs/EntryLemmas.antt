@@ -20,14 +20,14 @@ use Rattle.fc_words.specs.Canonical.{IsName}
 use Rattle.fc_reading_notes.specs.Told.{AreNotes, Each, HasCalls, IsCalls, head_text}
 use Rattle.fc_reading_notes.specs.declared.lines.LaneCalls.{LaneCalls}
 use Rattle.fc_reading_notes.specs.declared.notes.Notes.{Notes}
-use Rattle.fc_reading_replies.specs.Replies.{IsSaid, line_of, refused_of, reply_line}
+use Rattle.fc_reading_replies.specs.Replies.{MayBeSaid, said_line, refused_of, reply_line}
 use Rattle.fc_reading_replies.specs.Rows.{IsRow}
 use Rattle.fc_reading_replies.specs.declared.replies.ReplyLine.{ReplyLine}
 use Rattle.fc_reading_replies.specs.declared.replies.ReplyLine.TheVariants.{Whole, Rows}
 use Rattle.fc_reading_requests.specs.Asked.{asked_line, asked_of, asked_text}
 use Rattle.fc_reading_requests.specs.declared.asked.Asked.{Asked}
 use Rattle.fc_reading_requests.specs.declared.asked.Asked.TheVariants.{Unread, Read, Write, Copy, Clean, CopyTurn, CleanTurn, Command as OfCommand}
-use Rattle.fc_reading_entries.specs.Entries.{AreCalls, AreRowsOf, IsEntry, IsEntryText, Raw, ReadNext, calls_of, calls_or_none, entry_of, is_lane, notes_of, parts_at, parts_of, place_of, raw_at, with_entry}
+use Rattle.fc_reading_entries.specs.Entries.{AreCalls, AreRowsOf, IsEntry, IsEntryText, Raw, ReadNext, entry_calls, calls_or_none, entry_of, is_lane, notes_of, parts_at, parts_of, turn_of, raw_at, with_entry}
 use Rattle.fc_reading_entries.specs.Exchanges.{IsExchange, fault_told, is_id, is_short, request_by}
 use Rattle.fc_reading_entries.specs.declared.parts.Parts.{Parts}
 use Rattle.fc_reading.proofs.Exact.{Exact, Exact-map}
@@ -41,7 +41,7 @@ use Rattle.fc_reading_entries.proofs.PartLemmas.{Exact-raw, FitsRaw, FitsReport,
 
 -- ---- a line and its reply
 
-said_whole : (refusable : Bool) (told : Reply) → IsSaid refusable (Whole told) → line_of told ≡ Whole told
+said_whole : (refusable : Bool) (told : Reply) → MayBeSaid refusable (Whole told) → said_line told ≡ Whole told
 said_whole refusable reply.Done said = refl
 said_whole refusable (reply.Made kind id) said = refl
 said_whole refusable (reply.Bytes runs) said = refl
@@ -55,16 +55,16 @@ said_whole refusable reply.MediumError said = refl
 said_whole refusable reply.NoMemory said = refl
 said_whole refusable (reply.Refused refusal) said = refl
 
-refused_whole : (refusal : Refusal) (told : Reply) → refused_of refusal ≡ Whole told → line_of told ≡ Whole told
+refused_whole : (refusal : Refusal) (told : Reply) → refused_of refusal ≡ Whole told → said_line told ≡ Whole told
 refused_whole refusal told e =
     let same : reply.Refused refusal ≡ told = cc in
-    subst (λ (r : Reply). line_of r ≡ Whole r) same refl
+    subst (λ (r : Reply). said_line r ≡ Whole r) same refl
 
-access_whole : (refusable of_host : Bool) (told : Reply) → FitsAccess refusable of_host (Whole told) → line_of told ≡ Whole told
+access_whole : (refusable of_host : Bool) (told : Reply) → FitsAccess refusable of_host (Whole told) → said_line told ≡ Whole told
 access_whole refusable true told fits = said_whole refusable told fits
 access_whole refusable false told fits = refused_whole fits.0 told fits.2
 
-line_whole : (asked : Asked) (told : Reply) → FitsLine asked (Whole told) → line_of told ≡ Whole told
+line_whole : (asked : Asked) (told : Reply) → FitsLine asked (Whole told) → said_line told ≡ Whole told
 line_whole Unread told fits = refused_whole (Words fits.0) told fits.2
 line_whole (Read volume block count) told fits = access_whole (is_short block) (is_id volume) told fits
 line_whole (Write volume block count byte) told fits = access_whole (is_short block) (is_id volume) told fits
@@ -76,9 +76,9 @@ line_whole (OfCommand command) told fits = said_whole true told fits
 
 -- the reply of a line, with the rows that stand behind it
 abbrev ReportOf : ReplyLine → Reply → Type 0
-ReportOf line answered = (line_of answered ≡ line) × AreRowsOf answered × (rows_text answered ≡ report_text line answered)
+ReportOf line answered = (said_line answered ≡ line) × AreRowsOf answered × (rows_text answered ≡ report_text line answered)
 
-no_rows : (told : Reply) → line_of told ≡ Whole told → AreRowsOf told × (rows_text told ≡ [])
+no_rows : (told : Reply) → said_line told ≡ Whole told → AreRowsOf told × (rows_text told ≡ [])
 no_rows reply.Done e = (tt, refl)
 no_rows (reply.Made kind id) e = (tt, refl)
 no_rows (reply.Bytes runs) e = (tt, refl)
@@ -102,7 +102,7 @@ report_to asked (Rows count) answered fits report =
     let at : ReportOf (Rows count) (reply.Listed report.0) = (ap Rows report.1.0, report.1.1, refl) in
     subst (ReportOf (Rows count)) report.2 at
 
-report_from : (answered : Reply) → AreRowsOf answered → FitsReport (line_of answered) answered
+report_from : (answered : Reply) → AreRowsOf answered → FitsReport (said_line answered) answered
 report_from reply.Done rows = refl
 report_from (reply.Made kind id) rows = refl
 report_from (reply.Bytes runs) rows = refl
@@ -116,7 +116,7 @@ report_from reply.MediumError rows = refl
 report_from reply.NoMemory rows = refl
 report_from (reply.Refused refusal) rows = refl
 
-text_of_line : (answered : Reply) → reply_text answered ++ codes "\n" ≡ reply_line (line_of answered)
+text_of_line : (answered : Reply) → reply_text answered ++ codes "\n" ≡ reply_line (said_line answered)
 text_of_line reply.Done = refl
 text_of_line (reply.Made kind id) = refl
 text_of_line (reply.Bytes runs) = refl
@@ -136,7 +136,7 @@ pub record FitsParts (size : GrainSize) (p : Parts) : Type 0 where
   pub is_name : IsName p.name
   pub exchange : IsExchange p.request p.reply
   pub rows : AreRowsOf p.reply
-  pub calls : HasCalls (is_lane (place_of size p.request)) p.calls
+  pub calls : HasCalls (is_lane (turn_of size p.request)) p.calls
   pub notes : AreNotes p.notes
 
 abbrev pub parts_text : GrainSize → ℕ → Parts → List ℕ
@@ -168,7 +168,7 @@ parts_to size number (u, (name, (asked, (line, (calls, (notes, (answered, v)))))
     let report = report_to asked line answered fits.1.1.1.0 fits.1.1.1.1.1.1.0 in
     let exchanged = exchange_to asked line answered fits.1.1.0 fits.1.1.1.0 report.0 in
     let r : Request = request_by asked line in
-    let turn : Place = place_of size r in
+    let turn : Place = turn_of size r in
     let c : LaneCalls = calls_or_none calls in (
       record {
         is_name = fits.1.0;
@@ -189,8 +189,8 @@ parts_to size number (u, (name, (asked, (line, (calls, (notes, (answered, v)))))
 
 parts_from : (size : GrainSize) (p : Parts) → FitsParts size p → (x : Raw) × FitsRaw size x × (parts_of x ≡ p)
 parts_from size p fits =
-    let same : request_by (asked_of p.request) (line_of p.reply) ≡ p.request = request_from p.request p.reply fits.exchange in (
-      (tt, (p.name, (asked_of p.request, (line_of p.reply, (p.calls, (p.notes, (p.reply, tt))))))),
+    let same : request_by (asked_of p.request) (said_line p.reply) ≡ p.request = request_from p.request p.reply fits.exchange in (
+      (tt, (p.name, (asked_of p.request, (said_line p.reply, (p.calls, (p.notes, (p.reply, tt))))))),
       (
         tt,
         (
@@ -200,7 +200,7 @@ parts_from size p fits =
             (
               line_from p.request p.reply fits.exchange,
               (
-                subst (λ (r : Request). HasCalls (is_lane (place_of size r)) p.calls) (sym same) fits.calls,
+                subst (λ (r : Request). HasCalls (is_lane (turn_of size r)) p.calls) (sym same) fits.calls,
                 (fits.notes, (report_from p.reply fits.rows, tt)),
               ),
             ),
@@ -229,7 +229,7 @@ entry_to size number actor p fits = record {
   place_is = refl;
   exchange = fits.exchange;
   rows = fits.rows;
-  calls = are_calls (is_lane (place_of size p.request)) p.calls fits.calls;
+  calls = are_calls (is_lane (turn_of size p.request)) p.calls fits.calls;
   notes = fits.notes;
 }
 
@@ -243,7 +243,7 @@ parts_with size name entry = record {
   name = name;
   request = entry.request;
   reply = entry.reply;
-  calls = calls_if (is_lane (place_of size entry.request)) (calls_of entry);
+  calls = calls_if (is_lane (turn_of size entry.request)) (entry_calls entry);
   notes = notes_of entry;
 }
 
@@ -256,7 +256,7 @@ entry_from size number name entry is_name is = record {
   is_name = is_name;
   exchange = is.exchange;
   rows = is.rows;
-  calls = has_calls (is_lane (place_of size entry.request)) (calls_of entry) is.calls;
+  calls = has_calls (is_lane (turn_of size entry.request)) (entry_calls entry) is.calls;
   notes = is.notes;
 }
 
@@ -275,8 +275,8 @@ text_by name entry number calls =
 
 pub text_from : (size : GrainSize) (number : ℕ) (name : List ℕ) (entry : Entry) → IsEntry size number entry → traced_by name entry ≡ parts_text size number (parts_with size name entry)
 text_from size number name entry is =
-    let turn : Place = place_of size entry.request in
-    let c : LaneCalls = calls_of entry in
+    let turn : Place = turn_of size entry.request in
+    let c : LaneCalls = entry_calls entry in
     ap (λ n. text_by name entry n (calls_text entry.place c.calls c.faults_before c.faults_after)) is.number_is
     ∙ ap (λ (t : Place). text_by name entry number (calls_text t c.calls c.faults_before c.faults_after)) is.place_is
     ∙ ap (text_by name entry number) (calls_told turn c)

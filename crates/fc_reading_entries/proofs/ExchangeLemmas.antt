@@ -17,7 +17,7 @@ use Rattle.fc_base.specs.declared.request.Request.TheVariants as request
 use Rattle.fc_words.specs.Canonical.{IsCommand, IsNumber}
 use Rattle.fc_reading_replies.specs.Faults.{IsFault, unread_at, unread_text}
 use Rattle.fc_reading_replies.specs.Refusals.{IsRefusal}
-use Rattle.fc_reading_replies.specs.Replies.{IsSaid, line_of, refused_at, refused_of, reply_at, reply_line}
+use Rattle.fc_reading_replies.specs.Replies.{MayBeSaid, said_line, refused_at, refused_of, reply_at, reply_line}
 use Rattle.fc_reading_replies.specs.declared.replies.ReplyLine.{ReplyLine}
 use Rattle.fc_reading_replies.specs.declared.replies.ReplyLine.TheVariants.{Whole, Rows}
 use Rattle.fc_reading_requests.specs.Answered.{MayAnswer, is_refused, read_of, request_of, write_of}
@@ -37,18 +37,18 @@ use Rattle.fc_reading_requests.proofs.Requested.{request_line, the-law}
 -- ---- the line
 
 abbrev pub FitsAccess : Bool → Bool → ReplyLine → Type 0
-FitsAccess refusable true line = IsSaid refusable line
+FitsAccess refusable true line = MayBeSaid refusable line
 FitsAccess refusable false line = Image IsRefusal refused_of line
 
 abbrev pub FitsLine : Asked → ReplyLine → Type 0
 FitsLine Unread line = Image IsFault fault_told line
 FitsLine (Read volume block count) line = FitsAccess (is_short block) (is_id volume) line
 FitsLine (Write volume block count byte) line = FitsAccess (is_short block) (is_id volume) line
-FitsLine (Copy map grain) line = IsSaid true line
-FitsLine (Clean map grain) line = IsSaid true line
-FitsLine (CopyTurn lane) line = IsSaid true line
-FitsLine (CleanTurn lane) line = IsSaid true line
-FitsLine (OfCommand command) line = IsSaid true line
+FitsLine (Copy map grain) line = MayBeSaid true line
+FitsLine (Clean map grain) line = MayBeSaid true line
+FitsLine (CopyTurn lane) line = MayBeSaid true line
+FitsLine (CleanTurn lane) line = MayBeSaid true line
+FitsLine (OfCommand command) line = MayBeSaid true line
 
 Exact-access : (refusable of_host : Bool) → Exact (FitsAccess refusable of_host) reply_line nothing (access_line refusable of_host)
 Exact-access refusable true = Exact-reply refusable
@@ -85,7 +85,7 @@ some_line (OfCommand command) = (Whole reply.Done, tt)
 abbrev refuses : ReplyLine → Bool
 refuses line = is_refused (reply_told line)
 
-told_same : (answered : Reply) → refuses (line_of answered) ≡ is_refused answered
+told_same : (answered : Reply) → refuses (said_line answered) ≡ is_refused answered
 told_same reply.Done = refl
 told_same (reply.Made kind id) = refl
 told_same (reply.Bytes runs) = refl
@@ -100,7 +100,7 @@ told_same reply.NoMemory = refl
 told_same (reply.Refused refusal) = refl
 
 -- a line that refuses is one of a refusal
-refusing : (refusable : Bool) (line : ReplyLine) → IsSaid refusable line → refuses line ≡ true → (refusable ≡ true) × Image IsRefusal refused_of line
+refusing : (refusable : Bool) (line : ReplyLine) → MayBeSaid refusable line → refuses line ≡ true → (refusable ≡ true) × Image IsRefusal refused_of line
 refusing refusable (Whole (reply.Refused refusal)) said e = (said.0, (refusal, said.1, refl))
 refusing refusable (Whole reply.Done) said e = absurd (false≢true e)
 refusing refusable (Whole (reply.Made kind id)) said e = absurd (false≢true e)
@@ -116,7 +116,7 @@ refusing refusable (Whole reply.NoMemory) said e = absurd (false≢true e)
 refusing refusable (Rows rows) said e = absurd (false≢true e)
 
 -- one that refuses nothing may stand whatever may be refused
-unrefusing : (refusable other : Bool) (line : ReplyLine) → IsSaid refusable line → refuses line ≡ false → IsSaid other line
+unrefusing : (refusable other : Bool) (line : ReplyLine) → MayBeSaid refusable line → refuses line ≡ false → MayBeSaid other line
 unrefusing refusable other (Whole (reply.Refused refusal)) said e = absurd (false≢true (sym e))
 unrefusing refusable other (Whole reply.Done) said e = tt
 unrefusing refusable other (Whole (reply.Made kind id)) said e = said
@@ -131,7 +131,7 @@ unrefusing refusable other (Whole reply.MediumError) said e = tt
 unrefusing refusable other (Whole reply.NoMemory) said e = tt
 unrefusing refusable other (Rows rows) said e = said
 
-said_more : (refusable : Bool) (line : ReplyLine) → IsSaid refusable line → IsSaid true line
+said_more : (refusable : Bool) (line : ReplyLine) → MayBeSaid refusable line → MayBeSaid true line
 said_more true line said = said
 said_more false line said =
     elim (cases (refuses line)) [
@@ -139,9 +139,9 @@ said_more false line said =
       | inr other ↦ unrefusing false true line said other
     ]
 
-image_said : (line : ReplyLine) → Image IsRefusal refused_of line → IsSaid true line × (refuses line ≡ true)
+image_said : (line : ReplyLine) → Image IsRefusal refused_of line → MayBeSaid true line × (refuses line ≡ true)
 image_said line image =
-    let P : ReplyLine → Type 0 = λ l. IsSaid true l × (refuses l ≡ true) in
+    let P : ReplyLine → Type 0 = λ l. MayBeSaid true l × (refuses l ≡ true) in
     let at : P (refused_of image.0) = ((refl, image.1), refl) in
     subst P image.2 at
 
@@ -163,10 +163,10 @@ number_of_le n short = of_le n 4294967295 short
 
 -- the reply of a line
 abbrev Answers : ReplyLine → Reply → Type 0
-Answers line answered = line_of answered ≡ line
+Answers line answered = said_line answered ≡ line
 
-answer_said : (line : ReplyLine) (answered : Reply) → Answers line answered → IsSaid true line → IsSaid true (line_of answered)
-answer_said line answered answers said = subst (IsSaid true) (sym answers) said
+answer_said : (line : ReplyLine) (answered : Reply) → Answers line answered → MayBeSaid true line → MayBeSaid true (said_line answered)
+answer_said line answered answers said = subst (MayBeSaid true) (sym answers) said
 
 answer_refused : (line : ReplyLine) (answered : Reply) (t : Bool) → Answers line answered → refuses line ≡ t → is_refused answered ≡ t
 answer_refused line answered t answers e = sym (told_same answered) ∙ ap refuses answers ∙ e
@@ -180,7 +180,7 @@ known_by :
 known_by asked line answered r is exchanged =
     subst (λ (x : Request). Exchanged asked x answered) (sym (some_request (request_of asked (reply_told line)) r is)) exchanged
 
-whole_is : (answered r : Reply) → line_of answered ≡ Whole r → answered ≡ r
+whole_is : (answered r : Reply) → said_line answered ≡ Whole r → answered ≡ r
 whole_is reply.Done r e = cc
 whole_is (reply.Made kind id) r e = cc
 whole_is (reply.Bytes runs) r e = cc
@@ -366,7 +366,7 @@ told_listed (CopyTurn lane) rows = refl
 told_listed (CleanTurn lane) rows = refl
 told_listed (OfCommand c) rows = refl
 
-told_request : (asked : Asked) (answered : Reply) → request_of asked (reply_told (line_of answered)) ≡ request_of asked answered
+told_request : (asked : Asked) (answered : Reply) → request_of asked (reply_told (said_line answered)) ≡ request_of asked answered
 told_request asked reply.Done = refl
 told_request asked (reply.Made kind id) = refl
 told_request asked (reply.Bytes runs) = refl
@@ -383,11 +383,11 @@ told_request asked (reply.Listed rows) = told_listed asked rows
 short_of : (block : ℕ) → IsNumber block → is_short block ≡ true
 short_of block is = le_true block 4294967295 (of-number block is)
 
-access_from : (volume : Ref) (block : ℕ) (answered : Reply) → IsNumber block → IsSaid true (line_of answered) → is_refused answered ≡ true → FitsAccess (is_short block) (is_id volume) (line_of answered)
-access_from (Id id) block answered is said refused = subst (λ b. IsSaid b (line_of answered)) (sym (short_of block is)) said
-access_from (Name name) block answered is said refused = (refusing true (line_of answered) said (told_same answered ∙ refused)).1
+access_from : (volume : Ref) (block : ℕ) (answered : Reply) → IsNumber block → MayBeSaid true (said_line answered) → is_refused answered ≡ true → FitsAccess (is_short block) (is_id volume) (said_line answered)
+access_from (Id id) block answered is said refused = subst (λ b. MayBeSaid b (said_line answered)) (sym (short_of block is)) said
+access_from (Name name) block answered is said refused = (refusing true (said_line answered) said (told_same answered ∙ refused)).1
 
-command_from : (c : Command) (answered : Reply) → IsExchange (request.Command c) answered → FitsLine (asked_of (request.Command c)) (line_of answered)
+command_from : (c : Command) (answered : Reply) → IsExchange (request.Command c) answered → FitsLine (asked_of (request.Command c)) (said_line answered)
 command_from (command.Read volume block count) answered e = access_from volume block answered e.request.1 e.reply e.may
 command_from (command.Write volume block count byte) answered e = access_from volume block answered e.request.1 e.reply e.may
 command_from (command.Mkvdisk name size unit thin) answered e = e.reply
@@ -410,11 +410,11 @@ command_from (command.Lsvdisk delim) answered e = e.reply
 command_from (command.Lsfcmapprogress map delim) answered e = e.reply
 command_from (command.Lsfcmapdependentmaps map delim) answered e = e.reply
 
-pub line_from : (r : Request) (answered : Reply) → IsExchange r answered → FitsLine (asked_of r) (line_of answered)
+pub line_from : (r : Request) (answered : Reply) → IsExchange r answered → FitsLine (asked_of r) (said_line answered)
 line_from (request.Command c) answered e = command_from c answered e
-line_from (request.Unread fault) answered e = (fault, e.reply, sym (ap line_of e.may))
-line_from (request.Read part) answered e = unrefusing true (is_short part.block) (line_of answered) e.reply (told_same answered ∙ e.may)
-line_from (request.Write part) answered e = unrefusing true (is_short part.block) (line_of answered) e.reply (told_same answered ∙ e.may)
+line_from (request.Unread fault) answered e = (fault, e.reply, sym (ap said_line e.may))
+line_from (request.Read part) answered e = unrefusing true (is_short part.block) (said_line answered) e.reply (told_same answered ∙ e.may)
+line_from (request.Write part) answered e = unrefusing true (is_short part.block) (said_line answered) e.reply (told_same answered ∙ e.may)
 line_from (request.Copy map grain) answered e = e.reply
 line_from (request.Clean map grain) answered e = e.reply
 line_from (request.CopyTurn lane) answered e = e.reply
@@ -423,6 +423,6 @@ line_from (request.CleanTurn lane) answered e = e.reply
 pub asked_from : (r : Request) (answered : Reply) → IsExchange r answered → IsAsked (asked_of r)
 asked_from r answered e = (request_line r e.request).0
 
-pub request_from : (r : Request) (answered : Reply) → IsExchange r answered → request_by (asked_of r) (line_of answered) ≡ r
+pub request_from : (r : Request) (answered : Reply) → IsExchange r answered → request_by (asked_of r) (said_line answered) ≡ r
 request_from r answered e =
-    some_request (request_of (asked_of r) (reply_told (line_of answered))) r (told_request (asked_of r) answered ∙ the-law.known r answered e.request e.may)
+    some_request (request_of (asked_of r) (reply_told (said_line answered))) r (told_request (asked_of r) answered ∙ the-law.known r answered e.request e.may)

@@ -9,7 +9,7 @@ use Rattle.fc_reading.specs.Stops.{StopsAt}
 use Rattle.fc_trace.specs.Trace.{traced_by}
 use Rattle.fc_words.specs.Canonical.{IsName}
 use Rattle.fc_reading_notes.specs.declared.lines.LaneCalls.{LaneCalls}
-use Rattle.fc_reading_entries.specs.Entries.{AreCalls, IsEntry, IsEntryText, ReadNext, calls_of, calls_or_none, entry_of, is_lane, parts_at, place_of, with_entry}
+use Rattle.fc_reading_entries.specs.Entries.{AreCalls, IsEntry, IsEntryText, ReadNext, entry_calls, calls_or_none, entry_of, is_lane, parts_at, turn_of, with_entry}
 use Rattle.fc_reading_entries.specs.Laws.{ReadEntriesLaw, with_next}
 use Rattle.fc_reading_entries.specs.declared.parts.Parts.{Parts}
 use Rattle.fc_reading.proofs.Exact.{ok_is}
@@ -40,10 +40,10 @@ with_all entry number turn calls = record entry {
 
 entry_back : (size : GrainSize) (number : ℕ) (name : List ℕ) (entry : Entry) → IsEntry size number entry → entry_of size number entry.actor (parts_with size name entry) ≡ entry
 entry_back size number name entry is =
-    let turn : Place = place_of size entry.request in
-    ap (with_all entry number turn) (calls_back (is_lane turn) (calls_of entry) is.calls)
-    ∙ ap (λ (n : ℕ). with_all entry n turn (calls_of entry)) (sym is.number_is)
-    ∙ ap (λ (t : Place). with_all entry entry.number t (calls_of entry)) (sym is.place_is)
+    let turn : Place = turn_of size entry.request in
+    ap (with_all entry number turn) (calls_back (is_lane turn) (entry_calls entry) is.calls)
+    ∙ ap (λ (n : ℕ). with_all entry n turn (entry_calls entry)) (sym is.number_is)
+    ∙ ap (λ (t : Place). with_all entry entry.number t (entry_calls entry)) (sym is.place_is)
 
 -- what was read next, by its parts
 after_parts : (size : GrainSize) (old : HistoryState) (bytes : List ℕ) (count : ℕ) (new : HistoryState) (r : ReadNext size old bytes count new) →

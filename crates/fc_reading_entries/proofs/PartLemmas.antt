@@ -13,7 +13,7 @@ use Rattle.fc_reading_notes.specs.Notes.{no_notes, notes_at}
 use Rattle.fc_reading_notes.specs.Told.{AreNotes, Each, HasCalls, head_at, head_text}
 use Rattle.fc_reading_notes.specs.declared.lines.LaneCalls.{LaneCalls}
 use Rattle.fc_reading_notes.specs.declared.notes.Notes.{Notes}
-use Rattle.fc_reading_replies.specs.Replies.{line_of, reply_line}
+use Rattle.fc_reading_replies.specs.Replies.{said_line, reply_line}
 use Rattle.fc_reading_replies.specs.Rows.{AreRows, IsRow, row_line, rows_at, rows_lines}
 use Rattle.fc_reading_replies.specs.declared.replies.ReplyLine.{ReplyLine}
 use Rattle.fc_reading_replies.specs.declared.replies.ReplyLine.TheVariants.{Whole, Rows}
@@ -22,7 +22,7 @@ use Rattle.fc_reading_requests.specs.Parts.{ended_by, name_at}
 use Rattle.fc_reading_requests.specs.Requests.{asked_at}
 use Rattle.fc_reading_requests.specs.declared.asked.Asked.{Asked}
 use Rattle.fc_reading_requests.specs.declared.asked.Asked.TheVariants.{Unread}
-use Rattle.fc_reading_entries.specs.Entries.{Behind, Raw, behind_line, is_lane, number_at, place_of, raw_at, reply_behind}
+use Rattle.fc_reading_entries.specs.Entries.{Behind, Raw, behind_line, is_lane, number_at, turn_of, raw_at, reply_behind}
 use Rattle.fc_reading_entries.specs.Exchanges.{line_at, request_by}
 use Rattle.fc_reading.proofs.Exact.{Ends, Exact, Exact-then}
 use Rattle.fc_reading.proofs.Fields.{AnyUnit, Exact-and, Exact-word}
@@ -124,16 +124,16 @@ behind_text line x = head_text x.0 ++ noted_text line x.1
 some_noted : (line : ReplyLine) → (x : Noted) × FitsNoted line x
 some_noted line = let e = some_ended line in ((no_notes, e.0), ((tt, (tt, tt)), e.1))
 
-Exact-behind : (size : GrainSize) (asked : Asked) (line : ReplyLine) → Exact (FitsBehind (is_lane (place_of size (request_by asked line))) line) (behind_text line) nothing (behind_line size asked line)
+Exact-behind : (size : GrainSize) (asked : Asked) (line : ReplyLine) → Exact (FitsBehind (is_lane (turn_of size (request_by asked line))) line) (behind_text line) nothing (behind_line size asked line)
 Exact-behind size asked line =
-    let in_lane : Bool = is_lane (place_of size (request_by asked line)) in
+    let in_lane : Bool = is_lane (turn_of size (request_by asked line)) in
     let some = some_noted line in
     Exact-and {V = Option LaneCalls} {W = Noted} (HasCalls in_lane) head_text (head_at in_lane) (FitsNoted line) (noted_text line) (noted_at line)
     (Exact-head in_lane) (Exact-noted line) some.0 some.1
 
-some_behind : (size : GrainSize) (asked : Asked) (line : ReplyLine) → (x : Behind) × FitsBehind (is_lane (place_of size (request_by asked line))) line x
+some_behind : (size : GrainSize) (asked : Asked) (line : ReplyLine) → (x : Behind) × FitsBehind (is_lane (turn_of size (request_by asked line))) line x
 some_behind size asked line =
-    let head = some_head (is_lane (place_of size (request_by asked line))) in
+    let head = some_head (is_lane (turn_of size (request_by asked line))) in
     let noted = some_noted line in
     ((head.0, noted.0), (head.1, noted.1))
 
@@ -143,7 +143,7 @@ abbrev Lined : Type 0
 Lined = ReplyLine × Behind
 
 abbrev FitsLined : GrainSize → Asked → Lined → Type 0
-FitsLined size asked x = FitsLine asked x.0 × FitsBehind (is_lane (place_of size (request_by asked x.0))) x.0 x.1
+FitsLined size asked x = FitsLine asked x.0 × FitsBehind (is_lane (turn_of size (request_by asked x.0))) x.0 x.1
 
 abbrev lined_text : Lined → List ℕ
 lined_text x = reply_line x.0 ++ behind_text x.0 x.1
@@ -151,7 +151,7 @@ lined_text x = reply_line x.0 ++ behind_text x.0 x.1
 Exact-lined : (size : GrainSize) (asked : Asked) → Exact (FitsLined size asked) lined_text nothing (then_read (line_at asked) (behind_line size asked))
 Exact-lined size asked =
     Exact-then {V = ReplyLine} {W = Behind} (FitsLine asked) reply_line nothing (line_at asked)
-    (λ line. FitsBehind (is_lane (place_of size (request_by asked line))) line) behind_text nothing (behind_line size asked)
+    (λ line. FitsBehind (is_lane (turn_of size (request_by asked line))) line) behind_text nothing (behind_line size asked)
     (Exact-line asked) (λ line fits. Exact-behind size asked line) (λ line fits. some_behind size asked line)
     (λ line x rest fits is ends. Ends-nothing (behind_text line x ++ rest))
 

@@ -10,17 +10,17 @@ use Rattle.fc_base.specs.declared.size.GrainSize.TheVariants.{K64, K256}
 use Rattle.fc_reading_notes.specs.Notes.{no_notes}
 use Rattle.fc_reading_replies.specs.declared.replies.ReplyLine.TheVariants.{Whole, Rows}
 use Rattle.fc_reading_requests.specs.declared.asked.Asked.TheVariants.{Unread, Read, CopyTurn, Command as OfCommand}
-use Rattle.fc_reading_entries.specs.Entries.{behind_line, place_of}
+use Rattle.fc_reading_entries.specs.Entries.{behind_line, turn_of}
 use Rattle.fc_reading_entries.specs.Exchanges.{fault_told, line_at, request_by}
 
 -- block 128 is the first of grain 1, where grains have 128 blocks, and grain 6 is lane 2's
-read_in_lane_1 : place_of K64 (request.Read (record { volume = record { 0 = 0 }; block = 128; count = 1 })) ≡ place.Lane 1
+read_in_lane_1 : turn_of K64 (request.Read (record { volume = record { 0 = 0 }; block = 128; count = 1 })) ≡ place.Lane 1
 read_in_lane_1 = refl
 
-copy_in_lane_2 : place_of K256 (request.Copy (record { 0 = 3 }) (record { 0 = 6 })) ≡ place.Lane 2
+copy_in_lane_2 : turn_of K256 (request.Copy (record { 0 = 3 }) (record { 0 = 6 })) ≡ place.Lane 2
 copy_in_lane_2 = refl
 
-refused_write : place_of K64 (request.Command (command.Write (Id 0) 128 1 90)) ≡ place.Control
+refused_write : turn_of K64 (request.Command (command.Write (Id 0) 128 1 90)) ≡ place.Control
 refused_write = refl
 
 -- which request it was, by the line of its reply

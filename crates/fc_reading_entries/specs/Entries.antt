@@ -36,17 +36,17 @@ lane_of grain = place.Lane (grain % 4)
 
 -- that of its grain's lane, or of the worker's; all turns for a command; that of the control part for a refused
 -- access and for a line that couldn't be read
-abbrev pub place_of : GrainSize → Request → Place
-place_of size (request.Command (ReadLine volume block count)) = place.Control
-place_of size (request.Command (WriteLine volume block count byte)) = place.Control
-place_of size (request.Command command) = place.Every
-place_of size (request.Unread fault) = place.Control
-place_of size (request.Read part) = lane_of (part.block / grain_blocks size)
-place_of size (request.Write part) = lane_of (part.block / grain_blocks size)
-place_of size (request.Copy map grain) = lane_of grain.0
-place_of size (request.Clean map grain) = lane_of grain.0
-place_of size (request.CopyTurn lane) = place.Lane lane
-place_of size (request.CleanTurn lane) = place.Lane lane
+abbrev pub turn_of : GrainSize → Request → Place
+turn_of size (request.Command (ReadLine volume block count)) = place.Control
+turn_of size (request.Command (WriteLine volume block count byte)) = place.Control
+turn_of size (request.Command command) = place.Every
+turn_of size (request.Unread fault) = place.Control
+turn_of size (request.Read part) = lane_of (part.block / grain_blocks size)
+turn_of size (request.Write part) = lane_of (part.block / grain_blocks size)
+turn_of size (request.Copy map grain) = lane_of grain.0
+turn_of size (request.Clean map grain) = lane_of grain.0
+turn_of size (request.CopyTurn lane) = place.Lane lane
+turn_of size (request.CleanTurn lane) = place.Lane lane
 
 abbrev pub is_lane : Place → Bool
 is_lane (place.Lane lane) = true
@@ -60,8 +60,8 @@ abbrev pub AreCalls : Bool → LaneCalls → Type 0
 AreCalls true calls = IsCalls calls
 AreCalls false calls = calls ≡ record { calls = 0; faults_before = 0; faults_after = 0 }
 
-abbrev pub calls_of : Entry → LaneCalls
-calls_of entry = record { calls = entry.calls; faults_before = entry.faults_before; faults_after = entry.faults_after }
+abbrev pub entry_calls : Entry → LaneCalls
+entry_calls entry = record { calls = entry.calls; faults_before = entry.faults_before; faults_after = entry.faults_after }
 
 abbrev pub notes_of : Entry → Notes
 notes_of entry = record { moves = entry.moves; torn = entry.torn; effects = entry.effects }
@@ -74,10 +74,10 @@ AreRowsOf reply = Unit {0}
 -- an entry with this number, of a store of this size of grains
 pub record IsEntry (size : GrainSize) (number : ℕ) (entry : Entry) : Type 0 where
   pub number_is : entry.number ≡ number
-  pub place_is : entry.place ≡ place_of size entry.request
+  pub place_is : entry.place ≡ turn_of size entry.request
   pub exchange : IsExchange entry.request entry.reply
   pub rows : AreRowsOf entry.reply
-  pub calls : AreCalls (is_lane (place_of size entry.request)) (calls_of entry)
+  pub calls : AreCalls (is_lane (turn_of size entry.request)) (entry_calls entry)
   pub notes : AreNotes (notes_of entry)
 
 -- the text of an entry with this number, of an actor with some name
@@ -120,7 +120,7 @@ noted_line line = then_read notes_at (λ notes. ended_line line)
 
 abbrev pub behind_line : GrainSize → Asked → ReplyLine → List ℕ → Result (Behind × List ℕ) ℕ
 behind_line size asked line =
-    then_read (head_at (is_lane (place_of size (request_by asked line)))) (λ calls. noted_line line)
+    then_read (head_at (is_lane (turn_of size (request_by asked line)))) (λ calls. noted_line line)
 
 -- all of an entry
 abbrev pub Raw : Type 0
@@ -160,7 +160,7 @@ abbrev pub entry_of : GrainSize → ℕ → ℕ → Parts → Entry
 entry_of size number actor parts = record {
   number = number;
   actor = actor;
-  place = place_of size parts.request;
+  place = turn_of size parts.request;
   request = parts.request;
   reply = parts.reply;
   moves = parts.notes.moves;

@@ -11,7 +11,7 @@ use Rattle.fc_base.specs.declared.request.Request.{Request}
 use Rattle.fc_base.specs.declared.request.Request.TheVariants as request
 use Rattle.fc_reading.specs.Readers.{map_read}
 use Rattle.fc_reading_replies.specs.Faults.{IsFault, unread_at}
-use Rattle.fc_reading_replies.specs.Replies.{IsSaid, line_of, refused_at, refused_of, reply_at}
+use Rattle.fc_reading_replies.specs.Replies.{MayBeSaid, said_line, refused_at, refused_of, reply_at}
 use Rattle.fc_reading_replies.specs.declared.replies.ReplyLine.{ReplyLine}
 use Rattle.fc_reading_replies.specs.declared.replies.ReplyLine.TheVariants.{Whole, Rows}
 use Rattle.fc_reading_requests.specs.Answered.{MayAnswer, request_of}
@@ -24,7 +24,7 @@ use Rattle.fc_reading_requests.specs.declared.asked.Asked.TheVariants.{Unread, R
 -- a reply in range, of a line with a fault in its words or of anything else
 abbrev pub IsAnswer : Request → Reply → Type 0
 IsAnswer (request.Unread fault) reply = IsFault fault
-IsAnswer request reply = IsSaid true (line_of reply)
+IsAnswer request reply = MayBeSaid true (said_line reply)
 
 -- a request, and a reply that it may have
 pub record IsExchange (asked : Request) (answered : Reply) : Type 0 where

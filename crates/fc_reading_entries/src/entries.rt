@@ -6,7 +6,7 @@ ghost use Rattle.fc_reading_notes.specs.Told.{IfMalformed};
 ghost use Rattle.fc_reading_entries.specs.Entries.{IsEntryText, ReadNext, calls_or_none, entry_of, with_entry};
 ghost use Rattle.fc_reading_notes.specs.declared.notes.NotTold.TheVariants.{NoMemory};
 
-use crate::parts::{Parts, place_of, take_parts};
+use crate::parts::{Parts, take_parts, turn_of};
 use fc_base::size::GrainSize;
 use fc_entry::entry::Entry;
 use fc_entry::history::History;
@@ -33,7 +33,7 @@ fn calls_or_none(calls: Option<LaneCalls>) -> LaneCalls
 fn entry_of(size: GrainSize, number: u64, actor: u32, parts: Parts) -> Entry
     ensures { result ≡ entry_of size number actor parts }
 {
-    let place = place_of(size, &parts.request);
+    let place = turn_of(size, &parts.request);
     let calls = calls_or_none(parts.calls);
     Entry {
         number,

@@ -4,7 +4,7 @@ ghost use Rattle.std.specs.Prelude.{◌≡◌, ◌/◌, ◌<◌};
 ghost use Rattle.fc_base.specs.Grain.{grain_blocks};
 ghost use Rattle.fc_reading.specs.Pieces.{Reads};
 ghost use Rattle.fc_reading_notes.specs.Answers.{ReadsOr};
-ghost use Rattle.fc_reading_entries.specs.Entries.{asked_parts, ended_line, is_lane, lane_of, lined_parts, noted_line, number_at, parts_at, place_of, reply_behind};
+ghost use Rattle.fc_reading_entries.specs.Entries.{asked_parts, ended_line, is_lane, lane_of, lined_parts, noted_line, number_at, parts_at, turn_of, reply_behind};
 
 use crate::exchanges::{request_by, take_line};
 use fc_base::command::Command;
@@ -54,8 +54,8 @@ fn lane_of_block(size: GrainSize, block: u64) -> Place
 }
 
 /// Under whose turns a request is answered.
-pub(crate) fn place_of(size: GrainSize, request: &Request) -> Place
-    ensures { result ≡ place_of size request.now }
+pub(crate) fn turn_of(size: GrainSize, request: &Request) -> Place
+    ensures { result ≡ turn_of size request.now }
 {
     match request {
         Request::Command(Command::Read { .. }) => Place::Control,
@@ -143,7 +143,7 @@ fn take_lined(
     match take_line(alloc, &asked, bytes) {
         Ok((line, rest)) => {
             let request = request_by(asked, &line);
-            let (calls, rest) = take_head(is_lane(place_of(size, &request)), rest)?;
+            let (calls, rest) = take_head(is_lane(turn_of(size, &request)), rest)?;
             match take_noted(alloc, line, rest) {
                 Ok((notes, reply, rest)) => {
                     let parts = Parts {

@@ -6,7 +6,7 @@ use Rattle.std.specs.List.{list_all}
 use Rattle.std.proofs.lemmas.Bool.{false≢true}
 use Rattle.fc_reading.specs.Readers.{is_decimal, number_at, one_of_at}
 use Rattle.fc_reading_notes.specs.Lines.{ending_at}
-use Rattle.fc_reading_notes.specs.Lists.{begins, by_first, choice, starts_with}
+use Rattle.fc_reading_notes.specs.Lists.{first_byte_is, by_first, choice, starts_with}
 use Rattle.fc_reading.proofs.Exact.{Ends, Exact, Exact-then, SameStart, Stops, Takes, ok_is, ok_no_err}
 use Rattle.fc_reading.proofs.Numbers.{Exact-number, IsUpTo, cases}
 use Rattle.fc_reading.proofs.Words.{Ends-nothing, Exact-one_of, IsIndexOf, at_false, at_true, both, is_code, nothing}
@@ -91,7 +91,7 @@ stops_first Fits text read bytes left value fits all again = record {
 
 -- ---- a choice by the first byte
 
-pub begins-same : (test : ℕ → Bool) (front rest u : List ℕ) (t : Bool) → SameStart rest u → begins test (front ++ rest) ≡ t → begins test (front ++ u) ≡ t
+pub begins-same : (test : ℕ → Bool) (front rest u : List ℕ) (t : Bool) → SameStart rest u → first_byte_is test (front ++ rest) ≡ t → first_byte_is test (front ++ u) ≡ t
 begins-same test (b ∷ front) rest u t same e = e
 begins-same test [] [] [] t same e = e
 begins-same test [] [] (b ∷ u) t same e = absurd same
@@ -104,8 +104,8 @@ Either Fits Others v = Fits v ⊎ Others v
 pub Exact-choice :
     {V : Type 0} (test : ℕ → Bool) (Here Other : V → Type 0) (text : V → List ℕ) (joins : ℕ → Bool) (here other : List ℕ → Result (V × List ℕ) ℕ) →
     Exact Here text joins here → Exact Other text joins other →
-    ((v : V) (rest : List ℕ) → Here v → begins test (text v ++ rest) ≡ true) →
-    ((v : V) (rest : List ℕ) → Other v → begins test (text v ++ rest) ≡ false) →
+    ((v : V) (rest : List ℕ) → Here v → first_byte_is test (text v ++ rest) ≡ true) →
+    ((v : V) (rest : List ℕ) → Other v → first_byte_is test (text v ++ rest) ≡ false) →
     Exact (Either Here Other) text joins (choice test here other)
 Exact-choice {V} test Here Other text joins here other exact1 exact2 begin apart = record {
   takes = takes;
@@ -113,15 +113,15 @@ Exact-choice {V} test Here Other text joins here other exact1 exact2 begin apart
   stops = stops;
 }
   where
-    on : (bytes : List ℕ) (r : Result (V × List ℕ) ℕ) → begins test bytes ≡ true → choice test here other bytes ≡ r → here bytes ≡ r
-    on bytes r t e = sym (at_true (begins test bytes) (here bytes) (other bytes) t) ∙ e
+    on : (bytes : List ℕ) (r : Result (V × List ℕ) ℕ) → first_byte_is test bytes ≡ true → choice test here other bytes ≡ r → here bytes ≡ r
+    on bytes r t e = sym (at_true (first_byte_is test bytes) (here bytes) (other bytes) t) ∙ e
 
-    off : (bytes : List ℕ) (r : Result (V × List ℕ) ℕ) → begins test bytes ≡ false → choice test here other bytes ≡ r → other bytes ≡ r
-    off bytes r t e = sym (at_false (begins test bytes) (here bytes) (other bytes) t) ∙ e
+    off : (bytes : List ℕ) (r : Result (V × List ℕ) ℕ) → first_byte_is test bytes ≡ false → choice test here other bytes ≡ r → other bytes ≡ r
+    off bytes r t e = sym (at_false (first_byte_is test bytes) (here bytes) (other bytes) t) ∙ e
 
     takes : (bytes : List ℕ) (v : V) (rest : List ℕ) → choice test here other bytes ≡ Ok (v, rest) → Takes (Either Here Other) text joins bytes v rest
     takes bytes v rest e =
-        elim (cases (begins test bytes)) [
+        elim (cases (first_byte_is test bytes)) [
           | inl t ↦
               let s = exact1.takes bytes v rest (on bytes (Ok (v, rest)) t e) in
               record { fits = inl s.fits; split = s.split; ends = s.ends }
@@ -132,13 +132,13 @@ Exact-choice {V} test Here Other text joins here other exact1 exact2 begin apart
 
     again : (v : V) (rest : List ℕ) → Either Here Other v → Ends joins rest → choice test here other (text v ++ rest) ≡ Ok (v, rest)
     again v rest (inl fits) ends =
-        at_true (begins test (text v ++ rest)) (here (text v ++ rest)) (other (text v ++ rest)) (begin v rest fits) ∙ exact1.again v rest fits ends
+        at_true (first_byte_is test (text v ++ rest)) (here (text v ++ rest)) (other (text v ++ rest)) (begin v rest fits) ∙ exact1.again v rest fits ends
     again v rest (inr fits) ends =
-        at_false (begins test (text v ++ rest)) (here (text v ++ rest)) (other (text v ++ rest)) (apart v rest fits) ∙ exact2.again v rest fits ends
+        at_false (first_byte_is test (text v ++ rest)) (here (text v ++ rest)) (other (text v ++ rest)) (apart v rest fits) ∙ exact2.again v rest fits ends
 
     stops : (bytes : List ℕ) (left : ℕ) → choice test here other bytes ≡ Err left → Stops (Either Here Other) text (choice test here other) bytes left
     stops bytes left e =
-        elim (cases (begins test bytes)) [
+        elim (cases (first_byte_is test bytes)) [
           | inl t ↦
               let s = exact1.stops bytes left (on bytes (Err left) t e) in
               record {
@@ -152,8 +152,8 @@ Exact-choice {V} test Here Other text joins here other exact1 exact2 begin apart
                 begins = s.begins;
                 again =
                     λ u same.
-                    at_true (begins test (s.front ++ u)) (here (s.front ++ u)) (other (s.front ++ u))
-                    (begins-same test s.front s.rest u true same (ap (begins test) (sym s.split) ∙ t))
+                    at_true (first_byte_is test (s.front ++ u)) (here (s.front ++ u)) (other (s.front ++ u))
+                    (begins-same test s.front s.rest u true same (ap (first_byte_is test) (sym s.split) ∙ t))
                     ∙ s.again u same;
               }
           | inr t ↦
@@ -169,8 +169,8 @@ Exact-choice {V} test Here Other text joins here other exact1 exact2 begin apart
                 begins = s.begins;
                 again =
                     λ u same.
-                    at_false (begins test (s.front ++ u)) (here (s.front ++ u)) (other (s.front ++ u))
-                    (begins-same test s.front s.rest u false same (ap (begins test) (sym s.split) ∙ t))
+                    at_false (first_byte_is test (s.front ++ u)) (here (s.front ++ u)) (other (s.front ++ u))
+                    (begins-same test s.front s.rest u false same (ap (first_byte_is test) (sym s.split) ∙ t))
                     ∙ s.again u same;
               }
         ]

@@ -12,7 +12,7 @@ use Rattle.fc_base.specs.declared.state.MapState.TheVariants as state
 use Rattle.fc_entry.specs.Text.{state_text}
 use Rattle.fc_reading.specs.Readers.{is_decimal, one_of_at, the_word, then_read}
 use Rattle.fc_trace.specs.Notes.{move_text, pair_text, side_text, text_if}
-use Rattle.fc_reading_notes.specs.Lines.{calls_at, calls_of, count_at, ending_at, id_at, move_at, move_ends, move_of, pair_at, pair_ends, pair_of, pairs_at, state_at, state_ends, state_of, torn_at, torn_ends, torn_of}
+use Rattle.fc_reading_notes.specs.Lines.{calls_at, line_calls, count_at, ending_at, id_at, move_at, move_ends, move_of, pair_at, pair_ends, pair_of, pairs_at, state_at, state_ends, state_of, torn_at, torn_ends, torn_of}
 use Rattle.fc_reading_notes.specs.Told.{Each, IsCalls, IsCount, IsId, IsMove, IsPair, IsTorn, head_text}
 use Rattle.fc_reading_notes.specs.declared.lines.LaneCalls.{LaneCalls}
 use Rattle.fc_reading.proofs.Exact.{Ends, Exact, Exact-map}
@@ -67,7 +67,7 @@ Exact-calls =
     (Exact-word (codes "+ calls ")) all (0, (0, 0)) (omega arith, (omega arith, omega arith)) in
     Exact-map {V = Calls} {W = LaneCalls} AreCalls calls_line nothing
     (then_read (the_word (codes "+ calls ")) (λ u. then_read (id_at (codes " faults ")) (λ c. then_read (count_at (codes " ")) (λ b. count_at (codes "\n")))))
-    IsCalls calls_text_of calls_of line
+    IsCalls calls_text_of line_calls line
     (
     λ x fits. (
       fits.1,

@@ -27,12 +27,12 @@ abbrev pub ending_at : List (List ℕ) → List ℕ → Result ((ℕ × ℕ) × 
 ending_at words = then_read (number_at 4294967295) (λ n. one_of_at words)
 
 -- the calls and faults of an entry of a lane
-abbrev pub calls_of : Unit {0} × (ℕ × (ℕ × ℕ)) → LaneCalls
-calls_of x = record { calls = x.1.0; faults_before = x.1.1.0; faults_after = x.1.1.1 }
+abbrev pub line_calls : Unit {0} × (ℕ × (ℕ × ℕ)) → LaneCalls
+line_calls x = record { calls = x.1.0; faults_before = x.1.1.0; faults_after = x.1.1.1 }
 
 abbrev pub calls_at : List ℕ → Result (LaneCalls × List ℕ) ℕ
 calls_at =
-    map_read calls_of
+    map_read line_calls
     (then_read (the_word (codes "+ calls ")) (λ u. then_read (id_at (codes " faults ")) (λ c. then_read (count_at (codes " ")) (λ b. count_at (codes "\n")))))
 
 -- a move

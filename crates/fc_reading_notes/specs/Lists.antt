@@ -18,13 +18,13 @@ abbrev pub chain : {S V : Type 0} → (S → List ℕ → Result ((V × Bool) ×
 chain item next state bytes = chain_at item next (length bytes) state bytes
 
 -- whether a byte of this kind comes first
-abbrev pub begins : (ℕ → Bool) → List ℕ → Bool
-begins test [] = false
-begins test (byte ∷ bytes) = test byte
+abbrev pub first_byte_is : (ℕ → Bool) → List ℕ → Bool
+first_byte_is test [] = false
+first_byte_is test (byte ∷ bytes) = test byte
 
 -- whether this byte comes first
 abbrev pub starts_with : ℕ → List ℕ → Bool
-starts_with first = begins (λ byte. byte == first)
+starts_with first = first_byte_is (λ byte. byte == first)
 
 -- items, no more than so many, as long as this byte comes first
 abbrev pub while_at : {S V : Type 0} → ℕ → (S → List ℕ → Result (V × List ℕ) ℕ) → (S → V → S) → ℕ → S → List ℕ → Result (List V × List ℕ) ℕ
@@ -40,7 +40,7 @@ while_first first item next state bytes = while_at first item next (length bytes
 
 -- one of two readings, by whether a byte of this kind comes first
 abbrev pub choice : {V : Type 0} → (ℕ → Bool) → (List ℕ → Result (V × List ℕ) ℕ) → (List ℕ → Result (V × List ℕ) ℕ) → List ℕ → Result (V × List ℕ) ℕ
-choice test here other bytes = if begins test bytes then here bytes else other bytes
+choice test here other bytes = if first_byte_is test bytes then here bytes else other bytes
 
 -- the same by whether this byte comes first
 abbrev pub by_first : {V : Type 0} → ℕ → (List ℕ → Result (V × List ℕ) ℕ) → (List ℕ → Result (V × List ℕ) ℕ) → List ℕ → Result (V × List ℕ) ℕ

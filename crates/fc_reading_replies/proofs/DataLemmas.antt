@@ -12,7 +12,7 @@ use Rattle.fc_reading.specs.Readers.{is_decimal, one_of_at, the_word, then_read}
 use Rattle.fc_reading_notes.specs.Between.{between_at}
 use Rattle.fc_reading_notes.specs.Lists.{starts_with}
 use Rattle.fc_reading_notes.specs.Told.{Each}
-use Rattle.fc_reading_replies.specs.Data.{AreRuns, IsRun, byte_at, byte_of, data_at, digit_at, excluded_low, hex_value, is_hex, is_other, run_at, run_ends, run_next, run_of, runs_at}
+use Rattle.fc_reading_replies.specs.Data.{AreRuns, IsRunOfBytes, byte_at, byte_of, data_at, digit_at, excluded_low, hex_value, is_hex, is_other, run_at, run_ends, run_next, run_of, runs_at}
 use Rattle.fc_reading.proofs.Exact.{Ends, Exact, Exact-map, Exact-then, SameStart, Stops, Takes, err_is, ok_is, ok_no_err}
 use Rattle.fc_reading.proofs.Fields.{AnyUnit, Exact-and, Exact-word}
 use Rattle.fc_reading.proofs.Words.{Ends-nothing, Exact-one_of, IsIndexOf, at_false, at_true, both, cond_err, cond_ok, nothing}
@@ -275,12 +275,12 @@ canonical_after before run (next ∷ runs) fits = (
     first_other byte run [] fits = fits.1.1
     first_other byte run (next ∷ runs) fits = fits.0.1.1
 
-each_run : (before : Option ℕ) (runs : List Run) → AllFit FitsRun run_next before runs → Each IsRun runs
+each_run : (before : Option ℕ) (runs : List Run) → AllFit FitsRun run_next before runs → Each IsRunOfBytes runs
 each_run before [] fits = absurd fits
 each_run before (run ∷ []) fits = ((fits.0.1, fits.1.0), tt)
 each_run before (run ∷ next ∷ runs) fits = ((fits.0.0.1, fits.0.1.0), each_run (Some run.byte) (next ∷ runs) fits.1)
 
-runs_fit : (before : Option ℕ) (run : Run) (runs : List Run) → is_other before run.byte ≡ true → IsCanonical (run ∷ runs) → Each IsRun (run ∷ runs) → AllFit FitsRun run_next before (run ∷ runs)
+runs_fit : (before : Option ℕ) (run : Run) (runs : List Run) → is_other before run.byte ≡ true → IsCanonical (run ∷ runs) → Each IsRunOfBytes (run ∷ runs) → AllFit FitsRun run_next before (run ∷ runs)
 runs_fit before run [] other canonical each = ((omega (arith, canonical.0), each.0.0), (each.0.1, other))
 runs_fit before run (next ∷ runs) other canonical each = (
   ((omega (arith, canonical.0), each.0.0), (each.0.1, other)),

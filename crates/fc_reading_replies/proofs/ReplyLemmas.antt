@@ -16,7 +16,7 @@ use Rattle.fc_reading_notes.specs.Lines.{count_at, id_at, state_at}
 use Rattle.fc_reading_notes.specs.Told.{IsCount, IsId}
 use Rattle.fc_reading_replies.specs.Data.{AreRuns, data_at}
 use Rattle.fc_reading_replies.specs.Refusals.{IsRefusal, refusal_at}
-use Rattle.fc_reading_replies.specs.Replies.{IsSaid, answer_words, made_of, moved_of, not_accessible, offline_of, refused_at, refused_of, reply_at, reply_behind, reply_line, reply_words}
+use Rattle.fc_reading_replies.specs.Replies.{MayBeSaid, answer_words, made_of, moved_of, not_accessible, offline_of, refused_at, refused_of, reply_at, reply_behind, reply_line, reply_words}
 use Rattle.fc_reading_replies.specs.declared.replies.ReplyLine.{ReplyLine}
 use Rattle.fc_reading_replies.specs.declared.replies.ReplyLine.TheVariants.{Whole, Rows}
 use Rattle.fc_reading.proofs.Exact.{Exact, Exact-map}
@@ -42,8 +42,8 @@ reply_end (Whole (reply.Refused refusal)) = refusal_line refusal
 reply_end (Whole reply) = []
 reply_end (Rows rows) = decimal rows ++ codes "\n"
 
-whole : (refusable : Bool) → SaidCases (IsSaid refusable) reply_line reply_end
-whole refusable = case_said (IsSaid refusable) reply_line reply_end
+whole : (refusable : Bool) → SaidCases (MayBeSaid refusable) reply_line reply_end
+whole refusable = case_said (MayBeSaid refusable) reply_line reply_end
 
 made_joined : (m w d e n : List ℕ) → m ++ w ++ d ++ e ++ n ≡ (m ++ w) ++ (d ++ (e ++ n))
 made_joined m w d e n = simp (append_assoc)
@@ -53,10 +53,10 @@ made_number = Exact-id made_end (λ rest. refl)
 
 made :
     (refusable : Bool) (word : List ℕ) (kind : Kind) (f : ℕ → ReplyLine) → ((n : ℕ) → f n ≡ Whole (reply.Made kind n)) → word ≡ made_text kind ++ codes ", id [" →
-    Case (IsSaid refusable) reply_line reply_end word (map_read f (id_at made_end))
+    Case (MayBeSaid refusable) reply_line reply_end word (map_read f (id_at made_end))
 made refusable word kind f is same =
-    case_image {R = ℕ} {V = ReplyLine} (IsSaid refusable) reply_line reply_end word IsId (λ n. decimal n ++ made_end) (id_at made_end) f made_number 0 (omega arith)
-    (λ n fits. subst (IsSaid refusable) (sym (is n)) fits)
+    case_image {R = ℕ} {V = ReplyLine} (MayBeSaid refusable) reply_line reply_end word IsId (λ n. decimal n ++ made_end) (id_at made_end) f made_number 0 (omega arith)
+    (λ n fits. subst (MayBeSaid refusable) (sym (is n)) fits)
     (λ n fits. ap reply_end (is n))
     (
     λ n fits.
@@ -81,45 +81,45 @@ Exact-offline : Exact IsOffline offline_text nothing offline_at
 Exact-offline =
     Exact-and {V = ℕ} {W = MapState} IsId (λ n. decimal n ++ codes " ") (id_at (codes " ")) AnyState state_line state_at spaced Exact-state Empty tt
 
-offline : (refusable : Bool) → Case (IsSaid refusable) reply_line reply_end (codes "offline ") (reply_behind 9)
+offline : (refusable : Bool) → Case (MayBeSaid refusable) reply_line reply_end (codes "offline ") (reply_behind 9)
 offline refusable =
-    case_image {R = ℕ × MapState} {V = ReplyLine} (IsSaid refusable) reply_line reply_end (codes "offline ") IsOffline offline_text offline_at offline_of Exact-offline (0, Empty)
+    case_image {R = ℕ × MapState} {V = ReplyLine} (MayBeSaid refusable) reply_line reply_end (codes "offline ") IsOffline offline_text offline_at offline_of Exact-offline (0, Empty)
     (omega arith, tt) (λ x fits. fits.0) (λ x fits. refl)
     (λ x fits. offline_joined (codes "offline ") (decimal x.0) (codes " ") (state_text x.1) (codes "\n"))
 
 rows_number : Exact IsCount (λ n. decimal n ++ codes "\n") nothing (count_at (codes "\n"))
 rows_number = Exact-count (codes "\n") (λ rest. refl)
 
-rows : (refusable : Bool) → Case (IsSaid refusable) reply_line reply_end (codes "rows ") (reply_behind 11)
+rows : (refusable : Bool) → Case (MayBeSaid refusable) reply_line reply_end (codes "rows ") (reply_behind 11)
 rows refusable =
-    case_image {R = ℕ} {V = ReplyLine} (IsSaid refusable) reply_line reply_end (codes "rows ") IsCount (λ n. decimal n ++ codes "\n") (count_at (codes "\n")) Rows rows_number 0
+    case_image {R = ℕ} {V = ReplyLine} (MayBeSaid refusable) reply_line reply_end (codes "rows ") IsCount (λ n. decimal n ++ codes "\n") (count_at (codes "\n")) Rows rows_number 0
     (omega arith) (λ n fits. fits) (λ n fits. refl) (λ n fits. append_assoc (codes "rows ") (decimal n) (codes "\n"))
 
 abbrev a_read : List Run → ReplyLine
 a_read runs = Whole (reply.Bytes runs)
 
-bytes_read : (refusable : Bool) → Case (IsSaid refusable) reply_line reply_end (codes "data ") (reply_behind 12)
+bytes_read : (refusable : Bool) → Case (MayBeSaid refusable) reply_line reply_end (codes "data ") (reply_behind 12)
 bytes_read refusable =
-    case_image {R = List Run} {V = ReplyLine} (IsSaid refusable) reply_line reply_end (codes "data ") AreRuns data_line data_at a_read Exact-data []
+    case_image {R = List Run} {V = ReplyLine} (MayBeSaid refusable) reply_line reply_end (codes "data ") AreRuns data_line data_at a_read Exact-data []
     (tt, tt) (λ runs fits. fits) (λ runs fits. refl)
     (λ runs fits. append_assoc (codes "data ") (join_with_byte 44 (map run_text runs)) (codes "\n"))
 
-refused : Case (IsSaid true) reply_line reply_end (codes "refused ") (reply_behind 13)
+refused : Case (MayBeSaid true) reply_line reply_end (codes "refused ") (reply_behind 13)
 refused =
-    case_image {R = Refusal} {V = ReplyLine} (IsSaid true) reply_line reply_end (codes "refused ") IsRefusal refusal_line refusal_at refused_of Exact-refusal NoDisk
+    case_image {R = Refusal} {V = ReplyLine} (MayBeSaid true) reply_line reply_end (codes "refused ") IsRefusal refusal_line refusal_at refused_of Exact-refusal NoDisk
     tt (λ refusal fits. (refl, fits)) (λ refusal fits. refl)
     (λ refusal fits. append_assoc (codes "refused ") (refusal_text refusal) (codes "\n"))
 
-moved : (refusable : Bool) → Case (IsSaid refusable) reply_line reply_end (codes "moved ") (reply_behind 8)
+moved : (refusable : Bool) → Case (MayBeSaid refusable) reply_line reply_end (codes "moved ") (reply_behind 8)
 moved refusable =
-    case_twice (IsSaid refusable) reply_line reply_end (codes "moved ") moved_of (λ x is. is) (λ x. refl) (λ x. refl)
+    case_twice (MayBeSaid refusable) reply_line reply_end (codes "moved ") moved_of (λ x is. is) (λ x. refl) (λ x. refl)
 
-hidden : (refusable : Bool) → Case (IsSaid refusable) reply_line reply_end (codes "not accessible ") (reply_behind 10)
+hidden : (refusable : Bool) → Case (MayBeSaid refusable) reply_line reply_end (codes "not accessible ") (reply_behind 10)
 hidden refusable =
-    case_numbered (IsSaid refusable) reply_line reply_end (codes "not accessible ") not_accessible (λ n is. is) (λ n. refl) (λ n. refl)
+    case_numbered (MayBeSaid refusable) reply_line reply_end (codes "not accessible ") not_accessible (λ n is. is) (λ n. refl) (λ n. refl)
 
 abbrev ReplyAt : Bool → ℕ → Type 0
-ReplyAt refusable i = Case (IsSaid refusable) reply_line reply_end (get_or (reply_words true) i []) (reply_behind i)
+ReplyAt refusable i = Case (MayBeSaid refusable) reply_line reply_end (get_or (reply_words true) i []) (reply_behind i)
 
 made_cases : (refusable : Bool) → AllBelow (ReplyAt refusable) 8
 made_cases refusable =
@@ -151,7 +151,7 @@ abbrev BeginsOf : ℕ → ReplyLine → Type 0
 BeginsOf count line = (i : ℕ) × (i < count) × Given (reply_behind i) line
 
 -- a line that refuses nothing
-answer_from : (line : ReplyLine) → IsSaid false line → BeginsOf 13 line
+answer_from : (line : ReplyLine) → MayBeSaid false line → BeginsOf 13 line
 answer_from (Whole reply.Done) is = (0, omega arith, given_said (Whole reply.Done))
 answer_from (Whole reply.Idle) is = (1, omega arith, given_said (Whole reply.Idle))
 answer_from (Whole reply.DiskFault) is = (2, omega arith, given_said (Whole reply.DiskFault))
@@ -183,7 +183,7 @@ answer_from (Whole (reply.Listed rows)) is = absurd is
 more_words : (line : ReplyLine) → BeginsOf 13 line → BeginsOf 14 line
 more_words line from = (from.0, omega (arith, from.1), from.2)
 
-reply_from : (line : ReplyLine) → IsSaid true line → BeginsOf 14 line
+reply_from : (line : ReplyLine) → MayBeSaid true line → BeginsOf 14 line
 reply_from (Whole (reply.Refused refusal)) is = (
   13,
   omega arith,
@@ -202,9 +202,9 @@ reply_from (Whole (reply.Bytes runs)) is = more_words (Whole (reply.Bytes runs))
 reply_from (Whole (reply.Listed rows)) is = absurd is
 reply_from (Rows rows) is = more_words (Rows rows) (answer_from (Rows rows) is)
 
-pub Exact-reply : (refusable : Bool) → Exact (IsSaid refusable) reply_line nothing (reply_at refusable)
-Exact-reply true = Exact-begun (IsSaid true) reply_line reply_end (codes "ok\n") (later_words (reply_words true)) reply_behind refl reply_cases reply_from
-Exact-reply false = Exact-begun (IsSaid false) reply_line reply_end (codes "ok\n") (later_words answer_words) reply_behind refl (answer_cases false) answer_from
+pub Exact-reply : (refusable : Bool) → Exact (MayBeSaid refusable) reply_line nothing (reply_at refusable)
+Exact-reply true = Exact-begun (MayBeSaid true) reply_line reply_end (codes "ok\n") (later_words (reply_words true)) reply_behind refl reply_cases reply_from
+Exact-reply false = Exact-begun (MayBeSaid false) reply_line reply_end (codes "ok\n") (later_words answer_words) reply_behind refl (answer_cases false) answer_from
 
 -- the line of a refusal
 abbrev pub refused_line : Refusal → List ℕ

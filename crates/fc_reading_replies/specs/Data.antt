@@ -9,11 +9,11 @@ use Rattle.fc_reading_notes.specs.Lists.{by_first, chain}
 use Rattle.fc_reading_notes.specs.Told.{Each, IsId}
 
 -- bytes as runs
-abbrev pub IsRun : Run → Type 0
-IsRun run = IsId run.count × (run.byte < 256)
+abbrev pub IsRunOfBytes : Run → Type 0
+IsRunOfBytes run = IsId run.count × (run.byte < 256)
 
 abbrev pub AreRuns : List Run → Type 0
-AreRuns runs = IsCanonical runs × Each IsRun runs
+AreRuns runs = IsCanonical runs × Each IsRunOfBytes runs
 
 -- a hexadecimal digit in lower case, and its value
 abbrev pub is_hex : ℕ → Bool

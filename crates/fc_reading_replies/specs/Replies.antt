@@ -25,30 +25,30 @@ reply_line (Whole reply) = reply_text reply ++ codes "\n"
 reply_line (Rows rows) = (codes "rows " ++ decimal rows) ++ codes "\n"
 
 -- all that the line of a reply says
-abbrev pub line_of : Reply → ReplyLine
-line_of (reply.Listed rows) = Rows (length rows)
-line_of reply = Whole reply
+abbrev pub said_line : Reply → ReplyLine
+said_line (reply.Listed rows) = Rows (length rows)
+said_line reply = Whole reply
 
 -- ---- what may be said
 
 -- numbers of 32 bits, and of 64; no report, since its rows stand elsewhere
-abbrev pub IsWhole : Bool → Reply → Type 0
-IsWhole refusable (reply.Made kind id) = IsId id
-IsWhole refusable (reply.Bytes runs) = AreRuns runs
-IsWhole refusable (reply.Listed rows) = ⊥
-IsWhole refusable (reply.Moved map grain) = IsId map.0 × IsId grain.0
-IsWhole refusable (reply.Offline map state) = IsId map.0
-IsWhole refusable (reply.NotAccessible map) = IsId map.0
-IsWhole refusable (reply.Refused refusal) = (refusable ≡ true) × IsRefusal refusal
-IsWhole refusable reply = Unit {0}
+abbrev pub MayBeReply : Bool → Reply → Type 0
+MayBeReply refusable (reply.Made kind id) = IsId id
+MayBeReply refusable (reply.Bytes runs) = AreRuns runs
+MayBeReply refusable (reply.Listed rows) = ⊥
+MayBeReply refusable (reply.Moved map grain) = IsId map.0 × IsId grain.0
+MayBeReply refusable (reply.Offline map state) = IsId map.0
+MayBeReply refusable (reply.NotAccessible map) = IsId map.0
+MayBeReply refusable (reply.Refused refusal) = (refusable ≡ true) × IsRefusal refusal
+MayBeReply refusable reply = Unit {0}
 
-abbrev pub IsSaid : Bool → ReplyLine → Type 0
-IsSaid refusable (Whole reply) = IsWhole refusable reply
-IsSaid refusable (Rows rows) = IsCount rows
+abbrev pub MayBeSaid : Bool → ReplyLine → Type 0
+MayBeSaid refusable (Whole reply) = MayBeReply refusable reply
+MayBeSaid refusable (Rows rows) = IsCount rows
 
 -- the line of a reply
 abbrev pub IsReplyLine : Bool → List ℕ → Type 0
-IsReplyLine refusable bytes = (line : ReplyLine) × IsSaid refusable line × (bytes ≡ reply_line line)
+IsReplyLine refusable bytes = (line : ReplyLine) × MayBeSaid refusable line × (bytes ≡ reply_line line)
 
 -- ---- read from the left
 

@@ -8,7 +8,7 @@ ghost use Rattle.fc_reading_notes.specs.Answers.{ReadsOr};
 ghost use Rattle.fc_reading_notes.specs.Lines.{id_at, state_at};
 ghost use Rattle.fc_reading_notes.specs.Told.{IfMalformed};
 ghost use Rattle.fc_reading_replies.specs.Begun.{twice_numbered};
-ghost use Rattle.fc_reading_replies.specs.Replies.{IsReplyLine, IsSaid, made_of, moved_of, not_accessible, offline_of, refused_at, reply_at, reply_behind, reply_line, reply_of, reply_words};
+ghost use Rattle.fc_reading_replies.specs.Replies.{IsReplyLine, MayBeSaid, made_of, moved_of, not_accessible, offline_of, refused_at, reply_at, reply_behind, reply_line, reply_of, reply_words};
 
 use crate::data::take_data;
 use crate::refusals::{kind_of, take_refusal, take_two};
@@ -166,7 +166,7 @@ pub fn take_refused(alloc: Global, bytes: &[u8]) -> Result<(Refusal, &[u8]), Rea
 pub fn read_reply(alloc: Global, bytes: &[u8]) -> Result<(ReplyLine, usize), NotTold>
     ensures within { IfOk result (λ found. found.1 ≤ length bytes.now) }
     ensures found { IfOk result (λ found. take found.1 bytes.now ≡ reply_line found.0) }
-    ensures fits { IfOk result (λ found. IsSaid true found.0) }
+    ensures fits { IfOk result (λ found. MayBeSaid true found.0) }
     ensures malformed { IfErr result (λ stop. IfMalformed stop (StopsAt (IsReplyLine true) bytes.now)) }
 {
     match take_reply(alloc, true, bytes) {

@@ -3,7 +3,7 @@ use Rattle.std.proofs.Common.{◌≡◌, ℕ, suc, Bool, true, false, List, [], 
 use Rattle.std.proofs.lemmas.Bool.{false≢true}
 use Rattle.std.proofs.lemmas.List.{append-nil}
 use Rattle.fc_reading.specs.Readers.{the_word, then_read}
-use Rattle.fc_reading_notes.specs.Lists.{begins}
+use Rattle.fc_reading_notes.specs.Lists.{first_byte_is}
 use Rattle.fc_reading_requests.specs.Parts.{byte_of_kind, closed, ended_by, if_closed, said}
 use Rattle.fc_reading.proofs.Exact.{Ends, Exact, Exact-map, Exact-then, SameStart, Stops, Takes, bind_at_err, bind_at_ok, err_is, ok_is, ok_no_err, outcome}
 use Rattle.fc_reading.proofs.Fields.{AnyUnit, Exact-word}
@@ -13,11 +13,11 @@ use Rattle.fc_reading_notes.proofs.Choices.{begins-same, stops_first}
 
 -- ---- closed
 
-pub ends-begins : (joins : ℕ → Bool) (rest : List ℕ) → Ends joins rest → begins joins rest ≡ false
+pub ends-begins : (joins : ℕ → Bool) (rest : List ℕ) → Ends joins rest → first_byte_is joins rest ≡ false
 ends-begins joins [] ends = refl
 ends-begins joins (byte ∷ rest) ends = ends
 
-pub begins-ends : (joins : ℕ → Bool) (rest : List ℕ) → begins joins rest ≡ false → Ends joins rest
+pub begins-ends : (joins : ℕ → Bool) (rest : List ℕ) → first_byte_is joins rest ≡ false → Ends joins rest
 begins-ends joins [] e = tt
 begins-ends joins (byte ∷ rest) e = e
 
@@ -39,15 +39,15 @@ Exact-closed {V} Fits text joins more read exact fewer = record { takes = takes;
     found : (bytes rest : List ℕ) (v : V) → read bytes ≡ Ok (v, rest) → closed more read bytes ≡ if_closed more v rest
     found bytes rest v e = bind_at_ok (read bytes) (λ x. if_closed more x.0 x.1) (v, rest) e
 
-    is_open : (v : V) (rest : List ℕ) → begins more rest ≡ true → if_closed more v rest ≡ Err (length rest)
-    is_open v rest t = at_true (begins more rest) (Err (length rest)) (Ok (v, rest)) t
+    is_open : (v : V) (rest : List ℕ) → first_byte_is more rest ≡ true → if_closed more v rest ≡ Err (length rest)
+    is_open v rest t = at_true (first_byte_is more rest) (Err (length rest)) (Ok (v, rest)) t
 
-    is_closed : (v : V) (rest : List ℕ) → begins more rest ≡ false → if_closed more v rest ≡ Ok (v, rest)
-    is_closed v rest f = at_false (begins more rest) (Err (length rest)) (Ok (v, rest)) f
+    is_closed : (v : V) (rest : List ℕ) → first_byte_is more rest ≡ false → if_closed more v rest ≡ Ok (v, rest)
+    is_closed v rest f = at_false (first_byte_is more rest) (Err (length rest)) (Ok (v, rest)) f
 
     takes_from : (bytes : List ℕ) (v : V) (rest : List ℕ) (x : V × List ℕ) → read bytes ≡ Ok x → closed more read bytes ≡ Ok (v, rest) → Takes Fits text more bytes v rest
     takes_from bytes v rest x e1 e =
-        elim (cases (begins more x.1)) [
+        elim (cases (first_byte_is more x.1)) [
           | inl t ↦ absurd (ok_no_err _ _ (sym e ∙ found bytes x.1 x.0 e1 ∙ is_open x.0 x.1 t))
           | inr f ↦
               let s = exact.takes bytes x.0 x.1 e1 in
@@ -68,7 +68,7 @@ Exact-closed {V} Fits text joins more read exact fewer = record { takes = takes;
         found (text v ++ rest) rest v (exact.again v rest fits (fewer_join joins more fewer rest ends))
         ∙ is_closed v rest (ends-begins more rest ends)
 
-    stops_open : (bytes : List ℕ) (left : ℕ) (x : V × List ℕ) → read bytes ≡ Ok x → begins more x.1 ≡ true → length x.1 ≡ left → Stops Fits text (closed more read) bytes left
+    stops_open : (bytes : List ℕ) (left : ℕ) (x : V × List ℕ) → read bytes ≡ Ok x → first_byte_is more x.1 ≡ true → length x.1 ≡ left → Stops Fits text (closed more read) bytes left
     stops_open bytes left x e1 t is =
         let s = exact.takes bytes x.0 x.1 e1 in
         record {
@@ -90,7 +90,7 @@ Exact-closed {V} Fits text joins more read exact fewer = record { takes = takes;
     stops bytes left e =
         elim (outcome (read bytes)) [
           | inl one ↦
-              elim (cases (begins more one.0.1)) [
+              elim (cases (first_byte_is more one.0.1)) [
                 | inl t ↦ stops_open bytes left one.0 one.1 t (err_is _ _ (sym (found bytes one.0.1 one.0.0 one.1 ∙ is_open one.0.0 one.0.1 t) ∙ e))
                 | inr f ↦ absurd (ok_no_err _ _ (sym (found bytes one.0.1 one.0.0 one.1 ∙ is_closed one.0.0 one.0.1 f) ∙ e))
               ]

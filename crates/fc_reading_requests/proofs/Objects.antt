@@ -12,7 +12,7 @@ use Rattle.fc_base.specs.declared.name.Ref.TheVariants.{Id, Name}
 use Rattle.fc_words.specs.Canonical.{IsDelim, IsName, IsNumber, IsObject}
 use Rattle.fc_reading.specs.Readers.{is_decimal, map_read, one_of_at, then_read}
 use Rattle.fc_reading_notes.specs.Lines.{id_at}
-use Rattle.fc_reading_notes.specs.Lists.{begins}
+use Rattle.fc_reading_notes.specs.Lists.{first_byte_is}
 use Rattle.fc_reading_requests.specs.Parts.{arrow, byte_at, closed, delim_at, ended_by, hex_digits, is_dash, is_delim, name_at, number_32, object_and, object_at, or_object}
 use Rattle.fc_reading.proofs.Exact.{Ends, Exact, Exact-map}
 use Rattle.fc_reading.proofs.Fields.{Exact-and}
@@ -55,26 +55,26 @@ second_true false b c d e = rw e refl
 digit_joins : (b : ℕ) → is_decimal b ≡ true → continues_name b ≡ true
 digit_joins b digit = second_true (starts_name b) (is_decimal b) (b == 45) (b == 46) digit
 
-begins-first : (test : ℕ → Bool) (other : ℕ → Bool) → ((b : ℕ) → test b ≡ true → other b ≡ false) → (bytes : List ℕ) → begins test bytes ≡ true → begins other bytes ≡ false
+begins-first : (test : ℕ → Bool) (other : ℕ → Bool) → ((b : ℕ) → test b ≡ true → other b ≡ false) → (bytes : List ℕ) → first_byte_is test bytes ≡ true → first_byte_is other bytes ≡ false
 begins-first test other apart [] e = refl
 begins-first test other apart (b ∷ bytes) e = apart b e
 
-decimal-begins : (n : ℕ) (rest : List ℕ) → IsNumber n → begins is_decimal (decimal n ++ rest) ≡ true
-decimal-begins n rest fits = decimal_by_steps (λ m ds. (rest : List ℕ) → begins is_decimal (ds ++ rest) ≡ true) one more n (omega (arith, is_2_32, is_2_64, fits)) rest
+decimal-begins : (n : ℕ) (rest : List ℕ) → IsNumber n → first_byte_is is_decimal (decimal n ++ rest) ≡ true
+decimal-begins n rest fits = decimal_by_steps (λ m ds. (rest : List ℕ) → first_byte_is is_decimal (ds ++ rest) ≡ true) one more n (omega (arith, is_2_32, is_2_64, fits)) rest
   where
     is_2_64 : 2 ^ 64 ≡ 18446744073709551616
     is_2_64 = refl
 
-    one : (m : ℕ) → m < 10 → (rest : List ℕ) → begins is_decimal (((48 + m) ∷ []) ++ rest) ≡ true
+    one : (m : ℕ) → m < 10 → (rest : List ℕ) → first_byte_is is_decimal (((48 + m) ∷ []) ++ rest) ≡ true
     one m digit rest = is_digit m digit
       where
         is_digit : (m : ℕ) → m < 10 → is_decimal (48 + m) ≡ true
         is_digit m digit = grind (arith, nat_tests)
 
-    more : (m : ℕ) (ds : List ℕ) → 10 ≤ m → ((rest : List ℕ) → begins is_decimal (ds ++ rest) ≡ true) → (rest : List ℕ) → begins is_decimal ((ds ++ ((48 + m % 10) ∷ [])) ++ rest) ≡ true
-    more m ds large before rest = ap (begins is_decimal) (append_assoc ds ((48 + m % 10) ∷ []) rest) ∙ before ((48 + m % 10) ∷ rest)
+    more : (m : ℕ) (ds : List ℕ) → 10 ≤ m → ((rest : List ℕ) → first_byte_is is_decimal (ds ++ rest) ≡ true) → (rest : List ℕ) → first_byte_is is_decimal ((ds ++ ((48 + m % 10) ∷ [])) ++ rest) ≡ true
+    more m ds large before rest = ap (first_byte_is is_decimal) (append_assoc ds ((48 + m % 10) ∷ []) rest) ∙ before ((48 + m % 10) ∷ rest)
 
-name-begins : (name rest : List ℕ) → IsName name → begins starts_name (name ++ rest) ≡ true
+name-begins : (name rest : List ℕ) → IsName name → first_byte_is starts_name (name ++ rest) ≡ true
 name-begins [] rest is = absurd (false≢true is)
 name-begins (first ∷ word) rest is =
     (both (starts_name first) (list_all continues_name word) (both (nat_le (length word) 62) (starts_name first && list_all continues_name word) is).1).0
@@ -88,17 +88,17 @@ name_no_dash b starts = grind (arith, nat_tests)
 digit_no_dash : (b : ℕ) → is_decimal b ≡ true → is_dash b ≡ false
 digit_no_dash b digit = grind (arith, nat_tests)
 
-pub object-no_dash : (o : Ref) (rest : List ℕ) → IsObject o → begins is_dash (ref_word o ++ rest) ≡ false
+pub object-no_dash : (o : Ref) (rest : List ℕ) → IsObject o → first_byte_is is_dash (ref_word o ++ rest) ≡ false
 object-no_dash (Id id) rest fits = begins-first is_decimal is_dash digit_no_dash (decimal id ++ rest) (decimal-begins id rest fits)
 object-no_dash (Name name) rest fits = begins-first starts_name is_dash name_no_dash (name ++ rest) (name-begins name rest fits)
 
-id_begins : (o : Ref) (rest : List ℕ) → Image IsNumber Id o → begins is_decimal (ref_word o ++ rest) ≡ true
+id_begins : (o : Ref) (rest : List ℕ) → Image IsNumber Id o → first_byte_is is_decimal (ref_word o ++ rest) ≡ true
 id_begins o rest image =
-    subst (λ (r : Ref). begins is_decimal (ref_word r ++ rest) ≡ true) image.2 (decimal-begins image.0 rest image.1)
+    subst (λ (r : Ref). first_byte_is is_decimal (ref_word r ++ rest) ≡ true) image.2 (decimal-begins image.0 rest image.1)
 
-name_begins : (o : Ref) (rest : List ℕ) → Image IsName Name o → begins is_decimal (ref_word o ++ rest) ≡ false
+name_begins : (o : Ref) (rest : List ℕ) → Image IsName Name o → first_byte_is is_decimal (ref_word o ++ rest) ≡ false
 name_begins o rest image =
-    subst (λ (r : Ref). begins is_decimal (ref_word r ++ rest) ≡ false) image.2
+    subst (λ (r : Ref). first_byte_is is_decimal (ref_word r ++ rest) ≡ false) image.2
     (begins-first starts_name is_decimal no_digit (image.0 ++ rest) (name-begins image.0 rest image.1))
 
 object_to : (o : Ref) → Either (Image IsNumber Id) (Image IsName Name) o → IsObject o × (ref_word o ≡ ref_word o)
@@ -140,7 +140,7 @@ some_object = (Id 0, number-of 0 (omega arith))
 pub Exact-or_object :
     {V : Type 0} (make : Ref → V) (Dashed : V → Type 0) (text : V → List ℕ) (dashed : List ℕ → Result (V × List ℕ) ℕ) →
     Exact Dashed text nothing dashed →
-    ((v : V) (rest : List ℕ) → Dashed v → begins is_dash (text v ++ rest) ≡ true) →
+    ((v : V) (rest : List ℕ) → Dashed v → first_byte_is is_dash (text v ++ rest) ≡ true) →
     ((o : Ref) → text (make o) ≡ ref_word o ++ arrow) →
     Exact (Either Dashed (Image IsObject make)) text nothing (or_object make dashed)
 Exact-or_object {V} make Dashed text dashed exact dash same =
@@ -149,10 +149,10 @@ Exact-or_object {V} make Dashed text dashed exact dash same =
     dash
     (
     λ v rest image.
-    subst (λ (w : V). begins is_dash (text w ++ rest) ≡ false) image.2
+    subst (λ (w : V). first_byte_is is_dash (text w ++ rest) ≡ false) image.2
     (
-    ap (λ t. begins is_dash (t ++ rest)) (same image.0)
-    ∙ ap (begins is_dash) (append_assoc (ref_word image.0) arrow rest)
+    ap (λ t. first_byte_is is_dash (t ++ rest)) (same image.0)
+    ∙ ap (first_byte_is is_dash) (append_assoc (ref_word image.0) arrow rest)
     ∙ object-no_dash image.0 (arrow ++ rest) image.1
     )
     )

@@ -9,7 +9,7 @@ use Rattle.fc_base.specs.declared.name.Ref.{Ref}
 use Rattle.fc_words.specs.Canonical.{IsName, IsNumber, IsObject}
 use Rattle.fc_reading.specs.Readers.{is_decimal, map_read, one_of_at, then_read}
 use Rattle.fc_reading_requests.specs.Mappings.{Given, Options, given_at, later_at, mapping_ends, mapping_options, options_at, settings_at, settings_of}
-use Rattle.fc_reading_notes.specs.Lists.{begins}
+use Rattle.fc_reading_notes.specs.Lists.{first_byte_is}
 use Rattle.fc_reading_requests.specs.Parts.{name_at, number_32, object_at, said}
 use Rattle.fc_reading_requests.specs.declared.mappings.Settings.{Settings}
 use Rattle.fc_reading.proofs.Exact.{Ends, Exact, Exact-map, Exact-then}
@@ -55,9 +55,9 @@ Exact-later first small =
 abbrev is_space : ℕ → Bool
 is_space byte = byte == 32
 
-spaces : (i : ℕ) → i < 16 → (rest : List ℕ) → begins is_space (option_text i ++ rest) ≡ true
+spaces : (i : ℕ) → i < 16 → (rest : List ℕ) → first_byte_is is_space (option_text i ++ rest) ≡ true
 spaces =
-    below_at (λ i. (rest : List ℕ) → begins is_space (option_text i ++ rest) ≡ true) 16 (
+    below_at (λ i. (rest : List ℕ) → first_byte_is is_space (option_text i ++ rest) ≡ true) 16 (
       (
         (
           (
@@ -83,7 +83,7 @@ spaces =
       λ rest. refl,
     )
 
-space_ends : (joins : ℕ → Bool) → joins 32 ≡ false → (bytes : List ℕ) → begins is_space bytes ≡ true → Ends joins bytes
+space_ends : (joins : ℕ → Bool) → joins 32 ≡ false → (bytes : List ℕ) → first_byte_is is_space bytes ≡ true → Ends joins bytes
 space_ends joins off [] e = tt
 space_ends joins off (b ∷ bytes) e = ap joins (eqb-true b 32 e) ∙ off
 
@@ -368,7 +368,7 @@ settings_end s rest fits =
     let same : settings_text s ≡ options_text o.0 = ap settings_text (sym o.2) ∙ (settings_to o.0 o.1).1 in
     space_ends continues_name refl (settings_text s ++ rest)
     (
-    ap (λ t. begins is_space (t ++ rest)) same
-    ∙ ap (begins is_space) (append_assoc (option_text o.0.0) (named_text o.0.1) rest)
+    ap (λ t. first_byte_is is_space (t ++ rest)) same
+    ∙ ap (first_byte_is is_space) (append_assoc (option_text o.0.0) (named_text o.0.1) rest)
     ∙ spaces o.0.0 o.1.0.1 (named_text o.0.1 ++ rest)
     )

@@ -6,7 +6,7 @@ use Rattle.fc_base.specs.declared.name.Ref.{Ref}
 use Rattle.fc_words.specs.Canonical.{IsDelim, IsObject}
 use Rattle.fc_reading.specs.Readers.{map_read, one_of_at, the_word, then_read}
 use Rattle.fc_reading_requests.specs.Asked.{asked_line}
-use Rattle.fc_reading_notes.specs.Lists.{begins}
+use Rattle.fc_reading_notes.specs.Lists.{first_byte_is}
 use Rattle.fc_reading_requests.specs.Parts.{arrow, delim_at, ended_by, is_dash, object_and, said}
 use Rattle.fc_reading_requests.specs.Reports.{behind_dash, dash_words, delim_and_object, list_at, listed, maybe_object_at, report_at, reported}
 use Rattle.fc_reading_requests.specs.declared.asked.Asked.{Asked}
@@ -56,8 +56,8 @@ Exact-delim_and_object =
     Exact-and {V = ℕ} {W = Ref} IsDelim delim_text (ended_by delim_at (codes " ")) IsObject last_text (object_and arrow) (Exact-delim_and (codes " ")) Exact-last
     some_object.0 some_object.1
 
-report_begins : (x : Report) (rest : List ℕ) → Image WithDelim with_delim x → begins is_dash (report_text x ++ rest) ≡ true
-report_begins x rest image = subst (λ (y : Report). begins is_dash (report_text y ++ rest) ≡ true) image.2 refl
+report_begins : (x : Report) (rest : List ℕ) → Image WithDelim with_delim x → first_byte_is is_dash (report_text x ++ rest) ≡ true
+report_begins x rest image = subst (λ (y : Report). first_byte_is is_dash (report_text y ++ rest) ≡ true) image.2 refl
 
 report_to : (x : Report) → Either (Image WithDelim with_delim) (Image IsObject no_delim) x → IsReport x × (report_text x ≡ report_text x)
 report_to x (inl image) = (subst IsReport image.2 image.1.1, refl)
@@ -98,8 +98,8 @@ IsMaybe object = IfSome object IsObject
 abbrev no_object : Unit {0} → Option Ref
 no_object u = None
 
-maybe_begins : (x : Option Ref) (rest : List ℕ) → Image AnyUnit no_object x → begins is_dash (maybe_text x ++ rest) ≡ true
-maybe_begins x rest image = subst (λ (y : Option Ref). begins is_dash (maybe_text y ++ rest) ≡ true) image.2 refl
+maybe_begins : (x : Option Ref) (rest : List ℕ) → Image AnyUnit no_object x → first_byte_is is_dash (maybe_text x ++ rest) ≡ true
+maybe_begins x rest image = subst (λ (y : Option Ref). first_byte_is is_dash (maybe_text y ++ rest) ≡ true) image.2 refl
 
 maybe_to : (x : Option Ref) → Either (Image AnyUnit no_object) (Image IsObject Some) x → IsMaybe x × (maybe_text x ≡ maybe_text x)
 maybe_to x (inl image) = (subst IsMaybe image.2 tt, refl)
@@ -204,7 +204,7 @@ Exact-dash =
     (λ x fits. dash_to x.0 x.1 fits.0 fits.1)
     dash_from
 
-dash_begins : (x : Listed) (rest : List ℕ) → HasDash x → begins is_dash (list_text x ++ rest) ≡ true
+dash_begins : (x : Listed) (rest : List ℕ) → HasDash x → first_byte_is is_dash (list_text x ++ rest) ≡ true
 dash_begins (Some d, object) rest fits = refl
 dash_begins (None, Some o) rest fits = absurd fits
 dash_begins (None, None) rest fits = refl

@@ -10,7 +10,7 @@ use Rattle.fc_base.specs.declared.name.Ref.{Ref}
 use Rattle.fc_words.specs.Canonical.{IsObject}
 use Rattle.fc_reading.specs.Readers.{map_read, one_of_at, the_word, then_read}
 use Rattle.fc_reading_requests.specs.Asked.{IsAsked, asked_line}
-use Rattle.fc_reading_notes.specs.Lists.{begins}
+use Rattle.fc_reading_notes.specs.Lists.{first_byte_is}
 use Rattle.fc_reading_requests.specs.Parts.{arrow, is_dash, object_and}
 use Rattle.fc_reading_requests.specs.Runs.{behind_start, raised, raised_at, start_flags, started, started_at, stop_flags, stopped, stopped_at, way_of}
 use Rattle.fc_reading_requests.specs.declared.asked.Asked.{Asked}
@@ -55,7 +55,7 @@ raised_from : (x : Bool × Ref) → OnObject x → Either HasFlag (Image IsObjec
 raised_from (true, o) fits = inl ((tt, o), (tt, fits), refl)
 raised_from (false, o) fits = inr (o, fits, refl)
 
-pub Exact-raised : (flag : List ℕ) → ((rest : List ℕ) → begins is_dash (flag ++ rest) ≡ true) → Exact OnObject (raised_text flag) nothing (raised_at flag)
+pub Exact-raised : (flag : List ℕ) → ((rest : List ℕ) → first_byte_is is_dash (flag ++ rest) ≡ true) → Exact OnObject (raised_text flag) nothing (raised_at flag)
 Exact-raised flag dash =
     Exact-recast (Either HasFlag (Image IsObject no_flag)) OnObject (raised_text flag) (raised_text flag) nothing (raised_at flag)
     (
@@ -73,12 +73,12 @@ Exact-raised flag dash =
     )
     (raised_to flag) raised_from
   where
-    dashed : (o : Ref) (rest : List ℕ) → begins is_dash ((flag ++ last_text o) ++ rest) ≡ true
-    dashed o rest = ap (begins is_dash) (append_assoc flag (last_text o) rest) ∙ dash (last_text o ++ rest)
+    dashed : (o : Ref) (rest : List ℕ) → first_byte_is is_dash ((flag ++ last_text o) ++ rest) ≡ true
+    dashed o rest = ap (first_byte_is is_dash) (append_assoc flag (last_text o) rest) ∙ dash (last_text o ++ rest)
 
-    flag_begins : (x : Bool × Ref) (rest : List ℕ) → HasFlag x → begins is_dash (raised_text flag x ++ rest) ≡ true
+    flag_begins : (x : Bool × Ref) (rest : List ℕ) → HasFlag x → first_byte_is is_dash (raised_text flag x ++ rest) ≡ true
     flag_begins x rest image =
-        subst (λ (y : Bool × Ref). begins is_dash (raised_text flag y ++ rest) ≡ true) image.2 (dashed image.0.1 rest)
+        subst (λ (y : Bool × Ref). first_byte_is is_dash (raised_text flag y ++ rest) ≡ true) image.2 (dashed image.0.1 rest)
 
 -- ---- starts
 
@@ -155,7 +155,7 @@ Exact-flagged_start =
     (λ x fits. start_to x.0 x.1 fits.0 fits.1)
     start_from
 
-start_begins : (x : Started) (rest : List ℕ) → HasStartFlag x → begins is_dash (started_text x ++ rest) ≡ true
+start_begins : (x : Started) (rest : List ℕ) → HasStartFlag x → first_byte_is is_dash (started_text x ++ rest) ≡ true
 start_begins ((true, restore), o) rest fits = refl
 start_begins ((false, true), o) rest fits = refl
 start_begins ((false, false), o) rest fits = absurd fits
@@ -217,7 +217,7 @@ way_from (Split, o) fits = ((1, o), (omega arith, fits), refl)
 abbrev no_way : Ref → Stopped
 no_way o = (Plain, o)
 
-way_begins : (x : Stopped) (rest : List ℕ) → HasWay x → begins is_dash (stopped_text x ++ rest) ≡ true
+way_begins : (x : Stopped) (rest : List ℕ) → HasWay x → first_byte_is is_dash (stopped_text x ++ rest) ≡ true
 way_begins (Plain, o) rest fits = absurd fits
 way_begins (Force, o) rest fits = refl
 way_begins (Split, o) rest fits = refl
@@ -259,7 +259,7 @@ Asks {V} make = (x : V × Ref) → OnObject x → IsAsked (make x)
 
 -- a command with a flag
 flagged :
-    (word flag : List ℕ) (make : Ref → Bool → Command) → ((rest : List ℕ) → begins is_dash (flag ++ rest) ≡ true) →
+    (word flag : List ℕ) (make : Ref → Bool → Command) → ((rest : List ℕ) → first_byte_is is_dash (flag ++ rest) ≡ true) →
     ((o : Ref) → asked_line (raised make (true, o)) ≡ word ++ (flag ++ last_text o)) →
     ((o : Ref) → asked_line (raised make (false, o)) ≡ word ++ last_text o) →
     Asks (raised make) →

@@ -3,7 +3,7 @@ use Rattle.std.specs.Prelude.{ℕ, suc, ◌+◌, ◌*◌, ◌==◌, Bool, ◌&&�
 use Rattle.fc_base.specs.Names.{continues_name, starts_name}
 use Rattle.fc_base.specs.declared.name.Ref.{Ref}
 use Rattle.fc_base.specs.declared.name.Ref.TheVariants.{Id, Name}
-use Rattle.fc_reading_notes.specs.Lists.{begins, choice}
+use Rattle.fc_reading_notes.specs.Lists.{first_byte_is, choice}
 use Rattle.fc_reading.specs.Readers.{◌>>=◌, is_decimal, map_read, number_at, one_of_at, the_word, then_read}
 
 -- nothing is read
@@ -12,7 +12,7 @@ said value bytes = Ok (value, bytes)
 
 -- what is read, where no byte of this kind follows
 abbrev pub if_closed : {V : Type 0} → (ℕ → Bool) → V → List ℕ → Result (V × List ℕ) ℕ
-if_closed joins value bytes = if begins joins bytes then Err (length bytes) else Ok (value, bytes)
+if_closed joins value bytes = if first_byte_is joins bytes then Err (length bytes) else Ok (value, bytes)
 
 abbrev pub closed : {V : Type 0} → (ℕ → Bool) → (List ℕ → Result (V × List ℕ) ℕ) → List ℕ → Result (V × List ℕ) ℕ
 closed joins read bytes = read bytes >>= (λ x. if_closed joins x.0 x.1)

@@ -6,7 +6,7 @@ ghost use Rattle.fc_reading.specs.Pieces.{Reads};
 ghost use Rattle.fc_reading.specs.Readers.{is_decimal, one_of_at};
 ghost use Rattle.fc_reading_notes.specs.Answers.{ReadsOr};
 ghost use Rattle.fc_reading_notes.specs.Lines.{id_at};
-ghost use Rattle.fc_reading_notes.specs.Lists.{begins};
+ghost use Rattle.fc_reading_notes.specs.Lists.{first_byte_is};
 ghost use Rattle.fc_reading_requests.specs.Parts.{byte_at, closed, delim_at, ended_by, hex_digits, is_dash, name_at, number_32, object_and, object_at, one_from_at};
 
 use fc_base::name::{Name, Ref, is_name_text};
@@ -98,7 +98,7 @@ pub(crate) fn take_name(alloc: Global, bytes: &[u8]) -> Result<(Name, &[u8]), Re
 
 /// Whether a decimal digit comes first.
 fn begins_with_digit(bytes: &[u8]) -> bool
-    ensures { result ≡ begins is_decimal bytes.now }
+    ensures { result ≡ first_byte_is is_decimal bytes.now }
 {
     !bytes.is_empty() && bytes[0] >= b'0' && bytes[0] <= b'9'
 }
@@ -193,7 +193,7 @@ pub(crate) fn take_delim_and<'a>(
 
 /// Whether a dash comes first.
 pub(crate) fn begins_with_dash(bytes: &[u8]) -> bool
-    ensures { result ≡ begins is_dash bytes.now }
+    ensures { result ≡ first_byte_is is_dash bytes.now }
 {
     !bytes.is_empty() && bytes[0] == b'-'
 }

@@ -18,8 +18,9 @@ use Rattle.fc_stands.specs.Store.{StoreView, StandsFor, IsLaneAt}
 use Rattle.fc_run.specs.declared.ended.Ended.{Ended}
 use Rattle.fc_run.specs.declared.ended.Ended.TheVariants as ended
 use Rattle.fc_top.specs.Call.{status_of}
-use Rattle.fc_top.specs.DisksBack.{AreBack, AreCounted, DisksAfter, first_told}
-use Rattle.fc_top.specs.StoreRuns.{HasDisks, IsUp, Start, StandsOr}
+use Rattle.fc_owner.specs.FirstTold.{first_told}
+use Rattle.fc_top.specs.DisksBack.{AreBack, AreCounted, DisksAfter}
+use Rattle.fc_owner.specs.StoreRuns.{HasDisks, IsUp, Start, StandsOr}
 use Rattle.fc_stands.specs.Quiet.{AreQuiet, QuietBy}
 use Rattle.fc_top.proofs.ArmedBack.{armed_back}
 use Rattle.law_together.proofs.Kept.{IsLegal-keeps}

@@ -27,7 +27,8 @@ use Rattle.fc_run.specs.declared.form.Form.{Form}
 use Rattle.fc_lanes.specs.Dealing.{all_dealt, dealt, pools_dealt}
 use Rattle.fc_top.specs.Call.{Call, session_of, status_of}
 use Rattle.fc_top.specs.Complete.{AnswersOnline, Completes, IsAnswered, NoDiskFailed, NoneFailed}
-use Rattle.fc_top.specs.DisksBack.{first_told, DisksAfter}
+use Rattle.fc_owner.specs.FirstTold.{first_told}
+use Rattle.fc_top.specs.DisksBack.{DisksAfter}
 use Rattle.fc_top.specs.declared.status.Status.{Status}
 use Rattle.fc_top.specs.declared.status.Status.TheVariants as status
 use Rattle.law_together.proofs.Kept.{IsLegal-keeps}
@@ -88,6 +89,7 @@ told_none status.WriteFault old new entries last after none = none_of_sum last.f
 told_none status.LogFull old new entries last after none = none_of_sum last.faults (omega (arith, after.counted, none))
 told_none status.TooLong old new entries last after none = none_of_sum last.faults (omega (arith, after.counted, none))
 told_none status.Unended old new entries last after none = none_of_sum last.faults (omega (arith, after.counted, none))
+told_none status.Refuted old new entries last after none = none_of_sum last.faults (omega (arith, after.counted, none))
 
 -- some disks' pools, and as many lanes
 dealt-some : (disks : List DiskState) → length (pools_dealt LANES disks) ≡ LANES

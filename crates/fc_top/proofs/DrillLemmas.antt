@@ -18,10 +18,10 @@ use Rattle.fc_top.proofs.QuietSource.{EachGave-quiet}
 use Rattle.fc_top.proofs.SessionLength.{session_text-short}
 use Rattle.fc_top.proofs.Statuses.{same_ended}
 use Rattle.fc_top.specs.Call.{Call, session_of}
-use Rattle.fc_top.specs.DisksBack.{first_told}
+use Rattle.fc_owner.specs.FirstTold.{first_told}
 use Rattle.fc_top.specs.Ends.{DrillEnds, drill_source}
 use Rattle.fc_top.specs.PlainEnds.{PlainEnds}
-use Rattle.fc_top.specs.PlainRuns.{plain_runs}
+use Rattle.fc_owner.specs.PlainRuns.{plain_runs}
 
 risen-none : (n : ℕ) → n ≡ 0 → HasRisen 0 n → ⊥
 risen-none n none (inl rose) = omega (arith, none, rose)

@@ -1,11 +1,6 @@
 -- Lemmas, one subject a file.
 pub mod WordLemmas
 pub mod Statuses
-pub mod SessionOver
-pub mod Cutting
-pub mod Names
-pub mod LineAnswers
-pub mod OwnerLemmas
 pub mod ArmedBack
 pub mod Backs
 pub mod CompleteLemmas
@@ -15,5 +10,5 @@ pub mod SessionLength
 pub mod DrillLines
 pub mod DrillLemmas
 pub mod TracedLemmas
+pub mod CheckLemmas
 pub mod TheoremLemmas
-pub mod OutcomeLemmas

@@ -1,7 +1,6 @@
 -- How a call ends that ran a session, or for which memory was wanted before.
 use Rattle.std.proofs.Common.{◌≡◌, ℕ, ◌⊎◌, ◌≤◌, Option, List, [], ◌∷◌, codes, length, refl, sym, subst, ap, inl, inr, arith}
 use Rattle.fc_base.specs.declared.size.GrainSize.{GrainSize}
-use Rattle.fc_blocks.specs.Blocks.{Opened}
 use Rattle.fc_entry.specs.HistoryState.{HistoryState}
 use Rattle.fc_entry.specs.declared.entry.Entry.{Entry}
 use Rattle.fc_io.specs.Source.{SourceState}
@@ -10,19 +9,19 @@ use Rattle.fc_legal.specs.Added.{IsOf}
 use Rattle.fc_legal.specs.Legal.{IsLegal}
 use Rattle.fc_legal.specs.Whole.{Whole}
 use Rattle.fc_mdisk.specs.Disk.{DiskState}
-use Rattle.fc_run.specs.Headline.{Session, SessionEnds}
+use Rattle.fc_run.specs.Headline.{Session}
 use Rattle.fc_run.specs.Input.{Gave}
 use Rattle.fc_run.specs.declared.ended.Ended.{Ended}
 use Rattle.fc_run.specs.declared.ended.Ended.TheVariants as ended
 use Rattle.fc_run.specs.declared.form.Form.{Form}
-use Rattle.fc_stands.specs.Store.{StoreView}
 use Rattle.fc_top.proofs.CompleteLemmas.{completes}
-use Rattle.fc_top.proofs.SessionOver.{kept_of, session_over, starved_at_once, gave_nothing}
+use Rattle.fc_owner.proofs.SessionOver.{starved_at_once, gave_nothing}
 use Rattle.fc_top.specs.Call.{Call, empty, session_of, status_of}
-use Rattle.fc_top.specs.DisksBack.{first_told, DisksAfter}
+use Rattle.fc_owner.specs.FirstTold.{first_told}
+use Rattle.fc_top.specs.DisksBack.{DisksAfter}
 use Rattle.fc_top.specs.PlainEnds.{PlainEnds}
-use Rattle.fc_top.specs.PlainRuns.{plain_runs}
-use Rattle.fc_top.specs.StoreRuns.{HasDisks, IsOver, IsUp, SessionOver, StandsOr, Start, store_runs}
+use Rattle.fc_owner.specs.PlainRuns.{plain_runs}
+use Rattle.fc_owner.specs.StoreRuns.{IsOver, StandsOr}
 use Rattle.fc_top.specs.declared.status.Status.{Status}
 use Rattle.fc_top.specs.declared.status.Status.TheVariants as status
 
@@ -86,24 +85,6 @@ starved_ends form grain source source' call is same_source same_sink none named 
         IsOf (first_told call.disks) call.history ⊎ ((call.status ≡ status.NoMemory) × (call.history ≡ empty))
     or_empty (inl of) = inl of
     or_empty (inr none) = inr (is, none)
-
--- The store has the disks that were handed in, however the session ended.
-pub session_disks : (start : Start) (store : StoreView) (s : Session) → SessionOver start store s → HasDisks start store
-session_disks start store s ended =
-    kept_of s.ended (IsUp start store s.history ended.over.last) (HasDisks start store) (λ up. up.disks) ended.over.stands
-
--- A session from a store that has a run of no lines.
-pub store_over :
-    (Able : Type 0) (start : Start) (reader : Option Opened) (store : StoreView) (s : Session) →
-    SessionEnds s (store_runs Able reader store start) →
-    SessionOver start store s
-store_over Able start reader store s ends =
-    record {
-      bytes = ends.bytes;
-      gave = ends.gave;
-      over = session_over start.grain (first_told start.disks) (λ open_block. (open_block ≡ reader) × Able)
-          (λ history last. IsUp start store history last) (HasDisks start store) s.ended s ends.bytes (λ history last up. up.disks) ends.ends;
-    }
 
 -- `main` has its name, and nothing is answered yet.
 pub main_told : (disks : List DiskState) (history : HistoryState) → history ≡ record { actors = codes "main" ∷ []; entries = [] } → IsOf (first_told disks) history

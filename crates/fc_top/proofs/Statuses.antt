@@ -16,6 +16,7 @@ ended_by status.WriteFault = Some ended.WriteFault
 ended_by status.NoMemory = Some ended.NoMemory
 ended_by status.Usage = None
 ended_by status.Unended = Some ended.Unended
+ended_by status.Refuted = None
 
 ended_of : (e : Ended) → ended_by (status_of e) ≡ Some e
 ended_of ended.Done = refl

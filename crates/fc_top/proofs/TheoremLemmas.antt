@@ -10,6 +10,7 @@ use Rattle.fc_io.specs.Source.{SourceState}
 use Rattle.fc_run.proofs.TakesLemmas.{EachGave-none}
 use Rattle.fc_run.specs.Takes.{EachGave}
 use Rattle.fc_run.specs.declared.form.Form.TheVariants.{Summary}
+use Rattle.fc_top.proofs.CheckLemmas.{starved_check}
 use Rattle.fc_top.proofs.DrillLemmas.{drill_ends}
 use Rattle.fc_top.proofs.PlainLemmas.{starved_ends}
 use Rattle.fc_top.proofs.WordLemmas.{run-uncached}
@@ -91,7 +92,7 @@ starved (Drill number) call built is idle =
     let source : SourceState = drill_source number in
     drill_ends number source call idle.source (EachGave-none source)
     (starved_ends Summary K64 source source call is refl idle.sink (ap (λ (h : HistoryState). h.entries) idle.history) (inr idle.history))
-starved Check call built is idle = absurd (false≢true built)
+starved Check call built is idle = starved_check call is idle.source idle.sink idle.disks idle.history
 starved (Stop number) call built is idle = absurd (false≢true built)
 
 -- Memory was wanted to read the words.

@@ -1,7 +1,7 @@
--- The exit status of the program for each status of a session.
+-- The exit status of the program for each status of a call.
 use Rattle.std.specs.Prelude.{ℕ}
 use Rattle.fc_top.specs.declared.status.Status.{Status}
-use Rattle.fc_top.specs.declared.status.Status.TheVariants.{Done, Usage, ReadFault, WriteFault, NoMemory, LogFull, TooLong, Unended}
+use Rattle.fc_top.specs.declared.status.Status.TheVariants.{Done, Usage, ReadFault, WriteFault, NoMemory, LogFull, TooLong, Unended, Refuted}
 
 abbrev pub code_of : Status → ℕ
 code_of Done = 0
@@ -12,3 +12,4 @@ code_of NoMemory = 5
 code_of LogFull = 6
 code_of TooLong = 7
 code_of Unended = 8
+code_of Refuted = 9

@@ -15,7 +15,7 @@ use Rattle.fc_legal.specs.Whole.{Whole}
 use Rattle.fc_mdisk.specs.Disk.{DiskState}
 use Rattle.fc_mdisk.specs.Disks.{faults_of}
 use Rattle.fc_top.specs.Call.{Call}
-use Rattle.fc_top.specs.DisksBack.{first_told}
+use Rattle.fc_owner.specs.FirstTold.{first_told}
 use Rattle.fc_top.specs.declared.status.Status.{Status}
 use Rattle.fc_top.specs.declared.status.Status.TheVariants as status
 

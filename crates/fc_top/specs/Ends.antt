@@ -8,6 +8,7 @@ use Rattle.fc_gen.specs.Session.{session_text}
 use Rattle.fc_io.specs.Source.{SourceState}
 use Rattle.fc_run.specs.declared.form.Form.TheVariants.{Summary}
 use Rattle.fc_top.specs.Call.{Call, empty}
+use Rattle.fc_top.specs.CheckEnds.{CheckEnds}
 use Rattle.fc_top.specs.PlainEnds.{PlainEnds}
 use Rattle.fc_top.specs.Traced.{run_form}
 use Rattle.fc_top.specs.declared.status.Status.TheVariants as status
@@ -43,10 +44,10 @@ pub record DrillEnds (number : ℕ) (call : Call) : Type 0 where
   pub closed : call.status ≢ status.Unended
   pub ends : PlainEnds Summary K64 (drill_source number) left call
 
--- `check` and `stop` aren't built, so no words ask for them.
+-- `stop` isn't built, so no words ask for it.
 abbrev pub Ends : Option Asked → Call → Type 0
 Ends None call = AsksNothing call
 Ends (Some (Run options)) call = RunEnds options call
 Ends (Some (Drill number)) call = DrillEnds number call
-Ends (Some Check) call = ⊥
+Ends (Some Check) call = CheckEnds call
 Ends (Some (Stop number)) call = ⊥

@@ -1,14 +1,10 @@
 -- What a call of the program promises, one subject a file, to be read top to bottom.
 pub mod Codes
-pub mod Reading
 pub mod Call
-pub mod PlainRuns
 pub mod DisksBack
 pub mod Complete
 pub mod PlainEnds
 pub mod Traced
+pub mod CheckEnds
 pub mod Ends
 pub mod Theorem
-pub mod OneOutcome
--- Words of the functions inside.
-pub mod StoreRuns

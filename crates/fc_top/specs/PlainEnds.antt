@@ -10,8 +10,9 @@ use Rattle.fc_run.specs.declared.ended.Ended.{Ended}
 use Rattle.fc_run.specs.declared.form.Form.{Form}
 use Rattle.fc_top.specs.Call.{Call, empty, session_of, status_of}
 use Rattle.fc_top.specs.Complete.{Completes}
-use Rattle.fc_top.specs.DisksBack.{first_told, DisksAfter}
-use Rattle.fc_top.specs.PlainRuns.{plain_runs}
+use Rattle.fc_owner.specs.FirstTold.{first_told}
+use Rattle.fc_top.specs.DisksBack.{DisksAfter}
+use Rattle.fc_owner.specs.PlainRuns.{plain_runs}
 use Rattle.fc_top.specs.declared.status.Status.TheVariants.{NoMemory}
 
 -- The session is read from this source, with grains of this size, and its history is written in this form.

@@ -7,6 +7,7 @@ ghost use Rattle.fc_mdisk.specs.Disk.{IsFresh};
 ghost use Rattle.fc_top.specs.Call.{empty};
 ghost use Rattle.fc_top.specs.Theorem.{Theorem};
 
+use crate::check::run_check;
 use crate::drill::run_drill;
 use crate::gate::Gate;
 use crate::plain::run_plain;
@@ -66,7 +67,8 @@ fn run_asked<R: Threads + Wait + Sync, S: Source, K: Sink, D: Mdisk + Send, G: G
             )
         }
         Asked::Drill(number) => run_drill(rt, alloc, number, sink, disks, gate, history),
-        Asked::Check | Asked::Stop(_) => unreachable!(),
+        Asked::Check => run_check(alloc, source, sink),
+        Asked::Stop(_) => unreachable!(),
     }
 }
 
@@ -107,8 +109,9 @@ pub fn flashcopy_over<R: Threads + Wait + Sync, S: Source, K: Sink, G: Gate, D: 
 pub type BoxedDisk = Box<dyn Mdisk + Send>;
 
 /// Runs a session: reads it from the source to its end, answers its lines over the disks, and writes the text of each answer to the
-/// sink before more input is taken; or its trace, behind a first line that says what the store is made of. For a drill the session is the generated one of a number, the source isn't touched, and the
-/// summary of the history is written.
+/// sink before more input is taken; or its trace, behind a first line that says what the store is made of. For a drill the session
+/// is the generated one of a number, the source isn't touched, and the summary of the history is written. For a check a trace is taken
+/// from the source and judged, the line of its verdict is written, and the history stays empty.
 ///
 /// The words are those of docs/MANUAL.md (fc_args' specs/Grammar). Where they aren't in the grammar the answer is Usage, or NoMemory
 /// where memory was wanted before that was known, and nothing is done. The history has to be empty, and the disks fresh: no calls,
@@ -116,10 +119,10 @@ pub type BoxedDisk = Box<dyn Mdisk + Send>;
 ///
 /// The main theorem (specs/Theorem) is all that is promised, for each answer: the history that is left is legal and has the
 /// actors that are told; by the answer it is known which bytes were taken, which of their lines the history answers, and what was
-/// written and sent on (specs/PlainEnds, and fc_run's specs/Headline); the disks come back as specs/DisksBack says; where no call
+/// written and sent on (specs/PlainEnds, and fc_run's specs/Headline; of a check specs/CheckEnds); the disks come back as specs/DisksBack says; where no call
 /// failed and there is room it is done, and where no disk failed its accesses are answered, but for want of memory
 /// (specs/Complete). Two calls that ask for the same, and in which nothing failed, write the same, but for the faults that a trace
-/// tells (specs/OneOutcome). Each call of
+/// tells (`law_outcome`). Each call of
 /// the source but the last gives a byte or more (fc_run's specs/Takes). The actors of a block are threads of the runtime, and the
 /// gate only delays them: it is reached by each actor at each of its requests. A call over a session with blocks may wait.
 pub fn flashcopy<R: Threads + Wait + Sync, S: Source, K: Sink, G: Gate>(

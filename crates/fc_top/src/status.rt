@@ -25,10 +25,12 @@ pub enum Status {
     TooLong,
     /// The input was read to its end inside a block, which wasn't run. Every line before it was answered.
     Unended,
+    /// The trace that was checked isn't that of a legal history, or the input is no trace. The line of the verdict was written.
+    Refuted,
 }
 
 impl Status {
-    /// The exit status of the program: 0, or 2 to 8.
+    /// The exit status of the program: 0, or 2 to 9.
     pub fn code(self) -> u8
         ensures { result ≡ code_of self }
     {
@@ -41,6 +43,7 @@ impl Status {
             Status::LogFull => 6,
             Status::TooLong => 7,
             Status::Unended => 8,
+            Status::Refuted => 9,
         }
     }
 

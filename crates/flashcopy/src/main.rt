@@ -1,7 +1,8 @@
-//! The program: a session on standard input, its history on standard output; or a drill, and its summary.
+//! The program: a session on standard input, its history on standard output; or a drill, and its summary; or a trace on standard
+//! input, and its verdict.
 //!
-//! Its words are those of `flashcopy` (docs/MANUAL.md). It prints the history or its summary alone, and ends with the
-//! status's code.
+//! Its words are those of `flashcopy` (docs/MANUAL.md). It prints the history, its summary or the verdict alone, and ends with
+//! the status's code.
 #![tactic(auto)]
 
 mod disks;

@@ -2,12 +2,14 @@
 use Rattle.std.proofs.Common.{◌≡◌, ◌∙◌, true, ap, map, subst}
 use Rattle.fc_args.specs.Grammar.{is_offered}
 use Rattle.fc_args.specs.declared.asked.Asked.{Asked}
-use Rattle.fc_args.specs.declared.asked.Asked.TheVariants.{Run, Drill}
+use Rattle.fc_args.specs.declared.asked.Asked.TheVariants.{Run, Drill, Check}
 use Rattle.fc_run.proofs.TakesLemmas.{EachGave-none}
+use Rattle.fc_top.proofs.CheckLemmas.{check_few, check_ran, check_takes}
 use Rattle.fc_top.proofs.TheoremLemmas.{theorem_of}
 use Rattle.fc_top.proofs.WordLemmas.{run-uncached}
 use Rattle.fc_run.specs.declared.form.Form.{Form}
 use Rattle.fc_top.specs.Call.{Call}
+use Rattle.fc_top.specs.CheckEnds.{CheckEnds}
 use Rattle.fc_top.specs.PlainEnds.{PlainEnds}
 use Rattle.fc_top.specs.Traced.{run_form}
 use Rattle.fc_top.proofs.flashcopy.run_asked.Goals as goal
@@ -55,3 +57,19 @@ returns-in-Drill g c =
       theorem = theorem_of c.args.asked (Drill c.in-Drill.number) call c.in-Drill.is
           c.run_drill.ensures.ran (EachGave-none source) c.run_drill.ensures.limit (c.run_drill.ensures.ends source);
     }
+
+pub returns-in-Check : goal.returns-in-Check
+returns-in-Check g c =
+    let disks = map g.D.Mdisk.meaning c.args.disks.now.items in
+    let call : Call = record {
+      status = c.run_check.result;
+      source = g.S.Source.meaning c.args.source.now;
+      source' = g.S.Source.meaning c.run_check.new.source;
+      sink = g.K.Sink.meaning c.args.sink.now;
+      sink' = g.K.Sink.meaning c.run_check.new.sink;
+      disks = disks;
+      disks' = disks;
+      history = c.args.history.now;
+    } in
+    let ends : CheckEnds call = c.run_check.ensures disks c.args.history.now c.requires.empty in
+    record { theorem = theorem_of c.args.asked Check call c.in-Check.is (check_ran call ends) (check_takes call ends) (check_few call ends) ends }

@@ -10,7 +10,7 @@ use Rattle.fc_mdisk.specs.Disk.{DiskState}
 use Rattle.fc_stands.specs.Store.{StandsFor}
 use Rattle.fc_top.proofs.PlainLemmas.{main_told, starved_ends}
 use Rattle.fc_top.specs.Call.{Call}
-use Rattle.fc_top.specs.DisksBack.{first_told}
+use Rattle.fc_owner.specs.FirstTold.{first_told}
 use Rattle.fc_top.specs.PlainEnds.{PlainEnds}
 use Rattle.fc_top.specs.declared.status.Status.TheVariants.{NoMemory}
 use Rattle.fc_top.proofs.plain.run_plain.Goals as goal

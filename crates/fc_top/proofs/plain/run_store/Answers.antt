@@ -7,11 +7,12 @@ use Rattle.fc_run.specs.Headline.{Session}
 use Rattle.fc_run.specs.declared.ended.Ended.{Ended}
 use Rattle.fc_stands.specs.Store.{StoreView}
 use Rattle.fc_top.proofs.Backs.{DisksAfter-given}
-use Rattle.fc_top.proofs.PlainLemmas.{plain_ends, session_disks}
+use Rattle.fc_top.proofs.PlainLemmas.{plain_ends}
+use Rattle.fc_owner.proofs.SessionOver.{session_disks}
 use Rattle.fc_top.proofs.Statuses.{never_usage}
 use Rattle.fc_top.specs.Call.{Call, status_of}
 use Rattle.fc_top.specs.DisksBack.{DisksAfter}
-use Rattle.fc_top.specs.StoreRuns.{HasDisks, IsUp, Start}
+use Rattle.fc_owner.specs.StoreRuns.{HasDisks, IsUp, Start}
 use Rattle.fc_top.proofs.plain.run_store.Goals as goal
 
 -- The store has its disks, however the session ended.

@@ -1,0 +1,67 @@
+//! Refused accesses and faulty lines.
+
+ghost use Rattle.std.specs.Prelude.{◌≡◌, ◌∷◌, ◌++◌, [], ◌<◌, OnOk};
+ghost use Rattle.fc_books.specs.Refused.{access_refused};
+ghost use Rattle.fc_legal.specs.Steps.{AccessIsRefused, IsRefused, one_more};
+ghost use Rattle.fc_check_follow.specs.Following.{Came, IsOpen};
+
+use crate::apart::says_refused;
+use fc_base::fault::Refusal;
+use fc_base::name::Ref;
+use fc_base::outcome::NoMemory;
+use fc_check_record::Record;
+use fc_entry::entry::Entry;
+
+/// Keeps a way as it is.
+pub(crate) fn keep(way: Record, after: &mut Vec<Record>) -> Result<(), NoMemory>
+    ensures { OnOk result (after.new.items ≡ after.old.items ++ way ∷ []) }
+{
+    match after.push(way) {
+        Ok(()) => Ok(()),
+        Err(_) => Err(NoMemory),
+    }
+}
+
+/// Keeps a way that an entry of no lane has left: one more entry is there.
+pub(crate) fn keep_one_more(mut way: Record, after: &mut Vec<Record>) -> Result<(), NoMemory>
+    requires { way.whole.entries < 262144 }
+    ensures { OnOk result (after.new.items ≡ after.old.items ++ (record { grain = way.grain; whole = one_more way.whole }) ∷ []) }
+{
+    way.one_more();
+    keep(way, after)
+}
+
+/// Goes on behind an entry by which a request was refused so: there is a way where the entry says it.
+pub(crate) fn follow_refusal(
+    way: Record,
+    refusal: &Refusal,
+    entry: &Entry,
+    after: &mut Vec<Record>,
+) -> Result<(), NoMemory>
+    requires { IsOpen way.whole }
+    ensures { OnOk result (Came way.grain (IsRefused refusal.now way.whole entry.now) after.old.items after.new.items) }
+{
+    if says_refused(entry, refusal) {
+        keep_one_more(way, after)
+    } else {
+        Ok(())
+    }
+}
+
+/// Goes on behind an entry of an access that is a line by itself: there is a way where it is refused.
+pub(crate) fn follow_access(
+    way: Record,
+    volume: &Ref,
+    block: u32,
+    count: u32,
+    entry: &Entry,
+    after: &mut Vec<Record>,
+) -> Result<(), NoMemory>
+    requires { IsOpen way.whole }
+    ensures { OnOk result (Came way.grain (AccessIsRefused (access_refused way.grain way.whole.books volume.now block count) way.whole entry.now) after.old.items after.new.items) }
+{
+    match way.refused_access(volume, block, count) {
+        Some(refusal) => follow_refusal(way, &refusal, entry, after),
+        None => Ok(()),
+    }
+}

@@ -1,9 +1,0 @@
-//! The theorem of one outcome.
-
-ghost use Rattle.fc_top.specs.OneOutcome.{OutcomeLaw};
-
-/// Two calls of the program that ask for the same over disks of the same kinds and the same bytes, which end in one way, and in
-/// which nothing failed, have one outcome. It does nothing; a caller learns the law.
-pub fn outcome_law()
-    ensures { OutcomeLaw }
-{}

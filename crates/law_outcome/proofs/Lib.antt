@@ -1,0 +1,3 @@
+-- Lemmas, one subject a file.
+pub mod CheckOutcome
+pub mod OutcomeLemmas

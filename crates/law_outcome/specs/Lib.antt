@@ -1,0 +1,2 @@
+-- What one outcome of two calls is.
+pub mod OneOutcome
