@@ -85,7 +85,7 @@ verdicts_right() {
 }
 
 # The generated session of a number: what docs/MANUAL.md says of drills, drawn by 64-bit numbers that multiply and add.
-generated_session() { # NUMBER
+generated_session() ( # NUMBER; a shell of its own, since `draw` and `pieces` are names for it alone
     local state=$1 volume line kind first more ways=('' '-force ' '-split ')
     for volume in 0 1 2 3 4 5 6 7; do echo "mkvdisk -name V$volume -size 1"; done
     printf 'mkfcmap -source V%s -target V%s\n' '0' '1 -incremental' 0 2 1 '3 -copyrate 0' 3 4 4 '5 -copyrate 10' 1 0 6 '7 -incremental' 2 6
@@ -93,7 +93,7 @@ generated_session() { # NUMBER
         state=$((state * 6364136223846793005 + 1442695040888963407))
         drawn=$((((state >> 33) & 0x7fffffff) % $1))
     }
-    blocks() { # leaves the first block and how many from there on
+    pieces() { # leaves the first block and how many from there on
         draw 2048
         first=$drawn
         draw 64
@@ -107,7 +107,7 @@ generated_session() { # NUMBER
         if ((kind < 7)); then
             draw 8
             volume=V$drawn
-            blocks
+            pieces
             if ((kind < 4)); then
                 draw 256
                 printf 'write %s %d %d %02x\n' "$volume" "$first" "$more" "$drawn"
@@ -127,7 +127,7 @@ generated_session() { # NUMBER
             echo "advance -seconds $((1 + drawn))"
         fi
     done
-}
+)
 
 # ---- the trace of a drill's session, with as many entries as the drill says
 verdicts_on_drills() {
