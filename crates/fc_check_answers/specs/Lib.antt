@@ -1,0 +1,2 @@
+-- Which entries answer the lines of a session.
+pub mod Places

@@ -1,0 +1,88 @@
+-- Seconds that pass without an entry.
+use Rattle.std.proofs.Common.{◌≡◌, ◌≢◌, Bool, true, false, cond, nat_le, Option, Some, None, List, [], refl, ap, ap₂, subst, ◌∙◌}
+use Rattle.std.specs.Option.{option_map}
+use Rattle.fc_agenda.proofs.Going.{Goes-append, Goes-pass}
+use Rattle.fc_agenda.specs.Goes.{stays}
+use Rattle.fc_base.specs.Grain.{grain_kib}
+use Rattle.fc_base.specs.declared.ids.GrainNo.{GrainNo}
+use Rattle.fc_base.specs.declared.request.Request.{Request}
+use Rattle.fc_base.specs.declared.size.GrainSize.{GrainSize}
+use Rattle.fc_base.specs.declared.volume.Mapping.{Mapping}
+use Rattle.fc_blocks.specs.Segments.{Segment}
+use Rattle.fc_books.specs.Books.{Books}
+use Rattle.fc_check_lines.specs.Passing.{PassTo, PassesUpTo, ReachesFill, fill_asked, fill_grain}
+use Rattle.fc_check_requests.specs.Works.{works_by}
+use Rattle.fc_legal.specs.Agenda.{Agenda, Reading, Seconds, next_of_second, session_rules, without_entry, without_fill}
+use Rattle.fc_legal.specs.Seconds.{Passing, Work, all_work, fill_at_hand, fill_of, goes_on, next_fill, next_grain}
+use Rattle.fc_legal.specs.Whole.{Whole}
+use Rattle.fc_pick.specs.declared.work.WorkFlags.{WorkFlags}
+
+-- ---- the list
+
+listed_all : (b : Books) → works_by b.flags b.tables.mappings ≡ all_work b
+unfolding all_work
+listed_all b = refl
+
+pub all_listed : (b : Books) (flags : List WorkFlags) (ms : List Mapping) (works : List Work) → flags ≡ b.flags → ms ≡ b.tables.mappings → works ≡ works_by flags ms → works ≡ all_work b
+all_listed b flags ms works flags_are ms_are listed = listed ∙ (ap₂ works_by flags_are ms_are ∙ listed_all b)
+
+-- ---- fills
+
+pub no_fill : (fill : Option (Work × GrainNo)) → fill_grain fill ≡ None → fill ≡ None
+no_fill None e = refl
+no_fill (Some next) e = absurd (cc e)
+
+pub some_fill : (fill : Option (Work × GrainNo)) (g : GrainNo) → fill_grain fill ≡ Some g → fill ≢ None
+some_fill None g e = absurd (cc e)
+some_fill (Some next) g e = λ none. absurd (cc none)
+
+module _ (grain : GrainSize) (w : Whole) where
+  with_work :
+      (work : Work) (g : GrainNo) (fill : Option GrainNo) (worth : Bool) →
+      fill_grain (cond worth (option_map (λ h. (work, h)) fill) None) ≡ Some g →
+      cond worth (option_map (λ h. (work, h)) fill) None ≡ Some (work, g)
+  with_work work g (Some h) true e =
+      let same : h ≡ g = cc e in
+      ap (λ x. Some (work, x)) same
+  with_work work g None true e = absurd (cc e)
+  with_work work g fill false e = absurd (cc e)
+
+  -- the fill of the work at hand
+  pub fill_is : (p : Passing) (work : Work) (g : GrainNo) → p.at_hand ≡ Some work → fill_grain (next_fill grain w p) ≡ Some g →
+      fill_asked (next_fill grain w p) ≡ Some (fill_of work g)
+  fill_is p work g at e =
+      let P : Option Work → Type 0 = λ o. fill_grain (fill_at_hand grain w o) ≡ Some g in
+      ap (λ o. fill_asked (fill_at_hand grain w o)) at
+      ∙ ap fill_asked (with_work work g (next_grain grain w work) (nat_le (grain_kib grain) work.credit) (subst P at e))
+
+  pub none_asked : (p : Passing) (request : Request) → fill_grain (next_fill grain w p) ≡ None → fill_asked (next_fill grain w p) ≡ Some request → ⊥
+  none_asked p request none asked =
+      let P : Option (Work × GrainNo) → Type 0 = λ fill. fill_asked fill ≡ Some request in
+      absurd (cc (subst P (no_fill (next_fill grain w p) none) asked))
+
+  -- ---- without a fill
+
+  abbrev WithoutFill : Reading → List Segment → Passing → Agenda → Type 0
+  WithoutFill read segs p b = without_entry grain read (Seconds p segs) w ≡ Some b
+
+  pub passes_to : (read : Reading) (segs : List Segment) (p : Passing) (next : Option Passing) → next_fill grain w p ≡ None → goes_on grain w p ≡ next → WithoutFill read segs p (next_of_second next segs)
+  passes_to read segs p next none on =
+      ap (λ fill. without_fill grain w p fill segs) none ∙ ap (λ q. Some (next_of_second q segs)) on
+
+  pub pass_stays : (p : Passing) → PassTo grain w p p
+  pass_stays p = λ read segs. stays
+
+  pub pass_then : (p q r : Passing) → PassTo grain w p q → PassTo grain w q r → PassTo grain w p r
+  pass_then p q r first more = λ read segs.
+      Goes-append (session_rules grain read) (Seconds p segs) (Seconds q segs) (Seconds r segs) w w w [] [] (first read segs) (more read segs)
+
+  pub pass_turn : (p q r : Passing) → PassTo grain w p q → next_fill grain w q ≡ None → goes_on grain w q ≡ Some r → PassTo grain w p r
+  pass_turn p q r first none on = λ read segs.
+      Goes-pass (session_rules grain read) (Seconds p segs) (Seconds q segs) (Seconds r segs) w w [] (first read segs) (passes_to read segs q (Some r) none on)
+
+  -- no work is at hand
+  pub idle_fill : (p : Passing) → p.at_hand ≡ None → next_fill grain w p ≡ None
+  idle_fill p none = ap (fill_at_hand grain w) none
+
+  pub fills_upto : (p : Passing) → ReachesFill true grain w p → PassesUpTo true grain w p
+  fills_upto p fill = fill

@@ -1,0 +1,46 @@
+-- What is left of a session: what was begun of it, and the lines and blocks behind that.
+use Rattle.std.specs.Prelude.{◌≡◌, ℕ, List, [], Option, Some, None}
+use Rattle.fc_agenda.specs.Goes.{Goes}
+use Rattle.fc_base.specs.declared.command.Line.TheVariants.{Command as CommandLine}
+use Rattle.fc_base.specs.declared.command.ScriptLine.{ScriptLine}
+use Rattle.fc_base.specs.declared.command.ScriptLine.TheVariants.{Read}
+use Rattle.fc_base.specs.declared.size.GrainSize.{GrainSize}
+use Rattle.fc_blocks.specs.Segments.{Segment}
+use Rattle.fc_check_lines.specs.Leading.{Waits}
+use Rattle.fc_check_lines.specs.declared.lines.Asking.{Asking}
+use Rattle.fc_check_lines.specs.declared.lines.Asking.TheVariants.{Nothing, Own as OwnAsked, Seconds as SecondsAsked, Faults as FaultsAsked, Actors as ActorsAsked}
+use Rattle.fc_legal.specs.Agenda.{Agenda, Session, Own, Seconds, Faults, Actors, Reading, command_seconds, session_rules}
+use Rattle.fc_legal.specs.Whole.{Whole}
+
+-- The names of the actors that the session has so far, by number, and what is left to be asked.
+pub record Standing : Type 0 where
+  pub names : List (List ℕ)
+  pub agenda : Agenda
+
+-- What was begun, with these segments behind it.
+abbrev pub agenda_of : Asking → List Segment → Agenda
+agenda_of Nothing segs = Session segs
+agenda_of (OwnAsked requests seconds) segs = Own requests seconds segs
+agenda_of (SecondsAsked passing) segs = Seconds passing segs
+agenda_of (FaultsAsked requests actors) segs = Faults requests actors segs
+agenda_of (ActorsAsked scripts) segs = Actors scripts.items segs
+
+-- Where nothing was begun, nothing is left.
+abbrev pub IsOverWith : Asking → List Segment → Type 0
+IsOverWith Nothing segs = segs ≡ []
+IsOverWith asking segs = Unit {0}
+
+-- What is left of what was begun: nothing, or this.
+abbrev pub left_of : Option Asking → List Segment → Agenda
+left_of None segs = Session segs
+left_of (Some asking) segs = agenda_of asking segs
+
+-- It goes on without an entry, whatever stands behind it; and what is left waits.
+pub record GoesOnTo (grain : GrainSize) (read : Reading) (asking : Asking) (w : Whole) (left : Option Asking) (v : Whole) : Type 0 where
+  pub goes : (segs : List Segment) → Goes (session_rules grain read) (agenda_of asking segs) w [] (left_of left segs) v
+  pub waits : (found : Asking) (segs : List Segment) → left ≡ Some found → Waits grain read (agenda_of found segs) v
+
+-- How many seconds a line lets pass, as it was read.
+abbrev pub script_seconds : ScriptLine → ℕ
+script_seconds (Read (CommandLine command)) = command_seconds command
+script_seconds line = 0

@@ -1,0 +1,413 @@
+//! What a session may still bring.
+
+ghost use Rattle.std.specs.Prelude.{◌≡◌, ◌↔◌, [], ◌∷◌, ℕ, List, None, Some, cond, codes, IsTrue, IfOk, OnOk};
+ghost use Rattle.fc_blocks.specs.Segments.{Segment};
+ghost use Rattle.fc_check_lines.specs.Asked.{IsAskedBy, entry_by};
+ghost use Rattle.fc_check_lines.specs.Bytes.{IsSegment, by_grammar, segments_in};
+ghost use Rattle.fc_check_lines.specs.Leading.{LeadTo};
+ghost use Rattle.law_stands.specs.Names.{named};
+ghost use Rattle.fc_check_lines.specs.Standing.{GoesOnTo, IsOverWith, agenda_of, script_seconds};
+ghost use Rattle.fc_legal.specs.Agenda.{Asks, Own, Session, behind_entry, command_seconds, is_done, segment_read};
+ghost use Rattle.fc_legal.specs.Scripts.{are_done, faults_asked, line_asked, names_with, scripts_of};
+ghost use Rattle.fc_legal.specs.Whole.{lanes};
+ghost use Rattle.fc_check_lines.specs.declared.lines.Asking.{Asking};
+ghost use Rattle.fc_entry.specs.declared.entry.Entry.{Entry};
+
+use fc_check_requests::asking::push_line;
+use fc_check_requests::copies::{copy_actors, copy_names};
+use crate::passing::Passing;
+use fc_check_requests::requests::Requests;
+use fc_check_requests::scripts::{Script, add_names, are_done, copy_scripts, do_ask, number_of_actor, place_of_name, scripts_of, take_next};
+use crate::segment::{SegmentRead, next_segment};
+use fc_check_requests::told::Told;
+use fc_base::command::{Command, Line, ScriptLine};
+use fc_base::fault::WordFault;
+use fc_base::list::List;
+use fc_base::name::Name;
+use fc_base::outcome::NoMemory;
+use fc_base::request::{Reply, Request};
+use fc_blocks::block::ActorRead;
+use fc_entry::entry::Entry;
+use std::alloc::Global;
+use std::marker::Model;
+
+/// What was begun of a session.
+#[derive(Drop)]
+pub enum Asking {
+    /// Nothing: the next line or block comes.
+    Nothing,
+    /// These requests of a line; and so many seconds behind them, if the last is done.
+    Own { requests: Requests, seconds: u32 },
+    /// Seconds that pass.
+    Seconds(Passing),
+    /// The faults of a block that `main` is still told of, and then its actors.
+    Faults {
+        requests: Requests,
+        actors: List<ActorRead>,
+    },
+    /// What the actors of a block have still to ask.
+    Actors(Vec<Script>),
+}
+
+/// What a session may still bring behind the entries so far. It waits for an entry, or is over.
+#[derive(Drop)]
+pub struct Lines<'a> {
+    /// The bytes that are still unread.
+    rest: &'a [u8],
+    /// The names of the session's actors so far, by number.
+    names: Vec<Name>,
+    /// What was begun.
+    asking: Asking,
+}
+
+impl<'a> Model for Lines<'a> {
+    ghost use Rattle.fc_check_lines.specs.Bytes.{segments_in};
+    ghost use Rattle.fc_check_lines.specs.Standing.{IsOverWith, Standing, agenda_of};
+
+    ghost Value = { Standing };
+
+    ghost view = { λ l. record { names = l.names.items; agenda = agenda_of l.asking (segments_in l.rest.now) } };
+
+    ghost invariant = { λ l. IsOverWith l.asking (segments_in l.rest.now) };
+}
+
+/// How many seconds a command lets pass, if it is done.
+fn seconds_of_command(command: &Command) -> u32
+    ensures { result ≡ command_seconds command.now }
+{
+    match command {
+        Command::Advance { seconds } => *seconds,
+        _ => 0,
+    }
+}
+
+/// How many seconds a line lets pass, if it is done.
+fn seconds_of(line: &ScriptLine) -> u32
+    ensures { result ≡ script_seconds line.now }
+{
+    match line {
+        ScriptLine::Read(Line::Command(command)) => seconds_of_command(command),
+        ScriptLine::Read(_) => 0,
+        ScriptLine::Unread(_) => 0,
+    }
+}
+
+/// What a line outside of blocks asks.
+fn begin_line<T: Told>(alloc: Global, told: &T, line: &ScriptLine) -> Result<Asking, NoMemory>
+    ensures { IfOk result (λ asking. asking ≡ Asking.Own (line_asked (T.grain told.now) (T.whole told.now).books line.now) (script_seconds line.now)) }
+{
+    let mut requests = Requests::new(alloc);
+    push_line(alloc, told, line, &mut requests)?;
+    Ok(Asking::Own {
+        requests,
+        seconds: seconds_of(line),
+    })
+}
+
+/// What `main` is told of a block.
+fn tell_faults(alloc: Global, faults: &[WordFault]) -> Result<Requests, NoMemory>
+    ensures { IfOk result (λ requests. requests ≡ faults_asked faults.now) }
+{
+    let mut requests = Requests::new(alloc);
+    for fault in faults {
+        requests.push_unread(*fault)?;
+    }
+    Ok(requests)
+}
+
+/// What a line or a block begins with.
+fn begin<T: Told>(alloc: Global, told: &T, segment: SegmentRead) -> Result<Asking, NoMemory>
+    ensures { IfOk result (λ asking. (s : Segment) (segs : List Segment) (names : List (List ℕ)) → IsSegment segment s
+        → agenda_of asking segs ≡ segment_read (T.grain told.now) by_grammar (named names (T.whole told.now)) s segs) }
+{
+    match segment {
+        SegmentRead::Single(line) => begin_line(alloc, told, &line),
+        SegmentRead::Block(block) => Ok(Asking::Faults {
+            requests: tell_faults(alloc, block.faults.as_slice())?,
+            actors: block.actors,
+        }),
+    }
+}
+
+/// The actors of a block begin: their names come, and they have their scripts.
+fn begin_actors<T: Told>(
+    alloc: Global,
+    told: &T,
+    names: &mut Vec<Name>,
+    actors: &[ActorRead],
+) -> Result<Vec<Script>, NoMemory>
+    ensures names { OnOk result (names.new.items ≡ names_with names.old.items actors.now) }
+    ensures scripts { IfOk result (λ scripts. scripts.items ≡ scripts_of (T.grain told.now) (lanes (T.whole told.now)) (T.whole told.now).books names.new.items actors.now) }
+{
+    add_names(alloc, names, actors)?;
+    scripts_of(alloc, told, names.as_slice(), actors)
+}
+
+/// The actors of a block, if they have anything to ask.
+fn if_asking(scripts: Vec<Script>) -> Option<Asking>
+    ensures { result ≡ cond (are_done scripts.items) None (Some (Asking.Actors scripts)) }
+{
+    if are_done(scripts.as_slice()) {
+        None
+    } else {
+        Some(Asking::Actors(scripts))
+    }
+}
+
+/// Goes on without an entry, as far as it goes with what was begun: what is left of it and waits, or nothing.
+fn go_on<T: Told>(
+    alloc: Global,
+    told: &T,
+    asking: Asking,
+    names: &mut Vec<Name>,
+) -> Result<Option<Asking>, NoMemory>
+    ensures { IfOk result (λ left. GoesOnTo (T.grain told.now) by_grammar asking (named names.old.items (T.whole told.now)) left (named names.new.items (T.whole told.now))) }
+{
+    match asking {
+        Asking::Nothing => Ok(None),
+        Asking::Own { requests, seconds } => {
+            if requests.is_empty() {
+                return Ok(None);
+            }
+            Ok(Some(Asking::Own { requests, seconds }))
+        }
+        Asking::Seconds(mut passing) => {
+            if passing.pass(told)? {
+                return Ok(Some(Asking::Seconds(passing)));
+            }
+            Ok(None)
+        }
+        Asking::Faults { requests, actors } => {
+            if !requests.is_empty() {
+                return Ok(Some(Asking::Faults { requests, actors }));
+            }
+            Ok(if_asking(begin_actors(alloc, told, names, actors.as_slice())?))
+        }
+        Asking::Actors(scripts) => Ok(if_asking(scripts)),
+    }
+}
+
+/// Goes on without an entry, as far as it goes.
+fn wait<'a, T: Told>(
+    alloc: Global,
+    told: &T,
+    mut asking: Asking,
+    mut names: Vec<Name>,
+    mut rest: &'a [u8],
+) -> Result<Lines<'a>, NoMemory>
+    ensures { IfOk result (λ lines. LeadTo (T.grain told.now) by_grammar (agenda_of asking (segments_in rest.now)) (named names.items (T.whole told.now)) []
+        lines.agenda (named lines.names (T.whole told.now))) }
+{
+    'segments: loop {
+        if let Some(asking) = go_on(alloc, told, asking, &mut names)? {
+            return Ok(Lines {
+                rest,
+                names,
+                asking,
+            });
+        }
+        match next_segment(alloc, rest)? {
+            Some((segment, behind)) => {
+                asking = begin(alloc, told, segment)?;
+                rest = behind;
+            }
+            None => {
+                return Ok(Lines {
+                    rest,
+                    names,
+                    asking: Asking::Nothing,
+                });
+            }
+        }
+    }
+}
+
+/// Whether a reply says that it was done.
+fn is_done(reply: &Reply) -> bool
+    ensures { result ≡ is_done reply.now }
+{
+    match reply {
+        Reply::Done => true,
+        _ => false,
+    }
+}
+
+/// The name of `main`, alone.
+fn main_alone(alloc: Global) -> Result<Vec<Name>, NoMemory>
+    ensures { IfOk result (λ names. names.items ≡ codes "main" ∷ []) }
+{
+    let mut names = Vec::new(alloc);
+    if let Some(name) = Name::new(alloc, b"main".as_slice())? {
+        match names.push(name) {
+            Ok(()) => {}
+            Err(_) => return Err(NoMemory),
+        }
+    }
+    Ok(names)
+}
+
+impl Asking {
+    /// Whether the actor with this number asks this next.
+    fn asks<T: Told>(&self, told: &T, actor: usize, request: &Request) -> Result<bool, NoMemory>
+        ensures { IfOk result (λ yes. (segs : List Segment) (names : List (List ℕ)) →
+            IsTrue yes ↔ Asks (T.grain told.now) (agenda_of self.now segs) (named names (T.whole told.now)) (actor, request.now)) }
+    {
+        match self {
+            Asking::Nothing => Ok(false),
+            Asking::Own { requests, .. } => Ok(actor == 0 && requests.asks(request)),
+            Asking::Seconds(passing) => {
+                if actor != 0 {
+                    return Ok(false);
+                }
+                passing.asks(told, request)
+            }
+            Asking::Faults { requests, .. } => Ok(actor == 0 && requests.asks(request)),
+            Asking::Actors(scripts) => Ok(do_ask(scripts.as_slice(), actor, request)),
+        }
+    }
+
+    /// The requests of a line, without the first, which was answered so; behind the last, if it is done,
+    /// seconds begin.
+    fn behind_own<T: Told>(
+        alloc: Global,
+        told: &T,
+        mut requests: Requests,
+        seconds: u32,
+        reply: &Reply,
+    ) -> Result<Asking, NoMemory>
+        ensures { IfOk result (λ left. (entry : Entry) (segs : List Segment) (names : List (List ℕ)) → entry.reply ≡ reply.now →
+            agenda_of left segs ≡ behind_entry (T.grain told.now) (Own requests seconds segs) (named names (T.whole told.now)) entry) }
+    {
+        if requests.is_empty() {
+            return Ok(Asking::Nothing);
+        }
+        requests.take_first();
+        if !requests.is_empty() {
+            return Ok(Asking::Own { requests, seconds });
+        }
+        if is_done(reply) {
+            Ok(Asking::Seconds(Passing::begin(alloc, told, seconds)?))
+        } else {
+            Ok(Asking::Nothing)
+        }
+    }
+
+    /// What is left behind an entry of the actor with this number that answered the next request so.
+    fn behind<T: Told>(
+        self,
+        alloc: Global,
+        told: &T,
+        actor: usize,
+        reply: &Reply,
+    ) -> Result<Asking, NoMemory>
+        ensures { IfOk result (λ left. (entry : Entry) (segs : List Segment) (names : List (List ℕ)) → entry.actor ≡ actor → entry.reply ≡ reply.now →
+            agenda_of left segs ≡ behind_entry (T.grain told.now) (agenda_of self segs) (named names (T.whole told.now)) entry) }
+    {
+        match self {
+            Asking::Nothing => Ok(Asking::Nothing),
+            Asking::Own { requests, seconds } => {
+                Asking::behind_own(alloc, told, requests, seconds, reply)
+            }
+            Asking::Seconds(mut passing) => {
+                passing.follow(told, reply)?;
+                Ok(Asking::Seconds(passing))
+            }
+            Asking::Faults { requests, actors } => {
+                let mut requests = requests;
+                requests.take_first();
+                Ok(Asking::Faults { requests, actors })
+            }
+            Asking::Actors(mut scripts) => {
+                take_next(scripts.as_mut_slice(), actor);
+                Ok(Asking::Actors(scripts))
+            }
+        }
+    }
+
+    /// The same again.
+    fn copy(&self, alloc: Global) -> Result<Asking, NoMemory>
+        ensures agenda { IfOk result (λ copy. (segs : List Segment) → agenda_of copy segs ≡ agenda_of self.now segs) }
+        ensures over { IfOk result (λ copy. (segs : List Segment) → IsOverWith self.now segs → IsOverWith copy segs) }
+    {
+        match self {
+            Asking::Nothing => Ok(Asking::Nothing),
+            Asking::Own { requests, seconds } => Ok(Asking::Own {
+                requests: requests.copy(alloc)?,
+                seconds: *seconds,
+            }),
+            Asking::Seconds(passing) => Ok(Asking::Seconds(passing.copy(alloc)?)),
+            Asking::Faults { requests, actors } => Ok(Asking::Faults {
+                requests: requests.copy(alloc)?,
+                actors: copy_actors(alloc, actors.as_slice())?,
+            }),
+            Asking::Actors(scripts) => {
+                Ok(Asking::Actors(copy_scripts(alloc, scripts.as_slice())?))
+            }
+        }
+    }
+}
+
+impl<'a> Lines<'a> {
+    /// What the bytes of a session may bring before the first entry, by what is told then. Refused for want of
+    /// memory alone, or where background work meets a grain with a number of 2^32 or more.
+    pub fn open<T: Told>(alloc: Global, session: &'a [u8], told: &T) -> Result<Lines<'a>, NoMemory>
+        ensures { IfOk result (λ lines. LeadTo (T.grain told.now) by_grammar (Session (segments_in session.now)) (named (codes "main" ∷ []) (T.whole told.now)) []
+            lines.agenda (named lines.names (T.whole told.now))) }
+    {
+        wait(alloc, told, Asking::Nothing, main_alone(alloc)?, session)
+    }
+
+    /// Whether the actor with this name may ask this next, by what is told. Refused as `open` is.
+    pub fn asks<T: Told>(&self, told: &T, name: &[u8], request: &Request) -> Result<bool, NoMemory>
+        ensures { IfOk result (λ yes. IsTrue yes ↔ IsAskedBy (T.grain told.now) self.now.agenda (named self.now.names (T.whole told.now)) name.now request.now) }
+    {
+        match place_of_name(self.names.as_slice(), name) {
+            Some(actor) => self.asking.asks(told, actor, request),
+            None => Ok(false),
+        }
+    }
+
+    /// What a session may bring behind an entry of the actor with this name, by what is told after it. Refused
+    /// as `open` is.
+    pub fn follow<T: Told>(
+        self,
+        alloc: Global,
+        told: &T,
+        name: &[u8],
+        entry: &Entry,
+    ) -> Result<Lines<'a>, NoMemory>
+        ensures { IfOk result (λ lines. LeadTo (T.grain told.now) by_grammar
+            (behind_entry (T.grain told.now) self.entry.agenda (named self.entry.names (T.whole told.now)) (entry_by self.entry.names name.now entry.now))
+            (named self.entry.names (T.whole told.now)) [] lines.agenda (named lines.names (T.whole told.now))) }
+    {
+        let Lines {
+            rest,
+            names,
+            asking,
+        } = self;
+        let actor = number_of_actor(names.as_slice(), name);
+        let left = asking.behind(alloc, told, actor, &entry.reply)?;
+        wait(alloc, told, left, names, rest)
+    }
+
+    /// Whether nothing is left to be asked.
+    pub fn is_over(&self) -> bool
+        ensures { IsTrue result ↔ (self.now.agenda ≡ Session []) }
+    {
+        match &self.asking {
+            Asking::Nothing => true,
+            _ => false,
+        }
+    }
+
+    /// The same again. Refused for want of memory alone.
+    pub fn copy(&self, alloc: Global) -> Result<Lines<'a>, NoMemory>
+        ensures { IfOk result (λ copy. copy ≡ self.now) }
+    {
+        Ok(Lines {
+            rest: self.rest,
+            names: copy_names(alloc, self.names.as_slice())?,
+            asking: self.asking.copy(alloc)?,
+        })
+    }
+}

@@ -1,0 +1,5 @@
+-- Lemmas, one subject a file.
+pub mod Places
+pub mod RequestLemmas
+pub mod AskingLemmas
+pub mod ScriptLemmas
