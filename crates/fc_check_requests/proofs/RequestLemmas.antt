@@ -15,59 +15,30 @@ use Rattle.fc_legal.specs.Scripts.{behind_first, next_request}
 
 -- ---- grains and turns in a row
 
-numbers_first : (f : ℕ → Request) (next left : ℕ) → 0 < left → next_request (map f (numbers next left)) ≡ Some (f next)
-numbers_first f next zero some = absurd (omega (arith, some))
-numbers_first f next (suc n) some = refl
+pub row_first : (f : ℕ → Request) (next left : ℕ) → 0 < left → next_request (map f (numbers next left)) ≡ Some (f next)
+row_first f next zero some = absurd (omega (arith, some))
+row_first f next (suc n) some = refl
 
-numbers_rest : (f : ℕ → Request) (next left : ℕ) → 0 < left → behind_first (map f (numbers next left)) ≡ map f (numbers (next + 1) (left - 1))
-numbers_rest f next zero some = absurd (omega (arith, some))
-numbers_rest f next (suc n) some =
-    let less : n ≡ suc n - 1 = omega arith in
+pub row_rest : (f : ℕ → Request) (next left : ℕ) → 0 < left → map f (numbers (next + 1) (left - 1)) ≡ behind_first (map f (numbers next left))
+row_rest f next zero some = absurd (omega (arith, some))
+row_rest f next (suc n) some =
+    let less : suc n - 1 ≡ n = omega arith in
     ap (λ k. map f (numbers (next + 1) k)) less
 
-numbers_last : (f : ℕ → Request) (next left : ℕ) → 0 < left → left ≤ 1 → behind_first (map f (numbers next left)) ≡ []
-numbers_last f next zero some few = absurd (omega (arith, some))
-numbers_last f next (suc zero) some few = refl
-numbers_last f next (suc (suc n)) some few = absurd (omega (arith, few))
+pub row_last : (f : ℕ → Request) (next left : ℕ) → 0 < left → left ≤ 1 → behind_first (map f (numbers next left)) ≡ []
+row_last f next zero some few = absurd (omega (arith, some))
+row_last f next (suc zero) some few = refl
+row_last f next (suc (suc n)) some few = absurd (omega (arith, few))
 
-turns_first : (f : ℕ → Request) (next left : ℕ) → 0 < left → next_request (map f (range_with_len next left)) ≡ Some (f next)
-turns_first f next zero some = absurd (omega (arith, some))
-turns_first f next (suc n) some = refl
-
-turns_rest : (f : ℕ → Request) (next left : ℕ) → 0 < left → behind_first (map f (range_with_len next left)) ≡ map f (range_with_len (next + 1) (left - 1))
-turns_rest f next zero some = absurd (omega (arith, some))
-turns_rest f next (suc n) some =
-    let less : n ≡ suc n - 1 = omega arith in
-    ap (λ k. map f (range_with_len (next + 1) k)) less
-
-turns_last : (f : ℕ → Request) (next left : ℕ) → 0 < left → left ≤ 1 → behind_first (map f (range_with_len next left)) ≡ []
-turns_last f next zero some few = absurd (omega (arith, some))
-turns_last f next (suc zero) some few = refl
-turns_last f next (suc (suc n)) some few = absurd (omega (arith, few))
+pub from_to : (from count : ℕ) → range_with_len from count ≡ numbers from count
+from_to from zero = refl
+from_to from (suc n) = ap (λ rest. from ∷ rest) (from_to (from + 1) n)
 
 abbrev pub asked_in : Span → ℕ → Request
 asked_in s g = part_asked s.grain s.volume s.block s.count s.byte g
 
-pub span_first : (s : Span) → 0 < s.left → next_request (span_left s) ≡ Some (asked_in s s.next)
-span_first s some = numbers_first (asked_in s) s.next s.left some
-
-pub span_rest : (s : Span) → 0 < s.left → span_left (record s { next = s.next + 1; left = s.left - 1 }) ≡ behind_first (span_left s)
-span_rest s some = sym (numbers_rest (asked_in s) s.next s.left some)
-
-pub span_last : (s : Span) → 0 < s.left → s.left ≤ 1 → behind_first (span_left s) ≡ []
-span_last s some few = numbers_last (asked_in s) s.next s.left some few
-
 abbrev pub turn_at : Turns → ℕ → Request
 turn_at t k = turn_in t.cleans (k % t.lanes)
-
-pub turn_first : (t : Turns) → 0 < t.left → next_request (turns_left t) ≡ Some (turn_at t t.next)
-turn_first t some = turns_first (turn_at t) t.next t.left some
-
-pub turn_rest : (t : Turns) → 0 < t.left → turns_left (record t { next = t.next + 1; left = t.left - 1 }) ≡ behind_first (turns_left t)
-turn_rest t some = sym (turns_rest (turn_at t) t.next t.left some)
-
-pub turn_last : (t : Turns) → 0 < t.left → t.left ≤ 1 → behind_first (turns_left t) ≡ []
-turn_last t some few = turns_last (turn_at t) t.next t.left some few
 
 -- ---- items
 
@@ -75,8 +46,8 @@ turn_last t some few = turns_last (turn_at t) t.next t.left some few
 pub item_first : (item : Item) → AsksSome item → (r : Request) × (next_request (item_left item) ≡ Some r)
 item_first (Command command) some = (CommandAsked command, refl)
 item_first (Unread fault) some = (UnreadAsked fault, refl)
-item_first (Access span) some = (asked_in span span.next, span_first span some.0)
-item_first (WorkerTurns turns) some = (turn_at turns turns.next, turn_first turns some.0)
+item_first (Access span) some = (asked_in span span.next, row_first (asked_in span) span.next span.left some.0)
+item_first (WorkerTurns turns) some = (turn_at turns turns.next, row_first (turn_at turns) turns.next turns.left some.0)
 
 first_append : (xs ys : List Request) (r : Request) → next_request xs ≡ Some r → next_request (xs ++ ys) ≡ Some r
 first_append [] ys r e = absurd (cc e)

@@ -6,7 +6,7 @@ ghost use Rattle.fc_check_requests.specs.Requests.{AsksSome, IsRest, item_left, 
 ghost use Rattle.fc_check_requests.specs.declared.requests.Item.{Item};
 ghost use Rattle.fc_legal.specs.Scripts.{behind_first, next_request};
 
-use crate::same::Same;
+use fc_check_same::same::Same;
 use crate::span::Span;
 use crate::turns::Turns;
 use fc_base::command::Command;
