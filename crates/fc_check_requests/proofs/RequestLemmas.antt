@@ -1,6 +1,8 @@
 -- Requests that are left, item by item.
-use Rattle.std.proofs.Common.{◌≡◌, ◌≢◌, ℕ, zero, suc, ◌+◌, ◌-◌, ◌%◌, ◌≤◌, ◌<◌, Some, None, List, [], ◌∷◌, ◌++◌, length, map, All, append-nil, refl, sym, ap, subst, ◌∙◌, arith}
+use Rattle.std.proofs.Common.{◌≡◌, ◌≢◌, ◌↔◌, ℕ, zero, suc, ◌+◌, ◌-◌, ◌%◌, ◌^◌, ◌≤◌, ◌<◌, Bool, IsTrue, false, eqb, Option, Some, None, List, [], ◌∷◌, ◌++◌, length, map, All, append-nil, refl, sym, ap, subst, ◌∙◌, arith}
 use Rattle.std.specs.List.{flat_map, range_with_len, slice_index_or}
+use Rattle.std.proofs.lemmas.Bool.{true≢false}
+use Rattle.std.proofs.lemmas.Bool.Decides.{Decides-eqb}
 use Rattle.std.proofs.lemmas.Grind.{flat_map-append}
 use Rattle.std.proofs.lemmas.List.Elements.{All-head, All-push, All-tail}
 use Rattle.fc_base.specs.declared.request.Request.{Request}
@@ -39,6 +41,38 @@ asked_in s g = part_asked s.grain s.volume s.block s.count s.byte g
 
 abbrev pub turn_at : Turns → ℕ → Request
 turn_at t k = turn_in t.cleans (k % t.lanes)
+
+-- What is left behind the next.
+pub span_rest : (s r : Span) → r ≡ record s { next = s.next + 1; left = s.left - 1 } → 1 < s.left → s.next + s.left ≤ 2 ^ 32 → IsRest (Some (Access r)) (behind_first (span_left s))
+span_rest s r is many counted =
+    let P : Span → Type 0 = λ x. IsRest (Some (Access x)) (behind_first (span_left s)) in
+    subst P (sym is) (row_rest (asked_in s) s.next s.left (omega (arith, many)), (omega (arith, many), omega (arith, many, counted)))
+
+pub turns_rest : (t r : Turns) → r ≡ record t { next = t.next + 1; left = t.left - 1 } → 1 < t.left → t.next + t.left ≤ 2 ^ 32 → 0 < t.lanes →
+    IsRest (Some (WorkerTurns r)) (behind_first (turns_left t))
+turns_rest t r is many counted lanes =
+    let P : Turns → Type 0 = λ x. IsRest (Some (WorkerTurns x)) (behind_first (turns_left t)) in
+    subst P (sym is) (row_rest (turn_at t) t.next t.left (omega (arith, many)), (omega (arith, many), omega (arith, many, counted), lanes))
+
+pub span_last : (s : Span) → 0 < s.left → s.left ≤ 1 → IsRest None (behind_first (span_left s))
+span_last s some few = row_last (asked_in s) s.next s.left some few
+
+pub turns_last : (t : Turns) → 0 < t.left → t.left ≤ 1 → IsRest None (behind_first (turns_left t))
+turns_last t some few = row_last (turn_at t) t.next t.left some few
+
+-- Whether a request is the next, by the next.
+pub asks_first : (yes : Bool) (rs : List Request) (first request : Request) → next_request rs ≡ Some first → IsTrue yes ↔ (first ≡ request) → IsTrue yes ↔ (next_request rs ≡ Some request)
+asks_first yes rs first request is same =
+    (λ t. is ∙ ap Some (same.0 t), λ asked. same.1 (same_some first request (sym is ∙ asked)))
+  where
+    same_some : (x y : Request) → ◌≡◌ {A = Option Request} (Some x) (Some y) → x ≡ y
+    same_some x y e = cc
+
+pub asks_span : (yes : Bool) (s : Span) (request : Request) → 0 < s.left → IsTrue yes ↔ (asked_in s s.next ≡ request) → IsTrue yes ↔ (next_request (span_left s) ≡ Some request)
+asks_span yes s request some same = asks_first yes (span_left s) (asked_in s s.next) request (row_first (asked_in s) s.next s.left some) same
+
+pub asks_turn : (yes : Bool) (t : Turns) (request : Request) → 0 < t.left → IsTrue yes ↔ (turn_at t t.next ≡ request) → IsTrue yes ↔ (next_request (turns_left t) ≡ Some request)
+asks_turn yes t request some same = asks_first yes (turns_left t) (turn_at t t.next) request (row_first (turn_at t) t.next t.left some) same
 
 -- ---- items
 
@@ -83,17 +117,24 @@ front_first (x ∷ xs) item some is all =
     let own : AsksSome x = All-head AsksSome x xs all in
     subst P (sym is) (own, items_first x xs own)
 
-pub front_none : (items : List Item) (r : Request) → length items ≡ 0 → next_request (flat_map item_left items) ≡ Some r → ⊥
-front_none [] r none e = absurd (cc e)
-front_none (x ∷ xs) r none e = absurd (omega (arith, none))
+-- By the item that is found in front, if any.
+pub front_asks : (items : List Item) (item : Item) (yes : Bool) (request : Request) → 0 < length items → item ≡ slice_index_or items 0 item → All AsksSome items →
+    IsTrue yes ↔ (next_request (item_left item) ≡ Some request) → IsTrue yes ↔ (next_request (flat_map item_left items) ≡ Some request)
+front_asks items item yes request some is all same =
+    let P : Option Request → Type 0 = λ first. IsTrue yes ↔ (first ≡ Some request) in
+    subst P (sym (front_first items item some is all).1) same
 
-pub empty_none : (items : List Item) → length items ≡ 0 → flat_map item_left items ≡ []
-empty_none [] none = refl
-empty_none (x ∷ xs) none = absurd (omega (arith, none))
+pub none_asks : (items : List Item) (yes : Bool) (request : Request) → length items ≡ 0 → yes ≡ false → IsTrue yes ↔ (next_request (flat_map item_left items) ≡ Some request)
+none_asks [] yes request none no = (λ t. absurd (true≢false (sym t ∙ no)), λ e. absurd (cc e))
+none_asks (x ∷ xs) yes request none no = absurd (omega (arith, none))
 
-pub none_empty : (items : List Item) → All AsksSome items → flat_map item_left items ≡ [] → length items ≡ 0
-none_empty [] all none = refl
-none_empty (x ∷ xs) all none = absurd (items_some x xs (All-head AsksSome x xs all) none)
+-- Whether nothing is left.
+pub empty_left : (items : List Item) (n : ℕ) (empty : Bool) → n ≡ length items → empty ≡ eqb n 0 → All AsksSome items → IsTrue empty ↔ (flat_map item_left items ≡ [])
+empty_left [] n empty long is all = (λ t. refl, λ e. is ∙ (Decides-eqb n 0).1 long)
+empty_left (x ∷ xs) n empty long is all = (
+  λ t. let none : n ≡ 0 = (Decides-eqb n 0).0 (sym is ∙ t) in absurd (omega (arith, none, long)),
+  λ e. absurd (items_some x xs (All-head AsksSome x xs all) e),
+)
 
 -- The first item is taken, and what is left of it put back.
 pub taken_rest : (items others : List Item) (item rest : Item) → items ≡ item ∷ others → All AsksSome items → IsRest (Some rest) (behind_first (item_left item)) →

@@ -6,13 +6,13 @@ ghost use Rattle.fc_check_requests.specs.Requests.{AsksSome, IsRest, item_left, 
 ghost use Rattle.fc_check_requests.specs.declared.requests.Item.{Item};
 ghost use Rattle.fc_legal.specs.Scripts.{behind_first, next_request};
 
-use fc_check_same::same::Same;
 use crate::span::Span;
 use crate::turns::Turns;
 use fc_base::command::Command;
 use fc_base::fault::WordFault;
 use fc_base::outcome::NoMemory;
 use fc_base::request::Request;
+use fc_check_same::same::Same;
 use fc_copies::copy::copy_command;
 use std::alloc::Global;
 use std::collections::VecDeque;
@@ -143,7 +143,7 @@ impl Requests {
     }
 
     /// Whether none are left.
-    #[tactic(auto, using(crate::proofs::RequestLemmas::none_empty, crate::proofs::RequestLemmas::empty_none))]
+    #[tactic(auto, using(crate::proofs::RequestLemmas::empty_left))]
     pub fn is_empty(&self) -> bool
         ensures { IsTrue result ↔ (self.now ≡ []) }
     {
@@ -151,7 +151,7 @@ impl Requests {
     }
 
     /// Whether this is the next.
-    #[tactic(auto, using(crate::proofs::RequestLemmas::front_first))]
+    #[tactic(auto, using(crate::proofs::RequestLemmas::front_asks, crate::proofs::RequestLemmas::none_asks))]
     pub fn asks(&self, request: &Request) -> bool
         ensures { IsTrue result ↔ (next_request self.now ≡ Some request.now) }
     {
@@ -181,7 +181,10 @@ impl Requests {
         requires { AsksSome item }
         ensures { OnOk result (self.new ≡ self.old ++ item_left item) }
     {
-        push_item(&mut self.items, item)
+        match push_item(&mut self.items, item) {
+            Ok(()) => Ok(()),
+            Err(NoMemory) => Err(NoMemory),
+        }
     }
 
     /// Puts a command behind the others.
