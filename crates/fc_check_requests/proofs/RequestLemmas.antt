@@ -4,7 +4,7 @@ use Rattle.std.specs.List.{flat_map, range_with_len, slice_index_or}
 use Rattle.std.proofs.lemmas.Bool.{true≢false}
 use Rattle.std.proofs.lemmas.Bool.Decides.{Decides-eqb}
 use Rattle.std.proofs.lemmas.Grind.{flat_map-append}
-use Rattle.std.proofs.lemmas.List.Elements.{All-head, All-push, All-tail}
+use Rattle.std.proofs.lemmas.List.Elements.{All-cons, All-head, All-push, All-tail}
 use Rattle.fc_base.specs.declared.request.Request.{Request}
 use Rattle.fc_base.specs.declared.request.Request.TheVariants.{Command as CommandAsked, Unread as UnreadAsked}
 use Rattle.fc_check_requests.specs.Requests.{AsksSome, IsRest, item_left, part_asked, span_left, turn_in, turns_left}
@@ -136,25 +136,43 @@ empty_left (x ∷ xs) n empty long is all = (
   λ e. absurd (items_some x xs (All-head AsksSome x xs all) e),
 )
 
--- The first item is taken, and what is left of it put back.
-pub taken_rest : (items others : List Item) (item rest : Item) → items ≡ item ∷ others → All AsksSome items → IsRest (Some rest) (behind_first (item_left item)) →
-    flat_map item_left (rest ∷ others) ≡ behind_first (flat_map item_left items)
-taken_rest items others item rest is all left =
-    let P : List Item → Type 0 = λ xs. All AsksSome xs in
-    let own : AsksSome item = All-head AsksSome item others (subst P is all) in
-    ap (λ xs. xs ++ flat_map item_left others) left.0 ∙ sym (ap (λ xs. behind_first (flat_map item_left xs)) is ∙ items_rest item others own)
+-- The first item is taken, and what is left of it, if anything, put back.
+abbrev pub IsLeft : List Item → List Item → Type 0
+IsLeft items after = (flat_map item_left after ≡ behind_first (flat_map item_left items)) × All AsksSome after
 
-pub taken_last : (items others : List Item) (item : Item) → items ≡ item ∷ others → All AsksSome items → IsRest None (behind_first (item_left item)) →
-    flat_map item_left others ≡ behind_first (flat_map item_left items)
-taken_last items others item is all left =
-    let P : List Item → Type 0 = λ xs. All AsksSome xs in
-    let own : AsksSome item = All-head AsksSome item others (subst P is all) in
-    sym (ap (λ xs. behind_first (flat_map item_left xs)) is ∙ items_rest item others own ∙ ap (λ xs. xs ++ flat_map item_left others) left)
+pub left_of_none : (items after : List Item) → items ≡ after → length items ≡ 0 → All AsksSome items → IsLeft items after
+left_of_none [] after is none all =
+    let P : List Item → Type 0 = λ xs. (flat_map item_left xs ≡ []) × All AsksSome xs in
+    subst P is (refl, all)
+left_of_none (x ∷ xs) after is none all = absurd (omega (arith, none))
 
-pub taken_all : (items others : List Item) (item : Item) → items ≡ item ∷ others → All AsksSome items → All AsksSome others
-taken_all items others item is all =
+own_and_others : (items others : List Item) (item : Item) → items ≡ item ∷ others → All AsksSome items → AsksSome item × All AsksSome others
+own_and_others items others item is all =
     let P : List Item → Type 0 = λ xs. All AsksSome xs in
-    All-tail AsksSome item others (subst P is all)
+    (All-head AsksSome item others (subst P is all), All-tail AsksSome item others (subst P is all))
+
+pub first_some : (items others : List Item) (item : Item) → items ≡ item ∷ others → All AsksSome items → AsksSome item
+first_some items others item is all = (own_and_others items others item is all).0
+
+pub put_back : (items others after : List Item) (item rest : Item) (left : Option Item) → items ≡ item ∷ others → All AsksSome items →
+    IsRest left (behind_first (item_left item)) → left ≡ Some rest → after ≡ rest ∷ others → IsLeft items after
+put_back items others after item rest left is all rested there back =
+    let P : Option Item → Type 0 = λ o. IsRest o (behind_first (item_left item)) in
+    let Q : List Item → Type 0 = λ xs. IsLeft items xs in
+    let some : IsRest (Some rest) (behind_first (item_left item)) = subst P there rested in
+    let parts : AsksSome item × All AsksSome others = own_and_others items others item is all in
+    subst Q (sym back) (
+      ap (λ xs. xs ++ flat_map item_left others) some.0 ∙ sym (ap (λ xs. behind_first (flat_map item_left xs)) is ∙ items_rest item others parts.0),
+      All-cons AsksSome rest others some.1 parts.1,
+    )
+
+pub none_back : (items others : List Item) (item : Item) (left : Option Item) → items ≡ item ∷ others → All AsksSome items →
+    IsRest left (behind_first (item_left item)) → left ≡ None → IsLeft items others
+none_back items others item left is all rested there =
+    let P : Option Item → Type 0 = λ o. IsRest o (behind_first (item_left item)) in
+    let none : IsRest None (behind_first (item_left item)) = subst P there rested in
+    let parts : AsksSome item × All AsksSome others = own_and_others items others item is all in
+    (sym (ap (λ xs. behind_first (flat_map item_left xs)) is ∙ items_rest item others parts.0 ∙ ap (λ xs. xs ++ flat_map item_left others) none), parts.1)
 
 -- One item more behind the others, or not.
 pub pushed_all : (items : List Item) (item : Item) → All AsksSome items → AsksSome item → All AsksSome (items ++ item ∷ [])

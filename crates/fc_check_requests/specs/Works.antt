@@ -1,14 +1,15 @@
 -- The background work of mappings, by their flags.
 use Rattle.std.specs.Prelude.{Bool, true, false, cond, ◌++◌, filter, map, List}
 use Rattle.std.specs.Option.{option_map_or}
+use Rattle.fc_base.specs.Rates.{kib_of_rate}
 use Rattle.fc_base.specs.declared.volume.Mapping.{Mapping}
 use Rattle.fc_desk.specs.Telling.{row_of}
-use Rattle.fc_legal.specs.Seconds.{Work, cleanings_of, copies_of}
+use Rattle.fc_legal.specs.Seconds.{Work}
 use Rattle.fc_pick.specs.declared.work.WorkFlags.{WorkFlags}
 
--- The cleanings of a mapping, or its copies.
+-- The cleanings of a mapping, or its copies, without credit.
 abbrev pub work_of : Bool → Mapping → Work
-work_of cleans m = cond cleans (cleanings_of m) (copies_of m)
+work_of cleans m = record { map = m.id; cleans = cleans; gain = kib_of_rate (cond cleans m.clean_rate m.copy_rate); credit = 0 }
 
 -- It has the flag for its cleanings, or for its copies.
 abbrev pub has_flag : Bool → List WorkFlags → Mapping → Bool

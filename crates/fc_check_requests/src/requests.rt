@@ -1,6 +1,6 @@
 //! Requests that are left to be asked, one after the other.
 
-ghost use Rattle.std.specs.Prelude.{◌≡◌, ◌↔◌, [], ◌∷◌, ◌++◌, IsTrue, OnErr, OnOk, IfOk, Some};
+ghost use Rattle.std.specs.Prelude.{◌≡◌, ◌↔◌, [], ◌∷◌, ◌++◌, IsTrue, OnErr, OnOk, IfOk, Some, All, flat_map};
 ghost use Rattle.fc_base.specs.declared.request.Request.TheVariants.{Command as CommandAsked, Unread as UnreadAsked};
 ghost use Rattle.fc_check_requests.specs.Requests.{AsksSome, IsRest, item_left, span_left, turns_left};
 ghost use Rattle.fc_check_requests.specs.declared.requests.Item.{Item};
@@ -97,7 +97,8 @@ impl Item {
         match self {
             Item::Access(span) => rest_of_access(span),
             Item::Turns(turns) => rest_of_turns(turns),
-            _ => None,
+            Item::Command(_) => None,
+            Item::Unread(_) => None,
         }
     }
 
@@ -162,17 +163,10 @@ impl Requests {
     }
 
     /// The next was asked: the rest is left.
-    #[tactic(auto, using(crate::proofs::RequestLemmas::taken_rest, crate::proofs::RequestLemmas::taken_last))]
     pub fn take_first(&mut self)
         ensures { self.new ≡ behind_first self.old }
     {
-        let Some(item) = self.items.pop_front() else {
-            return;
-        };
-        match item.behind_first() {
-            Some(rest) => self.items.push_front_reserved(rest),
-            None => {}
-        }
+        take_first(&mut self.items);
     }
 
     /// Puts an item behind the others. Refused, for want of memory alone, they are as they were.
@@ -224,6 +218,21 @@ impl Requests {
         Ok(Requests {
             items: copy_items(alloc, &self.items)?,
         })
+    }
+}
+
+/// Takes the first request, if there is one.
+fn take_first(items: &mut VecDeque<Item>)
+    requires { All AsksSome items.old.items }
+    ensures left { flat_map item_left items.new.items ≡ behind_first (flat_map item_left items.old.items) }
+    ensures some { All AsksSome items.new.items }
+{
+    let Some(item) = items.pop_front() else {
+        return;
+    };
+    match item.behind_first() {
+        Some(rest) => items.push_front_reserved(rest),
+        None => {}
     }
 }
 

@@ -38,15 +38,10 @@ impl Work {
     fn of(mapping: &Mapping, cleans: bool) -> Work
         ensures { result ≡ work_of cleans mapping.now }
     {
-        let rate = if cleans {
-            mapping.clean_rate
-        } else {
-            mapping.copy_rate
-        };
         Work {
             map: mapping.id,
             cleans,
-            gain: kib_per_second(rate),
+            gain: kib_per_second(rate_of(mapping, cleans)),
             credit: 0,
         }
     }
@@ -103,6 +98,17 @@ impl Work {
             gain: self.gain,
             credit: self.credit,
         }
+    }
+}
+
+/// The rate of a mapping's cleanings, or of its copies.
+fn rate_of(mapping: &Mapping, cleans: bool) -> u8
+    ensures { result ≡ cond cleans mapping.now.clean_rate mapping.now.copy_rate }
+{
+    if cleans {
+        mapping.clean_rate
+    } else {
+        mapping.copy_rate
     }
 }
 
