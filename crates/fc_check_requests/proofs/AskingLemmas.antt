@@ -4,7 +4,7 @@ use Rattle.std.proofs.Math.Nat.{div-mul-le_self}
 use Rattle.std.proofs.lemmas.Bool.Decides.{nat_tests}
 use Rattle.std.proofs.lemmas.Nat.{le-div}
 use Rattle.fc_base.specs.Grain.{grain_blocks}
-use Rattle.fc_base.specs.Tables.{volume_named}
+use Rattle.fc_base.specs.Tables.{Tables, volume_named}
 use Rattle.fc_base.specs.declared.command.Command.{Command}
 use Rattle.fc_base.specs.declared.fault.Kind.TheVariants.{Vdisk}
 use Rattle.fc_base.specs.declared.fault.Refusal.{Refusal}
@@ -119,6 +119,21 @@ module _ (grain : GrainSize) (b : Books) (volume : Ref) (block count : ℕ) wher
 
   pub missing_refused : volume_named b.tables volume ≡ None → access_refused grain b volume block count ≢ None
   missing_refused none is = absurd (cc (sym (ap refused_by none) ∙ is))
+
+-- ---- by the tables alone
+
+module _ (grain : GrainSize) (tables : Tables) (b : Books) (volume : Ref) (block count : ℕ) (same : b.tables ≡ tables) where
+  named_in : (found : Option Volume) → found ≡ volume_named tables volume → volume_named b.tables volume ≡ found
+  named_in found is = ap (λ t. volume_named t volume) same ∙ sym is
+
+  pub inside_in : (v : Volume) → Some v ≡ volume_named tables volume → AreInside grain v.grains block count → IsTo v.id grain b volume block count
+  inside_in v is inside = inside_to grain b volume block count v (named_in (Some v) is) inside
+
+  pub outside_in : (v : Volume) → Some v ≡ volume_named tables volume → (AreInside grain v.grains block count → ⊥) → access_refused grain b volume block count ≢ None
+  outside_in v is outside = outside_refused grain b volume block count v (named_in (Some v) is) outside
+
+  pub missing_in : None ≡ volume_named tables volume → access_refused grain b volume block count ≢ None
+  missing_in is = missing_refused grain b volume block count (named_in None is)
 
 -- ---- the grains of an access
 
