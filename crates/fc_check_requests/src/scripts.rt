@@ -200,9 +200,12 @@ pub fn do_ask(scripts: &[Script], actor: usize, request: &Request) -> bool
 pub fn take_next(scripts: &mut [Script], actor: usize)
     ensures { scripts.new ≡ behind_next scripts.old actor }
 {
-    if let Some(place) = place_of(scripts, actor) {
-        let script = &mut scripts[place];
-        script.requests.take_first();
+    match place_of(scripts, actor) {
+        Some(place) => {
+            let script = &mut scripts[place];
+            script.requests.take_first();
+        }
+        None => {}
     }
 }
 
