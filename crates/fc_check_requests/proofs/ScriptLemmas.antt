@@ -92,8 +92,8 @@ asks_found scripts actor n d said request is same =
 
 pub asks_none : (scripts : List Script) (actor : ℕ) (said : Bool) (request : Request) → position (λ (s : Script). s.actor == actor) scripts ≡ None →
     said ≡ false → IsTrue said ↔ (next_by scripts actor ≡ Some request)
-asks_none scripts actor said request is no =
-    (λ t. absurd (true≢false (sym t ∙ no)), λ asked. none_some request (sym (none_found scripts actor is).0 ∙ asked))
+asks_none scripts actor said request is isnt =
+    (λ t. absurd (true≢false (sym t ∙ isnt)), λ asked. none_some request (sym (none_found scripts actor is).0 ∙ asked))
   where
     none_some : (r : Request) → ◌≡◌ {A = Option Request} None (Some r) → IsTrue said
     none_some r e = absurd (cc e)
