@@ -53,7 +53,7 @@ impl Model for Record {
 
     ghost Value = { Judged };
 
-    ghost view = { λ r. record { grain = r.kept.knself.kept.grain; whole = whole_of r.kept.control r.kept.known r.kept.rows (pools_of r.kept.pools.items) r.kept.calls.items } };
+    ghost view = { λ r. record { grain = r.kept.known.grain; whole = whole_of r.kept.control r.kept.known r.kept.rows (pools_of r.kept.pools.items) r.kept.calls.items } };
 
     ghost invariant = { λ r. AreOne r.kept.control r.kept.known r.kept.calls.items };
 }
@@ -92,7 +92,7 @@ impl Record {
     pub fn copy(&self, alloc: Global) -> Result<Record, NoMemory>
         ensures { IfOk result (λ copy. copy ≡ self.now) }
     {
-        let known = self.kept.knself.kept.copy(alloc)?;
+        let known = self.kept.known.copy(alloc)?;
         let rows = self.kept.rows.copy(alloc)?;
         let pools = copy_items(alloc, self.kept.pools.as_slice())?;
         let calls = copy_items(alloc, self.kept.calls.as_slice())?;
@@ -113,6 +113,6 @@ impl Record {
         ensures { self.new ≡ record self.old { whole = one_more self.old.whole } }
     {
         let known = &mut self.kept.known;
-        knself.kept.entries += 1;
+        known.entries += 1;
     }
 }
