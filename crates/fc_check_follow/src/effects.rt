@@ -3,8 +3,8 @@
 ghost use Rattle.std.specs.Prelude.{◌≡◌, ◌++◌, MatchOption, List};
 ghost use Rattle.fc_base.specs.declared.request.Effect.{Effect};
 
-use crate::same::{Same, all_same};
 use fc_base::request::Effect;
+use fc_check_same::same::{Same, all_same};
 
 impl Same for Effect {
     fn is_same(&self, other: &Effect) -> bool {
