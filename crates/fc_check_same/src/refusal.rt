@@ -1,9 +1,7 @@
-//! Refusals compared.
+//! The comparison of refusals.
 
-ghost use Rattle.std.specs.Prelude.{◌≡◌, ◌↔◌, IsTrue};
-
+use crate::same::Same;
 use fc_base::fault::Refusal;
-use fc_check_same::same::Same;
 
 impl Same for Refusal {
     fn is_same(&self, other: &Refusal) -> bool {

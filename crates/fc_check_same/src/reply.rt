@@ -1,9 +1,7 @@
-//! Replies compared.
+//! The comparison of replies.
 
-ghost use Rattle.std.specs.Prelude.{◌≡◌, ◌↔◌, IsTrue};
-
+use crate::same::{Same, all_same};
 use fc_base::request::Reply;
-use fc_check_same::same::{Same, all_same};
 
 impl Same for Reply {
     fn is_same(&self, other: &Reply) -> bool {
