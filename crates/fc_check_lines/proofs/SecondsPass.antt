@@ -88,8 +88,8 @@ some_fill (Some next) g e = λ none. absurd (cc none)
 module _ (grain : GrainSize) (w : Whole) where
   with_work :
       (work : Work) (g : GrainNo) (fill : Option GrainNo) (worth : Bool) →
-      fill_grain (cond worth (option_map (λ h. (work, h)) fill) None) ≡ Some g →
-      cond worth (option_map (λ h. (work, h)) fill) None ≡ Some (work, g)
+      fill_grain (cond worth (option_map {U = Work × GrainNo} (λ h. (work, h)) fill) None) ≡ Some g →
+      cond worth (option_map {U = Work × GrainNo} (λ h. (work, h)) fill) None ≡ Some (work, g)
   with_work work g (Some h) true e =
       let same : h ≡ g = cc e in
       ap (λ x. Some (work, x)) same

@@ -315,7 +315,7 @@ module _ (grain : GrainSize) (actor : ℕ) (request : Request) where
   faults_next (r ∷ rest) actors segs w = main_next r
 
   fill_next : (fill : Option (Work × GrainNo)) →
-      MainAsks actor request (fill_asked fill) ↔ (option_map (λ (next : Work × GrainNo). (0, fill_of next.0 next.1)) fill ≡ Some (actor, request))
+      MainAsks actor request (fill_asked fill) ↔ (option_map {U = ℕ × Request} (λ (next : Work × GrainNo). (0, fill_of next.0 next.1)) fill ≡ Some (actor, request))
   fill_next None = ((λ both. absurd (cc both.1)), (λ asks. absurd (cc asks)))
   fill_next (Some next) = main_next (fill_of next.0 next.1)
 
