@@ -101,7 +101,6 @@ fn has_moved(reply: &Reply) -> bool
 
 impl Passing {
     /// Before the first of so many seconds, with the background work as it is told.
-    #[tactic(auto, using(crate::proofs::SecondsPass::all_listed))]
     pub(crate) fn begin<T: Told>(
         alloc: Global,
         told: &T,
@@ -153,6 +152,7 @@ impl Passing {
         requires { HasWork self.old }
         ensures passed { OnOk result (goes_on (T.grain told.now) (T.whole told.now) self.old ≡ Some self.new) }
         ensures less { OnOk result (turns_in self.new < turns_in self.old) }
+        ensures seconds { OnOk result (self.new.seconds ≡ self.old.seconds) }
     {
         match self.at_hand.take() {
             Some(mut work) => {
@@ -193,9 +193,11 @@ impl Passing {
     fn to_fill<T: Told>(&mut self, told: &T) -> Result<bool, NoMemory>
         ensures passed { OnOk result ((names : List (List ℕ)) → PassTo (T.grain told.now) (named names (T.whole told.now)) self.old self.new) }
         ensures fill { IfOk result (λ fills. ReachesFill fills (T.grain told.now) (T.whole told.now) self.new) }
+        ensures seconds { OnOk result (self.new.seconds ≡ self.old.seconds) }
     {
         'turns: while self.has_work() {
-            match self.next_fill(told)? {
+            let fill = self.next_fill(told)?;
+            match fill {
                 Some(_) => return Ok(true),
                 None => self.turn(told)?,
             }
@@ -210,7 +212,8 @@ impl Passing {
         ensures upto { IfOk result (λ fills. (names : List (List ℕ)) → PassesUpTo fills (T.grain told.now) (named names (T.whole told.now)) self.new) }
     {
         'seconds: loop {
-            if self.to_fill(told)? {
+            let fills = self.to_fill(told)?;
+            if fills {
                 return Ok(true);
             }
             if self.seconds == 0 {
