@@ -29,10 +29,9 @@ edited() { # EDIT; the text comes in
     fi
 }
 
-# A field of a row, without the blank at either side.
-field() { # TEXT
-    local text=${1# }
-    printf '%s' "${text% }"
+# The rows of a table, without the blanks around their bars.
+rows_of() { # FILE
+    sed -e '/^#/d' -e '/^$/d' -e 's/ *| */|/g' -- "$1"
 }
 
 # A session as it stands behind a trace.
@@ -77,12 +76,10 @@ verdicts_tampered() {
     echo "== verdicts on traces that were changed"
     local trace edit verdict count=0
     while IFS='|' read -r trace edit verdict; do
-        [[ -n $trace && $trace != '#'* ]] || continue
-        trace=$(field "$trace") edit=$(field "$edit") verdict=$(field "$verdict")
         count=$((count + 1))
         edited "$edit" <"traces/$trace" >"$room/tampered"
         is_judged "$trace, $edit" "$(verdict_of "$verdict" "$room/tampered")" "$room/tampered"
-    done <verdicts/tampered
+    done < <(rows_of verdicts/tampered)
     is_at_least "traces that were changed" "$least_tampered" "$count"
 }
 
@@ -91,8 +88,6 @@ verdicts_with_sessions() {
     echo "== verdicts on traces with a session"
     local name edit session_edit verdict trace session bytes count=0
     while IFS='|' read -r name edit session_edit verdict; do
-        [[ -n $name && $name != '#'* ]] || continue
-        name=$(field "$name") edit=$(field "$edit") session_edit=$(field "$session_edit") verdict=$(field "$verdict")
         trace=traces/$name session=examples/$name
         if [[ ! -f $trace ]]; then trace=verdicts/blocks/$name session=$trace.session; fi
         count=$((count + 1))
@@ -100,7 +95,7 @@ verdicts_with_sessions() {
         bytes=$(wc -c <"$room/tampered")
         behind_a_trace "$session" | edited "$session_edit" >>"$room/tampered"
         is_judged "$name, $edit, with $session_edit" "$(verdict_of "$verdict" "$room/tampered" "$bytes")" "$room/tampered"
-    done <verdicts/sessions
+    done < <(rows_of verdicts/sessions)
     is_at_least "traces with a session" "$least_with_sessions" "$count"
 }
 
