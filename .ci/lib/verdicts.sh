@@ -233,7 +233,7 @@ END
     # blank lines give no entry
     { cat traces/first-volume && behind_a_trace examples/first-volume; } >"$room/judged"
     size=$(wc -c <"$room/judged")
-    head -c "$((67108864 - size))" < <(yes '') >>"$room/judged"
+    newlines "$((67108864 - size))" >>"$room/judged"
     is_judged "67,108,864 bytes of a trace with its session" "yes 3" "$room/judged"
     echo >>"$room/judged"
     run_program check <"$room/judged"
