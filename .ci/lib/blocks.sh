@@ -1,29 +1,10 @@
 # shellcheck shell=bash disable=SC2154
 # Blocks of actors in the built program. It is sourced, not run, at the top of the repository, behind counting.sh.
 
-# Two volumes, a prepared group, and a block: two hosts, an administrator who starts the group, a copier and a cleaner. The line
-# behind the block reads from the copy.
-session_of_five() {
-    cat <<'END'
-mkvdisk -name A -size 512 -unit kb
-mkvdisk -name B -size 512 -unit kb
-mkfcconsistgrp
-mkfcmap -source A -target B -consistgrp 1
-prestartfcconsistgrp 1
-together
-actor h1 host
-write A 0 1 22
-read A 0 1
-actor h2 host
-read A 128 1
-actor adm admin
-startfcconsistgrp 1
-actor c copier 8
-actor k cleaner 2
-end
-read B 0 1
-END
-}
+# A block of five actors, over two volumes and a prepared group: two hosts, an administrator who starts the group, a copier and a
+# cleaner. The line behind the block reads from the copy. Its trace beside it is one of those that may come: the write stands before
+# the start.
+five_actors=verdicts/blocks/five-actors
 
 # Whether a text is one of the histories that this session may have: numbers go up by one, each actor's entries stand in its order,
 # no grain is copied twice or in another lane than its own or before the start, all grains are copied where all turns come behind
@@ -55,33 +36,12 @@ may_come() { # HISTORY
     ' "$1"
 }
 
-# One of these histories: the write stands before the start.
-history_of_five() {
-    cat <<'END'
-0 main mkvdisk -name A -size 512 -unit kb -> Virtual Disk, id [0], successfully created
-1 main mkvdisk -name B -size 512 -unit kb -> Virtual Disk, id [1], successfully created
-2 main mkfcconsistgrp -> FlashCopy Consistency Group, id [1], successfully created
-3 main mkfcmap -source A -target B -consistgrp 1 -> FlashCopy Mapping, id [0], successfully created
-4 main prestartfcconsistgrp 1 -> ok
-5 h1 write 0 0 1 22 -> ok
-6 h2 read 0 128 1 -> data 512*00
-7 adm startfcconsistgrp 1 -> ok
-8 c copyturn 0 -> moved 0 0
-9 k cleanturn 0 -> idle
-10 h1 read 0 0 1 -> data 512*22
-11 c copyturn 1 -> moved 0 1
-12 k cleanturn 1 -> idle
-13 c copyturn 2 -> moved 0 2
-14 c copyturn 3 -> moved 0 3
-15 c copyturn 0 -> moved 0 4
-16 c copyturn 1 -> moved 0 5
-17 c copyturn 2 -> moved 0 6
-18 c copyturn 3 -> moved 0 7
-19 main read 1 0 1 -> data 512*22
-END
+# The history of a trace: without its first line, the lines that begin with `+`, and the points.
+history_of() { # TRACE
+    sed -e 1d -e '/^+/d' -e '/^[.]$/d' -- "$1"
 }
 
-# Changes of it, of which none may come: scripts of sed.
+# Changes of the history of five actors, of which none may come: scripts of sed.
 wrong_histories() {
     cat <<'END'
 $ s/22$/00/
@@ -100,7 +60,7 @@ END
 blocks_by_hand() {
     echo "== histories of a block, told by hand"
     local change
-    history_of_five >"$room/told"
+    history_of "$five_actors" >"$room/told"
     holds "a history that may come is said not to" may_come "$room/told"
     while IFS= read -r change; do
         sed -e "$change" "$room/told" >"$room/changed"
@@ -185,7 +145,7 @@ blocks() {
     echo "== blocks of actors"
     local round
     for ((round = 1; round <= 20; round++)); do
-        run_program run --grain 64 < <(session_of_five)
+        run_program run --grain 64 <"$five_actors.session"
         is "a block of five actors, run $round: status" 0 "$status"
         if may_come "$room/out"; then
             pass

@@ -9,7 +9,8 @@ usage: flashcopy show [EXAMPLE]                a session beside the history that
        flashcopy try [OPTION].. [SESSION]      runs a session with the program as it stands, unproved: about a minute
        flashcopy run [OPTION].. [SESSION]      runs a session with the proved program, and proves and builds it first
        flashcopy drill N                       the generated session of a number below 2^64, a summary of its history
-       flashcopy check [TRACE]                 whether each entry of a trace is right: its verdict, in one line
+       flashcopy check [TRACE]                 whether each entry of a trace is right, and answers the session behind it, if
+                                               there is one: its verdict, in one line
        flashcopy build                         proves and builds the program, and runs nothing
        flashcopy help, -h, --help              this text
        flashcopy --version                     the version, and the kit that the program was proved and built with
@@ -44,7 +45,8 @@ exit status:
    6  the history is full, at 262,144 entries, and a line asks for more
    7  the input has more than 67,108,864 bytes; the lines that ended before were answered
    8  the input ended inside a block, which wasn't run; every line before it was answered
-   9  an entry of the trace that was checked isn't right, or the input is no trace
+   9  an entry of the trace that was checked isn't right, or doesn't answer its session, or a line of that is left, or
+      the input is no trace
   10  with --strict: all lines were answered, and one or more was refused or couldn't be read
 END
     # what the program itself says of its words, where a crate prints that
@@ -62,9 +64,9 @@ strict_status=10
 meaning_of_check() { # STATUS
     case $1 in
         3) echo "standard input failed; nothing is said of the trace" ;;
-        6) echo "something stands behind entry 262,144; nothing is said of the trace" ;;
+        6) echo "something that is no session stands behind entry 262,144; nothing is said of the trace" ;;
         7) echo "the input has more than 67,108,864 bytes; nothing is said of the trace" ;;
-        9) echo "an entry of the trace isn't right, or the input is no trace" ;;
+        9) echo "an entry of the trace isn't right or doesn't answer its session, or a line is left, or the input is no trace" ;;
         *) return 1 ;;
     esac
 }
