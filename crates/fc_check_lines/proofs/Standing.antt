@@ -425,9 +425,9 @@ module _ (grain : GrainSize) (w : Whole) (actor : ℕ) (reply : Reply) where
   pub own_left :
       {E : Type 0} (r : Result Asking E) (asking : Asking) (requests : List Request) (n : ℕ) →
       asking ≡ OwnAsked requests n →
-      IfOk r (λ left. IsLeftBehind grain w (OwnAsked requests n) actor reply left) →
+      IfOk r (λ left. (any : ℕ) → IsLeftBehind grain w (OwnAsked requests n) any reply left) →
       IfOk r (λ left. IsLeftBehind grain w asking actor reply left)
-  own_left (Ok left) asking requests n is says = subst (IsLeft left) (sym is) says
+  own_left (Ok left) asking requests n is says = subst (IsLeft left) (sym is) (says actor)
   own_left (Err refused) asking requests n is says = tt
 
   -- of seconds
