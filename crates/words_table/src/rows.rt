@@ -36,13 +36,11 @@ impl TableRow for Row {
         let Some((scope, line, answer)) = three_parts(text) else {
             return Ok(None);
         };
-        let Some(scope) = scope_of(scope.trim()) else {
-            return Ok(None);
-        };
-        let Some(line) = bytes_of(alloc, line)? else {
-            return Ok(None);
-        };
-        let Some(answer) = bytes_of(alloc, answer)? else {
+        let (Some(scope), Some(line), Some(answer)) = (
+            scope_of(scope.trim()),
+            bytes_of(alloc, line)?,
+            bytes_of(alloc, answer)?,
+        ) else {
             return Ok(None);
         };
         Ok(Some(Row {
