@@ -7,7 +7,7 @@
 use crate::readers::{What, read};
 use fc_base::size::GrainSize;
 use std::alloc::{AllocError, Global};
-use tables::rows::TableRow;
+use tables::rows::{TableRow, three_parts};
 use tables::written::bytes_of;
 
 /// A row of the table.
@@ -38,10 +38,7 @@ fn what_of(name: &str) -> Option<What> {
 
 impl TableRow for Row {
     fn of(alloc: Global, text: &str) -> Result<Option<Row>, AllocError> {
-        let Some((what, rest)) = text.split_once('|') else {
-            return Ok(None);
-        };
-        let Some((text, answer)) = rest.split_once('|') else {
+        let Some((what, text, answer)) = three_parts(text) else {
             return Ok(None);
         };
         let Some(what) = what_of(what.trim()) else {

@@ -12,6 +12,13 @@ pub trait TableRow: Drop {
     fn differing(&self, alloc: Global) -> Result<Option<String>, AllocError>;
 }
 
+/// The three parts of a row, parted by its first two bars. None where there are fewer.
+pub fn three_parts(text: &str) -> Option<(&str, &str, &str)> {
+    let (first, rest) = text.split_once('|')?;
+    let (second, third) = rest.split_once('|')?;
+    Some((first, second, third))
+}
+
 /// How many rows there were, and how many differ.
 #[derive(Clone, Copy)]
 struct Counts {

@@ -5,7 +5,7 @@
 use crate::answers::{answer_of, is_read_back};
 use fc_base::command::Scope;
 use std::alloc::{AllocError, Global};
-use tables::rows::TableRow;
+use tables::rows::{TableRow, three_parts};
 use tables::written::bytes_of;
 
 /// A row of the table.
@@ -33,19 +33,14 @@ fn scope_of(name: &str) -> Option<Scope> {
 
 impl TableRow for Row {
     fn of(alloc: Global, text: &str) -> Result<Option<Row>, AllocError> {
-        let Some((scope, rest)) = text.split_once('|') else {
+        let Some((scope, line, answer)) = three_parts(text) else {
             return Ok(None);
         };
-        let Some((line, answer)) = rest.split_once('|') else {
-            return Ok(None);
-        };
-        let Some(scope) = scope_of(scope.trim()) else {
-            return Ok(None);
-        };
-        let Some(line) = bytes_of(alloc, line)? else {
-            return Ok(None);
-        };
-        let Some(answer) = bytes_of(alloc, answer)? else {
+        let (Some(scope), Some(line), Some(answer)) = (
+            scope_of(scope.trim()),
+            bytes_of(alloc, line)?,
+            bytes_of(alloc, answer)?,
+        ) else {
             return Ok(None);
         };
         Ok(Some(Row {
