@@ -96,8 +96,7 @@ first_ended : (bytes : List ℕ) (n : ℕ) → position is_newline bytes ≡ Som
 first_ended bytes n is =
     let at : (n ≡ position_or_len is_newline bytes) × (position_or_len is_newline bytes < length bytes) = place_is is_newline bytes n is in
     let within : n < length bytes = omega (arith, at.0, at.1) in
-    let more : n + 1 ≡ suc n = omega arith in
-    (
+    let more : n + 1 ≡ suc n = omega arith in (
       ap lines_of (line_at [] bytes n at.0 within) ∙ ap (λ k. without_return (take n bytes) ∷ all_lines (drop k bytes)) (sym more),
       within,
     )

@@ -152,8 +152,7 @@ module _ (grain : GrainSize) (names : List (List ℕ)) (w : Whole) where
   filled_upto q fill = λ none. fill (sym (named_fill grain names w q) ∙ none)
 
   pub over_upto : (q : Passing) → ReachesFill false grain w q → q.seconds ≡ 0 → PassesUpTo false grain (named names w) q
-  over_upto q idle_is last =
-      (
-        idle_fill grain (named names w) q idle_is.0,
-        ap (goes_on_with grain (named names w) q) idle_is.0 ∙ ap₂ (λ seconds left. next_second seconds q.over left) last idle_is.1,
-      )
+  over_upto q idle_is last = (
+    idle_fill grain (named names w) q idle_is.0,
+    ap (goes_on_with grain (named names w) q) idle_is.0 ∙ ap₂ (λ seconds left. next_second seconds q.over left) last idle_is.1,
+  )

@@ -299,11 +299,10 @@ both_then first next = ((λ p. next.0 (first.0 p)), (λ r. first.1 (next.1 r)))
 
 module _ (grain : GrainSize) (actor : ℕ) (request : Request) where
   main_next : (r : Request) → MainAsks actor request (Some r) ↔ (◌≡◌ {A = Option (ℕ × Request)} (Some (0, r)) (Some (actor, request)))
-  main_next r =
-      (
-        (λ both. pair_some 0 actor r request (sym both.0) both.1),
-        (λ asks. let both : (0 ≡ actor) × (Some r ≡ Some request) = some_pair 0 actor r request asks in (sym both.0, both.1)),
-      )
+  main_next r = (
+    (λ both. pair_some 0 actor r request (sym both.0) both.1),
+    (λ asks. let both : (0 ≡ actor) × (Some r ≡ Some request) = some_pair 0 actor r request asks in (sym both.0, both.1)),
+  )
 
   own_next : (requests : List Request) (n : ℕ) (segs : List Segment) (w : Whole) → MainAsks actor request (next_request requests) ↔ Asks grain (Own requests n segs) w (actor, request)
   own_next [] n segs w = ((λ both. absurd (cc both.1)), (λ asks. absurd (cc asks)))

@@ -10,11 +10,11 @@ ghost use Rattle.fc_base.specs.declared.size.GrainSize.{GrainSize};
 ghost use Rattle.fc_entry.specs.declared.entry.Entry.{Entry};
 ghost use Rattle.fc_legal.specs.Whole.{Whole};
 
-use fc_check_requests::told::Told;
-use fc_check_requests::work::{Work, all_work};
 use fc_base::ids::{GrainNo, MapId};
 use fc_base::outcome::NoMemory;
 use fc_base::request::{Reply, Request};
+use fc_check_requests::told::Told;
+use fc_check_requests::work::{Work, all_work};
 use std::alloc::Global;
 use std::collections::VecDeque;
 use std::marker::Model;
@@ -101,11 +101,7 @@ fn has_moved(reply: &Reply) -> bool
 
 impl Passing {
     /// Before the first of so many seconds, with the background work as it is told.
-    pub(crate) fn begin<T: Told>(
-        alloc: Global,
-        told: &T,
-        seconds: u32,
-    ) -> Result<Passing, NoMemory>
+    pub(crate) fn begin<T: Told>(alloc: Global, told: &T, seconds: u32) -> Result<Passing, NoMemory>
         ensures { IfOk result (λ passing. passing ≡ seconds_begun seconds (all_work (T.whole told.now).books)) }
     {
         let over = all_work(alloc, told.flags(), told.registry().all_mappings())?;
