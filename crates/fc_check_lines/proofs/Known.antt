@@ -38,6 +38,10 @@ pub record IsKnownAs (names : List (List ℕ)) (number : ℕ) : Type 0 where
 abbrev IsMain : List (List ℕ) → Type 0
 IsMain names = place_of_name names (codes "main") ≡ Some 0
 
+-- The first name is that of number 0.
+pub main_first : (names : List (List ℕ)) → IsMain (codes "main" ∷ names)
+main_first names = place_there (is_name (codes "main")) (codes "main" ∷ names) (omega arith)
+
 below_case : (here : Bool) (known : Bool) (n place : ℕ) → (known ≡ true → place < n) → (here || known) ≡ true → cond (not here) (1 + place) 0 < suc n
 below_case true known n place more e = omega arith
 below_case false known n place more e = omega (arith, more e)
