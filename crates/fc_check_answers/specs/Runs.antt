@@ -29,22 +29,22 @@ pub record GoesOn (grain : GrainSize) (name : List ℕ) (entry : Entry) (p q : P
   pub step : Step grain p.told entry next
   pub leads : LeadsOn grain p.agenda name entry next q
 
--- From one of these places.
-pub record GoesOnFrom (grain : GrainSize) (name : List ℕ) (entry : Entry) (old : List Place) (q : Place) : Type 0 where
-  pub from : Place
-  pub there : Contains old from
-  pub goes : GoesOn grain name entry from q
+-- ---- lists
 
--- Just all places that it leads to.
-pub record AreNext (grain : GrainSize) (name : List ℕ) (entry : Entry) (old new : List Place) : Type 0 where
-  pub only : (q : Place) → Contains new q → GoesOnFrom grain name entry old q
-  pub all : (q : Place) → GoesOnFrom grain name entry old q → Contains new q
+-- What one of these gives.
+abbrev pub OneGives : {A X : Type 0} → (A → X → Type 0) → List A → X → Type 0
+OneGives {A} Gives from x = (a : A) × Contains from a × Gives a x
 
 -- To a list came just those that are so.
 pub record Came {X : Type 0} (IsSo : X → Type 0) (old new : List X) : Type 0 where
   pub only : (x : X) → Contains new x → Contains old x ⊎ IsSo x
   pub kept : (x : X) → Contains old x → Contains new x
   pub all : (x : X) → IsSo x → Contains new x
+
+-- Just all places to which the entry leads from one of these.
+pub record AreNext (grain : GrainSize) (name : List ℕ) (entry : Entry) (old new : List Place) : Type 0 where
+  pub only : (q : Place) → Contains new q → OneGives (GoesOn grain name entry) old q
+  pub all : (q : Place) → OneGives (GoesOn grain name entry) old q → Contains new q
 
 -- ---- runs
 
@@ -55,16 +55,14 @@ place_of way lines = record { told = named lines.names way.whole; agenda = lines
 abbrev pub place_at : Run → Place
 place_at run = place_of run.way run.lines
 
--- After so many entries, of this grain size.
-pub record IsRunAt (grain : GrainSize) (entries : ℕ) (run : Run) : Type 0 where
-  pub grain_is : run.way.grain ≡ grain
-  pub reached : IsReachedAt entries run.way
+-- A way after so many entries, of this grain size.
+pub record IsWayAt (grain : GrainSize) (entries : ℕ) (way : Judged) : Type 0 where
+  pub grain_is : way.grain ≡ grain
+  pub reached : IsReachedAt entries way
 
 abbrev pub AreRunsAt : GrainSize → ℕ → List Run → Type 0
-AreRunsAt grain entries runs = (run : Run) → Contains runs run → IsRunAt grain entries run
+AreRunsAt grain entries runs = (run : Run) → Contains runs run → IsWayAt grain entries run.way
 
--- One of these ways, with what is left behind the entry, leads to this place.
-pub record OneLeadsOn (ways : List Judged) (lines : Standing) (name : List ℕ) (entry : Entry) (q : Place) : Type 0 where
-  pub way : Judged
-  pub there : Contains ways way
-  pub leads : LeadsOn way.grain lines.agenda name entry (named lines.names way.whole) q
+-- With these lines left before the entry, this way after it leads to the place.
+abbrev pub WayLeadsOn : Standing → List ℕ → Entry → Judged → Place → Type 0
+WayLeadsOn lines name entry way q = LeadsOn way.grain lines.agenda name entry (named lines.names way.whole) q

@@ -1,11 +1,10 @@
 //! One run of a session, and one entry.
 
 ghost use Rattle.std.specs.Prelude.{◌≡◌, ◌↔◌, ◌+◌, ◌∷◌, ◌++◌, [], map, IfOk, IsTrue, OnOk, Ok};
-ghost use Rattle.fc_check_answers.specs.Runs.{AreRunsAt, Came, GoesOn, LeadsOn, OneLeadsOn, place_at, place_of};
+ghost use Rattle.fc_check_answers.specs.Runs.{AreRunsAt, Came, GoesOn, IsWayAt, OneGives, WayLeadsOn, place_at};
 ghost use Rattle.fc_check_follow.specs.Following.{AreCandidates, IsOpen};
 ghost use Rattle.fc_check_lines.specs.Asked.{IsAskedBy};
 ghost use Rattle.fc_base.specs.declared.size.GrainSize.{GrainSize};
-ghost use Rattle.law_stands.specs.Names.{named};
 
 use crate::telling::Telling;
 use fc_base::outcome::NoMemory;
@@ -57,9 +56,8 @@ fn go_on<'a>(
     entry: &Entry,
     after: &mut Vec<Run<'a>>,
 ) -> Result<(), NoMemory>
-    ensures places { OnOk result (Came (LeadsOn way.grain lines.entry.agenda name.now entry.now (named lines.entry.names way.whole))
-        (map place_at after.old.items) (map place_at after.new.items)) }
-    ensures runs { OnOk result ((grain : GrainSize) (entries : ℕ) → AreCandidates grain entries (way ∷ [])
+    ensures places { OnOk result (Came (WayLeadsOn lines.entry name.now entry.now way) (map place_at after.old.items) (map place_at after.new.items)) }
+    ensures runs { OnOk result ((grain : GrainSize) (entries : ℕ) → IsWayAt grain entries way
         → AreRunsAt grain entries after.old.items → AreRunsAt grain entries after.new.items) }
 {
     let lines = lines.follow(alloc, &Telling { way: &way }, name, entry);
@@ -76,7 +74,7 @@ fn go_on_ways<'a>(
     entry: &Entry,
     after: &mut Vec<Run<'a>>,
 ) -> Result<(), NoMemory>
-    ensures places { OnOk result (Came (OneLeadsOn ways.items lines.entry name.now entry.now) (map place_at after.old.items) (map place_at after.new.items)) }
+    ensures places { OnOk result (Came (OneGives (WayLeadsOn lines.entry name.now entry.now) ways.items) (map place_at after.old.items) (map place_at after.new.items)) }
     ensures runs { OnOk result ((grain : GrainSize) (entries : ℕ) → AreCandidates grain entries ways.items
         → AreRunsAt grain entries after.old.items → AreRunsAt grain entries after.new.items) }
 {
@@ -113,14 +111,11 @@ fn follow_asked<'a>(
     go_on_ways(alloc, ways, lines, name, entry, after)
 }
 
-/// Ends a run, where its lines were asked for.
-fn end<'a>(run: Run<'a>, asked: Result<bool, NoMemory>) -> Result<(), NoMemory>
-    ensures { OnOk result (asked ≡ Ok Bool.false) }
+/// Ends a run, with this answer.
+fn end<'a>(run: Run<'a>, answer: Result<(), NoMemory>) -> Result<(), NoMemory>
+    ensures { result ≡ answer }
 {
-    match asked {
-        Ok(_) => Ok(()),
-        Err(refused) => Err(refused),
-    }
+    answer
 }
 
 impl<'a> Run<'a> {
@@ -148,7 +143,7 @@ impl<'a> Run<'a> {
     {
         match self.asks(name, &entry.request) {
             Ok(true) => follow_asked(alloc, self, name, entry, after),
-            Ok(false) => end(self, Ok(false)),
+            Ok(false) => end(self, Ok(())),
             Err(refused) => end(self, Err(refused)),
         }
     }
