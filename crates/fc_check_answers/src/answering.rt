@@ -53,7 +53,7 @@ fn follow_all<'a>(
     after: &mut Vec<Run<'a>>,
 ) -> Result<(), NoMemory>
     requires few { entry.now.number < 262144 }
-    requires runs { AreRunsAt grain entry.now.number runs.entry.items }
+    requires runs { AreRunsAt grain entry.now.number runs.items }
     requires none { after.old.items ≡ [] }
     ensures places { OnOk result (AreNext grain name.now entry.now (map place_at runs.entry.items) (map place_at after.new.items)) }
     ensures runs { OnOk result (AreRunsAt grain (entry.now.number + 1) after.new.items) }
@@ -74,7 +74,7 @@ fn runs_after<'a>(
     entries: u64,
 ) -> Result<Vec<Run<'a>>, NoMemory>
     requires few { entries < 262144 }
-    requires runs { AreRunsAt grain entries runs.entry.items }
+    requires runs { AreRunsAt grain entries runs.items }
     ensures places { IfOk result (λ after. AreNext grain name.now entry.now (map place_at runs.entry.items) (map place_at after.items)) }
     ensures runs { IfOk result (λ after. AreRunsAt grain (entries + 1) after.items) }
 {

@@ -98,9 +98,9 @@ fn follow_asked<'a>(
     entry: &Entry,
     after: &mut Vec<Run<'a>>,
 ) -> Result<(), NoMemory>
-    requires way { IsOpen run.entry.way.whole }
-    requires number { entry.now.number ≡ run.entry.way.whole.entries }
-    requires asked { IsAskedBy run.entry.way.grain run.entry.lines.agenda (place_at run.entry).told name.now entry.now.request }
+    requires way { IsOpen run.way.whole }
+    requires number { entry.now.number ≡ run.way.whole.entries }
+    requires asked { IsAskedBy run.way.grain run.lines.agenda (place_at run).told name.now entry.now.request }
     ensures places { OnOk result (Came (GoesOn run.entry.way.grain name.now entry.now (place_at run.entry)) (map place_at after.old.items) (map place_at after.new.items)) }
     ensures runs { OnOk result (AreRunsAt run.entry.way.grain (entry.now.number + 1) after.old.items
         → AreRunsAt run.entry.way.grain (entry.now.number + 1) after.new.items) }
@@ -134,8 +134,8 @@ impl<'a> Run<'a> {
         entry: &Entry,
         after: &mut Vec<Run<'a>>,
     ) -> Result<(), NoMemory>
-        requires way { IsOpen self.entry.way.whole }
-        requires number { entry.now.number ≡ self.entry.way.whole.entries }
+        requires way { IsOpen self.way.whole }
+        requires number { entry.now.number ≡ self.way.whole.entries }
         ensures places { OnOk result (Came (GoesOn self.entry.way.grain name.now entry.now (place_at self.entry))
             (map place_at after.old.items) (map place_at after.new.items)) }
         ensures runs { OnOk result (AreRunsAt self.entry.way.grain (entry.now.number + 1) after.old.items
