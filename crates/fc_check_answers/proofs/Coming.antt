@@ -68,11 +68,31 @@ module _ {A X : Type 0} (Gives : A → X → Type 0) where
   pub one_given : (from before left : List A) (a : A) (old mid new : List X) → before ≡ left ++ a ∷ [] → HaveGiven from before old mid → Came (Gives a) mid new →
       HaveGiven from left old new
   one_given from before left a old mid new is have came =
-      last_given from left a old mid new (subst (λ (as : List A). HaveGiven from as old mid) is have) came
+      last_given from left a old mid new (subst (λ (xs : List A). HaveGiven from xs old mid) is have) came
 
   pub all_given : (from left : List A) (old new : List X) → left ≡ [] → HaveGiven from left old new → Came (OneGives Gives from) old new
   all_given from left old new none have = record { only = have.only; kept = have.kept; all = λ x gives. by_place gives.0 x (have.given gives.0 x gives.1 gives.2) }
     where
       by_place : (a : A) (x : X) → Contains left a ⊎ Contains new x → Contains new x
-      by_place a x (inl there) = absurd (none_there a (subst (λ (as : List A). Contains as a) none there))
+      by_place a x (inl there) = absurd (none_there a (subst (λ (xs : List A). Contains xs a) none there))
       by_place a x (inr there) = there
+
+  -- And then one more gives.
+  pub more_given : (from : List A) (a : A) (old mid new : List X) → Came (OneGives Gives from) old mid → Came (Gives a) mid new → Came (OneGives Gives (from ++ a ∷ [])) old new
+  more_given from a old mid new first second = record {
+    only = λ x there. by_second x (second.only x there);
+    kept = λ x there. second.kept x (first.kept x there);
+    all = λ x gives. by_place gives.0 x gives.2 (Contains-push_cases from a gives.0 gives.1);
+  }
+    where
+      by_first : (x : X) → Contains old x ⊎ OneGives Gives from x → Contains old x ⊎ OneGives Gives (from ++ a ∷ []) x
+      by_first x (inl there) = inl there
+      by_first x (inr gives) = inr (gives.0, Contains-append_left from (a ∷ []) gives.0 gives.1, gives.2)
+
+      by_second : (x : X) → Contains mid x ⊎ Gives a x → Contains old x ⊎ OneGives Gives (from ++ a ∷ []) x
+      by_second x (inl there) = by_first x (first.only x there)
+      by_second x (inr gives) = inr (a, Contains-push from a, gives)
+
+      by_place : (b : A) (x : X) → Gives b x → Contains from b ⊎ (a ≡ b) → Contains new x
+      by_place b x gives (inl there) = second.kept x (first.all x (b, there, gives))
+      by_place b x gives (inr same) = second.all x (subst (λ (c : A). Gives c x) (sym same) gives)

@@ -69,15 +69,15 @@ module _ (grain : GrainSize) (start : Whole) (segs : List Segment) where
         let more : HasMore p.told.actors q.told.actors =
         subst (λ ns. HasMore ns q.told.actors) kept (goes_more grain by_grammar (behind_entry grain p.agenda on.next e) q.agenda on.next q.told [] leads.goes) in
         let one : IsOneMore grain by_grammar (Session segs) start led.entries e q.agenda q.told =
-            record {
-              at = p.agenda;
-              told = p.told;
-              next = on.next;
-              leads = led.leads;
-              asks = subst (λ n. Asks grain p.agenda p.told (n, entry.request)) (sym number) on.asked.asks;
-              right = step_by e.actor entry grain p.told on.next on.step;
-              behind = leads.goes;
-            }
+        record {
+          at = p.agenda;
+          told = p.told;
+          next = on.next;
+          leads = led.leads;
+          asks = subst (λ n. Asks grain p.agenda p.told (n, entry.request)) (sym number) on.asked.asks;
+          right = step_by e.actor entry grain p.told on.next on.step;
+          behind = leads.goes;
+        }
         in
         record {
           entries = led.entries ++ e ∷ [];

@@ -1,12 +1,14 @@
 -- Runs that go on.
-use Rattle.std.proofs.Common.{◌≡◌, ◌≢◌, ◌⊎◌, ◌↔◌, ◌<◌, ◌≤◌, ℕ, ◌+◌, Bool, IsTrue, eqb, length, List, [], ◌∷◌, ◌++◌, Contains, map, inl, inr, refl, sym, ◌∙◌, ap, subst, arith}
-use Rattle.std.proofs.lemmas.Bool.Decides.{Decides-eqb}
+use Rattle.std.proofs.Common.{◌≡◌, ◌≢◌, ◌⊎◌, ◌↔◌, ◌<◌, ◌≤◌, ℕ, ◌+◌, Bool, IsTrue, All, codes, length, List, [], ◌∷◌, ◌++◌, Contains, map, inl, inr, refl, sym, ◌∙◌, ap, subst, arith}
 use Rattle.std.proofs.lemmas.List.{map-append}
-use Rattle.std.proofs.lemmas.List.Elements.{Contains-push, Contains-push_cases}
+use Rattle.std.proofs.lemmas.List.Elements.{All-contains, Contains-push, Contains-push_cases}
+use Rattle.fc_base.specs.Pools.{Pool}
 use Rattle.fc_base.specs.declared.size.GrainSize.{GrainSize}
+use Rattle.fc_blocks.specs.Segments.{Segment}
 use Rattle.fc_check_answers.proofs.Coming.{HaveGiven, all_given, came_as, none_there, one_came}
 use Rattle.fc_check_answers.proofs.Laws.{lines as lines_law, names as names_law, stands}
-use Rattle.fc_check_answers.specs.Places.{Place}
+use Rattle.fc_check_answers.proofs.Reaching.{first_places}
+use Rattle.fc_check_answers.specs.Places.{AreAllPlaces, HasEnd, Place}
 use Rattle.fc_check_answers.specs.Runs.{AreNext, AreRunsAt, Came, GoesOn, IsWayAt, LeadsOn, OneGives, WayLeadsOn, place_at, place_of}
 use Rattle.fc_check_answers.specs.declared.run.Run.{Run}
 use Rattle.fc_check_follow.specs.Following.{AreCandidates, Came as CameWays, IsOpen, IsReachedAt}
@@ -18,10 +20,10 @@ use Rattle.fc_check_lines.specs.Standing.{Standing}
 use Rattle.fc_check_record.specs.Judged.{Judged}
 use Rattle.fc_decided.proofs.Lists.{map_from, map_in}
 use Rattle.fc_entry.specs.declared.entry.Entry.{Entry}
-use Rattle.fc_legal.specs.Agenda.{behind_entry}
+use Rattle.fc_legal.specs.Agenda.{Session, behind_entry}
 use Rattle.fc_legal.specs.Steps.{Step}
-use Rattle.fc_legal.specs.Whole.{Whole}
-use Rattle.law_stands.specs.Names.{named}
+use Rattle.fc_legal.specs.Whole.{Whole, opened}
+use Rattle.law_stands.specs.Names.{named, nameless}
 
 -- ---- one way
 
@@ -32,15 +34,15 @@ same_place p q told agenda = ap (λ (w : Whole). record p { told = w }) told ∙
 -- The lines that are left were followed to this run, and it was kept.
 pub way_came : (way : Judged) (lines : Standing) (name : List ℕ) (entry : Entry) (run : Run) (old new : List Run) → run.way ≡ way →
     LeadTo way.grain by_grammar (behind_entry way.grain lines.agenda (named lines.names way.whole) (entry_by lines.names name entry)) (named lines.names way.whole) []
-        run.lines.agenda (named run.lines.names way.whole) →
+    run.lines.agenda (named run.lines.names way.whole) →
     new ≡ old ++ run ∷ [] →
     Came (WayLeadsOn lines name entry way) (map place_at old) (map place_at new)
 way_came way lines name entry run old new of leads is =
     let here : WayLeadsOn lines name entry way (place_at run) = subst (λ (j : Judged). WayLeadsOn lines name entry way (place_of j run.lines)) (sym of) leads in
     let alone : (q : Place) → WayLeadsOn lines name entry way q → place_at run ≡ q = λ q so.
-        let one = lines_law.one way.grain by_grammar (behind_entry way.grain lines.agenda (named lines.names way.whole) (entry_by lines.names name entry)) run.lines.agenda q.agenda
-            (named lines.names way.whole) (place_at run).told q.told here so in
-        same_place (place_at run) q one.1 one.0
+    let one = lines_law.one way.grain by_grammar (behind_entry way.grain lines.agenda (named lines.names way.whole) (entry_by lines.names name entry)) run.lines.agenda q.agenda
+    (named lines.names way.whole) (place_at run).told q.told here so in
+    same_place (place_at run) q one.1 one.0
     in
     let listed : map place_at old ++ place_at run ∷ [] ≡ map place_at new = sym (ap (map place_at) is ∙ map-append place_at old (run ∷ [])) in
     subst (λ (places : List Place). Came (WayLeadsOn lines name entry way) (map place_at old) places) listed
@@ -162,3 +164,46 @@ module _ (grain : GrainSize) (name : List ℕ) (entry : Entry) (runs : List Run)
 
     pub run_grain : AreRunsAt grain entry.number runs → run.way.grain ≡ grain
     run_grain at = (at run run_there).grain_is
+
+-- ---- before the first entry
+
+module _ (grain : GrainSize) (pools : List Pool) (way : Judged) (run : Run) (runs : List Run)
+    (way_is : way ≡ record { grain = grain; whole = nameless (opened pools) }) (of : run.way ≡ way) (is : runs ≡ run ∷ []) where
+  pub opened_places : (segs : List Segment) (own : List (List ℕ)) →
+      LeadTo way.grain by_grammar (Session segs) (named (codes "main" ∷ []) way.whole) [] run.lines.agenda (named run.lines.names way.whole) →
+      AreAllPlaces grain (opened pools) segs own [] (map place_at runs)
+  opened_places segs own leads =
+      let here : LeadTo way.grain by_grammar (Session segs) (named (codes "main" ∷ []) way.whole) [] run.lines.agenda (place_at run).told =
+      subst (λ (j : Judged). LeadTo way.grain by_grammar (Session segs) (named (codes "main" ∷ []) way.whole) [] run.lines.agenda (named run.lines.names j.whole)) (sym of) leads
+      in
+      let first : LeadTo grain by_grammar (Session segs) (opened pools) [] run.lines.agenda (place_at run).told =
+      subst (λ (j : Judged). LeadTo j.grain by_grammar (Session segs) (named (codes "main" ∷ []) j.whole) [] run.lines.agenda (place_at run).told) way_is here
+      in
+      subst (λ (rs : List Run). AreAllPlaces grain (opened pools) segs own [] (map place_at rs)) (sym is)
+      (first_places grain (opened pools) segs own (place_at run) first)
+
+  pub opened_runs : 0 < length pools → AreRunsAt grain 0 runs
+  opened_runs some other there = by_place other (Contains-push_cases [] run other (subst (λ (rs : List Run). Contains rs other) is there))
+    where
+      at : IsWayAt grain 0 way
+      at = subst (IsWayAt grain 0) (sym way_is) record {
+        grain_is = refl;
+        reached = record { entries_are = refl; reached = names_law.reached 0 [] (opened pools) (stands.opened pools some) };
+      }
+
+      by_place : (r : Run) → Contains [] r ⊎ (run ≡ r) → IsWayAt grain 0 r.way
+      by_place r (inl none) = absurd (none_there r none)
+      by_place r (inr same) = subst (λ (x : Run). IsWayAt grain 0 x.way) same (subst (IsWayAt grain 0) (sym of) at)
+
+-- ---- over
+
+abbrev pub IsNotOver : Run → Type 0
+IsNotOver run = run.lines.agenda ≢ Session []
+
+pub end_there : (runs : List Run) (run : Run) → Contains runs run → run.lines.agenda ≡ Session [] → HasEnd (map place_at runs)
+end_there runs run there over = record { place = place_at run; there = map_in place_at runs run there; over = over }
+
+pub no_end : (runs : List Run) → All IsNotOver runs → HasEnd (map place_at runs) → ⊥
+no_end runs none end =
+    let from = map_from place_at runs end.place end.there in
+    All-contains IsNotOver runs from.0 none from.1 (ap (λ (p : Place). p.agenda) from.2 ∙ end.over)

@@ -11,11 +11,12 @@ ghost use Rattle.fc_check_lines.specs.Bytes.{segments_in};
 ghost use Rattle.fc_entry.specs.declared.entry.Entry.{Entry};
 ghost use Rattle.fc_legal.specs.Whole.{opened};
 
-use crate::run::{Run, keep, run_of};
+use crate::run::Run;
 use crate::telling::Telling;
 use fc_base::outcome::NoMemory;
 use fc_base::size::GrainSize;
 use fc_check_follow::first_way;
+use fc_check_lane::push_item;
 use fc_check_lines::lines::Lines;
 use fc_entry::entry::Entry;
 use fc_trace::header::LaneDisks;
@@ -102,10 +103,9 @@ impl<'a> Answering<'a> {
             → AreAllPlaces grain (opened (pools_told lanes.now)) (segments_in session.now) own [] answering.places) }
     {
         let way = first_way(alloc, grain, lanes)?;
-        let lines = Lines::open(alloc, session, &Telling { way: &way });
-        let first = run_of(way, lines)?;
+        let lines = Lines::open(alloc, session, &Telling { way: &way })?;
         let mut runs = Vec::new(alloc);
-        keep(first, &mut runs)?;
+        push_item(&mut runs, Run { way, lines })?;
         Ok(Answering {
             grain,
             entries: 0,
