@@ -19,7 +19,7 @@ use Rattle.fc_base.specs.declared.state.Access.TheVariants.{Online, Offline, Not
 use Rattle.fc_books.specs.Refused.{access_refused}
 use Rattle.fc_entry.specs.Picture.{grain_of_block}
 use Rattle.fc_entry.specs.declared.entry.Entry.{Entry}
-use Rattle.fc_legal.specs.Steps.{AccessIsRefused, CommandIsRight, CommandStep, IsApart, IsRefused, LaneStep, RequestStep, Step}
+use Rattle.fc_legal.specs.Steps.{AccessIsRefused, CommandIsRight, CommandStep, IsApart, IsRefused, LaneStep, RequestStep, Step, TurnStep}
 use Rattle.fc_legal.specs.Whole.{Whole, as_one, lane_at, part_at, single_lane}
 use Rattle.fc_rules.specs.GrainAnswers.{ByAccess, HasRead, ReadAnswers, WriteAnswers, FillAnswers}
 use Rattle.fc_rules.specs.LaneRight.{CleanAnswers, CopyAnswers, LaneAnswers, MappingFill, TurnAnswers, VolumeWrite}
@@ -65,6 +65,10 @@ module _ (actor : ℕ) (e : Entry) where
   fill spot m k DiskFault a = failed spot _ a
   fill spot m k reply a = absurd a
 
+  turn : (Fills : MapId → GrainNo → Entry → Type 0) → ((m : MapId) (g : GrainNo) → Stays (Fills m g)) → (work : Option (MapId × GrainNo)) → Stays (TurnAnswers Fills work)
+  turn Fills fills (Some work) a = fills work.0 work.1 a
+  turn Fills fills None a = (a.0, nothing a.1)
+
   module _ (l : LaneOf) (told : LaneTold) where
     mapping : (m number : ℕ) (slot : Option ℕ) → Stays (MappingFill l told m number slot)
     mapping m number (Some k) a = fill (spot_at l told number) m k e.reply a
@@ -75,10 +79,6 @@ module _ (actor : ℕ) (e : Entry) where
 
     clean : (m : MapId) (g : GrainNo) → Stays (CleanAnswers l told m g)
     clean m g a = mapping m.0 g.0 (cleaned_slot told.sheet.slots m.0 (place_of l g.0)) a
-
-    turn : (Fills : MapId → GrainNo → Entry → Type 0) → ((m : MapId) (g : GrainNo) → Stays (Fills m g)) → (work : Option (MapId × GrainNo)) → Stays (TurnAnswers Fills work)
-    turn Fills fills (Some work) a = fills work.0 work.1 a
-    turn Fills fills None a = (a.0, nothing a.1)
 
     write : (part : WritePart) (t : ℕ) (reply : Reply) → Stays (λ x. WriteAnswers l.grain (spot_at l told (grain_of_block l.grain part.block)) part t x reply)
     write part t Done a = (a.0, done _ a.1)
@@ -141,6 +141,10 @@ module _ (actor : ℕ) (e : Entry) where
     at_grain : (i : ℕ) → Stays (λ x. LaneStep grain w i (λ y. LaneAnswers (single_lane grain) (as_one w) y.request y) x next)
     at_grain i h = in_lane i (λ y. LaneAnswers (single_lane grain) (as_one w) y.request y) (answer (single_lane grain) (as_one w) e.request) h
 
+    in_turn : (lane : ℕ) (Fills : MapId → GrainNo → Entry → Type 0) → ((m : MapId) (g : GrainNo) → Stays (Fills m g)) → (work : Option (MapId × GrainNo)) →
+        Stays (λ x. TurnStep grain w lane Fills work x next)
+    in_turn lane Fills fills work h = record { within = h.within; step = in_lane lane (TurnAnswers Fills work) (turn Fills fills work) h.step }
+
     right : (request : Request) → Stays (λ x. RequestStep grain w request x next)
     right (Asked asked) h = command asked h
     right (Unread fault) h = refused (Words fault) h
@@ -149,15 +153,9 @@ module _ (actor : ℕ) (e : Entry) where
     right (Copy m g) h = at_grain _ h
     right (Clean m g) h = at_grain _ h
     right (CopyTurn lane) h =
-        record {
-          within = h.within;
-          step = in_lane lane _ (turn (single_lane grain) (as_one w) (CopyAnswers (single_lane grain) (as_one w)) (copy (single_lane grain) (as_one w)) (next_copy (lane_at grain w lane) (part_at grain w lane))) h.step;
-        }
+        in_turn lane (CopyAnswers (single_lane grain) (as_one w)) (copy (single_lane grain) (as_one w)) (next_copy (lane_at grain w lane) (part_at grain w lane)) h
     right (CleanTurn lane) h =
-        record {
-          within = h.within;
-          step = in_lane lane _ (turn (single_lane grain) (as_one w) (CleanAnswers (single_lane grain) (as_one w)) (clean (single_lane grain) (as_one w)) (next_clean (lane_at grain w lane) (part_at grain w lane))) h.step;
-        }
+        in_turn lane (CleanAnswers (single_lane grain) (as_one w)) (clean (single_lane grain) (as_one w)) (next_clean (lane_at grain w lane) (part_at grain w lane)) h
 
     pub step_by : Stays (λ x. Step grain w x next)
     step_by h = record { number = h.number; right = right e.request h.right }

@@ -99,9 +99,6 @@ module _ (grain : GrainSize) (start : Whole) (segs : List Segment) where
 
       module _ (q : Place) (led : Led own (told ++ entry ∷ []) q) (pushed : IsPushed own q.told.actors told led.entries entry)
           (one : IsOneMore grain by_grammar (Session segs) start pushed.before pushed.last q.agenda q.told) where
-        from : Place
-        from = record { told = one.told; agenda = one.at }
-
         kept : one.next.actors ≡ one.told.actors
         kept = names_law.kept grain one.told pushed.last one.next one.right
 

@@ -114,24 +114,24 @@ module _ (way : Judged) (lines : Standing) (name : List ℕ) (entry : Entry) (wa
 
 -- ---- all runs
 
-module _ (grain : GrainSize) (name : List ℕ) (entry : Entry) (runs : List Run) where
-  -- What a run leads to.
-  abbrev pub RunGives : Run → Place → Type 0
-  RunGives run q = GoesOn run.way.grain name entry (place_at run) q
+-- What a run leads to.
+abbrev pub RunGives : List ℕ → Entry → Run → Place → Type 0
+RunGives name entry run q = GoesOn run.way.grain name entry (place_at run) q
 
-  pub runs_next : AreRunsAt grain entry.number runs → (left after : List Run) → left ≡ [] → HaveGiven RunGives runs left [] (map place_at after) → AreNext grain name entry (map place_at runs) (map place_at after)
+module _ (grain : GrainSize) (name : List ℕ) (entry : Entry) (runs : List Run) where
+  pub runs_next : AreRunsAt grain entry.number runs → (left after : List Run) → left ≡ [] → HaveGiven (RunGives name entry) runs left [] (map place_at after) → AreNext grain name entry (map place_at runs) (map place_at after)
   runs_next at left after none given = record { only = λ q there. only q (came.only q there); all = λ q gives. came.all q (all q gives) }
     where
-      came : Came (OneGives RunGives runs) [] (map place_at after)
-      came = all_given RunGives runs left [] (map place_at after) none given
+      came : Came (OneGives (RunGives name entry) runs) [] (map place_at after)
+      came = all_given (RunGives name entry) runs left [] (map place_at after) none given
 
-      only : (q : Place) → Contains [] q ⊎ OneGives RunGives runs q → OneGives (GoesOn grain name entry) (map place_at runs) q
+      only : (q : Place) → Contains [] q ⊎ OneGives (RunGives name entry) runs q → OneGives (GoesOn grain name entry) (map place_at runs) q
       only q (inl there) = absurd (none_there q there)
       only q (inr gives) =
           let run : Run = gives.0 in
           (place_at run, map_in place_at runs run gives.1, subst (λ g. GoesOn g name entry (place_at run) q) (at run gives.1).grain_is gives.2)
 
-      all : (q : Place) → OneGives (GoesOn grain name entry) (map place_at runs) q → OneGives RunGives runs q
+      all : (q : Place) → OneGives (GoesOn grain name entry) (map place_at runs) q → OneGives (RunGives name entry) runs q
       all q gives =
           let from = map_from place_at runs gives.0 gives.1 in
           let run : Run = from.0 in
@@ -151,7 +151,7 @@ module _ (grain : GrainSize) (name : List ℕ) (entry : Entry) (runs : List Run)
           other (number ∙ sym same ∙ reached)
 
   -- The run that is followed next.
-  module _ (before left : List Run) (run : Run) (is : before ≡ left ++ run ∷ []) (old now : List Place) (given : HaveGiven RunGives runs before old now) where
+  module _ (before left : List Run) (run : Run) (is : before ≡ left ++ run ∷ []) (old now : List Place) (given : HaveGiven (RunGives name entry) runs before old now) where
     run_there : Contains runs run
     run_there = given.left_of run (subst (λ (rs : List Run). Contains rs run) (sym is) (Contains-push left run))
 

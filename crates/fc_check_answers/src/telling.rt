@@ -10,6 +10,7 @@ use fc_pick::WorkFlags;
 use fc_registry::Registry;
 
 /// What was told in a way, as it decides what is asked next.
+#[derive(Drop)]
 pub(crate) struct Telling<'a> {
     pub(crate) way: &'a Record,
 }
