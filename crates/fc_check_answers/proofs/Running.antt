@@ -1,11 +1,11 @@
 -- Runs that go on.
 use Rattle.std.proofs.Common.{◌≡◌, ◌≢◌, ◌⊎◌, ◌↔◌, ◌<◌, ◌≤◌, ℕ, ◌+◌, Bool, IsTrue, All, codes, length, List, [], ◌∷◌, ◌++◌, Contains, map, inl, inr, refl, sym, ◌∙◌, ap, subst, arith}
 use Rattle.std.proofs.lemmas.List.{map-append}
-use Rattle.std.proofs.lemmas.List.Elements.{All-contains, Contains-push, Contains-push_cases}
+use Rattle.std.proofs.lemmas.List.Elements.{All-contains, Contains-append_left, Contains-push, Contains-push_cases}
 use Rattle.fc_base.specs.Pools.{Pool}
 use Rattle.fc_base.specs.declared.size.GrainSize.{GrainSize}
 use Rattle.fc_blocks.specs.Segments.{Segment}
-use Rattle.fc_check_answers.proofs.Coming.{HaveGiven, all_given, came_as, none_there, one_came}
+use Rattle.fc_check_answers.proofs.Coming.{HaveGiven, all_given, came_as, more_given, none_came, none_there, one_came}
 use Rattle.fc_check_answers.proofs.Laws.{lines as lines_law, names as names_law, stands}
 use Rattle.fc_check_answers.proofs.Reaching.{first_places}
 use Rattle.fc_check_answers.specs.Places.{AreAllPlaces, HasEnd, Place}
@@ -61,6 +61,31 @@ way_runs grain entries way run old new of is at were other there =
 
 pub one_way : (grain : GrainSize) (entries : ℕ) (ways : List Judged) (way : Judged) → AreCandidates grain entries ways → Contains ways way → IsWayAt grain entries way
 one_way grain entries ways way are there = record { grain_is = are.grains way there; reached = are.reached way there }
+
+module _ (lines : Standing) (name : List ℕ) (entry : Entry) where
+  -- No way, no place.
+  pub no_ways : (ways : List Judged) (old : List Place) → ways ≡ [] → Came (OneGives (WayLeadsOn lines name entry) ways) old old
+  no_ways ways old none = none_came (OneGives (WayLeadsOn lines name entry) ways) old (λ q gives. none_there gives.0 (subst (λ (ws : List Judged). Contains ws gives.0) none gives.1))
+
+  -- All ways but the last, and then that.
+  pub ways_came : (ways rest left : List Judged) (last : Judged) (old mid new : List Place) → ways ≡ rest ++ last ∷ [] → left ≡ [] →
+      HaveGiven (WayLeadsOn lines name entry) rest left old mid → Came (WayLeadsOn lines name entry last) mid new → Came (OneGives (WayLeadsOn lines name entry) ways) old new
+  ways_came ways rest left last old mid new is none given came =
+      subst (λ (ws : List Judged). Came (OneGives (WayLeadsOn lines name entry) ws) old new) (sym is)
+      (more_given (WayLeadsOn lines name entry) rest last old mid new (all_given (WayLeadsOn lines name entry) rest left old mid none given) came)
+
+  -- The lines of a copy are the same.
+  pub copy_came : (copy : Standing) (way : Judged) (old new : List Place) → copy ≡ lines → Came (WayLeadsOn copy name entry way) old new → Came (WayLeadsOn lines name entry way) old new
+  copy_came copy way old new same came = subst (λ (s : Standing). Came (WayLeadsOn s name entry way) old new) same came
+
+  module _ (grain : GrainSize) (entries : ℕ) (ways rest : List Judged) (last : Judged) (is : ways ≡ rest ++ last ∷ []) (are : AreCandidates grain entries ways) where
+    pub last_way : IsWayAt grain entries last
+    last_way = one_way grain entries ways last are (subst (λ (ws : List Judged). Contains ws last) (sym is) (Contains-push rest last))
+
+    pub left_way : (before left : List Judged) (way : Judged) (old now : List Place) → before ≡ left ++ way ∷ [] → HaveGiven (WayLeadsOn lines name entry) rest before old now → IsWayAt grain entries way
+    left_way before left way old now left_is given =
+        let there : Contains rest way = given.left_of way (subst (λ (ws : List Judged). Contains ws way) (sym left_is) (Contains-push left way)) in
+        one_way grain entries ways way are (subst (λ (ws : List Judged). Contains ws way) (sym is) (Contains-append_left rest (last ∷ []) way there))
 
 -- ---- a run
 
