@@ -29,6 +29,10 @@ use Rattle.fc_legal.specs.Whole.{Whole}
 placed : (ns : List (List ℕ)) (name : List ℕ) (n : ℕ) → place_of_name ns name ≡ Some n → number_of_actor ns name ≡ n
 placed ns name n at = ap (λ (o : Option ℕ). unwrap_or o (length ns)) at
 
+-- A place is told by its parts.
+pub same_place : (p q : Place) → p.told ≡ q.told → p.agenda ≡ q.agenda → p ≡ q
+same_place p q told agenda = ap (λ (w : Whole). record p { told = w }) told ∙ ap (λ a. record q { agenda = a }) agenda
+
 module _ (grain : GrainSize) (start : Whole) (segs : List Segment) where
   abbrev Way : Agenda → Whole → List Entry → Agenda → Whole → Type 0
   Way a w entries b v = Goes (session_rules grain by_grammar) a w entries b v
@@ -54,7 +58,7 @@ module _ (grain : GrainSize) (start : Whole) (segs : List Segment) where
       all : (q : Place) (led : Led own [] q) → led.entries ≡ [] → Contains (p ∷ []) q
       all q led none =
           let one : (p.agenda ≡ q.agenda) × (p.told ≡ q.told) = lines.one grain by_grammar (Session segs) p.agenda q.agenda start p.told q.told leads (subst (λ es. Leads (Session segs) start es q) none led.leads) in
-          subst (λ (x : Place). Contains (p ∷ []) x) (cc one) (Contains-push [] p)
+          subst (λ (x : Place). Contains (p ∷ []) x) (same_place p q one.1 one.0) (Contains-push [] p)
 
   -- ---- an entry leads on
 

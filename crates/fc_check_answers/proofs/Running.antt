@@ -7,7 +7,7 @@ use Rattle.fc_base.specs.declared.size.GrainSize.{GrainSize}
 use Rattle.fc_blocks.specs.Segments.{Segment}
 use Rattle.fc_check_answers.proofs.Coming.{HaveGiven, all_given, came_as, more_given, none_came, none_there, one_came}
 use Rattle.fc_check_answers.proofs.Laws.{lines as lines_law, names as names_law, stands}
-use Rattle.fc_check_answers.proofs.Reaching.{first_places}
+use Rattle.fc_check_answers.proofs.Reaching.{first_places, same_place}
 use Rattle.fc_check_answers.specs.Places.{AreAllPlaces, HasEnd, Place}
 use Rattle.fc_check_answers.specs.Runs.{AreNext, AreRunsAt, Came, GoesOn, IsWayAt, LeadsOn, OneGives, WayLeadsOn, place_at, place_of}
 use Rattle.fc_check_answers.specs.declared.run.Run.{Run}
@@ -26,10 +26,6 @@ use Rattle.fc_legal.specs.Whole.{Whole, opened}
 use Rattle.law_stands.specs.Names.{named, nameless}
 
 -- ---- one way
-
--- A place is told by its parts.
-same_place : (p q : Place) → p.told ≡ q.told → p.agenda ≡ q.agenda → p ≡ q
-same_place p q told agenda = ap (λ (w : Whole). record p { told = w }) told ∙ ap (λ a. record q { agenda = a }) agenda
 
 -- The lines that are left were followed to this run, and it was kept.
 pub way_came : (way : Judged) (lines : Standing) (name : List ℕ) (entry : Entry) (run : Run) (old new : List Run) → run.way ≡ way →
