@@ -87,7 +87,8 @@ impl<'a> Run<'a> {
         ensures runs { OnOk result (AreRunsAt self.entry.way.grain (entry.now.number + 1) after.old.items
             → AreRunsAt self.entry.way.grain (entry.now.number + 1) after.new.items) }
     {
-        if !self.asks(name, &entry.request)? {
+        let asked = self.asks(name, &entry.request)?;
+        if !asked {
             return Ok(());
         }
         let Run { way, lines } = self;
