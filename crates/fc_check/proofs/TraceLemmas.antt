@@ -15,7 +15,7 @@ use Rattle.fc_reading.proofs.Exact.{ok_is}
 use Rattle.fc_reading.proofs.HeaderLemmas.{Exact-header}
 use Rattle.fc_reading.proofs.Words.{Ends-nothing}
 use Rattle.fc_reading_entries.proofs.LawLemmas.{read_entries_law_holds}
-use Rattle.fc_check.specs.Traces.{AreNextTexts, IsNextText, IsTrace, IsTraceOf, nothing_told}
+use Rattle.fc_check.specs.Traces.{AreNextTexts, IsNextText, IsTraceOf, nothing_told}
 
 -- ---- the text of one entry
 
