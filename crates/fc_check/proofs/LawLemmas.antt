@@ -15,7 +15,7 @@ use Rattle.fc_check.specs.Verdict.{AllStand, AreAllRight, AreLegal, IsFirstWrong
 use Rattle.fc_check.specs.declared.verdict.Verdict.{Verdict}
 use Rattle.fc_check.specs.declared.verdict.Verdict.TheVariants.{Yes, No, Malformed}
 use Rattle.fc_check.proofs.InputTraces.{one_input}
-use Rattle.fc_check.proofs.SessionLemmas.{first_of_whole, first_taken}
+use Rattle.fc_check.proofs.SessionLemmas.{first_of_whole, first_taken, legal_of_first}
 use Rattle.fc_check.proofs.StopLemmas.{not_full-whole}
 
 -- ---- the first entries of a legal history
@@ -159,6 +159,7 @@ verdict_law_holds = record {
   first = first;
   first_of = first_taken;
   whole = first_of_whole;
+  legal = legal_of_first;
   one_verdict = one_verdict;
   not_full = not_full;
 }

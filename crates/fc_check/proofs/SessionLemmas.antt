@@ -1,39 +1,28 @@
 -- Entries and a session: where they are the first of a run, they lead somewhere; and all places that they lead to answer whether they are.
-use Rattle.std.proofs.Common.{◌≡◌, ◌≢◌, ◌⊎◌, ◌↔◌, ℕ, zero, suc, ◌+◌, ◌<◌, ◌≤◌, Bool, true, false, cond, is_some, All, Contains, Option, Some, None, List, [], ◌∷◌, ◌++◌, length, take, drop, bytes_eq, codes, get_or, inl, inr, refl, sym, ap, subst, ◌∙◌, append_assoc, length-append, arith}
-use Rattle.std.specs.List.{AllZip}
-use Rattle.std.proofs.lemmas.List.{append-nil, take-append-drop, take_all}
+use Rattle.std.proofs.Common.{◌≡◌, ◌≢◌, ℕ, Contains, List, [], ◌∷◌, ◌++◌, take, drop, refl, sym, subst, append_assoc, arith}
+use Rattle.std.proofs.lemmas.List.{append-nil, take-append-drop}
 use Rattle.fc_agenda.proofs.Going.{Goes-append, GoesSome-whole}
 use Rattle.fc_agenda.specs.Goes.{Goes, stays}
 use Rattle.fc_base.specs.declared.size.GrainSize.{GrainSize}
 use Rattle.fc_blocks.specs.Segments.{Segment}
+use Rattle.fc_check_answers.proofs.Actors.{step_by}
+use Rattle.fc_check_answers.proofs.Naming.{goes_more}
+use Rattle.fc_check_answers.proofs.Pairing.{as_later}
+use Rattle.fc_check_answers.proofs.Reaching.{led_back}
 use Rattle.fc_check_answers.specs.Places.{AreAllPlaces, AreAs, HasEnd, IsLedTo, Place}
 use Rattle.fc_check_follow.specs.Ways.{pools_told}
 use Rattle.fc_check_lines.proofs.Lawful.{lines_law_holds}
 use Rattle.fc_check_lines.specs.Bytes.{by_grammar, segments_in}
 use Rattle.fc_check_lines.specs.Leading.{LeadTo}
-use Rattle.fc_check_requests.proofs.Places.{place_kept}
-use Rattle.fc_entry.specs.HistoryState.{HistoryState, place_of_name}
 use Rattle.fc_entry.specs.declared.entry.Entry.{Entry}
 use Rattle.fc_legal.proofs.Appending.{IsLegal-goes}
 use Rattle.fc_legal.specs.Agenda.{Agenda, Session, session_rules}
-use Rattle.fc_legal.specs.Legal.{IsNamed}
+use Rattle.fc_legal.specs.Legal.{IsLegal}
+use Rattle.fc_legal.specs.Steps.{Step}
 use Rattle.fc_legal.specs.Whole.{Whole, opened}
 use Rattle.fc_trace.specs.declared.header.Header.{Header}
 use Rattle.fc_check.proofs.Finite.{Ends, ends}
 use Rattle.fc_check.specs.Verdict.{StandFirst, StandWhole}
-
--- ---- names that come later
-
-as_more : (own names more : List (List ℕ)) (told entries : List Entry) → AreAs own names told entries → AreAs own (names ++ more) told entries
-as_more own names more [] [] same = tt
-as_more own names more [] (e ∷ entries) same = absurd same
-as_more own names more (t ∷ told) [] same = absurd same
-as_more own names more (t ∷ told) (e ∷ entries) same =
-    ((same.0.0, place_kept (λ (known : List ℕ). bytes_eq known (get_or own t.actor [])) names more e.actor same.0.1), as_more own names more told entries same.1)
-
-as_named : (own : List (List ℕ)) (w v : Whole) (told entries : List Entry) → IsNamed w v → AreAs own w.actors told entries → AreAs own v.actors told entries
-as_named own w v told entries named same =
-    subst (λ (u : Whole). AreAs own u.actors told entries) (sym named.named) (as_more own w.actors named.more told entries same)
 
 -- ---- where entries lead
 
@@ -65,7 +54,9 @@ module _ (header : Header) (own : List (List ℕ)) (session : List ℕ) where
       ) in
       (record { told = on.last; agenda = on.end }, record {
         entries = first.entries;
-        same = as_named own first.last on.last told first.entries (IsLegal-goes header.grain by_grammar first.run.end on.end first.last on.last [] on.leads.goes) first.same;
+        same =
+            as_later own first.last.actors on.last.actors told first.entries (goes_more header.grain by_grammar first.run.end on.end first.last on.last [] on.leads.goes)
+            first.same;
         leads = record { goes = goes; waits = on.leads.waits };
       })
 
@@ -140,7 +131,30 @@ module _ (header : Header) (own : List (List ℕ)) (session : List ℕ) where
       let p : Place = record { told = whole.last; agenda = Session [] } in
       record { place = p; there = all.all p (led_of_whole told whole); over = refl }
 
--- before the first entry
+-- ---- they are legal
+
+-- whatever the numbers of their actors are
+legal_as : (grain : GrainSize) (own names : List (List ℕ)) (w last : Whole) (told entries : List Entry) → AreAs own names told entries → IsLegal grain w entries last → IsLegal grain w told last
+legal_as grain own names w last [] [] same legal = legal
+legal_as grain own names w last [] (e ∷ entries) same legal = absurd same
+legal_as grain own names w last (t ∷ told) [] same legal = absurd same
+legal_as grain own names w last (t ∷ told) (e ∷ entries) same legal =
+    let before : Whole = legal.1.before in
+    let step : Step grain before t legal.0 =
+    step_by t.actor (record t { actor = e.actor }) grain before legal.0 (subst (λ (x : Entry). Step grain before x legal.0) same.0.0 legal.1.step) in
+    (legal.0, record { before = before; named = legal.1.named; step = step }, legal_as grain own names legal.0 last told entries same.1 legal.2)
+
+pub legal_of_first : (header : Header) (own : List (List ℕ)) (session : List ℕ) (told : List Entry) → StandFirst header own session told → (last : Whole) × IsLegal header.grain (opened_by header) told last
+legal_of_first header own session told first =
+    let start : Agenda = Session (segments_in session) in
+    (
+      first.last,
+      legal_as header.grain own first.last.actors (opened_by header) first.last told first.entries first.same
+          (IsLegal-goes header.grain by_grammar start first.run.end (opened_by header) first.last first.entries first.run.goes),
+    )
+
+-- ---- before the first entry
+
 pub first_none : (header : Header) (own : List (List ℕ)) (session : List ℕ) → StandFirst header own session []
 first_none header own session = record {
   entries = [];

@@ -18,6 +18,9 @@ pub record VerdictLaw : Type 0 where
       StandFirst header own session entries → StandFirst header own session (take count entries)
   pub whole : (header : Header) (own : List (List ℕ)) (session : List ℕ) (entries : List Entry) →
       StandWhole header own session entries → StandFirst header own session entries
+  -- and they are legal
+  pub legal : (header : Header) (own : List (List ℕ)) (session : List ℕ) (entries : List Entry) →
+      StandFirst header own session entries → AreLegal header entries
   -- of two verdicts both are right only where they are one
   pub one_verdict : (one two : Verdict) (bytes : List ℕ) → IsSaid one bytes → IsSaid two bytes → one ≡ two
   -- and none is right where something other than a session stands behind the last entry that fits
