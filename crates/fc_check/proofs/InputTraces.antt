@@ -7,8 +7,11 @@ use Rattle.std.proofs.lemmas.Bool.Decides.{nat_tests}
 use Rattle.std.proofs.lemmas.List.{append-nil, append_cancel_left}
 use Rattle.fc_base.specs.declared.size.GrainSize.{GrainSize}
 use Rattle.fc_entry.specs.HistoryState.{HistoryState}
+use Rattle.fc_entry.specs.Text.{reply_text, request_text, rows_text}
+use Rattle.fc_entry.specs.declared.entry.Entry.{Entry}
 use Rattle.fc_reading_entries.specs.Entries.{IsEntryText}
 use Rattle.fc_reading_notes.specs.Lists.{starts_with}
+use Rattle.fc_trace.specs.Notes.{notes_text}
 use Rattle.fc_trace.specs.Trace.{traced_by}
 use Rattle.fc_trace.specs.declared.header.Header.{Header}
 use Rattle.fc_check.specs.Progress.{IsSessionLine}
@@ -18,7 +21,7 @@ use Rattle.fc_check.proofs.TraceLemmas.{GoesOn, goes_on, text_of_next, text_some
 
 -- ---- no entry begins with an `s`
 
-abbrev begins_s : List ℕ → Bool
+abbrev pub begins_s : List ℕ → Bool
 begins_s = starts_with 115
 
 glyph_other : (n : ℕ) → (digit_glyph false (n % 10) == 115) ≡ false
@@ -45,11 +48,17 @@ number_other : (n : ℕ) (rest : List ℕ) → begins_s (decimal n ++ rest) ≡ 
 unfolding digits
 number_other n rest = some_digits 63 n rest
 
+line_other : (n : ℕ) (x y rest : List ℕ) → begins_s (((decimal n ++ x) ++ y) ++ rest) ≡ false
+line_other n x y rest = ap begins_s (append_assoc (decimal n ++ x) y rest ∙ append_assoc (decimal n) x (y ++ rest)) ∙ number_other n (x ++ (y ++ rest))
+
+traced_other : (name : List ℕ) (entry : Entry) (rest : List ℕ) → begins_s (traced_by name entry ++ rest) ≡ false
+traced_other name entry rest =
+    line_other entry.number
+    (codes " " ++ name ++ codes " " ++ request_text entry.request ++ codes " -> " ++ reply_text entry.reply ++ codes "\n")
+    (notes_text entry ++ rows_text entry.reply ++ codes ".\n") rest
+
 pub entry_other : (size : GrainSize) (number : ℕ) (text rest : List ℕ) → IsEntryText size number text → begins_s (text ++ rest) ≡ false
-entry_other size number text rest is =
-    ap (λ (t : List ℕ). begins_s (t ++ rest)) is.4
-    ∙ ap begins_s (append_assoc (decimal is.1.number ++ _) _ rest ∙ append_assoc (decimal is.1.number) _ _)
-    ∙ number_other is.1.number _
+entry_other size number text rest is = ap (λ (t : List ℕ). begins_s (t ++ rest)) is.4 ∙ traced_other is.0 is.1 rest
 
 -- so what stands behind a trace begins with none
 pub no_entry : (size : GrainSize) (number : ℕ) (session : Option (List ℕ)) (text rest : List ℕ) → IsEntryText size number text → (text ≡ [] → ⊥) → behind_trace session ≡ text ++ rest → ⊥

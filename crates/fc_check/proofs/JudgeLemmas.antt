@@ -17,26 +17,22 @@ use Rattle.fc_entry.specs.declared.entry.Entry.{Entry}
 use Rattle.fc_legal.specs.Whole.{opened}
 use Rattle.fc_reading.proofs.Exact.{bind_at_err}
 use Rattle.fc_reading.proofs.Fields.{AnyUnit, Exact-word}
-use Rattle.fc_reading.proofs.StopsLemmas.{Exact-stops_at}
+use Rattle.fc_reading.proofs.StopsLemmas.{Exact-stops_at, IsTextOf}
 use Rattle.fc_reading.proofs.Words.{word_at-takes, word_at-within}
 use Rattle.fc_reading.specs.Readers.{the_word, word_at}
 use Rattle.fc_reading.specs.Stops.{StopsAt}
 use Rattle.fc_reading_entries.specs.Entries.{IsEntryText}
-use Rattle.fc_reading_notes.specs.Lists.{starts_with}
 use Rattle.fc_trace.specs.declared.header.Header.{Header}
 use Rattle.fc_check.specs.Progress.{AnswerSoFar, Follows, HaveNames, IsSaidWith, IsSessionLine}
 use Rattle.fc_check.specs.Traces.{AreNextTexts, IsInputOf, IsNextText, IsTraceOf, nothing_told, session_line}
 use Rattle.fc_check.specs.Verdict.{AreAllRight, IsInputWith, IsSaid, IsWrongAt, StandFirst, StandWhole}
 use Rattle.fc_check.specs.declared.verdict.Verdict.{Verdict}
 use Rattle.fc_check.specs.declared.verdict.Verdict.TheVariants.{Yes, No, Malformed}
-use Rattle.fc_check.proofs.InputTraces.{IsPart, entry_other}
+use Rattle.fc_check.proofs.InputTraces.{IsPart, begins_s, entry_other}
 use Rattle.fc_check.proofs.SessionLemmas.{end_where_whole, first_none, first_where_some, none_where_none, whole_where_end}
 use Rattle.fc_check.proofs.StopLemmas.{input_read}
 
 -- ---- the first byte
-
-abbrev begins_s : List ℕ → Bool
-begins_s = starts_with 115
 
 front_letter : (xs more : List ℕ) (count : ℕ) → 0 < count → 0 < length xs → begins_s (take count xs ++ more) ≡ begins_s xs
 front_letter [] more count some there = absurd (omega arith)
@@ -112,6 +108,7 @@ line_stops bytes left e = record {
   none = λ count is. s.none count (tt, tt, is);
 }
   where
+    s : StopsAt (IsTextOf AnyUnit (λ u. session_line)) bytes (length bytes - left)
     s = Exact-stops_at AnyUnit (λ u. session_line) (the_word session_line) (Exact-word session_line) bytes left (bind_at_err (word_at session_line bytes) (λ rest. Ok (tt, rest)) left e)
 
 -- ---- actors have names

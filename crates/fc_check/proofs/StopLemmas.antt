@@ -2,7 +2,7 @@
 use Rattle.std.proofs.Common.{◌≡◌, ◌≢◌, ◌⊎◌, ℕ, zero, suc, ◌+◌, ◌-◌, ◌<◌, ◌≤◌, List, [], ◌∷◌, ◌++◌, length, take, drop, get_or, Option, Some, None, inl, inr, refl, sym, ap, subst, ◌∙◌, append_assoc, length-append, arith}
 use Rattle.std.specs.List.{concat}
 use Rattle.std.proofs.lemmas.Bool.{cases_lt}
-use Rattle.std.proofs.lemmas.List.{append-nil, length-drop, length-take-le, take-append-drop, take_all}
+use Rattle.std.proofs.lemmas.List.{append-nil, get_or-drop, length-drop, length-take-le, take-append-drop, take_all}
 use Rattle.std.proofs.Math.Seq.{take-append-add}
 use Rattle.fc_base.specs.declared.size.GrainSize.{GrainSize}
 use Rattle.fc_entry.specs.HistoryState.{HistoryState}
@@ -16,7 +16,7 @@ use Rattle.fc_check.specs.Traces.{AreNextTexts, BeginsInput, IsFull, IsInput, Is
 use Rattle.fc_check.specs.Verdict.{IsInputWith, IsMalformedAt}
 use Rattle.fc_check.proofs.Fronts.{none_begins, none_goes_on}
 use Rattle.fc_check.proofs.InputTraces.{BeginsText, GoesOnWith, IsPart, begins_part, goes_on_with, input_alone, input_with}
-use Rattle.fc_check.proofs.TraceLemmas.{GoesOn, counted, goes_on, next_alone, next_of_text, text_of_next, text_some, trace_more, trace_opened}
+use Rattle.fc_check.proofs.TraceLemmas.{GoesOn, counted, goes_on, next_alone, next_of_text, nothing_before, text_of_next, text_some, trace_more, trace_opened}
 
 -- ---- fronts
 
@@ -135,11 +135,7 @@ none_more size old new bytes on none = go on.texts on.told on.text
   where
     go : (texts : List (List ℕ)) → AreNextTexts size old texts new → bytes ≡ concat texts → new ≡ old
     go [] told e = told
-    go (text ∷ texts) told e = absurd (first text (concat texts) (text_some size old told.0 text told.1) (sym none ∙ e))
-      where
-        first : (text rest : List ℕ) → (text ≡ [] → ⊥) → [] ≡ text ++ rest → ⊥
-        first [] rest some is = some refl
-        first (b ∷ text) rest some is = absurd cc
+    go (text ∷ texts) told e = absurd (text_some size old told.0 text told.1 (nothing_before text (concat texts) (sym e ∙ none)))
 
 -- where bytes stop behind some entries that fit, and behind all that fit at an `s`, nothing else stands behind entry 262,144
 pub not_full-behind :
@@ -177,16 +173,12 @@ not_full-behind header history bytes place stopped within trace few letter stops
         let more = (some_more full.header.grain full.history history (take (place - full.place) (drop full.place bytes)) on (between_some bytes full.place place behind within)).0 in
         absurd (omega (arith, full.full, more))
 
--- an input whose entries fit has nothing else behind them
 letter_there : (bytes rest : List ℕ) (place : ℕ) → drop place bytes ≡ session_line ++ rest → get_or bytes place 0 ≡ 115
-letter_there bytes rest place e = sym (get_or_rest bytes place) ∙ ap (λ (l : List ℕ). get_or l 0 0) e
-  where
-    get_or_rest : (bytes : List ℕ) (place : ℕ) → get_or (drop place bytes) 0 0 ≡ get_or bytes place 0
-    get_or_rest [] zero = refl
-    get_or_rest [] (suc place) = refl
-    get_or_rest (b ∷ bytes) zero = refl
-    get_or_rest (b ∷ bytes) (suc place) = get_or_rest bytes place
+letter_there bytes rest place e =
+    let here : place ≡ place + 0 = omega arith in
+    ap (λ (n : ℕ). get_or bytes n 0) here ∙ sym (get_or-drop place bytes 0 0) ∙ ap (λ (l : List ℕ). get_or l 0 0) e
 
+-- an input whose entries fit has nothing else behind them
 pub not_full-whole : (header : Header) (history : HistoryState) (session : Option (List ℕ)) (bytes : List ℕ) → IsInputOf header history session bytes → length history.entries ≤ 262144 → IsFull bytes → ⊥
 not_full-whole header history session bytes input few full =
     let on = (goes_on_with full.header header full.history history session (take full.place bytes) (drop full.place bytes) full.trace

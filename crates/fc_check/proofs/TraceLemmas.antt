@@ -88,7 +88,7 @@ pub record GoesOn (size : GrainSize) (old : HistoryState) (bytes : List ℕ) (ne
   pub told : AreNextTexts size old texts new
   pub text : bytes ≡ concat texts
 
-nothing_before : (x y : List ℕ) → x ++ y ≡ [] → x ≡ []
+pub nothing_before : (x y : List ℕ) → x ++ y ≡ [] → x ≡ []
 nothing_before [] y e = refl
 nothing_before (b ∷ x) y e = absurd cc
 
