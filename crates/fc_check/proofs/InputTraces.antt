@@ -99,25 +99,29 @@ goes_on_with h k mid new session front rest ours theirs = go (fronts theirs.text
   where
     go : Fronts theirs.text front → (h ≡ k) × GoesOnWith h.grain mid rest new session
     go (inl longer) =
-        let on = goes_on h k mid new front longer.0 ours (subst (IsTraceOf k new) longer.1 theirs.trace) in
-        (on.0, record {
-          more = longer.0;
-          on = on.1;
-          all =
-              append_cancel_left front rest (longer.0 ++ behind_trace session)
-              (theirs.all ∙ ap (λ (t : List ℕ). t ++ behind_trace session) longer.1 ∙ append_assoc front longer.0 (behind_trace session));
-        })
+        let on = goes_on h k mid new front longer.0 ours (subst (IsTraceOf k new) longer.1 theirs.trace) in (
+          on.0,
+          record {
+            more = longer.0;
+            on = on.1;
+            all =
+                append_cancel_left front rest (longer.0 ++ behind_trace session)
+                (theirs.all ∙ ap (λ (t : List ℕ). t ++ behind_trace session) longer.1 ∙ append_assoc front longer.0 (behind_trace session));
+          },
+        )
     go (inr shorter) =
         let on = goes_on k h new mid theirs.text shorter.0 theirs.trace (subst (IsTraceOf h mid) shorter.1 ours) in
         let all : behind_trace session ≡ shorter.0 ++ rest =
         append_cancel_left theirs.text (behind_trace session) (shorter.0 ++ rest)
         (sym theirs.all ∙ ap (λ (t : List ℕ). t ++ rest) shorter.1 ∙ append_assoc theirs.text shorter.0 rest) in
-        let none = none_before k.grain new mid session shorter.0 rest on.1 all in
-        (sym on.0, record {
-          more = [];
-          on = record { texts = []; told = sym none.1; text = refl };
-          all = sym (all ∙ ap (λ (t : List ℕ). t ++ rest) none.0);
-        })
+        let none = none_before k.grain new mid session shorter.0 rest on.1 all in (
+          sym on.0,
+          record {
+            more = [];
+            on = record { texts = []; told = sym none.1; text = refl };
+            all = sym (all ∙ ap (λ (t : List ℕ). t ++ rest) none.0);
+          },
+        )
 
 same_session : (session also : Option (List ℕ)) → behind_trace session ≡ behind_trace also → session ≡ also
 same_session None None e = refl

@@ -113,7 +113,7 @@ line_stops bytes left e = record {
 
 -- ---- actors have names
 
-known_case : (names : List (List ℕ)) (name : List ℕ) (place : Option ℕ) → (( n : ℕ) → place ≡ Some n → n < length names) →
+known_case : (names : List (List ℕ)) (name : List ℕ) (place : Option ℕ) → ((n : ℕ) → place ≡ Some n → n < length names) →
     unwrap_or place (length names) < length (cond (is_some place) names (names ++ name ∷ []))
 known_case names name None inside = omega (arith, length-append names (name ∷ []))
 known_case names name (Some n) inside = inside n refl

@@ -51,14 +51,16 @@ module _ (header : Header) (own : List (List ℕ)) (session : List ℕ) where
       (
       Goes-append (session_rules header.grain by_grammar) start first.run.end on.end (opened_by header) first.last on.last first.entries []
       first.run.goes on.leads.goes
-      ) in
-      (record { told = on.last; agenda = on.end }, record {
-        entries = first.entries;
-        same =
-            as_later own first.last.actors on.last.actors told first.entries (goes_more header.grain by_grammar first.run.end on.end first.last on.last [] on.leads.goes)
-            first.same;
-        leads = record { goes = goes; waits = on.leads.waits };
-      })
+      ) in (
+        record { told = on.last; agenda = on.end },
+        record {
+          entries = first.entries;
+          same =
+              as_later own first.last.actors on.last.actors told first.entries (goes_more header.grain by_grammar first.run.end on.end first.last on.last [] on.leads.goes)
+              first.same;
+          leads = record { goes = goes; waits = on.leads.waits };
+        },
+      )
 
   pub whole_of_led : (told : List Entry) (p : Place) → Led told p → p.agenda ≡ Session [] → StandWhole header own session told
   whole_of_led told p led over =
@@ -146,8 +148,7 @@ legal_as grain own names w last (t ∷ told) (e ∷ entries) same legal =
 
 pub legal_of_first : (header : Header) (own : List (List ℕ)) (session : List ℕ) (told : List Entry) → StandFirst header own session told → (last : Whole) × IsLegal header.grain (opened_by header) told last
 legal_of_first header own session told first =
-    let start : Agenda = Session (segments_in session) in
-    (
+    let start : Agenda = Session (segments_in session) in (
       first.last,
       legal_as header.grain own first.last.actors (opened_by header) first.last told first.entries first.same
           (IsLegal-goes header.grain by_grammar start first.run.end (opened_by header) first.last first.entries first.run.goes),

@@ -57,14 +57,15 @@ fn answer(said: Result<Verdict, Stop>, count: usize, end: InputEnd) -> Result<Ve
     }
 }
 
-/// Judges the trace that a source gives, and the session behind it, if there is one, as `judge` does their bytes. They are taken from the source in pieces of at most 64 KiB, and at
-/// most 67,108,864; then the byte past them is asked for. Each call but the last takes at least one byte.
+/// Judges the trace that a source gives, and the session behind it, if there is one, as `judge` does their bytes. They are taken from
+/// the source in pieces of at most 64 KiB, and at most 67,108,864; then the byte past them is asked for. Each call but the last takes
+/// at least one byte.
 ///
 /// `Yes` and `No` are said of all that the source had. What is met first in the bytes, in their order, is answered before any `No`:
-/// `Malformed` at a byte of them, or at their end, where the source is at its end; `LogFull` at the first byte behind entry 262,144,
-/// if it doesn't begin the line of a session; `ReadFault` where a call of the source failed, so that its count of faults rose in this call or stands at its last
-/// value; and `TooLong` at the byte past the greatest input. Where memory is wanted, `NoMemory` is answered, and some bytes were
-/// taken, maybe none.
+/// `Malformed` at a byte of them, or at their end, where the source is at its end; `LogFull` at the first byte behind entry 262,144, if
+/// it isn't the `s` of a session's line; `ReadFault` where a call of the source failed, so that its count of faults rose in this call or
+/// stands at its last value; and `TooLong` at the byte past the greatest input. Where memory is wanted, `NoMemory` is answered, and
+/// some bytes were taken, maybe none.
 pub fn check<S: Source>(alloc: Global, source: &mut S) -> Result<Verdict, CheckStop>
     ensures { IsChecked result (S.meaning source.old) (S.meaning source.new) }
 {
