@@ -7,7 +7,7 @@ use Rattle.std.proofs.lemmas.Bool.Decides.{nat_tests}
 use Rattle.std.proofs.lemmas.List.{append-nil, append_cancel_left}
 use Rattle.fc_base.specs.declared.size.GrainSize.{GrainSize}
 use Rattle.fc_entry.specs.HistoryState.{HistoryState}
-use Rattle.fc_entry.specs.Text.{reply_text, request_text, rows_text}
+use Rattle.fc_entry.specs.Text.{line_text, reply_text, request_text, rows_text}
 use Rattle.fc_entry.specs.declared.entry.Entry.{Entry}
 use Rattle.fc_reading_entries.specs.Entries.{IsEntryText}
 use Rattle.fc_reading_notes.specs.Lists.{starts_with}
@@ -48,17 +48,23 @@ number_other : (n : ℕ) (rest : List ℕ) → begins_s (decimal n ++ rest) ≡ 
 unfolding digits
 number_other n rest = some_digits 63 n rest
 
-line_other : (n : ℕ) (x y rest : List ℕ) → begins_s (((decimal n ++ x) ++ y) ++ rest) ≡ false
-line_other n x y rest = ap begins_s (append_assoc (decimal n ++ x) y rest ∙ append_assoc (decimal n) x (y ++ rest)) ∙ number_other n (x ++ (y ++ rest))
+-- whatever stands behind it, this begins with none
+record BeginsOther (front : List ℕ) : Type 0 where
+  is : (rest : List ℕ) → begins_s (front ++ rest) ≡ false
 
-traced_other : (name : List ℕ) (entry : Entry) (rest : List ℕ) → begins_s (traced_by name entry ++ rest) ≡ false
-traced_other name entry rest =
-    line_other entry.number
-    (codes " " ++ name ++ codes " " ++ request_text entry.request ++ codes " -> " ++ reply_text entry.reply ++ codes "\n")
-    (notes_text entry ++ rows_text entry.reply ++ codes ".\n") rest
+more_other : {front : List ℕ} (more : List ℕ) → BeginsOther front → BeginsOther (front ++ more)
+more_other {front} more other = record { is = λ rest. ap begins_s (append_assoc front more rest) ∙ other.is (more ++ rest) }
+
+traced_other : (name : List ℕ) (entry : Entry) → BeginsOther (traced_by name entry)
+traced_other name entry =
+    let number : BeginsOther (decimal entry.number) = record { is = number_other entry.number } in
+    let asked : BeginsOther (decimal entry.number ++ codes " " ++ name ++ codes " " ++ request_text entry.request) =
+    more_other (request_text entry.request) (more_other (codes " ") (more_other name (more_other (codes " ") number))) in
+    let line : BeginsOther (line_text name entry) = more_other (codes "\n") (more_other (reply_text entry.reply) (more_other (codes " -> ") asked)) in
+    more_other (codes ".\n") (more_other (rows_text entry.reply) (more_other (notes_text entry) line))
 
 pub entry_other : (size : GrainSize) (number : ℕ) (text rest : List ℕ) → IsEntryText size number text → begins_s (text ++ rest) ≡ false
-entry_other size number text rest is = ap (λ (t : List ℕ). begins_s (t ++ rest)) is.4 ∙ traced_other is.0 is.1 rest
+entry_other size number text rest is = ap (λ (t : List ℕ). begins_s (t ++ rest)) is.4 ∙ (traced_other is.0 is.1).is rest
 
 -- so what stands behind a trace begins with none
 pub no_entry : (size : GrainSize) (number : ℕ) (session : Option (List ℕ)) (text rest : List ℕ) → IsEntryText size number text → (text ≡ [] → ⊥) → behind_trace session ≡ text ++ rest → ⊥
