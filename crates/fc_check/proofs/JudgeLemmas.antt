@@ -2,6 +2,7 @@
 use Rattle.std.proofs.Common.{◌≡◌, ◌≢◌, ◌⊎◌, ◌↔◌, ℕ, zero, suc, ◌+◌, ◌-◌, ◌<◌, ◌≤◌, ◌==◌, Bool, true, false, cond, is_some, not, unwrap_or, All, bytes_eq, Option, Some, None, Result, Ok, Err, List, [], ◌∷◌, ◌++◌, length, take, drop, get_or, IsTrue, inl, inr, refl, sym, ap, subst, ◌∙◌, length-append, arith, eq-eqb}
 use Rattle.std.specs.List.{position, position_or_len, slice_get}
 use Rattle.std.proofs.lemmas.Bool.{false≢true}
+use Rattle.std.proofs.lemmas.Bool.Decides.{eqb_tells}
 use Rattle.std.proofs.lemmas.List.{append-nil, take-append-drop, take_all, take_more}
 use Rattle.std.proofs.lemmas.List.Quantifiers.{position-Some}
 use Rattle.std.proofs.lemmas.Option.{get_or_from_slice_get}
@@ -30,7 +31,7 @@ use Rattle.fc_check.specs.declared.verdict.Verdict.{Verdict}
 use Rattle.fc_check.specs.declared.verdict.Verdict.TheVariants.{Yes, No, Malformed}
 use Rattle.fc_check.proofs.InputTraces.{IsPart, begins_s, entry_other}
 use Rattle.fc_check.proofs.SessionLemmas.{end_where_whole, first_none, first_where_some, none_where_none, whole_where_end}
-use Rattle.fc_check.proofs.StopLemmas.{input_read}
+use Rattle.fc_check.proofs.WayLemmas.{is_true, not_true}
 
 -- ---- the first byte
 
@@ -39,10 +40,19 @@ front_letter [] more count some there = absurd (omega arith)
 front_letter (b ∷ xs) more zero some there = absurd (omega arith)
 front_letter (b ∷ xs) more (suc count) some there = refl
 
-pub letter_at : (bytes : List ℕ) (place : ℕ) → place < length bytes → begins_s (drop place bytes) ≡ (get_or bytes place 0 == 115)
+letter_at : (bytes : List ℕ) (place : ℕ) → place < length bytes → begins_s (drop place bytes) ≡ (get_or bytes place 0 == 115)
 letter_at [] place inside = absurd (omega arith)
 letter_at (b ∷ bytes) zero inside = refl
 letter_at (b ∷ bytes) (suc place) inside = letter_at bytes place (omega arith)
+
+pub letter_there : (bytes : List ℕ) (place : ℕ) → place < length bytes → get_or bytes place 0 ≡ 115 → begins_s (drop place bytes) ≡ true
+letter_there bytes place inside e = letter_at bytes place inside ∙ eq-eqb (get_or bytes place 0) 115 e
+
+pub other_there : (bytes : List ℕ) (place : ℕ) → place < length bytes → get_or bytes place 0 ≢ 115 → begins_s (drop place bytes) ≡ false
+other_there bytes place inside other = elim (eqb_tells (get_or bytes place 0) 115) [
+  | inl same ↦ absurd (other same.1)
+  | inr no ↦ letter_at bytes place inside ∙ no.0
+]
 
 no_line : (xs : List ℕ) (count : ℕ) → begins_s xs ≡ false → take count xs ≡ session_line → ⊥
 no_line [] zero other e = absurd cc
@@ -186,13 +196,14 @@ module _ (header : Header) (history : HistoryState) (session : List ℕ) (number
       PlacesFollow → new.grain ≡ old.grain → new.entries ≡ old.entries + 1 → (IsTrue empty ↔ (new.places ≡ [])) →
       AnswerSoFar header history session number old → Follows (not empty) header history session number new
   follows true there is named follow grain counted none so_far =
-      none_where_none header history.actors session (take (number + 1) history.entries) new.places (all_behind there is named follow so_far) (none.0 tt)
+      none_where_none header history.actors session (take (number + 1) history.entries) new.places (all_behind there is named follow so_far)
+      (none.0 (is_true true refl))
   follows false there is named follow grain counted none so_far = record {
     grain = grain ∙ so_far.grain;
     counted = counted ∙ ap (λ (n : ℕ). n + 1) so_far.counted;
     first =
         first_where_some header history.actors session (take (number + 1) history.entries) new.places (all_behind there is named follow so_far)
-        (λ e. none.1 e);
+        (λ e. not_true false refl (none.1 e));
     all = all_behind there is named follow so_far;
   }
 

@@ -1,6 +1,6 @@
 //! The entries of a trace, judged by the session that stands behind it.
 
-ghost use Rattle.std.specs.Prelude.{◌≡◌, ◌≤◌, ◌<◌, ◌+◌, ◌↔◌, ◌++◌, [], length, take, slice_index, IfErr, IfOk, IsTrue, Some};
+ghost use Rattle.std.specs.Prelude.{◌≡◌, ◌≤◌, ◌<◌, ◌++◌, List, ℕ, length, take, slice_index, IfErr, IfOk};
 ghost use Rattle.fc_check.specs.Progress.{AnswerSoFar, Follows, HaveNames, IsJudged, IsSaidWith, IsSessionLine};
 ghost use Rattle.fc_check.specs.Traces.{IsTraceOf, session_line};
 ghost use Rattle.fc_reading.specs.Stops.{StopsAt};
@@ -39,7 +39,7 @@ fn follow_entry(
     requires room { length history.now.entries ≤ 262144 }
     requires names { HaveNames history.now }
     requires counted { answering.old.entries ≡ number }
-    ensures after { IfOk result (λ stands. (header : Header) (session : List ℕ) → AnswerSoFar header history.now session number answering.old
+    ensures { IfOk result (λ stands. (header : Header) (session : List ℕ) → AnswerSoFar header history.now session number answering.old
         → Follows stands header history.now session number answering.new) }
 {
     let entry = history.entry(number);
