@@ -51,7 +51,7 @@ letter_there bytes place inside e = letter_at bytes place inside ∙ eq-eqb (get
 pub other_there : (bytes : List ℕ) (place : ℕ) → place < length bytes → get_or bytes place 0 ≢ 115 → begins_s (drop place bytes) ≡ false
 other_there bytes place inside other = elim (eqb_tells (get_or bytes place 0) 115) [
   | inl same ↦ absurd (other same.1)
-  | inr no ↦ letter_at bytes place inside ∙ no.0
+  | inr apart ↦ letter_at bytes place inside ∙ apart.0
 ]
 
 no_line : (xs : List ℕ) (count : ℕ) → begins_s xs ≡ false → take count xs ≡ session_line → ⊥
