@@ -1,2 +1,3 @@
 -- Which entries answer the lines of a session.
 pub mod Places
+pub mod Runs

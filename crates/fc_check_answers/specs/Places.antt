@@ -1,5 +1,6 @@
 -- Where a session may have come to behind the entries of a printed history.
-use Rattle.std.specs.Prelude.{◌≡◌, ℕ, List, [], ◌∷◌, AllZip, Contains, Some}
+use Rattle.std.specs.Prelude.{◌≡◌, ℕ, List, [], Contains, Some, slice_index_or}
+use Rattle.std.specs.List.{AllZip}
 use Rattle.fc_base.specs.declared.size.GrainSize.{GrainSize}
 use Rattle.fc_blocks.specs.Segments.{Segment}
 use Rattle.fc_check_lines.specs.Bytes.{by_grammar}
@@ -29,6 +30,12 @@ pub record IsLedTo (grain : GrainSize) (start : Whole) (segs : List Segment) (ow
 pub record AreAllPlaces (grain : GrainSize) (start : Whole) (segs : List Segment) (own : List (List ℕ)) (told : List Entry) (places : List Place) : Type 0 where
   pub only : (p : Place) → Contains places p → IsLedTo grain start segs own told p
   pub all : (p : Place) → IsLedTo grain start segs own told p → Contains places p
+
+-- Nothing is left to be asked at one of these places.
+pub record HasEnd (places : List Place) : Type 0 where
+  pub place : Place
+  pub there : Contains places place
+  pub over : place.agenda ≡ Session []
 
 -- The grain size, how many entries there are, and all places behind them.
 pub record Answers : Type 0 where

@@ -1,4 +1,5 @@
 mod Laws
+mod Beginning
 mod Tests
 mod Coming
 mod Refusing

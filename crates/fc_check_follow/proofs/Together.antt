@@ -10,11 +10,9 @@ use Rattle.fc_entry.specs.declared.entry.Entry.{Entry}
 use Rattle.fc_legal.specs.Steps.{Step}
 use Rattle.fc_legal.specs.Whole.{Whole, opened}
 use Rattle.fc_check_record.specs.Judged.{Judged}
-use Rattle.fc_check_sheet.specs.View.{pools_of}
-use Rattle.fc_check_sheet.specs.declared.pool.LanePool.{LanePool}
-use Rattle.fc_trace.specs.declared.header.LaneDisks.{LaneDisks}
 use Rattle.fc_check_follow.specs.Following.{AreCandidates, AreFollowing, AreReachedAt, AreUnderWay, Came, FollowsOne, IsOpen, IsReachedAt}
-use Rattle.fc_check_follow.specs.Ways.{AreAfter, pools_told}
+use Rattle.fc_check_follow.specs.Ways.{AreAfter}
+use Rattle.fc_check_follow.proofs.Beginning.{first_told}
 use Rattle.fc_check_follow.proofs.Coming.{way_of}
 use Rattle.fc_check_follow.proofs.Laws.{names, stands}
 
@@ -166,23 +164,13 @@ are_after grain entries old entry new were after = record { only = λ next there
 
 -- ---- before the first entry
 
-pub some_pools : (pools slice : List LanePool) (lanes : List LaneDisks) → slice ≡ pools → pools_of pools ≡ pools_told lanes → 0 < length lanes → 0 < length (pools_of slice)
-some_pools pools slice lanes is same some =
-    let all : pools_of slice ≡ pools_told lanes = ap pools_of is ∙ same in
-    let counted : length (pools_of slice) ≡ length (pools_told lanes) = ap (λ (ps : List Pool). length ps) all in
-    let long : length (pools_told lanes) ≡ length lanes = length-map lanes (λ (lane : LaneDisks). record { flat = lane.flat; thin = lane.thin }) in
-    omega arith
-
-abbrev pub first_way : GrainSize → List Pool → Judged
-first_way grain pools = record { grain = grain; whole = record (opened pools) { actors = [] } }
-
-pub opened_candidates : (grain : GrainSize) (pools : List Pool) (ways : List Judged) → 0 < length pools → ways ≡ first_way grain pools ∷ [] → AreCandidates grain 0 ways
+pub opened_candidates : (grain : GrainSize) (pools : List Pool) (ways : List Judged) → 0 < length pools → ways ≡ first_told grain pools ∷ [] → AreCandidates grain 0 ways
 opened_candidates grain pools ways some is = subst (AreCandidates grain 0) (sym is) record {
-  reached = λ way there. subst (IsReachedAt 0) (alone way (Contains-push_cases [] (first_way grain pools) way there)) (record { entries_are = refl; reached = names.reached 0 [] (opened pools) (stands.opened pools some) });
-  grains = λ way there. sym (ap (λ (j : Judged). j.grain) (alone way (Contains-push_cases [] (first_way grain pools) way there)));
+  reached = λ way there. subst (IsReachedAt 0) (alone way (Contains-push_cases [] (first_told grain pools) way there)) (record { entries_are = refl; reached = names.reached 0 [] (opened pools) (stands.opened pools some) });
+  grains = λ way there. sym (ap (λ (j : Judged). j.grain) (alone way (Contains-push_cases [] (first_told grain pools) way there)));
 }
   where
-    alone : (way : Judged) → Contains [] way ⊎ (first_way grain pools ≡ way) → first_way grain pools ≡ way
+    alone : (way : Judged) → Contains [] way ⊎ (first_told grain pools ≡ way) → first_told grain pools ≡ way
     alone way (inl there) = absurd (no_way way there)
     alone way (inr same) = same
 

@@ -3,16 +3,15 @@
 ghost use Rattle.std.specs.Prelude.{◌≡◌, ◌↔◌, ◌+◌, ◌<◌, [], ◌∷◌, length, IfOk, OnOk, IsTrue};
 ghost use Rattle.fc_legal.specs.Whole.{opened};
 ghost use Rattle.law_stands.specs.Names.{nameless};
-ghost use Rattle.fc_check_sheet.specs.View.{pools_of};
 ghost use Rattle.fc_check_follow.specs.Ways.{AreAfter, pools_told};
 ghost use Rattle.fc_check_follow.specs.Following.{AreFollowing, AreReachedAt};
 
+use crate::first::first_way;
 use crate::refused::keep;
 use crate::way::follow_way;
 use fc_base::outcome::NoMemory;
 use fc_base::size::GrainSize;
 use fc_check_record::Record;
-use fc_check_sheet::LanePool;
 use fc_entry::entry::Entry;
 use fc_trace::header::LaneDisks;
 use std::alloc::Global;
@@ -38,24 +37,6 @@ impl Model for Candidates {
     ghost view = { λ c. record { grain = c.grain; entries = c.entries; ways = map (λ (way : Judged). way.whole) c.ways.items } };
 
     ghost invariant = { λ c. AreCandidates c.grain c.entries c.ways.items };
-}
-
-/// The disks that lanes have for new volumes.
-fn lane_pools(alloc: Global, lanes: &[LaneDisks]) -> Result<Vec<LanePool>, NoMemory>
-    ensures { IfOk result (λ pools. pools_of pools.items ≡ pools_told lanes.now) }
-{
-    let mut pools = Vec::new(alloc);
-    for lane in lanes {
-        let pool = LanePool {
-            flat: lane.flat,
-            thin: lane.thin,
-        };
-        match pools.push(pool) {
-            Ok(()) => {}
-            Err(_) => return Err(NoMemory),
-        }
-    }
-    Ok(pools)
 }
 
 /// Goes on with all ways behind an entry with the next number, which is below 2^18.
@@ -105,8 +86,7 @@ impl Candidates {
         requires { 0 < length lanes.now }
         ensures { IfOk result (λ c. c ≡ record { grain = grain; entries = 0; ways = nameless (opened (pools_told lanes.now)) ∷ [] }) }
     {
-        let pools = lane_pools(alloc, lanes)?;
-        let first = Record::open(alloc, grain, pools.as_slice())?;
+        let first = first_way(alloc, grain, lanes)?;
         let mut ways = Vec::new(alloc);
         keep(first, &mut ways)?;
         Ok(Candidates {

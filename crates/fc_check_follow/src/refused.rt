@@ -9,6 +9,7 @@ use crate::apart::says_refused;
 use fc_base::fault::Refusal;
 use fc_base::name::Ref;
 use fc_base::outcome::NoMemory;
+use fc_check_lane::push_item;
 use fc_check_record::Record;
 use fc_entry::entry::Entry;
 
@@ -16,10 +17,7 @@ use fc_entry::entry::Entry;
 pub(crate) fn keep(way: Record, after: &mut Vec<Record>) -> Result<(), NoMemory>
     ensures { OnOk result (after.new.items ≡ after.old.items ++ way ∷ []) }
 {
-    match after.push(way) {
-        Ok(()) => Ok(()),
-        Err(_) => Err(NoMemory),
-    }
+    push_item(after, way)
 }
 
 /// Keeps a way that an entry of no lane has left: one more entry is there.

@@ -11,7 +11,6 @@ use fc_pick::WorkFlags;
 use std::marker::Model;
 
 /// What a judge keeps of what was told. There is a lane or more.
-#[derive(Drop)]
 pub struct Known {
     /// The grain size.
     pub grain: GrainSize,
@@ -29,6 +28,22 @@ pub struct Known {
     pub faults: Vec<u64>,
     /// How many entries there are.
     pub entries: u64,
+}
+
+impl Drop for Known {
+    // Written out, so that a function that drops it has one call for all of it in its proof.
+    fn drop(self) {
+        let Known {
+            grain: _,
+            volumes: _,
+            sizes: _,
+            flags: _,
+            sheet: _,
+            picture: _,
+            faults: _,
+            entries: _,
+        } = self;
+    }
 }
 
 impl Model for Known {
@@ -86,7 +101,7 @@ impl Known {
     }
 
     /// How many lanes there are, one or more.
-    pub(crate) fn lanes(&self) -> usize
+    pub fn lanes(&self) -> usize
         ensures count { result ≡ length self.now.faults }
         ensures some { 0 < result }
     {

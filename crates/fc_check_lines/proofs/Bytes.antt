@@ -1,6 +1,7 @@
 -- The bytes of a session, line by line and segment by segment.
-use Rattle.std.proofs.Common.{◌≡◌, ℕ, zero, suc, ◌+◌, ◌==◌, ◌<◌, ◌≤◌, Bool, true, false, not, cond, Option, Some, None, Result, Ok, Err, List, [], ◌∷◌, ◌++◌, length, take, drop, fold, append_assoc, append-nil, refl, sym, ap, ◌∙◌, arith}
+use Rattle.std.proofs.Common.{◌≡◌, ℕ, zero, suc, ◌+◌, ◌-◌, ◌==◌, ◌<◌, ◌≤◌, Bool, true, false, not, cond, Option, Some, None, Result, Ok, Err, List, [], ◌∷◌, ◌++◌, length, take, drop, fold, append_assoc, append-nil, refl, sym, ap, ◌∙◌, arith}
 use Rattle.std.specs.List.{position, position_or_len}
+use Rattle.std.proofs.lemmas.List.{length-drop, take_all}
 use Rattle.std.proofs.lemmas.List.Sums.{fold-append, prefix_len-le-length}
 use Rattle.fc_base.specs.declared.command.Line.{Line}
 use Rattle.fc_base.specs.declared.command.Line.TheVariants.{Blank, Command, Together, Actor, End}
@@ -86,7 +87,7 @@ none_at front (byte ∷ bytes) is = none_byte front byte bytes (byte == 10) is (
 abbrev lines_of : Lined → List (List ℕ)
 lines_of l = l.ended ++ last_line l.unended
 
-pub first_ended : (bytes : List ℕ) (n : ℕ) → position is_newline bytes ≡ Some n →
+first_ended : (bytes : List ℕ) (n : ℕ) → position is_newline bytes ≡ Some n →
     (all_lines bytes ≡ without_return (take n bytes) ∷ all_lines (drop (n + 1) bytes)) × (n < length bytes)
 first_ended bytes n is =
     let at : (n ≡ position_or_len is_newline bytes) × (position_or_len is_newline bytes < length bytes) = place_is is_newline bytes n is in
@@ -96,6 +97,17 @@ first_ended bytes n is =
       ap lines_of (line_at [] bytes n at.0 within) ∙ ap (λ k. without_return (take n bytes) ∷ all_lines (drop k bytes)) (sym more),
       within,
     )
+
+-- all that stands behind it
+behind_all : (bytes : List ℕ) (n : ℕ) → take (length bytes - n) (drop n bytes) ≡ drop n bytes
+behind_all bytes n = take_all (length bytes - n) (drop n bytes) (omega (arith, length-drop n bytes))
+
+pub line_ended : (bytes line : List ℕ) (n : ℕ) → position is_newline bytes ≡ Some n → line ≡ without_return (take n bytes) →
+    all_lines bytes ≡ line ∷ all_lines (take (length bytes - (n + 1)) (drop (n + 1) bytes))
+line_ended bytes line n is ended =
+    (first_ended bytes n is).0
+    ∙ ap (λ l. l ∷ all_lines (drop (n + 1) bytes)) (sym ended)
+    ∙ ap (λ b. line ∷ all_lines b) (sym (behind_all bytes (n + 1)))
 
 pub first_unended : (bytes : List ℕ) → position is_newline bytes ≡ None → 0 < length bytes → all_lines bytes ≡ bytes ∷ []
 first_unended bytes is some =

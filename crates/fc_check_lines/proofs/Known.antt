@@ -38,6 +38,10 @@ pub record IsKnownAs (names : List (List ℕ)) (number : ℕ) : Type 0 where
 abbrev IsMain : List (List ℕ) → Type 0
 IsMain names = place_of_name names (codes "main") ≡ Some 0
 
+-- The first name is that of number 0.
+pub main_first : (names : List (List ℕ)) → IsMain (codes "main" ∷ names)
+main_first names = place_there (is_name (codes "main")) (codes "main" ∷ names) (omega arith)
+
 below_case : (here : Bool) (known : Bool) (n place : ℕ) → (known ≡ true → place < n) → (here || known) ≡ true → cond (not here) (1 + place) 0 < suc n
 below_case true known n place more e = omega arith
 below_case false known n place more e = omega (arith, more e)
@@ -166,10 +170,10 @@ module _ (grain : GrainSize) (read : Reading) where
 
   -- ---- by name
 
-  main_asked : (a : Agenda) (w : Whole) (number : ℕ) (request : Request) → IsMain w.actors → 0 ≡ number → Asks grain a w (number, request) → (name : List ℕ) × IsAskedBy grain a w name request
-  main_asked a w number request main zero asks =
+  main_known : (w : Whole) (number : ℕ) → IsMain w.actors → 0 ≡ number → IsKnownAs w.actors number
+  main_known w number main zero =
       let P : ℕ → Type 0 = λ n. place_of_name w.actors (codes "main") ≡ Some n in
-      (codes "main", record { actor = number; place = subst P zero main; asks = asks })
+      record { name = codes "main"; place = subst P zero main }
 
   first_is : (x request : Request) (number : ℕ) → ◌≡◌ {A = Option (ℕ × Request)} (Some (0, x)) (Some (number, request)) → 0 ≡ number
   first_is x request number e =
@@ -196,14 +200,16 @@ module _ (grain : GrainSize) (read : Reading) where
   has_known names [] number known has = absurd (cc has)
   has_known names (s ∷ ss) number known has = has_case names s ss number (s.actor == number) refl known (λ k h. has_known names ss number k h) has
 
+  pub number_known : (a : Agenda) (w : Whole) (number : ℕ) (request : Request) → Known a w.actors → Asks grain a w (number, request) → IsKnownAs w.actors number
+  number_known (Session segs) w number request known asks = absurd (cc asks)
+  number_known (Own [] n segs) w number request known asks = absurd (cc asks)
+  number_known (Own (x ∷ rest) n segs) w number request known asks = main_known w number known.main (first_is x request number asks)
+  number_known (Seconds p segs) w number request known asks = main_known w number known.main (fill_first (next_fill grain w p) request number asks)
+  number_known (Faults [] actors segs) w number request known asks = absurd (cc asks)
+  number_known (Faults (x ∷ rest) actors segs) w number request known asks = main_known w number known.main (first_is x request number asks)
+  number_known (Actors scripts segs) w number request known asks = has_known w.actors scripts number known.actors (asks_has scripts number request asks)
+
   pub asked_by : (a : Agenda) (w : Whole) (number : ℕ) (request : Request) → Known a w.actors → Asks grain a w (number, request) → (name : List ℕ) × IsAskedBy grain a w name request
-  asked_by (Session segs) w number request known asks = absurd (cc asks)
-  asked_by (Own [] n segs) w number request known asks = absurd (cc asks)
-  asked_by (Own (x ∷ rest) n segs) w number request known asks = main_asked (Own (x ∷ rest) n segs) w number request known.main (first_is x request number asks) asks
-  asked_by (Seconds p segs) w number request known asks = main_asked (Seconds p segs) w number request known.main (fill_first (next_fill grain w p) request number asks) asks
-  asked_by (Faults [] actors segs) w number request known asks = absurd (cc asks)
-  asked_by (Faults (x ∷ rest) actors segs) w number request known asks =
-      main_asked (Faults (x ∷ rest) actors segs) w number request known.main (first_is x request number asks) asks
-  asked_by (Actors scripts segs) w number request known asks =
-      let one : IsKnownAs w.actors number = has_known w.actors scripts number known.actors (asks_has scripts number request asks) in
+  asked_by a w number request known asks =
+      let one : IsKnownAs w.actors number = number_known a w number request known asks in
       (one.name, record { actor = number; place = one.place; asks = asks })

@@ -1,20 +1,16 @@
 -- The law of lines.
-use Rattle.std.proofs.Common.{◌≡◌, ℕ, Some, List, ◌∷◌, codes, refl, sym, subst}
+use Rattle.std.proofs.Common.{◌≡◌, ℕ, List, ◌∷◌, codes, refl, sym, subst}
 use Rattle.fc_agenda.specs.Goes.{Goes}
 use Rattle.fc_base.specs.declared.request.Request.{Request}
 use Rattle.fc_base.specs.declared.size.GrainSize.{GrainSize}
 use Rattle.fc_blocks.specs.Segments.{Segment}
-use Rattle.fc_check_lines.proofs.Known.{Known, asked_by, goes_known}
+use Rattle.fc_check_lines.proofs.Known.{Known, asked_by, goes_known, main_first}
 use Rattle.fc_check_lines.proofs.Leading.{asks_waits, goes_more, names_alone, one_place, only_more, whole_leads}
 use Rattle.fc_check_lines.specs.Asked.{IsAskedBy}
 use Rattle.fc_check_lines.specs.Law.{LinesLaw}
-use Rattle.fc_entry.specs.HistoryState.{place_of_name}
 use Rattle.fc_entry.specs.declared.entry.Entry.{Entry}
 use Rattle.fc_legal.specs.Agenda.{Agenda, Asks, Reading, Session, session_rules}
 use Rattle.fc_legal.specs.Whole.{Whole}
-
-main_first : (names : List (List ℕ)) → place_of_name (codes "main" ∷ names) (codes "main") ≡ Some 0
-main_first names = refl
 
 named_by :
     (grain : GrainSize) (read : Reading) (segs : List Segment) (b : Agenda) (w v : Whole) (names : List (List ℕ)) (entries : List Entry) (number : ℕ) (request : Request) →

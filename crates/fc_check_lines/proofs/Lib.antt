@@ -5,4 +5,5 @@ pub mod SecondsPass
 pub mod Known
 pub mod Lawful
 pub mod Standing
+pub mod Answering
 pub mod LinesExamples

@@ -1,5 +1,5 @@
 -- What is left of a session goes on without an entry, and behind one.
-use Rattle.std.proofs.Common.{◌≡◌, ◌≢◌, ◌↔◌, ℕ, Bool, true, false, cond, Option, Some, None, Result, Ok, Err, List, [], ◌∷◌, refl, sym, ap, ap₂, subst, ◌∙◌}
+use Rattle.std.proofs.Common.{◌≡◌, ◌≢◌, ◌↔◌, ℕ, Bool, true, false, cond, IsTrue, IfOk, Option, Some, None, Result, Ok, Err, List, [], ◌∷◌, refl, sym, ap, ap₂, subst, ◌∙◌}
 use Rattle.std.specs.Option.{option_map}
 use Rattle.fc_agenda.proofs.Going.{Goes-append, Goes-pass}
 use Rattle.fc_agenda.specs.Goes.{Goes, stays, passes, begins}
@@ -9,6 +9,7 @@ use Rattle.fc_base.specs.declared.command.Scope.TheVariants.{Free}
 use Rattle.fc_base.specs.declared.command.ScriptLine.{ScriptLine}
 use Rattle.fc_base.specs.declared.fault.WordFault.{WordFault}
 use Rattle.fc_base.specs.declared.ids.GrainNo.{GrainNo}
+use Rattle.fc_base.specs.declared.request.Reply.{Reply}
 use Rattle.fc_base.specs.declared.request.Request.{Request}
 use Rattle.fc_base.specs.declared.size.GrainSize.{GrainSize}
 use Rattle.fc_blocks.specs.Reading.{script_line}
@@ -17,46 +18,23 @@ use Rattle.fc_blocks.specs.declared.block.ActorRead.{ActorRead}
 use Rattle.fc_blocks.specs.declared.block.BlockRead.{BlockRead}
 use Rattle.fc_books.specs.Books.{Books}
 use Rattle.fc_check_lines.proofs.Leading.{over_waits}
-use Rattle.fc_check_lines.proofs.SecondsPass.{passes_to}
+use Rattle.fc_check_lines.proofs.SecondsPass.{named_behind, named_fill, passes_to}
 use Rattle.fc_check_lines.specs.Bytes.{IsSegment, by_grammar, segments_in}
 use Rattle.fc_check_lines.specs.Leading.{LeadTo, Waits}
 use Rattle.fc_check_lines.specs.Passing.{PassTo, PassesUpTo, fill_asked}
-use Rattle.fc_check_lines.specs.Standing.{GoesOnTo, IsOverWith, agenda_of, left_of, script_seconds}
+use Rattle.fc_check_lines.specs.Standing.{BeginsAs, GoesOnTo, IsLeftBehind, IsOverWith, MainAsks, TellsNext, agenda_of, left_of, script_seconds}
 use Rattle.fc_check_lines.specs.declared.lines.Asking.{Asking}
 use Rattle.fc_check_lines.specs.declared.lines.Asking.TheVariants.{Nothing, Own as OwnAsked, Seconds as SecondsAsked, Faults as FaultsAsked, Actors as ActorsAsked}
+use Rattle.fc_check_lines.specs.declared.segment.SegmentRead.{SegmentRead}
 use Rattle.fc_check_lines.specs.declared.segment.SegmentRead.TheVariants.{Single, Block}
 use Rattle.fc_entry.specs.declared.entry.Entry.{Entry}
 use Rattle.fc_legal.specs.Agenda.{Actors, Agenda, Asks, Faults, Own, Reading, Seconds, Session, behind_entry, behind_fill, is_done, line_seconds, segment_read, session_rules, without_entry, without_fill}
 use Rattle.fc_legal.specs.Asked.{asked}
-use Rattle.fc_legal.specs.Scripts.{Script, are_done, behind_first, faults_asked, line_asked, names_with, next_request, scripts_of}
-use Rattle.fc_legal.specs.Seconds.{Passing, Work, all_work, fill_at_hand, fill_of, goes_on, goes_on_with, next_fill, next_grain, seconds_begun}
+use Rattle.fc_legal.specs.Scripts.{Script, are_done, behind_first, behind_next, faults_asked, line_asked, names_with, next_by, next_request, scripts_of}
+use Rattle.fc_legal.specs.Seconds.{Passing, Work, all_work, fill_of, next_fill, seconds_begun}
 use Rattle.fc_legal.specs.Whole.{Whole, lanes}
 use Rattle.fc_words.specs.Lines.{line_of}
 use Rattle.law_stands.specs.Names.{named}
-
--- ---- the names of actors count for nothing in seconds that pass
-
-module _ (grain : GrainSize) (names : List (List ℕ)) (w : Whole) where
-  named_at_hand : (work : Option Work) → fill_at_hand grain (named names w) work ≡ fill_at_hand grain w work
-  unfolding next_grain
-  named_at_hand None = refl
-  named_at_hand (Some work) = refl
-
-  pub named_fill : (p : Passing) → next_fill grain (named names w) p ≡ next_fill grain w p
-  named_fill p = named_at_hand p.at_hand
-
-  named_on_with : (p : Passing) (work : Option Work) → goes_on_with grain (named names w) p work ≡ goes_on_with grain w p work
-  unfolding next_grain
-  named_on_with p None = refl
-  named_on_with p (Some work) = refl
-
-  pub named_on : (p : Passing) → goes_on grain (named names w) p ≡ goes_on grain w p
-  named_on p = named_on_with p p.at_hand
-
-  pub named_behind : (p : Passing) (work : Option Work) (entry : Entry) → behind_fill grain (named names w) p work entry ≡ behind_fill grain w p work entry
-  unfolding next_grain
-  named_behind p None entry = refl
-  named_behind p (Some work) entry = refl
 
 -- ---- a line or a block is begun
 
@@ -73,36 +51,45 @@ seconds_read (Ok End) = refl
 seconds_read (Err fault) = refl
 
 module _ (grain : GrainSize) (w : Whole) where
-  pub begins_single :
-      (line : ScriptLine) (asking : Asking) →
-      ((segs : List Segment) → agenda_of asking segs ≡ Own (line_asked grain w.books line) (script_seconds line) segs) →
-      (s : Segment) (segs : List Segment) (names : List (List ℕ)) →
-      IsSegment (Single line) s →
-      agenda_of asking segs ≡ segment_read grain by_grammar (named names w) s segs
-  begins_single line asking is (single bytes) segs names read =
-      is segs
-      ∙ ap (λ l. Own (line_asked grain w.books l) (script_seconds l) segs) read
+  single_read : (line : ScriptLine) (s : Segment) (segs : List Segment) (names : List (List ℕ)) → IsSegment (Single line) s →
+      Own (line_asked grain w.books line) (script_seconds line) segs ≡ segment_read grain by_grammar (named names w) s segs
+  single_read line (single bytes) segs names read =
+      ap (λ l. Own (line_asked grain w.books l) (script_seconds l) segs) read
       ∙ ap₂ (λ rs n. Own rs n segs) (asked_read grain w.books (line_of Free bytes)) (seconds_read (line_of Free bytes))
-  begins_single line asking is (together block) segs names read = absurd read
+  single_read line (together block) segs names read = absurd read
 
-  pub begins_block :
-      (block : BlockRead) (requests : List Request) →
+  block_read : (block : BlockRead) (s : Segment) (segs : List Segment) (names : List (List ℕ)) → IsSegment (Block block) s →
+      Faults (faults_asked block.faults) block.actors segs ≡ segment_read grain by_grammar (named names w) s segs
+  block_read block (single bytes) segs names read = absurd read
+  block_read block (together other) segs names read = ap (λ (b : BlockRead). Faults (faults_asked b.faults) b.actors segs) read
+
+  pub single_begins :
+      {E : Type 0} (r : Result Asking E) (segment : SegmentRead) (line : ScriptLine) →
+      segment ≡ Single line →
+      IfOk r (λ asking. asking ≡ OwnAsked (line_asked grain w.books line) (script_seconds line)) →
+      IfOk r (λ asking. BeginsAs grain w segment asking)
+  single_begins (Ok asking) segment line is begun = λ s segs names read.
+      let P : SegmentRead → Type 0 = λ found. IsSegment found s in
+      ap (λ a. agenda_of a segs) begun ∙ single_read line s segs names (subst P is read)
+  single_begins (Err refused) segment line is begun = tt
+
+  pub block_begins :
+      (segment : SegmentRead) (block : BlockRead) (requests : List Request) (asking : Asking) →
+      segment ≡ Block block →
       requests ≡ faults_asked block.faults →
-      (s : Segment) (segs : List Segment) (names : List (List ℕ)) →
-      IsSegment (Block block) s →
-      Faults requests block.actors segs ≡ segment_read grain by_grammar (named names w) s segs
-  begins_block block requests is (single bytes) segs names read = absurd read
-  begins_block block requests is (together other) segs names read =
-      ap (λ rs. Faults rs block.actors segs) is
-      ∙ ap (λ (b : BlockRead). Faults (faults_asked b.faults) b.actors segs) read
+      asking ≡ FaultsAsked requests block.actors →
+      BeginsAs grain w segment asking
+  block_begins segment block requests asking is told begun = λ s segs names read.
+      let P : SegmentRead → Type 0 = λ found. IsSegment found s in
+      ap (λ a. agenda_of a segs) begun ∙ ap (λ rs. Faults rs block.actors segs) told ∙ block_read block s segs names (subst P is read)
 
 -- ---- what was begun goes on
 
 module _ (grain : GrainSize) (read : Reading) where
-  pub nothing_goes : (w : Whole) → GoesOnTo grain read Nothing w None w
-  nothing_goes w = record { goes = λ segs. stays; waits = λ found segs is. absurd (cc is) }
+  abbrev GoesOn : Whole → Option Asking → Asking → Type 0
+  GoesOn w left asking = GoesOnTo grain read asking w left w
 
-  stays_there : (asking : Asking) (w : Whole) → ((segs : List Segment) → Waits grain read (agenda_of asking segs) w) → GoesOnTo grain read asking w (Some asking) w
+  stays_there : (asking : Asking) (w : Whole) → ((segs : List Segment) → Waits grain read (agenda_of asking segs) w) → GoesOn w (Some asking) asking
   stays_there asking w waits =
       record {
         goes = λ segs. stays;
@@ -112,115 +99,133 @@ module _ (grain : GrainSize) (read : Reading) where
             subst P same (waits segs);
       }
 
-  ends_there : (asking : Asking) (w : Whole) → ((segs : List Segment) → without_entry grain read (agenda_of asking segs) w ≡ Some (Session segs)) → GoesOnTo grain read asking w None w
+  ends_there : (asking : Asking) (w : Whole) → ((segs : List Segment) → without_entry grain read (agenda_of asking segs) w ≡ Some (Session segs)) → GoesOn w None asking
   ends_there asking w passed = record { goes = λ segs. passes (passed segs) stays; waits = λ found segs is. absurd (cc is) }
 
-  pub own_ends : (asking : Asking) (requests : List Request) (n : ℕ) (w : Whole) → ((segs : List Segment) → agenda_of asking segs ≡ Own requests n segs) → requests ≡ [] → GoesOnTo grain read asking w None w
+  pub nothing_goes : (asking : Asking) (w : Whole) → asking ≡ Nothing → GoesOnTo grain read asking w None w
+  nothing_goes asking w is = subst (GoesOn w None) (sym is) (record { goes = λ segs. stays; waits = λ found segs some. absurd (cc some) })
+
+  -- requests of a line
+  own_passes : (requests : List Request) (n : ℕ) (w : Whole) (segs : List Segment) → requests ≡ [] → without_entry grain read (Own requests n segs) w ≡ Some (Session segs)
+  own_passes requests n w segs none = ap (λ rs. without_entry grain read (Own rs n segs) w) none
+
+  own_waits : (requests : List Request) (n : ℕ) (w : Whole) (segs : List Segment) → requests ≢ [] → Waits grain read (Own requests n segs) w
+  own_waits [] n w segs some = absurd (some refl)
+  own_waits (r ∷ rest) n w segs some = record { none_passes = refl; none_begins = λ b v on. on }
+
+  pub own_ends : (asking : Asking) (requests : List Request) (n : ℕ) (w : Whole) → asking ≡ OwnAsked requests n → requests ≡ [] → GoesOnTo grain read asking w None w
   own_ends asking requests n w is none =
-      ends_there asking w (λ segs. ap (λ a. without_entry grain read a w) (is segs ∙ ap (λ rs. Own rs n segs) none))
+      subst (GoesOn w None) (sym is) (ends_there (OwnAsked requests n) w (λ segs. own_passes requests n w segs none))
 
-  own_none : (requests : List Request) (n : ℕ) (segs : List Segment) (w : Whole) → requests ≢ [] → Waits grain read (Own requests n segs) w
-  own_none [] n segs w some = absurd (some refl)
-  own_none (r ∷ rest) n segs w some = record { none_passes = refl; none_begins = λ b v on. on }
-
-  pub own_stays : (asking : Asking) (requests : List Request) (n : ℕ) (w : Whole) → ((segs : List Segment) → agenda_of asking segs ≡ Own requests n segs) → requests ≢ [] → GoesOnTo grain read asking w (Some asking) w
+  pub own_stays : (asking : Asking) (requests : List Request) (n : ℕ) (w : Whole) → asking ≡ OwnAsked requests n → requests ≢ [] →
+      GoesOnTo grain read asking w (Some (OwnAsked requests n)) w
   own_stays asking requests n w is some =
-      stays_there asking w (λ segs.
-      let P : Agenda → Type 0 = λ a. Waits grain read a w in
-      subst P (sym (is segs)) (own_none requests n segs w some))
+      subst (GoesOn w (Some (OwnAsked requests n))) (sym is) (stays_there (OwnAsked requests n) w (λ segs. own_waits requests n w segs some))
 
-  faults_none : (requests : List Request) (actors : List ActorRead) (segs : List Segment) (w : Whole) → requests ≢ [] → Waits grain read (Faults requests actors segs) w
-  faults_none [] actors segs w some = absurd (some refl)
-  faults_none (r ∷ rest) actors segs w some = record { none_passes = refl; none_begins = λ b v on. on }
+  -- faults of a block
+  faults_wait : (requests : List Request) (actors : List ActorRead) (w : Whole) (segs : List Segment) → requests ≢ [] → Waits grain read (Faults requests actors segs) w
+  faults_wait [] actors w segs some = absurd (some refl)
+  faults_wait (r ∷ rest) actors w segs some = record { none_passes = refl; none_begins = λ b v on. on }
 
-  pub faults_stay : (asking : Asking) (requests : List Request) (actors : List ActorRead) (w : Whole) → ((segs : List Segment) → agenda_of asking segs ≡ Faults requests actors segs) → requests ≢ [] →
-      GoesOnTo grain read asking w (Some asking) w
+  pub faults_stay : (asking : Asking) (requests : List Request) (actors : List ActorRead) (w : Whole) → asking ≡ FaultsAsked requests actors → requests ≢ [] →
+      GoesOnTo grain read asking w (Some (FaultsAsked requests actors)) w
   faults_stay asking requests actors w is some =
-      stays_there asking w (λ segs.
-      let P : Agenda → Type 0 = λ a. Waits grain read a w in
-      subst P (sym (is segs)) (faults_none requests actors segs w some))
+      subst (GoesOn w (Some (FaultsAsked requests actors))) (sym is)
+      (stays_there (FaultsAsked requests actors) w (λ segs. faults_wait requests actors w segs some))
 
   -- seconds
-  fill_none : (w : Whole) (p : Passing) (segs : List Segment) (fill : Option (Work × GrainNo)) → fill ≢ None → ◌≡◌ {A = Option Agenda} (without_fill grain w p fill segs) None
-  fill_none w p segs None some = absurd (some refl)
-  fill_none w p segs (Some next) some = refl
+  fill_waits : (w : Whole) (p : Passing) (segs : List Segment) (fill : Option (Work × GrainNo)) → fill ≢ None → without_fill grain w p fill segs ≡ None
+  fill_waits w p segs None some = absurd (some refl)
+  fill_waits w p segs (Some next) some = refl
 
-  pub seconds_stay : (asking found : Asking) (p q : Passing) (w : Whole) →
-      ((segs : List Segment) → agenda_of asking segs ≡ Seconds p segs) →
-      ((segs : List Segment) → agenda_of found segs ≡ Seconds q segs) →
-      PassTo grain w p q →
-      PassesUpTo true grain w q →
-      GoesOnTo grain read asking w (Some found) w
-  seconds_stay asking found p q w is to passed fill =
-      record {
-        goes = λ segs.
-            let P : Agenda → Type 0 = λ a. Goes (session_rules grain read) a w [] (agenda_of found segs) w in
-            let Q : Agenda → Type 0 = λ a. Goes (session_rules grain read) (Seconds p segs) w [] a w in
-            subst P (sym (is segs)) (subst Q (sym (to segs)) (passed read segs));
-        waits = λ other segs same.
-            let one : found ≡ other = cc same in
-            let P : Asking → Type 0 = λ a. Waits grain read (agenda_of a segs) w in
-            let Q : Agenda → Type 0 = λ a. Waits grain read a w in
-            subst P one (subst Q (sym (to segs)) (record { none_passes = fill_none w q segs (next_fill grain w q) fill; none_begins = λ b v on. on }));
-      }
+  second_waits : (w : Whole) (p : Passing) (segs : List Segment) → PassesUpTo true grain w p → Waits grain read (Seconds p segs) w
+  second_waits w p segs fill = record { none_passes = fill_waits w p segs (next_fill grain w p) fill; none_begins = λ b v on. on }
 
-  pub seconds_end : (asking : Asking) (p q : Passing) (w : Whole) →
-      ((segs : List Segment) → agenda_of asking segs ≡ Seconds p segs) →
+  pub seconds_stay :
+      (asking : Asking) (p q : Passing) (fills : Bool) (w : Whole) →
+      asking ≡ SecondsAsked p →
+      fills ≡ true →
       PassTo grain w p q →
-      PassesUpTo false grain w q →
+      PassesUpTo fills grain w q →
+      GoesOnTo grain read asking w (Some (SecondsAsked q)) w
+  seconds_stay asking p q fills w is test passed upto =
+      let P : Bool → Type 0 = λ b. PassesUpTo b grain w q in
+      let fill : PassesUpTo true grain w q = subst P test upto in
+      subst (GoesOn w (Some (SecondsAsked q))) (sym is)
+      (record {
+        goes = λ segs. passed read segs;
+        waits = λ found segs some.
+            let one : SecondsAsked q ≡ found = cc some in
+            let Q : Asking → Type 0 = λ a. Waits grain read (agenda_of a segs) w in
+            subst Q one (second_waits w q segs fill);
+      })
+
+  pub seconds_end :
+      (asking : Asking) (p q : Passing) (fills : Bool) (w : Whole) →
+      asking ≡ SecondsAsked p →
+      fills ≡ false →
+      PassTo grain w p q →
+      PassesUpTo fills grain w q →
       GoesOnTo grain read asking w None w
-  seconds_end asking p q w is passed upto =
-      record {
-        goes = λ segs.
-            let P : Agenda → Type 0 = λ a. Goes (session_rules grain read) a w [] (Session segs) w in
-            subst P (sym (is segs))
-            (Goes-pass (session_rules grain read) (Seconds p segs) (Seconds q segs) (Session segs) w w [] (passed read segs)
-            (passes_to grain w read segs q None upto.0 upto.1));
-        waits = λ other segs same. absurd (cc same);
-      }
+  seconds_end asking p q fills w is test passed upto =
+      let P : Bool → Type 0 = λ b. PassesUpTo b grain w q in
+      let over : PassesUpTo false grain w q = subst P test upto in
+      subst (GoesOn w None) (sym is)
+      (record {
+        goes = λ segs. Goes-pass (session_rules grain read) (Seconds p segs) (Seconds q segs) (Session segs) w w [] (passed read segs) (passes_to grain w read segs q None over.0 over.1);
+        waits = λ found segs some. absurd (cc some);
+      })
 
   -- the actors of a block
-  pub actors_left : (asking : Asking) (scripts : List Script) (left : Option Asking) (w : Whole) →
-      ((segs : List Segment) → agenda_of asking segs ≡ Actors scripts segs) →
-      left ≡ cond (are_done scripts) None (Some asking) →
+  abbrev AreActors : Asking → List Script → Type 0
+  AreActors asking scripts = (segs : List Segment) → agenda_of asking segs ≡ Actors scripts segs
+
+  actors_pass : (asking : Asking) (scripts : List Script) (w : Whole) (segs : List Segment) (done : Bool) → AreActors asking scripts → are_done scripts ≡ done →
+      without_entry grain read (agenda_of asking segs) w ≡ cond done (Some (Session segs)) None
+  actors_pass asking scripts w segs done are e =
+      ap (λ a. without_entry grain read a w) (are segs) ∙ ap (λ d. cond {A = Option Agenda} d (Some (Session segs)) None) e
+
+  actors_wait : (asking : Asking) (scripts : List Script) (w : Whole) (segs : List Segment) → AreActors asking scripts → are_done scripts ≡ false →
+      Waits grain read (agenda_of asking segs) w
+  actors_wait asking scripts w segs are e =
+      record {
+        none_passes = actors_pass asking scripts w segs false are e;
+        none_begins = λ b v on.
+            let P : Agenda → Type 0 = λ a. (session_rules grain read).Begins a w b v in
+            subst P (are segs) on;
+      }
+
+  actors_by : (asking : Asking) (scripts : List Script) (w : Whole) (done : Bool) → AreActors asking scripts → are_done scripts ≡ done → GoesOn w (cond done None (Some asking)) asking
+  actors_by asking scripts w true are e = ends_there asking w (λ segs. actors_pass asking scripts w segs true are e)
+  actors_by asking scripts w false are e = stays_there asking w (λ segs. actors_wait asking scripts w segs are e)
+
+  pub actors_left : (asking found : Asking) (scripts : List Script) (left : Option Asking) (w : Whole) →
+      asking ≡ found →
+      ((segs : List Segment) → agenda_of found segs ≡ Actors scripts segs) →
+      left ≡ cond (are_done scripts) None (Some found) →
       GoesOnTo grain read asking w left w
-  actors_left asking scripts left w is says = by_done (are_done scripts) refl
-    where
-      passed : (segs : List Segment) (done : Bool) → are_done scripts ≡ done → without_entry grain read (agenda_of asking segs) w ≡ cond done (Some (Session segs)) None
-      passed segs done e = ap (λ a. without_entry grain read a w) (is segs) ∙ ap (λ d. cond {A = Option Agenda} d (Some (Session segs)) None) e
-
-      no_actors_begin : (segs : List Segment) (b : Agenda) (v : Whole) → (session_rules grain read).Begins (agenda_of asking segs) w b v → ⊥
-      no_actors_begin segs b v on =
-          let P : Agenda → Type 0 = λ a. (session_rules grain read).Begins a w b v in
-          subst P (is segs) on
-
-      by_done : (done : Bool) → are_done scripts ≡ done → GoesOnTo grain read asking w left w
-      by_done true e =
-          let none : left ≡ None = says ∙ ap (λ d. cond {A = Option Asking} d None (Some asking)) e in
-          let P : Option Asking → Type 0 = λ l. GoesOnTo grain read asking w l w in
-          subst P (sym none) (ends_there asking w (λ segs. passed segs true e))
-      by_done false e =
-          let some : left ≡ Some asking = says ∙ ap (λ d. cond {A = Option Asking} d None (Some asking)) e in
-          let P : Option Asking → Type 0 = λ l. GoesOnTo grain read asking w l w in
-          subst P (sym some) (stays_there asking w (λ segs. record { none_passes = passed segs false e; none_begins = no_actors_begin segs }))
+  actors_left asking found scripts left w is are says =
+      let P : Option Asking → Type 0 = λ l. GoesOnTo grain read found w l w in
+      subst (GoesOn w left) (sym is) (subst P (sym says) (actors_by found scripts w (are_done scripts) are refl))
 
   pub faults_begin :
       (asking found : Asking) (requests : List Request) (actors : List ActorRead) (scripts : List Script) (old new : List (List ℕ)) (whole : Whole) (left : Option Asking) →
-      ((segs : List Segment) → agenda_of asking segs ≡ Faults requests actors segs) →
+      asking ≡ FaultsAsked requests actors →
       requests ≡ [] →
       new ≡ names_with old actors →
       scripts ≡ scripts_of grain (lanes whole) whole.books new actors →
       ((segs : List Segment) → agenda_of found segs ≡ Actors scripts segs) →
       left ≡ cond (are_done scripts) None (Some found) →
       GoesOnTo grain read asking (named old whole) left (named new whole)
-  faults_begin asking found requests actors scripts old new whole left is none named_so scripted begun says =
-      let rest : GoesOnTo grain read found (named new whole) left (named new whole) = actors_left found scripts left (named new whole) begun says in
+  faults_begin asking found requests actors scripts old new whole left is none named_so scripted are says =
+      let rest : GoesOnTo grain read found (named new whole) left (named new whole) = actors_left found found scripts left (named new whole) refl are says in
+      let first : (segs : List Segment) → agenda_of asking segs ≡ Faults [] actors segs = λ segs. ap (λ a. agenda_of a segs) is ∙ ap (λ rs. Faults rs actors segs) none in
       record {
         goes = λ segs.
             let P : Agenda → Type 0 = λ a. Goes (session_rules grain read) a (named old whole) [] (left_of left segs) (named new whole) in
-            subst P (sym (is segs ∙ ap (λ rs. Faults rs actors segs) none))
+            subst P (sym (first segs))
             (begins {b = agenda_of found segs} {v = named new whole}
-            (ap (λ names. named names whole) named_so, begun segs ∙ ap (λ ss. Actors ss segs) scripted)
+            (ap (λ names. named names whole) named_so, are segs ∙ ap (λ ss. Actors ss segs) scripted)
             (rest.goes segs));
         waits = rest.waits;
       }
@@ -233,10 +238,23 @@ module _ (grain : GrainSize) (read : Reading) where
   pub waits_first : (a : Agenda) (w : Whole) → Way a w a w
   waits_first a w = stays
 
-  pub waits_on : (a : Agenda) (w v u : Whole) (asking : Asking) (left : Option Asking) (segs : List Segment) → Way a w (agenda_of asking segs) v → GoesOnTo grain read asking v left u → Way a w (left_of left segs) u
+  waits_on : (a : Agenda) (w v u : Whole) (asking : Asking) (left : Option Asking) (segs : List Segment) → Way a w (agenda_of asking segs) v → GoesOnTo grain read asking v left u →
+      Way a w (left_of left segs) u
   waits_on a w v u asking left segs way on =
       Goes-append (session_rules grain read) a (agenda_of asking segs) (left_of left segs) w v u [] [] way (on.goes segs)
 
+  -- it goes on to nothing
+  pub waits_none :
+      (a : Agenda) (w v u : Whole) (asking : Asking) (left : Option Asking) (segs : List Segment) →
+      Way a w (agenda_of asking segs) v →
+      GoesOnTo grain read asking v left u →
+      left ≡ None →
+      Way a w (Session segs) u
+  waits_none a w v u asking left segs way on none =
+      let P : Option Asking → Type 0 = λ l. Way a w (left_of l segs) u in
+      subst P none (waits_on a w v u asking left segs way on)
+
+  -- the next line or block is begun
   pub waits_next :
       (a : Agenda) (w v : Whole) (bytes behind : List ℕ) (segment : Segment) (b : Agenda) →
       Way a w (Session (segments_in bytes)) v →
@@ -247,6 +265,7 @@ module _ (grain : GrainSize) (read : Reading) where
       Goes-pass (session_rules grain read) a (Session (segments_in bytes)) b w v [] way
       (ap (λ segs. without_entry grain read (Session segs) v) first ∙ ap Some (sym begun))
 
+  -- it goes on to what waits
   pub waits_found :
       (a : Agenda) (w v u : Whole) (asking found : Asking) (left : Option Asking) (segs : List Segment) →
       Way a w (agenda_of asking segs) v →
@@ -257,6 +276,7 @@ module _ (grain : GrainSize) (read : Reading) where
       let P : Option Asking → Type 0 = λ l. Way a w (left_of l segs) u in
       record { goes = subst P is (waits_on a w v u asking left segs way on); waits = on.waits found segs is }
 
+  -- no line or block is left
   pub waits_over : (a : Agenda) (w v : Whole) (segs : List Segment) → Way a w (Session segs) v → segs ≡ [] → LeadTo grain read a w [] (Session segs) v
   waits_over a w v segs way none =
       let P : List Segment → Type 0 = λ s. Waits grain read (Session s) v in
@@ -274,56 +294,170 @@ some_pair {X} n m x y e =
     let same : ◌≡◌ {A = ℕ × X} (n, x) (m, y) = cc e in
     (ap (λ (p : ℕ × X). p.0) same, ap (λ (p : ℕ × X). Some p.1) same)
 
-module _ (grain : GrainSize) (w : Whole) (segs : List Segment) (actor : ℕ) (request : Request) where
-  abbrev MainAsks : Option Request → Type 0
-  MainAsks next = (actor ≡ 0) × (next ≡ Some request)
+both_then : {P Q R : Type 0} → (P ↔ Q) → (Q ↔ R) → (P ↔ R)
+both_then first next = ((λ p. next.0 (first.0 p)), (λ r. first.1 (next.1 r)))
 
-  by_main : (r : Request) → MainAsks (Some r) ↔ (◌≡◌ {A = Option (ℕ × Request)} (Some (0, r)) (Some (actor, request)))
-  by_main r =
+module _ (grain : GrainSize) (actor : ℕ) (request : Request) where
+  main_next : (r : Request) → MainAsks actor request (Some r) ↔ (◌≡◌ {A = Option (ℕ × Request)} (Some (0, r)) (Some (actor, request)))
+  main_next r =
       (
         (λ both. pair_some 0 actor r request (sym both.0) both.1),
         (λ asks. let both : (0 ≡ actor) × (Some r ≡ Some request) = some_pair 0 actor r request asks in (sym both.0, both.1)),
       )
 
-  pub own_asks : (requests : List Request) (n : ℕ) → MainAsks (next_request requests) ↔ Asks grain (Own requests n segs) w (actor, request)
-  own_asks [] n = ((λ both. absurd (cc both.1)), (λ asks. absurd (cc asks)))
-  own_asks (r ∷ rest) n = by_main r
+  own_next : (requests : List Request) (n : ℕ) (segs : List Segment) (w : Whole) → MainAsks actor request (next_request requests) ↔ Asks grain (Own requests n segs) w (actor, request)
+  own_next [] n segs w = ((λ both. absurd (cc both.1)), (λ asks. absurd (cc asks)))
+  own_next (r ∷ rest) n segs w = main_next r
 
-  pub faults_ask : (requests : List Request) (actors : List ActorRead) → MainAsks (next_request requests) ↔ Asks grain (Faults requests actors segs) w (actor, request)
-  faults_ask [] actors = ((λ both. absurd (cc both.1)), (λ asks. absurd (cc asks)))
-  faults_ask (r ∷ rest) actors = by_main r
+  faults_next : (requests : List Request) (actors : List ActorRead) (segs : List Segment) (w : Whole) →
+      MainAsks actor request (next_request requests) ↔ Asks grain (Faults requests actors segs) w (actor, request)
+  faults_next [] actors segs w = ((λ both. absurd (cc both.1)), (λ asks. absurd (cc asks)))
+  faults_next (r ∷ rest) actors segs w = main_next r
 
-  fill_asks : (fill : Option (Work × GrainNo)) →
-      MainAsks (fill_asked fill) ↔ (option_map (λ (next : Work × GrainNo). (0, fill_of next.0 next.1)) fill ≡ Some (actor, request))
-  fill_asks None = ((λ both. absurd (cc both.1)), (λ asks. absurd (cc asks)))
-  fill_asks (Some next) = by_main (fill_of next.0 next.1)
+  fill_next : (fill : Option (Work × GrainNo)) →
+      MainAsks actor request (fill_asked fill) ↔ (option_map (λ (next : Work × GrainNo). (0, fill_of next.0 next.1)) fill ≡ Some (actor, request))
+  fill_next None = ((λ both. absurd (cc both.1)), (λ asks. absurd (cc asks)))
+  fill_next (Some next) = main_next (fill_of next.0 next.1)
 
-  pub seconds_ask : (p : Passing) → MainAsks (fill_asked (next_fill grain w p)) ↔ Asks grain (Seconds p segs) w (actor, request)
-  seconds_ask p = fill_asks (next_fill grain w p)
+  abbrev Tells : Bool → Whole → Asking → Type 0
+  Tells tells w asking = TellsNext tells grain w asking actor request
 
-  pub session_asks : Asks grain (Session segs) w (actor, request) → ⊥
-  session_asks asks = absurd (cc asks)
+  module _ (w : Whole) where
+    second_next : (p : Passing) (names : List (List ℕ)) (segs : List Segment) →
+        MainAsks actor request (fill_asked (next_fill grain w p)) ↔ Asks grain (Seconds p segs) (named names w) (actor, request)
+    second_next p names segs =
+        let P : Option (Work × GrainNo) → Type 0 = λ fill. MainAsks actor request (fill_asked fill) ↔ Asks grain (Seconds p segs) (named names w) (actor, request) in
+        subst P (named_fill grain names w p) (fill_next (next_fill grain (named names w) p))
+
+    pub nothing_asks : (asking : Asking) → asking ≡ Nothing → TellsNext false grain w asking actor request
+    nothing_asks asking is = subst (Tells false w) (sym is) (λ segs names. ((λ tells. absurd (cc tells)), (λ asks. absurd (cc asks))))
+
+    pub own_asks : (asking : Asking) (requests : List Request) (n : ℕ) (tells : Bool) → asking ≡ OwnAsked requests n → (IsTrue tells ↔ MainAsks actor request (next_request requests)) →
+        TellsNext tells grain w asking actor request
+    own_asks asking requests n tells is says = subst (Tells tells w) (sym is) (λ segs names. both_then says (own_next requests n segs (named names w)))
+
+    pub faults_ask : (asking : Asking) (requests : List Request) (actors : List ActorRead) (tells : Bool) → asking ≡ FaultsAsked requests actors →
+        (IsTrue tells ↔ MainAsks actor request (next_request requests)) → TellsNext tells grain w asking actor request
+    faults_ask asking requests actors tells is says = subst (Tells tells w) (sym is) (λ segs names. both_then says (faults_next requests actors segs (named names w)))
+
+    -- nobody but `main` is asked while seconds pass
+    pub others_ask : (asking : Asking) (p : Passing) → asking ≡ SecondsAsked p → actor ≢ 0 → TellsNext false grain w asking actor request
+    others_ask asking p is other =
+        subst (Tells false w) (sym is) (λ segs names. ((λ tells. absurd (cc tells)), (λ asks. absurd (other ((second_next p names segs).1 asks).0))))
+
+    pub seconds_ask :
+        {E : Type 0} (r : Result Bool E) (asking : Asking) (p : Passing) →
+        asking ≡ SecondsAsked p →
+        actor ≡ 0 →
+        IfOk r (λ tells. IsTrue tells ↔ (fill_asked (next_fill grain w p) ≡ Some request)) →
+        IfOk r (λ tells. TellsNext tells grain w asking actor request)
+    seconds_ask (Ok tells) asking p is main says =
+        let own : IsTrue tells ↔ MainAsks actor request (fill_asked (next_fill grain w p)) = ((λ t. (main, says.0 t)), (λ both. says.1 both.1)) in
+        subst (Tells tells w) (sym is) (λ segs names. both_then own (second_next p names segs))
+    seconds_ask (Err refused) asking p is main says = tt
+
+    pub actors_ask : (asking : Asking) (scripts : List Script) (tells : Bool) → ((segs : List Segment) → agenda_of asking segs ≡ Actors scripts segs) →
+        (IsTrue tells ↔ (next_by scripts actor ≡ Some request)) → TellsNext tells grain w asking actor request
+    actors_ask asking scripts tells are says = λ segs names.
+        let P : Agenda → Type 0 = λ a. IsTrue tells ↔ Asks grain a (named names w) (actor, request) in
+        subst P (sym (are segs)) says
 
 -- ---- what is left behind an entry
 
-module _ (grain : GrainSize) (next : Whole) (segs : List Segment) (entry : Entry) where
-  pub own_behind_none : (requests : List Request) (n : ℕ) → requests ≡ [] → behind_entry grain (Own requests n segs) next entry ≡ Session segs
-  own_behind_none requests n none = ap (λ rs. behind_entry grain (Own rs n segs) next entry) none
+module _ (grain : GrainSize) (w : Whole) (actor : ℕ) (reply : Reply) where
+  abbrev IsLeft : Asking → Asking → Type 0
+  IsLeft left asking = IsLeftBehind grain w asking actor reply left
 
-  pub own_behind_more : (requests : List Request) (n : ℕ) → requests ≢ [] → behind_first requests ≢ [] → behind_entry grain (Own requests n segs) next entry ≡ Own (behind_first requests) n segs
-  own_behind_more [] n some more = absurd (some refl)
-  own_behind_more (r ∷ []) n some more = absurd (more refl)
-  own_behind_more (r ∷ x ∷ rest) n some more = refl
+  pub nothing_left : (asking : Asking) → asking ≡ Nothing → IsLeftBehind grain w asking actor reply Nothing
+  nothing_left asking is = subst (IsLeft Nothing) (sym is) (λ entry segs names by so. refl)
 
-  pub own_behind_last : (requests : List Request) (n : ℕ) → requests ≢ [] → behind_first requests ≡ [] →
-      behind_entry grain (Own requests n segs) next entry ≡ cond (is_done entry.reply) (Seconds (seconds_begun n (all_work next.books)) segs) (Session segs)
-  own_behind_last [] n some last = absurd (some refl)
-  own_behind_last (r ∷ []) n some last = refl
-  own_behind_last (r ∷ x ∷ rest) n some last = absurd (cc last)
+  -- of a line
+  abbrev behind_of : List Request → ℕ → List Segment → Whole → Entry → Agenda
+  behind_of requests n segs next entry = behind_entry grain (Own requests n segs) next entry
 
-  pub faults_behind : (requests : List Request) (actors : List ActorRead) → behind_entry grain (Faults requests actors segs) next entry ≡ Faults (behind_first requests) actors segs
-  faults_behind [] actors = refl
-  faults_behind (r ∷ rest) actors = refl
+  last_behind : (requests : List Request) (n : ℕ) (segs : List Segment) (next : Whole) (entry : Entry) → requests ≢ [] → behind_first requests ≡ [] →
+      behind_of requests n segs next entry ≡ cond (is_done entry.reply) (Seconds (seconds_begun n (all_work next.books)) segs) (Session segs)
+  last_behind [] n segs next entry some last = absurd (some refl)
+  last_behind (r ∷ []) n segs next entry some last = refl
+  last_behind (r ∷ x ∷ rest) n segs next entry some last = absurd (cc last)
+
+  more_behind : (requests : List Request) (n : ℕ) (segs : List Segment) (next : Whole) (entry : Entry) → requests ≢ [] → behind_first requests ≢ [] →
+      behind_of requests n segs next entry ≡ Own (behind_first requests) n segs
+  more_behind [] n segs next entry some more = absurd (some refl)
+  more_behind (r ∷ []) n segs next entry some more = absurd (more refl)
+  more_behind (r ∷ x ∷ rest) n segs next entry some more = refl
+
+  pub none_left : (requests : List Request) (n : ℕ) → requests ≡ [] → IsLeftBehind grain w (OwnAsked requests n) actor reply Nothing
+  none_left requests n none = λ entry segs names by so. sym (ap (λ rs. behind_of rs n segs (named names w) entry) none)
+
+  pub more_left : (requests rest : List Request) (n : ℕ) → requests ≢ [] → rest ≡ behind_first requests → rest ≢ [] →
+      IsLeftBehind grain w (OwnAsked requests n) actor reply (OwnAsked rest n)
+  more_left requests rest n some is more = λ entry segs names by so.
+      let P : List Request → Type 0 = λ rs. rs ≢ [] in
+      ap (λ rs. Own rs n segs) is ∙ sym (more_behind requests n segs (named names w) entry some (subst P is more))
+
+  last_left : (requests rest : List Request) (n : ℕ) (done : Bool) (segs : List Segment) (names : List (List ℕ)) (entry : Entry) →
+      requests ≢ [] →
+      rest ≡ behind_first requests →
+      rest ≡ [] →
+      is_done reply ≡ done →
+      entry.reply ≡ reply →
+      behind_of requests n segs (named names w) entry ≡ cond done (Seconds (seconds_begun n (all_work w.books)) segs) (Session segs)
+  last_left requests rest n done segs names entry some is last test so =
+      last_behind requests n segs (named names w) entry some (sym is ∙ last)
+      ∙ ap (λ d. cond {A = Agenda} d (Seconds (seconds_begun n (all_work w.books)) segs) (Session segs)) (ap is_done so ∙ test)
+
+  pub seconds_left :
+      (requests rest : List Request) (n : ℕ) (p : Passing) →
+      requests ≢ [] →
+      rest ≡ behind_first requests →
+      rest ≡ [] →
+      is_done reply ≡ true →
+      p ≡ seconds_begun n (all_work w.books) →
+      IsLeftBehind grain w (OwnAsked requests n) actor reply (SecondsAsked p)
+  seconds_left requests rest n p some is last test begun = λ entry segs names by so.
+      ap (λ q. Seconds q segs) begun ∙ sym (last_left requests rest n true segs names entry some is last test so)
+
+  pub over_left : (requests rest : List Request) (n : ℕ) → requests ≢ [] → rest ≡ behind_first requests → rest ≡ [] → is_done reply ≡ false →
+      IsLeftBehind grain w (OwnAsked requests n) actor reply Nothing
+  over_left requests rest n some is last test = λ entry segs names by so. sym (last_left requests rest n false segs names entry some is last test so)
+
+  pub own_left :
+      {E : Type 0} (r : Result Asking E) (asking : Asking) (requests : List Request) (n : ℕ) →
+      asking ≡ OwnAsked requests n →
+      IfOk r (λ left. IsLeftBehind grain w (OwnAsked requests n) actor reply left) →
+      IfOk r (λ left. IsLeftBehind grain w asking actor reply left)
+  own_left (Ok left) asking requests n is says = subst (IsLeft left) (sym is) says
+  own_left (Err refused) asking requests n is says = tt
+
+  -- of seconds
+  pub fill_left : (asking : Asking) (p q : Passing) → asking ≡ SecondsAsked p → ((entry : Entry) → entry.reply ≡ reply → q ≡ behind_fill grain w p p.at_hand entry) →
+      IsLeftBehind grain w asking actor reply (SecondsAsked q)
+  fill_left asking p q is says =
+      subst (IsLeft (SecondsAsked q)) (sym is) (λ entry segs names by so. ap (λ x. Seconds x segs) (says entry so ∙ sym (named_behind grain names w p p.at_hand entry)))
+
+  -- of a block
+  faults_behind : (requests : List Request) (actors : List ActorRead) (segs : List Segment) (next : Whole) (entry : Entry) →
+      behind_entry grain (Faults requests actors segs) next entry ≡ Faults (behind_first requests) actors segs
+  faults_behind [] actors segs next entry = refl
+  faults_behind (r ∷ rest) actors segs next entry = refl
+
+  pub faults_left : (asking : Asking) (requests rest : List Request) (actors : List ActorRead) → asking ≡ FaultsAsked requests actors → rest ≡ behind_first requests →
+      IsLeftBehind grain w asking actor reply (FaultsAsked rest actors)
+  faults_left asking requests rest actors is says =
+      subst (IsLeft (FaultsAsked rest actors)) (sym is)
+      (λ entry segs names by so. ap (λ rs. Faults rs actors segs) says ∙ sym (faults_behind requests actors segs (named names w) entry))
+
+  pub scripts_left :
+      (asking left : Asking) (scripts rest : List Script) →
+      ((segs : List Segment) → agenda_of asking segs ≡ Actors scripts segs) →
+      ((segs : List Segment) → agenda_of left segs ≡ Actors rest segs) →
+      rest ≡ behind_next scripts actor →
+      IsLeftBehind grain w asking actor reply left
+  scripts_left asking left scripts rest are after says = λ entry segs names by so.
+      after segs
+      ∙ ap (λ ss. Actors ss segs) (says ∙ ap (behind_next scripts) (sym by))
+      ∙ sym (ap (λ a. behind_entry grain a (named names w) entry) (are segs))
 
 -- ---- the end
 

@@ -1,17 +1,14 @@
 -- Seconds that pass without an entry.
-use Rattle.std.specs.Prelude.{◌≡◌, ◌≢◌, ◌⊎◌, ℕ, ◌+◌, ◌*◌, Bool, true, false, cond, [], ◌++◌, filter, length, map, List, Option, None, is_some}
-use Rattle.std.specs.Option.{option_map, option_map_or}
+use Rattle.std.specs.Prelude.{◌≡◌, ◌≢◌, ◌⊎◌, ℕ, ◌+◌, ◌*◌, Bool, true, false, cond, List, [], length, Option, None, is_some}
+use Rattle.std.specs.Option.{option_map}
 use Rattle.fc_agenda.specs.Goes.{Goes}
 use Rattle.fc_base.specs.declared.ids.GrainNo.{GrainNo}
 use Rattle.fc_base.specs.declared.request.Request.{Request}
 use Rattle.fc_base.specs.declared.size.GrainSize.{GrainSize}
-use Rattle.fc_base.specs.declared.volume.Mapping.{Mapping}
 use Rattle.fc_blocks.specs.Segments.{Segment}
-use Rattle.fc_desk.specs.Telling.{row_of}
 use Rattle.fc_legal.specs.Agenda.{Reading, Seconds, session_rules}
-use Rattle.fc_legal.specs.Seconds.{Passing, Work, cleanings_of, copies_of, fill_of, goes_on, next_fill}
+use Rattle.fc_legal.specs.Seconds.{Passing, Work, fill_of, goes_on, next_fill}
 use Rattle.fc_legal.specs.Whole.{Whole}
-use Rattle.fc_pick.specs.declared.work.WorkFlags.{WorkFlags}
 
 -- The fill that is next.
 abbrev pub fill_asked : Option (Work × GrainNo) → Option Request

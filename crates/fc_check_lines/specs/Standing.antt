@@ -1,16 +1,22 @@
 -- What is left of a session: what was begun of it, and the lines and blocks behind that.
-use Rattle.std.specs.Prelude.{◌≡◌, ℕ, List, [], Option, Some, None}
+use Rattle.std.specs.Prelude.{◌≡◌, ◌↔◌, ℕ, Bool, IsTrue, List, [], Option, Some, None}
 use Rattle.fc_agenda.specs.Goes.{Goes}
 use Rattle.fc_base.specs.declared.command.Line.TheVariants.{Command as CommandLine}
 use Rattle.fc_base.specs.declared.command.ScriptLine.{ScriptLine}
 use Rattle.fc_base.specs.declared.command.ScriptLine.TheVariants.{Read}
+use Rattle.fc_base.specs.declared.request.Reply.{Reply}
+use Rattle.fc_base.specs.declared.request.Request.{Request}
 use Rattle.fc_base.specs.declared.size.GrainSize.{GrainSize}
 use Rattle.fc_blocks.specs.Segments.{Segment}
+use Rattle.fc_check_lines.specs.Bytes.{IsSegment, by_grammar}
 use Rattle.fc_check_lines.specs.Leading.{Waits}
 use Rattle.fc_check_lines.specs.declared.lines.Asking.{Asking}
 use Rattle.fc_check_lines.specs.declared.lines.Asking.TheVariants.{Nothing, Own as OwnAsked, Seconds as SecondsAsked, Faults as FaultsAsked, Actors as ActorsAsked}
-use Rattle.fc_legal.specs.Agenda.{Agenda, Session, Own, Seconds, Faults, Actors, Reading, command_seconds, session_rules}
+use Rattle.fc_check_lines.specs.declared.segment.SegmentRead.{SegmentRead}
+use Rattle.fc_entry.specs.declared.entry.Entry.{Entry}
+use Rattle.fc_legal.specs.Agenda.{Agenda, Session, Own, Seconds, Faults, Actors, Asks, Reading, behind_entry, command_seconds, segment_read, session_rules}
 use Rattle.fc_legal.specs.Whole.{Whole}
+use Rattle.law_stands.specs.Names.{named}
 
 -- The names of the actors that the session has so far, by number, and what is left to be asked.
 pub record Standing : Type 0 where
@@ -44,3 +50,22 @@ pub record GoesOnTo (grain : GrainSize) (read : Reading) (asking : Asking) (w : 
 abbrev pub script_seconds : ScriptLine → ℕ
 script_seconds (Read (CommandLine command)) = command_seconds command
 script_seconds line = 0
+
+-- A line or a block that was read begins so, whatever stands behind it and whoever has a name.
+abbrev pub BeginsAs : GrainSize → Whole → SegmentRead → Asking → Type 0
+BeginsAs grain w read asking = (s : Segment) (segs : List Segment) (names : List (List ℕ)) → IsSegment read s →
+    agenda_of asking segs ≡ segment_read grain by_grammar (named names w) s segs
+
+-- It is `main` who asks this next.
+abbrev pub MainAsks : ℕ → Request → Option Request → Type 0
+MainAsks actor request next = (actor ≡ 0) × (next ≡ Some request)
+
+-- Whether the actor with this number asks this next, whatever stands behind it.
+abbrev pub TellsNext : Bool → GrainSize → Whole → Asking → ℕ → Request → Type 0
+TellsNext tells grain w asking actor request = (segs : List Segment) (names : List (List ℕ)) →
+    IsTrue tells ↔ Asks grain (agenda_of asking segs) (named names w) (actor, request)
+
+-- This is left behind an entry of the actor with this number that answered so.
+abbrev pub IsLeftBehind : GrainSize → Whole → Asking → ℕ → Reply → Asking → Type 0
+IsLeftBehind grain w asking actor reply left = (entry : Entry) (segs : List Segment) (names : List (List ℕ)) → entry.actor ≡ actor → entry.reply ≡ reply →
+    agenda_of left segs ≡ behind_entry grain (agenda_of asking segs) (named names w) entry

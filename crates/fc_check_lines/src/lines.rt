@@ -3,15 +3,14 @@
 ghost use Rattle.std.specs.Prelude.{◌≡◌, ◌↔◌, [], ◌∷◌, ℕ, List, None, Some, cond, codes, IsTrue, IfOk, OnOk};
 ghost use Rattle.fc_blocks.specs.Segments.{Segment};
 ghost use Rattle.fc_check_lines.specs.Asked.{IsAskedBy, entry_by};
-ghost use Rattle.fc_check_lines.specs.Bytes.{IsSegment, by_grammar, segments_in};
+ghost use Rattle.fc_check_lines.specs.Bytes.{by_grammar, segments_in};
 ghost use Rattle.fc_check_lines.specs.Leading.{LeadTo};
 ghost use Rattle.law_stands.specs.Names.{named};
-ghost use Rattle.fc_check_lines.specs.Standing.{GoesOnTo, IsOverWith, agenda_of, script_seconds};
-ghost use Rattle.fc_legal.specs.Agenda.{Asks, Own, Session, behind_entry, command_seconds, is_done, segment_read};
-ghost use Rattle.fc_legal.specs.Scripts.{are_done, faults_asked, line_asked, names_with, scripts_of};
+ghost use Rattle.fc_check_lines.specs.Standing.{BeginsAs, GoesOnTo, IsLeftBehind, IsOverWith, MainAsks, TellsNext, agenda_of, script_seconds};
+ghost use Rattle.fc_legal.specs.Agenda.{Session, behind_entry, command_seconds, is_done};
+ghost use Rattle.fc_legal.specs.Scripts.{are_done, faults_asked, line_asked, names_with, next_request, scripts_of};
 ghost use Rattle.fc_legal.specs.Whole.{lanes};
 ghost use Rattle.fc_check_lines.specs.declared.lines.Asking.{Asking};
-ghost use Rattle.fc_entry.specs.declared.entry.Entry.{Entry};
 
 use fc_check_requests::asking::push_line;
 use fc_check_requests::copies::{copy_actors, copy_names};
@@ -117,15 +116,15 @@ fn tell_faults(alloc: Global, faults: &[WordFault]) -> Result<Requests, NoMemory
 
 /// What a line or a block begins with.
 fn begin<T: Told>(alloc: Global, told: &T, segment: SegmentRead) -> Result<Asking, NoMemory>
-    ensures { IfOk result (λ asking. (s : Segment) (segs : List Segment) (names : List (List ℕ)) → IsSegment segment s
-        → agenda_of asking segs ≡ segment_read (T.grain told.now) by_grammar (named names (T.whole told.now)) s segs) }
+    ensures { IfOk result (λ asking. BeginsAs (T.grain told.now) (T.whole told.now) segment asking) }
 {
     match segment {
         SegmentRead::Single(line) => begin_line(alloc, told, &line),
-        SegmentRead::Block(block) => Ok(Asking::Faults {
-            requests: tell_faults(alloc, block.faults.as_slice())?,
-            actors: block.actors,
-        }),
+        SegmentRead::Block(block) => {
+            let requests = tell_faults(alloc, block.faults.as_slice())?;
+            let actors = block.actors;
+            Ok(Asking::Faults { requests, actors })
+        }
     }
 }
 
@@ -172,7 +171,8 @@ fn go_on<T: Told>(
             Ok(Some(Asking::Own { requests, seconds }))
         }
         Asking::Seconds(mut passing) => {
-            if passing.pass(told)? {
+            let fills = passing.pass(told)?;
+            if fills {
                 return Ok(Some(Asking::Seconds(passing)));
             }
             Ok(None)
@@ -181,7 +181,8 @@ fn go_on<T: Told>(
             if !requests.is_empty() {
                 return Ok(Some(Asking::Faults { requests, actors }));
             }
-            Ok(if_asking(begin_actors(alloc, told, names, actors.as_slice())?))
+            let scripts = begin_actors(alloc, told, names, actors.as_slice())?;
+            Ok(if_asking(scripts))
         }
         Asking::Actors(scripts) => Ok(if_asking(scripts)),
     }
@@ -199,14 +200,16 @@ fn wait<'a, T: Told>(
         lines.agenda (named lines.names (T.whole told.now))) }
 {
     'segments: loop {
-        if let Some(asking) = go_on(alloc, told, asking, &mut names)? {
+        let left = go_on(alloc, told, asking, &mut names)?;
+        if let Some(asking) = left {
             return Ok(Lines {
                 rest,
                 names,
                 asking,
             });
         }
-        match next_segment(alloc, rest)? {
+        let found = next_segment(alloc, rest)?;
+        match found {
             Some((segment, behind)) => {
                 asking = begin(alloc, told, segment)?;
                 rest = behind;
@@ -246,22 +249,31 @@ fn main_alone(alloc: Global) -> Result<Vec<Name>, NoMemory>
     Ok(names)
 }
 
+/// Whether the actor with this number is `main`, and this the next of these requests.
+fn main_asks(requests: &Requests, actor: usize, request: &Request) -> bool
+    ensures { IsTrue result ↔ MainAsks actor request.now (next_request requests.now) }
+{
+    if actor != 0 {
+        return false;
+    }
+    requests.asks(request)
+}
+
 impl Asking {
     /// Whether the actor with this number asks this next.
     fn asks<T: Told>(&self, told: &T, actor: usize, request: &Request) -> Result<bool, NoMemory>
-        ensures { IfOk result (λ yes. (segs : List Segment) (names : List (List ℕ)) →
-            IsTrue yes ↔ Asks (T.grain told.now) (agenda_of self.now segs) (named names (T.whole told.now)) (actor, request.now)) }
+        ensures { IfOk result (λ yes. TellsNext yes (T.grain told.now) (T.whole told.now) self.now actor request.now) }
     {
         match self {
             Asking::Nothing => Ok(false),
-            Asking::Own { requests, .. } => Ok(actor == 0 && requests.asks(request)),
+            Asking::Own { requests, .. } => Ok(main_asks(requests, actor, request)),
             Asking::Seconds(passing) => {
                 if actor != 0 {
                     return Ok(false);
                 }
                 passing.asks(told, request)
             }
-            Asking::Faults { requests, .. } => Ok(actor == 0 && requests.asks(request)),
+            Asking::Faults { requests, .. } => Ok(main_asks(requests, actor, request)),
             Asking::Actors(scripts) => Ok(do_ask(scripts.as_slice(), actor, request)),
         }
     }
@@ -275,8 +287,7 @@ impl Asking {
         seconds: u32,
         reply: &Reply,
     ) -> Result<Asking, NoMemory>
-        ensures { IfOk result (λ left. (entry : Entry) (segs : List Segment) (names : List (List ℕ)) → entry.reply ≡ reply.now →
-            agenda_of left segs ≡ behind_entry (T.grain told.now) (Own requests seconds segs) (named names (T.whole told.now)) entry) }
+        ensures { IfOk result (λ left. (actor : ℕ) → IsLeftBehind (T.grain told.now) (T.whole told.now) (Asking.Own requests seconds) actor reply.now left) }
     {
         if requests.is_empty() {
             return Ok(Asking::Nothing);
@@ -285,11 +296,11 @@ impl Asking {
         if !requests.is_empty() {
             return Ok(Asking::Own { requests, seconds });
         }
-        if is_done(reply) {
-            Ok(Asking::Seconds(Passing::begin(alloc, told, seconds)?))
-        } else {
-            Ok(Asking::Nothing)
+        if !is_done(reply) {
+            return Ok(Asking::Nothing);
         }
+        let passing = Passing::begin(alloc, told, seconds)?;
+        Ok(Asking::Seconds(passing))
     }
 
     /// What is left behind an entry of the actor with this number that answered the next request so.
@@ -300,8 +311,7 @@ impl Asking {
         actor: usize,
         reply: &Reply,
     ) -> Result<Asking, NoMemory>
-        ensures { IfOk result (λ left. (entry : Entry) (segs : List Segment) (names : List (List ℕ)) → entry.actor ≡ actor → entry.reply ≡ reply.now →
-            agenda_of left segs ≡ behind_entry (T.grain told.now) (agenda_of self segs) (named names (T.whole told.now)) entry) }
+        ensures { IfOk result (λ left. IsLeftBehind (T.grain told.now) (T.whole told.now) self actor reply.now left) }
     {
         match self {
             Asking::Nothing => Ok(Asking::Nothing),
@@ -312,8 +322,10 @@ impl Asking {
                 passing.follow(told, reply)?;
                 Ok(Asking::Seconds(passing))
             }
-            Asking::Faults { requests, actors } => {
-                let mut requests = requests;
+            Asking::Faults {
+                mut requests,
+                actors,
+            } => {
                 requests.take_first();
                 Ok(Asking::Faults { requests, actors })
             }
@@ -354,7 +366,8 @@ impl<'a> Lines<'a> {
         ensures { IfOk result (λ lines. LeadTo (T.grain told.now) by_grammar (Session (segments_in session.now)) (named (codes "main" ∷ []) (T.whole told.now)) []
             lines.agenda (named lines.names (T.whole told.now))) }
     {
-        wait(alloc, told, Asking::Nothing, main_alone(alloc)?, session)
+        let names = main_alone(alloc)?;
+        wait(alloc, told, Asking::Nothing, names, session)
     }
 
     /// Whether the actor with this name may ask this next, by what is told. Refused as `open` is.
@@ -404,10 +417,12 @@ impl<'a> Lines<'a> {
     pub fn copy(&self, alloc: Global) -> Result<Lines<'a>, NoMemory>
         ensures { IfOk result (λ copy. copy ≡ self.now) }
     {
+        let names = copy_names(alloc, self.names.as_slice())?;
+        let asking = self.asking.copy(alloc)?;
         Ok(Lines {
             rest: self.rest,
-            names: copy_names(alloc, self.names.as_slice())?,
-            asking: self.asking.copy(alloc)?,
+            names,
+            asking,
         })
     }
 }

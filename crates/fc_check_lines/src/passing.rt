@@ -101,7 +101,6 @@ fn has_moved(reply: &Reply) -> bool
 
 impl Passing {
     /// Before the first of so many seconds, with the background work as it is told.
-    #[tactic(auto, using(crate::proofs::SecondsPass::all_listed))]
     pub(crate) fn begin<T: Told>(
         alloc: Global,
         told: &T,
@@ -210,7 +209,8 @@ impl Passing {
         ensures upto { IfOk result (λ fills. (names : List (List ℕ)) → PassesUpTo fills (T.grain told.now) (named names (T.whole told.now)) self.new) }
     {
         'seconds: loop {
-            if self.to_fill(told)? {
+            let fills = self.to_fill(told)?;
+            if fills {
                 return Ok(true);
             }
             if self.seconds == 0 {

@@ -39,7 +39,6 @@ fn line_end(bytes: &[u8]) -> Option<usize>
 }
 
 /// The first line of bytes, of which there is one or more, without its end; and the bytes behind it.
-#[tactic(auto, using(crate::proofs::Bytes::first_ended, crate::proofs::Bytes::first_unended))]
 fn first_line(bytes: &[u8]) -> (&[u8], &[u8])
     requires { 0 < length bytes.now }
     ensures lines { all_lines bytes.now ≡ result.0.now ∷ all_lines result.1.now }

@@ -5,6 +5,8 @@ use Rattle.std.proofs.lemmas.Bool.{cases_lt}
 use Rattle.std.proofs.lemmas.List.Elements.{All-get_or, All-replicate, All-set, All-weaker}
 use Rattle.std.proofs.lemmas.Result.{IfOk-weaker}
 use Rattle.fc_base.specs.Pools.{Pool}
+use Rattle.fc_base.specs.declared.ids.GrainNo.{GrainNo}
+use Rattle.fc_base.specs.declared.ids.MapId.{MapId}
 use Rattle.fc_base.specs.declared.outcome.NoMemory.{NoMemory}
 use Rattle.fc_base.specs.declared.size.GrainSize.{GrainSize}
 use Rattle.fc_base.specs.declared.volume.Change.{Change}
@@ -17,6 +19,7 @@ use Rattle.fc_check_record.specs.Judged.{AreOne, most_calls, whole_of}
 use Rattle.fc_check_record.proofs.Firsts.{control_first, known_first}
 use Rattle.fc_desk.specs.Control.{ControlState}
 use Rattle.fc_entry.specs.declared.entry.Entry.{Entry}
+use Rattle.fc_legal.specs.Seconds.{Work, next_grain}
 use Rattle.fc_legal.specs.Whole.{Whole}
 
 -- what entries of lanes are judged by is kept of what is told
@@ -31,6 +34,15 @@ next_is c k rows pools calls entry answer one sound found =
     IfOk-weaker answer (λ yes. (grain : GrainSize) (w : Whole) → AreSound w.books → k ≡ known_of grain w → IsTrue yes ↔ IsNext grain w entry)
     (λ yes. IsTrue yes ↔ IsNext k.grain (whole_of c k rows pools calls) entry)
     (λ yes f. f k.grain (whole_of c k rows pools calls) sound (known_is c k rows pools calls one)) found
+
+-- the least grain of background work is that of what is told
+pub next_grain_is : (c : ControlState) (k : Known) (rows : List Row) (pools : List Pool) (calls : List ℕ) (map : MapId) (cleans : Bool) (answer : Result (Option GrainNo) NoMemory) → AreOne c k calls →
+    IfOk answer (λ next. (grain : GrainSize) (w : Whole) (work : Work) → k ≡ known_of grain w → work.map ≡ map → work.cleans ≡ cleans → next ≡ next_grain grain w work) →
+    IfOk answer (λ next. (work : Work) → work.map ≡ map → work.cleans ≡ cleans → next ≡ next_grain k.grain (whole_of c k rows pools calls) work)
+next_grain_is c k rows pools calls map cleans answer one found =
+    IfOk-weaker answer (λ next. (grain : GrainSize) (w : Whole) (work : Work) → k ≡ known_of grain w → work.map ≡ map → work.cleans ≡ cleans → next ≡ next_grain grain w work)
+    (λ next. (work : Work) → work.map ≡ map → work.cleans ≡ cleans → next ≡ next_grain k.grain (whole_of c k rows pools calls) work)
+    (λ next f work. f k.grain (whole_of c k rows pools calls) work (known_is c k rows pools calls one)) found
 
 -- ---- calls
 

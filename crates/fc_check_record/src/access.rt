@@ -32,8 +32,8 @@ impl Record {
     pub fn refused_access(&self, volume: &Ref, block: u32, count: u32) -> Option<Refusal>
         ensures { result ≡ access_refused self.now.grain self.now.whole.books volume.now block count }
     {
-        match self.control.registry().volume(volume) {
-            Some(found) => blocks_refusal(self.control.grain(), found, block, count),
+        match self.kept.control.registry().volume(volume) {
+            Some(found) => blocks_refusal(self.kept.control.grain(), found, block, count),
             None => Some(Refusal::NoSuch(Kind::Vdisk)),
         }
     }

@@ -25,9 +25,9 @@ impl Record {
         requires small { IsSmall self.now.whole.books.sheet.slots self.now.whole.rows }
         ensures { result ≡ record { sheet = self.now.whole.books.sheet; rows = self.now.whole.rows; pools = self.now.whole.books.pools } }
     {
-        let known = &self.known;
-        let mappings = self.control.registry().all_mappings();
-        PlainView::new(&known.sheet, mappings, &self.rows, self.pools.as_slice())
+        let known = &self.kept.known;
+        let mappings = self.kept.control.registry().all_mappings();
+        PlainView::new(&known.sheet, mappings, &self.kept.rows, self.kept.pools.as_slice())
     }
 
     /// What every command does first. Refused for want of memory alone.
@@ -37,7 +37,7 @@ impl Record {
         ensures { IfOk result (λ decision. decision ≡ settle self.now.whole.books) }
     {
         let view = self.view();
-        self.control.settle(alloc, &view)
+        self.kept.control.settle(alloc, &view)
     }
 
     /// What is decided of a command after that. Refused for want of memory alone.
@@ -50,6 +50,6 @@ impl Record {
         ensures { IfOk result (λ decision. (loop : Option (List VolId)) × IsLoopOf self.now.grain self.now.whole.books command.now loop × (decision ≡ decided_on self.now.grain self.now.whole command.now loop)) }
     {
         let view = self.view();
-        decide(alloc, &self.control, command, &view)
+        decide(alloc, &self.kept.control, command, &view)
     }
 }

@@ -45,7 +45,7 @@ impl Record {
         requires { AreSound self.now.whole.books }
         ensures { IfOk result (λ yes. IsTrue yes ↔ IsNext self.now.grain self.now.whole entry.now) }
     {
-        self.known.is_next(alloc, entry)
+        self.kept.known.is_next(alloc, entry)
     }
 
     /// What is told after an entry of this lane, which has no effects.
@@ -54,23 +54,11 @@ impl Record {
         requires few { self.whole.entries < 262144 }
         ensures { IfOk result (λ after. after ≡ record self { whole = after_access self.grain self.whole lane entry.now }) }
     {
-        let Record {
-            control,
-            mut known,
-            mut rows,
-            pools,
-            mut calls,
-        } = self;
-        known.follow(alloc, lane, entry)?;
-        follow_rows(&mut rows, control.grain(), entry);
-        count_calls(calls.as_mut_slice(), lane, entry.calls);
-        Ok(Record {
-            control,
-            known,
-            rows,
-            pools,
-            calls,
-        })
+        let Record { mut kept } = self;
+        kept.known.follow(alloc, lane, entry)?;
+        follow_rows(&mut kept.rows, kept.control.grain(), entry);
+        count_calls(kept.calls.as_mut_slice(), lane, entry.calls);
+        Ok(Record { kept })
     }
 
     /// What is told after an entry of a lane that may come next: what it moved, wrote and tore, its faults and

@@ -57,22 +57,16 @@ impl Record {
         requires { CanBeLeft self.whole decision.now }
         ensures { IfOk result (λ left. left ≡ record { grain = self.grain; whole = left_by self.grain self.whole decision.now }) }
     {
-        let Record {
-            mut control,
-            mut known,
-            mut rows,
-            mut pools,
-            calls,
-        } = self;
-        leave_control(alloc, &mut control, decision)?;
-        leave_known(alloc, &control, &mut known, &mut rows, decision)?;
-        take_for_all(pools.as_mut_slice(), decision.events.as_slice());
-        Ok(Record {
-            control,
-            known,
-            rows,
-            pools,
-            calls,
-        })
+        let Record { mut kept } = self;
+        leave_control(alloc, &mut kept.control, decision)?;
+        leave_known(
+            alloc,
+            &kept.control,
+            &mut kept.known,
+            &mut kept.rows,
+            decision,
+        )?;
+        take_for_all(kept.pools.as_mut_slice(), decision.events.as_slice());
+        Ok(Record { kept })
     }
 }

@@ -7,14 +7,15 @@
 //!
 //! `is_next` answers whether an entry of a lane may come next, and `after_lane` is what is told after it.
 //! `settle` and `decide` are what the books decide, `leave` is what a decision leaves. `refused_access` is why
-//! a line `read` or `write` is refused. What they answer is exact. Want of memory is free; `is_next` may be
-//! refused so, too, where a grain that background work looks at has a number of 2^32 or more, and `leave` where
-//! births come to 2^64. A call that changes the record takes it and gives it back, so that one that was refused
-//! memory is gone.
+//! a line `read` or `write` is refused. `grain_size`, `registry`, `flags`, `lanes` and `next_grain` say what
+//! was told, as far as it decides what is asked next. What they answer is exact. Want of memory is free;
+//! `is_next` and `next_grain` may be refused so, too, where a grain that they look at has a number of 2^32 or
+//! more, and `leave` where births come to 2^64. A call that changes the record takes it and gives it back, so
+//! that one that was refused memory is gone.
 //!
-//! To read: `record` (the record, the first one, and copies of it), `lane` (entries of lanes), `access`
-//! (refused accesses), `decide` (decisions), `chains`, `pools` and `tables` (what a decision does to each
-//! part), and `leave`, which does it.
+//! To read: `record` (the record, the first one, and copies of it), `told` (what was told), `lane` (entries of
+//! lanes), `access` (refused accesses), `decide` (decisions), `chains`, `pools` and `tables` (what a decision
+//! does to each part), and `leave`, which does it.
 #![tactic(auto)]
 
 mod access;
@@ -25,6 +26,7 @@ mod leave;
 mod pools;
 mod record;
 mod tables;
+mod told;
 
 pub use fc_check_sheet::LanePool;
 pub use record::Record;

@@ -7,16 +7,15 @@ ghost use Rattle.fc_legal.specs.Whole.{opened};
 
 use fc_base::outcome::NoMemory;
 use fc_base::size::GrainSize;
-use fc_check_lane::Known;
+use fc_check_lane::{Known, copy_items};
 use fc_check_rows::Rows;
 use fc_check_sheet::LanePool;
 use fc_desk::Control;
 use std::alloc::Global;
 use std::marker::Model;
 
-/// One way that all may have been told.
-#[derive(Drop)]
-pub struct Record {
+/// What a record keeps.
+pub(crate) struct Kept {
     /// The tables, the ids that come next, and background work.
     pub(crate) control: Control,
     /// What entries of lanes are judged by.
@@ -29,25 +28,34 @@ pub struct Record {
     pub(crate) calls: Vec<u64>,
 }
 
+impl Drop for Kept {
+    // Written out, so that a function that drops it has one call for all of it in its proof.
+    fn drop(self) {
+        let Kept {
+            control: _,
+            known: _,
+            rows: _,
+            pools: _,
+            calls: _,
+        } = self;
+    }
+}
+
+/// One way that all may have been told.
+#[derive(Drop)]
+pub struct Record {
+    pub(crate) kept: Kept,
+}
+
 impl Model for Record {
     ghost use Rattle.fc_check_sheet.specs.View.{pools_of};
     ghost use Rattle.fc_check_record.specs.Judged.{AreOne, Judged, whole_of};
 
     ghost Value = { Judged };
 
-    ghost view = { λ r. record { grain = r.known.grain; whole = whole_of r.control r.known r.rows (pools_of r.pools.items) r.calls.items } };
+    ghost view = { λ r. record { grain = r.kept.known.grain; whole = whole_of r.kept.control r.kept.known r.kept.rows (pools_of r.kept.pools.items) r.kept.calls.items } };
 
-    ghost invariant = { λ r. AreOne r.control r.known r.calls.items };
-}
-
-/// The same items again.
-pub(crate) fn copy_items<T: Copy>(alloc: Global, items: &[T]) -> Result<Vec<T>, NoMemory>
-    ensures { IfOk result (λ copy. copy.items ≡ items.now) }
-{
-    match Vec::from_slice(alloc, items) {
-        Ok(copy) => Ok(copy),
-        Err(_) => Err(NoMemory),
-    }
+    ghost invariant = { λ r. AreOne r.kept.control r.kept.known r.kept.calls.items };
 }
 
 /// No calls of so many lanes.
@@ -70,26 +78,34 @@ impl Record {
         let known = Known::new(alloc, grain, lanes.len())?;
         let pools = copy_items(alloc, lanes)?;
         let calls = no_calls(alloc, lanes.len())?;
-        Ok(Record {
+        let kept = Kept {
             control: Control::new(alloc, grain),
             known,
             rows: Rows::new(alloc),
             pools,
             calls,
-        })
+        };
+        Ok(Record { kept })
     }
 
     /// Another record of the same. Refused for want of memory alone.
     pub fn copy(&self, alloc: Global) -> Result<Record, NoMemory>
         ensures { IfOk result (λ copy. copy ≡ self.now) }
     {
-        Ok(Record {
-            control: self.control.copy(alloc)?,
-            known: self.known.copy(alloc)?,
-            rows: self.rows.copy(alloc)?,
-            pools: copy_items(alloc, self.pools.as_slice())?,
-            calls: copy_items(alloc, self.calls.as_slice())?,
-        })
+        let own = &self.kept;
+        let known = own.known.copy(alloc)?;
+        let rows = own.rows.copy(alloc)?;
+        let pools = copy_items(alloc, own.pools.as_slice())?;
+        let calls = copy_items(alloc, own.calls.as_slice())?;
+        let control = own.control.copy(alloc)?;
+        let kept = Kept {
+            control,
+            known,
+            rows,
+            pools,
+            calls,
+        };
+        Ok(Record { kept })
     }
 
     /// One more entry is told, that did nothing: a refused access, an unread line, or one that ends a command.
@@ -97,7 +113,7 @@ impl Record {
         requires { self.old.whole.entries < 262144 }
         ensures { self.new ≡ record self.old { whole = one_more self.old.whole } }
     {
-        let known = &mut self.known;
+        let known = &mut self.kept.known;
         known.entries += 1;
     }
 }

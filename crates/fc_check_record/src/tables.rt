@@ -1,14 +1,13 @@
 //! What entries of lanes are judged by, found from the tables.
 
-ghost use Rattle.std.specs.Prelude.{◌≡◌, [], ◌∷◌, ◌++◌, IfOk, OnOk, map};
+ghost use Rattle.std.specs.Prelude.{◌≡◌, IfOk, OnOk, map};
 ghost use Rattle.fc_check_lane.specs.Known.{size_of};
 ghost use Rattle.fc_legal.specs.Whole.{volume_told, volumes_told};
 ghost use Rattle.fc_check_record.specs.Leaving.{renewed};
 
-use crate::record::copy_items;
 use fc_base::outcome::NoMemory;
 use fc_base::volume::Volume;
-use fc_check_lane::{Known, VolumeSize};
+use fc_check_lane::{Known, VolumeSize, copy_items, push_item};
 use fc_check_steps::LaneVolume;
 use fc_desk::Control;
 use fc_group::access_in;
@@ -26,23 +25,13 @@ fn lane_volume(tables: &Registry, volume: &Volume) -> LaneVolume
     }
 }
 
-/// Puts a volume at the end.
-fn push_volume(volumes: &mut Vec<LaneVolume>, volume: LaneVolume) -> Result<(), NoMemory>
-    ensures { OnOk result (volumes.new.items ≡ volumes.old.items ++ volume ∷ []) }
-{
-    match volumes.push(volume) {
-        Ok(()) => Ok(()),
-        Err(_) => Err(NoMemory),
-    }
-}
-
 /// All volumes, and how hosts may reach them.
 fn lane_volumes(alloc: Global, tables: &Registry) -> Result<Vec<LaneVolume>, NoMemory>
     ensures { IfOk result (λ volumes. volumes.items ≡ volumes_told tables.now.tables) }
 {
     let mut volumes = Vec::new(alloc);
     for volume in tables.all_volumes() {
-        push_volume(&mut volumes, lane_volume(tables, volume))?;
+        push_item(&mut volumes, lane_volume(tables, volume))?;
     }
     Ok(volumes)
 }
@@ -57,23 +46,13 @@ fn size_of(volume: &Volume) -> VolumeSize
     }
 }
 
-/// Puts a size at the end.
-fn push_size(sizes: &mut Vec<VolumeSize>, size: VolumeSize) -> Result<(), NoMemory>
-    ensures { OnOk result (sizes.new.items ≡ sizes.old.items ++ size ∷ []) }
-{
-    match sizes.push(size) {
-        Ok(()) => Ok(()),
-        Err(_) => Err(NoMemory),
-    }
-}
-
 /// How large volumes are.
 fn volume_sizes(alloc: Global, volumes: &[Volume]) -> Result<Vec<VolumeSize>, NoMemory>
     ensures { IfOk result (λ sizes. sizes.items ≡ map size_of volumes.now) }
 {
     let mut sizes = Vec::new(alloc);
     for volume in volumes {
-        push_size(&mut sizes, size_of(volume))?;
+        push_item(&mut sizes, size_of(volume))?;
     }
     Ok(sizes)
 }

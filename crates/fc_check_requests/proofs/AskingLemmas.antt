@@ -1,8 +1,10 @@
 -- What a command asks: an access its grains, or itself where it is refused.
-use Rattle.std.proofs.Common.{◌≡◌, ◌≢◌, ℕ, ◌+◌, ◌*◌, ◌≤◌, ◌<◌, ◌==◌, ◌||◌, Bool, true, false, nat_lt, Option, Some, None, List, [], ◌∷◌, map, refl, sym, ap, ap₂, ◌∙◌, arith}
+use Rattle.std.proofs.Common.{◌≡◌, ◌≢◌, ℕ, ◌+◌, ◌-◌, ◌*◌, ◌/◌, ◌^◌, ◌≤◌, ◌<◌, ◌==◌, ◌||◌, Bool, true, false, nat_lt, Option, Some, None, List, [], ◌∷◌, map, refl, sym, ap, ap₂, ◌∙◌, arith}
+use Rattle.std.proofs.Math.Nat.{div-mul-le_self}
 use Rattle.std.proofs.lemmas.Bool.Decides.{nat_tests}
+use Rattle.std.proofs.lemmas.Nat.{le-div}
 use Rattle.fc_base.specs.Grain.{grain_blocks}
-use Rattle.fc_base.specs.Tables.{volume_named}
+use Rattle.fc_base.specs.Tables.{Tables, volume_named}
 use Rattle.fc_base.specs.declared.command.Command.{Command}
 use Rattle.fc_base.specs.declared.fault.Kind.TheVariants.{Vdisk}
 use Rattle.fc_base.specs.declared.fault.Refusal.{Refusal}
@@ -13,13 +15,14 @@ use Rattle.fc_base.specs.declared.name.Ref.{Ref}
 use Rattle.fc_base.specs.declared.request.Request.{Request}
 use Rattle.fc_base.specs.declared.request.Request.TheVariants.{Command as Asked}
 use Rattle.fc_base.specs.declared.size.GrainSize.{GrainSize}
+use Rattle.fc_base.specs.declared.size.GrainSize.TheVariants.{K64, K256}
 use Rattle.fc_base.specs.declared.volume.Volume.{Volume}
 use Rattle.fc_books.specs.Books.{Books}
 use Rattle.fc_books.specs.Refused.{access_refused, of_one}
 use Rattle.fc_check_requests.specs.Accesses.{AreInside, IsTo, command_of}
 use Rattle.fc_check_requests.specs.Requests.{part_asked}
 use Rattle.fc_entry.specs.Refused.{blocks_refusal, first_of, where_}
-use Rattle.fc_legal.specs.Asked.{access_requests, command_asked, touched}
+use Rattle.fc_legal.specs.Asked.{access_requests, command_asked, numbers, touched}
 
 -- the two kinds of accesses are asked alike
 abbrev asked_by : GrainSize → Books → Ref → ℕ → ℕ → Option ℕ → Option Refusal → Option Volume → List Request
@@ -116,3 +119,39 @@ module _ (grain : GrainSize) (b : Books) (volume : Ref) (block count : ℕ) wher
 
   pub missing_refused : volume_named b.tables volume ≡ None → access_refused grain b volume block count ≢ None
   missing_refused none is = absurd (cc (sym (ap refused_by none) ∙ is))
+
+-- ---- by the tables alone
+
+module _ (grain : GrainSize) (tables : Tables) (b : Books) (volume : Ref) (block count : ℕ) (same : b.tables ≡ tables) where
+  named_in : (found : Option Volume) → found ≡ volume_named tables volume → volume_named b.tables volume ≡ found
+  named_in found is = ap (λ t. volume_named t volume) same ∙ sym is
+
+  pub inside_in : (v : Volume) → Some v ≡ volume_named tables volume → AreInside grain v.grains block count → IsTo v.id grain b volume block count
+  inside_in v is inside = inside_to grain b volume block count v (named_in (Some v) is) inside
+
+  pub outside_in : (v : Volume) → Some v ≡ volume_named tables volume → (AreInside grain v.grains block count → ⊥) → access_refused grain b volume block count ≢ None
+  outside_in v is outside = outside_refused grain b volume block count v (named_in (Some v) is) outside
+
+  pub missing_in : None ≡ volume_named tables volume → access_refused grain b volume block count ≢ None
+  missing_in is = missing_refused grain b volume block count (named_in None is)
+
+-- ---- the grains of an access
+
+grain_some : (grain : GrainSize) → 128 ≤ grain_blocks grain
+grain_some K64 = omega arith
+grain_some K256 = omega arith
+
+pub first_last : (grain : GrainSize) (block count : ℕ) → 0 < count → block / grain_blocks grain ≤ (block + count - 1) / grain_blocks grain
+first_last grain block count some =
+    le-div (block / grain_blocks grain) (block + count - 1) (grain_blocks grain) (omega (arith, grain_some grain))
+    (omega (arith, div-mul-le_self block (grain_blocks grain), some))
+
+pub last_small : (grain : GrainSize) (block count : ℕ) → block < 2 ^ 32 → count ≤ 8192 → (block + count - 1) / grain_blocks grain < 2 ^ 31
+last_small K64 block count low few = omega (arith, low, few)
+last_small K256 block count low few = omega (arith, low, few)
+
+pub touched_left : (grain : GrainSize) (block count first left : ℕ) → 0 < count → first ≡ block / grain_blocks grain →
+    left ≡ (block + count - 1) / grain_blocks grain - first + 1 → numbers first left ≡ touched grain block count
+touched_left grain block count first left some is long =
+    let behind : left ≡ (block + count - 1) / grain_blocks grain + 1 - block / grain_blocks grain = omega (arith, is, long, first_last grain block count some) in
+    ap₂ numbers is behind

@@ -1,7 +1,9 @@
 -- The script of an actor, found by its number.
-use Rattle.std.proofs.Common.{◌≡◌, ℕ, zero, suc, ◌+◌, ◌==◌, ◌<◌, Bool, true, false, not, ◌&&◌, cond, Some, None, List, [], ◌∷◌, length, get_or, set, refl, ap, arith}
+use Rattle.std.proofs.Common.{◌≡◌, ◌↔◌, ℕ, zero, suc, ◌+◌, ◌==◌, ◌<◌, Bool, IsTrue, true, false, not, ◌&&◌, cond, Option, Some, None, List, [], ◌∷◌, length, get_or, set, refl, sym, ap, subst, ◌∙◌, arith}
 use Rattle.std.specs.List.{list_all, position, position_or_len}
+use Rattle.std.proofs.lemmas.Bool.{true≢false}
 use Rattle.std.proofs.lemmas.List.Sums.{prefix_len-le-length}
+use Rattle.fc_base.specs.declared.request.Request.{Request}
 use Rattle.fc_check_requests.proofs.Places.{place_is, place_none}
 use Rattle.fc_legal.specs.Scripts.{Script, are_done, asks_nothing, behind_first, behind_next, next_by, next_request}
 
@@ -28,7 +30,7 @@ next_at : (scripts : List Script) (actor n : ℕ) (d : Script) → n ≡ place_i
 next_at [] actor n d is inside = absurd (omega (arith, inside))
 next_at (s ∷ ss) actor n d is inside = next_case s ss actor n d (s.actor == actor) is inside (λ m e lt. next_at ss actor m d e lt)
 
-abbrev without_next : Script → Script
+abbrev pub without_next : Script → Script
 without_next s = record s { requests = behind_first s.requests }
 
 behind_case :
@@ -81,8 +83,33 @@ none_found scripts actor is =
     let past : length scripts ≤ place_in scripts actor = place_none (is_of actor) scripts is in
     none_at scripts actor (omega (arith, past, prefix_len-le-length (λ s. not (is_of actor s)) scripts))
 
+-- What is asked, and what is left, by the place that was found.
+pub asks_found : (scripts : List Script) (actor n : ℕ) (d : Script) (yes : Bool) (request : Request) → position (λ (s : Script). s.actor == actor) scripts ≡ Some n →
+    IsTrue yes ↔ (next_request (get_or scripts n d).requests ≡ Some request) → IsTrue yes ↔ (next_by scripts actor ≡ Some request)
+asks_found scripts actor n d yes request is same =
+    let P : Option Request → Type 0 = λ next. IsTrue yes ↔ (next ≡ Some request) in
+    subst P (sym (next_found scripts actor n d is)) same
+
+pub asks_none : (scripts : List Script) (actor : ℕ) (yes : Bool) (request : Request) → position (λ (s : Script). s.actor == actor) scripts ≡ None →
+    yes ≡ false → IsTrue yes ↔ (next_by scripts actor ≡ Some request)
+asks_none scripts actor yes request is no =
+    (λ t. absurd (true≢false (sym t ∙ no)), λ asked. none_some request (sym (none_found scripts actor is).0 ∙ asked))
+  where
+    none_some : (r : Request) → ◌≡◌ {A = Option Request} None (Some r) → IsTrue yes
+    none_some r e = absurd (cc e)
+
+pub left_found : (scripts after : List Script) (actor n : ℕ) (d s : Script) → position (λ (s : Script). s.actor == actor) scripts ≡ Some n →
+    after ≡ set scripts n s → s ≡ without_next (get_or scripts n d) → after ≡ behind_next scripts actor
+left_found scripts after actor n d s is put same = put ∙ ap (set scripts n) same ∙ sym (behind_found scripts actor n d is)
+
 -- ---- all done
 
 pub all_done : (scripts : List Script) → list_all (λ (s : Script). asks_nothing s.requests) scripts ≡ are_done scripts
 all_done [] = refl
 all_done (s ∷ ss) = ap (λ rest. asks_nothing s.requests && rest) (all_done ss)
+
+pub nothing_asked : (empty : Bool) (requests : List Request) → IsTrue empty ↔ (requests ≡ []) → empty ≡ asks_nothing requests
+nothing_asked true [] same = refl
+nothing_asked true (request ∷ rest) same = absurd (cc (same.0 refl))
+nothing_asked false [] same = absurd (cc (same.1 refl))
+nothing_asked false (request ∷ rest) same = refl

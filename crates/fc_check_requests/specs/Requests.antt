@@ -1,6 +1,5 @@
 -- Requests that are left to be asked, kept piece by piece.
 use Rattle.std.specs.Prelude.{◌≡◌, ℕ, ◌+◌, ◌%◌, ◌^◌, ◌<◌, ◌≤◌, Bool, true, false, List, [], ◌∷◌, map, Option, Some, None}
-use Rattle.std.specs.List.{range_with_len}
 use Rattle.fc_base.specs.declared.ids.VolId.{VolId}
 use Rattle.fc_base.specs.declared.request.Request.{Request}
 use Rattle.fc_base.specs.declared.request.Request.TheVariants.{Command as CommandAsked, Unread as UnreadAsked, CopyTurn, CleanTurn}
@@ -27,7 +26,7 @@ turn_in false lane = CopyTurn lane
 
 -- The turns that are left, in the lanes in turn.
 abbrev pub turns_left : Turns → List Request
-turns_left t = map (λ k. turn_in t.cleans (k % t.lanes)) (range_with_len t.next t.left)
+turns_left t = map (λ k. turn_in t.cleans (k % t.lanes)) (numbers t.next t.left)
 
 abbrev pub item_left : Item → List Request
 item_left (Command command) = CommandAsked command ∷ []

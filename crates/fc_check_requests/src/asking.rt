@@ -57,9 +57,9 @@ fn whole_span(size: GrainSize, volume: VolId, block: u32, count: u32, byte: Opti
     requires few { count ≤ MAX_BLOCKS }
     ensures { IsSpanOf size volume block count byte result }
 {
-    let blocks = u64::from(size.blocks());
-    let first = block / size.blocks();
-    let last = (u64::from(block) + u64::from(count) - 1) / blocks;
+    let blocks = size.blocks();
+    let first = block / blocks;
+    let last = ((u64::from(block) + u64::from(count) - 1) / u64::from(blocks)) as u32;
     Span {
         grain: size,
         volume,
@@ -67,7 +67,7 @@ fn whole_span(size: GrainSize, volume: VolId, block: u32, count: u32, byte: Opti
         count,
         byte,
         next: first,
-        left: (last - u64::from(first)) as u32 + 1,
+        left: last - first + 1,
     }
 }
 

@@ -52,10 +52,7 @@ fn copy_actor(alloc: Global, actor: &ActorRead) -> Result<ActorRead, NoMemory>
 }
 
 /// A copy of the actors of a block. Refused for want of memory alone.
-pub fn copy_actors(
-    alloc: Global,
-    actors: &[ActorRead],
-) -> Result<List<ActorRead>, NoMemory>
+pub fn copy_actors(alloc: Global, actors: &[ActorRead]) -> Result<List<ActorRead>, NoMemory>
     ensures { IfOk result (λ copy. copy ≡ actors.now) }
 {
     let mut copy = List::new(alloc);

@@ -1,18 +1,18 @@
 //! Requests that are left to be asked, one after the other.
 
-ghost use Rattle.std.specs.Prelude.{◌≡◌, ◌↔◌, [], ◌∷◌, ◌++◌, IsTrue, OnErr, OnOk, IfOk, Some};
+ghost use Rattle.std.specs.Prelude.{◌≡◌, ◌↔◌, [], ◌∷◌, ◌++◌, IsTrue, OnErr, OnOk, IfOk, Some, All, flat_map};
 ghost use Rattle.fc_base.specs.declared.request.Request.TheVariants.{Command as CommandAsked, Unread as UnreadAsked};
 ghost use Rattle.fc_check_requests.specs.Requests.{AsksSome, IsRest, item_left, span_left, turns_left};
 ghost use Rattle.fc_check_requests.specs.declared.requests.Item.{Item};
 ghost use Rattle.fc_legal.specs.Scripts.{behind_first, next_request};
 
-use crate::same::Same;
 use crate::span::Span;
 use crate::turns::Turns;
 use fc_base::command::Command;
 use fc_base::fault::WordFault;
 use fc_base::outcome::NoMemory;
 use fc_base::request::Request;
+use fc_check_same::same::Same;
 use fc_copies::copy::copy_command;
 use std::alloc::Global;
 use std::collections::VecDeque;
@@ -97,7 +97,8 @@ impl Item {
         match self {
             Item::Access(span) => rest_of_access(span),
             Item::Turns(turns) => rest_of_turns(turns),
-            _ => None,
+            Item::Command(_) => None,
+            Item::Unread(_) => None,
         }
     }
 
@@ -143,7 +144,7 @@ impl Requests {
     }
 
     /// Whether none are left.
-    #[tactic(auto, using(crate::proofs::RequestLemmas::none_empty, crate::proofs::RequestLemmas::empty_none))]
+    #[tactic(auto, using(crate::proofs::RequestLemmas::empty_left))]
     pub fn is_empty(&self) -> bool
         ensures { IsTrue result ↔ (self.now ≡ []) }
     {
@@ -151,7 +152,7 @@ impl Requests {
     }
 
     /// Whether this is the next.
-    #[tactic(auto, using(crate::proofs::RequestLemmas::front_first))]
+    #[tactic(auto, using(crate::proofs::RequestLemmas::front_asks, crate::proofs::RequestLemmas::none_asks))]
     pub fn asks(&self, request: &Request) -> bool
         ensures { IsTrue result ↔ (next_request self.now ≡ Some request.now) }
     {
@@ -162,17 +163,10 @@ impl Requests {
     }
 
     /// The next was asked: the rest is left.
-    #[tactic(auto, using(crate::proofs::RequestLemmas::taken_rest, crate::proofs::RequestLemmas::taken_last))]
     pub fn take_first(&mut self)
         ensures { self.new ≡ behind_first self.old }
     {
-        let Some(item) = self.items.pop_front() else {
-            return;
-        };
-        match item.behind_first() {
-            Some(rest) => self.items.push_front_reserved(rest),
-            None => {}
-        }
+        take_first(&mut self.items);
     }
 
     /// Puts an item behind the others. Refused, for want of memory alone, they are as they were.
@@ -181,7 +175,10 @@ impl Requests {
         requires { AsksSome item }
         ensures { OnOk result (self.new ≡ self.old ++ item_left item) }
     {
-        push_item(&mut self.items, item)
+        match push_item(&mut self.items, item) {
+            Ok(()) => Ok(()),
+            Err(NoMemory) => Err(NoMemory),
+        }
     }
 
     /// Puts a command behind the others.
@@ -221,6 +218,21 @@ impl Requests {
         Ok(Requests {
             items: copy_items(alloc, &self.items)?,
         })
+    }
+}
+
+/// Takes the first request, if there is one.
+fn take_first(items: &mut VecDeque<Item>)
+    requires { All AsksSome items.old.items }
+    ensures left { flat_map item_left items.new.items ≡ behind_first (flat_map item_left items.old.items) }
+    ensures some { All AsksSome items.new.items }
+{
+    let Some(item) = items.pop_front() else {
+        return;
+    };
+    match item.behind_first() {
+        Some(rest) => items.push_front_reserved(rest),
+        None => {}
     }
 }
 

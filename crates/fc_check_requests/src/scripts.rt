@@ -76,11 +76,7 @@ fn add_name(alloc: Global, names: &mut Vec<Name>, name: &Name) -> Result<(), NoM
 }
 
 /// The names of a block's actors come among the others.
-pub fn add_names(
-    alloc: Global,
-    names: &mut Vec<Name>,
-    actors: &[ActorRead],
-) -> Result<(), NoMemory>
+pub fn add_names(alloc: Global, names: &mut Vec<Name>, actors: &[ActorRead]) -> Result<(), NoMemory>
     ensures { OnOk result (names.new.items ≡ names_with names.old.items actors.now) }
 {
     for actor in actors {
@@ -90,11 +86,7 @@ pub fn add_names(
 }
 
 /// What these lines ask.
-fn lines_asked<T: Told>(
-    alloc: Global,
-    told: &T,
-    lines: &[ScriptLine],
-) -> Result<Requests, NoMemory>
+fn lines_asked<T: Told>(alloc: Global, told: &T, lines: &[ScriptLine]) -> Result<Requests, NoMemory>
     ensures { IfOk result (λ requests. requests ≡ flat_map (line_asked (T.grain told.now) (T.whole told.now).books) lines.now) }
 {
     let mut requests = Requests::new(alloc);

@@ -59,10 +59,17 @@ impl Turns {
         requires counted { self.next + self.left ≤ 2 ^ 32 }
         ensures { result ≡ record self { next = self.next + 1; left = self.left - 1 } }
     {
+        let Turns {
+            cleans,
+            lanes,
+            next,
+            left,
+        } = self;
         Turns {
-            next: self.next + 1,
-            left: self.left - 1,
-            ..self
+            cleans,
+            lanes,
+            next: next + 1,
+            left: left - 1,
         }
     }
 }

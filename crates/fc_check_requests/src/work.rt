@@ -1,10 +1,9 @@
 //! Background work: the copies or the cleanings of a mapping, and the credit that they save up.
 
-ghost use Rattle.std.specs.Prelude.{◌≡◌, ◌≤◌, ◌↔◌, ◌++◌, ◌∷◌, [], IsTrue, IfOk, OnOk, cond, filter, map};
+ghost use Rattle.std.specs.Prelude.{◌≡◌, ◌≤◌, ◌↔◌, ◌++◌, ◌∷◌, [], IsTrue, IfOk, OnOk, cond, true, false};
 ghost use Rattle.fc_base.specs.Grain.{grain_kib};
-ghost use Rattle.fc_base.specs.Rates.{kib_of_rate};
-ghost use Rattle.fc_check_requests.specs.Works.{does_clean, does_copy, works_by};
-ghost use Rattle.fc_legal.specs.Seconds.{cleanings_of, copies_of, gained, spent};
+ghost use Rattle.fc_check_requests.specs.Works.{has_flag, work_of, works_by, works_of};
+ghost use Rattle.fc_legal.specs.Seconds.{gained, spent};
 
 use fc_base::ids::MapId;
 use fc_base::outcome::NoMemory;
@@ -35,30 +34,16 @@ impl Model for Work {
 }
 
 impl Work {
-    /// Work of a mapping at this rate, without credit.
-    fn new(map: MapId, cleans: bool, rate: u8) -> Work
-        ensures { result ≡ record { map = map; cleans = cleans; gain = kib_of_rate rate; credit = 0 } }
+    /// The cleanings of a mapping, or its copies, without credit.
+    fn of(mapping: &Mapping, cleans: bool) -> Work
+        ensures { result ≡ work_of cleans mapping.now }
     {
         Work {
-            map,
+            map: mapping.id,
             cleans,
-            gain: kib_per_second(rate),
+            gain: kib_per_second(rate_of(mapping, cleans)),
             credit: 0,
         }
-    }
-
-    /// The copies of a mapping.
-    fn copies(mapping: &Mapping) -> Work
-        ensures { result ≡ copies_of mapping.now }
-    {
-        Work::new(mapping.id, false, mapping.copy_rate)
-    }
-
-    /// The cleanings of a mapping.
-    fn cleanings(mapping: &Mapping) -> Work
-        ensures { result ≡ cleanings_of mapping.now }
-    {
-        Work::new(mapping.id, true, mapping.clean_rate)
     }
 
     /// The mapping.
@@ -68,18 +53,18 @@ impl Work {
         self.map
     }
 
-    /// Whether it cleans; else it copies.
-    pub fn cleans(&self) -> bool
-        ensures { result ≡ self.now.cleans }
-    {
-        self.cleans
-    }
-
     /// Whether its credit is worth a grain of this size.
     pub fn is_worth(&self, grain: GrainSize) -> bool
         ensures { IsTrue result ↔ (grain_kib grain ≤ self.now.credit) }
     {
         u64::from(grain.kib()) <= self.credit
+    }
+
+    /// Whether it cleans; else it copies.
+    pub fn cleans(&self) -> bool
+        ensures { result ≡ self.now.cleans }
+    {
+        self.cleans
     }
 
     /// It gains what a second is worth to it. The credit stops at 2^64 - 1.
@@ -116,48 +101,63 @@ impl Work {
     }
 }
 
-/// Adds the work, if it is wanted.
-fn push_if(works: &mut VecDeque<Work>, wanted: bool, work: Work) -> Result<(), NoMemory>
-    ensures { OnOk result (works.new.items ≡ works.old.items ++ cond wanted (work ∷ []) []) }
+/// The rate of a mapping's cleanings, or of its copies.
+fn rate_of(mapping: &Mapping, cleans: bool) -> u8
+    ensures { result ≡ cond cleans mapping.now.clean_rate mapping.now.copy_rate }
 {
-    if !wanted {
+    if cleans {
+        mapping.clean_rate
+    } else {
+        mapping.copy_rate
+    }
+}
+
+/// Whether a mapping has the flag for its cleanings, or for its copies.
+fn has_flag(flags: &[WorkFlags], mapping: &Mapping, cleans: bool) -> bool
+    ensures { result ≡ has_flag cleans flags.now mapping.now }
+{
+    if cleans {
+        has_cleans(flags, mapping)
+    } else {
+        has_copies(flags, mapping)
+    }
+}
+
+/// Adds the work of the mapping, if it has the flag for it.
+fn add_work(
+    works: &mut VecDeque<Work>,
+    flags: &[WorkFlags],
+    mapping: &Mapping,
+    cleans: bool,
+) -> Result<(), NoMemory>
+    ensures { OnOk result (works.new.items ≡ works.old.items ++ cond (has_flag cleans flags.now mapping.now) (work_of cleans mapping.now ∷ []) []) }
+{
+    if !has_flag(flags, mapping, cleans) {
         return Ok(());
     }
-    match works.push_back(work) {
+    match works.push_back(Work::of(mapping, cleans)) {
         Ok(()) => Ok(()),
         Err(_) => Err(NoMemory),
     }
 }
 
-/// Adds the copies of the mappings that have the flag for them.
-fn push_copies(
+/// Adds all cleanings, or all copies.
+fn add_works(
     works: &mut VecDeque<Work>,
     flags: &[WorkFlags],
     mappings: &[Mapping],
+    cleans: bool,
 ) -> Result<(), NoMemory>
-    ensures { OnOk result (works.new.items ≡ works.old.items ++ map copies_of (filter (does_copy flags.now) mappings.now)) }
+    ensures { OnOk result (works.new.items ≡ works.old.items ++ works_of cleans flags.now mappings.now) }
 {
     for mapping in mappings {
-        push_if(works, has_copies(flags, mapping), Work::copies(mapping))?;
+        add_work(works, flags, mapping, cleans)?;
     }
     Ok(())
 }
 
-/// Adds the cleanings of the mappings that have the flag for them.
-fn push_cleanings(
-    works: &mut VecDeque<Work>,
-    flags: &[WorkFlags],
-    mappings: &[Mapping],
-) -> Result<(), NoMemory>
-    ensures { OnOk result (works.new.items ≡ works.old.items ++ map cleanings_of (filter (does_clean flags.now) mappings.now)) }
-{
-    for mapping in mappings {
-        push_if(works, has_cleans(flags, mapping), Work::cleanings(mapping))?;
-    }
-    Ok(())
-}
-
-/// All background work of these mappings, by their flags: all copies, and then all cleanings, without credit.
+/// All background work of these mappings, by their flags: all copies, and then all cleanings, without credit. Refused for want of
+/// memory alone.
 pub fn all_work(
     alloc: Global,
     flags: &[WorkFlags],
@@ -166,7 +166,7 @@ pub fn all_work(
     ensures { IfOk result (λ works. works.items ≡ works_by flags.now mappings.now) }
 {
     let mut works = VecDeque::new(alloc);
-    push_copies(&mut works, flags, mappings)?;
-    push_cleanings(&mut works, flags, mappings)?;
+    add_works(&mut works, flags, mappings, false)?;
+    add_works(&mut works, flags, mappings, true)?;
     Ok(works)
 }

@@ -8,7 +8,7 @@ use Rattle.fc_check_record.proofs.record.Record.is_next.Goals as goal
 
 pub returns : goal.returns
 returns c =
-    let i = c.self.inside in
+    let i = c.self.inside.kept in
     let sound = subst (λ (j : Judged). AreSound j.whole.books) (sym c.self.view_is) c.requires in
     subst (λ (j : Judged). IfOk c.is_next.result (λ yes. IsTrue yes ↔ IsNext j.grain j.whole c.args.entry.now)) c.self.view_is
     (next_is i.control i.known i.rows (pools_of i.pools.items) i.calls.items c.args.entry.now c.is_next.result c.self.invariant sound c.is_next.ensures)

@@ -18,17 +18,17 @@ leave_control-requires c = record {
 }
 
 -- the disks that are left
-pools_left : (c : goal.After-pools-2-1) → pools_of (with_items c.self.inside.pools c.take_for_all.new.pools).items ≡ fold pools_after (pools_of c.self.inside.pools.items) c.args.decision.now.events
+pools_left : (c : goal.After-pools-2-1) → pools_of (with_items c.self.inside.kept.pools c.take_for_all.new.pools).items ≡ fold pools_after (pools_of c.self.inside.kept.pools.items) c.args.decision.now.events
 pools_left c =
-    ap pools_of (with_items_is c.self.inside.pools c.take_for_all.new.pools (omega arith))
+    ap pools_of (with_items_is c.self.inside.kept.pools c.take_for_all.new.pools (omega arith))
     ∙ (c.take_for_all.ensures
     ∙ (ap (λ (events : List LaneEvent). fold pools_after (pools_of c.as_mut_slice.result.now) events) c.as_slice.ensures
     ∙ ap (λ (lanes : List LanePool). fold pools_after (pools_of lanes) c.args.decision.now.events) c.as_mut_slice.ensures.value))
 
 -- each part is what the decision leaves
 left : (c : goal.After-pools-2-1) →
-    AreLeft c.self.inside.control c.leave_control.new.control c.self.inside.known c.leave_known.new.known c.self.inside.rows c.leave_known.new.rows (pools_of c.self.inside.pools.items)
-    (pools_of (with_items c.self.inside.pools c.take_for_all.new.pools).items) c.args.decision.now
+    AreLeft c.self.inside.kept.control c.leave_control.new.control c.self.inside.kept.known c.leave_known.new.known c.self.inside.kept.rows c.leave_known.new.rows (pools_of c.self.inside.kept.pools.items)
+    (pools_of (with_items c.self.inside.kept.pools c.take_for_all.new.pools).items) c.args.decision.now
 left c = record {
   books = c.in_ok-leave_control.ensures.books;
   grain = c.in_ok-leave_control.ensures.grain;
@@ -39,10 +39,10 @@ left c = record {
 
 pub invariant_of-result : goal.invariant_of-result
 invariant_of-result c =
-    one_left c.self.inside.control c.leave_control.new.control c.self.inside.known c.leave_known.new.known c.self.inside.rows c.leave_known.new.rows (pools_of c.self.inside.pools.items)
-    (pools_of (with_items c.self.inside.pools c.take_for_all.new.pools).items) c.self.inside.calls.items c.args.decision.now c.self.invariant (left c)
+    one_left c.self.inside.kept.control c.leave_control.new.control c.self.inside.kept.known c.leave_known.new.known c.self.inside.kept.rows c.leave_known.new.rows (pools_of c.self.inside.kept.pools.items)
+    (pools_of (with_items c.self.inside.kept.pools c.take_for_all.new.pools).items) c.self.inside.kept.calls.items c.args.decision.now c.self.invariant (left c)
 
 pub returns : goal.returns
 returns c =
-    left_told c.self.inside.control c.leave_control.new.control c.self.inside.known c.leave_known.new.known c.self.inside.rows c.leave_known.new.rows (pools_of c.self.inside.pools.items)
-    (pools_of (with_items c.self.inside.pools c.take_for_all.new.pools).items) c.self.inside.calls.items c.args.self c.args.decision.now c.self.view_is c.requires.triggers (left c)
+    left_told c.self.inside.kept.control c.leave_control.new.control c.self.inside.kept.known c.leave_known.new.known c.self.inside.kept.rows c.leave_known.new.rows (pools_of c.self.inside.kept.pools.items)
+    (pools_of (with_items c.self.inside.kept.pools c.take_for_all.new.pools).items) c.self.inside.kept.calls.items c.args.self c.args.decision.now c.self.view_is c.requires.triggers (left c)

@@ -13,9 +13,9 @@ overflow_add-known c =
 
 pub invariant_of-self : goal.invariant_of-self
 invariant_of-self c =
-    one_counted c.self.inside.control _ c.self.inside.calls.items (subst (λ (k : Known). AreOne c.self.inside.control k c.self.inside.calls.items) (sym c.known.view_is) c.self.invariant)
+    one_counted c.self.inside.kept.control _ c.self.inside.kept.calls.items (subst (λ (k : Known). AreOne c.self.inside.kept.control k c.self.inside.kept.calls.items) (sym c.known.view_is) c.self.invariant)
 
 pub returns : goal.returns
 returns c =
-    let i = c.self.inside in
+    let i = c.self.inside.kept in
     more_told i.control i.known _ i.rows (pools_of i.pools.items) i.calls.items c.args.self.now c.self.view_is (ap (λ (k : Known). record k { entries = k.entries + 1 }) c.known.view_is)

@@ -11,7 +11,7 @@ new-requires c =
     let j = c.args.self.now in
     let sheet : c.known.inside.sheet ≡ j.whole.books.sheet = ap (λ (k : Known). k.sheet) c.known.view_is ∙ ap (λ (j : Judged). j.whole.books.sheet) c.self.view_is in
     record {
-      small = are_small c.known.inside.sheet j.whole.books.sheet c.self.inside.rows j.whole.rows sheet (ap (λ (j : Judged). j.whole.rows) c.self.view_is) c.requires.small;
+      small = are_small c.known.inside.sheet j.whole.books.sheet c.self.inside.kept.rows j.whole.rows sheet (ap (λ (j : Judged). j.whole.rows) c.self.view_is) c.requires.small;
       listed = are_listed j.whole.books c.known.inside.sheet c.all_mappings-mappings.result.now c.requires.sound sheet
           (c.all_mappings-mappings.ensures.value ∙ (ap (λ (t : Tables). t.mappings) c.registry.ensures ∙ ap (λ (j : Judged). j.whole.books.tables.mappings) c.self.view_is));
     }

@@ -1,0 +1,7 @@
+mod Laws
+mod Actors
+mod Naming
+mod Pairing
+mod Reaching
+mod Coming
+mod Running

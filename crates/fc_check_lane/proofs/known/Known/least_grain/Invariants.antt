@@ -1,8 +1,0 @@
-use Rattle.std.proofs.Common.{◌≡◌, ℕ, ◌<◌, false, is_some}
-use Rattle.fc_rules.specs.LaneTold.{number_at}
-use Rattle.fc_check_lane.specs.Turns.{filled_in, lane_in}
-use Rattle.fc_check_lane.proofs.known.Known.least_grain.Given as goal
-
--- none of the grains so far can be filled
-abbrev pub invariant-loop-place : goal.invariant-loop-place
-invariant-loop-place l = (j : ℕ) → j < l.place → is_some (filled_in l.work l.self l.map.0 (number_at (lane_in l.self l.lane) j)) ≡ false

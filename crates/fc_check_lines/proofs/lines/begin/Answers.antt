@@ -1,0 +1,14 @@
+use Rattle.std.proofs.Common.{ap, refl, ◌∙◌}
+use Rattle.fc_check_lines.proofs.Standing.{block_begins, single_begins}
+use Rattle.fc_check_lines.specs.declared.lines.Asking.TheVariants.{Faults}
+use Rattle.fc_legal.specs.Scripts.{faults_asked}
+use Rattle.fc_check_lines.proofs.lines.begin.Goals as goal
+
+pub returns-in-Single : goal.returns-in-Single
+returns-in-Single g c =
+    single_begins (g.T.Told.grain c.args.told.now) (g.T.Told.whole c.args.told.now) c.begin_line.result c.args.segment c.in-Single.line c.in-Single.is c.begin_line.ensures
+
+pub returns-in-Block : goal.returns-in-Block
+returns-in-Block g c =
+    block_begins (g.T.Told.grain c.args.told.now) (g.T.Told.whole c.args.told.now) c.args.segment c.in-Block.block c.in_ok-requests.requests (Faults c.in_ok-requests.requests c.in-Block.block.actors)
+    c.in-Block.is (c.in_ok-requests.ensures ∙ ap faults_asked c.as_slice.ensures) refl
