@@ -1,6 +1,4 @@
-//! Refusals compared.
-
-ghost use Rattle.std.specs.Prelude.{◌≡◌, ◌↔◌, IsTrue};
+//! The comparison of refusals.
 
 use crate::same::Same;
 use fc_base::fault::Refusal;

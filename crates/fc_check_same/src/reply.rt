@@ -1,6 +1,4 @@
-//! Replies compared.
-
-ghost use Rattle.std.specs.Prelude.{◌≡◌, ◌↔◌, IsTrue};
+//! The comparison of replies.
 
 use crate::same::{Same, all_same};
 use fc_base::request::Reply;
