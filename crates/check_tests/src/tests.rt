@@ -1,4 +1,4 @@
-//! What is said of right traces, wrong ones, and bytes that are no trace.
+//! What is said of right traces, wrong ones, bytes that are no trace, and traces with a session behind them.
 
 ghost use Rattle.std.specs.Prelude.{◌<◌};
 
@@ -10,6 +10,9 @@ use std::test::Fail;
 /// A volume of 16 grains, a block written, and read with the one behind it.
 const TRACE: &[u8] =
     b"trace 64 4 flat 1 1 1 1 thin 0 0 0 0\n0 main mkvdisk -name A -size 1 -> Virtual Disk, id [0], successfully created\n+ make 0 16\n.\n1 main write 0 0 1 5a -> ok\n+ calls 2 faults 0 0\n.\n2 main read 0 0 2 -> data 512*5a,512*00\n+ calls 1 faults 0 0\n.\n";
+
+/// The session that it answers.
+const SESSION: &[u8] = b"# a comment\nmkvdisk -name A -size 1\n\nwrite A 0 1 5a\nread A 0 2\n";
 
 /// What is said of a trace that a source gives in pieces of so many bytes, of which no call fails.
 fn said(rt: &HostRuntime, text: &[u8], piece: usize) -> Result<Result<Verdict, CheckStop>, Fail>
@@ -98,6 +101,134 @@ fn a_fault_is_told_where_nothing_else_is_met(rt: HostRuntime) -> Result<(), Fail
     assert_eq!(rt;
         said_failing(&rt, b"trace 64 4", 2)?,
         Err(CheckStop::ReadFault)
+    );
+    Ok(())
+}
+
+/// What is said of a trace with this behind it.
+fn said_behind(
+    rt: &HostRuntime,
+    text: &[u8],
+    behind: &[u8],
+) -> Result<Result<Verdict, CheckStop>, Fail> {
+    let mut bytes = Vec::new(rt.alloc());
+    bytes.extend_from_slice(text)?;
+    bytes.extend_from_slice(behind)?;
+    said(rt, bytes.as_slice(), 50)
+}
+
+/// What is said of a trace with this session.
+fn said_of_session(
+    rt: &HostRuntime,
+    text: &[u8],
+    session: &[u8],
+) -> Result<Result<Verdict, CheckStop>, Fail> {
+    let mut behind = Vec::new(rt.alloc());
+    behind.extend_from_slice(b"session\n")?;
+    behind.extend_from_slice(session)?;
+    said_behind(rt, text, behind.as_slice())
+}
+
+#[test]
+fn a_session_that_is_answered(rt: HostRuntime) -> Result<(), Fail> {
+    assert_eq!(rt; said_of_session(&rt, TRACE, SESSION)?, Ok(Verdict::Yes(3)));
+    let ends = b"mkvdisk -name A -size 1\r\nwrite A 0 1 5a\r\nread A 0 2";
+    assert_eq!(rt; said_of_session(&rt, TRACE, ends)?, Ok(Verdict::Yes(3)));
+    let nothing = b"trace 64 4 flat 0 0 0 0 thin 0 0 0 0\n";
+    assert_eq!(rt; said_of_session(&rt, nothing, b"")?, Ok(Verdict::Yes(0)));
+    assert_eq!(rt;
+        said_of_session(&rt, nothing, b"\n# a comment")?,
+        Ok(Verdict::Yes(0))
+    );
+    Ok(())
+}
+
+#[test]
+fn a_line_that_remains_is_no_answer(rt: HostRuntime) -> Result<(), Fail> {
+    let more = b"mkvdisk -name A -size 1\nwrite A 0 1 5a\nread A 0 2\nread A 0 1";
+    assert_eq!(rt; said_of_session(&rt, TRACE, more)?, Ok(Verdict::No(3)));
+    let nothing = b"trace 64 4 flat 0 0 0 0 thin 0 0 0 0\n";
+    assert_eq!(rt; said_of_session(&rt, nothing, b"x\n")?, Ok(Verdict::No(0)));
+    Ok(())
+}
+
+#[test]
+fn an_entry_that_no_line_asks(rt: HostRuntime) -> Result<(), Fail> {
+    let fewer = b"mkvdisk -name A -size 1\nwrite A 0 1 5a\n";
+    assert_eq!(rt; said_of_session(&rt, TRACE, fewer)?, Ok(Verdict::No(2)));
+    let other = b"mkvdisk -name A -size 1\nwrite A 0 1 5b\nread A 0 2\n";
+    assert_eq!(rt; said_of_session(&rt, TRACE, other)?, Ok(Verdict::No(1)));
+    assert_eq!(rt; said_of_session(&rt, TRACE, b"")?, Ok(Verdict::No(0)));
+    Ok(())
+}
+
+#[test]
+fn an_entry_of_another_actor(rt: HostRuntime) -> Result<(), Fail> {
+    let text =
+        b"trace 64 4 flat 1 1 1 1 thin 0 0 0 0\n0 main mkvdisk -name A -size 1 -> Virtual Disk, id [0], successfully created\n+ make 0 16\n.\n1 h7 write 0 0 1 5a -> ok\n+ calls 2 faults 0 0\n.\n2 main read 0 0 2 -> data 512*5a,512*00\n+ calls 1 faults 0 0\n.\n";
+    assert_eq!(rt; said(&rt, text, 64)?, Ok(Verdict::Yes(3)));
+    assert_eq!(rt; said_of_session(&rt, text, SESSION)?, Ok(Verdict::No(1)));
+    let block =
+        b"mkvdisk -name A -size 1\ntogether\nactor h7 host\nwrite A 0 1 5a\nend\nread A 0 2\n";
+    assert_eq!(rt; said_of_session(&rt, text, block)?, Ok(Verdict::Yes(3)));
+    let renamed =
+        b"mkvdisk -name A -size 1\ntogether\nactor h8 host\nwrite A 0 1 5a\nend\nread A 0 2\n";
+    assert_eq!(rt; said_of_session(&rt, text, renamed)?, Ok(Verdict::No(1)));
+    Ok(())
+}
+
+#[test]
+fn an_open_block_is_left_out(rt: HostRuntime) -> Result<(), Fail> {
+    let open =
+        b"mkvdisk -name A -size 1\nwrite A 0 1 5a\nread A 0 2\ntogether\nactor h7 host\nread A 0 1\n";
+    assert_eq!(rt; said_of_session(&rt, TRACE, open)?, Ok(Verdict::Yes(3)));
+    Ok(())
+}
+
+#[test]
+fn a_line_that_is_cut_is_malformed(rt: HostRuntime) -> Result<(), Fail> {
+    let end = TRACE.len() as u64;
+    assert_eq!(rt; said_behind(&rt, TRACE, b"x")?, Ok(Verdict::Malformed(end)));
+    assert_eq!(rt;
+        said_behind(&rt, TRACE, b"s")?,
+        Ok(Verdict::Malformed(end + 1))
+    );
+    assert_eq!(rt;
+        said_behind(&rt, TRACE, b"sess")?,
+        Ok(Verdict::Malformed(end + 4))
+    );
+    assert_eq!(rt;
+        said_behind(&rt, TRACE, b"session")?,
+        Ok(Verdict::Malformed(end + 7))
+    );
+    assert_eq!(rt;
+        said_behind(&rt, TRACE, b"session \n")?,
+        Ok(Verdict::Malformed(end + 7))
+    );
+    assert_eq!(rt;
+        said_behind(&rt, TRACE, b"seen")?,
+        Ok(Verdict::Malformed(end + 2))
+    );
+    Ok(())
+}
+
+#[test]
+fn a_session_fits_behind_a_full_trace(rt: HostRuntime) -> Result<(), Fail> {
+    let mut text = Vec::new(rt.alloc());
+    text.extend_from_slice(b"trace 64 4 flat 0 0 0 0 thin 0 0 0 0\n")?;
+    let mut session = Vec::new(rt.alloc());
+    for number in 0..262_144u32 {
+        let entry = format!(in rt.alloc(); "{number} main - -> refused unknown command\n.\n")?;
+        text.extend_from_slice(entry.as_bytes())?;
+        session.extend_from_slice(b"x\n")?;
+    }
+    assert_eq!(rt;
+        said_of_session(&rt, text.as_slice(), session.as_slice())?,
+        Ok(Verdict::Yes(262_144))
+    );
+    assert_eq!(rt;
+        said_behind(&rt, text.as_slice(), b"2")?,
+        Err(CheckStop::LogFull)
     );
     Ok(())
 }

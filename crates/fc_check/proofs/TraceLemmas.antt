@@ -15,7 +15,7 @@ use Rattle.fc_reading.proofs.Exact.{ok_is}
 use Rattle.fc_reading.proofs.HeaderLemmas.{Exact-header}
 use Rattle.fc_reading.proofs.Words.{Ends-nothing}
 use Rattle.fc_reading_entries.proofs.LawLemmas.{read_entries_law_holds}
-use Rattle.fc_check.specs.Traces.{AreNextTexts, IsNextText, IsTrace, IsTraceOf, nothing_told}
+use Rattle.fc_check.specs.Traces.{AreNextTexts, IsNextText, IsTraceOf, nothing_told}
 
 -- ---- the text of one entry
 
@@ -88,7 +88,7 @@ pub record GoesOn (size : GrainSize) (old : HistoryState) (bytes : List ℕ) (ne
   pub told : AreNextTexts size old texts new
   pub text : bytes ≡ concat texts
 
-nothing_before : (x y : List ℕ) → x ++ y ≡ [] → x ≡ []
+pub nothing_before : (x y : List ℕ) → x ++ y ≡ [] → x ≡ []
 nothing_before [] y e = refl
 nothing_before (b ∷ x) y e = absurd cc
 

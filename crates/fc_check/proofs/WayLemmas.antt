@@ -14,7 +14,8 @@ use Rattle.law_stands.proofs.Naming.{names_law_holds}
 use Rattle.law_stands.specs.Names.{nameless}
 use Rattle.fc_check.specs.Progress.{AreAllWays, AreRight, IsFound, IsProgress}
 use Rattle.fc_check.specs.Traces.{IsTraceOf, nothing_told}
-use Rattle.fc_check.specs.Verdict.{AreAllRight, AreLegal, IsFirstWrong, IsTraceWith}
+use Rattle.fc_check.specs.Verdict.{AreAllRight, AreLegal, IsFirstWrong, IsInputWith, IsWrongAt}
+use Rattle.fc_check.proofs.InputTraces.{input_alone}
 use Rattle.fc_check.specs.declared.judge.Progress.{Progress}
 
 -- ---- right entries, from the front and from the end
@@ -107,7 +108,7 @@ right_more header entries entry old new right after grain counted some = record 
 }
 
 wrong_now : (header : Header) (entries : List Entry) (entry : Entry) (old new : Ways) (number : ℕ) → AreRight header entries old → AreAfter old.grain old.ways entry new.ways →
-    new.ways ≡ [] → number ≡ length entries → IsFirstWrong number header (entries ++ entry ∷ [])
+    new.ways ≡ [] → number ≡ length entries → IsFirstWrong (AreLegal header) number (entries ++ entry ∷ [])
 wrong_now header entries entry old new number right after none is = record {
   there = omega (arith, length-append entries (entry ∷ []));
   before = subst (AreLegal header) (sym (take_at entries (entry ∷ []) number (sym is))) (legal_of_right header entries old right);
@@ -120,7 +121,7 @@ wrong_now header entries entry old new number right after none is = record {
       );
 }
 
-wrong_before : (header : Header) (entries : List Entry) (entry : Entry) (number : ℕ) → IsFirstWrong number header entries → IsFirstWrong number header (entries ++ entry ∷ [])
+wrong_before : (header : Header) (entries : List Entry) (entry : Entry) (number : ℕ) → IsFirstWrong (AreLegal header) number entries → IsFirstWrong (AreLegal header) number (entries ++ entry ∷ [])
 wrong_before header entries entry number wrong = record {
   there = omega (arith, wrong.there, length-append entries (entry ∷ []));
   before = subst (AreLegal header) (sym (take-append-le number entries (entry ∷ []) (omega (arith, wrong.there)))) wrong.before;
@@ -212,18 +213,30 @@ module _ (header : Header) (old new : Progress) (bytes : List ℕ) (count : ℕ)
 -- ---- at the end
 
 pub said_right : (header : Header) (progress : Progress) (bytes : List ℕ) (count : ℕ) → progress.wrong ≡ None → count ≡ length progress.history.entries →
-    IsProgress header progress → IsTraceOf header progress.history bytes → IsTraceWith (AreAllRight count) bytes
+    IsProgress header progress → IsTraceOf header progress.history bytes → IsInputWith (AreAllRight count) bytes
 said_right header progress bytes count none is known trace = record {
   header = header;
   history = progress.history;
-  trace = trace;
+  session = None;
+  input = input_alone header progress.history bytes trace;
   room = known.room;
   is_so = record {
     all = sym is;
-    legal =
+    stand =
         legal_of_right header progress.history.entries progress.candidates
         (subst (λ (w : Option ℕ). IsFound w header progress.history.entries progress.candidates) none known.found);
   };
+}
+
+pub said_wrong : (header : Header) (progress : Progress) (bytes : List ℕ) (number : ℕ) → progress.wrong ≡ Some number →
+    IsProgress header progress → IsTraceOf header progress.history bytes → IsInputWith (IsWrongAt number) bytes
+said_wrong header progress bytes number some known trace = record {
+  header = header;
+  history = progress.history;
+  session = None;
+  input = input_alone header progress.history bytes trace;
+  room = known.room;
+  is_so = subst (λ (w : Option ℕ). IsFound w header progress.history.entries progress.candidates) some known.found;
 }
 
 pub is_true : (test : Bool) → test ≡ true → IsTrue test

@@ -1,10 +1,10 @@
-//! The trace that a source gives, judged.
+//! The trace that a source gives, judged, with the session behind it, if there is one.
 
 ghost use Rattle.std.specs.Prelude.{◌≡◌, List, ℕ, length};
 ghost use Rattle.fc_check.specs.Checked.{Answers, IsChecked};
 ghost use Rattle.fc_check.specs.Input.{EndsTaking, WereTaken};
 ghost use Rattle.fc_check.specs.Progress.{IsJudged};
-ghost use Rattle.fc_check.specs.Traces.{BeginsTrace};
+ghost use Rattle.fc_check.specs.Traces.{BeginsInput};
 ghost use Rattle.fc_check.specs.Verdict.{IsSaid};
 ghost use Rattle.fc_io.specs.Source.{SourceState};
 
@@ -17,7 +17,7 @@ use std::alloc::Global;
 
 /// The answer where nothing else is met in the bytes that were taken: the verdict at the end of all, or what ended them.
 fn at_end(verdict: Verdict, end: InputEnd) -> Result<Verdict, CheckStop>
-    ensures { (before after : SourceState) (bytes past : List ℕ) → IsSaid verdict bytes → BeginsTrace bytes
+    ensures { (before after : SourceState) (bytes past : List ℕ) → IsSaid verdict bytes → BeginsInput bytes
         → EndsTaking end before past after → Answers result before bytes past after }
 {
     match end {
@@ -27,7 +27,7 @@ fn at_end(verdict: Verdict, end: InputEnd) -> Result<Verdict, CheckStop>
     }
 }
 
-/// The answer where this verdict is right of the bytes that were taken, so many. A byte that no trace goes on with is met in them, and
+/// The answer where this verdict is right of the bytes that were taken, so many. A byte that no input goes on with is met in them, and
 /// comes before what ended them.
 fn first_met(verdict: Verdict, count: usize, end: InputEnd) -> Result<Verdict, CheckStop>
     ensures { (before after : SourceState) (bytes past : List ℕ) → IsSaid verdict bytes → length bytes ≡ count
@@ -57,14 +57,15 @@ fn answer(said: Result<Verdict, Stop>, count: usize, end: InputEnd) -> Result<Ve
     }
 }
 
-/// Judges the trace that a source gives, as `judge` does its bytes. They are taken from the source in pieces of at most 64 KiB, and at
-/// most 67,108,864; then the byte past them is asked for. Each call but the last takes at least one byte.
+/// Judges the trace that a source gives, and the session behind it, if there is one, as `judge` does their bytes. They are taken from
+/// the source in pieces of at most 64 KiB, and at most 67,108,864; then the byte past them is asked for. Each call but the last takes
+/// at least one byte.
 ///
 /// `Yes` and `No` are said of all that the source had. What is met first in the bytes, in their order, is answered before any `No`:
-/// `Malformed` at a byte of them, or at their end, where the source is at its end; `LogFull` at the first byte behind entry 262,144,
-/// whatever it is; `ReadFault` where a call of the source failed, so that its count of faults rose in this call or stands at its last
-/// value; and `TooLong` at the byte past the greatest input. Where memory is wanted, `NoMemory` is answered, and some bytes were
-/// taken, maybe none.
+/// `Malformed` at a byte of them, or at their end, where the source is at its end; `LogFull` at the first byte behind entry 262,144, if
+/// it isn't the `s` of a session's line; `ReadFault` where a call of the source failed, so that its count of faults rose in this call or
+/// stands at its last value; and `TooLong` at the byte past the greatest input. Where memory is wanted, `NoMemory` is answered, and
+/// some bytes were taken, maybe none.
 pub fn check<S: Source>(alloc: Global, source: &mut S) -> Result<Verdict, CheckStop>
     ensures { IsChecked result (S.meaning source.old) (S.meaning source.new) }
 {

@@ -1,4 +1,4 @@
-//! A trace that is given as bytes, judged entry by entry.
+//! A trace that is given as bytes, with a session behind it, if there is one, judged entry by entry.
 
 ghost use Rattle.std.specs.Prelude.{◌≡◌, ◌≤◌, ◌<◌, ◌+◌, ◌↔◌, [], ◌∷◌, ◌++◌, List, ℕ, length, take, IfErr, IfOk, IsTrue, OnOk};
 ghost use Rattle.fc_check.specs.Progress.{IsJudged, IsProgress};
@@ -13,6 +13,7 @@ ghost use Rattle.fc_reading_notes.specs.Told.{IfMalformed};
 ghost use Rattle.fc_trace.specs.Trace.{header_text};
 ghost use Rattle.fc_trace.specs.declared.header.Header.{Header};
 
+use crate::session::judge_session;
 use crate::verdict::Verdict;
 use fc_base::limits::MAX_ENTRIES;
 use fc_base::outcome::NoMemory;
@@ -52,7 +53,7 @@ impl Progress {
         }
     }
 
-    /// What is said at the end of the trace.
+    /// What is said where the bytes end with the trace.
     fn verdict(&self) -> Verdict
         ensures { (header : Header) (bytes : List ℕ) → IsProgress header self.now → IsTraceOf header self.now.history bytes → IsSaid result bytes }
     {
@@ -133,6 +134,9 @@ fn judge_entries(
     };
     let mut place = start;
     while place < bytes.len() {
+        if bytes[place] == b's' {
+            return judge_session(alloc, header, &progress.history, place, bytes);
+        }
         if progress.history.len() == MAX_ENTRIES {
             return Err(Stop::LogFull);
         }
@@ -147,11 +151,17 @@ fn judge_entries(
     Ok(progress.verdict())
 }
 
-/// Judges the bytes of a trace. `Yes` says that they are the trace of a legal history of a store over the disks of its first line, of
-/// so many entries; `No` that they are a trace, and which entry is the first that isn't right after those before it; `Malformed` that
-/// they are no trace, the place of the first byte with which none goes on, or their end. A wrong entry doesn't stop the reading, so
-/// `No` is said of a whole trace alone. Nothing is said where a byte stands behind entry 262,144 (`LogFull`), whatever it is, nor for
-/// want of memory.
+/// Judges the bytes of a trace, behind which a line `session` and the bytes of a session may stand. At the place of an entry an `s` begins
+/// that line; behind it any bytes may stand, and a block that isn't ended at their end is left out.
+///
+/// Without a session, `Yes` says that the entries, so many, are those of a legal history of a store over the disks of the first line;
+/// `No`, which entry is the first that isn't right after those before it. With a session, `Yes` says that they are a whole run of its
+/// lines and blocks over such a store, each actor known by its name; `No`, which entry is the first that can't stand there in a run of
+/// them, or, where all can and a line remains, how many entries there are. `Malformed` says that the bytes are no trace with or without
+/// a session: the place of the first byte with which none goes on, or their end.
+///
+/// A wrong entry doesn't stop the reading, so `No` is said of a whole trace alone. Nothing is said where a byte other than `s` stands
+/// behind entry 262,144 (`LogFull`), nor for want of memory.
 pub fn judge(alloc: Global, bytes: &[u8]) -> Result<Verdict, Stop>
     ensures { IsJudged result bytes.now }
 {

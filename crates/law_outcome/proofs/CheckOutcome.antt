@@ -1,10 +1,11 @@
 -- Two checks of the same bytes that end in one way write the same.
 use Rattle.std.proofs.Common.{◌≡◌, ◌⊎◌, ◌∙◌, ℕ, ◌+◌, ◌<◌, ◌≤◌, Bool, true, false, List, [], ◌∷◌, ◌++◌, length, take, drop, Option, Some, None, Result, Ok, Err, refl, sym, ap, subst, arith, inl, inr, append_assoc, append-nil, length-append}
 use Rattle.std.proofs.lemmas.Bool.{cases_lt, false≢true}
-use Rattle.std.proofs.lemmas.List.{take-append-drop, take-append-le, take-take}
+use Rattle.std.proofs.lemmas.List.{get_or_append_left, take-append-drop, take-append-le, take-take}
+use Rattle.fc_check.proofs.InputTraces.{input_alone}
 use Rattle.fc_check.proofs.LawLemmas.{verdict_law_holds}
 use Rattle.fc_check.specs.Checked.{Answers, IsAll}
-use Rattle.fc_check.specs.Traces.{IsFull, IsTrace}
+use Rattle.fc_check.specs.Traces.{IsFull, IsInput}
 use Rattle.fc_check.specs.Verdict.{IsMalformedAt, IsSaid}
 use Rattle.fc_check.specs.declared.verdict.CheckStop.{CheckStop}
 use Rattle.fc_check.specs.declared.verdict.CheckStop.TheVariants as stop
@@ -23,14 +24,14 @@ use Rattle.law_outcome.specs.OneOutcome.{HaveOneOutcome, IsByBytes, TookOf}
 use Rattle.fc_top.specs.declared.status.Status.{Status}
 use Rattle.fc_top.specs.declared.status.Status.TheVariants as status
 
--- ---- what is said of the first bytes of a text that stop being a trace is said of all of them
+-- ---- what is said of the first bytes of a text that stop being an input of a check is said of all of them
 
--- no bytes that begin as these do are a trace
-none_begins : (place : ℕ) (taken bytes : List ℕ) → place < length taken → IsMalformedAt place taken → take (place + 1) bytes ≡ take (place + 1) taken → IsTrace bytes → ⊥
-none_begins place taken bytes within said same trace =
+-- no bytes that begin as these do are one
+none_begins : (place : ℕ) (taken bytes : List ℕ) → place < length taken → IsMalformedAt place taken → take (place + 1) bytes ≡ take (place + 1) taken → IsInput bytes → ⊥
+none_begins place taken bytes within said same input =
     let rest : List ℕ = drop (place + 1) bytes in
     said.stops within rest
-    (subst IsTrace (sym (take-append-drop (place + 1) bytes) ∙ ap (λ (front : List ℕ). front ++ rest) same) trace)
+    (subst IsInput (sym (take-append-drop (place + 1) bytes) ∙ ap (λ (front : List ℕ). front ++ rest) same) input)
 
 malformed_more : (place : ℕ) (taken more : List ℕ) → place < length taken → IsMalformedAt place taken → IsMalformedAt place (taken ++ more)
 malformed_more place taken more within said =
@@ -38,8 +39,8 @@ malformed_more place taken more within said =
     let longer : take (place + 1) (taken ++ more) ≡ take (place + 1) taken = take-append-le (place + 1) taken more (omega arith) in
     record {
       within = omega (arith, within, length-append taken more);
-      begins = (said.begins.0, subst (λ (front : List ℕ). IsTrace (front ++ said.begins.0)) (sym front) said.begins.1);
-      stops = λ inside rest trace. said.stops within rest (subst (λ (front : List ℕ). IsTrace (front ++ rest)) longer trace);
+      begins = (said.begins.0, subst (λ (front : List ℕ). IsInput (front ++ said.begins.0)) (sym front) said.begins.1);
+      stops = λ inside rest input. said.stops within rest (subst (λ (front : List ℕ). IsInput (front ++ rest)) longer input);
       none = none_begins place taken (taken ++ more) within said longer;
     }
 
@@ -56,6 +57,7 @@ not_full_more place taken more within said not_full full = go (cases_lt full.pla
           history = full.history;
           trace = rw (← take-append-le full.place taken more (omega (arith, less))) full.trace;
           full = full.full;
+          other = λ e. full.other (get_or_append_left taken more 0 full.place less ∙ e);
         }
     go (inr past) =
         none_begins place taken (take full.place (taken ++ more)) within said
@@ -63,7 +65,7 @@ not_full_more place taken more within said not_full full = go (cases_lt full.pla
         take-take (place + 1) full.place (taken ++ more) (omega (arith, within, past))
         ∙ take-append-le (place + 1) taken more (omega (arith, within))
         )
-        (full.header, full.history, full.trace)
+        (full.header, full.history, None, input_alone full.header full.history (take full.place (taken ++ more)) full.trace)
 
 said_more : (place : ℕ) (taken more : List ℕ) → place < length taken → IsSaid (Malformed place) taken → IsSaid (Malformed place) (taken ++ more)
 said_more place taken more within said =

@@ -87,7 +87,8 @@ abbrev pub HasBytes : Asked → List ℕ → SourceState → Type 0
 HasBytes (Drill number) bytes source = Unit {0}
 HasBytes _ bytes source = source.left ≡ Some bytes
 
--- No block ends in the bytes of a run. The generated session of a drill has none in any case, and a trace is no session.
+-- No block ends in the bytes of a run. The generated session of a drill has none in any case. A check makes no entry, and of its bytes
+-- one verdict is right, whatever session stands behind their trace.
 abbrev pub AsksNoBlock : Asked → List ℕ → Type 0
 AsksNoBlock (Drill number) bytes = Unit {0}
 AsksNoBlock Check bytes = Unit {0}

@@ -1,6 +1,6 @@
 -- Nothing is met in the bytes.
 use Rattle.std.proofs.Common.{arith}
-use Rattle.fc_check.specs.Verdict.{AreAllRight, IsFirstWrong, IsSaid}
+use Rattle.fc_check.specs.Verdict.{AreAllRight, IsSaid, IsWrongAt}
 use Rattle.fc_check.specs.declared.verdict.Verdict.TheVariants.{Yes, No, Malformed}
 use Rattle.fc_check.proofs.AnswerLemmas.{said_of}
 use Rattle.fc_check.proofs.StopLemmas.{begins-cut, begins-whole}
@@ -22,4 +22,4 @@ pub returns-in-No : goal.returns-in-No
 returns-in-No c = λ before after bytes past judged counted ends.
     let number = c.in-No.number in
     let said : IsSaid (No number) bytes = said_of c.args.verdict (No number) bytes c.in-No.is judged in
-    c.at_end-in-No.ensures before after bytes past said (begins-whole (IsFirstWrong number) bytes said) ends
+    c.at_end-in-No.ensures before after bytes past said (begins-whole (IsWrongAt number) bytes said) ends

@@ -1,9 +1,11 @@
 -- One entry more, and where reading stops.
-use Rattle.std.proofs.Common.{◌-◌, ◌<◌, List, ℕ, length, take, drop, subst, arith}
+use Rattle.std.proofs.Common.{◌≡◌, ◌-◌, ◌<◌, false, List, ℕ, length, take, drop, subst, arith}
 use Rattle.std.proofs.lemmas.List.{length-drop, take_all, take_rest}
 use Rattle.fc_reading.specs.Stops.{StopsAt}
 use Rattle.fc_reading_entries.specs.Entries.{IsEntryText, ReadNext}
 use Rattle.fc_check.specs.Traces.{IsTraceOf}
+use Rattle.fc_check.proofs.InputTraces.{IsPart, begins_s}
+use Rattle.fc_check.proofs.JudgeLemmas.{other_there, stops_entry}
 use Rattle.fc_check.proofs.StopLemmas.{malformed-behind, not_full-behind, read_some, trace_read}
 use Rattle.fc_check.proofs.judge.judge_entries.Goals as goal
 
@@ -41,12 +43,17 @@ returns-in-Err-Malformed c =
     let place = c.loop-place.place in
     let old = c.loop-place.progress.history in
     let stopped = c.in-Err-Malformed.stopped in
-    let stops : StopsAt (IsEntryText header.grain (length old.entries)) (drop place bytes) stopped =
+    let entry : StopsAt (IsEntryText header.grain (length old.entries)) (drop place bytes) stopped =
     behind bytes place (λ l. StopsAt (IsEntryText header.grain (length old.entries)) l stopped) (rw c.in-Err-Malformed.field-0-is at c.in-Err-Malformed.ensures.malformed) in
+    let some : 0 < length (drop place bytes) = omega (arith, c.loop-place-test.true, length-drop place bytes) in
+    let other : begins_s (drop place bytes) ≡ false = other_there bytes place c.loop-place-test.true c.if-bytes-place-eq115.false in
+    let stops : StopsAt (IsPart header.grain (length old.entries)) (drop place bytes) stopped =
+    stops_entry header.grain (length old.entries) (drop place bytes) stopped some other entry in
     let few : length old.entries < 262144 = omega (arith, c.len.ensures, c.loop-place.invariant.known.room) in
     rw c.in-Err-Malformed.field-0-is (
       malformed-behind header old bytes place c.loop-place.invariant.within c.loop-place.invariant.trace stopped c.loop-place-test.true stops,
-      not_full-behind header old bytes place stopped c.loop-place.invariant.within c.loop-place.invariant.trace few stops,
+      not_full-behind header old bytes place stopped c.loop-place.invariant.within c.loop-place.invariant.trace (omega (arith, few))
+          (λ all. absurd (omega (arith, all, few))) stops,
     )
 
 pub returns : goal.returns
