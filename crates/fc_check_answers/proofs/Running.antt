@@ -5,7 +5,7 @@ use Rattle.std.proofs.lemmas.List.Elements.{All-contains, Contains-append_left, 
 use Rattle.fc_base.specs.Pools.{Pool}
 use Rattle.fc_base.specs.declared.size.GrainSize.{GrainSize}
 use Rattle.fc_blocks.specs.Segments.{Segment}
-use Rattle.fc_check_answers.proofs.Coming.{HaveGiven, all_given, came_as, more_given, none_came, none_there, one_came}
+use Rattle.fc_check_answers.proofs.Coming.{HaveGiven, all_given, came_as, more_given, none_came, none_given, none_there, one_came}
 use Rattle.fc_check_answers.proofs.Laws.{lines as lines_law, names as names_law, stands}
 use Rattle.fc_check_answers.proofs.Reaching.{first_places, same_place}
 use Rattle.fc_check_answers.specs.Places.{AreAllPlaces, HasEnd, Place}
@@ -85,13 +85,13 @@ module _ (lines : Standing) (name : List ℕ) (entry : Entry) where
 
 -- ---- a run
 
-module _ (way : Judged) (lines : Standing) (name : List ℕ) (entry : Entry) (ways : List Judged)
-    (came : CameWays way.grain (Step way.grain way.whole entry) [] ways) where
+module _ (way : Judged) (lines : Standing) (name : List ℕ) (entry : Entry) (before ways : List Judged) (none : before ≡ [])
+    (came : CameWays way.grain (Step way.grain way.whole entry) before ways) where
   told_here : (next : Judged) → Contains ways next → (next.grain ≡ way.grain) × Step way.grain way.whole entry next.whole
   told_here next there = by_place (came.only next there)
     where
-      by_place : Contains [] next ⊎ ((next.grain ≡ way.grain) × Step way.grain way.whole entry next.whole) → (next.grain ≡ way.grain) × Step way.grain way.whole entry next.whole
-      by_place (inl none) = absurd (none_there next none)
+      by_place : Contains before next ⊎ ((next.grain ≡ way.grain) × Step way.grain way.whole entry next.whole) → (next.grain ≡ way.grain) × Step way.grain way.whole entry next.whole
+      by_place (inl old) = absurd (none_there next (subst (λ (ws : List Judged). Contains ws next) none old))
       by_place (inr told) = told
 
   -- The ways after it were reached by right entries.
@@ -139,6 +139,13 @@ module _ (way : Judged) (lines : Standing) (name : List ℕ) (entry : Entry) (wa
 abbrev pub RunGives : List ℕ → Entry → Run → Place → Type 0
 RunGives name entry run q = GoesOn run.way.grain name entry (place_at run) q
 
+pub no_runs : (grain : GrainSize) (entries : ℕ) (runs : List Run) → runs ≡ [] → AreRunsAt grain entries runs
+no_runs grain entries runs none run there = absurd (none_there run (subst (λ (rs : List Run). Contains rs run) none there))
+
+pub runs_stay : (other grain : GrainSize) (entries : ℕ) (old new : List Run) → other ≡ grain → (AreRunsAt other entries old → AreRunsAt other entries new) → AreRunsAt grain entries old →
+    AreRunsAt grain entries new
+runs_stay other grain entries old new same stay = subst (λ g. AreRunsAt g entries old → AreRunsAt g entries new) same stay
+
 module _ (grain : GrainSize) (name : List ℕ) (entry : Entry) (runs : List Run) where
   pub runs_next : AreRunsAt grain entry.number runs → (left after : List Run) → left ≡ [] → HaveGiven (RunGives name entry) runs left [] (map place_at after) → AreNext grain name entry (map place_at runs) (map place_at after)
   runs_next at left after none given = record { only = λ q there. only q (came.only q there); all = λ q gives. came.all q (all q gives) }
@@ -158,9 +165,15 @@ module _ (grain : GrainSize) (name : List ℕ) (entry : Entry) (runs : List Run)
           let run : Run = from.0 in
           (run, from.1, subst (λ g. GoesOn g name entry (place_at run) q) (sym (at run from.1).grain_is) (subst (λ (p : Place). GoesOn grain name entry p q) (sym from.2) gives.2))
 
+  -- All are left at first.
+  pub all_left : (after : List Run) → after ≡ [] → HaveGiven (RunGives name entry) runs runs [] (map place_at after)
+  all_left after none = subst (λ (rs : List Run). HaveGiven (RunGives name entry) runs runs [] (map place_at rs)) (sym none) (none_given (RunGives name entry) runs [])
+
   -- None leads on by an entry with another number.
-  pub none_next : (entries : ℕ) → AreRunsAt grain entries runs → entry.number ≢ entries → AreNext grain name entry (map place_at runs) []
-  none_next entries at other = record { only = λ q there. absurd (none_there q there); all = λ q gives. absurd (none q gives) }
+  pub none_next : (entries : ℕ) (after : List Run) → after ≡ [] → AreRunsAt grain entries runs → entry.number ≢ entries → AreNext grain name entry (map place_at runs) (map place_at after)
+  none_next entries after is_none at other =
+      subst (λ (rs : List Run). AreNext grain name entry (map place_at runs) (map place_at rs)) (sym is_none)
+      (record { only = λ q there. absurd (none_there q there); all = λ q gives. absurd (none q gives) })
     where
       none : (q : Place) → OneGives (GoesOn grain name entry) (map place_at runs) q → ⊥
       none q gives =

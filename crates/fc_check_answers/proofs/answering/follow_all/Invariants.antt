@@ -8,7 +8,7 @@ use Rattle.fc_check_answers.proofs.answering.follow_all.Given as goal
 abbrev pub invariant-loop-run : goal.invariant-loop-run
 invariant-loop-run l = record {
   given : HaveGiven (RunGives l.name l.entry) l.fn.runs.items l.runs.items [] (map place_at l.after.items);
-  runs : AreRunsAt l.grain (l.entry.number + 1) l.after.items;
+  runs : AreRunsAt l.fn.grain (l.entry.number + 1) l.after.items;
 }
 
 abbrev pub decreases-loop-run : goal.decreases-loop-run
