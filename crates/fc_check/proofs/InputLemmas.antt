@@ -1,12 +1,11 @@
 -- Calls of a source, one after the other.
-use Rattle.std.proofs.Common.{◌≡◌, ◌≢◌, ◌⊎◌, ℕ, ◌+◌, ◌<◌, ◌≤◌, List, [], ◌∷◌, ◌++◌, length, take, min, ◌-◌, Option, Some, None, IfSome, Result, Ok, Err, inl, inr, refl, sym, ap, subst, ◌∙◌, length-append, length-take, arith}
+use Rattle.std.proofs.Common.{◌≡◌, ◌≢◌, ◌⊎◌, ℕ, ◌+◌, ◌≤◌, List, [], ◌∷◌, ◌++◌, length, take, Option, Some, None, IfSome, Ok, Err, inl, inr, refl, sym, ap, subst, ◌∙◌, length-append, length-take, arith}
 use Rattle.std.specs.Option.{option_map}
 use Rattle.std.proofs.lemmas.List.{append-nil, length-take-le}
 use Rattle.fc_base.specs.Count.{HasRisen}
 use Rattle.fc_base.specs.declared.outcome.Failed.{Failed}
 use Rattle.fc_io.specs.Source.{AfterTake, SourceState}
 use Rattle.fc_run.specs.Input.{Gave, IsAtEnd, input_limit}
-use Rattle.fc_run.specs.Takes.{piece_of}
 use Rattle.fc_run.proofs.OutputLemmas.{HasRisen-before}
 use Rattle.fc_run.proofs.ReadingLemmas.{Gave-append}
 use Rattle.fc_run.proofs.TakesLemmas.{EachGave-last, EachGave-none, SoFarGave-more}

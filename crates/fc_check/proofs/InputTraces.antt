@@ -1,5 +1,5 @@
 -- What stands behind a trace: an input is of one history and one session.
-use Rattle.std.proofs.Common.{◌≡◌, ◌⊎◌, ℕ, zero, suc, ◌+◌, ◌/◌, ◌%◌, ◌<◌, ◌==◌, Bool, true, false, cond, List, [], ◌∷◌, ◌++◌, codes, decimal, length, Option, Some, None, inl, inr, refl, sym, ap, subst, ◌∙◌, append_assoc, arith}
+use Rattle.std.proofs.Common.{◌≡◌, ◌⊎◌, ℕ, zero, suc, ◌/◌, ◌%◌, ◌==◌, Bool, true, false, cond, List, [], ◌∷◌, ◌++◌, codes, decimal, length, Option, Some, None, inl, inr, refl, sym, ap, subst, ◌∙◌, append_assoc, arith}
 use Rattle.std.specs.Fmt.{digit_glyph, digits, digits_onto}
 use Rattle.std.specs.List.{concat}
 use Rattle.std.proofs.lemmas.Bool.{false≢true}
@@ -15,7 +15,7 @@ use Rattle.fc_trace.specs.Notes.{notes_text}
 use Rattle.fc_trace.specs.Trace.{traced_by}
 use Rattle.fc_trace.specs.declared.header.Header.{Header}
 use Rattle.fc_check.specs.Progress.{IsSessionLine}
-use Rattle.fc_check.specs.Traces.{AreNextTexts, IsInput, IsInputOf, IsTraceOf, behind_trace, session_line}
+use Rattle.fc_check.specs.Traces.{AreNextTexts, IsInputOf, IsTraceOf, behind_trace, session_line}
 use Rattle.fc_check.proofs.Fronts.{Fronts, fronts}
 use Rattle.fc_check.proofs.TraceLemmas.{GoesOn, goes_on, text_of_next, text_some}
 

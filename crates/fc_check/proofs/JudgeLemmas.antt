@@ -1,19 +1,19 @@
 -- What a judge meets behind the entries that it has read: one more, the line of a session, or where neither goes on; and the session.
-use Rattle.std.proofs.Common.{◌≡◌, ◌≢◌, ◌⊎◌, ◌↔◌, ℕ, zero, suc, ◌+◌, ◌-◌, ◌<◌, ◌≤◌, ◌==◌, Bool, true, false, cond, is_some, not, unwrap_or, All, bytes_eq, Option, Some, None, Result, Ok, Err, List, [], ◌∷◌, ◌++◌, length, take, drop, get_or, IsTrue, inl, inr, refl, sym, ap, subst, ◌∙◌, length-append, arith, eq-eqb}
-use Rattle.std.specs.List.{position, position_or_len, slice_get}
+use Rattle.std.proofs.Common.{◌≡◌, ◌≢◌, ◌↔◌, ℕ, zero, suc, ◌+◌, ◌-◌, ◌<◌, ◌≤◌, ◌==◌, Bool, true, false, cond, is_some, not, unwrap_or, All, bytes_eq, Option, Some, None, Ok, Err, List, [], ◌∷◌, ◌++◌, length, take, drop, get_or, IsTrue, inl, inr, refl, sym, ap, subst, ◌∙◌, length-append, arith, eq-eqb}
+use Rattle.std.specs.List.{slice_get}
 use Rattle.std.proofs.lemmas.Bool.{false≢true}
 use Rattle.std.proofs.lemmas.Bool.Decides.{eqb_tells}
 use Rattle.std.proofs.lemmas.List.{append-nil, take-append-drop, take_all, take_more}
 use Rattle.std.proofs.lemmas.List.Quantifiers.{position-Some}
 use Rattle.std.proofs.lemmas.Option.{get_or_from_slice_get}
-use Rattle.std.proofs.lemmas.List.Elements.{All-get_or, All-push, All-weaker, All-nil}
+use Rattle.std.proofs.lemmas.List.Elements.{All-push, All-weaker, All-nil}
 use Rattle.fc_base.specs.Pools.{Pool}
 use Rattle.fc_base.specs.declared.size.GrainSize.{GrainSize}
 use Rattle.fc_blocks.specs.Segments.{Segment}
 use Rattle.fc_check_answers.specs.Places.{AreAllPlaces, Answers, HasEnd}
 use Rattle.fc_check_follow.specs.Ways.{pools_told}
 use Rattle.fc_check_lines.specs.Bytes.{segments_in}
-use Rattle.fc_entry.specs.HistoryState.{HistoryState, number_of_actor, place_of_name, with_actor}
+use Rattle.fc_entry.specs.HistoryState.{HistoryState, place_of_name, with_actor}
 use Rattle.fc_entry.specs.declared.entry.Entry.{Entry}
 use Rattle.fc_legal.specs.Whole.{opened}
 use Rattle.fc_reading.proofs.Exact.{bind_at_err}
@@ -26,7 +26,7 @@ use Rattle.fc_reading_entries.specs.Entries.{IsEntryText}
 use Rattle.fc_trace.specs.declared.header.Header.{Header}
 use Rattle.fc_check.specs.Progress.{AnswerSoFar, Follows, HaveNames, IsSaidWith, IsSessionLine}
 use Rattle.fc_check.specs.Traces.{AreNextTexts, IsInputOf, IsNextText, IsTraceOf, nothing_told, session_line}
-use Rattle.fc_check.specs.Verdict.{AreAllRight, IsInputWith, IsSaid, IsWrongAt, StandFirst, StandWhole}
+use Rattle.fc_check.specs.Verdict.{AreAllRight, IsSaid, IsWrongAt, StandFirst, StandWhole}
 use Rattle.fc_check.specs.declared.verdict.Verdict.{Verdict}
 use Rattle.fc_check.specs.declared.verdict.Verdict.TheVariants.{Yes, No, Malformed}
 use Rattle.fc_check.proofs.InputTraces.{IsPart, begins_s, entry_other}

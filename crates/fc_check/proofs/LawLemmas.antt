@@ -1,7 +1,7 @@
 -- Of two verdicts both are right only where they are one.
-use Rattle.std.proofs.Common.{◌≡◌, ◌⊎◌, ℕ, ◌+◌, ◌-◌, ◌<◌, ◌≤◌, List, [], ◌∷◌, ◌++◌, length, take, drop, Option, Some, None, inl, inr, refl, sym, ap, subst, ◌∙◌, append_assoc, arith}
+use Rattle.std.proofs.Common.{◌≡◌, ◌⊎◌, ℕ, ◌+◌, ◌<◌, ◌≤◌, List, [], ◌∷◌, ◌++◌, length, take, drop, Option, Some, None, inl, inr, sym, ap, subst, ◌∙◌, append_assoc, arith}
 use Rattle.std.proofs.lemmas.Bool.{cases_lt}
-use Rattle.std.proofs.lemmas.List.{append-nil, take-append-drop, take-take, take_all}
+use Rattle.std.proofs.lemmas.List.{append-nil, take-append-drop, take-take}
 use Rattle.fc_base.specs.declared.size.GrainSize.{GrainSize}
 use Rattle.fc_check_follow.specs.Ways.{pools_told}
 use Rattle.fc_entry.specs.HistoryState.{HistoryState}
@@ -11,7 +11,7 @@ use Rattle.fc_legal.specs.Whole.{Whole, opened}
 use Rattle.fc_trace.specs.declared.header.Header.{Header}
 use Rattle.fc_check.specs.Laws.{VerdictLaw}
 use Rattle.fc_check.specs.Traces.{IsFull, IsInput}
-use Rattle.fc_check.specs.Verdict.{AllStand, AreAllRight, AreLegal, IsFirstWrong, IsInputWith, IsMalformedAt, IsSaid, IsWrongAt, LineRemains, StandFirst}
+use Rattle.fc_check.specs.Verdict.{AllStand, AreAllRight, AreLegal, IsFirstWrong, IsInputWith, IsMalformedAt, IsSaid, IsWrongAt, StandFirst}
 use Rattle.fc_check.specs.declared.verdict.Verdict.{Verdict}
 use Rattle.fc_check.specs.declared.verdict.Verdict.TheVariants.{Yes, No, Malformed}
 use Rattle.fc_check.proofs.InputTraces.{one_input}

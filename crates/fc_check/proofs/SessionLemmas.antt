@@ -4,7 +4,6 @@ use Rattle.std.proofs.lemmas.List.{append-nil, take-append-drop}
 use Rattle.fc_agenda.proofs.Going.{Goes-append, GoesSome-whole}
 use Rattle.fc_agenda.specs.Goes.{Goes, stays}
 use Rattle.fc_base.specs.declared.size.GrainSize.{GrainSize}
-use Rattle.fc_blocks.specs.Segments.{Segment}
 use Rattle.fc_check_answers.proofs.Actors.{step_by}
 use Rattle.fc_check_answers.proofs.Naming.{goes_more}
 use Rattle.fc_check_answers.proofs.Pairing.{as_later}

@@ -1,21 +1,20 @@
 -- Where bytes stop being an input, and where a trace has all entries that fit.
-use Rattle.std.proofs.Common.{◌≡◌, ◌≢◌, ◌⊎◌, ℕ, zero, suc, ◌+◌, ◌-◌, ◌<◌, ◌≤◌, List, [], ◌∷◌, ◌++◌, length, take, drop, get_or, Option, Some, None, inl, inr, refl, sym, ap, subst, ◌∙◌, append_assoc, length-append, arith}
+use Rattle.std.proofs.Common.{◌≡◌, ◌⊎◌, ℕ, zero, suc, ◌+◌, ◌-◌, ◌<◌, ◌≤◌, List, [], ◌∷◌, ◌++◌, length, take, drop, get_or, Option, Some, None, inl, inr, refl, sym, ap, subst, ◌∙◌, append_assoc, length-append, arith}
 use Rattle.std.specs.List.{concat}
 use Rattle.std.proofs.lemmas.Bool.{cases_lt}
 use Rattle.std.proofs.lemmas.List.{append-nil, get_or-drop, length-drop, length-take-le, take-append-drop, take_all}
 use Rattle.std.proofs.Math.Seq.{take-append-add}
 use Rattle.fc_base.specs.declared.size.GrainSize.{GrainSize}
 use Rattle.fc_entry.specs.HistoryState.{HistoryState}
-use Rattle.fc_entry.specs.declared.entry.Entry.{Entry}
 use Rattle.fc_reading.specs.Header.{IsHeader}
 use Rattle.fc_reading.specs.Stops.{StopsAt}
-use Rattle.fc_reading_entries.specs.Entries.{IsEntryText, ReadNext}
+use Rattle.fc_reading_entries.specs.Entries.{ReadNext}
 use Rattle.fc_trace.specs.Trace.{header_text}
 use Rattle.fc_trace.specs.declared.header.Header.{Header}
 use Rattle.fc_check.specs.Traces.{AreNextTexts, BeginsInput, IsFull, IsInput, IsInputOf, IsTraceOf, behind_trace, nothing_told, session_line}
 use Rattle.fc_check.specs.Verdict.{IsInputWith, IsMalformedAt}
 use Rattle.fc_check.proofs.Fronts.{none_begins, none_goes_on}
-use Rattle.fc_check.proofs.InputTraces.{BeginsText, GoesOnWith, IsPart, begins_part, goes_on_with, input_alone, input_with}
+use Rattle.fc_check.proofs.InputTraces.{BeginsText, IsPart, begins_part, goes_on_with, input_alone, input_with}
 use Rattle.fc_check.proofs.TraceLemmas.{GoesOn, counted, goes_on, next_alone, next_of_text, nothing_before, text_of_next, text_some, trace_more, trace_opened}
 
 -- ---- fronts

@@ -1,9 +1,9 @@
 -- All that may be told after entries, entry by entry, and the first wrong one.
-use Rattle.std.proofs.Common.{◌≡◌, ◌≢◌, ℕ, zero, suc, ◌+◌, ◌<◌, ◌≤◌, Bool, true, false, cond, is_some, Contains, Option, Some, None, List, [], ◌∷◌, ◌++◌, length, take, refl, sym, ap, subst, ◌∙◌, length-append, arith, rules, IsTrue}
+use Rattle.std.proofs.Common.{◌≡◌, ◌≢◌, ℕ, zero, suc, ◌+◌, ◌<◌, ◌≤◌, Bool, true, false, cond, is_some, Contains, Option, Some, None, List, [], ◌∷◌, ◌++◌, length, refl, sym, ap, subst, ◌∙◌, length-append, arith, rules, IsTrue}
 use Rattle.std.proofs.lemmas.List.{take-append-le, take_all, take_at}
 use Rattle.fc_base.specs.declared.size.GrainSize.{GrainSize}
 use Rattle.fc_check_follow.specs.Ways.{AreAfter, Ways, pools_told}
-use Rattle.fc_entry.specs.HistoryState.{HistoryState, place_of_name, with_actor}
+use Rattle.fc_entry.specs.HistoryState.{HistoryState, place_of_name}
 use Rattle.fc_entry.specs.declared.entry.Entry.{Entry}
 use Rattle.fc_legal.specs.Legal.{AreSteps, IsLegal}
 use Rattle.fc_legal.specs.Steps.{Step}

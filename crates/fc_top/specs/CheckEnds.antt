@@ -1,4 +1,4 @@
--- How a call ends that checks a trace.
+-- How a call ends that checks a trace, alone or with a session.
 use Rattle.std.specs.Prelude.{◌≡◌, ◌⊎◌, List, ◌++◌, ℕ, codes, decimal, Result, Ok, Err}
 use Rattle.fc_base.specs.Count.{HasRisen}
 use Rattle.fc_check.specs.Checked.{IsChecked}
@@ -51,7 +51,7 @@ IsTold (Err of) is before after = (is ≡ status_stopped of) × (after ≡ befor
 pub record CheckEnds (call : Call) : Type 0 where
   pub history : call.history ≡ empty
   pub disks : call.disks' ≡ call.disks
-  -- what is said of the trace, by the bytes that the source gave
+  -- what is said of the trace, and of the session behind it, by the bytes that the source gave
   pub answer : Result Verdict CheckStop
   pub checked : IsChecked answer call.source call.source'
   -- the status, and what was written

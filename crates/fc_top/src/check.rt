@@ -1,4 +1,5 @@
-//! A check: a trace is taken from the source and judged, and the line of its verdict written.
+//! A check: a trace is taken from the source, with the session behind it, if there is one, and judged, and the line of its verdict is
+//! written.
 
 ghost use Rattle.std.specs.Prelude.{◌≡◌, ◌++◌, List, codes, decimal, is_err, Ok as said};
 ghost use Rattle.fc_entry.specs.HistoryState.{HistoryState};
@@ -73,7 +74,7 @@ fn write_verdict<K: Sink>(verdict: Verdict, sink: &mut K) -> Status
     }
 }
 
-/// Checks the trace that the source gives, and writes the line of its verdict.
+/// Checks the trace that the source gives, and the session behind it, if there is one, and writes the line of its verdict.
 pub(crate) fn run_check<S: Source, K: Sink>(alloc: Global, source: &mut S, sink: &mut K) -> Status
     ensures { (disks : List DiskState) (history : HistoryState) → history ≡ empty → CheckEnds
         (record {

@@ -111,7 +111,8 @@ pub type BoxedDisk = Box<dyn Mdisk + Send>;
 /// Runs a session: reads it from the source to its end, answers its lines over the disks, and writes the text of each answer to the
 /// sink before more input is taken; or its trace, behind a first line that says what the store is made of. For a drill the session
 /// is the generated one of a number, the source isn't touched, and the summary of the history is written. For a check a trace is taken
-/// from the source and judged, the line of its verdict is written, and the history stays empty.
+/// from the source, with the session behind it, if there is one, and judged; the line of its verdict is written, and the history stays
+/// empty.
 ///
 /// The words are those of docs/MANUAL.md (fc_args' specs/Grammar). Where they aren't in the grammar the answer is Usage, or NoMemory
 /// where memory was wanted before that was known, and nothing is done. The history has to be empty, and the disks fresh: no calls,

@@ -2,7 +2,7 @@
 //!
 //! `flashcopy` (in `flashcopy`) reads a session from a source, answers its lines over the disks, keeps the history and writes its
 //! text to a sink; or it drills: the session is the generated one of a number, and the summary of its history is written; or it
-//! checks a trace, and writes the line of the verdict. Which of them, its words say, which `fc_args` reads. Its contract is the main
+//! checks a trace, alone or with a session, and writes the line of the verdict. Which of them, its words say, which `fc_args` reads. Its contract is the main
 //! theorem (`specs/Theorem`): for every source, sink and set of fresh disks, failing ones included, the history is legal; by the
 //! status it is known which bytes were taken, which of their lines are answered, and what the sink got; and the disks come back with
 //! the sums of their calls and faults. It is one record over one record of the call (`specs/Call`), with one clause for each kind of

@@ -1,5 +1,5 @@
 -- A piece more, the calls that are the last, and the byte past the greatest input.
-use Rattle.std.proofs.Common.{◌≡◌, ◌+◌, ◌≤◌, List, ℕ, length, take, subst, sym, arith, length-take}
+use Rattle.std.proofs.Common.{List, ℕ, length, take, subst, sym, arith, length-take}
 use Rattle.fc_check.specs.Input.{TakenSoFar, TakenTo}
 use Rattle.fc_check.proofs.InputLemmas.{taken_more, taken_past, taken_some, taken_to}
 use Rattle.fc_check.proofs.input.take_pieces.Goals as goal
