@@ -1,7 +1,7 @@
 mod Laws
-mod Actors
-mod Naming
-mod Pairing
-mod Reaching
+pub mod Actors
+pub mod Naming
+pub mod Pairing
 mod Coming
+pub mod Reaching
 mod Running
