@@ -30,15 +30,14 @@ module _ (grain : GrainSize) (w : Whole) (s : Standing) (names : List (List ℕ)
 
   by_place : (name : List ℕ) (request : Request) (actor : ℕ) (tells : Bool) → place_of_name names name ≡ Some actor → TellsNext tells grain w asking actor request →
       By name request tells (seen names asking segs)
-  by_place name request actor tells place says =
-      (
-        (λ t. record { actor = actor; place = place; asks = (says segs names).0 t }),
-        (λ by.
+  by_place name request actor tells place says = (
+    (λ t. record { actor = actor; place = place; asks = (says segs names).0 t }),
+    (λ by.
         let both : Some by.actor ≡ Some actor = sym by.place ∙ place in
         let same : by.actor ≡ actor = cc both in
         let P : ℕ → Type 0 = λ k. Asks grain (agenda_of asking segs) (named names w) (k, request) in
         (says segs names).1 (subst P same by.asks)),
-      )
+  )
 
   pub asked_by_place :
       {E : Type 0} (r : Result Bool E) (name : List ℕ) (request : Request) (actor : ℕ) →
@@ -52,12 +51,11 @@ module _ (grain : GrainSize) (w : Whole) (s : Standing) (names : List (List ℕ)
   pub asked_by_none : (name : List ℕ) (request : Request) → seen names asking segs ≡ s → place_of_name names name ≡ None →
       IsTrue false ↔ IsAskedBy grain s.agenda (named s.names w) name request
   asked_by_none name request view none =
-      subst (By name request false) view
-      (
+      subst (By name request false) view (
         (λ t. absurd (cc t)),
         (λ by.
-        let both : ◌≡◌ {A = Option ℕ} None (Some by.actor) = sym none ∙ by.place in
-        absurd (cc both)),
+            let both : ◌≡◌ {A = Option ℕ} None (Some by.actor) = sym none ∙ by.place in
+            absurd (cc both)),
       )
 
   -- ---- behind an entry

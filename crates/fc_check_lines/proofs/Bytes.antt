@@ -1,18 +1,22 @@
 -- The bytes of a session, line by line and segment by segment.
-use Rattle.std.proofs.Common.{◌≡◌, ℕ, zero, suc, ◌+◌, ◌-◌, ◌==◌, ◌<◌, ◌≤◌, Bool, true, false, not, cond, Option, Some, None, Result, Ok, Err, List, [], ◌∷◌, ◌++◌, length, take, drop, fold, append_assoc, append-nil, refl, sym, ap, ◌∙◌, arith}
+use Rattle.std.proofs.Common.{◌≡◌, ℕ, zero, suc, ◌+◌, ◌-◌, ◌==◌, ◌<◌, ◌≤◌, Bool, true, false, not, cond, Option, Some, None, Result, Ok, Err, List, [], ◌∷◌, ◌++◌, length, take, drop, fold, append_assoc, append-nil, refl, sym, ap, subst, ◌∙◌, arith}
 use Rattle.std.specs.List.{position, position_or_len}
 use Rattle.std.proofs.lemmas.List.{length-drop, take_all}
 use Rattle.std.proofs.lemmas.List.Sums.{fold-append, prefix_len-le-length}
 use Rattle.fc_base.specs.declared.command.Line.{Line}
 use Rattle.fc_base.specs.declared.command.Line.TheVariants.{Blank, Command, Together, Actor, End}
 use Rattle.fc_base.specs.declared.command.Scope.TheVariants.{Free}
+use Rattle.fc_base.specs.declared.command.ScriptLine.{ScriptLine}
 use Rattle.fc_base.specs.declared.fault.WordFault.{WordFault}
 use Rattle.fc_blocks.specs.Blocks.{After, Opened, block_step, closed, open_on}
-use Rattle.fc_blocks.specs.Reading.{IsNext}
-use Rattle.fc_blocks.specs.Segments.{Cut, Segment, cut, cut_step, inside, line_cut, no_lines, outside}
+use Rattle.fc_blocks.specs.Reading.{IsNext, Tells, script_line}
+use Rattle.fc_blocks.specs.Segments.{Cut, Segment, cut, cut_step, inside, line_cut, no_lines, outside, single, together}
+use Rattle.fc_blocks.specs.declared.block.BlockRead.{BlockRead}
 use Rattle.fc_blocks.specs.declared.block.Taken.{Taken}
+use Rattle.fc_blocks.specs.declared.block.Taken.TheVariants.{Single as TakenSingle, Block as TakenBlock}
 use Rattle.fc_check_requests.proofs.Places.{place_is, place_none}
-use Rattle.fc_check_lines.specs.Bytes.{segments_in}
+use Rattle.fc_check_lines.specs.Bytes.{BeginWith, segments_in}
+use Rattle.fc_check_lines.specs.declared.segment.SegmentRead.TheVariants.{Single, Block}
 use Rattle.fc_entry.specs.Lines.{Lined, all_lines, last_line, line_step, lined, without_return}
 use Rattle.fc_words.specs.Lines.{line_of}
 
@@ -92,8 +96,7 @@ first_ended : (bytes : List ℕ) (n : ℕ) → position is_newline bytes ≡ Som
 first_ended bytes n is =
     let at : (n ≡ position_or_len is_newline bytes) × (position_or_len is_newline bytes < length bytes) = place_is is_newline bytes n is in
     let within : n < length bytes = omega (arith, at.0, at.1) in
-    let more : n + 1 ≡ suc n = omega arith in
-    (
+    let more : n + 1 ≡ suc n = omega arith in (
       ap lines_of (line_at [] bytes n at.0 within) ∙ ap (λ k. without_return (take n bytes) ∷ all_lines (drop k bytes)) (sym more),
       within,
     )
@@ -194,7 +197,7 @@ goes_on_so bytes rest behind line taken before after so first less next none =
       within = omega (arith, less, so.within);
     }
 
-pub ends_so :
+ends_so :
     (bytes rest behind line : List ℕ) (taken : Taken) (before after : Option Opened) (s : Segment) (so : SoFar bytes rest before) →
     all_lines rest ≡ line ∷ all_lines behind →
     (next : IsNext taken before after so.lines line) →
@@ -211,6 +214,42 @@ ends_so bytes rest behind line taken before after s so first next ended =
     ap (λ ls. (cut ls).segments) (one_more bytes rest behind line so.lines so.all first)
     ∙ cut_behind lines (all_lines behind) shut
     ∙ ap (λ segs. segs ++ segments_in behind) segments
+
+pub begins_single :
+    (bytes rest behind line : List ℕ) (taken : Taken) (read : ScriptLine) (before after : Option Opened) (so : SoFar bytes rest before) →
+    all_lines rest ≡ line ∷ all_lines behind →
+    length behind < length rest →
+    taken ≡ TakenSingle read →
+    ((lines : List (List ℕ)) → (cut lines).open_block ≡ before → IsNext taken before after lines line) →
+    BeginWith bytes (Single read) behind
+begins_single bytes rest behind line taken read before after so first less is reads =
+    let next : IsNext taken before after so.lines line = reads so.lines so.open_block in
+    let P : Taken → Type 0 = λ t. Tells t line next.ended in
+    let told : (next.ended ≡ single line ∷ []) × (read ≡ script_line (line_of Free line)) = subst P is next.told in
+    record {
+      segment = single line;
+      is_read = told.1;
+      segments = ends_so bytes rest behind line taken before after (single line) so first next told.0;
+      less = omega (arith, less, so.within);
+    }
+
+pub begins_block :
+    (bytes rest behind line : List ℕ) (taken : Taken) (block : BlockRead) (before after : Option Opened) (so : SoFar bytes rest before) →
+    all_lines rest ≡ line ∷ all_lines behind →
+    length behind < length rest →
+    taken ≡ TakenBlock block →
+    ((lines : List (List ℕ)) → (cut lines).open_block ≡ before → IsNext taken before after lines line) →
+    BeginWith bytes (Block block) behind
+begins_block bytes rest behind line taken block before after so first less is reads =
+    let next : IsNext taken before after so.lines line = reads so.lines so.open_block in
+    let P : Taken → Type 0 = λ t. Tells t line next.ended in
+    let told : next.ended ≡ together block ∷ [] = subst P is next.told in
+    record {
+      segment = together block;
+      is_read = refl;
+      segments = ends_so bytes rest behind line taken before after (together block) so first next told;
+      less = omega (arith, less, so.within);
+    }
 
 pub none_so : (bytes rest : List ℕ) (block : Option Opened) → SoFar bytes rest block → rest ≡ [] → segments_in bytes ≡ []
 none_so bytes rest block so none =

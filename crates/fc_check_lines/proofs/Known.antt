@@ -181,7 +181,7 @@ module _ (grain : GrainSize) (read : Reading) where
       ap (λ (p : ℕ × Request). p.0) same
 
   fill_first : (fill : Option (Work × GrainNo)) (request : Request) (number : ℕ) →
-      option_map (λ (next : Work × GrainNo). (0, fill_of next.0 next.1)) fill ≡ Some (number, request) →
+      option_map {U = ℕ × Request} (λ (next : Work × GrainNo). (0, fill_of next.0 next.1)) fill ≡ Some (number, request) →
       0 ≡ number
   fill_first None request number e = absurd (cc e)
   fill_first (Some next) request number e = first_is (fill_of next.0 next.1) request number e

@@ -37,7 +37,7 @@ module _ (grain : GrainSize) (read : Reading) where
 
   fill_waits :
       (w : Whole) (p : Passing) (segs : List Segment) (fill : Option (Work × GrainNo)) (asked : ℕ × Request) →
-      option_map (λ (next : Work × GrainNo). (0, fill_of next.0 next.1)) fill ≡ Some asked →
+      option_map {U = ℕ × Request} (λ (next : Work × GrainNo). (0, fill_of next.0 next.1)) fill ≡ Some asked →
       without_fill grain w p fill segs ≡ None
   fill_waits w p segs None asked e = absurd (cc e)
   fill_waits w p segs (Some next) asked e = refl

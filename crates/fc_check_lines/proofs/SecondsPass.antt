@@ -88,8 +88,8 @@ some_fill (Some next) g e = λ none. absurd (cc none)
 module _ (grain : GrainSize) (w : Whole) where
   with_work :
       (work : Work) (g : GrainNo) (fill : Option GrainNo) (worth : Bool) →
-      fill_grain (cond worth (option_map (λ h. (work, h)) fill) None) ≡ Some g →
-      cond worth (option_map (λ h. (work, h)) fill) None ≡ Some (work, g)
+      fill_grain (cond worth (option_map {U = Work × GrainNo} (λ h. (work, h)) fill) None) ≡ Some g →
+      cond worth (option_map {U = Work × GrainNo} (λ h. (work, h)) fill) None ≡ Some (work, g)
   with_work work g (Some h) true e =
       let same : h ≡ g = cc e in
       ap (λ x. Some (work, x)) same
@@ -152,8 +152,7 @@ module _ (grain : GrainSize) (names : List (List ℕ)) (w : Whole) where
   filled_upto q fill = λ none. fill (sym (named_fill grain names w q) ∙ none)
 
   pub over_upto : (q : Passing) → ReachesFill false grain w q → q.seconds ≡ 0 → PassesUpTo false grain (named names w) q
-  over_upto q idle_is last =
-      (
-        idle_fill grain (named names w) q idle_is.0,
-        ap (goes_on_with grain (named names w) q) idle_is.0 ∙ ap₂ (λ seconds left. next_second seconds q.over left) last idle_is.1,
-      )
+  over_upto q idle_is last = (
+    idle_fill grain (named names w) q idle_is.0,
+    ap (goes_on_with grain (named names w) q) idle_is.0 ∙ ap₂ (λ seconds left. next_second seconds q.over left) last idle_is.1,
+  )

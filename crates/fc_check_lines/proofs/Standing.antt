@@ -299,11 +299,10 @@ both_then first next = ((λ p. next.0 (first.0 p)), (λ r. first.1 (next.1 r)))
 
 module _ (grain : GrainSize) (actor : ℕ) (request : Request) where
   main_next : (r : Request) → MainAsks actor request (Some r) ↔ (◌≡◌ {A = Option (ℕ × Request)} (Some (0, r)) (Some (actor, request)))
-  main_next r =
-      (
-        (λ both. pair_some 0 actor r request (sym both.0) both.1),
-        (λ asks. let both : (0 ≡ actor) × (Some r ≡ Some request) = some_pair 0 actor r request asks in (sym both.0, both.1)),
-      )
+  main_next r = (
+    (λ both. pair_some 0 actor r request (sym both.0) both.1),
+    (λ asks. let both : (0 ≡ actor) × (Some r ≡ Some request) = some_pair 0 actor r request asks in (sym both.0, both.1)),
+  )
 
   own_next : (requests : List Request) (n : ℕ) (segs : List Segment) (w : Whole) → MainAsks actor request (next_request requests) ↔ Asks grain (Own requests n segs) w (actor, request)
   own_next [] n segs w = ((λ both. absurd (cc both.1)), (λ asks. absurd (cc asks)))
@@ -315,7 +314,7 @@ module _ (grain : GrainSize) (actor : ℕ) (request : Request) where
   faults_next (r ∷ rest) actors segs w = main_next r
 
   fill_next : (fill : Option (Work × GrainNo)) →
-      MainAsks actor request (fill_asked fill) ↔ (option_map (λ (next : Work × GrainNo). (0, fill_of next.0 next.1)) fill ≡ Some (actor, request))
+      MainAsks actor request (fill_asked fill) ↔ (option_map {U = ℕ × Request} (λ (next : Work × GrainNo). (0, fill_of next.0 next.1)) fill ≡ Some (actor, request))
   fill_next None = ((λ both. absurd (cc both.1)), (λ asks. absurd (cc asks)))
   fill_next (Some next) = main_next (fill_of next.0 next.1)
 
@@ -425,9 +424,9 @@ module _ (grain : GrainSize) (w : Whole) (actor : ℕ) (reply : Reply) where
   pub own_left :
       {E : Type 0} (r : Result Asking E) (asking : Asking) (requests : List Request) (n : ℕ) →
       asking ≡ OwnAsked requests n →
-      IfOk r (λ left. IsLeftBehind grain w (OwnAsked requests n) actor reply left) →
+      IfOk r (λ left. (any : ℕ) → IsLeftBehind grain w (OwnAsked requests n) any reply left) →
       IfOk r (λ left. IsLeftBehind grain w asking actor reply left)
-  own_left (Ok left) asking requests n is says = subst (IsLeft left) (sym is) says
+  own_left (Ok left) asking requests n is says = subst (IsLeft left) (sym is) (says actor)
   own_left (Err refused) asking requests n is says = tt
 
   -- of seconds

@@ -12,13 +12,8 @@ ghost use Rattle.fc_legal.specs.Scripts.{are_done, faults_asked, line_asked, nam
 ghost use Rattle.fc_legal.specs.Whole.{lanes};
 ghost use Rattle.fc_check_lines.specs.declared.lines.Asking.{Asking};
 
-use fc_check_requests::asking::push_line;
-use fc_check_requests::copies::{copy_actors, copy_names};
 use crate::passing::Passing;
-use fc_check_requests::requests::Requests;
-use fc_check_requests::scripts::{Script, add_names, are_done, copy_scripts, do_ask, number_of_actor, place_of_name, scripts_of, take_next};
 use crate::segment::{SegmentRead, next_segment};
-use fc_check_requests::told::Told;
 use fc_base::command::{Command, Line, ScriptLine};
 use fc_base::fault::WordFault;
 use fc_base::list::List;
@@ -26,6 +21,14 @@ use fc_base::name::Name;
 use fc_base::outcome::NoMemory;
 use fc_base::request::{Reply, Request};
 use fc_blocks::block::ActorRead;
+use fc_check_requests::asking::push_line;
+use fc_check_requests::copies::{copy_actors, copy_names};
+use fc_check_requests::requests::Requests;
+use fc_check_requests::scripts::{
+    Script, add_names, are_done, copy_scripts, do_ask, number_of_actor, place_of_name, scripts_of,
+    take_next,
+};
+use fc_check_requests::told::Told;
 use fc_entry::entry::Entry;
 use std::alloc::Global;
 use std::marker::Model;
@@ -36,7 +39,10 @@ pub enum Asking {
     /// Nothing: the next line or block comes.
     Nothing,
     /// These requests of a line; and so many seconds behind them, if the last is done.
-    Own { requests: Requests, seconds: u32 },
+    Own {
+        requests: Requests,
+        seconds: u32,
+    },
     /// Seconds that pass.
     Seconds(Passing),
     /// The faults of a block that `main` is still told of, and then its actors.

@@ -10,11 +10,11 @@ ghost use Rattle.fc_base.specs.declared.size.GrainSize.{GrainSize};
 ghost use Rattle.fc_entry.specs.declared.entry.Entry.{Entry};
 ghost use Rattle.fc_legal.specs.Whole.{Whole};
 
-use fc_check_requests::told::Told;
-use fc_check_requests::work::{Work, all_work};
 use fc_base::ids::{GrainNo, MapId};
 use fc_base::outcome::NoMemory;
 use fc_base::request::{Reply, Request};
+use fc_check_requests::told::Told;
+use fc_check_requests::work::{Work, all_work};
 use std::alloc::Global;
 use std::collections::VecDeque;
 use std::marker::Model;
@@ -101,11 +101,7 @@ fn has_moved(reply: &Reply) -> bool
 
 impl Passing {
     /// Before the first of so many seconds, with the background work as it is told.
-    pub(crate) fn begin<T: Told>(
-        alloc: Global,
-        told: &T,
-        seconds: u32,
-    ) -> Result<Passing, NoMemory>
+    pub(crate) fn begin<T: Told>(alloc: Global, told: &T, seconds: u32) -> Result<Passing, NoMemory>
         ensures { IfOk result (λ passing. passing ≡ seconds_begun seconds (all_work (T.whole told.now).books)) }
     {
         let over = all_work(alloc, told.flags(), told.registry().all_mappings())?;
@@ -152,6 +148,7 @@ impl Passing {
         requires { HasWork self.old }
         ensures passed { OnOk result (goes_on (T.grain told.now) (T.whole told.now) self.old ≡ Some self.new) }
         ensures less { OnOk result (turns_in self.new < turns_in self.old) }
+        ensures seconds { OnOk result (self.new.seconds ≡ self.old.seconds) }
     {
         match self.at_hand.take() {
             Some(mut work) => {
@@ -192,9 +189,11 @@ impl Passing {
     fn to_fill<T: Told>(&mut self, told: &T) -> Result<bool, NoMemory>
         ensures passed { OnOk result ((names : List (List ℕ)) → PassTo (T.grain told.now) (named names (T.whole told.now)) self.old self.new) }
         ensures fill { IfOk result (λ fills. ReachesFill fills (T.grain told.now) (T.whole told.now) self.new) }
+        ensures seconds { OnOk result (self.new.seconds ≡ self.old.seconds) }
     {
         'turns: while self.has_work() {
-            match self.next_fill(told)? {
+            let fill = self.next_fill(told)?;
+            match fill {
                 Some(_) => return Ok(true),
                 None => self.turn(told)?,
             }

@@ -1,5 +1,5 @@
 -- The script of an actor, found by its number.
-use Rattle.std.proofs.Common.{◌≡◌, ◌↔◌, ℕ, zero, suc, ◌+◌, ◌==◌, ◌<◌, Bool, IsTrue, true, false, not, ◌&&◌, cond, Option, Some, None, List, [], ◌∷◌, length, get_or, set, refl, sym, ap, subst, ◌∙◌, arith}
+use Rattle.std.proofs.Common.{◌≡◌, ◌↔◌, ℕ, zero, suc, ◌+◌, ◌==◌, ◌<◌, ◌≤◌, Bool, IsTrue, true, false, not, ◌&&◌, cond, Option, Some, None, List, [], ◌∷◌, length, get_or, set, refl, sym, ap, subst, ◌∙◌, arith}
 use Rattle.std.specs.List.{list_all, position, position_or_len}
 use Rattle.std.proofs.lemmas.Bool.{true≢false}
 use Rattle.std.proofs.lemmas.List.Sums.{prefix_len-le-length}
@@ -84,23 +84,26 @@ none_found scripts actor is =
     none_at scripts actor (omega (arith, past, prefix_len-le-length (λ s. not (is_of actor s)) scripts))
 
 -- What is asked, and what is left, by the place that was found.
-pub asks_found : (scripts : List Script) (actor n : ℕ) (d : Script) (yes : Bool) (request : Request) → position (λ (s : Script). s.actor == actor) scripts ≡ Some n →
-    IsTrue yes ↔ (next_request (get_or scripts n d).requests ≡ Some request) → IsTrue yes ↔ (next_by scripts actor ≡ Some request)
-asks_found scripts actor n d yes request is same =
-    let P : Option Request → Type 0 = λ next. IsTrue yes ↔ (next ≡ Some request) in
+pub asks_found : (scripts : List Script) (actor n : ℕ) (d : Script) (said : Bool) (request : Request) → position (λ (s : Script). s.actor == actor) scripts ≡ Some n →
+    IsTrue said ↔ (next_request (get_or scripts n d).requests ≡ Some request) → IsTrue said ↔ (next_by scripts actor ≡ Some request)
+asks_found scripts actor n d said request is same =
+    let P : Option Request → Type 0 = λ next. IsTrue said ↔ (next ≡ Some request) in
     subst P (sym (next_found scripts actor n d is)) same
 
-pub asks_none : (scripts : List Script) (actor : ℕ) (yes : Bool) (request : Request) → position (λ (s : Script). s.actor == actor) scripts ≡ None →
-    yes ≡ false → IsTrue yes ↔ (next_by scripts actor ≡ Some request)
-asks_none scripts actor yes request is no =
-    (λ t. absurd (true≢false (sym t ∙ no)), λ asked. none_some request (sym (none_found scripts actor is).0 ∙ asked))
+pub asks_none : (scripts : List Script) (actor : ℕ) (said : Bool) (request : Request) → position (λ (s : Script). s.actor == actor) scripts ≡ None →
+    said ≡ false → IsTrue said ↔ (next_by scripts actor ≡ Some request)
+asks_none scripts actor said request is isnt =
+    (λ t. absurd (true≢false (sym t ∙ isnt)), λ asked. none_some request (sym (none_found scripts actor is).0 ∙ asked))
   where
-    none_some : (r : Request) → ◌≡◌ {A = Option Request} None (Some r) → IsTrue yes
+    none_some : (r : Request) → ◌≡◌ {A = Option Request} None (Some r) → IsTrue said
     none_some r e = absurd (cc e)
 
-pub left_found : (scripts after : List Script) (actor n : ℕ) (d s : Script) → position (λ (s : Script). s.actor == actor) scripts ≡ Some n →
-    after ≡ set scripts n s → s ≡ without_next (get_or scripts n d) → after ≡ behind_next scripts actor
-left_found scripts after actor n d s is put same = put ∙ ap (set scripts n) same ∙ sym (behind_found scripts actor n d is)
+pub left_found : (scripts : List Script) (actor n : ℕ) (d own : Script) (rest : List Request) → position (λ (s : Script). s.actor == actor) scripts ≡ Some n →
+    own ≡ get_or scripts n d → rest ≡ behind_first own.requests → set scripts n (record own { requests = rest }) ≡ behind_next scripts actor
+left_found scripts actor n d own rest is here same =
+    ap (λ (rs : List Request). set scripts n (record own { requests = rs })) same
+    ∙ ap (λ (s : Script). set scripts n (without_next s)) here
+    ∙ sym (behind_found scripts actor n d is)
 
 -- ---- all done
 

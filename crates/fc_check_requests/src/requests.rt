@@ -152,7 +152,6 @@ impl Requests {
     }
 
     /// Whether this is the next.
-    #[tactic(auto, using(crate::proofs::RequestLemmas::front_asks, crate::proofs::RequestLemmas::none_asks))]
     pub fn asks(&self, request: &Request) -> bool
         ensures { IsTrue result ↔ (next_request self.now ≡ Some request.now) }
     {

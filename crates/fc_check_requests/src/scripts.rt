@@ -1,6 +1,7 @@
 //! The actors of a block: their names, and what each of them has still to ask.
 
 ghost use Rattle.std.specs.Prelude.{◌≡◌, ◌↔◌, ◌++◌, ◌==◌, [], ◌∷◌, IsTrue, IfOk, OnOk, Some, position, flat_map};
+ghost use Rattle.std.specs.List.{list_all};
 ghost use Rattle.std.specs.Str.{bytes_eq};
 ghost use Rattle.fc_entry.specs.HistoryState.{number_of_actor, place_of_name, with_actor};
 ghost use Rattle.fc_legal.specs.Scripts.{Script as ScriptState, are_done, asked_as, asks_nothing, behind_next, line_asked, names_with, next_by, scripts_of, turns_asked};
@@ -200,15 +201,26 @@ pub fn do_ask(scripts: &[Script], actor: usize, request: &Request) -> bool
 pub fn take_next(scripts: &mut [Script], actor: usize)
     ensures { scripts.new ≡ behind_next scripts.old actor }
 {
-    if let Some(place) = place_of(scripts, actor) {
-        let script = &mut scripts[place];
-        script.requests.take_first();
+    match place_of(scripts, actor) {
+        Some(place) => {
+            let script = &mut scripts[place];
+            script.requests.take_first();
+        }
+        None => {}
     }
 }
 
 /// Whether nothing is left of all scripts.
+#[tactic(auto, using(crate::proofs::ScriptLemmas::all_done))]
 pub fn are_done(scripts: &[Script]) -> bool
     ensures { result ≡ are_done scripts.now }
+{
+    is_each_done(scripts)
+}
+
+/// Whether nothing is left of each script.
+fn is_each_done(scripts: &[Script]) -> bool
+    ensures { result ≡ list_all (λ (s : ScriptState). asks_nothing s.requests) scripts.now }
 {
     scripts.iter().all(|script| script.is_done())
 }

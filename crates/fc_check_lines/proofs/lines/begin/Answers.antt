@@ -8,7 +8,7 @@ pub returns-in-Single : goal.returns-in-Single
 returns-in-Single g c =
     single_begins (g.T.Told.grain c.args.told.now) (g.T.Told.whole c.args.told.now) c.begin_line.result c.args.segment c.in-Single.line c.in-Single.is c.begin_line.ensures
 
-pub returns-in-Block : goal.returns-in-Block
-returns-in-Block g c =
-    block_begins (g.T.Told.grain c.args.told.now) (g.T.Told.whole c.args.told.now) c.args.segment c.in-Block.block c.in_ok-requests.requests (Faults c.in_ok-requests.requests c.in-Block.block.actors)
-    c.in-Block.is (c.in_ok-requests.ensures ∙ ap faults_asked c.as_slice.ensures) refl
+pub returns-in_ok-requests-in-Block : goal.returns-in_ok-requests-in-Block
+returns-in_ok-requests-in-Block g c =
+    block_begins (g.T.Told.grain c.args.told.now) (g.T.Told.whole c.args.told.now) c.args.segment c.in-Block.block c.in_ok-requests-in-Block.requests (Faults c.in_ok-requests-in-Block.requests c.in-Block.block.actors)
+    c.in-Block.is (c.in_ok-requests-in-Block.ensures ∙ ap faults_asked c.as_slice.ensures) refl

@@ -10,19 +10,19 @@ returns-in-Nothing g c = nothing_asks (g.T.Told.grain c.args.told.now) c.args.ac
 
 pub returns-in-Own : goal.returns-in-Own
 returns-in-Own g c =
-    own_asks (g.T.Told.grain c.args.told.now) c.args.actor c.args.request.now (g.T.Told.whole c.args.told.now) c.args.self.now c.in-Own.requests.now c.in-Own.seconds c.main_asks.result c.in-Own.is c.main_asks.ensures
+    own_asks (g.T.Told.grain c.args.told.now) c.args.actor c.args.request.now (g.T.Told.whole c.args.told.now) c.args.self.now c.in-Own.requests c.in-Own.seconds c.main_asks.result c.in-Own.is c.main_asks.ensures
 
 pub returns-then-actor-ne0 : goal.returns-then-actor-ne0
 returns-then-actor-ne0 g c =
-    others_ask (g.T.Told.grain c.args.told.now) c.args.actor c.args.request.now (g.T.Told.whole c.args.told.now) c.args.self.now c.in-Seconds.passing.now c.in-Seconds.is c.if-actor-ne0.true
+    others_ask (g.T.Told.grain c.args.told.now) c.args.actor c.args.request.now (g.T.Told.whole c.args.told.now) c.args.self.now c.in-Seconds.passing c.in-Seconds.is c.if-actor-ne0.true
 
-pub returns-in-Seconds : goal.returns-in-Seconds
-returns-in-Seconds g c =
-    seconds_ask (g.T.Told.grain c.args.told.now) c.args.actor c.args.request.now (g.T.Told.whole c.args.told.now) c.asks.result c.args.self.now c.in-Seconds.passing.now c.in-Seconds.is c.if-actor-ne0.false c.asks.ensures
+pub returns-else-actor-ne0 : goal.returns-else-actor-ne0
+returns-else-actor-ne0 g c =
+    seconds_ask (g.T.Told.grain c.args.told.now) c.args.actor c.args.request.now (g.T.Told.whole c.args.told.now) c.asks.result c.args.self.now c.in-Seconds.passing c.in-Seconds.is c.if-actor-ne0.false c.asks.ensures
 
 pub returns-in-Faults : goal.returns-in-Faults
 returns-in-Faults g c =
-    faults_ask (g.T.Told.grain c.args.told.now) c.args.actor c.args.request.now (g.T.Told.whole c.args.told.now) c.args.self.now c.in-Faults.requests.now c.in-Faults.actors c.main_asks-in-Faults.result c.in-Faults.is
+    faults_ask (g.T.Told.grain c.args.told.now) c.args.actor c.args.request.now (g.T.Told.whole c.args.told.now) c.args.self.now c.in-Faults.requests c.in-Faults.actors c.main_asks-in-Faults.result c.in-Faults.is
     c.main_asks-in-Faults.ensures
 
 pub returns-in-Actors : goal.returns-in-Actors

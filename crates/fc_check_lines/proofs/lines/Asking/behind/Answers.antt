@@ -1,8 +1,4 @@
-use Rattle.std.proofs.Common.{refl, ap, ◌∙◌, ◌≡◌}
-use Rattle.std.proofs.lemmas.Result.{IfOk-weaker}
-use Rattle.fc_check_lines.proofs.Standing.{faults_left, fill_left, nothing_left, own_left, scripts_left}
-use Rattle.fc_check_lines.specs.Standing.{IsLeftBehind, agenda_of}
-use Rattle.fc_check_lines.specs.declared.lines.Asking.TheVariants.{Own}
+use Rattle.fc_check_lines.proofs.Standing.{faults_left, fill_left, nothing_left, own_left}
 use Rattle.fc_check_lines.proofs.lines.Asking.behind.Goals as goal
 
 pub returns-in-Nothing : goal.returns-in-Nothing
@@ -12,9 +8,9 @@ pub returns-in-Own : goal.returns-in-Own
 returns-in-Own g c =
     own_left (g.T.Told.grain c.args.told.now) (g.T.Told.whole c.args.told.now) c.args.actor c.args.reply.now c.behind_own.result c.args.self c.in-Own.requests c.in-Own.seconds c.in-Own.is c.behind_own.ensures
 
-pub returns-in-Seconds : goal.returns-in-Seconds
-returns-in-Seconds g c =
-    fill_left (g.T.Told.grain c.args.told.now) (g.T.Told.whole c.args.told.now) c.args.actor c.args.reply.now c.args.self c.in-Seconds.passing c.follow.new.self c.in-Seconds.is c.in_ok-follow.ensures
+pub returns-in_ok-follow-in-Seconds : goal.returns-in_ok-follow-in-Seconds
+returns-in_ok-follow-in-Seconds g c =
+    fill_left (g.T.Told.grain c.args.told.now) (g.T.Told.whole c.args.told.now) c.args.actor c.args.reply.now c.args.self c.in-Seconds.passing c.follow.new.self c.in-Seconds.is c.in_ok-follow-in-Seconds.ensures
 
 pub returns-in-Faults : goal.returns-in-Faults
 returns-in-Faults g c =

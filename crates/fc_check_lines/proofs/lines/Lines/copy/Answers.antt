@@ -1,4 +1,4 @@
-use Rattle.std.proofs.Common.{ap, ◌∙◌}
+use Rattle.std.proofs.Common.{◌∙◌}
 use Rattle.fc_check_lines.proofs.Answering.{copied}
 use Rattle.fc_check_lines.specs.Bytes.{segments_in}
 use Rattle.fc_check_lines.proofs.lines.Lines.copy.Goals as goal

@@ -1,6 +1,7 @@
-use Rattle.std.proofs.Common.{Bool, subst}
+use Rattle.std.proofs.Common.{Bool, ap, subst, sym, ◌∙◌}
 use Rattle.fc_check_lines.proofs.SecondsPass.{filled_upto, over_upto, pass_stays, pass_then, second_passes}
 use Rattle.fc_check_lines.specs.Passing.{ReachesFill}
+use Rattle.fc_legal.specs.Seconds.{Passing}
 use Rattle.law_stands.specs.Names.{named}
 use Rattle.fc_check_lines.proofs.passing.Passing.pass.Goals as goal
 
@@ -16,14 +17,15 @@ returns-then-fills-clause-upto g c = λ names.
     let P : Bool → Type 0 = λ fills. ReachesFill fills (g.T.Told.grain c.args.told.now) (g.T.Told.whole c.args.told.now) c.to_fill.new.self in
     filled_upto (g.T.Told.grain c.args.told.now) names (g.T.Told.whole c.args.told.now) c.to_fill.new.self (subst P c.if-fills.true c.in_ok-fills.ensures.fill)
 
-pub returns-then-seconds-eq0-clause-passed : goal.returns-then-seconds-eq0-clause-passed
-returns-then-seconds-eq0-clause-passed g c = λ names.
+pub returns-then-self-eq0-clause-passed : goal.returns-then-self-eq0-clause-passed
+returns-then-self-eq0-clause-passed g c = λ names.
     pass_then (g.T.Told.grain c.args.told.now) (named names (g.T.Told.whole c.args.told.now)) c.args.self.now c.seconds.self c.to_fill.new.self (c.seconds.invariant names) (c.in_ok-fills.ensures.passed names)
 
-pub returns-then-seconds-eq0-clause-upto : goal.returns-then-seconds-eq0-clause-upto
-returns-then-seconds-eq0-clause-upto g c = λ names.
+pub returns-then-self-eq0-clause-upto : goal.returns-then-self-eq0-clause-upto
+returns-then-self-eq0-clause-upto g c = λ names.
     let P : Bool → Type 0 = λ fills. ReachesFill fills (g.T.Told.grain c.args.told.now) (g.T.Told.whole c.args.told.now) c.to_fill.new.self in
-    over_upto (g.T.Told.grain c.args.told.now) names (g.T.Told.whole c.args.told.now) c.to_fill.new.self (subst P c.if-fills.false c.in_ok-fills.ensures.fill) c.if-seconds-eq0.true
+    over_upto (g.T.Told.grain c.args.told.now) names (g.T.Told.whole c.args.told.now) c.to_fill.new.self (subst P c.if-fills.false c.in_ok-fills.ensures.fill)
+    (sym (ap (λ (p : Passing). p.seconds) c.self.view_is) ∙ c.if-self-eq0.true)
 
 pub next_second-requires-clause-over : goal.next_second-requires-clause-over
 next_second-requires-clause-over g c =
