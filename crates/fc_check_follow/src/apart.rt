@@ -5,9 +5,9 @@ ghost use Rattle.fc_base.specs.declared.request.Reply.TheVariants.{NoMemory as W
 ghost use Rattle.fc_legal.specs.Steps.{IsApart};
 ghost use Rattle.fc_check_follow.specs.Following.{IsOfCommand, SaysRefused};
 
-use crate::same::Same;
 use fc_base::fault::Refusal;
 use fc_base::request::{Place, Reply};
+use fc_check_same::same::Same;
 use fc_entry::entry::Entry;
 
 /// Whether nothing was moved, no disk was called, and none is spoken of.

@@ -10,12 +10,12 @@ ghost use Rattle.fc_check_follow.specs.Following.{Came, IsOpen, IsSettled, IsOfC
 use crate::apart::{has_no_effects, is_of_command, wants_memory};
 use crate::effects::behind;
 use crate::refused::keep_one_more;
-use crate::same::{Same, all_same};
 use fc_base::command::Command;
 use fc_base::decision::Decision;
 use fc_base::outcome::NoMemory;
 use fc_base::request::Effect;
 use fc_check_record::Record;
+use fc_check_same::same::{Same, all_same};
 use fc_entry::entry::Entry;
 use std::alloc::Global;
 

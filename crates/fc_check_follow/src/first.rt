@@ -14,33 +14,23 @@ use fc_check_sheet::LanePool;
 use fc_trace::header::LaneDisks;
 use std::alloc::Global;
 
-/// The disks that a lane has for new volumes.
-fn lane_pool(lane: &LaneDisks) -> LanePool
-    ensures { result ≡ record { flat = lane.now.flat; thin = lane.now.thin } }
-{
-    LanePool {
-        flat: lane.flat,
-        thin: lane.thin,
-    }
-}
-
 /// The disks that lanes have for new volumes.
 fn lane_pools(alloc: Global, lanes: &[LaneDisks]) -> Result<Vec<LanePool>, NoMemory>
     ensures { IfOk result (λ pools. pools_of pools.items ≡ pools_told lanes.now) }
 {
     let mut pools = Vec::new(alloc);
     for lane in lanes {
-        push_item(&mut pools, lane_pool(lane))?;
+        let pool = LanePool {
+            flat: lane.flat,
+            thin: lane.thin,
+        };
+        push_item(&mut pools, pool)?;
     }
     Ok(pools)
 }
 
 /// What is told before the first entry, over these disks for new volumes, lane by lane. Refused for want of memory alone.
-pub fn first_way(
-    alloc: Global,
-    grain: GrainSize,
-    lanes: &[LaneDisks],
-) -> Result<Record, NoMemory>
+pub fn first_way(alloc: Global, grain: GrainSize, lanes: &[LaneDisks]) -> Result<Record, NoMemory>
     requires { 0 < length lanes.now }
     ensures { IfOk result (λ way. way ≡ record { grain = grain; whole = nameless (opened (pools_told lanes.now)) }) }
 {

@@ -6,8 +6,8 @@
 //! `first_way` and goes on with `follow_way`, one way at a time.
 //!
 //! To read: `candidates` (all ways), `first` (the way before the first entry), `way` (one way and one entry, by its request),
-//! `apart` (entries of no lane), `refused` (refused accesses and faulty lines), `command` (what commands leave); and `same`,
-//! `refusal`, `reply` and `effects`, which compare what is decided with what an entry tells.
+//! `apart` (entries of no lane), `refused` (refused accesses and faulty lines), `command` (what commands leave) and `effects`
+//! (effects behind those of the settling).
 #![tactic(auto)]
 
 mod apart;
@@ -15,10 +15,7 @@ mod candidates;
 mod command;
 mod effects;
 mod first;
-mod refusal;
 mod refused;
-mod reply;
-mod same;
 pub mod way;
 
 pub use candidates::Candidates;

@@ -1,11 +1,13 @@
 -- The least grain of a lane and of all lanes, found place by place; and the turns of a lane by its part of what is told.
 use mathlib.Core.Path.{fun_ext}
-use Rattle.std.proofs.Common.{◌≡◌, ℕ, zero, suc, ◌<◌, ◌≤◌, Bool, true, false, cond, Option, Some, None, List, length, get_or, option_map, is_some, refl, sym, ap, ap₂, subst, ◌∙◌, arith, inl, inr}
+use Rattle.std.proofs.Common.{◌≡◌, ℕ, zero, suc, ◌<◌, ◌≤◌, Bool, true, false, cond, Option, Some, None, Result, IfOk, List, length, get_or, option_map, is_some, refl, sym, ap, ap₂, subst, ◌∙◌, arith, inl, inr}
 use Rattle.std.proofs.lemmas.Bool.{cases_lt}
+use Rattle.std.proofs.lemmas.Result.{IfOk-weaker}
 use Rattle.fc_base.specs.Column.{first_below}
 use Rattle.fc_base.specs.Sheet.{Slot, mapping_place}
 use Rattle.fc_base.specs.declared.ids.GrainNo.{GrainNo}
 use Rattle.fc_base.specs.declared.ids.MapId.{MapId}
+use Rattle.fc_base.specs.declared.outcome.NoMemory.{NoMemory}
 use Rattle.fc_base.specs.declared.size.GrainSize.{GrainSize}
 use Rattle.fc_legal.proofs.Events.{one_lane}
 use Rattle.fc_legal.specs.Seconds.{Work as MappingWork, filled_by, next_grain}
@@ -157,14 +159,22 @@ next_as : (grain : GrainSize) (w : Whole) (work : MappingWork) → least_of (con
 unfolding next_grain
 next_as grain w work =
     least_all (cond work.cleans Cleaning Copying) (known_of grain w) work.map.0
-    ∙ ap (λ filled. least_grain (single_lane grain) w.books.sheet.slots filled work.map.0) (fun_ext (λ g. filled_as work.cleans (known_of grain w) work.map.0 g))
+    ∙ ap (λ (filled : ℕ → Option ℕ). least_grain (single_lane grain) w.books.sheet.slots filled work.map.0) (fun_ext (λ g. filled_as work.cleans (known_of grain w) work.map.0 g))
 
-pub next_grain_is : (k : Known) (map : MapId) (cleans : Bool) (kind : Work) (next : Option GrainNo) → kind ≡ cond cleans Cleaning Copying → next ≡ least_of kind k (single_lane k.grain) map.0 →
+next_grain_is : (k : Known) (map : MapId) (cleans : Bool) (kind : Work) (next : Option GrainNo) → kind ≡ cond cleans Cleaning Copying → next ≡ least_of kind k (single_lane k.grain) map.0 →
     (grain : GrainSize) (w : Whole) (work : MappingWork) → k ≡ known_of grain w → work.map ≡ map → work.cleans ≡ cleans → next ≡ next_grain grain w work
 next_grain_is k map cleans kind next of_kind is grain w work same of_map of_cleans =
     is
     ∙ ((λ i. least_of (of_kind i) (same i) (single_lane (same i).grain) (sym of_map i).0)
-    ∙ (ap (λ b. least_of (cond b Cleaning Copying) (known_of grain w) (single_lane grain) work.map.0) (sym of_cleans) ∙ next_as grain w work))
+    ∙ (ap (λ (b : Bool). least_of (cond b Cleaning Copying) (known_of grain w) (single_lane grain) work.map.0) (sym of_cleans) ∙ next_as grain w work))
+
+pub next_grain_found : (k : Known) (map : MapId) (cleans : Bool) (kind : Work) (answer : Result (Option GrainNo) NoMemory) → kind ≡ cond cleans Cleaning Copying →
+    IfOk answer (λ next. next ≡ least_of kind k (single_lane k.grain) map.0) →
+    IfOk answer (λ next. (grain : GrainSize) (w : Whole) (work : MappingWork) → k ≡ known_of grain w → work.map ≡ map → work.cleans ≡ cleans → next ≡ next_grain grain w work)
+next_grain_found k map cleans kind answer of_kind found =
+    IfOk-weaker answer (λ next. next ≡ least_of kind k (single_lane k.grain) map.0)
+    (λ next. (grain : GrainSize) (w : Whole) (work : MappingWork) → k ≡ known_of grain w → work.map ≡ map → work.cleans ≡ cleans → next ≡ next_grain grain w work)
+    (λ next is. next_grain_is k map cleans kind next of_kind is) found
 
 -- ---- place by place, as it is counted
 

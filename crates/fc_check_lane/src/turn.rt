@@ -30,7 +30,11 @@ impl Work {
     fn new(cleans: bool) -> Work
         ensures { result ≡ cond cleans Cleaning Copying }
     {
-        if cleans { Work::Cleaning } else { Work::Copying }
+        if cleans {
+            Work::Cleaning
+        } else {
+            Work::Copying
+        }
     }
 
     /// Whether a mapping has such work.

@@ -27,7 +27,12 @@ impl Record {
     {
         let known = &self.kept.known;
         let mappings = self.kept.control.registry().all_mappings();
-        PlainView::new(&known.sheet, mappings, &self.kept.rows, self.kept.pools.as_slice())
+        PlainView::new(
+            &known.sheet,
+            mappings,
+            &self.kept.rows,
+            self.kept.pools.as_slice(),
+        )
     }
 
     /// What every command does first. Refused for want of memory alone.

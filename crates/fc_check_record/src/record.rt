@@ -92,12 +92,11 @@ impl Record {
     pub fn copy(&self, alloc: Global) -> Result<Record, NoMemory>
         ensures { IfOk result (λ copy. copy ≡ self.now) }
     {
-        let own = &self.kept;
-        let known = own.known.copy(alloc)?;
-        let rows = own.rows.copy(alloc)?;
-        let pools = copy_items(alloc, own.pools.as_slice())?;
-        let calls = copy_items(alloc, own.calls.as_slice())?;
-        let control = own.control.copy(alloc)?;
+        let known = self.kept.known.copy(alloc)?;
+        let rows = self.kept.rows.copy(alloc)?;
+        let pools = copy_items(alloc, self.kept.pools.as_slice())?;
+        let calls = copy_items(alloc, self.kept.calls.as_slice())?;
+        let control = self.kept.control.copy(alloc)?;
         let kept = Kept {
             control,
             known,

@@ -21,7 +21,7 @@ count_calls-requires c =
     λ i. subst (λ (z : List ℕ). slice_index_or z i 0 < 2 ^ 63) (sym c.as_mut_slice.ensures.value) (calls_few c.self.inside.kept.known.entries c.self.inside.kept.calls.items few c.self.invariant.few i)
 
 -- the calls after it
-counted : (c : goal.After-calls-2-1) → c.count_calls.new.calls ≡ slice_set c.self.inside.kept.calls.items c.args.lane (slice_index_or c.self.inside.kept.calls.items c.args.lane 0 + c.args.entry.now.calls)
+counted : (c : goal.After-kept-1) → c.count_calls.new.calls ≡ slice_set c.self.inside.kept.calls.items c.args.lane (slice_index_or c.self.inside.kept.calls.items c.args.lane 0 + c.args.entry.now.calls)
 counted c = c.count_calls.ensures ∙ ap (λ (z : List ℕ). slice_set z c.args.lane (slice_index_or z c.args.lane 0 + c.args.entry.now.calls)) c.as_mut_slice.ensures.value
 
 pub invariant_of-result : goal.invariant_of-result

@@ -18,7 +18,7 @@ leave_control-requires c = record {
 }
 
 -- the disks that are left
-pools_left : (c : goal.After-pools-2-1) → pools_of (with_items c.self.inside.kept.pools c.take_for_all.new.pools).items ≡ fold pools_after (pools_of c.self.inside.kept.pools.items) c.args.decision.now.events
+pools_left : (c : goal.After-kept-1) → pools_of (with_items c.self.inside.kept.pools c.take_for_all.new.pools).items ≡ fold pools_after (pools_of c.self.inside.kept.pools.items) c.args.decision.now.events
 pools_left c =
     ap pools_of (with_items_is c.self.inside.kept.pools c.take_for_all.new.pools (omega arith))
     ∙ (c.take_for_all.ensures
@@ -26,7 +26,7 @@ pools_left c =
     ∙ ap (λ (lanes : List LanePool). fold pools_after (pools_of lanes) c.args.decision.now.events) c.as_mut_slice.ensures.value))
 
 -- each part is what the decision leaves
-left : (c : goal.After-pools-2-1) →
+left : (c : goal.After-kept-1) →
     AreLeft c.self.inside.kept.control c.leave_control.new.control c.self.inside.kept.known c.leave_known.new.known c.self.inside.kept.rows c.leave_known.new.rows (pools_of c.self.inside.kept.pools.items)
     (pools_of (with_items c.self.inside.kept.pools c.take_for_all.new.pools).items) c.args.decision.now
 left c = record {
