@@ -1,5 +1,5 @@
 -- The armed faults of the disks that come back, lane by lane.
-use Rattle.std.proofs.Common.{◌≡◌, ℕ, suc, ◌+◌, ◌<◌, Contains, Option, List, [], ◌∷◌, ◌++◌, length, map, reverse, slice_index_or, refl, sym, ◌∙◌, ap, subst, arith}
+use Rattle.std.proofs.Common.{◌≡◌, ℕ, suc, ◌+◌, ◌<◌, Contains, Option, List, [], ◌∷◌, ◌++◌, length, map, reverse, slice_index_or, sym, ◌∙◌, ap, subst, arith}
 use Rattle.std.specs.List.{All, AllPairs}
 use Rattle.std.proofs.lemmas.List.{get_or-map, get_or_default, length-map, reverse-append}
 use Rattle.std.proofs.lemmas.List.Elements.{All-head, All-tail, Contains-get_or}

@@ -1,5 +1,5 @@
 -- How a call ends that ran a session, or for which memory was wanted before.
-use Rattle.std.proofs.Common.{◌≡◌, ℕ, ◌⊎◌, ◌≤◌, Option, List, [], ◌∷◌, codes, length, refl, sym, subst, ap, inl, inr, arith}
+use Rattle.std.proofs.Common.{◌≡◌, ℕ, ◌⊎◌, ◌≤◌, List, [], ◌∷◌, codes, length, refl, sym, subst, ap, inl, inr, arith}
 use Rattle.fc_base.specs.declared.size.GrainSize.{GrainSize}
 use Rattle.fc_entry.specs.HistoryState.{HistoryState}
 use Rattle.fc_entry.specs.declared.entry.Entry.{Entry}
@@ -9,7 +9,6 @@ use Rattle.fc_legal.specs.Added.{IsOf}
 use Rattle.fc_legal.specs.Legal.{IsLegal}
 use Rattle.fc_legal.specs.Whole.{Whole}
 use Rattle.fc_mdisk.specs.Disk.{DiskState}
-use Rattle.fc_run.specs.Headline.{Session}
 use Rattle.fc_run.specs.Input.{Gave}
 use Rattle.fc_run.specs.declared.ended.Ended.{Ended}
 use Rattle.fc_run.specs.declared.ended.Ended.TheVariants as ended

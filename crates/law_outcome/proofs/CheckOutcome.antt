@@ -12,13 +12,12 @@ use Rattle.fc_check.specs.declared.verdict.CheckStop.TheVariants as stop
 use Rattle.fc_check.specs.declared.verdict.Verdict.{Verdict}
 use Rattle.fc_check.specs.declared.verdict.Verdict.TheVariants.{Yes, No, Malformed}
 use Rattle.fc_entry.specs.HistoryState.{HistoryState}
-use Rattle.fc_entry.specs.declared.entry.Entry.{Entry}
 use Rattle.fc_determined.specs.Smooth.{told_by}
 use Rattle.fc_io.specs.Sink.{SinkState, held_with}
 use Rattle.fc_io.specs.Source.{SourceState}
 use Rattle.fc_run.specs.Summary.{form_text}
 use Rattle.fc_run.specs.declared.form.Form.TheVariants.{Text}
-use Rattle.fc_top.specs.Call.{Call, empty}
+use Rattle.fc_top.specs.Call.{Call}
 use Rattle.fc_top.specs.CheckEnds.{CheckEnds, IsTold, status_said, status_stopped, verdict_line}
 use Rattle.law_outcome.specs.OneOutcome.{HaveOneOutcome, IsByBytes, TookOf}
 use Rattle.fc_top.specs.declared.status.Status.{Status}

@@ -24,7 +24,7 @@ use Rattle.fc_top.specs.PlainEnds.{PlainEnds}
 use Rattle.fc_top.specs.Theorem.{Theorem}
 use Rattle.fc_top.specs.Traced.{run_form}
 use Rattle.fc_top.specs.declared.status.Status.{Status}
-use Rattle.fc_top.specs.declared.status.Status.TheVariants.{Done, Unended, LogFull, TooLong, Refuted, WriteFault}
+use Rattle.fc_top.specs.declared.status.Status.TheVariants.{Done, Unended, LogFull, TooLong, Refuted}
 
 -- In each lane stand as many disks of each kind.
 abbrev pub AreAlikeDealt : List DiskState → List DiskState → Type 0
