@@ -2,6 +2,6 @@ mod Laws
 pub mod Actors
 pub mod Naming
 pub mod Pairing
-pub mod Reaching
 mod Coming
+pub mod Reaching
 mod Running

@@ -1,5 +1,5 @@
 -- The names of a session's actors: more come behind those that are there, and whoever has asked has one.
-use Rattle.std.proofs.Common.{◌≡◌, ℕ, Bool, Some, All, List, [], ◌∷◌, ◌++◌, get_or, bytes_eq, refl, sym, ◌∙◌, ap, subst}
+use Rattle.std.proofs.Common.{◌≡◌, ℕ, Bool, Some, All, List, [], ◌∷◌, ◌++◌, get_or, bytes_eq, sym, ◌∙◌, ap, subst}
 use Rattle.std.proofs.lemmas.List.{append-nil, append_assoc}
 use Rattle.std.proofs.lemmas.List.Elements.{All-cons, All-nil}
 use Rattle.std.proofs.lemmas.List.Quantifiers.{position-Some}
@@ -14,7 +14,6 @@ use Rattle.fc_entry.specs.declared.entry.Entry.{Entry}
 use Rattle.fc_legal.proofs.Naming.{HasMore, begins_named}
 use Rattle.fc_legal.specs.Agenda.{Agenda, Begins, Reading, behind_entry, session_rules}
 use Rattle.fc_legal.specs.Legal.{IsNamed}
-use Rattle.fc_legal.specs.Steps.{Step}
 use Rattle.fc_legal.specs.Whole.{Whole}
 
 -- ---- a name and its number

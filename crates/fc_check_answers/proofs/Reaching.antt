@@ -1,8 +1,7 @@
 -- Where one entry more leads to.
-use Rattle.std.proofs.Common.{◌≡◌, ◌⊎◌, ℕ, Some, Option, All, Contains, List, [], ◌∷◌, ◌++◌, codes, inl, inr, length, slice_index_or, unwrap_or, refl, sym, ◌∙◌, ap, subst}
+use Rattle.std.proofs.Common.{◌≡◌, ◌⊎◌, ℕ, Some, Option, Contains, List, [], ◌∷◌, ◌++◌, codes, inl, inr, length, slice_index_or, unwrap_or, refl, sym, ◌∙◌, ap, subst}
 use Rattle.std.proofs.lemmas.List.Elements.{Contains-push, Contains-push_cases}
 use Rattle.fc_agenda.specs.Goes.{Goes}
-use Rattle.fc_base.specs.Pools.{Pool}
 use Rattle.fc_base.specs.declared.request.Request.{Request}
 use Rattle.fc_base.specs.declared.size.GrainSize.{GrainSize}
 use Rattle.fc_blocks.specs.Segments.{Segment}
@@ -14,7 +13,7 @@ use Rattle.fc_check_answers.proofs.Pairing.{IsPushed, as_before, as_later, as_pu
 use Rattle.fc_check_answers.specs.Places.{AreAllPlaces, IsLedTo, Place}
 use Rattle.fc_check_answers.specs.Runs.{AreNext, GoesOn, OneGives}
 use Rattle.fc_check_lines.proofs.Known.{IsKnownAs, Known, goes_known, main_first, number_known}
-use Rattle.fc_check_lines.specs.Asked.{IsAskedBy, entry_by}
+use Rattle.fc_check_lines.specs.Asked.{entry_by}
 use Rattle.fc_check_lines.specs.Bytes.{by_grammar}
 use Rattle.fc_check_lines.specs.Law.{IsOneMore}
 use Rattle.fc_check_lines.specs.Leading.{LeadTo}

@@ -1,5 +1,5 @@
 -- Runs that go on.
-use Rattle.std.proofs.Common.{◌≡◌, ◌≢◌, ◌⊎◌, ◌↔◌, ◌<◌, ◌≤◌, ℕ, ◌+◌, Bool, IsTrue, All, codes, length, List, [], ◌∷◌, ◌++◌, Contains, map, inl, inr, refl, sym, ◌∙◌, ap, subst, arith}
+use Rattle.std.proofs.Common.{◌≡◌, ◌≢◌, ◌⊎◌, ◌<◌, ℕ, ◌+◌, All, codes, length, List, [], ◌∷◌, ◌++◌, Contains, map, inl, inr, refl, sym, ◌∙◌, ap, subst, arith}
 use Rattle.std.proofs.lemmas.List.{map-append}
 use Rattle.std.proofs.lemmas.List.Elements.{All-contains, Contains-append_left, Contains-push, Contains-push_cases}
 use Rattle.fc_base.specs.Pools.{Pool}
@@ -22,7 +22,7 @@ use Rattle.fc_decided.proofs.Lists.{map_from, map_in}
 use Rattle.fc_entry.specs.declared.entry.Entry.{Entry}
 use Rattle.fc_legal.specs.Agenda.{Session, behind_entry}
 use Rattle.fc_legal.specs.Steps.{Step}
-use Rattle.fc_legal.specs.Whole.{Whole, opened}
+use Rattle.fc_legal.specs.Whole.{opened}
 use Rattle.law_stands.specs.Names.{named, nameless}
 
 -- ---- one way

@@ -1,13 +1,12 @@
 -- Requests that are left, item by item.
-use Rattle.std.proofs.Common.{◌≡◌, ◌≢◌, ◌↔◌, ℕ, zero, suc, ◌+◌, ◌-◌, ◌%◌, ◌^◌, ◌≤◌, ◌<◌, Bool, IsTrue, false, eqb, Option, Some, None, List, [], ◌∷◌, ◌++◌, length, map, All, append-nil, refl, sym, ap, subst, ◌∙◌, arith}
-use Rattle.std.specs.List.{flat_map, range_with_len, slice_index_or}
-use Rattle.std.proofs.lemmas.Bool.{true≢false}
+use Rattle.std.proofs.Common.{◌≡◌, ◌≢◌, ◌↔◌, ℕ, zero, suc, ◌+◌, ◌-◌, ◌%◌, ◌<◌, Bool, IsTrue, eqb, Option, Some, None, List, [], ◌∷◌, ◌++◌, length, map, All, append-nil, refl, sym, ap, subst, ◌∙◌, arith}
+use Rattle.std.specs.List.{flat_map, slice_index_or}
 use Rattle.std.proofs.lemmas.Bool.Decides.{Decides-eqb}
 use Rattle.std.proofs.lemmas.Grind.{flat_map-append}
 use Rattle.std.proofs.lemmas.List.Elements.{All-cons, All-head, All-push, All-tail}
 use Rattle.fc_base.specs.declared.request.Request.{Request}
 use Rattle.fc_base.specs.declared.request.Request.TheVariants.{Command as CommandAsked, Unread as UnreadAsked}
-use Rattle.fc_check_requests.specs.Requests.{AsksSome, IsRest, item_left, part_asked, span_left, turn_in, turns_left}
+use Rattle.fc_check_requests.specs.Requests.{AsksSome, IsRest, item_left, part_asked, turn_in}
 use Rattle.fc_check_requests.specs.declared.requests.Item.{Item}
 use Rattle.fc_check_requests.specs.declared.requests.Item.TheVariants.{Command, Unread, Access, Turns as WorkerTurns}
 use Rattle.fc_check_requests.specs.declared.span.Span.{Span}

@@ -8,9 +8,8 @@
 //! What was told is asked of whoever keeps it, through the trait `Told`: tables, flags of background work, how many lanes there are,
 //! and the next grain of background work. There is no chain, bitmap, lane or store of what makes entries.
 //!
-//! In reading order: `work` (background work of mappings), `told` (what is asked of what was told), `span`
-//! and `turns` (what accesses and workers ask), `requests` (requests that are left), `asking` (what a line asks), `scripts` (actors of
-//! a block), `copies`.
+//! In reading order: `work` (background work of mappings), `told` (what is asked of what was told), `span` and `turns` (what accesses
+//! and workers ask), `requests` (requests that are left), `asking` (what a line asks), `scripts` (actors of a block), `copies`.
 #![tactic(auto)]
 
 pub mod asking;

@@ -1,4 +1,4 @@
-use Rattle.fc_check_requests.proofs.RequestLemmas.{IsLeft, none_back, put_back}
+use Rattle.fc_check_requests.proofs.RequestLemmas.{none_back, put_back}
 use Rattle.fc_check_requests.proofs.requests.take_first.Goals as goal
 
 pub returns-in-Some-behind_first-clause-left : goal.returns-in-Some-behind_first-clause-left

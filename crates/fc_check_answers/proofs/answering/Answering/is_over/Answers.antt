@@ -1,4 +1,4 @@
-use Rattle.std.proofs.Common.{Contains, All, false, List, length, refl, sym, subst, arith}
+use Rattle.std.proofs.Common.{Contains, All, false, List, refl, sym, subst}
 use Rattle.std.proofs.lemmas.Bool.{both_ways}
 use Rattle.std.proofs.lemmas.List.{take_all}
 use Rattle.std.proofs.lemmas.List.Elements.{All-more, All-nil}
