@@ -1,6 +1,6 @@
 -- Runs that go on.
 use Rattle.std.proofs.Common.{◌≡◌, ◌≢◌, ◌⊎◌, ◌<◌, ℕ, ◌+◌, All, codes, length, List, [], ◌∷◌, ◌++◌, Contains, map, inl, inr, refl, sym, ◌∙◌, ap, subst, arith}
-use Rattle.std.proofs.lemmas.List.{map-append}
+use Rattle.std.proofs.lemmas.List.{length-map, map-append}
 use Rattle.std.proofs.lemmas.List.Elements.{All-contains, Contains-append_left, Contains-push, Contains-push_cases}
 use Rattle.fc_base.specs.Pools.{Pool}
 use Rattle.fc_base.specs.declared.size.GrainSize.{GrainSize}
@@ -12,6 +12,7 @@ use Rattle.fc_check_answers.specs.Places.{AreAllPlaces, HasEnd, Place}
 use Rattle.fc_check_answers.specs.Runs.{AreNext, AreRunsAt, Came, GoesOn, IsWayAt, LeadsOn, OneGives, WayLeadsOn, place_at, place_of}
 use Rattle.fc_check_answers.specs.declared.run.Run.{Run}
 use Rattle.fc_check_follow.specs.Following.{AreCandidates, Came as CameWays, IsOpen, IsReachedAt}
+use Rattle.fc_check_follow.specs.Ways.{pools_told}
 use Rattle.fc_check_lines.specs.Asked.{IsAskedBy}
 use Rattle.fc_check_lines.specs.Bytes.{by_grammar}
 use Rattle.fc_check_lines.specs.Leading.{LeadTo}
@@ -23,6 +24,7 @@ use Rattle.fc_entry.specs.declared.entry.Entry.{Entry}
 use Rattle.fc_legal.specs.Agenda.{Session, behind_entry}
 use Rattle.fc_legal.specs.Steps.{Step}
 use Rattle.fc_legal.specs.Whole.{opened}
+use Rattle.fc_trace.specs.declared.header.LaneDisks.{LaneDisks}
 use Rattle.law_stands.specs.Names.{named, nameless}
 
 -- ---- one way
@@ -200,6 +202,11 @@ module _ (grain : GrainSize) (name : List ℕ) (entry : Entry) (runs : List Run)
     run_grain at = (at run run_there).grain_is
 
 -- ---- before the first entry
+
+pub pools_some : (lanes : List LaneDisks) → 0 < length lanes → 0 < length (pools_told lanes)
+pools_some lanes some =
+    let long : length (pools_told lanes) ≡ length lanes = length-map lanes (λ (lane : LaneDisks). record { flat = lane.flat; thin = lane.thin }) in
+    omega arith
 
 module _ (grain : GrainSize) (pools : List Pool) (way : Judged) (run : Run) (runs : List Run)
     (way_is : way ≡ record { grain = grain; whole = nameless (opened pools) }) (of : run.way ≡ way) (is : runs ≡ run ∷ []) where

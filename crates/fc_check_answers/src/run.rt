@@ -34,7 +34,8 @@ fn go_on<'a>(
     entry: &Entry,
     after: &mut Vec<Run<'a>>,
 ) -> Result<(), NoMemory>
-    ensures places { OnOk result (Came (WayLeadsOn lines.entry name.now entry.now way) (map place_at after.old.items) (map place_at after.new.items)) }
+    ensures places { OnOk result (Came (WayLeadsOn lines.entry name.now entry.now way)
+        (map place_at after.old.items) (map place_at after.new.items)) }
     ensures runs { OnOk result ((grain : GrainSize) (entries : ℕ) → IsWayAt grain entries way
         → AreRunsAt grain entries after.old.items → AreRunsAt grain entries after.new.items) }
 {
@@ -51,7 +52,8 @@ fn go_on_ways<'a>(
     entry: &Entry,
     after: &mut Vec<Run<'a>>,
 ) -> Result<(), NoMemory>
-    ensures places { OnOk result (Came (OneGives (WayLeadsOn lines.entry name.now entry.now) ways.items) (map place_at after.old.items) (map place_at after.new.items)) }
+    ensures places { OnOk result (Came (OneGives (WayLeadsOn lines.entry name.now entry.now) ways.items)
+        (map place_at after.old.items) (map place_at after.new.items)) }
     ensures runs { OnOk result ((grain : GrainSize) (entries : ℕ) → AreCandidates grain entries ways.items
         → AreRunsAt grain entries after.old.items → AreRunsAt grain entries after.new.items) }
 {
@@ -67,7 +69,8 @@ fn go_on_ways<'a>(
 impl<'a> Run<'a> {
     /// Whether the actor with this name may ask this next.
     fn asks(&self, name: &[u8], request: &Request) -> Result<bool, NoMemory>
-        ensures { IfOk result (λ yes. IsTrue yes ↔ IsAskedBy self.now.way.grain self.now.lines.agenda (place_at self.now).told name.now request.now) }
+        ensures { IfOk result (λ yes. IsTrue yes
+            ↔ IsAskedBy self.now.way.grain self.now.lines.agenda (place_at self.now).told name.now request.now) }
     {
         self.lines.asks(&Telling { way: &self.way }, name, request)
     }
