@@ -73,10 +73,9 @@ fn judge_history(
     }
     let count = history.len() as u64;
     if answering.is_over() {
-        Ok(Verdict::Yes(count))
-    } else {
-        Ok(Verdict::No(count))
+        return Ok(Verdict::Yes(count));
     }
+    Ok(Verdict::No(count))
 }
 
 /// Judges bytes that are a trace up to this place, where an `s` stands: the line of a session must, and its bytes behind it.

@@ -21,8 +21,8 @@ returns-then-is_over c =
     )
     (c.is_over.ensures.0 (is_true c.is_over.result c.if-is_over.true))
 
-pub returns-else-is_over : goal.returns-else-is_over
-returns-else-is_over c =
+pub returns : goal.returns
+returns c =
     let all : c.loop-number.number ≡ c.len-count.result =
     omega (arith, c.loop-number-test.false, c.loop-number.auto.number-end, c.len-number-end.ensures, c.len-count.ensures) in
     said_remains c.args.header.now c.args.history.now c.args.session.now c.len-count.result c.loop-number.answering c.len-count.ensures
