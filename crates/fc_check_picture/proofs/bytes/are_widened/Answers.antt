@@ -1,7 +1,7 @@
 use Rattle.std.proofs.Common.{arith}
 use Rattle.fc_base.specs.Grain.{block_bytes}
 use Rattle.fc_check_picture.proofs.Runs.{widened_more}
-use Rattle.fc_check_picture.proofs.grain.are_widened.Goals as goal
+use Rattle.fc_check_picture.proofs.bytes.are_widened.Goals as goal
 
 pub loop-index-preserved : goal.loop-index-preserved
 loop-index-preserved c =

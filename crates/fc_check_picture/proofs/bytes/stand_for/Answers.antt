@@ -1,7 +1,7 @@
 use Rattle.std.proofs.Common.{arith}
 use Rattle.fc_base.specs.Grain.{block_bytes}
 use Rattle.fc_check_picture.proofs.Runs.{stand_same}
-use Rattle.fc_check_picture.proofs.grain.stand_for.Goals as goal
+use Rattle.fc_check_picture.proofs.bytes.stand_for.Goals as goal
 
 pub returns : goal.returns
 returns c =
