@@ -1,13 +1,12 @@
 -- Loops over places that keep what was found so far answer what the definitions say.
-use Rattle.std.proofs.Common.{◌≡◌, ℕ, zero, suc, ◌+◌, ◌≤◌, Bool, true, false, cond, None, List, [], ◌∷◌, ◌++◌, length, length-append, refl, sym, ap, ◌∙◌, arith}
+use Rattle.std.proofs.Common.{◌≡◌, ℕ, zero, suc, ◌+◌, ◌≤◌, Bool, true, false, cond, Some, None, List, [], ◌∷◌, ◌++◌, length, length-append, refl, sym, ap, ◌∙◌, arith}
 use Rattle.fc_base.specs.Column.{last_below}
 use Rattle.fc_drawing.specs.Places.{places_below}
-use Rattle.model_slots.specs.Search.{last_with}
 
 abbrev pub kept_with : List ℕ → ℕ → Bool → List ℕ
 kept_with places n passes = cond passes (places ++ n ∷ []) places
 
-pub last_step : (test : ℕ → Bool) (n : ℕ) → last_below test (suc n) ≡ last_with (last_below test n) n (test n)
+pub last_step : (test : ℕ → Bool) (n : ℕ) → last_below test (suc n) ≡ cond (test n) (Some n) (last_below test n)
 unfolding last_below
 last_step test n = refl
 
