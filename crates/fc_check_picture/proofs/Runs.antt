@@ -50,20 +50,20 @@ widened_more size xs ys i d e same lt before here =
 
 -- ---- a part of a grain
 
-held_in : Content → List ℕ
+abbrev held_in : Content → List ℕ
 held_in (Bytes bytes) = bytes
 held_in Lost = []
 
 -- of one that wasn't lost
-pub holds_part : (from length : ℕ) (bytes : List ℕ) (content : Content) (runs : List Run) (r : Result Bool NoMemory) → content_of (Some (map (λ (b : ℕ). b) bytes)) ≡ part_of from length content →
-    IfOk r (λ so. IsTrue so ↔ (IsCanonical runs × (expanded runs ≡ filled block_bytes bytes))) → IfOk r (λ so. IsTrue so ↔ IsRightIn from length content runs)
-holds_part from length bytes (Bytes whole) runs r part found =
+pub holds_part : (from count : ℕ) (bytes : List ℕ) (content : Content) (runs : List Run) (r : Result Bool NoMemory) → content_of (Some (map (λ (b : ℕ). b) bytes)) ≡ part_of from count content →
+    IfOk r (λ so. IsTrue so ↔ (IsCanonical runs × (expanded runs ≡ filled block_bytes bytes))) → IfOk r (λ so. IsTrue so ↔ IsRightIn from count content runs)
+holds_part from count bytes (Bytes whole) runs r part found =
     let P : List ℕ → Bool → Type 0 = λ held so. IsTrue so ↔ (IsCanonical runs × (expanded runs ≡ held)) in
-    let own : filled block_bytes bytes ≡ take length (drop from whole) = ap (filled block_bytes) (sym (map-id bytes)) ∙ ap held_in part in
+    let own : filled block_bytes bytes ≡ take count (drop from whole) = ap (filled block_bytes) (sym (map-id bytes)) ∙ ap held_in part in
     subst (λ (z : List ℕ). IfOk r (P z)) own found
-holds_part from length bytes Lost runs r part found = cc
+holds_part from count bytes Lost runs r part found = let e : Bytes (filled block_bytes (map (λ (b : ℕ). b) bytes)) ≡ Lost = part in absurd cc
 
 -- of one that was
-pub holds_none : (from length : ℕ) (content : Content) (runs : List Run) → content_of None ≡ part_of from length content → IsTrue false ↔ IsRightIn from length content runs
-holds_none from length (Bytes whole) runs part = cc
-holds_none from length Lost runs part = (λ t. t, λ t. t)
+pub holds_none : (from count : ℕ) (content : Content) (runs : List Run) → content_of None ≡ part_of from count content → IsTrue false ↔ IsRightIn from count content runs
+holds_none from count (Bytes whole) runs part = let e : Lost ≡ Bytes (take count (drop from whole)) = part in absurd cc
+holds_none from count Lost runs part = (λ t. absurd cc, λ none. absurd none)
