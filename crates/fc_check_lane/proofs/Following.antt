@@ -1,5 +1,5 @@
 -- What an entry of a lane does to chains at all grains.
-use Rattle.std.proofs.Common.{◌≡◌, ℕ, Option, Some, None, List, [], ◌∷◌, fold, refl, ap, ◌∙◌}
+use Rattle.std.proofs.Common.{◌≡◌, Option, Some, None, List, [], ◌∷◌, fold, refl, ap, ◌∙◌}
 use Rattle.fc_base.specs.Sheet.{Sheet}
 use Rattle.fc_base.specs.SheetStep.{sheet_moved, sheet_written, sheet_torn}
 use Rattle.fc_base.specs.declared.request.Move.{Move}

@@ -1,13 +1,17 @@
--- The least grain of a lane, found place by place; and the turns of a lane by its part of what is told.
+-- The least grain of a lane and of all lanes, found place by place; and the turns of a lane by its part of what is told.
 use mathlib.Core.Path.{fun_ext}
-use Rattle.std.proofs.Common.{◌≡◌, ℕ, zero, suc, ◌<◌, ◌≤◌, Bool, true, false, cond, Option, Some, None, List, length, get_or, option_map, is_some, refl, sym, ap, ap₂, subst, ◌∙◌, arith, inl, inr}
+use Rattle.std.proofs.Common.{◌≡◌, ℕ, zero, suc, ◌<◌, ◌≤◌, Bool, true, false, cond, Option, Some, None, Result, IfOk, List, length, get_or, option_map, is_some, refl, sym, ap, ap₂, subst, ◌∙◌, arith, inl, inr}
 use Rattle.std.proofs.lemmas.Bool.{cases_lt}
+use Rattle.std.proofs.lemmas.Result.{IfOk-weaker}
 use Rattle.fc_base.specs.Column.{first_below}
 use Rattle.fc_base.specs.Sheet.{Slot, mapping_place}
 use Rattle.fc_base.specs.declared.ids.GrainNo.{GrainNo}
 use Rattle.fc_base.specs.declared.ids.MapId.{MapId}
+use Rattle.fc_base.specs.declared.outcome.NoMemory.{NoMemory}
 use Rattle.fc_base.specs.declared.size.GrainSize.{GrainSize}
-use Rattle.fc_legal.specs.Whole.{Whole, lanes, lane_at, part_at}
+use Rattle.fc_legal.proofs.Events.{one_lane}
+use Rattle.fc_legal.specs.Seconds.{Work as MappingWork, filled_by, next_grain}
+use Rattle.fc_legal.specs.Whole.{Whole, lanes, lane_at, part_at, single_lane}
 use Rattle.fc_parts.proofs.Numbers.{IsLane, all_place, none_in, number_is_of, place_of_number}
 use Rattle.fc_parts.proofs.Spots.{copied_parts, cleaned_parts}
 use Rattle.fc_parts.proofs.Views.{parts, mapping_parts, size_parts}
@@ -17,7 +21,7 @@ use Rattle.fc_pick.specs.declared.work.WorkFlags.{WorkFlags}
 use Rattle.fc_rules.specs.LaneTold.{LaneOf, number_at, grains_in}
 use Rattle.fc_rules.specs.LaneTurn.{copied_slot, cleaned_slot, grains_of, least_grain, next_copy, next_clean}
 use Rattle.fc_check_lane.specs.Known.{Known, known_of}
-use Rattle.fc_check_lane.specs.Turns.{has_work, filled_in, lane_in, least_in, next_in}
+use Rattle.fc_check_lane.specs.Turns.{has_work, filled_in, least_in, least_of, next_in}
 use Rattle.fc_check_lane.specs.declared.turn.Work.{Work}
 use Rattle.fc_check_lane.specs.declared.turn.Work.TheVariants.{Copying, Cleaning}
 
@@ -61,21 +65,21 @@ abbrev numbered : ℕ → GrainNo
 numbered n = record { 0 = n }
 
 -- the places so far can't be filled
-pub least_some : (work : Work) (k : Known) (i m place number : ℕ) → place < grains_in (lane_in k i) (grains_of k.sheet.slots (mapping_place k.sheet.slots m)) →
-    ((j : ℕ) → j < place → is_some (filled_in work k m (number_at (lane_in k i) j)) ≡ false) → number ≡ number_at (lane_in k i) place → is_some (filled_in work k m number) ≡ true →
-    Some (record { 0 = number }) ≡ least_in work k i m
-least_some work k i m place number lt none is so =
-    let test : ℕ → Bool = λ g. is_some (filled_in work k m (number_at (lane_in k i) g)) in
-    let found : first_below test (grains_in (lane_in k i) (grains_of k.sheet.slots (mapping_place k.sheet.slots m))) ≡ Some place =
+pub least_some : (work : Work) (k : Known) (l : LaneOf) (m place number : ℕ) → place < grains_in l (grains_of k.sheet.slots (mapping_place k.sheet.slots m)) →
+    ((j : ℕ) → j < place → is_some (filled_in work k m (number_at l j)) ≡ false) → number ≡ number_at l place → is_some (filled_in work k m number) ≡ true →
+    Some (record { 0 = number }) ≡ least_of work k l m
+least_some work k l m place number lt none is so =
+    let test : ℕ → Bool = λ g. is_some (filled_in work k m (number_at l g)) in
+    let found : first_below test (grains_in l (grains_of k.sheet.slots (mapping_place k.sheet.slots m))) ≡ Some place =
     first_found test _ place lt none (ap (λ z. is_some (filled_in work k m z)) (sym is) ∙ so) in
-    ap (λ z. Some (numbered z)) is ∙ sym (ap (option_map (λ g. numbered (number_at (lane_in k i) g))) found)
+    ap (λ z. Some (numbered z)) is ∙ sym (ap (option_map (λ g. numbered (number_at l g))) found)
 
-pub least_none : (work : Work) (k : Known) (i m n : ℕ) → grains_in (lane_in k i) (grains_of k.sheet.slots (mapping_place k.sheet.slots m)) ≤ n →
-    ((j : ℕ) → j < n → is_some (filled_in work k m (number_at (lane_in k i) j)) ≡ false) → None ≡ least_in work k i m
-least_none work k i m n all none =
-    let test : ℕ → Bool = λ g. is_some (filled_in work k m (number_at (lane_in k i) g)) in
-    sym (ap (option_map (λ g. numbered (number_at (lane_in k i) g)))
-    (first_none test (grains_in (lane_in k i) (grains_of k.sheet.slots (mapping_place k.sheet.slots m))) (λ j lt. none j (omega arith))))
+pub least_none : (work : Work) (k : Known) (l : LaneOf) (m n : ℕ) → grains_in l (grains_of k.sheet.slots (mapping_place k.sheet.slots m)) ≤ n →
+    ((j : ℕ) → j < n → is_some (filled_in work k m (number_at l j)) ≡ false) → None ≡ least_of work k l m
+least_none work k l m n all none =
+    let test : ℕ → Bool = λ g. is_some (filled_in work k m (number_at l g)) in
+    sym (ap (option_map (λ g. numbered (number_at l g)))
+    (first_none test (grains_in l (grains_of k.sheet.slots (mapping_place k.sheet.slots m))) (λ j lt. none j (omega arith))))
 
 -- ---- the first mapping with such work
 
@@ -138,20 +142,51 @@ pub next_clean_is : (grain : GrainSize) (w : Whole) (i : ℕ) → i < lanes w �
 unfolding part_at
 next_clean_is grain w i il = ap (λ (least : MapId → Option GrainNo). next_work (has_work Cleaning) least w.books.flags) (fun_ext (λ m. least_cleaned grain w i il m))
 
+-- ---- all lanes as one
+
+all_number : (grain : GrainSize) (number : ℕ) → number_at (single_lane grain) number ≡ number
+all_number grain number = omega arith
+
+least_all : (kind : Work) (k : Known) (m : ℕ) → least_of kind k (single_lane k.grain) m ≡ least_grain (single_lane k.grain) k.sheet.slots (λ g. filled_in kind k m g) m
+least_all kind k m =
+    ap₂ (least_by (single_lane k.grain)) (fun_ext (λ g. ap (filled_in kind k m) (all_number k.grain g))) (one_lane k.grain (grains_of k.sheet.slots (mapping_place k.sheet.slots m)))
+
+filled_as : (cleans : Bool) (k : Known) (m g : ℕ) → filled_in (cond cleans Cleaning Copying) k m g ≡ filled_by cleans k.sheet.slots m g
+filled_as true k m g = refl
+filled_as false k m g = refl
+
+next_as : (grain : GrainSize) (w : Whole) (work : MappingWork) → least_of (cond work.cleans Cleaning Copying) (known_of grain w) (single_lane grain) work.map.0 ≡ next_grain grain w work
+unfolding next_grain
+next_as grain w work =
+    least_all (cond work.cleans Cleaning Copying) (known_of grain w) work.map.0
+    ∙ ap (λ (filled : ℕ → Option ℕ). least_grain (single_lane grain) w.books.sheet.slots filled work.map.0) (fun_ext (λ g. filled_as work.cleans (known_of grain w) work.map.0 g))
+
+next_grain_is : (k : Known) (map : MapId) (cleans : Bool) (kind : Work) (next : Option GrainNo) → kind ≡ cond cleans Cleaning Copying → next ≡ least_of kind k (single_lane k.grain) map.0 →
+    (grain : GrainSize) (w : Whole) (work : MappingWork) → k ≡ known_of grain w → work.map ≡ map → work.cleans ≡ cleans → next ≡ next_grain grain w work
+next_grain_is k map cleans kind next of_kind is grain w work same of_map of_cleans =
+    is
+    ∙ ((λ i. least_of (of_kind i) (same i) (single_lane (same i).grain) (sym of_map i).0)
+    ∙ (ap (λ (b : Bool). least_of (cond b Cleaning Copying) (known_of grain w) (single_lane grain) work.map.0) (sym of_cleans) ∙ next_as grain w work))
+
+pub next_grain_found : (k : Known) (map : MapId) (cleans : Bool) (kind : Work) (answer : Result (Option GrainNo) NoMemory) → kind ≡ cond cleans Cleaning Copying →
+    IfOk answer (λ next. next ≡ least_of kind k (single_lane k.grain) map.0) →
+    IfOk answer (λ next. (grain : GrainSize) (w : Whole) (work : MappingWork) → k ≡ known_of grain w → work.map ≡ map → work.cleans ≡ cleans → next ≡ next_grain grain w work)
+next_grain_found k map cleans kind answer of_kind found =
+    IfOk-weaker answer (λ next. next ≡ least_of kind k (single_lane k.grain) map.0)
+    (λ next. (grain : GrainSize) (w : Whole) (work : MappingWork) → k ≡ known_of grain w → work.map ≡ map → work.cleans ≡ cleans → next ≡ next_grain grain w work)
+    (λ next is. next_grain_is k map cleans kind next of_kind is) found
+
 -- ---- place by place, as it is counted
 
-abbrev lane_with : ℕ → ℕ → GrainSize → LaneOf
+abbrev pub lane_with : ℕ → ℕ → GrainSize → LaneOf
 lane_with i n grain = record { lane = i; lanes = n; grain = grain }
 
-pub lane_grains : (k : Known) (i m count own grains : ℕ) → count ≡ length k.faults → grains ≡ grains_of k.sheet.slots (mapping_place k.sheet.slots m) → ((grain : GrainSize) → own ≡ grains_in (record { lane = i; lanes = count; grain = grain }) grains) →
-    own ≡ grains_in (lane_in k i) (grains_of k.sheet.slots (mapping_place k.sheet.slots m))
-lane_grains k i m count own grains of_lanes of_mapping f = f k.grain ∙ ap₂ (λ n g. grains_in (lane_with i n k.grain) g) of_lanes of_mapping
+pub lane_grains : (k : Known) (l : LaneOf) (m own grains : ℕ) → grains ≡ grains_of k.sheet.slots (mapping_place k.sheet.slots m) → own ≡ grains_in l grains →
+    own ≡ grains_in l (grains_of k.sheet.slots (mapping_place k.sheet.slots m))
+lane_grains k l m own grains of_mapping is = is ∙ ap (grains_in l) of_mapping
 
-pub lane_number : (k : Known) (i count place number : ℕ) → count ≡ length k.faults → ((grain : GrainSize) → number ≡ number_at (record { lane = i; lanes = count; grain = grain }) place) → number ≡ number_at (lane_in k i) place
-lane_number k i count place number of_lanes f = f k.grain ∙ ap (λ n. number_at (lane_with i n k.grain) place) of_lanes
-
-pub none_here : (work : Work) (k : Known) (i m place number : ℕ) → None ≡ filled_in work k m number → number ≡ number_at (lane_in k i) place → is_some (filled_in work k m (number_at (lane_in k i) place)) ≡ false
-none_here work k i m place number none is = ap (λ z. is_some (filled_in work k m z)) (sym is) ∙ ap is_some (sym none)
+pub none_here : (work : Work) (k : Known) (l : LaneOf) (m place number : ℕ) → None ≡ filled_in work k m number → number ≡ number_at l place → is_some (filled_in work k m (number_at l place)) ≡ false
+none_here work k l m place number none is = ap (λ z. is_some (filled_in work k m z)) (sym is) ∙ ap is_some (sym none)
 
 pub some_here : (work : Work) (k : Known) (m number p : ℕ) → Some p ≡ filled_in work k m number → is_some (filled_in work k m number) ≡ true
 some_here work k m number p is = ap is_some (sym is)

@@ -21,14 +21,18 @@ abbrev pub filled_in : Work → Known → ℕ → ℕ → Option ℕ
 filled_in Copying k m number = copied_slot k.sheet.slots m number
 filled_in Cleaning k m number = cleaned_slot k.sheet.slots m number
 
--- A lane, and the least grain of it that the work of a mapping could fill.
+-- The least grain of a lane that the work of a mapping could fill.
+abbrev pub least_of : Work → Known → LaneOf → ℕ → Option GrainNo
+least_of work k l m =
+    option_map (λ g. record { 0 = number_at l g })
+    (first_below (λ g. is_some (filled_in work k m (number_at l g))) (grains_in l (grains_of k.sheet.slots (mapping_place k.sheet.slots m))))
+
+-- The same of the lanes that there are.
 abbrev pub lane_in : Known → ℕ → LaneOf
 lane_in k i = record { lane = i; lanes = length k.faults; grain = k.grain }
 
 abbrev pub least_in : Work → Known → ℕ → ℕ → Option GrainNo
-least_in work k i m =
-    option_map (λ g. record { 0 = number_at (lane_in k i) g })
-    (first_below (λ g. is_some (filled_in work k m (number_at (lane_in k i) g))) (grains_in (lane_in k i) (grains_of k.sheet.slots (mapping_place k.sheet.slots m))))
+least_in work k i m = least_of work k (lane_in k i) m
 
 -- The first mapping by id that has such work in the lane, and its least grain.
 abbrev pub next_in : Work → Known → ℕ → Option (MapId × GrainNo)

@@ -1,8 +1,9 @@
 //! The record of a judge before the first entry, and copies of it.
 
-ghost use Rattle.std.specs.Prelude.{◌≡◌, ◌<◌, [], ◌∷◌, ◌++◌, IfOk, OnOk, replicate};
+ghost use Rattle.std.specs.Prelude.{◌≡◌, ◌<◌, [], IfOk, replicate};
 ghost use Rattle.fc_base.specs.Sheet.{no_slots};
 
+use crate::items::{copy_items, push_item};
 use crate::known::Known;
 use fc_base::outcome::NoMemory;
 use fc_base::size::GrainSize;
@@ -10,26 +11,6 @@ use fc_check_picture::Picture;
 use fc_check_steps::LaneVolume;
 use fc_model::PlainSheet;
 use std::alloc::Global;
-
-/// The same items again.
-fn copy_items<T: Copy>(alloc: Global, items: &[T]) -> Result<Vec<T>, NoMemory>
-    ensures { IfOk result (λ copy. copy.items ≡ items.now) }
-{
-    match Vec::from_slice(alloc, items) {
-        Ok(copy) => Ok(copy),
-        Err(_) => Err(NoMemory),
-    }
-}
-
-/// Puts a volume at the end.
-fn push_volume(volumes: &mut Vec<LaneVolume>, volume: LaneVolume) -> Result<(), NoMemory>
-    ensures { OnOk result (volumes.new.items ≡ volumes.old.items ++ volume ∷ []) }
-{
-    match volumes.push(volume) {
-        Ok(()) => Ok(()),
-        Err(_) => Err(NoMemory),
-    }
-}
 
 /// The same volume again.
 fn copy_volume(volume: &LaneVolume) -> LaneVolume
@@ -48,7 +29,7 @@ fn copy_volumes(alloc: Global, volumes: &[LaneVolume]) -> Result<Vec<LaneVolume>
 {
     let mut copy = Vec::new(alloc);
     for volume in volumes {
-        push_volume(&mut copy, copy_volume(volume))?;
+        push_item(&mut copy, copy_volume(volume))?;
     }
     Ok(copy)
 }

@@ -11,7 +11,6 @@ use fc_pick::WorkFlags;
 use std::marker::Model;
 
 /// What a judge keeps of what was told. There is a lane or more.
-#[derive(Drop)]
 pub struct Known {
     /// The grain size.
     pub grain: GrainSize,
@@ -24,11 +23,27 @@ pub struct Known {
     /// The chains of copies, at all grains.
     pub sheet: PlainSheet,
     /// What plain volumes hold, at all grains.
-    pub picture: Picture<u8>,
+    pub picture: Picture,
     /// For each lane the faults of all disks that it ever had.
     pub faults: Vec<u64>,
     /// How many entries there are.
     pub entries: u64,
+}
+
+impl Drop for Known {
+    // Written out, so that a function that drops it has one call for all of it in its proof.
+    fn drop(self) {
+        let Known {
+            grain: _,
+            volumes: _,
+            sizes: _,
+            flags: _,
+            sheet: _,
+            picture: _,
+            faults: _,
+            entries: _,
+        } = self;
+    }
 }
 
 impl Model for Known {
@@ -79,14 +94,14 @@ impl Known {
     }
 
     /// What plain volumes hold.
-    pub(crate) fn plain(&self) -> &Picture<u8>
+    pub(crate) fn plain(&self) -> &Picture
         ensures { result.now ≡ self.now.picture }
     {
         &self.picture
     }
 
     /// How many lanes there are, one or more.
-    pub(crate) fn lanes(&self) -> usize
+    pub fn lanes(&self) -> usize
         ensures count { result ≡ length self.now.faults }
         ensures some { 0 < result }
     {

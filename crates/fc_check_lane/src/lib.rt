@@ -3,19 +3,21 @@
 //! The record, `Known`, has no chain, bitmap, lane or store of what makes entries: chains are a plain list of slots
 //! (`model_slots`, `fc_model`), plain volumes have one byte for each block (`fc_check_picture`). `Known::is_next` answers exactly
 //! whether the entry is a right step of a legal history (`fc_legal`, `specs/Steps`), for every read, write, copy, cleaning and
-//! worker's turn; only want of memory is free.
+//! worker's turn. `Known::next_grain` is the grain at which background work of a mapping goes on (`specs/Seconds` there). Want of
+//! memory is free; both may be refused so, too, where a grain that they look at has a number of 2^32 or more.
 //!
 //! `Known::follow` keeps what such an entry did.
 //!
-//! To read: `volume`, `known` and `copy` (the record), `inside` (where an access lies), `steps` (what a write or a fill does),
-//! `reading`, `writing` and `filling` (what each may answer), `turn` (which grain a worker takes), `next`, which has the call, and
-//! `after` (what is kept after an entry).
+//! To read: `volume`, `known`, `items` and `copy` (the record), `inside` (where an access lies), `steps` (what a write or a fill
+//! does), `reading`, `writing` and `filling` (what each may answer), `turn` (which grain a worker takes), `next`, which has the
+//! call, and `after` (what is kept after an entry).
 #![tactic(auto)]
 
 mod after;
 mod copy;
 mod filling;
 mod inside;
+mod items;
 mod known;
 mod next;
 mod reading;
@@ -25,5 +27,6 @@ mod volume;
 mod writing;
 
 pub use after::done_write;
+pub use items::{copy_items, push_item};
 pub use known::Known;
 pub use volume::VolumeSize;

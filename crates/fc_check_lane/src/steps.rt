@@ -1,6 +1,6 @@
 //! What a write or a fill does, step by step.
 
-ghost use Rattle.std.specs.Prelude.{◌≡◌, ℕ, ◌++◌, [], ◌∷◌, ◌||◌, IfOk, OnOk, None, cond, map};
+ghost use Rattle.std.specs.Prelude.{◌≡◌, ℕ, ◌||◌, IfOk, None, cond, map};
 ghost use Rattle.fc_base.specs.Sheet.{column, slot_at};
 ghost use Rattle.fc_base.specs.declared.request.Side.TheVariants.{Now, Under};
 ghost use Rattle.fc_entry.specs.Writes.{covers_grain, calls_of_write};
@@ -8,6 +8,7 @@ ghost use Rattle.fc_rules.specs.Steps.{reads_own, steps_of_fill, steps_of_write}
 ghost use Rattle.fc_check_lane.specs.Known.{spot_in};
 ghost use Rattle.fc_check_lane.specs.Steps.{step_of, after_all, CanWrite};
 
+use crate::items::push_item;
 use crate::known::Known;
 use fc_base::ids::GrainNo;
 use fc_base::outcome::NoMemory;
@@ -40,7 +41,7 @@ fn calls_of_move(in_place: bool, lost: bool) -> u32
 }
 
 /// A move as a step.
-fn step_of(picture: &Picture<u8>, moved: Move) -> Step
+fn step_of(picture: &Picture, moved: Move) -> Step
     ensures { result ≡ step_of picture.now moved }
 {
     let lost = picture.is_lost(moved.volume, moved.grain.0 as usize);
@@ -48,23 +49,13 @@ fn step_of(picture: &Picture<u8>, moved: Move) -> Step
     Step::new(moved.volume, Some(moved), calls, Side::Under)
 }
 
-/// Puts a step at the end.
-fn push_step(steps: &mut Vec<Step>, step: Step) -> Result<(), NoMemory>
-    ensures { OnOk result (steps.new.items ≡ steps.old.items ++ step ∷ []) }
-{
-    match steps.push(step) {
-        Ok(()) => Ok(()),
-        Err(_) => Err(NoMemory),
-    }
-}
-
 /// Moves as steps, in order.
-fn steps_of(alloc: Global, picture: &Picture<u8>, moves: &[Move]) -> Result<Vec<Step>, NoMemory>
+fn steps_of(alloc: Global, picture: &Picture, moves: &[Move]) -> Result<Vec<Step>, NoMemory>
     ensures { IfOk result (λ steps. steps.items ≡ map (step_of picture.now) moves.now) }
 {
     let mut steps = Vec::new(alloc);
     for moved in moves {
-        push_step(&mut steps, step_of(picture, *moved))?;
+        push_item(&mut steps, step_of(picture, *moved))?;
     }
     Ok(steps)
 }
@@ -148,7 +139,7 @@ impl Known {
         let side = side_after(alloc, sheet, moves.as_slice(), live, grain)?;
         let calls = calls_of_write(self.grain_size(), part);
         let mut steps = steps_of(alloc, self.plain(), moves.as_slice())?;
-        push_step(&mut steps, own_step(sheet, live, calls, side))?;
+        push_item(&mut steps, own_step(sheet, live, calls, side))?;
         Ok(steps)
     }
 }

@@ -1,11 +1,15 @@
 //! Which grain a worker's turn takes.
 
-ghost use Rattle.std.specs.Prelude.{◌≡◌, ℕ, ◌<◌, IfOk, length};
+ghost use Rattle.std.specs.Prelude.{◌≡◌, ℕ, ◌<◌, IfOk, cond, length};
 ghost use Rattle.fc_base.specs.declared.size.GrainSize.{GrainSize};
 ghost use Rattle.fc_base.specs.Sheet.{mapping_place};
+ghost use Rattle.fc_legal.specs.Seconds.{Work as MappingWork, next_grain};
+ghost use Rattle.fc_legal.specs.Whole.{Whole};
 ghost use Rattle.fc_rules.specs.LaneTold.{grains_in, number_at};
 ghost use Rattle.fc_rules.specs.LaneTurn.{copied_slot, cleaned_slot, grains_of};
-ghost use Rattle.fc_check_lane.specs.Turns.{has_work, filled_in, lane_in, least_in, next_in};
+ghost use Rattle.fc_check_lane.specs.Known.{known_of};
+ghost use Rattle.fc_check_lane.specs.Turns.{has_work, filled_in, least_of, least_in, next_in};
+ghost use Rattle.fc_check_lane.specs.declared.turn.Work.TheVariants.{Copying, Cleaning};
 
 use crate::known::Known;
 use fc_base::ids::{GrainNo, MapId};
@@ -22,6 +26,17 @@ pub enum Work {
 }
 
 impl Work {
+    /// Cleaning, or copying.
+    fn new(cleans: bool) -> Work
+        ensures { result ≡ cond cleans Cleaning Copying }
+    {
+        if cleans {
+            Work::Cleaning
+        } else {
+            Work::Copying
+        }
+    }
+
     /// Whether a mapping has such work.
     fn is_of(self, row: WorkFlags) -> bool
         ensures { result ≡ has_work self row }
@@ -80,12 +95,18 @@ impl Known {
         }
     }
 
-    /// The least grain of a lane that such work of a mapping could fill. Refused also where its number is 2^32 or more.
-    fn least_grain(&self, work: Work, map: MapId, lane: usize) -> Result<Option<GrainNo>, NoMemory>
-        requires { lane < length self.now.faults }
-        ensures { IfOk result (λ least. least ≡ least_in work self.now lane map.0) }
+    /// The least grain of one of so many lanes that such work of a mapping could fill. Refused also where its number is 2^32 or
+    /// more.
+    fn least_of(
+        &self,
+        work: Work,
+        map: MapId,
+        lane: usize,
+        lanes: usize,
+    ) -> Result<Option<GrainNo>, NoMemory>
+        requires { lane < lanes }
+        ensures { IfOk result (λ least. least ≡ least_of work self.now (record { lane = lane; lanes = lanes; grain = self.now.grain }) map.0) }
     {
-        let lanes = self.lanes();
         let grains = grains_in_lane(self.grains_of_mapping(map), lane, lanes)?;
         for place in 0..grains {
             let number = number_in_lane(place, lane, lanes)?;
@@ -95,6 +116,22 @@ impl Known {
             }
         }
         Ok(None)
+    }
+
+    /// The least grain of a lane that such work of a mapping could fill. Refused also where its number is 2^32 or more.
+    fn least_grain(&self, work: Work, map: MapId, lane: usize) -> Result<Option<GrainNo>, NoMemory>
+        requires { lane < length self.now.faults }
+        ensures { IfOk result (λ least. least ≡ least_in work self.now lane map.0) }
+    {
+        self.least_of(work, map, lane, self.lanes())
+    }
+
+    /// The least grain of all lanes at which the copies of a mapping, or its cleanings, have something to do. Refused for want of
+    /// memory, or where a grain has a number of 2^32 or more.
+    pub fn next_grain(&self, map: MapId, cleans: bool) -> Result<Option<GrainNo>, NoMemory>
+        ensures { IfOk result (λ next. (grain : GrainSize) (w : Whole) (work : MappingWork) → self.now ≡ known_of grain w → work.map ≡ map → work.cleans ≡ cleans → next ≡ next_grain grain w work) }
+    {
+        self.least_of(Work::new(cleans), map, 0, 1)
     }
 
     /// The first mapping by id that has such work in a lane, and its least grain there. Refused also where the number of a grain

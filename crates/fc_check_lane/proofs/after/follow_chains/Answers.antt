@@ -1,4 +1,3 @@
-use Rattle.std.proofs.Common.{◌≡◌}
 use Rattle.fc_rules.specs.LaneRight.{done_write}
 use Rattle.fc_check_lane.proofs.Following.{chains_plain}
 use Rattle.fc_check_lane.proofs.after.follow_chains.Goals as goal
