@@ -25,11 +25,11 @@ use fc_check_requests::asking::push_line;
 use fc_check_requests::copies::{copy_actors, copy_names};
 use fc_check_requests::requests::Requests;
 use fc_check_requests::scripts::{
-    Script, add_names, are_done, copy_scripts, do_ask, number_of_actor, place_of_name, scripts_of,
-    take_next,
+    Script, add_names, are_done, copy_scripts, do_ask, number_of_actor, scripts_of, take_next,
 };
 use fc_check_requests::told::Told;
 use fc_entry::entry::Entry;
+use fc_entry::history::place_of_name;
 use std::alloc::Global;
 use std::marker::Model;
 

@@ -2,7 +2,6 @@
 
 ghost use Rattle.std.specs.Prelude.{◌≡◌, ◌↔◌, ◌++◌, ◌==◌, [], ◌∷◌, IsTrue, IfOk, OnOk, Some, position, flat_map};
 ghost use Rattle.std.specs.List.{list_all};
-ghost use Rattle.std.specs.Str.{bytes_eq};
 ghost use Rattle.fc_entry.specs.HistoryState.{number_of_actor, place_of_name, with_actor};
 ghost use Rattle.fc_legal.specs.Scripts.{Script as ScriptState, are_done, asked_as, asks_nothing, behind_next, line_asked, names_with, next_by, scripts_of, turns_asked};
 ghost use Rattle.fc_legal.specs.Whole.{lanes};
@@ -17,6 +16,7 @@ use fc_base::name::Name;
 use fc_base::outcome::NoMemory;
 use fc_base::request::Request;
 use fc_blocks::block::ActorRead;
+use fc_entry::history::place_of_name;
 use std::alloc::Global;
 use std::marker::Model;
 
@@ -33,20 +33,6 @@ impl Model for Script {
     ghost Value = { ScriptState };
 
     ghost view = { λ s. record { actor = s.actor; requests = s.requests } };
-}
-
-/// Whether this is the name.
-fn is_name(known: &Name, name: &[u8]) -> bool
-    ensures { result ≡ bytes_eq known.now name.now }
-{
-    known.as_bytes() == name
-}
-
-/// The number of the actor with this name, if one has it.
-pub fn place_of_name(names: &[Name], name: &[u8]) -> Option<usize>
-    ensures { result ≡ place_of_name names.now name.now }
-{
-    names.iter().position(|known| is_name(known, name))
 }
 
 /// The number of the actor with this name: the one that it has, or the next.

@@ -110,7 +110,7 @@ impl History {
 }
 
 /// The place of a name among the actors' names, if it has one.
-fn place_of_name(names: &[Name], name: &[u8]) -> Option<usize>
+pub fn place_of_name(names: &[Name], name: &[u8]) -> Option<usize>
     ensures value { result ≡ place_of_name names.now name.now }
     ensures within { IfSome result (λ place. place < length names.now) }
 {
