@@ -1,6 +1,6 @@
 //! A trace that is given as bytes, with a session behind it, if there is one, judged entry by entry.
 
-ghost use Rattle.std.specs.Prelude.{◌≡◌, ◌≤◌, ◌<◌, ◌+◌, ◌↔◌, [], ◌∷◌, ◌++◌, List, ℕ, length, take, IfErr, IfOk, IsTrue, OnOk};
+ghost use Rattle.std.specs.Prelude.{◌≡◌, ◌≤◌, ◌<◌, ◌+◌, ◌↔◌, [], ◌∷◌, ◌++◌, List, ℕ, length, take, IfErr, IfOk, IfSome, IsTrue, None, OnOk};
 ghost use Rattle.fc_check.specs.Progress.{IsJudged, IsProgress};
 ghost use Rattle.fc_check.specs.Traces.{IsTraceOf, nothing_told};
 ghost use Rattle.fc_check.specs.Verdict.{IsSaid};
@@ -30,16 +30,16 @@ use std::alloc::Global;
 #[derive(Drop)]
 pub struct Progress {
     /// Its entries.
-    history: History,
+    pub history: History,
     /// All that may be told after them, where all are right.
-    candidates: Candidates,
+    pub candidates: Candidates,
     /// The first that isn't right.
-    wrong: Option<u64>,
+    pub wrong: Option<u64>,
 }
 
 impl Progress {
-    /// What is known behind the first line.
-    fn open(alloc: Global, header: &Header) -> Result<Progress, NoMemory>
+    /// What is known behind the first line. Refused for want of memory alone.
+    pub fn open(alloc: Global, header: &Header) -> Result<Progress, NoMemory>
         ensures progress { IfOk result (λ progress. IsProgress header.now progress) }
         ensures none { IfOk result (λ progress. progress.history ≡ nothing_told) }
     {
@@ -86,7 +86,7 @@ fn follow_last(
 
 /// Reads the next entry from the front of the bytes, and follows it where all before it are right: its length. Refused with the place
 /// of the first byte with which no such entry goes on, what is known is as it was; for want of memory it may be anything.
-fn read_next(
+pub fn read_next(
     alloc: Global,
     header: &Header,
     bytes: &[u8],
@@ -97,6 +97,7 @@ fn read_next(
     ensures within { IfOk result (λ count. count ≤ length bytes.now) }
     ensures read { IfOk result (λ count. ReadNext header.now.grain progress.old.history bytes.now count progress.new.history) }
     ensures known { OnOk result (IsProgress header.now progress.new) }
+    ensures named { OnOk result (progress.old.wrong ≡ None → IfSome progress.new.wrong (λ number. number ≡ length progress.old.history.entries)) }
     ensures malformed { IfErr result (λ stop. IfMalformed stop
         (StopsAt (IsEntryText header.now.grain (length progress.old.history.entries)) bytes.now)) }
 {

@@ -17,7 +17,7 @@ use std::alloc::Global;
 
 /// Takes the line of a session from the front of the bytes: what stands behind it. Refused, with the place of the first byte with which
 /// the line doesn't go on, or the end where the bytes end too early.
-fn take_line(bytes: &[u8]) -> Result<&[u8], usize>
+pub fn take_line(bytes: &[u8]) -> Result<&[u8], usize>
     ensures behind { IfOk result (λ session. bytes.now ≡ session_line ++ session.now) }
     ensures malformed { IfErr result (λ place. StopsAt IsSessionLine bytes.now place) }
 {

@@ -1,8 +1,9 @@
 //! All ways after the entries so far.
 
-ghost use Rattle.std.specs.Prelude.{◌≡◌, ◌↔◌, ◌+◌, ◌<◌, [], ◌∷◌, length, IfOk, OnOk, IsTrue};
+ghost use Rattle.std.specs.Prelude.{◌≡◌, ◌↔◌, ◌+◌, ◌<◌, [], ◌∷◌, length, IfOk, OnOk, IsTrue, option_copied, option_map, slice_get};
 ghost use Rattle.fc_legal.specs.Whole.{opened};
 ghost use Rattle.law_stands.specs.Names.{nameless};
+ghost use Rattle.fc_check_record.specs.Judged.{Judged};
 ghost use Rattle.fc_check_follow.specs.Ways.{AreAfter, pools_told};
 ghost use Rattle.fc_check_follow.specs.Following.{AreFollowing, AreReachedAt};
 
@@ -108,6 +109,20 @@ impl Candidates {
         self.ways = ways_after(alloc, ways, entry, self.entries)?;
         self.entries += 1;
         Ok(())
+    }
+
+    /// In how many ways all may have been told; 0 behind a wrong entry.
+    pub fn len(&self) -> usize
+        ensures { result ≡ length self.now.ways }
+    {
+        self.ways.len()
+    }
+
+    /// The first way, if there is one.
+    pub fn first(&self) -> Option<&Record>
+        ensures { option_map (λ (way : Judged). way.whole) (option_copied result) ≡ slice_get self.now.ways 0 }
+    {
+        self.ways.first()
     }
 
     /// Whether nothing may be told: the last entry, or one before it, was wrong.

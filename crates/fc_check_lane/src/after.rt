@@ -60,7 +60,7 @@ fn follow_chains(sheet: &mut PlainSheet, size: GrainSize, entry: &Entry)
 /// What plain volumes hold after a write, if one was done.
 fn write_plain(
     alloc: Global,
-    picture: &mut Picture,
+    picture: &mut Picture<u8>,
     size: GrainSize,
     entry: &Entry,
 ) -> Result<(), NoMemory>
@@ -73,7 +73,7 @@ fn write_plain(
 }
 
 /// What plain volumes hold after a torn grain, if there is one.
-fn tear_plain(picture: &mut Picture, torn: Option<Torn>)
+fn tear_plain(picture: &mut Picture<u8>, torn: Option<Torn>)
     ensures { picture.new ≡ after_loss picture.old torn }
 {
     match torn {
@@ -85,7 +85,7 @@ fn tear_plain(picture: &mut Picture, torn: Option<Torn>)
 /// What plain volumes hold after an entry with no effects.
 fn follow_plain(
     alloc: Global,
-    picture: &mut Picture,
+    picture: &mut Picture<u8>,
     size: GrainSize,
     entry: &Entry,
 ) -> Result<(), NoMemory>

@@ -23,7 +23,7 @@ pub struct Known {
     /// The chains of copies, at all grains.
     pub sheet: PlainSheet,
     /// What plain volumes hold, at all grains.
-    pub picture: Picture,
+    pub picture: Picture<u8>,
     /// For each lane the faults of all disks that it ever had.
     pub faults: Vec<u64>,
     /// How many entries there are.
@@ -94,7 +94,7 @@ impl Known {
     }
 
     /// What plain volumes hold.
-    pub(crate) fn plain(&self) -> &Picture
+    pub(crate) fn plain(&self) -> &Picture<u8>
         ensures { result.now ≡ self.now.picture }
     {
         &self.picture

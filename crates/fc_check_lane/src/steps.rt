@@ -41,7 +41,7 @@ fn calls_of_move(in_place: bool, lost: bool) -> u32
 }
 
 /// A move as a step.
-fn step_of(picture: &Picture, moved: Move) -> Step
+fn step_of(picture: &Picture<u8>, moved: Move) -> Step
     ensures { result ≡ step_of picture.now moved }
 {
     let lost = picture.is_lost(moved.volume, moved.grain.0 as usize);
@@ -50,7 +50,7 @@ fn step_of(picture: &Picture, moved: Move) -> Step
 }
 
 /// Moves as steps, in order.
-fn steps_of(alloc: Global, picture: &Picture, moves: &[Move]) -> Result<Vec<Step>, NoMemory>
+fn steps_of(alloc: Global, picture: &Picture<u8>, moves: &[Move]) -> Result<Vec<Step>, NoMemory>
     ensures { IfOk result (λ steps. steps.items ≡ map (step_of picture.now) moves.now) }
 {
     let mut steps = Vec::new(alloc);

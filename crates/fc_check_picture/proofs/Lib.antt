@@ -1,4 +1,5 @@
 mod Filling
+mod Marks
 mod Runs
 mod Writes
 mod Volumes

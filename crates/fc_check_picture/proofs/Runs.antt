@@ -1,16 +1,16 @@
 -- Runs of blocks as runs of bytes.
-use Rattle.std.proofs.Common.{◌≡◌, ◌↔◌, ℕ, zero, suc, ◌+◌, ◌*◌, ◌<◌, Bool, IsTrue, Option, Some, Result, IfOk, List, [], ◌∷◌, ◌++◌, take, drop, length, get_or, map, replicate, refl, sym, ap, ap₂, subst, ◌∙◌, arith}
+use Rattle.std.proofs.Common.{◌≡◌, ◌↔◌, ℕ, zero, suc, ◌+◌, ◌*◌, ◌<◌, Bool, false, IsTrue, Some, None, Result, IfOk, List, [], ◌∷◌, ◌++◌, take, drop, length, get_or, map, replicate, refl, sym, ap, ap₂, subst, ◌∙◌, arith}
 use Rattle.std.proofs.Math.Nat.{mul-pos}
-use Rattle.std.proofs.lemmas.List.{take_more, length-map, get_or-map}
+use Rattle.std.proofs.lemmas.List.{take_more, length-map, get_or-map, map-id}
 use Rattle.fc_base.specs.Grain.{block_bytes}
 use Rattle.fc_base.specs.Runs.{expanded, StartsOtherwise, IsCanonical}
 use Rattle.fc_base.specs.declared.runs.Run.{Run}
 use Rattle.fc_base.specs.declared.outcome.NoMemory.{NoMemory}
-use Rattle.fc_entry.specs.Picture.{Content, Bytes}
+use Rattle.fc_entry.specs.Picture.{Content, Bytes, Lost}
 use Rattle.fc_entry.specs.Reads.{IsRightIn}
 use Rattle.fc_determined.proofs.Canonical.{canonical_one}
-use Rattle.fc_check_picture.specs.Blocks.{filled, content_of, widened}
-use Rattle.fc_check_picture.proofs.Filling.{filled_append, filled_replicate, part_filled}
+use Rattle.fc_check_picture.specs.Blocks.{filled, content_of, part_of, widened}
+use Rattle.fc_check_picture.proofs.Filling.{filled_append, filled_replicate}
 
 widened_expands : (size : ℕ) (runs : List Run) → expanded (map (widened size) runs) ≡ filled size (expanded runs)
 widened_expands size [] = refl
@@ -50,13 +50,20 @@ widened_more size xs ys i d e same lt before here =
 
 -- ---- a part of a grain
 
-pub holds_fit : (from count : ℕ) (blocks slice rest part : List ℕ) (content : Content) (o : Option (List ℕ)) (runs : List Run) (r : Result Bool NoMemory) →
-    content_of o ≡ content → o ≡ Some blocks → slice ≡ blocks → rest ≡ drop from slice → part ≡ take count rest →
-    IfOk r (λ so. IsTrue so ↔ (IsCanonical runs × (expanded runs ≡ filled block_bytes part))) → IfOk r (λ so. IsTrue so ↔ IsRightIn (block_bytes * from) (block_bytes * count) content runs)
-holds_fit from count blocks slice rest part content o runs r seen some same behind front found =
-    let P : List ℕ → Bool → Type 0 = λ bytes so. IsTrue so ↔ (IsCanonical runs × (expanded runs ≡ bytes)) in
-    let bytes : filled block_bytes part ≡ take (block_bytes * count) (drop (block_bytes * from) (filled block_bytes blocks)) =
-    ap (filled block_bytes) (front ∙ ap (take count) (behind ∙ ap (drop from) same)) ∙ sym (part_filled block_bytes from count blocks) in
-    let is : Bytes (filled block_bytes blocks) ≡ content = ap content_of (sym some) ∙ seen in
-    subst (λ (z : Content). IfOk r (λ so. IsTrue so ↔ IsRightIn (block_bytes * from) (block_bytes * count) z runs)) is
-    (subst (λ (z : List ℕ). IfOk r (P z)) bytes found)
+abbrev held_in : Content → List ℕ
+held_in (Bytes bytes) = bytes
+held_in Lost = []
+
+-- of one that wasn't lost
+pub holds_part : (from count : ℕ) (bytes : List ℕ) (content : Content) (runs : List Run) (r : Result Bool NoMemory) → content_of (Some (map (λ (b : ℕ). b) bytes)) ≡ part_of from count content →
+    IfOk r (λ so. IsTrue so ↔ (IsCanonical runs × (expanded runs ≡ filled block_bytes bytes))) → IfOk r (λ so. IsTrue so ↔ IsRightIn from count content runs)
+holds_part from count bytes (Bytes whole) runs r part found =
+    let P : List ℕ → Bool → Type 0 = λ held so. IsTrue so ↔ (IsCanonical runs × (expanded runs ≡ held)) in
+    let own : filled block_bytes bytes ≡ take count (drop from whole) = ap (filled block_bytes) (sym (map-id bytes)) ∙ ap held_in part in
+    subst (λ (z : List ℕ). IfOk r (P z)) own found
+holds_part from count bytes Lost runs r part found = let e : Bytes (filled block_bytes (map (λ (b : ℕ). b) bytes)) ≡ Lost = part in absurd cc
+
+-- of one that was
+pub holds_none : (from count : ℕ) (content : Content) (runs : List Run) → content_of None ≡ part_of from count content → IsTrue false ↔ IsRightIn from count content runs
+holds_none from count (Bytes whole) runs part = let e : Lost ≡ Bytes (take count (drop from whole)) = part in absurd cc
+holds_none from count Lost runs part = (λ t. absurd cc, λ none. absurd none)

@@ -38,8 +38,9 @@ blocks_of_grain : (size : GrainSize) → block_bytes * grain_blocks size ≡ gra
 blocks_of_grain K64 = refl
 blocks_of_grain K256 = refl
 
-pub zero_blocks : (size : GrainSize) (n : ℕ) (content : Content) → n ≡ grain_blocks size → content ≡ Bytes (replicate (block_bytes * n) 0) → content ≡ zeros size
-zero_blocks size n content e is = is ∙ (ap (λ z. Bytes (replicate (block_bytes * z) 0)) e ∙ ap (λ z. Bytes (replicate z 0)) (blocks_of_grain size))
+pub zero_blocks : (size : GrainSize) (n number : ℕ) (content : Content) → n ≡ grain_blocks size → number ≡ 0 → content ≡ Bytes (replicate (block_bytes * n) number) → content ≡ zeros size
+zero_blocks size n number content e none is =
+    is ∙ (ap₂ (λ z m. Bytes (replicate (block_bytes * z) m)) e none ∙ ap (λ z. Bytes (replicate z 0)) (blocks_of_grain size))
 
 -- ---- in a volume
 

@@ -4,8 +4,10 @@ ghost use Rattle.std.specs.Prelude.{◌≡◌, ℕ, ◌++◌, ◌==◌, [], ◌�
 ghost use Rattle.fc_entry.specs.Picture.{PlainVolume, zeros};
 ghost use Rattle.fc_entry.specs.PlainStep.{after_effect, after_effects, after_trigger, now_in};
 ghost use Rattle.fc_plain.specs.Changes.{cut_if, tear_if, write_if};
+ghost use Rattle.fc_check_picture.specs.Blocks.{marked_part};
 ghost use Rattle.fc_check_picture.specs.Copies.{copied_for, started};
 
+use crate::mark::Mark;
 use crate::volume::{Copied, Volume};
 use fc_base::ids::VolId;
 use fc_base::outcome::NoMemory;
@@ -16,7 +18,11 @@ use fc_plain::source_of;
 use std::alloc::Global;
 
 /// What the volume with an id holds now, copied; of a volume that isn't there, nothing.
-fn copied_of(alloc: Global, volumes: &[Volume], id: VolId) -> Result<Copied, NoMemory>
+fn copied_of<M: Mark>(
+    alloc: Global,
+    volumes: &[Volume<M>],
+    id: VolId,
+) -> Result<Copied<M>, NoMemory>
     ensures { IfOk result (λ copied. copied ≡ now_in volumes.now id) }
 {
     for volume in volumes {
@@ -28,12 +34,12 @@ fn copied_of(alloc: Global, volumes: &[Volume], id: VolId) -> Result<Copied, NoM
 }
 
 /// What a volume holds after a trigger, where it is a target of it.
-fn copied_for(
+fn copied_for<M: Mark>(
     alloc: Global,
-    volumes: &[Volume],
+    volumes: &[Volume<M>],
     pairs: &[Pair],
     target: VolId,
-) -> Result<Option<Copied>, NoMemory>
+) -> Result<Option<Copied<M>>, NoMemory>
     ensures { IfOk result (λ copied. copied ≡ copied_for volumes.now pairs.now target) }
 {
     match source_of(pairs, target) {
@@ -46,7 +52,7 @@ fn copied_for(
 }
 
 /// A volume becomes a target that holds this, where there is something.
-fn start(volume: &mut Volume, copied: Option<Copied>)
+fn start<M: Mark>(volume: &mut Volume<M>, copied: Option<Copied<M>>)
     ensures { volume.new ≡ started copied volume.old }
 {
     match copied {
@@ -57,9 +63,9 @@ fn start(volume: &mut Volume, copied: Option<Copied>)
 
 /// The volumes from an index on that are targets become copies of their sources. All sources are copied before
 /// the first target changes.
-fn trigger_from(
+fn trigger_from<M: Mark>(
     alloc: Global,
-    volumes: &mut [Volume],
+    volumes: &mut [Volume<M>],
     index: usize,
     pairs: &[Pair],
 ) -> Result<(), NoMemory>
@@ -75,23 +81,24 @@ fn trigger_from(
     Ok(())
 }
 
-/// Blocks were written in each volume with the id.
-pub(crate) fn write_blocks(
+/// Blocks were written with a mark in each volume with the id.
+pub(crate) fn write_blocks<M: Mark>(
     alloc: Global,
     size: GrainSize,
-    volumes: &mut [Volume],
+    volumes: &mut [Volume<M>],
     part: WritePart,
+    mark: M,
 ) -> Result<(), NoMemory>
-    ensures { OnOk result (volumes.new ≡ map (write_if size part) volumes.old) }
+    ensures { OnOk result (volumes.new ≡ map (write_if size (marked_part (M.number mark) part)) volumes.old) }
 {
     for volume in volumes.iter_mut() {
-        volume.write_where(alloc, size, part)?;
+        volume.write_where(alloc, size, part, mark)?;
     }
     Ok(())
 }
 
 /// A failed write left any bytes in a grain of each volume with the id.
-pub(crate) fn tear_grain(volumes: &mut [Volume], torn: Torn)
+pub(crate) fn tear_grain<M: Mark>(volumes: &mut [Volume<M>], torn: Torn)
     ensures { volumes.new ≡ map (tear_if torn) volumes.old }
 {
     for volume in volumes.iter_mut() {
@@ -100,9 +107,9 @@ pub(crate) fn tear_grain(volumes: &mut [Volume], torn: Torn)
 }
 
 /// Each volume with the id is cut.
-fn cut_volumes(
+fn cut_volumes<M: Mark>(
     alloc: Global,
-    volumes: &mut [Volume],
+    volumes: &mut [Volume<M>],
     id: VolId,
     kept: &[Range],
 ) -> Result<(), NoMemory>
@@ -115,7 +122,10 @@ fn cut_volumes(
 }
 
 /// Puts a volume at the end.
-pub(crate) fn push_volume(volumes: &mut Vec<Volume>, volume: Volume) -> Result<(), NoMemory>
+pub(crate) fn push_volume<M: Mark>(
+    volumes: &mut Vec<Volume<M>>,
+    volume: Volume<M>,
+) -> Result<(), NoMemory>
     ensures { OnOk result (volumes.new.items ≡ volumes.old.items ++ volume ∷ []) }
 {
     match volumes.push(volume) {
@@ -124,11 +134,11 @@ pub(crate) fn push_volume(volumes: &mut Vec<Volume>, volume: Volume) -> Result<(
     }
 }
 
-/// A volume of zeros comes.
-fn make_volume(
+/// A volume comes that no write has reached.
+fn make_volume<M: Mark>(
     alloc: Global,
     size: GrainSize,
-    volumes: &mut Vec<Volume>,
+    volumes: &mut Vec<Volume<M>>,
     id: VolId,
     grains: u32,
 ) -> Result<(), NoMemory>
@@ -138,17 +148,17 @@ fn make_volume(
 }
 
 /// Each volume with the id goes.
-fn remove_volume(volumes: &mut Vec<Volume>, id: VolId)
+fn remove_volume<M: Mark>(volumes: &mut Vec<Volume<M>>, id: VolId)
     ensures { volumes.new.items ≡ filter (λ (v : PlainVolume). not (v.volume.0 == id.0)) volumes.old.items }
 {
     volumes.retain(|volume| !volume.is(id));
 }
 
 /// Does an effect.
-fn do_effect(
+fn do_effect<M: Mark>(
     alloc: Global,
     size: GrainSize,
-    volumes: &mut Vec<Volume>,
+    volumes: &mut Vec<Volume<M>>,
     effect: &Effect,
 ) -> Result<(), NoMemory>
     ensures { OnOk result (volumes.new.items ≡ after_effect size volumes.old.items effect.now) }
@@ -170,10 +180,10 @@ fn do_effect(
 }
 
 /// Does effects, in their order.
-pub(crate) fn do_effects(
+pub(crate) fn do_effects<M: Mark>(
     alloc: Global,
     size: GrainSize,
-    volumes: &mut Vec<Volume>,
+    volumes: &mut Vec<Volume<M>>,
     effects: &[Effect],
 ) -> Result<(), NoMemory>
     ensures { OnOk result (volumes.new.items ≡ after_effects size volumes.old.items effects.now) }

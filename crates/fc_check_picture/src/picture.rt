@@ -1,12 +1,15 @@
 //! All plain volumes.
 
-ghost use Rattle.std.specs.Prelude.{◌≡◌, ◌↔◌, ◌*◌, [], IfOk, OnOk, IsTrue};
+ghost use Rattle.std.specs.Prelude.{◌≡◌, ◌↔◌, ◌*◌, ◌≤◌, [], IfOk, IfSome, OnOk, IsTrue, length, map, option_copied, option_map};
 ghost use Rattle.fc_base.specs.Grain.{block_bytes};
 ghost use Rattle.fc_entry.specs.Picture.{changed_at, volume_in, now_at, is_lost};
 ghost use Rattle.fc_entry.specs.PlainStep.{after_effects, after_torn, after_write};
 ghost use Rattle.fc_entry.specs.Reads.{IsRightIn};
+ghost use Rattle.fc_check_picture.specs.Blocks.{content_of, marked_part, part_of};
 
+use crate::bytes::stand_for;
 use crate::changes::{do_effects, push_volume, tear_grain, write_blocks};
+use crate::mark::Mark;
 use crate::volume::Volume;
 use fc_base::ids::VolId;
 use fc_base::outcome::NoMemory;
@@ -16,13 +19,13 @@ use fc_base::size::GrainSize;
 use std::alloc::Global;
 use std::marker::Model;
 
-/// What all plain volumes hold.
+/// What all plain volumes hold, block by block.
 #[derive(Drop)]
-pub struct Picture {
-    volumes: Vec<Volume>,
+pub struct Picture<M: Mark> {
+    volumes: Vec<Volume<M>>,
 }
 
-impl Model for Picture {
+impl<M: Mark> Model for Picture<M> {
     ghost use Rattle.fc_entry.specs.Picture as told;
 
     ghost Value = { told.Picture };
@@ -30,9 +33,9 @@ impl Model for Picture {
     ghost view = { λ p. p.volumes.items };
 }
 
-impl Picture {
+impl<M: Mark> Picture<M> {
     /// No volumes. Takes no memory.
-    pub fn new(alloc: Global) -> Picture
+    pub fn new(alloc: Global) -> Picture<M>
         ensures { result ≡ [] }
     {
         Picture {
@@ -41,7 +44,7 @@ impl Picture {
     }
 
     /// Another picture of the same volumes, which hold the same. Refused for want of memory alone.
-    pub fn copy(&self, alloc: Global) -> Result<Picture, NoMemory>
+    pub fn copy(&self, alloc: Global) -> Result<Picture<M>, NoMemory>
         ensures { IfOk result (λ copy. copy ≡ self.now) }
     {
         let mut volumes = Vec::new(alloc);
@@ -63,33 +66,32 @@ impl Picture {
         true
     }
 
-    /// Whether runs stand for what `count` blocks of a volume's grain hold from the block `from` on; no runs do
-    /// where the grain was lost or isn't there. Refused for want of memory alone.
-    pub fn holds(
-        &self,
-        alloc: Global,
-        volume: VolId,
-        grain: usize,
-        from: usize,
-        count: u32,
-        runs: &Runs,
-    ) -> Result<bool, NoMemory>
-        ensures { IfOk result (λ yes. IsTrue yes ↔ IsRightIn (block_bytes * from) (block_bytes * count) (now_at (volume_in self.now volume) grain) runs.now) }
+    /// The marks of `count` blocks of a volume's grain from the block `from` of the grain on, or of fewer where it
+    /// has fewer; None where the grain was lost or isn't there.
+    pub fn part(&self, volume: VolId, grain: usize, from: usize, count: usize) -> Option<&[M]>
+        ensures marks { content_of (option_map (map M.number) (option_copied result)) ≡ part_of (block_bytes * from) (block_bytes * count) (now_at (volume_in self.now volume) grain) }
+        ensures within { IfSome result (λ marks. length marks.now ≤ count) }
     {
         for own in self.volumes.as_slice() {
             if own.is(volume) {
-                return own.holds(alloc, grain, from, count, runs);
+                return own.part(grain, from, count);
             }
         }
-        Ok(false)
+        None
     }
 
-    /// Blocks of one grain were written with one byte, in each volume with the id. Refused for want of memory
-    /// alone; then it may stand for anything.
-    pub fn write(&mut self, alloc: Global, size: GrainSize, part: WritePart) -> Result<(), NoMemory>
-        ensures { OnOk result (self.new ≡ changed_at part.volume (after_write size part) self.old) }
+    /// Blocks of one grain were written with a mark, in each volume with the id; the byte that was written doesn't
+    /// matter. Refused for want of memory alone; then it may stand for anything.
+    pub fn write_mark(
+        &mut self,
+        alloc: Global,
+        size: GrainSize,
+        part: WritePart,
+        mark: M,
+    ) -> Result<(), NoMemory>
+        ensures { OnOk result (self.new ≡ changed_at part.volume (after_write size (marked_part (M.number mark) part)) self.old) }
     {
-        write_blocks(alloc, size, self.volumes.as_mut_slice(), part)
+        write_blocks(alloc, size, self.volumes.as_mut_slice(), part, mark)
     }
 
     /// A failed write left any bytes in a grain, of each volume with the id.
@@ -110,5 +112,34 @@ impl Picture {
         ensures { OnOk result (self.new ≡ after_effects size self.old effects.now) }
     {
         do_effects(alloc, size, &mut self.volumes, effects)
+    }
+}
+
+impl Picture<u8> {
+    /// Whether runs stand for what `count` blocks of a volume's grain hold from the block `from` on; no runs do
+    /// where the grain was lost or isn't there. Refused for want of memory alone.
+    pub fn holds(
+        &self,
+        alloc: Global,
+        volume: VolId,
+        grain: usize,
+        from: usize,
+        count: u32,
+        runs: &Runs,
+    ) -> Result<bool, NoMemory>
+        ensures { IfOk result (λ yes. IsTrue yes ↔ IsRightIn (block_bytes * from) (block_bytes * count) (now_at (volume_in self.now volume) grain) runs.now) }
+    {
+        match self.part(volume, grain, from, count as usize) {
+            Some(bytes) => stand_for(alloc, bytes, runs),
+            None => Ok(false),
+        }
+    }
+
+    /// Blocks of one grain were written with one byte, in each volume with the id. Refused for want of memory
+    /// alone; then it may stand for anything.
+    pub fn write(&mut self, alloc: Global, size: GrainSize, part: WritePart) -> Result<(), NoMemory>
+        ensures { OnOk result (self.new ≡ changed_at part.volume (after_write size part) self.old) }
+    {
+        self.write_mark(alloc, size, part, part.byte)
     }
 }

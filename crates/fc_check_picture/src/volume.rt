@@ -1,18 +1,18 @@
 //! One plain volume.
 
-ghost use Rattle.std.specs.Prelude.{◌≡◌, ◌↔◌, ◌==◌, ◌*◌, ◌%◌, ◌++◌, ◌<◌, [], ◌∷◌, IfOk, OnOk, IsTrue, length, replicate, slice_set};
+ghost use Rattle.std.specs.Prelude.{◌≡◌, ◌==◌, ◌*◌, ◌%◌, ◌++◌, ◌<◌, ◌≤◌, [], ◌∷◌, IfOk, IfSome, OnOk, length, map, option_copied, option_map, replicate, slice_set};
 ghost use Rattle.fc_base.specs.Grain.{block_bytes, grain_blocks};
 ghost use Rattle.fc_entry.specs.Picture.{content_at, grain_of_block, is_lost, zeros};
 ghost use Rattle.fc_entry.specs.PlainStep.{after_torn, after_write, cut_from};
-ghost use Rattle.fc_entry.specs.Reads.{IsRightIn};
 ghost use Rattle.fc_plain.specs.Changes.{cut_at, cut_if, tear_if, write_if};
+ghost use Rattle.fc_check_picture.specs.Blocks.{content_of, marked_part, part_of};
 
 use crate::grain::Grain;
+use crate::mark::Mark;
 use fc_base::ids::VolId;
 use fc_base::outcome::NoMemory;
 use fc_base::ranges::Range;
 use fc_base::request::{Side, Torn, WritePart};
-use fc_base::runs::Runs;
 use fc_base::size::GrainSize;
 use fc_plain::{grain_at, is_kept};
 use std::alloc::Global;
@@ -20,13 +20,13 @@ use std::marker::Model;
 
 /// A volume: what it holds now, and what it held before its last trigger as a target.
 #[derive(Drop)]
-pub(crate) struct Volume {
+pub(crate) struct Volume<M: Mark> {
     id: VolId,
-    current: Vec<Grain>,
-    before: Vec<Grain>,
+    current: Vec<Grain<M>>,
+    before: Vec<Grain<M>>,
 }
 
-impl Model for Volume {
+impl<M: Mark> Model for Volume<M> {
     ghost use Rattle.fc_entry.specs.Picture.{PlainVolume};
 
     ghost Value = { PlainVolume };
@@ -46,7 +46,7 @@ pub fn block_in_grain(size: GrainSize, block: u64) -> usize
 }
 
 /// Puts a grain at the end.
-fn push_grain(grains: &mut Vec<Grain>, grain: Grain) -> Result<(), NoMemory>
+fn push_grain<M: Mark>(grains: &mut Vec<Grain<M>>, grain: Grain<M>) -> Result<(), NoMemory>
     ensures { OnOk result (grains.new.items ≡ grains.old.items ++ grain ∷ []) }
 {
     match grains.push(grain) {
@@ -55,8 +55,12 @@ fn push_grain(grains: &mut Vec<Grain>, grain: Grain) -> Result<(), NoMemory>
     }
 }
 
-/// So many grains of zeros.
-fn zero_grains(alloc: Global, size: GrainSize, count: u32) -> Result<Vec<Grain>, NoMemory>
+/// So many grains that no write has reached.
+fn zero_grains<M: Mark>(
+    alloc: Global,
+    size: GrainSize,
+    count: u32,
+) -> Result<Vec<Grain<M>>, NoMemory>
     ensures { IfOk result (λ grains. grains.items ≡ replicate count (zeros size)) }
 {
     let mut grains = Vec::new(alloc);
@@ -67,7 +71,7 @@ fn zero_grains(alloc: Global, size: GrainSize, count: u32) -> Result<Vec<Grain>,
 }
 
 /// The same grains again.
-fn copy_grains(alloc: Global, grains: &[Grain]) -> Result<Vec<Grain>, NoMemory>
+fn copy_grains<M: Mark>(alloc: Global, grains: &[Grain<M>]) -> Result<Vec<Grain<M>>, NoMemory>
     ensures { IfOk result (λ copy. copy.items ≡ grains.now) }
 {
     let mut copy = Vec::new(alloc);
@@ -79,11 +83,11 @@ fn copy_grains(alloc: Global, grains: &[Grain]) -> Result<Vec<Grain>, NoMemory>
 
 /// What a volume holds, copied for another one.
 #[derive(Drop)]
-pub(crate) struct Copied {
-    grains: Vec<Grain>,
+pub(crate) struct Copied<M: Mark> {
+    grains: Vec<Grain<M>>,
 }
 
-impl Model for Copied {
+impl<M: Mark> Model for Copied<M> {
     ghost use Rattle.std.specs.Prelude.{List};
     ghost use Rattle.fc_entry.specs.Picture.{Content};
 
@@ -92,9 +96,9 @@ impl Model for Copied {
     ghost view = { λ c. c.grains.items };
 }
 
-impl Copied {
+impl<M: Mark> Copied<M> {
     /// Of a volume that isn't there, nothing. Takes no memory.
-    pub(crate) fn nothing(alloc: Global) -> Copied
+    pub(crate) fn nothing(alloc: Global) -> Copied<M>
         ensures { result ≡ [] }
     {
         Copied {
@@ -103,14 +107,14 @@ impl Copied {
     }
 }
 
-impl Volume {
-    /// A volume of so many grains of zeros.
+impl<M: Mark> Volume<M> {
+    /// A volume of so many grains that no write has reached.
     pub(crate) fn zeros(
         alloc: Global,
         id: VolId,
         size: GrainSize,
         grains: u32,
-    ) -> Result<Volume, NoMemory>
+    ) -> Result<Volume<M>, NoMemory>
         ensures { IfOk result (λ v. v ≡ record { volume = id; now = replicate grains (zeros size); under = replicate grains (zeros size) }) }
     {
         let current = zero_grains(alloc, size, grains)?;
@@ -123,7 +127,7 @@ impl Volume {
     }
 
     /// The same volume again.
-    pub(crate) fn copy(&self, alloc: Global) -> Result<Volume, NoMemory>
+    pub(crate) fn copy(&self, alloc: Global) -> Result<Volume<M>, NoMemory>
         ensures { IfOk result (λ copy. copy ≡ self.now) }
     {
         let current = copy_grains(alloc, self.current.as_slice())?;
@@ -156,22 +160,16 @@ impl Volume {
         grain >= self.current.len() || self.current[grain].is_lost()
     }
 
-    /// Whether runs stand for what `count` blocks of a grain of it hold from the block `from` on; no runs do
+    /// The marks of `count` blocks of a grain of it from the block `from` on, or of fewer where it has fewer; None
     /// where it was lost or isn't there.
-    pub(crate) fn holds(
-        &self,
-        alloc: Global,
-        grain: usize,
-        from: usize,
-        count: u32,
-        runs: &Runs,
-    ) -> Result<bool, NoMemory>
-        ensures { IfOk result (λ yes. IsTrue yes ↔ IsRightIn (block_bytes * from) (block_bytes * count) (content_at self.now.now grain) runs.now) }
+    pub(crate) fn part(&self, grain: usize, from: usize, count: usize) -> Option<&[M]>
+        ensures marks { content_of (option_map (map M.number) (option_copied result)) ≡ part_of (block_bytes * from) (block_bytes * count) (content_at self.now.now grain) }
+        ensures within { IfSome result (λ marks. length marks.now ≤ count) }
     {
         if grain < self.current.len() {
-            self.current[grain].holds(alloc, from, count, runs)
+            self.current[grain].part(from, count)
         } else {
-            Ok(false)
+            None
         }
     }
 
@@ -182,9 +180,15 @@ impl Volume {
         self.current.len()
     }
 
-    /// Blocks of it were written.
-    fn write(&mut self, alloc: Global, size: GrainSize, part: WritePart) -> Result<(), NoMemory>
-        ensures { OnOk result (self.new ≡ after_write size part self.old) }
+    /// Blocks of it were written with a mark.
+    fn write(
+        &mut self,
+        alloc: Global,
+        size: GrainSize,
+        part: WritePart,
+        mark: M,
+    ) -> Result<(), NoMemory>
+        ensures { OnOk result (self.new ≡ after_write size (marked_part (M.number mark) part) self.old) }
     {
         let place = grain_at(size, part.block) as usize;
         if place >= self.current.len() {
@@ -192,7 +196,7 @@ impl Volume {
         }
         let from = block_in_grain(size, part.block);
         let count = part.count as usize;
-        self.current[place] = self.current[place].after_write(alloc, from, count, part.byte)?;
+        self.current[place] = self.current[place].after_write(alloc, from, count, mark)?;
         Ok(())
     }
 
@@ -202,11 +206,12 @@ impl Volume {
         alloc: Global,
         size: GrainSize,
         part: WritePart,
+        mark: M,
     ) -> Result<(), NoMemory>
-        ensures { OnOk result (self.new ≡ write_if size part self.old) }
+        ensures { OnOk result (self.new ≡ write_if size (marked_part (M.number mark) part) self.old) }
     {
         if self.is(part.volume) {
-            self.write(alloc, size, part)
+            self.write(alloc, size, part, mark)
         } else {
             Ok(())
         }
@@ -241,7 +246,7 @@ impl Volume {
     }
 
     /// What it holds now, copied for a target.
-    pub(crate) fn copied(&self, alloc: Global) -> Result<Copied, NoMemory>
+    pub(crate) fn copied(&self, alloc: Global) -> Result<Copied<M>, NoMemory>
         ensures { IfOk result (λ copied. copied ≡ self.now.now) }
     {
         let grains = copy_grains(alloc, self.current.as_slice())?;
@@ -249,7 +254,7 @@ impl Volume {
     }
 
     /// It becomes a target, and holds this over what it held.
-    pub(crate) fn start(&mut self, copied: Copied)
+    pub(crate) fn start(&mut self, copied: Copied<M>)
         ensures { self.new ≡ record self.old { now = copied; under = self.old.now } }
     {
         self.before = std::mem::replace(&mut self.current, copied.grains);

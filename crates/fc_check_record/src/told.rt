@@ -8,6 +8,7 @@ use crate::record::Record;
 use fc_base::ids::{GrainNo, MapId};
 use fc_base::outcome::NoMemory;
 use fc_base::size::GrainSize;
+use fc_model::PlainSheet;
 use fc_pick::WorkFlags;
 use fc_registry::Registry;
 
@@ -24,6 +25,13 @@ impl Record {
         ensures { result.now.tables ≡ self.now.whole.books.tables }
     {
         self.kept.control.registry()
+    }
+
+    /// The chains of copies, at all grains.
+    pub fn sheet(&self) -> &PlainSheet
+        ensures { result.now ≡ self.now.whole.books.sheet }
+    {
+        &self.kept.known.sheet
     }
 
     /// The mappings with background work, in order of id.

@@ -4,4 +4,4 @@ use Rattle.fc_check_picture.proofs.volume.zero_grains.Given as goal
 
 -- so many so far
 abbrev pub invariant-loop : goal.invariant-loop
-invariant-loop l = l.grains.items ≡ replicate l.counter (zeros l.size)
+invariant-loop g l = l.grains.items ≡ replicate l.counter (zeros l.size)

@@ -3,4 +3,4 @@ use Rattle.fc_check_picture.proofs.Writes.{zero_blocks}
 use Rattle.fc_check_picture.proofs.grain.Grain.zeros.Goals as goal
 
 pub returns : goal.returns
-returns c = IfOk-weaker c.filled.result _ _ (λ g e. zero_blocks c.args.size _ g c.blocks-2.ensures e) c.filled.ensures
+returns g c = IfOk-weaker c.filled.result _ _ (λ k e. zero_blocks c.args.size _ _ k c.blocks-2.ensures c.zero.ensures e) c.filled.ensures

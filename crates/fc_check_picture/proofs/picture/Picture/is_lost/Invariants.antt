@@ -4,4 +4,4 @@ use Rattle.fc_check_picture.proofs.picture.Picture.is_lost.Given as goal
 
 -- none of the volumes so far has this id
 abbrev pub invariant-loop-own : goal.invariant-loop-own
-invariant-loop-own l = volume_in (drop l.own-index l.own-items) l.volume ≡ volume_in l.self l.volume
+invariant-loop-own g l = volume_in (drop l.own-index l.own-items) l.volume ≡ volume_in l.self l.volume

@@ -3,4 +3,4 @@ use Rattle.fc_check_picture.proofs.volume.Volume.cut.Given as goal
 
 -- the grains so far are cut
 abbrev pub invariant-loop-place : goal.invariant-loop-place
-invariant-loop-place l = CutSo l.kept l.initial.self l.self l.place
+invariant-loop-place g l = CutSo l.kept l.initial.self l.self l.place

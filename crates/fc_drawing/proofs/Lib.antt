@@ -1,0 +1,5 @@
+-- Lemmas, one subject a file.
+mod Placing
+mod Making
+mod Counting
+mod Examples

@@ -1,0 +1,3 @@
+-- Lemmas, one subject a file.
+mod Explaining
+mod Examples

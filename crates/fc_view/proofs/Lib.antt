@@ -1,0 +1,4 @@
+-- Lemmas, one subject a file.
+mod Stepping
+mod Following
+mod Entries

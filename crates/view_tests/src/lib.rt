@@ -1,0 +1,5 @@
+//! Drawings of traces that were worked out by hand.
+#![tactic(auto)]
+
+#[cfg(test)]
+mod tests;
