@@ -1,5 +1,5 @@
 -- What a parse of all words comes to.
-use Rattle.std.proofs.Common.{◌≡◌, ◌∙◌, ℕ, Bool, false, List, [], ◌∷◌, Option, Some, None, is_some, refl, sym, ap, subst, option_and_then}
+use Rattle.std.proofs.Common.{◌≡◌, ◌∙◌, false, List, [], ◌∷◌, Option, Some, None, is_some, refl, sym, ap, subst, option_and_then}
 use Rattle.std.specs.List.{list_any}
 use Rattle.clap.specs.Faults.{entered_fault, fault_of, level_fault}
 use Rattle.clap.specs.Kinds.{IsAmong, Kinds}
@@ -9,9 +9,8 @@ use Rattle.clap.specs.declared.parser.matches.ArgMatches.{ArgMatches}
 use Rattle.clap.specs.Walk.{Text, nothing_held, rows_of, walk}
 use Rattle.clap.specs.declared.error.kind.ErrorKind.{ErrorKind}
 use Rattle.fc_view_args.specs.Command.{is_stray, viewer}
-use Rattle.fc_view_args.specs.Grammar.{Given, given_after, no_options, wanted_by, wanted_of_words}
+use Rattle.fc_view_args.specs.Grammar.{given_after, no_options, wanted_by, wanted_of_words}
 use Rattle.fc_view_args.specs.Matches.{given_in}
-use Rattle.fc_view_args.specs.declared.wanted.Wanted.{Wanted}
 use Rattle.fc_view_args.proofs.Steps.{all_taken}
 use Rattle.fc_view_args.proofs.Verdicts.{ended, level}
 
