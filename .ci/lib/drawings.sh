@@ -146,36 +146,47 @@ is_xml() { # FILE
     fi
 }
 
-# ---- as SVG: a file for each drawing of chains, well-formed, 1,000 pixels wide and with a title; names may hold no mark of XML
+# ---- as SVG: a file for each drawing of chains, well-formed, 1,000 pixels wide and with a title; the sums in a file of their own
 drawings_as_svg() {
     echo "== drawings as SVG"
-    local name file folder=$room/drawn chains count
+    local name folder=$room/drawn
     for name in cascade nights-work groups torn; do
         rm -rf -- "$folder" && mkdir -- "$folder"
         run_viewer_on <"traces/$name"
-        chains=$(awk '/^[0-9]+ / { drawn = 0 } /^  chain / && !drawn++ { n++ } END { print n + 0 }' "$room/out")
+        cp -- "$room/out" "$room/as_text"
         run_viewer_on --svg <"traces/$name"
         is "$name as SVG: status" 0 "$status"
         put_into_files "$folder" <"$room/out" >"$room/rest"
-        holds "$name as SVG: something stands outside of the drawings" test ! -s "$room/rest"
-        count=0
-        for file in "$folder"/*; do
-            count=$((count + 1))
-            holds "$name as SVG: ${file##*/} isn't well-formed" is_xml "$file"
-            holds "$name as SVG: ${file##*/} isn't 1,000 pixels wide" grep -q '<svg [^>]*width="1000"' "$file"
-            holds "$name as SVG: ${file##*/} has no title" grep -q '<title>.*</title>' "$file"
-        done
-        is "$name as SVG: drawings" "$chains" "$count"
+        holds "$name as SVG: something stands before the first file" test ! -s "$room/rest"
+        are_pictures "$name" "$folder" \
+            "$(awk '/^[0-9]+ / { drawn = 0 } /^  chain / && !drawn++ { n++ } END { print n + 0 }' "$room/as_text")"
+        holds "$name as SVG: the sums differ" cmp -s <(sed -n '/^moves$/,$p' "$room/as_text") "$folder/sums.txt"
     done
     run_viewer_on --at 11 --svg <traces/cascade
     put_into_files "$folder" <"$room/out"
     holds "docs/chains.svg isn't the drawing of entry 11 of the cascade" cmp -s docs/chains.svg "$folder/entry-11.svg"
+    edited '8s/5a/5b/' <traces/first-volume >"$room/tampered"
+    run_viewer_on --svg <"$room/tampered"
+    put_into_files "$folder" <"$room/out"
+    is "a changed trace as SVG: how it ends" "wrong: entry 2 isn't right after those before it" "$(<"$folder/end.txt")"
     # a report's delimiter may be a mark that XML takes for its own
     trace_of_marks >"$room/trace"
     run_viewer_on --svg --at 1 <"$room/trace"
     is "a delimiter of XML as SVG: status" 0 "$status"
     put_into_files "$folder" <"$room/out"
     holds "a delimiter of XML as SVG isn't well-formed" is_xml "$folder/entry-1.svg"
+}
+
+# So many pictures of a trace stand in a folder, each well-formed, 1,000 pixels wide and with a title.
+are_pictures() { # WHAT FOLDER COUNT
+    local file count=0
+    for file in "$2"/*.svg; do
+        count=$((count + 1))
+        holds "$1 as SVG: ${file##*/} isn't well-formed" is_xml "$file"
+        holds "$1 as SVG: ${file##*/} isn't 1,000 pixels wide" grep -q '<svg [^>]*width="1000"' "$file"
+        holds "$1 as SVG: ${file##*/} has no title" grep -q '<title>.*</title>' "$file"
+    done
+    is "$1 as SVG: drawings" "$3" "$count"
 }
 
 # The trace of a report whose delimiter is an angle bracket.

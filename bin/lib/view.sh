@@ -20,7 +20,8 @@ input. A line `session` and what follows it aren't looked at.
 
 options:
   --at N          entry N alone, with the chains after it; also --at=N
-  --svg FOLDER    each drawing of chains as SVG, in a file entry-N.svg of the folder, which is made where it isn't there
+  --svg FOLDER    each drawing of chains as SVG, in a file entry-N.svg of the folder, which is made where it isn't there; what
+                  stands at the end in sums.txt, or where the trace isn't right in end.txt
 
 docs/MANUAL.md has every line of a drawing.
 
@@ -124,22 +125,22 @@ run_viewer() {
     fi
 }
 
-# Puts each drawing behind a line `== NAME` into the file of that name in the folder; what is no drawing goes to standard output.
+# Puts what stands behind each line `== NAME` into the file of that name in the folder; what stands before the first such line goes to
+# standard output.
 put_into_files() { # FOLDER
     LC_ALL=C awk -v folder="$1" '
-        /^== entry-[0-9]+[.]svg$/ {
+        /^== [a-z]+(-[0-9]+)?[.](svg|txt)$/ {
             if (file != "" && close(file) != 0) failed = 1
             file = folder "/" $2
             printf "" >file
             next
         }
-        file != "" { print >file }
-        file == "" { print }
-        $0 == "</svg>" {
-            if (close(file) != 0) failed = 1
-            file = ""
+        file == "" { print; next }
+        { print >file }
+        END {
+            if (file != "" && close(file) != 0) failed = 1
+            exit failed ? 4 : 0
         }
-        END { exit failed ? 4 : 0 }
     '
 }
 
