@@ -140,7 +140,10 @@ fn a_drawing_as_svg(rt: HostRuntime) -> Result<(), Fail> {
     let mut canvas = SvgCanvas {
         sink: MemSink::new(alloc, Vec::new(alloc)),
     };
-    assert_eq!(rt; view_bytes(alloc, FIRST, Some(0), &mut canvas), Ok(Seen::Right(3)));
+    assert_eq!(rt;
+        view_bytes(alloc, FIRST, Some(0), &mut canvas),
+        Ok(Seen::Right(3))
+    );
     let drawn = canvas.sink.bytes();
     assert!(rt; drawn.starts_with(b"== entry-0.svg\n<svg xmlns=\"http://www.w3.org/2000/svg\" "));
     assert!(rt; drawn.ends_with(b"</svg>\n"));
@@ -153,7 +156,10 @@ fn a_sink_that_fails_is_told(rt: HostRuntime) -> Result<(), Fail> {
     let mut canvas = TextCanvas {
         sink: MemSink::new(alloc, vec![in alloc; 3]?),
     };
-    assert_eq!(rt; view_bytes(alloc, FIRST, None, &mut canvas), Err(ViewStop::WriteFault));
+    assert_eq!(rt;
+        view_bytes(alloc, FIRST, None, &mut canvas),
+        Err(ViewStop::WriteFault)
+    );
     Ok(())
 }
 
