@@ -1,5 +1,5 @@
 -- Loops over places that keep what was found so far answer what the definitions say.
-use Rattle.std.proofs.Common.{◌≡◌, ℕ, zero, suc, ◌+◌, ◌≤◌, Bool, true, false, cond, Some, None, List, [], ◌∷◌, ◌++◌, length, length-append, refl, sym, ap, ◌∙◌, arith}
+use Rattle.std.proofs.Common.{◌≡◌, ℕ, zero, suc, ◌+◌, ◌-◌, ◌<◌, ◌≤◌, Bool, true, false, cond, Some, None, List, [], ◌∷◌, ◌++◌, length, length-append, refl, sym, ap, ◌∙◌, arith}
 use Rattle.fc_base.specs.Column.{last_below}
 use Rattle.fc_drawing.specs.Places.{places_below}
 
@@ -17,6 +17,22 @@ places_step test n = refl
 pub last_none : (test : ℕ → Bool) → None ≡ last_below test 0
 unfolding last_below
 last_none test = refl
+
+-- from the end downwards: the place below the bound passes, or it doesn't, or there is none
+pub last_hit : (test : ℕ → Bool) (n end : ℕ) (passes : Bool) → zero < n → passes ≡ test (n - 1) → passes ≡ true → last_below test n ≡ last_below test end → Some (n - 1) ≡ last_below test end
+last_hit test n end passes above answered yes so =
+    let s : n ≡ suc (n - 1) = omega arith in
+    let e : test (n - 1) ≡ true = sym answered ∙ yes in
+    sym (ap (λ b. cond b (Some (n - 1)) (last_below test (n - 1))) e) ∙ (sym (last_step test (n - 1)) ∙ (ap (last_below test) (sym s) ∙ so))
+
+pub last_miss : (test : ℕ → Bool) (n end : ℕ) (passes : Bool) → zero < n → passes ≡ test (n - 1) → passes ≡ false → last_below test n ≡ last_below test end → last_below test (n - 1) ≡ last_below test end
+last_miss test n end passes above answered no so =
+    let s : n ≡ suc (n - 1) = omega arith in
+    let e : test (n - 1) ≡ false = sym answered ∙ no in
+    sym (ap (λ b. cond b (Some (n - 1)) (last_below test (n - 1))) e) ∙ (sym (last_step test (n - 1)) ∙ (ap (last_below test) (sym s) ∙ so))
+
+pub last_left : (test : ℕ → Bool) (n end : ℕ) → n ≤ zero → last_below test n ≡ last_below test end → None ≡ last_below test end
+last_left test n end none so = let z : n ≡ zero = omega arith in last_none test ∙ (sym (ap (last_below test) z) ∙ so)
 
 pub places_none : (test : ℕ → Bool) → [] ≡ places_below test 0
 unfolding places_below

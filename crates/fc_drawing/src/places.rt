@@ -3,28 +3,22 @@
 ghost use Rattle.std.specs.Prelude.{◌≡◌, ◌+◌, ◌-◌, ◌<◌, ◌^◌, ◌++◌, ◌∷◌, [], ℕ, Bool, IfOk, OnOk, cond, length};
 ghost use Rattle.fc_base.specs.Column.{last_below};
 ghost use Rattle.fc_drawing.specs.Places.{places_below};
-ghost use Rattle.model_slots.specs.Search.{Tests, last_with};
+ghost use Rattle.model_slots.specs.Search.{Tests};
 
 use fc_base::outcome::NoMemory;
 use std::alloc::Global;
 
-/// The last place that passes, after one more place.
-fn last_so_far(found: Option<usize>, place: usize, passes: bool) -> Option<usize>
-    ensures { result ≡ last_with found place passes }
-{
-    if passes { Some(place) } else { found }
-}
-
-/// The last place below an end that passes a test.
+/// The last place below an end that passes a test. It is looked for from the end downwards, no further than needed.
 pub(crate) fn last_place<F: Fn(usize) -> bool>(end: usize, passes: F) -> Option<usize>
     requires { F.IsAlwaysCallable passes }
     ensures { (test : ℕ → Bool) → Tests (F.post passes) test → result ≡ last_below test end }
 {
-    let mut found = None;
-    for place in 0..end {
-        found = last_so_far(found, place, passes(place));
+    for place in (0..end).rev() {
+        if passes(place) {
+            return Some(place);
+        }
     }
-    found
+    None
 }
 
 /// Puts a place at the end, where it passes.
