@@ -1,16 +1,28 @@
-//! A history's chains, put as text or as SVG.
+//! Drawings of a history's chains, put as text or as SVG.
 //!
-//! What is put are the values of `fc_drawing`; a text is added to a sink, and where that fails, a front of it was
-//! added. How a drawing is laid out is tested alone.
+//! Two canvases (`fc_drawing::canvas`) over a sink: `TextCanvas` puts each entry as lines, with the chains where they are drawn;
+//! `SvgCanvas` puts each drawing of chains as an SVG of its own, behind a line with the name of its file. Neither tells what it drew:
+//! how a drawing is laid out is tested alone. A text is added to the sink, and where that fails, a front of it was added.
 //!
-//! To read: `names` (volumes, slots, mappings and entries), `held` (grains), `put_chains`, `put_reason`, `put_moves`,
-//! `put_totals`, and `svg`.
+//! To read: `refused` (why a text wasn't put), `names` (volumes, slots, mappings and entries), `held` (grains), `put_entry`,
+//! `put_reason`, `put_moves`, `put_chains`, `put_totals`, `put_end` and `text_canvas`; then `escaped` (what XML takes for its own),
+//! `written` (lines of text), `boxes` (grains), `rows` (slots), `arrows` (moves), `svg` and `svg_canvas`.
 #![tactic(auto)]
 
+mod arrows;
+mod boxes;
+mod escaped;
 mod held;
-pub mod names;
-pub mod put_chains;
-pub mod put_moves;
-pub mod put_reason;
-pub mod put_totals;
-pub mod svg;
+mod names;
+mod put_chains;
+mod put_end;
+mod put_entry;
+mod put_moves;
+mod put_reason;
+mod put_totals;
+mod refused;
+mod rows;
+mod svg;
+pub mod svg_canvas;
+pub mod text_canvas;
+mod written;

@@ -75,8 +75,12 @@ fn put_idle<K: Sink>(registry: &Registry, mapping: &Mapping, sink: &mut K) -> Re
     put_text(sink, b", no slot\n")
 }
 
-/// Puts the mappings that have no slot.
-fn put_idles<K: Sink>(sheet: &PlainSheet, registry: &Registry, sink: &mut K) -> Result<(), Failed> {
+/// Puts the mappings that have no slot. Failed, a front of them was added.
+pub(crate) fn put_idles<K: Sink>(
+    sheet: &PlainSheet,
+    registry: &Registry,
+    sink: &mut K,
+) -> Result<(), Failed> {
     for mapping in registry.all_mappings() {
         if sheet.mapping_place(mapping.id).is_none() {
             match put_idle(registry, mapping, sink) {
@@ -89,7 +93,7 @@ fn put_idles<K: Sink>(sheet: &PlainSheet, registry: &Registry, sink: &mut K) -> 
 }
 
 /// Puts all chains, and behind them the mappings that have no slot. Failed, a front of it was added.
-pub fn put_chains<K: Sink>(
+pub(crate) fn put_chains<K: Sink>(
     sheet: &PlainSheet,
     registry: &Registry,
     chains: &[Chain],

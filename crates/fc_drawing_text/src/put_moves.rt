@@ -58,15 +58,14 @@ fn put_owed<K: Sink>(registry: &Registry, owed: Owed, sink: &mut K) -> Result<()
     }
 }
 
-/// Puts a move on a line of its own.
-fn put_move<K: Sink>(
+/// Puts a move: its grain, from whom to whom, and whether it was in place.
+pub(crate) fn put_way<K: Sink>(
     registry: &Registry,
     made: Move,
     from: Option<Source>,
-    owed: Owed,
     sink: &mut K,
 ) -> Result<(), Failed> {
-    put_count(sink, b"  move grain ", u64::from(made.grain.0))?;
+    put_count(sink, b"move grain ", u64::from(made.grain.0))?;
     match from {
         Some(source) => {
             put_text(sink, b" from ")?;
@@ -82,14 +81,36 @@ fn put_move<K: Sink>(
     };
     put_slot(registry, to, sink)?;
     if made.in_place {
-        put_text(sink, b", in place")?;
+        return put_text(sink, b", in place");
     }
+    Ok(())
+}
+
+/// Puts a move on a line of its own.
+fn put_move<K: Sink>(
+    registry: &Registry,
+    made: Move,
+    from: Option<Source>,
+    owed: Owed,
+    sink: &mut K,
+) -> Result<(), Failed> {
+    put_text(sink, b"  ")?;
+    put_way(registry, made, from, sink)?;
     put_owed(registry, owed, sink)?;
     put_text(sink, b"\n")
 }
 
+/// The slot from which the move with this index copied, if there is one.
+pub(crate) fn source_from(sources: &[Option<Source>], index: usize) -> Option<Source> {
+    if index < sources.len() {
+        sources[index]
+    } else {
+        None
+    }
+}
+
 /// Puts the moves of an entry, in order; `sources` says from whom each copied. Failed, a front of it was added.
-pub fn put_moves<K: Sink>(
+pub(crate) fn put_moves<K: Sink>(
     registry: &Registry,
     entry: &Entry,
     sources: &[Option<Source>],
@@ -97,13 +118,12 @@ pub fn put_moves<K: Sink>(
 ) -> Result<(), Failed> {
     let moves = entry.moves.as_slice();
     for index in 0..moves.len() {
-        let from = if index < sources.len() {
-            sources[index]
-        } else {
-            None
-        };
+        let from = source_from(sources, index);
         let owed = owed_to(&entry.request, &moves[index + 1..], from);
-        put_move(registry, moves[index], from, owed, sink)?;
+        match put_move(registry, moves[index], from, owed, sink) {
+            Ok(()) => {}
+            Err(failed) => return Err(failed),
+        }
     }
     Ok(())
 }

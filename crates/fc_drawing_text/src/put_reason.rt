@@ -2,40 +2,35 @@
 
 use crate::names::{put_asked, put_count, put_slot};
 use fc_base::outcome::Failed;
-use fc_drawing::arrivals::{Arrival, Arrivals};
-use fc_drawing::reason::{Part, Reason};
+use fc_base::request::Request;
+use fc_drawing::arrivals::Arrival;
+use fc_drawing::drawing::Drawing;
+use fc_drawing::reason::Reason;
 use fc_drawing::sources::source_at;
 use fc_entry::history::History;
 use fc_entry::parts::put_text;
 use fc_io::sink::Sink;
-use fc_model::PlainSheet;
 use fc_origins::origin::Origin;
-use fc_registry::Registry;
-
-/// What names are taken from.
-#[derive(Clone, Copy)]
-pub struct Told<'a> {
-    /// The entries so far.
-    pub history: &'a History,
-    /// The chains.
-    pub sheet: &'a PlainSheet,
-    /// The volumes and mappings.
-    pub registry: &'a Registry,
-    /// How grains came to slots.
-    pub arrivals: &'a Arrivals,
-}
 
 /// Puts who lacks the grain: the slots from the live one back to its holder.
-fn put_lacking<K: Sink>(told: Told<'_>, reason: Reason<'_>, sink: &mut K) -> Result<(), Failed> {
-    let chain = told.sheet.chain(reason.live);
+fn put_lacking<K: Sink>(
+    drawing: Drawing<'_>,
+    reason: Reason<'_>,
+    sink: &mut K,
+) -> Result<(), Failed> {
+    let chain = drawing.sheet.chain(reason.live);
     for offset in 0..reason.live.saturating_sub(reason.holder) {
         let place = reason.live - offset;
-        if told.sheet.chain(place) == chain {
-            put_slot(told.registry, source_at(told.sheet, place), sink)?;
+        if drawing.sheet.chain(place) == chain {
+            put_slot(drawing.registry, source_at(drawing.sheet, place), sink)?;
             put_text(sink, b" lacks it, ")?;
         }
     }
-    put_slot(told.registry, source_at(told.sheet, reason.holder), sink)?;
+    put_slot(
+        drawing.registry,
+        source_at(drawing.sheet, reason.holder),
+        sink,
+    )?;
     put_text(sink, b" has it\n")
 }
 
@@ -49,30 +44,34 @@ fn way_text(in_place: bool) -> &'static [u8] {
 }
 
 /// Puts how a slot got the grain.
-fn put_arrival<K: Sink>(told: Told<'_>, arrival: Arrival, sink: &mut K) -> Result<(), Failed> {
+fn put_arrival<K: Sink>(
+    drawing: Drawing<'_>,
+    arrival: Arrival,
+    sink: &mut K,
+) -> Result<(), Failed> {
     put_text(sink, b"    to ")?;
-    put_slot(told.registry, arrival.to, sink)?;
+    put_slot(drawing.registry, arrival.to, sink)?;
     match arrival.from {
         Some(from) => {
             put_text(sink, way_text(arrival.in_place))?;
-            put_slot(told.registry, from, sink)?;
+            put_slot(drawing.registry, from, sink)?;
         }
         None => put_text(sink, b" written")?,
     }
     put_text(sink, b" by ")?;
-    put_asked(told.history, arrival.entry, sink)?;
+    put_asked(drawing.history, arrival.entry, sink)?;
     put_text(sink, b"\n")
 }
 
 /// Puts how the grain came to its holder, step by step, the last step first.
 fn put_trail<K: Sink>(
-    told: Told<'_>,
+    drawing: Drawing<'_>,
     reason: Reason<'_>,
-    grain: usize,
     sink: &mut K,
 ) -> Result<(), Failed> {
-    let arrivals = told.arrivals;
-    let mut next = arrivals.last(told.sheet.slot(reason.holder), grain, arrivals.len());
+    let grain = reason.part.grain;
+    let arrivals = drawing.arrivals;
+    let mut next = arrivals.last(drawing.sheet.slot(reason.holder), grain, arrivals.len());
     for _ in 0..arrivals.len() {
         let Some(number) = next else {
             return Ok(());
@@ -80,7 +79,7 @@ fn put_trail<K: Sink>(
         let Some(arrival) = arrivals.at(number) else {
             return Ok(());
         };
-        put_arrival(told, arrival, sink)?;
+        put_arrival(drawing, arrival, sink)?;
         next = match arrival.from {
             Some(from) => arrivals.last(from.slot, grain, number),
             None => None,
@@ -148,20 +147,35 @@ fn put_origins<K: Sink>(
     Ok(())
 }
 
-/// Puts why blocks of a grain hold what they hold, the first of which is this block of the volume. Failed, a front of it was added.
-pub fn put_reason<K: Sink>(
-    told: Told<'_>,
-    part: Part,
-    block: u64,
-    reason: Reason<'_>,
-    sink: &mut K,
-) -> Result<(), Failed> {
-    put_count(sink, b"  grain ", part.grain as u64)?;
+/// The block of the volume with which a request begins, if it reads.
+fn first_block(request: &Request) -> u64 {
+    match request {
+        Request::Read(part) => part.block,
+        _ => 0,
+    }
+}
+
+/// Puts why a read gave its bytes, or found their grain lost: who has the grain, how it came there, and by which writes its blocks came.
+fn put_why<K: Sink>(drawing: Drawing<'_>, reason: Reason<'_>, sink: &mut K) -> Result<(), Failed> {
+    put_count(sink, b"  grain ", reason.part.grain as u64)?;
     put_text(sink, b": ")?;
-    put_lacking(told, reason, sink)?;
-    put_trail(told, reason, part.grain, sink)?;
+    put_lacking(drawing, reason, sink)?;
+    put_trail(drawing, reason, sink)?;
     match reason.blocks {
-        Some(blocks) => put_origins(told.history, block, blocks, sink),
+        Some(blocks) => put_origins(
+            drawing.history,
+            first_block(&drawing.entry.request),
+            blocks,
+            sink,
+        ),
         None => put_text(sink, b"    lost by a write that failed\n"),
+    }
+}
+
+/// Puts why an entry read what it did, where it read anything. Failed, a front of it was added.
+pub(crate) fn put_reason<K: Sink>(drawing: Drawing<'_>, sink: &mut K) -> Result<(), Failed> {
+    match drawing.reason {
+        Some(reason) => put_why(drawing, reason, sink),
+        None => Ok(()),
     }
 }

@@ -3,8 +3,9 @@
 use crate::names::{put_count, put_volume};
 use fc_base::outcome::Failed;
 use fc_base::volume::Volume;
+use fc_drawing::drawing::Sums;
 use fc_drawing::room::room_of;
-use fc_drawing::totals::{PairTotal, Totals};
+use fc_drawing::totals::PairTotal;
 use fc_entry::parts::put_text;
 use fc_io::sink::Sink;
 use fc_model::PlainSheet;
@@ -37,22 +38,17 @@ fn put_room<K: Sink>(sheet: &PlainSheet, volume: &Volume, sink: &mut K) -> Resul
 }
 
 /// Puts all moves by pair of volumes, and how many grains each volume takes. Failed, a front of it was added.
-pub fn put_totals<K: Sink>(
-    sheet: &PlainSheet,
-    registry: &Registry,
-    totals: &Totals,
-    sink: &mut K,
-) -> Result<(), Failed> {
+pub(crate) fn put_sums<K: Sink>(sums: Sums<'_>, sink: &mut K) -> Result<(), Failed> {
     put_text(sink, b"moves\n")?;
-    for pair in totals.pairs() {
-        match put_pair(registry, pair, sink) {
+    for pair in sums.totals.pairs() {
+        match put_pair(sums.registry, pair, sink) {
             Ok(()) => {}
             Err(failed) => return Err(failed),
         }
     }
     put_text(sink, b"room\n")?;
-    for volume in registry.all_volumes() {
-        match put_room(sheet, volume, sink) {
+    for volume in sums.registry.all_volumes() {
+        match put_room(sums.sheet, volume, sink) {
             Ok(()) => {}
             Err(failed) => return Err(failed),
         }

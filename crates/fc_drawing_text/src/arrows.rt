@@ -1,0 +1,138 @@
+//! The moves of an entry as arrows of an SVG.
+
+use crate::boxes::{BOX_HEIGHT, left_of};
+use crate::escaped::put_escaped;
+use crate::names::put_count;
+use crate::put_moves::{put_way, source_from};
+use crate::refused::{of_sink, of_text};
+use crate::rows::top_of;
+use fc_base::ids::SlotId;
+use fc_base::outcome::Failed;
+use fc_base::request::Move;
+use fc_drawing::canvas::NotDrawn;
+use fc_drawing::chains::Chain;
+use fc_drawing::drawing::Drawing;
+use fc_drawing::sources::Source;
+use fc_entry::parts::put_text;
+use fc_io::mem_sink::MemSink;
+use fc_io::sink::Sink;
+use std::alloc::Global;
+
+/// An arrow from one height to another, so far from the left.
+#[derive(Clone, Copy)]
+struct Arrow {
+    left: u64,
+    from: u64,
+    to: u64,
+    in_place: bool,
+}
+
+/// The height of the middle of a slot's boxes, if it stands in one of the chains.
+fn middle_of(drawing: Drawing<'_>, chains: &[Chain], slot: SlotId, first_top: u64) -> Option<u64> {
+    let place = drawing.sheet.slot_place(slot)?;
+    let top = top_of(chains, place, first_top)?;
+    Some(top.saturating_add(BOX_HEIGHT / 2))
+}
+
+/// How far from the left the arrow stands of the move with this index: in the middle of its grain, those of several moves beside each other.
+fn arrow_left(drawing: Drawing<'_>, made: Move, index: usize) -> u64 {
+    let grain = made.grain.0 as usize;
+    let grains = match drawing.sheet.slot_place(made.slot) {
+        Some(place) => drawing.sheet.grains(place),
+        None => 0,
+    };
+    let left = left_of(grain, grains);
+    let width = left_of(grain.saturating_add(1), grains).saturating_sub(left);
+    left.saturating_add(width / 2)
+        .saturating_add((index as u64).saturating_mul(8))
+        .min(976)
+}
+
+/// The arrow of the move with this index, if both its slots stand in the chains.
+fn arrow_of(
+    drawing: Drawing<'_>,
+    chains: &[Chain],
+    made: Move,
+    index: usize,
+    from: Option<Source>,
+    first_top: u64,
+) -> Option<Arrow> {
+    let source = from?;
+    Some(Arrow {
+        left: arrow_left(drawing, made, index),
+        from: middle_of(drawing, chains, source.slot, first_top)?,
+        to: middle_of(drawing, chains, made.slot, first_top)?,
+        in_place: made.in_place,
+    })
+}
+
+/// Puts an arrow with this title; where nothing was copied it is broken.
+fn put_arrow<K: Sink>(arrow: Arrow, title: &[u8], sink: &mut K) -> Result<(), Failed> {
+    put_text(sink, b"<g role=\"img\"><title>")?;
+    put_escaped(title, sink)?;
+    put_count(sink, b"</title>\n<path d=\"M", arrow.left)?;
+    put_count(sink, b" ", arrow.from)?;
+    put_count(sink, b"V", arrow.to)?;
+    put_text(sink, b"\" stroke=\"#111\" stroke-width=\"2\"")?;
+    if arrow.in_place {
+        put_text(sink, b" stroke-dasharray=\"4 3\"")?;
+    }
+    put_text(
+        sink,
+        b" marker-start=\"url(#from)\" marker-end=\"url(#to)\"/>\n</g>\n",
+    )
+}
+
+/// Puts the arrow of a move, with what it moves as its title.
+fn put_move_arrow<K: Sink>(
+    alloc: Global,
+    drawing: Drawing<'_>,
+    made: Move,
+    from: Option<Source>,
+    arrow: Arrow,
+    sink: &mut K,
+) -> Result<(), NotDrawn> {
+    let mut title = MemSink::new(alloc, Vec::new(alloc));
+    of_text(put_way(drawing.registry, made, from, &mut title))?;
+    of_sink(put_arrow(arrow, title.bytes(), sink))
+}
+
+/// Puts what arrows begin and end with, where there are any.
+fn put_marks<K: Sink>(moves: &[Move], sink: &mut K) -> Result<(), Failed> {
+    if moves.is_empty() {
+        return Ok(());
+    }
+    put_text(
+        sink,
+        b"<defs>\n<marker id=\"from\" markerWidth=\"4\" markerHeight=\"4\" refX=\"2\" refY=\"2\"><circle cx=\"2\" cy=\"2\" r=\"1.5\" fill=\"#111\"/></marker>\n",
+    )?;
+    put_text(
+        sink,
+        b"<marker id=\"to\" markerWidth=\"5\" markerHeight=\"4\" refX=\"4\" refY=\"2\" orient=\"auto\"><path d=\"M0 0L5 2L0 4z\" fill=\"#111\"/></marker>\n</defs>\n",
+    )
+}
+
+/// Puts an arrow for each move of the entry, from the slot that it copied to its own, where the first chain has this top. Refused, a front
+/// of them was added.
+pub(crate) fn put_arrows<K: Sink>(
+    alloc: Global,
+    drawing: Drawing<'_>,
+    chains: &[Chain],
+    first_top: u64,
+    sink: &mut K,
+) -> Result<(), NotDrawn> {
+    let moves = drawing.entry.moves.as_slice();
+    of_sink(put_marks(moves, sink))?;
+    for index in 0..moves.len() {
+        let made = moves[index];
+        let from = source_from(drawing.sources, index);
+        match arrow_of(drawing, chains, made, index, from, first_top) {
+            Some(arrow) => match put_move_arrow(alloc, drawing, made, from, arrow, sink) {
+                Ok(()) => {}
+                Err(refused) => return Err(refused),
+            },
+            None => {}
+        }
+    }
+    Ok(())
+}
