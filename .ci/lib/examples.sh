@@ -25,11 +25,10 @@ examples_whole() {
     is_at_least "examples" "$least_examples" "$count"
 }
 
-# ---- before any proof: compiled with checks of memory
-examples_unproved() {
-    echo "== examples, compiled with checks of memory"
+# The program of a crate, compiled with checks of memory, prints of each case of a folder what is recorded beside it.
+are_tried() { # WHAT LEAST CRATE FOLDER
     local said last all ended fault differs silent
-    said=$(cd crates/flashcopy && rt try --seconds "$most_seconds" --cases ../../examples 2>&1 >/dev/null)
+    said=$(cd "crates/$3" && rt try --seconds "$most_seconds" --cases "$4" 2>&1 >/dev/null)
     printf '%s\n' "$said"
     last=$(tail -n 1 <<<"$said")
     if [[ $last =~ ^cases=([0-9]+)\ ended=([0-9]+)\ fault=([0-9]+)\ differs=([0-9]+)\ no-answer=([0-9]+) ]]; then
@@ -37,10 +36,16 @@ examples_unproved() {
         silent=${BASH_REMATCH[5]}
         passed=$((passed + ended))
         failed=$((failed + fault + differs + silent))
-        is_at_least "examples that were tried" "$least_examples" "$all"
+        is_at_least "$1 that were tried" "$2" "$all"
     else
-        fail "the examples couldn't be tried"
+        fail "the $1 couldn't be tried"
     fi
+}
+
+# ---- before any proof: compiled with checks of memory
+examples_unproved() {
+    echo "== examples, compiled with checks of memory"
+    are_tried examples "$least_examples" flashcopy ../../examples
 }
 
 # ---- by the proved program: the same output to the byte, and status 0

@@ -1,5 +1,5 @@
 # shellcheck shell=bash disable=SC2154
-# bin/flashcopy, checked with a stand-in for the built program and one for the kit, so that it costs seconds. It is
+# bin/flashcopy and bin/fcview, checked with a stand-in for the built program and one for the kit, so that it costs seconds. It is
 # sourced, not run, at the top of the repository, behind counting.sh and program.sh (whose tables of words it takes).
 #
 # The stand-in program prints the file `printed` of the tree and ends with the status in its file `status`; it leaves its
@@ -9,10 +9,11 @@
 # Makes a tree with the script, the examples, a few sources and both stand-ins.
 make_tree() {
     tree=$room/tree
-    mkdir -p "$tree/crates/flashcopy/src" "$tree/crates/fc_top/specs" "$tree/crates/model_tests/src" "$tree/kit"
-    cp -r bin examples HANDLES "$tree/"
-    printf '%s\n' 'fc_top:' 'model_tests: fc_top' 'flashcopy: fc_top' >"$tree/crates.txt"
+    mkdir -p "$tree/crates/flashcopy/src" "$tree/crates/fcview/src" "$tree/crates/fc_top/specs" "$tree/crates/model_tests/src" "$tree/kit"
+    cp -r bin examples traces HANDLES "$tree/"
+    printf '%s\n' 'fc_top:' 'model_tests: fc_top' 'flashcopy: fc_top' 'fcview: fc_top' >"$tree/crates.txt"
     echo '// the program' >"$tree/crates/flashcopy/src/main.rt"
+    echo '// the viewer' >"$tree/crates/fcview/src/main.rt"
     echo 'a definition' >"$tree/crates/fc_top/specs/Words.antt"
     echo '// tests' >"$tree/crates/model_tests/src/lib.rt"
     cat >"$tree/program" <<'END'
@@ -36,7 +37,7 @@ case $1 in
         sleep "$(<"$tree/build_seconds")"
         [[ -e $tree/unprovable ]] && { echo "fn f: not proved"; exit 1; }
         mkdir -p out
-        cp -- "$tree/program" out/flashcopy
+        cp -- "$tree/program" "out/$(basename -- "$PWD")"
         echo "$tree" >out/tree
         ;;
     try)
@@ -53,7 +54,7 @@ END
 
 # Nothing is built, and nothing was called.
 fresh_tree() {
-    rm -rf -- "$tree/crates/flashcopy/out" "$tree/called" "$tree/words" "$tree/unprovable"
+    rm -rf -- "$tree/crates/flashcopy/out" "$tree/crates/fcview/out" "$tree/called" "$tree/words" "$tree/unprovable"
     echo 'a-kit logic 0123' >"$tree/version"
     echo 'run=ended status=0 runners=1 proved=no' >"$tree/tried"
     echo 0 >"$tree/status"
@@ -450,6 +451,101 @@ print(ran.communicate()[1].decode(), end="")
     holds "at a terminal it isn't said how to end" complains_of "Ctrl-D"
 }
 
+# Runs the tree's viewer, and leaves its output, its complaints and its status behind.
+run_viewer_script() { # WORD..
+    in_tree bin/fcview "$@" >"$room/out" 2>"$room/err"
+    status=$?
+}
+
+# Words of bin/fcview that aren't in its grammar, a line each.
+bad_viewer_words() {
+    cat <<'END'
+--at
+--at x
+--at -1
+--at=
+--at 18446744073709551616
+--at 000000000000000000001
+--at 1 --at 1
+--at=1 --at=1
+--svg
+--svg --at 1
+--svg a --svg b
+--svg=a
+-x
+--
+- -
+traces/first-volume traces/first-volume
+nofile
+traces
+try --at
+try --svg
+try nofile
+build now
+help me
+--help me
+--version 1
+END
+}
+
+# ---- bin/fcview: its words, those that the program gets, what is built, and the files of drawings
+viewing() {
+    echo "== bin/fcview"
+    local line words
+    fresh_tree
+    while IFS= read -r line; do
+        read -ra words <<<"$line"
+        run_viewer_script "${words[@]}" <traces/first-volume
+        is "bin/fcview $line: status" 2 "$status"
+        holds "bin/fcview $line: something was written" wrote_nothing
+        holds "bin/fcview $line: not one line on standard error" complained_in_one_line
+        holds "bin/fcview $line: something was built first" was_not_called
+    done < <(bad_viewer_words)
+    run_viewer_script --help
+    is "bin/fcview --help: status" 0 "$status"
+    holds "bin/fcview --help: it complained" complained_of_nothing
+    for line in --at --svg try build --version; do
+        holds "bin/fcview --help doesn't speak of $line" grep -qF -- "$line" "$room/out"
+    done
+    echo 'a drawing' >"$tree/printed"
+    run_viewer_script --at=07 "$top/traces/torn"
+    is "an unbuilt bin/fcview: status" 0 "$status"
+    is "an unbuilt bin/fcview: what the kit was asked" "run --" "$(<"$tree/called")"
+    is "the words that the viewer gets" "--at 07" "$(tail -n 1 -- "$tree/words")"
+    holds "the trace that the viewer gets isn't the file's" cmp -s "$tree/taken" traces/torn
+    is "bin/fcview" "a drawing" "$(<"$room/out")"
+    rm -f -- "$tree/called"
+    run_viewer_script <traces/first-volume
+    holds "a built bin/fcview: it was built again" was_not_called
+    holds "a built bin/fcview: it complained" complained_of_nothing
+    holds "bin/fcview --version doesn't name the kit that built it" grep -q 'built with a-kit logic 0123$' <(in_tree bin/fcview --version)
+    viewing_into_files
+    for line in 2 3 4 5 6 7 9; do
+        echo "$line" >"$tree/status"
+        run_viewer_script <traces/first-volume
+        is "the viewer ends with $line: the script's status" "$line" "$status"
+        holds "the viewer ends with $line: not one line is said" complained_in_one_line
+    done
+    fresh_tree
+    run_viewer_script try --svg "$room/tried" --at 3 "$top/traces/torn"
+    is "bin/fcview try: status" 0 "$status"
+    is "bin/fcview try: what the kit was asked" "try -- --svg --at 3" "$(<"$tree/called")"
+}
+
+# What the program prints behind lines `== NAME` goes into files of the folder, which is made.
+viewing_into_files() {
+    printf '%s\n' '== entry-3.svg' '<svg>' '</svg>' '== ../x.svg' '== sums.txt' moves room >"$tree/printed"
+    run_viewer_script --svg "$room/made/for/it" <traces/first-volume
+    is "bin/fcview --svg: status" 0 "$status"
+    is "the words that the viewer gets of --svg" "--svg" "$(tail -n 1 -- "$tree/words")"
+    holds "bin/fcview --svg: something was written" wrote_nothing
+    is "bin/fcview --svg: the files" "entry-3.svg sums.txt" "$(cd -- "$room/made/for/it" && echo *)"
+    is "bin/fcview --svg: a drawing" $'<svg>\n</svg>\n== ../x.svg' "$(<"$room/made/for/it/entry-3.svg")"
+    is "bin/fcview --svg: the sums" $'moves\nroom' "$(<"$room/made/for/it/sums.txt")"
+    run_viewer_script --svg "$top/README.md" <traces/first-volume
+    is "bin/fcview --svg into a file: status" 2 "$status"
+}
+
 scripts() {
     make_tree
     words_of_script
@@ -460,5 +556,6 @@ scripts() {
     statuses
     trying
     looking_back
+    viewing
     rm -rf -- "$tree"
 }

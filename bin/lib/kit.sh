@@ -1,6 +1,7 @@
 # shellcheck shell=bash disable=SC2154
-# The proved program: with which kit it was built and from which sources, whether it is there, and how it is built.
-# It is sourced, not run, with `here` set to the top of the repository and `say` defined.
+# The proved programs: with which kit one was built and from which sources, whether it is there, and how it is built.
+# It is sourced, not run, with `here` set to the top of the repository and `say` defined. The program that is meant is
+# flashcopy, until `use_program` names another.
 
 # The logic that the proofs are claimed in (.ci/run compares it with the one at hand), and the kit that proved all of
 # them last. Another kit of the same logic proves the same.
@@ -10,19 +11,26 @@ proved_last_with=rattle-kit-13f
 # How long the first build takes, roughly, on four free processors.
 build_time="half an hour or more"
 
-crate=$here/crates/flashcopy
-program=$crate/out/flashcopy
-stamp=$crate/out/flashcopy.stamp
+# From here on this program is meant. The kit runs what it has built, so there are words and an input for a run that
+# ends well.
+use_program() { # NAME [WORD] [INPUT]
+    crate=$here/crates/$1
+    program=$crate/out/$1
+    stamp=$crate/out/$1.stamp
+    first_word=${2-}
+    first_input=${3-/dev/null}
+}
+use_program flashcopy run
 
 has_kit() { command -v rt >/dev/null; }
 
 # The crates that the program stands on, and itself: crates.txt has a line 'NAME: USED..' for each, lowest first.
 crates_of_program() {
-    awk -F: '
+    awk -F: -v program="${crate##*/}" '
         /^#/ || NF < 2 { next }
         { name[++n] = $1; used[$1] = $2 }
         END {
-            wanted["flashcopy"] = 1
+            wanted[program] = 1
             for (i = n; i >= 1; i--) {
                 if (!(name[i] in wanted)) continue
                 print name[i]
@@ -103,10 +111,10 @@ build() {
         return 1
     fi
     say_why_built
-    log=$(mktemp --suffix=.flashcopy-build) || return 1
+    log=$(mktemp --suffix=".${crate##*/}-build") || return 1
     say "the log is $log"
-    # an empty session, so that the run behind the build prints nothing
-    (cd -- "$crate" && exec rt run -- run) </dev/null >"$log" 2>&1 &
+    # what the run behind the build prints goes into the log
+    (cd -- "$crate" && exec rt run -- ${first_word:+"$first_word"}) <"$first_input" >"$log" 2>&1 &
     builder=$!
     trap 'kill "$builder" 2>/dev/null; exit 130' INT TERM
     say_progress "$builder" "$log"
@@ -126,7 +134,7 @@ build() {
 
 # The version, what is claimed, and what the program at hand was built with.
 version() {
-    printf 'flashcopy 0.1\n'
+    printf '%s 0.1\n' "${crate##*/}"
     printf 'claimed: proved in logic %s, last with %s\n' "$logic" "$proved_last_with"
     if [[ ! -x $program ]]; then
         printf 'the program: not built\n'

@@ -28,7 +28,7 @@ try_program() { # WORD..
 say_no_answer() { # LAST-LINE FILE
     case $1 in
         run=no-answer*)
-            say "not proved, and no answer: the run took more than its 60 seconds, or printed more than 1 MiB. Use run"
+            say "not proved, and no answer: the run took more than its 60 seconds, or printed more than 1 MiB. The proved program has neither bound"
             ;;
         run=fault*)
             say "not proved, and no answer: the run stopped at a fault of the program:"

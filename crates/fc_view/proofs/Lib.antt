@@ -1,4 +1,6 @@
 -- Lemmas, one subject a file.
 mod Stepping
 mod Following
-mod Entries
+mod Showing
+mod Listing
+mod Ending

@@ -19,10 +19,7 @@ use Rattle.fc_entry.specs.declared.entry.Entry.{Entry}
 use Rattle.fc_legal.specs.Steps.{AccessIsRefused, CommandIsRight, IsApart, IsRefused, LaneStep, RequestStep, Step}
 use Rattle.fc_legal.specs.Whole.{Whole}
 use Rattle.fc_rules.specs.LaneRight.{done_write}
-
--- the chains after the moves, the write and the torn grain of an entry
-abbrev pub chains_behind : GrainSize → Sheet → Entry → Sheet
-chains_behind grain s entry = chains_torn (chains_written grain (all_made s entry.moves) (done_write entry.request entry.reply)) entry.torn
+use Rattle.fc_view.specs.Behind.{chains_behind}
 
 -- an entry apart leaves them
 apart_same : (grain : GrainSize) (s : Sheet) (entry : Entry) → IsApart entry → done_write entry.request entry.reply ≡ None → chains_behind grain s entry ≡ s

@@ -21,6 +21,8 @@ use Rattle.fc_view.specs.declared.view.Next.{Next}
 use Rattle.fc_view.specs.declared.view.Next.TheVariants.{Drawn as NextDrawn, Ends}
 use Rattle.fc_view.specs.Drawings.{IsDrawing}
 use Rattle.fc_view.specs.Views.{EndsAs, behind_those}
+use Rattle.fc_view.specs.declared.stop.ViewStop.{ViewStop}
+use Rattle.fc_view.specs.declared.stop.ViewStop.TheVariants.{NoMemory, WriteFault}
 
 -- the chains of the first way in which all may have been told
 abbrev pub first_sheet : Ways → Option Sheet
@@ -51,6 +53,12 @@ pub record IsFollowed (size : GrainSize) (ways : ℕ) (entry : Entry) (old : Beh
   pub sources_are : step.sources.items ≡ sources_of old.sheet entry.moves
   pub chains_are : AreChains size ways entry old new
 
+-- a canvas refused something, or memory was wanted
+abbrev pub IsWant : ViewStop → Type 0
+IsWant WriteFault = Unit {0}
+IsWant NoMemory = Unit {0}
+IsWant stop = ⊥
+
 -- ---- what is drawn of an entry
 
 -- whether the entry with this number is to be drawn
@@ -80,6 +88,11 @@ wanted_next false entry = []
 pub record AreNextDrawings (header : Header) (at : Option ℕ) (before : List Entry) (entry : Entry) (drawn : List Drawn) : Type 0 where
   pub entries_are : map (λ (d : Drawn). d.entry) drawn ≡ wanted_next (is_wanted at (length before)) entry
   pub each : All (IsDrawing header before) drawn
+
+-- it was followed, where all before it may have been told in so many ways, and drawn, where it is to be
+abbrev pub WasShown : GrainSize → ℕ → Option ℕ → ℕ → Entry → Behind → Behind → Option (List Drawn) → Option (List Drawn) → Type 0
+WasShown size ways at number entry old new old_drawn now =
+    (step : Step) × IsFollowed size ways entry old step new × WasDrawn (is_wanted at number) size new step entry old_drawn now
 
 -- it was read, is right, so many bytes are its text, and it was drawn; or the view ends there
 pub record IsNextDrawn (header : Header) (at : Option ℕ) (old : Behind) (bytes : List ℕ) (count : ℕ) (new : Behind) (old_drawn : Option (List Drawn)) (now : Option (List Drawn)) : Type 0 where

@@ -66,6 +66,9 @@ abbrev pub IsView : Result Seen ViewStop → Option ℕ → List ℕ → Option 
 IsView (Ok seen) at bytes old new = (drawn : List Drawn) × (new ≡ behind_those old drawn) × (AreViewed bytes at seen drawn ⊎ HaveNoFirstLine bytes seen drawn)
 -- a byte that begins no session stands behind the last entry that fits
 IsView (Err LogFull) at bytes old new = IsFull bytes
+-- a canvas refused a part, or memory was wanted; nothing else is answered of bytes
+IsView (Err ReadFault) at bytes old new = ⊥
+IsView (Err TooLong) at bytes old new = ⊥
 IsView (Err stop) at bytes old new = Unit {0}
 
 -- ---- of a source

@@ -1,8 +1,9 @@
 //! One entry drawn.
 
-ghost use Rattle.std.specs.Prelude.{◌≡◌, ◌<◌, ◌≢◌, ◌++◌, [], ◌∷◌, List, OnOk, is_ok, length};
+ghost use Rattle.std.specs.Prelude.{◌≡◌, ◌<◌, ◌≢◌, ◌++◌, [], ◌∷◌, List, IfErr, OnOk, is_ok, length};
 ghost use Rattle.fc_entry.specs.declared.entry.Entry.{Entry as ToldEntry};
-ghost use Rattle.fc_view.specs.Behind.{WasDrawn, is_wanted};
+ghost use Rattle.fc_drawing.specs.Drawn.{drawn_of};
+ghost use Rattle.fc_view.specs.Behind.{IsDrawnAs, IsWant, WasDrawn, is_wanted};
 
 use crate::behind::Behind;
 use crate::steps::Step;
@@ -17,7 +18,8 @@ use std::alloc::Global;
 
 /// What ends a view where a canvas refused something.
 pub(crate) fn of_canvas(laid: Result<(), NotDrawn>) -> Result<(), ViewStop>
-    ensures { is_ok result ≡ is_ok laid }
+    ensures ok { is_ok result ≡ is_ok laid }
+    ensures refused { IfErr result IsWant }
 {
     match laid {
         Ok(()) => Ok(()),
@@ -45,7 +47,9 @@ impl Behind {
         entry: &'a Entry,
         step: &'a Step,
         shows_chains: bool,
-    ) -> Drawing<'a> {
+    ) -> Drawing<'a>
+        ensures { IsDrawnAs size self.now step.now entry.now (drawn_of result) }
+    {
         Drawing {
             entry,
             history: &self.progress.history,
@@ -70,8 +74,9 @@ impl Behind {
     ) -> Result<(), ViewStop>
         requires some { 0 < length self.now.progress.history.entries }
         requires told { self.now.progress.candidates.ways ≢ [] }
-        ensures { OnOk result ((before : List ToldEntry) (entry : ToldEntry) → self.now.progress.history.entries ≡ before ++ entry ∷ []
+        ensures drawn { OnOk result ((before : List ToldEntry) (entry : ToldEntry) → self.now.progress.history.entries ≡ before ++ entry ∷ []
             → WasDrawn (is_wanted at (length before)) size self.now step.now entry (C.drawn canvas.old) (C.drawn canvas.new)) }
+        ensures refused { IfErr result IsWant }
     {
         let number = self.progress.history.len() - 1;
         if !is_wanted(at, number as u64) {

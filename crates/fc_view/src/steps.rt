@@ -170,6 +170,7 @@ impl Behind {
     {
         let entry = self.progress.history.entry(self.progress.history.len() - 1);
         self.origins.follow(alloc, size, entry)?;
+        let slots = self.sheet.len();
         let mut step = follow_lane(
             alloc,
             size,
@@ -178,10 +179,14 @@ impl Behind {
             &mut self.totals,
             entry,
         )?;
-        if !follows_alone(ways, entry) {
-            self.sheet = first_chains(alloc, &self.progress.candidates)?;
-            step.changed = true;
+        if follows_alone(ways, entry) {
+            return Ok(step);
         }
+        self.sheet = first_chains(alloc, &self.progress.candidates)?;
+        step.changed = step.changed
+            || ways != 1
+            || !entry.effects.as_slice().is_empty()
+            || self.sheet.len() != slots;
         Ok(step)
     }
 }

@@ -1,11 +1,14 @@
 //! The trace that a source gives, viewed.
 
-ghost use Rattle.std.specs.Prelude.{◌≡◌, ◌<◌, ◌≤◌, ◌+◌, ◌^◌, IfOk, OnOk, length, take};
+ghost use Rattle.std.specs.Prelude.{◌≡◌, ◌≢◌, ◌<◌, ◌≤◌, ◌+◌, ◌^◌, ◌++◌, [], ◌∷◌, List, ℕ, IfErr, IfOk, OnOk, length, take};
 ghost use Rattle.fc_check.specs.Traces.{nothing_told};
 ghost use Rattle.fc_reading.specs.Header.{AreFour};
 ghost use Rattle.fc_trace.specs.Trace.{header_text};
-ghost use Rattle.fc_view.specs.Behind.{IsBehind, IsNext};
-ghost use Rattle.fc_view.specs.Views.{IsView, IsViewOf};
+ghost use Rattle.fc_entry.specs.HistoryState.{HistoryState};
+ghost use Rattle.fc_entry.specs.declared.entry.Entry.{Entry};
+ghost use Rattle.fc_trace.specs.declared.header.Header.{Header as ToldHeader};
+ghost use Rattle.fc_view.specs.Behind.{IsBehind, IsNext, IsWant, WasShown};
+ghost use Rattle.fc_view.specs.Views.{EndsAs, IsView, IsViewOf};
 
 use crate::behind::Behind;
 use crate::draw::of_canvas;
@@ -40,7 +43,15 @@ fn draw_last<C: Canvas>(
     ways: usize,
     at: Option<u64>,
     canvas: &mut C,
-) -> Result<(), ViewStop> {
+) -> Result<(), ViewStop>
+    requires some { 0 < length behind.old.progress.history.entries }
+    requires numbered { (before : List Entry) (entry : Entry) → behind.old.progress.history.entries ≡ before ++ entry ∷ [] → entry.number < 2 ^ 32 }
+    requires told { behind.old.progress.candidates.ways ≢ [] }
+    ensures shown { OnOk result ((before : List Entry) (entry : Entry) → behind.old.progress.history.entries ≡ before ++ entry ∷ []
+        → WasShown header.now.grain ways at (length before) entry behind.old behind.new (C.drawn canvas.old) (C.drawn canvas.new)) }
+    ensures progress { behind.new.progress ≡ behind.old.progress }
+    ensures refused { IfErr result IsWant }
+{
     match behind.go_on(alloc, header.grain, ways) {
         Ok(step) => behind.draw(alloc, header.grain, at, &step, canvas),
         Err(NoMemory) => Err(ViewStop::NoMemory),
@@ -60,7 +71,8 @@ fn draw_next<C: Canvas>(
     requires known { IsBehind header.now behind.old }
     requires room { length behind.old.progress.history.entries < 262144 }
     requires within { place + length bytes.now < 2 ^ 64 }
-    ensures { IfOk result (λ next. IsNext header.now at behind.old bytes.now place next behind.new (C.drawn canvas.old) (C.drawn canvas.new)) }
+    ensures next { IfOk result (λ next. IsNext header.now at behind.old bytes.now place next behind.new (C.drawn canvas.old) (C.drawn canvas.new)) }
+    ensures refused { IfErr result IsWant }
 {
     let ways = behind.progress.candidates.len();
     match read_next(alloc, header, bytes, &mut behind.progress) {
@@ -80,7 +92,8 @@ fn draw_next<C: Canvas>(
 
 /// How a view ends at the `s` of a session's line, which stands at this place, the first of the bytes.
 fn seen_at_session(entries: usize, place: usize, bytes: &[u8]) -> Seen
-    requires within { place + length bytes.now < 2 ^ 64 }
+    requires { place + length bytes.now < 2 ^ 64 }
+    ensures { (header : ToldHeader) (history : HistoryState) → entries ≡ length history.entries → EndsAs result header history place bytes.now }
 {
     match take_line(bytes) {
         Ok(_) => Seen::Right(entries as u64),
@@ -129,7 +142,8 @@ fn sum_up<C: Canvas>(
     at: Option<u64>,
     canvas: &mut C,
 ) -> Result<(), ViewStop>
-    ensures { OnOk result (C.drawn canvas.new ≡ C.drawn canvas.old) }
+    ensures same { OnOk result (C.drawn canvas.new ≡ C.drawn canvas.old) }
+    ensures refused { IfErr result IsWant }
 {
     match (seen, at, behind.progress.candidates.first()) {
         (Seen::Right(_), None, Some(way)) => of_canvas(canvas.sum_up(Sums {
@@ -164,6 +178,21 @@ fn draw_trace<C: Canvas>(
     Ok(seen)
 }
 
+/// Draws the entries of a trace from its first line on, and sums up.
+fn draw_bytes<C: Canvas>(
+    alloc: Global,
+    bytes: &[u8],
+    at: Option<u64>,
+    canvas: &mut C,
+) -> Result<Seen, ViewStop>
+    ensures { IsView result at bytes.now (C.drawn canvas.old) (C.drawn canvas.new) }
+{
+    match read_header(bytes) {
+        Ok((header, start)) => draw_trace(alloc, &header, start, bytes, at, canvas),
+        Err(place) => Ok(Seen::Malformed(place as u64)),
+    }
+}
+
 /// Draws the trace that these bytes are on a canvas: each of its right entries up to the first that isn't, or the one with the number
 /// `at`, and says at the end where it isn't right. A line `session` ends the trace, and what stands behind it isn't looked at.
 ///
@@ -178,10 +207,7 @@ pub fn view_bytes<C: Canvas>(
 ) -> Result<Seen, ViewStop>
     ensures { IsView result at bytes.now (C.drawn canvas.old) (C.drawn canvas.new) }
 {
-    let seen = match read_header(bytes) {
-        Ok((header, start)) => draw_trace(alloc, &header, start, bytes, at, canvas)?,
-        Err(place) => Seen::Malformed(place as u64),
-    };
+    let seen = draw_bytes(alloc, bytes, at, canvas)?;
     of_canvas(canvas.end(seen))?;
     Ok(seen)
 }

@@ -1,38 +1,50 @@
-//! The program: a trace on standard input, a drawing of its chains on standard output.
+//! The program: a trace on standard input, the drawings of its chains on standard output.
 //!
 //!     fcview [--at N] [--svg]
 //!
-//! `--at N` draws entry N alone, `--svg` draws as SVG, each behind a line `== NAME` with the name of its file (bin/fcview puts them into
-//! files). It prints the drawing alone, and ends with the status's code (docs/MANUAL.md): 0 where all entries are right, 9 where one isn't
-//! or the input is no trace, 2 where the words aren't these, and 3 to 7 where viewing stopped.
+//! `--at N` draws entry N alone, `--svg` draws as SVG, each drawing behind a line `== NAME` with the name of its file (bin/fcview puts
+//! them into files). It prints the drawings alone, and ends with the status's code (docs/MANUAL.md): 0 where all entries are right, 9
+//! where one isn't or the input is no trace, 2 where the words aren't these, and 3 to 7 where viewing stopped. What is drawn is what
+//! `view` of `fc_view` says of its canvas.
 #![tactic(auto)]
 
-mod words;
+mod codes;
 
-use crate::words::read_words;
+use crate::codes::{NO_MEMORY, USAGE, code_of};
+use fc_base::outcome::NoMemory;
+use fc_drawing_text::svg_canvas::SvgCanvas;
+use fc_drawing_text::text_canvas::TextCanvas;
+use fc_io::sink::Sink;
+use fc_io::source::Source;
 use fc_io::std_sink::StdSink;
 use fc_io::std_source::StdSource;
 use fc_view::view::view;
-use fc_view::wanted::{Seen, ViewStop};
+use fc_view_args::reading::read_words;
+use fc_view_args::wanted::Wanted;
+use std::alloc::Global;
 use std::env;
 use std::process::ExitCode;
 
-/// The exit status where memory is wanted.
-const NO_MEMORY: u8 = 5;
+/// Draws the trace of a source into a sink: as SVG, or as text.
+fn draw<S: Source, K: Sink + Drop>(
+    alloc: Global,
+    wanted: Wanted,
+    source: &mut S,
+    sink: K,
+) -> u8 {
+    if wanted.svg {
+        code_of(view(alloc, source, wanted.at, &mut SvgCanvas { sink }))
+    } else {
+        code_of(view(alloc, source, wanted.at, &mut TextCanvas { sink }))
+    }
+}
 
-/// The exit status where the words can't be read.
-const USAGE: u8 = 2;
-
-/// The exit status of a view that ended so.
-fn code_of(ended: Result<Seen, ViewStop>) -> u8 {
-    match ended {
-        Ok(Seen::Right(_)) => 0,
-        Ok(Seen::Wrong(_) | Seen::Malformed(_)) => 9,
-        Err(ViewStop::ReadFault) => 3,
-        Err(ViewStop::WriteFault) => 4,
-        Err(ViewStop::NoMemory) => NO_MEMORY,
-        Err(ViewStop::LogFull) => 6,
-        Err(ViewStop::TooLong) => 7,
+/// Draws what the words ask for.
+fn run<S: Source, K: Sink + Drop>(alloc: Global, words: &[&str], source: &mut S, sink: K) -> u8 {
+    match read_words(alloc, words) {
+        Ok(Some(wanted)) => draw(alloc, wanted, source, sink),
+        Ok(None) => USAGE,
+        Err(NoMemory) => NO_MEMORY,
     }
 }
 
@@ -49,16 +61,20 @@ fn main(rt: HostRuntime) -> ExitCode {
             Err(_) => return ExitCode::from(NO_MEMORY),
         }
     }
-    let Some(wanted) = read_words(texts.as_slice()) else {
-        return ExitCode::from(USAGE);
-    };
+    let mut words: Vec<&str> = Vec::new(alloc);
+    for text in &texts {
+        match words.push(text.as_str()) {
+            Ok(()) => {}
+            Err(_) => return ExitCode::from(NO_MEMORY),
+        }
+    }
     let mut source = match StdSource::new(alloc, rt.stdin().lock()) {
         Ok(source) => source,
         Err(_) => return ExitCode::from(NO_MEMORY),
     };
-    let mut sink = match StdSink::new(alloc, rt.stdout()) {
+    let sink = match StdSink::new(alloc, rt.stdout()) {
         Ok(sink) => sink,
         Err(_) => return ExitCode::from(NO_MEMORY),
     };
-    ExitCode::from(code_of(view(alloc, &mut source, wanted, &mut sink)))
+    ExitCode::from(run(alloc, &words, &mut source, sink))
 }
