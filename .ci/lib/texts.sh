@@ -100,12 +100,12 @@ pages() {
     page_blocks docs/RECIPES.md 20
 }
 
-# ---- the theorem that docs/READING.md prints is the one that stands in fc_top/specs
+# ---- the theorem that docs/READING.md prints is the one that stands in the specs/ that it names
 theorem_printed() {
     echo "== the theorem in docs/READING.md"
     local line file='' count=0
     while IFS= read -r line; do
-        if [[ $line =~ \(\`(fc_top/specs/[A-Za-z]+)\`\):$ ]]; then
+        if [[ $line =~ \(\`(fc_[a-z]+/specs/[A-Za-z]+)\`\):$ ]]; then
             file=crates/${BASH_REMATCH[1]%%/*}/${BASH_REMATCH[1]#*/}.antt
         elif [[ $line == code:?* ]]; then
             count=$((count + 1))
