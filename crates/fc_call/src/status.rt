@@ -1,8 +1,8 @@
 //! How a call of the program ends.
 
 ghost use Rattle.std.specs.Prelude.{◌≡◌};
-ghost use Rattle.fc_top.specs.Call.{status_of};
-ghost use Rattle.fc_top.specs.Codes.{code_of};
+ghost use Rattle.fc_call.specs.Call.{status_of};
+ghost use Rattle.fc_call.specs.Codes.{code_of};
 
 use fc_run::ended::Ended;
 
@@ -48,7 +48,7 @@ impl Status {
     }
 
     /// The status of a call whose session ended so.
-    pub(crate) fn of(ended: Ended) -> Self
+    pub fn of(ended: Ended) -> Self
         ensures { result ≡ status_of ended }
     {
         match ended {

@@ -1,10 +1,10 @@
 -- By the status of a call it is known how its session ended.
 use Rattle.std.proofs.Common.{◌≡◌, Option, Some, None, refl, sym, ◌∙◌, ap}
+use Rattle.fc_call.specs.Call.{status_of}
+use Rattle.fc_call.specs.declared.status.Status.{Status}
+use Rattle.fc_call.specs.declared.status.Status.TheVariants as status
 use Rattle.fc_run.specs.declared.ended.Ended.{Ended}
 use Rattle.fc_run.specs.declared.ended.Ended.TheVariants as ended
-use Rattle.fc_top.specs.Call.{status_of}
-use Rattle.fc_top.specs.declared.status.Status.{Status}
-use Rattle.fc_top.specs.declared.status.Status.TheVariants as status
 
 -- The way that a session ended, by the status of its call.
 abbrev ended_by : Status → Option Ended

@@ -1,7 +1,7 @@
 -- A verdict was said and its line written, or nothing is said.
 use Rattle.std.proofs.Common.{refl, Ok, Err}
-use Rattle.fc_top.proofs.CheckLemmas.{check_ends}
-use Rattle.fc_top.proofs.check.run_check.Goals as goal
+use Rattle.fc_verdict.proofs.CheckLemmas.{check_ends}
+use Rattle.fc_verdict.proofs.check.run_check.Goals as goal
 
 pub returns-in-Err : goal.returns-in-Err
 returns-in-Err g c = λ disks history empty.

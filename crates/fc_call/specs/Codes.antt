@@ -1,7 +1,7 @@
 -- The exit status of the program for each status of a call.
 use Rattle.std.specs.Prelude.{ℕ}
-use Rattle.fc_top.specs.declared.status.Status.{Status}
-use Rattle.fc_top.specs.declared.status.Status.TheVariants.{Done, Usage, ReadFault, WriteFault, NoMemory, LogFull, TooLong, Unended, Refuted}
+use Rattle.fc_call.specs.declared.status.Status.{Status}
+use Rattle.fc_call.specs.declared.status.Status.TheVariants.{Done, Usage, ReadFault, WriteFault, NoMemory, LogFull, TooLong, Unended, Refuted}
 
 abbrev pub code_of : Status → ℕ
 code_of Done = 0

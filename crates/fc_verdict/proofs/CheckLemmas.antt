@@ -1,5 +1,8 @@
 -- A check, by how it ends.
 use Rattle.std.proofs.Common.{◌≡◌, ◌≢◌, ◌≤◌, ◌⊎◌, ◌∙◌, true, false, [], length, ap, sym, refl, subst, arith, inl, inr, append-nil, Result, Ok, Err}
+use Rattle.fc_call.specs.Call.{Call, empty}
+use Rattle.fc_call.specs.declared.status.Status.{Status}
+use Rattle.fc_call.specs.declared.status.Status.TheVariants as status
 use Rattle.fc_check.proofs.InputLemmas.{taken_nothing}
 use Rattle.fc_check.specs.Checked.{IsChecked}
 use Rattle.fc_check.specs.Input.{TakenSome}
@@ -13,10 +16,7 @@ use Rattle.fc_io.specs.Sink.{AddsFront, AfterFlush, SinkState}
 use Rattle.fc_io.specs.Source.{SourceState}
 use Rattle.fc_run.proofs.OutputLemmas.{HasRisen-before}
 use Rattle.fc_run.specs.Takes.{EachGave}
-use Rattle.fc_top.specs.Call.{Call, empty}
-use Rattle.fc_top.specs.CheckEnds.{CheckEnds, IsTold, status_said, status_stopped, verdict_line}
-use Rattle.fc_top.specs.declared.status.Status.{Status}
-use Rattle.fc_top.specs.declared.status.Status.TheVariants as status
+use Rattle.fc_verdict.specs.CheckEnds.{CheckEnds, IsTold, status_said, status_stopped, verdict_line}
 
 -- ---- memory was wanted to read the words
 

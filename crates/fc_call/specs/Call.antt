@@ -1,6 +1,8 @@
 -- One call of the program, from outside: how it ended, what its source, its sink and its disks were before it and are after
 -- it, and the history that it leaves. Before it the history is empty.
 use Rattle.std.specs.Prelude.{List, []}
+use Rattle.fc_call.specs.declared.status.Status.{Status}
+use Rattle.fc_call.specs.declared.status.Status.TheVariants as status
 use Rattle.fc_entry.specs.HistoryState.{HistoryState}
 use Rattle.fc_io.specs.Sink.{SinkState}
 use Rattle.fc_io.specs.Source.{SourceState}
@@ -9,8 +11,6 @@ use Rattle.fc_run.specs.Headline.{Session}
 use Rattle.fc_run.specs.declared.ended.Ended.{Ended}
 use Rattle.fc_run.specs.declared.ended.Ended.TheVariants as ended
 use Rattle.fc_run.specs.declared.form.Form.{Form}
-use Rattle.fc_top.specs.declared.status.Status.{Status}
-use Rattle.fc_top.specs.declared.status.Status.TheVariants as status
 
 pub record Call : Type 0 where
   pub status : Status

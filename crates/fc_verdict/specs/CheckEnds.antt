@@ -1,15 +1,15 @@
 -- How a call ends that checks a trace, alone or with a session.
 use Rattle.std.specs.Prelude.{◌≡◌, ◌⊎◌, List, ◌++◌, ℕ, codes, decimal, Result, Ok, Err}
 use Rattle.fc_base.specs.Count.{HasRisen}
+use Rattle.fc_call.specs.Call.{Call, empty}
+use Rattle.fc_call.specs.declared.status.Status.{Status}
+use Rattle.fc_call.specs.declared.status.Status.TheVariants as status
 use Rattle.fc_check.specs.Checked.{IsChecked}
 use Rattle.fc_check.specs.declared.verdict.CheckStop.{CheckStop}
 use Rattle.fc_check.specs.declared.verdict.CheckStop.TheVariants as stop
 use Rattle.fc_check.specs.declared.verdict.Verdict.{Verdict}
 use Rattle.fc_check.specs.declared.verdict.Verdict.TheVariants.{Yes, No, Malformed}
 use Rattle.fc_io.specs.Sink.{SinkState, AddsFront, held_with}
-use Rattle.fc_top.specs.Call.{Call, empty}
-use Rattle.fc_top.specs.declared.status.Status.{Status}
-use Rattle.fc_top.specs.declared.status.Status.TheVariants as status
 
 -- The line of a verdict.
 abbrev pub verdict_line : Verdict → List ℕ

@@ -2,14 +2,14 @@
 //! written.
 
 ghost use Rattle.std.specs.Prelude.{◌≡◌, ◌++◌, List, codes, decimal, is_err, Ok as said};
+ghost use Rattle.fc_call.specs.Call.{empty};
 ghost use Rattle.fc_entry.specs.HistoryState.{HistoryState};
 ghost use Rattle.fc_entry.specs.Written.{Written};
 ghost use Rattle.fc_mdisk.specs.Disk.{DiskState};
-ghost use Rattle.fc_top.specs.Call.{empty};
-ghost use Rattle.fc_top.specs.CheckEnds.{CheckEnds, IsTold, status_said, status_stopped, verdict_line};
+ghost use Rattle.fc_verdict.specs.CheckEnds.{CheckEnds, IsTold, status_said, status_stopped, verdict_line};
 
-use crate::status::Status;
 use fc_base::outcome::Failed;
+use fc_call::status::Status;
 use fc_check::check::check;
 use fc_check::verdict::{CheckStop, Verdict};
 use fc_entry::parts::put_all;
@@ -75,7 +75,7 @@ fn write_verdict<K: Sink>(verdict: Verdict, sink: &mut K) -> Status
 }
 
 /// Checks the trace that the source gives, and the session behind it, if there is one, and writes the line of its verdict.
-pub(crate) fn run_check<S: Source, K: Sink>(alloc: Global, source: &mut S, sink: &mut K) -> Status
+pub fn run_check<S: Source, K: Sink>(alloc: Global, source: &mut S, sink: &mut K) -> Status
     ensures { (disks : List DiskState) (history : HistoryState) → history ≡ empty → CheckEnds
         (record {
           status = result;

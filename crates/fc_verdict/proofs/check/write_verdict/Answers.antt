@@ -1,6 +1,6 @@
 -- The line was put and sent on, or one of both failed.
-use Rattle.fc_top.proofs.CheckLemmas.{told_sent, told_unput, told_unsent}
-use Rattle.fc_top.proofs.check.write_verdict.Goals as goal
+use Rattle.fc_verdict.proofs.CheckLemmas.{told_sent, told_unput, told_unsent}
+use Rattle.fc_verdict.proofs.check.write_verdict.Goals as goal
 
 pub returns-in-Ok-flush : goal.returns-in-Ok-flush
 returns-in-Ok-flush g c =
