@@ -22,7 +22,7 @@ pub trait Canvas {
 
     /// Draws an entry. Refused, a part of it may have been laid out.
     fn draw(&mut self, alloc: Global, drawing: Drawing<'_>) -> Result<(), NotDrawn>
-        ensures { OnOk result (drawn self.new ≡ option_map (λ (all : List Drawn). all ++ drawn_of drawing ∷ []) (drawn self.old)) };
+        ensures { OnOk result (drawn self.new ≡ option_map (λ (all : List Drawn). all ++ drawn_of drawing.entry ∷ []) (drawn self.old)) };
 
     /// Puts the moves of all entries and the room that volumes take. No entry is drawn by it.
     fn sum_up(&mut self, sums: Sums<'_>) -> Result<(), NotDrawn>
