@@ -57,7 +57,7 @@ pub fn restored(rt: &impl Abort, alloc: Global) -> Result<Story, NoMemory> {
     story.make(rt, alloc, 0, b"A", 1)?;
     story.make(rt, alloc, 1, b"B", 1)?;
     story.start(rt, alloc, 0, b"there", (0, 1))?;
-    story.start(rt, alloc, 1, b"back", (1, 0))?;
+    story.start(rt, alloc, 1, b"put-back", (1, 0))?;
     Ok(story)
 }
 

@@ -23,11 +23,57 @@ fn canvas_of(alloc: Global) -> SvgCanvas<MemSink> {
     }
 }
 
-/// Asserts what is drawn of the last entry.
-fn is_drawn(rt: &impl Abort, alloc: Global, story: &Story, drawn: &[u8]) {
+/// A page as it is drawn by hand.
+#[derive(Clone, Copy)]
+struct Page<'a> {
+    /// The number of its entry.
+    entry: u64,
+    /// How high it is.
+    height: u64,
+    /// What stands in its head.
+    line: &'a str,
+    /// Its notes and slots.
+    rows: &'a str,
+    /// Its arrows.
+    arrows: &'a str,
+    /// Its lines below the slots.
+    below: &'a str,
+}
+
+/// What arrows begin and end with.
+const MARKS: &str = "<defs>
+<marker id=\"from\" markerWidth=\"4\" markerHeight=\"4\" refX=\"2\" refY=\"2\"><circle cx=\"2\" cy=\"2\" r=\"1.5\" fill=\"#111\"/></marker>
+<marker id=\"to\" markerWidth=\"5\" markerHeight=\"4\" refX=\"4\" refY=\"2\" orient=\"auto\"><path d=\"M0 0L5 2L0 4z\" fill=\"#111\"/></marker>
+</defs>
+";
+
+/// Asserts that the last entry is drawn as this page.
+fn is_drawn(rt: &impl Abort, alloc: Global, story: &Story, page: Page<'_>) {
+    let Page {
+        entry,
+        height,
+        line,
+        rows,
+        arrows,
+        below,
+    } = page;
+    let marks = if arrows.is_empty() { "" } else { MARKS };
+    assert!(rt; height > 18);
+    let last = height - 18;
+    let drawn = format!(in alloc;
+        "== entry-{entry}.svg
+<svg xmlns=\"http://www.w3.org/2000/svg\" role=\"graphics-document document\" width=\"1000\" height=\"{height}\" viewBox=\"0 0 1000 {height}\" font-family=\"sans-serif\" font-size=\"13\" xml:space=\"preserve\">
+<title>{line}, and the chains after it</title>
+<rect width=\"100%\" height=\"100%\" fill=\"#fff\"/>
+<text x=\"20\" y=\"28\" font-size=\"16\" aria-hidden=\"true\">{line}</text>
+{rows}{marks}{arrows}{below}<text x=\"20\" y=\"{last}\" fill=\"#555\">A filled box is a grain that the slot holds. It reads the others at the nearest slot above it in its chain that holds them.</text>
+</svg>
+"
+    )
+    .expect(rt, "memory");
     let mut canvas = canvas_of(alloc);
     assert!(rt; story.draw(rt, alloc, 1, true, &mut canvas).is_ok());
-    assert_eq!(rt; canvas.sink.bytes(), drawn);
+    assert_eq!(rt; canvas.sink.bytes(), drawn.as_bytes());
 }
 
 #[test]
@@ -38,36 +84,33 @@ fn a_move_is_an_arrow_from_its_source(rt: HostRuntime) -> Result<(), Fail> {
         &rt,
         alloc,
         &story,
-        b"== entry-4.svg\n\
-<svg xmlns=\"http://www.w3.org/2000/svg\" role=\"graphics-document document\" width=\"1000\" height=\"200\" viewBox=\"0 0 1000 200\" font-family=\"sans-serif\" font-size=\"13\" xml:space=\"preserve\">\n\
-<title>4 main write 0 0 1 77 -&gt; ok, and the chains after it</title>\n\
-<rect width=\"100%\" height=\"100%\" fill=\"#fff\"/>\n\
-<text x=\"20\" y=\"28\" font-size=\"16\" aria-hidden=\"true\">4 main write 0 0 1 77 -&gt; ok</text>\n\
-<text x=\"20\" y=\"52\">  move grain 0 from A to B, before the write of A</text>\n\
-<text x=\"20\" y=\"70\" fill=\"#555\">chain 0</text>\n\
-<g role=\"img\"><title>A, live, 2 of 2 grains</title>\n\
-<text x=\"20\" y=\"91\" font-weight=\"bold\">A, live</text>\n\
-<text x=\"20\" y=\"109\">2 of 2</text>\n\
-<rect x=\"320\" y=\"82\" width=\"660\" height=\"24\" fill=\"#1b6ca8\"/>\n\
-<path d=\"M650 82v24\" stroke=\"#999\"/>\n\
-<rect x=\"320\" y=\"82\" width=\"660\" height=\"24\" fill=\"none\" stroke=\"#333\"/>\n\
-</g>\n\
-<g role=\"img\"><title>B, live, by nightly, copying, 1 of 2 grains</title>\n\
-<text x=\"20\" y=\"135\" font-weight=\"bold\">B, live</text>\n\
-<text x=\"20\" y=\"153\">by nightly, copying, 1 of 2</text>\n\
-<rect x=\"320\" y=\"126\" width=\"330\" height=\"24\" fill=\"#1b6ca8\"/>\n\
-<path d=\"M650 126v24\" stroke=\"#999\"/>\n\
-<rect x=\"320\" y=\"126\" width=\"660\" height=\"24\" fill=\"none\" stroke=\"#333\"/>\n\
-</g>\n\
-<defs>\n\
-<marker id=\"from\" markerWidth=\"4\" markerHeight=\"4\" refX=\"2\" refY=\"2\"><circle cx=\"2\" cy=\"2\" r=\"1.5\" fill=\"#111\"/></marker>\n\
-<marker id=\"to\" markerWidth=\"5\" markerHeight=\"4\" refX=\"4\" refY=\"2\" orient=\"auto\"><path d=\"M0 0L5 2L0 4z\" fill=\"#111\"/></marker>\n\
-</defs>\n\
-<g role=\"img\"><title>move grain 0 from A to B</title>\n\
-<path d=\"M485 94V138\" stroke=\"#111\" stroke-width=\"2\" marker-start=\"url(#from)\" marker-end=\"url(#to)\"/>\n\
-</g>\n\
-<text x=\"20\" y=\"182\" fill=\"#555\">A filled box is a grain that the slot holds. It reads the others at the nearest slot above it in its chain that holds them.</text>\n\
-</svg>\n",
+        Page {
+            entry: 4,
+            height: 200,
+            line: "4 main write 0 0 1 77 -&gt; ok",
+            rows: "<text x=\"20\" y=\"52\">  move grain 0 from A to B, before the write of A</text>
+<text x=\"20\" y=\"70\" fill=\"#555\">chain 0</text>
+<g role=\"img\"><title>A, live, 2 of 2 grains</title>
+<text x=\"20\" y=\"91\" font-weight=\"bold\">A, live</text>
+<text x=\"20\" y=\"109\">2 of 2</text>
+<rect x=\"320\" y=\"82\" width=\"660\" height=\"24\" fill=\"#1b6ca8\"/>
+<path d=\"M650 82v24\" stroke=\"#999\"/>
+<rect x=\"320\" y=\"82\" width=\"660\" height=\"24\" fill=\"none\" stroke=\"#333\"/>
+</g>
+<g role=\"img\"><title>B, live, by nightly, copying, 1 of 2 grains</title>
+<text x=\"20\" y=\"135\" font-weight=\"bold\">B, live</text>
+<text x=\"20\" y=\"153\">by nightly, copying, 1 of 2</text>
+<rect x=\"320\" y=\"126\" width=\"330\" height=\"24\" fill=\"#1b6ca8\"/>
+<path d=\"M650 126v24\" stroke=\"#999\"/>
+<rect x=\"320\" y=\"126\" width=\"660\" height=\"24\" fill=\"none\" stroke=\"#333\"/>
+</g>
+",
+            arrows: "<g role=\"img\"><title>move grain 0 from A to B</title>
+<path d=\"M485 94V138\" stroke=\"#111\" stroke-width=\"2\" marker-start=\"url(#from)\" marker-end=\"url(#to)\"/>
+</g>
+",
+            below: "",
+        },
     );
     let mut canvas = canvas_of(alloc);
     assert!(rt; story.draw(&rt, alloc, 1, false, &mut canvas).is_ok());
@@ -92,39 +135,36 @@ fn an_old_slot_and_a_move_in_place(rt: HostRuntime) -> Result<(), Fail> {
         &rt,
         alloc,
         &story,
-        b"== entry-4.svg\n\
-<svg xmlns=\"http://www.w3.org/2000/svg\" role=\"graphics-document document\" width=\"1000\" height=\"244\" viewBox=\"0 0 1000 244\" font-family=\"sans-serif\" font-size=\"13\" xml:space=\"preserve\">\n\
-<title>4 main copy 1 0 -&gt; moved 1 0, and the chains after it</title>\n\
-<rect width=\"100%\" height=\"100%\" fill=\"#fff\"/>\n\
-<text x=\"20\" y=\"28\" font-size=\"16\" aria-hidden=\"true\">4 main copy 1 0 -&gt; moved 1 0</text>\n\
-<text x=\"20\" y=\"52\">  move grain 0 from A'0 to A, in place, as asked</text>\n\
-<text x=\"20\" y=\"70\" fill=\"#555\">chain 0</text>\n\
-<g role=\"img\"><title>A'0, old, 1 of 1 grains</title>\n\
-<text x=\"20\" y=\"91\" font-weight=\"bold\">A'0, old</text>\n\
-<text x=\"20\" y=\"109\">1 of 1</text>\n\
-<rect x=\"320\" y=\"82\" width=\"660\" height=\"24\" fill=\"#d9a441\"/>\n\
-<rect x=\"320\" y=\"82\" width=\"660\" height=\"24\" fill=\"none\" stroke=\"#333\" stroke-dasharray=\"5 3\"/>\n\
-</g>\n\
-<g role=\"img\"><title>B, live, by there, copying, 0 of 1 grains</title>\n\
-<text x=\"20\" y=\"135\" font-weight=\"bold\">B, live</text>\n\
-<text x=\"20\" y=\"153\">by there, copying, 0 of 1</text>\n\
-<rect x=\"320\" y=\"126\" width=\"660\" height=\"24\" fill=\"none\" stroke=\"#333\"/>\n\
-</g>\n\
-<g role=\"img\"><title>A, live, by back, copying, 1 of 1 grains</title>\n\
-<text x=\"20\" y=\"179\" font-weight=\"bold\">A, live</text>\n\
-<text x=\"20\" y=\"197\">by back, copying, 1 of 1</text>\n\
-<rect x=\"320\" y=\"170\" width=\"660\" height=\"24\" fill=\"#1b6ca8\"/>\n\
-<rect x=\"320\" y=\"170\" width=\"660\" height=\"24\" fill=\"none\" stroke=\"#333\"/>\n\
-</g>\n\
-<defs>\n\
-<marker id=\"from\" markerWidth=\"4\" markerHeight=\"4\" refX=\"2\" refY=\"2\"><circle cx=\"2\" cy=\"2\" r=\"1.5\" fill=\"#111\"/></marker>\n\
-<marker id=\"to\" markerWidth=\"5\" markerHeight=\"4\" refX=\"4\" refY=\"2\" orient=\"auto\"><path d=\"M0 0L5 2L0 4z\" fill=\"#111\"/></marker>\n\
-</defs>\n\
-<g role=\"img\"><title>move grain 0 from A'0 to A, in place</title>\n\
-<path d=\"M650 94V182\" stroke=\"#111\" stroke-width=\"2\" stroke-dasharray=\"4 3\" marker-start=\"url(#from)\" marker-end=\"url(#to)\"/>\n\
-</g>\n\
-<text x=\"20\" y=\"226\" fill=\"#555\">A filled box is a grain that the slot holds. It reads the others at the nearest slot above it in its chain that holds them.</text>\n\
-</svg>\n",
+        Page {
+            entry: 4,
+            height: 244,
+            line: "4 main copy 1 0 -&gt; moved 1 0",
+            rows: "<text x=\"20\" y=\"52\">  move grain 0 from A'0 to A, in place, as asked</text>
+<text x=\"20\" y=\"70\" fill=\"#555\">chain 0</text>
+<g role=\"img\"><title>A'0, old, 1 of 1 grains</title>
+<text x=\"20\" y=\"91\" font-weight=\"bold\">A'0, old</text>
+<text x=\"20\" y=\"109\">1 of 1</text>
+<rect x=\"320\" y=\"82\" width=\"660\" height=\"24\" fill=\"#d9a441\"/>
+<rect x=\"320\" y=\"82\" width=\"660\" height=\"24\" fill=\"none\" stroke=\"#333\" stroke-dasharray=\"5 3\"/>
+</g>
+<g role=\"img\"><title>B, live, by there, copying, 0 of 1 grains</title>
+<text x=\"20\" y=\"135\" font-weight=\"bold\">B, live</text>
+<text x=\"20\" y=\"153\">by there, copying, 0 of 1</text>
+<rect x=\"320\" y=\"126\" width=\"660\" height=\"24\" fill=\"none\" stroke=\"#333\"/>
+</g>
+<g role=\"img\"><title>A, live, by put-back, copying, 1 of 1 grains</title>
+<text x=\"20\" y=\"179\" font-weight=\"bold\">A, live</text>
+<text x=\"20\" y=\"197\">by put-back, copying, 1 of 1</text>
+<rect x=\"320\" y=\"170\" width=\"660\" height=\"24\" fill=\"#1b6ca8\"/>
+<rect x=\"320\" y=\"170\" width=\"660\" height=\"24\" fill=\"none\" stroke=\"#333\"/>
+</g>
+",
+            arrows: "<g role=\"img\"><title>move grain 0 from A'0 to A, in place</title>
+<path d=\"M650 94V182\" stroke=\"#111\" stroke-width=\"2\" stroke-dasharray=\"4 3\" marker-start=\"url(#from)\" marker-end=\"url(#to)\"/>
+</g>
+",
+            below: "",
+        },
     );
     Ok(())
 }
@@ -133,12 +173,12 @@ fn an_old_slot_and_a_move_in_place(rt: HostRuntime) -> Result<(), Fail> {
 fn what_xml_takes_for_its_own_is_put_by_name(rt: HostRuntime) -> Result<(), Fail> {
     let alloc = rt.alloc();
     let escapes = [
-        (b'&', "&amp;"),
-        (b'<', "&lt;"),
-        (b'>', "&gt;"),
-        (b'"', "&quot;"),
+        (b'&', "1 main lsvdisk -delim &amp; -&gt; rows 0"),
+        (b'<', "1 main lsvdisk -delim &lt; -&gt; rows 0"),
+        (b'>', "1 main lsvdisk -delim &gt; -&gt; rows 0"),
+        (b'"', "1 main lsvdisk -delim &quot; -&gt; rows 0"),
     ];
-    for (delim, name) in escapes {
+    for (delim, line) in escapes {
         let mut story = Story::begin(&rt, alloc);
         story.make(&rt, alloc, 0, b"A", 1)?;
         let request = Request::Command(Command::Lsvdisk { delim: Some(delim) });
@@ -147,24 +187,26 @@ fn what_xml_takes_for_its_own_is_put_by_name(rt: HostRuntime) -> Result<(), Fail
             alloc,
             told(alloc, request, Reply::Listed(List::new(alloc))),
         )?;
-        let drawn = format!(in alloc;
-            "== entry-1.svg
-<svg xmlns=\"http://www.w3.org/2000/svg\" role=\"graphics-document document\" width=\"1000\" height=\"138\" viewBox=\"0 0 1000 138\" font-family=\"sans-serif\" font-size=\"13\" xml:space=\"preserve\">
-<title>1 main lsvdisk -delim {name} -&gt; rows 0, and the chains after it</title>
-<rect width=\"100%\" height=\"100%\" fill=\"#fff\"/>
-<text x=\"20\" y=\"28\" font-size=\"16\" aria-hidden=\"true\">1 main lsvdisk -delim {name} -&gt; rows 0</text>
-<text x=\"20\" y=\"52\" fill=\"#555\">chain 0</text>
+        is_drawn(
+            &rt,
+            alloc,
+            &story,
+            Page {
+                entry: 1,
+                height: 138,
+                line,
+                rows: "<text x=\"20\" y=\"52\" fill=\"#555\">chain 0</text>
 <g role=\"img\"><title>A, live, 1 of 1 grains</title>
 <text x=\"20\" y=\"73\" font-weight=\"bold\">A, live</text>
 <text x=\"20\" y=\"91\">1 of 1</text>
 <rect x=\"320\" y=\"64\" width=\"660\" height=\"24\" fill=\"#1b6ca8\"/>
 <rect x=\"320\" y=\"64\" width=\"660\" height=\"24\" fill=\"none\" stroke=\"#333\"/>
 </g>
-<text x=\"20\" y=\"120\" fill=\"#555\">A filled box is a grain that the slot holds. It reads the others at the nearest slot above it in its chain that holds them.</text>
-</svg>
-"
-        )?;
-        is_drawn(&rt, alloc, &story, drawn.as_bytes());
+",
+                arrows: "",
+                below: "",
+            },
+        );
     }
     Ok(())
 }
@@ -195,30 +237,31 @@ fn long_names_are_narrowed_and_runs_are_boxes(rt: HostRuntime) -> Result<(), Fai
         &rt,
         alloc,
         &story,
-        b"== entry-2.svg\n\
-<svg xmlns=\"http://www.w3.org/2000/svg\" role=\"graphics-document document\" width=\"1000\" height=\"200\" viewBox=\"0 0 1000 200\" font-family=\"sans-serif\" font-size=\"13\" xml:space=\"preserve\">\n\
-<title>2 main copyturn 0 -&gt; idle, and the chains after it</title>\n\
-<rect width=\"100%\" height=\"100%\" fill=\"#fff\"/>\n\
-<text x=\"20\" y=\"28\" font-size=\"16\" aria-hidden=\"true\">2 main copyturn 0 -&gt; idle</text>\n\
-<text x=\"20\" y=\"52\" fill=\"#555\">chain 0</text>\n\
-<g role=\"img\"><title>A, live, 3 of 3 grains</title>\n\
-<text x=\"20\" y=\"73\" font-weight=\"bold\">A, live</text>\n\
-<text x=\"20\" y=\"91\">3 of 3</text>\n\
-<rect x=\"320\" y=\"64\" width=\"660\" height=\"24\" fill=\"#1b6ca8\"/>\n\
-<path d=\"M540 64v24M760 64v24\" stroke=\"#999\"/>\n\
-<rect x=\"320\" y=\"64\" width=\"660\" height=\"24\" fill=\"none\" stroke=\"#333\"/>\n\
-</g>\n\
-<g role=\"img\"><title>mmmmmmmmmmmmmmmmmmmmmmmmmmmmmmmmmmmmmmmmmmmmmmmmmmmmmmmmmmmmmmm, live, by mmmmmmmmmmmmmmmmmmmmmmmmmmmmmmmmmmmmmmmmmmmmmmmmmmmmmmmmmmmmmmm, copying, 2 of 3 grains</title>\n\
-<text x=\"20\" y=\"117\" font-weight=\"bold\" textLength=\"290\" lengthAdjust=\"spacingAndGlyphs\">mmmmmmmmmmmmmmmmmmmmmmmmmmmmmmmmmmmmmmmmmmmmmmmmmmmmmmmmmmmmmmm, live</text>\n\
-<text x=\"20\" y=\"135\" textLength=\"290\" lengthAdjust=\"spacingAndGlyphs\">by mmmmmmmmmmmmmmmmmmmmmmmmmmmmmmmmmmmmmmmmmmmmmmmmmmmmmmmmmmmmmmm, copying, 2 o..</text>\n\
-<rect x=\"320\" y=\"108\" width=\"220\" height=\"24\" fill=\"#1b6ca8\"/>\n\
-<rect x=\"760\" y=\"108\" width=\"220\" height=\"24\" fill=\"#1b6ca8\"/>\n\
-<path d=\"M540 108v24M760 108v24\" stroke=\"#999\"/>\n\
-<rect x=\"320\" y=\"108\" width=\"660\" height=\"24\" fill=\"none\" stroke=\"#333\"/>\n\
-</g>\n\
-<text x=\"20\" y=\"164\">  idle: A to C, idle_or_copied, no slot</text>\n\
-<text x=\"20\" y=\"182\" fill=\"#555\">A filled box is a grain that the slot holds. It reads the others at the nearest slot above it in its chain that holds them.</text>\n\
-</svg>\n",
+        Page {
+            entry: 2,
+            height: 200,
+            line: "2 main copyturn 0 -&gt; idle",
+            rows: "<text x=\"20\" y=\"52\" fill=\"#555\">chain 0</text>
+<g role=\"img\"><title>A, live, 3 of 3 grains</title>
+<text x=\"20\" y=\"73\" font-weight=\"bold\">A, live</text>
+<text x=\"20\" y=\"91\">3 of 3</text>
+<rect x=\"320\" y=\"64\" width=\"660\" height=\"24\" fill=\"#1b6ca8\"/>
+<path d=\"M540 64v24M760 64v24\" stroke=\"#999\"/>
+<rect x=\"320\" y=\"64\" width=\"660\" height=\"24\" fill=\"none\" stroke=\"#333\"/>
+</g>
+<g role=\"img\"><title>mmmmmmmmmmmmmmmmmmmmmmmmmmmmmmmmmmmmmmmmmmmmmmmmmmmmmmmmmmmmmmm, live, by mmmmmmmmmmmmmmmmmmmmmmmmmmmmmmmmmmmmmmmmmmmmmmmmmmmmmmmmmmmmmmm, copying, 2 of 3 grains</title>
+<text x=\"20\" y=\"117\" font-weight=\"bold\" textLength=\"290\" lengthAdjust=\"spacingAndGlyphs\">mmmmmmmmmmmmmmmmmmmmmmmmmmmmmmmmmmmmmmmmmmmmmmmmmmmmmmmmmmmmmmm, live</text>
+<text x=\"20\" y=\"135\" textLength=\"290\" lengthAdjust=\"spacingAndGlyphs\">by mmmmmmmmmmmmmmmmmmmmmmmmmmmmmmmmmmmmmmmmmmmmmmmmmmmmmmmmmmmmmmm, copying, 2 o..</text>
+<rect x=\"320\" y=\"108\" width=\"220\" height=\"24\" fill=\"#1b6ca8\"/>
+<rect x=\"760\" y=\"108\" width=\"220\" height=\"24\" fill=\"#1b6ca8\"/>
+<path d=\"M540 108v24M760 108v24\" stroke=\"#999\"/>
+<rect x=\"320\" y=\"108\" width=\"660\" height=\"24\" fill=\"none\" stroke=\"#333\"/>
+</g>
+",
+            arrows: "",
+            below: "<text x=\"20\" y=\"164\">  idle: A to C, idle_or_copied, no slot</text>
+",
+        },
     );
     Ok(())
 }

@@ -17,24 +17,23 @@ use std::process::Abort;
 fn is_new_volume(registry: &Registry, volume: &Volume) -> bool
     ensures { IsTrue result → Fits registry.now.tables (Change.AddVolume volume.now) }
 {
-    let above = registry
-        .all_volumes()
-        .iter()
-        .all(|other| other.id.0 < volume.id.0);
-    let free = registry.check_name(Kind::Vdisk, &volume.name).is_ok();
-    above && free
+    if registry.check_name(Kind::Vdisk, &volume.name).is_err() {
+        return false;
+    }
+    let volumes = registry.all_volumes();
+    volumes.iter().all(|other| other.id.0 < volume.id.0)
 }
 
 /// Whether the mapping may be added.
 fn is_new_mapping(registry: &Registry, mapping: &Mapping) -> bool
     ensures { IsTrue result → Fits registry.now.tables (Change.AddMapping mapping.now) }
 {
-    let above = registry
-        .all_mappings()
-        .iter()
-        .all(|other| other.id.0 < mapping.id.0);
-    let free = registry.check_name(Kind::Fcmap, &mapping.name).is_ok();
-    above && free
+    let named = registry.check_name(Kind::Fcmap, &mapping.name);
+    named.is_ok()
+        && registry
+            .all_mappings()
+            .iter()
+            .all(|other| other.id.0 < mapping.id.0)
 }
 
 /// Whether the volume or mapping may be added.

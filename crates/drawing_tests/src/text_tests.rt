@@ -204,7 +204,7 @@ fn an_old_slot_is_told_apart(rt: HostRuntime) -> Result<(), Fail> {
         &story,
         1,
         true,
-        b"4 main read 0 0 1 -> data 512*00\n  grain 0: A lacks it, B lacks it, A'0 has it\n    block 0: never written\n  chain 0\n    #  A'0  old\n    .  B  by there, copying, 0 of 1\n    .  A  by back, copying, 0 of 1\n",
+        b"4 main read 0 0 1 -> data 512*00\n  grain 0: A lacks it, B lacks it, A'0 has it\n    block 0: never written\n  chain 0\n    #  A'0  old\n    .  B  by there, copying, 0 of 1\n    .  A  by put-back, copying, 0 of 1\n",
     );
     let moves = one(alloc, story.move_to(&rt, 1, false))?;
     story.tell_write(&rt, alloc, write_of(0, 0, 1, 0x22), moves)?;
@@ -214,7 +214,7 @@ fn an_old_slot_is_told_apart(rt: HostRuntime) -> Result<(), Fail> {
         &story,
         1,
         true,
-        b"5 main write 0 0 1 22 -> ok\n  move grain 0 from A'0 to B, before the write of A\n  chain 0\n    .  A'0  old\n    #  B  by there, copying, 1 of 1\n    #  A  by back, copying, 1 of 1\n",
+        b"5 main write 0 0 1 22 -> ok\n  move grain 0 from A'0 to B, before the write of A\n  chain 0\n    .  A'0  old\n    #  B  by there, copying, 1 of 1\n    #  A  by put-back, copying, 1 of 1\n",
     );
     Ok(())
 }
@@ -238,7 +238,7 @@ fn a_move_in_place_is_told(rt: HostRuntime) -> Result<(), Fail> {
         &story,
         1,
         true,
-        b"4 main copy 1 0 -> moved 1 0\n  move grain 0 from A'0 to A, in place, as asked\n  chain 0\n    #  A'0  old\n    .  B  by there, copying, 0 of 1\n    #  A  by back, copying, 1 of 1\n",
+        b"4 main copy 1 0 -> moved 1 0\n  move grain 0 from A'0 to A, in place, as asked\n  chain 0\n    #  A'0  old\n    .  B  by there, copying, 0 of 1\n    #  A  by put-back, copying, 1 of 1\n",
     );
     story.tell(&rt, alloc, told(alloc, read_of(0, 0, 1), zeros(alloc)?))?;
     is_drawn(

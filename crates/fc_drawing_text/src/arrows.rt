@@ -18,6 +18,14 @@ use fc_io::mem_sink::MemSink;
 use fc_io::sink::Sink;
 use std::alloc::Global;
 
+/// What arrows begin with, a dot, and what they end with, a tip.
+const MARKS: &[u8] = b"<defs>\n\
+<marker id=\"from\" markerWidth=\"4\" markerHeight=\"4\" refX=\"2\" refY=\"2\">\
+<circle cx=\"2\" cy=\"2\" r=\"1.5\" fill=\"#111\"/></marker>\n\
+<marker id=\"to\" markerWidth=\"5\" markerHeight=\"4\" refX=\"4\" refY=\"2\" orient=\"auto\">\
+<path d=\"M0 0L5 2L0 4z\" fill=\"#111\"/></marker>\n\
+</defs>\n";
+
 /// An arrow from one height to another, so far from the left.
 #[derive(Clone, Copy)]
 struct Arrow {
@@ -34,7 +42,8 @@ fn middle_of(drawing: Drawing<'_>, chains: &[Chain], slot: SlotId, first_top: u6
     Some(top.saturating_add(BOX_HEIGHT / 2))
 }
 
-/// How far from the left the arrow stands of the move with this index: in the middle of its grain, those of several moves beside each other.
+/// How far from the left the arrow stands of the move with this index: in the middle of its grain, those of several moves beside each
+/// other.
 fn arrow_left(drawing: Drawing<'_>, made: Move, index: usize) -> u64 {
     let grain = made.grain.0 as usize;
     let grains = match drawing.sheet.slot_place(made.slot) {
@@ -102,14 +111,7 @@ fn put_marks<K: Sink>(moves: &[Move], sink: &mut K) -> Result<(), Failed> {
     if moves.is_empty() {
         return Ok(());
     }
-    put_text(
-        sink,
-        b"<defs>\n<marker id=\"from\" markerWidth=\"4\" markerHeight=\"4\" refX=\"2\" refY=\"2\"><circle cx=\"2\" cy=\"2\" r=\"1.5\" fill=\"#111\"/></marker>\n",
-    )?;
-    put_text(
-        sink,
-        b"<marker id=\"to\" markerWidth=\"5\" markerHeight=\"4\" refX=\"4\" refY=\"2\" orient=\"auto\"><path d=\"M0 0L5 2L0 4z\" fill=\"#111\"/></marker>\n</defs>\n",
-    )
+    put_text(sink, MARKS)
 }
 
 /// Puts an arrow for each move of the entry, from the slot that it copied to its own, where the first chain has this top. Refused, a front

@@ -20,6 +20,17 @@ use std::alloc::Global;
 /// Where the foot of the first line below the head stands, in pixels.
 const NOTES_FOOT: u64 = 52;
 
+/// The front of an SVG, up to its height.
+const OPENS: &[u8] =
+    b"<svg xmlns=\"http://www.w3.org/2000/svg\" role=\"graphics-document document\" \
+width=\"1000\" height=\"";
+
+/// The end of an SVG, from the height of its last line on, which says how it is read.
+const CLOSES: &[u8] =
+    b"\" fill=\"#555\">A filled box is a grain that the slot holds. It reads the others at \
+the nearest slot above it in its chain that holds them.</text>\n\
+</svg>\n";
+
 /// The texts of a drawing, as lines.
 #[derive(Drop)]
 struct Texts {
@@ -49,11 +60,7 @@ fn lines_height(text: &[u8]) -> u64 {
 
 /// Puts the front of a drawing that is so high: its title, the entry's line, and what is said of it.
 fn put_front<K: Sink>(line: &[u8], notes: &[u8], height: u64, sink: &mut K) -> Result<(), Failed> {
-    put_text(
-        sink,
-        b"<svg xmlns=\"http://www.w3.org/2000/svg\" role=\"graphics-document document\" width=\"1000\" height=\"",
-    )?;
-    put_count(sink, b"", height)?;
+    put_count(sink, OPENS, height)?;
     put_count(sink, b"\" viewBox=\"0 0 1000 ", height)?;
     put_text(
         sink,
@@ -80,10 +87,7 @@ fn put_back<K: Sink>(idles: &[u8], foot: u64, sink: &mut K) -> Result<(), Failed
     put_lines(idles, foot, sink)?;
     let last = foot.saturating_add(lines_height(idles));
     put_count(sink, b"<text x=\"20\" y=\"", last)?;
-    put_text(
-        sink,
-        b"\" fill=\"#555\">A filled box is a grain that the slot holds. It reads the others at the nearest slot above it in its chain that holds them.</text>\n</svg>\n",
-    )
+    put_text(sink, CLOSES)
 }
 
 /// Puts a drawing as one SVG. Refused, a front of it was added.
