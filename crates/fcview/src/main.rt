@@ -26,12 +26,7 @@ use std::env;
 use std::process::ExitCode;
 
 /// Draws the trace of a source into a sink: as SVG, or as text.
-fn draw<S: Source, K: Sink + Drop>(
-    alloc: Global,
-    wanted: Wanted,
-    source: &mut S,
-    sink: K,
-) -> u8 {
+fn draw<S: Source, K: Sink + Drop>(alloc: Global, wanted: Wanted, source: &mut S, sink: K) -> u8 {
     if wanted.svg {
         code_of(view(alloc, source, wanted.at, &mut SvgCanvas { sink }))
     } else {
