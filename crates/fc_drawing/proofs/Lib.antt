@@ -1,5 +1,6 @@
 -- Lemmas, one subject a file.
 mod Placing
+mod Latest
 mod Making
 mod Counting
 mod Examples

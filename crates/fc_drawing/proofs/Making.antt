@@ -11,8 +11,8 @@ pub record MadeSo (first : Sheet) (moves : List Move) (now : Sheet) (sources : L
   pub copied : sources ++ sources_of now (drop i moves) ≡ sources_of first moves
   pub chains : all_made now (drop i moves) ≡ all_made first moves
 
-pub made_none : (first : Sheet) (moves : List Move) → MadeSo first moves first [] 0
-made_none first moves = record { copied = refl; chains = refl }
+pub made_none : (first : Sheet) (moves : List Move) (sources : List (Option Source)) → sources ≡ [] → MadeSo first moves first sources 0
+made_none first moves sources none = record { copied = ap (λ (xs : List (Option Source)). xs ++ sources_of first moves) none; chains = refl }
 
 pub made_more : (first : Sheet) (moves : List Move) (now new : Sheet) (sources more : List (Option Source)) (i : ℕ) (d : Move) (source : Option Source) → i < length moves → MadeSo first moves now sources i →
     source ≡ source_of now (get_or moves i d) → more ≡ sources ++ source ∷ [] → new ≡ made now (get_or moves i d) → MadeSo first moves new more (i + 1)

@@ -1,5 +1,5 @@
 -- Loops over places that keep what was found so far answer what the definitions say.
-use Rattle.std.proofs.Common.{◌≡◌, ℕ, zero, suc, ◌+◌, ◌-◌, ◌<◌, ◌≤◌, Bool, true, false, cond, Some, None, List, [], ◌∷◌, ◌++◌, length, length-append, refl, sym, ap, ◌∙◌, arith}
+use Rattle.std.proofs.Common.{◌≡◌, ℕ, zero, suc, ◌+◌, ◌-◌, ◌<◌, ◌≤◌, Bool, true, false, not, cond, is_some, is_none, Option, Some, None, List, [], ◌∷◌, ◌++◌, length, length-append, refl, sym, ap, ◌∙◌, arith}
 use Rattle.fc_base.specs.Column.{last_below}
 use Rattle.fc_drawing.specs.Places.{places_below}
 
@@ -20,15 +20,15 @@ last_none test = refl
 
 -- from the end downwards: the place below the bound passes, or it doesn't, or there is none
 pub last_hit : (test : ℕ → Bool) (n end : ℕ) (passes : Bool) → zero < n → passes ≡ test (n - 1) → passes ≡ true → last_below test n ≡ last_below test end → Some (n - 1) ≡ last_below test end
-last_hit test n end passes above answered yes so =
+last_hit test n end passes above answered passed so =
     let s : n ≡ suc (n - 1) = omega arith in
-    let e : test (n - 1) ≡ true = sym answered ∙ yes in
+    let e : test (n - 1) ≡ true = sym answered ∙ passed in
     sym (ap (λ b. cond b (Some (n - 1)) (last_below test (n - 1))) e) ∙ (sym (last_step test (n - 1)) ∙ (ap (last_below test) (sym s) ∙ so))
 
 pub last_miss : (test : ℕ → Bool) (n end : ℕ) (passes : Bool) → zero < n → passes ≡ test (n - 1) → passes ≡ false → last_below test n ≡ last_below test end → last_below test (n - 1) ≡ last_below test end
-last_miss test n end passes above answered no so =
+last_miss test n end passes above answered missed so =
     let s : n ≡ suc (n - 1) = omega arith in
-    let e : test (n - 1) ≡ false = sym answered ∙ no in
+    let e : test (n - 1) ≡ false = sym answered ∙ missed in
     sym (ap (λ b. cond b (Some (n - 1)) (last_below test (n - 1))) e) ∙ (sym (last_step test (n - 1)) ∙ (ap (last_below test) (sym s) ∙ so))
 
 pub last_left : (test : ℕ → Bool) (n end : ℕ) → n ≤ zero → last_below test n ≡ last_below test end → None ≡ last_below test end
@@ -67,3 +67,10 @@ so_far_more f keep test step n found new passes so answered made =
 -- all places
 pub so_far_all : {X : Type 0} (f : ℕ → X) (n end : ℕ) (found : X) → found ≡ f n → n ≤ end → end ≤ n → found ≡ f end
 so_far_all f n end found so below above = let e : n ≡ end = omega arith in so ∙ ap f e
+
+-- an answer that isn't there
+pub none_by : (o : Option ℕ) (b : Bool) → is_some o ≡ not b → b ≡ is_none o
+none_by None true e = refl
+none_by None false e = let f : false ≡ true = e in cc
+none_by (Some k) true e = let f : true ≡ false = e in cc
+none_by (Some k) false e = refl

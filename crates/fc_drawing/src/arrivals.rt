@@ -8,6 +8,7 @@ use crate::sources::Source;
 use fc_base::ids::SlotId;
 use fc_base::outcome::NoMemory;
 use std::alloc::Global;
+use std::collections::HashMap;
 use std::marker::Model;
 
 /// A slot got a grain.
@@ -29,6 +30,7 @@ pub struct Arrival {
 #[derive(Drop)]
 pub struct Arrivals {
     all: Vec<Arrival>,
+    latest: HashMap<(u64, usize), usize>,
 }
 
 impl Model for Arrivals {
@@ -38,6 +40,11 @@ impl Model for Arrivals {
     ghost Value = { List Arrival };
 
     ghost view = { λ a. a.all.items };
+
+    ghost use Rattle.std.specs.HashMap.{get};
+    ghost use Rattle.fc_drawing.specs.Arrivals.{AreLatest, same_place};
+
+    ghost invariant = { λ a. AreLatest a.all.items (get same_place a.latest) };
 }
 
 impl Arrivals {
@@ -47,6 +54,7 @@ impl Arrivals {
     {
         Arrivals {
             all: Vec::new(alloc),
+            latest: HashMap::new(alloc),
         }
     }
 
@@ -78,12 +86,23 @@ impl Arrivals {
         }
     }
 
+    /// The number of the last arrival of a grain at a slot, among all.
+    fn last_of_all(&self, slot: SlotId, grain: usize) -> Option<usize>
+        ensures { result ≡ last_arrival self.now slot.0 grain (length self.now) }
+    {
+        self.latest.get(&(slot.0, grain)).copied()
+    }
+
     /// The number of the last arrival of a grain at a slot, among the first `end` ones; None where it held the grain from its birth, or
-    /// didn't get it.
+    /// didn't get it. One look-up, where none or the last of all is among them; else it is looked for from the end downwards.
     pub fn last(&self, slot: SlotId, grain: usize, end: usize) -> Option<usize>
         ensures { result ≡ last_arrival self.now slot.0 grain end }
     {
-        last_place(end, |number| self.brought(slot, grain, number))
+        match self.last_of_all(slot, grain) {
+            None => None,
+            Some(number) if number < end => Some(number),
+            Some(_) => last_place(end, |number| self.brought(slot, grain, number)),
+        }
     }
 
     /// Notes one more. Refused for want of memory, it isn't noted.
@@ -91,9 +110,16 @@ impl Arrivals {
         ensures noted { OnOk result (self.new ≡ self.old ++ arrival ∷ []) }
         ensures refused { OnErr result (self.new ≡ self.old) }
     {
-        match self.all.push(arrival) {
-            Ok(()) => Ok(()),
-            Err(_) => Err(NoMemory),
+        match self.all.reserve(1) {
+            Ok(()) => {}
+            Err(_) => return Err(NoMemory),
         }
+        let place = (arrival.to.slot.0, arrival.grain);
+        match self.latest.insert(place, self.all.len()) {
+            Ok(_) => {}
+            Err(_) => return Err(NoMemory),
+        }
+        self.all.push(arrival).unwrap();
+        Ok(())
     }
 }

@@ -1,6 +1,6 @@
 //! How many moves were made, by pair of volumes.
 
-ghost use Rattle.std.specs.Prelude.{◌≡◌, [], OnErr, OnOk, Option};
+ghost use Rattle.std.specs.Prelude.{◌≡◌, ◌++◌, [], ◌∷◌, OnErr, OnOk, Option};
 ghost use Rattle.fc_drawing.specs.Totals.{counted, is_of, is_same, moved_once, none_of, place_of};
 
 use fc_base::ids::VolId;
@@ -82,6 +82,17 @@ fn place_of(pairs: &[PairTotal], from: Option<VolId>, to: VolId) -> usize
     pairs.len()
 }
 
+/// Puts a total at the end.
+fn push_total(pairs: &mut Vec<PairTotal>, total: PairTotal) -> Result<(), NoMemory>
+    ensures pushed { OnOk result (pairs.new.items ≡ pairs.old.items ++ total ∷ []) }
+    ensures refused { OnErr result (pairs.new.items ≡ pairs.old.items) }
+{
+    match pairs.push(total) {
+        Ok(()) => Ok(()),
+        Err(_) => Err(NoMemory),
+    }
+}
+
 /// All moves, by pair of volumes, in the order in which pairs came first.
 #[derive(Drop)]
 pub struct Totals {
@@ -124,12 +135,9 @@ impl Totals {
             self.pairs[place] = self.pairs[place].moved_once(in_place);
             return Ok(());
         }
-        match self
-            .pairs
-            .push(PairTotal::none(from, to).moved_once(in_place))
-        {
-            Ok(()) => Ok(()),
-            Err(_) => Err(NoMemory),
-        }
+        push_total(
+            &mut self.pairs,
+            PairTotal::none(from, to).moved_once(in_place),
+        )
     }
 }

@@ -3,7 +3,7 @@ use Rattle.fc_drawing.proofs.Making.{chains_all, made_more, made_none, sources_a
 use Rattle.fc_drawing.proofs.sources.make_moves.Goals as goal
 
 pub loop-made-init : goal.loop-made-init
-loop-made-init c = made_none _ _
+loop-made-init c = made_none _ _ _ c.new-sources.ensures.items
 
 pub loop-made-preserved : goal.loop-made-preserved
 loop-made-preserved c =
