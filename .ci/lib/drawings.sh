@@ -7,9 +7,9 @@
 viewer=$top/crates/fcview/out/fcview
 
 # How many drawings there are at the least, in the folder and in the pages.
-least_drawings=10
+least_drawings=22
 least_drawings_at=4
-least_drawings_in_chains=6
+least_drawings_in_chains=7
 
 # Runs the built viewer on what comes in, and leaves its output and its status behind.
 run_viewer_on() { # WORD..

@@ -10,6 +10,7 @@ use fc_io::mem_sink::MemSink;
 use fc_view::stop::ViewStop;
 use fc_view::view::view_bytes;
 use std::alloc::Global;
+use std::process::Abort;
 use std::test::Fail;
 
 /// A volume of one grain; two blocks written; these read, with one before and one behind them.
@@ -25,14 +26,14 @@ const CASCADE: &[u8] =
     b"trace 64 4 flat 512 512 512 512 thin 512 512 512 512\n0 main mkvdisk -name A -size 64 -unit kb -> Virtual Disk, id [0], successfully created\n+ make 0 1\n.\n1 main mkvdisk -name B -size 64 -unit kb -> Virtual Disk, id [1], successfully created\n+ make 1 1\n.\n2 main mkvdisk -name C -size 64 -unit kb -> Virtual Disk, id [2], successfully created\n+ make 2 1\n.\n3 main mkvdisk -name D -size 64 -unit kb -> Virtual Disk, id [3], successfully created\n+ make 3 1\n.\n4 main write 0 0 1 11 -> ok\n+ calls 2 faults 0 0\n.\n5 main mkfcmap -source A -target B -copyrate 0 -> FlashCopy Mapping, id [0], successfully created\n.\n6 main mkfcmap -source B -target C -copyrate 0 -> FlashCopy Mapping, id [1], successfully created\n.\n7 main mkfcmap -source C -target D -copyrate 0 -> FlashCopy Mapping, id [2], successfully created\n.\n8 main startfcmap -prep 0 -> ok\n+ trigger 0:0>1\n+ state 0 copying\n.\n9 main startfcmap -prep 1 -> ok\n+ trigger 1:1>2\n+ state 1 copying\n.\n10 main startfcmap -prep 2 -> ok\n+ trigger 2:2>3\n+ state 2 copying\n.\n11 main write 1 0 1 22 -> ok\n+ calls 4 faults 0 0\n+ move 5 2 0\n.\n12 main read 0 0 1 -> data 512*11\n+ calls 1 faults 0 0\n.\n13 main read 1 0 1 -> data 512*22\n+ calls 1 faults 0 0\n.\n14 main read 2 0 1 -> data 512*11\n+ calls 1 faults 0 0\n.\n15 main read 3 0 1 -> data 512*11\n+ calls 1 faults 0 0\n.\n";
 
 /// Asserts what is said of a trace, and what is drawn of it as text.
-fn is_drawn(
-    rt: &HostRuntime,
+fn is_drawn<R: Abort>(
+    rt: &R,
+    alloc: Global,
     text: &[u8],
     at: Option<u64>,
     seen: Seen,
     drawn: &[u8],
 ) -> Result<(), Fail> {
-    let alloc = rt.alloc();
     let mut canvas = TextCanvas {
         sink: MemSink::new(alloc, Vec::new(alloc)),
     };
@@ -43,13 +44,14 @@ fn is_drawn(
 
 #[test]
 fn blocks_are_told_by_their_writes(rt: HostRuntime) -> Result<(), Fail> {
-    is_drawn(&rt, FIRST, None, Seen::Right(3), FIRST_DRAWN)
+    is_drawn(&rt, rt.alloc(), FIRST, None, Seen::Right(3), FIRST_DRAWN)
 }
 
 #[test]
 fn a_write_moves_a_grain_past_its_volume(rt: HostRuntime) -> Result<(), Fail> {
     is_drawn(
         &rt,
+        rt.alloc(),
         CASCADE,
         Some(11),
         Seen::Right(16),
@@ -61,6 +63,7 @@ fn a_write_moves_a_grain_past_its_volume(rt: HostRuntime) -> Result<(), Fail> {
 fn a_read_is_explained_by_the_copy_and_the_write(rt: HostRuntime) -> Result<(), Fail> {
     is_drawn(
         &rt,
+        rt.alloc(),
         CASCADE,
         Some(15),
         Seen::Right(16),
@@ -72,6 +75,7 @@ fn a_read_is_explained_by_the_copy_and_the_write(rt: HostRuntime) -> Result<(), 
 fn a_wrong_entry_ends_the_drawing(rt: HostRuntime) -> Result<(), Fail> {
     is_drawn(
         &rt,
+        rt.alloc(),
         b"trace 64 4 flat 1 1 1 1 thin 0 0 0 0\n0 main mkvdisk -name A -size 64 -unit kb -> Virtual Disk, id [0], successfully created\n+ make 0 1\n.\n1 main write 0 1 2 5a -> ok\n+ calls 2 faults 0 0\n.\n2 main read 0 0 4 -> data 512*00,1024*5b,512*00\n+ calls 1 faults 0 0\n.\n",
         None,
         Seen::Wrong(2),
@@ -83,6 +87,7 @@ fn a_wrong_entry_ends_the_drawing(rt: HostRuntime) -> Result<(), Fail> {
 fn a_malformed_end_is_told(rt: HostRuntime) -> Result<(), Fail> {
     is_drawn(
         &rt,
+        rt.alloc(),
         b"trace 64 4 flat 1 1 1 1 thin 0 0 0 0\n0 main mkvdisk -name A -size 64 -unit kb -> Virtual Disk, id [0], successfully created\n+ make 0 1\n.\n1 main write 0 1 2 5a -> ok\n+ calls 2 faults 0 0\n.\n2 main read 0 0 4 -> data 512*00,1024*5a,512*00\n+ calls 1 faults 0 0\n",
         Some(7),
         Seen::Malformed(257),
@@ -94,6 +99,7 @@ fn a_malformed_end_is_told(rt: HostRuntime) -> Result<(), Fail> {
 fn a_wrong_entry_ends_it_though_another_is_wanted(rt: HostRuntime) -> Result<(), Fail> {
     is_drawn(
         &rt,
+        rt.alloc(),
         b"trace 64 4 flat 1 1 1 1 thin 0 0 0 0\n0 main mkvdisk -name A -size 64 -unit kb -> Virtual Disk, id [0], successfully created\n+ make 0 2\n.\n",
         Some(0),
         Seen::Wrong(0),
@@ -105,6 +111,7 @@ fn a_wrong_entry_ends_it_though_another_is_wanted(rt: HostRuntime) -> Result<(),
 fn no_trace_at_all(rt: HostRuntime) -> Result<(), Fail> {
     is_drawn(
         &rt,
+        rt.alloc(),
         b"trace 65",
         None,
         Seen::Malformed(7),
@@ -116,6 +123,7 @@ fn no_trace_at_all(rt: HostRuntime) -> Result<(), Fail> {
 fn a_session_is_not_looked_at(rt: HostRuntime) -> Result<(), Fail> {
     is_drawn(
         &rt,
+        rt.alloc(),
         b"trace 64 4 flat 1 1 1 1 thin 0 0 0 0\nsession\nfrob\n",
         None,
         Seen::Right(0),
@@ -127,6 +135,7 @@ fn a_session_is_not_looked_at(rt: HostRuntime) -> Result<(), Fail> {
 fn a_line_that_begins_no_session(rt: HostRuntime) -> Result<(), Fail> {
     is_drawn(
         &rt,
+        rt.alloc(),
         b"trace 64 4 flat 1 1 1 1 thin 0 0 0 0\nsessions\n",
         None,
         Seen::Malformed(44),
