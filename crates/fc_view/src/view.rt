@@ -155,6 +155,32 @@ fn sum_up<C: Canvas>(
     }
 }
 
+/// Draws the entries behind the first line, which ends at this place, and sums up.
+fn draw_all<C: Canvas>(
+    alloc: Global,
+    header: &Header,
+    behind: &mut Behind,
+    start: usize,
+    bytes: &[u8],
+    at: Option<u64>,
+    canvas: &mut C,
+) -> Result<Seen, ViewStop>
+    requires within { start ≤ length bytes.now }
+    requires lanes { AreFour header.now.lanes }
+    requires line { take start bytes.now ≡ header_text header.now.grain header.now.lanes }
+    requires known { IsBehind header.now behind.old }
+    requires none { behind.old.progress.history ≡ nothing_told }
+    ensures { IsView result at bytes.now (C.drawn canvas.old) (C.drawn canvas.new) }
+{
+    match draw_entries(alloc, header, behind, start, bytes, at, canvas) {
+        Ok(seen) => match sum_up(behind, seen, at, canvas) {
+            Ok(()) => Ok(seen),
+            Err(stop) => Err(stop),
+        },
+        Err(stop) => Err(stop),
+    }
+}
+
 /// Draws the entries of a trace whose first line ends at this place, and sums up.
 fn draw_trace<C: Canvas>(
     alloc: Global,
@@ -169,13 +195,10 @@ fn draw_trace<C: Canvas>(
     requires line { take start bytes.now ≡ header_text header.now.grain header.now.lanes }
     ensures { IsView result at bytes.now (C.drawn canvas.old) (C.drawn canvas.new) }
 {
-    let mut behind = match Behind::open(alloc, header) {
-        Ok(behind) => behind,
-        Err(NoMemory) => return Err(ViewStop::NoMemory),
-    };
-    let seen = draw_entries(alloc, header, &mut behind, start, bytes, at, canvas)?;
-    sum_up(&behind, seen, at, canvas)?;
-    Ok(seen)
+    match Behind::open(alloc, header) {
+        Ok(mut behind) => draw_all(alloc, header, &mut behind, start, bytes, at, canvas),
+        Err(NoMemory) => Err(ViewStop::NoMemory),
+    }
 }
 
 /// Draws the entries of a trace from its first line on, and sums up.
@@ -193,6 +216,14 @@ fn draw_bytes<C: Canvas>(
     }
 }
 
+/// Says how the view ends.
+fn end_view<C: Canvas>(seen: Seen, canvas: &mut C) -> Result<(), ViewStop>
+    ensures same { OnOk result (C.drawn canvas.new ≡ C.drawn canvas.old) }
+    ensures refused { IfErr result IsWant }
+{
+    of_canvas(canvas.end(seen))
+}
+
 /// Draws the trace that these bytes are on a canvas: each of its right entries up to the first that isn't, or the one with the number
 /// `at`, and says at the end where it isn't right. A line `session` ends the trace, and what stands behind it isn't looked at.
 ///
@@ -207,9 +238,13 @@ pub fn view_bytes<C: Canvas>(
 ) -> Result<Seen, ViewStop>
     ensures { IsView result at bytes.now (C.drawn canvas.old) (C.drawn canvas.new) }
 {
-    let seen = draw_bytes(alloc, bytes, at, canvas)?;
-    of_canvas(canvas.end(seen))?;
-    Ok(seen)
+    match draw_bytes(alloc, bytes, at, canvas) {
+        Ok(seen) => match end_view(seen, canvas) {
+            Ok(()) => Ok(seen),
+            Err(stop) => Err(stop),
+        },
+        Err(stop) => Err(stop),
+    }
 }
 
 /// Draws the trace that a source gives on a canvas, as `view_bytes` does its bytes. All of it is taken first, in pieces of at most
