@@ -55,10 +55,6 @@ pub first_of : (ways : List Whole) (sheet : Sheet) → option_map (λ (w : Whole
 first_of [] sheet e = absurd cc
 first_of (w ∷ ways) sheet e = (w, (0, omega arith, refl), same_Some w.books.sheet sheet e)
 
-pub first_told : (ways : List Whole) (sheet : Sheet) (found : Option Whole) → found ≡ slice_get ways 0 → option_map (λ (w : Whole). w.books.sheet) found ≡ Some sheet →
-    option_map (λ (w : Whole). w.books.sheet) (slice_get ways 0) ≡ Some sheet
-first_told ways sheet found is e = ap (option_map (λ (w : Whole). w.books.sheet)) (sym is) ∙ e
-
 pub first_none : (ways : List Whole) → None ≡ slice_get ways 0 → ways ≡ []
 first_none [] e = refl
 first_none (w ∷ ways) e = absurd cc

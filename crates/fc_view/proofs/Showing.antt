@@ -36,13 +36,6 @@ pub behind_both : (old : Option (List Drawn)) (drawn more : List Drawn) → behi
 behind_both None drawn more = refl
 behind_both (Some all) drawn more = ap Some (append_assoc all drawn more)
 
--- what holds where one went well does where the other did
-pub ok_through : {A B E F P : Type 0} (laid : Result A E) (said : Result B F) → is_ok said ≡ is_ok laid → OnOk laid P → OnOk said P
-ok_through (Ok x) (Ok y) e holds = holds
-ok_through (Err x) (Ok y) e holds = absurd cc
-ok_through (Ok x) (Err y) e holds = tt
-ok_through (Err x) (Err y) e holds = tt
-
 -- ---- whether it was drawn
 
 pub last_number : (entries before : List Entry) (entry : Entry) (number : ℕ) → number + 1 ≡ length entries → entries ≡ before ++ entry ∷ [] → number ≡ length before
@@ -175,6 +168,6 @@ next_shown header at old mid new bytes count ways before now known within was_re
     let did : WasShown header.grain ways at (length old.progress.history.entries) r.entry mid new before now =
     shown old.progress.history.entries r.entry (sym (ap (λ (p : Progress). p.history.entries) progress) ∙ split) in
     let behind : IsBehind header new = behind_more header old mid new bytes count ways did.0 known r also whole ways_are sheet origins did.1 in
-    let d =
-    next_drawn header at old new r.entry did.0 before now known behind split (did.1.sources_are ∙ ap (λ (s : Sheet). sources_of s r.entry.moves) sheet) did.2 in
+    let sources : did.0.sources.items ≡ sources_of old.sheet r.entry.moves = did.1.sources_are ∙ ap (λ (s : Sheet). sources_of s r.entry.moves) sheet in
+    let d = next_drawn header at old new r.entry did.0 before now known behind split sources did.2 in
     record { within = within; read = r; behind = behind; drawn = d.0; now_is = d.1; drawings = d.2 }

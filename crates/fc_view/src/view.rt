@@ -121,7 +121,8 @@ fn draw_entries<C: Canvas>(
     let mut place = start;
     while place < bytes.len() {
         if bytes[place] == b's' {
-            return Ok(seen_at_session(behind.progress.history.len(), place, &bytes[place..]));
+            let told = behind.progress.history.len();
+            return Ok(seen_at_session(told, place, &bytes[place..]));
         }
         if behind.progress.history.len() == MAX_ENTRIES {
             return Err(ViewStop::LogFull);
@@ -132,7 +133,8 @@ fn draw_entries<C: Canvas>(
             Err(stop) => return Err(stop),
         }
     }
-    Ok(Seen::Right(behind.progress.history.len() as u64))
+    let all = behind.progress.history.len();
+    Ok(Seen::Right(all as u64))
 }
 
 /// Puts all moves and the room of volumes, where all entries are right and all were to be drawn.

@@ -53,7 +53,7 @@ returns-then-bytes-place-eq115 g c =
     let history = c.loop-place.behind.progress.history in
     viewed header c.args.at bytes place c.loop-place.behind c.seen_at_session.result (g.C.Canvas.drawn c.args.canvas.now) (g.C.Canvas.drawn c.loop-place.canvas)
     c.loop-place.invariant
-    (from_place bytes place (λ l. EndsAs c.seen_at_session.result header history place l) (c.seen_at_session.ensures header history c.len.ensures))
+    (from_place bytes place (λ l. EndsAs c.seen_at_session.result header history place l) (c.seen_at_session.ensures header history c.len-told.ensures))
 
 pub returns-in-Ok-Ends : goal.returns-in-Ok-Ends
 returns-in-Ok-Ends g c =
@@ -72,3 +72,8 @@ returns-in-Ok-Ends g c =
 
 pub returns-in-Err : goal.returns-in-Err
 returns-in-Err g c = want_viewed c.in-Err.stop c.args.at c.args.bytes.now (g.C.Canvas.drawn c.args.canvas.now) (g.C.Canvas.drawn c.draw_next.new.canvas) c.in-Err.ensures.refused
+
+pub returns : goal.returns
+returns g c =
+    viewed_all c.args.header.now c.args.at c.args.bytes.now c.loop-place.place c.loop-place.behind c.len-all.result (g.C.Canvas.drawn c.args.canvas.now)
+    (g.C.Canvas.drawn c.loop-place.canvas) c.loop-place.invariant c.len-all.ensures (omega (arith, c.loop-place-test.false))

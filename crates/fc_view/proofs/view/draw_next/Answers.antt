@@ -39,11 +39,6 @@ returns-in-Ok-draw_last-clause-next g c =
     c.len-ways.ensures refl refl c.in-Ok-draw_last.ensures.progress c.in-Ok-draw_last.ensures.shown
 
 pub returns-in-Err-Malformed-clause-next : goal.returns-in-Err-Malformed-clause-next
-returns-in-Err-Malformed-clause-next g c = (
-  record {
-    count = c.in-Err-Malformed.stopped;
-    stopped_is = refl;
-    stops = inl (rw c.in-Err-Malformed.field-0-is at c.in-Err-Malformed.ensures.malformed);
-  },
-  refl,
-)
+returns-in-Err-Malformed-clause-next g c =
+    let stops = rw c.in-Err-Malformed.field-0-is at c.in-Err-Malformed.ensures.malformed in
+    rw c.in-Err-Malformed.field-0-is (record { count = c.in-Err-Malformed.stopped; stopped_is = refl; stops = inl stops }, refl)

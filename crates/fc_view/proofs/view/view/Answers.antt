@@ -23,13 +23,3 @@ returns-in-Fault g c =
     viewed_fault c.args.at before after c.in-Ok.input.bytes.items (g.C.Canvas.drawn c.args.canvas.now)
     (subst (λ (e : InputEnd). TakenTo e before c.in-Ok.input.bytes.items after) c.in-Fault.is c.in-Ok.ensures.taken)
 
-pub returns-in-TooLong : goal.returns-in-TooLong
-returns-in-TooLong g c =
-    let before = g.S.Source.meaning c.args.source.now in
-    let after = g.S.Source.meaning c.take_input.new.source in
-    viewed_long c.args.at before after c.in-Ok.input.bytes.items (g.C.Canvas.drawn c.args.canvas.now)
-    (subst (λ (e : InputEnd). TakenTo e before c.in-Ok.input.bytes.items after) c.in-TooLong.is c.in-Ok.ensures.taken)
-
-pub returns-in-Err : goal.returns-in-Err
-returns-in-Err g c =
-    viewed_some c.args.at (g.S.Source.meaning c.args.source.now) (g.S.Source.meaning c.take_input.new.source) (g.C.Canvas.drawn c.args.canvas.now) c.in-Err.ensures.some
