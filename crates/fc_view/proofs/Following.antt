@@ -139,9 +139,9 @@ numbered size old new bytes count r few before entry split =
 
 -- What was known, then the entry was read and is right, and then it was followed.
 module _ (header : Header) (old mid new : Behind) (bytes : List ℕ) (count ways : ℕ) (step : Followed) (known : IsBehind header old)
-         (r : ReadNext header.grain old.progress.history bytes count new.progress.history) (read : IsProgress header new.progress)
-         (unbroken : new.progress.wrong ≡ None) (ways_are : ways ≡ length old.progress.candidates.ways) (sheet : mid.sheet ≡ old.sheet)
-         (origins : mid.origins ≡ old.origins) (followed : IsFollowed header.grain ways r.entry mid step new) where
+    (r : ReadNext header.grain old.progress.history bytes count new.progress.history) (read : IsProgress header new.progress)
+    (unbroken : new.progress.wrong ≡ None) (ways_are : ways ≡ length old.progress.candidates.ways) (sheet : mid.sheet ≡ old.sheet)
+    (origins : mid.origins ≡ old.origins) (followed : IsFollowed header.grain ways r.entry mid step new) where
   there : new.progress.history.entries ≡ old.progress.history.entries ++ r.entry ∷ []
   there = entries_more header.grain old.progress.history new.progress.history bytes count r
 

@@ -79,8 +79,8 @@ shown_after (Err x) size ways at old new step before_all after_all progress foll
 
 -- What is known before an entry and behind it, and how it was drawn.
 module _ (header : Header) (old new : Behind) (entry : Entry) (step : Step) (d : Drawn) (known : IsBehind header old) (now : IsBehind header new)
-         (split : new.progress.history.entries ≡ old.progress.history.entries ++ entry ∷ [])
-         (sources : step.sources.items ≡ sources_of old.sheet entry.moves) (drawn_as : IsDrawnAs header.grain new step entry d) where
+    (split : new.progress.history.entries ≡ old.progress.history.entries ++ entry ∷ [])
+    (sources : step.sources.items ≡ sources_of old.sheet entry.moves) (drawn_as : IsDrawnAs header.grain new step entry d) where
   told : MayBeTold header (old.progress.history.entries ++ d.entry ∷ []) (first_of new.progress.candidates.ways new.sheet now.sheet_is).0
   told =
       let last = first_of new.progress.candidates.ways new.sheet now.sheet_is in

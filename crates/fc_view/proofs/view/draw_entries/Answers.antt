@@ -33,9 +33,12 @@ loop-place-smaller g c =
     let new = c.draw_next.new.behind in
     let now = g.C.Canvas.drawn c.loop-place.canvas in
     let next = g.C.Canvas.drawn c.draw_next.new.canvas in
-    omega (arith, next_some header c.args.at (drop place bytes) count c.loop-place.behind new now next
-        (from_place bytes place (λ l. IsNextDrawn header c.args.at c.loop-place.behind l count new now next) (rw c.in-Ok-Drawn.field-0-is at c.in-Ok-Drawn.ensures.next)),
-        c.loop-place-test.true)
+    omega (
+      arith,
+      next_some header c.args.at (drop place bytes) count c.loop-place.behind new now next
+          (from_place bytes place (λ l. IsNextDrawn header c.args.at c.loop-place.behind l count new now next) (rw c.in-Ok-Drawn.field-0-is at c.in-Ok-Drawn.ensures.next)),
+      c.loop-place-test.true,
+    )
 
 pub seen_at_session-requires : goal.seen_at_session-requires
 seen_at_session-requires g c =

@@ -22,4 +22,3 @@ returns-in-Fault g c =
     let after = g.S.Source.meaning c.take_input.new.source in
     viewed_fault c.args.at before after c.in-Ok.input.bytes.items (g.C.Canvas.drawn c.args.canvas.now)
     (subst (λ (e : InputEnd). TakenTo e before c.in-Ok.input.bytes.items after) c.in-Fault.is c.in-Ok.ensures.taken)
-
