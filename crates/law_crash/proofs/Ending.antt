@@ -42,6 +42,7 @@ use Rattle.law_crash.proofs.Failing.{torn_of, StandsTorn, write_torn}
 use Rattle.law_crash.proofs.Lawful.{WriteOf, FillOf, write_of, live_at, moves_in, own_in, chains_in, moves_given, can_write_at, own_is, Ready, ready_marked, ready_unmarked, copy_of, clean_of, fills_in, fills_given, all_found, all_stand}
 use Rattle.law_crash.proofs.Making.{spot_in, steps_in, Moves, At, did_moves, at_first}
 use Rattle.law_crash.proofs.Noting.{with_all, with_sheet, written_sheet}
+use Rattle.law_crash.proofs.Opening.{opens, rests, turned}
 use Rattle.law_crash.proofs.Owning.{CanWriteAt}
 use Rattle.law_crash.proofs.Stopping.{IsMove, IsBehind, which_step, one_step, Goal, torn_at, move_stopped}
 
@@ -205,7 +206,10 @@ all_stopped grain w least r front back step torn p q b x = absurd b.steps_are
 pub crash_law_holds : CrashLaw
 crash_law_holds =
     record {
+      opens = opens;
+      rests = rests;
       recovers = all_found;
       stands = λ grain w least r steps p q entry i b f told. answered grain w least r (asked_write r) steps None q entry i told (all_stand grain w least r steps p q b f);
       stands_stopped = λ grain w least r front back step torn p q entry i b x told. answered grain w least r None front torn q entry i told (all_stopped grain w least r front back step torn p q b x);
+      turned = turned;
     }

@@ -44,10 +44,14 @@ shows_all grain now p one count w i il =
 
 -- ---- with no grain under way
 
+pub found_asked : (grain : GrainSize) (w now : Whole) (least least_now : List Row) (asked : Option Request) (p : Point) → Prefix grain w least asked now least_now → StandsFor grain now least_now p →
+    Recoverable grain p.disks p.kept w least asked None
+found_asked grain w now least least_now asked p is st =
+    recovers grain p.disks p.kept w now least least_now asked None is st.says (shows_all grain now p None st.says.count st.shows) tt
+
 pub found : (grain : GrainSize) (w now : Whole) (least least_now : List Row) (r : Request) (p : Point) → Prefix grain w least (Some r) now least_now → StandsFor grain now least_now p →
     Recoverable grain p.disks p.kept w least (Some r) None
-found grain w now least least_now r p is st =
-    recovers grain p.disks p.kept w now least least_now (Some r) None is st.says (shows_all grain now p None st.says.count st.shows) tt
+found grain w now least least_now r p is st = found_asked grain w now least least_now (Some r) p is st
 
 -- ---- with one
 

@@ -11,5 +11,6 @@ pub mod Answering
 pub mod Lawful
 pub mod Failing
 pub mod Stopping
+pub mod Opening
 pub mod Ending
 mod Examples

@@ -1,5 +1,7 @@
 -- What stands on all disks at a moment, and when it stands for what a history leads to.
-use Rattle.std.specs.Prelude.{if◌then◌else◌, List}
+use Rattle.std.specs.Prelude.{if◌then◌else◌, List, []}
+use Rattle.fc_base.specs.Sheet.{no_slots}
+use Rattle.fc_base.specs.Tables.{no_tables}
 use Rattle.fc_base.specs.declared.size.GrainSize.{GrainSize}
 use Rattle.fc_changed.specs.Row.{Row}
 use Rattle.fc_entry.specs.Picture.{Lost}
@@ -14,6 +16,10 @@ use Rattle.fc_kept.specs.Recoverable.{Says, disks_at}
 pub record Point : Type 0 where
   pub kept : Kept
   pub disks : List (List NamedDisk)
+
+-- Metadata of no volumes. Groups are counted from 1.
+abbrev pub nothing_kept : Kept
+nothing_kept = record { tables = no_tables; next_volume = 0; next_mapping = 0; next_group = 1; sheet = no_slots; rows = []; lost = [] }
 
 -- What all disks of data have of each volume, by the numbers of its grains: each grain stands on a disk of its lane.
 abbrev pub on_disks : GrainSize → Whole → List (List NamedDisk) → Stored
