@@ -1,5 +1,5 @@
 -- Before the first entry, between two, and where metadata is made anew.
-use Rattle.std.proofs.Common.{◌≡◌, ℕ, ◌<◌, Option, Some, None, List, [], ◌∷◌, length, refl, sym, ◌∙◌, arith, ◌⊎◌, inl, inr}
+use Rattle.std.proofs.Common.{◌≡◌, ◌<◌, Option, Some, None, List, [], ◌∷◌, length, refl, sym, ◌∙◌, arith, ◌⊎◌, inl, inr}
 use Rattle.std.proofs.lemmas.List.{length-replicate}
 use Rattle.fc_base.specs.Pools.{Pool}
 use Rattle.fc_base.specs.declared.request.Request.{Request}
