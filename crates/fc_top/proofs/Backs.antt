@@ -6,6 +6,7 @@ use Rattle.std.proofs.lemmas.List.{ext_get_or, get_or-map, length-map}
 use Rattle.std.proofs.lemmas.List.Elements.{All-get_or, All-from_get_or}
 use Rattle.std.proofs.lemmas.List.Sums.{sum-map, sum_by-cons}
 use Rattle.fc_base.specs.declared.size.GrainSize.{GrainSize}
+use Rattle.fc_call.specs.Call.{status_of}
 use Rattle.fc_entry.specs.HistoryState.{HistoryState}
 use Rattle.fc_entry.specs.declared.entry.Entry.{Entry}
 use Rattle.fc_grains.specs.Grains.{pool_of, stopped, silent_of}
@@ -17,7 +18,6 @@ use Rattle.fc_lanes.specs.Dealing.{AreAllIn, AreByLane, disks_in, faults_in}
 use Rattle.fc_stands.specs.Store.{StoreView, StandsFor, IsLaneAt}
 use Rattle.fc_run.specs.declared.ended.Ended.{Ended}
 use Rattle.fc_run.specs.declared.ended.Ended.TheVariants as ended
-use Rattle.fc_top.specs.Call.{status_of}
 use Rattle.fc_owner.specs.FirstTold.{first_told}
 use Rattle.fc_top.specs.DisksBack.{AreBack, AreCounted, DisksAfter}
 use Rattle.fc_owner.specs.StoreRuns.{HasDisks, IsUp, Start, StandsOr}

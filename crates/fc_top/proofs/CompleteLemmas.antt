@@ -10,6 +10,9 @@ use Rattle.fc_base.specs.declared.limits.TheConstants.{LANES}
 use Rattle.fc_base.specs.declared.request.Request.{Request}
 use Rattle.fc_base.specs.declared.request.Request.TheVariants.{Command as Asked, Unread, Read, Write, Copy, Clean, CopyTurn, CleanTurn}
 use Rattle.fc_base.specs.declared.size.GrainSize.{GrainSize}
+use Rattle.fc_call.specs.Call.{Call, session_of, status_of}
+use Rattle.fc_call.specs.declared.status.Status.{Status}
+use Rattle.fc_call.specs.declared.status.Status.TheVariants as status
 use Rattle.fc_complete.proofs.Complete.{completion_law_holds}
 use Rattle.fc_complete.specs.Served.{AreFaultless, IsServed}
 use Rattle.fc_entry.specs.declared.entry.Entry.{Entry}
@@ -25,12 +28,9 @@ use Rattle.fc_run.specs.declared.ended.Ended.{Ended}
 use Rattle.fc_run.specs.declared.ended.Ended.TheVariants as ended
 use Rattle.fc_run.specs.declared.form.Form.{Form}
 use Rattle.fc_lanes.specs.Dealing.{all_dealt, dealt, pools_dealt}
-use Rattle.fc_top.specs.Call.{Call, session_of, status_of}
 use Rattle.fc_top.specs.Complete.{AnswersOnline, Completes, IsAnswered, NoDiskFailed, NoneFailed}
 use Rattle.fc_owner.specs.FirstTold.{first_told}
 use Rattle.fc_top.specs.DisksBack.{DisksAfter}
-use Rattle.fc_top.specs.declared.status.Status.{Status}
-use Rattle.fc_top.specs.declared.status.Status.TheVariants as status
 use Rattle.law_together.proofs.Kept.{IsLegal-keeps}
 
 -- ---- accesses are answered

@@ -5,6 +5,8 @@ use Rattle.std.specs.Option.{option_map}
 use Rattle.fc_base.specs.Count.{HasRisen}
 use Rattle.fc_base.specs.declared.size.GrainSize.TheVariants.{K64}
 use Rattle.fc_blocks.specs.Segments.{cut}
+use Rattle.fc_call.proofs.Statuses.{same_ended}
+use Rattle.fc_call.specs.Call.{Call, session_of}
 use Rattle.fc_entry.specs.Lines.{all_lines}
 use Rattle.fc_gen.specs.Session.{session_text}
 use Rattle.fc_io.specs.Source.{SourceState}
@@ -16,8 +18,6 @@ use Rattle.fc_run.specs.declared.form.Form.TheVariants.{Summary}
 use Rattle.fc_top.proofs.DrillLines.{drill_closed}
 use Rattle.fc_top.proofs.QuietSource.{EachGave-quiet}
 use Rattle.fc_top.proofs.SessionLength.{session_text-short}
-use Rattle.fc_top.proofs.Statuses.{same_ended}
-use Rattle.fc_top.specs.Call.{Call, session_of}
 use Rattle.fc_owner.specs.FirstTold.{first_told}
 use Rattle.fc_top.specs.Ends.{DrillEnds, drill_source}
 use Rattle.fc_top.specs.PlainEnds.{PlainEnds}

@@ -1,6 +1,5 @@
 -- Lemmas, one subject a file.
 pub mod WordLemmas
-pub mod Statuses
 pub mod ArmedBack
 pub mod Backs
 pub mod CompleteLemmas
@@ -10,5 +9,4 @@ pub mod SessionLength
 pub mod DrillLines
 pub mod DrillLemmas
 pub mod TracedLemmas
-pub mod CheckLemmas
 pub mod TheoremLemmas

@@ -1,6 +1,9 @@
 -- How a call ends that ran a session, or for which memory was wanted before.
 use Rattle.std.proofs.Common.{◌≡◌, ℕ, ◌⊎◌, ◌≤◌, List, [], ◌∷◌, codes, length, refl, sym, subst, ap, inl, inr, arith}
 use Rattle.fc_base.specs.declared.size.GrainSize.{GrainSize}
+use Rattle.fc_call.specs.Call.{Call, empty, session_of, status_of}
+use Rattle.fc_call.specs.declared.status.Status.{Status}
+use Rattle.fc_call.specs.declared.status.Status.TheVariants as status
 use Rattle.fc_entry.specs.HistoryState.{HistoryState}
 use Rattle.fc_entry.specs.declared.entry.Entry.{Entry}
 use Rattle.fc_io.specs.Source.{SourceState}
@@ -15,14 +18,11 @@ use Rattle.fc_run.specs.declared.ended.Ended.TheVariants as ended
 use Rattle.fc_run.specs.declared.form.Form.{Form}
 use Rattle.fc_top.proofs.CompleteLemmas.{completes}
 use Rattle.fc_owner.proofs.SessionOver.{starved_at_once, gave_nothing}
-use Rattle.fc_top.specs.Call.{Call, empty, session_of, status_of}
 use Rattle.fc_owner.specs.FirstTold.{first_told}
 use Rattle.fc_top.specs.DisksBack.{DisksAfter}
 use Rattle.fc_top.specs.PlainEnds.{PlainEnds}
 use Rattle.fc_owner.specs.PlainRuns.{plain_runs}
 use Rattle.fc_owner.specs.StoreRuns.{IsOver, StandsOr}
-use Rattle.fc_top.specs.declared.status.Status.{Status}
-use Rattle.fc_top.specs.declared.status.Status.TheVariants as status
 
 -- The disks come back as they should, by what is told at the end.
 abbrev pub ComeBack : GrainSize → Call → (Whole → Type 0) → Type 0

@@ -5,20 +5,20 @@ use Rattle.fc_args.specs.Grammar.{is_offered}
 use Rattle.fc_args.specs.declared.asked.Asked.{Asked}
 use Rattle.fc_args.specs.declared.asked.Asked.TheVariants.{Run, Drill, Check, Stop}
 use Rattle.fc_base.specs.declared.size.GrainSize.TheVariants.{K64}
+use Rattle.fc_call.specs.Call.{Call, empty}
+use Rattle.fc_call.specs.declared.status.Status.TheVariants as status
 use Rattle.fc_entry.specs.HistoryState.{HistoryState}
 use Rattle.fc_io.specs.Source.{SourceState}
 use Rattle.fc_run.proofs.TakesLemmas.{EachGave-none}
 use Rattle.fc_run.specs.Takes.{EachGave}
 use Rattle.fc_run.specs.declared.form.Form.TheVariants.{Summary}
-use Rattle.fc_top.proofs.CheckLemmas.{starved_check}
 use Rattle.fc_top.proofs.DrillLemmas.{drill_ends}
 use Rattle.fc_top.proofs.PlainLemmas.{starved_ends}
 use Rattle.fc_top.proofs.WordLemmas.{run-uncached}
-use Rattle.fc_top.specs.Call.{Call, empty}
 use Rattle.fc_top.specs.Ends.{AsksNothing, Ends, drill_source}
 use Rattle.fc_top.specs.Traced.{run_form}
 use Rattle.fc_top.specs.Theorem.{Theorem}
-use Rattle.fc_top.specs.declared.status.Status.TheVariants as status
+use Rattle.fc_verdict.proofs.CheckLemmas.{starved_check}
 
 -- What is asked for was run.
 pub theorem_run :

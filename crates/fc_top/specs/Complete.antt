@@ -7,6 +7,9 @@ use Rattle.fc_base.specs.declared.request.Reply.TheVariants.{Done, NoMemory}
 use Rattle.fc_base.specs.declared.request.Request.{Request}
 use Rattle.fc_base.specs.declared.request.Request.TheVariants.{Read, Write}
 use Rattle.fc_base.specs.declared.size.GrainSize.{GrainSize}
+use Rattle.fc_call.specs.Call.{Call}
+use Rattle.fc_call.specs.declared.status.Status.{Status}
+use Rattle.fc_call.specs.declared.status.Status.TheVariants as status
 use Rattle.fc_complete.specs.Law.{AreServed, IsOnline, GivesBytes}
 use Rattle.fc_entry.specs.declared.entry.Entry.{Entry}
 use Rattle.fc_io.specs.Source.{SourceState}
@@ -14,10 +17,7 @@ use Rattle.fc_legal.specs.Legal.{IsNamed, IsNext}
 use Rattle.fc_legal.specs.Whole.{Whole}
 use Rattle.fc_mdisk.specs.Disk.{DiskState}
 use Rattle.fc_mdisk.specs.Disks.{faults_of}
-use Rattle.fc_top.specs.Call.{Call}
 use Rattle.fc_owner.specs.FirstTold.{first_told}
-use Rattle.fc_top.specs.declared.status.Status.{Status}
-use Rattle.fc_top.specs.declared.status.Status.TheVariants as status
 
 -- No call failed.
 abbrev pub NoneFailed : ℕ → ℕ → Type 0

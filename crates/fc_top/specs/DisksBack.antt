@@ -2,14 +2,14 @@
 use Rattle.std.specs.Prelude.{◌≡◌, ℕ, zero, suc, ◌+◌, ◌<◌, ◌≤◌, ◌^◌, List, [], ◌∷◌, ◌++◌, reverse}
 use Rattle.std.specs.List.{All, sum}
 use Rattle.fc_base.specs.declared.volume.Volume.{Volume}
+use Rattle.fc_call.specs.declared.status.Status.{Status}
+use Rattle.fc_call.specs.declared.status.Status.TheVariants as status
 use Rattle.fc_entry.specs.declared.entry.Entry.{Entry}
 use Rattle.fc_grains.specs.Grains.{pool_of, silent_of}
 use Rattle.fc_legal.specs.Whole.{Whole, lanes}
 use Rattle.fc_mdisk.specs.Disk.{DiskState}
 use Rattle.fc_mdisk.specs.Disks.{calls_of, faults_of}
 use Rattle.fc_stands.specs.Arming.{ArmNothing, IsArmedSince, armed_since}
-use Rattle.fc_top.specs.declared.status.Status.{Status}
-use Rattle.fc_top.specs.declared.status.Status.TheVariants as status
 
 -- No count has come to 2^64 - 1, where it would stand still.
 abbrev pub AreCounted : List ℕ → Type 0

@@ -4,14 +4,14 @@ use Rattle.fc_args.specs.declared.asked.Asked.{Asked}
 use Rattle.fc_args.specs.declared.asked.Asked.TheVariants.{Run, Drill, Check, Stop}
 use Rattle.fc_args.specs.declared.asked.RunOptions.{RunOptions}
 use Rattle.fc_base.specs.declared.size.GrainSize.TheVariants.{K64}
+use Rattle.fc_call.specs.Call.{Call, empty}
+use Rattle.fc_call.specs.declared.status.Status.TheVariants as status
 use Rattle.fc_gen.specs.Session.{session_text}
 use Rattle.fc_io.specs.Source.{SourceState}
 use Rattle.fc_run.specs.declared.form.Form.TheVariants.{Summary}
-use Rattle.fc_top.specs.Call.{Call, empty}
-use Rattle.fc_top.specs.CheckEnds.{CheckEnds}
 use Rattle.fc_top.specs.PlainEnds.{PlainEnds}
 use Rattle.fc_top.specs.Traced.{run_form}
-use Rattle.fc_top.specs.declared.status.Status.TheVariants as status
+use Rattle.fc_verdict.specs.CheckEnds.{CheckEnds}
 
 -- The words aren't in the grammar: the status says so, or memory was wanted before it was known. Nothing is read, answered or
 -- written, and the disks are as they were.

@@ -1,10 +1,7 @@
 -- What a call of the program promises, one subject a file, to be read top to bottom.
-pub mod Codes
-pub mod Call
 pub mod DisksBack
 pub mod Complete
 pub mod PlainEnds
 pub mod Traced
-pub mod CheckEnds
 pub mod Ends
 pub mod Theorem

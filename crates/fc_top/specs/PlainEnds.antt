@@ -1,6 +1,8 @@
 -- How a call ends that runs a session: the points of the theorem by name.
 use Rattle.std.specs.Prelude.{◌≡◌, ◌⊎◌}
 use Rattle.fc_base.specs.declared.size.GrainSize.{GrainSize}
+use Rattle.fc_call.specs.Call.{Call, empty, session_of, status_of}
+use Rattle.fc_call.specs.declared.status.Status.TheVariants.{NoMemory}
 use Rattle.fc_io.specs.Source.{SourceState}
 use Rattle.fc_legal.specs.Added.{IsOf}
 use Rattle.fc_legal.specs.Legal.{IsLegal}
@@ -8,12 +10,10 @@ use Rattle.fc_legal.specs.Whole.{Whole}
 use Rattle.fc_run.specs.Headline.{SessionEnds}
 use Rattle.fc_run.specs.declared.ended.Ended.{Ended}
 use Rattle.fc_run.specs.declared.form.Form.{Form}
-use Rattle.fc_top.specs.Call.{Call, empty, session_of, status_of}
 use Rattle.fc_top.specs.Complete.{Completes}
 use Rattle.fc_owner.specs.FirstTold.{first_told}
 use Rattle.fc_top.specs.DisksBack.{DisksAfter}
 use Rattle.fc_owner.specs.PlainRuns.{plain_runs}
-use Rattle.fc_top.specs.declared.status.Status.TheVariants.{NoMemory}
 
 -- The session is read from this source, with grains of this size, and its history is written in this form.
 pub record PlainEnds (form : Form) (grain : GrainSize) (source source' : SourceState) (call : Call) : Type 0 where

@@ -1,10 +1,10 @@
 -- The main theorem: what every call of the program promises, by what its words ask for.
 use Rattle.std.specs.Prelude.{◌≡◌, ◌≤◌, length, Option, None}
 use Rattle.fc_args.specs.declared.asked.Asked.{Asked}
+use Rattle.fc_call.specs.Call.{Call}
+use Rattle.fc_call.specs.declared.status.Status.TheVariants as status
 use Rattle.fc_run.specs.Takes.{EachGave}
-use Rattle.fc_top.specs.Call.{Call}
 use Rattle.fc_top.specs.Ends.{Ends}
-use Rattle.fc_top.specs.declared.status.Status.TheVariants as status
 
 pub record Theorem (asked : Option Asked) (call : Call) : Type 0 where
   -- the status is Usage only where the words ask for nothing

@@ -2,9 +2,9 @@
 
 ghost use Rattle.std.specs.Prelude.{◌≡◌, ◌≢◌, ◌≤◌, ◌<◌, ◌^◌, map, length, vec_len};
 ghost use Rattle.std.specs.List.{All};
+ghost use Rattle.fc_call.specs.Call.{empty};
 ghost use Rattle.fc_io.specs.Source.{SourceState};
 ghost use Rattle.fc_mdisk.specs.Disk.{IsFresh};
-ghost use Rattle.fc_top.specs.Call.{empty};
 ghost use Rattle.fc_top.specs.Ends.{DrillEnds};
 
 use crate::gate::Gate;

@@ -3,11 +3,10 @@
 ghost use Rattle.std.specs.Prelude.{◌≡◌, ◌<◌, ◌^◌, true, Some, map, vec_len};
 ghost use Rattle.std.specs.List.{All};
 ghost use Rattle.fc_args.specs.Grammar.{asked_by, is_offered};
+ghost use Rattle.fc_call.specs.Call.{empty};
 ghost use Rattle.fc_mdisk.specs.Disk.{IsFresh};
-ghost use Rattle.fc_top.specs.Call.{empty};
 ghost use Rattle.fc_top.specs.Theorem.{Theorem};
 
-use crate::check::run_check;
 use crate::drill::run_drill;
 use crate::gate::Gate;
 use crate::plain::run_plain;
@@ -20,6 +19,7 @@ use fc_entry::history::History;
 use fc_io::sink::Sink;
 use fc_io::source::Source;
 use fc_mdisk::mdisk::Mdisk;
+use fc_verdict::check::run_check;
 use std::alloc::Global;
 use std::sync::Wait;
 use std::thread::Threads;
@@ -120,12 +120,12 @@ pub type BoxedDisk = Box<dyn Mdisk + Send>;
 ///
 /// The main theorem (specs/Theorem) is all that is promised, for each answer: the history that is left is legal and has the
 /// actors that are told; by the answer it is known which bytes were taken, which of their lines the history answers, and what was
-/// written and sent on (specs/PlainEnds, and fc_run's specs/Headline; of a check specs/CheckEnds); the disks come back as specs/DisksBack says; where no call
-/// failed and there is room it is done, and where no disk failed its accesses are answered, but for want of memory
-/// (specs/Complete). Two calls that ask for the same, and in which nothing failed, write the same, but for the faults that a trace
-/// tells (`law_outcome`). Each call of
-/// the source but the last gives a byte or more (fc_run's specs/Takes). The actors of a block are threads of the runtime, and the
-/// gate only delays them: it is reached by each actor at each of its requests. A call over a session with blocks may wait.
+/// written and sent on (specs/PlainEnds, and fc_run's specs/Headline; of a check fc_verdict's specs/CheckEnds); the disks come back as
+/// specs/DisksBack says; where no call failed and there is room it is done, and where no disk failed its accesses are answered, but
+/// for want of memory (specs/Complete). Two calls that ask for the same, and in which nothing failed, write the same, but for the
+/// faults that a trace tells (`law_outcome`). Each call of the source but the last gives a byte or more (fc_run's specs/Takes). The
+/// actors of a block are threads of the runtime, and the gate only delays them: it is reached by each actor at each of its requests.
+/// A call over a session with blocks may wait.
 pub fn flashcopy<R: Threads + Wait + Sync, S: Source, K: Sink, G: Gate>(
     rt: &R,
     alloc: Global,

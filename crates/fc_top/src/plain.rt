@@ -2,6 +2,7 @@
 
 ghost use Rattle.std.specs.Prelude.{◌≡◌, ◌≢◌, ◌≤◌, ◌<◌, ◌^◌, [], ◌∷◌, List, None, map, length, codes, vec_len, vec_capacity, OnOk, OnErr};
 ghost use Rattle.std.specs.List.{All};
+ghost use Rattle.fc_call.specs.Call.{empty};
 ghost use Rattle.fc_grains.specs.Grains.{pool_of, silent_of, total_of};
 ghost use Rattle.fc_io.specs.Source.{SourceState};
 ghost use Rattle.fc_lanes.specs.Dealing.{disks_in};
@@ -9,7 +10,6 @@ ghost use Rattle.fc_mdisk.specs.Disk.{DiskState, IsFresh};
 ghost use Rattle.fc_run.specs.Takes.{EachGave};
 ghost use Rattle.fc_stands.specs.Quiet.{AreQuiet};
 ghost use Rattle.fc_stands.specs.Store.{StandsFor};
-ghost use Rattle.fc_top.specs.Call.{empty};
 ghost use Rattle.fc_owner.specs.FirstTold.{first_told};
 ghost use Rattle.fc_top.specs.PlainEnds.{PlainEnds};
 ghost use Rattle.fc_owner.specs.StoreRuns.{CanRun, IsBlockRun};

@@ -1,7 +1,9 @@
 -- What was drawn so far, and how a view ends.
-use Rattle.std.proofs.Common.{◌≡◌, ℕ, ◌+◌, ◌-◌, ◌<◌, ◌≤◌, Option, Some, None, Ok, Err, Result, List, [], ◌∷◌, ◌++◌, length, take, drop, inl, inr, refl, sym, ap, subst, ◌∙◌, arith}
-use Rattle.std.proofs.lemmas.List.{length-drop}
+use Rattle.std.proofs.Common.{◌≡◌, ℕ, ◌+◌, ◌-◌, ◌<◌, ◌≤◌, Option, Some, None, IfSome, Ok, Err, Result, List, [], ◌∷◌, ◌++◌, length, take, drop, inl, inr, refl, sym, ap, subst, ◌∙◌, arith}
+use Rattle.std.proofs.lemmas.List.{drop_all, length-drop, take_rest}
 use Rattle.fc_check.specs.Checked.{IsAll}
+use Rattle.fc_check.specs.Input.{TakenSome, TakenTo}
+use Rattle.fc_check.specs.declared.input.InputEnd.TheVariants.{Over, Fault, TooLong as InputTooLong}
 use Rattle.fc_check.specs.Progress.{IsProgress}
 use Rattle.fc_check.specs.Traces.{IsFull, IsTraceOf, nothing_told}
 use Rattle.fc_check.proofs.StopLemmas.{read_some, trace_read}
@@ -9,7 +11,7 @@ use Rattle.fc_check.proofs.TraceLemmas.{trace_opened}
 use Rattle.fc_check.proofs.WayLemmas.{legal_of_right}
 use Rattle.fc_drawing.specs.Drawn.{Drawn}
 use Rattle.fc_drawing.specs.declared.drawing.Seen.{Seen}
-use Rattle.fc_drawing.specs.declared.drawing.Seen.TheVariants.{Malformed}
+use Rattle.fc_drawing.specs.declared.drawing.Seen.TheVariants.{Malformed, Right}
 use Rattle.fc_entry.specs.HistoryState.{HistoryState}
 use Rattle.fc_entry.specs.declared.entry.Entry.{Entry}
 use Rattle.fc_io.specs.Source.{SourceState}
@@ -19,7 +21,7 @@ use Rattle.fc_trace.specs.Trace.{header_text}
 use Rattle.fc_trace.specs.declared.header.Header.{Header}
 use Rattle.fc_view.specs.Behind.{IsBehind, IsNextDrawn, IsWant}
 use Rattle.fc_view.specs.Drawings.{AreDrawings}
-use Rattle.fc_view.specs.Views.{EndsAs, IsView, Views, behind_those}
+use Rattle.fc_view.specs.Views.{EndsAs, IsView, IsViewOf, Views, behind_those}
 use Rattle.fc_view.specs.declared.behind.Behind.{Behind}
 use Rattle.fc_view.specs.declared.stop.ViewStop.{ViewStop}
 use Rattle.fc_view.specs.declared.stop.ViewStop.TheVariants.{LogFull, NoMemory, ReadFault, TooLong, WriteFault}
@@ -67,6 +69,10 @@ so_far_more header at bytes place count behind new old now next so_far more = re
 pub next_some : (header : Header) (at : Option ℕ) (bytes : List ℕ) (count : ℕ) (behind new : Behind) (now next : Option (List Drawn)) → IsNextDrawn header at behind bytes count new now next → 0 < count
 next_some header at bytes count behind new now next more = read_some header.grain behind.progress.history new.progress.history bytes count more.read
 
+-- what stands from the place on
+pub from_place : (bytes : List ℕ) (place : ℕ) (Holds : List ℕ → Type 0) → Holds (take (length bytes - place) (drop place bytes)) → Holds (drop place bytes)
+from_place bytes place Holds holds = subst Holds (take_rest bytes place) holds
+
 -- ---- the end
 
 pub viewed : (header : Header) (at : Option ℕ) (bytes : List ℕ) (place : ℕ) (behind : Behind) (seen : Seen) (old now : Option (List Drawn)) → IsSoFar header at bytes place behind old now →
@@ -86,6 +92,11 @@ viewed header at bytes place behind seen old now so_far ends = (
   }),
 )
 
+pub viewed_all : (header : Header) (at : Option ℕ) (bytes : List ℕ) (place : ℕ) (behind : Behind) (count : ℕ) (old now : Option (List Drawn)) → IsSoFar header at bytes place behind old now →
+    count ≡ length behind.progress.history.entries → length bytes ≤ place → IsView (Ok (Right count)) at bytes old now
+viewed_all header at bytes place behind count old now so_far all end =
+    viewed header at bytes place behind (Right count) old now so_far (all, None, drop_all place bytes end)
+
 pub viewed_none : (at : Option ℕ) (bytes : List ℕ) (place : ℕ) (old : Option (List Drawn)) → StopsAt IsHeader bytes place → IsView (Ok (Malformed place)) at bytes old old
 viewed_none at bytes place old stops = ([], sym (behind_none old), inr (stops, refl))
 
@@ -96,13 +107,9 @@ want_viewed ReadFault at bytes old now want = absurd want
 want_viewed TooLong at bytes old now want = absurd want
 want_viewed LogFull at bytes old now want = absurd want
 
--- a failure goes on as it is, whatever was drawn
-pub stop_viewed : (stop : ViewStop) (at : Option ℕ) (bytes : List ℕ) (old now also : Option (List Drawn)) → IsView (Err stop) at bytes old now → IsView (Err stop) at bytes old also
-stop_viewed WriteFault at bytes old now also view = tt
-stop_viewed NoMemory at bytes old now also view = tt
-stop_viewed ReadFault at bytes old now also view = view
-stop_viewed TooLong at bytes old now also view = view
-stop_viewed LogFull at bytes old now also view = view
+-- where no more was drawn
+pub same_viewed : (seen : Seen) (at : Option ℕ) (bytes : List ℕ) (old now next : Option (List Drawn)) → next ≡ now → IsView (Ok seen) at bytes old now → IsView (Ok seen) at bytes old next
+same_viewed seen at bytes old now next same view = subst (λ (n : Option (List Drawn)). IsView (Ok seen) at bytes old n) (sym same) view
 
 -- all bytes of a source
 pub views_all : (answer : Result Seen ViewStop) (at : Option ℕ) (before after : SourceState) (bytes past : List ℕ) (old now : Option (List Drawn)) → IsView answer at bytes old now →
@@ -113,3 +120,26 @@ views_all (Err WriteFault) at before after bytes past old now view all = tt
 views_all (Err NoMemory) at before after bytes past old now view all = tt
 views_all (Err ReadFault) at before after bytes past old now view all = absurd view
 views_all (Err TooLong) at before after bytes past old now view all = absurd view
+
+-- by how taking them ended
+pub viewed_over : (answer : Result Seen ViewStop) (at : Option ℕ) (before after : SourceState) (bytes : List ℕ) (old now : Option (List Drawn)) → TakenTo Over before bytes after →
+    IsView answer at bytes old now → IsViewOf answer at before after old now
+viewed_over answer at before after bytes old now taken view = record {
+  bytes = bytes;
+  past = taken.past;
+  taken = taken.taken;
+  views = views_all answer at before after bytes taken.past old now view taken.ends;
+}
+
+pub viewed_fault : (at : Option ℕ) (before after : SourceState) (bytes : List ℕ) (old : Option (List Drawn)) → TakenTo Fault before bytes after → IsViewOf (Err ReadFault) at before after old old
+viewed_fault at before after bytes old taken = record { bytes = bytes; past = taken.past; taken = taken.taken; views = (taken.ends.0, taken.ends.1, refl) }
+
+pub viewed_long : (at : Option ℕ) (before after : SourceState) (bytes : List ℕ) (old : Option (List Drawn)) → TakenTo InputTooLong before bytes after → IsViewOf (Err TooLong) at before after old old
+viewed_long at before after bytes old taken = record { bytes = bytes; past = taken.past; taken = taken.taken; views = (taken.ends, refl) }
+
+pub viewed_some : (at : Option ℕ) (before after : SourceState) (old : Option (List Drawn)) → TakenSome before after → IsViewOf (Err NoMemory) at before after old old
+viewed_some at before after old taken = record { bytes = taken.bytes; past = taken.past; taken = taken.taken; views = tt }
+
+-- the number of the first wrong one
+pub named_of : (wrong : Option ℕ) (number count : ℕ) → wrong ≡ Some number → IfSome wrong (λ n. n ≡ count) → number ≡ count
+named_of wrong number count is named = subst (λ (w : Option ℕ). IfSome w (λ n. n ≡ count)) is named

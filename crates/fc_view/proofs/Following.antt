@@ -1,10 +1,10 @@
 -- One entry more: the chains of the first way, and the origins.
-use Rattle.std.proofs.Common.{◌≡◌, ◌≢◌, ℕ, zero, suc, ◌+◌, ◌<◌, ◌^◌, Contains, Option, Some, None, List, [], ◌∷◌, ◌++◌, length, take, refl, sym, ap, subst, inl, inr, ◌∙◌, arith, length-append}
+use Rattle.std.proofs.Common.{◌≡◌, ◌≢◌, ℕ, zero, suc, ◌+◌, ◌<◌, ◌^◌, Contains, Option, Some, None, List, [], ◌∷◌, ◌++◌, length, take, get_or, refl, sym, ap, subst, inl, inr, ◌∙◌, arith, length-append}
 use Rattle.std.specs.List.{slice_get}
 use Rattle.std.specs.Option.{option_map}
 use Rattle.std.proofs.lemmas.Grind.{fold-append}
-use Rattle.std.proofs.lemmas.List.{same_from_push, take_all, take_more}
-use Rattle.std.proofs.lemmas.Option.{get_or_from_slice_get, same_Some}
+use Rattle.std.proofs.lemmas.List.{get_or_push, same_from_push, take_all, take_more}
+use Rattle.std.proofs.lemmas.Option.{get_or_from_slice_get, same_Some, slice_get-get_or}
 use Rattle.fc_base.specs.Sheet.{Sheet, no_slots}
 use Rattle.fc_base.specs.declared.request.Place.TheVariants.{Every}
 use Rattle.fc_base.specs.declared.size.GrainSize.{GrainSize}
@@ -12,7 +12,6 @@ use Rattle.fc_check.specs.Progress.{AreAllWays, AreRight, IsFound, IsProgress}
 use Rattle.fc_check.specs.Traces.{nothing_told}
 use Rattle.fc_check.specs.Verdict.{AreLegal, IsFirstWrong}
 use Rattle.fc_check.specs.declared.judge.Progress.{Progress}
-use Rattle.fc_check.proofs.WayLemmas.{read_counted, steps_last}
 use Rattle.fc_check_follow.specs.Ways.{Ways, pools_told}
 use Rattle.fc_entry.specs.HistoryState.{HistoryState}
 use Rattle.fc_entry.specs.Picture.{Picture}
@@ -31,7 +30,7 @@ use Rattle.fc_view.proofs.Stepping.{step_sheet}
 
 -- ---- the last of a list
 
-last_split : {X : Type 0} (xs : List X) (k : ℕ) (x : X) → k + 1 ≡ length xs → slice_get xs k ≡ Some x → xs ≡ take k xs ++ x ∷ []
+pub last_split : {X : Type 0} (xs : List X) (k : ℕ) (x : X) → k + 1 ≡ length xs → slice_get xs k ≡ Some x → xs ≡ take k xs ++ x ∷ []
 last_split xs k x last is =
     sym (take_all (k + 1) xs (omega (arith, last)))
     ∙ take_more xs k x (omega (arith, last))
@@ -40,15 +39,21 @@ last_split xs k x last is =
 pub last_is : {X : Type 0} (xs before : List X) (k : ℕ) (x y : X) → k + 1 ≡ length xs → slice_get xs k ≡ Some x → xs ≡ before ++ y ∷ [] → x ≡ y
 last_is xs before k x y last is split = sym ((same_from_push before (take k xs) y x (sym split ∙ last_split xs k x last is)).1)
 
+pub last_there : {X : Type 0} (xs before : List X) (k : ℕ) (y : X) → k + 1 ≡ length xs → xs ≡ before ++ y ∷ [] → slice_get xs k ≡ Some y
+last_there xs before k y last split =
+    slice_get-get_or xs k y (omega (arith, last))
+    ∙ ap Some (ap (λ l. get_or l k y) split ∙ get_or_push before y y k (omega (arith, last, ap length split, length-append before (y ∷ []))))
+
+-- an entry is followed as the last, which it is
+pub followed_as : (size : GrainSize) (ways : ℕ) (last entry : Entry) (old : Behind) (step : Followed) (new : Behind) → last ≡ entry → IsFollowed size ways last old step new →
+    IsFollowed size ways entry old step new
+followed_as size ways last entry old step new same followed = subst (λ (e : Entry). IsFollowed size ways e old step new) same followed
+
 -- ---- the first way
 
 pub first_of : (ways : List Whole) (sheet : Sheet) → option_map (λ (w : Whole). w.books.sheet) (slice_get ways 0) ≡ Some sheet → (w : Whole) × Contains ways w × (w.books.sheet ≡ sheet)
 first_of [] sheet e = absurd cc
 first_of (w ∷ ways) sheet e = (w, (0, omega arith, refl), same_Some w.books.sheet sheet e)
-
-pub first_told : (ways : List Whole) (sheet : Sheet) (found : Option Whole) → found ≡ slice_get ways 0 → option_map (λ (w : Whole). w.books.sheet) found ≡ Some sheet →
-    option_map (λ (w : Whole). w.books.sheet) (slice_get ways 0) ≡ Some sheet
-first_told ways sheet found is e = ap (option_map (λ (w : Whole). w.books.sheet)) (sym is) ∙ e
 
 pub first_none : (ways : List Whole) → None ≡ slice_get ways 0 → ways ≡ []
 first_none [] e = refl
@@ -93,6 +98,18 @@ one_way : (start w : Whole) → Contains (start ∷ []) w → w ≡ start
 one_way start w (zero, there, e) = sym e
 one_way start w (suc k, there, e) = absurd (omega arith)
 
+record LastStep (grain : GrainSize) (start : Whole) (entries : List Entry) (entry : Entry) (next : Whole) : Type 0 where
+  before : Whole
+  steps : AreSteps grain start entries before
+  step : Step grain before entry next
+
+steps_last : (grain : GrainSize) (start : Whole) (entry : Entry) (next : Whole) (entries : List Entry) → AreSteps grain start (entries ++ entry ∷ []) next → LastStep grain start entries entry next
+steps_last grain start entry next [] steps =
+    record { before = start; steps = refl; step = subst (λ (x : Whole). Step grain start entry x) (sym steps.2) steps.1 }
+steps_last grain start entry next (first ∷ entries) steps =
+    let last = steps_last grain steps.0 entry next entries steps.2 in
+    record { before = last.before; steps = (steps.0, steps.1, last.steps); step = last.step }
+
 -- where there was one way, and there is one again, the chains are those of the one after the entry
 alone : (grain : GrainSize) (start : Whole) (before : List Entry) (entry : Entry) (old new : List Whole) (sheet : Sheet) → length old ≡ 1 →
     AreAllWays grain start before old → AreAllWays grain start (before ++ entry ∷ []) new → new ≢ [] → entry.place ≢ Every →
@@ -121,42 +138,35 @@ numbered size old new bytes count r few before entry split =
     subst (λ (e : Entry). e.number < 2 ^ 32) same (omega (arith, r.is.number_is))
 
 -- What was known, then the entry was read and is right, and then it was followed.
-module _ (header : Header) (old mid new : Behind) (bytes : List ℕ) (count ways : ℕ) (step : Followed)
-         (known : IsBehind header old) (r : ReadNext header.grain old.progress.history bytes count mid.progress.history)
-         (read : IsProgress header mid.progress) (unbroken : mid.progress.wrong ≡ None) (ways_are : ways ≡ length old.progress.candidates.ways)
-         (sheet : mid.sheet ≡ old.sheet) (origins : mid.origins ≡ old.origins) (progress : new.progress ≡ mid.progress)
-         (followed : IsFollowed header.grain ways r.entry mid step new) where
-  start : Whole
-  start = nameless (opened (pools_told header.lanes))
-
-  there : mid.progress.history.entries ≡ old.progress.history.entries ++ r.entry ∷ []
-  there = entries_more header.grain old.progress.history mid.progress.history bytes count r
+module _ (header : Header) (old mid new : Behind) (bytes : List ℕ) (count ways : ℕ) (step : Followed) (known : IsBehind header old)
+    (r : ReadNext header.grain old.progress.history bytes count new.progress.history) (read : IsProgress header new.progress)
+    (unbroken : new.progress.wrong ≡ None) (ways_are : ways ≡ length old.progress.candidates.ways) (sheet : mid.sheet ≡ old.sheet)
+    (origins : mid.origins ≡ old.origins) (followed : IsFollowed header.grain ways r.entry mid step new) where
+  there : new.progress.history.entries ≡ old.progress.history.entries ++ r.entry ∷ []
+  there = entries_more header.grain old.progress.history new.progress.history bytes count r
 
   before : AreRight header old.progress.history.entries old.progress.candidates
   before = right_of header old.progress known.right known.unbroken
 
-  after : AreRight header mid.progress.history.entries mid.progress.candidates
-  after = right_of header mid.progress read unbroken
+  after : AreRight header new.progress.history.entries new.progress.candidates
+  after = right_of header new.progress read unbroken
 
-  chains : AreChains header.grain ways r.entry mid new → first_sheet mid.progress.candidates ≡ Some new.sheet
+  chains : AreChains header.grain ways r.entry mid new → first_sheet new.progress.candidates ≡ Some new.sheet
   chains (inl alike) =
-      alone header.grain (nameless (opened (pools_told header.lanes))) old.progress.history.entries r.entry old.progress.candidates.ways mid.progress.candidates.ways old.sheet
+      alone header.grain (nameless (opened (pools_told header.lanes))) old.progress.history.entries r.entry old.progress.candidates.ways new.progress.candidates.ways old.sheet
       (sym ways_are ∙ alike.0) before.all
-      (subst (λ (l : List Entry). AreAllWays header.grain (nameless (opened (pools_told header.lanes))) l mid.progress.candidates.ways) there after.all)
+      (subst (λ (l : List Entry). AreAllWays header.grain (nameless (opened (pools_told header.lanes))) l new.progress.candidates.ways) there after.all)
       after.some alike.1 known.sheet_is
       ∙ ap Some (sym (alike.2 ∙ ap (λ (s : Sheet). chains_behind header.grain s r.entry) sheet))
-  chains (inr first) =
-      let P : Progress → Type 0 = λ p. first_sheet p.candidates ≡ Some new.sheet in
-      subst P progress (first (λ none. after.some (sym (ap (λ (p : Progress). p.candidates.ways) progress) ∙ none)))
+  chains (inr first) = first after.some
 
   pub behind_more : IsBehind header new
   behind_more = record {
-    right = subst (IsProgress header) (sym progress) read;
-    unbroken = ap (λ (p : Progress). p.wrong) progress ∙ unbroken;
-    sheet_is = ap (λ (p : Progress). first_sheet p.candidates) progress ∙ chains followed.chains_are;
+    right = read;
+    unbroken = unbroken;
+    sheet_is = chains followed.chains_are;
     origins_are =
         followed.origins_are
         ∙ (ap (λ (o : Picture). origin_step header.grain o r.entry) (origins ∙ known.origins_are)
-        ∙ (origins_more header.grain old.progress.history.entries r.entry
-        ∙ ap (origins_of header.grain) (sym (ap (λ (p : Progress). p.history.entries) progress ∙ there))));
+        ∙ (origins_more header.grain old.progress.history.entries r.entry ∙ ap (origins_of header.grain) (sym there)));
   }

@@ -26,8 +26,8 @@ wanted_more : (at : Option ℕ) (entries : List Entry) (entry : Entry) → wante
 wanted_more None entries entry = refl
 wanted_more (Some n) entries entry = elim (eqb_tells n (length entries)) [
   | inl same ↦
-  ap (λ (b : Bool). one_or_none (slice_get entries n) ++ wanted_next b entry) same.0
-  ∙ subst (λ (k : ℕ). one_or_none (slice_get entries k) ++ entry ∷ [] ≡ one_or_none (slice_get (entries ++ entry ∷ []) k)) (sym same.1) (at_same entries entry)
+      ap (λ (b : Bool). one_or_none (slice_get entries n) ++ wanted_next b entry) same.0
+      ∙ subst (λ (k : ℕ). one_or_none (slice_get entries k) ++ entry ∷ [] ≡ one_or_none (slice_get (entries ++ entry ∷ []) k)) (sym same.1) (at_same entries entry)
   | inr apart ↦ ap (λ (b : Bool). one_or_none (slice_get entries n) ++ wanted_next b entry) apart.0 ∙ at_other entries entry n apart.1
 ]
 

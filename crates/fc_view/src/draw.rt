@@ -1,6 +1,6 @@
 //! One entry drawn.
 
-ghost use Rattle.std.specs.Prelude.{◌≡◌, ◌<◌, ◌≢◌, ◌++◌, [], ◌∷◌, List, IfErr, OnOk, is_ok, length};
+ghost use Rattle.std.specs.Prelude.{◌≡◌, ◌<◌, ◌≢◌, ◌++◌, [], ◌∷◌, true, List, IfErr, OnOk, is_ok, length, slice_get};
 ghost use Rattle.fc_entry.specs.declared.entry.Entry.{Entry as ToldEntry};
 ghost use Rattle.fc_drawing.specs.Drawn.{drawn_of};
 ghost use Rattle.fc_view.specs.Behind.{IsDrawnAs, IsWant, WasDrawn, is_wanted};
@@ -63,6 +63,31 @@ impl Behind {
         }
     }
 
+    /// Draws the entry with this number, the last.
+    fn draw_wanted<C: Canvas>(
+        &self,
+        alloc: Global,
+        size: GrainSize,
+        number: usize,
+        step: &Step,
+        shows_chains: bool,
+        canvas: &mut C,
+    ) -> Result<(), ViewStop>
+        requires there { number < length self.now.progress.history.entries }
+        requires told { self.now.progress.candidates.ways ≢ [] }
+        ensures drawn { OnOk result ((entry : ToldEntry) → slice_get self.now.progress.history.entries number ≡ Some entry
+            → WasDrawn true size self.now step.now entry (C.drawn canvas.old) (C.drawn canvas.new)) }
+        ensures refused { IfErr result IsWant }
+    {
+        match self.progress.candidates.first() {
+            Some(way) => {
+                let entry = self.progress.history.entry(number);
+                of_canvas(canvas.draw(alloc, self.drawing(size, way, entry, step, shows_chains)))
+            }
+            None => Ok(()),
+        }
+    }
+
     /// Draws the last entry, where it is to be drawn: with the chains where they may be others than before, or where it alone is drawn.
     pub(crate) fn draw<C: Canvas>(
         &self,
@@ -79,16 +104,10 @@ impl Behind {
         ensures refused { IfErr result IsWant }
     {
         let number = self.progress.history.len() - 1;
-        if !is_wanted(at, number as u64) {
-            return Ok(());
+        if is_wanted(at, number as u64) {
+            let shows_chains = step.changed || at.is_some();
+            return self.draw_wanted(alloc, size, number, step, shows_chains, canvas);
         }
-        match self.progress.candidates.first() {
-            Some(way) => {
-                let entry = self.progress.history.entry(number);
-                let shows_chains = step.changed || at.is_some();
-                of_canvas(canvas.draw(alloc, self.drawing(size, way, entry, step, shows_chains)))
-            }
-            None => Ok(()),
-        }
+        Ok(())
     }
 }

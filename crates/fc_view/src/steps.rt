@@ -153,6 +153,11 @@ fn follows_alone(ways: usize, entry: &Entry) -> bool
     ways == 1 && entry.place != Place::Every
 }
 
+/// Whether chains that don't follow from those before an entry alone may be others than those.
+fn may_differ(changed: bool, ways: usize, entry: &Entry, same_slots: bool) -> bool {
+    changed || ways != 1 || !entry.effects.as_slice().is_empty() || !same_slots
+}
+
 impl Behind {
     /// Goes on behind the last entry of the history, which is right, where all before it may have been told in so many ways, and answers
     /// from whom its moves copied. Refused for want of memory alone; then what is known may be anything.
@@ -183,10 +188,8 @@ impl Behind {
             return Ok(step);
         }
         self.sheet = first_chains(alloc, &self.progress.candidates)?;
-        step.changed = step.changed
-            || ways != 1
-            || !entry.effects.as_slice().is_empty()
-            || self.sheet.len() != slots;
+        let same_slots = self.sheet.len() == slots;
+        step.changed = may_differ(step.changed, ways, entry, same_slots);
         Ok(step)
     }
 }

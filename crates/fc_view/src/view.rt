@@ -121,7 +121,8 @@ fn draw_entries<C: Canvas>(
     let mut place = start;
     while place < bytes.len() {
         if bytes[place] == b's' {
-            return Ok(seen_at_session(behind.progress.history.len(), place, &bytes[place..]));
+            let told = behind.progress.history.len();
+            return Ok(seen_at_session(told, place, &bytes[place..]));
         }
         if behind.progress.history.len() == MAX_ENTRIES {
             return Err(ViewStop::LogFull);
@@ -132,7 +133,8 @@ fn draw_entries<C: Canvas>(
             Err(stop) => return Err(stop),
         }
     }
-    Ok(Seen::Right(behind.progress.history.len() as u64))
+    let all = behind.progress.history.len();
+    Ok(Seen::Right(all as u64))
 }
 
 /// Puts all moves and the room of volumes, where all entries are right and all were to be drawn.
@@ -155,6 +157,32 @@ fn sum_up<C: Canvas>(
     }
 }
 
+/// Draws the entries behind the first line, which ends at this place, and sums up.
+fn draw_all<C: Canvas>(
+    alloc: Global,
+    header: &Header,
+    behind: &mut Behind,
+    start: usize,
+    bytes: &[u8],
+    at: Option<u64>,
+    canvas: &mut C,
+) -> Result<Seen, ViewStop>
+    requires within { start ≤ length bytes.now }
+    requires lanes { AreFour header.now.lanes }
+    requires line { take start bytes.now ≡ header_text header.now.grain header.now.lanes }
+    requires known { IsBehind header.now behind.old }
+    requires none { behind.old.progress.history ≡ nothing_told }
+    ensures { IsView result at bytes.now (C.drawn canvas.old) (C.drawn canvas.new) }
+{
+    match draw_entries(alloc, header, behind, start, bytes, at, canvas) {
+        Ok(seen) => match sum_up(behind, seen, at, canvas) {
+            Ok(()) => Ok(seen),
+            Err(stop) => Err(stop),
+        },
+        Err(stop) => Err(stop),
+    }
+}
+
 /// Draws the entries of a trace whose first line ends at this place, and sums up.
 fn draw_trace<C: Canvas>(
     alloc: Global,
@@ -169,13 +197,10 @@ fn draw_trace<C: Canvas>(
     requires line { take start bytes.now ≡ header_text header.now.grain header.now.lanes }
     ensures { IsView result at bytes.now (C.drawn canvas.old) (C.drawn canvas.new) }
 {
-    let mut behind = match Behind::open(alloc, header) {
-        Ok(behind) => behind,
-        Err(NoMemory) => return Err(ViewStop::NoMemory),
-    };
-    let seen = draw_entries(alloc, header, &mut behind, start, bytes, at, canvas)?;
-    sum_up(&behind, seen, at, canvas)?;
-    Ok(seen)
+    match Behind::open(alloc, header) {
+        Ok(mut behind) => draw_all(alloc, header, &mut behind, start, bytes, at, canvas),
+        Err(NoMemory) => Err(ViewStop::NoMemory),
+    }
 }
 
 /// Draws the entries of a trace from its first line on, and sums up.
@@ -193,6 +218,14 @@ fn draw_bytes<C: Canvas>(
     }
 }
 
+/// Says how the view ends.
+fn end_view<C: Canvas>(seen: Seen, canvas: &mut C) -> Result<(), ViewStop>
+    ensures same { OnOk result (C.drawn canvas.new ≡ C.drawn canvas.old) }
+    ensures refused { IfErr result IsWant }
+{
+    of_canvas(canvas.end(seen))
+}
+
 /// Draws the trace that these bytes are on a canvas: each of its right entries up to the first that isn't, or the one with the number
 /// `at`, and says at the end where it isn't right. A line `session` ends the trace, and what stands behind it isn't looked at.
 ///
@@ -207,9 +240,13 @@ pub fn view_bytes<C: Canvas>(
 ) -> Result<Seen, ViewStop>
     ensures { IsView result at bytes.now (C.drawn canvas.old) (C.drawn canvas.new) }
 {
-    let seen = draw_bytes(alloc, bytes, at, canvas)?;
-    of_canvas(canvas.end(seen))?;
-    Ok(seen)
+    match draw_bytes(alloc, bytes, at, canvas) {
+        Ok(seen) => match end_view(seen, canvas) {
+            Ok(()) => Ok(seen),
+            Err(stop) => Err(stop),
+        },
+        Err(stop) => Err(stop),
+    }
 }
 
 /// Draws the trace that a source gives on a canvas, as `view_bytes` does its bytes. All of it is taken first, in pieces of at most

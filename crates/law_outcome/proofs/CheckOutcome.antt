@@ -2,6 +2,9 @@
 use Rattle.std.proofs.Common.{◌≡◌, ◌⊎◌, ◌∙◌, ℕ, ◌+◌, ◌<◌, ◌≤◌, Bool, true, false, List, [], ◌∷◌, ◌++◌, length, take, drop, Option, Some, None, Result, Ok, Err, refl, sym, ap, subst, arith, inl, inr, append_assoc, append-nil, length-append}
 use Rattle.std.proofs.lemmas.Bool.{cases_lt, false≢true}
 use Rattle.std.proofs.lemmas.List.{get_or_append_left, take-append-drop, take-append-le, take-take}
+use Rattle.fc_call.specs.Call.{Call}
+use Rattle.fc_call.specs.declared.status.Status.{Status}
+use Rattle.fc_call.specs.declared.status.Status.TheVariants as status
 use Rattle.fc_check.proofs.InputTraces.{input_alone}
 use Rattle.fc_check.proofs.LawLemmas.{verdict_law_holds}
 use Rattle.fc_check.specs.Checked.{Answers, IsAll}
@@ -17,11 +20,8 @@ use Rattle.fc_io.specs.Sink.{SinkState, held_with}
 use Rattle.fc_io.specs.Source.{SourceState}
 use Rattle.fc_run.specs.Summary.{form_text}
 use Rattle.fc_run.specs.declared.form.Form.TheVariants.{Text}
-use Rattle.fc_top.specs.Call.{Call}
-use Rattle.fc_top.specs.CheckEnds.{CheckEnds, IsTold, status_said, status_stopped, verdict_line}
+use Rattle.fc_verdict.specs.CheckEnds.{CheckEnds, IsTold, status_said, status_stopped, verdict_line}
 use Rattle.law_outcome.specs.OneOutcome.{HaveOneOutcome, IsByBytes, TookOf}
-use Rattle.fc_top.specs.declared.status.Status.{Status}
-use Rattle.fc_top.specs.declared.status.Status.TheVariants as status
 
 -- ---- what is said of the first bytes of a text that stop being an input of a check is said of all of them
 

@@ -15,6 +15,9 @@ use Rattle.fc_base.specs.Pools.{Pool}
 use Rattle.fc_base.specs.declared.size.GrainSize.{GrainSize}
 use Rattle.fc_base.specs.declared.size.GrainSize.TheVariants.{K64}
 use Rattle.fc_blocks.specs.Segments.{Segment, cut}
+use Rattle.fc_call.specs.Call.{Call, empty, session_of, status_of}
+use Rattle.fc_call.specs.declared.status.Status.TheVariants as status
+use Rattle.fc_call.proofs.Statuses.{same_ended}
 use Rattle.fc_determined.proofs.Determined.{determined_law_holds}
 use Rattle.fc_determined.specs.Law.{IsOneOutcome}
 use Rattle.fc_determined.specs.Smooth.{AreSmooth, TellTheSame, but_for_faults, told_by, without_faults}
@@ -40,7 +43,6 @@ use Rattle.fc_run.specs.declared.ended.Ended.{Ended}
 use Rattle.fc_run.specs.declared.ended.Ended.TheVariants as ended
 use Rattle.fc_run.specs.declared.form.Form.{Form}
 use Rattle.fc_run.specs.declared.form.Form.TheVariants.{Text, Trace, Summary}
-use Rattle.fc_top.specs.Call.{Call, empty, session_of, status_of}
 use Rattle.fc_owner.specs.FirstTold.{first_told}
 use Rattle.fc_top.specs.Ends.{DrillEnds, RunEnds, drill_source}
 use Rattle.law_outcome.specs.OneOutcome.{WentAlike, HaveOneOutcome, TookOf, ReadsOf, IsByBytes, HaveNoBlock, AsksNoBlock, AreAlikeDealt, form_of, HasBytes, OutcomeLaw, tells_faults}
@@ -49,12 +51,10 @@ use Rattle.fc_owner.specs.PlainRuns.{plain_runs}
 use Rattle.fc_owner.specs.Reading.{reading}
 use Rattle.fc_top.specs.Theorem.{Theorem}
 use Rattle.fc_top.specs.Traced.{lane_disks, run_form}
-use Rattle.fc_top.specs.declared.status.Status.TheVariants as status
 use Rattle.law_outcome.proofs.CheckOutcome.{checks}
 use Rattle.fc_owner.proofs.Cutting.{HasMoreSegments, AreLines-front, cut_more}
 use Rattle.fc_top.proofs.DrillLines.{drill_alone}
 use Rattle.law_together.proofs.Kept.{AreSteps-keeps}
-use Rattle.fc_top.proofs.Statuses.{same_ended}
 
 -- ---- a summary doesn't speak of the faults of disks
 

@@ -9,6 +9,9 @@ use Rattle.fc_args.specs.declared.asked.Asked.TheVariants.{Check, Drill, Run}
 use Rattle.fc_base.specs.declared.limits.TheConstants.{LANES}
 use Rattle.fc_base.specs.declared.size.GrainSize.{GrainSize}
 use Rattle.fc_blocks.specs.Segments.{cut}
+use Rattle.fc_call.specs.Call.{Call}
+use Rattle.fc_call.specs.declared.status.Status.{Status}
+use Rattle.fc_call.specs.declared.status.Status.TheVariants.{Done, Unended, LogFull, TooLong, Refuted}
 use Rattle.fc_determined.specs.Smooth.{AreSmooth, told_by}
 use Rattle.fc_entry.specs.Lines.{all_lines}
 use Rattle.fc_io.specs.Source.{SourceState}
@@ -19,12 +22,9 @@ use Rattle.fc_run.specs.Summary.{form_text}
 use Rattle.fc_run.specs.declared.form.Form.{Form}
 use Rattle.fc_run.specs.declared.form.Form.TheVariants.{Text, Trace, Summary}
 use Rattle.fc_lanes.specs.Dealing.{pools_dealt}
-use Rattle.fc_top.specs.Call.{Call}
 use Rattle.fc_top.specs.PlainEnds.{PlainEnds}
 use Rattle.fc_top.specs.Theorem.{Theorem}
 use Rattle.fc_top.specs.Traced.{run_form}
-use Rattle.fc_top.specs.declared.status.Status.{Status}
-use Rattle.fc_top.specs.declared.status.Status.TheVariants.{Done, Unended, LogFull, TooLong, Refuted}
 
 -- In each lane stand as many disks of each kind.
 abbrev pub AreAlikeDealt : List DiskState → List DiskState → Type 0

@@ -2,9 +2,9 @@
 
 ghost use Rattle.std.specs.Prelude.{◌<◌};
 
-use crate::longer::{all_answers, first_lines, session};
 use fc_top::status::Status;
 use made_disks::flat_disks;
+use session_runs::longer::{all_answers, first_lines, session};
 use session_runs::sessions::{Outcome, run_over};
 use session_runs::texts::{COMPLETE_STOPPED, FIRST_VOLUME, NIGHTS_WORK, RESTORED_WRITE, Session};
 use std::alloc::{AllocError, Global};

@@ -11,6 +11,4 @@ mod disks;
 #[cfg(test)]
 mod failing;
 #[cfg(test)]
-mod longer;
-#[cfg(test)]
 mod tests;

@@ -1,8 +1,8 @@
 //! Sessions that end as they should, and such whose calls fail.
 
-use crate::longer::{all_answers, answers_within, lines, session};
 use fc_top::status::Status;
 use made_disks::flat_disks;
+use session_runs::longer::{all_answers, answers_within, lines, session};
 use session_runs::sessions::{run, run_over};
 use session_runs::texts::FIRST_VOLUME;
 use std::alloc::AllocError;

@@ -1,6 +1,8 @@
 -- A drill ends as a session that is read from memory; or memory was wanted for its bytes.
 use Rattle.std.proofs.Common.{ap, map, refl, subst, inr}
 use Rattle.fc_base.specs.declared.size.GrainSize.TheVariants.{K64}
+use Rattle.fc_call.specs.Call.{Call}
+use Rattle.fc_call.specs.declared.status.Status.TheVariants.{NoMemory}
 use Rattle.fc_entry.specs.HistoryState.{HistoryState}
 use Rattle.fc_io.specs.Source.{SourceState}
 use Rattle.fc_run.proofs.TakesLemmas.{EachGave-none}
@@ -8,10 +10,8 @@ use Rattle.fc_run.specs.Takes.{EachGave}
 use Rattle.fc_run.specs.declared.form.Form.TheVariants.{Summary}
 use Rattle.fc_top.proofs.DrillLemmas.{drill_ends, drill_source-made}
 use Rattle.fc_top.proofs.PlainLemmas.{starved_ends}
-use Rattle.fc_top.specs.Call.{Call}
 use Rattle.fc_top.specs.Ends.{drill_source}
 use Rattle.fc_top.specs.PlainEnds.{PlainEnds}
-use Rattle.fc_top.specs.declared.status.Status.TheVariants.{NoMemory}
 use Rattle.fc_top.proofs.drill.run_drill.Goals as goal
 
 pub returns-in-Err-clause-ends : goal.returns-in-Err-clause-ends

@@ -2,11 +2,11 @@
 use Rattle.std.proofs.Common.{◌∙◌, ℕ, Option, List, Bor, inl, map, refl, sym, subst}
 use Rattle.fc_args.specs.Grammar.{asked_by}
 use Rattle.fc_args.specs.declared.asked.Asked.{Asked}
+use Rattle.fc_call.specs.Call.{Call}
+use Rattle.fc_call.specs.declared.status.Status.TheVariants.{Usage, NoMemory}
 use Rattle.fc_top.proofs.TheoremLemmas.{theorem_starved, theorem_unasked}
 use Rattle.fc_top.proofs.WordLemmas.{asked-built}
-use Rattle.fc_top.specs.Call.{Call}
 use Rattle.fc_top.specs.Theorem.{Theorem}
-use Rattle.fc_top.specs.declared.status.Status.TheVariants.{Usage, NoMemory}
 use Rattle.fc_top.proofs.flashcopy.flashcopy_over.Goals as goal
 
 abbrev texts : List (Bor (List ℕ)) → List (List ℕ)

@@ -3,15 +3,15 @@ use Rattle.std.proofs.Common.{◌≡◌, ◌∙◌, true, ap, map, subst}
 use Rattle.fc_args.specs.Grammar.{is_offered}
 use Rattle.fc_args.specs.declared.asked.Asked.{Asked}
 use Rattle.fc_args.specs.declared.asked.Asked.TheVariants.{Run, Drill, Check}
+use Rattle.fc_call.specs.Call.{Call}
 use Rattle.fc_run.proofs.TakesLemmas.{EachGave-none}
-use Rattle.fc_top.proofs.CheckLemmas.{check_few, check_ran, check_takes}
 use Rattle.fc_top.proofs.TheoremLemmas.{theorem_of}
 use Rattle.fc_top.proofs.WordLemmas.{run-uncached}
 use Rattle.fc_run.specs.declared.form.Form.{Form}
-use Rattle.fc_top.specs.Call.{Call}
-use Rattle.fc_top.specs.CheckEnds.{CheckEnds}
 use Rattle.fc_top.specs.PlainEnds.{PlainEnds}
 use Rattle.fc_top.specs.Traced.{run_form}
+use Rattle.fc_verdict.proofs.CheckLemmas.{check_few, check_ran, check_takes}
+use Rattle.fc_verdict.specs.CheckEnds.{CheckEnds}
 use Rattle.fc_top.proofs.flashcopy.run_asked.Goals as goal
 
 pub returns-in-Run : goal.returns-in-Run

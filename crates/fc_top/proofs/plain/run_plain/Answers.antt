@@ -2,6 +2,8 @@
 use Rattle.std.proofs.Common.{◌≡◌, List, ◌∙◌, ap, arith, length, map, refl, subst, inl, inr, vec_capacity}
 use Rattle.std.proofs.lemmas.List.{length-map}
 use Rattle.fc_base.specs.declared.size.GrainSize.{GrainSize}
+use Rattle.fc_call.specs.Call.{Call}
+use Rattle.fc_call.specs.declared.status.Status.TheVariants.{NoMemory}
 use Rattle.fc_entry.specs.HistoryState.{HistoryState}
 use Rattle.fc_grains.proofs.KindCounts.{total-pool}
 use Rattle.fc_grains.specs.Grains.{pool_of, silent_of, total_of}
@@ -9,10 +11,8 @@ use Rattle.fc_lanes.specs.Dealing.{disks_in}
 use Rattle.fc_mdisk.specs.Disk.{DiskState}
 use Rattle.fc_stands.specs.Store.{StandsFor}
 use Rattle.fc_top.proofs.PlainLemmas.{main_told, starved_ends}
-use Rattle.fc_top.specs.Call.{Call}
 use Rattle.fc_owner.specs.FirstTold.{first_told}
 use Rattle.fc_top.specs.PlainEnds.{PlainEnds}
-use Rattle.fc_top.specs.declared.status.Status.TheVariants.{NoMemory}
 use Rattle.fc_top.proofs.plain.run_plain.Goals as goal
 
 pub returns-in-Err-clause-ends : goal.returns-in-Err-clause-ends

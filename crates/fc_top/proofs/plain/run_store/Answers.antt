@@ -1,5 +1,7 @@
 -- The store's disks come back.
 use Rattle.std.proofs.Common.{◌≡◌, ◌++◌, List, length, map, sym, ◌∙◌, ap, subst, arith}
+use Rattle.fc_call.proofs.Statuses.{never_usage}
+use Rattle.fc_call.specs.Call.{Call, status_of}
 use Rattle.fc_grains.specs.Grains.{total_of}
 use Rattle.fc_lanes.specs.Dealing.{disks_in}
 use Rattle.fc_mdisk.specs.Disk.{DiskState}
@@ -9,8 +11,6 @@ use Rattle.fc_stands.specs.Store.{StoreView}
 use Rattle.fc_top.proofs.Backs.{DisksAfter-given}
 use Rattle.fc_top.proofs.PlainLemmas.{plain_ends}
 use Rattle.fc_owner.proofs.SessionOver.{session_disks}
-use Rattle.fc_top.proofs.Statuses.{never_usage}
-use Rattle.fc_top.specs.Call.{Call, status_of}
 use Rattle.fc_top.specs.DisksBack.{DisksAfter}
 use Rattle.fc_owner.specs.StoreRuns.{HasDisks, IsUp, Start}
 use Rattle.fc_top.proofs.plain.run_store.Goals as goal

@@ -1,0 +1,2 @@
+-- What a call promises that checks a trace.
+pub mod CheckEnds
