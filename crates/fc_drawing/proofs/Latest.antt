@@ -49,7 +49,7 @@ last_alike one other zero alike = sym (last_none one) ∙ last_none other
 last_alike one other (suc n) alike =
     last_step one n
     ∙ (ap (λ b. cond b (Some n) (last_below one n)) (alike n (omega arith))
-      ∙ (ap (cond (other n) (Some n)) (last_alike one other n (λ j lt. alike j (omega arith))) ∙ sym (last_step other n)))
+    ∙ (ap (cond (other n) (Some n)) (last_alike one other n (λ j lt. alike j (omega arith))) ∙ sym (last_step other n)))
 
 arrival_more : (arrivals : List Arrival) (a : Arrival) (birth grain : ℕ) →
     last_arrival (arrivals ++ a ∷ []) birth grain (length (arrivals ++ a ∷ [])) ≡ cond (same_place (a.to.slot.0, a.grain) (birth, grain)) (Some (length arrivals)) (last_arrival arrivals birth grain (length arrivals))
@@ -58,15 +58,15 @@ arrival_more arrivals a birth grain =
     let longer : length (arrivals ++ a ∷ []) ≡ suc (length arrivals) = length-append arrivals (a ∷ []) ∙ omega arith in
     ap (last_below test) longer
     ∙ (last_step test (length arrivals)
-      ∙ (ap (λ o. cond (is_brought birth grain o) (Some (length arrivals)) (last_below test (length arrivals))) (at_new arrivals a)
-        ∙ ap (cond (same_place (a.to.slot.0, a.grain) (birth, grain)) (Some (length arrivals)))
-          (last_alike test (λ n. is_brought birth grain (slice_get arrivals n)) (length arrivals) (λ j lt. ap (is_brought birth grain) (at_old arrivals a j lt)))))
+    ∙ (ap (λ o. cond (is_brought birth grain o) (Some (length arrivals)) (last_below test (length arrivals))) (at_new arrivals a)
+    ∙ ap (cond (same_place (a.to.slot.0, a.grain) (birth, grain)) (Some (length arrivals)))
+    (last_alike test (λ n. is_brought birth grain (slice_get arrivals n)) (length arrivals) (λ j lt. ap (is_brought birth grain) (at_old arrivals a j lt)))))
 
 pub latest_more : (arrivals : List Arrival) (a : Arrival) (old new : ℕ × ℕ → Option ℕ) → AreLatest arrivals old →
     ((q : ℕ × ℕ) → new q ≡ cond (same_place (a.to.slot.0, a.grain) q) (Some (length arrivals)) (old q)) → AreLatest (arrivals ++ a ∷ []) new
 latest_more arrivals a old new so more = record {
   known = λ birth grain. more (birth, grain)
-    ∙ (ap (cond (same_place (a.to.slot.0, a.grain) (birth, grain)) (Some (length arrivals))) (so.known birth grain) ∙ sym (arrival_more arrivals a birth grain));
+      ∙ (ap (cond (same_place (a.to.slot.0, a.grain) (birth, grain)) (Some (length arrivals))) (so.known birth grain) ∙ sym (arrival_more arrivals a birth grain));
 }
 
 pub latest_noted : (arrivals reserved noted : List Arrival) (a : Arrival) (old new : ℕ × ℕ → Option ℕ) (n : ℕ) → AreLatest arrivals old → reserved ≡ arrivals → n ≡ length reserved →
@@ -80,5 +80,5 @@ latest_noted arrivals reserved noted a old new n so kept counted more pushed =
 pub latest_none : (arrivals : List Arrival) (latest : ℕ × ℕ → Option ℕ) → arrivals ≡ [] → ((q : ℕ × ℕ) → latest q ≡ None) → AreLatest arrivals latest
 latest_none arrivals latest empty none = record {
   known = λ birth grain. none (birth, grain)
-    ∙ (last_none (λ n. is_brought birth grain (slice_get [] n)) ∙ ap (λ (xs : List Arrival). last_arrival xs birth grain (length xs)) (sym empty));
+      ∙ (last_none (λ n. is_brought birth grain (slice_get [] n)) ∙ ap (λ (xs : List Arrival). last_arrival xs birth grain (length xs)) (sym empty));
 }

@@ -30,6 +30,7 @@ pub struct Arrival {
 #[derive(Drop)]
 pub struct Arrivals {
     all: Vec<Arrival>,
+    /// For a slot, by its birth, and a grain: the number of the last arrival there.
     latest: HashMap<(u64, usize), usize>,
 }
 
