@@ -25,12 +25,12 @@ steps_more : (grain : GrainSize) (start w : Whole) (entry : Entry) (next : Whole
 steps_more grain start w entry next [] steps step = (next, subst (λ (x : Whole). Step grain x entry next) steps step, refl)
 steps_more grain start w entry next (first ∷ entries) steps step = (steps.0, steps.1, steps_more grain steps.0 w entry next entries steps.2 step)
 
-record LastStep (grain : GrainSize) (start : Whole) (entries : List Entry) (entry : Entry) (next : Whole) : Type 0 where
-  before : Whole
-  steps : AreSteps grain start entries before
-  step : Step grain before entry next
+pub record LastStep (grain : GrainSize) (start : Whole) (entries : List Entry) (entry : Entry) (next : Whole) : Type 0 where
+  pub before : Whole
+  pub steps : AreSteps grain start entries before
+  pub step : Step grain before entry next
 
-steps_last : (grain : GrainSize) (start : Whole) (entry : Entry) (next : Whole) (entries : List Entry) → AreSteps grain start (entries ++ entry ∷ []) next → LastStep grain start entries entry next
+pub steps_last : (grain : GrainSize) (start : Whole) (entry : Entry) (next : Whole) (entries : List Entry) → AreSteps grain start (entries ++ entry ∷ []) next → LastStep grain start entries entry next
 steps_last grain start entry next [] steps =
     record { before = start; steps = refl; step = subst (λ (x : Whole). Step grain start entry x) (sym steps.2) steps.1 }
 steps_last grain start entry next (first ∷ entries) steps =
