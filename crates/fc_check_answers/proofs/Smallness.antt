@@ -1,5 +1,5 @@
 -- All grains of what was reached by right entries have numbers below 2^32.
-use Rattle.std.proofs.Common.{◌≡◌, ℕ, ◌+◌, ◌*◌, ◌<◌, ◌≤◌, ◌++◌, ◌∷◌, [], List, Contains, length, sym, subst, arith}
+use Rattle.std.proofs.Common.{◌≡◌, ℕ, ◌*◌, ◌<◌, ◌≤◌, ◌++◌, ◌∷◌, [], List, Contains, length, sym, subst, arith}
 use Rattle.std.proofs.lemmas.List.Elements.{Contains-append_left, Contains-push}
 use Rattle.fc_base.specs.Pools.{Pool}
 use Rattle.fc_base.specs.declared.size.GrainSize.{GrainSize}
@@ -7,7 +7,7 @@ use Rattle.fc_check_answers.proofs.Laws.{deciders, names as names_law, stands}
 use Rattle.fc_check_answers.specs.Small.{AreSmall, IsSmallWay}
 use Rattle.fc_check_follow.specs.Following.{AreCandidates, IsOpen}
 use Rattle.fc_check_record.specs.Judged.{Judged}
-use Rattle.fc_legal.specs.Whole.{Whole, opened}
+use Rattle.fc_legal.specs.Whole.{opened}
 use Rattle.law_stands.specs.Names.{nameless}
 use Rattle.law_stands.specs.Reached.{IsReachedByEntries}
 

@@ -19,8 +19,8 @@ go_on-requires c =
     left_small c.args.ways.items c.pop.new.self.items c.in-Some.last c.in-Some.ensures.items c.requires c.in-Some-pop.way
     (c.loop-way.invariant.given.left_of c.in-Some-pop.way (subst (λ (ways : List Judged). Contains ways c.in-Some-pop.way) (sym c.in-Some-pop.ensures.items) (Contains-push c.pop-in-loop-way.new.self.items c.in-Some-pop.way)))
 
-pub go_on-2-requires : goal.go_on-2-requires
-go_on-2-requires c = last_small c.args.ways.items c.pop.new.self.items c.in-Some.last c.in-Some.ensures.items c.requires
+pub go_on-requires-2 : goal.go_on-requires-2
+go_on-requires-2 c = last_small c.args.ways.items c.pop.new.self.items c.in-Some.last c.in-Some.ensures.items c.requires
 
 pub loop-way-preserved : goal.loop-way-preserved
 loop-way-preserved c = record {
