@@ -1,5 +1,5 @@
 -- Chains and moves worked by hand.
-use Rattle.std.proofs.Common.{◌≡◌, ℕ, Bool, true, false, Option, Some, None, List, [], ◌∷◌, refl}
+use Rattle.std.proofs.Common.{◌≡◌, true, false, Option, Some, None, [], ◌∷◌, refl}
 use Rattle.fc_base.specs.Column.{first_below, last_below, holder}
 use Rattle.fc_base.specs.Sheet.{Sheet, Slot, birth_place}
 use Rattle.fc_base.specs.declared.ids.VolId.{VolId}

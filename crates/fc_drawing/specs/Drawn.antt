@@ -1,5 +1,5 @@
 -- What is drawn of an entry.
-use Rattle.std.specs.Prelude.{ℕ, Option, List, option_map}
+use Rattle.std.specs.Prelude.{Option, List, option_map}
 use Rattle.fc_base.specs.Sheet.{Slot}
 use Rattle.fc_entry.specs.declared.entry.Entry.{Entry}
 use Rattle.fc_drawing.specs.Reasons.{Explained, explained_of}
