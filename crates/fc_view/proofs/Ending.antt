@@ -1,11 +1,10 @@
 -- What was drawn so far, and how a view ends.
-use Rattle.std.proofs.Common.{◌≡◌, ℕ, ◌+◌, ◌-◌, ◌<◌, ◌≤◌, Option, Some, None, IfSome, Ok, Err, Result, List, [], ◌∷◌, ◌++◌, length, take, drop, inl, inr, refl, sym, ap, subst, ◌∙◌, arith}
+use Rattle.std.proofs.Common.{◌≡◌, ℕ, ◌+◌, ◌-◌, ◌<◌, ◌≤◌, Option, Some, None, IfSome, Ok, Err, Result, List, [], ◌++◌, length, take, drop, inl, inr, refl, sym, ap, subst, ◌∙◌, arith}
 use Rattle.std.proofs.lemmas.List.{drop_all, length-drop, take_rest}
 use Rattle.fc_check.specs.Checked.{IsAll}
 use Rattle.fc_check.specs.Input.{TakenSome, TakenTo}
 use Rattle.fc_check.specs.declared.input.InputEnd.TheVariants.{Over, Fault, TooLong as InputTooLong}
-use Rattle.fc_check.specs.Progress.{IsProgress}
-use Rattle.fc_check.specs.Traces.{IsFull, IsTraceOf, nothing_told}
+use Rattle.fc_check.specs.Traces.{IsTraceOf, nothing_told}
 use Rattle.fc_check.proofs.StopLemmas.{read_some, trace_read}
 use Rattle.fc_check.proofs.TraceLemmas.{trace_opened}
 use Rattle.fc_check.proofs.WayLemmas.{legal_of_right}

@@ -1,5 +1,5 @@
 -- What is drawn of one entry more.
-use Rattle.std.proofs.Common.{◌≡◌, ℕ, ◌+◌, ◌≤◌, Bool, true, false, All, Contains, Option, Some, None, Result, Ok, Err, List, [], ◌∷◌, ◌++◌, length, map, refl, sym, ap, subst, ◌∙◌, arith, length-append}
+use Rattle.std.proofs.Common.{◌≡◌, ℕ, ◌+◌, ◌≤◌, Bool, true, false, All, Option, Some, None, Result, Ok, Err, List, [], ◌∷◌, ◌++◌, length, map, refl, sym, ap, subst, ◌∙◌, arith, length-append}
 use Rattle.std.specs.List.{slice_get}
 use Rattle.std.specs.Result.{OnOk, is_ok}
 use Rattle.std.proofs.lemmas.List.{append-nil, append_assoc}
@@ -15,7 +15,6 @@ use Rattle.fc_drawing.specs.Sources.{sources_of}
 use Rattle.fc_drawing.specs.declared.sources.Source.{Source}
 use Rattle.fc_entry.specs.Picture.{Picture}
 use Rattle.fc_entry.specs.declared.entry.Entry.{Entry}
-use Rattle.fc_legal.specs.Whole.{Whole}
 use Rattle.fc_origins.specs.Origins.{origins_of}
 use Rattle.fc_reading_entries.specs.Entries.{ReadNext}
 use Rattle.fc_trace.specs.declared.header.Header.{Header}

@@ -1,5 +1,5 @@
 -- What right entries that are no commands do to the chains.
-use Rattle.std.proofs.Common.{◌≡◌, ℕ, Option, Some, None, List, [], ◌∷◌, fold, refl, sym, ap, subst, ◌∙◌}
+use Rattle.std.proofs.Common.{◌≡◌, ℕ, Option, Some, None, List, [], ◌∷◌, fold, refl, sym, ap, ◌∙◌}
 use Rattle.fc_base.specs.Sheet.{Sheet}
 use Rattle.fc_base.specs.SheetStep.{sheet_moved, sheet_torn, sheet_written}
 use Rattle.fc_base.specs.declared.command.Command.{Command}

@@ -1,5 +1,5 @@
 -- Entry by entry, and how it ends.
-use Rattle.std.proofs.Common.{ℕ, List, Option, length, drop, sym, ap, subst, arith}
+use Rattle.std.proofs.Common.{List, Option, length, drop, sym, ap, subst, arith}
 use Rattle.std.proofs.lemmas.List.{length-drop, take_rest}
 use Rattle.fc_drawing.specs.Drawn.{Drawn}
 use Rattle.fc_view.specs.Behind.{IsNextDrawn}

@@ -1,5 +1,5 @@
 -- It is followed, and then drawn.
-use Rattle.std.proofs.Common.{◌≡◌, ◌≢◌, ℕ, ◌<◌, [], length, sym, subst}
+use Rattle.std.proofs.Common.{◌≢◌, ◌<◌, [], length, sym, subst}
 use Rattle.fc_check.specs.declared.judge.Progress.{Progress}
 use Rattle.fc_view.proofs.Showing.{shown_after}
 use Rattle.fc_view.proofs.view.draw_last.Goals as goal

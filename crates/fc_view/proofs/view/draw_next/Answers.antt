@@ -1,5 +1,5 @@
 -- One entry more, or what ends the view there.
-use Rattle.std.proofs.Common.{ℕ, inl, refl, arith}
+use Rattle.std.proofs.Common.{inl, refl, arith}
 use Rattle.fc_check.proofs.WayLemmas.{read_counted}
 use Rattle.fc_view.specs.declared.behind.Behind.{Behind}
 use Rattle.fc_view.proofs.Ending.{named_of}

@@ -3,7 +3,7 @@ use Rattle.std.proofs.Common.{List, ℕ, subst}
 use Rattle.fc_check.specs.Input.{TakenTo}
 use Rattle.fc_check.specs.declared.input.InputEnd.{InputEnd}
 use Rattle.fc_view.specs.Views.{IsView}
-use Rattle.fc_view.proofs.Ending.{viewed_fault, viewed_long, viewed_over, viewed_some}
+use Rattle.fc_view.proofs.Ending.{viewed_fault, viewed_over}
 use Rattle.fc_view.proofs.view.view.Goals as goal
 
 pub returns-in-Over : goal.returns-in-Over

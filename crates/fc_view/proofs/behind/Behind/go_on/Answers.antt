@@ -1,5 +1,5 @@
 -- The last entry is followed.
-use Rattle.std.proofs.Common.{◌≡◌, ℕ, ◌+◌, ◌-◌, take, length, inl, inr, arith}
+use Rattle.std.proofs.Common.{◌≡◌, ℕ, ◌-◌, take, inl, inr, arith}
 use Rattle.fc_view.proofs.Following.{followed_as, last_is, last_split}
 use Rattle.fc_view.proofs.behind.Behind.go_on.Goals as goal
 

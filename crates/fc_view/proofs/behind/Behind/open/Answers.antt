@@ -1,4 +1,3 @@
-use Rattle.fc_view.specs.declared.behind.Behind.{Behind}
 use Rattle.fc_view.proofs.Following.{behind_opened}
 use Rattle.fc_view.proofs.behind.Behind.open.Goals as goal
 
