@@ -1,9 +1,9 @@
 -- Lemmas, one subject a file.
 mod NumberLemmas
-mod RowLemmas
-mod HyphenLemmas
+pub mod RowLemmas
+pub mod HyphenLemmas
 mod StrayLemmas
-mod Verdicts
+pub mod Verdicts
 mod RunLevel
 mod RunSteps
 mod NumberLevel

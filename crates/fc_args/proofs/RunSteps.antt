@@ -1,5 +1,5 @@
 -- Each word of a run, as `clap` takes it.
-use Rattle.std.proofs.Common.{◌≡◌, ◌∙◌, ℕ, Bool, true, false, cond, List, [], ◌∷◌, Option, Some, None, is_some, option_map, refl, sym, ap, true≢false, codes, option_and_then, ◌⊎◌, inl, inr}
+use Rattle.std.proofs.Common.{◌≡◌, ◌∙◌, ℕ, Bool, true, false, cond, List, [], ◌∷◌, Option, Some, None, is_some, option_map, refl, sym, ap, ap₂, true≢false, codes, option_and_then, ◌⊎◌, inl, inr}
 use Rattle.std.specs.List.{list_any}
 use Rattle.std.specs.Str.{bytes_eq}
 use Rattle.clap.specs.Faults.{long_fault, settle_fault, step_fault, turn_fault, walk_fault}
@@ -7,7 +7,7 @@ use Rattle.clap.specs.Kinds.{Kinds, or_else}
 use Rattle.clap.specs.Walk.{Held, Row, Text, Waiting, Walk, arg_by_long, has_row, idle, long_word, nothing_held, option, positional, settled_rows, used, walk_from, walked}
 use Rattle.clap.specs.declared.error.kind.ErrorKind.{ErrorKind}
 use Rattle.clap.specs.declared.error.kind.ErrorKind.TheVariants as kind
-use Rattle.fc_args.specs.Grammar.{Given, Valued, Grain, Cache, Unknown, flag, give, given_after, given_by, option_named, valued, no_options}
+use Rattle.fc_args.specs.Grammar.{Given, Valued, Grain, Cache, Unknown, flag, give, given_after, given_by, no_options, option_by, option_named, option_of_word, valued}
 use Rattle.fc_args.specs.Program.{is_stray}
 use Rattle.fc_args.proofs.HyphenLemmas.{IsOption, IsPlain, OptionForm, classify, or_parts}
 use Rattle.fc_args.proofs.RunLevel.{Shows, chosen, found_cache, found_grain, found_none, found_trace, give_is, has_chosen, idle_ends, level, name_of, rule_of, rules, shows_trace, shows_valued, trace_rule, value_missing, verdict, verdict_fails, verdict_step, with_value}
@@ -28,6 +28,9 @@ named_by name false false false eg et ec = is_unknown (found_none name eg et ec)
 
 named : (name : Text) → Named name
 named name = named_by name (bytes_eq (codes "grain") name) (bytes_eq (codes "trace") name) (bytes_eq (codes "cache") name) refl refl refl
+
+option_read : (word name : Text) (value : Option Text) → IsOption word name value → option_of_word word ≡ option_named name value
+option_read word name value is = ap option_by is.after ∙ ap₂ option_named is.name_is is.value_is
 
 -- ---- a word of an option, where nothing waits for a value
 
@@ -202,8 +205,8 @@ module _ (word : Text) (words : List Text) (onward : Onward words) (rows : List 
 
   word_goes : IsPlain word ⊎ OptionForm word → verdict (walk_at (held rows pending skip) idle) (word ∷ words) ≡ given_after given None (word ∷ words)
   word_goes (inl is) =
-      verdict_fails _ word words (ap fails (plain_turn (held rows pending skip) word is)) ∙ ap (λ word. continued words (given_by word given)) (sym is.read)
-  word_goes (inr is) = option_goes is.0 is.1 is.2 (named is.0) ∙ ap (λ word. continued words (given_by word given)) (sym is.2.read)
+      verdict_fails _ word words (ap fails (plain_turn (held rows pending skip) word is)) ∙ ap (λ word. continued words (given_by word given)) (ap option_by (sym is.after))
+  word_goes (inr is) = option_goes is.0 is.1 is.2 (named is.0) ∙ ap (λ word. continued words (given_by word given)) (sym (option_read word is.0 is.1 is.2))
 
 module _ (word : Text) (words : List Text) (clean : list_any is_stray words ≡ false) (onward : Onward words) (rows : List Row) (skip : ℕ) (given : Given) (s : Shows rows given) where
   value_taken : (o : Valued) → IsPlain word → (b : Bool) → is_some (chosen o given) ≡ b
