@@ -1,6 +1,6 @@
 -- A word that isn't stray begins with no hyphen, or has the form of an option; a stray one is read as no option. Of any grammar
 -- that reads the word of an option by what follows its two hyphens.
-use Rattle.std.proofs.Common.{◌≡◌, ℕ, ◌==◌, Bool, true, false, not, ◌&&◌, ◌||◌, List, [], ◌∷◌, Bor, Option, Some, None, map, option_and_then, refl, sym, ◌∙◌, true≢false, inl, inr, ◌⊎◌}
+use Rattle.std.proofs.Common.{◌≡◌, ℕ, ◌==◌, Bool, true, false, not, ◌&&◌, ◌||◌, List, [], ◌∷◌, Bor, Option, Some, None, map, option_and_then, refl, sym, true≢false, inl, inr, ◌⊎◌}
 use Rattle.std.specs.List.{before_first, list_any}
 use Rattle.std.specs.Str.{bytes_eq}
 use Rattle.clap.specs.Lexer.{long_of, short_of}

@@ -1,12 +1,14 @@
 -- Rows that a use of an argument adds, and what `clap` adds at the end for one that isn't used.
 use Rattle.std.proofs.Common.{◌≡◌, ◌∙◌, Bool, true, false, ◌||◌, cond, List, [], ◌∷◌, ◌++◌, append-nil, slice_get, Some, None, refl, ap, codes, true≢false}
 use Rattle.std.specs.Str.{bytes_eq}
-use Rattle.clap.specs.Faults.{default_fault}
+use Rattle.clap.specs.Faults.{default_fault, given_default_fault}
+use Rattle.clap.specs.Kinds.{Kinds}
 use Rattle.clap.specs.Simple.{filled}
 use Rattle.clap.specs.Walk.{Row, Rule, Text, at_row, default_rows, first_of, has_row, more_values, reading_by, with_default, with_values, without}
 use Rattle.clap.specs.declared.builder.value_parser.Reading.{Reading}
 use Rattle.clap.specs.declared.parser.matches.ValueSource.{ValueSource}
 use Rattle.clap.specs.declared.parser.matches.ValueSource.TheVariants.{CommandLine, DefaultValue}
+use Rattle.fc_args.specs.Matches.{is_true}
 use Rattle.fc_args.specs.Program.{flag_rule, valued_rule}
 
 -- a row of an id that no row has
@@ -65,21 +67,31 @@ no_default rows a none = go (has_row a.id rows)
     go true = refl
     go false = ap (λ ds. default_rows a.id (reading_by a) ds rows) none
 
+or_nothing : (b c : Bool) (ks : Kinds) → cond c [] ks ≡ [] → cond (b || c) [] ks ≡ []
+or_nothing true c ks e = refl
+or_nothing false c ks e = e
+
 pub valued_passes : (id : Text) (rows : List Row) → default_fault rows (filled (valued_rule id)) ≡ []
-valued_passes id rows = go (has_row id rows) refl
-  where
-    go : (b : Bool) → has_row id rows ≡ b → default_fault rows (filled (valued_rule id)) ≡ []
-    go true e = rw e refl
-    go false e = rw e refl
+valued_passes id rows = or_nothing (has_row id rows) true (given_default_fault (filled (valued_rule id)) []) refl
 
 pub flag_passes : (id : Text) (rows : List Row) → default_fault rows (filled (flag_rule id)) ≡ []
-flag_passes id rows = go (has_row id rows) refl
-  where
-    go : (b : Bool) → has_row id rows ≡ b → default_fault rows (filled (flag_rule id)) ≡ []
-    go true e = rw e refl
-    go false e = rw e refl
+flag_passes id rows = or_nothing (has_row id rows) false [] refl
 
 pub flag_default : (id : Text) (rows : List Row) → has_row id rows ≡ false
     → with_default rows (filled (flag_rule id)) ≡ rows ++ new_row (filled (flag_rule id)) (codes "false" ∷ []) DefaultValue ∷ []
 flag_default id rows none =
     rw none (at_row-new id (more_values DefaultValue (codes "false" ∷ [])) (new_row (filled (flag_rule id)) (codes "false" ∷ []) DefaultValue ∷ []) rows none)
+
+-- what is found at the end under another name, and of the flag itself
+pub flag_other : (id x : Text) (rows : List Row) → bytes_eq id x ≡ false → first_of x (with_default rows (filled (flag_rule id))) ≡ first_of x rows
+flag_other id x rows other = go (has_row id rows) refl
+  where
+    go : (b : Bool) → has_row id rows ≡ b → first_of x (with_default rows (filled (flag_rule id))) ≡ first_of x rows
+    go true e = rw e refl
+    go false e = ap (first_of x) (flag_default id rows e) ∙ first_of-other x rows (new_row (filled (flag_rule id)) (codes "false" ∷ []) DefaultValue) other
+
+pub flag_same : (id : Text) (rows : List Row) (b : Bool) → has_row id rows ≡ b → first_of id rows ≡ cond b (Some (codes "true")) None → bytes_eq id id ≡ true
+    → is_true (first_of id (with_default rows (filled (flag_rule id)))) ≡ b
+flag_same id rows true has first same = rw has (ap is_true first)
+flag_same id rows false has first same =
+    ap (λ rs. is_true (first_of id rs)) (flag_default id rows has) ∙ ap is_true (first_of-new id rows (new_row (filled (flag_rule id)) (codes "false" ∷ []) DefaultValue) has same)

@@ -5,17 +5,20 @@ use Rattle.clap.specs.Faults.{default_fault, defaults_fault, settle_fault, walk_
 use Rattle.clap.specs.Kinds.{or_else}
 use Rattle.clap.specs.Simple.{filled}
 use Rattle.clap.specs.Walk.{Row, Rule, Text, arg_by_long, first_of, has_row, idle, option, reading_by, settled_rows, used, with_default}
-use Rattle.clap.specs.declared.parser.matches.ValueSource.TheVariants.{CommandLine, DefaultValue}
-use Rattle.fc_args.specs.Matches.{is_true}
+use Rattle.clap.specs.declared.parser.matches.ValueSource.TheVariants.{CommandLine}
 use Rattle.fc_args.specs.Program.{flag_rule, valued_rule}
-use Rattle.fc_args.proofs.RowLemmas.{first_of-new, first_of-other, flag_default, flag_passes, has_row-new, has_row-other, new_row, no_default, valued_passes, with_values-new}
-use Rattle.fc_args.proofs.Verdicts.{ended, held, walk_at}
+use Rattle.fc_args.proofs.OptionSteps.{TakesOptions, all_ends}
+use Rattle.fc_args.proofs.RowLemmas.{first_of-new, first_of-other, flag_other, flag_passes, flag_same, has_row-new, has_row-other, new_row, no_default, valued_passes, with_values-new}
+use Rattle.fc_args.proofs.Verdicts.{held, walk_at}
 use Rattle.fc_view_args.specs.Grammar.{Given, give}
 use Rattle.fc_view_args.specs.Matches.{given_in}
 use Rattle.fc_view_args.proofs.Verdicts.{level, read_given, verdict}
 
 abbrev pub rules : List Rule
 rules = level.rules
+
+pub takes : TakesOptions level
+takes = record { once = refl; leaf = refl; no_positional = refl }
 
 abbrev pub at_name : Text
 at_name = codes "at"
@@ -85,27 +88,16 @@ defaults_pass rows =
 given_same : (a b : Given) → a.at ≡ b.at → a.svg ≡ b.svg → a ≡ b
 given_same a b one two = λ i. record { at = one i; svg = two i }
 
-with_svg_default : (rows : List Row) (given : Given) → Shows rows given → (b : Bool) → given.svg ≡ b → given_in (with_default rows svg_filled) ≡ given
-with_svg_default rows given s true e =
-    let same : with_default rows svg_filled ≡ rows = rw (s.has_svg ∙ e) refl in
-    ap given_in same ∙ given_same _ given s.at (ap is_true s.svg ∙ rw e refl)
-with_svg_default rows given s false e =
-    let r : Row = new_row svg_filled (codes "false" ∷ []) DefaultValue in
-    let none : has_row (codes "svg") rows ≡ false = s.has_svg ∙ e in
-    ap given_in (flag_default (codes "svg") rows none) ∙ given_same _ given
-    (first_of-other (codes "at") rows r refl ∙ s.at)
-    (ap is_true (first_of-new (codes "svg") rows r none refl) ∙ sym e)
+with_svg_default : (rows : List Row) (given : Given) → Shows rows given → given_in (with_default rows svg_filled) ≡ given
+with_svg_default rows given s = given_same _ given (flag_other (codes "svg") (codes "at") rows refl ∙ s.at) (flag_same (codes "svg") rows given.svg s.has_svg s.svg refl)
 
 given_at_end : (rows : List Row) (given : Given) → Shows rows given → given_in (fold with_default rows rules) ≡ given
-given_at_end rows given s = ap (λ rs. given_in (with_default rs svg_filled)) (no_default rows at_filled refl) ∙ with_svg_default rows given s given.svg refl
+given_at_end rows given s = ap (λ rs. given_in (with_default rs svg_filled)) (no_default rows at_filled refl) ∙ with_svg_default rows given s
 
 pub idle_ends : (rows : List Row) (pending : Option (Text × List Text)) (skip : ℕ) (given : Given) → settle_fault rules false (held rows pending skip) ≡ []
     → Shows (settled_rows rules pending rows) given → verdict (walk_at (held rows pending skip) idle) [] ≡ Some given
-unfolding walk_fault
 idle_ends rows pending skip given passes s =
-    ap (λ ks. ended read_given (or_else ks (or_else (defaults_fault (settled_rows rules pending rows) rules) [])) (fold with_default (settled_rows rules pending rows) rules)) passes
-    ∙ ap (λ ks. ended read_given (or_else ks []) (fold with_default (settled_rows rules pending rows) rules)) (defaults_pass (settled_rows rules pending rows))
-    ∙ ap Some (given_at_end (settled_rows rules pending rows) given s)
+    all_ends level takes read_given rows pending skip passes (defaults_pass (settled_rows rules pending rows)) refl ∙ ap Some (given_at_end (settled_rows rules pending rows) given s)
 
 pub value_missing : (rows : List Row) (skip : ℕ) → verdict (walk_at (held rows (Some (at_name, [])) skip) (option at_name)) [] ≡ None
 unfolding walk_fault

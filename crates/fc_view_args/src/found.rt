@@ -15,10 +15,7 @@ fn number_given(value: Option<&str>) -> Option<Option<u64>>
     ensures { result ≡ read_if_given drill_number (option_map (λ word. word.now) value.entry) }
 {
     match value {
-        Some(word) => match number(word) {
-            Some(number) => Some(Some(number)),
-            None => None,
-        },
+        Some(word) => number(word).map(Some),
         None => Some(None),
     }
 }
