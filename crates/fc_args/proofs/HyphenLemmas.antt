@@ -29,7 +29,7 @@ pub record IsPlain (word : Text) : Type 0 where
 
 pub plain_word : (word : Text) → begins_with_hyphen word ≡ false → IsPlain word
 plain_word [] none = record { no_end = refl; long = refl; short = refl; after = refl; hyphen = refl }
-plain_word (a ∷ []) none = record { no_end = rw none refl; long = rw none refl; short = rw none refl; read = refl; hyphen = none }
+plain_word (a ∷ []) none = record { no_end = rw none refl; long = rw none refl; short = rw none refl; after = refl; hyphen = none }
 plain_word (a ∷ b ∷ rest) none = record { no_end = rw none refl; long = rw none refl; short = rw none refl; after = rw none refl; hyphen = none }
 
 abbrev pub OptionForm : Text → Type 0
