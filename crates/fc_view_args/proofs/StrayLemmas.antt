@@ -2,7 +2,6 @@
 use Rattle.std.proofs.Common.{◌≡◌, Bool, true, false, cond, List, ◌∷◌, None, refl, ap, option_and_then}
 use Rattle.std.specs.List.{list_any}
 use Rattle.clap.specs.Words.{Text}
-use Rattle.fc_args.specs.Grammar.{begins_with_hyphen}
 use Rattle.fc_args.specs.Program.{is_stray}
 use Rattle.fc_args.proofs.HyphenLemmas.{none_after, stray_fails, stray_hyphen, stray_option}
 use Rattle.fc_view_args.specs.Grammar.{Given, give, give_next, given_after, given_by, no_options, option_by, option_of_word, wanted_by, wanted_of_words}
