@@ -1,9 +1,10 @@
--- Lemmas, one subject a file.
+-- Lemmas, one subject a file. Those that the words of any command are read by are public.
 mod NumberLemmas
-mod RowLemmas
-mod HyphenLemmas
+pub mod RowLemmas
+pub mod HyphenLemmas
 mod StrayLemmas
-mod Verdicts
+pub mod Verdicts
+pub mod OptionSteps
 mod RunLevel
 mod RunSteps
 mod NumberLevel

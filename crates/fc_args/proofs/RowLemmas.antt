@@ -1,7 +1,15 @@
--- Rows that a use of an argument adds.
-use Rattle.std.proofs.Common.{◌≡◌, Bool, true, false, ◌||◌, cond, List, [], ◌∷◌, ◌++◌, slice_get, refl, ap, true≢false}
+-- Rows that a use of an argument adds, and what `clap` adds at the end for one that isn't used.
+use Rattle.std.proofs.Common.{◌≡◌, ◌∙◌, Bool, true, false, ◌||◌, cond, List, [], ◌∷◌, ◌++◌, append-nil, slice_get, Some, None, refl, ap, codes, true≢false}
 use Rattle.std.specs.Str.{bytes_eq}
-use Rattle.clap.specs.Walk.{Row, Text, at_row, first_of, has_row}
+use Rattle.clap.specs.Faults.{default_fault, given_default_fault}
+use Rattle.clap.specs.Kinds.{Kinds}
+use Rattle.clap.specs.Simple.{filled}
+use Rattle.clap.specs.Walk.{Row, Rule, Text, at_row, default_rows, first_of, has_row, more_values, reading_by, with_default, with_values, without}
+use Rattle.clap.specs.declared.builder.value_parser.Reading.{Reading}
+use Rattle.clap.specs.declared.parser.matches.ValueSource.{ValueSource}
+use Rattle.clap.specs.declared.parser.matches.ValueSource.TheVariants.{CommandLine, DefaultValue}
+use Rattle.fc_args.specs.Matches.{is_true}
+use Rattle.fc_args.specs.Program.{flag_rule, valued_rule}
 
 -- a row of an id that no row has
 pub at_row-new : (id : Text) (change : Row → List Row) (missing rows : List Row) → has_row id rows ≡ false → at_row id change missing rows ≡ rows ++ missing
@@ -42,3 +50,48 @@ first_of-new x (s ∷ rows) r none same = go (bytes_eq s.id x) refl none (first_
         → first_of x (s ∷ (rows ++ r ∷ [])) ≡ slice_get r.values 0
     go true e none next = absurd (true≢false none)
     go false e none next = rw e (next none same)
+
+abbrev pub new_row : Rule → List Text → ValueSource → Row
+new_row a values source = record { id = a.id; values = values; count = None; source = Some source; reading = reading_by a }
+
+pub with_values-new : (id : Text) (how : Reading) (values : List Text) (rows : List Row) → has_row id rows ≡ false
+    → with_values id how CommandLine values (without id rows) ≡ rows ++ record { id = id; values = values; count = None; source = Some CommandLine; reading = how } ∷ []
+with_values-new id how values rows none =
+    ap (λ rs. with_values id how CommandLine values rs) (at_row-new id (λ _. []) [] rows none ∙ append-nil rows)
+    ∙ at_row-new id (more_values CommandLine values) (record { id = id; values = values; count = None; source = Some CommandLine; reading = how } ∷ []) rows none
+
+pub no_default : (rows : List Row) (a : Rule) → a.defaults ≡ [] → with_default rows a ≡ rows
+no_default rows a none = go (has_row a.id rows)
+  where
+    go : (b : Bool) → cond b rows (default_rows a.id (reading_by a) a.defaults rows) ≡ rows
+    go true = refl
+    go false = ap (λ ds. default_rows a.id (reading_by a) ds rows) none
+
+or_nothing : (b c : Bool) (ks : Kinds) → cond c [] ks ≡ [] → cond (b || c) [] ks ≡ []
+or_nothing true c ks e = refl
+or_nothing false c ks e = e
+
+pub valued_passes : (id : Text) (rows : List Row) → default_fault rows (filled (valued_rule id)) ≡ []
+valued_passes id rows = or_nothing (has_row id rows) true (given_default_fault (filled (valued_rule id)) []) refl
+
+pub flag_passes : (id : Text) (rows : List Row) → default_fault rows (filled (flag_rule id)) ≡ []
+flag_passes id rows = or_nothing (has_row id rows) false [] refl
+
+pub flag_default : (id : Text) (rows : List Row) → has_row id rows ≡ false
+    → with_default rows (filled (flag_rule id)) ≡ rows ++ new_row (filled (flag_rule id)) (codes "false" ∷ []) DefaultValue ∷ []
+flag_default id rows none =
+    rw none (at_row-new id (more_values DefaultValue (codes "false" ∷ [])) (new_row (filled (flag_rule id)) (codes "false" ∷ []) DefaultValue ∷ []) rows none)
+
+-- what is found at the end under another name, and of the flag itself
+pub flag_other : (id x : Text) (rows : List Row) → bytes_eq id x ≡ false → first_of x (with_default rows (filled (flag_rule id))) ≡ first_of x rows
+flag_other id x rows other = go (has_row id rows) refl
+  where
+    go : (b : Bool) → has_row id rows ≡ b → first_of x (with_default rows (filled (flag_rule id))) ≡ first_of x rows
+    go true e = rw e refl
+    go false e = ap (first_of x) (flag_default id rows e) ∙ first_of-other x rows (new_row (filled (flag_rule id)) (codes "false" ∷ []) DefaultValue) other
+
+pub flag_same : (id : Text) (rows : List Row) (b : Bool) → has_row id rows ≡ b → first_of id rows ≡ cond b (Some (codes "true")) None → bytes_eq id id ≡ true
+    → is_true (first_of id (with_default rows (filled (flag_rule id)))) ≡ b
+flag_same id rows true has first same = rw has (ap is_true first)
+flag_same id rows false has first same =
+    ap (λ rs. is_true (first_of id rs)) (flag_default id rows has) ∙ ap is_true (first_of-new id rows (new_row (filled (flag_rule id)) (codes "false" ∷ []) DefaultValue) has same)

@@ -1,18 +1,17 @@
 -- The options of a run, as `clap` walks over them.
-use Rattle.std.proofs.Common.{◌≡◌, ◌∙◌, ℕ, Bool, true, false, cond, List, [], ◌∷◌, ◌++◌, append-nil, Option, Some, None, is_some, fold, refl, sym, ap, subst, codes}
+use Rattle.std.proofs.Common.{◌≡◌, ◌∙◌, ℕ, Bool, true, false, cond, List, [], ◌∷◌, ◌++◌, Option, Some, None, is_some, fold, refl, sym, ap, subst, codes}
 use Rattle.std.specs.Str.{bytes_eq}
 use Rattle.clap.specs.Faults.{default_fault, defaults_fault, settle_fault, turn_fault, walk_fault}
 use Rattle.clap.specs.Kinds.{or_else}
 use Rattle.clap.specs.Simple.{Shape, filled}
-use Rattle.clap.specs.Walk.{Row, Rule, Text, Walk, arg_by_long, default_rows, first_of, has_row, idle, more_values, option, reading_by, settled_rows, used, walked, with_default, with_values, without}
-use Rattle.clap.specs.declared.builder.value_parser.Reading.{Reading}
-use Rattle.clap.specs.declared.parser.matches.ValueSource.{ValueSource}
-use Rattle.clap.specs.declared.parser.matches.ValueSource.TheVariants.{CommandLine, DefaultValue}
+use Rattle.clap.specs.Walk.{Row, Rule, Text, Walk, arg_by_long, first_of, has_row, idle, option, reading_by, settled_rows, used, walked, with_default}
+use Rattle.clap.specs.declared.parser.matches.ValueSource.TheVariants.{CommandLine}
 use Rattle.fc_args.specs.Grammar.{Given, Valued, Grain, Cache, give}
-use Rattle.fc_args.specs.Matches.{given_in, is_true}
+use Rattle.fc_args.specs.Matches.{given_in}
 use Rattle.fc_args.specs.Program.{flag_rule, run_app, valued_rule}
-use Rattle.fc_args.proofs.Verdicts.{ended, fails, held, level_of, refused_at, step_of, verdict_of, walk_at}
-use Rattle.fc_args.proofs.RowLemmas.{at_row-new, first_of-new, first_of-other, has_row-new, has_row-other}
+use Rattle.fc_args.proofs.Verdicts.{fails, held, level_of, refused_at, step_of, verdict_of, walk_at}
+use Rattle.fc_args.proofs.OptionSteps.{TakesOptions, all_ends}
+use Rattle.fc_args.proofs.RowLemmas.{first_of-new, first_of-other, flag_other, flag_passes, flag_same, has_row-new, has_row-other, new_row, no_default, valued_passes, with_values-new}
 
 -- ---- the level of a run
 
@@ -38,6 +37,9 @@ verdict_step = step_of level read_given
 pub verdict_fails : (w : Walk) (word : Text) (rest : List Text) → fails (turn_fault level [] w word) ≡ true → verdict w (word ∷ rest) ≡ None
 verdict_fails = refused_at level read_given
 
+pub takes : TakesOptions level
+takes = record { once = refl; leaf = refl; no_positional = refl }
+
 -- ---- the rules of its options
 
 abbrev grain_rule : Rule
@@ -50,8 +52,7 @@ abbrev cache_rule : Rule
 cache_rule = filled (valued_rule (codes "cache"))
 
 abbrev pub rule_of : Valued → Rule
-rule_of Grain = grain_rule
-rule_of Cache = cache_rule
+rule_of o = filled (valued_rule (name_of o))
 
 pub found_grain : (name : Text) → bytes_eq (codes "grain") name ≡ true → arg_by_long rules name ≡ Some grain_rule
 found_grain name g = rw g refl
@@ -76,15 +77,6 @@ pub record Shows (rows : List Row) (given : Given) : Type 0 where
   pub trace : first_of (codes "trace") rows ≡ cond given.trace (Some (codes "true")) None
   pub cache : first_of (codes "cache") rows ≡ given.cache
   pub has_cache : has_row (codes "cache") rows ≡ is_some given.cache
-
-abbrev new_row : Rule → List Text → ValueSource → Row
-new_row a values source = record { id = a.id; values = values; count = None; source = Some source; reading = reading_by a }
-
-with_values-new : (id : Text) (how : Reading) (values : List Text) (rows : List Row) → has_row id rows ≡ false
-    → with_values id how CommandLine values (without id rows) ≡ rows ++ record { id = id; values = values; count = None; source = Some CommandLine; reading = how } ∷ []
-with_values-new id how values rows none =
-    ap (λ rs. with_values id how CommandLine values rs) (at_row-new id (λ _. []) [] rows none ∙ append-nil rows)
-    ∙ at_row-new id (more_values CommandLine values) (record { id = id; values = values; count = None; source = Some CommandLine; reading = how } ∷ []) rows none
 
 abbrev pub chosen : Valued → Given → Option Text
 chosen Grain given = given.grain
@@ -145,70 +137,31 @@ shows_trace rows given s none =
 
 -- ---- the end of the words
 
-no_default : (rows : List Row) (a : Rule) → a.defaults ≡ [] → with_default rows a ≡ rows
-no_default rows a none = go (has_row a.id rows)
-  where
-    go : (b : Bool) → cond b rows (default_rows a.id (reading_by a) a.defaults rows) ≡ rows
-    go true = refl
-    go false = ap (λ ds. default_rows a.id (reading_by a) ds rows) none
-
-grain_passes : (rows : List Row) → default_fault rows grain_rule ≡ []
-grain_passes rows = go (has_row (codes "grain") rows) refl
-  where
-    go : (b : Bool) → has_row (codes "grain") rows ≡ b → default_fault rows grain_rule ≡ []
-    go true e = rw e refl
-    go false e = rw e refl
-
-trace_passes : (rows : List Row) → default_fault rows trace_rule ≡ []
-trace_passes rows = go (has_row (codes "trace") rows) refl
-  where
-    go : (b : Bool) → has_row (codes "trace") rows ≡ b → default_fault rows trace_rule ≡ []
-    go true e = rw e refl
-    go false e = rw e refl
-
-cache_passes : (rows : List Row) → default_fault rows cache_rule ≡ []
-cache_passes rows = go (has_row (codes "cache") rows) refl
-  where
-    go : (b : Bool) → has_row (codes "cache") rows ≡ b → default_fault rows cache_rule ≡ []
-    go true e = rw e refl
-    go false e = rw e refl
-
 defaults_pass : (rows : List Row) → defaults_fault rows rules ≡ []
 unfolding defaults_fault
 defaults_pass rows =
-    ap (λ ks. or_else ks (or_else (default_fault (with_default rows grain_rule) trace_rule) (or_else (default_fault (with_default (with_default rows grain_rule) trace_rule) cache_rule) []))) (grain_passes rows)
-    ∙ ap (λ ks. or_else ks (or_else (default_fault (with_default (with_default rows grain_rule) trace_rule) cache_rule) [])) (trace_passes (with_default rows grain_rule))
-    ∙ ap (λ ks. or_else ks []) (cache_passes (with_default (with_default rows grain_rule) trace_rule))
+    ap (λ ks. or_else ks (or_else (default_fault (with_default rows grain_rule) trace_rule) (or_else (default_fault (with_default (with_default rows grain_rule) trace_rule) cache_rule) []))) (valued_passes (codes "grain") rows)
+    ∙ ap (λ ks. or_else ks (or_else (default_fault (with_default (with_default rows grain_rule) trace_rule) cache_rule) [])) (flag_passes (codes "trace") (with_default rows grain_rule))
+    ∙ ap (λ ks. or_else ks []) (valued_passes (codes "cache") (with_default (with_default rows grain_rule) trace_rule))
 
 given_same : (a b : Given) → a.grain ≡ b.grain → a.trace ≡ b.trace → a.cache ≡ b.cache → a ≡ b
 given_same a b g t c = λ i. record { grain = g i; trace = t i; cache = c i }
 
-with_trace_default : (rows : List Row) (given : Given) → Shows rows given → (b : Bool) → given.trace ≡ b → given_in (with_default rows trace_rule) ≡ given
-with_trace_default rows given s true e =
-    let same : with_default rows trace_rule ≡ rows = rw (s.has_trace ∙ e) refl in
-    ap given_in same ∙ given_same _ given s.grain (ap is_true s.trace ∙ rw e refl) s.cache
-with_trace_default rows given s false e =
-    let r : Row = new_row trace_rule (codes "false" ∷ []) DefaultValue in
-    let none : has_row (codes "trace") rows ≡ false = s.has_trace ∙ e in
-    let same : with_default rows trace_rule ≡ rows ++ r ∷ [] = rw none (at_row-new (codes "trace") (more_values DefaultValue (codes "false" ∷ [])) (r ∷ []) rows none) in
-    ap given_in same ∙ given_same _ given
-    (first_of-other (codes "grain") rows r refl ∙ s.grain)
-    (ap is_true (first_of-new (codes "trace") rows r none refl) ∙ sym e)
-    (first_of-other (codes "cache") rows r refl ∙ s.cache)
+with_trace_default : (rows : List Row) (given : Given) → Shows rows given → given_in (with_default rows trace_rule) ≡ given
+with_trace_default rows given s =
+    given_same _ given (flag_other (codes "trace") (codes "grain") rows refl ∙ s.grain) (flag_same (codes "trace") rows given.trace s.has_trace s.trace refl)
+    (flag_other (codes "trace") (codes "cache") rows refl ∙ s.cache)
 
 given_at_end : (rows : List Row) (given : Given) → Shows rows given → given_in (fold with_default rows rules) ≡ given
 given_at_end rows given s =
     ap given_in (no_default (with_default (with_default rows grain_rule) trace_rule) cache_rule refl)
     ∙ ap (λ rs. given_in (with_default rs trace_rule)) (no_default rows grain_rule refl)
-    ∙ with_trace_default rows given s given.trace refl
+    ∙ with_trace_default rows given s
 
 pub idle_ends : (rows : List Row) (pending : Option (Text × List Text)) (skip : ℕ) (given : Given) → settle_fault rules false (held rows pending skip) ≡ []
     → Shows (settled_rows rules pending rows) given → verdict (walk_at (held rows pending skip) idle) [] ≡ Some given
-unfolding walk_fault
 idle_ends rows pending skip given passes s =
-    ap (λ ks. ended read_given (or_else ks (or_else (defaults_fault (settled_rows rules pending rows) rules) [])) (fold with_default (settled_rows rules pending rows) rules)) passes
-    ∙ ap (λ ks. ended read_given (or_else ks []) (fold with_default (settled_rows rules pending rows) rules)) (defaults_pass (settled_rows rules pending rows))
-    ∙ ap Some (given_at_end (settled_rows rules pending rows) given s)
+    all_ends level takes read_given rows pending skip passes (defaults_pass (settled_rows rules pending rows)) refl ∙ ap Some (given_at_end (settled_rows rules pending rows) given s)
 
 pub value_missing : (o : Valued) (rows : List Row) (skip : ℕ) → verdict (walk_at (held rows (Some (name_of o, [])) skip) (option (name_of o))) [] ≡ None
 unfolding walk_fault

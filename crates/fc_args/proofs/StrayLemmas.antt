@@ -1,24 +1,15 @@
 -- Words of which one is stray ask for nothing.
-use Rattle.std.proofs.Common.{◌≡◌, ℕ, ◌==◌, ◌^◌, Bool, true, false, not, ◌&&◌, ◌||◌, cond, List, [], ◌∷◌, length, nat_le, Option, Some, None, option_map, refl, sym, subst, ap, true≢false, codes, option_and_then}
+use Rattle.std.proofs.Common.{◌≡◌, ℕ, ◌^◌, Bool, true, false, ◌&&◌, ◌||◌, cond, List, [], ◌∷◌, length, nat_le, Option, Some, None, option_map, refl, sym, subst, ap, true≢false, codes, option_and_then}
 use Rattle.std.proofs.lemmas.Bool.{eqb-true}
 use Rattle.std.specs.List.{list_any}
 use Rattle.std.specs.Str.{bytes_eq}
 use Rattle.std.specs.Str.Parse.{digits_value}
 use Rattle.clap.specs.Words.{Text}
-use Rattle.fc_args.specs.Grammar.{Given, Valued, Unknown, alone, begins_with_hyphen, check_by, command_by, give, given_after, given_by, in_full, number_within, no_options, options_of_words, option_of_word}
+use Rattle.fc_args.specs.Grammar.{Given, Valued, alone, begins_with_hyphen, check_by, command_by, give, give_next, given_after, given_by, in_full, number_within, no_options, option_by, option_of_word, options_of_words}
 use Rattle.fc_args.specs.Program.{is_stray}
+use Rattle.fc_args.proofs.HyphenLemmas.{none_after, stray_fails, stray_hyphen, stray_option}
 use Rattle.fc_args.specs.declared.asked.Asked.{Asked}
 use Rattle.fc_args.specs.declared.asked.Asked.TheVariants.{Run, Drill, Stop}
-
-stray_hyphen : (word : Text) → is_stray word ≡ true → begins_with_hyphen word ≡ true
-stray_hyphen [] e = e
-stray_hyphen (a ∷ []) e = e
-stray_hyphen (a ∷ b ∷ []) e = e
-stray_hyphen (a ∷ b ∷ c ∷ rest) e = go (a == 45) e
-  where
-    go : (x : Bool) → (x && not (b == 45)) ≡ true → x ≡ true
-    go true e = refl
-    go false e = e
 
 none_left : (a : Bool) (x : Option ℕ) → cond (a && false) x None ≡ None
 none_left true x = refl
@@ -38,45 +29,21 @@ hyphen_command (a ∷ rest) words e =
     let P : ℕ → Type 0 = λ a. command_by (a ∷ rest) words ≡ None in
     subst P (sym (eqb-true a 45 e)) refl
 
-stray_option : (word : Text) → is_stray word ≡ true → option_of_word word ≡ Unknown
-stray_option [] e = refl
-stray_option (a ∷ []) e = refl
-stray_option (a ∷ b ∷ []) e = go (a == 45) (b == 45) refl refl
-  where
-    go : (x y : Bool) → (a == 45) ≡ x → (b == 45) ≡ y → option_of_word (a ∷ b ∷ []) ≡ Unknown
-    go true true ea eb = rw (ea, eb) refl
-    go true false ea eb = rw (ea, eb) refl
-    go false y ea eb = rw ea refl
-stray_option (a ∷ b ∷ c ∷ rest) e = go (a == 45) (b == 45) refl refl e
-  where
-    go : (x y : Bool) → (a == 45) ≡ x → (b == 45) ≡ y → (x && not y) ≡ true → option_of_word (a ∷ b ∷ c ∷ rest) ≡ Unknown
-    go true true ea eb e = absurd (true≢false (sym e))
-    go true false ea eb e = rw (ea, eb) refl
-    go false y ea eb e = absurd (true≢false (sym e))
-
 -- ---- the options of a run
 
 abbrev OptionsFail : List Text → Type 0
 OptionsFail words = (given : Given) (waiting : Option Valued) → given_after given waiting words ≡ None
 
+stops : (word : Text) (words : List Text) → is_stray word ≡ true → OptionsFail (word ∷ words)
+stops word words is given None = ap (λ o. option_and_then (λ next. given_after next.0 next.1 words) (given_by o given)) (stray_option option_by refl word is)
+stops word words is given (Some option) = ap (λ b. option_and_then (λ now. given_after now None words) (cond b None (give option word given))) (stray_hyphen word is)
+
+goes_on : (word : Text) (words : List Text) → OptionsFail words → OptionsFail (word ∷ words)
+goes_on word words fail given None = none_after (λ next. given_after next.0 next.1 words) (λ next. fail next.0 next.1) (given_by (option_of_word word) given)
+goes_on word words fail given (Some option) = none_after (λ now. given_after now None words) (λ now. fail now None) (give_next option word given)
+
 options_fail : (words : List Text) → list_any is_stray words ≡ true → OptionsFail words
-options_fail [] e given waiting = absurd (true≢false (sym e))
-options_fail (word ∷ words) e given waiting = go (is_stray word) refl e (options_fail words) waiting
-  where
-    continues : (next : Option (Given × Option Valued)) → OptionsFail words → option_and_then (λ next. given_after next.0 next.1 words) next ≡ None
-    continues None fail = refl
-    continues (Some next) fail = fail next.0 next.1
-
-    continues_idle : (now : Option Given) → OptionsFail words → option_and_then (λ now. given_after now None words) now ≡ None
-    continues_idle None fail = refl
-    continues_idle (Some now) fail = fail now None
-
-    go : (b : Bool) → is_stray word ≡ b → (b || list_any is_stray words) ≡ true → (list_any is_stray words ≡ true → OptionsFail words)
-        → (waiting : Option Valued) → given_after given waiting (word ∷ words) ≡ None
-    go true is e fail None = ap (λ o. option_and_then (λ next. given_after next.0 next.1 words) (given_by o given)) (stray_option word is)
-    go true is e fail (Some option) = ap (λ b. option_and_then (λ now. given_after now None words) (cond b None (give option word given))) (stray_hyphen word is)
-    go false is e fail None = continues (given_by (option_of_word word) given) (fail e)
-    go false is e fail (Some option) = continues_idle (cond (begins_with_hyphen word) None (give option word given)) (fail e)
+options_fail = stray_fails given_after stops goes_on
 
 -- ---- all words
 

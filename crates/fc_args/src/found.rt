@@ -17,8 +17,8 @@ const MOST_PARTS: u32 = 1024;
 /// The most digits of a number.
 const NUMBER_DIGITS: usize = 20;
 
-/// The number of 1 to 20 decimal digits.
-fn number(word: &str) -> Option<u64>
+/// The number of 1 to 20 decimal digits. None where the word isn't one, or its number is 2^64 or more.
+pub fn number(word: &str) -> Option<u64>
     ensures { result ≡ drill_number word.now }
 {
     if word.len() > NUMBER_DIGITS || !is_numeral_word(word.as_bytes()) {
@@ -80,7 +80,7 @@ fn cache_given(value: Option<&str>) -> Option<Option<u32>>
 }
 
 /// Whether a flag was given, by its value.
-fn is_true(value: Option<&str>) -> bool
+pub fn is_true(value: Option<&str>) -> bool
     ensures { result ≡ is_true (option_map (λ word. word.now) value.entry) }
 {
     match value {
@@ -104,7 +104,7 @@ fn options(grain: Option<GrainSize>, trace: bool, cache: Option<u32>) -> Option<
 }
 
 /// The word of an argument, by the matches of its command.
-fn word_of<'a>(matches: &ArgMatches<'a>, name: &str) -> Option<&'a str>
+pub fn word_of<'a>(matches: &ArgMatches<'a>, name: &str) -> Option<&'a str>
     ensures { option_map (λ word. word.now) result ≡ first_of name.now (rows_of (found_of matches.now)) }
 {
     matches.get_str(name)

@@ -10,7 +10,7 @@
 #![tactic(auto)]
 
 pub mod asked;
-mod found;
+pub mod found;
 pub mod help;
 mod program;
 pub mod reading;

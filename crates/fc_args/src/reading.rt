@@ -40,8 +40,8 @@ fn if_built(asked: Asked) -> Option<Asked>
     if is_built { Some(asked) } else { None }
 }
 
-/// Whether one of the words is stray.
-fn has_stray(words: &[&str]) -> bool
+/// Whether one of the words begins with a hyphen and is no option: `-`, `--` and `-x`.
+pub fn has_stray(words: &[&str]) -> bool
     ensures { result ≡ list_any (λ word. is_stray word.now) words.now }
 {
     words.iter().any(|word| is_stray(word))

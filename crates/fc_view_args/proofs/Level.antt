@@ -1,30 +1,33 @@
 -- The options, as `clap` has them, and what it says at the end of the words.
-use Rattle.std.proofs.Common.{◌≡◌, ◌∙◌, ℕ, Bool, true, false, cond, List, [], ◌∷◌, ◌++◌, append-nil, Option, Some, None, is_some, fold, refl, sym, ap, subst, codes}
+use Rattle.std.proofs.Common.{◌≡◌, ◌∙◌, ℕ, Bool, true, false, cond, List, [], ◌∷◌, Option, Some, None, is_some, fold, refl, sym, ap, subst, codes}
 use Rattle.std.specs.Str.{bytes_eq}
 use Rattle.clap.specs.Faults.{default_fault, defaults_fault, settle_fault, walk_fault}
 use Rattle.clap.specs.Kinds.{or_else}
 use Rattle.clap.specs.Simple.{filled}
-use Rattle.clap.specs.Walk.{Row, Rule, Text, arg_by_long, default_rows, first_of, has_row, idle, more_values, option, reading_by, settled_rows, used, with_default, with_values, without}
-use Rattle.clap.specs.declared.builder.value_parser.Reading.{Reading}
-use Rattle.clap.specs.declared.parser.matches.ValueSource.{ValueSource}
-use Rattle.clap.specs.declared.parser.matches.ValueSource.TheVariants.{CommandLine, DefaultValue}
-use Rattle.fc_view_args.specs.Command.{at_rule, svg_rule}
+use Rattle.clap.specs.Walk.{Row, Rule, Text, arg_by_long, first_of, has_row, idle, option, reading_by, settled_rows, used, with_default}
+use Rattle.clap.specs.declared.parser.matches.ValueSource.TheVariants.{CommandLine}
+use Rattle.fc_args.specs.Program.{flag_rule, valued_rule}
+use Rattle.fc_args.proofs.OptionSteps.{TakesOptions, all_ends}
+use Rattle.fc_args.proofs.RowLemmas.{first_of-new, first_of-other, flag_other, flag_passes, flag_same, has_row-new, has_row-other, new_row, no_default, valued_passes, with_values-new}
+use Rattle.fc_args.proofs.Verdicts.{held, walk_at}
 use Rattle.fc_view_args.specs.Grammar.{Given, give}
-use Rattle.fc_view_args.specs.Matches.{given_in, is_true}
-use Rattle.fc_view_args.proofs.RowLemmas.{at_row-new, first_of-new, first_of-other, has_row-new, has_row-other}
-use Rattle.fc_view_args.proofs.Verdicts.{ended, held, level, verdict, walk_at}
+use Rattle.fc_view_args.specs.Matches.{given_in}
+use Rattle.fc_view_args.proofs.Verdicts.{level, read_given, verdict}
 
 abbrev pub rules : List Rule
 rules = level.rules
+
+pub takes : TakesOptions level
+takes = record { once = refl; leaf = refl; no_positional = refl }
 
 abbrev pub at_name : Text
 at_name = codes "at"
 
 abbrev pub at_filled : Rule
-at_filled = filled at_rule
+at_filled = filled (valued_rule (codes "at"))
 
 abbrev pub svg_filled : Rule
-svg_filled = filled svg_rule
+svg_filled = filled (flag_rule (codes "svg"))
 
 pub found_at : (name : Text) → bytes_eq (codes "at") name ≡ true → arg_by_long rules name ≡ Some at_filled
 found_at name a = rw a refl
@@ -42,15 +45,6 @@ pub record Shows (rows : List Row) (given : Given) : Type 0 where
   pub has_at : has_row (codes "at") rows ≡ is_some given.at
   pub has_svg : has_row (codes "svg") rows ≡ given.svg
   pub svg : first_of (codes "svg") rows ≡ cond given.svg (Some (codes "true")) None
-
-abbrev new_row : Rule → List Text → ValueSource → Row
-new_row a values source = record { id = a.id; values = values; count = None; source = Some source; reading = reading_by a }
-
-with_values-new : (id : Text) (how : Reading) (values : List Text) (rows : List Row) → has_row id rows ≡ false
-    → with_values id how CommandLine values (without id rows) ≡ rows ++ record { id = id; values = values; count = None; source = Some CommandLine; reading = how } ∷ []
-with_values-new id how values rows none =
-    ap (λ rs. with_values id how CommandLine values rs) (at_row-new id (λ _. []) [] rows none ∙ append-nil rows)
-    ∙ at_row-new id (more_values CommandLine values) (record { id = id; values = values; count = None; source = Some CommandLine; reading = how } ∷ []) rows none
 
 abbrev pub with_at : Text → Given → Given
 with_at value given = record given { at = Some value }
@@ -85,58 +79,25 @@ shows_svg rows given s none =
 
 -- ---- the end of the words
 
-no_default : (rows : List Row) (a : Rule) → a.defaults ≡ [] → with_default rows a ≡ rows
-no_default rows a none = go (has_row a.id rows)
-  where
-    go : (b : Bool) → cond b rows (default_rows a.id (reading_by a) a.defaults rows) ≡ rows
-    go true = refl
-    go false = ap (λ ds. default_rows a.id (reading_by a) ds rows) none
-
-at_passes : (rows : List Row) → default_fault rows at_filled ≡ []
-at_passes rows = go (has_row (codes "at") rows) refl
-  where
-    go : (b : Bool) → has_row (codes "at") rows ≡ b → default_fault rows at_filled ≡ []
-    go true e = rw e refl
-    go false e = rw e refl
-
-svg_passes : (rows : List Row) → default_fault rows svg_filled ≡ []
-svg_passes rows = go (has_row (codes "svg") rows) refl
-  where
-    go : (b : Bool) → has_row (codes "svg") rows ≡ b → default_fault rows svg_filled ≡ []
-    go true e = rw e refl
-    go false e = rw e refl
-
 defaults_pass : (rows : List Row) → defaults_fault rows rules ≡ []
 unfolding defaults_fault
 defaults_pass rows =
-    ap (λ ks. or_else ks (or_else (default_fault (with_default rows at_filled) svg_filled) [])) (at_passes rows)
-    ∙ ap (λ ks. or_else ks []) (svg_passes (with_default rows at_filled))
+    ap (λ ks. or_else ks (or_else (default_fault (with_default rows at_filled) svg_filled) [])) (valued_passes (codes "at") rows)
+    ∙ ap (λ ks. or_else ks []) (flag_passes (codes "svg") (with_default rows at_filled))
 
 given_same : (a b : Given) → a.at ≡ b.at → a.svg ≡ b.svg → a ≡ b
 given_same a b one two = λ i. record { at = one i; svg = two i }
 
-with_svg_default : (rows : List Row) (given : Given) → Shows rows given → (b : Bool) → given.svg ≡ b → given_in (with_default rows svg_filled) ≡ given
-with_svg_default rows given s true e =
-    let same : with_default rows svg_filled ≡ rows = rw (s.has_svg ∙ e) refl in
-    ap given_in same ∙ given_same _ given s.at (ap is_true s.svg ∙ rw e refl)
-with_svg_default rows given s false e =
-    let r : Row = new_row svg_filled (codes "false" ∷ []) DefaultValue in
-    let none : has_row (codes "svg") rows ≡ false = s.has_svg ∙ e in
-    let same : with_default rows svg_filled ≡ rows ++ r ∷ [] = rw none (at_row-new (codes "svg") (more_values DefaultValue (codes "false" ∷ [])) (r ∷ []) rows none) in
-    ap given_in same ∙ given_same _ given
-    (first_of-other (codes "at") rows r refl ∙ s.at)
-    (ap is_true (first_of-new (codes "svg") rows r none refl) ∙ sym e)
+with_svg_default : (rows : List Row) (given : Given) → Shows rows given → given_in (with_default rows svg_filled) ≡ given
+with_svg_default rows given s = given_same _ given (flag_other (codes "svg") (codes "at") rows refl ∙ s.at) (flag_same (codes "svg") rows given.svg s.has_svg s.svg refl)
 
 given_at_end : (rows : List Row) (given : Given) → Shows rows given → given_in (fold with_default rows rules) ≡ given
-given_at_end rows given s = ap (λ rs. given_in (with_default rs svg_filled)) (no_default rows at_filled refl) ∙ with_svg_default rows given s given.svg refl
+given_at_end rows given s = ap (λ rs. given_in (with_default rs svg_filled)) (no_default rows at_filled refl) ∙ with_svg_default rows given s
 
 pub idle_ends : (rows : List Row) (pending : Option (Text × List Text)) (skip : ℕ) (given : Given) → settle_fault rules false (held rows pending skip) ≡ []
     → Shows (settled_rows rules pending rows) given → verdict (walk_at (held rows pending skip) idle) [] ≡ Some given
-unfolding walk_fault
 idle_ends rows pending skip given passes s =
-    ap (λ ks. ended (or_else ks (or_else (defaults_fault (settled_rows rules pending rows) rules) [])) (fold with_default (settled_rows rules pending rows) rules)) passes
-    ∙ ap (λ ks. ended (or_else ks []) (fold with_default (settled_rows rules pending rows) rules)) (defaults_pass (settled_rows rules pending rows))
-    ∙ ap Some (given_at_end (settled_rows rules pending rows) given s)
+    all_ends level takes read_given rows pending skip passes (defaults_pass (settled_rows rules pending rows)) refl ∙ ap Some (given_at_end (settled_rows rules pending rows) given s)
 
 pub value_missing : (rows : List Row) (skip : ℕ) → verdict (walk_at (held rows (Some (at_name, [])) skip) (option at_name)) [] ≡ None
 unfolding walk_fault

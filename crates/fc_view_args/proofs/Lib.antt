@@ -1,7 +1,4 @@
 -- Lemmas, one subject a file.
-mod NumberLemmas
-mod RowLemmas
-mod HyphenLemmas
 mod StrayLemmas
 mod Verdicts
 mod Level

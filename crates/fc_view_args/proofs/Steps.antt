@@ -1,17 +1,17 @@
 -- Each word, as `clap` takes it.
-use Rattle.std.proofs.Common.{◌≡◌, ◌∙◌, ℕ, Bool, true, false, cond, List, [], ◌∷◌, Option, Some, None, is_some, option_map, refl, sym, ap, true≢false, codes, option_and_then, ◌⊎◌, inl, inr}
+use Rattle.std.proofs.Common.{◌≡◌, ◌∙◌, ℕ, Bool, true, false, cond, List, [], ◌∷◌, Option, Some, None, is_some, option_map, refl, sym, ap, ap₂, codes, option_and_then, ◌⊎◌, inl, inr}
 use Rattle.std.specs.List.{list_any}
 use Rattle.std.specs.Str.{bytes_eq}
-use Rattle.clap.specs.Faults.{long_fault, settle_fault, step_fault, turn_fault, walk_fault}
-use Rattle.clap.specs.Kinds.{Kinds, or_else}
-use Rattle.clap.specs.Walk.{Held, Row, Text, Waiting, Walk, arg_by_long, has_row, idle, long_word, nothing_held, option, positional, settled_rows, used, walk_from, walked}
-use Rattle.clap.specs.declared.error.kind.ErrorKind.{ErrorKind}
+use Rattle.clap.specs.Faults.{settle_fault}
+use Rattle.clap.specs.Walk.{Row, Text, Walk, arg_by_long, has_row, idle, nothing_held, option, settled_rows, used, walk_from, walked}
 use Rattle.clap.specs.declared.error.kind.ErrorKind.TheVariants as kind
-use Rattle.fc_view_args.specs.Command.{is_stray}
-use Rattle.fc_view_args.specs.Grammar.{Given, Unknown, flag, give, given_after, given_by, no_options, option_named, valued}
-use Rattle.fc_view_args.proofs.HyphenLemmas.{IsOption, IsPlain, OptionForm, classify, or_parts}
-use Rattle.fc_view_args.proofs.Level.{Shows, at_filled, at_name, found_at, found_none, found_svg, give_is, idle_ends, rules, shows_at, shows_svg, svg_filled, value_missing, with_at, with_svg}
-use Rattle.fc_view_args.proofs.Verdicts.{fails, held, level, verdict, verdict_fails, verdict_step, walk_at}
+use Rattle.fc_args.specs.Program.{is_stray}
+use Rattle.fc_args.proofs.HyphenLemmas.{IsOption, IsPlain, OptionForm, classify, or_parts}
+use Rattle.fc_args.proofs.OptionSteps.{Meaning, apart_turn, apart_walk, doomed, flag_turn, flag_walk, joined_turn, joined_walk, of_flag, of_none, of_valued, option_refused, plain_turn, unknown_turn, value_turn, valued_flag_turn}
+use Rattle.fc_args.proofs.Verdicts.{fails, held, walk_at}
+use Rattle.fc_view_args.specs.Grammar.{Given, Unknown, flag, give, given_after, given_by, no_options, option_by, option_named, option_of_word, valued}
+use Rattle.fc_view_args.proofs.Level.{Shows, at_filled, at_name, found_at, found_none, found_svg, give_is, idle_ends, rules, shows_at, shows_svg, svg_filled, takes, value_missing, with_at, with_svg}
+use Rattle.fc_view_args.proofs.Verdicts.{level, read_given, verdict, verdict_fails, verdict_step}
 
 -- ---- what a name is
 
@@ -28,52 +28,18 @@ named_by name false false ea es = is_unknown (found_none name ea es) (λ value. 
 named : (name : Text) → Named name
 named name = named_by name (bytes_eq (codes "at") name) (bytes_eq (codes "svg") name) refl refl
 
--- ---- a word of an option, where nothing waits for a value
+option_read : (word name : Text) (value : Option Text) → IsOption word name value → option_of_word word ≡ option_named name value
+option_read word name value is = ap option_by is.after ∙ ap₂ option_named is.name_is is.value_is
 
-joined_turn : (h : Held) (word name value : Text) → IsOption word name (Some value) → arg_by_long rules name ≡ Some at_filled → settle_fault rules false h ≡ []
-    → (b : Bool) → has_row at_name (settled_rows rules h.pending h.rows) ≡ b → turn_fault level [] (walk_at h idle) word ≡ cond b (kind.ArgumentConflict ∷ []) []
-joined_turn h word name value is found settles true has = rw (is.no_end, is.long, found, settles, has) refl
-joined_turn h word name value is found settles false has = rw (is.no_end, is.long, found, settles, has) refl
+meaning_of : (name : Text) → Named name → Meaning level name
+meaning_of name (is_valued found read) = of_valued at_name found
+meaning_of name (is_flag found read) = of_flag (codes "svg") found
+meaning_of name (is_unknown found read) = of_none found
 
-joined_walk : (h : Held) (word name value : Text) → IsOption word name (Some value) → arg_by_long rules name ≡ Some at_filled
-    → walked rules [] (walk_at h idle) word ≡ walk_at (held (used at_filled (value ∷ []) (settled_rows rules h.pending h.rows)) None h.skip) idle
-unfolding walked
-joined_walk h word name value is found = rw (is.no_end, is.long, found) refl
-
-apart_turn : (h : Held) (word name : Text) → IsOption word name None → arg_by_long rules name ≡ Some at_filled → settle_fault rules false h ≡ []
-    → turn_fault level [] (walk_at h idle) word ≡ []
-apart_turn h word name is found settles = rw (is.no_end, is.long, found, settles) refl
-
-apart_walk : (h : Held) (word name : Text) → IsOption word name None → arg_by_long rules name ≡ Some at_filled
-    → walked rules [] (walk_at h idle) word ≡ walk_at (held (settled_rows rules h.pending h.rows) (Some (at_name, [])) h.skip) (option at_name)
-unfolding walked
-apart_walk h word name is found = rw (is.no_end, is.long, found) refl
-
-flag_turn : (h : Held) (word name : Text) → IsOption word name None → arg_by_long rules name ≡ Some svg_filled → settle_fault rules false h ≡ []
-    → (b : Bool) → has_row (codes "svg") (settled_rows rules h.pending h.rows) ≡ b → turn_fault level [] (walk_at h idle) word ≡ cond b (kind.ArgumentConflict ∷ []) []
-flag_turn h word name is found settles true has = rw (is.no_end, is.long, found, settles, has) refl
-flag_turn h word name is found settles false has = rw (is.no_end, is.long, found, settles, has) refl
-
-flag_walk : (h : Held) (word name : Text) → IsOption word name None → arg_by_long rules name ≡ Some svg_filled
-    → walked rules [] (walk_at h idle) word ≡ walk_at (held (used svg_filled [] (settled_rows rules h.pending h.rows)) None h.skip) idle
-unfolding walked
-flag_walk h word name is found = rw (is.no_end, is.long, found) refl
-
-valued_flag_turn : (h : Held) (word name value : Text) → IsOption word name (Some value) → arg_by_long rules name ≡ Some svg_filled
-    → turn_fault level [] (walk_at h idle) word ≡ kind.TooManyValues ∷ []
-valued_flag_turn h word name value is found = rw (is.no_end, is.long, found) refl
-
-unknown_turn : (h : Held) (word name : Text) (value : Option Text) → IsOption word name value → arg_by_long rules name ≡ None
-    → turn_fault level [] (walk_at h idle) word ≡ kind.UnknownArgument ∷ []
-unknown_turn h word name value is found = rw (is.no_end, is.long, found) refl
-
-plain_turn : (h : Held) (word : Text) → IsPlain word → turn_fault level [] (walk_at h idle) word ≡ kind.UnknownArgument ∷ []
-plain_turn h word is = rw (is.no_end, is.long, is.short) refl
+meaning : (name : Text) → Meaning level name
+meaning name = meaning_of name (named name)
 
 -- ---- a word that is the value of the option
-
-value_turn : (rows : List Row) (skip : ℕ) (word : Text) → IsPlain word → turn_fault level [] (walk_at (held rows (Some (at_name, [])) skip) (option at_name)) word ≡ []
-value_turn rows skip word is = rw (is.no_end, is.long, is.short) refl
 
 value_walk : (rows : List Row) (skip : ℕ) (word : Text) → IsPlain word
     → walked rules [] (walk_at (held rows (Some (at_name, [])) skip) (option at_name)) word ≡ walk_at (held rows (Some (at_name, word ∷ [])) skip) idle
@@ -84,43 +50,6 @@ value_settles : (rows : List Row) (skip : ℕ) (word : Text) (b : Bool) → has_
     → settle_fault rules false (held rows (Some (at_name, word ∷ [])) skip) ≡ cond b (kind.ArgumentConflict ∷ []) []
 value_settles rows skip word true has = rw has refl
 value_settles rows skip word false has = rw has refl
-
--- ---- what is pending isn't taken: each way on is refused
-
-fails_first : (a b : Kinds) → fails a ≡ true → fails (or_else a b) ≡ true
-fails_first [] b e = absurd (true≢false (sym e))
-fails_first (k ∷ ks) b e = refl
-
-long_turn : (h : Held) (waiting : Waiting) (word name : Text) (value : Option Text) → IsOption word name value
-    → turn_fault level [] (walk_at h waiting) word ≡ or_else (long_fault rules false (arg_by_long rules name) value h)
-    (step_fault level 1 (long_word rules waiting word name value h).0 (long_word rules waiting word name value h).1)
-long_turn h idle word name value is = rw (is.no_end, is.long) refl
-long_turn h (option id) word name value is = rw (is.no_end, is.long) refl
-long_turn h positional word name value is = rw (is.no_end, is.long) refl
-
-long_refused : (h : Held) (name : Text) (value : Option Text) → Named name → (k : ErrorKind) (ks : Kinds) → settle_fault rules false h ≡ k ∷ ks
-    → fails (long_fault rules false (arg_by_long rules name) value h) ≡ true
-long_refused h name (Some value) (is_valued found read) k ks settles = rw (found, settles) refl
-long_refused h name None (is_valued found read) k ks settles = rw (found, settles) refl
-long_refused h name (Some value) (is_flag found read) k ks settles = rw found refl
-long_refused h name None (is_flag found read) k ks settles = rw (found, settles) refl
-long_refused h name value (is_unknown found read) k ks settles = rw found refl
-
-option_refused : (h : Held) (waiting : Waiting) (word name : Text) (value : Option Text) → IsOption word name value → (k : ErrorKind) (ks : Kinds) → settle_fault rules false h ≡ k ∷ ks
-    → fails (turn_fault level [] (walk_at h waiting) word) ≡ true
-option_refused h waiting word name value is k ks settles =
-    rw (long_turn h waiting word name value is) (fails_first _ _ (long_refused h name value (named name) k ks settles))
-
--- an option given twice, at the next word or the end
-doomed : (words : List Text) → list_any is_stray words ≡ false → (rows : List Row) (pending : Option (Text × List Text)) (skip : ℕ) (k : ErrorKind) (ks : Kinds)
-    → settle_fault rules false (held rows pending skip) ≡ k ∷ ks → verdict (walk_at (held rows pending skip) idle) words ≡ None
-unfolding walk_fault
-doomed [] clean rows pending skip k ks settles = rw settles refl
-doomed (word ∷ words) clean rows pending skip k ks settles = go (classify word (or_parts (is_stray word) (list_any is_stray words) clean).0)
-  where
-    go : IsPlain word ⊎ OptionForm word → verdict (walk_at (held rows pending skip) idle) (word ∷ words) ≡ None
-    go (inl is) = verdict_fails (walk_at (held rows pending skip) idle) word words (ap fails (plain_turn (held rows pending skip) word is))
-    go (inr is) = verdict_fails (walk_at (held rows pending skip) idle) word words (option_refused (held rows pending skip) idle word is.0 is.1 is.2 k ks settles)
 
 -- ---- all words
 
@@ -148,26 +77,26 @@ module _ (word : Text) (words : List Text) (onward : Onward words) (rows : List 
   joined_goes : (name value : Text) → IsOption word name (Some value) → arg_by_long rules name ≡ Some at_filled → (b : Bool) → is_some given.at ≡ b
       → verdict (walk_at (held rows pending skip) idle) (word ∷ words) ≡ continued words (option_map (λ now. (now, false)) (cond b None (Some (with_at value given))))
   joined_goes name value is found true e =
-      verdict_fails _ word words (ap fails (joined_turn (held rows pending skip) word name value is found settles true (s.has_at ∙ e)))
+      verdict_fails _ word words (ap fails (joined_turn level takes at_name (held rows pending skip) word name value is found settles true (s.has_at ∙ e)))
   joined_goes name value is found false e =
-      verdict_step _ word words (joined_turn (held rows pending skip) word name value is found settles false (s.has_at ∙ e))
-      ∙ ap (λ w. verdict w words) (joined_walk (held rows pending skip) word name value is found)
+      verdict_step _ word words (joined_turn level takes at_name (held rows pending skip) word name value is found settles false (s.has_at ∙ e))
+      ∙ ap (λ w. verdict w words) (joined_walk level takes at_name (held rows pending skip) word name value is found)
       ∙ onward (used at_filled (value ∷ []) (settled_rows rules pending rows)) None skip (with_at value given) false (refl, shows_at value _ given s e)
 
   apart_goes : (name : Text) → IsOption word name None → arg_by_long rules name ≡ Some at_filled
       → verdict (walk_at (held rows pending skip) idle) (word ∷ words) ≡ given_after given true words
   apart_goes name is found =
-      verdict_step _ word words (apart_turn (held rows pending skip) word name is found settles)
-      ∙ ap (λ w. verdict w words) (apart_walk (held rows pending skip) word name is found)
+      verdict_step _ word words (apart_turn level takes at_name (held rows pending skip) word name is found settles)
+      ∙ ap (λ w. verdict w words) (apart_walk level takes at_name (held rows pending skip) word name is found)
       ∙ onward (settled_rows rules pending rows) None skip given true s
 
   flag_goes : (name : Text) → IsOption word name None → arg_by_long rules name ≡ Some svg_filled → (b : Bool) → given.svg ≡ b
       → verdict (walk_at (held rows pending skip) idle) (word ∷ words) ≡ continued words (option_map (λ now. (now, false)) (cond b None (Some (with_svg given))))
   flag_goes name is found true e =
-      verdict_fails _ word words (ap fails (flag_turn (held rows pending skip) word name is found settles true (s.has_svg ∙ e)))
+      verdict_fails _ word words (ap fails (flag_turn level takes (codes "svg") (held rows pending skip) word name is found settles true (s.has_svg ∙ e)))
   flag_goes name is found false e =
-      verdict_step _ word words (flag_turn (held rows pending skip) word name is found settles false (s.has_svg ∙ e))
-      ∙ ap (λ w. verdict w words) (flag_walk (held rows pending skip) word name is found)
+      verdict_step _ word words (flag_turn level takes (codes "svg") (held rows pending skip) word name is found settles false (s.has_svg ∙ e))
+      ∙ ap (λ w. verdict w words) (flag_walk level takes (codes "svg") (held rows pending skip) word name is found)
       ∙ onward (used svg_filled [] (settled_rows rules pending rows)) None skip (with_svg given) false (refl, shows_svg _ given s e)
 
   option_goes : (name : Text) (value : Option Text) → IsOption word name value → Named name
@@ -177,24 +106,24 @@ module _ (word : Text) (words : List Text) (onward : Onward words) (rows : List 
       ∙ ap (λ g. continued words (option_map (λ now. (now, false)) g)) (sym (give_is value given (is_some given.at) refl)) ∙ ap (λ word. continued words (given_by word given)) (sym (read (Some value)))
   option_goes name None is (is_valued found read) = apart_goes name is found ∙ ap (λ word. continued words (given_by word given)) (sym (read None))
   option_goes name (Some value) is (is_flag found read) =
-      verdict_fails _ word words (ap fails (valued_flag_turn (held rows pending skip) word name value is found)) ∙ ap (λ word. continued words (given_by word given)) (sym (read (Some value)))
+      verdict_fails _ word words (ap fails (valued_flag_turn level takes (codes "svg") (held rows pending skip) word name value is found)) ∙ ap (λ word. continued words (given_by word given)) (sym (read (Some value)))
   option_goes name None is (is_flag found read) = flag_goes name is found given.svg refl ∙ ap (λ word. continued words (given_by word given)) (sym (read None))
   option_goes name value is (is_unknown found read) =
-      verdict_fails _ word words (ap fails (unknown_turn (held rows pending skip) word name value is found)) ∙ ap (λ word. continued words (given_by word given)) (sym (read value))
+      verdict_fails _ word words (ap fails (unknown_turn level takes (held rows pending skip) word name value is found)) ∙ ap (λ word. continued words (given_by word given)) (sym (read value))
 
   word_goes : IsPlain word ⊎ OptionForm word → verdict (walk_at (held rows pending skip) idle) (word ∷ words) ≡ given_after given false (word ∷ words)
   word_goes (inl is) =
-      verdict_fails _ word words (ap fails (plain_turn (held rows pending skip) word is)) ∙ ap (λ word. continued words (given_by word given)) (sym is.read)
-  word_goes (inr is) = option_goes is.0 is.1 is.2 (named is.0) ∙ ap (λ word. continued words (given_by word given)) (sym is.2.read)
+      verdict_fails _ word words (ap fails (plain_turn level takes (held rows pending skip) word is)) ∙ ap (λ word. continued words (given_by word given)) (ap option_by (sym is.after))
+  word_goes (inr is) = option_goes is.0 is.1 is.2 (named is.0) ∙ ap (λ word. continued words (given_by word given)) (sym (option_read word is.0 is.1 is.2))
 
 module _ (word : Text) (words : List Text) (clean : list_any is_stray words ≡ false) (onward : Onward words) (rows : List Row) (skip : ℕ) (given : Given) (s : Shows rows given) where
   value_taken : IsPlain word → (b : Bool) → is_some given.at ≡ b
       → verdict (walk_at (held rows (Some (at_name, [])) skip) (option at_name)) (word ∷ words) ≡ continued_idle words (cond b None (Some (with_at word given)))
   value_taken is true e =
-      verdict_step _ word words (value_turn rows skip word is) ∙ ap (λ w. verdict w words) (value_walk rows skip word is)
-      ∙ doomed words clean rows (Some (at_name, word ∷ [])) skip kind.ArgumentConflict [] (value_settles rows skip word true (s.has_at ∙ e))
+      verdict_step _ word words (value_turn level takes at_name rows skip word is) ∙ ap (λ w. verdict w words) (value_walk rows skip word is)
+      ∙ doomed level takes meaning read_given words clean rows (Some (at_name, word ∷ [])) skip kind.ArgumentConflict [] (value_settles rows skip word true (s.has_at ∙ e))
   value_taken is false e =
-      verdict_step _ word words (value_turn rows skip word is) ∙ ap (λ w. verdict w words) (value_walk rows skip word is)
+      verdict_step _ word words (value_turn level takes at_name rows skip word is) ∙ ap (λ w. verdict w words) (value_walk rows skip word is)
       ∙ onward rows (Some (at_name, word ∷ [])) skip (with_at word given) false (value_settles rows skip word false (s.has_at ∙ e), shows_at word rows given s e)
 
   plain_goes : IsPlain word → verdict (walk_at (held rows (Some (at_name, [])) skip) (option at_name)) (word ∷ words) ≡ given_after given true (word ∷ words)
@@ -208,7 +137,7 @@ module _ (word : Text) (words : List Text) (clean : list_any is_stray words ≡ 
   next_goes : IsPlain word ⊎ OptionForm word → verdict (walk_at (held rows (Some (at_name, [])) skip) (option at_name)) (word ∷ words) ≡ given_after given true (word ∷ words)
   next_goes (inl is) = plain_goes is
   next_goes (inr is) =
-      verdict_fails _ word words (option_refused (held rows (Some (at_name, [])) skip) (option at_name) word is.0 is.1 is.2 kind.InvalidValue [] missing_settles)
+      verdict_fails _ word words (option_refused level takes meaning (held rows (Some (at_name, [])) skip) (option at_name) word is.0 is.1 is.2 kind.InvalidValue [] missing_settles)
       ∙ ap (λ b. continued_idle words (cond b None (give word given))) (sym is.2.hyphen)
 
 taken : (words : List Text) → list_any is_stray words ≡ false → (rows : List Row) (pending : Option (Text × List Text)) (skip : ℕ) (given : Given) (waits : Bool)

@@ -2,20 +2,11 @@
 --
 -- The value of `--at` is the next word, or follows a `=` in the option's own word; it is a word of 1 to 20 decimal digits, of a
 -- number from 0 to 2^64 - 1.
-use Rattle.std.specs.Prelude.{ℕ, ◌==◌, ◌^◌, Bool, true, false, ◌&&◌, if◌then◌else◌, nat_le, nat_lt, List, [], ◌∷◌, length, Option, Some, None, is_some, codes, option_map, option_and_then}
-use Rattle.std.specs.List.{list_any, before_first, after_first}
+use Rattle.std.specs.Prelude.{◌==◌, Bool, true, false, if◌then◌else◌, List, [], ◌∷◌, Option, Some, None, is_some, codes, option_map, option_and_then}
+use Rattle.std.specs.List.{before_first}
 use Rattle.std.specs.Str.{bytes_eq}
-use Rattle.std.specs.Str.Parse.{digits_value}
-use Rattle.fc_words.specs.Values.{is_numeral}
+use Rattle.fc_args.specs.Grammar.{Word, after_hyphens, begins_with_hyphen, drill_number, joined_value, read_if_given}
 use Rattle.fc_view_args.specs.declared.wanted.Wanted.{Wanted}
-
-abbrev pub Word : Type 0
-Word = List ℕ
-
--- 1 to 20 decimal digits, of a number below 2^64
-abbrev pub entry_number : Word → Option ℕ
-entry_number word =
-    if nat_le (length word) 20 && (is_numeral word && nat_lt (digits_value 10 word) (2 ^ 64)) then Some (digits_value 10 word) else None
 
 -- ---- the word of an option
 
@@ -39,25 +30,13 @@ abbrev pub option_named : Word → Option Word → OptionWord
 option_named name value =
     if bytes_eq (codes "at") name then valued value else (if bytes_eq (codes "svg") name then flag value else Unknown)
 
--- 61 is `=`
-abbrev pub joined_value : Word → Option Word
-joined_value text = if list_any (λ byte. byte == 61) text then Some (after_first (λ byte. byte == 61) text) else None
-
--- what follows two hyphens, which are 45
-abbrev pub after_hyphens : Word → Option Word
-after_hyphens (first ∷ second ∷ rest) = if first == 45 && second == 45 then Some rest else None
-after_hyphens _ = None
-
+-- by what follows two hyphens; 61 is `=`
 abbrev pub option_by : Option Word → OptionWord
 option_by None = Unknown
 option_by (Some text) = option_named (before_first (λ byte. byte == 61) text) (joined_value text)
 
 abbrev pub option_of_word : Word → OptionWord
 option_of_word word = option_by (after_hyphens word)
-
-abbrev pub begins_with_hyphen : Word → Bool
-begins_with_hyphen [] = false
-begins_with_hyphen (first ∷ rest) = first == 45
 
 -- ---- the words
 
@@ -94,13 +73,9 @@ given_after given true [] = None
 given_after given false (word ∷ words) = option_and_then (λ next. given_after next.0 next.1 words) (given_by (option_of_word word) given)
 given_after given true (word ∷ words) = option_and_then (λ now. given_after now false words) (give_next word given)
 
--- an option that wasn't given, or its value as it is read
-abbrev pub read_if_given : {A : Type 0} → (Word → Option A) → Option Word → Option (Option A)
-read_if_given read None = Some None
-read_if_given read (Some word) = option_map Some (read word)
-
+-- the number is read as that of a drill is
 abbrev pub wanted_of_words : Given → Option Wanted
-wanted_of_words given = option_map (λ at. record { at = at; svg = given.svg }) (read_if_given entry_number given.at)
+wanted_of_words given = option_map (λ at. record { at = at; svg = given.svg }) (read_if_given drill_number given.at)
 
 -- what the words ask for, where they are in the grammar
 abbrev pub wanted_by : List Word → Option Wanted

@@ -1,16 +1,17 @@
 //! The viewer's command and its options, as `clap` has them.
 
-ghost use Rattle.std.specs.Prelude.{◌≡◌, IfOk, false};
+ghost use Rattle.std.specs.Prelude.{◌≡◌, IfOk, codes, false};
 ghost use Rattle.clap.specs.Words.{app_of, rule_of};
 ghost use Rattle.clap.specs.declared.builder.command.Command.TheViews.{out-Command as fields_of};
-ghost use Rattle.fc_view_args.specs.Command.{at_rule, bare, svg_rule, viewer};
+ghost use Rattle.fc_args.specs.Program.{flag_rule, valued_rule};
+ghost use Rattle.fc_view_args.specs.Command.{bare, viewer};
 
 use clap::{Arg, ArgAction, Command};
 use std::alloc::{AllocError, Global};
 
 /// `--at NUMBER`.
 fn at_option<'a>(alloc: Global) -> Arg<'a>
-    ensures rule { rule_of result ≡ at_rule }
+    ensures rule { rule_of result ≡ valued_rule (codes "at") }
     ensures local { result.global ≡ false }
 {
     Arg::new(alloc, "at")
@@ -21,7 +22,7 @@ fn at_option<'a>(alloc: Global) -> Arg<'a>
 
 /// `--svg`.
 fn svg_option<'a>(alloc: Global) -> Arg<'a>
-    ensures rule { rule_of result ≡ svg_rule }
+    ensures rule { rule_of result ≡ flag_rule (codes "svg") }
     ensures local { result.global ≡ false }
 {
     Arg::new(alloc, "svg")

@@ -2,33 +2,16 @@
 
 ghost use Rattle.std.specs.Prelude.{◌≡◌, IfOk, map, false};
 ghost use Rattle.std.specs.List.{list_any};
+ghost use Rattle.fc_args.specs.Program.{is_stray};
 ghost use Rattle.fc_view_args.specs.Grammar.{wanted_by};
-ghost use Rattle.fc_view_args.specs.Command.{is_stray};
 
 use crate::command::command;
 use crate::found::wanted_in;
 use crate::wanted::Wanted;
 use clap::error::ErrorKind;
+use fc_args::reading::has_stray;
 use fc_base::outcome::NoMemory;
 use std::alloc::Global;
-
-/// Whether a word begins with a hyphen and is no option: `-`, `--` and `-x`.
-fn is_stray(word: &str) -> bool
-    ensures { result ≡ is_stray word.now }
-{
-    match word.as_bytes() {
-        [b'-'] | [b'-', _] => true,
-        [b'-', second, _, ..] => *second != b'-',
-        _ => false,
-    }
-}
-
-/// Whether one of the words is stray.
-fn has_stray(words: &[&str]) -> bool
-    ensures { result ≡ list_any (λ word. is_stray word.now) words.now }
-{
-    words.iter().any(|word| is_stray(word))
-}
 
 /// What words ask for of which none is stray: the parse by `clap`.
 fn parse(alloc: Global, words: &[&str]) -> Result<Option<Wanted>, NoMemory>
