@@ -194,15 +194,9 @@ trace_of_marks() {
     printf '%s\n' "mkvdisk -size 64 -unit kb" "lsfcmap -delim <" | "$program" run --grain 64 --trace
 }
 
-# ---- the viewer's words
-words_of_viewer() {
-    echo "== the viewer's words"
-    local line words
-    while IFS= read -r line; do
-        read -ra words <<<"$line"
-        run_viewer_on ${words[@]+"${words[@]}"} <traces/first-volume
-        is "the viewer's words '$line': status" 0 "$status"
-    done <<'END'
+# The words that are in the viewer's grammar, a line each, and words that aren't.
+good_words_of_viewer() {
+    cat <<'END'
 
 --at 0
 --at=0
@@ -213,12 +207,10 @@ words_of_viewer() {
 --at 1 --svg
 --at=1 --svg
 END
-    while IFS= read -r line; do
-        read -ra words <<<"$line"
-        run_viewer_on ${words[@]+"${words[@]}"} <traces/first-volume
-        is "the viewer's words '$line': status" 2 "$status"
-        holds "the viewer's words '$line': something was written" wrote_nothing
-    done <<'END'
+}
+
+bad_words_of_viewer() {
+    cat <<'END'
 -
 --
 x
@@ -253,12 +245,38 @@ help
 --at 0x1
 --at 1.0
 END
-    run_viewer_on "" <traces/first-volume
-    is "an empty word of the viewer: status" 2 "$status"
-    run_viewer_on --at "" <traces/first-volume
-    is "an empty number of the viewer: status" 2 "$status"
-    run_viewer_on --at $'\xff' <traces/first-volume
-    is "a word of the viewer that is no text: status" 2 "$status"
+}
+
+# The viewer refuses the words of a call, and writes nothing.
+viewer_tells_usage() { # WORD..
+    local shown
+    printf -v shown '%q ' "$@"
+    run_viewer_on "$@" <traces/first-volume
+    is "the viewer's words ${shown% }: status" 2 "$status"
+    holds "the viewer's words ${shown% }: something was written" wrote_nothing
+}
+
+# ---- the viewer's words
+words_of_viewer() {
+    echo "== the viewer's words"
+    local line words
+    while IFS= read -r line; do
+        read -ra words <<<"$line"
+        run_viewer_on ${words[@]+"${words[@]}"} <traces/first-volume
+        is "the viewer's words '$line': status" 0 "$status"
+    done < <(good_words_of_viewer)
+    while IFS= read -r line; do
+        read -ra words <<<"$line"
+        viewer_tells_usage "${words[@]}"
+    done < <(bad_words_of_viewer)
+    # empty words, and words that aren't UTF-8
+    viewer_tells_usage ""
+    viewer_tells_usage --at ""
+    viewer_tells_usage --svg ""
+    viewer_tells_usage --at " 1"
+    viewer_tells_usage $'\xff'
+    viewer_tells_usage --at $'\xff'
+    viewer_tells_usage $'--at=1\x80'
     { "$viewer" walk; cat; } <traces/first-volume >"$room/out" 2>"$room/err"
     holds "usage of the viewer took bytes of its input" cmp -s "$room/out" traces/first-volume
 }

@@ -520,16 +520,22 @@ viewing() {
     holds "a built bin/fcview: it complained" complained_of_nothing
     holds "bin/fcview --version doesn't name the kit that built it" grep -q 'built with a-kit logic 0123$' <(in_tree bin/fcview --version)
     viewing_into_files
-    for line in 2 3 4 5 6 7 9; do
-        echo "$line" >"$tree/status"
-        run_viewer_script <traces/first-volume
-        is "the viewer ends with $line: the script's status" "$line" "$status"
-        holds "the viewer ends with $line: not one line is said" complained_in_one_line
-    done
+    viewing_that_ends
     fresh_tree
     run_viewer_script try --svg "$room/tried" --at 3 "$top/traces/torn"
     is "bin/fcview try: status" 0 "$status"
     is "bin/fcview try: what the kit was asked" "try -- --svg --at 3" "$(<"$tree/called")"
+}
+
+# The viewer's status is handed on, and said in one line.
+viewing_that_ends() {
+    local number
+    for number in 2 3 4 5 6 7 9; do
+        echo "$number" >"$tree/status"
+        run_viewer_script <traces/first-volume
+        is "the viewer ends with $number: the script's status" "$number" "$status"
+        holds "the viewer ends with $number: not one line is said" complained_in_one_line
+    done
 }
 
 # What the program prints behind lines `== NAME` goes into files of the folder, which is made.

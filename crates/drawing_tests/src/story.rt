@@ -44,7 +44,7 @@ pub struct Story {
 
 /// An entry as it is told: what was asked and answered, what changed, what was moved, and the grain that was lost.
 #[derive(Drop)]
-pub struct Told {
+pub struct Deed {
     pub request: Request,
     pub reply: Reply,
     pub effects: List<Effect>,
@@ -53,8 +53,8 @@ pub struct Told {
 }
 
 /// What was asked and answered, and nothing else.
-pub fn told(alloc: Global, request: Request, reply: Reply) -> Told {
-    Told {
+pub fn told(alloc: Global, request: Request, reply: Reply) -> Deed {
+    Deed {
         request,
         reply,
         effects: List::new(alloc),
@@ -209,7 +209,7 @@ impl Story {
     }
 
     /// Tells one entry more: its moves, its write where that was done, and the grain that it lost. All are of grain 0.
-    pub fn tell(&mut self, rt: &impl Abort, alloc: Global, told: Told) -> Result<(), NoMemory> {
+    pub fn tell(&mut self, rt: &impl Abort, alloc: Global, told: Deed) -> Result<(), NoMemory> {
         self.sources = make_moves(alloc, &mut self.sheet, told.moves.as_slice())?;
         for index in 0..told.moves.len() {
             assert!(rt; index < self.sources.len());

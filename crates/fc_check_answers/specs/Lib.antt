@@ -1,3 +1,4 @@
 -- Which entries answer the lines of a session.
 pub mod Places
 pub mod Runs
+pub mod Small

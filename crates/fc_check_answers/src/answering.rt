@@ -89,7 +89,7 @@ fn runs_after<'a>(
 
 impl<'a> Answering<'a> {
     /// The place of these bytes of a session before the first entry, over these disks for new volumes, lane by lane. Refused for want of
-    /// memory, or where background work meets a grain with a number of 2^32 or more.
+    /// memory alone.
     pub fn open(
         alloc: Global,
         grain: GrainSize,

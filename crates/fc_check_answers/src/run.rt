@@ -3,6 +3,7 @@
 ghost use Rattle.std.specs.Prelude.{◌≡◌, ◌↔◌, ◌+◌, ℕ, map, IfOk, IsTrue, OnOk};
 ghost use Rattle.fc_base.specs.declared.size.GrainSize.{GrainSize};
 ghost use Rattle.fc_check_answers.specs.Runs.{AreRunsAt, Came, GoesOn, IsWayAt, OneGives, WayLeadsOn, place_at};
+ghost use Rattle.fc_check_answers.specs.Small.{AreSmall, IsSmallWay};
 ghost use Rattle.fc_check_follow.specs.Following.{AreCandidates, IsOpen};
 ghost use Rattle.fc_check_lines.specs.Asked.{IsAskedBy};
 
@@ -34,6 +35,7 @@ fn go_on<'a>(
     entry: &Entry,
     after: &mut Vec<Run<'a>>,
 ) -> Result<(), NoMemory>
+    requires { IsSmallWay way }
     ensures places { OnOk result (Came (WayLeadsOn lines.entry name.now entry.now way)
         (map place_at after.old.items) (map place_at after.new.items)) }
     ensures runs { OnOk result ((grain : GrainSize) (entries : ℕ) → IsWayAt grain entries way
@@ -52,6 +54,7 @@ fn go_on_ways<'a>(
     entry: &Entry,
     after: &mut Vec<Run<'a>>,
 ) -> Result<(), NoMemory>
+    requires { AreSmall ways.items }
     ensures places { OnOk result (Came (OneGives (WayLeadsOn lines.entry name.now entry.now) ways.items)
         (map place_at after.old.items) (map place_at after.new.items)) }
     ensures runs { OnOk result ((grain : GrainSize) (entries : ℕ) → AreCandidates grain entries ways.items
@@ -69,6 +72,7 @@ fn go_on_ways<'a>(
 impl<'a> Run<'a> {
     /// Whether the actor with this name may ask this next.
     fn asks(&self, name: &[u8], request: &Request) -> Result<bool, NoMemory>
+        requires { IsSmallWay self.now.way }
         ensures { IfOk result (λ yes. IsTrue yes
             ↔ IsAskedBy self.now.way.grain self.now.lines.agenda (place_at self.now).told name.now request.now) }
     {

@@ -1,5 +1,7 @@
 //! What a session asks of a way.
 
+ghost use Rattle.fc_check_answers.specs.Small.{IsSmallWay};
+
 use fc_base::ids::GrainNo;
 use fc_base::outcome::NoMemory;
 use fc_base::size::GrainSize;
@@ -13,6 +15,7 @@ use fc_registry::Registry;
 #[derive(Drop)]
 pub(crate) struct Telling<'a> {
     pub(crate) way: &'a Record,
+    ghost small: { IsSmallWay way.now },
 }
 
 impl<'a> Told for Telling<'a> {
@@ -37,6 +40,6 @@ impl<'a> Told for Telling<'a> {
     }
 
     fn next_grain(&self, work: &Work) -> Result<Option<GrainNo>, NoMemory> {
-        self.way.next_grain(work.map(), work.cleans())
+        Ok(self.way.next_grain(work.map(), work.cleans()))
     }
 }

@@ -1,5 +1,5 @@
 -- What may be asked of a way that was reached.
-use Rattle.std.proofs.Common.{◌≡◌, ℕ, ◌+◌, ◌*◌, ◌<◌, Option, List, refl, sym, subst, arith}
+use Rattle.std.proofs.Common.{◌≡◌, ℕ, ◌+◌, ◌*◌, ◌^◌, ◌<◌, Option, List, refl, sym, subst, arith}
 use Rattle.fc_base.specs.declared.command.Command.{Command}
 use Rattle.fc_base.specs.declared.decision.Decision.{Decision}
 use Rattle.fc_base.specs.declared.ids.VolId.{VolId}
@@ -18,8 +18,9 @@ use Rattle.fc_check_follow.proofs.Laws.{deciders, stands}
 pub small_of : (w : Whole) → CanDecide w → IsSmall w.books.sheet.slots w.rows
 small_of w can = record { held = λ k. omega (arith, can.held k); restarts = λ m. omega (arith, can.restart m) }
 
-left_of : (grain : GrainSize) (n : ℕ) (w : Whole) (d : Decision) → CanLeave grain n w d → CanBeLeft w d
-left_of grain n w d can = record { fits = can.fits; one = can.one; countable = can.countable; triggers = can.lawful.triggers }
+left_of : (grain : GrainSize) (n : ℕ) (w : Whole) (d : Decision) → n < 2 ^ 32 → CanLeave grain n w d → CanBeLeft w d
+left_of grain n w d few can =
+    record { fits = can.fits; one = can.one; countable = can.countable; triggers = can.lawful.triggers; births = omega (arith, few, can.lawful.stands.few.births) }
 
 -- ---- before a command
 
@@ -28,7 +29,7 @@ open_can w at = deciders.can_decide (2 * w.entries) w (omega (arith, at.few)) at
 
 pub settling_left : (grain : GrainSize) (w : Whole) (d : Decision) → IsOpen w → d ≡ settle w.books → CanBeLeft w d
 settling_left grain w d at is =
-    subst (λ (x : Decision). CanBeLeft w x) (sym is) (left_of grain (2 * w.entries) w (settle w.books) (deciders.settling grain (2 * w.entries) w (omega (arith, at.few)) at.reached))
+    subst (λ (x : Decision). CanBeLeft w x) (sym is) (left_of grain (2 * w.entries) w (settle w.books) (omega (arith, at.few)) (deciders.settling grain (2 * w.entries) w (omega (arith, at.few)) at.reached))
 
 pub settled_is : (way settled : Judged) (d : Decision) → IsOpen way.whole → d ≡ settle way.whole.books → settled ≡ left_on way d → IsSettled settled
 settled_is way settled d at is left =
@@ -46,7 +47,7 @@ settled_can way at =
 deciding_here : (grain : GrainSize) (before : Whole) (command : Command) (loop : Option (List VolId)) → IsOpen before → IsLoopOf grain (after_settling grain before).books command loop →
     CanBeLeft (after_settling grain before) (decided_on grain (after_settling grain before) command loop)
 deciding_here grain before command loop at is_loop =
-    left_of grain (2 * before.entries + 1) (after_settling grain before) (decided_on grain (after_settling grain before) command loop)
+    left_of grain (2 * before.entries + 1) (after_settling grain before) (decided_on grain (after_settling grain before) command loop) (omega (arith, at.few))
     (deciders.deciding grain (2 * before.entries) before command loop (omega (arith, at.few)) at.reached is_loop)
 
 pub deciding_left : (way : Judged) (command : Command) (d : Decision) → IsSettled way → IsDecision way command d → CanBeLeft way.whole d

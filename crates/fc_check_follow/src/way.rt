@@ -63,8 +63,7 @@ fn follow_line(
 
 /// Goes on with one way behind an entry with the next number: to the ways after it come just those that may be told so, none where
 /// the entry is no right step from it. What was told in the way was reached by right entries, fewer than 2^18. Refused for want of
-/// memory, where a grain that background work looks at has a number of 2^32 or more, or where births come to 2^64; then some of
-/// the ways may have come.
+/// memory alone; then some of the ways may have come.
 pub fn follow_way(
     alloc: Global,
     way: Record,

@@ -5,5 +5,5 @@ mod Turning
 mod Within
 mod Answering
 mod Lawful
-mod Following
+pub mod Following
 mod KnownExamples

@@ -1,18 +1,17 @@
 -- The least grain of a lane and of all lanes, found place by place; and the turns of a lane by its part of what is told.
 use mathlib.Core.Path.{fun_ext}
-use Rattle.std.proofs.Common.{◌≡◌, ℕ, zero, suc, ◌<◌, ◌≤◌, Bool, true, false, cond, Option, Some, None, Result, IfOk, List, length, get_or, option_map, is_some, refl, sym, ap, ap₂, subst, ◌∙◌, arith, inl, inr}
+use Rattle.std.proofs.Common.{◌≡◌, ℕ, zero, suc, ◌+◌, ◌-◌, ◌*◌, ◌/◌, ◌^◌, ◌<◌, ◌≤◌, Bool, true, false, cond, Option, Some, None, List, length, get_or, option_map, is_some, refl, sym, ap, ap₂, subst, ◌∙◌, arith, inl, inr}
+use Rattle.std.proofs.Math.Nat.{add-div_right, div-eq_of_lt, lt_trans}
 use Rattle.std.proofs.lemmas.Bool.{cases_lt}
-use Rattle.std.proofs.lemmas.Result.{IfOk-weaker}
 use Rattle.fc_base.specs.Column.{first_below}
-use Rattle.fc_base.specs.Sheet.{Slot, mapping_place}
+use Rattle.fc_base.specs.Sheet.{Slot, mapping_place, slot_at}
 use Rattle.fc_base.specs.declared.ids.GrainNo.{GrainNo}
 use Rattle.fc_base.specs.declared.ids.MapId.{MapId}
-use Rattle.fc_base.specs.declared.outcome.NoMemory.{NoMemory}
 use Rattle.fc_base.specs.declared.size.GrainSize.{GrainSize}
 use Rattle.fc_legal.proofs.Events.{one_lane}
 use Rattle.fc_legal.specs.Seconds.{Work as MappingWork, filled_by, next_grain}
 use Rattle.fc_legal.specs.Whole.{Whole, lanes, lane_at, part_at, single_lane}
-use Rattle.fc_parts.proofs.Numbers.{IsLane, all_place, none_in, number_is_of, place_of_number}
+use Rattle.fc_parts.proofs.Numbers.{IsLane, all_place, none_in, number_below, number_is_of, place_of_number}
 use Rattle.fc_parts.proofs.Spots.{copied_parts, cleaned_parts}
 use Rattle.fc_parts.proofs.Views.{parts, mapping_parts, size_parts}
 use Rattle.fc_pick.proofs.First.{find_first, find_none}
@@ -21,7 +20,7 @@ use Rattle.fc_pick.specs.declared.work.WorkFlags.{WorkFlags}
 use Rattle.fc_rules.specs.LaneTold.{LaneOf, number_at, grains_in}
 use Rattle.fc_rules.specs.LaneTurn.{copied_slot, cleaned_slot, grains_of, least_grain, next_copy, next_clean}
 use Rattle.fc_check_lane.specs.Known.{Known, known_of}
-use Rattle.fc_check_lane.specs.Turns.{has_work, filled_in, least_in, least_of, next_in}
+use Rattle.fc_check_lane.specs.Turns.{HasFewGrains, has_work, filled_in, least_in, least_of, next_in}
 use Rattle.fc_check_lane.specs.declared.turn.Work.{Work}
 use Rattle.fc_check_lane.specs.declared.turn.Work.TheVariants.{Copying, Cleaning}
 
@@ -161,20 +160,12 @@ next_as grain w work =
     least_all (cond work.cleans Cleaning Copying) (known_of grain w) work.map.0
     ∙ ap (λ (filled : ℕ → Option ℕ). least_grain (single_lane grain) w.books.sheet.slots filled work.map.0) (fun_ext (λ g. filled_as work.cleans (known_of grain w) work.map.0 g))
 
-next_grain_is : (k : Known) (map : MapId) (cleans : Bool) (kind : Work) (next : Option GrainNo) → kind ≡ cond cleans Cleaning Copying → next ≡ least_of kind k (single_lane k.grain) map.0 →
+pub next_grain_is : (k : Known) (map : MapId) (cleans : Bool) (kind : Work) (next : Option GrainNo) → kind ≡ cond cleans Cleaning Copying → next ≡ least_of kind k (single_lane k.grain) map.0 →
     (grain : GrainSize) (w : Whole) (work : MappingWork) → k ≡ known_of grain w → work.map ≡ map → work.cleans ≡ cleans → next ≡ next_grain grain w work
 next_grain_is k map cleans kind next of_kind is grain w work same of_map of_cleans =
     is
     ∙ ((λ i. least_of (of_kind i) (same i) (single_lane (same i).grain) (sym of_map i).0)
     ∙ (ap (λ (b : Bool). least_of (cond b Cleaning Copying) (known_of grain w) (single_lane grain) work.map.0) (sym of_cleans) ∙ next_as grain w work))
-
-pub next_grain_found : (k : Known) (map : MapId) (cleans : Bool) (kind : Work) (answer : Result (Option GrainNo) NoMemory) → kind ≡ cond cleans Cleaning Copying →
-    IfOk answer (λ next. next ≡ least_of kind k (single_lane k.grain) map.0) →
-    IfOk answer (λ next. (grain : GrainSize) (w : Whole) (work : MappingWork) → k ≡ known_of grain w → work.map ≡ map → work.cleans ≡ cleans → next ≡ next_grain grain w work)
-next_grain_found k map cleans kind answer of_kind found =
-    IfOk-weaker answer (λ next. next ≡ least_of kind k (single_lane k.grain) map.0)
-    (λ next. (grain : GrainSize) (w : Whole) (work : MappingWork) → k ≡ known_of grain w → work.map ≡ map → work.cleans ≡ cleans → next ≡ next_grain grain w work)
-    (λ next is. next_grain_is k map cleans kind next of_kind is) found
 
 -- ---- place by place, as it is counted
 
@@ -184,6 +175,27 @@ lane_with i n grain = record { lane = i; lanes = n; grain = grain }
 pub lane_grains : (k : Known) (l : LaneOf) (m own grains : ℕ) → grains ≡ grains_of k.sheet.slots (mapping_place k.sheet.slots m) → own ≡ grains_in l grains →
     own ≡ grains_in l (grains_of k.sheet.slots (mapping_place k.sheet.slots m))
 lane_grains k l m own grains of_mapping is = is ∙ ap (grains_in l) of_mapping
+
+-- how many grains a lane has: none where there is none with its number, and else that one and more behind it
+pub none_of_lane : (grains lane lanes : ℕ) → lane < lanes → grains ≤ lane → 0 ≡ (grains + lanes - 1 - lane) / lanes
+none_of_lane grains lane lanes lt le = sym (div-eq_of_lt (omega arith))
+
+pub first_of_lane : (grains lane lanes : ℕ) → lane < lanes → lane < grains → (grains - lane - 1) / lanes + 1 ≡ (grains + lanes - 1 - lane) / lanes
+first_of_lane grains lane lanes lt some =
+    let all : (grains - lane - 1) + lanes ≡ grains + lanes - 1 - lane = omega arith in
+    sym (add-div_right (grains - lane - 1) (omega arith)) ∙ ap (λ n. n / lanes) all
+
+-- so many grains have numbers below 2^32
+few_in : (slots : List Slot) (o : Option ℕ) → ((place : ℕ) → length (slot_at slots place).held < 2 ^ 32) → grains_of slots o < 2 ^ 32
+few_in slots None few = omega arith
+few_in slots (Some p) few = few p
+
+pub number_small : (k : Known) (l : LaneOf) (m place : ℕ) → IsLane l → HasFewGrains k → place < grains_in l (grains_of k.sheet.slots (mapping_place k.sheet.slots m)) → place * l.lanes + l.lane < 2 ^ 32
+number_small k l m place il few lt =
+    let grains : ℕ = grains_of k.sheet.slots (mapping_place k.sheet.slots m) in
+    let below : number_at l place < grains = number_below l il place grains lt in
+    let small : grains < 2 ^ 32 = few_in k.sheet.slots (mapping_place k.sheet.slots m) few in
+    lt_trans below small
 
 pub none_here : (work : Work) (k : Known) (l : LaneOf) (m place number : ℕ) → None ≡ filled_in work k m number → number ≡ number_at l place → is_some (filled_in work k m (number_at l place)) ≡ false
 none_here work k l m place number none is = ap (λ z. is_some (filled_in work k m z)) (sym is) ∙ ap is_some (sym none)

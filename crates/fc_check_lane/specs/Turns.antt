@@ -1,7 +1,7 @@
 -- Which grain a worker's turn takes, by what is kept.
-use Rattle.std.specs.Prelude.{ℕ, Bool, Option, is_some, option_map, length}
+use Rattle.std.specs.Prelude.{ℕ, ◌^◌, ◌<◌, Bool, Option, is_some, option_map, length}
 use Rattle.fc_base.specs.Column.{first_below}
-use Rattle.fc_base.specs.Sheet.{mapping_place}
+use Rattle.fc_base.specs.Sheet.{mapping_place, slot_at}
 use Rattle.fc_base.specs.declared.ids.GrainNo.{GrainNo}
 use Rattle.fc_base.specs.declared.ids.MapId.{MapId}
 use Rattle.fc_pick.specs.Next.{next_work}
@@ -11,6 +11,10 @@ use Rattle.fc_rules.specs.LaneTurn.{copied_slot, cleaned_slot, grains_of}
 use Rattle.fc_check_lane.specs.Known.{Known}
 use Rattle.fc_check_lane.specs.declared.turn.Work.{Work}
 use Rattle.fc_check_lane.specs.declared.turn.Work.TheVariants.{Copying, Cleaning}
+
+-- Each grain of a slot has a number below 2^32.
+abbrev pub HasFewGrains : Known → Type 0
+HasFewGrains k = (place : ℕ) → length (slot_at k.sheet.slots place).held < 2 ^ 32
 
 -- The mappings that have such work, and the slot that it fills at a grain.
 abbrev pub has_work : Work → WorkFlags → Bool

@@ -12,6 +12,7 @@ ghost use Rattle.fc_check_lane.specs.Known.{known_of};
 ghost use Rattle.fc_check_lane.specs.Steps.{CanWriteTo};
 ghost use Rattle.fc_check_lane.specs.Answers.{IsOfGrain, IsOfLane, ReadIn, WriteIn, FillIn, TurnIn, RequestIn, IsNextIn, CanBeWritten};
 ghost use Rattle.fc_check_lane.specs.Next.{IsNext};
+ghost use Rattle.fc_check_lane.specs.Turns.{HasFewGrains};
 
 use crate::known::Known;
 use crate::turn::Work;
@@ -125,10 +126,11 @@ impl Known {
         lane: usize,
         entry: &Entry,
     ) -> Result<bool, NoMemory>
-        requires { lane < length self.now.faults }
+        requires lane { lane < length self.now.faults }
+        requires few { HasFewGrains self.now }
         ensures { IfOk result (λ yes. IsTrue yes ↔ TurnIn work self.now lane entry.now) }
     {
-        let next = self.next_work(work, lane)?;
+        let next = self.next_work(work, lane);
         match next {
             Some((map, grain)) => self.fill_answers(alloc, work, map, grain, entry),
             None => Ok(is_idle(entry)),
@@ -143,6 +145,7 @@ impl Known {
         lane: usize,
         entry: &Entry,
     ) -> Result<bool, NoMemory>
+        requires { HasFewGrains self.now }
         ensures { IfOk result (λ yes. IsTrue yes ↔ ((lane < length self.now.faults) × IsOfLane self.now lane entry.now × TurnIn work self.now lane entry.now)) }
     {
         if lane >= self.lanes() {
@@ -163,6 +166,7 @@ impl Known {
         request: &Request,
         entry: &Entry,
     ) -> Result<bool, NoMemory>
+        requires { HasFewGrains self.now }
         ensures { IfOk result (λ yes. CanBeWritten self.now → IsTrue yes ↔ RequestIn self.now request.now entry.now) }
     {
         match request {
@@ -186,6 +190,7 @@ impl Known {
 
     /// Whether an entry may come next, by what is kept.
     fn comes_next(&self, alloc: Global, entry: &Entry) -> Result<bool, NoMemory>
+        requires { HasFewGrains self.now }
         ensures { IfOk result (λ yes. CanBeWritten self.now → IsTrue yes ↔ IsNextIn self.now entry.now) }
     {
         if entry.number == self.entry_count() {
@@ -196,9 +201,9 @@ impl Known {
     }
 
     /// Whether an entry of a lane may come next after a legal history of which all this was told: it is a right step. The answer
-    /// is no for every command and every faulty line. Refused for want of memory alone, or where a grain that background work
-    /// looks at has a number of 2^32 or more.
+    /// is no for every command and every faulty line. Refused for want of memory alone.
     pub fn is_next(&self, alloc: Global, entry: &Entry) -> Result<bool, NoMemory>
+        requires { HasFewGrains self.now }
         ensures { IfOk result (λ yes. (grain : GrainSize) (w : Whole) → AreSound w.books → self.now ≡ known_of grain w → IsTrue yes ↔ IsNext grain w entry.now) }
     {
         self.comes_next(alloc, entry)

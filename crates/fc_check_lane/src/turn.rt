@@ -1,6 +1,6 @@
-//! Which grain a worker's turn takes.
+//! Which grain a worker's turn takes, and which one a mapping's background work comes to next.
 
-ghost use Rattle.std.specs.Prelude.{◌≡◌, ℕ, ◌<◌, IfOk, cond, length};
+ghost use Rattle.std.specs.Prelude.{◌≡◌, ℕ, ◌+◌, ◌*◌, ◌^◌, ◌<◌, cond, length};
 ghost use Rattle.fc_base.specs.declared.size.GrainSize.{GrainSize};
 ghost use Rattle.fc_base.specs.Sheet.{mapping_place};
 ghost use Rattle.fc_legal.specs.Seconds.{Work as MappingWork, next_grain};
@@ -8,12 +8,11 @@ ghost use Rattle.fc_legal.specs.Whole.{Whole};
 ghost use Rattle.fc_rules.specs.LaneTold.{grains_in, number_at};
 ghost use Rattle.fc_rules.specs.LaneTurn.{copied_slot, cleaned_slot, grains_of};
 ghost use Rattle.fc_check_lane.specs.Known.{known_of};
-ghost use Rattle.fc_check_lane.specs.Turns.{has_work, filled_in, least_of, least_in, next_in};
+ghost use Rattle.fc_check_lane.specs.Turns.{HasFewGrains, has_work, filled_in, least_of, least_in, next_in};
 ghost use Rattle.fc_check_lane.specs.declared.turn.Work.TheVariants.{Copying, Cleaning};
 
 use crate::known::Known;
 use fc_base::ids::{GrainNo, MapId};
-use fc_base::outcome::NoMemory;
 use fc_pick::WorkFlags;
 
 /// What is done in the background.
@@ -95,86 +94,73 @@ impl Known {
         }
     }
 
-    /// The least grain of one of so many lanes that such work of a mapping could fill. Refused also where its number is 2^32 or
-    /// more.
-    fn least_of(
-        &self,
-        work: Work,
-        map: MapId,
-        lane: usize,
-        lanes: usize,
-    ) -> Result<Option<GrainNo>, NoMemory>
-        requires { lane < lanes }
-        ensures { IfOk result (λ least. least ≡ least_of work self.now (record { lane = lane; lanes = lanes; grain = self.now.grain }) map.0) }
+    /// The least grain of one of so many lanes that such work of a mapping could fill.
+    fn least_of(&self, work: Work, map: MapId, lane: usize, lanes: usize) -> Option<GrainNo>
+        requires lane { lane < lanes }
+        requires few { HasFewGrains self.now }
+        ensures { result ≡ least_of work self.now (record { lane = lane; lanes = lanes; grain = self.now.grain }) map.0 }
     {
-        let grains = grains_in_lane(self.grains_of_mapping(map), lane, lanes)?;
+        let grains = grains_in_lane(self.grains_of_mapping(map), lane, lanes);
         for place in 0..grains {
-            let number = number_in_lane(place, lane, lanes)?;
+            let number = number_in_lane(place, lane, lanes);
             match self.filled(work, map, number as usize) {
-                Some(_) => return Ok(Some(GrainNo(number))),
+                Some(_) => return Some(GrainNo(number)),
                 None => {}
             }
         }
-        Ok(None)
+        None
     }
 
-    /// The least grain of a lane that such work of a mapping could fill. Refused also where its number is 2^32 or more.
-    fn least_grain(&self, work: Work, map: MapId, lane: usize) -> Result<Option<GrainNo>, NoMemory>
-        requires { lane < length self.now.faults }
-        ensures { IfOk result (λ least. least ≡ least_in work self.now lane map.0) }
+    /// The least grain of a lane that such work of a mapping could fill.
+    fn least_grain(&self, work: Work, map: MapId, lane: usize) -> Option<GrainNo>
+        requires lane { lane < length self.now.faults }
+        requires few { HasFewGrains self.now }
+        ensures { result ≡ least_in work self.now lane map.0 }
     {
         self.least_of(work, map, lane, self.lanes())
     }
 
-    /// The least grain of all lanes at which the copies of a mapping, or its cleanings, have something to do. Refused for want of
-    /// memory, or where a grain has a number of 2^32 or more.
-    pub fn next_grain(&self, map: MapId, cleans: bool) -> Result<Option<GrainNo>, NoMemory>
-        ensures { IfOk result (λ next. (grain : GrainSize) (w : Whole) (work : MappingWork) → self.now ≡ known_of grain w → work.map ≡ map → work.cleans ≡ cleans → next ≡ next_grain grain w work) }
+    /// The least grain of all lanes at which the copies of a mapping, or its cleanings, have something to do, and None exactly
+    /// where they have nothing to do.
+    pub fn next_grain(&self, map: MapId, cleans: bool) -> Option<GrainNo>
+        requires { HasFewGrains self.now }
+        ensures { (grain : GrainSize) (w : Whole) (work : MappingWork) → self.now ≡ known_of grain w → work.map ≡ map → work.cleans ≡ cleans → result ≡ next_grain grain w work }
     {
         self.least_of(Work::new(cleans), map, 0, 1)
     }
 
-    /// The first mapping by id that has such work in a lane, and its least grain there. Refused also where the number of a grain
-    /// is 2^32 or more.
-    pub(crate) fn next_work(
-        &self,
-        work: Work,
-        lane: usize,
-    ) -> Result<Option<(MapId, GrainNo)>, NoMemory>
-        requires { lane < length self.now.faults }
-        ensures { IfOk result (λ next. next ≡ next_in work self.now lane) }
+    /// The first mapping by id that has such work in a lane, and its least grain there.
+    pub(crate) fn next_work(&self, work: Work, lane: usize) -> Option<(MapId, GrainNo)>
+        requires lane { lane < length self.now.faults }
+        requires few { HasFewGrains self.now }
+        ensures { result ≡ next_in work self.now lane }
     {
         for row in self.work_flags() {
             if work.is_of(*row) {
-                if let Some(grain) = self.least_grain(work, row.map, lane)? {
-                    return Ok(Some((row.map, grain)));
+                if let Some(grain) = self.least_grain(work, row.map, lane) {
+                    return Some((row.map, grain));
                 }
             }
         }
-        Ok(None)
+        None
     }
 }
 
-/// How many of so many grains a lane has. Refused where there are 2^32 or more of them or of lanes.
-fn grains_in_lane(grains: usize, lane: usize, lanes: usize) -> Result<usize, NoMemory>
+/// How many of so many grains a lane has.
+fn grains_in_lane(grains: usize, lane: usize, lanes: usize) -> usize
     requires { lane < lanes }
-    ensures { IfOk result (λ own. (grain : GrainSize) → own ≡ grains_in (record { lane = lane; lanes = lanes; grain = grain }) grains) }
+    ensures { (grain : GrainSize) → result ≡ grains_in (record { lane = lane; lanes = lanes; grain = grain }) grains }
 {
-    match grains.checked_add(lanes - 1 - lane) {
-        Some(sum) => Ok(sum / lanes),
-        None => Err(NoMemory),
+    if grains <= lane {
+        return 0;
     }
+    (grains - lane - 1) / lanes + 1
 }
 
-/// The number of the grain at a place of a lane. Refused where it is 2^32 or more.
-fn number_in_lane(place: usize, lane: usize, lanes: usize) -> Result<u32, NoMemory>
-    ensures { IfOk result (λ number. (grain : GrainSize) → number ≡ number_at (record { lane = lane; lanes = lanes; grain = grain }) place) }
+/// The number of the grain at a place of a lane.
+fn number_in_lane(place: usize, lane: usize, lanes: usize) -> u32
+    requires { place * lanes + lane < 2 ^ 32 }
+    ensures { (grain : GrainSize) → result ≡ number_at (record { lane = lane; lanes = lanes; grain = grain }) place }
 {
-    match place
-        .checked_mul(lanes)
-        .and_then(|first| first.checked_add(lane))
-    {
-        Some(number) => u32::try_from(number).map_err(|_| NoMemory),
-        None => Err(NoMemory),
-    }
+    (place * lanes + lane) as u32
 }

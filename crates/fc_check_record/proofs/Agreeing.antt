@@ -36,13 +36,10 @@ next_is c k rows pools calls entry answer one sound found =
     (λ yes f. f k.grain (whole_of c k rows pools calls) sound (known_is c k rows pools calls one)) found
 
 -- the least grain of background work is that of what is told
-pub next_grain_is : (c : ControlState) (k : Known) (rows : List Row) (pools : List Pool) (calls : List ℕ) (map : MapId) (cleans : Bool) (answer : Result (Option GrainNo) NoMemory) → AreOne c k calls →
-    IfOk answer (λ next. (grain : GrainSize) (w : Whole) (work : Work) → k ≡ known_of grain w → work.map ≡ map → work.cleans ≡ cleans → next ≡ next_grain grain w work) →
-    IfOk answer (λ next. (work : Work) → work.map ≡ map → work.cleans ≡ cleans → next ≡ next_grain k.grain (whole_of c k rows pools calls) work)
-next_grain_is c k rows pools calls map cleans answer one found =
-    IfOk-weaker answer (λ next. (grain : GrainSize) (w : Whole) (work : Work) → k ≡ known_of grain w → work.map ≡ map → work.cleans ≡ cleans → next ≡ next_grain grain w work)
-    (λ next. (work : Work) → work.map ≡ map → work.cleans ≡ cleans → next ≡ next_grain k.grain (whole_of c k rows pools calls) work)
-    (λ next f work. f k.grain (whole_of c k rows pools calls) work (known_is c k rows pools calls one)) found
+pub next_grain_is : (c : ControlState) (k : Known) (rows : List Row) (pools : List Pool) (calls : List ℕ) (map : MapId) (cleans : Bool) (next : Option GrainNo) → AreOne c k calls →
+    ((grain : GrainSize) (w : Whole) (work : Work) → k ≡ known_of grain w → work.map ≡ map → work.cleans ≡ cleans → next ≡ next_grain grain w work) →
+    (work : Work) → work.map ≡ map → work.cleans ≡ cleans → next ≡ next_grain k.grain (whole_of c k rows pools calls) work
+next_grain_is c k rows pools calls map cleans next one found work = found k.grain (whole_of c k rows pools calls) work (known_is c k rows pools calls one)
 
 -- ---- calls
 

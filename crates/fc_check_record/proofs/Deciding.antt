@@ -1,7 +1,7 @@
 -- What decisions see of a record.
-use Rattle.std.proofs.Common.{◌≡◌, ℕ, List, Option, Result, IfOk, subst, sym, ap, ◌∙◌}
+use Rattle.std.proofs.Common.{◌≡◌, ℕ, ◌^◌, ◌<◌, List, length, Option, Result, IfOk, subst, sym, ap, ◌∙◌}
 use Rattle.fc_base.specs.Pools.{Pool}
-use Rattle.fc_base.specs.Sheet.{Sheet}
+use Rattle.fc_base.specs.Sheet.{Sheet, slot_at}
 use Rattle.fc_base.specs.declared.command.Command.{Command}
 use Rattle.fc_base.specs.declared.decision.Decision.{Decision}
 use Rattle.fc_base.specs.declared.ids.VolId.{VolId}
@@ -13,6 +13,7 @@ use Rattle.fc_books.specs.Deciding.{IsLoopOf, decide}
 use Rattle.fc_books.specs.Sound.{AreSound}
 use Rattle.fc_changed.specs.Row.{Row}
 use Rattle.fc_check_lane.specs.Known.{Known}
+use Rattle.fc_check_lane.specs.Turns.{HasFewGrains}
 use Rattle.fc_check_record.proofs.Telling.{judged}
 use Rattle.fc_check_record.specs.Judged.{Judged}
 use Rattle.fc_check_sheet.specs.View.{AreListed, IsSmall, Plain, view_of}
@@ -31,6 +32,10 @@ are_listed b s mappings sound e f =
 pub are_small : (s chains : Sheet) (rows noted : List Row) → s ≡ chains → rows ≡ noted → IsSmall chains.slots noted → IsSmall s.slots rows
 are_small s chains rows noted e f small =
     subst (λ (z : Sheet). IsSmall z.slots rows) (sym e) (subst (λ (z : List Row). IsSmall chains.slots z) (sym f) small)
+
+-- and grains have numbers below 2^32
+pub few_grains : (c : ControlState) (k : Known) (rows : List Row) (pools : List Pool) (calls : List ℕ) (j : Judged) → judged c k rows pools calls ≡ j → IsSmall j.whole.books.sheet.slots j.whole.rows → HasFewGrains k
+few_grains c k rows pools calls j is small place = subst (λ (z : Judged). length (slot_at z.whole.books.sheet.slots place).held < 2 ^ 32) (sym is) (small.held place)
 
 -- ---- what decisions see
 

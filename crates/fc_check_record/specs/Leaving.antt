@@ -1,8 +1,9 @@
 -- When a decision can be done to a record, and what it leaves, part by part.
-use Rattle.std.specs.Prelude.{◌≡◌, ◌≤◌, List, length, filter, fold, map}
+use Rattle.std.specs.Prelude.{◌≡◌, ◌^◌, ◌<◌, ◌≤◌, List, length, filter, fold, map}
 use Rattle.fc_base.specs.SheetView.{SheetView}
 use Rattle.fc_base.specs.declared.decision.Decision.{Decision}
 use Rattle.fc_books.specs.After.{after_table_change, flags_after}
+use Rattle.fc_books.specs.Deciding.{after_decision}
 use Rattle.fc_changed.specs.Row.{Row}
 use Rattle.fc_check_lane.specs.Known.{Known, size_of}
 use Rattle.fc_check_record.specs.Chains.{chains_after}
@@ -10,16 +11,17 @@ use Rattle.fc_check_record.specs.declared.chains.Chains.{Chains}
 use Rattle.fc_desk.specs.Changes.{AreCountable, FitChanges, adds}
 use Rattle.fc_desk.specs.Control.{ControlState, books_of}
 use Rattle.fc_entry.specs.PlainStep.{after_effects}
-use Rattle.fc_follow.specs.Following.{TriggersFirst}
+use Rattle.fc_follow.specs.Following.{TriggersFirst, restarts}
 use Rattle.fc_legal.specs.Whole.{Whole, volumes_told}
 
--- Its changes fit the tables; one object comes at most, whose id isn't the last that there is; and only the
--- first of its events is a trigger.
+-- Its changes fit the tables; one object comes at most, whose id isn't the last that there is; only the first of
+-- its events is a trigger; and after them fewer than 2^64 births were given.
 pub record CanBeLeft (w : Whole) (d : Decision) : Type 0 where
   pub fits : FitChanges w.books.tables d.changes
   pub one : length (filter adds d.changes) ≤ 1
   pub countable : AreCountable d.changes
   pub triggers : TriggersFirst d.events
+  pub births : (after_decision (restarts w.rows) w.books d).sheet.births < 2 ^ 64
 
 -- The books of a control part after a decision: its changes, and the flags of background work by its events.
 abbrev pub AreBooksLeft : ControlState → ControlState → Decision → Type 0

@@ -1,6 +1,7 @@
 //! What the events of a decision do to chains, and to what is kept of incremental mappings.
 
-ghost use Rattle.std.specs.Prelude.{◌≡◌, IfOk, OnOk, fold};
+ghost use Rattle.std.specs.Prelude.{◌≡◌, [], IfOk, OnOk, OnErr, fold};
+ghost use Rattle.fc_base.specs.Sheet.{no_slots};
 ghost use Rattle.fc_base.specs.declared.decision.LaneEvent.TheVariants.{Trigger};
 ghost use Rattle.fc_base.specs.SheetStep.{sheet_step};
 ghost use Rattle.fc_books.specs.After.{begun};
@@ -63,8 +64,8 @@ impl Chains {
         }
     }
 
-    /// Events, in order. Refused for want of memory alone, or where births come to 2^64; then a part of them
-    /// may be done.
+    /// Events, in order. Refused for want of memory alone where births stay below 2^64; then a part of them may
+    /// be done.
     pub fn events(&mut self, alloc: Global, events: &[LaneEvent]) -> Result<(), NoMemory>
         ensures { OnOk result (self.new ≡ chains_after self.old events.now) }
     {
@@ -75,8 +76,8 @@ impl Chains {
     }
 }
 
-/// Does events to chains and to what is kept of incremental mappings, in order. Refused for want of memory
-/// alone, or where births come to 2^64; then they stand for nothing any more.
+/// Does events to chains and to what is kept of incremental mappings, in order. Refused for want of memory alone
+/// where births stay below 2^64; then none of either is left.
 pub(crate) fn follow_events(
     alloc: Global,
     sheet: &mut PlainSheet,
@@ -85,6 +86,7 @@ pub(crate) fn follow_events(
 ) -> Result<(), NoMemory>
     ensures sheet { OnOk result (sheet.new ≡ (chains_after record { sheet = sheet.old; rows = rows.old } events.now).sheet) }
     ensures rows { OnOk result (rows.new ≡ (chains_after record { sheet = sheet.old; rows = rows.old } events.now).rows) }
+    ensures err { OnErr result ((sheet.new ≡ no_slots) × (rows.new ≡ [])) }
 {
     let mut chains = Chains {
         sheet: mem::replace(sheet, PlainSheet::new(alloc)),

@@ -4,6 +4,7 @@ ghost use Rattle.std.specs.Prelude.{◌≡◌, ◌↔◌, ℕ, ◌+◌, ◌^◌,
 ghost use Rattle.fc_base.specs.declared.request.Place.TheVariants.{Lane};
 ghost use Rattle.fc_books.specs.Sound.{AreSound};
 ghost use Rattle.fc_check_lane.specs.Next.{IsNext};
+ghost use Rattle.fc_check_sheet.specs.View.{IsSmall};
 ghost use Rattle.fc_legal.specs.Steps.{Step, after_access};
 ghost use Rattle.fc_legal.specs.Whole.{Whole, single_lane};
 ghost use Rattle.fc_follow.specs.Following.{rows_entry};
@@ -39,10 +40,10 @@ fn count_calls(calls: &mut [u64], lane: usize, more: u32)
 
 impl Record {
     /// Whether an entry of a lane may come next: it is a right step. The answer is no for every command and
-    /// every faulty line. Refused for want of memory alone, or where a grain that background work looks at has
-    /// a number of 2^32 or more.
+    /// every faulty line. Refused for want of memory alone.
     pub fn is_next(&self, alloc: Global, entry: &Entry) -> Result<bool, NoMemory>
-        requires { AreSound self.now.whole.books }
+        requires sound { AreSound self.now.whole.books }
+        requires small { IsSmall self.now.whole.books.sheet.slots self.now.whole.rows }
         ensures { IfOk result (λ yes. IsTrue yes ↔ IsNext self.now.grain self.now.whole entry.now) }
     {
         self.kept.known.is_next(alloc, entry)

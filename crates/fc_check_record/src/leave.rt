@@ -30,7 +30,7 @@ fn leave_control(alloc: Global, control: &mut Control, decision: &Decision) -> R
 }
 
 /// What entries of lanes are judged by, and what is kept of incremental mappings, become what they are after a
-/// decision that made the control part what it is now. Refused for want of memory alone, or where births come to
+/// decision that made the control part what it is now. Refused for want of memory alone where births stay below
 /// 2^64; then a part of it may be done.
 fn leave_known(
     alloc: Global,
@@ -52,7 +52,7 @@ fn leave_known(
 impl Record {
     /// What is told after a decision: the tables, next ids and background work by its changes and events,
     /// chains, disks left and what is kept of incremental mappings by its events, plain volumes by its effects.
-    /// Refused for want of memory alone, or where births come to 2^64.
+    /// Refused for want of memory alone, since births stay below 2^64 (`CanBeLeft`); then the record is gone.
     pub fn leave(self, alloc: Global, decision: &Decision) -> Result<Record, NoMemory>
         requires { CanBeLeft self.whole decision.now }
         ensures { IfOk result (λ left. left ≡ record { grain = self.grain; whole = left_by self.grain self.whole decision.now }) }

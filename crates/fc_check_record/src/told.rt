@@ -1,12 +1,12 @@
 //! What a record says of what was told, as far as it decides what is asked next.
 
-ghost use Rattle.std.specs.Prelude.{◌≡◌, ◌<◌, IfOk};
+ghost use Rattle.std.specs.Prelude.{◌≡◌, ◌<◌};
+ghost use Rattle.fc_check_sheet.specs.View.{IsSmall};
 ghost use Rattle.fc_legal.specs.Seconds.{Work, next_grain};
 ghost use Rattle.fc_legal.specs.Whole.{lanes};
 
 use crate::record::Record;
 use fc_base::ids::{GrainNo, MapId};
-use fc_base::outcome::NoMemory;
 use fc_base::size::GrainSize;
 use fc_model::PlainSheet;
 use fc_pick::WorkFlags;
@@ -49,10 +49,11 @@ impl Record {
         self.kept.known.lanes()
     }
 
-    /// The least grain of all lanes at which the copies of a mapping, or its cleanings, have something to do. Refused for want of
-    /// memory, or where a grain has a number of 2^32 or more.
-    pub fn next_grain(&self, map: MapId, cleans: bool) -> Result<Option<GrainNo>, NoMemory>
-        ensures { IfOk result (λ next. (work : Work) → work.map ≡ map → work.cleans ≡ cleans → next ≡ next_grain self.now.grain self.now.whole work) }
+    /// The least grain of all lanes at which the copies of a mapping, or its cleanings, have something to do, and None exactly
+    /// where they have nothing to do.
+    pub fn next_grain(&self, map: MapId, cleans: bool) -> Option<GrainNo>
+        requires { IsSmall self.now.whole.books.sheet.slots self.now.whole.rows }
+        ensures { (work : Work) → work.map ≡ map → work.cleans ≡ cleans → result ≡ next_grain self.now.grain self.now.whole work }
     {
         self.kept.known.next_grain(map, cleans)
     }

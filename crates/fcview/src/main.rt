@@ -45,31 +45,26 @@ fn run<S: Source, K: Sink + Drop>(alloc: Global, words: &[&str], source: &mut S,
 
 fn main(rt: HostRuntime) -> ExitCode {
     let alloc = rt.alloc();
-    let arguments = match env::args(&rt) {
-        Ok(arguments) => arguments,
-        Err(_) => return ExitCode::from(USAGE),
+    let Ok(arguments) = env::args(&rt) else {
+        return ExitCode::from(USAGE);
     };
     let mut texts: Vec<String> = Vec::new(alloc);
     for argument in arguments.skip(1) {
-        match texts.push(argument) {
-            Ok(()) => {}
-            Err(_) => return ExitCode::from(NO_MEMORY),
+        if texts.push(argument).is_err() {
+            return ExitCode::from(NO_MEMORY);
         }
     }
     let mut words: Vec<&str> = Vec::new(alloc);
     for text in &texts {
-        match words.push(text.as_str()) {
-            Ok(()) => {}
-            Err(_) => return ExitCode::from(NO_MEMORY),
+        if words.push(text.as_str()).is_err() {
+            return ExitCode::from(NO_MEMORY);
         }
     }
-    let mut source = match StdSource::new(alloc, rt.stdin().lock()) {
-        Ok(source) => source,
-        Err(_) => return ExitCode::from(NO_MEMORY),
+    let Ok(mut source) = StdSource::new(alloc, rt.stdin().lock()) else {
+        return ExitCode::from(NO_MEMORY);
     };
-    let sink = match StdSink::new(alloc, rt.stdout()) {
-        Ok(sink) => sink,
-        Err(_) => return ExitCode::from(NO_MEMORY),
+    let Ok(sink) = StdSink::new(alloc, rt.stdout()) else {
+        return ExitCode::from(NO_MEMORY);
     };
     ExitCode::from(run(alloc, &words, &mut source, sink))
 }

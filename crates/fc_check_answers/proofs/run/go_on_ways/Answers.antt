@@ -1,8 +1,11 @@
-use Rattle.std.proofs.Common.{◌≡◌, [], map, rules}
+use Rattle.std.proofs.Common.{◌≡◌, [], List, Contains, map, sym, subst, rules}
+use Rattle.std.proofs.lemmas.List.Elements.{Contains-push}
 use Rattle.std.proofs.lemmas.Result.{IfOk-from_err, on_ok_weaker}
 use Rattle.fc_check_answers.proofs.Coming.{none_given, one_given}
 use Rattle.fc_check_answers.proofs.Running.{copy_came, last_way, left_way, ways_came}
+use Rattle.fc_check_answers.proofs.Smallness.{last_small, left_small}
 use Rattle.fc_check_answers.specs.Runs.{WayLeadsOn, place_at}
+use Rattle.fc_check_record.specs.Judged.{Judged}
 use Rattle.fc_check_answers.proofs.run.go_on_ways.Goals as goal
 
 pub loop-way-init : goal.loop-way-init
@@ -10,6 +13,14 @@ loop-way-init c = record {
   given = none_given (WayLeadsOn c.args.lines c.args.name.now c.args.entry.now) c.pop.new.self.items (map place_at c.args.after.now.items);
   runs = λ grain entries are were. were;
 }
+
+pub go_on-requires : goal.go_on-requires
+go_on-requires c =
+    left_small c.args.ways.items c.pop.new.self.items c.in-Some.last c.in-Some.ensures.items c.requires c.in-Some-pop.way
+    (c.loop-way.invariant.given.left_of c.in-Some-pop.way (subst (λ (ways : List Judged). Contains ways c.in-Some-pop.way) (sym c.in-Some-pop.ensures.items) (Contains-push c.pop-in-loop-way.new.self.items c.in-Some-pop.way)))
+
+pub go_on-2-requires : goal.go_on-2-requires
+go_on-2-requires c = last_small c.args.ways.items c.pop.new.self.items c.in-Some.last c.in-Some.ensures.items c.requires
 
 pub loop-way-preserved : goal.loop-way-preserved
 loop-way-preserved c = record {

@@ -1,8 +1,9 @@
-use Rattle.std.proofs.Common.{◌+◌, map}
+use Rattle.std.proofs.Common.{◌+◌, map, arith}
 use Rattle.std.proofs.lemmas.Bool.{both_ways}
 use Rattle.std.proofs.lemmas.Result.{on_ok_weaker}
 use Rattle.fc_check_answers.proofs.Coming.{none_came}
 use Rattle.fc_check_answers.proofs.Running.{after_run, run_came}
+use Rattle.fc_check_answers.proofs.Smallness.{candidates_small, open_small}
 use Rattle.fc_check_answers.specs.Runs.{GoesOn, place_at}
 use Rattle.fc_check_answers.proofs.run.Run.follow.Goals as goal
 
@@ -13,6 +14,15 @@ returns-then-not-asked c = record {
       (λ q goes. both_ways c.in_ok-asked.asked c.if-not-asked.true (c.in_ok-asked.ensures.1 goes.asked));
   runs = λ were. were;
 }
+
+pub asks-requires : goal.asks-requires
+asks-requires c = open_small c.args.self.way c.requires.way
+
+pub go_on_ways-requires : goal.go_on_ways-requires
+go_on_ways-requires c =
+    candidates_small c.args.self.way.grain (c.args.entry.now.number + 1) c.follow_way.new.after.items (omega (arith, c.requires.way.few, c.requires.number))
+    (after_run c.args.self.way c.args.self.lines c.args.name.now c.args.entry.now c.new-ways.result.items c.follow_way.new.after.items c.new-ways.ensures.items c.in_ok-follow_way.ensures
+    c.requires.way c.requires.number)
 
 pub returns-clause-places : goal.returns-clause-places
 returns-clause-places c =

@@ -1,0 +1,16 @@
+-- Lemmas, one subject a file.
+pub mod Parts
+pub mod Disks
+pub mod Lost
+pub mod Found
+pub mod Noting
+pub mod Moving
+pub mod Making
+pub mod Owning
+pub mod Answering
+pub mod Lawful
+pub mod Failing
+pub mod Stopping
+pub mod Opening
+pub mod Ending
+mod Examples
