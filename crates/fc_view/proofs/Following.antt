@@ -12,11 +12,11 @@ use Rattle.fc_check.specs.Progress.{AreAllWays, AreRight, IsFound, IsProgress}
 use Rattle.fc_check.specs.Traces.{nothing_told}
 use Rattle.fc_check.specs.Verdict.{AreLegal, IsFirstWrong}
 use Rattle.fc_check.specs.declared.judge.Progress.{Progress}
+use Rattle.fc_check.proofs.WayLemmas.{steps_last}
 use Rattle.fc_check_follow.specs.Ways.{Ways, pools_told}
 use Rattle.fc_entry.specs.HistoryState.{HistoryState}
 use Rattle.fc_entry.specs.Picture.{Picture}
 use Rattle.fc_entry.specs.declared.entry.Entry.{Entry}
-use Rattle.fc_legal.specs.Legal.{AreSteps}
 use Rattle.fc_legal.specs.Steps.{Step}
 use Rattle.fc_legal.specs.Whole.{Whole, opened}
 use Rattle.fc_origins.specs.Origins.{origin_step, origins_of}
@@ -97,18 +97,6 @@ behind_opened header behind known none sheet origins =
 one_way : (start w : Whole) → Contains (start ∷ []) w → w ≡ start
 one_way start w (zero, there, e) = sym e
 one_way start w (suc k, there, e) = absurd (omega arith)
-
-record LastStep (grain : GrainSize) (start : Whole) (entries : List Entry) (entry : Entry) (next : Whole) : Type 0 where
-  before : Whole
-  steps : AreSteps grain start entries before
-  step : Step grain before entry next
-
-steps_last : (grain : GrainSize) (start : Whole) (entry : Entry) (next : Whole) (entries : List Entry) → AreSteps grain start (entries ++ entry ∷ []) next → LastStep grain start entries entry next
-steps_last grain start entry next [] steps =
-    record { before = start; steps = refl; step = subst (λ (x : Whole). Step grain start entry x) (sym steps.2) steps.1 }
-steps_last grain start entry next (first ∷ entries) steps =
-    let last = steps_last grain steps.0 entry next entries steps.2 in
-    record { before = last.before; steps = (steps.0, steps.1, last.steps); step = last.step }
 
 -- where there was one way, and there is one again, the chains are those of the one after the entry
 alone : (grain : GrainSize) (start : Whole) (before : List Entry) (entry : Entry) (old new : List Whole) (sheet : Sheet) → length old ≡ 1 →

@@ -1,7 +1,6 @@
 -- What right entries that are no commands do to the chains.
-use Rattle.std.proofs.Common.{◌≡◌, ℕ, Option, Some, None, List, [], ◌∷◌, fold, refl, sym, ap, ◌∙◌}
+use Rattle.std.proofs.Common.{◌≡◌, ℕ, Option, Some, None, List, [], refl, sym, ap, ◌∙◌}
 use Rattle.fc_base.specs.Sheet.{Sheet}
-use Rattle.fc_base.specs.SheetStep.{sheet_moved, sheet_torn, sheet_written}
 use Rattle.fc_base.specs.declared.command.Command.{Command}
 use Rattle.fc_base.specs.declared.command.Command.TheVariants.{Read as ReadLine, Write as WriteLine}
 use Rattle.fc_base.specs.declared.fault.Refusal.{Refusal}
@@ -14,41 +13,13 @@ use Rattle.fc_base.specs.declared.request.WritePart.{WritePart}
 use Rattle.fc_base.specs.declared.size.GrainSize.{GrainSize}
 use Rattle.fc_books.specs.Refused.{access_refused}
 use Rattle.fc_check_lane.specs.After.{chains_torn, chains_written}
-use Rattle.fc_drawing.specs.Sources.{all_made, made}
-use Rattle.fc_entry.specs.Picture.{grain_of_block}
+use Rattle.fc_check_lane.proofs.Following.{chains_plain}
+use Rattle.fc_drawing.specs.Sources.{all_made}
 use Rattle.fc_entry.specs.declared.entry.Entry.{Entry}
 use Rattle.fc_legal.specs.Steps.{AccessIsRefused, CommandIsRight, IsApart, IsRefused, LaneStep, RequestStep, Step}
-use Rattle.fc_legal.specs.Whole.{Whole, single_lane}
-use Rattle.fc_parts.proofs.Numbers.{all_place}
+use Rattle.fc_legal.specs.Whole.{Whole}
 use Rattle.fc_rules.specs.LaneRight.{done_write}
-use Rattle.fc_rules.specs.LaneTold.{sheet_entry, sheet_move, sheet_tear, sheet_write}
 use Rattle.fc_view.specs.Behind.{chains_behind}
-
--- ---- an entry of a lane, at all grains
-
-moves_plain : (grain : GrainSize) (s : Sheet) (moves : List Move) → fold (sheet_move (single_lane grain)) s moves ≡ all_made s moves
-moves_plain grain s [] = refl
-moves_plain grain s (m ∷ moves) =
-    ap (λ g. fold (sheet_move (single_lane grain)) (sheet_moved m.volume.0 g m.in_place s) moves) (all_place grain m.grain.0)
-    ∙ moves_plain grain (made s m) moves
-
-write_plain : (grain : GrainSize) (s : Sheet) (write : Option WritePart) → sheet_write (single_lane grain) s write ≡ chains_written grain s write
-write_plain grain s None = refl
-write_plain grain s (Some part) = ap (λ g. sheet_written part.volume.0 g s) (all_place grain (grain_of_block grain part.block))
-
-tear_plain : (grain : GrainSize) (s : Sheet) (torn : Option Torn) → sheet_tear (single_lane grain) s torn ≡ chains_torn s torn
-tear_plain grain s None = refl
-tear_plain grain s (Some torn) = ap (λ g. sheet_torn torn.volume.0 g torn.side s) (all_place grain torn.grain.0)
-
--- its moves, its write and its torn grain
-chains_plain : (grain : GrainSize) (s : Sheet) (write : Option WritePart) (moves : List Move) (torn : Option Torn) →
-    sheet_entry (single_lane grain) s write moves torn ≡ chains_torn (chains_written grain (all_made s moves) write) torn
-chains_plain grain s write moves torn =
-    tear_plain grain (sheet_write (single_lane grain) (fold (sheet_move (single_lane grain)) s moves) write) torn
-    ∙ ap (λ z. chains_torn z torn)
-    (write_plain grain (fold (sheet_move (single_lane grain)) s moves) write ∙ ap (λ z. chains_written grain z write) (moves_plain grain s moves))
-
--- ---- other entries
 
 -- an entry apart leaves them
 apart_same : (grain : GrainSize) (s : Sheet) (entry : Entry) → IsApart entry → done_write entry.request entry.reply ≡ None → chains_behind grain s entry ≡ s
