@@ -1,5 +1,5 @@
 -- A volume that a decision makes has an id that was never given: every deed but that of `mkvdisk` makes none.
-use Rattle.std.proofs.Common.{◌≡◌, ℕ, ◌+◌, ◌≤◌, Bool, true, false, cond, ◌&&◌, List, [], ◌∷◌, ◌++◌, map, filter, fold, length, Option, Some, None, Result, Ok, Err, refl, sym, ap, subst, ◌∙◌, arith}
+use Rattle.std.proofs.Common.{ℕ, ◌≤◌, Bool, true, false, cond, ◌&&◌, List, [], ◌∷◌, ◌++◌, map, filter, length, Option, Some, None, Result, Ok, Err, sym, subst, arith}
 use Rattle.fc_base.specs.Counts.{names_below, is_unneeded}
 use Rattle.fc_base.specs.States.{next_state}
 use Rattle.fc_base.specs.Tables.{Tables, group_named, mapping_named, mapping_with, volume_named}
@@ -28,7 +28,7 @@ use Rattle.fc_books.specs.Accesses.{is_idle, is_stopped}
 use Rattle.fc_books.specs.After.{after_all, after_deed, after_table_change}
 use Rattle.fc_books.specs.Books.{Books, Deed, all_deeds, nothing, told, ◌then◌}
 use Rattle.fc_books.specs.Copies.{dependents, is_needed, is_whole, kept}
-use Rattle.fc_books.specs.Deciding.{after_decision, answered, decide, done, for_members, for_one, refused, settle}
+use Rattle.fc_books.specs.Deciding.{answered, decide, done, for_members, for_one, refused, settle}
 use Rattle.fc_books.specs.Ending.{as_left, comes_to, cut_of, ends_by, goes_from, leaves_by}
 use Rattle.fc_books.specs.Groups.{acts_on, members}
 use Rattle.fc_books.specs.Making.{arm, make_mapping, new_mapping, remove_group, remove_mapping, remove_volume}

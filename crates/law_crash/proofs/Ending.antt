@@ -31,7 +31,7 @@ use Rattle.fc_sheets.proofs.Finding.{live_place_at}
 use Rattle.fc_kept.specs.Actions.{Action.Note, is_unmarked, mark_of}
 use Rattle.fc_kept.specs.Disks.{NamedDisk}
 use Rattle.fc_kept.specs.Images.{size_in}
-use Rattle.fc_kept.specs.Marks.{AreMarked, asked_write}
+use Rattle.fc_kept.specs.Marks.{AreMarked}
 use Rattle.fc_kept.proofs.Marking.{mark_law}
 use Rattle.fc_kept.proofs.Sizes.{slot_size}
 use Rattle.law_crash.specs.Points.{Point, StandsFor}
@@ -39,7 +39,7 @@ use Rattle.law_crash.specs.Doing.{number_of, actions_of_steps, marks_by_move, Is
 use Rattle.law_crash.specs.Law.{Begins}
 use Rattle.law_crash.proofs.Answering.{told_with, least_with}
 use Rattle.law_crash.proofs.Failing.{torn_of, StandsTorn, write_torn}
-use Rattle.law_crash.proofs.Lawful.{WriteOf, FillOf, write_of, live_at, moves_in, own_in, chains_in, moves_given, can_write_at, own_is, Ready, ready_marked, ready_unmarked, copy_of, clean_of, fills_in, fills_given, all_found, all_stand}
+use Rattle.law_crash.proofs.Lawful.{WriteOf, FillOf, write_of, live_at, moves_in, own_in, chains_in, moves_given, can_write_at, own_is, Ready, ready_marked, ready_unmarked, copy_of, clean_of, fills_in, fills_given}
 use Rattle.law_crash.proofs.Making.{spot_in, steps_in, Moves, At, did_moves, at_first}
 use Rattle.law_crash.proofs.Noting.{with_all, with_sheet, written_sheet}
 use Rattle.law_crash.proofs.Owning.{CanWriteAt}

@@ -106,7 +106,7 @@ writes b =
       same = all_same b;
       stored = record {
         here = refl;
-        elsewhere = λ w y other. else_same b (y % 1) w (y / 1) (elim other [ | inl n ↦ inl n | inr n ↦ inr (λ e. n (sym (first_place y).1 ∙ e)) ]);
+        elsewhere = λ w y other. else_same b (y % 1) w (y / 1) (elim other [ inl n ↦ inl n | inr n ↦ inr (λ e. n (sym (first_place y).1 ∙ e)) ]);
       };
     }
 

@@ -1,14 +1,12 @@
 -- What a command leaves, with metadata made anew over the same disks, stands for the history with its entry.
-use Rattle.std.proofs.Common.{◌≡◌, ◌≢◌, ℕ, ◌+◌, ◌*◌, ◌^◌, ◌<◌, ◌≤◌, Bool, true, false, cond, ◌&&◌, ◌||◌, ◌==◌, Option, Some, None, IsSome, List, [], ◌∷◌, ◌++◌, length, get_or, set, map, fold, filter, find, replicate, not, All, AllPairs, Contains, refl, sym, ap, subst, ◌∙◌, arith, ◌⊎◌, inl, inr}
+use Rattle.std.proofs.Common.{◌≡◌, ◌≢◌, ℕ, ◌+◌, ◌^◌, ◌<◌, ◌≤◌, Bool, true, false, cond, ◌&&◌, ◌==◌, Option, Some, None, IsSome, List, [], ◌∷◌, ◌++◌, length, get_or, set, map, fold, find, replicate, not, Contains, refl, sym, ap, subst, ◌∙◌, arith, ◌⊎◌, inl, inr}
 use Rattle.std.specs.List.{list_any}
-use Rattle.std.proofs.lemmas.Bool.{both_ways, cases_Bool, cases_eq, eq-eqb, ne_eqb, eqb-true, or_cases, and_parts}
-use Rattle.std.proofs.lemmas.List.{get_or_past}
-use Rattle.std.proofs.lemmas.List.Elements.{Contains-append_cases, Contains-get_or}
+use Rattle.std.proofs.lemmas.Bool.{cases_eq, eq-eqb, ne_eqb, eqb-true, or_cases, and_parts}
+use Rattle.std.proofs.lemmas.List.Elements.{Contains-append_cases}
 use Rattle.std.proofs.lemmas.List.FromFn.{get_or-map-range_with_len}
 use Rattle.fc_alike.specs.Law.{Follows}
 use Rattle.fc_alike.proofs.Lawful.{follow_law_holds}
 use Rattle.fc_alike.proofs.Sets.{length_with}
-use Rattle.fc_base.specs.Column.{holder}
 use Rattle.fc_base.specs.Sheet.{Slot, Sheet, slot_at, column}
 use Rattle.fc_base.specs.Tables.{Tables, volume_with}
 use Rattle.fc_base.specs.declared.command.Command.{Command}
@@ -27,11 +25,10 @@ use Rattle.fc_changed.specs.Notes.Note.{Began, Wrote, Left, Cut, Forgotten}
 use Rattle.fc_changed.specs.Row.{Row, is_of, row_names, row_began, row_wrote, row_left, row_cut, with_none, with_all, with_new, after_note}
 use Rattle.fc_decided.proofs.Lists.{all_from, map_from, filter_from, none_in, first_in, later_in, map_in, in_cases}
 use Rattle.fc_decided.proofs.Ordered.{found_by_id}
-use Rattle.fc_entry.specs.Picture.{Content, Lost, Picture, zeros}
-use Rattle.fc_entry.specs.Refused.{all_grains}
+use Rattle.fc_entry.specs.Picture.{Lost, Picture, zeros}
 use Rattle.fc_follow.specs.Alike.{AreAlike}
 use Rattle.fc_follow.specs.Following.{Followed, event_notes, followed_event, restarts, rows_event}
-use Rattle.fc_kept.specs.Disks.{NamedDisk, FitDisks, disk_of, on_disk}
+use Rattle.fc_kept.specs.Disks.{NamedDisk, FitDisks, on_disk}
 use Rattle.fc_kept.specs.Drops.{DropsTo.same}
 use Rattle.fc_kept.specs.Images.{size_in}
 use Rattle.fc_kept.specs.Kept.{LostGrains, Kept, is_lost_in}
@@ -41,14 +38,14 @@ use Rattle.fc_kept.specs.Sound.{books_of, AreLost, IsInto, IsSoundKept}
 use Rattle.fc_kept.proofs.Marking.{mark_law}
 use Rattle.fc_kept.proofs.Sizes.{size_is, slot_size}
 use Rattle.fc_legal.specs.Lawful.{FitAsOne, IsLawful}
-use Rattle.fc_legal.specs.Stands.{AreRows, IsOfMapping, Stands}
+use Rattle.fc_legal.specs.Stands.{AreRows, IsOfMapping}
 use Rattle.fc_legal.specs.Steps.{after_settling, decided_on, left_by, one_more}
-use Rattle.fc_legal.specs.Whole.{Whole, all_followed, lane_at, lane_of_grain, lanes, single_lane}
+use Rattle.fc_legal.specs.Whole.{Whole, all_followed, lane_at, lane_of_grain, single_lane}
 use Rattle.fc_moves.proofs.Readers.{IsHolder, holder_is}
 use Rattle.fc_pictures.specs.Law.{StoredAfter}
 use Rattle.fc_rules.specs.LaneTold.{LaneOf, place_of}
 use Rattle.fc_rules.specs.Shows.{Stored, Shown, Shows}
-use Rattle.law_crash.specs.Leaving.{AreFit, AreUnnamed, GoesOn, Leaves, Leaves.decided, Leaves.unsettled, Leaves.settled_alone, lost_left, lost_of, made_anew, settled_anew}
+use Rattle.law_crash.specs.Leaving.{AreFit, AreUnnamed, GoesOn, Leaves, Leaves.decided, Leaves.unsettled, Leaves.settled_alone, lost_of, made_anew}
 use Rattle.law_crash.specs.Points.{Point, StandsFor, on_disks, stored_by}
 use Rattle.law_crash.proofs.Coming.{AreAbove, IsAbove, MakesNew, decide_new, next_later, settle_new}
 use Rattle.law_crash.proofs.Found.{chains_sound}

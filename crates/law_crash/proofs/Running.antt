@@ -1,5 +1,5 @@
 -- A whole history: each entry stands on what the last one left, and what a stop finds in the next one may be recovered.
-use Rattle.std.proofs.Common.{◌≡◌, ℕ, ◌+◌, ◌*◌, ◌<◌, ◌≤◌, ◌==◌, Bool, true, false, cond, fold, Option, Some, None, List, [], ◌∷◌, ◌++◌, length, set, All, Contains, refl, sym, ap, subst, ◌∙◌, arith, inl, inr}
+use Rattle.std.proofs.Common.{◌≡◌, ℕ, ◌+◌, ◌*◌, ◌<◌, ◌≤◌, ◌==◌, true, false, cond, fold, Option, Some, None, List, [], ◌∷◌, ◌++◌, length, set, All, refl, sym, ap, subst, ◌∙◌, arith, inl, inr}
 use Rattle.std.specs.List.{AllZip}
 use Rattle.std.proofs.lemmas.Bool.{cases_Bool, eqb-true}
 use Rattle.fc_alike.proofs.Lawful.{follow_law_holds}
@@ -32,7 +32,7 @@ use Rattle.fc_kept.specs.Kept.{Kept, is_lost_in}
 use Rattle.fc_kept.specs.Marks.{LeastLeft, LeastLeft.decided as least_decided, LeastLeft.unsettled as least_unsettled, LeastLeft.settled_alone as least_settled, LeastStep, asked_write, least_asked, least_entry}
 use Rattle.fc_kept.specs.OneGrain.{Another}
 use Rattle.fc_kept.specs.Prefix.{AreStepsOf}
-use Rattle.fc_kept.specs.Recoverable.{Recoverable, Says, disks_at}
+use Rattle.fc_kept.specs.Recoverable.{Recoverable, disks_at}
 use Rattle.fc_kept.proofs.Marking.{mark_law}
 use Rattle.fc_legal.specs.Legal.{AreSteps}
 use Rattle.fc_legal.specs.Steps.{Step, after_access, one_more}
@@ -41,12 +41,11 @@ use Rattle.fc_parts.specs.Law.{IsInVolume}
 use Rattle.fc_parts.proofs.Accesses.{plain_is}
 use Rattle.fc_parts.proofs.Numbers.{all_place}
 use Rattle.fc_rules.specs.LaneRight.{done_write}
-use Rattle.fc_rules.specs.LaneTold.{LaneTold, picture_entry, picture_tear, picture_write, place_of, sheet_entry, tear_volume}
-use Rattle.fc_rules.specs.Shows.{Stored, Shows}
+use Rattle.fc_rules.specs.LaneTold.{picture_entry, picture_tear, picture_write, place_of, sheet_entry, tear_volume}
 use Rattle.fc_rules.specs.Steps.{DiskStep}
-use Rattle.law_crash.specs.Doing.{number_of, actions_of_steps, marks_by_move, content_of, noted, with_disks, IsWritten, SameDisk, Did, IsFound, Finds, Stopped, Tears, Tells}
+use Rattle.law_crash.specs.Doing.{number_of, actions_of_steps, marks_by_move, content_of, noted, with_disks, IsWritten, SameDisk, Did, Stopped, Tears, Tells}
 use Rattle.law_crash.specs.Law.{Begins}
-use Rattle.law_crash.specs.Leaving.{AreFit, AreUnnamed, GoesOn, Leaves, Leaves.decided, Leaves.unsettled, Leaves.settled_alone}
+use Rattle.law_crash.specs.Leaving.{AreUnnamed, GoesOn, Leaves, Leaves.decided, Leaves.unsettled, Leaves.settled_alone}
 use Rattle.law_crash.specs.Points.{Point, StandsFor, nothing_kept, on_disks, stored_by}
 use Rattle.law_crash.specs.Running.{Does, Does.refused, Does.read, Does.whole, Does.stopped, Does.commanded, Run, Run.begun, Run.more, Run.named, StayAs, Takes, Stops, Stops.before, Stops.within, Stops.behind}
 use Rattle.law_crash.proofs.Answering.{answered, least_with, plain_after, request_is, told_with}
@@ -57,7 +56,7 @@ use Rattle.law_crash.proofs.Leaving.{SameOfSlots, leaves_all, shows_same, some_v
 use Rattle.law_crash.proofs.Noting.{stands_counted}
 use Rattle.law_crash.proofs.Opening.{opens, rests, turned}
 use Rattle.law_stands.proofs.Standing.{stands_law_holds}
-use Rattle.law_stands.specs.Reached.{IsReached, IsReachedByEntries}
+use Rattle.law_stands.specs.Reached.{IsReached}
 
 -- ---- rows stay alike through an access
 

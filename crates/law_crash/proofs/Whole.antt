@@ -1,6 +1,6 @@
 -- The law, all of it.
 use Rattle.fc_kept.specs.Marks.{asked_write}
-use Rattle.std.proofs.Common.{Option, None}
+use Rattle.std.proofs.Common.{None}
 use Rattle.law_crash.specs.Law.{CrashLaw}
 use Rattle.law_crash.proofs.Answering.{answered}
 use Rattle.law_crash.proofs.Ending.{all_stopped}

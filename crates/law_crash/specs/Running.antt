@@ -1,5 +1,5 @@
 -- A whole history on the disks, entry by entry.
-use Rattle.std.specs.Prelude.{◌≡◌, ℕ, List, [], ◌∷◌, ◌++◌, length, Contains, Option, Some, None}
+use Rattle.std.specs.Prelude.{◌≡◌, ℕ, List, [], ◌∷◌, ◌++◌, length, Contains, Option, None}
 use Rattle.fc_base.specs.declared.command.Command.{Command}
 use Rattle.fc_base.specs.declared.request.Request.{Request}
 use Rattle.fc_base.specs.declared.request.Request.TheVariants.{Command as Asked, Copy, Clean, CopyTurn, CleanTurn}
@@ -42,12 +42,13 @@ pub data Does (grain : GrainSize) (w : Whole) (least : List Row) (p : Point) (en
   read : (i : ℕ) → Tells entry.request None [] None entry →
       Does grain w least p entry (after_access grain w i entry) (least_entry (single_lane grain) least entry) p
   -- all steps of an access are done
-  whole : (i : ℕ) (work : Request) (steps : List DiskStep) (q : Point) → Takes entry.request work → IsInVolume grain w work → AreStepsOf grain w work steps →
-      Did grain w work (actions_of_steps p.kept.rows (number_of grain work) steps) p q → Tells entry.request (asked_write entry.request) steps None entry →
+  whole : (i : ℕ) (work : Request) (steps : List DiskStep) (q : Point) → Takes entry.request work → IsInVolume grain w work →
+      AreStepsOf grain w work steps → Did grain w work (actions_of_steps p.kept.rows (number_of grain work) steps) p q →
+      Tells entry.request (asked_write entry.request) steps None entry →
       Does grain w least p entry (after_access grain w i entry) (least_entry (single_lane grain) least entry) q
   -- or one of them stopped
-  stopped : (i : ℕ) (work : Request) (front back : List DiskStep) (step : DiskStep) (torn : Option Torn) (q : Point) → Takes entry.request work →
-      IsInVolume grain w work → AreStepsOf grain w work (front ++ step ∷ back) → Stopped grain w work p.kept.rows front step torn p q →
+  stopped : (i : ℕ) (work : Request) (front back : List DiskStep) (step : DiskStep) (torn : Option Torn) (q : Point) →
+      Takes entry.request work → IsInVolume grain w work → AreStepsOf grain w work (front ++ step ∷ back) → Stopped grain w work p.kept.rows front step torn p q →
       Tells entry.request None front torn entry →
       Does grain w least p entry (after_access grain w i entry) (least_entry (single_lane grain) least entry) q
   -- a command has metadata made anew
@@ -58,17 +59,20 @@ pub data Does (grain : GrainSize) (w : Whole) (least : List Row) (p : Point) (en
 -- Right entries, each done on what the last one left.
 pub data Run (grain : GrainSize) (w : Whole) (least : List Row) (p : Point) : List Entry → Whole → List Row → Point → Type 0 where
   begun : Run grain w least p [] w least p
-  more : (entries : List Entry) (now : Whole) (least_now : List Row) (x : Point) (entry : Entry) (next : Whole) (least' : List Row) (q : Point) →
+  more : (entries : List Entry) (now : Whole) (least_now : List Row) (x : Point)
+      (entry : Entry) (next : Whole) (least' : List Row) (q : Point) →
       Run grain w least p entries now least_now x → Step grain now entry next → Does grain now least_now x entry next least' q →
       Run grain w least p (entries ++ entry ∷ []) next least' q
   named : (entries : List Entry) (now : Whole) (least_now : List Row) (x : Point) (disks : List (List NamedDisk)) →
-      Run grain w least p entries now least_now x → StayAs grain now x.disks disks → Run grain w least p entries now least_now (with_disks disks x)
+      Run grain w least p entries now least_now x → StayAs grain now x.disks disks →
+      Run grain w least p entries now least_now (with_disks disks x)
 
 -- What a stop finds while a request is under way, or the work that a worker's turn takes: what stood before it; or, in its steps, what is found there; or metadata made anew.
 pub data Stops (grain : GrainSize) (w : Whole) (least : List Row) (p : Point) : Request → Option Another → Point → Type 0 where
   before : (request : Request) → Stops grain w least p request None p
-  within : (request : Request) (steps : List DiskStep) (one : Option Another) (q : Point) → IsInVolume grain w request → AreStepsOf grain w request steps →
-      Finds grain w request (actions_of_steps p.kept.rows (number_of grain request) steps) p one q → Stops grain w least p request one q
+  within : (request : Request) (steps : List DiskStep) (one : Option Another) (q : Point) → IsInVolume grain w request →
+      AreStepsOf grain w request steps → Finds grain w request (actions_of_steps p.kept.rows (number_of grain request) steps) p one q →
+      Stops grain w least p request one q
   behind : (command : Command) (entry : Entry) (left : Whole) (least' : List Row) (kept : Kept) → entry.request ≡ Asked command →
       Step grain w entry (one_more left) → Leaves grain w least p.kept command left least' kept → AreFit grain left p.disks →
       Stops grain w least p entry.request None (record p { kept = kept })
