@@ -21,7 +21,7 @@ use Rattle.fc_rules.specs.LaneTold.{sheet_entry}
 use Rattle.fc_rules.specs.Steps.{DiskStep, moves_of}
 use Rattle.fc_kept.specs.Marks.{asked_write, least_entry}
 use Rattle.law_crash.specs.Points.{Point, StandsFor}
-use Rattle.law_crash.specs.Law.{Tells}
+use Rattle.law_crash.specs.Doing.{Tells}
 use Rattle.law_crash.proofs.Noting.{with_all, stands_counted}
 
 -- plain volumes after a write that was done
@@ -29,7 +29,7 @@ abbrev pub plain_after : GrainSize → Picture → Option WritePart → Picture
 plain_after grain picture None = picture
 plain_after grain picture (Some part) = changed_at part.volume (after_write grain part) picture
 
-request_is : (grain : GrainSize) (picture : Picture) (request : Request) (reply : Reply) → after_request grain picture request reply ≡ plain_after grain picture (done_write request reply)
+pub request_is : (grain : GrainSize) (picture : Picture) (request : Request) (reply : Reply) → after_request grain picture request reply ≡ plain_after grain picture (done_write request reply)
 request_is grain picture (Write part) Done = refl
 request_is grain picture (Write part) reply = refl
 request_is grain picture request reply = refl

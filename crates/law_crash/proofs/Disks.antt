@@ -20,10 +20,10 @@ SameDisks xs ys = AllZip SameDisk xs ys
 
 -- ---- a volume's disk
 
-same_name : (v : ℕ) (x y : NamedDisk) → SameDisk x y → is_of v y ≡ is_of v x
+pub same_name : (v : ℕ) (x y : NamedDisk) → SameDisk x y → is_of v y ≡ is_of v x
 same_name v x y s = ap (λ (o : Option VolId). is_of v (record x { volume = o })) s.volume
 
-find_by : (v : ℕ) (x : NamedDisk) (xs : List NamedDisk) (b : Bool) → is_of v x ≡ b → disk_of (x ∷ xs) v ≡ cond b (Some x) (disk_of xs v)
+pub find_by : (v : ℕ) (x : NamedDisk) (xs : List NamedDisk) (b : Bool) → is_of v x ≡ b → disk_of (x ∷ xs) v ≡ cond b (Some x) (disk_of xs v)
 find_by v x xs b e = ap (λ (z : Bool). cond z (Some x) (disk_of xs v)) e
 
 -- it was the volume's before

@@ -31,18 +31,17 @@ use Rattle.fc_sheets.proofs.Finding.{live_place_at}
 use Rattle.fc_kept.specs.Actions.{Action.Note, is_unmarked, mark_of}
 use Rattle.fc_kept.specs.Disks.{NamedDisk}
 use Rattle.fc_kept.specs.Images.{size_in}
-use Rattle.fc_kept.specs.Marks.{AreMarked, asked_write}
+use Rattle.fc_kept.specs.Marks.{AreMarked}
 use Rattle.fc_kept.proofs.Marking.{mark_law}
 use Rattle.fc_kept.proofs.Sizes.{slot_size}
 use Rattle.law_crash.specs.Points.{Point, StandsFor}
 use Rattle.law_crash.specs.Doing.{number_of, actions_of_steps, marks_by_move, IsWritten, noted, with_disks, Did, Tears, Stopped}
-use Rattle.law_crash.specs.Law.{Begins, CrashLaw}
-use Rattle.law_crash.proofs.Answering.{told_with, least_with, answered}
+use Rattle.law_crash.specs.Law.{Begins}
+use Rattle.law_crash.proofs.Answering.{told_with, least_with}
 use Rattle.law_crash.proofs.Failing.{torn_of, StandsTorn, write_torn}
-use Rattle.law_crash.proofs.Lawful.{WriteOf, FillOf, write_of, live_at, moves_in, own_in, chains_in, moves_given, can_write_at, own_is, Ready, ready_marked, ready_unmarked, copy_of, clean_of, fills_in, fills_given, all_found, all_stand}
+use Rattle.law_crash.proofs.Lawful.{WriteOf, FillOf, write_of, live_at, moves_in, own_in, chains_in, moves_given, can_write_at, own_is, Ready, ready_marked, ready_unmarked, copy_of, clean_of, fills_in, fills_given}
 use Rattle.law_crash.proofs.Making.{spot_in, steps_in, Moves, At, did_moves, at_first}
 use Rattle.law_crash.proofs.Noting.{with_all, with_sheet, written_sheet}
-use Rattle.law_crash.proofs.Opening.{opens, rests, turned}
 use Rattle.law_crash.proofs.Owning.{CanWriteAt}
 use Rattle.law_crash.proofs.Stopping.{IsMove, IsBehind, which_step, one_step, Goal, torn_at, move_stopped}
 
@@ -196,20 +195,9 @@ fill_stopped grain w least r front back step torn p q b o x =
       | inr y ↦ absurd (no_step y.0 back step y.2)
     ]
 
-all_stopped : (grain : GrainSize) (w : Whole) (least : List Row) (r : Request) (front back : List DiskStep) (step : DiskStep) (torn : Option Torn) (p q : Point) → Begins grain w least r (front ++ step ∷ back) p →
+pub all_stopped : (grain : GrainSize) (w : Whole) (least : List Row) (r : Request) (front back : List DiskStep) (step : DiskStep) (torn : Option Torn) (p q : Point) → Begins grain w least r (front ++ step ∷ back) p →
     Stopped grain w r p.kept.rows front step torn p q → Goal grain w least r front torn q
 all_stopped grain w least (Write part) front back step torn p q b x = write_stopped grain w least part front back step torn p q b x
 all_stopped grain w least (Copy m g) front back step torn p q b x = fill_stopped grain w least (Copy m g) front back step torn p q b (copy_of grain w m g (front ++ step ∷ back) b.steps_are) x
 all_stopped grain w least (Clean m g) front back step torn p q b x = fill_stopped grain w least (Clean m g) front back step torn p q b (clean_of grain w m g (front ++ step ∷ back) b.sound b.steps_are) x
 all_stopped grain w least r front back step torn p q b x = absurd b.steps_are
-
-pub crash_law_holds : CrashLaw
-crash_law_holds =
-    record {
-      opens = opens;
-      rests = rests;
-      recovers = all_found;
-      stands = λ grain w least r steps p q entry i b f told. answered grain w least r (asked_write r) steps None q entry i told (all_stand grain w least r steps p q b f);
-      stands_stopped = λ grain w least r front back step torn p q entry i b x told. answered grain w least r None front torn q entry i told (all_stopped grain w least r front back step torn p q b x);
-      turned = turned;
-    }

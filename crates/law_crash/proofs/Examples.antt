@@ -1,16 +1,24 @@
 -- The definitions on closed examples: the write to A of `fc_kept`'s examples, which first moves a grain to B.
-use Rattle.std.proofs.Common.{◌≡◌, ℕ, true, false, Some, List, [], ◌∷◌, refl}
+use Rattle.std.proofs.Common.{◌≡◌, ◌≢◌, ℕ, zero, suc, ◌%◌, ◌/◌, true, false, cond, ◌==◌, Option, Some, None, List, [], ◌∷◌, refl, sym, ap, ◌∙◌, arith, ◌⊎◌, inl, inr}
+use Rattle.std.specs.List.{AllZip}
+use Rattle.std.proofs.lemmas.Bool.{ne_eqb}
+use Rattle.fc_base.specs.Sheet.{slot_at}
 use Rattle.fc_base.specs.declared.request.Request.TheVariants.{Write}
 use Rattle.fc_base.specs.declared.size.GrainSize.TheVariants.{K64}
 use Rattle.fc_books.proofs.Examples.{vol}
+use Rattle.fc_changed.specs.Notes.{has}
 use Rattle.fc_changed.specs.Row.{Row}
+use Rattle.fc_entry.specs.Picture.{Content, Bytes}
 use Rattle.fc_image.specs.declared.record.MetaRecord.{MetaRecord}
 use Rattle.fc_image.specs.declared.record.MetaRecord.TheVariants.{Pair, Written, Changing}
 use Rattle.fc_kept.specs.Actions.{Action.Data, Action.Note}
-use Rattle.fc_kept.specs.Disks.{NamedDisk}
-use Rattle.fc_kept.proofs.Examples.{grain_no, slot_id, started, copied, ones, before, part, move_step, own_step, disk_with}
-use Rattle.law_crash.specs.Points.{Point, stored_by}
-use Rattle.law_crash.specs.Doing.{number_of, actions_of_steps, content_of, noted, with_disks}
+use Rattle.fc_legal.specs.Whole.{lane_at}
+use Rattle.fc_kept.specs.Disks.{NamedDisk, disk_of, on_disk}
+use Rattle.fc_kept.specs.OneGrain.{Another}
+use Rattle.fc_kept.specs.Recoverable.{disks_at}
+use Rattle.fc_kept.proofs.Examples.{grain_no, slot_id, started, copied, ones, nulls, before, part, move_step, own_step, disk_with}
+use Rattle.law_crash.specs.Points.{Point, on_disks, stored_by}
+use Rattle.law_crash.specs.Doing.{number_of, actions_of_steps, content_of, SameDisk, StepWrites, noted, with_disks, Finds}
 
 abbrev pair : MetaRecord
 pair = Pair (slot_id 2) (vol 1) (grain_no 0) false false
@@ -52,3 +60,101 @@ behind_the_move = refl
 
 copied_is_stored : stored_by K64 before (noted pair (with_disks (disks (1 ∷ []) (1 ∷ [])) first)) 1 0 ≡ ones
 copied_is_stored = refl
+
+-- ---- what a stop finds
+
+-- any bytes, and the bytes that are moved
+abbrev nines : Content
+nines = Bytes (9 ∷ [])
+
+abbrev holding : ℕ → List (List NamedDisk)
+holding b = disks (1 ∷ []) (b ∷ [])
+
+-- nobody else has a disk
+abbrev disk_no : ℕ → ℕ → NamedDisk
+disk_no v byte = record { volume = Some (vol v); disk = disk_with ((byte ∷ []) ∷ (0 ∷ []) ∷ []) }
+
+none_of : (b w : ℕ) → (0 == w) ≡ false → (1 == w) ≡ false → disk_of (disks_at (holding b) 0) w ≡ None
+none_of b w e f = λ j. cond (e j) (Some (disk_no 0 1)) (cond (f j) (Some (disk_no 1 b)) None)
+
+neither : (b w : ℕ) → disk_of (disks_at (holding b) 0) (suc (suc w)) ≡ None
+neither b w = none_of b (suc (suc w)) (ne_eqb 0 (suc (suc w)) (λ q. omega (arith, q))) (ne_eqb 1 (suc (suc w)) (λ q. omega (arith, q)))
+
+-- whatever B's grain got, no other grain of a disk changed
+else_same : (b i w p : ℕ) → (w ≢ 1) ⊎ (p ≢ 0) → on_disk (lane_at K64 before i) (disk_of (disks_at (holding b) i) w) p ≡ on_disk (lane_at K64 before i) (disk_of (disks_at (holding 0) i) w) p
+else_same b (suc i) w p other = refl
+else_same b zero zero p other = refl
+else_same b zero (suc (suc w)) p other = ap (λ (o : Option NamedDisk). on_disk (lane_at K64 before 0) o p) (neither b w ∙ sym (neither 0 w))
+else_same b zero (suc zero) (suc p) other = refl
+else_same b zero (suc zero) zero other =
+    elim other [
+      | inl n ↦ absurd (n refl)
+      | inr n ↦ absurd (n refl)
+    ]
+
+all_same : (b i : ℕ) → AllZip SameDisk (disks_at (holding 0) i) (disks_at (holding b) i)
+all_same b zero = (record { volume = refl; kind = refl; grains = refl }, (record { volume = refl; kind = refl; grains = refl }, tt))
+all_same b (suc i) = tt
+
+first_place : (y : ℕ) → (y % 1 ≡ 0) × (y / 1 ≡ y)
+first_place y = (omega arith, omega arith)
+
+writes : (b : ℕ) → StepWrites K64 before (Write part) move_step (Bytes (b ∷ [])) (holding 0) (holding b)
+writes b =
+    record {
+      count = refl;
+      same = all_same b;
+      stored = record {
+        here = refl;
+        elsewhere = λ w y other. else_same b (y % 1) w (y / 1) (elim other [ inl n ↦ inl n | inr n ↦ inr (λ e. n (sym (first_place y).1 ∙ e)) ]);
+      };
+    }
+
+abbrev in_data : Point
+in_data = with_disks (holding 9) first
+
+abbrev behind_data : Point
+behind_data = with_disks (holding 1) first
+
+abbrev copy_with : Content → Option Another
+copy_with content = Some record { volume = 1; grain = 0; content = content }
+
+abbrev FindsIn : Option Another → Point → Type 0
+FindsIn one q = Finds K64 before (Write part) (Data move_step ∷ Note pair ∷ Data own_step ∷ Note wrote ∷ []) first one q
+
+before_all : FindsIn None first
+before_all = inl (refl, refl)
+
+-- in the move's data B's grain may have any bytes, and no metadata tells of them
+in_the_data : FindsIn (copy_with nines) in_data
+in_the_data = inr (inl record { content = nines; writes = writes 9; kept = refl; one_is = refl })
+
+-- behind them it has its copy, and still no metadata tells of it
+behind_the_data : FindsIn (copy_with ones) behind_data
+behind_the_data = inr (inl record { content = ones; writes = writes 1; kept = refl; one_is = refl })
+
+-- and then the record does
+behind_the_record : FindsIn None (noted pair behind_data)
+behind_the_record = inr (inr (holding 1, writes 1, inl (refl, refl)))
+
+-- but the record of what isn't on the disk is never found
+record_alone : FindsIn None (noted pair first) → ⊥
+record_alone f =
+    elim f [
+      | inl x ↦ let e : true ≡ false = ap (λ (p : Point). has (slot_at p.kept.sheet.slots 1).held 0) x.1 in cc
+      | inr y ↦ elim y [
+        | inl x ↦ let e : (let a : Option Another = None in a) ≡ copy_with (stored_by K64 before (noted pair first) 1 0) = x.one_is in cc
+        | inr x ↦ written_first x.0 x.1 x.2
+      ]
+    ]
+  where
+    written_first : (new : List (List NamedDisk)) → StepWrites K64 before (Write part) move_step ones (holding 0) new →
+        Finds K64 before (Write part) (Data own_step ∷ Note wrote ∷ []) (noted pair (with_disks new first)) None (noted pair first) → ⊥
+    written_first new w g =
+        elim g [
+          | inl x ↦ let e : nulls ≡ ones = ap (λ (p : Point). on_disks K64 before p.disks 1 0) x.1 ∙ w.stored.here in cc
+          | inr y ↦ elim y [
+            | inl x ↦ let e : (let a : Option Another = None in a) ≡ Some record { volume = 0; grain = 0; content = stored_by K64 before (noted pair first) 0 0 } = x.one_is in cc
+            | inr x ↦ let e : nulls ≡ ones = ap (λ (p : Point). on_disks K64 before p.disks 1 0) x.2.1 ∙ (x.1.stored.elsewhere 1 0 (inl (λ q. cc)) ∙ w.stored.here) in cc
+          ]
+        ]

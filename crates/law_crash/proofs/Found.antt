@@ -1,5 +1,5 @@
 -- What stands for a state that the history may have come to may be recovered; so may one physical grain more.
-use Rattle.std.proofs.Common.{◌≡◌, ℕ, ◌<◌, ◌≤◌, Bool, true, false, not, ◌&&◌, eqb, Option, Some, None, List, length, sym, ap, subst, ◌∙◌, arith, inl, inr}
+use Rattle.std.proofs.Common.{◌≡◌, ℕ, ◌<◌, ◌≤◌, Bool, true, false, not, ◌&&◌, cond, eqb, Option, Some, None, List, length, set, sym, ap, subst, ◌∙◌, arith, inl, inr}
 use Rattle.std.proofs.lemmas.Bool.{both_ways, cases_Bool, eqb-true}
 use Rattle.fc_base.specs.Column.{Column, holder}
 use Rattle.fc_base.specs.Moves.{is_in_place, is_old_answer}
@@ -9,16 +9,17 @@ use Rattle.fc_base.specs.SheetFacts.{IsSound}
 use Rattle.fc_base.specs.declared.request.Request.{Request}
 use Rattle.fc_base.specs.declared.size.GrainSize.{GrainSize}
 use Rattle.fc_changed.specs.Row.{Row}
-use Rattle.fc_entry.specs.Picture.{Content, Picture}
+use Rattle.fc_entry.specs.Picture.{Content, Picture, PlainVolume}
 use Rattle.fc_legal.specs.Whole.{Whole, lanes, lane_at}
 use Rattle.fc_moves.proofs.Readers.{IsHolder, holder_is}
 use Rattle.fc_moves.proofs.Search.{cases_option}
+use Rattle.fc_pictures.proofs.Fitting.{read_is}
 use Rattle.fc_pictures.proofs.Grains.{own_place}
-use Rattle.fc_pictures.specs.Law.{StoredAt}
+use Rattle.fc_pictures.specs.Law.{StoredAt, now_of}
 use Rattle.fc_rules.specs.Shows.{Stored, Shows}
 use Rattle.fc_rules.specs.Steps.{is_of_volume, reads_own}
 use Rattle.fc_kept.specs.Disks.{NamedDisk, stored_on}
-use Rattle.fc_kept.specs.OneGrain.{Another, another_at, with_another, IsChangedIn, IsMarkedAt}
+use Rattle.fc_kept.specs.OneGrain.{Another, another, another_at, with_another, IsChangedIn, IsMarkedAt}
 use Rattle.fc_kept.specs.Prefix.{Prefix}
 use Rattle.fc_kept.specs.Recoverable.{Recoverable, Says, ShowsAll, disks_at}
 use Rattle.fc_kept.proofs.Dropping.{drops_sound}
@@ -121,3 +122,20 @@ shows_not s g k sound safe out own =
             | inr old ↦ both_ways (is_in_place c k) out (marked_by c k (Some h.0) h.1 ∙ old_by c h.0 (c.volume k) false true old same)
           ]
     ]
+
+pub shows_none : (s : Sheet) (g k : ℕ) (content : Content) (v : PlainVolume) → IsSound s → IsSafeMove (column s.slots g) k → is_in_place (column s.slots g) k ≡ false →
+    (another (column s.slots g) k g content v).now ≡ v.now
+shows_none s g k content v sound safe out =
+    elim (cases_Bool (reads_own (column s.slots g) k)) [
+      | inl own ↦ absurd (shows_not s g k sound safe out own)
+      | inr other ↦ ap (λ (z : Bool). cond z (set v.now g content) v.now) other
+    ]
+
+-- ---- what a volume shows
+
+pub shown_is_read : (grain : GrainSize) (w : Whole) (least : List Row) (p : Point) (k g : ℕ) → StandsFor grain w least p →
+    let slots = w.books.sheet.slots in
+    k < length slots → (slot_at slots k).is_live ≡ true → g < length (slot_at slots k).held →
+    (h : ℕ) × (holder (column slots g) k ≡ Some h) × (now_of w.picture (slot_at slots k).volume g ≡ stored_by grain w p (slot_at slots h).volume g)
+shown_is_read grain w least p k g st there live inside =
+    read_is w.books.sheet w.picture (stored_by grain w p) k g (chains_sound grain w least p st) st.shows there live inside

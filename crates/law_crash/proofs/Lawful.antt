@@ -46,8 +46,8 @@ use Rattle.fc_kept.specs.Prefix.{AreStepsOf, AreWriteSteps, AreFillSteps, Prefix
 use Rattle.fc_kept.specs.Recoverable.{Recoverable}
 use Rattle.fc_kept.proofs.Marking.{mark_law}
 use Rattle.law_crash.specs.Points.{Point, StandsFor}
-use Rattle.law_crash.specs.Doing.{number_of, actions_by_move, actions_of_steps, with_part, IsWritten, noted, with_disks, Did, Finds}
-use Rattle.law_crash.specs.Law.{Begins, Tells}
+use Rattle.law_crash.specs.Doing.{number_of, actions_by_move, actions_of_steps, with_part, IsWritten, noted, with_disks, Did, Finds, Tells}
+use Rattle.law_crash.specs.Law.{Begins}
 use Rattle.law_crash.proofs.Answering.{told_with, least_with, answered}
 use Rattle.law_crash.proofs.Found.{found, found_in}
 use Rattle.law_crash.proofs.Making.{spot_in, steps_in, chains_after, Moves, At, prefix_at, from_found, from_found_in, FoundBehind, found_moves, did_moves, at_first}

@@ -13,4 +13,8 @@ pub mod Failing
 pub mod Stopping
 pub mod Opening
 pub mod Ending
+pub mod Coming
+pub mod Leaving
+pub mod Running
+pub mod Whole
 mod Examples

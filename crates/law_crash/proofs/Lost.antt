@@ -19,7 +19,7 @@ use Rattle.law_crash.specs.Points.{Point, on_disks, stored_by}
 
 -- ---- one row
 
-row_of : (row : LostGrains) (rows : List LostGrains) (v g : ℕ) (b : Bool) → (row.volume == v) ≡ b → is_lost_in (row ∷ rows) v g ≡ cond b (has row.lost g) (is_lost_in rows v g)
+pub row_of : (row : LostGrains) (rows : List LostGrains) (v g : ℕ) (b : Bool) → (row.volume == v) ≡ b → is_lost_in (row ∷ rows) v g ≡ cond b (has row.lost g) (is_lost_in rows v g)
 row_of row rows v g b e = ap (λ (z : Bool). cond z (has row.lost g) (is_lost_in rows v g)) e
 
 put_row : (v g : ℕ) (b : Bool) (row : LostGrains) (z : Bool) → (row.volume == v) ≡ z → lost_put v g b row ≡ cond z (record row { lost = set row.lost g b }) row
@@ -82,7 +82,7 @@ lost_here v g (row ∷ rows) there sizes =
           (λ r c e. sizes r (later_in row r rows c) e))
     ]
 
-all_in_is : {X : Type 0} (P : X → Type 0) (xs : List X) → All P xs → (x : X) → Contains xs x → P x
+pub all_in_is : {X : Type 0} (P : X → Type 0) (xs : List X) → All P xs → (x : X) → Contains xs x → P x
 all_in_is P xs all x (k, lt, e) = subst P e (all k x lt)
 
 -- a volume of the tables has its row of lost grains

@@ -9,10 +9,12 @@ use Rattle.fc_base.specs.declared.request.Torn.{Torn}
 use Rattle.fc_base.specs.declared.request.WritePart.{WritePart}
 use Rattle.fc_base.specs.declared.size.GrainSize.{GrainSize}
 use Rattle.fc_changed.specs.Row.{Row}
+use Rattle.fc_entry.specs.declared.entry.Entry.{Entry}
 use Rattle.fc_entry.specs.Picture.{Content, grain_of_block, byte_in_grain, written}
 use Rattle.fc_legal.specs.Whole.{Whole}
 use Rattle.fc_pictures.specs.Law.{StoredAt, now_of}
-use Rattle.fc_rules.specs.Steps.{DiskStep}
+use Rattle.fc_rules.specs.LaneRight.{done_write}
+use Rattle.fc_rules.specs.Steps.{DiskStep, moves_of}
 use Rattle.fc_image.specs.declared.record.MetaRecord.{MetaRecord}
 use Rattle.fc_image.specs.declared.record.MetaRecord.TheVariants.{Torn as TornRecord}
 use Rattle.fc_kept.specs.Actions.{Action, Action.Data, Action.Note, Action.Fold, actions_of_move, actions_of_own, mark_of}
@@ -141,3 +143,13 @@ pub record Stopped (grain : GrainSize) (w : Whole) (request : Request) (rows : L
   pub did : Did grain w request (actions_of_steps rows (number_of grain request) front) p begun
   pub marks : Did grain w request (marks_by_move rows (number_of grain request) step step.move) begun marked
   pub tears : Tears grain w request step torn marked q
+
+-- ---- what is told of it
+
+-- An entry tells that it wrote this, made the moves of these steps, and tore this.
+pub record Tells (request : Request) (write : Option WritePart) (steps : List DiskStep) (torn : Option Torn) (entry : Entry) : Type 0 where
+  pub request_is : entry.request ≡ request
+  pub written : done_write entry.request entry.reply ≡ write
+  pub moves : entry.moves ≡ moves_of steps
+  pub torn_is : entry.torn ≡ torn
+  pub no_effects : entry.effects ≡ []

@@ -1,25 +1,35 @@
 -- The law of stops.
-use Rattle.std.specs.Prelude.{◌≡◌, ◌⊎◌, ℕ, length, List, [], ◌∷◌, ◌++◌, Option, Some, None}
+use Rattle.std.specs.Prelude.{◌≡◌, ◌⊎◌, ℕ, true, false, ◌+◌, ◌*◌, ◌^◌, ◌<◌, ◌≤◌, length, List, [], ◌∷◌, ◌++◌, Option, Some, None}
+use Rattle.fc_base.specs.Column.{holder}
+use Rattle.fc_base.specs.Moves.{is_in_place}
+use Rattle.fc_base.specs.Safety.{IsSafeMove}
+use Rattle.fc_base.specs.Sheet.{Sheet, slot_at, column}
+use Rattle.fc_base.specs.SheetFacts.{IsSound}
 use Rattle.fc_base.specs.Pools.{Pool}
+use Rattle.fc_base.specs.declared.command.Command.{Command}
 use Rattle.fc_base.specs.declared.request.Request.{Request}
 use Rattle.fc_base.specs.declared.request.Torn.{Torn}
-use Rattle.fc_base.specs.declared.request.WritePart.{WritePart}
 use Rattle.fc_base.specs.declared.size.GrainSize.{GrainSize}
 use Rattle.fc_books.specs.Sound.{AreSound}
 use Rattle.fc_changed.specs.Row.{Row}
+use Rattle.fc_entry.specs.Picture.{Content, PlainVolume}
 use Rattle.fc_entry.specs.declared.entry.Entry.{Entry}
-use Rattle.fc_legal.specs.Steps.{Step, after_access}
+use Rattle.fc_legal.specs.Legal.{AreSteps}
+use Rattle.fc_legal.specs.Steps.{Step, after_access, one_more}
 use Rattle.fc_legal.specs.Whole.{Whole, opened, single_lane}
 use Rattle.fc_parts.specs.Law.{IsInVolume}
-use Rattle.fc_rules.specs.LaneRight.{done_write}
-use Rattle.fc_rules.specs.Steps.{DiskStep, moves_of}
+use Rattle.fc_pictures.specs.Law.{now_of}
+use Rattle.fc_rules.specs.Steps.{DiskStep}
 use Rattle.fc_kept.specs.Disks.{NamedDisk}
+use Rattle.fc_kept.specs.Kept.{Kept}
 use Rattle.fc_kept.specs.Marks.{asked_write, least_entry, LeastStep}
-use Rattle.fc_kept.specs.OneGrain.{Another}
+use Rattle.fc_kept.specs.OneGrain.{Another, another}
 use Rattle.fc_kept.specs.Prefix.{AreStepsOf}
 use Rattle.fc_kept.specs.Recoverable.{Recoverable}
-use Rattle.law_crash.specs.Points.{Point, StandsFor, nothing_kept}
-use Rattle.law_crash.specs.Doing.{number_of, actions_of_steps, Did, IsFound, Finds, Stopped}
+use Rattle.law_crash.specs.Points.{Point, StandsFor, stored_by, nothing_kept}
+use Rattle.law_crash.specs.Leaving.{AreFit, AreUnnamed, GoesOn, Leaves}
+use Rattle.law_crash.specs.Running.{Run, Stops}
+use Rattle.law_crash.specs.Doing.{number_of, actions_of_steps, Did, IsFound, Finds, Stopped, Tells}
 
 -- A write, a copy or a cleaning begins, with these steps, where the disks stand for what the history leads to.
 pub record Begins (grain : GrainSize) (w : Whole) (least : List Row) (request : Request) (steps : List DiskStep) (p : Point) : Type 0 where
@@ -27,14 +37,6 @@ pub record Begins (grain : GrainSize) (w : Whole) (least : List Row) (request : 
   pub inside : IsInVolume grain w request
   pub steps_are : AreStepsOf grain w request steps
   pub stands : StandsFor grain w least p
-
--- An entry tells that it wrote this, made the moves of these steps, and tore this.
-pub record Tells (request : Request) (write : Option WritePart) (steps : List DiskStep) (torn : Option Torn) (entry : Entry) : Type 0 where
-  pub request_is : entry.request ≡ request
-  pub written : done_write entry.request entry.reply ≡ write
-  pub moves : entry.moves ≡ moves_of steps
-  pub torn_is : entry.torn ≡ torn
-  pub no_effects : entry.effects ≡ []
 
 pub record CrashLaw : Type 0 where
   -- before the first entry there are no volumes
@@ -44,6 +46,14 @@ pub record CrashLaw : Type 0 where
   pub rests : (grain : GrainSize) (w : Whole) (least : List Row) (asked : Option Request) (p : Point) →
       StandsFor grain w least p →
       Recoverable grain p.disks p.kept w least asked None
+  -- what a volume shows is what is stored of the volume that it reads from, and that is what a move writes
+  pub read_is : (grain : GrainSize) (w : Whole) (least : List Row) (p : Point) (k g : ℕ) → StandsFor grain w least p →
+      let slots = w.books.sheet.slots in
+      k < length slots → (slot_at slots k).is_live ≡ true → g < length (slot_at slots k).held →
+      (h : ℕ) × (holder (column slots g) k ≡ Some h) × (now_of w.picture (slot_at slots k).volume g ≡ stored_by grain w p (slot_at slots h).volume g)
+  -- and no volume shows the data of a move before its record, whatever they are
+  pub shows_not : (s : Sheet) (g k : ℕ) (content : Content) (v : PlainVolume) → IsSound s → IsSafeMove (column s.slots g) k →
+      is_in_place (column s.slots g) k ≡ false → (another (column s.slots g) k g content v).now ≡ v.now
   -- whatever a stop finds may be recovered
   pub recovers : (grain : GrainSize) (w : Whole) (least : List Row) (request : Request) (steps : List DiskStep) (p q : Point) (one : Option Another) →
       Begins grain w least request steps p →
@@ -68,3 +78,20 @@ pub record CrashLaw : Type 0 where
       StandsFor grain w least p → StandsFor grain next least' q →
       IsFound p one x ⊎ IsFound q one x →
       Recoverable grain x.disks x.kept w least (Some entry.request) one
+  -- and what it leaves, with metadata made anew over the same disks, stands for the history with its entry, if they fit its tables
+  pub leaves : (grain : GrainSize) (decisions : ℕ) (w left : Whole) (least least' : List Row) (command : Command) (p : Point) (kept : Kept) →
+      decisions + 4 < 2 ^ 32 → GoesOn decisions w p.disks → StandsFor grain w least p →
+      Leaves grain w least p.kept command left least' kept → AreFit grain left p.disks →
+      StandsFor grain (one_more left) least' (record p { kept = kept }) × GoesOn (decisions + 2) (one_more left) p.disks
+  -- so all entries of a history stand, one after the other, with what is done to the disks
+  pub runs : (grain : GrainSize) (pools : List Pool) (disks : List (List NamedDisk)) (entries : List Entry) (w : Whole) (least : List Row) (p : Point) →
+      0 < length pools → length disks ≡ length pools → AreUnnamed (opened pools) disks →
+      let first : Point = record { kept = nothing_kept; disks = disks } in
+      Run grain (opened pools) [] first entries w least p → w.entries ≤ 262144 →
+      AreSteps grain (opened pools) entries w × StandsFor grain w least p × GoesOn (2 * w.entries) w p.disks
+  -- and wherever a stop falls in the next entry, what it finds may be recovered
+  pub stops : (grain : GrainSize) (pools : List Pool) (disks : List (List NamedDisk)) (entries : List Entry) (w : Whole) (least : List Row) (p : Point) →
+      (request : Request) (one : Option Another) (q : Point) → 0 < length pools → length disks ≡ length pools → AreUnnamed (opened pools) disks →
+      let first : Point = record { kept = nothing_kept; disks = disks } in
+      Run grain (opened pools) [] first entries w least p → w.entries < 262144 → Stops grain w least p request one q →
+      Recoverable grain q.disks q.kept w least (Some request) one

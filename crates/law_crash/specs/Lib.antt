@@ -1,4 +1,6 @@
 -- What the law of stops says.
 pub mod Points
 pub mod Doing
+pub mod Leaving
+pub mod Running
 pub mod Law

@@ -1,5 +1,5 @@
--- The law is proved in `Ending`.
-use Rattle.law_crash.proofs.Ending.{crash_law_holds}
+-- The law is proved in `Whole`.
+use Rattle.law_crash.proofs.Whole.{crash_law_holds}
 use Rattle.law_crash.proofs.crash_law.Goals as goal
 
 pub returns : goal.returns

@@ -1,0 +1,73 @@
+-- What a command leaves of metadata.
+use Rattle.std.specs.Prelude.{◌≡◌, ℕ, ◌<◌, ◌≤◌, List, length, Option, None, map}
+use Rattle.fc_base.specs.declared.command.Command.{Command}
+use Rattle.fc_base.specs.declared.ids.VolId.{VolId}
+use Rattle.fc_base.specs.declared.size.GrainSize.{GrainSize}
+use Rattle.fc_base.specs.declared.volume.Volume.{Volume}
+use Rattle.fc_books.specs.Deciding.{settle, IsLoopOf}
+use Rattle.fc_changed.specs.Notes.{grains_with}
+use Rattle.fc_changed.specs.Row.{Row}
+use Rattle.fc_follow.specs.Alike.{AreAlike}
+use Rattle.fc_legal.specs.Steps.{left_by, after_settling, decided_on}
+use Rattle.fc_legal.specs.Whole.{Whole, all_followed, lane_at}
+use Rattle.law_stands.specs.Reached.{IsReached}
+use Rattle.fc_kept.specs.Disks.{NamedDisk, FitDisks, disk_of}
+use Rattle.fc_kept.specs.Kept.{LostGrains, Kept, is_lost_in}
+use Rattle.fc_kept.specs.Marks.{least_by}
+use Rattle.fc_kept.specs.Recoverable.{disks_at}
+
+-- The lost grains of the volumes that are left, in their order, as they were. Of a volume that came none is lost.
+abbrev pub lost_of : List LostGrains → Volume → LostGrains
+lost_of lost v = record { volume = v.id.0; lost = grains_with (is_lost_in lost v.id.0) v.grains }
+
+abbrev pub lost_left : Whole → List LostGrains → List LostGrains
+lost_left left lost = map (lost_of lost) left.books.tables.volumes
+
+-- Metadata made anew: all that is left, with these rows and these lost grains.
+abbrev pub made_anew : Whole → List Row → List LostGrains → Kept
+made_anew left rows lost =
+    record {
+      tables = left.books.tables;
+      next_volume = left.books.next_volume;
+      next_mapping = left.books.next_mapping;
+      next_group = left.books.next_group;
+      sheet = left.books.sheet;
+      rows = rows;
+      lost = lost_left left lost;
+    }
+
+-- What a settling leaves, and a command that is decided behind it. To the rows of metadata it notes what it notes to the history's.
+abbrev pub settled_anew : GrainSize → Whole → Kept → Kept
+settled_anew grain w k = made_anew (after_settling grain w) (least_by w k.rows (settle w.books)) k.lost
+
+abbrev pub decided_anew : GrainSize → Whole → Command → Option (List VolId) → Kept → Kept
+decided_anew grain w command loop k =
+    let settled = after_settling grain w in
+    let d = decided_on grain settled command loop in
+    made_anew (left_by grain settled d) (least_by settled (settled_anew grain w k).rows d) (settled_anew grain w k).lost
+
+-- A command leaves what it decides, or, for want of memory, the settling alone or all as it was: the history's whole, its least rows,
+-- and metadata that was this.
+pub data Leaves (grain : GrainSize) (w : Whole) (least : List Row) (k : Kept) (command : Command) : Whole → List Row → Kept → Type 0 where
+  decided : (loop : Option (List VolId)) → IsLoopOf grain (after_settling grain w).books command loop →
+      Leaves grain w least k command
+      (left_by grain (after_settling grain w) (decided_on grain (after_settling grain w) command loop))
+      (least_by (after_settling grain w) (least_by w least (settle w.books)) (decided_on grain (after_settling grain w) command loop))
+      (decided_anew grain w command loop k)
+  unsettled : Leaves grain w least k command w least k
+  settled_alone : Leaves grain w least k command (after_settling grain w) (least_by w least (settle w.books)) (settled_anew grain w k)
+
+-- No disk has the name of a volume that is yet to come.
+abbrev pub AreUnnamed : Whole → List (List NamedDisk) → Type 0
+AreUnnamed w disks = (i v : ℕ) → w.books.next_volume ≤ v → disk_of (disks_at disks i) v ≡ None
+
+-- The disks of each lane fit the tables.
+abbrev pub AreFit : GrainSize → Whole → List (List NamedDisk) → Type 0
+AreFit grain w disks = (i : ℕ) → i < length disks → FitDisks (lane_at grain w i) (disks_at disks i) w.books.tables
+
+-- What holds between two entries besides: some decisions led to it, both volumes of a row show the same at its grains, and no disk has
+-- a name too early.
+pub record GoesOn (decisions : ℕ) (w : Whole) (disks : List (List NamedDisk)) : Type 0 where
+  pub reached : IsReached decisions w
+  pub alike : AreAlike (all_followed w)
+  pub unnamed : AreUnnamed w disks

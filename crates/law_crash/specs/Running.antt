@@ -1,0 +1,78 @@
+-- A whole history on the disks, entry by entry.
+use Rattle.std.specs.Prelude.{◌≡◌, ℕ, List, [], ◌∷◌, ◌++◌, length, Contains, Option, None}
+use Rattle.fc_base.specs.declared.command.Command.{Command}
+use Rattle.fc_base.specs.declared.request.Request.{Request}
+use Rattle.fc_base.specs.declared.request.Request.TheVariants.{Command as Asked, Copy, Clean, CopyTurn, CleanTurn}
+use Rattle.fc_base.specs.declared.request.Torn.{Torn}
+use Rattle.fc_base.specs.declared.size.GrainSize.{GrainSize}
+use Rattle.fc_base.specs.declared.volume.Volume.{Volume}
+use Rattle.fc_changed.specs.Row.{Row}
+use Rattle.fc_entry.specs.declared.entry.Entry.{Entry}
+use Rattle.fc_legal.specs.Steps.{Step, after_access, one_more}
+use Rattle.fc_legal.specs.Whole.{Whole, single_lane}
+use Rattle.fc_parts.specs.Law.{IsInVolume}
+use Rattle.fc_rules.specs.Steps.{DiskStep}
+use Rattle.fc_kept.specs.Disks.{NamedDisk}
+use Rattle.fc_kept.specs.Kept.{Kept}
+use Rattle.fc_kept.specs.Marks.{asked_write, least_entry}
+use Rattle.fc_kept.specs.OneGrain.{Another}
+use Rattle.fc_kept.specs.Prefix.{AreStepsOf}
+use Rattle.law_crash.specs.Points.{Point, on_disks}
+use Rattle.law_crash.specs.Doing.{number_of, actions_of_steps, with_disks, Did, Finds, Stopped, Tells}
+use Rattle.law_crash.specs.Leaving.{AreFit, AreUnnamed, Leaves}
+
+-- Between two entries disks may get the names of volumes that came, and lose those of volumes that went: each volume's stay as they are.
+pub record StayAs (grain : GrainSize) (w : Whole) (old new : List (List NamedDisk)) : Type 0 where
+  pub count : length new ≡ length old
+  pub same : (v : Volume) → Contains w.books.tables.volumes v → (g : ℕ) → on_disks grain w new v.id.0 g ≡ on_disks grain w old v.id.0 g
+  pub fit : AreFit grain w new
+  pub unnamed : AreUnnamed w new
+
+-- What an entry is of: its request, or the copy or the cleaning that a worker's turn takes.
+abbrev pub Takes : Request → Request → Type 0
+Takes (CopyTurn lane) (Copy m g) = Unit {0}
+Takes (CleanTurn lane) (Clean m g) = Unit {0}
+Takes request work = work ≡ request
+
+-- An entry leads to a whole, to least rows, and to what stands on the disks behind it.
+pub data Does (grain : GrainSize) (w : Whole) (least : List Row) (p : Point) (entry : Entry) : Whole → List Row → Point → Type 0 where
+  -- one of no lane does nothing
+  refused : asked_write entry.request ≡ None → Does grain w least p entry (one_more w) least p
+  -- an access without steps neither, as a read
+  read : (i : ℕ) → Tells entry.request None [] None entry →
+      Does grain w least p entry (after_access grain w i entry) (least_entry (single_lane grain) least entry) p
+  -- all steps of an access are done
+  whole : (i : ℕ) (work : Request) (steps : List DiskStep) (q : Point) → Takes entry.request work → IsInVolume grain w work →
+      AreStepsOf grain w work steps → Did grain w work (actions_of_steps p.kept.rows (number_of grain work) steps) p q →
+      Tells entry.request (asked_write entry.request) steps None entry →
+      Does grain w least p entry (after_access grain w i entry) (least_entry (single_lane grain) least entry) q
+  -- or one of them stopped
+  stopped : (i : ℕ) (work : Request) (front back : List DiskStep) (step : DiskStep) (torn : Option Torn) (q : Point) →
+      Takes entry.request work → IsInVolume grain w work → AreStepsOf grain w work (front ++ step ∷ back) → Stopped grain w work p.kept.rows front step torn p q →
+      Tells entry.request None front torn entry →
+      Does grain w least p entry (after_access grain w i entry) (least_entry (single_lane grain) least entry) q
+  -- a command has metadata made anew
+  commanded : (command : Command) (left : Whole) (least' : List Row) (kept : Kept) → entry.request ≡ Asked command →
+      Leaves grain w least p.kept command left least' kept → AreFit grain left p.disks →
+      Does grain w least p entry (one_more left) least' (record p { kept = kept })
+
+-- Right entries, each done on what the last one left.
+pub data Run (grain : GrainSize) (w : Whole) (least : List Row) (p : Point) : List Entry → Whole → List Row → Point → Type 0 where
+  begun : Run grain w least p [] w least p
+  more : (entries : List Entry) (now : Whole) (least_now : List Row) (x : Point)
+      (entry : Entry) (next : Whole) (least' : List Row) (q : Point) →
+      Run grain w least p entries now least_now x → Step grain now entry next → Does grain now least_now x entry next least' q →
+      Run grain w least p (entries ++ entry ∷ []) next least' q
+  named : (entries : List Entry) (now : Whole) (least_now : List Row) (x : Point) (disks : List (List NamedDisk)) →
+      Run grain w least p entries now least_now x → StayAs grain now x.disks disks →
+      Run grain w least p entries now least_now (with_disks disks x)
+
+-- What a stop finds while a request is under way, or the work that a worker's turn takes: what stood before it; or, in its steps, what is found there; or metadata made anew.
+pub data Stops (grain : GrainSize) (w : Whole) (least : List Row) (p : Point) : Request → Option Another → Point → Type 0 where
+  before : (request : Request) → Stops grain w least p request None p
+  within : (request : Request) (steps : List DiskStep) (one : Option Another) (q : Point) → IsInVolume grain w request →
+      AreStepsOf grain w request steps → Finds grain w request (actions_of_steps p.kept.rows (number_of grain request) steps) p one q →
+      Stops grain w least p request one q
+  behind : (command : Command) (entry : Entry) (left : Whole) (least' : List Row) (kept : Kept) → entry.request ≡ Asked command →
+      Step grain w entry (one_more left) → Leaves grain w least p.kept command left least' kept → AreFit grain left p.disks →
+      Stops grain w least p entry.request None (record p { kept = kept })
