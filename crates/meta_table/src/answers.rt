@@ -1,6 +1,6 @@
 //! What comes out of what is tried, in words.
 
-ghost use Rattle.std.specs.Prelude.{◌<◌};
+ghost use Rattle.std.specs.Prelude.{◌≡◌, ◌<◌, IfOk, Ok};
 
 use crate::found::{found_text, reason_text};
 use crate::script::{SIZE, goes_on, image, kept_until, small};
@@ -39,7 +39,9 @@ const WRITTEN: [MetaRecord; 1] = [MetaRecord::Written {
 }];
 
 /// What was had, or that memory was wanted.
-fn had<T: Drop>(res: Result<T, NoMemory>) -> Result<T, AllocError> {
+fn had<T: Drop>(res: Result<T, NoMemory>) -> Result<T, AllocError>
+    ensures { IfOk result (λ value. res ≡ Ok value) }
+{
     match res {
         Ok(value) => Ok(value),
         Err(NoMemory) => Err(AllocError),
