@@ -27,7 +27,7 @@ pub find_by : (v : ℕ) (x : NamedDisk) (xs : List NamedDisk) (b : Bool) → is_
 find_by v x xs b e = ap (λ (z : Bool). cond z (Some x) (disk_of xs v)) e
 
 -- it was the volume's before
-was_of : (xs ys : List NamedDisk) (v : ℕ) (d : NamedDisk) → SameDisks xs ys → disk_of ys v ≡ Some d → (old : NamedDisk) × (disk_of xs v ≡ Some old) × SameDisk old d
+pub was_of : (xs ys : List NamedDisk) (v : ℕ) (d : NamedDisk) → SameDisks xs ys → disk_of ys v ≡ Some d → (old : NamedDisk) × (disk_of xs v ≡ Some old) × SameDisk old d
 was_of [] [] v d s e = absurd cc
 was_of [] (y ∷ ys) v d s e = absurd s
 was_of (x ∷ xs) [] v d s e = absurd s

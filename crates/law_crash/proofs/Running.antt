@@ -1,7 +1,7 @@
 -- A whole history: each entry stands on what the last one left, and what a stop finds in the next one may be recovered.
 use Rattle.std.proofs.Common.{◌≡◌, ℕ, ◌+◌, ◌*◌, ◌<◌, ◌≤◌, ◌==◌, true, false, cond, fold, Option, Some, None, List, [], ◌∷◌, ◌++◌, length, set, All, refl, sym, ap, subst, ◌∙◌, arith, inl, inr}
 use Rattle.std.specs.List.{AllZip}
-use Rattle.std.proofs.lemmas.Bool.{cases_Bool, eqb-true}
+use Rattle.std.proofs.lemmas.Bool.{eqb-true}
 use Rattle.fc_alike.proofs.Lawful.{follow_law_holds}
 use Rattle.fc_base.specs.Grain.{block_bytes}
 use Rattle.fc_base.specs.Pools.{Pool}
@@ -27,7 +27,7 @@ use Rattle.fc_entry.specs.declared.entry.Entry.{Entry}
 use Rattle.fc_follow.specs.Alike.{AreAlike, IsAlike}
 use Rattle.fc_follow.specs.Following.{followed_entry, rows_entry, write_notes}
 use Rattle.fc_kept.specs.Actions.{Action, Action.Data, Action.Note, Action.Fold}
-use Rattle.fc_kept.specs.Disks.{NamedDisk, FitDisks, disk_of, is_of}
+use Rattle.fc_kept.specs.Disks.{NamedDisk, FitDisks, disk_of}
 use Rattle.fc_kept.specs.Kept.{Kept, is_lost_in}
 use Rattle.fc_kept.specs.Marks.{LeastLeft, LeastLeft.decided as least_decided, LeastLeft.unsettled as least_unsettled, LeastLeft.settled_alone as least_settled, LeastStep, asked_write, least_asked, least_entry}
 use Rattle.fc_kept.specs.OneGrain.{Another}
@@ -49,7 +49,7 @@ use Rattle.law_crash.specs.Leaving.{AreUnnamed, GoesOn, Leaves, Leaves.decided, 
 use Rattle.law_crash.specs.Points.{Point, StandsFor, nothing_kept, on_disks, stored_by}
 use Rattle.law_crash.specs.Running.{Does, Does.refused, Does.read, Does.whole, Does.stopped, Does.commanded, Run, Run.begun, Run.more, Run.named, StayAs, Takes, Stops, Stops.before, Stops.within, Stops.behind}
 use Rattle.law_crash.proofs.Answering.{answered, least_with, plain_after, request_is, told_with}
-use Rattle.law_crash.proofs.Disks.{find_by, same_name}
+use Rattle.law_crash.proofs.Disks.{was_of}
 use Rattle.law_crash.proofs.Ending.{all_stopped}
 use Rattle.law_crash.proofs.Lawful.{all_found, all_stand}
 use Rattle.law_crash.proofs.Leaving.{SameOfSlots, leaves_all, shows_same, some_volume}
@@ -97,14 +97,13 @@ access_alike grain w i entry none alike =
 -- ---- disks keep their names through an access
 
 still_none : (xs ys : List NamedDisk) (v : ℕ) → AllZip SameDisk xs ys → disk_of xs v ≡ None → disk_of ys v ≡ None
-still_none [] [] v s e = refl
-still_none [] (y ∷ ys) v s e = absurd s
-still_none (x ∷ xs) [] v s e = absurd s
-still_none (x ∷ xs) (y ∷ ys) v s e =
-    elim (cases_Bool (is_of v x)) [
-      | inl t ↦ absurd (let f : Some x ≡ None = sym (find_by v x xs true t) ∙ e in cc)
-      | inr f ↦ find_by v y ys false (same_name v x y s.0 ∙ f) ∙ still_none xs ys v s.1 (sym (find_by v x xs false f) ∙ e)
-    ]
+still_none xs ys v s e = go (disk_of ys v) refl
+  where
+    go : (now : Option NamedDisk) → disk_of ys v ≡ now → disk_of ys v ≡ None
+    go None is = is
+    go (Some d) is =
+        let was = was_of xs ys v d s is in
+        absurd (let f : Some was.0 ≡ None = sym was.1 ∙ e in cc)
 
 written_unnamed : (grain : GrainSize) (w now : Whole) (v g : ℕ) (content : Content) (old new : List (List NamedDisk)) → IsWritten grain w v g content old new → AreUnnamed now old → AreUnnamed now new
 written_unnamed grain w now v g content old new x u i y le = still_none (disks_at old i) (disks_at new i) y (x.same i) (u i y le)
