@@ -140,7 +140,7 @@ drawings_of_tampered() {
 # Whether a file is well-formed XML, by whatever is at hand.
 is_xml() { # FILE
     if command -v xmllint >/dev/null; then
-        xmllint --noout -- "$1" 2>>"$room/err"
+        xmllint --noout "$1" 2>>"$room/err"
     else
         python3 -c 'import sys, xml.dom.minidom; xml.dom.minidom.parse(sys.argv[1])' "$1" 2>>"$room/err"
     fi
