@@ -29,26 +29,6 @@ took_some before after n out call = record {
   fits = omega (arith, length-take n out);
 }
 
-pub took_none : (before after : SourceState) (out : List ℕ) → AfterTake {E = Failed} before (Ok 0) out after → TookPiece (length out) before [] after × IsAtEnd after
-took_none before after out call = (took_some before after 0 out call, at_end before.left after.left call.taken.next (call.taken.end refl))
-  where
-    at_end : (before after : Option (List ℕ)) → before ≡ option_map (λ rest. [] ++ rest) after → IfEmpty before → IfEmpty after
-    at_end before None e none = tt
-    at_end before (Some rest) e none = subst IfEmpty e none
-
-pub took_fault : (before after : SourceState) (failed : Failed) (out : List ℕ) → AfterTake before (Err failed) out after → TookPiece (length out) before [] after × HasRisen before.faults after.faults
-took_fault before after failed out call = (
-  record {
-    gave = sym call.left ∙ nothing_more after.left;
-    once = record { answer = Err failed; out = out; call = call; piece_is = refl };
-    fits = omega arith;
-  },
-  call.faults.cause,
-)
-
-pub some_taken : (n : ℕ) (out : List ℕ) → n ≢ 0 → n ≤ length out → take n out ≢ []
-some_taken n out some fits = λ e. some (sym (length-take-le n out fits) ∙ ap length e)
-
 -- ---- so far
 
 pub taken_first : (source : SourceState) → TakenSoFar source [] source

@@ -209,10 +209,6 @@ module _ (header : Header) (history : HistoryState) (session : List ℕ) (number
 
 -- ---- what is said of them
 
-pub said_early : (header : Header) (history : HistoryState) (session : List ℕ) (number : ℕ) (old new : Answers) → number < length history.entries →
-    AnswerSoFar header history session number old → Follows false header history session number new → IsWrongAt number header history (Some session)
-said_early header history session number old new there so_far stops = inl (record { there = there; before = so_far.first; wrong = stops })
-
 pub said_whole : (header : Header) (history : HistoryState) (session : List ℕ) (count : ℕ) (answers : Answers) → count ≡ length history.entries →
     AnswerSoFar header history session count answers → HasEnd answers.places → AreAllRight count header history (Some session)
 said_whole header history session count answers all so_far end = record {

@@ -155,13 +155,3 @@ trace_more header mid new front text ours next =
           ∙ append_assoc line (concat ours.texts) text
           ∙ ap (λ (t : List ℕ). line ++ t) (ap (λ (t : List ℕ). concat ours.texts ++ t) (sym (append-nil text)) ∙ sym (concat-append ours.texts (text ∷ [])));
     }
-
--- the history of a trace is one
-pub one_trace : (h k : Header) (old new : HistoryState) (bytes : List ℕ) → IsTraceOf h old bytes → IsTraceOf k new bytes → (h ≡ k) × (old ≡ new)
-one_trace h k old new bytes ours theirs =
-    let on = goes_on h k old new bytes [] ours (subst (IsTraceOf k new) (sym (append-nil bytes)) theirs) in
-    (on.0, ends h.grain old new on.1.texts on.1.told (sym on.1.text))
-  where
-    ends : (size : GrainSize) (old new : HistoryState) (texts : List (List ℕ)) → AreNextTexts size old texts new → concat texts ≡ [] → old ≡ new
-    ends size old new [] told e = sym told
-    ends size old new (text ∷ texts) told e = absurd (text_some size old told.0 text told.1 (nothing_before text (concat texts) e))

@@ -61,10 +61,6 @@ pub one_way : (grain : GrainSize) (entries : ℕ) (ways : List Judged) (way : Ju
 one_way grain entries ways way are there = record { grain_is = are.grains way there; reached = are.reached way there }
 
 module _ (lines : Standing) (name : List ℕ) (entry : Entry) where
-  -- No way, no place.
-  pub no_ways : (ways : List Judged) (old : List Place) → ways ≡ [] → Came (OneGives (WayLeadsOn lines name entry) ways) old old
-  no_ways ways old none = none_came (OneGives (WayLeadsOn lines name entry) ways) old (λ q gives. none_there gives.0 (subst (λ (ws : List Judged). Contains ws gives.0) none gives.1))
-
   -- All ways but the last, and then that.
   pub ways_came : (ways rest left : List Judged) (last : Judged) (old mid new : List Place) → ways ≡ rest ++ last ∷ [] → left ≡ [] →
       HaveGiven (WayLeadsOn lines name entry) rest left old mid → Came (WayLeadsOn lines name entry last) mid new → Came (OneGives (WayLeadsOn lines name entry) ways) old new

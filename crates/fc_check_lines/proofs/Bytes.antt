@@ -15,7 +15,8 @@ use Rattle.fc_blocks.specs.declared.block.BlockRead.{BlockRead}
 use Rattle.fc_blocks.specs.declared.block.Taken.{Taken}
 use Rattle.fc_blocks.specs.declared.block.Taken.TheVariants.{Single as TakenSingle, Block as TakenBlock}
 use Rattle.fc_check_requests.proofs.Places.{place_is, place_none}
-use Rattle.fc_check_lines.specs.Bytes.{BeginWith, segments_in}
+use Rattle.fc_check_lines.specs.Bytes.{BeginWith, IsSegment, segments_in}
+use Rattle.fc_check_lines.specs.declared.segment.SegmentRead.{SegmentRead}
 use Rattle.fc_check_lines.specs.declared.segment.SegmentRead.TheVariants.{Single, Block}
 use Rattle.fc_entry.specs.Lines.{Lined, all_lines, last_line, line_step, lined, without_return}
 use Rattle.fc_words.specs.Lines.{line_of}
@@ -172,30 +173,11 @@ pub record SoFar (bytes rest : List ℕ) (block : Option Opened) : Type 0 where
   pub open_block : (cut lines).open_block ≡ block
   pub within : length rest ≤ length bytes
 
-pub begins_so : (bytes : List ℕ) → SoFar bytes bytes None
-begins_so bytes = record { lines = []; all = refl; none = refl; open_block = refl; within = omega arith }
-
 -- one line more
 one_more : (bytes rest behind line : List ℕ) (lines : List (List ℕ)) → all_lines bytes ≡ lines ++ all_lines rest → all_lines rest ≡ line ∷ all_lines behind →
     all_lines bytes ≡ (lines ++ line ∷ []) ++ all_lines behind
 one_more bytes rest behind line lines all first =
     all ∙ ap (λ ls. lines ++ ls) first ∙ sym (append_assoc lines (line ∷ []) (all_lines behind))
-
-pub goes_on_so :
-    (bytes rest behind line : List ℕ) (taken : Taken) (before after : Option Opened) (so : SoFar bytes rest before) →
-    all_lines rest ≡ line ∷ all_lines behind →
-    length behind < length rest →
-    (next : IsNext taken before after so.lines line) →
-    next.ended ≡ [] →
-    SoFar bytes behind after
-goes_on_so bytes rest behind line taken before after so first less next none =
-    record {
-      lines = so.lines ++ line ∷ [];
-      all = one_more bytes rest behind line so.lines so.all first;
-      none = next.segments ∙ ap (λ segs. segs ++ next.ended) so.none ∙ none;
-      open_block = next.open_block;
-      within = omega (arith, less, so.within);
-    }
 
 ends_so :
     (bytes rest behind line : List ℕ) (taken : Taken) (before after : Option Opened) (s : Segment) (so : SoFar bytes rest before) →
@@ -215,42 +197,28 @@ ends_so bytes rest behind line taken before after s so first next ended =
     ∙ cut_behind lines (all_lines behind) shut
     ∙ ap (λ segs. segs ++ segments_in behind) segments
 
-pub begins_single :
-    (bytes rest behind line : List ℕ) (taken : Taken) (read : ScriptLine) (before after : Option Opened) (so : SoFar bytes rest before) →
-    all_lines rest ≡ line ∷ all_lines behind →
-    length behind < length rest →
-    taken ≡ TakenSingle read →
-    ((lines : List (List ℕ)) → (cut lines).open_block ≡ before → IsNext taken before after lines line) →
-    BeginWith bytes (Single read) behind
-begins_single bytes rest behind line taken read before after so first less is reads =
-    let next : IsNext taken before after so.lines line = reads so.lines so.open_block in
-    let P : Taken → Type 0 = λ t. Tells t line next.ended in
-    let told : (next.ended ≡ single line ∷ []) × (read ≡ script_line (line_of Free line)) = subst P is next.told in
-    record {
-      segment = single line;
-      is_read = told.1;
-      segments = ends_so bytes rest behind line taken before after (single line) so first next told.0;
-      less = omega (arith, less, so.within);
-    }
+-- it ends one
+module _ (bytes rest behind line : List ℕ) (taken : Taken) (before after : Option Opened) (so : SoFar bytes rest before) (first : all_lines rest ≡ line ∷ all_lines behind)
+    (less : length behind < length rest) (reads : (lines : List (List ℕ)) → (cut lines).open_block ≡ before → IsNext taken before after lines line) where
+  next : IsNext taken before after so.lines line
+  next = reads so.lines so.open_block
 
-pub begins_block :
-    (bytes rest behind line : List ℕ) (taken : Taken) (block : BlockRead) (before after : Option Opened) (so : SoFar bytes rest before) →
-    all_lines rest ≡ line ∷ all_lines behind →
-    length behind < length rest →
-    taken ≡ TakenBlock block →
-    ((lines : List (List ℕ)) → (cut lines).open_block ≡ before → IsNext taken before after lines line) →
-    BeginWith bytes (Block block) behind
-begins_block bytes rest behind line taken block before after so first less is reads =
-    let next : IsNext taken before after so.lines line = reads so.lines so.open_block in
-    let P : Taken → Type 0 = λ t. Tells t line next.ended in
-    let told : next.ended ≡ together block ∷ [] = subst P is next.told in
-    record {
-      segment = together block;
-      is_read = refl;
-      segments = ends_so bytes rest behind line taken before after (together block) so first next told;
-      less = omega (arith, less, so.within);
-    }
+  begins : (s : Segment) (read : SegmentRead) → IsSegment read s → next.ended ≡ s ∷ [] → BeginWith bytes read behind
+  begins s read is ended = record {
+    segment = s;
+    is_read = is;
+    segments = ends_so bytes rest behind line taken before after s so first next ended;
+    less = omega (arith, less, so.within);
+  }
 
-pub none_so : (bytes rest : List ℕ) (block : Option Opened) → SoFar bytes rest block → rest ≡ [] → segments_in bytes ≡ []
-none_so bytes rest block so none =
-    ap (λ ls. (cut ls).segments) (so.all ∙ ap (λ r. so.lines ++ all_lines r) none ∙ append-nil so.lines) ∙ so.none
+  pub begins_single : (read : ScriptLine) → taken ≡ TakenSingle read → BeginWith bytes (Single read) behind
+  begins_single read is =
+      let P : Taken → Type 0 = λ t. Tells t line next.ended in
+      let told : (next.ended ≡ single line ∷ []) × (read ≡ script_line (line_of Free line)) = subst P is next.told in
+      begins (single line) (Single read) told.1 told.0
+
+  pub begins_block : (block : BlockRead) → taken ≡ TakenBlock block → BeginWith bytes (Block block) behind
+  begins_block block is =
+      let P : Taken → Type 0 = λ t. Tells t line next.ended in
+      let told : next.ended ≡ together block ∷ [] = subst P is next.told in
+      begins (together block) (Block block) refl told

@@ -86,29 +86,6 @@ some_fill None g e = absurd (cc e)
 some_fill (Some next) g e = λ none. absurd (cc none)
 
 module _ (grain : GrainSize) (w : Whole) where
-  with_work :
-      (work : Work) (g : GrainNo) (fill : Option GrainNo) (worth : Bool) →
-      fill_grain (cond worth (option_map {U = Work × GrainNo} (λ h. (work, h)) fill) None) ≡ Some g →
-      cond worth (option_map {U = Work × GrainNo} (λ h. (work, h)) fill) None ≡ Some (work, g)
-  with_work work g (Some h) true e =
-      let same : h ≡ g = cc e in
-      ap (λ x. Some (work, x)) same
-  with_work work g None true e = absurd (cc e)
-  with_work work g fill false e = absurd (cc e)
-
-  -- the fill of the work at hand
-  pub fill_is : (p : Passing) (work : Work) (g : GrainNo) → p.at_hand ≡ Some work → fill_grain (next_fill grain w p) ≡ Some g →
-      fill_asked (next_fill grain w p) ≡ Some (fill_of work g)
-  fill_is p work g at e =
-      let P : Option Work → Type 0 = λ o. fill_grain (fill_at_hand grain w o) ≡ Some g in
-      ap (λ o. fill_asked (fill_at_hand grain w o)) at
-      ∙ ap fill_asked (with_work work g (next_grain grain w work) (nat_le (grain_kib grain) work.credit) (subst P at e))
-
-  pub none_asked : (p : Passing) (request : Request) → fill_grain (next_fill grain w p) ≡ None → fill_asked (next_fill grain w p) ≡ Some request → ⊥
-  none_asked p request none asked =
-      let P : Option (Work × GrainNo) → Type 0 = λ fill. fill_asked fill ≡ Some request in
-      absurd (cc (subst P (no_fill (next_fill grain w p) none) asked))
-
   -- ---- without a fill
 
   abbrev WithoutFill : Reading → List Segment → Passing → Agenda → Type 0

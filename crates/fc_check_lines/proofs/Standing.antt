@@ -447,17 +447,6 @@ module _ (grain : GrainSize) (w : Whole) (actor : ℕ) (reply : Reply) where
       subst (IsLeft (FaultsAsked rest actors)) (sym is)
       (λ entry segs names by so. ap (λ rs. Faults rs actors segs) says ∙ sym (faults_behind requests actors segs (named names w) entry))
 
-  pub scripts_left :
-      (asking left : Asking) (scripts rest : List Script) →
-      ((segs : List Segment) → agenda_of asking segs ≡ Actors scripts segs) →
-      ((segs : List Segment) → agenda_of left segs ≡ Actors rest segs) →
-      rest ≡ behind_next scripts actor →
-      IsLeftBehind grain w asking actor reply left
-  scripts_left asking left scripts rest are after says = λ entry segs names by so.
-      after segs
-      ∙ ap (λ ss. Actors ss segs) (says ∙ ap (behind_next scripts) (sym by))
-      ∙ sym (ap (λ a. behind_entry grain a (named names w) entry) (are segs))
-
 -- ---- the end
 
 pub over_is : (asking : Asking) (segs : List Segment) → asking ≡ Nothing → IsOverWith asking segs → agenda_of asking segs ≡ Session []
@@ -473,12 +462,3 @@ is_over (OwnAsked requests n) segs is = absurd (cc is)
 is_over (SecondsAsked p) segs is = absurd (cc is)
 is_over (FaultsAsked requests actors) segs is = absurd (cc is)
 is_over (ActorsAsked scripts) segs is = absurd (cc is)
-
--- What waits, and was not begun, is over.
-pub over_with : (grain : GrainSize) (read : Reading) (asking : Asking) (segs : List Segment) (v : Whole) → Waits grain read (agenda_of asking segs) v → IsOverWith asking segs
-over_with grain read Nothing [] v waits = refl
-over_with grain read Nothing (s ∷ ss) v waits = absurd (cc waits.none_passes)
-over_with grain read (OwnAsked requests n) segs v waits = tt
-over_with grain read (SecondsAsked p) segs v waits = tt
-over_with grain read (FaultsAsked requests actors) segs v waits = tt
-over_with grain read (ActorsAsked scripts) segs v waits = tt

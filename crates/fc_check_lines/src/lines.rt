@@ -367,7 +367,7 @@ impl Asking {
 
 impl<'a> Lines<'a> {
     /// What the bytes of a session may bring before the first entry, by what is told then. Refused for want of
-    /// memory alone, or where background work meets a grain with a number of 2^32 or more.
+    /// memory alone.
     pub fn open<T: Told>(alloc: Global, session: &'a [u8], told: &T) -> Result<Lines<'a>, NoMemory>
         ensures { IfOk result (λ lines. LeadTo (T.grain told.now) by_grammar (Session (segments_in session.now)) (named (codes "main" ∷ []) (T.whole told.now)) []
             lines.agenda (named lines.names (T.whole told.now))) }

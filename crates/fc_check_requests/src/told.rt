@@ -38,8 +38,8 @@ pub trait Told {
         ensures count { result ≡ lanes (whole self.now) }
         ensures some { 0 < result };
 
-    /// The least grain of all lanes at which background work has something to do. Refused for want of memory,
-    /// or where a grain has a number of 2^32 or more.
+    /// The least grain of all lanes at which background work has something to do. Refused for want of memory
+    /// alone.
     fn next_grain(&self, work: &Work) -> Result<Option<GrainNo>, NoMemory>
         ensures { IfOk result (λ next. next ≡ next_grain (grain self.now) (whole self.now) work.now) };
 }
