@@ -2,20 +2,14 @@
 
 use crate::boxes::{BOX_HEIGHT, left_of};
 use crate::escaped::put_escaped;
-use crate::names::put_count;
 use crate::put_moves::{put_way, source_from};
-use crate::refused::{of_sink, of_text};
 use crate::rows::top_of;
+use crate::text::Text;
 use fc_base::ids::SlotId;
-use fc_base::outcome::Failed;
 use fc_base::request::Move;
-use fc_drawing::canvas::NotDrawn;
 use fc_drawing::chains::Chain;
 use fc_drawing::drawing::Drawing;
 use fc_drawing::sources::Source;
-use fc_entry::parts::put_text;
-use fc_io::mem_sink::MemSink;
-use fc_io::sink::Sink;
 use std::alloc::Global;
 
 /// What arrows begin with, a dot, and what they end with, a tip.
@@ -76,65 +70,53 @@ fn arrow_of(
 }
 
 /// Puts an arrow with this title; where nothing was copied it is broken.
-fn put_arrow<K: Sink>(arrow: Arrow, title: &[u8], sink: &mut K) -> Result<(), Failed> {
-    put_text(sink, b"<g role=\"img\"><title>")?;
-    put_escaped(title, sink)?;
-    put_count(sink, b"</title>\n<path d=\"M", arrow.left)?;
-    put_count(sink, b" ", arrow.from)?;
-    put_count(sink, b"V", arrow.to)?;
-    put_text(sink, b"\" stroke=\"#111\" stroke-width=\"2\"")?;
+fn put_arrow(arrow: Arrow, title: &[u8], text: &mut Text) {
+    text.add(b"<g role=\"img\"><title>");
+    put_escaped(title, text);
+    text.add_count(b"</title>\n<path d=\"M", arrow.left);
+    text.add_count(b" ", arrow.from);
+    text.add_count(b"V", arrow.to);
+    text.add(b"\" stroke=\"#111\" stroke-width=\"2\"");
     if arrow.in_place {
-        put_text(sink, b" stroke-dasharray=\"4 3\"")?;
+        text.add(b" stroke-dasharray=\"4 3\"");
     }
-    put_text(
-        sink,
-        b" marker-start=\"url(#from)\" marker-end=\"url(#to)\"/>\n</g>\n",
-    )
+    text.add(b" marker-start=\"url(#from)\" marker-end=\"url(#to)\"/>\n</g>\n");
 }
 
 /// Puts the arrow of a move, with what it moves as its title.
-fn put_move_arrow<K: Sink>(
+fn put_move_arrow(
     alloc: Global,
     drawing: Drawing<'_>,
     made: Move,
     from: Option<Source>,
     arrow: Arrow,
-    sink: &mut K,
-) -> Result<(), NotDrawn> {
-    let mut title = MemSink::new(alloc, Vec::new(alloc));
-    of_text(put_way(drawing.registry, made, from, &mut title))?;
-    of_sink(put_arrow(arrow, title.bytes(), sink))
+    text: &mut Text,
+) {
+    let mut title = Text::new(alloc);
+    put_way(drawing.registry, made, from, &mut title);
+    text.lack_as(&title);
+    put_arrow(arrow, title.bytes(), text);
 }
 
-/// Puts what arrows begin and end with, where there are any.
-fn put_marks<K: Sink>(moves: &[Move], sink: &mut K) -> Result<(), Failed> {
-    if moves.is_empty() {
-        return Ok(());
-    }
-    put_text(sink, MARKS)
-}
-
-/// Puts an arrow for each move of the entry, from the slot that it copied to its own, where the first chain has this top. Refused, a front
-/// of them was added.
-pub(crate) fn put_arrows<K: Sink>(
+/// Puts an arrow for each move of the entry, from the slot that it copied to its own, where the first chain has this top.
+pub(crate) fn put_arrows(
     alloc: Global,
     drawing: Drawing<'_>,
     chains: &[Chain],
     first_top: u64,
-    sink: &mut K,
-) -> Result<(), NotDrawn> {
+    text: &mut Text,
+) {
     let moves = drawing.entry.moves.as_slice();
-    of_sink(put_marks(moves, sink))?;
+    if moves.is_empty() {
+        return;
+    }
+    text.add(MARKS);
     for index in 0..moves.len() {
         let made = moves[index];
         let from = source_from(drawing.sources, index);
         match arrow_of(drawing, chains, made, index, from, first_top) {
-            Some(arrow) => match put_move_arrow(alloc, drawing, made, from, arrow, sink) {
-                Ok(()) => {}
-                Err(refused) => return Err(refused),
-            },
+            Some(arrow) => put_move_arrow(alloc, drawing, made, from, arrow, text),
             None => {}
         }
     }
-    Ok(())
 }

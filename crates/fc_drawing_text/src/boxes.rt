@@ -1,10 +1,7 @@
 //! Grains as boxes of an SVG.
 
-use crate::names::put_count;
-use fc_base::outcome::Failed;
+use crate::text::Text;
 use fc_drawing::slot::DrawnSlot;
-use fc_entry::parts::{put_text, put_word};
-use fc_io::sink::Sink;
 
 /// Where the grains of a slot begin, and how wide all of them are, in pixels.
 const GRAINS_LEFT: u64 = 320;
@@ -35,22 +32,16 @@ fn next_with(held: &[bool], from: usize, mark: bool) -> usize {
 }
 
 /// Puts a box over grains from one place to before another.
-fn put_box<K: Sink>(
-    first: usize,
-    end: usize,
-    grains: usize,
-    top: u64,
-    paint: &[u8],
-    sink: &mut K,
-) -> Result<(), Failed> {
+fn put_box(first: usize, end: usize, grains: usize, top: u64, paint: &[u8], text: &mut Text) {
     let left = left_of(first, grains);
     let width = left_of(end, grains).saturating_sub(left).max(1);
-    put_count(sink, b"<rect x=\"", left)?;
-    put_count(sink, b"\" y=\"", top)?;
-    put_count(sink, b"\" width=\"", width)?;
-    put_count(sink, b"\" height=\"", BOX_HEIGHT)?;
-    put_word(sink, b"\" ", paint)?;
-    put_text(sink, b"/>\n")
+    text.add_count(b"<rect x=\"", left);
+    text.add_count(b"\" y=\"", top);
+    text.add_count(b"\" width=\"", width);
+    text.add_count(b"\" height=\"", BOX_HEIGHT);
+    text.add(b"\" ");
+    text.add(paint);
+    text.add(b"/>\n");
 }
 
 /// How the grains are painted that a live or an old slot holds.
@@ -72,54 +63,42 @@ fn frame_of(is_live: bool) -> &'static [u8] {
 }
 
 /// Puts a box for each run of grains that the slot holds.
-fn put_held_boxes<K: Sink>(drawn: DrawnSlot<'_>, top: u64, sink: &mut K) -> Result<(), Failed> {
+fn put_held_boxes(drawn: DrawnSlot<'_>, top: u64, text: &mut Text) {
     let grains = drawn.held.len();
     let mut from = next_with(drawn.held, 0, true);
     for _ in 0..grains {
         if from >= grains {
-            return Ok(());
+            return;
         }
         let end = next_with(drawn.held, from, false);
-        match put_box(from, end, grains, top, paint_of(drawn.is_live), sink) {
-            Ok(()) => {}
-            Err(failed) => return Err(failed),
-        }
+        put_box(from, end, grains, top, paint_of(drawn.is_live), text);
         from = next_with(drawn.held, end, true);
     }
-    Ok(())
 }
 
 /// Puts a line between two grains.
-fn put_stroke<K: Sink>(grain: usize, grains: usize, top: u64, sink: &mut K) -> Result<(), Failed> {
-    put_count(sink, b"M", left_of(grain, grains))?;
-    put_count(sink, b" ", top)?;
-    put_count(sink, b"v", BOX_HEIGHT)
+fn put_stroke(grain: usize, grains: usize, top: u64, text: &mut Text) {
+    text.add_count(b"M", left_of(grain, grains));
+    text.add_count(b" ", top);
+    text.add_count(b"v", BOX_HEIGHT);
 }
 
 /// Puts the lines between few grains.
-fn put_strokes<K: Sink>(grains: usize, top: u64, sink: &mut K) -> Result<(), Failed> {
+fn put_strokes(grains: usize, top: u64, text: &mut Text) {
     if grains < 2 || grains > MOST_LINES {
-        return Ok(());
+        return;
     }
-    put_text(sink, b"<path d=\"")?;
+    text.add(b"<path d=\"");
     for grain in 1..grains {
-        match put_stroke(grain, grains, top, sink) {
-            Ok(()) => {}
-            Err(failed) => return Err(failed),
-        }
+        put_stroke(grain, grains, top, text);
     }
-    put_text(sink, b"\" stroke=\"#999\"/>\n")
+    text.add(b"\" stroke=\"#999\"/>\n");
 }
 
-/// Puts the grains of a slot: a frame around all of them, a filled box for those that it holds, and lines between few. Failed, a front of
-/// it was added.
-pub(crate) fn put_boxes<K: Sink>(
-    drawn: DrawnSlot<'_>,
-    top: u64,
-    sink: &mut K,
-) -> Result<(), Failed> {
+/// Puts the grains of a slot: a frame around all of them, a filled box for those that it holds, and lines between few.
+pub(crate) fn put_boxes(drawn: DrawnSlot<'_>, top: u64, text: &mut Text) {
     let grains = drawn.held.len();
-    put_held_boxes(drawn, top, sink)?;
-    put_strokes(grains, top, sink)?;
-    put_box(0, grains, grains, top, frame_of(drawn.is_live), sink)
+    put_held_boxes(drawn, top, text);
+    put_strokes(grains, top, text);
+    put_box(0, grains, grains, top, frame_of(drawn.is_live), text);
 }

@@ -1,46 +1,28 @@
 //! How volumes, slots, mappings and entries are named in a drawing.
 
+use crate::text::Text;
 use fc_base::ids::VolId;
-use fc_base::outcome::Failed;
 use fc_base::volume::Mapping;
 use fc_drawing::sources::Source;
 use fc_entry::history::History;
-use fc_entry::parts::{put_all, put_number, put_text};
 use fc_entry::request_text::put_request;
-use fc_io::sink::Sink;
 use fc_model::PlainSheet;
 use fc_registry::Registry;
-use itoa::Buffer;
 
-/// Puts a text, and a decimal number behind it.
-pub(crate) fn put_count<K: Sink>(sink: &mut K, text: &[u8], number: u64) -> Result<(), Failed> {
-    let mut digits = Buffer::new();
-    put_all(sink, &[text, digits.format(number).as_bytes()])
-}
-
-/// Puts the name of a volume; of one that is no more, its id.
-pub(crate) fn put_volume<K: Sink>(
-    registry: &Registry,
-    volume: VolId,
-    sink: &mut K,
-) -> Result<(), Failed> {
+/// Adds the name of a volume; of one that is no more, its id.
+pub(crate) fn put_volume(registry: &Registry, volume: VolId, text: &mut Text) {
     match registry.volume_with(volume) {
-        Some(found) => put_text(sink, found.name.as_bytes()),
-        None => put_number(sink, b"volume ", volume.0),
+        Some(found) => text.add(found.name.as_bytes()),
+        None => text.add_count(b"volume ", u64::from(volume.0)),
     }
 }
 
-/// Puts the name of a slot: of a live one that of its volume; of an old one that with a stroke, and the number of its birth.
-pub(crate) fn put_slot<K: Sink>(
-    registry: &Registry,
-    slot: Source,
-    sink: &mut K,
-) -> Result<(), Failed> {
-    put_volume(registry, slot.volume, sink)?;
-    if slot.is_live {
-        return Ok(());
+/// Adds the name of a slot: of a live one that of its volume; of an old one that with a stroke, and the number of its birth.
+pub(crate) fn put_slot(registry: &Registry, slot: Source, text: &mut Text) {
+    put_volume(registry, slot.volume, text);
+    if !slot.is_live {
+        text.add_count(b"'", slot.slot.0);
     }
-    put_count(sink, b"'", slot.slot.0)
 }
 
 /// Whether the slot at a place is the mapping's. It is a slot of the mapping's target, so most are told apart by their volumes.
@@ -62,16 +44,11 @@ pub(crate) fn mapping_of<'a>(
     None
 }
 
-/// Puts the number of an entry, and what was asked, if it is one of the history.
-pub(crate) fn put_asked<K: Sink>(
-    history: &History,
-    number: u64,
-    sink: &mut K,
-) -> Result<(), Failed> {
-    put_count(sink, b"entry ", number)?;
-    if number >= history.len() as u64 {
-        return Ok(());
+/// Adds the number of an entry, and what was asked, if it is one of the history.
+pub(crate) fn put_asked(history: &History, number: u64, text: &mut Text) {
+    text.add_count(b"entry ", number);
+    if number < history.len() as u64 {
+        text.add(b", ");
+        let _ = put_request(&history.entry(number as usize).request, text);
     }
-    put_text(sink, b", ")?;
-    put_request(&history.entry(number as usize).request, sink)
 }

@@ -1,13 +1,11 @@
 //! The text of moves: from whom to whom, and for whom each was owed.
 
-use crate::names::{put_count, put_slot, put_volume};
+use crate::names::{put_slot, put_volume};
+use crate::text::Text;
 use fc_base::ids::VolId;
-use fc_base::outcome::Failed;
 use fc_base::request::{Move, Request};
 use fc_drawing::sources::Source;
 use fc_entry::entry::Entry;
-use fc_entry::parts::put_text;
-use fc_io::sink::Sink;
 use fc_registry::Registry;
 
 /// Why a move was made.
@@ -44,60 +42,48 @@ fn owed_to(request: &Request, later: &[Move], from: Option<Source>) -> Owed {
 }
 
 /// Puts what a move was owed to.
-fn put_owed<K: Sink>(registry: &Registry, owed: Owed, sink: &mut K) -> Result<(), Failed> {
+fn put_owed(registry: &Registry, owed: Owed, text: &mut Text) {
     match owed {
         Owed::Write(volume) => {
-            put_text(sink, b", before the write of ")?;
-            put_volume(registry, volume, sink)
+            text.add(b", before the write of ");
+            put_volume(registry, volume, text);
         }
         Owed::Copy(volume) => {
-            put_text(sink, b", before the copy to ")?;
-            put_volume(registry, volume, sink)
+            text.add(b", before the copy to ");
+            put_volume(registry, volume, text);
         }
-        Owed::Asked => put_text(sink, b", as asked"),
+        Owed::Asked => text.add(b", as asked"),
     }
 }
 
 /// Puts a move: its grain, from whom to whom, and whether it was in place.
-pub(crate) fn put_way<K: Sink>(
-    registry: &Registry,
-    made: Move,
-    from: Option<Source>,
-    sink: &mut K,
-) -> Result<(), Failed> {
-    put_count(sink, b"move grain ", u64::from(made.grain.0))?;
+pub(crate) fn put_way(registry: &Registry, made: Move, from: Option<Source>, text: &mut Text) {
+    text.add_count(b"move grain ", u64::from(made.grain.0));
     match from {
         Some(source) => {
-            put_text(sink, b" from ")?;
-            put_slot(registry, source, sink)?;
+            text.add(b" from ");
+            put_slot(registry, source, text);
         }
         None => {}
     }
-    put_text(sink, b" to ")?;
+    text.add(b" to ");
     let to = Source {
         slot: made.slot,
         volume: made.volume,
         is_live: true,
     };
-    put_slot(registry, to, sink)?;
+    put_slot(registry, to, text);
     if made.in_place {
-        return put_text(sink, b", in place");
+        text.add(b", in place");
     }
-    Ok(())
 }
 
 /// Puts a move on a line of its own.
-fn put_move<K: Sink>(
-    registry: &Registry,
-    made: Move,
-    from: Option<Source>,
-    owed: Owed,
-    sink: &mut K,
-) -> Result<(), Failed> {
-    put_text(sink, b"  ")?;
-    put_way(registry, made, from, sink)?;
-    put_owed(registry, owed, sink)?;
-    put_text(sink, b"\n")
+fn put_move(registry: &Registry, made: Move, from: Option<Source>, owed: Owed, text: &mut Text) {
+    text.add(b"  ");
+    put_way(registry, made, from, text);
+    put_owed(registry, owed, text);
+    text.add(b"\n");
 }
 
 /// The slot from which the move with this index copied, if there is one.
@@ -109,21 +95,17 @@ pub(crate) fn source_from(sources: &[Option<Source>], index: usize) -> Option<So
     }
 }
 
-/// Puts the moves of an entry, in order; `sources` says from whom each copied. Failed, a front of it was added.
-pub(crate) fn put_moves<K: Sink>(
+/// Puts the moves of an entry, in order; `sources` says from whom each copied.
+pub(crate) fn put_moves(
     registry: &Registry,
     entry: &Entry,
     sources: &[Option<Source>],
-    sink: &mut K,
-) -> Result<(), Failed> {
+    text: &mut Text,
+) {
     let moves = entry.moves.as_slice();
     for index in 0..moves.len() {
         let from = source_from(sources, index);
         let owed = owed_to(&entry.request, &moves[index + 1..], from);
-        match put_move(registry, moves[index], from, owed, sink) {
-            Ok(()) => {}
-            Err(failed) => return Err(failed),
-        }
+        put_move(registry, moves[index], from, owed, text);
     }
-    Ok(())
 }

@@ -1,57 +1,48 @@
 //! The text of all moves by pair of volumes, and of the room that volumes take.
 
-use crate::names::{put_count, put_volume};
-use fc_base::outcome::Failed;
+use crate::names::put_volume;
+use crate::text::Text;
 use fc_base::volume::Volume;
 use fc_drawing::drawing::Sums;
 use fc_drawing::room::room_of;
 use fc_drawing::totals::PairTotal;
-use fc_entry::parts::put_text;
-use fc_io::sink::Sink;
 use fc_model::PlainSheet;
 use fc_registry::Registry;
 
 /// Puts the moves of a pair on a line of its own.
-fn put_pair<K: Sink>(registry: &Registry, pair: &PairTotal, sink: &mut K) -> Result<(), Failed> {
-    put_text(sink, b"  ")?;
+fn put_pair(registry: &Registry, pair: &PairTotal, text: &mut Text) {
+    text.add(b"  ");
     match pair.from {
         Some(from) => {
-            put_volume(registry, from, sink)?;
-            put_text(sink, b" to ")?;
+            put_volume(registry, from, text);
+            text.add(b" to ");
         }
-        None => put_text(sink, b"to ")?,
+        None => text.add(b"to "),
     }
-    put_volume(registry, pair.to, sink)?;
-    put_count(sink, b": ", pair.copied)?;
-    put_count(sink, b" copied, ", pair.in_place)?;
-    put_text(sink, b" in place\n")
+    put_volume(registry, pair.to, text);
+    text.add_count(b": ", pair.copied);
+    text.add_count(b" copied, ", pair.in_place);
+    text.add(b" in place\n");
 }
 
 /// Puts the room of a volume on a line of its own: how many of its grains one of its slots holds.
-fn put_room<K: Sink>(sheet: &PlainSheet, volume: &Volume, sink: &mut K) -> Result<(), Failed> {
-    put_text(sink, b"  ")?;
-    put_text(sink, volume.name.as_bytes())?;
+fn put_room(sheet: &PlainSheet, volume: &Volume, text: &mut Text) {
+    text.add(b"  ");
+    text.add(volume.name.as_bytes());
     let room = room_of(sheet, volume.id, volume.grains as usize);
-    put_count(sink, b": ", room as u64)?;
-    put_count(sink, b" of ", u64::from(volume.grains))?;
-    put_text(sink, b" grains\n")
+    text.add_count(b": ", room as u64);
+    text.add_count(b" of ", u64::from(volume.grains));
+    text.add(b" grains\n");
 }
 
-/// Puts all moves by pair of volumes, and how many grains each volume takes. Failed, a front of it was added.
-pub(crate) fn put_sums<K: Sink>(sums: Sums<'_>, sink: &mut K) -> Result<(), Failed> {
-    put_text(sink, b"moves\n")?;
+/// Puts all moves by pair of volumes, and how many grains each volume takes.
+pub(crate) fn put_sums(sums: Sums<'_>, text: &mut Text) {
+    text.add(b"moves\n");
     for pair in sums.totals.pairs() {
-        match put_pair(sums.registry, pair, sink) {
-            Ok(()) => {}
-            Err(failed) => return Err(failed),
-        }
+        put_pair(sums.registry, pair, text);
     }
-    put_text(sink, b"room\n")?;
+    text.add(b"room\n");
     for volume in sums.registry.all_volumes() {
-        match put_room(sums.sheet, volume, sink) {
-            Ok(()) => {}
-            Err(failed) => return Err(failed),
-        }
+        put_room(sums.sheet, volume, text);
     }
-    Ok(())
 }

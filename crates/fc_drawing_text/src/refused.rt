@@ -1,4 +1,4 @@
-//! Why a text wasn't put.
+//! Why a drawing wasn't put.
 
 use fc_base::outcome::{Failed, NoMemory};
 use fc_drawing::canvas::NotDrawn;
@@ -16,13 +16,5 @@ pub(crate) fn of_sink(put: Result<(), Failed>) -> Result<(), NotDrawn> {
     match put {
         Ok(()) => Ok(()),
         Err(_) => Err(NotDrawn::WriteFault),
-    }
-}
-
-/// What a text in memory answered, which fails for want of memory alone.
-pub(crate) fn of_text(put: Result<(), Failed>) -> Result<(), NotDrawn> {
-    match put {
-        Ok(()) => Ok(()),
-        Err(_) => Err(NotDrawn::NoMemory),
     }
 }

@@ -3,19 +3,14 @@
 use crate::boxes::put_boxes;
 use crate::escaped::put_escaped;
 use crate::held::put_share;
-use crate::names::{mapping_of, put_count, put_slot};
-use crate::refused::{of_sink, of_text};
+use crate::names::{mapping_of, put_slot};
+use crate::text::Text;
 use crate::written::{LINE_HEIGHT, Spot, put_at};
-use fc_base::outcome::Failed;
-use fc_drawing::canvas::NotDrawn;
 use fc_drawing::chains::Chain;
 use fc_drawing::drawing::Drawing;
 use fc_drawing::slot::{DrawnSlot, drawn_slot};
 use fc_drawing::sources::source_at;
-use fc_entry::parts::{put_text, put_word};
 use fc_entry::refusal_text::state_word;
-use fc_io::mem_sink::MemSink;
-use fc_io::sink::Sink;
 use std::alloc::Global;
 
 /// How high the head of a chain is, in pixels.
@@ -63,144 +58,99 @@ pub(crate) fn top_of(chains: &[Chain], place: usize, first_top: u64) -> Option<u
 }
 
 /// Puts the name of a slot, and whether it is live or old.
-fn put_name<K: Sink>(
-    drawing: Drawing<'_>,
-    place: usize,
-    drawn: DrawnSlot<'_>,
-    sink: &mut K,
-) -> Result<(), Failed> {
-    put_slot(drawing.registry, source_at(drawing.sheet, place), sink)?;
+fn put_name(drawing: Drawing<'_>, place: usize, drawn: DrawnSlot<'_>, text: &mut Text) {
+    put_slot(drawing.registry, source_at(drawing.sheet, place), text);
     if drawn.is_live {
-        put_text(sink, b", live")
+        text.add(b", live");
     } else {
-        put_text(sink, b", old")
+        text.add(b", old");
     }
 }
 
 /// Puts the mapping of a slot with its state, if it has one, and how many grains it holds.
-fn put_progress<K: Sink>(
-    drawing: Drawing<'_>,
-    place: usize,
-    drawn: DrawnSlot<'_>,
-    sink: &mut K,
-) -> Result<(), Failed> {
+fn put_progress(drawing: Drawing<'_>, place: usize, drawn: DrawnSlot<'_>, text: &mut Text) {
     match mapping_of(drawing.sheet, drawing.registry, place) {
         Some(mapping) => {
-            put_word(sink, b"by ", mapping.name.as_bytes())?;
-            put_word(sink, b", ", state_word(mapping.state))?;
-            put_text(sink, b", ")?;
+            text.add(b"by ");
+            text.add(mapping.name.as_bytes());
+            text.add(b", ");
+            text.add(state_word(mapping.state));
+            text.add(b", ");
         }
         None => {}
     }
-    put_share(drawn.held, sink)
+    put_share(drawn.held, text);
 }
 
 /// Puts a slot, with its boxes at this height: a title, its two lines of text, and its boxes.
-fn put_row<K: Sink>(
-    drawn: DrawnSlot<'_>,
-    name: &[u8],
-    progress: &[u8],
-    top: u64,
-    sink: &mut K,
-) -> Result<(), Failed> {
-    put_text(sink, b"<g role=\"img\"><title>")?;
-    put_escaped(name, sink)?;
-    put_text(sink, b", ")?;
-    put_escaped(progress, sink)?;
-    put_text(sink, b" grains</title>\n")?;
+fn put_row(drawn: DrawnSlot<'_>, name: &[u8], progress: &[u8], top: u64, text: &mut Text) {
+    text.add(b"<g role=\"img\"><title>");
+    put_escaped(name, text);
+    text.add(b", ");
+    put_escaped(progress, text);
+    text.add(b" grains</title>\n");
     let spot = Spot {
         foot: top.saturating_add(9),
         width: 290,
         fits: 40,
         style: b" font-weight=\"bold\"",
     };
-    put_at(name, spot, sink)?;
+    put_at(name, spot, text);
     let below = Spot {
         foot: top.saturating_add(9).saturating_add(LINE_HEIGHT),
         style: b"",
         ..spot
     };
-    put_at(progress, below, sink)?;
-    put_boxes(drawn, top, sink)?;
-    put_text(sink, b"</g>\n")
+    put_at(progress, below, text);
+    put_boxes(drawn, top, text);
+    text.add(b"</g>\n");
 }
 
 /// Puts the slot at a place, with its boxes at this height.
-fn put_slot_row<K: Sink>(
-    alloc: Global,
-    drawing: Drawing<'_>,
-    place: usize,
-    top: u64,
-    sink: &mut K,
-) -> Result<(), NotDrawn> {
+fn put_slot_row(alloc: Global, drawing: Drawing<'_>, place: usize, top: u64, text: &mut Text) {
     let drawn = drawn_slot(drawing.sheet, place);
-    let mut name = MemSink::new(alloc, Vec::new(alloc));
-    of_text(put_name(drawing, place, drawn, &mut name))?;
-    let mut progress = MemSink::new(alloc, Vec::new(alloc));
-    of_text(put_progress(drawing, place, drawn, &mut progress))?;
-    of_sink(put_row(drawn, name.bytes(), progress.bytes(), top, sink))
+    let mut name = Text::new(alloc);
+    put_name(drawing, place, drawn, &mut name);
+    let mut progress = Text::new(alloc);
+    put_progress(drawing, place, drawn, &mut progress);
+    text.lack_as(&name);
+    text.lack_as(&progress);
+    put_row(drawn, name.bytes(), progress.bytes(), top, text);
 }
 
 /// Puts the head of a chain: its number, as the text has it.
-fn put_head<K: Sink>(
-    drawing: Drawing<'_>,
-    chain: &Chain,
-    top: u64,
-    sink: &mut K,
-) -> Result<(), Failed> {
+fn put_head(drawing: Drawing<'_>, chain: &Chain, top: u64, text: &mut Text) {
     match chain.places().first() {
         Some(place) => {
-            put_count(
-                sink,
-                b"<text x=\"20\" y=\"",
-                top.saturating_add(LINE_HEIGHT),
-            )?;
-            put_count(
-                sink,
-                b"\" fill=\"#555\">chain ",
-                drawing.sheet.chain(*place).0,
-            )?;
-            put_text(sink, b"</text>\n")
+            text.add_count(b"<text x=\"20\" y=\"", top.saturating_add(LINE_HEIGHT));
+            text.add_count(b"\" fill=\"#555\">chain ", drawing.sheet.chain(*place).0);
+            text.add(b"</text>\n");
         }
-        None => Ok(()),
+        None => {}
     }
 }
 
 /// Puts a chain with this top: its head, and a row for each of its slots.
-fn put_chain_rows<K: Sink>(
-    alloc: Global,
-    drawing: Drawing<'_>,
-    chain: &Chain,
-    top: u64,
-    sink: &mut K,
-) -> Result<(), NotDrawn> {
-    of_sink(put_head(drawing, chain, top, sink))?;
+fn put_chain_rows(alloc: Global, drawing: Drawing<'_>, chain: &Chain, top: u64, text: &mut Text) {
+    put_head(drawing, chain, top, text);
     let places = chain.places();
     for number in 0..places.len() {
         let place = places[number];
-        match put_slot_row(alloc, drawing, place, boxes_top(top, number), sink) {
-            Ok(()) => {}
-            Err(refused) => return Err(refused),
-        }
+        put_slot_row(alloc, drawing, place, boxes_top(top, number), text);
     }
-    Ok(())
 }
 
-/// Puts chains, one below the other, the first with this top. Refused, a front of them was added.
-pub(crate) fn put_rows<K: Sink>(
+/// Puts chains, one below the other, the first with this top.
+pub(crate) fn put_rows(
     alloc: Global,
     drawing: Drawing<'_>,
     chains: &[Chain],
     first_top: u64,
-    sink: &mut K,
-) -> Result<(), NotDrawn> {
+    text: &mut Text,
+) {
     let mut top = first_top;
     for chain in chains {
-        match put_chain_rows(alloc, drawing, chain, top, sink) {
-            Ok(()) => {}
-            Err(refused) => return Err(refused),
-        }
+        put_chain_rows(alloc, drawing, chain, top, text);
         top = top.saturating_add(chain_height(chain));
     }
-    Ok(())
 }

@@ -1,10 +1,7 @@
 //! Lines of text in an SVG.
 
 use crate::escaped::put_escaped;
-use crate::names::put_count;
-use fc_base::outcome::Failed;
-use fc_entry::parts::{put_text, put_word};
-use fc_io::sink::Sink;
+use crate::text::Text;
 
 /// How far from the left text begins, in pixels.
 pub(crate) const TEXT_LEFT: u64 = 20;
@@ -13,9 +10,9 @@ pub(crate) const TEXT_LEFT: u64 = 20;
 pub(crate) const LINE_HEIGHT: u64 = 18;
 
 /// How many lines a text has: one for each line end.
-pub(crate) fn count_lines(text: &[u8]) -> u64 {
+pub(crate) fn count_lines(written: &[u8]) -> u64 {
     let mut count: u64 = 0;
-    for byte in text {
+    for byte in written {
         if *byte == b'\n' {
             count = count.saturating_add(1);
         }
@@ -24,10 +21,10 @@ pub(crate) fn count_lines(text: &[u8]) -> u64 {
 }
 
 /// The first line of a text, and what stands behind its end.
-fn split_line(text: &[u8]) -> (&[u8], &[u8]) {
-    match text.iter().position(|byte| *byte == b'\n') {
-        Some(end) => (&text[..end], &text[end + 1..]),
-        None => (text, b""),
+fn split_line(written: &[u8]) -> (&[u8], &[u8]) {
+    match written.iter().position(|byte| *byte == b'\n') {
+        Some(end) => (&written[..end], &written[end + 1..]),
+        None => (written, b""),
     }
 }
 
@@ -44,36 +41,39 @@ pub(crate) struct Spot<'a> {
     pub style: &'a [u8],
 }
 
-/// Puts what is seen of a text in a spot: all of it, narrowed where more than half of it is too much; of one that is longer than twice of
+/// Puts what is seen of a line in a spot: all of it, narrowed where more than half of it is too much; of one that is longer than twice of
 /// what fits its front, with two points behind it.
-fn put_fitting<K: Sink>(text: &[u8], spot: Spot<'_>, sink: &mut K) -> Result<(), Failed> {
-    if text.len() <= spot.fits {
-        put_text(sink, b">")?;
-        return put_escaped(text, sink);
+fn put_fitting(line: &[u8], spot: Spot<'_>, text: &mut Text) {
+    if line.len() <= spot.fits {
+        text.add(b">");
+        put_escaped(line, text);
+        return;
     }
-    put_count(sink, b" textLength=\"", spot.width)?;
-    put_text(sink, b"\" lengthAdjust=\"spacingAndGlyphs\">")?;
+    text.add_count(b" textLength=\"", spot.width);
+    text.add(b"\" lengthAdjust=\"spacingAndGlyphs\">");
     let most = spot.fits.saturating_mul(2);
-    if text.len() <= most {
-        return put_escaped(text, sink);
+    if line.len() <= most {
+        put_escaped(line, text);
+        return;
     }
-    put_escaped(&text[..most], sink)?;
-    put_text(sink, b"..")
+    put_escaped(&line[..most], text);
+    text.add(b"..");
 }
 
-/// Puts a text in a spot.
-pub(crate) fn put_at<K: Sink>(text: &[u8], spot: Spot<'_>, sink: &mut K) -> Result<(), Failed> {
-    put_count(sink, b"<text x=\"", TEXT_LEFT)?;
-    put_count(sink, b"\" y=\"", spot.foot)?;
-    put_word(sink, b"\"", spot.style)?;
-    put_fitting(text, spot, sink)?;
-    put_text(sink, b"</text>\n")
+/// Puts a line in a spot.
+pub(crate) fn put_at(line: &[u8], spot: Spot<'_>, text: &mut Text) {
+    text.add_count(b"<text x=\"", TEXT_LEFT);
+    text.add_count(b"\" y=\"", spot.foot);
+    text.add(b"\"");
+    text.add(spot.style);
+    put_fitting(line, spot, text);
+    text.add(b"</text>\n");
 }
 
-/// Puts each line of a text, one below the other, the first with its foot at this height.
-pub(crate) fn put_lines<K: Sink>(text: &[u8], foot: u64, sink: &mut K) -> Result<(), Failed> {
-    let mut rest = text;
-    for number in 0..count_lines(text) {
+/// Puts each line of what was written, one below the other, the first with its foot at this height.
+pub(crate) fn put_lines(written: &[u8], foot: u64, text: &mut Text) {
+    let mut rest = written;
+    for number in 0..count_lines(written) {
         let (line, next) = split_line(rest);
         let spot = Spot {
             foot: foot.saturating_add(number.saturating_mul(LINE_HEIGHT)),
@@ -81,11 +81,7 @@ pub(crate) fn put_lines<K: Sink>(text: &[u8], foot: u64, sink: &mut K) -> Result
             fits: 140,
             style: b"",
         };
-        match put_at(line, spot, sink) {
-            Ok(()) => {}
-            Err(failed) => return Err(failed),
-        }
+        put_at(line, spot, text);
         rest = next;
     }
-    Ok(())
 }

@@ -28,9 +28,9 @@ use std::process::ExitCode;
 /// Draws the trace of a source into a sink: as SVG, or as text.
 fn draw<S: Source, K: Sink + Drop>(alloc: Global, wanted: Wanted, source: &mut S, sink: K) -> u8 {
     if wanted.svg {
-        code_of(view(alloc, source, wanted.at, &mut SvgCanvas { sink }))
+        code_of(view(alloc, source, wanted.at, &mut SvgCanvas::new(alloc, sink)))
     } else {
-        code_of(view(alloc, source, wanted.at, &mut TextCanvas { sink }))
+        code_of(view(alloc, source, wanted.at, &mut TextCanvas::new(alloc, sink)))
     }
 }
 

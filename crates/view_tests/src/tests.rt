@@ -34,9 +34,7 @@ fn is_drawn<R: Abort>(
     seen: Seen,
     drawn: &[u8],
 ) -> Result<(), Fail> {
-    let mut canvas = TextCanvas {
-        sink: MemSink::new(alloc, Vec::new(alloc)),
-    };
+    let mut canvas = TextCanvas::new(alloc, MemSink::new(alloc, Vec::new(alloc)));
     assert_eq!(rt; view_bytes(alloc, text, at, &mut canvas), Ok(seen));
     assert_eq!(rt; canvas.sink.bytes(), drawn);
     Ok(())
@@ -146,9 +144,7 @@ fn a_line_that_begins_no_session(rt: HostRuntime) -> Result<(), Fail> {
 #[test]
 fn a_drawing_as_svg(rt: HostRuntime) -> Result<(), Fail> {
     let alloc = rt.alloc();
-    let mut canvas = SvgCanvas {
-        sink: MemSink::new(alloc, Vec::new(alloc)),
-    };
+    let mut canvas = SvgCanvas::new(alloc, MemSink::new(alloc, Vec::new(alloc)));
     assert_eq!(rt;
         view_bytes(alloc, FIRST, Some(0), &mut canvas),
         Ok(Seen::Right(3))
@@ -162,9 +158,7 @@ fn a_drawing_as_svg(rt: HostRuntime) -> Result<(), Fail> {
 #[test]
 fn a_sink_that_fails_is_told(rt: HostRuntime) -> Result<(), Fail> {
     let alloc = rt.alloc();
-    let mut canvas = TextCanvas {
-        sink: MemSink::new(alloc, vec![in alloc; 3]?),
-    };
+    let mut canvas = TextCanvas::new(alloc, MemSink::new(alloc, vec![in alloc; 3]?));
     assert_eq!(rt;
         view_bytes(alloc, FIRST, None, &mut canvas),
         Err(ViewStop::WriteFault)
