@@ -19,7 +19,7 @@ use fc_mdisk::mdisk::Mdisk;
 use std::alloc::Global;
 
 /// An access of blocks of a volume, of which some grains are left.
-#[derive(Clone, Copy, Debug)]
+#[derive(Clone, Copy)]
 pub struct Span {
     /// What is done with the blocks.
     pub access: Access,

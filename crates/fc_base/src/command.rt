@@ -5,7 +5,7 @@ use crate::name::{Name, Ref};
 use crate::size::GrainSize;
 
 /// The unit of a size.
-#[derive(Clone, Copy, Debug, PartialEq, Eq)]
+#[derive(Clone, Copy, PartialEq, Eq)]
 pub enum Unit {
     /// 1,024 bytes.
     Kb,
@@ -16,7 +16,7 @@ pub enum Unit {
 }
 
 /// How a mapping or group is stopped.
-#[derive(Clone, Copy, Debug, PartialEq, Eq)]
+#[derive(Clone, Copy, PartialEq, Eq)]
 pub enum StopWay {
     /// Other copies keep what they need.
     Plain,
@@ -148,7 +148,7 @@ pub enum Command {
 }
 
 /// What an actor of a block does.
-#[derive(Clone, Copy, Debug, PartialEq, Eq)]
+#[derive(Clone, Copy, PartialEq, Eq)]
 pub enum Role {
     /// Reads and writes.
     Host,
@@ -161,7 +161,7 @@ pub enum Role {
 }
 
 /// Where a line stands, which decides what lines there are.
-#[derive(Clone, Copy, Debug, PartialEq, Eq)]
+#[derive(Clone, Copy, PartialEq, Eq)]
 pub enum Scope {
     /// Outside a block.
     Free,

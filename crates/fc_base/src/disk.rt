@@ -1,7 +1,7 @@
 //! What is said of a disk: its kind, and why a write of it wasn't done.
 
 /// How a disk takes its memory.
-#[derive(Clone, Copy, Debug, PartialEq, Eq)]
+#[derive(Clone, Copy, PartialEq, Eq)]
 pub enum DiskKind {
     /// All its grains have their memory from the moment that it is formatted.
     Flat,

@@ -6,7 +6,7 @@ use crate::size::GrainSize;
 use crate::state::MapState;
 
 /// The kinds of objects that have ids and names.
-#[derive(Clone, Copy, Debug, PartialEq, Eq)]
+#[derive(Clone, Copy, PartialEq, Eq)]
 pub enum Kind {
     /// A volume.
     Vdisk,
@@ -17,7 +17,7 @@ pub enum Kind {
 }
 
 /// An option without which its line is refused.
-#[derive(Clone, Copy, Debug, PartialEq, Eq)]
+#[derive(Clone, Copy, PartialEq, Eq)]
 pub enum RequiredOption {
     /// `-size` of `mkvdisk`.
     Size,
@@ -30,7 +30,7 @@ pub enum RequiredOption {
 }
 
 /// A fault in the words of a line. Word numbers count from 1.
-#[derive(Clone, Copy, Debug, PartialEq, Eq)]
+#[derive(Clone, Copy, PartialEq, Eq)]
 pub enum WordFault {
     /// The first word names no line.
     UnknownCommand,
@@ -57,7 +57,7 @@ pub enum WordFault {
 }
 
 /// The value that a command refuses.
-#[derive(Clone, Copy, Debug, PartialEq, Eq)]
+#[derive(Clone, Copy, PartialEq, Eq)]
 pub enum ValueOf {
     /// The size of a volume.
     Size,

@@ -17,7 +17,7 @@ pub struct Range {
 }
 
 /// Ranges of grains, rising and never touching.
-#[derive(Debug, Drop)]
+#[derive(Drop)]
 pub struct Ranges {
     ranges: Vec<Range>,
 }

@@ -9,7 +9,7 @@ use crate::runs::Runs;
 use crate::state::MapState;
 
 /// Blocks of one grain of a volume that are read.
-#[derive(Clone, Copy, Debug, PartialEq, Eq)]
+#[derive(Clone, Copy, PartialEq, Eq)]
 pub struct ReadPart {
     /// The volume.
     pub volume: VolId,
@@ -20,7 +20,7 @@ pub struct ReadPart {
 }
 
 /// Blocks of one grain of a volume that are written with one byte.
-#[derive(Clone, Copy, Debug, PartialEq, Eq)]
+#[derive(Clone, Copy, PartialEq, Eq)]
 pub struct WritePart {
     /// The volume.
     pub volume: VolId,
@@ -33,7 +33,7 @@ pub struct WritePart {
 }
 
 /// Which grain a worker's turn takes.
-#[derive(Clone, Copy, Debug, PartialEq, Eq)]
+#[derive(Clone, Copy, PartialEq, Eq)]
 pub enum Pick {
     /// The first mapping with work in the lane, and its least grain there.
     Any,
@@ -42,7 +42,7 @@ pub enum Pick {
 }
 
 /// What moves are planned for.
-#[derive(Clone, Copy, Debug, PartialEq, Eq)]
+#[derive(Clone, Copy, PartialEq, Eq)]
 pub enum Planned {
     /// A slot gets its own copy of a grain.
     Fill { slot: SlotId, grain: GrainNo },
@@ -147,7 +147,7 @@ pub enum Effect {
 }
 
 /// Which content of a volume a failed write spoiled.
-#[derive(Clone, Copy, Debug, PartialEq, Eq)]
+#[derive(Clone, Copy, PartialEq, Eq)]
 pub enum Side {
     /// What the volume holds.
     Now,
@@ -156,7 +156,7 @@ pub enum Side {
 }
 
 /// A grain that a failed write may have left with any bytes.
-#[derive(Clone, Copy, Debug, PartialEq, Eq)]
+#[derive(Clone, Copy, PartialEq, Eq)]
 pub struct Torn {
     /// The volume.
     pub volume: VolId,
@@ -167,7 +167,7 @@ pub struct Torn {
 }
 
 /// Under whose turns an entry was made.
-#[derive(Clone, Copy, Debug, PartialEq, Eq)]
+#[derive(Clone, Copy, PartialEq, Eq)]
 pub enum Place {
     /// The turn of this lane.
     Lane(u8),

@@ -9,7 +9,7 @@ use std::alloc::Global;
 use std::marker::Model;
 
 /// So many bytes of one value.
-#[derive(Clone, Copy, Debug, PartialEq, Eq)]
+#[derive(Clone, Copy, PartialEq, Eq)]
 pub struct Run {
     /// How many, above 0.
     pub count: u32,
@@ -18,7 +18,7 @@ pub struct Run {
 }
 
 /// Bytes as runs of equal bytes: no run is empty, and no two neighbours have the same byte.
-#[derive(Debug, Drop)]
+#[derive(Drop)]
 pub struct Runs {
     runs: Vec<Run>,
 }

@@ -4,7 +4,7 @@ ghost use Rattle.std.specs.Prelude.{◌≡◌};
 ghost use Rattle.fc_base.specs.Grain.{grain_kib, grain_bytes, grain_blocks};
 
 /// The size of a grain: one for a run.
-#[derive(Clone, Copy, Debug, PartialEq, Eq)]
+#[derive(Clone, Copy, PartialEq, Eq)]
 pub enum GrainSize {
     /// 64 KiB, 128 blocks.
     K64,

@@ -47,7 +47,7 @@ pub enum MapEvent {
 }
 
 /// How hosts may reach a volume.
-#[derive(Clone, Copy, Debug, PartialEq, Eq)]
+#[derive(Clone, Copy, PartialEq, Eq)]
 pub enum Access {
     /// Reads and writes are done.
     Online,

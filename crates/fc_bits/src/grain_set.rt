@@ -16,7 +16,7 @@ use std::marker::Model;
 ///
 /// Contracts see it as the list of its truth values: the value at place `g` says whether grain `g` is in the set. The list
 /// is as long as the volume has grains, and keeps its length; `reset` alone cuts it.
-#[derive(Debug, Drop)]
+#[derive(Drop)]
 pub struct GrainSet {
     words: Vec<u64>,
     grains: u32,

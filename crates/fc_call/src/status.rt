@@ -7,7 +7,7 @@ ghost use Rattle.fc_call.specs.Codes.{code_of};
 use fc_run::ended::Ended;
 
 /// How a call ended (docs/MANUAL.md, "Statuses").
-#[derive(Clone, Copy, Debug, PartialEq, Eq)]
+#[derive(Clone, Copy, PartialEq, Eq)]
 pub enum Status {
     /// The input was read to its end and every line was answered. No block is open.
     Done,

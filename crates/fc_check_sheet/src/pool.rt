@@ -7,7 +7,7 @@ ghost use Rattle.fc_check_sheet.specs.View.{pool_of, pools_of};
 use fc_base::disk::DiskKind;
 
 /// How many disks of each kind a lane has for new volumes.
-#[derive(Clone, Copy, Debug, PartialEq, Eq)]
+#[derive(Clone, Copy, PartialEq, Eq)]
 pub struct LanePool {
     /// Disks that have all their grains.
     pub flat: u32,

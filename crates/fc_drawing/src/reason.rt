@@ -27,7 +27,7 @@ pub struct Reason<'a> {
 }
 
 /// Blocks of one grain of a volume.
-#[derive(Clone, Copy, Debug, PartialEq, Eq)]
+#[derive(Clone, Copy, PartialEq, Eq)]
 pub struct Part {
     /// The volume.
     pub volume: VolId,

@@ -11,7 +11,7 @@ use fc_model::PlainSheet;
 use std::alloc::Global;
 
 /// What names a slot.
-#[derive(Clone, Copy, Debug, PartialEq, Eq)]
+#[derive(Clone, Copy, PartialEq, Eq)]
 pub struct Source {
     /// Its birth.
     pub slot: SlotId,

@@ -9,7 +9,7 @@ use fc_entry::entry::Entry;
 use fc_registry::Registry;
 
 /// Why a move was made.
-#[derive(Clone, Copy, Debug, PartialEq, Eq)]
+#[derive(Clone, Copy, PartialEq, Eq)]
 enum Owed {
     /// A host's write of this volume was to come.
     Write(VolId),

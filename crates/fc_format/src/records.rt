@@ -16,7 +16,7 @@ use fc_image::MetaRecord;
 use std::alloc::Global;
 
 /// Which record it is.
-#[derive(Clone, Copy, Debug, PartialEq, Eq)]
+#[derive(Clone, Copy, PartialEq, Eq)]
 pub(crate) enum RecordKind {
     /// A move.
     Pair,

@@ -41,7 +41,7 @@ mkfcmap -source V2 -target V6\n\
 ";
 
 /// Draws by a number.
-#[derive(Clone, Copy, Debug, PartialEq, Eq)]
+#[derive(Clone, Copy, PartialEq, Eq)]
 struct Draws {
     state: u64,
 }

@@ -7,7 +7,7 @@ ghost use Rattle.fc_grains.specs.Kept.{AddUp};
 use fc_mdisk::mdisk::Mdisk;
 
 /// The counts of disks, added up. Each sum stands still at 2^64 - 1.
-#[derive(Clone, Copy, Debug, PartialEq, Eq)]
+#[derive(Clone, Copy, PartialEq, Eq)]
 pub(crate) struct Sums {
     pub(crate) calls: u64,
     pub(crate) faults: u64,

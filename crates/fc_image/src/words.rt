@@ -8,7 +8,7 @@ use std::alloc::Global;
 use std::marker::Model;
 
 /// A row of bits, of which bit `g mod 64` of word `g / 64` is grain `g`. Contracts see the list of the words.
-#[derive(Debug, Drop)]
+#[derive(Drop)]
 pub struct Words {
     words: Vec<u64>,
 }

@@ -70,7 +70,7 @@ impl Why {
 }
 
 /// Why the walk along a history ends before the session does.
-#[derive(Clone, Copy, Debug, PartialEq, Eq)]
+#[derive(Clone, Copy, PartialEq, Eq)]
 pub(crate) enum Halt {
     /// There are no more entries.
     Short,

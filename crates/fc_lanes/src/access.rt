@@ -18,7 +18,7 @@ use fc_mdisk::mdisk::Mdisk;
 use std::alloc::Global;
 
 /// What an access does with its blocks.
-#[derive(Clone, Copy, Debug, PartialEq, Eq)]
+#[derive(Clone, Copy, PartialEq, Eq)]
 pub enum Access {
     /// They are read.
     Read,

@@ -29,7 +29,7 @@ pub fn kib_per_second(rate: u8) -> u32
 }
 
 /// The credit of a mapping's background work, in KiB.
-#[derive(Clone, Copy, Debug, PartialEq, Eq)]
+#[derive(Clone, Copy, PartialEq, Eq)]
 pub struct Credits {
     kib: u64,
 }

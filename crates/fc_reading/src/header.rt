@@ -15,7 +15,7 @@ use fc_trace::header::{Header, LaneDisks};
 const MOST: u64 = 4_294_967_295;
 
 /// Four numbers.
-#[derive(Clone, Copy, Debug, PartialEq, Eq)]
+#[derive(Clone, Copy, PartialEq, Eq)]
 struct Four {
     first: u32,
     second: u32,

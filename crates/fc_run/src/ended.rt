@@ -1,7 +1,7 @@
 //! How a session ended.
 
 /// How a session ended. What each says of the bytes, the lines and the text is in `specs/Headline`.
-#[derive(Clone, Copy, Debug, PartialEq, Eq)]
+#[derive(Clone, Copy, PartialEq, Eq)]
 pub enum Ended {
     /// The input was read to its end, every line was answered, nothing is open, and the text was written and sent on.
     Done,

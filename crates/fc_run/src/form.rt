@@ -3,7 +3,7 @@
 use fc_trace::header::Header;
 
 /// What a session writes of its history.
-#[derive(Clone, Copy, Debug, PartialEq, Eq)]
+#[derive(Clone, Copy, PartialEq, Eq)]
 pub enum Form {
     /// All of it: each entry, and the rows of reports.
     Text,

@@ -17,7 +17,7 @@ use fc_io::sink::Sink;
 use itoa::Buffer;
 
 /// The numbers of a summary.
-#[derive(Clone, Copy, Debug, PartialEq, Eq)]
+#[derive(Clone, Copy, PartialEq, Eq)]
 struct Tally {
     /// Reads that gave bytes.
     reads: u64,

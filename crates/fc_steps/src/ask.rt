@@ -9,7 +9,7 @@ use fc_base::ids::{GrainNo, MapId};
 use fc_base::request::{Reply, Request, Torn, WritePart};
 
 /// What is asked of a lane's steps.
-#[derive(Clone, Copy, Debug, PartialEq, Eq)]
+#[derive(Clone, Copy, PartialEq, Eq)]
 pub enum Ask {
     /// A host writes blocks of one grain.
     Write(WritePart),

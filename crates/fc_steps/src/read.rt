@@ -18,7 +18,7 @@ use fc_mdisk::mdisk::Mdisk;
 use std::alloc::Global;
 
 /// How the read of a grain ended.
-#[derive(Clone, Copy, Debug, PartialEq, Eq)]
+#[derive(Clone, Copy, PartialEq, Eq)]
 pub enum GrainRead {
     /// The grain is at hand.
     Done,

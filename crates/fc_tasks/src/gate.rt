@@ -1,7 +1,7 @@
 //! A gate that may delay actors.
 
 /// When an actor comes to the gate.
-#[derive(Clone, Copy, Debug, PartialEq, Eq)]
+#[derive(Clone, Copy, PartialEq, Eq)]
 pub enum Moment {
     /// The request is done, and its turn still held.
     Inside,
@@ -16,7 +16,7 @@ pub trait Gate: Sync {
 }
 
 /// The gate that delays nobody.
-#[derive(Clone, Copy, Debug)]
+#[derive(Clone, Copy)]
 pub struct FreeGate;
 
 impl Gate for FreeGate {

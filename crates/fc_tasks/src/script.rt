@@ -10,7 +10,7 @@ use fc_base::outcome::NoMemory;
 use fc_yard::part::Part;
 
 /// What the next request of a script needs of the yard.
-#[derive(Clone, Copy, Debug, PartialEq, Eq)]
+#[derive(Clone, Copy, PartialEq, Eq)]
 pub enum Needs {
     /// The part at this place.
     Part(usize),

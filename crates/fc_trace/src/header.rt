@@ -14,7 +14,7 @@ use fc_io::sink::Sink;
 use itoa::Buffer;
 
 /// How many disks of each kind were handed in for a lane.
-#[derive(Clone, Copy, Debug, PartialEq, Eq)]
+#[derive(Clone, Copy, PartialEq, Eq)]
 pub struct LaneDisks {
     /// Disks that have all their grains.
     pub flat: u32,
@@ -23,7 +23,7 @@ pub struct LaneDisks {
 }
 
 /// What the store of a trace was made of.
-#[derive(Clone, Copy, Debug, PartialEq, Eq)]
+#[derive(Clone, Copy, PartialEq, Eq)]
 pub struct Header {
     /// The size of its grains.
     pub grain: GrainSize,

@@ -27,7 +27,7 @@ use fc_trace::header::Header;
 use std::alloc::Global;
 
 /// One entry more: it was drawn, or ends the view.
-#[derive(Clone, Copy, Debug, PartialEq, Eq)]
+#[derive(Clone, Copy, PartialEq, Eq)]
 pub enum Next {
     /// The entry is right, and was drawn where it is to be; so many bytes are its text.
     Drawn(usize),

@@ -16,7 +16,7 @@ use fc_base::size::GrainSize;
 use std::alloc::Global;
 
 /// The role of an actor, as it is written.
-#[derive(Clone, Copy, Debug, PartialEq, Eq)]
+#[derive(Clone, Copy, PartialEq, Eq)]
 pub enum RoleWord {
     /// `host`
     Host,
@@ -45,7 +45,7 @@ pub struct Settings {
 }
 
 /// The options without values so far.
-#[derive(Clone, Copy, Debug, PartialEq, Eq)]
+#[derive(Clone, Copy, PartialEq, Eq)]
 pub struct Flags {
     pub thin: bool,
     pub incremental: bool,
