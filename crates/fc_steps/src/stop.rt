@@ -3,7 +3,7 @@
 use fc_base::request::Torn;
 
 /// Why a step wasn't done.
-#[derive(Clone, Copy, Debug, PartialEq, Eq)]
+#[derive(Clone, Copy, PartialEq, Eq)]
 pub enum Stop {
     /// A call of a disk failed. A write that failed tore this grain.
     Failed(Option<Torn>),
