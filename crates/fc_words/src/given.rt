@@ -16,7 +16,7 @@ use fc_base::size::GrainSize;
 use std::alloc::Global;
 
 /// The role of an actor, as it is written.
-#[derive(Clone, Copy, PartialEq, Eq)]
+#[derive(Clone, Copy)]
 pub enum RoleWord {
     /// `host`
     Host,
@@ -45,7 +45,7 @@ pub struct Settings {
 }
 
 /// The options without values so far.
-#[derive(Clone, Copy, PartialEq, Eq)]
+#[derive(Clone, Copy)]
 pub struct Flags {
     pub thin: bool,
     pub incremental: bool,
@@ -71,13 +71,24 @@ pub struct Operands {
 }
 
 /// What the words of a line have given so far.
-#[derive(Drop)]
 pub struct Given {
     /// The option whose value is the next word.
     pub waiting: Option<Setting>,
     pub settings: Settings,
     pub flags: Flags,
     pub operands: Operands,
+}
+
+impl Drop for Given {
+    // Written out, so that a function that drops it has one call for all of it in its proof.
+    fn drop(self) {
+        let Given {
+            waiting: _,
+            settings: _,
+            flags: _,
+            operands: _,
+        } = self;
+    }
 }
 
 impl Settings {
