@@ -39,79 +39,72 @@ fn line_of_parts(
     let delim = settings.delim;
     match verb {
         Verb::MakeVolume => make_volume(settings, flags),
-        Verb::RemoveVolume => good(Command::Rmvdisk {
+        Verb::RemoveVolume => Ok(Line::Command(Command::Rmvdisk {
             volume: object_in(operands, end)?,
-        }),
+        })),
         Verb::WriteBlocks => write_blocks(operands, end),
         Verb::ReadBlocks => read_blocks(operands, end),
         Verb::ArmFault => arm_fault(operands, end),
         Verb::PassTime => pass_time(settings.seconds),
         Verb::MakeMapping => make_mapping(settings, flags),
-        Verb::PrepareMapping => good(Command::Prestartfcmap {
+        Verb::PrepareMapping => Ok(Line::Command(Command::Prestartfcmap {
             map: object_in(operands, end)?,
             restore: flags.restore,
-        }),
-        Verb::StartMapping => good(Command::Startfcmap {
+        })),
+        Verb::StartMapping => Ok(Line::Command(Command::Startfcmap {
             map: object_in(operands, end)?,
             prep: flags.prep,
             restore: flags.restore,
-        }),
-        Verb::StopMapping => good(Command::Stopfcmap {
+        })),
+        Verb::StopMapping => Ok(Line::Command(Command::Stopfcmap {
             map: object_in(operands, end)?,
             way,
-        }),
-        Verb::RemoveMapping => good(Command::Rmfcmap {
+        })),
+        Verb::RemoveMapping => Ok(Line::Command(Command::Rmfcmap {
             map: object_in(operands, end)?,
             force: flags.force,
-        }),
-        Verb::MakeGroup => good(Command::Mkfcconsistgrp {
+        })),
+        Verb::MakeGroup => Ok(Line::Command(Command::Mkfcconsistgrp {
             name: settings.name.take(),
-        }),
-        Verb::PrepareGroup => good(Command::Prestartfcconsistgrp {
+        })),
+        Verb::PrepareGroup => Ok(Line::Command(Command::Prestartfcconsistgrp {
             group: object_in(operands, end)?,
             restore: flags.restore,
-        }),
-        Verb::StartGroup => good(Command::Startfcconsistgrp {
+        })),
+        Verb::StartGroup => Ok(Line::Command(Command::Startfcconsistgrp {
             group: object_in(operands, end)?,
             prep: flags.prep,
             restore: flags.restore,
-        }),
-        Verb::StopGroup => good(Command::Stopfcconsistgrp {
+        })),
+        Verb::StopGroup => Ok(Line::Command(Command::Stopfcconsistgrp {
             group: object_in(operands, end)?,
             way,
-        }),
-        Verb::RemoveGroup => good(Command::Rmfcconsistgrp {
+        })),
+        Verb::RemoveGroup => Ok(Line::Command(Command::Rmfcconsistgrp {
             group: object_in(operands, end)?,
             force: flags.force,
-        }),
-        Verb::ListMappings => good(Command::Lsfcmap {
+        })),
+        Verb::ListMappings => Ok(Line::Command(Command::Lsfcmap {
             map: operands.object.take(),
             delim,
-        }),
-        Verb::ListGroups => good(Command::Lsfcconsistgrp {
+        })),
+        Verb::ListGroups => Ok(Line::Command(Command::Lsfcconsistgrp {
             group: operands.object.take(),
             delim,
-        }),
-        Verb::ListVolumes => good(Command::Lsvdisk { delim }),
-        Verb::ShowProgress => good(Command::Lsfcmapprogress {
+        })),
+        Verb::ListVolumes => Ok(Line::Command(Command::Lsvdisk { delim })),
+        Verb::ShowProgress => Ok(Line::Command(Command::Lsfcmapprogress {
             map: object_in(operands, end)?,
             delim,
-        }),
-        Verb::ListDependents => good(Command::Lsfcmapdependentmaps {
+        })),
+        Verb::ListDependents => Ok(Line::Command(Command::Lsfcmapdependentmaps {
             map: object_in(operands, end)?,
             delim,
-        }),
+        })),
         Verb::BeginBlock => Ok(Line::Together),
         Verb::BeginActor => begin_actor(operands, end),
         Verb::EndBlock => Ok(Line::End),
     }
-}
-
-/// A good line of a command.
-fn good(command: Command) -> Result<Line, WordFault>
-    ensures { result ≡ good command }
-{
-    Ok(Line::Command(command))
 }
 
 /// The volume, mapping or group that is given.
@@ -128,12 +121,12 @@ fn make_volume(settings: &mut Settings, flags: Flags) -> Result<Line, WordFault>
     let Some(size) = settings.size else {
         return Err(WordFault::MissingOption(RequiredOption::Size));
     };
-    good(Command::Mkvdisk {
+    Ok(Line::Command(Command::Mkvdisk {
         name: settings.name.take(),
         size,
         unit: settings.unit,
         thin: flags.thin,
-    })
+    }))
 }
 
 /// `write`
@@ -141,12 +134,12 @@ fn write_blocks(operands: &mut Operands, end: u32) -> Result<Line, WordFault>
     ensures { result ≡ complete Verb.WriteBlocks end no_settings no_flags operands.old }
 {
     match (operands.block, operands.count, operands.byte) {
-        (Some(block), Some(count), Some(byte)) => good(Command::Write {
+        (Some(block), Some(count), Some(byte)) => Ok(Line::Command(Command::Write {
             volume: object_in(operands, end)?,
             block,
             count,
             byte,
-        }),
+        })),
         _ => Err(WordFault::MissingWord(end)),
     }
 }
@@ -156,11 +149,11 @@ fn read_blocks(operands: &mut Operands, end: u32) -> Result<Line, WordFault>
     ensures { result ≡ complete Verb.ReadBlocks end no_settings no_flags operands.old }
 {
     match (operands.block, operands.count) {
-        (Some(block), Some(count)) => good(Command::Read {
+        (Some(block), Some(count)) => Ok(Line::Command(Command::Read {
             volume: object_in(operands, end)?,
             block,
             count,
-        }),
+        })),
         _ => Err(WordFault::MissingWord(end)),
     }
 }
@@ -170,11 +163,11 @@ fn arm_fault(operands: &mut Operands, end: u32) -> Result<Line, WordFault>
     ensures { result ≡ complete Verb.ArmFault end no_settings no_flags operands.old }
 {
     match (operands.grain, operands.calls) {
-        (Some(grain), Some(calls)) => good(Command::Armfault {
+        (Some(grain), Some(calls)) => Ok(Line::Command(Command::Armfault {
             volume: object_in(operands, end)?,
             grain,
             calls,
-        }),
+        })),
         _ => Err(WordFault::MissingWord(end)),
     }
 }
@@ -184,7 +177,7 @@ fn pass_time(seconds: Option<u32>) -> Result<Line, WordFault>
     ensures { result ≡ need seconds (WordFault.MissingOption RequiredOption.Seconds) (λ seconds. good (Command.Advance seconds)) }
 {
     match seconds {
-        Some(seconds) => good(Command::Advance { seconds }),
+        Some(seconds) => Ok(Line::Command(Command::Advance { seconds })),
         None => Err(WordFault::MissingOption(RequiredOption::Seconds)),
     }
 }
@@ -199,7 +192,7 @@ fn make_mapping(settings: &mut Settings, flags: Flags) -> Result<Line, WordFault
     let Some(target) = settings.target.take() else {
         return Err(WordFault::MissingOption(RequiredOption::Target));
     };
-    good(Command::Mkfcmap {
+    Ok(Line::Command(Command::Mkfcmap {
         source,
         target,
         name: settings.name.take(),
@@ -209,7 +202,7 @@ fn make_mapping(settings: &mut Settings, flags: Flags) -> Result<Line, WordFault
         grain_size: settings.grain_size,
         incremental: flags.incremental,
         autodelete: flags.autodelete,
-    })
+    }))
 }
 
 /// The role of an actor, with its turns.
