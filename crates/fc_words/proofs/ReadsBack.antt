@@ -1,7 +1,7 @@
 -- The words of a canonical line, read from the left, give the command.
-use Rattle.std.proofs.Common.{◌≡◌, ℕ, ◌+◌, ◌≤◌, Bool, true, false, List, [], ◌∷◌, ◌++◌, length, Option, Some, None, Ok, IfSome, refl, sym, subst, arith}
+use Rattle.std.proofs.Common.{◌≡◌, ℕ, ◌+◌, ◌≤◌, Bool, true, false, List, [], ◌∷◌, ◌++◌, length, Some, None, Ok, refl, sym, subst, arith}
 use Rattle.std.specs.List.{list_all, find}
-use Rattle.fc_base.specs.CommandText.{given_words, flag_words}
+use Rattle.fc_base.specs.CommandText.{flag_words}
 use Rattle.fc_base.specs.declared.command.Command.{Command}
 use Rattle.fc_base.specs.declared.command.Line.TheVariants.{Command as OfCommand}
 use Rattle.fc_words.specs.declared.given.Flags.{Flags}

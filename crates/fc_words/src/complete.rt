@@ -1,322 +1,232 @@
 //! The line that its words make, once all are read.
 
-ghost use Rattle.std.specs.Prelude.{◌≡◌, MatchOption, Ok, Err};
-ghost use Rattle.fc_words.specs.Lines.{complete, good, role_line, stop_way};
+ghost use Rattle.std.specs.Prelude.{◌≡◌, IfErr, Ok};
+ghost use Rattle.std.specs.Option.{ok_or};
+ghost use Rattle.fc_words.specs.Given.{no_settings, no_flags, no_operands};
+ghost use Rattle.fc_words.specs.Lines.{complete, good, need, then_read, stop_way};
 
 use crate::given::{Flags, Given, Operands, RoleWord, Settings};
 use crate::grammar::Verb;
 use fc_base::command::{Command, Line, Role, StopWay};
 use fc_base::fault::{RequiredOption, WordFault};
-use fc_base::name::{Name, Ref};
+use fc_base::name::Ref;
 
 /// The line of all words. `end` is the number of words plus 1.
 pub fn complete(verb: Verb, end: u32, given: Given) -> Result<Line, WordFault>
     ensures { result ≡ complete verb end given.settings given.flags given.operands }
 {
-    let flags = given.flags;
-    let way = stop_way_of(flags);
-    let delim = given.settings.delim;
-    match verb {
-        Verb::MakeVolume => make_volume(given),
-        Verb::RemoveVolume => of_object(given, end, |volume| Command::Rmvdisk { volume }),
-        Verb::WriteBlocks => write_blocks(given, end),
-        Verb::ReadBlocks => read_blocks(given, end),
-        Verb::ArmFault => arm_fault(given, end),
-        Verb::PassTime => pass_time(given),
-        Verb::MakeMapping => make_mapping(given),
-        Verb::PrepareMapping => of_object(
-            given,
-            end,
-            |map| Command::Prestartfcmap {
-                map,
-                restore: flags.restore,
-            },
-        ),
-        Verb::StartMapping => of_object(
-            given,
-            end,
-            |map| Command::Startfcmap {
-                map,
-                prep: flags.prep,
-                restore: flags.restore,
-            },
-        ),
-        Verb::StopMapping => of_object(given, end, |map| Command::Stopfcmap { map, way }),
-        Verb::RemoveMapping => of_object(
-            given,
-            end,
-            |map| Command::Rmfcmap {
-                map,
-                force: flags.force,
-            },
-        ),
-        Verb::MakeGroup => good(Command::Mkfcconsistgrp {
-            name: name_in(given),
-        }),
-        Verb::PrepareGroup => of_object(
-            given,
-            end,
-            |group| Command::Prestartfcconsistgrp {
-                group,
-                restore: flags.restore,
-            },
-        ),
-        Verb::StartGroup => of_object(
-            given,
-            end,
-            |group| Command::Startfcconsistgrp {
-                group,
-                prep: flags.prep,
-                restore: flags.restore,
-            },
-        ),
-        Verb::StopGroup => of_object(given, end, |group| Command::Stopfcconsistgrp { group, way }),
-        Verb::RemoveGroup => of_object(
-            given,
-            end,
-            |group| Command::Rmfcconsistgrp {
-                group,
-                force: flags.force,
-            },
-        ),
-        Verb::ListMappings => good(Command::Lsfcmap {
-            map: object_in(given),
-            delim,
-        }),
-        Verb::ListGroups => good(Command::Lsfcconsistgrp {
-            group: object_in(given),
-            delim,
-        }),
-        Verb::ListVolumes => alone(given, Line::Command(Command::Lsvdisk { delim })),
-        Verb::ShowProgress => of_object(given, end, |map| Command::Lsfcmapprogress { map, delim }),
-        Verb::ListDependents => of_object(
-            given,
-            end,
-            |map| Command::Lsfcmapdependentmaps { map, delim },
-        ),
-        Verb::BeginBlock => alone(given, Line::Together),
-        Verb::BeginActor => begin_actor(given, end),
-        Verb::EndBlock => alone(given, Line::End),
-    }
+    let mut given = given;
+    line_of_parts(
+        verb,
+        end,
+        given.flags,
+        &mut given.settings,
+        &mut given.operands,
+    )
 }
 
-/// A line that takes nothing of what is given.
-fn alone(_given: Given, line: Line) -> Result<Line, WordFault>
-    ensures { result ≡ Ok line }
-{
-    Ok(line)
-}
-
-/// The object that is given.
-fn object_in(given: Given) -> Option<Ref>
-    ensures { result ≡ given.operands.object }
-{
-    let Given { operands, .. } = given;
-    let Operands { object, .. } = operands;
-    object
-}
-
-/// The name that is given.
-fn name_in(given: Given) -> Option<Name>
-    ensures { result ≡ given.settings.name }
-{
-    let Given { settings, .. } = given;
-    let Settings { name, .. } = settings;
-    name
-}
-
-/// A good line of a command.
-fn good(command: Command) -> Result<Line, WordFault>
-    ensures { result ≡ good command }
-{
-    Ok(Line::Command(command))
-}
-
-/// The line of a command on one volume, mapping or group.
-fn of_object<F: FnOnce(Ref) -> Command>(
-    given: Given,
+/// The line of all words, made of the parts of what they gave.
+fn line_of_parts(
+    verb: Verb,
     end: u32,
-    command: F,
+    flags: Flags,
+    settings: &mut Settings,
+    operands: &mut Operands,
 ) -> Result<Line, WordFault>
-    requires { F.IsAlwaysCallable command }
-    ensures { MatchOption given.operands.object (result ≡ Err (WordFault.MissingWord end)) (λ object. (made : _) × F.post command object made × (result ≡ good made)) }
+    ensures { result ≡ complete verb end settings.old flags operands.old }
 {
-    match object_in(given) {
-        Some(object) => good(command(object)),
-        None => Err(WordFault::MissingWord(end)),
+    let way = stop_way_of(flags);
+    let delim = settings.delim;
+    match verb {
+        Verb::MakeVolume => make_volume(settings, flags),
+        Verb::RemoveVolume => Ok(Line::Command(Command::Rmvdisk {
+            volume: object_in(operands, end)?,
+        })),
+        Verb::WriteBlocks => write_blocks(operands, end),
+        Verb::ReadBlocks => read_blocks(operands, end),
+        Verb::ArmFault => arm_fault(operands, end),
+        Verb::PassTime => pass_time(settings.seconds),
+        Verb::MakeMapping => make_mapping(settings, flags),
+        Verb::PrepareMapping => Ok(Line::Command(Command::Prestartfcmap {
+            map: object_in(operands, end)?,
+            restore: flags.restore,
+        })),
+        Verb::StartMapping => Ok(Line::Command(Command::Startfcmap {
+            map: object_in(operands, end)?,
+            prep: flags.prep,
+            restore: flags.restore,
+        })),
+        Verb::StopMapping => Ok(Line::Command(Command::Stopfcmap {
+            map: object_in(operands, end)?,
+            way,
+        })),
+        Verb::RemoveMapping => Ok(Line::Command(Command::Rmfcmap {
+            map: object_in(operands, end)?,
+            force: flags.force,
+        })),
+        Verb::MakeGroup => Ok(Line::Command(Command::Mkfcconsistgrp {
+            name: settings.name.take(),
+        })),
+        Verb::PrepareGroup => Ok(Line::Command(Command::Prestartfcconsistgrp {
+            group: object_in(operands, end)?,
+            restore: flags.restore,
+        })),
+        Verb::StartGroup => Ok(Line::Command(Command::Startfcconsistgrp {
+            group: object_in(operands, end)?,
+            prep: flags.prep,
+            restore: flags.restore,
+        })),
+        Verb::StopGroup => Ok(Line::Command(Command::Stopfcconsistgrp {
+            group: object_in(operands, end)?,
+            way,
+        })),
+        Verb::RemoveGroup => Ok(Line::Command(Command::Rmfcconsistgrp {
+            group: object_in(operands, end)?,
+            force: flags.force,
+        })),
+        Verb::ListMappings => Ok(Line::Command(Command::Lsfcmap {
+            map: operands.object.take(),
+            delim,
+        })),
+        Verb::ListGroups => Ok(Line::Command(Command::Lsfcconsistgrp {
+            group: operands.object.take(),
+            delim,
+        })),
+        Verb::ListVolumes => Ok(Line::Command(Command::Lsvdisk { delim })),
+        Verb::ShowProgress => Ok(Line::Command(Command::Lsfcmapprogress {
+            map: object_in(operands, end)?,
+            delim,
+        })),
+        Verb::ListDependents => Ok(Line::Command(Command::Lsfcmapdependentmaps {
+            map: object_in(operands, end)?,
+            delim,
+        })),
+        Verb::BeginBlock => Ok(Line::Together),
+        Verb::BeginActor => begin_actor(operands, end),
+        Verb::EndBlock => Ok(Line::End),
     }
+}
+
+/// The volume, mapping or group that is given.
+fn object_in(operands: &mut Operands, end: u32) -> Result<Ref, WordFault>
+    ensures { result ≡ ok_or operands.old.object (WordFault.MissingWord end) }
+{
+    operands.object.take().ok_or(WordFault::MissingWord(end))
 }
 
 /// `mkvdisk`
-fn make_volume(given: Given) -> Result<Line, WordFault>
-    ensures { result ≡ complete Verb.MakeVolume 0 given.settings given.flags given.operands }
+fn make_volume(settings: &mut Settings, flags: Flags) -> Result<Line, WordFault>
+    ensures { result ≡ complete Verb.MakeVolume 0 settings.old flags no_operands }
 {
-    let Given {
-        settings,
-        flags,
-        ..
-    } = given;
-    let Settings {
-        name,
+    let Some(size) = settings.size else {
+        return Err(WordFault::MissingOption(RequiredOption::Size));
+    };
+    Ok(Line::Command(Command::Mkvdisk {
+        name: settings.name.take(),
         size,
-        unit,
-        ..
-    } = settings;
-    match size {
-        Some(size) => good(Command::Mkvdisk {
-            name,
-            size,
-            unit,
-            thin: flags.thin,
-        }),
-        None => Err(WordFault::MissingOption(RequiredOption::Size)),
-    }
+        unit: settings.unit,
+        thin: flags.thin,
+    }))
 }
 
 /// `write`
-fn write_blocks(given: Given, end: u32) -> Result<Line, WordFault>
-    ensures { result ≡ complete Verb.WriteBlocks end given.settings given.flags given.operands }
+fn write_blocks(operands: &mut Operands, end: u32) -> Result<Line, WordFault>
+    ensures { result ≡ complete Verb.WriteBlocks end no_settings no_flags operands.old }
 {
-    let Given { operands, .. } = given;
-    let Operands {
-        object,
-        block,
-        count,
-        byte,
-        ..
-    } = operands;
-    match (object, block, count, byte) {
-        (Some(volume), Some(block), Some(count), Some(byte)) => {
-            good(Command::Write {
-                volume,
-                block,
-                count,
-                byte,
-            })
-        }
+    match (operands.block, operands.count, operands.byte) {
+        (Some(block), Some(count), Some(byte)) => Ok(Line::Command(Command::Write {
+            volume: object_in(operands, end)?,
+            block,
+            count,
+            byte,
+        })),
         _ => Err(WordFault::MissingWord(end)),
     }
 }
 
 /// `read`
-fn read_blocks(given: Given, end: u32) -> Result<Line, WordFault>
-    ensures { result ≡ complete Verb.ReadBlocks end given.settings given.flags given.operands }
+fn read_blocks(operands: &mut Operands, end: u32) -> Result<Line, WordFault>
+    ensures { result ≡ complete Verb.ReadBlocks end no_settings no_flags operands.old }
 {
-    let Given { operands, .. } = given;
-    let Operands {
-        object,
-        block,
-        count,
-        ..
-    } = operands;
-    match (object, block, count) {
-        (Some(volume), Some(block), Some(count)) => good(Command::Read {
-            volume,
+    match (operands.block, operands.count) {
+        (Some(block), Some(count)) => Ok(Line::Command(Command::Read {
+            volume: object_in(operands, end)?,
             block,
             count,
-        }),
+        })),
         _ => Err(WordFault::MissingWord(end)),
     }
 }
 
 /// `armfault`
-fn arm_fault(given: Given, end: u32) -> Result<Line, WordFault>
-    ensures { result ≡ complete Verb.ArmFault end given.settings given.flags given.operands }
+fn arm_fault(operands: &mut Operands, end: u32) -> Result<Line, WordFault>
+    ensures { result ≡ complete Verb.ArmFault end no_settings no_flags operands.old }
 {
-    let Given { operands, .. } = given;
-    let Operands {
-        object,
-        grain,
-        calls,
-        ..
-    } = operands;
-    match (object, grain, calls) {
-        (Some(volume), Some(grain), Some(calls)) => good(Command::Armfault {
-            volume,
+    match (operands.grain, operands.calls) {
+        (Some(grain), Some(calls)) => Ok(Line::Command(Command::Armfault {
+            volume: object_in(operands, end)?,
             grain,
             calls,
-        }),
+        })),
         _ => Err(WordFault::MissingWord(end)),
     }
 }
 
 /// `advance`
-fn pass_time(given: Given) -> Result<Line, WordFault>
-    ensures { result ≡ complete Verb.PassTime 0 given.settings given.flags given.operands }
+fn pass_time(seconds: Option<u32>) -> Result<Line, WordFault>
+    ensures { result ≡ need seconds (WordFault.MissingOption RequiredOption.Seconds) (λ seconds. good (Command.Advance seconds)) }
 {
-    match given.settings.seconds {
-        Some(seconds) => good(Command::Advance { seconds }),
+    match seconds {
+        Some(seconds) => Ok(Line::Command(Command::Advance { seconds })),
         None => Err(WordFault::MissingOption(RequiredOption::Seconds)),
     }
 }
 
 /// `mkfcmap`
-fn make_mapping(given: Given) -> Result<Line, WordFault>
-    ensures { result ≡ complete Verb.MakeMapping 0 given.settings given.flags given.operands }
+fn make_mapping(settings: &mut Settings, flags: Flags) -> Result<Line, WordFault>
+    ensures { result ≡ complete Verb.MakeMapping 0 settings.old flags no_operands }
 {
-    let Given {
-        settings,
-        flags,
-        ..
-    } = given;
-    let Settings {
-        name,
-        source,
-        target,
-        group,
-        copy_rate,
-        clean_rate,
-        grain_size,
-        ..
-    } = settings;
-    let Some(source) = source else {
+    let Some(source) = settings.source.take() else {
         return Err(WordFault::MissingOption(RequiredOption::Source));
     };
-    let Some(target) = target else {
+    let Some(target) = settings.target.take() else {
         return Err(WordFault::MissingOption(RequiredOption::Target));
     };
-    good(Command::Mkfcmap {
+    Ok(Line::Command(Command::Mkfcmap {
         source,
         target,
-        name,
-        group,
-        copy_rate,
-        clean_rate,
-        grain_size,
+        name: settings.name.take(),
+        group: settings.group.take(),
+        copy_rate: settings.copy_rate,
+        clean_rate: settings.clean_rate,
+        grain_size: settings.grain_size,
         incremental: flags.incremental,
         autodelete: flags.autodelete,
-    })
+    }))
+}
+
+/// The role of an actor, with its turns.
+fn role_in(operands: &Operands, end: u32) -> Result<Role, WordFault>
+    ensures fault { IfErr result (λ fault. fault ≡ WordFault.MissingWord end) }
+    ensures line { complete Verb.BeginActor end no_settings no_flags operands.now ≡ need operands.now.actor (WordFault.MissingWord end) (λ name. then_read result (λ role. Ok (Line.Actor name role))) }
+{
+    match (operands.role, operands.turns) {
+        (Some(RoleWord::Host), _) => Ok(Role::Host),
+        (Some(RoleWord::Admin), _) => Ok(Role::Admin),
+        (Some(RoleWord::Copier), Some(turns)) => Ok(Role::Copier(turns)),
+        (Some(RoleWord::Cleaner), Some(turns)) => Ok(Role::Cleaner(turns)),
+        _ => Err(WordFault::MissingWord(end)),
+    }
 }
 
 /// `actor`
-fn begin_actor(given: Given, end: u32) -> Result<Line, WordFault>
-    ensures { result ≡ complete Verb.BeginActor end given.settings given.flags given.operands }
+fn begin_actor(operands: &mut Operands, end: u32) -> Result<Line, WordFault>
+    ensures { result ≡ complete Verb.BeginActor end no_settings no_flags operands.old }
 {
-    let Given { operands, .. } = given;
-    let Operands {
-        actor,
-        role,
-        turns,
-        ..
-    } = operands;
-    match (actor, role, turns) {
-        (Some(name), Some(RoleWord::Host), _) => Ok(Line::Actor {
-            name,
-            role: Role::Host,
-        }),
-        (Some(name), Some(RoleWord::Admin), _) => Ok(Line::Actor {
-            name,
-            role: Role::Admin,
-        }),
-        (Some(name), Some(RoleWord::Copier), Some(turns)) => Ok(Line::Actor {
-            name,
-            role: Role::Copier(turns),
-        }),
-        (Some(name), Some(RoleWord::Cleaner), Some(turns)) => Ok(Line::Actor {
-            name,
-            role: Role::Cleaner(turns),
-        }),
-        _ => Err(WordFault::MissingWord(end)),
+    let role = role_in(operands, end)?;
+    match operands.actor.take() {
+        Some(name) => Ok(Line::Actor { name, role }),
+        None => Err(WordFault::MissingWord(end)),
     }
 }
 

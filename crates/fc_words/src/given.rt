@@ -1,7 +1,8 @@
 //! What the words of a line have given so far.
 
-ghost use Rattle.std.specs.Prelude.{◌≡◌};
+ghost use Rattle.std.specs.Prelude.{◌≡◌, MatchResult, IsOk, Some, Err};
 ghost use Rattle.fc_words.specs.Answers.{Leaves};
+ghost use Rattle.fc_words.specs.Values.{on_read};
 ghost use Rattle.fc_words.specs.Given.{no_settings, no_flags, no_operands, nothing_given, set, is_set, raise, is_raised, is_given, is_wanted, take};
 
 use crate::grammar::{Flag, LineOption, Operand, Setting};
@@ -11,12 +12,13 @@ use crate::values::{
     read_turns, read_unit,
 };
 use fc_base::command::Unit;
+use fc_base::fault::WordFault;
 use fc_base::name::{Name, Ref};
 use fc_base::size::GrainSize;
 use std::alloc::Global;
 
 /// The role of an actor, as it is written.
-#[derive(Clone, Copy, PartialEq, Eq)]
+#[derive(Clone, Copy)]
 pub enum RoleWord {
     /// `host`
     Host,
@@ -45,7 +47,7 @@ pub struct Settings {
 }
 
 /// The options without values so far.
-#[derive(Clone, Copy, PartialEq, Eq)]
+#[derive(Clone, Copy)]
 pub struct Flags {
     pub thin: bool,
     pub incremental: bool,
@@ -71,13 +73,43 @@ pub struct Operands {
 }
 
 /// What the words of a line have given so far.
-#[derive(Drop)]
 pub struct Given {
     /// The option whose value is the next word.
     pub waiting: Option<Setting>,
     pub settings: Settings,
     pub flags: Flags,
     pub operands: Operands,
+}
+
+impl Drop for Given {
+    // Written out, so that a function that drops it has one call for all of it in its proof.
+    fn drop(self) {
+        let Given {
+            waiting: _,
+            settings: _,
+            flags: _,
+            operands: _,
+        } = self;
+    }
+}
+
+/// Puts a value that was read in its place.
+fn put<T: Drop>(place: &mut Option<T>, read: Result<T, WordFault>) -> Result<(), WordRefused>
+    ensures { Leaves result place.new (on_read Some read) }
+{
+    *place = Some(read?);
+    Ok(())
+}
+
+/// Puts a name or an object that was read in its place.
+fn put_object<T: Drop>(
+    place: &mut Option<T>,
+    read: Result<T, WordRefused>,
+) -> Result<(), WordRefused>
+    ensures { MatchResult read (λ value. IsOk result × (place.new ≡ Some value)) (λ refused. result ≡ Err refused) }
+{
+    *place = Some(read?);
+    Ok(())
 }
 
 impl Settings {
@@ -130,19 +162,18 @@ impl Settings {
         ensures { Leaves result self.new (set setting at word.now self.old) }
     {
         match setting {
-            Setting::Name => self.name = Some(read_name(alloc, word, at)?),
-            Setting::Size => self.size = Some(read_number(word, at)?),
-            Setting::Unit => self.unit = Some(read_unit(word, at)?),
-            Setting::Source => self.source = Some(read_ref(alloc, word, at)?),
-            Setting::Target => self.target = Some(read_ref(alloc, word, at)?),
-            Setting::Group => self.group = Some(read_ref(alloc, word, at)?),
-            Setting::CopyRate => self.copy_rate = Some(read_number(word, at)?),
-            Setting::CleanRate => self.clean_rate = Some(read_number(word, at)?),
-            Setting::GrainSize => self.grain_size = Some(read_grain_size(word, at)?),
-            Setting::Seconds => self.seconds = Some(read_number(word, at)?),
-            Setting::Delim => self.delim = Some(read_delim(word, at)?),
+            Setting::Name => put_object(&mut self.name, read_name(alloc, word, at)),
+            Setting::Size => put(&mut self.size, read_number(word, at)),
+            Setting::Unit => put(&mut self.unit, read_unit(word, at)),
+            Setting::Source => put_object(&mut self.source, read_ref(alloc, word, at)),
+            Setting::Target => put_object(&mut self.target, read_ref(alloc, word, at)),
+            Setting::Group => put_object(&mut self.group, read_ref(alloc, word, at)),
+            Setting::CopyRate => put(&mut self.copy_rate, read_number(word, at)),
+            Setting::CleanRate => put(&mut self.clean_rate, read_number(word, at)),
+            Setting::GrainSize => put(&mut self.grain_size, read_grain_size(word, at)),
+            Setting::Seconds => put(&mut self.seconds, read_number(word, at)),
+            Setting::Delim => put(&mut self.delim, read_delim(word, at)),
         }
-        Ok(())
     }
 }
 
@@ -241,17 +272,16 @@ impl Operands {
         ensures { Leaves result self.new (take operand at word.now self.old) }
     {
         match operand {
-            Operand::Object => self.object = Some(read_ref(alloc, word, at)?),
-            Operand::Block => self.block = Some(read_number(word, at)?),
-            Operand::Count => self.count = Some(read_number(word, at)?),
-            Operand::Byte => self.byte = Some(read_byte(word, at)?),
-            Operand::Grain => self.grain = Some(read_number(word, at)?),
-            Operand::Calls => self.calls = Some(read_number(word, at)?),
-            Operand::Actor => self.actor = Some(read_name(alloc, word, at)?),
-            Operand::Role => self.role = Some(read_role(word, at)?),
-            Operand::Turns => self.turns = Some(read_turns(word, at)?),
+            Operand::Object => put_object(&mut self.object, read_ref(alloc, word, at)),
+            Operand::Block => put(&mut self.block, read_number(word, at)),
+            Operand::Count => put(&mut self.count, read_number(word, at)),
+            Operand::Byte => put(&mut self.byte, read_byte(word, at)),
+            Operand::Grain => put(&mut self.grain, read_number(word, at)),
+            Operand::Calls => put(&mut self.calls, read_number(word, at)),
+            Operand::Actor => put_object(&mut self.actor, read_name(alloc, word, at)),
+            Operand::Role => put(&mut self.role, read_role(word, at)),
+            Operand::Turns => put(&mut self.turns, read_turns(word, at)),
         }
-        Ok(())
     }
 }
 

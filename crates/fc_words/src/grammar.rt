@@ -6,7 +6,7 @@ ghost use Rattle.fc_words.specs.Grammar.{all_verbs, verb_spelling, verb_of, fami
 use fc_base::command::Scope;
 
 /// What a line does, told by its first word.
-#[derive(Clone, Copy, PartialEq, Eq)]
+#[derive(Clone, Copy)]
 pub enum Verb {
     /// `mkvdisk`
     MakeVolume,
@@ -72,7 +72,7 @@ pub enum Family {
 }
 
 /// An option without a value.
-#[derive(Clone, Copy, PartialEq, Eq)]
+#[derive(Clone, Copy)]
 pub enum Flag {
     /// `-thin`
     Thin,
@@ -91,7 +91,7 @@ pub enum Flag {
 }
 
 /// An option with a value.
-#[derive(Clone, Copy, PartialEq, Eq)]
+#[derive(Clone, Copy)]
 pub enum Setting {
     /// `-name`
     Name,
@@ -118,7 +118,7 @@ pub enum Setting {
 }
 
 /// An option of a line.
-#[derive(Clone, Copy, PartialEq, Eq)]
+#[derive(Clone, Copy)]
 pub enum LineOption {
     /// It stands alone.
     Flag(Flag),
@@ -127,7 +127,7 @@ pub enum LineOption {
 }
 
 /// A word of a line that is no option.
-#[derive(Clone, Copy, PartialEq, Eq)]
+#[derive(Clone, Copy)]
 pub enum Operand {
     /// The volume, mapping or group that the line speaks of.
     Object,

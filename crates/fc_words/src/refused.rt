@@ -7,7 +7,7 @@ use fc_base::fault::WordFault;
 use fc_base::outcome::NoMemory;
 
 /// Why a line isn't read.
-#[derive(Clone, Copy, PartialEq, Eq)]
+#[derive(Clone, Copy)]
 pub enum WordRefused {
     /// Its first fault.
     Fault(WordFault),
