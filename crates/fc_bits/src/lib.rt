@@ -21,8 +21,6 @@
 
 mod grain_set;
 mod scan;
-#[cfg(test)]
-mod tests;
 mod words;
 
 pub use grain_set::GrainSet;

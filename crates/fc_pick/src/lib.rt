@@ -13,8 +13,6 @@
 #![tactic(auto)]
 
 mod grid;
-#[cfg(test)]
-mod tests;
 mod work;
 
 pub use grid::Grid;

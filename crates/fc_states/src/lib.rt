@@ -125,6 +125,3 @@ pub fn access(map: MapId, state: MapState, complete: bool) -> Access
         _ => Access::Online,
     }
 }
-
-#[cfg(test)]
-mod tests;

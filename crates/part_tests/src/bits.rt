@@ -1,7 +1,7 @@
-//! The plain body of a set, a list of truth values, with which the words are compared: over all lengths from 0 to 200, and
-//! where the grains stand at the edges of words.
+//! Sets of grains beside their plain body, a list of truth values: over all lengths from 0 to 200, and where the grains stand at
+//! the edges of words.
 
-use crate::{GrainSet, count_words, first_in_difference};
+use fc_bits::{GrainSet, count_words, first_in_difference};
 use std::alloc::Global;
 use std::process::Abort;
 use std::test::Fail;

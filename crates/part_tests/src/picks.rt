@@ -2,8 +2,8 @@
 
 ghost use Rattle.std.specs.Prelude.{Some, None, ◌==◌, if◌then◌else◌};
 
-use super::*;
 use fc_base::ids::{GrainNo, MapId};
+use fc_pick::{Grid, Work};
 use std::process::Abort;
 
 /// A grid on which one mapping alone lacks a grain and is needed at one.

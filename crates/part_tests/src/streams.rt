@@ -1,12 +1,12 @@
-//! What no clause says: that the calls succeed where there is memory, and what std's readers and writers get.
+//! Sources and sinks, by what no clause says: that the calls succeed where there is memory, and what std's readers and writers get.
 
-use crate::mem_sink::MemSink;
-use crate::mem_source::MemSource;
-use crate::sink::Sink;
-use crate::source::Source;
-use crate::std_sink::StdSink;
-use crate::std_source::StdSource;
 use fc_base::outcome::Failed;
+use fc_io::mem_sink::MemSink;
+use fc_io::mem_source::MemSource;
+use fc_io::sink::Sink;
+use fc_io::source::Source;
+use fc_io::std_sink::StdSink;
+use fc_io::std_source::StdSource;
 use std::io;
 use std::io::Write;
 use std::test::Fail;

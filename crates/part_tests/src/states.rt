@@ -1,8 +1,11 @@
-//! Every cell of both tables, against tables written by hand.
+//! Every cell of the tables of states and of access, against tables written by hand.
 
 ghost use Rattle.std.specs.Prelude.{◌≡◌, IsTrue};
 
-use super::*;
+use fc_base::fault::Refusal;
+use fc_base::ids::MapId;
+use fc_base::state::{Access, MapEvent, MapState};
+use fc_states::{access, next};
 
 const STATES: [MapState; 7] = [
     MapState::IdleOrCopied,
