@@ -2,9 +2,9 @@
 use Rattle.std.specs.Prelude.{ℕ, Bool, true, false, List, [], ◌∷◌, Option, codes, find}
 use Rattle.std.specs.Str.{bytes_eq}
 use Rattle.fc_words.specs.declared.grammar.Verb.{Verb}
-use Rattle.fc_words.specs.declared.grammar.Verb.TheVariants.{MakeVolume, RemoveVolume, WriteBlocks, ReadBlocks, ArmFault, PassTime, MakeMapping, PrepareMapping, StartMapping, StopMapping, RemoveMapping, MakeGroup, PrepareGroup, StartGroup, StopGroup, RemoveGroup, ListMappings, ListGroups, ListVolumes, ShowProgress, ListDependents, BeginBlock, BeginActor, EndBlock}
+use Rattle.fc_words.specs.declared.grammar.Verb.TheVariants.{MakeVolume, RemoveVolume, WriteBlocks, ReadBlocks, ArmFault, PassTime, MakeMapping, PrepareMapping, StartMapping, StopMapping, RemoveMapping, MakeGroup, PrepareGroup, StartGroup, StopGroup, RemoveGroup, ListMappings, ListGroups, ListVolumes, ShowProgress, ListDependents, MakeCopy, BeginBlock, BeginActor, EndBlock}
 use Rattle.fc_words.specs.declared.grammar.Flag.TheVariants.{Thin, Incremental, Autodelete, Restore, Prep, Force, Split}
-use Rattle.fc_words.specs.declared.grammar.Setting.TheVariants.{Name, Size, Unit as SizeUnit, Source, Target, Group, CopyRate, CleanRate, GrainSize, Seconds, Delim}
+use Rattle.fc_words.specs.declared.grammar.Setting.TheVariants.{Name, Size, Unit as SizeUnit, Source, Target, Group, CopyRate, CleanRate, GrainSize, Seconds, Delim, Preset}
 use Rattle.fc_words.specs.declared.grammar.LineOption.{LineOption}
 use Rattle.fc_words.specs.declared.grammar.LineOption.TheVariants.{Flag as OfFlag, Setting as OfSetting}
 use Rattle.fc_words.specs.declared.grammar.Operand.{Operand}
@@ -37,6 +37,7 @@ verb_spelling ListGroups = codes "lsfcconsistgrp"
 verb_spelling ListVolumes = codes "lsvdisk"
 verb_spelling ShowProgress = codes "lsfcmapprogress"
 verb_spelling ListDependents = codes "lsfcmapdependentmaps"
+verb_spelling MakeCopy = codes "mkpreset"
 verb_spelling BeginBlock = codes "together"
 verb_spelling BeginActor = codes "actor"
 verb_spelling EndBlock = codes "end"
@@ -47,7 +48,7 @@ all_verbs =
     MakeVolume ∷ RemoveVolume ∷ WriteBlocks ∷ ReadBlocks ∷ ArmFault ∷ PassTime
     ∷ MakeMapping ∷ PrepareMapping ∷ StartMapping ∷ StopMapping ∷ RemoveMapping
     ∷ MakeGroup ∷ PrepareGroup ∷ StartGroup ∷ StopGroup ∷ RemoveGroup
-    ∷ ListMappings ∷ ListGroups ∷ ListVolumes ∷ ShowProgress ∷ ListDependents
+    ∷ ListMappings ∷ ListGroups ∷ ListVolumes ∷ ShowProgress ∷ ListDependents ∷ MakeCopy
     ∷ BeginBlock ∷ BeginActor ∷ EndBlock ∷ []
 
 -- the line whose first word this is
@@ -60,6 +61,7 @@ family_of MakeVolume = Storage
 family_of RemoveVolume = Storage
 family_of ArmFault = Storage
 family_of PassTime = Storage
+family_of MakeCopy = Storage
 family_of BeginBlock = Storage
 family_of WriteBlocks = Access
 family_of ReadBlocks = Access
@@ -95,6 +97,7 @@ option_spelling (OfSetting CleanRate) = codes "-cleanrate"
 option_spelling (OfSetting GrainSize) = codes "-grainsize"
 option_spelling (OfSetting Seconds) = codes "-seconds"
 option_spelling (OfSetting Delim) = codes "-delim"
+option_spelling (OfSetting Preset) = codes "-preset"
 option_spelling (OfFlag Thin) = codes "-thin"
 option_spelling (OfFlag Incremental) = codes "-incremental"
 option_spelling (OfFlag Autodelete) = codes "-autodelete"
@@ -111,6 +114,7 @@ options_of MakeMapping =
     OfSetting Source ∷ OfSetting Target ∷ OfSetting Name ∷ OfSetting Group ∷ OfSetting CopyRate ∷ OfSetting CleanRate
     ∷ OfSetting GrainSize ∷ OfFlag Incremental ∷ OfFlag Autodelete ∷ []
 options_of MakeGroup = OfSetting Name ∷ []
+options_of MakeCopy = OfSetting Source ∷ OfSetting Preset ∷ OfSetting Name ∷ []
 options_of PrepareMapping = OfFlag Restore ∷ []
 options_of PrepareGroup = OfFlag Restore ∷ []
 options_of StartMapping = OfFlag Prep ∷ OfFlag Restore ∷ []
@@ -141,6 +145,7 @@ operands_of PassTime = []
 operands_of MakeMapping = []
 operands_of MakeGroup = []
 operands_of ListVolumes = []
+operands_of MakeCopy = []
 operands_of BeginBlock = []
 operands_of EndBlock = []
 operands_of _ = Object ∷ []

@@ -50,6 +50,8 @@ pub enum Verb {
     ShowProgress,
     /// `lsfcmapdependentmaps`
     ListDependents,
+    /// `mkpreset`
+    MakeCopy,
     /// `together`
     BeginBlock,
     /// `actor`
@@ -61,7 +63,7 @@ pub enum Verb {
 /// The kinds of lines that scopes have.
 #[derive(Clone, Copy, PartialEq, Eq)]
 pub enum Family {
-    /// Volumes, faults, time and blocks: outside blocks alone.
+    /// Volumes, presets, faults, time and blocks: outside blocks alone.
     Storage,
     /// Reads and writes.
     Access,
@@ -115,6 +117,8 @@ pub enum Setting {
     Seconds,
     /// `-delim`
     Delim,
+    /// `-preset`
+    Preset,
 }
 
 /// An option of a line.
@@ -176,6 +180,7 @@ impl Verb {
             Verb::ListVolumes,
             Verb::ShowProgress,
             Verb::ListDependents,
+            Verb::MakeCopy,
             Verb::BeginBlock,
             Verb::BeginActor,
             Verb::EndBlock,
@@ -208,6 +213,7 @@ impl Verb {
             Verb::ListVolumes => b"lsvdisk",
             Verb::ShowProgress => b"lsfcmapprogress",
             Verb::ListDependents => b"lsfcmapdependentmaps",
+            Verb::MakeCopy => b"mkpreset",
             Verb::BeginBlock => b"together",
             Verb::BeginActor => b"actor",
             Verb::EndBlock => b"end",
@@ -233,6 +239,7 @@ impl Verb {
             | Verb::RemoveVolume
             | Verb::ArmFault
             | Verb::PassTime
+            | Verb::MakeCopy
             | Verb::BeginBlock => Family::Storage,
             Verb::WriteBlocks | Verb::ReadBlocks => Family::Access,
             Verb::BeginActor | Verb::EndBlock => Family::Block,
@@ -277,6 +284,11 @@ impl Verb {
                 LineOption::Flag(Flag::Autodelete),
             ],
             Verb::MakeGroup => &[LineOption::Setting(Setting::Name)],
+            Verb::MakeCopy => &[
+                LineOption::Setting(Setting::Source),
+                LineOption::Setting(Setting::Preset),
+                LineOption::Setting(Setting::Name),
+            ],
             Verb::PrepareMapping | Verb::PrepareGroup => &[LineOption::Flag(Flag::Restore)],
             Verb::StartMapping | Verb::StartGroup => &[
                 LineOption::Flag(Flag::Prep),
@@ -325,6 +337,7 @@ impl Verb {
             | Verb::MakeMapping
             | Verb::MakeGroup
             | Verb::ListVolumes
+            | Verb::MakeCopy
             | Verb::BeginBlock
             | Verb::EndBlock => &[],
             _ => &[Operand::Object],
@@ -349,6 +362,7 @@ impl Setting {
             Setting::GrainSize => b"-grainsize",
             Setting::Seconds => b"-seconds",
             Setting::Delim => b"-delim",
+            Setting::Preset => b"-preset",
         }
     }
 }
