@@ -19,7 +19,7 @@ use Rattle.fc_base.specs.declared.state.Access.TheVariants.{Online, Offline, Not
 use Rattle.fc_books.specs.Refused.{access_refused}
 use Rattle.fc_entry.specs.Picture.{grain_of_block}
 use Rattle.fc_entry.specs.declared.entry.Entry.{Entry}
-use Rattle.fc_legal.specs.Steps.{AccessIsRefused, CommandIsRight, CommandStep, IsApart, IsRefused, LaneStep, RequestStep, Step, TurnStep}
+use Rattle.fc_legal.specs.Steps.{MustBeRefused, CommandIsRight, CommandStep, IsApart, IsRefused, LaneStep, RequestStep, Step, TurnStep}
 use Rattle.fc_legal.specs.Whole.{Whole, as_one, lane_at, part_at, single_lane}
 use Rattle.fc_rules.specs.GrainAnswers.{ByAccess, HasRead, ReadAnswers, WriteAnswers, FillAnswers}
 use Rattle.fc_rules.specs.LaneRight.{CleanAnswers, CopyAnswers, LaneAnswers, MappingFill, TurnAnswers, VolumeWrite}
@@ -122,7 +122,7 @@ module _ (actor : ℕ) (e : Entry) where
     refused : (refusal : Refusal) → Stays (λ x. IsRefused refusal w x next)
     refused refusal h = record { apart = apart h.apart; place = h.place; reply = h.reply; next_is = h.next_is; no_effects = h.no_effects }
 
-    access : (refusal : Option Refusal) → Stays (λ x. AccessIsRefused refusal w x next)
+    access : (refusal : Option Refusal) → Stays (λ x. MustBeRefused refusal w x next)
     access (Some refusal) h = refused refusal h
     access None h = absurd h
 

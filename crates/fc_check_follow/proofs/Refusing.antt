@@ -3,7 +3,7 @@ use Rattle.std.proofs.Common.{◌≡◌, ◌∙◌, List, [], ◌∷◌, ◌++�
 use Rattle.fc_base.specs.declared.fault.Refusal.{Refusal}
 use Rattle.fc_base.specs.declared.size.GrainSize.{GrainSize}
 use Rattle.fc_entry.specs.declared.entry.Entry.{Entry}
-use Rattle.fc_legal.specs.Steps.{AccessIsRefused, IsRefused, Step, one_more}
+use Rattle.fc_legal.specs.Steps.{MustBeRefused, IsRefused, Step, one_more}
 use Rattle.fc_legal.specs.Whole.{Whole}
 use Rattle.fc_check_lane.specs.Next.{IsNext, IsOfLanes}
 use Rattle.fc_check_record.specs.Judged.{Judged}
@@ -39,12 +39,12 @@ refusal_one way refusal entry old new says is =
 -- ---- accesses
 
 abbrev AccessCame : GrainSize → Whole → Entry → List Judged → List Judged → Option Refusal → Type 0
-AccessCame grain w entry old new refusal = Came grain (AccessIsRefused refusal w entry) old new
+AccessCame grain w entry old new refusal = Came grain (MustBeRefused refusal w entry) old new
 
 pub access_some : (grain : GrainSize) (w : Whole) (entry : Entry) (old new : List Judged) (asked : Option Refusal) (refusal : Refusal) → asked ≡ Some refusal →
-    Came grain (IsRefused refusal w entry) old new → Came grain (AccessIsRefused asked w entry) old new
+    Came grain (IsRefused refusal w entry) old new → Came grain (MustBeRefused asked w entry) old new
 access_some grain w entry old new asked refusal is came = subst (AccessCame grain w entry old new) (sym is) came
 
-pub access_none : (grain : GrainSize) (w : Whole) (entry : Entry) (old : List Judged) (asked : Option Refusal) → asked ≡ None → Came grain (AccessIsRefused asked w entry) old old
+pub access_none : (grain : GrainSize) (w : Whole) (entry : Entry) (old : List Judged) (asked : Option Refusal) → asked ≡ None → Came grain (MustBeRefused asked w entry) old old
 access_none grain w entry old asked is =
-    subst (AccessCame grain w entry old old) (sym is) (came_none grain (AccessIsRefused None w entry) old (λ next told. told))
+    subst (AccessCame grain w entry old old) (sym is) (came_none grain (MustBeRefused None w entry) old (λ next told. told))

@@ -9,7 +9,7 @@ use Rattle.fc_base.specs.declared.size.GrainSize.{GrainSize}
 use Rattle.fc_books.specs.Refused.{access_refused}
 use Rattle.fc_control.specs.Dispatch.{is_decided}
 use Rattle.fc_entry.specs.declared.entry.Entry.{Entry}
-use Rattle.fc_legal.specs.Steps.{AccessIsRefused, CommandIsRight, CommandStep, RequestStep, Step}
+use Rattle.fc_legal.specs.Steps.{MustBeRefused, CommandIsRight, CommandStep, RequestStep, Step}
 use Rattle.fc_legal.specs.Whole.{Whole}
 use Rattle.fc_check_record.specs.Judged.{Judged}
 use Rattle.fc_check_follow.specs.Following.{Came}
@@ -31,5 +31,5 @@ line_came grain w command entry old new decided came = came
 
 -- Of a line `write`.
 pub write_came : (grain : GrainSize) (w : Whole) (command : Command) (entry : Entry) (old new : List Judged) (volume : Ref) (block count byte : ℕ) → command ≡ WriteLine volume block count byte →
-    Came grain (AccessIsRefused (access_refused grain w.books volume block count) w entry) old new → Came grain (CommandIsRight grain w command entry) old new
+    Came grain (MustBeRefused (access_refused grain w.books volume block count) w entry) old new → Came grain (CommandIsRight grain w command entry) old new
 write_came grain w command entry old new volume block count byte is came = subst (λ (line : Command). Came grain (CommandIsRight grain w line entry) old new) (sym is) came

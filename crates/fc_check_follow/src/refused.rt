@@ -2,7 +2,7 @@
 
 ghost use Rattle.std.specs.Prelude.{◌≡◌, ◌∷◌, ◌++◌, [], ◌<◌, OnOk};
 ghost use Rattle.fc_books.specs.Refused.{access_refused};
-ghost use Rattle.fc_legal.specs.Steps.{AccessIsRefused, IsRefused, one_more};
+ghost use Rattle.fc_legal.specs.Steps.{MustBeRefused, IsRefused, one_more};
 ghost use Rattle.fc_check_follow.specs.Following.{Came, IsOpen};
 
 use crate::apart::says_refused;
@@ -56,7 +56,7 @@ pub(crate) fn follow_access(
     after: &mut Vec<Record>,
 ) -> Result<(), NoMemory>
     requires { IsOpen way.whole }
-    ensures { OnOk result (Came way.grain (AccessIsRefused (access_refused way.grain way.whole.books volume.now block count) way.whole entry.now) after.old.items after.new.items) }
+    ensures { OnOk result (Came way.grain (MustBeRefused (access_refused way.grain way.whole.books volume.now block count) way.whole entry.now) after.old.items after.new.items) }
 {
     match way.refused_access(volume, block, count) {
         Some(refusal) => follow_refusal(way, &refusal, entry, after),

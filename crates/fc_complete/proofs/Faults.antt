@@ -18,7 +18,7 @@ use Rattle.fc_books.specs.Refused.{access_refused}
 use Rattle.fc_complete.specs.Served.{AreFaultless}
 use Rattle.fc_entry.specs.Picture.{grain_of_block}
 use Rattle.fc_entry.specs.declared.entry.Entry.{Entry}
-use Rattle.fc_legal.specs.Steps.{Step, RequestStep, LaneStep, AccessStep, TurnStep, CommandStep, CommandIsRight, CommandLeft, IsRefused, AccessIsRefused}
+use Rattle.fc_legal.specs.Steps.{Step, RequestStep, LaneStep, AccessStep, TurnStep, CommandStep, CommandIsRight, CommandLeft, IsRefused, MustBeRefused}
 use Rattle.fc_legal.specs.Steps.CommandLeft.{decided, unsettled, settled_alone}
 use Rattle.fc_legal.specs.Whole.{Whole, lanes, lane_of_grain}
 
@@ -103,7 +103,7 @@ module _ (grain : GrainSize) (w : Whole) (entry : Entry) (next : Whole) (h : Are
   refused_faultless : (refusal : Refusal) → IsRefused refusal w entry next → AreFaultless w
   refused_faultless refusal step = faultless_of w next (ap (λ (x : Whole). x.faults) step.next_is) h
 
-  access_refused_faultless : (refusal : Option Refusal) → AccessIsRefused refusal w entry next → AreFaultless w
+  access_refused_faultless : (refusal : Option Refusal) → MustBeRefused refusal w entry next → AreFaultless w
   access_refused_faultless None step = absurd step
   access_refused_faultless (Some refusal) step = refused_faultless refusal step
 

@@ -29,7 +29,7 @@ use Rattle.fc_entry.specs.Picture.{grain_of_block}
 use Rattle.fc_entry.specs.declared.entry.Entry.{Entry}
 use Rattle.fc_legal.specs.Legal.{IsLegal, IsNamed}
 use Rattle.fc_legal.specs.Stands.{Stands}
-use Rattle.fc_legal.specs.Steps.{Step, RequestStep, LaneStep, AccessStep, TurnStep, CommandStep, CommandIsRight, CommandLeft, IsRefused, AccessIsRefused, after_settling, decided_on}
+use Rattle.fc_legal.specs.Steps.{Step, RequestStep, LaneStep, AccessStep, TurnStep, CommandStep, CommandIsRight, CommandLeft, IsRefused, MustBeRefused, after_settling, decided_on}
 use Rattle.fc_legal.specs.Steps.CommandLeft.{decided, unsettled, settled_alone}
 use Rattle.fc_legal.specs.Whole.{Whole, single_lane, as_one, lane_of_grain}
 use Rattle.fc_parts.proofs.Standing.{access_stands, copy_turn_stands, clean_turn_stands}
@@ -89,7 +89,7 @@ module _ (grain : GrainSize) (decisions : ℕ) (w : Whole) (entry : Entry) (next
         stands = subst P (sym step.next_is) (counted_stands (decisions + 2) w (later_stands decisions (decisions + 2) w (omega arith) before));
       }
 
-  access_refused_well : (refusal : Option Refusal) → AccessIsRefused refusal w entry next → LeavesWell decisions entry next
+  access_refused_well : (refusal : Option Refusal) → MustBeRefused refusal w entry next → LeavesWell decisions entry next
   access_refused_well None step = absurd step
   access_refused_well (Some refusal) step = refused_well refusal step
 

@@ -17,7 +17,7 @@ use Rattle.fc_determined.proofs.Commands.{with_faults, told_alike, LeaveTheSame,
 use Rattle.fc_determined.specs.Smooth.{IsSmooth, TellTheSame, but_for_faults, without_faults}
 use Rattle.fc_entry.specs.Picture.{grain_of_block}
 use Rattle.fc_entry.specs.declared.entry.Entry.{Entry}
-use Rattle.fc_legal.specs.Steps.{Step, RequestStep, LaneStep, AccessStep, TurnStep, CommandStep, CommandIsRight, IsRefused, AccessIsRefused, IsApart, one_more, after_access}
+use Rattle.fc_legal.specs.Steps.{Step, RequestStep, LaneStep, AccessStep, TurnStep, CommandStep, CommandIsRight, IsRefused, MustBeRefused, IsApart, one_more, after_access}
 use Rattle.fc_legal.specs.Whole.{Whole, lanes, lane_of_grain, lane_at, part_at, part_of_sheet, single_lane, as_one}
 use Rattle.fc_rules.specs.LaneRight.{CleanAnswers, CopyAnswers, LaneAnswers, TurnAnswers}
 use Rattle.fc_rules.specs.LaneTold.{LaneOf}
@@ -65,8 +65,8 @@ module _ (grain : GrainSize) (w : Whole) (faults : List ℕ) (same : lanes (with
 
   access_refused_one :
       (refusal : Option Refusal) →
-      AccessIsRefused refusal w x next →
-      AccessIsRefused refusal (with_faults w faults) y other →
+      MustBeRefused refusal w x next →
+      MustBeRefused refusal (with_faults w faults) y other →
       AreOneStep x y next other
   access_refused_one None h k = absurd h
   access_refused_one (Some refusal) h k = refused_one refusal h k

@@ -46,6 +46,7 @@ faults =
     ∷ (fault.MissingOption required.Seconds, codes "missing option -seconds")
     ∷ (fault.MissingOption required.Source, codes "missing option -source")
     ∷ (fault.MissingOption required.Target, codes "missing option -target")
+    ∷ (fault.MissingOption required.Preset, codes "missing option -preset")
     ∷ (fault.MissingWord 4, codes "missing word 4")
     ∷ (fault.RepeatedOption 4, codes "option repeated at word 4")
     ∷ (fault.BadNumber 4, codes "bad number at word 4")

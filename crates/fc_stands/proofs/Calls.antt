@@ -14,7 +14,7 @@ use Rattle.fc_base.specs.declared.request.Request.TheVariants.{Command as Asked,
 use Rattle.fc_base.specs.declared.size.GrainSize.{GrainSize}
 use Rattle.fc_books.specs.Refused.{access_refused}
 use Rattle.fc_entry.specs.declared.entry.Entry.{Entry}
-use Rattle.fc_legal.specs.Steps.{AccessIsRefused, CommandIsRight, CommandLeft, CommandStep, IsRefused, LaneStep, RequestStep, Step}
+use Rattle.fc_legal.specs.Steps.{MustBeRefused, CommandIsRight, CommandLeft, CommandStep, IsRefused, LaneStep, RequestStep, Step}
 use Rattle.fc_legal.specs.Steps.CommandLeft.{decided, unsettled, settled_alone}
 use Rattle.fc_legal.specs.Whole.{Whole}
 use Rattle.fc_stands.specs.Arming.{calls_in}
@@ -36,7 +36,7 @@ refused_tells : (refusal : Refusal) (w : Whole) (entry : Entry) (next : Whole) �
 refused_tells refusal w entry next is =
     apart_tells entry w next (λ i. ap (λ (p : Place). calls_in i p entry.calls) is.place) (ap (λ (x : Whole). x.calls) is.next_is)
 
-access_tells : (refusal : Option Refusal) (w : Whole) (entry : Entry) (next : Whole) → AccessIsRefused refusal w entry next → TellsCalls entry w next
+access_tells : (refusal : Option Refusal) (w : Whole) (entry : Entry) (next : Whole) → MustBeRefused refusal w entry next → TellsCalls entry w next
 access_tells None w entry next is = absurd is
 access_tells (Some refusal) w entry next is = refused_tells refusal w entry next is
 

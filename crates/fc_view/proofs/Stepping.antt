@@ -16,7 +16,7 @@ use Rattle.fc_check_lane.specs.After.{chains_torn, chains_written}
 use Rattle.fc_check_lane.proofs.Following.{chains_plain}
 use Rattle.fc_drawing.specs.Sources.{all_made}
 use Rattle.fc_entry.specs.declared.entry.Entry.{Entry}
-use Rattle.fc_legal.specs.Steps.{AccessIsRefused, CommandIsRight, IsApart, IsRefused, LaneStep, RequestStep, Step}
+use Rattle.fc_legal.specs.Steps.{MustBeRefused, CommandIsRight, IsApart, IsRefused, LaneStep, RequestStep, Step}
 use Rattle.fc_legal.specs.Whole.{Whole}
 use Rattle.fc_rules.specs.LaneRight.{done_write}
 use Rattle.fc_view.specs.Behind.{chains_behind}
@@ -33,7 +33,7 @@ refused_sheet : (grain : GrainSize) (w : Whole) (entry : Entry) (next : Whole) (
 refused_sheet grain w entry next refusal refused none =
     ap (λ (x : Whole). x.books.sheet) refused.next_is ∙ sym (apart_same grain w.books.sheet entry refused.apart none)
 
-access_sheet : (grain : GrainSize) (w : Whole) (entry : Entry) (next : Whole) (refusal : Option Refusal) → AccessIsRefused refusal w entry next → done_write entry.request entry.reply ≡ None →
+access_sheet : (grain : GrainSize) (w : Whole) (entry : Entry) (next : Whole) (refusal : Option Refusal) → MustBeRefused refusal w entry next → done_write entry.request entry.reply ≡ None →
     next.books.sheet ≡ chains_behind grain w.books.sheet entry
 access_sheet grain w entry next None refused none = absurd refused
 access_sheet grain w entry next (Some refusal) refused none = refused_sheet grain w entry next refusal refused none

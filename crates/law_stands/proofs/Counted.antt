@@ -13,7 +13,7 @@ use Rattle.fc_base.specs.declared.size.GrainSize.{GrainSize}
 use Rattle.fc_books.specs.Deciding.{settle}
 use Rattle.fc_books.specs.Refused.{access_refused}
 use Rattle.fc_entry.specs.declared.entry.Entry.{Entry}
-use Rattle.fc_legal.specs.Steps.{AccessIsRefused, CommandIsRight, CommandLeft, CommandStep, IsRefused, LaneStep, RequestStep, Step, after_access, after_settling, decided_on, left_by, one_more}
+use Rattle.fc_legal.specs.Steps.{MustBeRefused, CommandIsRight, CommandLeft, CommandStep, IsRefused, LaneStep, RequestStep, Step, after_access, after_settling, decided_on, left_by, one_more}
 use Rattle.fc_legal.specs.Steps.CommandLeft.{decided, unsettled, settled_alone}
 use Rattle.fc_legal.specs.Whole.{Whole}
 
@@ -27,7 +27,7 @@ module _ {X : Type 0} (grain : GrainSize) (of : Whole → X) (change : X → X) 
   refusal_changes : (refusal : Refusal) → IsRefused refusal w entry next → of next ≡ change (of w)
   refusal_changes refusal is = ap of is.next_is ∙ by.one w
 
-  access_changes : (refusal : Option Refusal) → AccessIsRefused refusal w entry next → of next ≡ change (of w)
+  access_changes : (refusal : Option Refusal) → MustBeRefused refusal w entry next → of next ≡ change (of w)
   access_changes None is = absurd is
   access_changes (Some refusal) is = refusal_changes refusal is
 

@@ -13,7 +13,7 @@ use Rattle.fc_books.specs.Refused.{access_refused}
 use Rattle.fc_entry.specs.declared.entry.Entry.{Entry}
 use Rattle.fc_legal.proofs.Naming.{IsNamed-none, IsNext-step}
 use Rattle.fc_legal.specs.Legal.{AreSteps, IsLegal, IsNamed}
-use Rattle.fc_legal.specs.Steps.{AccessIsRefused, CommandIsRight, CommandLeft, CommandStep, IsRefused, LaneStep, RequestStep, Step}
+use Rattle.fc_legal.specs.Steps.{MustBeRefused, CommandIsRight, CommandLeft, CommandStep, IsRefused, LaneStep, RequestStep, Step}
 use Rattle.fc_legal.specs.Steps.CommandLeft.{decided, unsettled, settled_alone}
 use Rattle.fc_legal.specs.Whole.{Whole, part_at}
 use Rattle.law_stands.proofs.Counted.{names_kept}
@@ -26,7 +26,7 @@ module _ (grain : GrainSize) (names : List (List ℕ)) (w : Whole) (entry : Entr
   refusal_named : (refusal : Refusal) → IsRefused refusal w entry next → IsRefused refusal (named names w) entry (named names next)
   refusal_named refusal is = record { place = is.place; apart = is.apart; reply = is.reply; no_effects = is.no_effects; next_is = ap (named names) is.next_is }
 
-  access_named : (refusal : Option Refusal) → AccessIsRefused refusal w entry next → AccessIsRefused refusal (named names w) entry (named names next)
+  access_named : (refusal : Option Refusal) → MustBeRefused refusal w entry next → MustBeRefused refusal (named names w) entry (named names next)
   access_named None is = is
   access_named (Some refusal) is = refusal_named refusal is
 

@@ -12,7 +12,7 @@ use Rattle.fc_base.specs.declared.size.GrainSize.{GrainSize}
 use Rattle.fc_books.specs.Refused.{access_refused}
 use Rattle.fc_entry.specs.Picture.{grain_of_block}
 use Rattle.fc_entry.specs.declared.entry.Entry.{Entry}
-use Rattle.fc_legal.specs.Steps.{AccessIsRefused, AccessStep, CommandIsRight, CommandStep, IsRefused, LaneStep, RequestStep}
+use Rattle.fc_legal.specs.Steps.{MustBeRefused, AccessStep, CommandIsRight, CommandStep, IsRefused, LaneStep, RequestStep}
 use Rattle.fc_legal.specs.Whole.{Whole, lane_of_grain, lanes}
 use Rattle.fc_parts.proofs.Accesses.{access_of_lane}
 use Rattle.fc_parts.specs.Law.{IsAt, IsOfLane}
@@ -24,7 +24,7 @@ module _ (grain : GrainSize) (w : Whole) (entry : Entry) (next : Whole) where
   refusal_left : (refusal : Refusal) → IsRefused refusal w entry next → LeftAt grain w entry entry.place next
   refusal_left refusal is = subst (λ (p : Place). LeftAt grain w entry p next) (sym is.place) is.next_is
 
-  access_left : (refusal : Option Refusal) → AccessIsRefused refusal w entry next → LeftAt grain w entry entry.place next
+  access_left : (refusal : Option Refusal) → MustBeRefused refusal w entry next → LeftAt grain w entry entry.place next
   access_left None is = absurd is
   access_left (Some refusal) is = refusal_left refusal is
 

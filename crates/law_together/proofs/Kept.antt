@@ -13,7 +13,7 @@ use Rattle.fc_books.specs.Refused.{access_refused}
 use Rattle.fc_entry.specs.Picture.{grain_of_block}
 use Rattle.fc_entry.specs.declared.entry.Entry.{Entry}
 use Rattle.fc_legal.specs.Legal.{AreSteps, IsLegal}
-use Rattle.fc_legal.specs.Steps.{RequestStep, CommandIsRight, CommandStep, CommandLeft, AccessIsRefused, LaneStep}
+use Rattle.fc_legal.specs.Steps.{RequestStep, CommandIsRight, CommandStep, CommandLeft, MustBeRefused, LaneStep}
 use Rattle.fc_legal.specs.Steps.CommandLeft.{decided, unsettled, settled_alone}
 use Rattle.fc_legal.specs.Whole.{Whole, lanes, lane_of_grain}
 
@@ -25,7 +25,7 @@ pub record Keeps (more : ℕ) (w next : Whole) : Type 0 where
 
 refused_keeps :
     (refusal : Option Refusal) (w : Whole) (entry : Entry) (next : Whole) →
-    AccessIsRefused refusal w entry next →
+    MustBeRefused refusal w entry next →
     Keeps 1 w next
 refused_keeps None w entry next step = absurd step
 refused_keeps (Some refusal) w entry next step = record {

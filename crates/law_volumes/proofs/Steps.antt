@@ -13,7 +13,7 @@ use Rattle.fc_base.specs.declared.volume.Volume.{Volume}
 use Rattle.fc_books.specs.Refused.{access_refused}
 use Rattle.fc_entry.specs.declared.entry.Entry.{Entry}
 use Rattle.fc_follow.specs.Following.{restarts}
-use Rattle.fc_legal.specs.Steps.{IsRefused, AccessIsRefused, CommandLeft, CommandStep, CommandIsRight, LaneStep, RequestStep, after_settling}
+use Rattle.fc_legal.specs.Steps.{IsRefused, MustBeRefused, CommandLeft, CommandStep, CommandIsRight, LaneStep, RequestStep, after_settling}
 use Rattle.fc_legal.specs.Steps.CommandLeft.{decided, unsettled, settled_alone}
 use Rattle.fc_legal.specs.Whole.{Whole}
 use Rattle.law_volumes.specs.Law.{is_of_volumes, asks_of_volumes}
@@ -46,7 +46,7 @@ command_keeps grain w command entry next other step =
 refusal_keeps : (refusal : Refusal) (w : Whole) (entry : Entry) (next : Whole) → IsRefused refusal w entry next → volumes next ≡ volumes w
 refusal_keeps refusal w entry next is = ap volumes is.next_is
 
-access_keeps : (refusal : Option Refusal) (w : Whole) (entry : Entry) (next : Whole) → AccessIsRefused refusal w entry next → volumes next ≡ volumes w
+access_keeps : (refusal : Option Refusal) (w : Whole) (entry : Entry) (next : Whole) → MustBeRefused refusal w entry next → volumes next ≡ volumes w
 access_keeps None w entry next is = absurd is
 access_keeps (Some refusal) w entry next is = refusal_keeps refusal w entry next is
 
