@@ -18,6 +18,3 @@ mod trigger;
 pub use access::access_in;
 pub use state::{group_state, has_state, is_member};
 pub use trigger::check_trigger;
-
-#[cfg(test)]
-mod tests;

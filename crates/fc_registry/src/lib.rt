@@ -287,6 +287,3 @@ impl Registry {
         }
     }
 }
-
-#[cfg(test)]
-mod tests;

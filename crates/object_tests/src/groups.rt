@@ -1,38 +1,20 @@
 //! Groups of a few mappings, against answers written by hand.
 
-ghost use Rattle.std.specs.Prelude.{IsTrue};
-ghost use Rattle.fc_base.specs.Tables.{Fits};
-
-use super::*;
-use fc_base::fault::{Kind, Refusal};
+use crate::fits::fits;
+use fc_base::fault::Refusal;
 use fc_base::ids::{GroupId, MapId, VolId};
 use fc_base::name::Name;
 use fc_base::state::MapState;
 use fc_base::volume::{Change, Mapping};
+use fc_group::{check_trigger, group_state};
 use fc_registry::Registry;
 use std::alloc::Global;
 use std::process::Abort;
 
-/// Whether the mapping may be added.
-fn is_new(registry: &Registry, mapping: &Mapping) -> bool
-    ensures { IsTrue result → Fits registry.now.tables (Change.AddMapping mapping.now) }
-{
-    let above = registry
-        .all_mappings()
-        .iter()
-        .all(|other| other.id.0 < mapping.id.0);
-    let free = registry.check_name(Kind::Fcmap, &mapping.name).is_ok();
-    above && free
-}
-
 /// Adds a mapping, whose change it is.
 fn add(rt: &impl Abort, alloc: Global, registry: &mut Registry, change: &Change) {
     assert!(rt; registry.reserve(alloc, change).is_ok());
-    let fits = match change {
-        Change::AddMapping(mapping) => is_new(registry, mapping),
-        _ => false,
-    };
-    assert!(rt; fits);
+    assert!(rt; fits(registry, change));
     registry.apply(change);
 }
 
