@@ -1,9 +1,35 @@
-use Rattle.std.proofs.Common.{◌<◌, ◌≢◌, ◌+◌, ◌≤◌, false, sym, ◌∙◌, ap, subst, arith, get_or-set_other, get_or-set_same, below_more}
+use Rattle.std.proofs.Common.{◌<◌, ◌≢◌, ◌+◌, ◌≤◌, ◌++◌, false, refl, sym, ◌∙◌, ap, subst, arith, append-nil, take_all, get_or-set_other, get_or-set_same, below_more}
 use mathlib.Core.Option.{some}
 use Rattle.std.specs.Slots.{slots_items, slots_filled, slots_counts}
-use Rattle.fc_yard.specs.Homes.{AllHome}
+use Rattle.fc_yard.specs.Homes.{AllHome, homes_of}
 use Rattle.fc_yard.proofs.Housing.{home_at, gathered}
 use Rattle.fc_yard.proofs.opening.gather.Goals as goal
+
+pub loop-place-init : goal.loop-place-init
+loop-place-init g c = record {
+  full = c.requires.full;
+  empty = λ k low. absurd (omega arith);
+  same = (refl, refl);
+  kept = sym (append-nil c.args.parts.now.items);
+  room = omega (arith, c.requires.room);
+}
+
+pub take-requires : goal.take-requires
+take-requires g c =
+    let h = c.loop-place.invariant in let near = c.loop-place-test.true in let end = c.slot_count-place-end.ensures in
+    (omega (arith, h.same.1, near, end), h.full c.loop-place.place (omega arith) (omega (arith, h.same.1, near, end)))
+
+pub push_reserved-requires : goal.push_reserved-requires
+push_reserved-requires g c = omega (arith, c.loop-place.invariant.room, c.loop-place-test.true, c.slot_count-place-end.ensures)
+
+pub free-requires : goal.free-requires
+free-requires g c = λ k low. c.loop-place.invariant.empty k (omega (arith, low, c.loop-place.invariant.same.1, c.loop-place-test.false, c.slot_count-place-end.ensures))
+
+pub returns : goal.returns
+returns g c =
+    let h = c.loop-place.invariant in let items = slots_items c.args.closed.slots in
+    let all = take_all c.loop-place.place items (omega (arith, (slots_counts c.args.closed.slots).0, c.loop-place-test.false, c.slot_count-place-end.ensures)) in
+    h.kept ∙ ap (λ l. c.args.parts.now.items ++ homes_of l) all
 
 pub into_part-requires : goal.into_part-requires
 into_part-requires g c =
