@@ -6,7 +6,7 @@ use Rattle.fc_format.specs.Left.{Left}
 use Rattle.fc_format.specs.Reading.{all_items}
 use Rattle.fc_format.specs.Fields.{one_record, records}
 use Rattle.fc_format.proofs.Steps.{behind, behind_none, none_first, some_first, all_done, all_left, all_more, all_stopped, bad_there, answers_as}
-use Rattle.fc_format.proofs.read.take_records.Goals as goal
+use Rattle.fc_format.proofs.read.RecordsField.read.Goals as goal
 
 -- as many tries as there are bytes
 tries : (s : Left) (bytes : List ℕ) → bytes ≡ s.bytes → records s ≡ all_items one_record (length bytes) s

@@ -2,7 +2,7 @@ use Rattle.std.proofs.Common.{◌≡◌, ◌-◌}
 use Rattle.fc_format.specs.Reading.{all_items}
 use Rattle.fc_format.specs.Fields.{one_record}
 use Rattle.fc_format.proofs.Steps.{behind}
-use Rattle.fc_format.proofs.read.take_records.Given as goal
+use Rattle.fc_format.proofs.read.RecordsField.read.Given as goal
 
 -- the records so far are taken
 abbrev pub invariant-loop-taken : goal.invariant-loop-taken
