@@ -5,7 +5,6 @@ ghost use Rattle.fc_reading.specs.Pieces.{Reads};
 ghost use Rattle.fc_reading.specs.Readers.{one_of_at};
 ghost use Rattle.fc_reading.specs.Stops.{StopsAt};
 ghost use Rattle.fc_reading_notes.specs.Answers.{ReadsOr};
-ghost use Rattle.fc_reading_notes.specs.Lines.{effect_words};
 ghost use Rattle.fc_reading_notes.specs.Lists.{starts_with};
 ghost use Rattle.fc_reading_notes.specs.Notes.{any_note_at, no_notes, note_at, note_words, notes_at, still_moving, with_note};
 ghost use Rattle.fc_reading_notes.specs.Told.{IfMalformed, IsDone, IsTold, head_at, told_at, told_text};
@@ -49,9 +48,9 @@ pub struct Told {
     pub notes: Notes,
 }
 
-/// Takes the word that begins the line of an effect, by its number.
-fn take_effect_word(bytes: &[u8]) -> Result<(usize, &[u8]), Malformed>
-    ensures { Reads (λ found. (found.0, found.1.now)) result (one_of_at effect_words bytes.now) }
+/// Takes the line of an effect, as it may stand behind all moves.
+fn take_late_note(alloc: Global, bytes: &[u8]) -> Result<(Note, &[u8]), ReadStop>
+    ensures { ReadsOr (λ found. (found.0, found.1.now)) result (note_at false bytes.now) }
 {
     let words: [&[u8]; 7] = [
         b"+ make ",
@@ -62,15 +61,8 @@ fn take_effect_word(bytes: &[u8]) -> Result<(usize, &[u8]), Malformed>
         b"+ state ",
         b"+ gone ",
     ];
-    one_of(&words, bytes)
-}
-
-/// Takes the line of an effect, as it may stand behind all moves.
-fn take_late_note(alloc: Global, bytes: &[u8]) -> Result<(Note, &[u8]), ReadStop>
-    ensures { ReadsOr (λ found. (found.0, found.1.now)) result (note_at false bytes.now) }
-{
-    let (word, rest) = take_effect_word(bytes)?;
-    match take_effect(alloc, word, rest) {
+    let (index, rest) = one_of(&words, bytes)?;
+    match take_effect(alloc, index, rest) {
         Ok((effect, rest)) => Ok((Note::Changed(effect), rest)),
         Err(stop) => Err(stop),
     }
