@@ -1,7 +1,7 @@
 //! The program's commands and options, as `clap` has them, with their help.
 
 ghost use Rattle.std.specs.Prelude.{◌≡◌, IfOk, codes, false, []};
-ghost use Rattle.clap.specs.Words.{App, Rule, app_of, rule_of, new_app, with_rule, with_subcommand};
+ghost use Rattle.clap.specs.Words.{App, app_of, rule_of, new_app, with_subcommand};
 ghost use Rattle.clap.specs.declared.builder.command.Command.TheViews.{out-Command as fields_of};
 ghost use Rattle.fc_args.specs.Program.{flashcopy, run_app, numbered_app, valued_rule, flag_rule, number_rule, top_shape};
 
@@ -60,32 +60,20 @@ fn number<'a>(alloc: Global, value: &'a str, help: &'a str) -> Arg<'a>
         .help(help)
 }
 
-/// A command with one more argument, once the command is made.
-fn with_argument<'a>(
-    made: Result<Command<'a>, AllocError>,
-    arg: Arg<'a>,
-) -> Result<Command<'a>, AllocError>
-    ensures { (app : App) (rule : Rule) → IfOk made.entry (λ c. (app_of c ≡ app) × ((fields_of c).has_globals ≡ false)) →
-        rule_of arg.entry ≡ rule → arg.entry.global ≡ false →
-        IfOk result (λ c. (app_of c ≡ with_rule app rule) × ((fields_of c).has_globals ≡ false)) }
-{
-    match made {
-        Ok(command) => command.arg(arg),
-        Err(refused) => Err(refused),
-    }
-}
-
 /// `run`, with its options.
 pub(crate) fn run_command<'a>(alloc: Global) -> Result<Command<'a>, AllocError>
     ensures { IfOk result (λ c. (app_of c ≡ run_app) × ((fields_of c).has_globals ≡ false)) }
 {
-    let run = command_if_built(alloc, "run", table::RUN_HELP, true);
-    let grain = valued_option(alloc, "grain", "64|256", table::GRAIN_HELP);
-    let run = run.arg(grain);
-    let trace = flag(alloc, "trace", table::TRACE_HELP);
-    let run = with_argument(run, shown_if_built(trace, table::TRACE_IS_BUILT));
-    let cache = valued_option(alloc, "cache", "N", table::CACHE_HELP);
-    with_argument(run, shown_if_built(cache, table::CACHE_IS_BUILT))
+    command_if_built(alloc, "run", table::RUN_HELP, true)
+        .arg(valued_option(alloc, "grain", "64|256", table::GRAIN_HELP))?
+        .arg(shown_if_built(
+            flag(alloc, "trace", table::TRACE_HELP),
+            table::TRACE_IS_BUILT,
+        ))?
+        .arg(shown_if_built(
+            valued_option(alloc, "cache", "N", table::CACHE_HELP),
+            table::CACHE_IS_BUILT,
+        ))
 }
 
 /// `drill`, with its number.

@@ -16,9 +16,9 @@ with_trace = with_rule with_grain (flag_rule (codes "trace"))
 
 pub returns : goal.returns
 returns c =
-    let one = IfOk-weaker c.arg-run.result _ _ (λ r added. arg_added c.command_if_built-run.result r c.valued_option-grain.result bare (valued_rule (codes "grain")) added
-    (c.command_if_built-run.ensures.app, c.command_if_built-run.ensures.local) c.valued_option-grain.ensures.rule c.valued_option-grain.ensures.local) c.arg-run.ensures in
-    let two = c.with_argument-run.ensures with_grain (flag_rule (codes "trace")) one
-    (c.shown_if_built.ensures.rule ∙ c.flag-trace.ensures.rule) (c.shown_if_built.ensures.local ∙ c.flag-trace.ensures.local) in
-    c.with_argument.ensures with_trace (valued_rule (codes "cache")) two
-    (c.shown_if_built-2.ensures.rule ∙ c.valued_option-cache.ensures.rule) (c.shown_if_built-2.ensures.local ∙ c.valued_option-cache.ensures.local)
+    let one = arg_added _ _ _ bare (valued_rule (codes "grain")) c.in_ok-arg.ensures (c.command_if_built.ensures.app, c.command_if_built.ensures.local)
+    c.valued_option.ensures.rule c.valued_option.ensures.local in
+    let two = arg_added _ _ _ with_grain (flag_rule (codes "trace")) c.in_ok-arg-2.ensures one
+    (c.shown_if_built.ensures.rule ∙ c.flag.ensures.rule) (c.shown_if_built.ensures.local ∙ c.flag.ensures.local) in
+    IfOk-weaker c.arg-3.result _ _ (λ r added. arg_added _ r _ with_trace (valued_rule (codes "cache")) added two
+    (c.shown_if_built-2.ensures.rule ∙ c.valued_option-2.ensures.rule) (c.shown_if_built-2.ensures.local ∙ c.valued_option-2.ensures.local)) c.arg-3.ensures
