@@ -7,5 +7,7 @@ use Rattle.fc_desk.proofs.control.Control.settle_mappings.Goals as goal
 
 pub loop-mapping-preserved : goal.loop-mapping-preserved
 loop-mapping-preserved g c =
-    grind (arith,
-    all_deeds-more c.args.draft (λ (m : Mapping). settles_in m.state (books_of c.args.self.now (g.S.Sheet.meaning c.args.sheet.now)) m) c.all_mappings-mapping-items.result.now c.loop-mapping.mapping-index c.mapping-item.result c.loop-mapping-test.true)
+    grind (
+      arith,
+      all_deeds-more c.args.draft (λ (m : Mapping). settles_in m.state (books_of c.args.self.now (g.S.Sheet.meaning c.args.sheet.now)) m) c.all_mappings-mapping-items.result.now c.loop-mapping.mapping-index c.mapping-item.result c.loop-mapping-test.true,
+    )

@@ -8,5 +8,7 @@ use Rattle.fc_desk.proofs.control.Control.tell_work.Goals as goal
 
 pub loop-mapping-preserved : goal.loop-mapping-preserved
 loop-mapping-preserved g c =
-    grind (arith,
-    all_deeds-more c.args.draft (λ (m : Mapping). told (work_told (books_of c.args.self.now (g.S.Sheet.meaning c.args.sheet.now)) c.args.gone m)) c.all_mappings-mapping-items.result.now c.loop-mapping.mapping-index c.mapping-item.result c.loop-mapping-test.true)
+    grind (
+      arith,
+      all_deeds-more c.args.draft (λ (m : Mapping). told (work_told (books_of c.args.self.now (g.S.Sheet.meaning c.args.sheet.now)) c.args.gone m)) c.all_mappings-mapping-items.result.now c.loop-mapping.mapping-index c.mapping-item.result c.loop-mapping-test.true,
+    )
