@@ -2,7 +2,7 @@
 
 ghost use Rattle.std.specs.Prelude.{◌≡◌, ◌≤◌, length, OnSome, option_map};
 ghost use Rattle.fc_format.specs.Reading.{IfPart, part_of, counted, IsRead, items_read};
-ghost use Rattle.fc_format.specs.Fields.{image, records};
+ghost use Rattle.fc_format.specs.Fields.{records};
 ghost use Rattle.fc_format.specs.Halves.{batches, IsHalfRead};
 
 use crate::cursor::{Cursor, ReadError};
