@@ -29,9 +29,8 @@ entry_lines() { # TRACE [COUNT]
 # The lines of entries in a drawing.
 drawn_lines() { grep -aE '^[0-9]+ ' -- "$1"; }
 
-# ---- before any proof: compiled with checks of memory
-drawings_unproved() {
-    echo "== drawings, compiled with checks of memory"
+# ---- without any proof: compiled with checks of memory
+begin_drawings() {
     local file name cases=$room/cases
     mkdir -- "$cases"
     for file in drawings/*; do
@@ -41,7 +40,11 @@ drawings_unproved() {
         : >"$cases/${name/./-}.args"
         [[ $name != *.at-* ]] || printf '%s\n' --at "${name##*.at-}" >"$cases/${name/./-}.args"
     done
-    are_tried drawings "$((least_drawings + least_drawings_at))" fcview "$cases"
+    begin_try fcview "$cases"
+}
+drawings_unproved() {
+    echo "== drawings, compiled with checks of memory"
+    end_try drawings "$((least_drawings + least_drawings_at))" fcview
 }
 
 # ---- the drawings of the folder: of the traces there and of those that the program prints, with their sessions or without

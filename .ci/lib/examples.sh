@@ -25,10 +25,18 @@ examples_whole() {
     is_at_least "examples" "$least_examples" "$count"
 }
 
-# The program of a crate, compiled with checks of memory, prints of each case of a folder what is recorded beside it.
-are_tried() { # WHAT LEAST CRATE FOLDER
+# The programs are compiled with checks of memory beside the other checks, since a compilation takes minutes of one processor:
+# `begin_try` begins one, and `end_try` waits for it and counts.
+begin_try() { # CRATE FOLDER
+    (cd "crates/$1" && rt try --seconds "$most_seconds" --cases "$2" >/dev/null 2>"$room/tried-$1") &
+    printf '%d' "$!" >"$room/trying-$1"
+}
+
+# The program of a crate printed of each case of its folder what is recorded beside it.
+end_try() { # WHAT LEAST CRATE
     local said last all ended fault differs silent
-    said=$(cd "crates/$3" && rt try --seconds "$most_seconds" --cases "$4" 2>&1 >/dev/null)
+    wait "$(<"$room/trying-$3")"
+    said=$(<"$room/tried-$3")
     printf '%s\n' "$said"
     last=$(tail -n 1 <<<"$said")
     if [[ $last =~ ^cases=([0-9]+)\ ended=([0-9]+)\ fault=([0-9]+)\ differs=([0-9]+)\ no-answer=([0-9]+) ]]; then
@@ -42,10 +50,11 @@ are_tried() { # WHAT LEAST CRATE FOLDER
     fi
 }
 
-# ---- before any proof: compiled with checks of memory
+# ---- without any proof: compiled with checks of memory
+begin_examples() { begin_try flashcopy ../../examples; }
 examples_unproved() {
     echo "== examples, compiled with checks of memory"
-    are_tried examples "$least_examples" flashcopy ../../examples
+    end_try examples "$least_examples" flashcopy
 }
 
 # ---- by the proved program: the same output to the byte, and status 0

@@ -3,6 +3,7 @@ mod NumberLemmas
 pub mod RowLemmas
 pub mod HyphenLemmas
 mod StrayLemmas
+mod AppLemmas
 pub mod Verdicts
 pub mod OptionSteps
 mod RunLevel

@@ -3,7 +3,7 @@
 use fc_base::size::GrainSize;
 
 /// What a session is run with.
-#[derive(Clone, Copy, PartialEq, Eq)]
+#[derive(Clone, Copy)]
 pub struct RunOptions {
     /// The size of its grains: `--grain`, and 256 KiB without it.
     pub grain: GrainSize,
@@ -15,7 +15,7 @@ pub struct RunOptions {
 }
 
 /// What the words of the program ask for.
-#[derive(Clone, Copy, PartialEq, Eq)]
+#[derive(Clone, Copy)]
 pub enum Asked {
     /// A session that is read.
     Run(RunOptions),

@@ -1,7 +1,7 @@
 //! The program's commands and options, as `clap` has them, with their help.
 
 ghost use Rattle.std.specs.Prelude.{◌≡◌, IfOk, codes, false, []};
-ghost use Rattle.clap.specs.Words.{app_of, rule_of, new_app};
+ghost use Rattle.clap.specs.Words.{App, app_of, rule_of, new_app, with_subcommand};
 ghost use Rattle.clap.specs.declared.builder.command.Command.TheViews.{out-Command as fields_of};
 ghost use Rattle.fc_args.specs.Program.{flashcopy, run_app, numbered_app, valued_rule, flag_rule, number_rule, top_shape};
 
@@ -64,13 +64,16 @@ fn number<'a>(alloc: Global, value: &'a str, help: &'a str) -> Arg<'a>
 pub(crate) fn run_command<'a>(alloc: Global) -> Result<Command<'a>, AllocError>
     ensures { IfOk result (λ c. (app_of c ≡ run_app) × ((fields_of c).has_globals ≡ false)) }
 {
-    let grain = valued_option(alloc, "grain", "64|256", table::GRAIN_HELP);
-    let trace = flag(alloc, "trace", table::TRACE_HELP);
-    let cache = valued_option(alloc, "cache", "N", table::CACHE_HELP);
     command_if_built(alloc, "run", table::RUN_HELP, true)
-        .arg(grain)?
-        .arg(shown_if_built(trace, table::TRACE_IS_BUILT))?
-        .arg(shown_if_built(cache, table::CACHE_IS_BUILT))
+        .arg(valued_option(alloc, "grain", "64|256", table::GRAIN_HELP))?
+        .arg(shown_if_built(
+            flag(alloc, "trace", table::TRACE_HELP),
+            table::TRACE_IS_BUILT,
+        ))?
+        .arg(shown_if_built(
+            valued_option(alloc, "cache", "N", table::CACHE_HELP),
+            table::CACHE_IS_BUILT,
+        ))
 }
 
 /// `drill`, with its number.
@@ -111,13 +114,30 @@ fn program_alone<'a>(alloc: Global) -> Command<'a>
         .subcommand_required(true)
 }
 
+/// The program with one more command, once both are made.
+fn with_command<'a>(
+    program: Result<Command<'a>, AllocError>,
+    made: Result<Command<'a>, AllocError>,
+) -> Result<Command<'a>, AllocError>
+    ensures { (whole part : App) → IfOk program.entry (λ c. app_of c ≡ whole) →
+        IfOk made.entry (λ c. (app_of c ≡ part) × ((fields_of c).has_globals ≡ false)) →
+        IfOk result (λ c. app_of c ≡ with_subcommand whole part.top) }
+{
+    match program {
+        Ok(program) => match made {
+            Ok(command) => program.subcommand(command),
+            Err(refused) => Err(refused),
+        },
+        Err(refused) => Err(refused),
+    }
+}
+
 /// The program: all its commands, those to come among them.
 pub(crate) fn program<'a>(alloc: Global) -> Result<Command<'a>, AllocError>
     ensures { IfOk result (λ c. app_of c ≡ flashcopy) }
 {
-    program_alone(alloc)
-        .subcommand(run_command(alloc)?)?
-        .subcommand(drill_command(alloc)?)?
-        .subcommand(check_command(alloc))?
-        .subcommand(stop_command(alloc)?)
+    let program = with_command(Ok(program_alone(alloc)), run_command(alloc));
+    let program = with_command(program, drill_command(alloc));
+    let program = with_command(program, Ok(check_command(alloc)));
+    with_command(program, stop_command(alloc))
 }

@@ -45,7 +45,6 @@ use std::alloc::Global;
 use std::marker::Model;
 
 /// The chains of copies of one lane, with the lane's grains of every volume.
-#[derive(Drop)]
 pub struct Cascade {
     lane: u8,
     lanes: u8,
@@ -54,6 +53,21 @@ pub struct Cascade {
     directory: Directory,
     room: usize,
     width: u32,
+}
+
+impl Drop for Cascade {
+    // Written out, so that a function that drops it has one call for all of it in its proof.
+    fn drop(self) {
+        let Cascade {
+            lane: _,
+            lanes: _,
+            table: _,
+            tallies: _,
+            directory: _,
+            room: _,
+            width: _,
+        } = self;
+    }
 }
 
 impl Model for Cascade {

@@ -19,11 +19,21 @@ use std::alloc::Global;
 use std::marker::Model;
 
 /// A volume: what it holds now, and what it held before its last trigger as a target.
-#[derive(Drop)]
 pub(crate) struct Volume<M: Mark> {
     id: VolId,
     current: Vec<Grain<M>>,
     before: Vec<Grain<M>>,
+}
+
+impl<M: Mark> Drop for Volume<M> {
+    // Written out, so that a function that drops it has one call for all of it in its proof.
+    fn drop(self) {
+        let Volume {
+            id: _,
+            current: _,
+            before: _,
+        } = self;
+    }
 }
 
 impl<M: Mark> Model for Volume<M> {

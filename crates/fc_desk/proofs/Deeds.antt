@@ -1,5 +1,6 @@
 -- Deeds one after the other.
-use Rattle.std.proofs.Common.{◌≡◌, ◌∙◌, sym, ap, List, [], ◌∷◌, ◌++◌, append_assoc, append-nil}
+use Rattle.std.proofs.Common.{◌≡◌, ◌∙◌, sym, ap, ℕ, ◌+◌, ◌<◌, List, [], ◌∷◌, ◌++◌, append_assoc, append-nil, length, get_or, take}
+use Rattle.std.proofs.lemmas.List.{take_more}
 use Rattle.std.specs.List.{flat_map}
 use Rattle.fc_base.specs.declared.decision.LaneEvent.{LaneEvent}
 use Rattle.fc_base.specs.declared.request.Effect.{Effect}
@@ -28,3 +29,10 @@ all_deeds-push deed xs x =
     (flat_map (λ y. (deed y).events) (xs ++ x ∷ [])) (flat_map (λ y. (deed y).events) xs ++ (deed x).events)
     (flat_map (λ y. (deed y).changes) (xs ++ x ∷ [])) (flat_map (λ y. (deed y).changes) xs ++ (deed x).changes)
     (flat_push (λ y. (deed y).effects) xs x) (flat_push (λ y. (deed y).events) xs x) (flat_push (λ y. (deed y).changes) xs x)
+
+-- the deeds behind what was there, one more
+pub all_deeds-more : {X : Type 0} (start : Deed) (deed : X → Deed) (xs : List X) (i : ℕ) (d : X) → i < length xs → (start then all_deeds deed (take (i + 1) xs)) ≡ ((start then all_deeds deed (take i xs)) then deed (get_or xs i d))
+all_deeds-more start deed xs i d lt =
+    ap (λ ys. start then all_deeds deed ys) (take_more xs i d lt)
+    ∙ ap (λ whole. start then whole) (all_deeds-push deed (take i xs) (get_or xs i d))
+    ∙ sym (then-assoc start (all_deeds deed (take i xs)) (deed (get_or xs i d)))

@@ -10,7 +10,6 @@ use std::alloc::Global;
 use std::marker::Model;
 
 /// The control part: the tables, the ids that come next, and which mappings have background work, in order of id.
-#[derive(Drop)]
 pub struct Control {
     pub(crate) registry: Registry,
     pub(crate) grain: GrainSize,
@@ -18,6 +17,20 @@ pub struct Control {
     pub(crate) next_mapping: u32,
     pub(crate) next_group: u32,
     pub(crate) flags: Vec<WorkFlags>,
+}
+
+impl Drop for Control {
+    // Written out, so that a function that drops it has one call for all of it in its proof.
+    fn drop(self) {
+        let Control {
+            registry: _,
+            grain: _,
+            next_volume: _,
+            next_mapping: _,
+            next_group: _,
+            flags: _,
+        } = self;
+    }
 }
 
 impl Model for Control {

@@ -1,6 +1,7 @@
 //! How the copy of a mapping ends.
 
-ghost use Rattle.std.specs.Prelude.{◌≡◌, OnOk, IfOk, cond, false};
+ghost use Rattle.std.specs.Prelude.{◌≡◌, [], ◌∷◌, ◌++◌, OnOk, IfOk, cond, false};
+ghost use Rattle.fc_base.specs.States.{access_of};
 ghost use Rattle.fc_books.specs.Accesses.{is_idle, is_active};
 ghost use Rattle.fc_books.specs.Books.{◌then◌};
 ghost use Rattle.fc_books.specs.Ending.{ends_in, comes_to, goes_from, in_state};
@@ -64,6 +65,14 @@ pub fn in_state(mapping: Mapping, state: MapState) -> Mapping
 pub fn come_to(draft: &mut Draft, mapping: Mapping, state: MapState) -> Result<(), NoMemory>
     ensures { OnOk result (draft.new ≡ (draft.old then comes_to state mapping)) }
 {
+    tell_state(draft, &mapping, state)?;
+    draft.change(Change::SetMapping(in_state(mapping, state)))
+}
+
+/// The history tells a mapping's state, and hosts reach its target by that state.
+fn tell_state(draft: &mut Draft, mapping: &Mapping, state: MapState) -> Result<(), NoMemory>
+    ensures { OnOk result (draft.new ≡ record draft.old { effects = draft.old.effects ++ Effect.State mapping.now.id state ∷ []; events = draft.old.events ++ LaneEvent.Access mapping.now.target (access_of mapping.now.id state mapping.now.complete) ∷ [] }) }
+{
     draft.affect(Effect::State {
         map: mapping.id,
         state,
@@ -71,23 +80,15 @@ pub fn come_to(draft: &mut Draft, mapping: Mapping, state: MapState) -> Result<(
     draft.tell(LaneEvent::Access {
         volume: mapping.target,
         access: access(mapping.id, state, mapping.complete),
-    })?;
-    draft.change(Change::SetMapping(in_state(mapping, state)))
+    })
 }
 
 /// A mapping comes into a state and is removed.
 fn go_from(draft: &mut Draft, mapping: &Mapping, state: MapState) -> Result<(), NoMemory>
     ensures { OnOk result (draft.new ≡ (draft.old then goes_from state mapping.now)) }
 {
-    draft.affect(Effect::State {
-        map: mapping.id,
-        state,
-    })?;
+    tell_state(draft, mapping, state)?;
     draft.affect(Effect::Gone { map: mapping.id })?;
-    draft.tell(LaneEvent::Access {
-        volume: mapping.target,
-        access: access(mapping.id, state, mapping.complete),
-    })?;
     draft.tell(LaneEvent::Forget { map: mapping.id })?;
     draft.change(Change::RemoveMapping(mapping.id))
 }

@@ -10,10 +10,19 @@ use std::marker::Model;
 
 /// For each volume the numbers of the mappings that name it, found by one hash look-up. Contracts see the lists beside
 /// the volumes.
-#[derive(Drop)]
 pub(crate) struct Namers {
     volumes: IndexSet<u32>,
     lists: Vec<Vec<u32>>,
+}
+
+impl Drop for Namers {
+    // Written out, so that a function that drops it has one call for all of it in its proof.
+    fn drop(self) {
+        let Namers {
+            volumes: _,
+            lists: _,
+        } = self;
+    }
 }
 
 impl Model for Namers {

@@ -14,11 +14,21 @@ use std::alloc::Global;
 use std::marker::Model;
 
 /// Rows of mappings, no two of them of one mapping. The first so many may be spoken of alone. Contracts see the list of them.
-#[derive(Drop)]
 pub(crate) struct Table {
     ids: IndexSet<u32>,
     rows: Vec<Tracked>,
     namers: Namers,
+}
+
+impl Drop for Table {
+    // Written out, so that a function that drops it has one call for all of it in its proof.
+    fn drop(self) {
+        let Table {
+            ids: _,
+            rows: _,
+            namers: _,
+        } = self;
+    }
 }
 
 impl Model for Table {

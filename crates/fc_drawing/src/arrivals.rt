@@ -27,11 +27,20 @@ pub struct Arrival {
 }
 
 /// How grains came to slots, in the order in which they came, numbered from 0 on. What isn't among them a slot held from its birth.
-#[derive(Drop)]
 pub struct Arrivals {
     all: Vec<Arrival>,
     /// For a slot, by its birth, and a grain: the number of the last arrival there.
     latest: HashMap<(u64, usize), usize>,
+}
+
+impl Drop for Arrivals {
+    // Written out, so that a function that drops it has one call for all of it in its proof.
+    fn drop(self) {
+        let Arrivals {
+            all: _,
+            latest: _,
+        } = self;
+    }
 }
 
 impl Model for Arrivals {

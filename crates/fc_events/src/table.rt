@@ -17,12 +17,23 @@ use std::marker::Model;
 
 /// The slots of all chains, those of one chain in their order, and a spare set of grains for each slot that can be made
 /// without taking memory. All spare sets have `width` grains, and no slot has more.
-#[derive(Drop)]
 pub struct SlotTable {
     births: u64,
     slots: Vec<Slot>,
     spare: Vec<GrainSet>,
     width: u32,
+}
+
+impl Drop for SlotTable {
+    // Written out, so that a function that drops it has one call for all of it in its proof.
+    fn drop(self) {
+        let SlotTable {
+            births: _,
+            slots: _,
+            spare: _,
+            width: _,
+        } = self;
+    }
 }
 
 impl Model for SlotTable {

@@ -18,14 +18,17 @@ item_put f out mid new xs i x so_far inside is next =
     ∙ ap (λ z. out ++ flat_map f z) (ap (λ z. take i xs ++ z ∷ []) is ∙ sym (take_more xs i x inside))))
 
 -- a length, what it counts, and a gate, behind something
-pub counted_put : (g w z : List ℕ) (out mid long whole all written lent : List ℕ) (n : ℕ)
-    → mid ≡ g → long ≡ mid ++ big_bytes 4 n → n ≡ length lent → lent ≡ written → written ≡ w → whole ≡ long ++ lent → all ≡ whole ++ z
-    → all ≡ g ++ (big_bytes 4 (length w) ++ (w ++ z))
-counted_put g w z out mid long whole all written lent n first second count same is third last =
-    let e : lent ≡ w = same ∙ is in
-    let k : n ≡ length w = count ∙ ap length e in
-    last ∙ (ap (λ (x : List ℕ). x ++ z) (third ∙ (ap (λ (x : List ℕ). x ++ lent) (second ∙ (ap (λ (x : List ℕ). x ++ big_bytes 4 n) first ∙ ap (λ (m : ℕ). g ++ big_bytes 4 m) k))
-    ∙ ap (λ (x : List ℕ). (g ++ big_bytes 4 (length w)) ++ x) e)) ∙ (append_assoc (g ++ big_bytes 4 (length w)) w z ∙ append_assoc g (big_bytes 4 (length w)) (w ++ z)))
+pub gated_put : (g w z : List ℕ) {long whole all : List ℕ} {n : ℕ}
+    → long ≡ g ++ big_bytes 4 n → n ≡ length w → whole ≡ long ++ w → all ≡ whole ++ z → all ≡ g ++ (big_bytes 4 (length w) ++ (w ++ z))
+gated_put g w z first count second last =
+    last ∙ (ap (λ (x : List ℕ). x ++ z) (second ∙ ap (λ (x : List ℕ). x ++ w) (first ∙ ap (λ (m : ℕ). g ++ big_bytes 4 m) count))
+    ∙ (append_assoc (g ++ big_bytes 4 (length w)) w z ∙ append_assoc g (big_bytes 4 (length w)) (w ++ z)))
+
+-- the same behind something known, of what is known
+pub gated_known : (g w z : List ℕ) {mid lent all : List ℕ}
+    → mid ≡ g → lent ≡ w → all ≡ mid ++ (big_bytes 4 (length lent) ++ (lent ++ z)) → all ≡ g ++ (big_bytes 4 (length w) ++ (w ++ z))
+gated_known g w z {mid} {lent} first same all =
+    all ∙ (ap (λ (x : List ℕ). x ++ (big_bytes 4 (length lent) ++ (lent ++ z))) first ∙ ap (λ (x : List ℕ). g ++ (big_bytes 4 (length x) ++ (x ++ z))) same)
 
 -- how long a batch is
 pub batch_long : (rs : List MetaRecord) → length (batch_bytes rs) ≡ 5 + length (records_bytes rs)

@@ -5,7 +5,7 @@ ghost use Rattle.fc_format.specs.Fields.{slot, chain, lost, changes};
 ghost use Rattle.fc_format.specs.Ranges.{IsTypedSlot, IsTypedChain, IsTypedLost, IsTypedChanges};
 
 use crate::cursor::{Cursor, ReadError};
-use crate::field::{Field, Put, Two};
+use crate::field::{Field, Lent, Put};
 use fc_base::ids::{MapId, SlotId, VolId};
 use fc_base::outcome::NoMemory;
 use fc_image::{MetaChain, MetaChanges, MetaLost, MetaSlot, SlotList, Words};
@@ -18,15 +18,8 @@ impl Put for MetaSlot {
 
     #[tactic(auto, unfolding(crate::specs::Bytes::slot_bytes))]
     fn put(&self, out: &mut Vec<u8>) -> Result<(), NoMemory> {
-        Two(
-            &self.birth.0,
-            &Two(
-                &self.volume.0,
-                &Two(&self.live, &Two(&self.map, &self.held)),
-            ),
-        )
-        .put(out)?;
-        Ok(())
+        let map_and_held = (self.map, Lent(&self.held));
+        (self.birth.0, (self.volume.0, (self.live, map_and_held))).put(out)
     }
 }
 
@@ -54,8 +47,7 @@ impl Put for MetaChain {
 
     #[tactic(auto, unfolding(crate::specs::Bytes::chain_bytes))]
     fn put(&self, out: &mut Vec<u8>) -> Result<(), NoMemory> {
-        Two(&self.label, &self.slots).put(out)?;
-        Ok(())
+        (self.label, Lent(&self.slots)).put(out)
     }
 }
 
@@ -77,8 +69,7 @@ impl Put for MetaLost {
 
     #[tactic(auto, unfolding(crate::specs::Bytes::lost_bytes))]
     fn put(&self, out: &mut Vec<u8>) -> Result<(), NoMemory> {
-        Two(&self.volume.0, &self.lost).put(out)?;
-        Ok(())
+        (self.volume.0, Lent(&self.lost)).put(out)
     }
 }
 
@@ -103,15 +94,8 @@ impl Put for MetaChanges {
 
     #[tactic(auto, unfolding(crate::specs::Bytes::changes_bytes))]
     fn put(&self, out: &mut Vec<u8>) -> Result<(), NoMemory> {
-        Two(
-            &self.map.0,
-            &Two(
-                &self.last_source,
-                &Two(&self.last_target, &Two(&self.changed, &self.kept)),
-            ),
-        )
-        .put(out)?;
-        Ok(())
+        let words = (Lent(&self.changed), Lent(&self.kept));
+        (self.map.0, (self.last_source, (self.last_target, words))).put(out)
     }
 }
 

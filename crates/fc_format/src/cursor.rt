@@ -6,7 +6,7 @@ ghost use Rattle.fc_format.specs.Left.{place, passed, first_byte};
 use std::marker::Model;
 
 /// Why bytes couldn't be read.
-#[derive(Clone, Copy, Debug, PartialEq, Eq)]
+#[derive(Clone, Copy)]
 pub enum ReadError {
     /// Memory was wanted.
     NoMemory,

@@ -17,7 +17,7 @@ use fc_base::list::List;
 use fc_base::name::Name;
 use fc_base::outcome::NoMemory;
 use fc_image::Words;
-use std::alloc::Global;
+use std::alloc::{AllocError, Global};
 
 /// What is written as bytes.
 pub(crate) trait Put {
@@ -63,14 +63,35 @@ pub(crate) fn put_count(out: &mut Vec<u8>, count: usize) -> Result<(), NoMemory>
     put_bytes(out, &bytes[4..])
 }
 
-/// Two parts, one behind the other.
-#[derive(Drop)]
-pub(crate) struct Two<'a, A, B>(pub(crate) &'a A, pub(crate) &'a B);
+/// A part that stays where it is.
+pub(crate) struct Lent<'a, T>(pub(crate) &'a T);
 
-impl<'a, A: Put, B: Put> Put for Two<'a, A, B> {
-    ghost bytes_of = { λ two. A.bytes_of two.0.now ++ B.bytes_of two.1.now };
+impl<'a, T> Clone for Lent<'a, T> {
+    ghost is_clone = { λ lent clone. clone ≡ lent };
 
-    ghost is_typed = { λ two. A.is_typed two.0.now × B.is_typed two.1.now };
+    ghost is_infallible = { λ lent. ⊤ };
+
+    fn clone(&self) -> Result<Self, AllocError> {
+        Ok(*self)
+    }
+}
+
+impl<'a, T> Copy for Lent<'a, T> {}
+
+impl<'a, T: Put> Put for Lent<'a, T> {
+    ghost bytes_of = { λ lent. T.bytes_of lent.0.now };
+
+    ghost is_typed = { λ lent. T.is_typed lent.0.now };
+
+    fn put(&self, out: &mut Vec<u8>) -> Result<(), NoMemory> {
+        self.0.put(out)
+    }
+}
+
+impl<A: Put, B: Put> Put for (A, B) {
+    ghost bytes_of = { λ two. A.bytes_of two.0 ++ B.bytes_of two.1 };
+
+    ghost is_typed = { λ two. A.is_typed two.0 × B.is_typed two.1 };
 
     fn put(&self, out: &mut Vec<u8>) -> Result<(), NoMemory> {
         self.0.put(out)?;

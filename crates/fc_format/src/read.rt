@@ -2,7 +2,7 @@
 
 ghost use Rattle.std.specs.Prelude.{◌≡◌, ◌≤◌, length, OnSome, option_map};
 ghost use Rattle.fc_format.specs.Reading.{IfPart, part_of, counted, IsRead, items_read};
-ghost use Rattle.fc_format.specs.Fields.{image, records};
+ghost use Rattle.fc_format.specs.Fields.{records};
 ghost use Rattle.fc_format.specs.Halves.{batches, IsHalfRead};
 
 use crate::cursor::{Cursor, ReadError};
@@ -11,28 +11,45 @@ use byteorder::{BigEndian, ByteOrder};
 use fc_base::outcome::NoMemory;
 use fc_image::{MetaImage, MetaRecord, with_records};
 use std::alloc::Global;
+use std::marker::Model;
 
-/// Takes records until the bytes end.
-fn take_records(alloc: Global, cursor: &mut Cursor) -> Result<Vec<MetaRecord>, ReadError>
-    ensures { IsRead (records cursor.old) (items_read result) cursor.new }
-{
-    let mut all = Vec::new(alloc);
-    let count = cursor.bytes().len();
-    for taken in 0..count {
-        let _ = taken;
-        match cursor.first() {
-            None => return Ok(all),
-            Some(_) => {
-                let record = MetaRecord::read(alloc, cursor)?;
-                if all.push(record).is_err() {
-                    return Err(ReadError::NoMemory);
+/// Records that fill the bytes that are left.
+#[derive(Drop)]
+struct Records {
+    all: Vec<MetaRecord>,
+}
+
+impl Model for Records {
+    ghost use Rattle.std.specs.Prelude.{List};
+    ghost use Rattle.fc_image.specs.declared.record.MetaRecord.{MetaRecord};
+
+    ghost Value = { List MetaRecord };
+
+    ghost view = { λ r. r.all.items };
+}
+
+impl Field for Records {
+    ghost reading = { records };
+
+    fn read(alloc: Global, cursor: &mut Cursor) -> Result<Self, ReadError> {
+        let mut all = Vec::new(alloc);
+        let count = cursor.bytes().len();
+        for taken in 0..count {
+            let _ = taken;
+            match cursor.first() {
+                None => return Ok(Records { all }),
+                Some(_) => {
+                    let record = MetaRecord::read(alloc, cursor)?;
+                    if all.push(record).is_err() {
+                        return Err(ReadError::NoMemory);
+                    }
                 }
             }
         }
-    }
-    match cursor.first() {
-        Some(_) => Err(cursor.damaged()),
-        None => Ok(all),
+        match cursor.first() {
+            Some(_) => Err(cursor.damaged()),
+            None => Ok(Records { all }),
+        }
     }
 }
 
@@ -55,33 +72,18 @@ fn take_part<'a>(cursor: &mut Cursor<'a>) -> Option<Cursor<'a>>
     Some(Cursor::new(&rest[..count], end))
 }
 
-/// Takes a batch behind its open gate: a length and records.
-fn take_batch(alloc: Global, cursor: &mut Cursor) -> Result<Vec<MetaRecord>, ReadError>
-    ensures { IsRead (counted records cursor.old) (items_read result) cursor.new }
+/// Takes a part behind its length, which one value fills.
+fn take_counted<T: Field>(alloc: Global, cursor: &mut Cursor) -> Result<T, ReadError>
+    ensures { IsRead (counted T.reading cursor.old) result cursor.new }
 {
     let mut part = match take_part(cursor) {
         Some(part) => part,
         None => return Err(cursor.damaged()),
     };
-    let records = take_records(alloc, &mut part)?;
+    let value = T::read(alloc, &mut part)?;
     match part.first() {
         Some(_) => Err(part.damaged()),
-        None => Ok(records),
-    }
-}
-
-/// Takes an image behind its length.
-fn take_image(alloc: Global, cursor: &mut Cursor) -> Result<MetaImage, ReadError>
-    ensures { IsRead (counted image cursor.old) result cursor.new }
-{
-    let mut part = match take_part(cursor) {
-        Some(part) => part,
-        None => return Err(cursor.damaged()),
-    };
-    let image = MetaImage::read(alloc, &mut part)?;
-    match part.first() {
-        Some(_) => Err(part.damaged()),
-        None => Ok(image),
+        None => Ok(value),
     }
 }
 
@@ -100,8 +102,8 @@ fn take_batches(alloc: Global, cursor: &mut Cursor) -> Result<Vec<MetaRecord>, R
                 if gate != 1 {
                     return Ok(all);
                 }
-                let records = take_batch(alloc, cursor)?;
-                if all.extend_from_slice(&records).is_err() {
+                let records: Records = take_counted(alloc, cursor)?;
+                if all.extend_from_slice(&records.all).is_err() {
                     return Err(ReadError::NoMemory);
                 }
             }
@@ -116,7 +118,7 @@ pub fn image_in(alloc: Global, bytes: &[u8], end: u32) -> Result<(MetaImage, usi
     ensures { IsHalfRead bytes.now end result }
 {
     let mut cursor = Cursor::new(bytes, end);
-    let image = take_image(alloc, &mut cursor)?;
+    let image: MetaImage = take_counted(alloc, &mut cursor)?;
     let records = take_batches(alloc, &mut cursor)?;
     let left = cursor.bytes().len();
     let closed = bytes.len() - left - 1;

@@ -8,7 +8,7 @@ ghost use Rattle.fc_format.specs.Ranges.{IsTypedRecord};
 
 use crate::codes::Code;
 use crate::cursor::{Cursor, ReadError};
-use crate::field::{Field, Put, Two};
+use crate::field::{Field, Put};
 use fc_base::ids::{GrainNo, SlotId, VolId};
 use fc_base::outcome::NoMemory;
 use fc_base::request::Side;
@@ -16,7 +16,7 @@ use fc_image::MetaRecord;
 use std::alloc::Global;
 
 /// Which record it is.
-#[derive(Clone, Copy, PartialEq, Eq)]
+#[derive(Clone, Copy)]
 pub(crate) enum RecordKind {
     /// A move.
     Pair,
@@ -124,28 +124,19 @@ impl Put for MetaRecord {
                 in_place,
                 empty,
             } => {
-                let told = Two(
-                    &slot.0,
-                    &Two(&volume.0, &Two(&grain.0, &Two(&in_place, &empty))),
-                );
-                Two(&RecordKind::Pair, &told).put(out)?;
-                Ok(())
+                let told = (slot.0, (volume.0, (grain.0, (in_place, empty))));
+                (RecordKind::Pair, told).put(out)
             }
             MetaRecord::Written { volume, grain } => {
-                Two(&RecordKind::Written, &Two(&volume.0, &grain.0)).put(out)?;
-                Ok(())
+                (RecordKind::Written, (volume.0, grain.0)).put(out)
             }
             MetaRecord::Torn {
                 volume,
                 grain,
                 side,
-            } => {
-                Two(&RecordKind::Torn, &Two(&volume.0, &Two(&grain.0, &side))).put(out)?;
-                Ok(())
-            }
+            } => (RecordKind::Torn, (volume.0, (grain.0, side))).put(out),
             MetaRecord::Changing { volume, grain } => {
-                Two(&RecordKind::Changing, &Two(&volume.0, &grain.0)).put(out)?;
-                Ok(())
+                (RecordKind::Changing, (volume.0, grain.0)).put(out)
             }
         }
     }

@@ -5,7 +5,7 @@ ghost use Rattle.fc_format.specs.Fields.{volume, mapping, group};
 ghost use Rattle.fc_format.specs.Ranges.{IsTypedVolume, IsTypedMapping, IsTypedGroup};
 
 use crate::cursor::{Cursor, ReadError};
-use crate::field::{Field, Put, Two};
+use crate::field::{Field, Lent, Put};
 use fc_base::disk::DiskKind;
 use fc_base::ids::{GroupId, MapId, VolId};
 use fc_base::name::Name;
@@ -21,8 +21,7 @@ impl Put for Volume {
 
     #[tactic(auto, unfolding(crate::specs::Bytes::volume_bytes))]
     fn put(&self, out: &mut Vec<u8>) -> Result<(), NoMemory> {
-        Two(&self.id.0, &Two(&self.name, &Two(&self.grains, &self.kind))).put(out)?;
-        Ok(())
+        (self.id.0, (Lent(&self.name), (self.grains, self.kind))).put(out)
     }
 }
 
@@ -60,12 +59,12 @@ impl Put for Mapping {
     ghost is_typed = { IsTypedMapping };
 
     fn put(&self, out: &mut Vec<u8>) -> Result<(), NoMemory> {
-        let names = Two(&self.id.0, &self.name);
-        let ends = Two(&self.source.0, &Two(&self.target.0, &self.group));
-        let course = Two(&self.state, &Two(&self.copy_rate, &self.clean_rate));
-        let marks = Two(&self.incremental, &Two(&self.autodelete, &self.restoring));
-        let progress = Two(&self.held_at_leave, &self.complete);
-        Two(&names, &Two(&ends, &Two(&course, &Two(&marks, &progress)))).put(out)?;
+        let names = (self.id.0, Lent(&self.name));
+        let ends = (self.source.0, (self.target.0, self.group));
+        let course = (self.state, (self.copy_rate, self.clean_rate));
+        let marks = (self.incremental, (self.autodelete, self.restoring));
+        let progress = (self.held_at_leave, self.complete);
+        (names, (ends, (course, (marks, progress)))).put(out)?;
         Ok(())
     }
 }
@@ -109,8 +108,7 @@ impl Put for Group {
 
     #[tactic(auto, unfolding(crate::specs::Bytes::group_bytes))]
     fn put(&self, out: &mut Vec<u8>) -> Result<(), NoMemory> {
-        Two(&self.id.0, &self.name).put(out)?;
-        Ok(())
+        (self.id.0, Lent(&self.name)).put(out)
     }
 }
 

@@ -5,7 +5,7 @@ ghost use Rattle.fc_format.specs.Fields.{image};
 ghost use Rattle.fc_format.specs.Ranges.{IsTypedImage};
 
 use crate::cursor::{Cursor, ReadError};
-use crate::field::{Field, Put, Two};
+use crate::field::{Field, Lent, Put};
 use fc_base::outcome::NoMemory;
 use fc_image::{ChainList, ChangesList, GroupList, LostList, MappingList, MetaImage, VolumeList};
 use std::alloc::Global;
@@ -16,11 +16,14 @@ impl Put for MetaImage {
     ghost is_typed = { IsTypedImage };
 
     fn put(&self, out: &mut Vec<u8>) -> Result<(), NoMemory> {
-        let ids = Two(&self.next_volume, &Two(&self.next_map, &self.next_group));
-        let next = Two(&self.next_birth, &ids);
-        let tables = Two(&self.volumes, &Two(&self.mappings, &self.groups));
-        let copies = Two(&self.chains, &Two(&self.lost, &self.changes));
-        Two(&next, &Two(&tables, &copies)).put(out)?;
+        let ids = (self.next_volume, (self.next_map, self.next_group));
+        let next = (self.next_birth, ids);
+        let tables = (
+            Lent(&self.volumes),
+            (Lent(&self.mappings), Lent(&self.groups)),
+        );
+        let copies = (Lent(&self.chains), (Lent(&self.lost), Lent(&self.changes)));
+        (next, (tables, copies)).put(out)?;
         Ok(())
     }
 }

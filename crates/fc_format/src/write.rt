@@ -1,14 +1,25 @@
 //! What stands behind a gate: an image with its generation, or a batch of records.
 
-ghost use Rattle.std.specs.Prelude.{◌≡◌, ◌++◌, length, All, IfOk, min, ◌+◌, ◌^◌, ◌-◌};
+ghost use Rattle.std.specs.Prelude.{◌≡◌, ◌++◌, length, All, IfOk, OnOk, min, ◌+◌, ◌^◌, ◌-◌};
 ghost use Rattle.std.specs.List.{sum_by};
-ghost use Rattle.fc_format.specs.Bytes.{half_bytes, batch_bytes, record_bytes, records_bytes};
+ghost use Rattle.byteorder.specs.Endian.{big_bytes};
+ghost use Rattle.fc_format.specs.Bytes.{byte, half_bytes, batch_bytes, record_bytes};
 ghost use Rattle.fc_format.specs.Ranges.{IsTypedImage, IsTypedRecord};
 
 use crate::field::{Put, put_bytes, put_count, put_items};
 use fc_base::outcome::NoMemory;
 use fc_image::{MetaImage, MetaRecord};
 use std::alloc::Global;
+
+/// Puts what was written behind its length, and a closed gate behind it.
+fn put_gated(out: &mut Vec<u8>, written: &[u8]) -> Result<(), NoMemory>
+    ensures { OnOk result (out.new.items ≡ out.old.items ++ (big_bytes 4 (length written.now) ++ (written.now ++ byte 0))) }
+{
+    put_count(out, written.len())?;
+    put_bytes(out, written)?;
+    put_bytes(out, &[0])?;
+    Ok(())
+}
 
 /// The bytes behind the gate of a half: generation, length, image, and the closed gate of the first batch.
 pub fn half_with(alloc: Global, generation: u64, image: &MetaImage) -> Result<Vec<u8>, NoMemory>
@@ -19,10 +30,7 @@ pub fn half_with(alloc: Global, generation: u64, image: &MetaImage) -> Result<Ve
     image.put(&mut written)?;
     let mut bytes = Vec::new(alloc);
     generation.put(&mut bytes)?;
-    let count = written.len();
-    put_count(&mut bytes, count)?;
-    put_bytes(&mut bytes, &written)?;
-    put_bytes(&mut bytes, &[0])?;
+    put_gated(&mut bytes, &written)?;
     Ok(bytes)
 }
 
@@ -34,10 +42,7 @@ pub fn batch_with(alloc: Global, records: &[MetaRecord]) -> Result<Vec<u8>, NoMe
     let mut written = Vec::new(alloc);
     put_items(&mut written, records)?;
     let mut bytes = Vec::new(alloc);
-    let count = written.len();
-    put_count(&mut bytes, count)?;
-    put_bytes(&mut bytes, &written)?;
-    put_bytes(&mut bytes, &[0])?;
+    put_gated(&mut bytes, &written)?;
     Ok(bytes)
 }
 

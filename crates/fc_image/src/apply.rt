@@ -1,7 +1,9 @@
 //! An image with records applied.
 
-ghost use Rattle.std.specs.Prelude.{◌≡◌, map, IfOk};
+ghost use Rattle.std.specs.Prelude.{◌≡◌, List, map, IfOk, OnOk};
 ghost use Rattle.std.specs.List.{fold};
+ghost use Rattle.fc_base.specs.declared.volume.Mapping.{Mapping};
+ghost use Rattle.fc_image.specs.declared.record.MetaRecord.{MetaRecord};
 ghost use Rattle.fc_image.specs.Records.{held_after, lost_after, changed_after, names_volume, slot_after, chain_after, row_after, changes_after, after_records};
 
 use crate::image::{MetaChain, MetaChanges, MetaImage, MetaLost, MetaSlot};
@@ -107,121 +109,133 @@ fn apply_to_changed(changed: &mut Words, mappings: &[Mapping], map: MapId, told:
     }
 }
 
-/// A slot with all records applied.
-fn slot_with(alloc: Global, slot: &MetaSlot, records: &[MetaRecord]) -> Result<MetaSlot, NoMemory>
-    ensures { IfOk result (λ s. s ≡ fold slot_after slot.now records.now) }
-{
-    let mut held = slot.held.copy(alloc)?;
-    for record in records {
-        apply_to_held(&mut held, slot.volume, slot.live, *record);
-    }
-    Ok(MetaSlot {
-        birth: slot.birth,
-        volume: slot.volume,
-        live: slot.live,
-        map: slot.map,
-        held,
-    })
+/// A row of a list of an image, to which records apply.
+trait Row: Drop + Sized {
+    /// What a record makes of it beside these mappings.
+    ghost after: { List Mapping → Self → MetaRecord → Self };
+
+    /// The row with all records applied.
+    fn applied(
+        &self,
+        alloc: Global,
+        mappings: &[Mapping],
+        records: &[MetaRecord],
+    ) -> Result<Self, NoMemory>
+        ensures { IfOk result (λ row. row ≡ fold (after mappings.now) self.now records.now) };
 }
 
-/// A chain with all records applied.
-fn chain_with(
-    alloc: Global,
-    chain: &MetaChain,
-    records: &[MetaRecord],
-) -> Result<MetaChain, NoMemory>
-    ensures { IfOk result (λ c. c ≡ fold chain_after chain.now records.now) }
-{
-    let mut slots = List::new(alloc);
-    for slot in chain.slots.as_slice() {
-        slots.push(slot_with(alloc, slot, records)?)?;
-    }
-    Ok(MetaChain {
-        label: chain.label,
-        slots,
-    })
-}
-
-/// A volume's lost grains with all records applied.
-fn lost_with(alloc: Global, row: &MetaLost, records: &[MetaRecord]) -> Result<MetaLost, NoMemory>
-    ensures { IfOk result (λ r. r ≡ fold row_after row.now records.now) }
-{
-    let mut lost = row.lost.copy(alloc)?;
-    for record in records {
-        apply_to_lost(&mut lost, row.volume, *record);
-    }
-    Ok(MetaLost {
-        volume: row.volume,
-        lost,
-    })
-}
-
-/// What changed for a mapping, with all records applied.
-fn changes_with(
+/// The rows with all records applied.
+fn all_with<T: Row>(
     alloc: Global,
     mappings: &[Mapping],
-    row: &MetaChanges,
+    rows: &[T],
     records: &[MetaRecord],
-) -> Result<MetaChanges, NoMemory>
-    ensures { IfOk result (λ r. r ≡ fold (changes_after mappings.now) row.now records.now) }
-{
-    let mut changed = row.changed.copy(alloc)?;
-    for record in records {
-        apply_to_changed(&mut changed, mappings, row.map, *record);
-    }
-    Ok(MetaChanges {
-        map: row.map,
-        last_source: row.last_source,
-        last_target: row.last_target,
-        changed,
-        kept: row.kept.copy(alloc)?,
-    })
-}
-
-/// The chains with all records applied.
-fn chains_with(
-    alloc: Global,
-    chains: &[MetaChain],
-    records: &[MetaRecord],
-) -> Result<List<MetaChain>, NoMemory>
-    ensures { IfOk result (λ all. all ≡ map (λ chain. fold chain_after chain records.now) chains.now) }
-{
-    let mut all = List::new(alloc);
-    for chain in chains {
-        all.push(chain_with(alloc, chain, records)?)?;
-    }
-    Ok(all)
-}
-
-/// The lost grains with all records applied.
-fn all_lost_with(
-    alloc: Global,
-    rows: &[MetaLost],
-    records: &[MetaRecord],
-) -> Result<List<MetaLost>, NoMemory>
-    ensures { IfOk result (λ all. all ≡ map (λ row. fold row_after row records.now) rows.now) }
+) -> Result<List<T>, NoMemory>
+    ensures { IfOk result (λ all. all ≡ map (λ row. fold (T.after mappings.now) row records.now) rows.now) }
 {
     let mut all = List::new(alloc);
     for row in rows {
-        all.push(lost_with(alloc, row, records)?)?;
+        all.push(row.applied(alloc, mappings, records)?)?;
     }
     Ok(all)
 }
 
-/// What changed, with all records applied.
-fn all_changes_with(
-    alloc: Global,
-    mappings: &[Mapping],
-    rows: &[MetaChanges],
-    records: &[MetaRecord],
-) -> Result<List<MetaChanges>, NoMemory>
-    ensures { IfOk result (λ all. all ≡ map (λ row. fold (changes_after mappings.now) row records.now) rows.now) }
-{
-    let mut all = List::new(alloc);
-    for row in rows {
-        all.push(changes_with(alloc, mappings, row, records)?)?;
+impl Row for MetaSlot {
+    ghost after = { λ mappings. slot_after };
+
+    fn applied(
+        &self,
+        alloc: Global,
+        _mappings: &[Mapping],
+        records: &[MetaRecord],
+    ) -> Result<MetaSlot, NoMemory> {
+        let mut held = self.held.copy(alloc)?;
+        for record in records {
+            apply_to_held(&mut held, self.volume, self.live, *record);
+        }
+        Ok(MetaSlot {
+            birth: self.birth,
+            volume: self.volume,
+            live: self.live,
+            map: self.map,
+            held,
+        })
     }
-    Ok(all)
+}
+
+impl Row for MetaChain {
+    ghost after = { λ mappings. chain_after };
+
+    fn applied(
+        &self,
+        alloc: Global,
+        mappings: &[Mapping],
+        records: &[MetaRecord],
+    ) -> Result<MetaChain, NoMemory> {
+        let slots = all_with(alloc, mappings, self.slots.as_slice(), records)?;
+        Ok(MetaChain {
+            label: self.label,
+            slots,
+        })
+    }
+}
+
+impl Row for MetaLost {
+    ghost after = { λ mappings. row_after };
+
+    fn applied(
+        &self,
+        alloc: Global,
+        _mappings: &[Mapping],
+        records: &[MetaRecord],
+    ) -> Result<MetaLost, NoMemory> {
+        let mut lost = self.lost.copy(alloc)?;
+        for record in records {
+            apply_to_lost(&mut lost, self.volume, *record);
+        }
+        Ok(MetaLost {
+            volume: self.volume,
+            lost,
+        })
+    }
+}
+
+impl Row for MetaChanges {
+    ghost after = { changes_after };
+
+    fn applied(
+        &self,
+        alloc: Global,
+        mappings: &[Mapping],
+        records: &[MetaRecord],
+    ) -> Result<MetaChanges, NoMemory> {
+        let mut changed = self.changed.copy(alloc)?;
+        for record in records {
+            apply_to_changed(&mut changed, mappings, self.map, *record);
+        }
+        Ok(MetaChanges {
+            map: self.map,
+            last_source: self.last_source,
+            last_target: self.last_target,
+            changed,
+            kept: self.kept.copy(alloc)?,
+        })
+    }
+}
+
+/// Applies all records to the image, in order. Refused, the image is of no use.
+fn apply_records(
+    alloc: Global,
+    image: &mut MetaImage,
+    records: &[MetaRecord],
+) -> Result<(), NoMemory>
+    ensures { OnOk result (image.new ≡ after_records image.old records.now) }
+{
+    let mappings = image.mappings.as_slice();
+    image.chains = all_with(alloc, mappings, image.chains.as_slice(), records)?;
+    image.lost = all_with(alloc, mappings, image.lost.as_slice(), records)?;
+    image.changes = all_with(alloc, mappings, image.changes.as_slice(), records)?;
+    Ok(())
 }
 
 /// The image with all records applied, in order. A record that names what isn't there changes nothing.
@@ -232,14 +246,7 @@ pub fn with_records(
 ) -> Result<MetaImage, NoMemory>
     ensures { IfOk result (λ all. all ≡ after_records image records.now) }
 {
-    let mappings = image.mappings.as_slice();
-    let chains = chains_with(alloc, image.chains.as_slice(), records)?;
-    let lost = all_lost_with(alloc, image.lost.as_slice(), records)?;
-    let changes = all_changes_with(alloc, mappings, image.changes.as_slice(), records)?;
-    Ok(MetaImage {
-        chains,
-        lost,
-        changes,
-        ..image
-    })
+    let mut image = image;
+    apply_records(alloc, &mut image, records)?;
+    Ok(image)
 }

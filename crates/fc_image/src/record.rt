@@ -4,7 +4,7 @@ use fc_base::ids::{GrainNo, SlotId, VolId};
 use fc_base::request::Side;
 
 /// One step of a grain that is over, or, of `Changing`, is about to begin.
-#[derive(Clone, Copy, PartialEq, Eq)]
+#[derive(Clone, Copy)]
 pub enum MetaRecord {
     /// A move: the live slot of the volume holds the grain.
     Pair {

@@ -4,7 +4,7 @@ ghost use Rattle.std.specs.Prelude.{◌≡◌, ◌≤◌, ◌==◌, ◌-◌, if�
 ghost use Rattle.fc_base.specs.Count.{one_more};
 
 /// The calls of a disk and those that failed. Each count stands still at 2^64 - 1.
-#[derive(Clone, Copy, PartialEq, Eq)]
+#[derive(Clone, Copy)]
 pub(crate) struct Counts {
     pub calls: u64,
     pub faults: u64,

@@ -184,9 +184,7 @@ fn unwritten(alloc: Global, count: u32) -> Result<Vec<ThinGrain>, NoMemory>
         return Err(NoMemory);
     };
     for _grain in 0..count {
-        if grains.push(ThinGrain::Unwritten).is_err() {
-            return Err(NoMemory);
-        }
+        grains.push_reserved(ThinGrain::Unwritten);
     }
     Ok(grains)
 }

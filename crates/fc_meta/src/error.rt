@@ -8,7 +8,7 @@ use fc_base::outcome::{Failed, NoMemory};
 use thiserror::Error;
 
 /// Why metadata wasn't written.
-#[derive(Clone, Copy, Debug, PartialEq, Eq, Error)]
+#[derive(Clone, Copy, Debug, Error)]
 pub enum MetaError {
     /// The disk failed in this call.
     #[error("the metadata disk failed")]
@@ -22,7 +22,7 @@ pub enum MetaError {
 }
 
 /// Why metadata wasn't recovered.
-#[derive(Clone, Copy, Debug, PartialEq, Eq, Error)]
+#[derive(Clone, Copy, Debug, Error)]
 pub enum RecoverError {
     /// The disk failed in this call.
     #[error("the metadata disk failed")]

@@ -20,7 +20,7 @@ use fc_metadisk::MetaDisk;
 use std::alloc::Global;
 
 /// The half that is read.
-#[derive(Clone, Copy, PartialEq, Eq)]
+#[derive(Clone, Copy)]
 pub(crate) struct Current {
     half: Half,
     generation: u64,

@@ -19,12 +19,23 @@ use std::alloc::Global;
 use std::marker::Model;
 
 /// Lists of all slots by birth, by mapping and by volume, with room for more; and the number of volumes.
-#[derive(Drop)]
 pub struct Directory {
     births: Index,
     mappings: Index,
     volumes: Index,
     count: usize,
+}
+
+impl Drop for Directory {
+    // Written out, so that a function that drops it has one call for all of it in its proof.
+    fn drop(self) {
+        let Directory {
+            births: _,
+            mappings: _,
+            volumes: _,
+            count: _,
+        } = self;
+    }
 }
 
 impl Model for Directory {

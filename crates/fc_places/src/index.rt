@@ -39,10 +39,19 @@ pub struct Entry {
 }
 
 /// The slots in the order of one number each, and with one number in the order of births.
-#[derive(Drop)]
 pub(crate) struct Index {
     by: By,
     entries: Vec<Entry>,
+}
+
+impl Drop for Index {
+    // Written out, so that a function that drops it has one call for all of it in its proof.
+    fn drop(self) {
+        let Index {
+            by: _,
+            entries: _,
+        } = self;
+    }
 }
 
 impl Model for Index {

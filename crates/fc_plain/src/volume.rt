@@ -15,11 +15,21 @@ use std::alloc::Global;
 use std::marker::Model;
 
 /// A volume: what it holds now, and what it held before its last trigger as a target.
-#[derive(Drop)]
 pub(crate) struct Volume {
     id: VolId,
     current: Vec<Grain>,
     before: Vec<Grain>,
+}
+
+impl Drop for Volume {
+    // Written out, so that a function that drops it has one call for all of it in its proof.
+    fn drop(self) {
+        let Volume {
+            id: _,
+            current: _,
+            before: _,
+        } = self;
+    }
 }
 
 impl Model for Volume {

@@ -17,7 +17,7 @@ use fc_reading::pieces::{Malformed, field, number, one_of, word};
 use std::alloc::Global;
 
 /// What an entry of a lane cost.
-#[derive(Clone, Copy, PartialEq, Eq)]
+#[derive(Clone, Copy)]
 pub struct LaneCalls {
     /// The reads and writes that the entry made on disks.
     pub calls: u32,

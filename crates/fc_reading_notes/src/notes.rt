@@ -2,10 +2,11 @@
 
 ghost use Rattle.std.specs.Prelude.{◌≡◌, ◌≤◌, IfErr, IfOk, OnErr, OnOk, false, length, take, true};
 ghost use Rattle.fc_reading.specs.Pieces.{Reads};
+ghost use Rattle.fc_reading.specs.Readers.{one_of_at};
 ghost use Rattle.fc_reading.specs.Stops.{StopsAt};
 ghost use Rattle.fc_reading_notes.specs.Answers.{ReadsOr};
 ghost use Rattle.fc_reading_notes.specs.Lists.{starts_with};
-ghost use Rattle.fc_reading_notes.specs.Notes.{no_notes, note_at, notes_at, still_moving, with_note};
+ghost use Rattle.fc_reading_notes.specs.Notes.{any_note_at, no_notes, note_at, note_words, notes_at, still_moving, with_note};
 ghost use Rattle.fc_reading_notes.specs.Told.{IfMalformed, IsDone, IsTold, head_at, told_at, told_text};
 
 use crate::lines::{LaneCalls, take_calls, take_effect, take_move, take_torn};
@@ -67,9 +68,9 @@ fn take_late_note(alloc: Global, bytes: &[u8]) -> Result<(Note, &[u8]), ReadStop
     }
 }
 
-/// Takes a line of any kind, as it may stand behind moves alone.
-fn take_any_note(alloc: Global, bytes: &[u8]) -> Result<(Note, &[u8]), ReadStop>
-    ensures { ReadsOr (λ found. (found.0, found.1.now)) result (note_at true bytes.now) }
+/// Takes the word that begins a line of any kind, by its number.
+fn take_any_word(bytes: &[u8]) -> Result<(usize, &[u8]), Malformed>
+    ensures { Reads (λ found. (found.0, found.1.now)) result (one_of_at note_words bytes.now) }
 {
     let words: [&[u8]; 9] = [
         b"+ move ",
@@ -82,21 +83,39 @@ fn take_any_note(alloc: Global, bytes: &[u8]) -> Result<(Note, &[u8]), ReadStop>
         b"+ state ",
         b"+ gone ",
     ];
-    let (index, rest) = one_of(&words, bytes)?;
-    match index {
+    one_of(&words, bytes)
+}
+
+/// Takes what stands behind the word of a line of any kind, which is told by its number.
+fn take_behind_word(
+    alloc: Global,
+    word: usize,
+    bytes: &[u8],
+) -> Result<(Note, &[u8]), ReadStop>
+    ensures { ReadsOr (λ found. (found.0, found.1.now)) result (any_note_at word bytes.now) }
+{
+    match word {
         0 => {
-            let (made, rest) = take_move(rest)?;
+            let (made, rest) = take_move(bytes)?;
             Ok((Note::Moved(made), rest))
         }
         1 => {
-            let (torn, rest) = take_torn(rest)?;
+            let (torn, rest) = take_torn(bytes)?;
             Ok((Note::Spoiled(torn), rest))
         }
-        _ => match take_effect(alloc, index - 2, rest) {
+        _ => match take_effect(alloc, word - 2, bytes) {
             Ok((effect, rest)) => Ok((Note::Changed(effect), rest)),
             Err(stop) => Err(stop),
         },
     }
+}
+
+/// Takes a line of any kind, as it may stand behind moves alone.
+fn take_any_note(alloc: Global, bytes: &[u8]) -> Result<(Note, &[u8]), ReadStop>
+    ensures { ReadsOr (λ found. (found.0, found.1.now)) result (note_at true bytes.now) }
+{
+    let (word, rest) = take_any_word(bytes)?;
+    take_behind_word(alloc, word, rest)
 }
 
 /// Takes a line: of any kind as long as moves may stand there, else of an effect.
@@ -208,7 +227,7 @@ fn take_told(alloc: Global, in_lane: bool, bytes: &[u8]) -> Result<(Told, &[u8])
 }
 
 /// Why the lines of what an entry did aren't read.
-#[derive(Clone, Copy, Debug, PartialEq, Eq)]
+#[derive(Clone, Copy)]
 pub enum NotTold {
     /// The byte at this place, or the end there, can't go on what was begun.
     Malformed(usize),

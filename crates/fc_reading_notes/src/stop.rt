@@ -7,7 +7,7 @@ use fc_base::outcome::NoMemory;
 use fc_reading::pieces::Malformed;
 
 /// Why a text isn't read.
-#[derive(Clone, Copy, Debug, PartialEq, Eq)]
+#[derive(Clone, Copy)]
 pub enum ReadStop {
     /// The bytes can't go on as they began.
     Malformed(Malformed),

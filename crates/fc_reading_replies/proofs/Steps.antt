@@ -3,9 +3,11 @@ use Rattle.std.proofs.Common.{◌≡◌, ℕ, suc, ◌+◌, ◌-◌, ◌<◌, �
 use Rattle.std.proofs.lemmas.List.{append-nil, at_drop_all, take_more}
 use Rattle.fc_base.specs.Runs.{EndsOtherwise}
 use Rattle.fc_base.specs.declared.runs.Run.{Run}
-use Rattle.fc_reading.specs.Readers.{◌>>=◌}
+use Rattle.fc_reading.specs.Readers.{◌>>=◌, one_of_at}
 use Rattle.fc_reading_notes.specs.Lists.{behind_items, starts_with}
+use Rattle.fc_reading_replies.specs.Begun.{begun_at}
 use Rattle.fc_reading_replies.specs.Data.{is_other}
+use Rattle.fc_reading_replies.specs.Refusals.{refusal_at, refusal_behind, refusal_words}
 use Rattle.fc_reading_replies.specs.Rows.{and_rows, line_from, row_at, rows_at}
 use Rattle.fc_reading.proofs.PieceLemmas.{drop-one}
 use Rattle.fc_reading.proofs.Words.{at_false}
@@ -96,3 +98,40 @@ line-end bytes place past = at_drop_all (λ b. behind_items (take place bytes) (
 -- a row is a line that no `+` begins
 pub row-line : (bytes : List ℕ) (r : Result (List ℕ × List ℕ) ℕ) → starts_with 43 bytes ≡ false → line_from bytes ≡ r → row_at bytes ≡ r
 row-line bytes r other e = at_false (starts_with 43 bytes) (Err (length bytes)) (line_from bytes) other ∙ e
+
+-- ---- what stands behind words
+
+begun_then :
+    {V : Type 0} (words : List (List ℕ)) (behind : ℕ → List ℕ → Result (V × List ℕ) ℕ) (bytes rest : List ℕ) (word : ℕ) →
+    one_of_at words bytes ≡ Ok (word, rest) → begun_at words behind bytes ≡ behind word rest
+begun_then {V} words behind bytes rest word e = ap second e ∙ go (behind word rest)
+  where
+    numbered : ℕ → Result (V × List ℕ) ℕ → Result ((ℕ × V) × List ℕ) ℕ
+    numbered n r = ◌>>=◌ {A = V × List ℕ} {B = (ℕ × V) × List ℕ} r (λ y. Ok ((n, y.0), y.1))
+
+    alone : Result ((ℕ × V) × List ℕ) ℕ → Result (V × List ℕ) ℕ
+    alone r = ◌>>=◌ {A = (ℕ × V) × List ℕ} {B = V × List ℕ} r (λ x. Ok (x.0.1, x.1))
+
+    second : Result (ℕ × List ℕ) ℕ → Result (V × List ℕ) ℕ
+    second r = alone (◌>>=◌ {A = ℕ × List ℕ} {B = (ℕ × V) × List ℕ} r (λ x. numbered x.0 (behind x.0 x.1)))
+
+    go : (r : Result (V × List ℕ) ℕ) → alone (numbered word r) ≡ r
+    go (Ok y) = refl
+    go (Err n) = refl
+
+begun_stop :
+    {V : Type 0} (words : List (List ℕ)) (behind : ℕ → List ℕ → Result (V × List ℕ) ℕ) (bytes : List ℕ) (left : ℕ) →
+    one_of_at words bytes ≡ Err left → begun_at words behind bytes ≡ Err left
+begun_stop {V} words behind bytes left e = ap second e
+  where
+    second : Result (ℕ × List ℕ) ℕ → Result (V × List ℕ) ℕ
+    second r =
+        ◌>>=◌ {A = (ℕ × V) × List ℕ} {B = V × List ℕ}
+        (◌>>=◌ {A = ℕ × List ℕ} {B = (ℕ × V) × List ℕ} r (λ x. ◌>>=◌ {A = V × List ℕ} {B = (ℕ × V) × List ℕ} (behind x.0 x.1) (λ y. Ok ((x.0, y.0), y.1))))
+        (λ x. Ok (x.0.1, x.1))
+
+pub refusal_then : (bytes rest : List ℕ) (word : ℕ) → one_of_at refusal_words bytes ≡ Ok (word, rest) → refusal_at bytes ≡ refusal_behind word rest
+refusal_then bytes rest word e = begun_then refusal_words refusal_behind bytes rest word e
+
+pub refusal_stop : (bytes : List ℕ) (left : ℕ) → one_of_at refusal_words bytes ≡ Err left → refusal_at bytes ≡ Err left
+refusal_stop bytes left e = begun_stop refusal_words refusal_behind bytes left e

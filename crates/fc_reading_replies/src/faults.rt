@@ -2,8 +2,9 @@
 
 ghost use Rattle.std.specs.Prelude.{◌≡◌, ◌≤◌, length, take, IfErr, IfOk};
 ghost use Rattle.fc_reading.specs.Pieces.{Reads};
+ghost use Rattle.fc_reading.specs.Readers.{one_of_at};
 ghost use Rattle.fc_reading.specs.Stops.{StopsAt};
-ghost use Rattle.fc_reading_replies.specs.Faults.{IsFault, IsUnread, fault_at, fault_of, numbered_fault, unread_at, unread_text};
+ghost use Rattle.fc_reading_replies.specs.Faults.{IsFault, IsUnread, fault_at, fault_of, fault_words, numbered_fault, unread_at, unread_text};
 
 use fc_base::fault::{RequiredOption, WordFault};
 use fc_reading::pieces::{Malformed, one_of, word};
@@ -39,9 +40,9 @@ fn numbered_fault(words: usize, number: u32) -> WordFault
     }
 }
 
-/// Takes a fault and the end of its line.
-fn take_fault(bytes: &[u8]) -> Result<(WordFault, &[u8]), Malformed>
-    ensures { Reads (λ found. (found.0, found.1.now)) result (fault_at bytes.now) }
+/// Takes the whole text of a fault, or the words that begin it, by their number.
+fn take_words(bytes: &[u8]) -> Result<(usize, &[u8]), Malformed>
+    ensures { Reads (λ found. (found.0, found.1.now)) result (one_of_at fault_words bytes.now) }
 {
     let words: [&[u8]; 14] = [
         b"unknown command\n",
@@ -59,12 +60,19 @@ fn take_fault(bytes: &[u8]) -> Result<(WordFault, &[u8]), Malformed>
         b"bad name at word ",
         b"limit ",
     ];
-    let (begun, rest) = one_of(&words, bytes)?;
-    if begun < 8 {
-        return Ok((fault_of(begun), rest));
+    one_of(&words, bytes)
+}
+
+/// Takes a fault and the end of its line.
+fn take_fault(bytes: &[u8]) -> Result<(WordFault, &[u8]), Malformed>
+    ensures { Reads (λ found. (found.0, found.1.now)) result (fault_at bytes.now) }
+{
+    let (words, rest) = take_words(bytes)?;
+    if words < 8 {
+        return Ok((fault_of(words), rest));
     }
     let (number, rest) = take_id(b"\n", rest)?;
-    Ok((numbered_fault(begun - 8, number), rest))
+    Ok((numbered_fault(words - 8, number), rest))
 }
 
 /// Takes the reply of a line with a fault in its words, and the end of its line.

@@ -5,7 +5,7 @@ ghost use Rattle.fc_reading.specs.Pieces.{Reads};
 ghost use Rattle.fc_reading.specs.Readers.{one_of_at};
 ghost use Rattle.fc_reading_notes.specs.Answers.{ReadsOr};
 ghost use Rattle.fc_reading_replies.specs.Begun.{two_at};
-ghost use Rattle.fc_reading_replies.specs.Refusals.{grain_of, kind_of, numbered_refusal, plain_refusal, refusal_at, refusal_of, refusal_words, value_of, volume_at, volumes_at};
+ghost use Rattle.fc_reading_replies.specs.Refusals.{grain_of, kind_of, numbered_refusal, plain_refusal, refusal_at, refusal_behind, refusal_of, refusal_words, value_of, volume_at, volumes_at};
 
 use fc_base::fault::{Kind, Refusal, ValueOf};
 use fc_base::ids::{GroupId, MapId, VolId};
@@ -190,30 +190,38 @@ fn take_words(bytes: &[u8]) -> Result<(usize, &[u8]), Malformed>
     one_of(&words, bytes)
 }
 
-/// Takes why a command was refused, and the end of its line.
-pub(crate) fn take_refusal(alloc: Global, bytes: &[u8]) -> Result<(Refusal, &[u8]), ReadStop>
-    ensures { ReadsOr (λ found. (found.0, found.1.now)) result (refusal_at bytes.now) }
+/// Takes what stands behind the words that begin a refusal, which are told by their number.
+fn take_behind(alloc: Global, words: usize, bytes: &[u8]) -> Result<(Refusal, &[u8]), ReadStop>
+    ensures { ReadsOr (λ found. (found.0, found.1.now)) result (refusal_behind words bytes.now) }
 {
-    let (words, rest) = take_words(bytes)?;
     if words < 26 {
-        return Ok((refusal_of(alloc, words), rest));
+        return Ok((refusal_of(alloc, words), bytes));
     }
     if words < 36 {
-        let (number, rest) = take_id(b"\n", rest)?;
+        let (number, rest) = take_id(b"\n", bytes)?;
         return Ok((numbered_refusal(words - 26, number), rest));
     }
     match words {
         36 => {
-            let (held, total, rest) = take_two(rest)?;
+            let (held, total, rest) = take_two(bytes)?;
             Ok((Refusal::NotComplete { held, total }, rest))
         }
         37 => {
-            let (source, target, rest) = take_two(rest)?;
+            let (source, target, rest) = take_two(bytes)?;
             Ok((Refusal::SizeDiffers { source, target }, rest))
         }
-        _ => match take_volumes(alloc, rest) {
+        _ => match take_volumes(alloc, bytes) {
             Ok((volumes, rest)) => Ok((Refusal::RestoreLoop(volumes), rest)),
             Err(stop) => Err(stop),
         },
     }
+}
+
+/// Takes why a command was refused, and the end of its line.
+#[tactic(auto, using(crate::proofs::Steps::refusal_then, crate::proofs::Steps::refusal_stop))]
+pub(crate) fn take_refusal(alloc: Global, bytes: &[u8]) -> Result<(Refusal, &[u8]), ReadStop>
+    ensures { ReadsOr (λ found. (found.0, found.1.now)) result (refusal_at bytes.now) }
+{
+    let (words, rest) = take_words(bytes)?;
+    take_behind(alloc, words, rest)
 }

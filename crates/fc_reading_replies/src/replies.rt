@@ -72,8 +72,8 @@ fn take_words(refusable: bool, bytes: &[u8]) -> Result<(usize, &[u8]), Malformed
 }
 
 /// Takes the id of an object that was made, and the end of its line.
-fn take_made(number: usize, bytes: &[u8]) -> Result<(ReplyLine, &[u8]), Malformed>
-    ensures { Reads (λ found. (found.0, found.1.now)) result (map_read (made_of number) (id_at (codes "], successfully created\n")) bytes.now) }
+fn take_made(number: usize, bytes: &[u8]) -> Result<(ReplyLine, &[u8]), ReadStop>
+    ensures { ReadsOr (λ found. (found.0, found.1.now)) result (map_read (made_of number) (id_at (codes "], successfully created\n")) bytes.now) }
 {
     let kind = kind_of(number);
     let (id, rest) = take_id(b"], successfully created\n", bytes)?;
@@ -81,8 +81,8 @@ fn take_made(number: usize, bytes: &[u8]) -> Result<(ReplyLine, &[u8]), Malforme
 }
 
 /// Takes the mapping and the grain of a copy or a cleaning, and the end of their line.
-fn take_moved(bytes: &[u8]) -> Result<(ReplyLine, &[u8]), Malformed>
-    ensures { Reads (λ found. (found.0, found.1.now)) result (twice_numbered moved_of bytes.now) }
+fn take_moved(bytes: &[u8]) -> Result<(ReplyLine, &[u8]), ReadStop>
+    ensures { ReadsOr (λ found. (found.0, found.1.now)) result (twice_numbered moved_of bytes.now) }
 {
     let (map, grain, rest) = take_two(bytes)?;
     let map = MapId(map);
@@ -91,8 +91,8 @@ fn take_moved(bytes: &[u8]) -> Result<(ReplyLine, &[u8]), Malformed>
 }
 
 /// Takes the mapping by which a volume is offline, its state, and the end of their line.
-fn take_offline(bytes: &[u8]) -> Result<(ReplyLine, &[u8]), Malformed>
-    ensures { Reads (λ found. (found.0, found.1.now)) result (map_read offline_of (then_read (id_at (codes " ")) (λ map. state_at)) bytes.now) }
+fn take_offline(bytes: &[u8]) -> Result<(ReplyLine, &[u8]), ReadStop>
+    ensures { ReadsOr (λ found. (found.0, found.1.now)) result (map_read offline_of (then_read (id_at (codes " ")) (λ map. state_at)) bytes.now) }
 {
     let (map, rest) = take_id(b" ", bytes)?;
     let (state, rest) = take_state(rest)?;
@@ -101,8 +101,8 @@ fn take_offline(bytes: &[u8]) -> Result<(ReplyLine, &[u8]), Malformed>
 }
 
 /// Takes the mapping whose target isn't accessible, and the end of its line.
-fn take_not_accessible(bytes: &[u8]) -> Result<(ReplyLine, &[u8]), Malformed>
-    ensures { Reads (λ found. (found.0, found.1.now)) result (map_read not_accessible (id_at (codes "\n")) bytes.now) }
+fn take_not_accessible(bytes: &[u8]) -> Result<(ReplyLine, &[u8]), ReadStop>
+    ensures { ReadsOr (λ found. (found.0, found.1.now)) result (map_read not_accessible (id_at (codes "\n")) bytes.now) }
 {
     let (map, rest) = take_id(b"\n", bytes)?;
     let map = MapId(map);
@@ -117,12 +117,12 @@ fn take_behind(alloc: Global, words: usize, bytes: &[u8]) -> Result<(ReplyLine, 
         return Ok((ReplyLine::Whole(reply_of(words)), bytes));
     }
     if words < 8 {
-        return Ok(take_made(words - 5, bytes)?);
+        return take_made(words - 5, bytes);
     }
     match words {
-        8 => Ok(take_moved(bytes)?),
-        9 => Ok(take_offline(bytes)?),
-        10 => Ok(take_not_accessible(bytes)?),
+        8 => take_moved(bytes),
+        9 => take_offline(bytes),
+        10 => take_not_accessible(bytes),
         11 => {
             let (rows, rest) = take_count(b"\n", bytes)?;
             Ok((ReplyLine::Rows(rows), rest))

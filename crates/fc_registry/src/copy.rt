@@ -1,7 +1,7 @@
 //! Copies of the tables.
 
-ghost use Rattle.std.specs.Prelude.{◌≡◌, None, IfOk};
-ghost use Rattle.fc_registry.specs.Index.{rows};
+ghost use Rattle.std.specs.Prelude.{◌≡◌, ◌<◌, None, IfOk, OnOk};
+ghost use Rattle.fc_registry.specs.Index.{rows, room};
 
 use crate::Registry;
 use crate::indexed::{Named, Table};
@@ -36,14 +36,27 @@ impl Again for Group {
 }
 
 impl<T: Again> Table<T> {
+    /// Makes room for one more object like this, and gives a copy of it with the key of its name. Refused, the objects are as
+    /// they were.
+    pub(crate) fn make_room(&mut self, alloc: Global, object: &T) -> Result<(T, Vec<u8>), NoMemory>
+        ensures room { OnOk result (0 < room self.new) }
+        ensures copy { IfOk result (λ made. made.0 ≡ object.now) }
+        ensures key { IfOk result (λ made. made.1.items ≡ T.name_of object.now) }
+        ensures same { rows self.new ≡ rows self.old }
+    {
+        let key = self.reserve(alloc, object.name())?;
+        let copy = object.again(alloc)?;
+        Ok((copy, key))
+    }
+
     /// A table of the same objects. Refused for want of memory alone.
     pub(crate) fn copy(&self, alloc: Global) -> Result<Table<T>, NoMemory>
         ensures { IfOk result (λ copy. rows copy ≡ rows self.now) }
     {
         let mut copy = Table::new(alloc);
         for item in self.as_slice() {
-            let key = copy.reserve(alloc, item.name())?;
-            copy.add(item.again(alloc)?, key);
+            let (object, key) = copy.make_room(alloc, item)?;
+            copy.add(object, key);
         }
         Ok(copy)
     }

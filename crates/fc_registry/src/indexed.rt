@@ -40,11 +40,21 @@ pub fn id_of<T: Named>(object: Option<&T>) -> Option<u32>
 }
 
 /// Objects in order of id. Contracts see the list of them, and how many more fit with no memory.
-#[derive(Drop)]
 pub struct Table<T: Named> {
     items: Vec<T>,
     ids: IndexSet<u32>,
     names: IndexSet<Vec<u8>>,
+}
+
+impl<T: Named> Drop for Table<T> {
+    // Written out, so that a function that drops it has one call for all of it in its proof.
+    fn drop(self) {
+        let Table {
+            items: _,
+            ids: _,
+            names: _,
+        } = self;
+    }
 }
 
 impl<T: Named> Model for Table<T> {

@@ -27,18 +27,29 @@ use fc_base::name::{Name, Ref};
 use fc_base::outcome::NoMemory;
 use fc_base::volume::{Change, Group, Mapping, Volume};
 use indexed::{Table, id_of};
-use objects::{copy_group, copy_mapping, copy_volume, first_partner};
+use objects::first_partner;
 use std::alloc::Global;
 use std::marker::Model;
 
 /// The tables of volumes, mappings and groups. Contracts see the three lists, each in order of id, and beside
 /// them the new object that room is kept for.
-#[derive(Drop)]
 pub struct Registry {
     volumes: Table<Volume>,
     mappings: Table<Mapping>,
     groups: Table<Group>,
     kept: Option<Kept>,
+}
+
+impl Drop for Registry {
+    // Written out, so that a function that drops it has one call for all of it in its proof.
+    fn drop(self) {
+        let Registry {
+            volumes: _,
+            mappings: _,
+            groups: _,
+            kept: _,
+        } = self;
+    }
 }
 
 /// A new object that isn't in its table yet.
@@ -230,28 +241,33 @@ impl Registry {
         ensures granted { IsNone (room_asked change.now) → IsOk result }
         ensures tables { self.new.tables ≡ self.old.tables }
     {
-        self.kept = None;
-        match change {
+        keep(&mut self.kept, None);
+        let kept = match change {
             Change::AddVolume(volume) => {
-                let key = self.volumes.reserve(alloc, &volume.name)?;
-                let change = Change::AddVolume(copy_volume(alloc, volume)?);
-                self.kept = Some(Kept { change, key });
-                Ok(())
+                let (volume, key) = self.volumes.make_room(alloc, volume)?;
+                Kept {
+                    change: Change::AddVolume(volume),
+                    key,
+                }
             }
             Change::AddMapping(mapping) => {
-                let key = self.mappings.reserve(alloc, &mapping.name)?;
-                let change = Change::AddMapping(copy_mapping(alloc, mapping)?);
-                self.kept = Some(Kept { change, key });
-                Ok(())
+                let (mapping, key) = self.mappings.make_room(alloc, mapping)?;
+                Kept {
+                    change: Change::AddMapping(mapping),
+                    key,
+                }
             }
             Change::AddGroup(group) => {
-                let key = self.groups.reserve(alloc, &group.name)?;
-                let change = Change::AddGroup(copy_group(alloc, group)?);
-                self.kept = Some(Kept { change, key });
-                Ok(())
+                let (group, key) = self.groups.make_room(alloc, group)?;
+                Kept {
+                    change: Change::AddGroup(group),
+                    key,
+                }
             }
-            _ => Ok(()),
-        }
+            _ => return Ok(()),
+        };
+        keep(&mut self.kept, Some(kept));
+        Ok(())
     }
 
     /// Makes the change. It has to fit the tables, and a new object has to be the one that was reserved last.
@@ -286,4 +302,11 @@ impl Registry {
             _ => unreachable!(),
         }
     }
+}
+
+/// What was kept before is let go.
+fn keep(place: &mut Option<Kept>, kept: Option<Kept>)
+    ensures { place.new ≡ kept }
+{
+    *place = kept;
 }

@@ -1,6 +1,7 @@
 -- The fields of a row, one more; and a row's text.
 use Rattle.std.proofs.Common.{◌≡◌, ◌∙◌, sym, ap, ℕ, ◌+◌, ◌-◌, ◌<◌, List, [], ◌∷◌, ◌++◌, length, get_or, take, drop, ◌≤◌, replicate, refl, arith, append-nil}
-use Rattle.std.proofs.lemmas.List.{take_more, length-take-le, take_all}
+use Rattle.std.proofs.lemmas.List.{take_more, length-take-le, take_all, append_assoc}
+use Rattle.std.proofs.lemmas.Grind.{flat_map-append}
 use Rattle.std.specs.List.{flat_map, join_with_byte}
 use Rattle.fc_books.specs.Layout.{fill, filled}
 use Rattle.fc_report.specs.Beside.{beside}
@@ -51,3 +52,12 @@ joined_first c [] d inside = absurd (omega arith)
 joined_first c (x ∷ xs) d inside =
     joined_is c x xs
     ∙ ap (λ rest. x ++ flat_map (λ y. c ∷ y) rest) (sym (take_all (length (x ∷ xs) - 1) xs (omega arith)))
+
+-- one more text behind the byte
+pub behind_more : (c : ℕ) (x : List ℕ) (xs : List (List ℕ)) (i : ℕ) (d : List ℕ) → i < length xs →
+    x ++ flat_map (λ y. c ∷ y) (take (i + 1) xs) ≡ (x ++ flat_map (λ y. c ∷ y) (take i xs)) ++ c ∷ get_or xs i d
+behind_more c x xs i d lt =
+    ap (λ ys. x ++ flat_map (λ y. c ∷ y) ys) (take_more xs i d lt)
+    ∙ ap (λ rest. x ++ rest) (flat_map-append (λ y. c ∷ y) (take i xs) (get_or xs i d ∷ []))
+    ∙ ap (λ last. x ++ (flat_map (λ y. c ∷ y) (take i xs) ++ c ∷ last)) (append-nil (get_or xs i d))
+    ∙ sym (append_assoc x (flat_map (λ y. c ∷ y) (take i xs)) (c ∷ get_or xs i d))

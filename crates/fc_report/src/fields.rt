@@ -39,6 +39,22 @@ pub fn put_number(alloc: Global, row: &mut Fields, number: u64) -> Result<(), No
     put_text(alloc, row, digits.format(number).as_bytes())
 }
 
+/// Puts an id and a name at the end of a row.
+pub fn put_named(alloc: Global, row: &mut Fields, id: u32, name: &[u8]) -> Result<(), NoMemory>
+    ensures { OnOk result (row.new ≡ row.old ++ decimal id ∷ name.now ∷ []) }
+{
+    put_number(alloc, row, u64::from(id))?;
+    put_text(alloc, row, name)
+}
+
+/// Puts two numbers at the end of a row.
+pub fn put_numbers(alloc: Global, row: &mut Fields, first: u64, second: u64) -> Result<(), NoMemory>
+    ensures { OnOk result (row.new ≡ row.old ++ decimal first ∷ decimal second ∷ []) }
+{
+    put_number(alloc, row, first)?;
+    put_number(alloc, row, second)
+}
+
 /// A row of these texts.
 pub fn row_of(alloc: Global, texts: &[&[u8]]) -> Result<Fields, NoMemory>
     ensures { IfOk result (λ row. row ≡ map (λ text. text.now) texts.now) }
@@ -48,4 +64,13 @@ pub fn row_of(alloc: Global, texts: &[&[u8]]) -> Result<Fields, NoMemory>
         put_text(alloc, &mut row, text)?;
     }
     Ok(row)
+}
+
+/// A table of the headings alone.
+pub fn headed(alloc: Global, headings: Fields) -> Result<Table, NoMemory>
+    ensures { IfOk result (λ rows. rows ≡ headings ∷ []) }
+{
+    let mut rows = List::new(alloc);
+    rows.push(headings)?;
+    Ok(rows)
 }

@@ -35,19 +35,24 @@ pub fn beside(
     let between = delim.unwrap_or(b' ');
     let mut lines = List::new(alloc);
     for (place, heading) in headings.iter().enumerate() {
-        let line = pair(alloc, heading.as_slice(), between, fields[place].as_slice())?;
-        lines.push(line)?;
+        put_pair(alloc, &mut lines, heading, between, &fields[place])?;
     }
     Ok(lines)
 }
 
-/// A heading, the delimiter and a field.
-fn pair(alloc: Global, heading: &[u8], delim: u8, field: &[u8]) -> Result<List<u8>, NoMemory>
-    ensures { IfOk result (λ line. line ≡ heading.now ++ delim ∷ field.now) }
+/// Puts a line of a heading, the delimiter and a field.
+fn put_pair(
+    alloc: Global,
+    lines: &mut Rows,
+    heading: &List<u8>,
+    delim: u8,
+    field: &List<u8>,
+) -> Result<(), NoMemory>
+    ensures { OnOk result (lines.new ≡ lines.old ++ (heading.now ++ delim ∷ field.now) ∷ []) }
 {
-    let mut line = new_line(alloc, heading)?;
-    put_behind(&mut line, delim, field)?;
-    Ok(List::of(line))
+    let mut line = new_line(alloc, heading.as_slice())?;
+    put_behind(&mut line, delim, field.as_slice())?;
+    lines.push(List::of(line))
 }
 
 /// Rows as lines, with the delimiter between fields.

@@ -11,7 +11,7 @@ ghost use Rattle.fc_entry.specs.Text.{state_text};
 ghost use Rattle.fc_books.proofs.DependentMaps.{has_id_among};
 ghost use Rattle.fc_report.specs.Asked.{asked};
 
-use crate::fields::{Fields, Table, put_number, put_text, row_of};
+use crate::fields::{Fields, Table, headed, put_named, put_number, put_numbers, put_text, row_of};
 use crate::figures::{cleaned, progress};
 use fc_base::ids::{GroupId, MapId, VolId};
 use fc_base::list::List;
@@ -76,12 +76,11 @@ fn put_volumes(
 ) -> Result<(), NoMemory>
     ensures { OnOk result (row.new ≡ row.old ++ decimal mapping.now.id.0 ∷ mapping.now.name ∷ decimal mapping.now.source.0 ∷ name_of_volume registry.now.tables mapping.now.source ∷ decimal mapping.now.target.0 ∷ name_of_volume registry.now.tables mapping.now.target ∷ []) }
 {
-    put_number(alloc, row, u64::from(mapping.id.0))?;
-    put_text(alloc, row, mapping.name.as_bytes())?;
-    put_number(alloc, row, u64::from(mapping.source.0))?;
-    put_text(alloc, row, volume_name(registry, mapping.source))?;
-    put_number(alloc, row, u64::from(mapping.target.0))?;
-    put_text(alloc, row, volume_name(registry, mapping.target))
+    let source = mapping.source;
+    let target = mapping.target;
+    put_named(alloc, row, mapping.id.0, mapping.name.as_bytes())?;
+    put_named(alloc, row, source.0, volume_name(registry, source))?;
+    put_named(alloc, row, target.0, volume_name(registry, target))
 }
 
 /// The name of a volume.
@@ -105,10 +104,7 @@ fn put_group(
 {
     match group {
         None => put_none(alloc, row),
-        Some(group) => {
-            put_number(alloc, row, u64::from(group.0))?;
-            put_text(alloc, row, group_name(registry, group))
-        }
+        Some(group) => put_named(alloc, row, group.0, group_name(registry, group)),
     }
 }
 
@@ -140,9 +136,9 @@ fn put_figures<S: Sheet>(
 ) -> Result<(), NoMemory>
     ensures { OnOk result (row.new ≡ row.old ++ state_text mapping.now.state ∷ decimal (progress (asked registry.now.tables (S.meaning sheet.now).sheet) mapping.now) ∷ decimal mapping.now.copy_rate ∷ decimal (cleaned_in mapping.now.state (asked registry.now.tables (S.meaning sheet.now).sheet) mapping.now) ∷ cond mapping.now.incremental (codes "on") (codes "off") ∷ []) }
 {
+    let copied = progress(registry, sheet, mapping);
     put_text(alloc, row, state_word(mapping.state))?;
-    put_number(alloc, row, progress(registry, sheet, mapping))?;
-    put_number(alloc, row, u64::from(mapping.copy_rate))?;
+    put_numbers(alloc, row, copied, u64::from(mapping.copy_rate))?;
     put_number(alloc, row, cleaned(registry, sheet, mapping))?;
     put_text(alloc, row, choice(mapping.incremental, b"on", b"off"))
 }
@@ -165,10 +161,7 @@ fn put_partner(
 {
     match registry.partner(map) {
         None => put_none(alloc, row),
-        Some(partner) => {
-            put_number(alloc, row, u64::from(partner.0))?;
-            put_text(alloc, row, mapping_name(registry, partner))
-        }
+        Some(partner) => put_named(alloc, row, partner.0, mapping_name(registry, partner)),
     }
 }
 
@@ -190,14 +183,27 @@ pub fn mapping_table<S: Sheet>(
 ) -> Result<Table, NoMemory>
     ensures { IfOk result (λ rows. rows ≡ table (mapping_columns (asked registry.now.tables (S.meaning sheet.now).sheet)) registry.now.tables.mappings) }
 {
-    let mut rows = List::new(alloc);
-    rows.push(mapping_headings(alloc)?)?;
+    let headings = mapping_headings(alloc)?;
+    let mut rows = headed(alloc, headings)?;
     let mappings = registry.all_mappings();
     for mapping in mappings {
-        let row = mapping_fields(alloc, registry, sheet, mapping)?;
-        rows.push(row)?;
+        put_row(alloc, registry, sheet, mapping, &mut rows)?;
     }
     Ok(rows)
+}
+
+/// Puts the row of a mapping.
+fn put_row<S: Sheet>(
+    alloc: Global,
+    registry: &Registry,
+    sheet: &S,
+    mapping: &Mapping,
+    rows: &mut Table,
+) -> Result<(), NoMemory>
+    ensures { OnOk result (rows.new ≡ rows.old ++ fields (mapping_columns (asked registry.now.tables (S.meaning sheet.now).sheet)) mapping.now ∷ []) }
+{
+    let row = mapping_fields(alloc, registry, sheet, mapping)?;
+    rows.push(row)
 }
 
 /// A mapping's progress under its headings.
@@ -209,13 +215,26 @@ pub fn progress_table<S: Sheet>(
 ) -> Result<Table, NoMemory>
     ensures { IfOk result (λ rows. rows ≡ table (progress_columns (asked registry.now.tables (S.meaning sheet.now).sheet)) (mapping.now ∷ [])) }
 {
-    let mut row = List::new(alloc);
-    put_number(alloc, &mut row, u64::from(mapping.id.0))?;
-    put_number(alloc, &mut row, progress(registry, sheet, mapping))?;
-    let mut rows = List::new(alloc);
-    rows.push(row_of(alloc, &[b"id", b"progress"])?)?;
-    rows.push(row)?;
+    let headings = row_of(alloc, &[b"id", b"progress"])?;
+    let mut rows = headed(alloc, headings)?;
+    put_progress(alloc, registry, sheet, mapping, &mut rows)?;
     Ok(rows)
+}
+
+/// Puts the row of a mapping's progress.
+fn put_progress<S: Sheet>(
+    alloc: Global,
+    registry: &Registry,
+    sheet: &S,
+    mapping: &Mapping,
+    rows: &mut Table,
+) -> Result<(), NoMemory>
+    ensures { OnOk result (rows.new ≡ rows.old ++ fields (progress_columns (asked registry.now.tables (S.meaning sheet.now).sheet)) mapping.now ∷ []) }
+{
+    let copied = progress(registry, sheet, mapping);
+    let mut row = List::new(alloc);
+    put_numbers(alloc, &mut row, u64::from(mapping.id.0), copied)?;
+    rows.push(row)
 }
 
 /// Of the mappings those with these ids, under their headings.
@@ -226,8 +245,8 @@ pub fn dependent_table(
 ) -> Result<Table, NoMemory>
     ensures { IfOk result (λ rows. rows ≡ table dependent_columns (filter (has_id_among ids.now) mappings.now)) }
 {
-    let mut rows = List::new(alloc);
-    rows.push(row_of(alloc, &[b"fc_id", b"fc_name"])?)?;
+    let headings = row_of(alloc, &[b"fc_id", b"fc_name"])?;
+    let mut rows = headed(alloc, headings)?;
     for mapping in mappings {
         put_dependent(alloc, ids, mapping, &mut rows)?;
     }
@@ -262,7 +281,6 @@ fn dependent_fields(alloc: Global, mapping: &Mapping) -> Result<Fields, NoMemory
     ensures { IfOk result (λ row. row ≡ fields dependent_columns mapping.now) }
 {
     let mut row = List::new(alloc);
-    put_number(alloc, &mut row, u64::from(mapping.id.0))?;
-    put_text(alloc, &mut row, mapping.name.as_bytes())?;
+    put_named(alloc, &mut row, mapping.id.0, mapping.name.as_bytes())?;
     Ok(row)
 }

@@ -1,12 +1,12 @@
 //! The fields of groups and volumes.
 
-ghost use Rattle.std.specs.Prelude.{◌≡◌, ◌*◌, IfOk};
+ghost use Rattle.std.specs.Prelude.{◌≡◌, [], ◌∷◌, ◌++◌, ◌*◌, IfOk, OnOk};
 ghost use Rattle.fc_base.specs.Grain.{grain_bytes};
 ghost use Rattle.fc_base.specs.Tables.{Tables};
 ghost use Rattle.fc_books.specs.Columns.{access_text, group_columns, volume_columns};
 ghost use Rattle.fc_books.specs.Layout.{headings, fields, table};
 
-use crate::fields::{Fields, Table, put_number, put_text, row_of};
+use crate::fields::{Fields, Table, headed, put_named, put_numbers, put_text, row_of};
 use crate::figures::mappings_of;
 use fc_base::list::List;
 use fc_base::outcome::NoMemory;
@@ -29,10 +29,10 @@ pub fn group_headings(alloc: Global) -> Result<Fields, NoMemory>
 pub fn group_fields(alloc: Global, registry: &Registry, group: &Group) -> Result<Fields, NoMemory>
     ensures { IfOk result (λ row. row ≡ fields (group_columns registry.now.tables) group.now) }
 {
+    let state = group_state(registry, group.id);
     let mut row = List::new(alloc);
-    put_number(alloc, &mut row, u64::from(group.id.0))?;
-    put_text(alloc, &mut row, group.name.as_bytes())?;
-    put_text(alloc, &mut row, state_word(group_state(registry, group.id)))?;
+    put_named(alloc, &mut row, group.id.0, group.name.as_bytes())?;
+    put_text(alloc, &mut row, state_word(state))?;
     Ok(row)
 }
 
@@ -40,28 +40,53 @@ pub fn group_fields(alloc: Global, registry: &Registry, group: &Group) -> Result
 pub fn group_table(alloc: Global, registry: &Registry) -> Result<Table, NoMemory>
     ensures { IfOk result (λ rows. rows ≡ table (group_columns registry.now.tables) registry.now.tables.groups) }
 {
-    let mut rows = List::new(alloc);
-    rows.push(group_headings(alloc)?)?;
+    let headings = group_headings(alloc)?;
+    let mut rows = headed(alloc, headings)?;
     let groups = registry.all_groups();
     for group in groups {
-        let row = group_fields(alloc, registry, group)?;
-        rows.push(row)?;
+        put_group(alloc, registry, group, &mut rows)?;
     }
     Ok(rows)
+}
+
+/// Puts the row of a group.
+fn put_group(
+    alloc: Global,
+    registry: &Registry,
+    group: &Group,
+    rows: &mut Table,
+) -> Result<(), NoMemory>
+    ensures { OnOk result (rows.new ≡ rows.old ++ fields (group_columns registry.now.tables) group.now ∷ []) }
+{
+    let row = group_fields(alloc, registry, group)?;
+    rows.push(row)
 }
 
 /// All volumes under their headings.
 pub fn volume_table(alloc: Global, grain: GrainSize, registry: &Registry) -> Result<Table, NoMemory>
     ensures { IfOk result (λ rows. rows ≡ table (volume_columns grain registry.now.tables) registry.now.tables.volumes) }
 {
-    let mut rows = List::new(alloc);
-    rows.push(volume_headings(alloc)?)?;
+    let headings = volume_headings(alloc)?;
+    let mut rows = headed(alloc, headings)?;
     let volumes = registry.all_volumes();
     for volume in volumes {
-        let row = volume_fields(alloc, grain, registry, volume)?;
-        rows.push(row)?;
+        put_volume(alloc, grain, registry, volume, &mut rows)?;
     }
     Ok(rows)
+}
+
+/// Puts the row of a volume.
+fn put_volume(
+    alloc: Global,
+    grain: GrainSize,
+    registry: &Registry,
+    volume: &Volume,
+    rows: &mut Table,
+) -> Result<(), NoMemory>
+    ensures { OnOk result (rows.new ≡ rows.old ++ fields (volume_columns grain registry.now.tables) volume.now ∷ []) }
+{
+    let row = volume_fields(alloc, grain, registry, volume)?;
+    rows.push(row)
 }
 
 /// The headings of volumes.
@@ -84,16 +109,16 @@ fn volume_fields(
     ensures { IfOk result (λ row. row ≡ fields (volume_columns grain registry.now.tables) volume.now) }
 {
     let mappings = registry.all_mappings();
+    let status = access_status(access_in(mappings, volume.id));
     let mut row = List::new(alloc);
-    put_number(alloc, &mut row, u64::from(volume.id.0))?;
-    put_text(alloc, &mut row, volume.name.as_bytes())?;
-    put_text(
+    put_named(alloc, &mut row, volume.id.0, volume.name.as_bytes())?;
+    put_text(alloc, &mut row, status)?;
+    put_numbers(
         alloc,
         &mut row,
-        access_status(access_in(mappings, volume.id)),
+        capacity(volume.grains, grain),
+        mappings_of(mappings, volume.id),
     )?;
-    put_number(alloc, &mut row, capacity(volume.grains, grain))?;
-    put_number(alloc, &mut row, mappings_of(mappings, volume.id))?;
     Ok(row)
 }
 

@@ -20,10 +20,19 @@ use std::alloc::Global;
 use std::marker::Model;
 
 /// The counts of the slots by place, some free for more slots, and words for one pass over their grains.
-#[derive(Drop)]
 pub struct Tallies {
     kept: Vec<Tally>,
     waiting: Vec<u64>,
+}
+
+impl Drop for Tallies {
+    // Written out, so that a function that drops it has one call for all of it in its proof.
+    fn drop(self) {
+        let Tallies {
+            kept: _,
+            waiting: _,
+        } = self;
+    }
 }
 
 impl Model for Tallies {

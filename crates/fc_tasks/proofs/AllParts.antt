@@ -64,6 +64,9 @@ module _ {P E : Type 0} where
       (λ (e : p ≡ n). ap (λ (q : ℕ). held_of (put_back v n) q) e ∙ write_here None v.held n None ∙ sym (past_end xs p (omega arith)))
       (λ (ne : p ≢ n). write_else None v.held n p None ne ∙ just p ∙ not_end xs x p (λ e. ne (e ∙ sym long)))
 
+  pub last_held : (v : View P E) (xs : List P) (n : ℕ) (x : P) → n ≡ length xs → HoldsJust v (xs ++ x ∷ []) → held_of v n ≡ Some x
+  last_held v xs n x long just = just n ∙ ap (at_or_none (xs ++ x ∷ [])) long ∙ at_end xs x
+
   pub just_drew : (v : View P E) (xs : List P) (n : ℕ) (e : E) → HoldsJust (drew_all v xs n e) xs
   just_drew v xs n e p = mapped xs p
 

@@ -1,10 +1,10 @@
 -- What all actors answered, one more actor behind the others.
-use Rattle.std.proofs.Common.{◌≡◌, ℕ, ◌+◌, ◌≤◌, List, [], ◌∷◌, ◌++◌, length, sym, ap, ◌∙◌, subst, refl, arith, max, Option, Some, None}
+use Rattle.std.proofs.Common.{◌≡◌, ℕ, ◌+◌, ◌-◌, ◌<◌, ◌≤◌, List, [], ◌∷◌, ◌++◌, length, sym, ap, ◌∙◌, subst, refl, arith, max, Option, Some, None}
 use Rattle.fc_entry.specs.declared.stop.Stop.{Stop}
 use Rattle.fc_entry.specs.declared.stop.Stop.TheVariants.{LogFull, NoMemory}
 use Rattle.fc_yard.specs.Calls.{YardView, PassView, became}
 use Rattle.fc_yard.specs.Views.{joined, split_from, split_off}
-use Rattle.fc_tasks.specs.Acting.{AllAnswered, AllSuit, HasAnswered, IsFree, Stopped, all_made}
+use Rattle.fc_tasks.specs.Acting.{AllAnswered, AllSuit, HasAnswered, IsFree, IsSamePass, Stopped, all_made}
 use Rattle.fc_tasks.specs.declared.actor.Answered.{Answered}
 use Rattle.fc_tasks.specs.declared.script.Needs.{Needs}
 use Rattle.fc_tasks.proofs.Doing.{more_behind}
@@ -83,3 +83,20 @@ module _ {P E : Type 0} where
 
   pub free_off : (y : YardView) (p q : PassView P E) → IsFree y p → q ≡ became p (split_off p.view) → IsFree y q
   free_off y p q free is = subst (IsFree y) (sym is) record { yard = free.yard; parts = free.parts; none = λ n. refl; used = refl }
+
+-- a share that was split off comes back
+shares_back : (all left off one other sum : ℕ) → 0 < all → left ≡ all - 1 → off ≡ 1 → one ≡ left → other ≡ off → sum ≡ one + other → sum ≡ all
+shares_back all left off one other sum some is_left is_off is_one is_other is = omega arith
+
+module _ {P E : Type 0} where
+  -- all of them are passes of the same yard, with the same shares
+  pub same_joined : (p left off one other q : PassView P E) → 0 < p.view.shares → left ≡ became p (split_from p.view) → off ≡ became p (split_off p.view)
+      → IsSamePass left.view one.view → IsSamePass off.view other.view → q ≡ became one (joined one.view other.view) → IsSamePass p.view q.view
+  same_joined p left off one other q some is_left is_off a b is = record {
+    openings = ap (λ (r : PassView P E). r.view.openings) is ∙ a.openings ∙ ap (λ (r : PassView P E). r.view.openings) is_left;
+    first = ap (λ (r : PassView P E). r.view.first) is ∙ a.first ∙ ap (λ (r : PassView P E). r.view.first) is_left;
+    limit = ap (λ (r : PassView P E). r.view.limit) is ∙ a.limit ∙ ap (λ (r : PassView P E). r.view.limit) is_left;
+    passes = ap (λ (r : PassView P E). r.view.passes) is ∙ a.passes ∙ ap (λ (r : PassView P E). r.view.passes) is_left;
+    shares = shares_back p.view.shares left.view.shares off.view.shares one.view.shares other.view.shares q.view.shares some (ap (λ (r : PassView P E). r.view.shares) is_left)
+        (ap (λ (r : PassView P E). r.view.shares) is_off) a.shares b.shares (ap (λ (r : PassView P E). r.view.shares) is);
+  }

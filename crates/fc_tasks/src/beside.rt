@@ -1,7 +1,9 @@
 //! All actors of a yard, beside each other.
 
-ghost use Rattle.std.specs.Prelude.{◌≡◌, ◌+◌, ◌<◌, ◌≤◌, ◌++◌, [], length, vec_len, vec_capacity};
+ghost use Rattle.std.specs.Prelude.{◌≡◌, ◌+◌, ◌<◌, ◌≤◌, ◌++◌, [], ◌∷◌, length, vec_len, vec_capacity};
 ghost use Rattle.std.specs.Thread.{IsSync, IsSend};
+ghost use Rattle.fc_yard.specs.Views.{joined};
+ghost use Rattle.fc_yard.specs.Calls.{became};
 ghost use Rattle.fc_tasks.specs.Acting.{AllAnswered, AllSuit, IsFree, IsOpened, IsSamePass, HasAnswered, all_made};
 
 use crate::actor::{Answered, act};
@@ -13,6 +15,24 @@ use fc_yard::yard::Yard;
 use std::alloc::Global;
 use std::sync::Wait;
 use std::thread::{Threads, join};
+
+/// The two passes as one, and what the last actor did behind what the others did.
+fn both<W, E: Drop, P: Part<W, E>, S: Drop>(
+    yard: &Yard<W, E, P>,
+    first: (Pass<P, E>, Vec<Answered<E, S>>),
+    last: (Pass<P, E>, Answered<E, S>),
+) -> (Pass<P, E>, Vec<Answered<E, S>>)
+    requires free { IsFree yard.now first.0 × IsFree yard.now last.0 }
+    requires room { vec_len first.1 < vec_capacity first.1 }
+    ensures pass { result.0 ≡ became first.0 (joined first.0.view last.0.view) }
+    ensures answers { (result.1.items ≡ first.1.items ++ last.1 ∷ []) × (vec_capacity result.1 ≡ vec_capacity first.1) }
+{
+    let (mut pass, mut answers) = first;
+    let (other, answered) = last;
+    yard.join(&mut pass, other);
+    answers.push_reserved(answered);
+    (pass, answers)
+}
 
 /// Does scripts beside each other, each with a pass of its own and on a thread of its own where one can be made. The pass has a
 /// share for each of them, and drew no number yet; it comes back with all shares, and with the numbers of all.
@@ -59,7 +79,7 @@ pub fn act_all<
         return (pass, answers);
     }
     let other = yard.split(&mut pass);
-    let ((mut pass, mut answers), (other, answered)) = join(
+    let (first, last) = join(
         rt,
         move ||
             requires { IsSync R.row × IsSend E.row × IsSend P.row × IsSend S.row × IsSync G.row
@@ -83,7 +103,5 @@ pub fn act_all<
                 other.view.limit result.0.view.low script result.1) }
         { act(rt, alloc, yard, gate, other, script) },
     );
-    yard.join(&mut pass, other);
-    answers.push_reserved(answered);
-    (pass, answers)
+    both(yard, first, last)
 }

@@ -45,7 +45,8 @@ fn bare_command<'a>(alloc: Global) -> Command<'a>
 pub(crate) fn command<'a>(alloc: Global) -> Result<Command<'a>, AllocError>
     ensures { IfOk result (λ c. app_of c ≡ viewer) }
 {
-    bare_command(alloc)
-        .arg(at_option(alloc))?
-        .arg(svg_option(alloc))
+    match bare_command(alloc).arg(at_option(alloc)) {
+        Ok(command) => command.arg(svg_option(alloc)),
+        Err(refused) => Err(refused),
+    }
 }

@@ -1,7 +1,7 @@
 //! What the words of the viewer ask for.
 
 /// What the words of the viewer ask for.
-#[derive(Clone, Copy, PartialEq, Eq)]
+#[derive(Clone, Copy)]
 pub struct Wanted {
     /// The number of the one entry that is drawn: `--at`. Without it all are.
     pub at: Option<u64>,

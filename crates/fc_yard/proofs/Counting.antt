@@ -10,14 +10,14 @@ use Rattle.std.proofs.lemmas.List.{map-set}
 use Rattle.atomic_table.specs.Table.{State, Me, step, Act, keeps, takes, gives, Allows}
 use Rattle.atomic_table.proofs.Lists.{set_here, set_else, at_map, exchanged}
 use Rattle.fc_yard.specs.declared.rule.Stall.{Stall}
-use Rattle.fc_yard.specs.declared.rule.Stall.TheVariants.{Deed, Deeds}
+use Rattle.fc_yard.specs.declared.rule.Stall.TheVariants.{Out, Home, Deed, Deeds}
 use Rattle.fc_yard.specs.declared.rule.View.{View}
 use Rattle.fc_yard.specs.declared.rule.Terms.{Terms}
 use Rattle.fc_yard.specs.Lists.{AllBelow}
 use Rattle.fc_yard.specs.Views.{held_of, HoldsNone, Holds, HoldsAll, ticketed, looked, drew, drew_all}
 use Rattle.fc_yard.specs.Whole.{Commits, CommitsAll}
 use Rattle.fc_yard.specs.Rule.{Grip, Account, grip, account, parts_of, PartKept, Booked}
-use Rattle.fc_yard.specs.Steps.{Looked, Ticketed, Drew, DrewFor}
+use Rattle.fc_yard.specs.Steps.{in_hand, Looked, Ticketed, CommitsDeed, Drew, DrewFor}
 use Rattle.fc_yard.proofs.Totals.{write_here, write_else, each_set, same_map}
 use Rattle.fc_yard.proofs.Places.{stand_below}
 use Rattle.fc_yard.proofs.Parts.{none_some, part_moves}
@@ -214,16 +214,16 @@ module _ {W E P : Type 0} (fits : P → W → ℕ → P → Type 0) (sound : W �
     tickets_at first second live next room =
         subst (λ (k : ℕ). Allows R k id me (16 * n) (λ m. either (eqb m first) second m) (Ticketed fits sound count steps (step k (16 * n) first second none) me)) (sym same) (tickets n id me first second live next room)
 
-    module _ (v : View P E) (p : ℕ) (near : p < n) (live : 0 < v.shares) (some_left : 0 < v.tickets) (hand : v.hand ≡ suc p) (most : v.limit < 2 ^ 64) where
-      pub draws_at : (e : _) (x : _) (entry : E) (part : P) → me ≡ (v, (p, Deed e x) ∷ []) → e.value ≡ entry → x.value ≡ part → Holds v p → Commits fits sound count steps v p part entry
-          → Allows R slots id me (16 * n + 16) (λ m. (m + 1) % 2 ^ 64) (Drew fits sound count steps (step slots (16 * n + 16) 1 0 none) me)
-      draws_at e x entry part is is_entry is_part holds commits =
-          subst (λ (k : ℕ). Allows R k id me (16 * n + 16) (λ m. (m + 1) % 2 ^ 64) (Drew fits sound count steps (step k (16 * n + 16) 1 0 none) me)) (sym same)
-          (draws n id me v p near live some_left hand most e x is holds (subst (λ (z : P × E). Commits fits sound count steps v p z.0 z.1) (λ i. (sym is_part i, sym is_entry i)) commits))
+    -- a number is drawn for whatever the slot in hand announces
+    module _ (v : View P E) (p : ℕ) (near : p < n) (live : 0 < v.shares) (some_left : 0 < v.tickets) (most : v.limit < 2 ^ 64) where
+      abbrev Draws : Type 0
+      Draws = Allows R slots id me (16 * n + 16) (λ m. (m + 1) % 2 ^ 64) (Drew fits sound count steps (step slots (16 * n + 16) 1 0 none) me)
 
-      pub draws_all_at : (e : _) (xs : _) (entry : E) (parts : List P) → me ≡ (v, (p, Deeds e xs) ∷ []) → e.value ≡ entry → xs.value.items ≡ parts → HoldsAll v n → length parts ≡ n
-          → CommitsAll fits sound count steps n v parts entry → Allows R slots id me (16 * n + 16) (λ m. (m + 1) % 2 ^ 64) (Drew fits sound count steps (step slots (16 * n + 16) 1 0 none) me)
-      draws_all_at e xs entry parts is is_entry are_parts holds long commits =
-          subst (λ (k : ℕ). Allows R k id me (16 * n + 16) (λ m. (m + 1) % 2 ^ 64) (Drew fits sound count steps (step k (16 * n + 16) 1 0 none) me)) (sym same)
-          (draws_all n id me v p near live some_left hand most e xs is holds (ap (λ (l : List P). length l) are_parts ∙ long)
-          (subst (λ (z : List P × E). CommitsAll fits sound count steps n v z.0 z.1) (λ i. (sym are_parts i, sym is_entry i)) commits))
+      there : Allows R n id me (16 * n + 16) (λ m. (m + 1) % 2 ^ 64) (Drew fits sound count steps (step n (16 * n + 16) 1 0 none) me) → Draws
+      there d = subst (λ (k : ℕ). Allows R k id me (16 * n + 16) (λ m. (m + 1) % 2 ^ 64) (Drew fits sound count steps (step k (16 * n + 16) 1 0 none) me)) (sym same) d
+
+      pub draws_for : (y : Stall P E) → me ≡ (in_hand v (suc p), (p, y) ∷ []) → Holds v p → CommitsDeed fits sound count steps n v p y → Draws
+      draws_for Out is holds owed = absurd owed
+      draws_for (Home x) is holds owed = absurd owed
+      draws_for (Deed e x) is holds owed = there (draws n id me (in_hand v (suc p)) p near live some_left refl most e x is holds owed)
+      draws_for (Deeds e xs) is holds owed = there (draws_all n id me (in_hand v (suc p)) p near live some_left refl most e xs is owed.0 owed.1 owed.2)

@@ -1,15 +1,24 @@
 -- Parts in their slots.
-use Rattle.std.proofs.Common.{◌≡◌, ℕ, zero, suc, ◌+◌, ◌<◌, List, [], ◌∷◌, ◌++◌, length, take, sym, refl, ap, ◌∙◌, subst, arith, append_assoc}
+use Rattle.std.proofs.Common.{◌≡◌, ℕ, zero, suc, ◌+◌, ◌*◌, ◌<◌, List, [], ◌∷◌, ◌++◌, length, take, set, replicate, length-set, sym, refl, ap, ◌∙◌, subst, arith, append_assoc}
 use mathlib.Core.Option.{some, some-ne-none, some-injective}
-use lib.ListN.{get_elem?}
+use lib.ListN.{get_elem?, length-map, length-replicate}
 use Rattle.fc_yard.specs.declared.rule.Stall.{Stall}
 use Rattle.fc_yard.specs.declared.rule.Stall.TheVariants.{Out, Home, Deed, Deeds}
-use Rattle.fc_yard.specs.Homes.{at_home, homes_of, AllHome}
+use Rattle.fc_yard.specs.Homes.{at_home, homes_of, AllHome, new_words}
+
+-- the words of a new yard
+pub words_long : (n first : ℕ) → length (new_words n first) ≡ 16 * n + 32
+words_long n first =
+    let zeros : List ℕ = replicate (16 * n + 32) 0 in
+    length-set (set zeros (16 * n) first) (16 * n + 16) first ∙ length-set zeros (16 * n) first ∙ length-replicate (16 * n + 32) 0
 
 module _ {P : Type 0} (E : Type 0) where
   pub all_home : (xs : List P) → AllHome {E = E} (at_home xs)
   all_home [] = tt
   all_home (x ∷ xs) = all_home xs
+
+  pub home_long : (xs : List P) → length (at_home {E = E} xs) ≡ length xs
+  home_long xs = length-map xs (λ (x : P). Home x)
 
   pub homes_at : (xs : List P) → homes_of {E = E} (at_home xs) ≡ xs
   homes_at [] = refl

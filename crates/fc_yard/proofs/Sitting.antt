@@ -3,10 +3,11 @@ use Rattle.std.proofs.Common.{◌≡◌, ℕ, suc, ◌<◌, List, [], ◌∷◌,
 use Rattle.atomic_table.specs.Table.{rest}
 use Rattle.atomic_table.specs.Seated.{TableId}
 use Rattle.fc_yard.specs.declared.rule.Stall.{Stall}
-use Rattle.fc_yard.specs.declared.rule.Stall.TheVariants.{Home, Deed, Deeds}
+use Rattle.fc_yard.specs.declared.rule.Stall.TheVariants.{Out, Home, Deed, Deeds}
 use Rattle.fc_yard.specs.declared.rule.View.{View}
 use Rattle.fc_yard.specs.Views.{held_of, took, put_back, drew, drew_all}
-use Rattle.fc_yard.specs.Steps.{Mine, in_hand, won}
+use Rattle.fc_yard.specs.Whole.{Commits, CommitsAll}
+use Rattle.fc_yard.specs.Steps.{Mine, in_hand, won, DrewFor}
 use Rattle.fc_yard.specs.Calls.{PassView, IsNext, became}
 use Rattle.fc_yard.proofs.Totals.{write_here}
 
@@ -84,29 +85,42 @@ module _ {P E : Type 0} where
   pub rests : (m m' : Mine P E) (v : View P E) → 0 < m.0.shares → v.shares ≡ m.0.shares → v.hand ≡ 0 → m' ≡ (v, []) → (m'.1 ≡ []) × (m'.0.hand ≡ 0) × (0 < m'.0.shares)
   rests m m' v live same hand r = (slots_of m' (v, []) r, ap (λ (n : Mine P E). n.0.hand) r ∙ hand, subst (λ (k : ℕ). 0 < k) (sym (ap (λ (n : Mine P E). n.0.shares) r ∙ same)) live)
 
-  -- a number was drawn for what was announced
-  deed_done : (K : View P E → Type 0) (f : View P E → View P E) (m0 m1 m2 m3 : Mine P E) (p : ℕ) (y z : Stall P E) → m0.1 ≡ [] → m1 ≡ (in_hand m0.0 (suc p), (p, y) ∷ m0.1) → m2 ≡ (m1.0, (p, z) ∷ rest m1.1)
-      → (m2.1 ≡ (p, z) ∷ [] → (m3 ≡ (f m2.0, [])) × K (f m2.0)) → (m3 ≡ (f (in_hand m0.0 (suc p)), [])) × K (f (in_hand m0.0 (suc p)))
-  deed_done K f m0 m1 m2 m3 p y z e a b told =
-      let hand = unparked m0 m1 p y e a in let had = exchanged m1 m2 (in_hand m0.0 (suc p)) p y z hand.0 hand.1 b in
-      let now : m2.0 ≡ in_hand m0.0 (suc p) = view_of m2 (in_hand m0.0 (suc p), (p, z) ∷ []) had in
-      let t = told (slots_of m2 (in_hand m0.0 (suc p), (p, z) ∷ []) had) in
-      (t.0 ∙ ap (λ (v : View P E). (f v, [])) now, subst (λ (v : View P E). K (f v)) now t.1)
+  -- a number was drawn for an entry and a part, by other names
+  pub drawn_one : (K : View P E → Type 0) (m m' : Mine P E) (p n : ℕ) (x part : P) (e entry : E) → x ≡ part → e ≡ entry
+      → (m' ≡ (drew m.0 p x n e, [])) × K (drew m.0 p x n e) → (m' ≡ (drew m.0 p part n entry, [])) × K (drew m.0 p part n entry)
+  drawn_one K m m' p n x part e entry is_part is_entry drawn =
+      subst (λ (z : P × E). (m' ≡ (drew m.0 p z.0 n z.1, [])) × K (drew m.0 p z.0 n z.1)) (λ i. (is_part i, is_entry i)) drawn
 
-  pub drawn_one : (K : View P E → Type 0) (m0 m1 m2 m3 : Mine P E) (p n : ℕ) (y : Stall P E) (e : _) (x : _) (entry : E) (part : P) → m2 ≡ (m1.0, (p, Deed e x) ∷ rest m1.1) → e.value ≡ entry → x.value ≡ part → m0.1 ≡ []
-      → m1 ≡ (in_hand m0.0 (suc p), (p, y) ∷ m0.1)
-      → (m2.1 ≡ (p, Deed e x) ∷ [] → (m3 ≡ (drew m2.0 p x.value n e.value, [])) × K (drew m2.0 p x.value n e.value)) → (m3 ≡ (drew m0.0 p part n entry, [])) × K (drew m0.0 p part n entry)
-  drawn_one K m0 m1 m2 m3 p n y e x entry part b is_entry is_part at a told =
-      subst (λ (z : P × E). (m3 ≡ (drew m0.0 p z.0 n z.1, [])) × K (drew m0.0 p z.0 n z.1)) (λ i. (is_part i, is_entry i))
-      (deed_done K (λ (v : View P E). drew v p x.value n e.value) m0 m1 m2 m3 p y (Deed e x) at a b told)
-
-  pub drawn_all : (K : View P E → Type 0) (m0 m1 m2 m3 : Mine P E) (p n : ℕ) (y : Stall P E) (e : _) (xs : _) (entry : E) (parts : List P) → m2 ≡ (m1.0, (p, Deeds e xs) ∷ rest m1.1) → e.value ≡ entry → xs.value.items ≡ parts → m0.1 ≡ []
-      → m1 ≡ (in_hand m0.0 (suc p), (p, y) ∷ m0.1)
-      → (m2.1 ≡ (p, Deeds e xs) ∷ [] → (m3 ≡ (drew_all m2.0 xs.value.items n e.value, [])) × K (drew_all m2.0 xs.value.items n e.value)) → (m3 ≡ (drew_all m0.0 parts n entry, [])) × K (drew_all m0.0 parts n entry)
-  drawn_all K m0 m1 m2 m3 p n y e xs entry parts b is_entry are_parts at a told =
-      subst (λ (z : List P × E). (m3 ≡ (drew_all m0.0 z.0 n z.1, [])) × K (drew_all m0.0 z.0 n z.1)) (λ i. (are_parts i, is_entry i))
-      (deed_done K (λ (v : View P E). drew_all v xs.value.items n e.value) m0 m1 m2 m3 p y (Deeds e xs) at a b told)
+  pub drawn_all : (K : View P E → Type 0) (m m' : Mine P E) (n : ℕ) (xs parts : List P) (e entry : E) → xs ≡ parts → e ≡ entry
+      → (m' ≡ (drew_all m.0 xs n e, [])) × K (drew_all m.0 xs n e) → (m' ≡ (drew_all m.0 parts n entry, [])) × K (drew_all m.0 parts n entry)
+  drawn_all K m m' n xs parts e entry are_parts is_entry drawn =
+      subst (λ (z : List P × E). (m' ≡ (drew_all m.0 z.0 n z.1, [])) × K (drew_all m.0 z.0 n z.1)) (λ i. (are_parts i, is_entry i)) drawn
 
   -- the slot in hand says nothing of the number
   pub next_same : (v : View P E) (k : ℕ) (m : Mine P E) (z : Stall P E) (p n : ℕ) → m ≡ (in_hand v k, (p, z) ∷ []) → IsNext m.0 n → IsNext v n
   next_same v k m z p n e h = subst (λ (u : View P E). IsNext u n) (view_of m (in_hand v k, (p, z) ∷ []) e) h
+
+module _ {W E P : Type 0} (fits : P → W → ℕ → P → Type 0) (sound : W → W → Type 0) (count : W → ℕ) (steps : W → ℕ → E → W → Type 0) where
+  -- nor of what was announced
+  unhanded : (v : View P E) (k p n : ℕ) (z : Stall P E) (m : Mine P E) → DrewFor fits sound count steps (in_hand v k) p n z m → DrewFor fits sound count steps v p n z m
+  unhanded v k p n Out m d = d
+  unhanded v k p n (Home x) m d = d
+  unhanded v k p n (Deed e x) m d = d
+  unhanded v k p n (Deeds e xs) m d = d
+
+  -- a number was drawn for what was announced
+  pub drawn_for : (m0 m1 m2 m3 : Mine P E) (p n : ℕ) (y z : Stall P E) → m0.1 ≡ [] → m1 ≡ (in_hand m0.0 (suc p), (p, y) ∷ m0.1) → m2 ≡ (m1.0, (p, z) ∷ rest m1.1)
+      → (m2.1 ≡ (p, z) ∷ [] → DrewFor fits sound count steps m2.0 p n z m3) → DrewFor fits sound count steps m0.0 p n z m3
+  drawn_for m0 m1 m2 m3 p n y z e a b told =
+      let hand = unparked m0 m1 p y e a in let had = exchanged m1 m2 (in_hand m0.0 (suc p)) p y z hand.0 hand.1 b in
+      unhanded m0.0 (suc p) p n z m3
+      (subst (λ (v : View P E). DrewFor fits sound count steps v p n z m3) (view_of m2 (in_hand m0.0 (suc p), (p, z) ∷ []) had) (told (slots_of m2 (in_hand m0.0 (suc p), (p, z) ∷ []) had)))
+
+  -- what a draw owes, by other names
+  pub commits_as : (v v' : View P E) (p : ℕ) (x part : P) (e entry : E) → v' ≡ v → x ≡ part → e ≡ entry → Commits fits sound count steps v p part entry → Commits fits sound count steps v' p x e
+  commits_as v v' p x part e entry same is_part is_entry owed =
+      subst (λ (z : View P E × P × E). Commits fits sound count steps z.0 p z.1 z.2) (λ i. (sym same i, sym is_part i, sym is_entry i)) owed
+
+  pub commits_all_as : (n n' : ℕ) (v v' : View P E) (xs parts : List P) (e entry : E) → n' ≡ n → v' ≡ v → xs ≡ parts → e ≡ entry → CommitsAll fits sound count steps n v parts entry → CommitsAll fits sound count steps n' v' xs e
+  commits_all_as n n' v v' xs parts e entry deep same are_parts is_entry owed =
+      subst (λ (z : ℕ × View P E × List P × E). CommitsAll fits sound count steps z.0 z.1 z.2 z.3) (λ i. (sym deep i, sym same i, sym are_parts i, sym is_entry i)) owed

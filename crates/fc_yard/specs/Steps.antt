@@ -1,13 +1,13 @@
 -- What each step tells the pass that makes it: of the step, the pass before, the number found in the word, and the pass after.
-use Rattle.std.specs.Prelude.{◌≡◌, ◌≢◌, ℕ, suc, ◌<◌, ◌≤◌, [], ◌∷◌}
+use Rattle.std.specs.Prelude.{◌≡◌, ◌≢◌, ℕ, suc, ◌<◌, ◌≤◌, [], ◌∷◌, length}
 use Rattle.atomic_table.specs.Table.{Me, Step}
 use Rattle.fc_yard.specs.declared.rule.Stall.{Stall}
 use Rattle.fc_yard.specs.declared.rule.Stall.TheVariants.{Out, Home, Deed, Deeds}
 use Rattle.fc_yard.specs.declared.rule.View.{View}
 use Rattle.fc_yard.specs.Lists.{AllBelow}
 use Rattle.fc_yard.specs.Rule.{turn_word}
-use Rattle.fc_yard.specs.Views.{took, put_back, ticketed, looked, drew, drew_all}
-use Rattle.fc_yard.specs.Whole.{Knows}
+use Rattle.fc_yard.specs.Views.{HoldsAll, took, put_back, ticketed, looked, drew, drew_all}
+use Rattle.fc_yard.specs.Whole.{Knows, Commits, CommitsAll}
 
 abbrev pub At : Type 0 → Type 0 → Type 0
 At P E = Step (Stall P E)
@@ -53,6 +53,13 @@ module _ {W E P : Type 0} (fits : P → W → ℕ → P → Type 0) (sound : W �
   Ticketed st before found after =
       (before.0.low ≤ found) × (found ≤ before.0.limit)
       × (found ≡ st.first → after ≡ (ticketed before.0 found, before.1)) × (found ≢ st.first → after ≡ (looked before.0 found, before.1)) × Knows fits sound count steps after.0
+
+  -- what a draw owes for what a slot of a yard of n parts announces
+  abbrev pub CommitsDeed : ℕ → View P E → ℕ → Stall P E → Type 0
+  CommitsDeed n v p Out = ⊥
+  CommitsDeed n v p (Home x) = ⊥
+  CommitsDeed n v p (Deed e x) = Commits fits sound count steps v p x.value e.value
+  CommitsDeed n v p (Deeds e xs) = HoldsAll v n × (length xs.value.items ≡ n) × CommitsAll fits sound count steps n v xs.value.items e.value
 
   -- the number that was found, for what the slot in hand announces
   abbrev pub DrewFor : View P E → ℕ → ℕ → Stall P E → Mine P E → Type 0

@@ -1,10 +1,9 @@
 //! Tickets are given, and numbers drawn.
 
-ghost use Rattle.std.specs.Prelude.{◌≡◌, ◌+◌, ◌*◌, ◌^◌, ◌<◌, ◌≤◌, ◌∷◌, [], ℕ, None, Some, true, false, length};
-ghost use Rattle.fc_yard.specs.declared.rule.Stall.TheVariants.{Deed, Deeds};
-ghost use Rattle.fc_yard.specs.Lists.{AllBelow};
+ghost use Rattle.std.specs.Prelude.{◌≡◌, ◌+◌, ◌^◌, ◌<◌, ◌≤◌, ℕ, true, false, length};
 ghost use Rattle.fc_yard.specs.Views.{Holds, HoldsAll, ticketed, looked, drew, drew_all};
 ghost use Rattle.fc_yard.specs.Whole.{Knows, Commits, CommitsAll};
+ghost use Rattle.fc_yard.specs.Steps.{CommitsDeed, DrewFor};
 ghost use Rattle.fc_yard.specs.Calls.{IsPassOf, IsSameSeat, IsSized, AtRest, IsNext, became};
 
 use crate::part::Part;
@@ -15,46 +14,22 @@ use crate::yard::{Shelf, Yard};
 use atomic_table::Seat;
 use std::snapshot::Snapshot;
 
-/// Draws a number for the entry that is announced in the slot of a part that is held.
+/// Draws a number for the entry that the slot of a part that is held announces from now on.
 fn draw_for<W, E, P: Part<W, E>>(
     shelf: &Shelf<W, E, P>,
     seat: &mut Seat<Stall<P, E>, View<P, E>>,
     part: usize,
     parts: usize,
-    value: &P,
-    entry: &E,
+    deed: Stall<P, E>,
 ) -> u64
     requires table { (seat.old.table_id ≡ shelf.now.table_id) × IsSized shelf.now.table_id parts × (part < parts) }
     requires ready { AtRest seat.old × Holds seat.old.me.0 part × (0 < seat.old.me.0.tickets) × (seat.old.me.0.limit < 2 ^ 64) }
-    requires commits { Commits P.fits P.sound P.count P.steps seat.old.me.0 part value.now entry.now }
-    ensures seat { IsSameSeat seat.old seat.new × (seat.new.me ≡ (drew seat.old.me.0 part value.now result entry.now, [])) }
-    ensures knows { Knows P.fits P.sound P.count P.steps (drew seat.old.me.0 part value.now result entry.now) }
+    requires commits { CommitsDeed P.fits P.sound P.count P.steps parts seat.old.me.0 part deed }
+    ensures seat { IsSameSeat seat.old seat.new × DrewFor P.fits P.sound P.count P.steps seat.old.me.0 part result deed seat.new.me }
     ensures number { IsNext seat.old.me.0 result }
 {
     shelf.load::<Unpark>(seat, STRIDE * part);
-    let deed = Stall::Deed(Snapshot::of(entry), Snapshot::of(value));
     drop(shelf.exchange(seat, part, deed));
-    shelf.fetch_add::<Draw<W>>(seat, STRIDE * parts + STRIDE, 1)
-}
-
-/// Draws a number for the entry of all parts that is announced in the slot of the first.
-fn draw_for_all<W, E, P: Part<W, E>>(
-    shelf: &Shelf<W, E, P>,
-    seat: &mut Seat<Stall<P, E>, View<P, E>>,
-    parts: usize,
-    values: &Vec<P>,
-    entry: &E,
-) -> u64
-    requires table { (seat.old.table_id ≡ shelf.now.table_id) × IsSized shelf.now.table_id parts × (0 < parts) }
-    requires ready { AtRest seat.old × HoldsAll seat.old.me.0 parts × (0 < seat.old.me.0.tickets) × (seat.old.me.0.limit < 2 ^ 64) }
-    requires commits { (length values.now.items ≡ parts) × CommitsAll P.fits P.sound P.count P.steps parts seat.old.me.0 values.now.items entry.now }
-    ensures seat { IsSameSeat seat.old seat.new × (seat.new.me ≡ (drew_all seat.old.me.0 values.now.items result entry.now, [])) }
-    ensures knows { Knows P.fits P.sound P.count P.steps (drew_all seat.old.me.0 values.now.items result entry.now) }
-    ensures number { IsNext seat.old.me.0 result }
-{
-    shelf.load::<Unpark>(seat, 0);
-    let deeds = Stall::Deeds(Snapshot::of(entry), Snapshot::of(values));
-    drop(shelf.exchange(seat, 0, deeds));
     shelf.fetch_add::<Draw<W>>(seat, STRIDE * parts + STRIDE, 1)
 }
 
@@ -99,13 +74,13 @@ impl<W, E, P: Part<W, E>> Yard<W, E, P> {
         ensures knows { Knows P.fits P.sound P.count P.steps pass.new.view }
         ensures number { IsNext pass.old.view result }
     {
+        let deed = Stall::Deed(Snapshot::of(entry), Snapshot::of(value));
         draw_for(
             &self.table.shared,
             &mut pass.seat,
             part,
             self.parts,
-            value,
-            entry,
+            deed,
         )
     }
 
@@ -123,12 +98,13 @@ impl<W, E, P: Part<W, E>> Yard<W, E, P> {
         ensures knows { Knows P.fits P.sound P.count P.steps pass.new.view }
         ensures number { IsNext pass.old.view result }
     {
-        draw_for_all(
+        let deeds = Stall::Deeds(Snapshot::of(entry), Snapshot::of(values));
+        draw_for(
             &self.table.shared,
             &mut pass.seat,
+            0,
             self.parts,
-            values,
-            entry,
+            deeds,
         )
     }
 }

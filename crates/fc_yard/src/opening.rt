@@ -1,17 +1,18 @@
 //! A yard is opened and closed.
 
-ghost use Rattle.std.specs.Prelude.{◌≡◌, ◌+◌, ◌^◌, ◌<◌, ◌≤◌, ◌++◌, length, vec_len, vec_capacity, IfOk, IfErr, List};
+ghost use Rattle.std.specs.Prelude.{◌≡◌, ◌+◌, ◌^◌, ◌<◌, ◌≤◌, ◌++◌, [], length, vec_len, vec_capacity, IfOk, IfErr, List};
 ghost use Rattle.std.specs.Slots.{slots_items, slots_len, IsFull};
 ghost use Rattle.fc_yard.specs.Homes.{at_home, homes_of, AllHome, new_words};
 ghost use Rattle.fc_yard.specs.Views.{HoldsNone, opening_view};
 ghost use Rattle.fc_yard.specs.Whole.{IsClosed};
-ghost use Rattle.fc_yard.specs.Calls.{IsPassOf};
+ghost use Rattle.fc_yard.specs.Rule.{parts_of, first_view};
+ghost use Rattle.fc_yard.specs.Calls.{IsPassOf, IsSized};
 
 use crate::part::Part;
 use crate::pass::Pass;
-use crate::rule::{STRIDE, Stall, Terms};
-use crate::yard::Yard;
-use atomic_table::{Closed, Refused, Table};
+use crate::rule::{STRIDE, Stall, Terms, View};
+use crate::yard::{Hall, Yard};
+use atomic_table::{Closed, Refused, Seat, Table};
 use std::alloc::{AllocError, Global};
 use std::collections::VecDeque;
 use std::snapshot::Snapshot;
@@ -47,10 +48,7 @@ fn rehouse<P: Drop, E>(mut stalls: VecDeque<Stall<P, E>>, parts: &mut Vec<P>)
     ensures { parts.new.items ≡ parts.old.items ++ homes_of stalls.items }
 {
     while let Some(stall) = stalls.pop_front() {
-        match stall {
-            Stall::Home(part) => parts.push_reserved(part),
-            _ => unreachable!(),
-        }
+        parts.push_reserved(stall.into_part());
     }
 }
 
@@ -62,12 +60,72 @@ fn gather<P: Drop, E>(mut closed: Closed<Stall<P, E>, Global>, parts: &mut Vec<P
     ensures { parts.new.items ≡ parts.old.items ++ homes_of (slots_items closed.slots) }
 {
     for place in 0..closed.slot_count() {
-        match closed.take(place) {
-            Stall::Home(part) => parts.push_reserved(part),
-            _ => unreachable!(),
-        }
+        parts.push_reserved(closed.take(place).into_part());
     }
     closed.free();
+}
+
+/// The memory that a new yard needs.
+struct Room<P, E> {
+    /// The words of its table.
+    words: Vec<u64>,
+    /// The slots of its table.
+    stalls: Vec<Stall<P, E>>,
+    /// Where its parts go if there is no table.
+    back: Vec<P>,
+}
+
+impl<P: Drop, E> Room<P, E> {
+    /// Room for so many parts.
+    fn new(alloc: Global, parts: usize, first: u64) -> Result<Self, AllocError>
+        ensures words { IfOk result (λ room. (room.words.items ≡ new_words parts first) × (parts < 2 ^ 57)) }
+        ensures stalls { IfOk result (λ room. (room.stalls.items ≡ []) × (parts ≤ vec_capacity room.stalls)) }
+        ensures back { IfOk result (λ room. (room.back.items ≡ []) × (parts ≤ vec_capacity room.back)) }
+    {
+        if parts >= MOST_PARTS {
+            return Err(AllocError);
+        }
+        let words = words_for(alloc, parts, first)?;
+        let back = Vec::with_capacity(alloc, parts)?;
+        let stalls = Vec::with_capacity(alloc, parts)?;
+        Ok(Room {
+            words,
+            stalls,
+            back,
+        })
+    }
+
+    /// A table with these parts in its slots. Refused for want of memory, the parts come back.
+    fn furnish<W>(
+        self,
+        alloc: Global,
+        parts: Vec<P>,
+        terms: Terms<P>,
+    ) -> Result<(Hall<W, E, P>, Seat<Stall<P, E>, View<P, E>>), Vec<P>>
+    where
+        P: Part<W, E>,
+        requires terms { (parts_of terms ≡ parts.items) × (terms.first ≤ terms.limit) × (0 < terms.passes) }
+        requires words { (self.words.items ≡ new_words (vec_len parts) terms.first) × (vec_len parts < 2 ^ 57) }
+        requires stalls { (self.stalls.items ≡ []) × (vec_len parts ≤ vec_capacity self.stalls) }
+        requires back { (self.back.items ≡ []) × (vec_len parts ≤ vec_capacity self.back) }
+        ensures table { IfOk result (λ r. IsSized r.0.shared.table_id (vec_len parts) × (r.0.shared.key ≡ terms)) }
+        ensures seat { IfOk result (λ r. (r.1.table_id ≡ r.0.shared.table_id) × (r.1.me ≡ (first_view terms, []))) }
+        ensures back { IfErr result (λ back. back.items ≡ parts.items) }
+    {
+        let Room {
+            words,
+            mut stalls,
+            mut back,
+        } = self;
+        house(VecDeque::from(parts), &mut stalls);
+        match Table::new(alloc, words.as_slice(), stalls, &terms) {
+            Ok(made) => Ok(made),
+            Err(Refused { slots }) => {
+                rehouse(VecDeque::from(slots), &mut back);
+                Err(back)
+            }
+        }
+    }
 }
 
 impl<W, E, P: Part<W, E>> Yard<W, E, P> {
@@ -88,16 +146,7 @@ impl<W, E, P: Part<W, E>> Yard<W, E, P> {
         ensures back { IfErr result (λ back. back.items ≡ parts.items) }
     {
         let count = parts.len();
-        if count >= MOST_PARTS {
-            return Err(parts);
-        }
-        let Ok(words) = words_for(alloc, count, first) else {
-            return Err(parts);
-        };
-        let Ok(mut back) = Vec::with_capacity(alloc, count) else {
-            return Err(parts);
-        };
-        let Ok(mut stalls) = Vec::with_capacity(alloc, count) else {
+        let Ok(room) = Room::new(alloc, count, first) else {
             return Err(parts);
         };
         let terms = Terms {
@@ -106,8 +155,7 @@ impl<W, E, P: Part<W, E>> Yard<W, E, P> {
             passes,
             parts: Snapshot::of(&parts),
         };
-        house(VecDeque::from(parts), &mut stalls);
-        match Table::new(alloc, words.as_slice(), stalls, &terms) {
+        match room.furnish(alloc, parts, terms) {
             Ok((table, seat)) => Ok((
                 Yard {
                     table,
@@ -116,10 +164,7 @@ impl<W, E, P: Part<W, E>> Yard<W, E, P> {
                 },
                 Pass { seat },
             )),
-            Err(Refused { slots }) => {
-                rehouse(VecDeque::from(slots), &mut back);
-                Err(back)
-            }
+            Err(back) => Err(back),
         }
     }
 

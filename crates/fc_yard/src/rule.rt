@@ -4,6 +4,9 @@
 //! another pass may sleep until it comes back. Word 16 n counts the tickets given, word 16 n + 16 the numbers drawn, both
 //! from the yard's first number. The factor keeps each word 128 bytes from the next one, so that no two share a cache line.
 
+ghost use Rattle.std.specs.Prelude.{◌≡◌};
+ghost use Rattle.fc_yard.specs.declared.rule.Stall.TheVariants.{Home};
+
 use crate::part::Part;
 use atomic_table::TableRule;
 use std::collections::LinkedList;
@@ -24,6 +27,19 @@ pub enum Stall<P, E> {
     Deed(Snapshot<E>, Snapshot<P>),
     /// The same of an entry over all parts.
     Deeds(Snapshot<E>, Snapshot<Vec<P>>),
+}
+
+impl<P: Drop, E> Stall<P, E> {
+    /// The part, which is in its slot.
+    pub(crate) fn into_part(self) -> P
+        requires { (x : P) × (self ≡ Home x) }
+        ensures { self ≡ Home result }
+    {
+        match self {
+            Stall::Home(part) => part,
+            _ => unreachable!(),
+        }
+    }
 }
 
 /// What a pass knows and may do. No value of it is made.

@@ -29,10 +29,7 @@ fn bring_out<W, E, P: Part<W, E>>(
 {
     let stall = shelf.exchange(seat, part, Stall::Out);
     shelf.load::<Park>(seat, STRIDE * part);
-    match stall {
-        Stall::Home(value) => value,
-        _ => unreachable!(),
-    }
+    stall.into_part()
 }
 
 /// Puts a part into its slot, and the turn is free. Says whether another pass may sleep until then.

@@ -8,6 +8,10 @@ use atomic_table::{Shared, Table};
 use std::alloc::Global;
 use std::marker::Model;
 
+/// The table with its memory.
+pub(crate) type Hall<W, E, P> =
+    Table<Stall<P, E>, View<P, E>, Terms<P>, Turns<W>, Global>;
+
 /// The table as the calls below use it.
 pub(crate) type Shelf<W, E, P> = Shared<Stall<P, E>, View<P, E>, Terms<P>, Turns<W>>;
 
@@ -17,7 +21,7 @@ pub(crate) type Shelf<W, E, P> = Shared<Stall<P, E>, View<P, E>, Terms<P>, Turns
 /// without `close`, it lets its parts go.
 #[derive(Drop)]
 pub struct Yard<W, E, P: Part<W, E>> {
-    pub(crate) table: Table<Stall<P, E>, View<P, E>, Terms<P>, Turns<W>, Global>,
+    pub(crate) table: Hall<W, E, P>,
     pub(crate) parts: usize,
     pub(crate) limit: u64,
 }

@@ -1,6 +1,5 @@
-use Rattle.std.proofs.Common.{◌≡◌, ◌∙◌, [], ap, ap₂, codes}
-use Rattle.std.proofs.lemmas.Result.{IfOk-weaker}
-use Rattle.clap.specs.Words.{App, app_of, new_app, with_subcommand}
+use Rattle.std.proofs.Common.{[], codes}
+use Rattle.clap.specs.Words.{App, new_app, with_subcommand}
 use Rattle.fc_args.specs.Program.{numbered_app, run_app, top_shape}
 use Rattle.fc_args.proofs.program.program.Goals as goal
 
@@ -18,10 +17,7 @@ with_check = with_subcommand with_drill (new_app (codes "check")).top
 
 pub returns : goal.returns
 returns c =
-    let one : app_of c.in_ok-subcommand.field-0 ≡ with_run =
-    c.in_ok-subcommand.ensures.shape c.in_ok-run_command.ensures.1 ∙ ap₂ with_subcommand c.program_alone.ensures.app (ap (λ (a : App). a.top) c.in_ok-run_command.ensures.0) in
-    let two : app_of c.in_ok-subcommand-2.field-0 ≡ with_drill =
-    c.in_ok-subcommand-2.ensures.shape c.in_ok-drill_command.ensures.1 ∙ ap₂ with_subcommand one (ap (λ (a : App). a.top) c.in_ok-drill_command.ensures.0) in
-    let three : app_of c.in_ok-subcommand-3.field-0 ≡ with_check =
-    c.in_ok-subcommand-3.ensures.shape c.check_command.ensures.local ∙ ap₂ with_subcommand two (ap (λ (a : App). a.top) c.check_command.ensures.app) in
-    IfOk-weaker c.subcommand-4.result _ _ (λ r h. h.shape c.in_ok-stop_command.ensures.1 ∙ ap₂ with_subcommand three (ap (λ (a : App). a.top) c.in_ok-stop_command.ensures.0)) c.subcommand-4.ensures
+    let one = c.with_command-program.ensures alone run_app c.program_alone.ensures.app c.run_command.ensures in
+    let two = c.with_command-program-2.ensures with_run (numbered_app (codes "drill")) one c.drill_command.ensures in
+    let three = c.with_command-program-3.ensures with_drill (new_app (codes "check")) two (c.check_command.ensures.app, c.check_command.ensures.local) in
+    c.with_command.ensures with_check (numbered_app (codes "stop")) three c.stop_command.ensures

@@ -24,32 +24,32 @@ fewer bytes left end s t u i rs e h k is =
 pub returns-in_err-image : goal.returns-in_err-image
 returns-in_err-image c =
     let p = err_from_is_err_and c.from_residual.result c.from_residual.ensures.1 in
-    rw (p.1, p.2) (half_fails c.args.bytes.now c.args.end (counted image c.new-cursor.result) c.in_err-image.field-0.0 c.take_image.new.cursor
+    rw (p.1, p.2) (half_fails c.args.bytes.now c.args.end (counted image c.new-cursor.result) c.in_err-image.field-0.0 c.take_counted.new.cursor
     (image_fails c.new-cursor.result (record { bytes = c.args.bytes.now; end = c.args.end }) c.new-cursor.ensures) c.in_err-image.ensures)
 
 pub returns-in_err-records : goal.returns-in_err-records
 returns-in_err-records c =
     let p = err_from_is_err_and c.from_residual-in_err-records.result c.from_residual-in_err-records.ensures.1 in
-    rw (p.1, p.2) (half_fails c.args.bytes.now c.args.end (batches c.take_image.new.cursor) c.in_err-records.field-0.0 c.take_batches.new.cursor
-    (batches_fail c.new-cursor.result (record { bytes = c.args.bytes.now; end = c.args.end }) c.new-cursor.ensures c.in_ok-image.image c.take_image.new.cursor c.in_ok-image.ensures) c.in_err-records.ensures)
+    rw (p.1, p.2) (half_fails c.args.bytes.now c.args.end (batches c.take_counted.new.cursor) c.in_err-records.field-0.0 c.take_batches.new.cursor
+    (batches_fail c.new-cursor.result (record { bytes = c.args.bytes.now; end = c.args.end }) c.new-cursor.ensures c.in_ok-image.image c.take_counted.new.cursor c.in_ok-image.ensures) c.in_err-records.ensures)
 
 pub overflow_sub-closed : goal.overflow_sub-closed
 overflow_sub-closed c =
-    let f = fewer c.args.bytes.now c.bytes-left.result.now c.args.end c.new-cursor.result c.take_image.new.cursor c.take_batches.new.cursor c.in_ok-image.image c.in_ok-records.records.items
+    let f = fewer c.args.bytes.now c.bytes-left.result.now c.args.end c.new-cursor.result c.take_counted.new.cursor c.take_batches.new.cursor c.in_ok-image.image c.in_ok-records.records.items
     c.new-cursor.ensures c.in_ok-image.ensures c.in_ok-records.ensures c.bytes-left.ensures in
     omega (arith, f)
 
 pub overflow_sub-closed-2 : goal.overflow_sub-closed-2
 overflow_sub-closed-2 c =
-    let f = fewer c.args.bytes.now c.bytes-left.result.now c.args.end c.new-cursor.result c.take_image.new.cursor c.take_batches.new.cursor c.in_ok-image.image c.in_ok-records.records.items
+    let f = fewer c.args.bytes.now c.bytes-left.result.now c.args.end c.new-cursor.result c.take_counted.new.cursor c.take_batches.new.cursor c.in_ok-image.image c.in_ok-records.records.items
     c.new-cursor.ensures c.in_ok-image.ensures c.in_ok-records.ensures c.bytes-left.ensures in
     omega (arith, f)
 
 pub returns-in-Ok : goal.returns-in-Ok
 returns-in-Ok c =
-    let f = fewer c.args.bytes.now c.bytes-left.result.now c.args.end c.new-cursor.result c.take_image.new.cursor c.take_batches.new.cursor c.in_ok-image.image c.in_ok-records.records.items
+    let f = fewer c.args.bytes.now c.bytes-left.result.now c.args.end c.new-cursor.result c.take_counted.new.cursor c.take_batches.new.cursor c.in_ok-image.image c.in_ok-records.records.items
     c.new-cursor.ensures c.in_ok-image.ensures c.in_ok-records.ensures c.bytes-left.ensures in
     let m = ap length c.bytes-left.ensures in
     let is : c.in-Ok.image ≡ after_records c.in_ok-image.image c.in_ok-records.records.items = c.in-Ok.ensures ∙ ap (after_records c.in_ok-image.image) c.deref.ensures.value in
-    let read = both_read c.new-cursor.result (record { bytes = c.args.bytes.now; end = c.args.end }) c.new-cursor.ensures c.in_ok-image.image c.in_ok-records.records.items c.take_image.new.cursor c.take_batches.new.cursor c.in_ok-image.ensures c.in_ok-records.ensures in
+    let read = both_read c.new-cursor.result (record { bytes = c.args.bytes.now; end = c.args.end }) c.new-cursor.ensures c.in_ok-image.image c.in_ok-records.records.items c.take_counted.new.cursor c.take_batches.new.cursor c.in_ok-image.ensures c.in_ok-records.ensures in
     (c.take_batches.new.cursor, read ∙ ap (λ (z : MetaImage). Got z c.take_batches.new.cursor) (sym is), omega (arith, f, m))

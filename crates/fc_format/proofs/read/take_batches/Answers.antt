@@ -50,9 +50,9 @@ returns-in_err-records-in-Some c =
     let one = c.if-gate-ne1.false in
     let e : length c.bytes-count.result.now - c.loop-taken.taken ≡ suc (length c.bytes-count.result.now - (c.loop-taken.taken + 1)) = omega (arith, test) in
     let wide : eqb c.in-Some.gate 1 ≡ true = grind (arith, nat_tests, one) in
-    rw (p.1, p.2) (answers_as (batches c.args.cursor.now) (batches_up_to (length c.bytes-count.result.now) c.args.cursor.now) (Err c.in_err-records-in-Some.field-0.0) c.take_batch.new.cursor
+    rw (p.1, p.2) (answers_as (batches c.args.cursor.now) (batches_up_to (length c.bytes-count.result.now) c.args.cursor.now) (Err c.in_err-records-in-Some.field-0.0) c.take_counted.new.cursor
     (tries c.args.cursor.now c.bytes-count.result.now c.bytes-count.ensures)
-    (up_stopped (length c.bytes-count.result.now) c.args.cursor.now c.loop-taken.cursor c.loop-taken.all.items (length c.bytes-count.result.now - (c.loop-taken.taken + 1)) c.in-Some.gate c.skip.new.self c.take_batch.new.cursor _
+    (up_stopped (length c.bytes-count.result.now) c.args.cursor.now c.loop-taken.cursor c.loop-taken.all.items (length c.bytes-count.result.now - (c.loop-taken.taken + 1)) c.in-Some.gate c.skip.new.self c.take_counted.new.cursor _
     (c.loop-taken.invariant ∙ ap (λ (k : ℕ). behind c.loop-taken.all.items (batches_up_to k c.loop-taken.cursor)) e) c.in-Some.ensures.value wide c.skip.ensures c.in_err-records-in-Some.ensures))
 
 pub loop-taken-preserved : goal.loop-taken-preserved
@@ -63,7 +63,7 @@ loop-taken-preserved c =
     let wide : eqb c.in-Some.gate 1 ≡ true = grind (arith, nat_tests, one) in
     let done : is_ok c.extend_from_slice.result ≡ true = c.if-is_err.ensures.negation in
     let grown : c.extend_from_slice.new.self.items ≡ c.loop-taken.all.items ++ c.deref.result.now = rw done at c.extend_from_slice.ensures.items in
-    let pushed : c.extend_from_slice.new.self.items ≡ c.loop-taken.all.items ++ c.in_ok-records-in-Some.records.items = grown ∙ ap (λ z. c.loop-taken.all.items ++ z) c.deref.ensures.value in
-    up_more (length c.bytes-count.result.now) c.args.cursor.now c.loop-taken.cursor c.loop-taken.all.items (length c.bytes-count.result.now - (c.loop-taken.taken + 1)) c.in-Some.gate c.skip.new.self c.take_batch.new.cursor c.in_ok-records-in-Some.records.items
+    let pushed : c.extend_from_slice.new.self.items ≡ c.loop-taken.all.items ++ c.in_ok-records-in-Some.records = grown ∙ ap (λ z. c.loop-taken.all.items ++ z) (c.deref.ensures.value ∙ c.records.view_is) in
+    up_more (length c.bytes-count.result.now) c.args.cursor.now c.loop-taken.cursor c.loop-taken.all.items (length c.bytes-count.result.now - (c.loop-taken.taken + 1)) c.in-Some.gate c.skip.new.self c.take_counted.new.cursor c.in_ok-records-in-Some.records
     (c.loop-taken.invariant ∙ ap (λ (k : ℕ). behind c.loop-taken.all.items (batches_up_to k c.loop-taken.cursor)) e) c.in-Some.ensures.value wide c.skip.ensures c.in_ok-records-in-Some.ensures
-    ∙ ap (λ z. behind z (batches_up_to (length c.bytes-count.result.now - (c.loop-taken.taken + 1)) c.take_batch.new.cursor)) (sym pushed)
+    ∙ ap (λ z. behind z (batches_up_to (length c.bytes-count.result.now - (c.loop-taken.taken + 1)) c.take_counted.new.cursor)) (sym pushed)

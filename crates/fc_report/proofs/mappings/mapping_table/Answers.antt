@@ -10,6 +10,5 @@ loop-mapping-preserved g c =
 
 pub loop-mapping-init : goal.loop-mapping-init
 loop-mapping-init g c =
-    c.in_ok-push.ensures.ok
-    ∙ ap (λ rows. rows ++ c.in_ok-mapping_headings.field-0 ∷ []) c.new-rows.ensures
-    ∙ ap (λ row. row ∷ []) (c.in_ok-mapping_headings.ensures (asked c.args.registry.now.tables (g.S.Sheet.meaning c.args.sheet.now).sheet))
+    c.in_ok-rows.ensures
+    ∙ ap (λ row. row ∷ []) (c.in_ok-headings.ensures (asked c.args.registry.now.tables (g.S.Sheet.meaning c.args.sheet.now).sheet))

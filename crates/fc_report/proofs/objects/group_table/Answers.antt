@@ -9,6 +9,5 @@ loop-group-preserved c =
 
 pub loop-group-init : goal.loop-group-init
 loop-group-init c =
-    c.in_ok-push.ensures.ok
-    ∙ ap (λ rows. rows ++ c.in_ok-group_headings.field-0 ∷ []) c.new-rows.ensures
-    ∙ ap (λ row. row ∷ []) (c.in_ok-group_headings.ensures c.args.registry.now.tables)
+    c.in_ok-rows.ensures
+    ∙ ap (λ row. row ∷ []) (c.in_ok-headings.ensures c.args.registry.now.tables)

@@ -9,6 +9,5 @@ loop-volume-preserved c =
 
 pub loop-volume-init : goal.loop-volume-init
 loop-volume-init c =
-    c.in_ok-push.ensures.ok
-    ∙ ap (λ rows. rows ++ c.in_ok-volume_headings.field-0 ∷ []) c.new-rows.ensures
-    ∙ ap (λ row. row ∷ []) (c.in_ok-volume_headings.ensures c.args.grain c.args.registry.now.tables)
+    c.in_ok-rows.ensures
+    ∙ ap (λ row. row ∷ []) (c.in_ok-headings.ensures c.args.grain c.args.registry.now.tables)

@@ -3,8 +3,14 @@ use Rattle.fc_yard.specs.Rule.{account}
 use Rattle.fc_yard.specs.Views.{held_of}
 use Rattle.fc_yard.specs.Calls.{IsPassOf}
 use Rattle.fc_tasks.specs.Acting.{at_or_none}
-use Rattle.fc_tasks.proofs.AllParts.{just_took}
+use Rattle.fc_tasks.proofs.AllParts.{just_took, past_end}
 use Rattle.fc_tasks.proofs.turns.take_all.Goals as goal
+
+pub take-value-requires-clause-yard : goal.take-value-requires-clause-yard
+take-value-requires-clause-yard g c κs within = c.loop-part.invariant.yard
+
+pub take-value-requires-clause-free : goal.take-value-requires-clause-free
+take-value-requires-clause-free g c κs within = let inv = c.loop-part.invariant in inv.held c.loop-part.part ∙ past_end c.loop-part.parts.items c.loop-part.part (omega (arith, inv.count))
 
 pub loop-part-preserved : goal.loop-part-preserved
 loop-part-preserved g c =

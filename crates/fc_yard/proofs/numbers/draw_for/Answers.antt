@@ -1,10 +1,8 @@
 use Rattle.std.proofs.Common.{suc, ◌∙◌, refl, arith}
-use Rattle.fc_yard.specs.declared.rule.Stall.TheVariants.{Deed}
 use Rattle.fc_yard.specs.Steps.{in_hand}
-use Rattle.fc_yard.specs.Whole.{Knows}
 use Rattle.fc_yard.proofs.Turning.{unparks_at}
-use Rattle.fc_yard.proofs.Counting.{draws_at}
-use Rattle.fc_yard.proofs.Sitting.{first_slot, exchanged, at_rest, unparked, drawn_one, next_same}
+use Rattle.fc_yard.proofs.Counting.{draws_for}
+use Rattle.fc_yard.proofs.Sitting.{first_slot, exchanged, at_rest, unparked, drawn_for, next_same}
 use Rattle.fc_yard.proofs.numbers.draw_for.Goals as goal
 
 pub load-requires : goal.load-requires
@@ -29,30 +27,23 @@ fetch_add-requires g c =
     let hand = unparked c.args.seat.now.me c.load.new.seat.me c.args.part out.0 rest.0 out.1 in (
       went.0 ∙ c.load.ensures.0 ∙ c.requires.table.0,
       omega (arith, sized.0),
-      draws_at g.P.Part.fits g.P.Part.sound g.P.Part.count g.P.Part.steps c.args.shelf.now.key c.args.shelf.now.table_id.slots c.args.parts sized.1 c.exchange.new.seat.id
-          c.exchange.new.seat.me (in_hand c.args.seat.now.me.0 (suc c.args.part)) c.args.part near rest.2 c.requires.ready.2 refl c.requires.ready.3 c.of.result c.of-2.result c.args.entry.now c.args.value.now
-          (exchanged c.load.new.seat.me c.exchange.new.seat.me (in_hand c.args.seat.now.me.0 (suc c.args.part)) c.args.part out.0 (Deed c.of.result c.of-2.result) hand.0 hand.1 went.3) c.of.ensures c.of-2.ensures
-          c.requires.ready.1 c.requires.commits,
+      draws_for g.P.Part.fits g.P.Part.sound g.P.Part.count g.P.Part.steps c.args.shelf.now.key c.args.shelf.now.table_id.slots c.args.parts sized.1 c.exchange.new.seat.id
+          c.exchange.new.seat.me c.args.seat.now.me.0 c.args.part near rest.2 c.requires.ready.2 c.requires.ready.3 c.args.deed
+          (exchanged c.load.new.seat.me c.exchange.new.seat.me (in_hand c.args.seat.now.me.0 (suc c.args.part)) c.args.part out.0 c.args.deed hand.0 hand.1 went.3) c.requires.ready.1 c.requires.commits,
     )
 
 pub returns-clause-seat : goal.returns-clause-seat
 returns-clause-seat g c =
     let out = c.load.ensures.2 c.args.part refl in let went = c.exchange.ensures in (
       (c.fetch_add.ensures.0 ∙ went.0 ∙ c.load.ensures.0, c.fetch_add.ensures.1 ∙ went.1 ∙ c.load.ensures.1),
-      (drawn_one (Knows g.P.Part.fits g.P.Part.sound g.P.Part.count g.P.Part.steps) c.args.seat.now.me c.load.new.seat.me c.exchange.new.seat.me c.fetch_add.new.seat.me c.args.part c.fetch_add.result out.0
-          c.of.result c.of-2.result c.args.entry.now c.args.value.now went.3 c.of.ensures c.of-2.ensures c.requires.ready.0.0 out.1 (c.fetch_add.ensures.2.3 c.args.part (Deed c.of.result c.of-2.result))).0,
+      drawn_for g.P.Part.fits g.P.Part.sound g.P.Part.count g.P.Part.steps c.args.seat.now.me c.load.new.seat.me c.exchange.new.seat.me c.fetch_add.new.seat.me c.args.part c.fetch_add.result out.0
+          c.args.deed c.requires.ready.0.0 out.1 went.3 (c.fetch_add.ensures.2.3 c.args.part c.args.deed),
     )
-
-pub returns-clause-knows : goal.returns-clause-knows
-returns-clause-knows g c =
-    let out = c.load.ensures.2 c.args.part refl in let went = c.exchange.ensures in
-    (drawn_one (Knows g.P.Part.fits g.P.Part.sound g.P.Part.count g.P.Part.steps) c.args.seat.now.me c.load.new.seat.me c.exchange.new.seat.me c.fetch_add.new.seat.me c.args.part c.fetch_add.result out.0
-    c.of.result c.of-2.result c.args.entry.now c.args.value.now went.3 c.of.ensures c.of-2.ensures c.requires.ready.0.0 out.1 (c.fetch_add.ensures.2.3 c.args.part (Deed c.of.result c.of-2.result))).1
 
 pub returns-clause-number : goal.returns-clause-number
 returns-clause-number g c =
     let rest = c.requires.ready.0 in let out = c.load.ensures.2 c.args.part refl in let went = c.exchange.ensures in let drew = c.fetch_add.ensures.2 in
     let hand = unparked c.args.seat.now.me c.load.new.seat.me c.args.part out.0 rest.0 out.1 in
-    next_same c.args.seat.now.me.0 (suc c.args.part) c.exchange.new.seat.me (Deed c.of.result c.of-2.result) c.args.part c.fetch_add.result
-    (exchanged c.load.new.seat.me c.exchange.new.seat.me (in_hand c.args.seat.now.me.0 (suc c.args.part)) c.args.part out.0 (Deed c.of.result c.of-2.result) hand.0 hand.1 went.3)
+    next_same c.args.seat.now.me.0 (suc c.args.part) c.exchange.new.seat.me c.args.deed c.args.part c.fetch_add.result
+    (exchanged c.load.new.seat.me c.exchange.new.seat.me (in_hand c.args.seat.now.me.0 (suc c.args.part)) c.args.part out.0 c.args.deed hand.0 hand.1 went.3)
     (drew.0, drew.1, drew.2)

@@ -1,11 +1,24 @@
 use Rattle.std.proofs.Common.{◌≡◌, ◌+◌, ◌<◌, ◌++◌, ◌∷◌, [], Some, ap, sym, ◌∙◌, refl, subst, arith}
 use Rattle.fc_yard.specs.Views.{held_of, took, put_back, ticketed, looked, drew}
+use Rattle.fc_yard.specs.Calls.{IsPassOf}
 use Rattle.fc_yard.specs.Whole.{OpensWith}
 use Rattle.fc_yard.proofs.Calling.{only_took, only_drew}
 use Rattle.fc_tasks.specs.Acting.{AreRising}
-use Rattle.fc_tasks.proofs.Passing.{two, held_then, free_put, free_refused, free_drawn, of_pass, rising_more}
+use Rattle.fc_tasks.proofs.Passing.{two, held_then, free_put, free_refused, free_drawn, of_pass, rising_more, same_pass}
 use Rattle.fc_tasks.proofs.Doing.{stays_with, stays_same, is_part, commits_with}
 use Rattle.fc_tasks.proofs.actor.Actor.do_in.Goals as goal
+
+pub returns-then-is_err-clause-acting : goal.returns-then-is_err-clause-acting
+returns-then-is_err-clause-acting g c = let was = c.requires.acting in record { free = was.free; suited = was.suited; made = c.reserve.ensures.items ∙ was.made; rises = was.rises }
+
+pub returns-then-is_err-clause-same : goal.returns-then-is_err-clause-same
+returns-then-is_err-clause-same g c = record { openings = refl; first = refl; limit = refl; passes = refl; shares = refl }
+
+pub returns-then-is_err-clause-not : goal.returns-then-is_err-clause-not
+returns-then-is_err-clause-not g c = record { stays = record { made = c.reserve.ensures.items; script = refl }; stopped = tt }
+
+pub put-requires-clause-yard : goal.put-requires-clause-yard
+put-requires-clause-yard g c κs within = subst (λ q. IsPassOf c.args.yard.now q) (sym c.take-value.ensures.taken) c.requires.acting.free.yard
 
 pub put-requires-clause-held : goal.put-requires-clause-held
 put-requires-clause-held g c κs within =
@@ -27,6 +40,15 @@ returns-then-is_err-2-clause-acting g c =
       made = c.reserve.ensures.items ∙ was.made ∙ sym (ap (λ q. q.view.made) is);
       rises = of_pass (λ v. AreRising v.made) q0 c.put.new.pass (put_back (took q0.view p x) p) is was.rises;
     }
+
+pub returns-then-is_err-2-clause-same : goal.returns-then-is_err-2-clause-same
+returns-then-is_err-2-clause-same g c =
+    let q0 = c.args.self.now.pass in let p = c.args.part in let x = c.take-value.result in
+    let is = two (λ v. took v p x) (λ v. put_back v p) q0 c.take-value.new.pass c.put.new.pass c.take-value.ensures.taken c.put.ensures in
+    same_pass q0 c.put.new.pass (put_back (took q0.view p x) p) is (record { openings = refl; first = refl; limit = refl; passes = refl; shares = refl })
+
+pub returns-then-is_err-2-clause-not : goal.returns-then-is_err-2-clause-not
+returns-then-is_err-2-clause-not g c = record { stays = record { made = c.reserve.ensures.items; script = refl }; stopped = tt }
 
 pub put-requires-then-not-ticket-clause-held : goal.put-requires-then-not-ticket-clause-held
 put-requires-then-not-ticket-clause-held g c κs within =
@@ -51,6 +73,14 @@ returns-then-not-ticket-clause-acting g c =
       made = c.reserve.ensures.items ∙ was.made ∙ sym (ap (λ q. q.view.made) is);
       rises = of_pass (λ v. AreRising v.made) q0 q (put_back (looked (took q0.view p x) l) p) is was.rises;
     }
+
+pub returns-then-not-ticket-clause-same : goal.returns-then-not-ticket-clause-same
+returns-then-not-ticket-clause-same g c =
+    let q0 = c.args.self.now.pass in let p = c.args.part in let x = c.take-value.result in let l = c.take-value.new.pass.view.limit in
+    let ended = c.ticket.ensures.ended c.if-not-ticket.true in let q = c.put-then-not-ticket.new.pass in
+    let is = two (λ v. looked (took v p x) l) (λ v. put_back v p) q0 c.ticket.new.pass q
+    (two (λ v. took v p x) (λ v. looked v l) q0 c.take-value.new.pass c.ticket.new.pass c.take-value.ensures.taken ended) c.put-then-not-ticket.ensures in
+    same_pass q0 q (put_back (looked (took q0.view p x) l) p) is (record { openings = refl; first = refl; limit = refl; passes = refl; shares = refl })
 
 pub act-entry-requires-clause-can : goal.act-entry-requires-clause-can
 act-entry-requires-clause-can g c =
@@ -112,3 +142,21 @@ returns-clause-acting g c =
       made = c.push_reserved.ensures.items ∙ ap (λ l. l ++ (n, e) ∷ []) (c.reserve.ensures.items ∙ was.made) ∙ sym (ap (λ r. r.view.made) is);
       rises = of_pass (λ v. AreRising v.made) q0 q last is (rising_more n e q0.view.made (subst (λ ms. Rattle.fc_yard.specs.Lists.AllBelow n ms) next c.draw-number.ensures.number.0) was.rises);
     }
+
+pub returns-clause-same : goal.returns-clause-same
+returns-clause-same g c =
+    let q0 = c.args.self.now.pass in let p = c.args.part in let x = c.take-value.result in
+    let given = c.ticket.ensures.given c.if-not-ticket.false in let q = c.put-2.new.pass in
+    let new = c.act-entry.new.part in let n = c.draw-number.result in let e = c.act-entry.result in
+    let one = two (λ v. took v p x) (λ v. ticketed v given.0) q0 c.take-value.new.pass c.ticket.new.pass c.take-value.ensures.taken given.1 in
+    let drawn = two (λ v. ticketed (took v p x) given.0) (λ v. drew v p new n e) q0 c.ticket.new.pass c.draw-number.new.pass one c.draw-number.ensures.drawn in
+    let is = two (λ v. drew (ticketed (took v p x) given.0) p new n e) (λ v. put_back v p) q0 c.draw-number.new.pass q drawn c.put-2.ensures in
+    same_pass q0 q (put_back (drew (ticketed (took q0.view p x) given.0) p new n e) p) is (record { openings = refl; first = refl; limit = refl; passes = refl; shares = refl })
+
+pub returns-clause-done : goal.returns-clause-done
+returns-clause-done g c =
+    let n = c.draw-number.result in let e = c.act-entry.result in
+    record { number = n; entry = e; made = c.push_reserved.ensures.items ∙ ap (λ l. l ++ (n, e) ∷ []) c.reserve.ensures.items; went = c.act-entry.ensures.goes }
+
+pub returns-clause-fewer : goal.returns-clause-fewer
+returns-clause-fewer g c = c.act-entry.ensures.fewer
