@@ -1,5 +1,7 @@
 -- No line in a block is a command that asks to make or remove a volume.
 use Rattle.std.proofs.Common.{◌≡◌, ◌≢◌, ℕ, ◌+◌, Bool, true, false, if◌then◌else◌, List, [], ◌∷◌, length, Option, Some, None, Result, Ok, Err, refl, sym, ◌∙◌, true≢false, nat_lt}
+use Rattle.fc_base.specs.declared.command.Command.{Command}
+use Rattle.fc_base.specs.declared.command.Command.TheVariants.{Mkpreset}
 use Rattle.fc_base.specs.declared.command.Line.{Line}
 use Rattle.fc_base.specs.declared.command.Line.TheVariants.{Blank, Command as CommandLine}
 use Rattle.fc_base.specs.declared.command.Scope.{Scope}
@@ -21,12 +23,17 @@ use Rattle.fc_words.specs.Given.{nothing_given}
 use Rattle.fc_words.specs.Grammar.{verb_of, family_of, scope_has}
 use Rattle.fc_words.specs.Lines.{then_read, need, role_line, complete, begins_with, read_word, finish, read_words, not_here, named_line, line_behind, is_prefix, line_of_words, line_of}
 use Rattle.fc_words.specs.Words.{words_of}
-use Rattle.law_volumes.specs.Law.{asks_for_volume}
+use Rattle.law_volumes.specs.Law.{is_of_volumes, asks_for_volume}
 
 -- A line, as it was read, is no command that asks to make or remove a volume.
 abbrev pub LineSpares : Result Line WordFault → Type 0
 LineSpares (Ok (CommandLine command)) = asks_for_volume command ≡ false
 LineSpares line = Unit {0}
+
+-- Then it makes or removes none itself.
+pub asks-none : (command : Command) → asks_for_volume command ≡ false → is_of_volumes command ≡ false
+asks-none (Mkpreset source preset name) none = absurd (true≢false none)
+asks-none command none = none
 
 -- ---- in general
 
