@@ -26,7 +26,7 @@ pub record HasGone (m : Mapping) : Type 0 where
 -- Mappings in their order, and what is left of them: each is as it was, or finished.
 pub data AreLeft : List Mapping → List Mapping → Type 0 where
   none : AreLeft [] []
-  same : {m : Mapping} {ms left : List Mapping} → AreLeft ms left → AreLeft (m ∷ ms) (m ∷ left)
+  stayed : {m : Mapping} {ms left : List Mapping} → AreLeft ms left → AreLeft (m ∷ ms) (m ∷ left)
   finished : {m n : Mapping} {ms left : List Mapping} → HasFinished m n → AreLeft ms left → AreLeft (m ∷ ms) (n ∷ left)
   gone : {m : Mapping} {ms left : List Mapping} → HasGone m → AreLeft ms left → AreLeft (m ∷ ms) left
 
