@@ -6,10 +6,8 @@ use Rattle.std.proofs.lemmas.Bool.{ne_eqb}
 use Rattle.std.proofs.lemmas.List.Elements.{All-contains}
 use Rattle.fc_base.specs.States.{next_state}
 use Rattle.fc_base.specs.Tables.{Tables, mapping_named, volume_named}
-use Rattle.fc_base.specs.declared.command.Command.{Command}
 use Rattle.fc_base.specs.declared.command.Command.TheVariants.{Mkvdisk, Rmvdisk, Mkfcmap, Startfcmap, Rmfcmap}
 use Rattle.fc_base.specs.declared.command.Unit.{Unit as SizeUnit}
-use Rattle.fc_base.specs.declared.decision.LaneEvent.{LaneEvent}
 use Rattle.fc_base.specs.declared.decision.LaneEvent.TheVariants.{Access, Forget, Make}
 use Rattle.fc_base.specs.declared.fault.Kind.TheVariants.{Vdisk, Fcmap}
 use Rattle.fc_base.specs.declared.fault.Refusal.{Refusal}
