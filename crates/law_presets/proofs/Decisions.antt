@@ -120,14 +120,14 @@ module _ (before : Tables) (sets : ℕ → List Bool) (b : Books) where
         tables_after sets b (deed.events ++ work_events (after_deed sets b deed)) (RemoveMapping m.id ∷ [])
         ∙ ap (λ (ms : List Mapping). record b.tables { mappings = ms }) is in (
           subst (HasVolume before id) (sym now) (record {
-                volume = h.0.volume;
-                id_is = h.0.id_is;
-                fresh = h.0.fresh;
-                volumes = h.0.volumes;
-                groups = h.0.groups;
-                mappings = h.0.mappings;
-                of_others = h.0.of_others;
-              }),
+            volume = h.0.volume;
+            id_is = h.0.id_is;
+            fresh = h.0.fresh;
+            volumes = h.0.volumes;
+            groups = h.0.groups;
+            mappings = h.0.mappings;
+            of_others = h.0.of_others;
+          }),
           left_alone id Done deed
               (loose_append (cond (is_stopped m.state) (Access m.target Online ∷ []) []) (Forget m.id ∷ []) (online_loose (is_stopped m.state) m.target) (tt, tt)) h.1,
         )
@@ -201,21 +201,21 @@ module _ (before : Tables) (sets : ℕ → List Bool) (b : Books) where
         let now : (left (Made Vdisk b.next_volume) deed).tables ≡ record b.tables { volumes = b.tables.volumes ++ v ∷ [] } =
         tables_after sets b (deed.events ++ work_events (after_deed sets b deed)) (AddVolume v ∷ []) in (
           subst (HasVolume before b.next_volume) (sym now) (record {
-                volume = v;
-                id_is = sym id_is;
-                fresh = λ x found e.
-                    let there : Contains b.tables.volumes x = subst (λ (vs : List Volume). Contains vs x) (sym h.volumes) found in
-                    let below : x.id.0 < b.next_volume = All-contains (λ (y : Volume). y.id.0 < b.next_volume) b.tables.volumes x sound.tables.new_volume there in
-                    omega (arith, below, e);
-                volumes = ap (λ (vs : List Volume). vs ++ v ∷ []) h.volumes;
-                groups = h.groups;
-                mappings = h.mappings;
-                of_others = λ m found.
-                    let of = sound.agree.mappings m found in
-                    let source : m.source.0 < b.next_volume = named_below b sound m.source of.source in
-                    let target : m.target.0 < b.next_volume = named_below b sound m.target of.target in
-                    ((λ e. omega (arith, source, e)), (λ e. omega (arith, target, e)));
-              }),
+            volume = v;
+            id_is = sym id_is;
+            fresh = λ x found e.
+                let there : Contains b.tables.volumes x = subst (λ (vs : List Volume). Contains vs x) (sym h.volumes) found in
+                let below : x.id.0 < b.next_volume = All-contains (λ (y : Volume). y.id.0 < b.next_volume) b.tables.volumes x sound.tables.new_volume there in
+                omega (arith, below, e);
+            volumes = ap (λ (vs : List Volume). vs ++ v ∷ []) h.volumes;
+            groups = h.groups;
+            mappings = h.mappings;
+            of_others = λ m found.
+                let of = sound.agree.mappings m found in
+                let source : m.source.0 < b.next_volume = named_below b sound m.source of.source in
+                let target : m.target.0 < b.next_volume = named_below b sound m.target of.target in
+                ((λ e. omega (arith, source, e)), (λ e. omega (arith, target, e)));
+          }),
           left_alone b.next_volume (Made Vdisk b.next_volume) deed (tt, tt) (next_alone b sound),
         )
 
@@ -232,22 +232,22 @@ module _ (before : Tables) (sets : ℕ → List Bool) (b : Books) where
         let now : (left (Made Fcmap b.next_mapping) deed).tables ≡ record b.tables { mappings = b.tables.mappings ++ m ∷ [] } =
         tables_after sets b (work_events (after_deed sets b deed)) (AddMapping m ∷ []) in (
           subst (HasBoth before id b.next_mapping) (sym now) (record {
-                volume = h.0.volume;
-                id_is = h.0.id_is;
-                fresh = h.0.fresh;
-                volumes = h.0.volumes;
-                groups = h.0.groups;
-                rest = b.tables.mappings;
-                mapping = m;
-                map_is = sym map_is;
-                idle = idle;
-                mappings_are = refl;
-                mappings = h.0.mappings;
-                apart = λ x found e.
-                    let below : x.id.0 < b.next_mapping = All-contains (λ (y : Mapping). y.id.0 < b.next_mapping) b.tables.mappings x sound.tables.new_mapping found in
-                    omega (arith, below, e);
-                of_others = h.0.of_others;
-              }),
+            volume = h.0.volume;
+            id_is = h.0.id_is;
+            fresh = h.0.fresh;
+            volumes = h.0.volumes;
+            groups = h.0.groups;
+            rest = b.tables.mappings;
+            mapping = m;
+            map_is = sym map_is;
+            idle = idle;
+            mappings_are = refl;
+            mappings = h.0.mappings;
+            apart = λ x found e.
+                let below : x.id.0 < b.next_mapping = All-contains (λ (y : Mapping). y.id.0 < b.next_mapping) b.tables.mappings x sound.tables.new_mapping found in
+                omega (arith, below, e);
+            of_others = h.0.of_others;
+          }),
           left_alone id (Made Fcmap b.next_mapping) deed tt h.1,
         )
 
