@@ -331,7 +331,7 @@ module _ (before : Tables) (grain : GrainSize) (read : Reading) (end : Agenda) (
 pub presets_law_holds : PresetsLaw
 presets_law_holds =
     record {
-      read = λ grain w source preset name. refl;
+      line = λ grain w source preset name. refl;
       undone = λ grain read decisions w last source preset name entries small reached way unlike undone.
           let tables : Tables = w.books.tables in
           line_goes tables grain read way.end last way.over source preset name decisions w entries (volume_named tables source) (omega (arith, small)) reached

@@ -15,7 +15,7 @@ use Rattle.law_stands.specs.Reached.{IsReached}
 
 pub record PresetsLaw : Type 0 where
   -- a line `mkpreset` asks this
-  pub read : (grain : GrainSize) (w : Whole) (source : Ref) (preset : Preset) (name : Option (List ℕ)) →
+  pub line : (grain : GrainSize) (w : Whole) (source : Ref) (preset : Preset) (name : Option (List ℕ)) →
       line_read grain w (Ok (CommandLine (Mkpreset source preset name))) [] ≡ preset_line grain w source preset name
   -- where it was answered to its end, wasn't whole, and nothing that undoes wanted memory, all is as before it
   pub undone : (grain : GrainSize) (read : Reading) (decisions : ℕ) (w last : Whole) (source : Ref) (preset : Preset)
