@@ -8,8 +8,7 @@
 //!
 //! To read: `specs/Lines` (the line, and how it ends), `Left` (what settlings leave) and `Law`; then `proofs/`: `Lefts` (one settling
 //! after another), `Settles` (that a settling does so), `Alone` (a volume from which nothing is copied), `Standing` (the tables while
-//! the line goes on), `Decisions` (each of its requests), `Presets`, the law from
-//! these parts, and `PresetsExamples`.
+//! the line goes on), `Decisions` (each of its requests), `Presets`, the law from these parts, and `PresetsExamples`.
 #![tactic(auto)]
 
 ghost use Rattle.law_presets.specs.Law.{PresetsLaw};
