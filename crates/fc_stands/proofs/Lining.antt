@@ -18,7 +18,7 @@ use Rattle.fc_legal.specs.Asked.{numbers}
 use Rattle.fc_legal.specs.Seconds.{all_work, seconds_begun}
 use Rattle.fc_legal.specs.Whole.{Whole}
 use Rattle.fc_stands.specs.Logged.{Brought, IsLogged, Logged, anything, whether_done}
-use Rattle.fc_stands.proofs.Bringing.{brought_all, brought_nothing, brought_stopped, logged_brings, logged_then, passed_before, passed_on, then_brought}
+use Rattle.fc_stands.proofs.Bringing.{brought_all, brought_nothing, brought_starved, brought_stopped, logged_brings, logged_then, passed_before, passed_on, then_brought}
 
 -- ---- requests that let no second pass
 
@@ -147,6 +147,12 @@ then_asked result Says Stands After grain read w request behind requests further
 pub none_asked : (Stands : Whole → Type 0) (grain : GrainSize) (read : Reading) (w : Whole) (x : HistoryState) → IsTold Stands x w →
     Answered {A = Unit {0}} (Ok tt) Stands (session_rules grain read) (Own [] (PassingSeconds 0) []) w x x
 none_asked Stands grain read w x told = brought_all (Unit {0}) (Ok tt) Stands grain read w (Own [] (PassingSeconds 0) []) x x (own_begins Stands grain read w [] x told)
+
+-- Memory was wanted before anything was asked.
+pub starved_answered : (Stands : Whole → Type 0) (grain : GrainSize) (read : Reading) (w : Whole) (a : Agenda) (x : HistoryState) → IsOf w x →
+    Answered {A = Unit {0}} (Err NoMemory) Stands (session_rules grain read) a w x x
+starved_answered Stands grain read w a x of =
+    brought_all (Unit {0}) (Err NoMemory) Stands grain read w a x x (brought_starved (Unit {0}) Stands (session_rules grain read) a (Session []) w x x refl of)
 
 -- A request before the last was answered; and then the others.
 pub then_rest : (result : Result (Unit {0}) Stop) (Says : Reply → Type 0) (Stands After : Whole → Type 0) (grain : GrainSize) (read : Reading) (w : Whole) (request second : Request) (rest : List Request)
