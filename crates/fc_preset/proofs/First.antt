@@ -11,7 +11,7 @@ use Rattle.fc_base.specs.declared.command.Preset.{Preset}
 use Rattle.fc_base.specs.declared.name.Ref.{Ref}
 use Rattle.fc_base.specs.declared.request.Request.TheVariants.{Command as Asked}
 use Rattle.fc_base.specs.declared.volume.Volume.{Volume}
-use Rattle.fc_control.specs.Control.{ControlState}
+use Rattle.fc_desk.specs.Control.{ControlState}
 use Rattle.fc_legal.specs.Agenda.{Own, line_read}
 use Rattle.fc_legal.specs.Presets.{behind_preset, preset_asked, volume_line}
 use Rattle.fc_legal.specs.Whole.{Whole}

@@ -1,6 +1,6 @@
 //! The stages of a preset: the volume, the mapping, its start, and what undoes them.
 
-ghost use Rattle.std.specs.Prelude.{◌≡◌, ◌≤◌, ◌∷◌, [], length};
+ghost use Rattle.std.specs.Prelude.{◌≤◌, ◌∷◌, [], length};
 ghost use Rattle.fc_legal.specs.Added.{TellsSome};
 ghost use Rattle.fc_legal.specs.Presets.{mapping_line, start_line, unmake_line, unmap_line};
 ghost use Rattle.fc_preset.specs.Stages.{AnswersOwn};

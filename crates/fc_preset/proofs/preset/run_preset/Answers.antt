@@ -1,18 +1,14 @@
 -- A preset asks for a volume first, or for itself where its source names none.
-use Rattle.std.proofs.Common.{◌≡◌, ℕ, List, [], ◌∷◌, Option, Some, None, Ok, Err, refl, sym, ◌∙◌, ap, subst}
-use Rattle.fc_base.specs.Tables.{Tables, volume_named}
+use Rattle.std.proofs.Common.{[], ◌∷◌, Ok, sym, ◌∙◌, subst}
 use Rattle.fc_base.specs.declared.behind.Behind.TheVariants.{Mapping as MappingOf}
-use Rattle.fc_base.specs.declared.command.Command.{Command}
 use Rattle.fc_base.specs.declared.command.Command.TheVariants.{Mkpreset}
 use Rattle.fc_base.specs.declared.command.Line.TheVariants.{Command as CommandLine}
 use Rattle.fc_base.specs.declared.request.Request.TheVariants.{Command as Asked}
 use Rattle.fc_base.specs.declared.size.GrainSize.{GrainSize}
-use Rattle.fc_base.specs.declared.volume.Volume.{Volume}
-use Rattle.fc_legal.specs.Presets.{volume_line}
 use Rattle.fc_stands.specs.Phase.{IsDecided}
 use Rattle.fc_stands.specs.Store.{StandsFor}
 use Rattle.fc_stands.proofs.Lining.{line_answered, starved_answered}
-use Rattle.fc_preset.proofs.First.{IsFirst, none_named, preset_line, some_named}
+use Rattle.fc_preset.proofs.First.{none_named, preset_line, some_named}
 use Rattle.fc_preset.proofs.preset.run_preset.Goals as goal
 
 pub make_volume-requires-clause-decided : goal.make_volume-requires-clause-decided

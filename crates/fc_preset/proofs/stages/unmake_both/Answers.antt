@@ -1,13 +1,13 @@
 -- Behind the removal of the mapping that of the volume is asked.
-use Rattle.std.proofs.Common.{Bool, [], ◌∷◌, Ok, Err, sym, subst}
+use Rattle.std.proofs.Common.{Bool, [], ◌∷◌, Err, sym, subst}
 use Rattle.fc_base.specs.declared.behind.Behind.TheVariants.{Passing as PassingSeconds}
 use Rattle.fc_base.specs.declared.command.Command.{Command}
 use Rattle.fc_base.specs.declared.request.Request.TheVariants.{Command as Asked}
 use Rattle.fc_legal.specs.Presets.{unmake_line}
 use Rattle.fc_stands.specs.Logged.{whether_done}
 use Rattle.fc_stands.specs.Phase.{IsDecided}
-use Rattle.fc_preset.specs.Stages.{AnswersOwn, Asks}
-use Rattle.fc_preset.proofs.Stages.{asks_then, still_told, stopped_asking}
+use Rattle.fc_preset.specs.Stages.{AnswersOwn}
+use Rattle.fc_preset.proofs.Stages.{asks_then, stopped_asking}
 use Rattle.fc_preset.proofs.stages.unmake_both.Goals as goal
 
 pub run_command-requires-clause-decided : goal.run_command-requires-clause-decided
