@@ -119,6 +119,12 @@ behind_named b source preset name v found = ap (λ (o : Option Volume). behind_p
 
 -- ---- any other command
 
+-- A command that is no access and no preset lets no second pass, but for an `advance`.
+pub passes_none : (b : Books) (c : Command) → IsDecided c → ((seconds : ℕ) → c ≡ command.Advance seconds → ⊥) → behind_command b c ≡ PassingSeconds 0
+passes_none b (command.Advance seconds) decided other = absurd (other seconds refl)
+passes_none b (command.Mkpreset source preset name) decided other = absurd decided
+passes_none b c decided other = refl
+
 -- A command that is no access and no preset asks for itself.
 pub asks_itself : (grain : GrainSize) (b : Books) (c : Command) → IsDecided c → command_asked grain b c ≡ Asked c ∷ []
 asks_itself grain b (command.Read p q r) decided = absurd decided
