@@ -1,6 +1,7 @@
 //! The lines of a preset, made of their parts.
 
-ghost use Rattle.std.specs.Prelude.{◌≡◌, ◌*◌, IfOk, IfSome};
+ghost use Rattle.std.specs.Prelude.{◌≡◌, ◌*◌, ℕ, List, Option, Some, None, IfOk, IfSome};
+ghost use Rattle.fc_base.specs.declared.name.Ref.{Ref};
 ghost use Rattle.fc_base.specs.Grain.{grain_kib};
 ghost use Rattle.fc_legal.specs.Presets.{is_thin, volume_line, mapping_line, start_line, unmap_line, unmake_line};
 
@@ -51,25 +52,62 @@ pub fn volume_line(
     })
 }
 
-/// `mkfcmap`: from the source to the new volume. A snapshot isn't copied in the background; a clone's mapping goes when it is
-/// complete; a backup's copies changed grains alone when it is started again.
+/// What a preset's mapping is made with.
+#[derive(Clone, Copy)]
+struct Options {
+    /// The rate of background copying.
+    copy_rate: u32,
+    /// The rate of cleaning, where one is given.
+    clean_rate: Option<u32>,
+    /// Whether a later start copies changed grains alone.
+    incremental: bool,
+    /// Whether it is removed when its copy is complete.
+    autodelete: bool,
+}
+
+/// The options of a preset's mapping. A snapshot isn't copied in the background; a clone's mapping goes when it is complete; a backup's
+/// copies changed grains alone when it is started again.
+fn options_of(preset: Preset) -> Options
+    ensures { (source : Ref) (name : Option (List ℕ)) (volume : ℕ) →
+        mapping_line source preset name volume ≡ Command.Mkfcmap source (Ref.Id volume) name None (Some result.copy_rate) result.clean_rate None result.incremental result.autodelete }
+{
+    match preset {
+        Preset::Snapshot => Options {
+            copy_rate: 0,
+            clean_rate: Some(0),
+            incremental: false,
+            autodelete: false,
+        },
+        Preset::Clone => Options {
+            copy_rate: 50,
+            clean_rate: None,
+            incremental: false,
+            autodelete: true,
+        },
+        Preset::Backup => Options {
+            copy_rate: 50,
+            clean_rate: None,
+            incremental: true,
+            autodelete: false,
+        },
+    }
+}
+
+/// `mkfcmap`: from the source to the new volume, with the options of the preset.
 pub fn mapping_line(source: Ref, preset: Preset, name: Option<Name>, volume: u32) -> Command
     ensures { result ≡ mapping_line source preset name volume }
 {
-    let (copy_rate, clean_rate) = match preset {
-        Preset::Snapshot => (0, Some(0)),
-        Preset::Clone | Preset::Backup => (50, None),
-    };
+    let options = options_of(preset);
     Command::Mkfcmap {
         source,
         target: Ref::Id(volume),
         name,
         group: None,
-        copy_rate: Some(copy_rate),
-        clean_rate,
+        copy_rate: Some(options.copy_rate),
+        clean_rate: options.clean_rate,
         grain_size: None,
-        incremental: preset == Preset::Backup,
-        autodelete: preset == Preset::Clone,
+        incremental: options.incremental,
+        autodelete: options.autodelete,
     }
 }
 
