@@ -30,7 +30,8 @@ fn kib_of(grain: GrainSize, volume: &Volume) -> Option<u32>
     volume.grains.checked_mul(grain.kib())
 }
 
-/// `mkvdisk`: a volume as large as the source, in kb. Refused for want of memory, or where the source has 2^32 kb or more.
+/// `mkvdisk`: a volume as large as the source, in kb. Refused for want of memory, or where the source has 2^32 kb or more, as no volume
+/// of a session has.
 pub fn volume_line(
     alloc: Global,
     grain: GrainSize,
