@@ -28,7 +28,8 @@ fn made_by(reply: &Reply) -> Option<u32>
 /// The id of what was made, by the last entry; none, where nothing was.
 fn made_last(history: &History) -> Option<u32>
     requires { 0 < length history.now.entries }
-    ensures { (before : List Entry) (last : Entry) → history.now.entries ≡ before ++ last ∷ [] → result ≡ made_by last.reply }
+    ensures { (before : List Entry) (last : Entry) →
+        history.now.entries ≡ before ++ last ∷ [] → result ≡ made_by last.reply }
 {
     made_by(&history.entry(history.len() - 1).reply)
 }

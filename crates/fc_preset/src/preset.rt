@@ -23,14 +23,17 @@ use fc_mdisk::mdisk::Mdisk;
 use fc_preset_lines::volume_line;
 use fc_store::store::Store;
 
-/// The line that asks for a volume as large as the source; none, where the source names no volume. Refused for want of memory alone.
+/// The line that asks for a volume as large as the source; none, where the source names no volume.
+/// Refused for want of memory alone.
 fn first_line<D: Mdisk>(
     store: &Store<D>,
     source: &Ref,
     preset: Preset,
     name: &Option<Name>,
 ) -> Result<Option<Command>, NoMemory>
-    ensures { IfOk result (λ line. line ≡ option_map (volume_line store.now.control.grain preset name.now) (volume_named store.now.control.tables source.now)) }
+    ensures { IfOk result (λ line. line
+        ≡ option_map (volume_line store.now.control.grain preset name.now)
+        (volume_named store.now.control.tables source.now)) }
 {
     match store.registry().volume(source) {
         Some(volume) => {
@@ -43,9 +46,9 @@ fn first_line<D: Mdisk>(
     }
 }
 
-/// Answers a preset: the entries of the lines that stand in its place, and of those that undo them where one is refused; or its own
-/// refusal, where its source names no volume. Stopped, the first of them are there; but for want of memory the store goes on to stand
-/// for what is told.
+/// Answers a preset: the entries of the lines that stand in its place, and of those that undo them
+/// where one is refused; or its own refusal, where its source names no volume. Stopped, the first
+/// of them are there; but for want of memory the store goes on to stand for what is told.
 pub fn run_preset<D: Mdisk>(
     store: &mut Store<D>,
     source: Ref,
@@ -55,11 +58,15 @@ pub fn run_preset<D: Mdisk>(
 ) -> Result<(), Stop>
     requires stands { TellsSome (StandsFor store.old) history.old }
     requires room { length history.old.entries ≤ MAX_ENTRIES }
-    ensures answered { (read : Reading) (bytes : List ℕ) (w : Whole) → read w.books bytes ≡ Ok (Line.Command (Command.Mkpreset source preset name)) → IsTold (StandsFor store.old) history.old w →
-        Answered result (StandsFor store.new) (session_rules store.old.control.grain read) (Session (single bytes ∷ [])) w history.old history.new }
+    ensures answered { (read : Reading) (bytes : List ℕ) (w : Whole) →
+        read w.books bytes ≡ Ok (Line.Command (Command.Mkpreset source preset name)) →
+        IsTold (StandsFor store.old) history.old w →
+        Answered result (StandsFor store.new) (session_rules store.old.control.grain read)
+        (Session (single bytes ∷ [])) w history.old history.new }
     ensures grain { store.new.control.grain ≡ store.old.control.grain }
     ensures disks { disks_in store.new.lanes ≡ disks_in store.old.lanes }
-    ensures quiet { QuietBy history.old.entries store.old → StaysUp result (QuietBy history.new.entries store.new) }
+    ensures quiet { QuietBy history.old.entries store.old
+        → StaysUp result (QuietBy history.new.entries store.new) }
     ensures limit { length history.new.entries ≤ MAX_ENTRIES }
 {
     match first_line(store, &source, preset, &name) {
@@ -84,11 +91,15 @@ fn answer_command<D: Mdisk>(
 ) -> Result<(), Stop>
     requires stands { TellsSome (StandsFor store.old) history.old }
     requires room { length history.old.entries ≤ MAX_ENTRIES }
-    ensures answered { (read : Reading) (bytes : List ℕ) (w : Whole) → read w.books bytes ≡ Ok (Line.Command command) → IsTold (StandsFor store.old) history.old w →
-        Answered result (StandsFor store.new) (session_rules store.old.control.grain read) (Session (single bytes ∷ [])) w history.old history.new }
+    ensures answered { (read : Reading) (bytes : List ℕ) (w : Whole) →
+        read w.books bytes ≡ Ok (Line.Command command) →
+        IsTold (StandsFor store.old) history.old w →
+        Answered result (StandsFor store.new) (session_rules store.old.control.grain read)
+        (Session (single bytes ∷ [])) w history.old history.new }
     ensures grain { store.new.control.grain ≡ store.old.control.grain }
     ensures disks { disks_in store.new.lanes ≡ disks_in store.old.lanes }
-    ensures quiet { QuietBy history.old.entries store.old → StaysUp result (QuietBy history.new.entries store.new) }
+    ensures quiet { QuietBy history.old.entries store.old
+        → StaysUp result (QuietBy history.new.entries store.new) }
     ensures limit { length history.new.entries ≤ MAX_ENTRIES }
 {
     match command {
@@ -101,9 +112,10 @@ fn answer_command<D: Mdisk>(
     }
 }
 
-/// Answers a single line, as it was read: its entries at the history's end, or none for a blank one. A preset is answered by the lines
-/// that stand in its place, and any other line by the store. Stopped, the first of the entries are there; but for want of memory the
-/// store goes on to stand for what is told.
+/// Answers a single line, as it was read: its entries at the history's end, or none for a blank
+/// one. A preset is answered by the lines that stand in its place, and any other line by the store.
+/// Stopped, the first of the entries are there; but for want of memory the store goes on to stand
+/// for what is told.
 pub fn answer_line<D: Mdisk>(
     store: &mut Store<D>,
     line: Line,
@@ -111,11 +123,15 @@ pub fn answer_line<D: Mdisk>(
 ) -> Result<(), Stop>
     requires stands { TellsSome (StandsFor store.old) history.old }
     requires room { length history.old.entries ≤ MAX_ENTRIES }
-    ensures answered { (read : Reading) (bytes : List ℕ) (w : Whole) → read w.books bytes ≡ Ok line → IsTold (StandsFor store.old) history.old w →
-        Answered result (StandsFor store.new) (session_rules store.old.control.grain read) (Session (single bytes ∷ [])) w history.old history.new }
+    ensures answered { (read : Reading) (bytes : List ℕ) (w : Whole) →
+        read w.books bytes ≡ Ok line →
+        IsTold (StandsFor store.old) history.old w →
+        Answered result (StandsFor store.new) (session_rules store.old.control.grain read)
+        (Session (single bytes ∷ [])) w history.old history.new }
     ensures grain { store.new.control.grain ≡ store.old.control.grain }
     ensures disks { disks_in store.new.lanes ≡ disks_in store.old.lanes }
-    ensures quiet { QuietBy history.old.entries store.old → StaysUp result (QuietBy history.new.entries store.new) }
+    ensures quiet { QuietBy history.old.entries store.old
+        → StaysUp result (QuietBy history.new.entries store.new) }
     ensures limit { length history.new.entries ≤ MAX_ENTRIES }
 {
     match line {

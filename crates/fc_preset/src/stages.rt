@@ -27,7 +27,8 @@ fn unmake_volume<D: Mdisk>(
 ) -> Result<(), Stop>
     requires stands { TellsSome (StandsFor store.old) history.old }
     requires room { length history.old.entries ≤ MAX_ENTRIES }
-    ensures { AnswersOwn result (Request.Command (unmake_line volume) ∷ []) (Behind.Passing 0) store.old store.new history.old history.new }
+    ensures { AnswersOwn result (Request.Command (unmake_line volume) ∷ []) (Behind.Passing 0)
+        store.old store.new history.old history.new }
 {
     match store.run_command(unmake_line(volume), history) {
         Ok(_) => Ok(()),
@@ -44,7 +45,9 @@ fn unmake_both<D: Mdisk>(
 ) -> Result<(), Stop>
     requires stands { TellsSome (StandsFor store.old) history.old }
     requires room { length history.old.entries ≤ MAX_ENTRIES }
-    ensures { AnswersOwn result (Request.Command (unmap_line map) ∷ Request.Command (unmake_line volume) ∷ []) (Behind.Passing 0) store.old store.new history.old history.new }
+    ensures { AnswersOwn result
+        (Request.Command (unmap_line map) ∷ Request.Command (unmake_line volume) ∷ [])
+        (Behind.Passing 0) store.old store.new history.old history.new }
 {
     match store.run_command(unmap_line(map), history) {
         Ok(_) => unmake_volume(store, volume, history),
@@ -61,7 +64,8 @@ fn start_mapping<D: Mdisk>(
 ) -> Result<(), Stop>
     requires stands { TellsSome (StandsFor store.old) history.old }
     requires room { length history.old.entries ≤ MAX_ENTRIES }
-    ensures { AnswersOwn result (Request.Command (start_line map) ∷ []) (Behind.Undo map volume) store.old store.new history.old history.new }
+    ensures { AnswersOwn result (Request.Command (start_line map) ∷ []) (Behind.Undo map volume)
+        store.old store.new history.old history.new }
 {
     match store.run_command(start_line(map), history) {
         Ok(true) => Ok(()),
@@ -81,7 +85,9 @@ fn make_mapping<D: Mdisk>(
 ) -> Result<(), Stop>
     requires stands { TellsSome (StandsFor store.old) history.old }
     requires room { length history.old.entries ≤ MAX_ENTRIES }
-    ensures { AnswersOwn result (Request.Command (mapping_line source preset name volume) ∷ []) (Behind.Start volume) store.old store.new history.old history.new }
+    ensures { AnswersOwn result
+        (Request.Command (mapping_line source preset name volume) ∷ []) (Behind.Start volume)
+        store.old store.new history.old history.new }
 {
     match ask_made(store, mapping_line(source, preset, name, volume), history) {
         Ok(Some(map)) => start_mapping(store, map, volume, history),
@@ -102,7 +108,8 @@ pub(crate) fn make_volume<D: Mdisk>(
     requires stands { TellsSome (StandsFor store.old) history.old }
     requires room { length history.old.entries ≤ MAX_ENTRIES }
     requires decided { IsDecided line }
-    ensures { AnswersOwn result (Request.Command line ∷ []) (Behind.Mapping source preset name) store.old store.new history.old history.new }
+    ensures { AnswersOwn result (Request.Command line ∷ []) (Behind.Mapping source preset name)
+        store.old store.new history.old history.new }
 {
     match ask_made(store, line, history) {
         Ok(Some(volume)) => make_mapping(store, source, preset, name, volume, history),

@@ -52,7 +52,8 @@ fn one_more(alloc: Global, command: Command, behind: Behind) -> Result<Coming, N
 
 /// Two commands, and nothing behind them.
 fn two_more(alloc: Global, first: Command, second: Command) -> Result<Coming, NoMemory>
-    ensures { IfOk result (λ coming. coming_of coming ≡ (Request.Command first ∷ Request.Command second ∷ [], Behind.Passing 0)) }
+    ensures { IfOk result (λ coming. coming_of coming
+        ≡ (Request.Command first ∷ Request.Command second ∷ [], Behind.Passing 0)) }
 {
     let mut commands = Vec::new(alloc);
     push_command(&mut commands, first)?;
@@ -71,7 +72,8 @@ fn behind_volume(
     name: Option<Name>,
     reply: &Reply,
 ) -> Result<Coming, NoMemory>
-    ensures { IfOk result (λ coming. coming_of coming ≡ asked_behind (Behind.Mapping source preset name) reply.now) }
+    ensures { IfOk result (λ coming. coming_of coming
+        ≡ asked_behind (Behind.Mapping source preset name) reply.now) }
 {
     match reply {
         Reply::Made { id: volume, .. } => {
@@ -82,7 +84,8 @@ fn behind_volume(
     }
 }
 
-/// Behind the line that asked for a mapping to this volume: its start, if it was made; else the volume goes.
+/// Behind the line that asked for a mapping to this volume: its start, if it was made; else the
+/// volume goes.
 fn behind_mapping(alloc: Global, volume: u32, reply: &Reply) -> Result<Coming, NoMemory>
     ensures { IfOk result (λ coming. coming_of coming ≡ asked_behind (Behind.Start volume) reply.now) }
 {
@@ -94,7 +97,8 @@ fn behind_mapping(alloc: Global, volume: u32, reply: &Reply) -> Result<Coming, N
     }
 }
 
-/// Behind the line that asked for the start of this mapping: nothing, if it was done; else the mapping goes, and then the volume.
+/// Behind the line that asked for the start of this mapping: nothing, if it was done; else the
+/// mapping goes, and then the volume.
 fn behind_start(alloc: Global, map: u32, volume: u32, reply: &Reply) -> Result<Coming, NoMemory>
     ensures { IfOk result (λ coming. coming_of coming ≡ asked_behind (Behind.Undo map volume) reply.now) }
 {
@@ -104,8 +108,8 @@ fn behind_start(alloc: Global, map: u32, volume: u32, reply: &Reply) -> Result<C
     }
 }
 
-/// What is asked behind a line that was answered so, where this stands behind it; and what behind that. Behind a line whose seconds
-/// pass nothing is asked. Refused for want of memory alone.
+/// What is asked behind a line that was answered so, where this stands behind it; and what behind
+/// that. Behind a line whose seconds pass nothing is asked. Refused for want of memory alone.
 pub fn asked_behind(alloc: Global, behind: Behind, reply: &Reply) -> Result<Coming, NoMemory>
     ensures { IfOk result (λ coming. coming_of coming ≡ asked_behind behind reply.now) }
 {

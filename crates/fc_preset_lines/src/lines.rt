@@ -30,8 +30,8 @@ fn kib_of(grain: GrainSize, volume: &Volume) -> Option<u32>
     volume.grains.checked_mul(grain.kib())
 }
 
-/// `mkvdisk`: a volume as large as the source, in kb. Refused for want of memory, or where the source has 2^32 kb or more, as no volume
-/// of a session has.
+/// `mkvdisk`: a volume as large as the source, in kb. Refused for want of memory, or where the
+/// source has 2^32 kb or more, as no volume of a session has.
 pub fn volume_line(
     alloc: Global,
     grain: GrainSize,
@@ -66,11 +66,13 @@ struct Options {
     autodelete: bool,
 }
 
-/// The options of a preset's mapping. A snapshot isn't copied in the background; a clone's mapping goes when it is complete; a backup's
-/// copies changed grains alone when it is started again.
+/// The options of a preset's mapping. A snapshot isn't copied in the background; a clone's mapping
+/// goes when it is complete; a backup's copies changed grains alone when it is started again.
 fn options_of(preset: Preset) -> Options
     ensures { (source : Ref) (name : Option (List ℕ)) (volume : ℕ) →
-        mapping_line source preset name volume ≡ Command.Mkfcmap source (Ref.Id volume) name None (Some result.copy_rate) result.clean_rate None result.incremental result.autodelete }
+        mapping_line source preset name volume
+        ≡ Command.Mkfcmap source (Ref.Id volume) name None (Some result.copy_rate) result.clean_rate
+        None result.incremental result.autodelete }
 {
     match preset {
         Preset::Snapshot => Options {
