@@ -57,8 +57,9 @@ impl<D: Mdisk> Store<D> {
 
     /// Does a command, which is no access and no preset, by an actor: all is settled, and then it is decided and done. Want of
     /// memory is its reply: then nothing is done, or all is settled alone. The entry leads on to what the store then stands for;
-    /// its number is 0 until it is kept. Each lane stays the lane that it is, and as quiet as it was unless the entry arms a fault: an `armfault`
-    /// that is done arms the disk of the volume that it names, in its grain's lane, with its number, and nothing else arms one.
+    /// its number is 0 until it is kept. Each lane stays the lane that it is, and as quiet as it was unless the entry arms a fault:
+    /// an `armfault` that is done arms the disk of the volume that it names, in its grain's lane, with its number, and nothing else
+    /// arms one.
     pub fn command_entry(&mut self, actor: u32, command: Command) -> Entry
         requires can { (w : Whole) × StandsFor self.old w × (w.entries < MAX_ENTRIES) }
         requires decided { IsDecided command }
