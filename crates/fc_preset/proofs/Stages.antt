@@ -18,7 +18,7 @@ use Rattle.fc_legal.specs.Whole.{Whole}
 use Rattle.fc_stands.specs.Logged.{IsLogged, Logged, anything}
 use Rattle.fc_stands.specs.Store.{StandsFor, StoreView}
 use Rattle.fc_stands.proofs.Lining.{alone_answered, none_asked, own_stopped, then_asked, then_rest}
-use Rattle.fc_preset.specs.Stages.{AnswersOwn, Asks, made_by, whether_made}
+use Rattle.fc_preset.specs.Stages.{AnswersOwn, HasRun, made_by, whether_made}
 
 -- ---- an entry that was logged
 
@@ -61,14 +61,14 @@ stops_logged A B NoMemory Says Other Stands grain w request x y same = same
 -- ---- a command that was asked for
 
 -- The store goes on to stand for what is told.
-pub still_told : (A : Type 0) (a : A) (Says : A → Reply → Type 0) (command : Command) (old new : StoreView) (x y : HistoryState) → Asks {A = A} (Ok a) Says command old new x y →
+pub still_told : (A : Type 0) (a : A) (Says : A → Reply → Type 0) (command : Command) (old new : StoreView) (x y : HistoryState) → HasRun {A = A} (Ok a) Says command old new x y →
     TellsSome (StandsFor old) x → TellsSome (StandsFor new) y
 still_told A a Says command old new x y asks told =
     let logged = asks.logged told.0 told.1 in
     (logged.next, logged.told)
 
 -- It was the last, and nothing is asked behind it.
-pub last_asked : (A : Type 0) (a : A) (Says : A → Reply → Type 0) (command : Command) (old new : StoreView) (x y : HistoryState) → Asks {A = A} (Ok a) Says command old new x y →
+pub last_asked : (A : Type 0) (a : A) (Says : A → Reply → Type 0) (command : Command) (old new : StoreView) (x y : HistoryState) → HasRun {A = A} (Ok a) Says command old new x y →
     AnswersOwn (Ok tt) (Asked command ∷ []) (PassingSeconds 0) old new x y
 last_asked A a Says command old new x y asks = record {
   answered = λ read w told. alone_answered (Ok tt) (StandsFor new) old.control.grain read w (Asked command) x y told.1 (says_nothing (asks.logged w told));
@@ -80,7 +80,7 @@ last_asked A a Says command old new x y asks = record {
 
 -- The call stopped at it.
 pub stopped_asking : (A : Type 0) (stop : Stop) (Says : A → Reply → Type 0) (command : Command) (rest : List Request) (behind : Behind) (old new : StoreView) (x y : HistoryState) →
-    Asks {A = A} (Err stop) Says command old new x y → AnswersOwn (Err stop) (Asked command ∷ rest) behind old new x y
+    HasRun {A = A} (Err stop) Says command old new x y → AnswersOwn (Err stop) (Asked command ∷ rest) behind old new x y
 stopped_asking A stop Says command rest behind old new x y asks = record {
   answered = λ read w told. own_stopped A stop Says (StandsFor new) old.control.grain read w (Asked command) rest behind x y told.1 (asks.logged w told);
   grain = asks.grain;
@@ -92,7 +92,7 @@ stopped_asking A stop Says command rest behind old new x y asks = record {
 -- ---- and what is asked next
 
 module _ (A : Type 0) (a : A) (Says : A → Reply → Type 0) (result : Result (Unit {0}) Stop) (command : Command) (behind : Behind) (old mid new : StoreView) (x y z : HistoryState)
-    (asks : Asks {A = A} (Ok a) Says command old mid x y) where
+    (asks : HasRun {A = A} (Ok a) Says command old mid x y) where
   -- By its reply.
   pub asks_by : (requests : List Request) (further : Behind) →
       ((next : Whole) (reply : Reply) → Says a reply → behind_last next reply behind [] ≡ Own requests further []) →

@@ -27,11 +27,11 @@ made_by reply = None
 abbrev pub whether_made : Option ℕ → Reply → Type 0
 whether_made made reply = made ≡ made_by reply
 
--- ---- one command
+-- ---- one command that was run
 
 -- Whatever is told before it, its entry was logged, with a reply of which this holds; or the call stopped. The store keeps its grain
 -- size and its disks, and stays as quiet as the entries tell.
-pub record Asks {A : Type 0} (result : Result A Stop) (Says : A → Reply → Type 0) (command : Command) (old new : StoreView) (before after : HistoryState) : Type 0 where
+pub record HasRun {A : Type 0} (result : Result A Stop) (Says : A → Reply → Type 0) (command : Command) (old new : StoreView) (before after : HistoryState) : Type 0 where
   pub logged : (w : Whole) → IsTold (StandsFor old) before w → Logged result Says (StandsFor new) old.control.grain w (Asked command) before after
   pub grain : new.control.grain ≡ old.control.grain
   pub disks : disks_in new.lanes ≡ disks_in old.lanes

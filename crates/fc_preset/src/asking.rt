@@ -3,7 +3,7 @@
 ghost use Rattle.std.specs.Prelude.{◌≡◌, ◌<◌, ◌≤◌, ◌++◌, ◌∷◌, [], List, length};
 ghost use Rattle.fc_entry.specs.declared.entry.Entry.{Entry};
 ghost use Rattle.fc_legal.specs.Added.{TellsSome};
-ghost use Rattle.fc_preset.specs.Stages.{Asks, made_by, whether_made};
+ghost use Rattle.fc_preset.specs.Stages.{HasRun, made_by, whether_made};
 ghost use Rattle.fc_stands.specs.Phase.{IsDecided};
 ghost use Rattle.fc_stands.specs.Store.{StandsFor};
 
@@ -43,7 +43,7 @@ pub(crate) fn ask_made<D: Mdisk>(
     requires stands { TellsSome (StandsFor store.old) history.old }
     requires room { length history.old.entries ≤ MAX_ENTRIES }
     requires decided { IsDecided command }
-    ensures { Asks result whether_made command store.old store.new history.old history.new }
+    ensures { HasRun result whether_made command store.old store.new history.old history.new }
 {
     match store.run_command(command, history) {
         Ok(_) => Ok(made_last(history)),
