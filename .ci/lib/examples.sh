@@ -3,10 +3,10 @@
 # recorded, to the byte. It is sourced, not run, at the top of the repository.
 
 # How many examples there are at the least: fewer are a mistake.
-least_examples=60
+least_examples=96
 
 # How many traces there are at the least.
-least_traces=38
+least_traces=40
 
 # ---- each example is a session, its words and its history, and begins with a comment
 examples_whole() {
