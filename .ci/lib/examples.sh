@@ -73,7 +73,7 @@ examples_proved() {
     holds "no input: something was written" wrote_nothing
 }
 
-# ---- traces: those of traces/ were worked out by another program, for the examples of the same names
+# ---- traces: those of traces/ were worked out by another program, in part by hand, for the examples of the same names
 traces_proved() {
     echo "== traces of examples, by the proved program"
     local count=0 name trace words
