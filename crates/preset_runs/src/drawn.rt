@@ -139,14 +139,16 @@ pub fn drawn_session(alloc: Global, number: u64) -> Result<Vec<Line>, AllocError
     let mut draws = Draws::of(number);
     let mut lines = Vec::new(alloc);
     for line in FIRST_LINES {
-        lines.push(Line::Plain(String::from_str(alloc, line)?))?;
+        let line = String::from_str(alloc, line)?;
+        lines.push(Line::Plain(line))?;
     }
     for place in 0..LINES {
-        if place % 3 == 2 {
-            lines.push(Line::Preset(drawn_preset(&mut draws, alloc)?))?;
+        let line = if place % 3 == 2 {
+            Line::Preset(drawn_preset(&mut draws, alloc)?)
         } else {
-            lines.push(Line::Plain(drawn_plain(&mut draws, alloc)?))?;
-        }
+            Line::Plain(drawn_plain(&mut draws, alloc)?)
+        };
+        lines.push(line)?;
     }
     Ok(lines)
 }
@@ -156,7 +158,10 @@ pub fn text_of(alloc: Global, lines: &[Line]) -> Result<String, AllocError> {
     let mut text = String::new(alloc);
     for line in lines {
         match line {
-            Line::Preset(preset) => text.push_str(preset.line(alloc)?.as_str())?,
+            Line::Preset(preset) => {
+                let line = preset.line(alloc)?;
+                text.push_str(line.as_str())?;
+            }
             Line::Plain(line) => text.push_str(line.as_str())?,
         }
         text.push_str("\n")?;
