@@ -117,7 +117,10 @@ fn drawn_object(draws: &mut Draws, alloc: Global) -> Result<String, AllocError> 
     let number = draws.below(30);
     match draws.below(4) {
         0 => format!(in alloc; "mkvdisk -name vdisk{number} -size 64 -unit kb"),
-        1 => format!(in alloc; "mkfcmap -source V0 -target V{} -name fcmap{number}", draws.below(4)),
+        1 => format!(in alloc;
+            "mkfcmap -source V0 -target V{} -name fcmap{number}",
+            draws.below(4)
+        ),
         2 => format!(in alloc; "mkfcmap -source V3 -target V1 -name {}", drawn_name(draws)),
         _ => format!(in alloc; "rmvdisk {}", drawn_name(draws)),
     }

@@ -50,11 +50,7 @@ fn first_difference(one: &[u8], other: &[u8]) -> Option<usize> {
 fn print_ends<R: Print>(rt: &R, number: u64, ends: Ends) -> io::Result<()> {
     println!(rt;
         "session {number}: {} presets are whole, {} have no source, {} no volume, {} no mapping, {} no start",
-        ends.whole,
-        ends.no_source,
-        ends.no_volume,
-        ends.no_mapping,
-        ends.no_start
+        ends.whole, ends.no_source, ends.no_volume, ends.no_mapping, ends.no_start
     )
 }
 
@@ -64,8 +60,13 @@ fn print_compared<R: Print>(rt: &R, asked: &Outcome, expected: &Outcome) -> io::
         return println!(rt; "it isn't done");
     }
     match first_difference(asked.trace.as_slice(), expected.trace.as_slice()) {
-        Some(line) => println!(rt; "its trace differs from that of its lines written out, in line {line}"),
-        None => println!(rt; "its {} entries are those of its lines written out", asked.history.len()),
+        Some(line) => println!(rt;
+            "its trace differs from that of its lines written out, in line {line}"
+        ),
+        None => println!(rt;
+            "its {} entries are those of its lines written out",
+            asked.history.len()
+        ),
     }
 }
 

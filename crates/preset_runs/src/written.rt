@@ -62,11 +62,7 @@ fn size_in_row(row: &str, volume: &str) -> Option<u64> {
 }
 
 /// The size in KiB of a volume, as the rows of a report have it. None where it isn't among them.
-fn size_in_rows(
-    alloc: Global,
-    rows: &[List<u8>],
-    volume: &str,
-) -> Result<Option<u64>, AllocError> {
+fn size_in_rows(alloc: Global, rows: &[List<u8>], volume: &str) -> Result<Option<u64>, AllocError> {
     for row in rows {
         let row = String::from_utf8_lossy(alloc, row.as_slice())?;
         if let Some(size) = size_in_row(row.as_str(), volume) {
