@@ -1,7 +1,7 @@
 //! A session that is drawn by a number: every third line is a preset.
 //!
-//! Four small volumes, one that no copy has room for, and three mappings come first. The names of mappings and copies are eight, so most
-//! are taken soon; some volumes get the default name that is still to come.
+//! Four small volumes, one that no copy has room for, and three mappings come first, of which one is stopped, so that its target is
+//! offline. The names of mappings and copies are eight, so most are taken soon; some volumes get a default name that is still to come.
 
 use crate::preset::{Kind, Preset};
 use chain_steps::draws::Draws;
@@ -17,7 +17,7 @@ pub enum Line {
 }
 
 /// The lines that are drawn.
-const LINES: u32 = 120;
+const LINES: u32 = 60;
 
 /// The lines that every session begins with.
 const FIRST_LINES: &[&str] = &[
@@ -28,7 +28,9 @@ const FIRST_LINES: &[&str] = &[
     "mkvdisk -name big -size 300 -thin",
     "mkfcmap -source V0 -target V2 -name n0 -incremental",
     "mkfcmap -source V2 -target V0 -name n1 -copyrate 0",
-    "mkfcmap -source V1 -target V3 -name n2 -copyrate 30",
+    "mkfcmap -source V1 -target V3 -name off -copyrate 30",
+    "startfcmap -prep off",
+    "stopfcmap off",
 ];
 
 /// A name that volumes and mappings may have.
@@ -47,13 +49,13 @@ fn drawn_name(draws: &mut Draws) -> &'static str {
 
 /// A volume: one of the first four, the one that no copy has room for, or one that may be there, by its name or id.
 fn drawn_volume(draws: &mut Draws, alloc: Global) -> Result<String, AllocError> {
-    match draws.below(8) {
-        0..=2 => {
+    match draws.below(10) {
+        0..=5 => {
             let volume = draws.below(4);
             format!(in alloc; "V{volume}")
         }
-        3..=5 => String::from_str(alloc, drawn_name(draws)),
-        6 => {
+        6..=7 => String::from_str(alloc, drawn_name(draws)),
+        8 => {
             let id = draws.below(30);
             format!(in alloc; "{id}")
         }
@@ -78,7 +80,7 @@ fn drawn_preset(draws: &mut Draws, alloc: Global) -> Result<Preset, AllocError> 
         1 => Kind::Clone,
         _ => Kind::Backup,
     };
-    let name = if draws.below(4) == 0 {
+    let name = if draws.below(3) == 0 {
         None
     } else {
         Some(drawn_name(draws))

@@ -26,7 +26,7 @@ use std::sync::Wait;
 use std::thread::Threads;
 
 /// The numbers of the sessions.
-const SESSIONS: u64 = 4;
+const SESSIONS: u64 = 3;
 
 /// The number of the first line in which two texts differ, from 1. None where they are the same.
 fn first_difference(one: &[u8], other: &[u8]) -> Option<usize> {
