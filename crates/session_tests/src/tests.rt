@@ -39,6 +39,26 @@ const ONE_VOLUME_TEXT: &[u8] =
 
 const NO_DISK_TEXT: &[u8] = b"0 main mkvdisk -size 1 -> refused no disk\n";
 
+/// Presets over flat disks alone: a clone whose mapping is refused, a snapshot that no disk is there for, and none.
+const PRESETS: &[u8] = b"mkvdisk -name A -size 64 -unit kb
+mkvdisk -name B -size 64 -unit kb
+mkfcmap -source A -target B -name s1
+mkpreset -source A -preset clone -name s1
+mkpreset -source A -preset snapshot
+mkpreset -source A -preset mirror
+";
+
+const PRESETS_TEXT: &[u8] =
+    b"0 main mkvdisk -name A -size 64 -unit kb -> Virtual Disk, id [0], successfully created
+1 main mkvdisk -name B -size 64 -unit kb -> Virtual Disk, id [1], successfully created
+2 main mkfcmap -source A -target B -name s1 -> FlashCopy Mapping, id [0], successfully created
+3 main mkvdisk -name s1 -size 64 -unit kb -> Virtual Disk, id [2], successfully created
+4 main mkfcmap -source A -target 2 -name s1 -copyrate 50 -autodelete -> refused name taken 0
+5 main rmvdisk 2 -> ok
+6 main mkvdisk -size 64 -unit kb -thin -> refused no disk
+7 main - -> refused bad number at word 5
+";
+
 /// A volume is made and written, and a block begins that the input ends.
 const UNENDED_BLOCK: &[u8] = b"mkvdisk -name A -size 1
 write A 0 1 5a
@@ -55,6 +75,9 @@ const UNENDED_BLOCK_TEXT: &[u8] =
 
 /// How many disks there are: one for each lane.
 const DISKS: usize = 4;
+
+/// How many disks the presets have.
+const PRESET_DISKS: u32 = 16;
 
 /// How many bytes of the longer session a `take` gives at most.
 const PIECE: usize = 211;
@@ -102,6 +125,25 @@ fn a_volume_takes_its_disks_for_good(rt: HostRuntime) -> Result<(), AllocError> 
     assert!(rt; outcome.status == Status::Done);
     assert!(rt; outcome.written.as_slice() == ONE_VOLUME_TEXT);
     assert_eq!(rt; (outcome.entries, outcome.disks), (12, DISKS));
+    Ok(())
+}
+
+#[test]
+fn a_preset_that_is_refused_is_undone(rt: HostRuntime) -> Result<(), AllocError> {
+    let alloc = rt.alloc();
+    let outcome = run_over(
+        &rt,
+        alloc,
+        flat_disks(alloc, PRESET_DISKS)?,
+        "64",
+        PRESETS,
+        65_536,
+        Vec::new(alloc),
+        Vec::new(alloc),
+    )?;
+    assert!(rt; outcome.status == Status::Done);
+    assert!(rt; outcome.written.as_slice() == PRESETS_TEXT);
+    assert_eq!(rt; (outcome.entries, outcome.disks), (8, 16));
     Ok(())
 }
 

@@ -1,6 +1,6 @@
 use Rattle.std.proofs.Common.{ℕ, ◌<◌, map, get_or}
 use Rattle.fc_mdisk.specs.Disk.{DiskState, IsFresh}
-use Rattle.flashcopy.proofs.disks.make_ready.Given as goal
+use Rattle.fc_mdisk.proofs.ready.make_ready.Given as goal
 
 -- the disks so far are fresh
 abbrev pub invariant-loop-place : goal.invariant-loop-place

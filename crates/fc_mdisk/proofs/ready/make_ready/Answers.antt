@@ -1,7 +1,7 @@
 -- The disk that was made ready is fresh, and those before it still are; or it isn't, and then not all are.
-use Rattle.flashcopy.proofs.Fresh.{fresh_more, fresh_there}
+use Rattle.fc_mdisk.proofs.Fresh.{fresh_more, fresh_there}
 use Rattle.std.proofs.Common.{arith, rules}
-use Rattle.flashcopy.proofs.disks.make_ready.Goals as goal
+use Rattle.fc_mdisk.proofs.ready.make_ready.Goals as goal
 
 pub loop-place-preserved : goal.loop-place-preserved
 loop-place-preserved g c =

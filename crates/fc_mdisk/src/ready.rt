@@ -1,10 +1,10 @@
-//! The program's disks, before the first call.
+//! Disks that are made ready before the first call.
 
 ghost use Rattle.std.specs.Prelude.{◌↔◌, map, IsTrue};
 ghost use Rattle.std.specs.List.{All};
 ghost use Rattle.fc_mdisk.specs.Disk.{IsFresh};
 
-use fc_mdisk::mdisk::Mdisk;
+use crate::mdisk::Mdisk;
 
 /// Disarms a disk, and says whether it is fresh: no calls and no faults.
 fn make_disk_ready<D: Mdisk>(disk: &mut D) -> bool
