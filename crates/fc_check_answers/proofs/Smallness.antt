@@ -1,4 +1,4 @@
--- What was reached by right entries has few grains.
+-- All grains of what was reached by right entries have numbers below 2^32.
 use Rattle.std.proofs.Common.{◌≡◌, ℕ, ◌*◌, ◌<◌, ◌≤◌, ◌++◌, ◌∷◌, [], List, Contains, length, sym, subst, arith}
 use Rattle.std.proofs.lemmas.List.Elements.{Contains-append_left, Contains-push}
 use Rattle.fc_base.specs.Pools.{Pool}
@@ -14,7 +14,7 @@ use Rattle.law_stands.specs.Reached.{IsReachedByEntries}
 reached_small : (way : Judged) → way.whole.entries ≤ 262144 → IsReachedByEntries way.whole → IsSmallWay way
 reached_small way few reached =
     let can = deciders.can_decide (2 * way.whole.entries) way.whole (omega (arith, few)) reached in
-    record { small = record { held = λ k. omega (arith, can.held k); restarts = λ m. omega (arith, can.restart m) }; grains = reached.grains }
+    record { held = λ k. omega (arith, can.held k); restarts = λ m. omega (arith, can.restart m) }
 
 -- before the first entry, and before one more
 pub opened_small : (grain : GrainSize) (pools : List Pool) (way : Judged) → way ≡ record { grain = grain; whole = nameless (opened pools) } → 0 < length pools → IsSmallWay way

@@ -1,6 +1,8 @@
 //! What a session may still bring.
 
 ghost use Rattle.std.specs.Prelude.{◌≡◌, ◌↔◌, [], ◌∷◌, ℕ, List, None, Some, cond, codes, map, IsTrue, IfOk, OnOk};
+ghost use Rattle.fc_base.specs.declared.command.Command.{Command};
+ghost use Rattle.fc_base.specs.declared.request.Request.TheVariants.{Command as CommandAsked};
 ghost use Rattle.fc_blocks.specs.Segments.{Segment};
 ghost use Rattle.fc_check_lines.specs.Asked.{IsAskedBy, entry_by};
 ghost use Rattle.fc_check_lines.specs.Bytes.{by_grammar, segments_in};
@@ -33,7 +35,7 @@ use fc_check_requests::scripts::{
 use fc_check_requests::told::Told;
 use fc_entry::entry::Entry;
 use fc_entry::history::place_of_name;
-use fc_preset_lines::{Coming, asked_behind};
+use fc_preset_lines::asked_behind;
 use std::alloc::Global;
 use std::marker::Model;
 
@@ -240,8 +242,8 @@ fn begin_seconds<T: Told>(
 }
 
 /// These commands as requests.
-fn asked_for(alloc: Global, commands: List<Command>) -> Result<Requests, NoMemory>
-    ensures { IfOk result (λ requests. requests ≡ map (λ command. Request.Command command) commands) }
+fn requests_of(alloc: Global, commands: Vec<Command>) -> Result<Requests, NoMemory>
+    ensures { IfOk result (λ requests. requests ≡ map (λ (command : Command). CommandAsked command) commands.items) }
 {
     let mut requests = Requests::new(alloc);
     for command in commands {
@@ -254,9 +256,12 @@ fn asked_for(alloc: Global, commands: List<Command>) -> Result<Requests, NoMemor
 fn ask_more(alloc: Global, behind: Behind, reply: &Reply) -> Result<Asking, NoMemory>
     ensures { IfOk result (λ left. left ≡ Asking.Own (asked_behind behind reply.now).0 (asked_behind behind reply.now).1) }
 {
-    let Coming { commands, behind } = asked_behind(alloc, behind, reply)?;
-    let requests = asked_for(alloc, commands)?;
-    Ok(Asking::Own { requests, behind })
+    let coming = asked_behind(alloc, behind, reply)?;
+    let requests = requests_of(alloc, coming.commands)?;
+    Ok(Asking::Own {
+        requests,
+        behind: coming.behind,
+    })
 }
 
 /// What is left of a line behind its last request, which was answered so.

@@ -115,9 +115,13 @@ fn push_preset<T: Told>(
 {
     match told.registry().volume(source) {
         Some(found) => {
-            requests.push_command(volume_line(alloc, told.grain_size(), preset, name, found)?)
+            let line = volume_line(alloc, told.grain_size(), preset, name, found)?;
+            requests.push_command(line)
         }
-        None => requests.push_command(copy_command(alloc, command)?),
+        None => {
+            let line = copy_command(alloc, command)?;
+            requests.push_command(line)
+        }
     }
 }
 
@@ -189,11 +193,15 @@ fn behind_preset<T: Told>(
     ensures { IfOk result (λ behind. behind ≡ behind_preset source.now preset name.now (volume_named (T.whole told.now).books.tables source.now)) }
 {
     match told.registry().volume(source) {
-        Some(_) => Ok(Behind::Mapping {
-            source: copy_ref(alloc, source)?,
-            preset,
-            name: copy_some_name(alloc, name)?,
-        }),
+        Some(_) => {
+            let source = copy_ref(alloc, source)?;
+            let name = copy_some_name(alloc, name)?;
+            Ok(Behind::Mapping {
+                source,
+                preset,
+                name,
+            })
+        }
         None => Ok(Behind::Passing(0)),
     }
 }

@@ -1,8 +1,7 @@
 //! What is asked of what was told.
 
-ghost use Rattle.std.specs.Prelude.{◌≡◌, ◌<◌, ◌≤◌, IfOk};
+ghost use Rattle.std.specs.Prelude.{◌≡◌, ◌<◌, IfOk};
 ghost use Rattle.fc_base.specs.declared.size.GrainSize.{GrainSize};
-ghost use Rattle.fc_entry.specs.Refused.{all_grains};
 ghost use Rattle.fc_legal.specs.Seconds.{next_grain};
 ghost use Rattle.fc_legal.specs.Whole.{Whole, lanes};
 
@@ -26,10 +25,9 @@ pub trait Told {
     fn grain_size(&self) -> GrainSize
         ensures { result ≡ grain self.now };
 
-    /// The tables of volumes, mappings and groups. All volumes together have 8,192 grains at most.
+    /// The tables of volumes, mappings and groups.
     fn registry(&self) -> &Registry
-        ensures tables { result.now.tables ≡ (whole self.now).books.tables }
-        ensures few { all_grains (whole self.now).books.tables.volumes ≤ 8192 };
+        ensures { result.now.tables ≡ (whole self.now).books.tables };
 
     /// The mappings with background work.
     fn flags(&self) -> &[WorkFlags]

@@ -4,10 +4,11 @@ use crate::asked::{Asked, AskedList};
 use crate::effects::effects_fit;
 use crate::made::Made;
 use crate::place::place_of;
+use crate::preset::{LineText, mapping_text, text_on, volume_text};
 use crate::replies::reply_fits;
 use crate::verdict::{Halt, Why};
-use fc_base::command::{Command, Line, ScriptLine};
-use fc_base::name::Name;
+use fc_base::command::{Command, Line, Preset, ScriptLine};
+use fc_base::name::{Name, Ref};
 use fc_base::outcome::NoMemory;
 use fc_base::request::{Effect, Reply, Request};
 use fc_base::size::GrainSize;
@@ -196,20 +197,55 @@ impl<'a> Walk<'a> {
         Ok(())
     }
 
-    /// Whether the entry before the one at hand was done.
+    /// Whether the entry before the one at hand was done, or made something.
     fn was_done(&self) -> bool {
         let last = self.next.saturating_sub(1);
         if last >= self.history.len() {
             return false;
         }
         match &self.history.entry(last).reply {
-            Reply::Done => true,
+            Reply::Done | Reply::Made { .. } => true,
             _ => false,
         }
     }
 
+    /// The entry at hand answers a line of `main`: whether it was done, or made something.
+    fn does(&mut self, line: &LineText) -> Result<bool, Halt> {
+        self.answers(0, Asked::Line(line.as_bytes()))?;
+        Ok(self.was_done())
+    }
+
+    /// A preset of a volume of so many kb is answered: a new volume, a mapping to it and its start, each asked once the one before it
+    /// was made. Where one wasn't, what was made goes, the last of it first.
+    fn preset(
+        &mut self,
+        source: &Ref,
+        preset: Preset,
+        name: &Option<Name>,
+        kib: u64,
+    ) -> Result<(), Halt> {
+        let volume = self.made.volumes.next();
+        if !self.does(&volume_text(self.alloc, preset, name, kib)?)? {
+            return Ok(());
+        }
+        let mapping = self.made.mappings.next();
+        if self.does(&mapping_text(self.alloc, source, preset, name, volume)?)? {
+            if self.does(&text_on(self.alloc, "startfcmap -prep", mapping)?)? {
+                return Ok(());
+            }
+            self.does(&text_on(self.alloc, "rmfcmap", mapping)?)?;
+        }
+        self.does(&text_on(self.alloc, "rmvdisk", volume)?)?;
+        Ok(())
+    }
+
     /// A line outside of blocks is answered.
     pub(crate) fn line(&mut self, line: &ScriptLine) -> Result<(), Halt> {
+        if let ScriptLine::Read(Line::Command(Command::Mkpreset { source, preset, name })) = line
+            && let Some(kib) = self.made.kib_of(source)
+        {
+            return self.preset(source, *preset, name, kib);
+        }
         let mut asked = AskedList::nothing(self.alloc);
         asked.add_line(&self.made, line)?;
         for next in asked.as_slice() {
