@@ -46,6 +46,22 @@ pub(crate) fn follow_refusal(
     }
 }
 
+/// Goes on behind an entry that must be refused so: there is no way where nothing is refused.
+fn follow_must(
+    way: Record,
+    refusal: Option<Refusal>,
+    entry: &Entry,
+    after: &mut Vec<Record>,
+) -> Result<(), NoMemory>
+    requires { IsOpen way.whole }
+    ensures { OnOk result (Came way.grain (MustBeRefused refusal way.whole entry.now) after.old.items after.new.items) }
+{
+    match refusal {
+        Some(refusal) => follow_refusal(way, &refusal, entry, after),
+        None => Ok(()),
+    }
+}
+
 /// Goes on behind an entry of an access that is a line by itself: there is a way where it is refused.
 pub(crate) fn follow_access(
     way: Record,
@@ -58,10 +74,8 @@ pub(crate) fn follow_access(
     requires { IsOpen way.whole }
     ensures { OnOk result (Came way.grain (MustBeRefused (access_refused way.grain way.whole.books volume.now block count) way.whole entry.now) after.old.items after.new.items) }
 {
-    match way.refused_access(volume, block, count) {
-        Some(refusal) => follow_refusal(way, &refusal, entry, after),
-        None => Ok(()),
-    }
+    let refusal = way.refused_access(volume, block, count);
+    follow_must(way, refusal, entry, after)
 }
 
 /// Goes on behind an entry of a preset: there is a way where it is refused. Where it isn't, other lines are asked in its place.
@@ -74,8 +88,6 @@ pub(crate) fn follow_preset(
     requires { IsOpen way.whole }
     ensures { OnOk result (Came way.grain (MustBeRefused (preset_refused way.whole.books source.now) way.whole entry.now) after.old.items after.new.items) }
 {
-    match way.refused_preset(source) {
-        Some(refusal) => follow_refusal(way, &refusal, entry, after),
-        None => Ok(()),
-    }
+    let refusal = way.refused_preset(source);
+    follow_must(way, refusal, entry, after)
 }
