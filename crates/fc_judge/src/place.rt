@@ -19,9 +19,7 @@ fn lane_of_block(size: GrainSize, block: u64) -> Place {
 /// control part for an access or a preset that is refused, or a line that couldn't be read.
 pub(crate) fn place_of(size: GrainSize, request: &Request) -> Place {
     match request {
-        Request::Command(
-            Command::Read { .. } | Command::Write { .. } | Command::Mkpreset { .. },
-        )
+        Request::Command(Command::Read { .. } | Command::Write { .. } | Command::Mkpreset { .. })
         | Request::Unread(_) => Place::Control,
         Request::Command(_) => Place::Every,
         Request::Read(part) => lane_of_block(size, part.block),

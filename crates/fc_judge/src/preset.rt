@@ -1,6 +1,7 @@
 //! The lines that are asked in place of a preset, as text.
 
-use fc_base::command::Preset;
+use crate::made::Made;
+use fc_base::command::{Command, Preset};
 use fc_base::name::{Name, Ref};
 use fc_base::outcome::NoMemory;
 use std::alloc::Global;
@@ -60,45 +61,63 @@ impl LineText {
     }
 }
 
-/// Makes a volume of so many kb, which is thin for a snapshot.
-pub(crate) fn volume_text(
-    alloc: Global,
+/// A preset of a volume that is there.
+#[derive(Clone, Copy)]
+pub(crate) struct PresetOf<'a> {
+    source: &'a Ref,
     preset: Preset,
-    name: &Option<Name>,
+    name: &'a Option<Name>,
+    /// How large the source is, in kb.
     kib: u64,
-) -> Result<LineText, NoMemory> {
-    let line = LineText::of(alloc, "mkvdisk")?
-        .with_name(name)?
-        .with(b"-size")?
-        .with_number(kib)?
-        .with(b"-unit kb")?;
-    match preset {
-        Preset::Snapshot => line.with(b"-thin"),
-        Preset::Clone | Preset::Backup => Ok(line),
-    }
 }
 
-/// Makes a mapping from the source to the volume with this id.
-pub(crate) fn mapping_text(
-    alloc: Global,
-    source: &Ref,
-    preset: Preset,
-    name: &Option<Name>,
-    volume: u32,
-) -> Result<LineText, NoMemory> {
-    let line = LineText::of(alloc, "mkfcmap -source")?
-        .with_ref(source)?
-        .with(b"-target")?
-        .with_number(u64::from(volume))?
-        .with_name(name)?;
-    match preset {
-        Preset::Snapshot => line.with(b"-copyrate 0 -cleanrate 0"),
-        Preset::Clone => line.with(b"-copyrate 50 -autodelete"),
-        Preset::Backup => line.with(b"-copyrate 50 -incremental"),
+impl<'a> PresetOf<'a> {
+    /// The preset that a command asks for, where its source names a volume.
+    pub(crate) fn by(made: &Made, command: &'a Command) -> Option<PresetOf<'a>> {
+        match command {
+            Command::Mkpreset {
+                source,
+                preset,
+                name,
+            } => Some(PresetOf {
+                source,
+                preset: *preset,
+                name,
+                kib: made.kib_of(source)?,
+            }),
+            _ => None,
+        }
+    }
+
+    /// Makes a volume as large as the source, which is thin for a snapshot.
+    pub(crate) fn volume_line(self, alloc: Global) -> Result<LineText, NoMemory> {
+        let line = LineText::of(alloc, "mkvdisk")?
+            .with_name(self.name)?
+            .with(b"-size")?
+            .with_number(self.kib)?
+            .with(b"-unit kb")?;
+        match self.preset {
+            Preset::Snapshot => line.with(b"-thin"),
+            Preset::Clone | Preset::Backup => Ok(line),
+        }
+    }
+
+    /// Makes a mapping from the source to the volume with this id.
+    pub(crate) fn mapping_line(self, alloc: Global, volume: u32) -> Result<LineText, NoMemory> {
+        let line = LineText::of(alloc, "mkfcmap -source")?
+            .with_ref(self.source)?
+            .with(b"-target")?
+            .with_number(u64::from(volume))?
+            .with_name(self.name)?;
+        match self.preset {
+            Preset::Snapshot => line.with(b"-copyrate 0 -cleanrate 0"),
+            Preset::Clone => line.with(b"-copyrate 50 -autodelete"),
+            Preset::Backup => line.with(b"-copyrate 50 -incremental"),
+        }
     }
 }
 
 /// A line of these words on the mapping or the volume with this id.
-pub(crate) fn text_on(alloc: Global, words: &str, id: u32) -> Result<LineText, NoMemory> {
+pub(crate) fn line_on(alloc: Global, words: &str, id: u32) -> Result<LineText, NoMemory> {
     LineText::of(alloc, words)?.with_number(u64::from(id))
 }

@@ -4,11 +4,11 @@ use crate::asked::{Asked, AskedList};
 use crate::effects::effects_fit;
 use crate::made::Made;
 use crate::place::place_of;
-use crate::preset::{LineText, mapping_text, text_on, volume_text};
+use crate::preset::{LineText, PresetOf, line_on};
 use crate::replies::reply_fits;
 use crate::verdict::{Halt, Why};
-use fc_base::command::{Command, Line, Preset, ScriptLine};
-use fc_base::name::{Name, Ref};
+use fc_base::command::{Command, Line, ScriptLine};
+use fc_base::name::Name;
 use fc_base::outcome::NoMemory;
 use fc_base::request::{Effect, Reply, Request};
 use fc_base::size::GrainSize;
@@ -215,36 +215,31 @@ impl<'a> Walk<'a> {
         Ok(self.was_done())
     }
 
-    /// A preset of a volume of so many kb is answered: a new volume, a mapping to it and its start, each asked once the one before it
-    /// was made. Where one wasn't, what was made goes, the last of it first.
-    fn preset(
-        &mut self,
-        source: &Ref,
-        preset: Preset,
-        name: &Option<Name>,
-        kib: u64,
-    ) -> Result<(), Halt> {
+    /// A preset is answered: a new volume, a mapping to it and its start, each asked once the one before it was made. Where one wasn't,
+    /// what was made goes, the last of it first.
+    fn preset(&mut self, preset: PresetOf) -> Result<(), Halt> {
+        let alloc = self.alloc;
         let volume = self.made.volumes.next();
-        if !self.does(&volume_text(self.alloc, preset, name, kib)?)? {
+        if !self.does(&preset.volume_line(alloc)?)? {
             return Ok(());
         }
         let mapping = self.made.mappings.next();
-        if self.does(&mapping_text(self.alloc, source, preset, name, volume)?)? {
-            if self.does(&text_on(self.alloc, "startfcmap -prep", mapping)?)? {
+        if self.does(&preset.mapping_line(alloc, volume)?)? {
+            if self.does(&line_on(alloc, "startfcmap -prep", mapping)?)? {
                 return Ok(());
             }
-            self.does(&text_on(self.alloc, "rmfcmap", mapping)?)?;
+            self.does(&line_on(alloc, "rmfcmap", mapping)?)?;
         }
-        self.does(&text_on(self.alloc, "rmvdisk", volume)?)?;
+        self.does(&line_on(alloc, "rmvdisk", volume)?)?;
         Ok(())
     }
 
     /// A line outside of blocks is answered.
     pub(crate) fn line(&mut self, line: &ScriptLine) -> Result<(), Halt> {
-        if let ScriptLine::Read(Line::Command(Command::Mkpreset { source, preset, name })) = line
-            && let Some(kib) = self.made.kib_of(source)
+        if let ScriptLine::Read(Line::Command(command)) = line
+            && let Some(preset) = PresetOf::by(&self.made, command)
         {
-            return self.preset(source, *preset, name, kib);
+            return self.preset(preset);
         }
         let mut asked = AskedList::nothing(self.alloc);
         asked.add_line(&self.made, line)?;
