@@ -207,11 +207,7 @@ fn behind_preset<T: Told>(
 }
 
 /// What a command asks behind its last request: the seconds of `advance`, or the other lines of a preset.
-fn behind_command<T: Told>(
-    alloc: Global,
-    told: &T,
-    command: &Command,
-) -> Result<Behind, NoMemory>
+fn behind_command<T: Told>(alloc: Global, told: &T, command: &Command) -> Result<Behind, NoMemory>
     ensures { IfOk result (λ behind. behind ≡ behind_command (T.whole told.now).books command.now) }
 {
     match command {
@@ -226,11 +222,7 @@ fn behind_command<T: Told>(
 }
 
 /// What a line asks behind its last request, by the tables as they are told. Refused for want of memory alone.
-pub fn behind_line<T: Told>(
-    alloc: Global,
-    told: &T,
-    line: &ScriptLine,
-) -> Result<Behind, NoMemory>
+pub fn behind_line<T: Told>(alloc: Global, told: &T, line: &ScriptLine) -> Result<Behind, NoMemory>
     ensures { IfOk result (λ behind. behind ≡ script_behind (T.whole told.now).books line.now) }
 {
     match line {
