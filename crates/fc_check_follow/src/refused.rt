@@ -54,7 +54,8 @@ fn follow_must(
     after: &mut Vec<Record>,
 ) -> Result<(), NoMemory>
     requires { IsOpen way.whole }
-    ensures { OnOk result (Came way.grain (MustBeRefused refusal way.whole entry.now) after.old.items after.new.items) }
+    ensures { OnOk result (Came way.grain (MustBeRefused refusal way.whole entry.now)
+        after.old.items after.new.items) }
 {
     match refusal {
         Some(refusal) => follow_refusal(way, &refusal, entry, after),
@@ -86,7 +87,9 @@ pub(crate) fn follow_preset(
     after: &mut Vec<Record>,
 ) -> Result<(), NoMemory>
     requires { IsOpen way.whole }
-    ensures { OnOk result (Came way.grain (MustBeRefused (preset_refused way.whole.books source.now) way.whole entry.now) after.old.items after.new.items) }
+    ensures { OnOk result (Came way.grain
+        (MustBeRefused (preset_refused way.whole.books source.now) way.whole entry.now)
+        after.old.items after.new.items) }
 {
     let refusal = way.refused_preset(source);
     follow_must(way, refusal, entry, after)

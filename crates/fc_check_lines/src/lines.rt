@@ -84,8 +84,9 @@ impl<'a> Model for Lines<'a> {
 
 /// What a line outside of blocks asks.
 fn begin_line<T: Told>(alloc: Global, told: &T, line: &ScriptLine) -> Result<Asking, NoMemory>
-    ensures { IfOk result (λ asking. asking
-        ≡ Asking.Own (line_asked (T.grain told.now) (T.whole told.now).books line.now) (script_behind (T.whole told.now).books line.now)) }
+    ensures { IfOk result (λ asking. asking ≡ Asking.Own
+        (line_asked (T.grain told.now) (T.whole told.now).books line.now)
+        (script_behind (T.whole told.now).books line.now)) }
 {
     let mut requests = Requests::new(alloc);
     push_line(alloc, told, line, &mut requests)?;
@@ -232,7 +233,8 @@ fn begin_seconds<T: Told>(
     seconds: u32,
     reply: &Reply,
 ) -> Result<Asking, NoMemory>
-    ensures { IfOk result (λ left. IsLeftOfLine (T.whole told.now) reply.now (Behind.Passing seconds) left) }
+    ensures { IfOk result (λ left.
+        IsLeftOfLine (T.whole told.now) reply.now (Behind.Passing seconds) left) }
 {
     if !is_done(reply) {
         return Ok(Asking::Nothing);
@@ -243,7 +245,8 @@ fn begin_seconds<T: Told>(
 
 /// These commands as requests.
 fn requests_of(alloc: Global, commands: Vec<Command>) -> Result<Requests, NoMemory>
-    ensures { IfOk result (λ requests. requests ≡ map (λ (command : Command). CommandAsked command) commands.items) }
+    ensures { IfOk result (λ requests.
+        requests ≡ map (λ (command : Command). CommandAsked command) commands.items) }
 {
     let mut requests = Requests::new(alloc);
     for command in commands {
@@ -254,7 +257,8 @@ fn requests_of(alloc: Global, commands: Vec<Command>) -> Result<Requests, NoMemo
 
 /// A line asks more behind its last request, by what that was answered.
 fn ask_more(alloc: Global, behind: Behind, reply: &Reply) -> Result<Asking, NoMemory>
-    ensures { IfOk result (λ left. left ≡ Asking.Own (asked_behind behind reply.now).0 (asked_behind behind reply.now).1) }
+    ensures { IfOk result (λ left. left
+        ≡ Asking.Own (asked_behind behind reply.now).0 (asked_behind behind reply.now).1) }
 {
     let coming = asked_behind(alloc, behind, reply)?;
     let requests = requests_of(alloc, coming.commands)?;

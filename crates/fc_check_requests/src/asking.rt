@@ -111,7 +111,8 @@ fn push_preset<T: Told>(
     requests: &mut Requests,
 ) -> Result<(), NoMemory>
     requires { command.now ≡ Command.Mkpreset source.now preset name.now }
-    ensures { OnOk result (requests.new ≡ requests.old ++ command_asked (T.grain told.now) (T.whole told.now).books command.now) }
+    ensures { OnOk result (requests.new
+        ≡ requests.old ++ command_asked (T.grain told.now) (T.whole told.now).books command.now) }
 {
     match told.registry().volume(source) {
         Some(found) => {
@@ -190,7 +191,9 @@ fn behind_preset<T: Told>(
     preset: Preset,
     name: &Option<Name>,
 ) -> Result<Behind, NoMemory>
-    ensures { IfOk result (λ behind. behind ≡ behind_preset source.now preset name.now (volume_named (T.whole told.now).books.tables source.now)) }
+    ensures { IfOk result (λ behind. behind
+        ≡ behind_preset source.now preset name.now
+            (volume_named (T.whole told.now).books.tables source.now)) }
 {
     match told.registry().volume(source) {
         Some(_) => {
