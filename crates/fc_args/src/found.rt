@@ -1,10 +1,9 @@
 //! What is asked for by the matches of a parse.
 
-ghost use Rattle.std.specs.Prelude.{◌≡◌, ◌+◌, ◌&&◌, if◌then◌else◌, Some, None, is_some, unwrap_or, option_map, option_and_then};
+ghost use Rattle.std.specs.Prelude.{◌≡◌, ◌+◌, ◌&&◌, if◌then◌else◌, Some, None, is_some, unwrap_or, option_map};
 ghost use Rattle.clap.specs.Words.{first_of, found_of, rows_of, subcommand_rows_of};
 ghost use Rattle.fc_words.specs.Values.{grain_size_of};
-ghost use Rattle.fc_args.specs.Grammar.{number_within, drill_number, cache_parts, options_of_words, read_if_given, stop_call};
-ghost use Rattle.fc_args.specs.declared.asked.Asked.TheVariants.{Run, Drill, Stop};
+ghost use Rattle.fc_args.specs.Grammar.{number_within, drill_number, cache_parts, options_of_words, read_if_given};
 ghost use Rattle.fc_args.specs.Matches.{given_in, is_true, command_in, found_in};
 
 use crate::asked::{Asked, RunOptions};
@@ -125,48 +124,24 @@ fn options_in(matches: &ArgMatches<'_>) -> Option<RunOptions>
     }
 }
 
-/// A run, by its matches.
-fn run_in(matches: &ArgMatches<'_>) -> Option<Asked>
-    ensures { result ≡ option_map Run (options_of_words (given_in (rows_of (found_of matches.now)))) }
-{
-    match options_in(matches) {
-        Some(options) => Some(Asked::Run(options)),
-        None => None,
-    }
-}
-
-/// A drill, by the word of its number.
-fn drill_of(word: Option<&str>) -> Option<Asked>
-    ensures { result ≡ option_map Drill (option_and_then drill_number (option_map (λ word. word.now) word.entry)) }
-{
-    match number(word?) {
-        Some(number) => Some(Asked::Drill(number)),
-        None => None,
-    }
-}
-
-/// A stop, by the word of its call.
-fn stop_of(word: Option<&str>) -> Option<Asked>
-    ensures { result ≡ option_map Stop (option_and_then stop_call (option_map (λ word. word.now) word.entry)) }
-{
-    match number_from_one(word?, u32::MAX) {
-        Some(call) => Some(Asked::Stop(call)),
-        None => None,
-    }
-}
-
 /// What is asked for, by the name of the command and its matches.
 fn command_in(name: &str, matches: &ArgMatches<'_>) -> Option<Asked>
     ensures { result ≡ command_in name.now (rows_of (found_of matches.now)) }
 {
     if name == "run" {
-        run_in(matches)
+        options_in(matches).map(Asked::Run)
     } else if name == "drill" {
-        drill_of(word_of(matches, "number"))
+        match word_of(matches, "number") {
+            Some(word) => number(word).map(Asked::Drill),
+            None => None,
+        }
     } else if name == "check" {
         Some(Asked::Check)
     } else if name == "stop" {
-        stop_of(word_of(matches, "number"))
+        match word_of(matches, "number") {
+            Some(word) => number_from_one(word, u32::MAX).map(Asked::Stop),
+            None => None,
+        }
     } else {
         None
     }

@@ -4,7 +4,7 @@ ghost use Rattle.std.specs.Prelude.{◌≡◌, length, nat_le, ◌∷◌, ◌++�
 ghost use Rattle.std.specs.List.{list_any};
 ghost use Rattle.std.specs.Str.{bytes_eq};
 ghost use Rattle.fc_blocks.specs.ActorLines.{actor_words};
-ghost use Rattle.fc_blocks.specs.Blocks.{all_actors, belongs, block_step, faulty_line, has_lines, name_is_used, just_opened, name_fault, next_actor, scope_in, scope_under, to_main, whole, with_next_actor, without_actor};
+ghost use Rattle.fc_blocks.specs.Blocks.{all_actors, belongs, block_step, faulty_line, has_lines, name_is_used, just_opened, name_fault, next_actor, scope_in, scope_under, to_main, whole, with_next_actor, without_actor, Opened};
 ghost use Rattle.fc_blocks.specs.Reading.{LeavesBlock};
 
 use crate::actor_line::{actor_name, actor_part};
@@ -73,13 +73,22 @@ fn have_name(actors: &[ActorRead], name: &[u8]) -> bool
     actors.iter().any(|actor| has_name(actor, name))
 }
 
-/// The actor at hand joins those before it. There is room for it.
-fn put_aside(before: &mut Vec<ActorRead>, actor: &mut Option<ActorRead>)
-    requires { vec_len before.old < vec_capacity before.old }
-    ensures joined { before.new.items ≡ before.old.items ++ option_to_list actor.old }
-    ensures gone { actor.new ≡ None }
+/// The fault of a line, where it is faulty.
+fn fault_in(line: &ScriptLine) -> Option<WordFault>
+    ensures { MatchOption result ((b : Opened) → to_main b line.now ≡ b) (λ fault. line.now ≡ ScriptLine.Unread fault) }
 {
-    if let Some(actor) = actor.take() {
+    match line {
+        ScriptLine::Unread(fault) => Some(*fault),
+        ScriptLine::Read(_) => None,
+    }
+}
+
+/// The actor that was at hand joins those before it. There is room for it.
+fn put_aside(before: &mut Vec<ActorRead>, actor: Option<ActorRead>)
+    requires { vec_len before.old < vec_capacity before.old }
+    ensures { before.new.items ≡ before.old.items ++ option_to_list actor }
+{
+    if let Some(actor) = actor {
         before.push_reserved(actor);
     }
 }
@@ -149,9 +158,11 @@ impl OpenBlock {
         ensures ok { OnOk result (self.new ≡ to_main self.old line) }
         ensures err { OnErr result (self.new ≡ self.old) }
     {
-        match line {
-            ScriptLine::Unread(fault) => self.faults.push(fault),
-            ScriptLine::Read(_) => Ok(()),
+        let fault = fault_in(&line);
+        drop(line);
+        match fault {
+            Some(fault) => self.faults.push(fault),
+            None => Ok(()),
         }
     }
 
@@ -176,7 +187,7 @@ impl OpenBlock {
         }
         match self.faults.push(fault) {
             Ok(()) => {
-                put_aside(&mut self.before, &mut self.actor);
+                put_aside(&mut self.before, self.actor.take());
                 Ok(())
             }
             Err(refused) => Err(refused),
@@ -191,12 +202,12 @@ impl OpenBlock {
         if self.before.reserve(1).is_err() {
             return Err(NoMemory);
         }
-        put_aside(&mut self.before, &mut self.actor);
-        self.actor = Some(ActorRead {
+        let next = ActorRead {
             name,
             role,
             lines: List::new(alloc),
-        });
+        };
+        put_aside(&mut self.before, self.actor.replace(next));
         Ok(())
     }
 
@@ -256,7 +267,7 @@ impl OpenBlock {
         if self.before.reserve(1).is_err() {
             return Err(NoMemory);
         }
-        put_aside(&mut self.before, &mut self.actor);
+        put_aside(&mut self.before, self.actor.take());
         let faults = mem::replace(&mut self.faults, List::new(alloc));
         let actors = mem::replace(&mut self.before, Vec::new(alloc));
         Ok(BlockRead {

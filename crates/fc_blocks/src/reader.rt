@@ -13,6 +13,7 @@ use fc_words::line::read_line;
 use fc_words::refused::WordRefused;
 use std::alloc::Global;
 use std::marker::Model;
+use std::mem;
 
 /// The reader of blocks. Contracts see the block that is open.
 #[derive(Drop)]
@@ -55,6 +56,13 @@ impl BlockReader {
         self.read_one(alloc, line)
     }
 
+    /// Leaves this block open, or none.
+    fn leave(&mut self, open_block: Option<OpenBlock>)
+        ensures { self.new ≡ open_block }
+    {
+        drop(mem::replace(&mut self.open_block, open_block));
+    }
+
     /// Takes the next line.
     #[tactic(auto, unfolding(crate::specs::Segments::line_cut))]
     fn read_one(&mut self, alloc: Global, line: &[u8]) -> Result<Taken, NoMemory>
@@ -69,7 +77,7 @@ impl BlockReader {
                     return Ok(Taken::Nothing);
                 }
                 let block = block.close(alloc)?;
-                self.open_block = None;
+                self.leave(None);
                 Ok(Taken::Block(block))
             }
         }
@@ -85,7 +93,7 @@ impl BlockReader {
     {
         match read_line(alloc, line, Scope::Free) {
             Ok(Line::Together) => {
-                self.open_block = Some(OpenBlock::new(alloc));
+                self.leave(Some(OpenBlock::new(alloc)));
                 Ok(Taken::Nothing)
             }
             Ok(other) => Ok(Taken::Single(ScriptLine::Read(other))),

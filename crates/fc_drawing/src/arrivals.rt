@@ -36,10 +36,7 @@ pub struct Arrivals {
 impl Drop for Arrivals {
     // Written out, so that a function that drops it has one call for all of it in its proof.
     fn drop(self) {
-        let Arrivals {
-            all: _,
-            latest: _,
-        } = self;
+        let Arrivals { all: _, latest: _ } = self;
     }
 }
 

@@ -47,10 +47,7 @@ pub(crate) struct Index {
 impl Drop for Index {
     // Written out, so that a function that drops it has one call for all of it in its proof.
     fn drop(self) {
-        let Index {
-            by: _,
-            entries: _,
-        } = self;
+        let Index { by: _, entries: _ } = self;
     }
 }
 

@@ -87,11 +87,7 @@ fn take_any_word(bytes: &[u8]) -> Result<(usize, &[u8]), Malformed>
 }
 
 /// Takes what stands behind the word of a line of any kind, which is told by its number.
-fn take_behind_word(
-    alloc: Global,
-    word: usize,
-    bytes: &[u8],
-) -> Result<(Note, &[u8]), ReadStop>
+fn take_behind_word(alloc: Global, word: usize, bytes: &[u8]) -> Result<(Note, &[u8]), ReadStop>
     ensures { ReadsOr (λ found. (found.0, found.1.now)) result (any_note_at word bytes.now) }
 {
     match word {

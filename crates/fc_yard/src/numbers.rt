@@ -75,13 +75,7 @@ impl<W, E, P: Part<W, E>> Yard<W, E, P> {
         ensures number { IsNext pass.old.view result }
     {
         let deed = Stall::Deed(Snapshot::of(entry), Snapshot::of(value));
-        draw_for(
-            &self.table.shared,
-            &mut pass.seat,
-            part,
-            self.parts,
-            deed,
-        )
+        draw_for(&self.table.shared, &mut pass.seat, part, self.parts, deed)
     }
 
     /// Draws the next number, for an entry by which all parts became these values, in order. The pass holds every part. Costs a
@@ -99,12 +93,6 @@ impl<W, E, P: Part<W, E>> Yard<W, E, P> {
         ensures number { IsNext pass.old.view result }
     {
         let deeds = Stall::Deeds(Snapshot::of(entry), Snapshot::of(values));
-        draw_for(
-            &self.table.shared,
-            &mut pass.seat,
-            0,
-            self.parts,
-            deeds,
-        )
+        draw_for(&self.table.shared, &mut pass.seat, 0, self.parts, deeds)
     }
 }

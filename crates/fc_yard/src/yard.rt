@@ -9,8 +9,7 @@ use std::alloc::Global;
 use std::marker::Model;
 
 /// The table with its memory.
-pub(crate) type Hall<W, E, P> =
-    Table<Stall<P, E>, View<P, E>, Terms<P>, Turns<W>, Global>;
+pub(crate) type Hall<W, E, P> = Table<Stall<P, E>, View<P, E>, Terms<P>, Turns<W>, Global>;
 
 /// The table as the calls below use it.
 pub(crate) type Shelf<W, E, P> = Shared<Stall<P, E>, View<P, E>, Terms<P>, Turns<W>>;

@@ -30,7 +30,7 @@ pub returns-clause-drawn : goal.returns-clause-drawn
 returns-clause-drawn g c =
     let seat = c.pass.inside.seat in let now = c.draw_for.new.seat in
     let drawn = drawn_all (Knows g.P.Part.fits g.P.Part.sound g.P.Part.count g.P.Part.steps) seat.me now.me c.draw_for.result c.of-2.result.value.items c.args.values.now.items c.of.result.value c.args.entry.now
-        (ap (λ x. x.items) c.of-2.ensures) c.of.ensures c.draw_for.ensures.seat.1 in
+    (ap (λ x. x.items) c.of-2.ensures) c.of.ensures c.draw_for.ensures.seat.1 in
     becomes (λ v. drew_all v c.args.values.now.items c.draw_for.result c.args.entry.now) seat.table_id now.table_id seat.me now.me c.args.pass.now c.pass.view_is c.draw_for.ensures.seat.0.0 (view_of now.me _ drawn.0)
 
 pub returns-clause-knows : goal.returns-clause-knows
