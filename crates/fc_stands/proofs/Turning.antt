@@ -118,6 +118,9 @@ by_request grain w entry (Asked (command.Read volume block count)) refusal is re
 by_request grain w entry (Asked (command.Write volume block count byte)) refusal is refused =
     let P : Option Refusal → Type 0 = λ o. MustBeRefused o w entry (one_more w) in
     subst P (sym is) refused
+by_request grain w entry (Asked (command.Mkpreset source preset name)) refusal is refused =
+    let P : Option Refusal → Type 0 = λ o. MustBeRefused o w entry (one_more w) in
+    subst P (sym is) refused
 by_request grain w entry (Unread fault) refusal is refused =
     let P : Refusal → Type 0 = λ r. IsRefused r w entry (one_more w) in
     subst P is refused

@@ -2,14 +2,14 @@
 use Rattle.std.proofs.Common.{◌≡◌, ℕ, ◌+◌, List, [], ◌∷◌, ◌++◌, length, Option, Some, None, refl, ◌∙◌, ap, arith}
 use Rattle.std.proofs.lemmas.List.{length-set}
 use Rattle.fc_base.specs.declared.command.Command.{Command}
-use Rattle.fc_base.specs.declared.command.Command.TheVariants.{Mkvdisk, Rmvdisk, Write as WriteLine, Read as ReadLine, Armfault, Advance, Mkfcmap, Prestartfcmap, Startfcmap, Stopfcmap, Rmfcmap, Mkfcconsistgrp, Prestartfcconsistgrp, Startfcconsistgrp, Stopfcconsistgrp, Rmfcconsistgrp, Lsfcmap, Lsfcconsistgrp, Lsvdisk, Lsfcmapprogress, Lsfcmapdependentmaps}
+use Rattle.fc_base.specs.declared.command.Command.TheVariants.{Mkvdisk, Rmvdisk, Write as WriteLine, Read as ReadLine, Armfault, Advance, Mkfcmap, Prestartfcmap, Startfcmap, Stopfcmap, Rmfcmap, Mkfcconsistgrp, Prestartfcconsistgrp, Startfcconsistgrp, Stopfcconsistgrp, Rmfcconsistgrp, Lsfcmap, Lsfcconsistgrp, Lsvdisk, Lsfcmapprogress, Lsfcmapdependentmaps, Mkpreset}
 use Rattle.fc_base.specs.declared.fault.Refusal.{Refusal}
 use Rattle.fc_base.specs.declared.request.Effect.{Effect}
 use Rattle.fc_base.specs.declared.request.Reply.{Reply}
 use Rattle.fc_base.specs.declared.request.Request.{Request}
 use Rattle.fc_base.specs.declared.request.Request.TheVariants.{Command as Asked, Unread, Read, Write, Copy, Clean, CopyTurn, CleanTurn}
 use Rattle.fc_base.specs.declared.size.GrainSize.{GrainSize}
-use Rattle.fc_books.specs.Refused.{access_refused}
+use Rattle.fc_books.specs.Refused.{access_refused, preset_refused}
 use Rattle.fc_entry.specs.Picture.{grain_of_block}
 use Rattle.fc_entry.specs.declared.entry.Entry.{Entry}
 use Rattle.fc_legal.specs.Legal.{AreSteps, IsLegal}
@@ -62,6 +62,7 @@ command_keeps grain w (ReadLine volume block count) entry next step =
     refused_keeps (access_refused grain w.books volume block count) w entry next step
 command_keeps grain w (WriteLine volume block count byte) entry next step =
     refused_keeps (access_refused grain w.books volume block count) w entry next step
+command_keeps grain w (Mkpreset source preset name) entry next step = refused_keeps (preset_refused w.books source) w entry next step
 command_keeps grain w (Mkvdisk name size unit thin) entry next step = decided_keeps grain w (Mkvdisk name size unit thin) entry next step
 command_keeps grain w (Rmvdisk volume) entry next step = decided_keeps grain w (Rmvdisk volume) entry next step
 command_keeps grain w (Armfault volume number calls) entry next step = decided_keeps grain w (Armfault volume number calls) entry next step

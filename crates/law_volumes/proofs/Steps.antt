@@ -1,7 +1,7 @@
 -- An entry that is right keeps the volumes, but for `mkvdisk` and `rmvdisk`.
 use Rattle.std.proofs.Common.{◌≡◌, ℕ, Bool, false, List, Option, Some, None, refl, ap, ◌∙◌}
 use Rattle.fc_base.specs.declared.command.Command.{Command}
-use Rattle.fc_base.specs.declared.command.Command.TheVariants.{Read as ReadLine, Write as WriteLine}
+use Rattle.fc_base.specs.declared.command.Command.TheVariants.{Read as ReadLine, Write as WriteLine, Mkpreset}
 use Rattle.fc_base.specs.declared.fault.Refusal.{Refusal}
 use Rattle.fc_base.specs.declared.fault.Refusal.TheVariants.{Words}
 use Rattle.fc_base.specs.declared.request.Effect.{Effect}
@@ -10,7 +10,7 @@ use Rattle.fc_base.specs.declared.request.Request.{Request}
 use Rattle.fc_base.specs.declared.request.Request.TheVariants.{Command as Asked, Unread, Read, Write, Copy, Clean, CopyTurn, CleanTurn}
 use Rattle.fc_base.specs.declared.size.GrainSize.{GrainSize}
 use Rattle.fc_base.specs.declared.volume.Volume.{Volume}
-use Rattle.fc_books.specs.Refused.{access_refused}
+use Rattle.fc_books.specs.Refused.{access_refused, preset_refused}
 use Rattle.fc_entry.specs.declared.entry.Entry.{Entry}
 use Rattle.fc_follow.specs.Following.{restarts}
 use Rattle.fc_legal.specs.Steps.{IsRefused, MustBeRefused, CommandLeft, CommandStep, CommandIsRight, LaneStep, RequestStep, after_settling}
@@ -54,6 +54,7 @@ asked_keeps : (grain : GrainSize) (w : Whole) (command : Command) (entry : Entry
     CommandIsRight grain w command entry next → volumes next ≡ volumes w
 asked_keeps grain w (ReadLine volume block count) entry next other right = access_keeps (access_refused grain w.books volume block count) w entry next right
 asked_keeps grain w (WriteLine volume block count byte) entry next other right = access_keeps (access_refused grain w.books volume block count) w entry next right
+asked_keeps grain w (Mkpreset source preset name) entry next other right = access_keeps (preset_refused w.books source) w entry next right
 asked_keeps grain w command entry next other right = command_keeps grain w command entry next other right
 
 -- ---- lanes

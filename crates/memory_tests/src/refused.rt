@@ -4,7 +4,7 @@ use crate::answers::is_right;
 use crate::sessions::{DISKS, run_flat, run_thin};
 use session_runs::sessions::Outcome;
 use session_runs::texts::{
-    COMPLETE_STOPPED, FIRST_VOLUME, INCREMENTAL, STARTED_AGAIN, Session, THIN_WRITTEN,
+    COMPLETE_STOPPED, FIRST_VOLUME, INCREMENTAL, SNAPSHOTS, STARTED_AGAIN, Session, THIN_WRITTEN,
 };
 use std::alloc::AllocError;
 use std::process::Abort;
@@ -44,4 +44,9 @@ fn an_incremental_copy(rt: HostRuntime) {
 #[test]
 fn thin_volumes(rt: HostRuntime) {
     passes(&rt, run_thin(&rt, rt.alloc(), THIN_WRITTEN), THIN_WRITTEN);
+}
+
+#[test]
+fn snapshots(rt: HostRuntime) {
+    passes(&rt, run_thin(&rt, rt.alloc(), SNAPSHOTS), SNAPSHOTS);
 }

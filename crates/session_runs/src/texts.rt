@@ -214,6 +214,36 @@ read B 0 1
 ",
 };
 
+/// A snapshot is taken and read; another is undone, since its mapping's name is taken; and a third is refused.
+pub const SNAPSHOTS: Session = Session {
+    grain: "64",
+    lines: b"mkvdisk -name A -size 128 -unit kb -thin
+write A 0 1 11
+mkpreset -source A -preset snapshot
+write A 0 1 22
+read vdisk1 0 1
+mkpreset -source A -preset snapshot -name fcmap0
+mkpreset -source B -preset snapshot
+lsvdisk -delim :
+",
+    text: b"0 main mkvdisk -name A -size 128 -unit kb -thin -> Virtual Disk, id [0], successfully created
+1 main write 0 0 1 11 -> ok
+2 main mkvdisk -size 128 -unit kb -thin -> Virtual Disk, id [1], successfully created
+3 main mkfcmap -source A -target 1 -copyrate 0 -cleanrate 0 -> FlashCopy Mapping, id [0], successfully created
+4 main startfcmap -prep 0 -> ok
+5 main write 0 0 1 22 -> ok
+6 main read 1 0 1 -> data 512*11
+7 main mkvdisk -name fcmap0 -size 128 -unit kb -thin -> Virtual Disk, id [2], successfully created
+8 main mkfcmap -source A -target 2 -name fcmap0 -copyrate 0 -cleanrate 0 -> refused name taken 0
+9 main rmvdisk 2 -> ok
+10 main mkpreset -source B -preset snapshot -> refused no such vdisk
+11 main lsvdisk -delim : -> rows 3
+id:name:status:capacity:fc_map_count
+0:A:online:131072:1
+1:vdisk1:online:131072:1
+",
+};
+
 /// An incremental copy is done, both volumes are written, and it is started again.
 pub const INCREMENTAL: Session = Session {
     grain: "64",
