@@ -5,6 +5,7 @@ pub mod Lost
 pub mod Found
 pub mod Noting
 pub mod Moving
+pub mod Folding
 pub mod Making
 pub mod Owning
 pub mod Answering

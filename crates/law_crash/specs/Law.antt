@@ -54,15 +54,15 @@ pub record CrashLaw : Type 0 where
   -- and no volume shows the data of a move before its record, whatever they are
   pub shows_not : (s : Sheet) (g k : ℕ) (content : Content) (v : PlainVolume) → IsSound s → IsSafeMove (column s.slots g) k →
       is_in_place (column s.slots g) k ≡ false → (another (column s.slots g) k g content v).now ≡ v.now
-  -- whatever a stop finds may be recovered
+  -- whatever a stop finds may be recovered, in folds too
   pub recovers : (grain : GrainSize) (w : Whole) (least : List Row) (request : Request) (steps : List DiskStep) (p q : Point) (one : Option Another) →
       Begins grain w least request steps p →
-      Finds grain w request (actions_of_steps p.kept.rows (number_of grain request) steps) p one q →
+      Finds grain w request w.books.sheet (actions_of_steps p.kept.rows (number_of grain request) steps) p one q →
       Recoverable grain q.disks q.kept w least (Some request) one
   -- behind all actions the disks stand for what the history leads to with the entry
   pub stands : (grain : GrainSize) (w : Whole) (least : List Row) (request : Request) (steps : List DiskStep) (p q : Point) (entry : Entry) (i : ℕ) →
       Begins grain w least request steps p →
-      Did grain w request (actions_of_steps p.kept.rows (number_of grain request) steps) p q →
+      Did grain w request w.books.sheet (actions_of_steps p.kept.rows (number_of grain request) steps) p q →
       Tells request (asked_write request) steps None entry →
       StandsFor grain (after_access grain w i entry) (least_entry (single_lane grain) least entry) q
   -- so they do behind a step that stopped
@@ -76,7 +76,7 @@ pub record CrashLaw : Type 0 where
       Step grain w entry next →
       LeastStep grain w least entry.request entry next least' →
       StandsFor grain w least p → StandsFor grain next least' q →
-      IsFound p one x ⊎ IsFound q one x →
+      IsFound w.books.sheet p one x ⊎ IsFound next.books.sheet q one x →
       Recoverable grain x.disks x.kept w least (Some entry.request) one
   -- and what it leaves, with metadata made anew over the same disks, stands for the history with its entry, if they fit its tables
   pub leaves : (grain : GrainSize) (decisions : ℕ) (w left : Whole) (least least' : List Row) (command : Command) (p : Point) (kept : Kept) →

@@ -43,7 +43,7 @@ pub data Does (grain : GrainSize) (w : Whole) (least : List Row) (p : Point) (en
       Does grain w least p entry (after_access grain w i entry) (least_entry (single_lane grain) least entry) p
   -- all steps of an access are done
   whole : (i : ℕ) (work : Request) (steps : List DiskStep) (q : Point) → Takes entry.request work → IsInVolume grain w work →
-      AreStepsOf grain w work steps → Did grain w work (actions_of_steps p.kept.rows (number_of grain work) steps) p q →
+      AreStepsOf grain w work steps → Did grain w work w.books.sheet (actions_of_steps p.kept.rows (number_of grain work) steps) p q →
       Tells entry.request (asked_write entry.request) steps None entry →
       Does grain w least p entry (after_access grain w i entry) (least_entry (single_lane grain) least entry) q
   -- or one of them stopped
@@ -71,7 +71,7 @@ pub data Run (grain : GrainSize) (w : Whole) (least : List Row) (p : Point) : Li
 pub data Stops (grain : GrainSize) (w : Whole) (least : List Row) (p : Point) : Request → Option Another → Point → Type 0 where
   before : (request : Request) → Stops grain w least p request None p
   within : (request : Request) (steps : List DiskStep) (one : Option Another) (q : Point) → IsInVolume grain w request →
-      AreStepsOf grain w request steps → Finds grain w request (actions_of_steps p.kept.rows (number_of grain request) steps) p one q →
+      AreStepsOf grain w request steps → Finds grain w request w.books.sheet (actions_of_steps p.kept.rows (number_of grain request) steps) p one q →
       Stops grain w least p request one q
   behind : (command : Command) (entry : Entry) (left : Whole) (least' : List Row) (kept : Kept) → entry.request ≡ Asked command →
       Step grain w entry (one_more left) → Leaves grain w least p.kept command left least' kept → AreFit grain left p.disks →
