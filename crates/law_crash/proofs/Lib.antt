@@ -15,6 +15,7 @@ pub mod Stopping
 pub mod Opening
 pub mod Ending
 pub mod Coming
+pub mod Fitting
 pub mod Leaving
 pub mod Running
 pub mod Whole

@@ -199,8 +199,8 @@ module _ (grain : GrainSize) (w : Whole) (least : List Row) (p : Point) (few : w
     access_alike grain w i entry told.no_effects on.alike,
     stopped_unnamed grain w (after_access grain w i entry) work p.kept.rows front step torn p z x on.unnamed,
   )
-  does_stand entry next least' q (commanded command left rows kept e leaves fit) =
-      let x = leaves_all grain (2 * w.entries) w left least rows command p kept (omega (arith, few)) on st leaves fit in
+  does_stand entry next least' q (commanded command left rows kept e have leaves) =
+      let x = leaves_all grain (2 * w.entries) w left least rows command p kept (omega (arith, few)) on st have leaves in
       (x.0, x.1.alike, x.1.unnamed)
 
 -- ---- disks get other names
@@ -283,8 +283,8 @@ stop_recovers : (grain : GrainSize) (w : Whole) (least : List Row) (p : Point) (
 stop_recovers grain w least p request one q few st on (before r) = rests grain w least (Some r) p st
 stop_recovers grain w least p request one q few st on (within r steps other z inside are finds) =
     all_found grain w least r steps p z other (begins grain w least p few st on r steps inside are) finds
-stop_recovers grain w least p request one q few st on (behind command entry left rows kept e step leaves fit) =
-    let x = leaves_all grain (2 * w.entries) w left least rows command p kept (omega (arith, few)) on st leaves fit in
+stop_recovers grain w least p request one q few st on (behind command entry left rows kept e step have leaves) =
+    let x = leaves_all grain (2 * w.entries) w left least rows command p kept (omega (arith, few)) on st have leaves in
     let y : Point = record p { kept = kept } in
     turned grain w (one_more left) least rows entry p y y None step
     (least_step grain w left least rows command entry entry.request e (least_left grain w least p.kept command left rows kept leaves)) st x.0 (inr (refl, refl, inl refl))

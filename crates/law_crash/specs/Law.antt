@@ -27,7 +27,7 @@ use Rattle.fc_kept.specs.OneGrain.{Another, another}
 use Rattle.fc_kept.specs.Prefix.{AreStepsOf}
 use Rattle.fc_kept.specs.Recoverable.{Recoverable}
 use Rattle.law_crash.specs.Points.{Point, StandsFor, stored_by, nothing_kept}
-use Rattle.law_crash.specs.Leaving.{AreFit, AreUnnamed, GoesOn, Leaves}
+use Rattle.law_crash.specs.Leaving.{AreUnnamed, GoesOn, HaveTheirDisks, Leaves}
 use Rattle.law_crash.specs.Running.{Run, Stops}
 use Rattle.law_crash.specs.Doing.{number_of, actions_of_steps, Did, IsFound, Finds, Stopped, Tells}
 
@@ -78,10 +78,11 @@ pub record CrashLaw : Type 0 where
       StandsFor grain w least p → StandsFor grain next least' q →
       IsFound w.books.sheet p one x ⊎ IsFound next.books.sheet q one x →
       Recoverable grain x.disks x.kept w least (Some entry.request) one
-  -- and what it leaves, with metadata made anew over the same disks, stands for the history with its entry, if they fit its tables
+  -- and what it leaves, with metadata made anew over the same disks, stands for the history with its entry, where each volume had its
+  -- disk before it, and as many disks are free as the pools say: so they fit the tables that it leaves
   pub leaves : (grain : GrainSize) (decisions : ℕ) (w left : Whole) (least least' : List Row) (command : Command) (p : Point) (kept : Kept) →
       decisions + 4 < 2 ^ 32 → GoesOn decisions w p.disks → StandsFor grain w least p →
-      Leaves grain w least p.kept command left least' kept → AreFit grain left p.disks →
+      HaveTheirDisks w p.disks → Leaves grain w least p.kept command left least' kept →
       StandsFor grain (one_more left) least' (record p { kept = kept }) × GoesOn (decisions + 2) (one_more left) p.disks
   -- so all entries of a history stand, one after the other, with what is done to the disks
   pub runs : (grain : GrainSize) (pools : List Pool) (disks : List (List NamedDisk)) (entries : List Entry) (w : Whole) (least : List Row) (p : Point) →

@@ -19,7 +19,7 @@ use Rattle.fc_kept.specs.OneGrain.{Another}
 use Rattle.fc_kept.specs.Prefix.{AreStepsOf}
 use Rattle.law_crash.specs.Points.{Point, on_disks}
 use Rattle.law_crash.specs.Doing.{number_of, actions_of_steps, with_disks, Did, Finds, Stopped, Tells}
-use Rattle.law_crash.specs.Leaving.{AreFit, AreUnnamed, Leaves}
+use Rattle.law_crash.specs.Leaving.{AreFit, AreUnnamed, HaveTheirDisks, Leaves}
 
 -- Between two entries disks may get the names of volumes that came, and lose those of volumes that went: each volume's stay as they are.
 pub record StayAs (grain : GrainSize) (w : Whole) (old new : List (List NamedDisk)) : Type 0 where
@@ -51,9 +51,9 @@ pub data Does (grain : GrainSize) (w : Whole) (least : List Row) (p : Point) (en
       Takes entry.request work → IsInVolume grain w work → AreStepsOf grain w work (front ++ step ∷ back) → Stopped grain w work p.kept.rows front step torn p q →
       Tells entry.request None front torn entry →
       Does grain w least p entry (after_access grain w i entry) (least_entry (single_lane grain) least entry) q
-  -- a command has metadata made anew
+  -- a command has metadata made anew, where each volume has its disk
   commanded : (command : Command) (left : Whole) (least' : List Row) (kept : Kept) → entry.request ≡ Asked command →
-      Leaves grain w least p.kept command left least' kept → AreFit grain left p.disks →
+      HaveTheirDisks w p.disks → Leaves grain w least p.kept command left least' kept →
       Does grain w least p entry (one_more left) least' (record p { kept = kept })
 
 -- Right entries, each done on what the last one left.
@@ -74,5 +74,5 @@ pub data Stops (grain : GrainSize) (w : Whole) (least : List Row) (p : Point) : 
       AreStepsOf grain w request steps → Finds grain w request w.books.sheet (actions_of_steps p.kept.rows (number_of grain request) steps) p one q →
       Stops grain w least p request one q
   behind : (command : Command) (entry : Entry) (left : Whole) (least' : List Row) (kept : Kept) → entry.request ≡ Asked command →
-      Step grain w entry (one_more left) → Leaves grain w least p.kept command left least' kept → AreFit grain left p.disks →
+      Step grain w entry (one_more left) → HaveTheirDisks w p.disks → Leaves grain w least p.kept command left least' kept →
       Stops grain w least p entry.request None (record p { kept = kept })
