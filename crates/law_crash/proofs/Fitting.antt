@@ -110,8 +110,11 @@ takes_one kind pools es all i il =
 
 -- ---- a volume that a decision leaves was there, or it comes: it has the next id then, and takes a disk in each lane
 
+abbrev pub TakesDisks : DiskKind → List LaneEvent → List Pool → Type 0
+TakesDisks kind events pools = (i : ℕ) → i < length pools → of_kind kind (pool_at (fold pools_after pools events) i) < of_kind kind (pool_at pools i)
+
 abbrev pub Comes : Books → List LaneEvent → Volume → Type 0
-Comes b events v = (v.id.0 ≡ b.next_volume) × ((i : ℕ) → i < length b.pools → of_kind v.kind (pool_at (fold pools_after b.pools events) i) < of_kind v.kind (pool_at b.pools i))
+Comes b events v = (v.id.0 ≡ b.next_volume) × TakesDisks v.kind events b.pools
 
 abbrev pub WasOrComes : Books → List LaneEvent → Volume → Type 0
 WasOrComes b events v = Contains b.tables.volumes v ⊎ Comes b events v

@@ -18,5 +18,10 @@ pub mod Coming
 pub mod Fitting
 pub mod Leaving
 pub mod Running
+pub mod Writing
+pub mod Naming
+pub mod Renaming
+pub mod Doable
+pub mod Histories
 pub mod Whole
 mod Examples

@@ -98,10 +98,10 @@ prefix_at grain w least r done rest owns e =
 -- ---- one move
 
 -- the move of a slot by its marks: in place or not, and where there is nothing to copy
-abbrev move_with : Spot → ℕ → Bool → Move
+abbrev pub move_with : Spot → ℕ → Bool → Move
 move_with spot k in_place = record (move_in spot k) { in_place = in_place }
 
-abbrev step_with : Spot → ℕ → Bool → Bool → DiskStep
+abbrev pub step_with : Spot → ℕ → Bool → Bool → DiskStep
 step_with spot k in_place lost = record (step_of_move spot k) { move = Some (move_with spot k in_place); calls = cond (in_place || lost) 0 2 }
 
 can_move_at : (grain : GrainSize) (w : Whole) (r : Request) (moves : List ℕ) (owns : List DiskStep) → Moves grain w r moves owns → (done rest : List ℕ) (k : ℕ) → moves ≡ done ++ k ∷ rest →

@@ -34,6 +34,7 @@ use Rattle.fc_kept.specs.OneGrain.{Another}
 use Rattle.fc_kept.specs.Prefix.{AreStepsOf}
 use Rattle.fc_kept.specs.Recoverable.{Recoverable, disks_at}
 use Rattle.fc_kept.proofs.Marking.{mark_law}
+use Rattle.fc_kept.proofs.Sizes.{size_is, slot_size}
 use Rattle.fc_legal.specs.Legal.{AreSteps}
 use Rattle.fc_legal.specs.Steps.{Step, after_access, one_more}
 use Rattle.fc_legal.specs.Whole.{Whole, all_followed, as_one, lane_at, opened, single_lane}
@@ -56,7 +57,6 @@ use Rattle.law_crash.proofs.Leaving.{SameOfSlots, leaves_all, shows_same, some_v
 use Rattle.law_crash.proofs.Noting.{stands_counted}
 use Rattle.law_crash.proofs.Opening.{opens, rests, turned}
 use Rattle.law_stands.proofs.Standing.{stands_law_holds}
-use Rattle.law_stands.specs.Reached.{IsReached}
 
 -- ---- rows stay alike through an access
 
@@ -215,8 +215,9 @@ named_stands grain w least p disks sound st x =
     let found = some_volume (volume_with w.books.tables id) (sound.agree.slots k kl) in
     let f = find_from (λ (y : Volume). v == y.id.0) w.books.tables.volumes found.0 found.1 in
     let e : v ≡ found.0.id.0 = eqb-true v found.0.id.0 f.1 in
+    let size : length (slot_at w.books.sheet.slots k).held ≡ found.0.grains = slot_size w.books sound k kl ∙ size_is w.books.tables id found.0 found.1 in
     ap (λ (c : Content). cond (is_lost_in p.kept.lost v g) Lost c)
-    (subst (λ (n : ℕ). on_disks grain w disks n g ≡ on_disks grain w p.disks n g) (sym e) (x.same found.0 f.0 g)) in
+    (subst (λ (n : ℕ). on_disks grain w disks n g ≡ on_disks grain w p.disks n g) (sym e) (x.same found.0 f.0 g (omega (arith, gl, size)))) in
     record {
       says = record {
         sound = s.sound;
@@ -238,10 +239,10 @@ steps_snoc : (grain : GrainSize) (w now next : Whole) (entries : List Entry) (en
 steps_snoc grain w now next [] entry are step = (next, subst (λ (z : Whole). Step grain z entry next) are step, refl)
 steps_snoc grain w now next (e ∷ es) entry are step = (are.0, are.1, steps_snoc grain are.0 now next es entry are.2 step)
 
-abbrev RunsTo : GrainSize → Whole → List Entry → Whole → List Row → Point → Type 0
+abbrev pub RunsTo : GrainSize → Whole → List Entry → Whole → List Row → Point → Type 0
 RunsTo grain first entries w least p = AreSteps grain first entries w × StandsFor grain w least p × GoesOn (2 * w.entries) w p.disks
 
-run_stands : (grain : GrainSize) (first : Whole) (least : List Row) (p : Point) (entries : List Entry) (w : Whole) (least' : List Row) (q : Point) → StandsFor grain first least p → GoesOn (2 * first.entries) first p.disks →
+pub run_stands : (grain : GrainSize) (first : Whole) (least : List Row) (p : Point) (entries : List Entry) (w : Whole) (least' : List Row) (q : Point) → StandsFor grain first least p → GoesOn (2 * first.entries) first p.disks →
     Run grain first least p entries w least' q → w.entries ≤ 262144 → RunsTo grain first entries w least' q
 run_stands grain first least p entries w least' q st on begun few = (refl, st, on)
 run_stands grain first least p entries w least' q st on (more done now least_now x entry next least_next z run step does) few =
@@ -260,13 +261,15 @@ run_stands grain first least p entries w least' q st on (named done now least_no
       record { reached = r.2.reached; alike = r.2.alike; unnamed = stay.unnamed },
     )
 
+pub opened_on : (grain : GrainSize) (pools : List Pool) (disks : List (List NamedDisk)) → 0 < length pools → AreUnnamed (opened pools) disks → GoesOn 0 (opened pools) disks
+opened_on grain pools disks some unnamed =
+    record { reached = stands_law_holds.opened pools some; alike = follow_law_holds.none (as_one (opened pools)); unnamed = unnamed }
+
 pub runs_all : (grain : GrainSize) (pools : List Pool) (disks : List (List NamedDisk)) (entries : List Entry) (w : Whole) (least : List Row) (p : Point) → 0 < length pools → length disks ≡ length pools → AreUnnamed (opened pools) disks →
     let first : Point = record { kept = nothing_kept; disks = disks } in Run grain (opened pools) [] first entries w least p → w.entries ≤ 262144 → RunsTo grain (opened pools) entries w least p
 runs_all grain pools disks entries w least p some count unnamed run few =
     let first : Point = record { kept = nothing_kept; disks = disks } in
-    let r : IsReached 0 (opened pools) = stands_law_holds.opened pools some in
-    run_stands grain (opened pools) [] first entries w least p (opens grain pools disks count)
-    (record { reached = r; alike = follow_law_holds.none (as_one (opened pools)); unnamed = unnamed }) run few
+    run_stands grain (opened pools) [] first entries w least p (opens grain pools disks count) (opened_on grain pools disks some unnamed) run few
 
 -- ---- a stop in the next one
 

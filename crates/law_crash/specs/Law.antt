@@ -90,6 +90,12 @@ pub record CrashLaw : Type 0 where
       let first : Point = record { kept = nothing_kept; disks = disks } in
       Run grain (opened pools) [] first entries w least p → w.entries ≤ 262144 →
       AreSteps grain (opened pools) entries w × StandsFor grain w least p × GoesOn (2 * w.entries) w p.disks
+  -- this is so of every history: any right entries can be done so, where at first as many disks are free as the pools say
+  pub histories : (grain : GrainSize) (pools : List Pool) (disks : List (List NamedDisk)) (entries : List Entry) (w : Whole) →
+      0 < length pools → length disks ≡ length pools → AreUnnamed (opened pools) disks → HaveTheirDisks (opened pools) disks →
+      let first : Point = record { kept = nothing_kept; disks = disks } in
+      AreSteps grain (opened pools) entries w → w.entries ≤ 262144 →
+      (least : List Row) × (p : Point) × Run grain (opened pools) [] first entries w least p
   -- and wherever a stop falls in the next entry, what it finds may be recovered
   pub stops : (grain : GrainSize) (pools : List Pool) (disks : List (List NamedDisk)) (entries : List Entry) (w : Whole) (least : List Row) (p : Point) →
       (request : Request) (one : Option Another) (q : Point) → 0 < length pools → length disks ≡ length pools → AreUnnamed (opened pools) disks →

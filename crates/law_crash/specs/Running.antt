@@ -1,5 +1,5 @@
 -- A whole history on the disks, entry by entry.
-use Rattle.std.specs.Prelude.{◌≡◌, ℕ, List, [], ◌∷◌, ◌++◌, length, Contains, Option, None}
+use Rattle.std.specs.Prelude.{◌≡◌, ℕ, ◌<◌, List, [], ◌∷◌, ◌++◌, length, Contains, Option, None}
 use Rattle.fc_base.specs.declared.command.Command.{Command}
 use Rattle.fc_base.specs.declared.request.Request.{Request}
 use Rattle.fc_base.specs.declared.request.Request.TheVariants.{Command as Asked, Copy, Clean, CopyTurn, CleanTurn}
@@ -21,10 +21,12 @@ use Rattle.law_crash.specs.Points.{Point, on_disks}
 use Rattle.law_crash.specs.Doing.{number_of, actions_of_steps, with_disks, Did, Finds, Stopped, Tells}
 use Rattle.law_crash.specs.Leaving.{AreFit, AreUnnamed, HaveTheirDisks, Leaves}
 
--- Between two entries disks may get the names of volumes that came, and lose those of volumes that went: each volume's stay as they are.
+-- Between two entries disks may get the names of volumes that came, and lose those of volumes that went: the grains of each volume stay
+-- as they are.
 pub record StayAs (grain : GrainSize) (w : Whole) (old new : List (List NamedDisk)) : Type 0 where
   pub count : length new ≡ length old
-  pub same : (v : Volume) → Contains w.books.tables.volumes v → (g : ℕ) → on_disks grain w new v.id.0 g ≡ on_disks grain w old v.id.0 g
+  pub same : (v : Volume) → Contains w.books.tables.volumes v → (g : ℕ) → g < v.grains →
+      on_disks grain w new v.id.0 g ≡ on_disks grain w old v.id.0 g
   pub fit : AreFit grain w new
   pub unnamed : AreUnnamed w new
 
