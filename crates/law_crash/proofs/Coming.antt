@@ -254,6 +254,9 @@ answered_new sets grain b command None None =
     let one = done_spares grain b command in
     (above_append b.next_volume deed.events (work_events (after_deed sets b deed)) one.0 (work_above b.next_volume (after_deed sets b deed)), one.1)
 
+pub settle_above : (n : ℕ) (b : Books) → AreAbove n (settle b).events
+settle_above n b = (settling_spares n b).0
+
 pub settle_new : (b : Books) → MakesNew b.next_volume (settle b).events (settle b).changes
 settle_new b = settling_spares b.next_volume b
 

@@ -2,7 +2,7 @@
 use Rattle.std.proofs.Common.{◌≡◌, ℕ, ◌<◌, Bool, true, false, cond, Option, Some, None, List, [], ◌∷◌, ◌++◌, length, map, fold, refl, sym, ap, subst, ◌∙◌, arith, inl, inr}
 use Rattle.std.specs.List.{list_any}
 use Rattle.std.proofs.lemmas.List.{append-nil}
-use Rattle.fc_base.specs.Sheet.{slot_at, live_place}
+use Rattle.fc_base.specs.Sheet.{Sheet, slot_at, live_place}
 use Rattle.fc_base.specs.SheetStep.{sheet_torn}
 use Rattle.fc_base.specs.declared.ids.VolId.{VolId}
 use Rattle.fc_base.specs.declared.request.Move.{Move}
@@ -35,12 +35,12 @@ use Rattle.fc_kept.specs.Marks.{AreMarked}
 use Rattle.fc_kept.proofs.Marking.{mark_law}
 use Rattle.fc_kept.proofs.Sizes.{slot_size}
 use Rattle.law_crash.specs.Points.{Point, StandsFor}
-use Rattle.law_crash.specs.Doing.{number_of, actions_of_steps, marks_by_move, IsWritten, noted, with_disks, Did, Tears, Stopped}
+use Rattle.law_crash.specs.Doing.{number_of, actions_of_steps, marks_by_move, chains_behind, IsWritten, noted, with_kept, with_disks, Did, Tears, Stopped}
 use Rattle.law_crash.specs.Law.{Begins}
 use Rattle.law_crash.proofs.Answering.{told_with, least_with}
 use Rattle.law_crash.proofs.Failing.{torn_of, StandsTorn, write_torn}
-use Rattle.law_crash.proofs.Lawful.{WriteOf, FillOf, write_of, live_at, moves_in, own_in, chains_in, moves_given, can_write_at, own_is, Ready, ready_marked, ready_unmarked, copy_of, clean_of, fills_in, fills_given}
-use Rattle.law_crash.proofs.Making.{spot_in, steps_in, Moves, At, did_moves, at_first}
+use Rattle.law_crash.proofs.Lawful.{WriteOf, FillOf, write_of, live_at, moves_in, own_in, chains_in, moves_given, can_write_at, own_is, Ready, ready_folded, ready_marked, ready_unmarked, copy_of, clean_of, fills_in, fills_given}
+use Rattle.law_crash.proofs.Making.{spot_in, steps_in, chains_after, told_moves, Moves, At, at_folded, did_moves, at_first}
 use Rattle.law_crash.proofs.Noting.{with_all, with_sheet, written_sheet}
 use Rattle.law_crash.proofs.Owning.{CanWriteAt}
 use Rattle.law_crash.proofs.Stopping.{IsMove, IsBehind, which_step, one_step, Goal, torn_at, move_stopped}
@@ -56,12 +56,16 @@ step_moves grain w least r moves owns front step torn p q m st y x =
     let rows : List Row = p.kept.rows in
     let f = step_of_move (spot_in grain w r) in
     let front_is : front ≡ steps_in grain w r done ++ [] = y.4 ∙ sym (append-nil (steps_in grain w r done)) in
-    let did : Did grain w r (actions_of_steps rows (number_of grain r) (steps_in grain w r done ++ [])) p x.begun = subst (λ (z : List DiskStep). Did grain w r (actions_of_steps rows (number_of grain r) z) p x.begun) front_is x.did in
-    let marked : x.marked ≡ x.begun = subst (λ (z : DiskStep). Did grain w r (marks_by_move rows (number_of grain r) z z.move) x.begun x.marked) y.5 x.marks in
-    let tears : Tears grain w r (f k) torn x.begun q = subst (λ (z : DiskStep). Tears grain w r z torn x.begun q) y.5 (subst (λ (z : Point). Tears grain w r step torn z q) marked x.tears) in
+    let chains : Sheet = chains_after grain w r done in
+    let chains_are : chains_behind grain w front ≡ chains = ap (chains_behind grain w) y.4 ∙ ap (λ (z : Whole). z.books.sheet) (told_moves grain w r done) in
+    let did : Did grain w r w.books.sheet (actions_of_steps rows (number_of grain r) (steps_in grain w r done ++ [])) p x.begun =
+    subst (λ (z : List DiskStep). Did grain w r w.books.sheet (actions_of_steps rows (number_of grain r) z) p x.begun) front_is x.did in
+    let marked : x.marked ≡ x.begun = subst (λ (z : DiskStep). Did grain w r (chains_behind grain w front) (marks_by_move rows (number_of grain r) z z.move) x.begun x.marked) y.5 x.marks in
+    let tears : Tears grain w r chains (f k) torn x.begun q =
+    subst (λ (z : DiskStep). Tears grain w r chains z torn x.begun q) y.5 (subst (λ (z : Point). Tears grain w r chains step torn z q) marked (subst (λ (z : Sheet). Tears grain w r z step torn x.marked q) chains_are x.tears)) in
     subst (λ (z : List DiskStep). Goal grain w least r z torn q) (sym y.4)
     (did_moves grain w least r rows moves owns [] x.begun (Goal grain w least r (steps_in grain w r done) torn q) m done [] (k ∷ rest) p y.3 (at_first grain w least r p st)
-    (λ b a same. move_stopped grain w least r rows moves done rest owns k torn b q m y.3 a (subst (λ (z : Point). Tears grain w r (f k) torn z q) same tears))
+    (λ b a same. move_stopped grain w least r rows moves done rest owns k torn b q m y.3 a (subst (λ (z : Point). Tears grain w r chains (f k) torn z q) same tears))
     did)
 
 -- ---- the write itself stopped
@@ -121,7 +125,7 @@ own_tears grain w least part t p Under content disks can loses room ready x =
 
 -- by what it tore
 own_stopped : (grain : GrainSize) (w : Whole) (least : List Row) (part : WritePart) (t : ℕ) (torn : Option Torn) (p q : Point) → AreSound w.books → IsInside grain w.books.tables part.volume part.block part.count →
-    live_place w.books.sheet.slots part.volume.0 ≡ Some t → Ready grain w least part t p → Tears grain w (Write part) (own_as grain w part t) torn p q → Goal grain w least (Write part) (AllMoves grain w part t) torn q
+    live_place w.books.sheet.slots part.volume.0 ≡ Some t → Ready grain w least part t p → Tears grain w (Write part) (chains_in grain w part t) (own_as grain w part t) torn p q → Goal grain w least (Write part) (AllMoves grain w part t) torn q
 own_stopped grain w least part t None p q sound inside place ready e = subst (Goal grain w least (Write part) (AllMoves grain w part t) None) (sym e) (own_untorn grain w least part t p ready)
 own_stopped grain w least part t (Some torn) p q sound inside place ready e =
     let l = single_lane grain in
@@ -135,14 +139,16 @@ own_stopped grain w least part t (Some torn) p q sound inside place ready e =
     let low : place_of l g < length (slot_at w.books.sheet.slots t).held = live.inside in
     let room : g < size_in w.books.tables part.volume =
     subst (λ (z : ℕ). let id : VolId = record { 0 = z } in g < size_in w.books.tables id) (live_place_at w.books.sheet.slots part.volume.0 t place).of_volume (omega (arith, size, low, same)) in
-    let here = own_tears grain w least part t p side e.2 e.3 (can_write_at grain w part t sound inside place) loses room ready e.4 in
-    let to_q : Torn → Type 0 = λ (z : Torn). Goal grain w least (Write part) (AllMoves grain w part t) (Some z) (noted (TornRecord z.volume z.grain z.side) (with_disks e.3 p)) in
-    subst (Goal grain w least (Write part) (AllMoves grain w part t) (Some torn)) (sym e.5) (subst to_q (sym e.0) here)
+    let x : Point = with_kept e.5 p in
+    let here = own_tears grain w least part t x side e.2 e.3 (can_write_at grain w part t sound inside place) loses room (ready_folded grain w least part t p e.5 e.6 ready) e.4 in
+    let to_q : Torn → Type 0 = λ (z : Torn). Goal grain w least (Write part) (AllMoves grain w part t) (Some z) (noted (TornRecord z.volume z.grain z.side) (with_disks e.3 x)) in
+    subst (Goal grain w least (Write part) (AllMoves grain w part t) (Some torn)) (sym e.7) (subst to_q (sym e.0) here)
 
 -- its mark may be there
 own_ready : (grain : GrainSize) (w : Whole) (least : List Row) (part : WritePart) (t : ℕ) (rows : List Row) (p x : Point) (due : Bool) → At grain w least (Write part) rows (moves_in grain w part t) p →
-    list_any (is_unmarked part.volume.0 (grain_of_block grain part.block)) rows ≡ due → Did grain w (Write part) (cond due (Note (Changing part.volume record { 0 = grain_of_block grain part.block }) ∷ []) []) p x → Ready grain w least part t x
-own_ready grain w least part t rows p x true a e d = subst (Ready grain w least part t) (sym d) (ready_marked grain w least part t rows p a)
+    list_any (is_unmarked part.volume.0 (grain_of_block grain part.block)) rows ≡ due → Did grain w (Write part) (chains_in grain w part t) (cond due (Note (Changing part.volume record { 0 = grain_of_block grain part.block }) ∷ []) []) p x → Ready grain w least part t x
+own_ready grain w least part t rows p x true a e d =
+    subst (Ready grain w least part t) (sym d.2) (ready_marked grain w least part t rows (with_kept d.0 p) (at_folded grain w least (Write part) rows (moves_in grain w part t) p d.0 d.1 a))
 own_ready grain w least part t rows p x false a e d = subst (Ready grain w least part t) (sym d) (ready_unmarked grain w least part t rows p a e)
 
 step_own : (grain : GrainSize) (w : Whole) (least : List Row) (part : WritePart) (steps front back : List DiskStep) (step : DiskStep) (torn : Option Torn) (p q : Point) (o : WriteOf grain w part steps) →
@@ -158,14 +164,18 @@ step_own grain w least part steps front back step torn p q o b y x =
     let front_is : front ≡ all ++ [] = y.1 ∙ ap (λ (z : List DiskStep). all ++ z) one.0 in
     let step_is : step ≡ own_as grain w part o.t = one.1 ∙ own_is grain w part steps o in
     let m = moves_given grain w part steps b.sound b.inside o b.steps_are in
-    let did : Did grain w r (actions_of_steps rows g (all ++ [])) p x.begun = subst (λ (z : List DiskStep). Did grain w r (actions_of_steps rows g z) p x.begun) front_is x.did in
-    let marks : Did grain w r (mark_of rows part.volume.0 g) x.begun x.marked = subst (λ (z : DiskStep). Did grain w r (marks_by_move rows g z z.move) x.begun x.marked) step_is x.marks in
-    let tears : Tears grain w r (own_as grain w part o.t) torn x.marked q = subst (λ (z : DiskStep). Tears grain w r z torn x.marked q) step_is x.tears in
+    let chains : Sheet = chains_in grain w part o.t in
+    let chains_are : chains_behind grain w front ≡ chains = ap (chains_behind grain w) (front_is ∙ append-nil all) ∙ ap (λ (z : Whole). z.books.sheet) (told_moves grain w r moves) in
+    let did : Did grain w r w.books.sheet (actions_of_steps rows g (all ++ [])) p x.begun = subst (λ (z : List DiskStep). Did grain w r w.books.sheet (actions_of_steps rows g z) p x.begun) front_is x.did in
+    let marks : Did grain w r chains (mark_of rows part.volume.0 g) x.begun x.marked =
+    subst (λ (z : DiskStep). Did grain w r chains (marks_by_move rows g z z.move) x.begun x.marked) step_is (subst (λ (c : Sheet). Did grain w r c (marks_by_move rows g step step.move) x.begun x.marked) chains_are x.marks) in
+    let tears : Tears grain w r chains (own_as grain w part o.t) torn x.marked q =
+    subst (λ (z : DiskStep). Tears grain w r chains z torn x.marked q) step_is (subst (λ (c : Sheet). Tears grain w r c step torn x.marked q) chains_are x.tears) in
     let due : Bool = list_any (is_unmarked part.volume.0 g) rows in
     subst (λ (z : List DiskStep). Goal grain w least r z torn q) (sym (front_is ∙ append-nil all))
     (did_moves grain w least r rows moves (own_in grain w part o.t ∷ []) [] x.begun (Goal grain w least r all torn q) m moves [] [] p (sym (append-nil moves)) (at_first grain w least r p b.stands)
     (λ z a same. own_stopped grain w least part o.t torn x.marked q b.sound b.inside o.place
-    (own_ready grain w least part o.t rows z x.marked due a refl (subst (λ (u : Point). Did grain w r (mark_of rows part.volume.0 g) u x.marked) same marks)) tears)
+    (own_ready grain w least part o.t rows z x.marked due a refl (subst (λ (u : Point). Did grain w r chains (mark_of rows part.volume.0 g) u x.marked) same marks)) tears)
     did)
 
 -- ---- all requests

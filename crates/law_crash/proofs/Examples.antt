@@ -14,11 +14,12 @@ use Rattle.fc_image.specs.declared.record.MetaRecord.TheVariants.{Pair, Written,
 use Rattle.fc_kept.specs.Actions.{Action.Data, Action.Note}
 use Rattle.fc_legal.specs.Whole.{lane_at}
 use Rattle.fc_kept.specs.Disks.{NamedDisk, disk_of, on_disk}
+use Rattle.fc_kept.specs.Kept.{Kept, sheet_kept}
 use Rattle.fc_kept.specs.OneGrain.{Another}
 use Rattle.fc_kept.specs.Recoverable.{disks_at}
 use Rattle.fc_kept.proofs.Examples.{grain_no, slot_id, started, copied, ones, nulls, before, part, move_step, own_step, disk_with}
 use Rattle.law_crash.specs.Points.{Point, on_disks, stored_by}
-use Rattle.law_crash.specs.Doing.{number_of, actions_of_steps, content_of, SameDisk, StepWrites, noted, with_disks, Finds}
+use Rattle.law_crash.specs.Doing.{number_of, actions_of_steps, content_of, SameDisk, StepWrites, folded, noted, with_kept, with_disks, Finds}
 
 abbrev pair : MetaRecord
 pair = Pair (slot_id 2) (vol 1) (grain_no 0) false false
@@ -120,41 +121,51 @@ abbrev copy_with : Content → Option Another
 copy_with content = Some record { volume = 1; grain = 0; content = content }
 
 abbrev FindsIn : Option Another → Point → Type 0
-FindsIn one q = Finds K64 before (Write part) (Data move_step ∷ Note pair ∷ Data own_step ∷ Note wrote ∷ []) first one q
+FindsIn one q = Finds K64 before (Write part) before.books.sheet (Data move_step ∷ Note pair ∷ Data own_step ∷ Note wrote ∷ []) first one q
 
 before_all : FindsIn None first
-before_all = inl (refl, refl)
+before_all = inl (refl, refl, inl refl)
 
 -- in the move's data B's grain may have any bytes, and no metadata tells of them
 in_the_data : FindsIn (copy_with nines) in_data
-in_the_data = inr (inl record { content = nines; writes = writes 9; kept = refl; one_is = refl })
+in_the_data = inr (inl record { content = nines; writes = writes 9; kept = inl refl; one_is = refl })
 
 -- behind them it has its copy, and still no metadata tells of it
 behind_the_data : FindsIn (copy_with ones) behind_data
-behind_the_data = inr (inl record { content = ones; writes = writes 1; kept = refl; one_is = refl })
+behind_the_data = inr (inl record { content = ones; writes = writes 1; kept = inl refl; one_is = refl })
 
 -- and then the record does
 behind_the_record : FindsIn None (noted pair behind_data)
-behind_the_record = inr (inr (holding 1, writes 1, inl (refl, refl)))
+behind_the_record = inr (inr (holding 1, writes 1, started, inl refl, inl (refl, refl, inl refl)))
+
+-- in a fold before the record, or behind the fold, metadata has the store's chains, and still doesn't tell of the copy
+in_the_fold : FindsIn (copy_with ones) (with_kept (folded before.books.sheet started) behind_data)
+in_the_fold = inr (inl record { content = ones; writes = writes 1; kept = inr refl; one_is = refl })
+
+behind_the_fold : FindsIn None (noted pair (with_kept (folded before.books.sheet started) behind_data))
+behind_the_fold = inr (inr (holding 1, writes 1, folded before.books.sheet started, inr refl, inl (refl, refl, inl refl)))
 
 -- but the record of what isn't on the disk is never found
 record_alone : FindsIn None (noted pair first) → ⊥
 record_alone f =
     elim f [
-      | inl x ↦ let e : true ≡ false = ap (λ (p : Point). has (slot_at p.kept.sheet.slots 1).held 0) x.1 in cc
+      | inl x ↦ elim x.2 [
+        | inl y ↦ let e : true ≡ false = ap (λ (k : Kept). has (slot_at k.sheet.slots 1).held 0) y in cc
+        | inr y ↦ let e : true ≡ false = ap (λ (k : Kept). has (slot_at k.sheet.slots 1).held 0) y in cc
+      ]
       | inr y ↦ elim y [
         | inl x ↦ let e : (let a : Option Another = None in a) ≡ copy_with (stored_by K64 before (noted pair first) 1 0) = x.one_is in cc
-        | inr x ↦ written_first x.0 x.1 x.2
+        | inr x ↦ written_first x.0 x.1 x.2 x.4
       ]
     ]
   where
-    written_first : (new : List (List NamedDisk)) → StepWrites K64 before (Write part) move_step ones (holding 0) new →
-        Finds K64 before (Write part) (Data own_step ∷ Note wrote ∷ []) (noted pair (with_disks new first)) None (noted pair first) → ⊥
-    written_first new w g =
+    written_first : (new : List (List NamedDisk)) → StepWrites K64 before (Write part) move_step ones (holding 0) new → (kept : Kept) →
+        Finds K64 before (Write part) (sheet_kept before.books.sheet pair) (Data own_step ∷ Note wrote ∷ []) (noted pair (with_kept kept (with_disks new first))) None (noted pair first) → ⊥
+    written_first new w kept g =
         elim g [
-          | inl x ↦ let e : nulls ≡ ones = ap (λ (p : Point). on_disks K64 before p.disks 1 0) x.1 ∙ w.stored.here in cc
+          | inl x ↦ let e : nulls ≡ ones = ap (λ (d : List (List NamedDisk)). on_disks K64 before d 1 0) x.1 ∙ w.stored.here in cc
           | inr y ↦ elim y [
             | inl x ↦ let e : (let a : Option Another = None in a) ≡ Some record { volume = 0; grain = 0; content = stored_by K64 before (noted pair first) 0 0 } = x.one_is in cc
-            | inr x ↦ let e : nulls ≡ ones = ap (λ (p : Point). on_disks K64 before p.disks 1 0) x.2.1 ∙ (x.1.stored.elsewhere 1 0 (inl (λ q. cc)) ∙ w.stored.here) in cc
+            | inr x ↦ let e : nulls ≡ ones = ap (λ (d : List (List NamedDisk)). on_disks K64 before d 1 0) x.4.1 ∙ (x.1.stored.elsewhere 1 0 (inl (λ q. cc)) ∙ w.stored.here) in cc
           ]
         ]

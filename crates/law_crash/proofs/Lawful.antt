@@ -40,17 +40,19 @@ use Rattle.fc_rules.specs.Steps.{DiskStep, own_step, steps_of_fill, steps_of_wri
 use Rattle.fc_sheets.proofs.Finding.{live_place_at}
 use Rattle.fc_kept.specs.Actions.{Action, Action.Data, Action.Note, is_unmarked}
 use Rattle.fc_kept.specs.Disks.{NamedDisk}
+use Rattle.fc_kept.specs.Kept.{Kept}
 use Rattle.fc_kept.specs.Marks.{AreMarked, asked_write, least_asked, least_entry}
 use Rattle.fc_kept.specs.OneGrain.{Another, IsChangedIn}
 use Rattle.fc_kept.specs.Prefix.{AreStepsOf, AreWriteSteps, AreFillSteps, Prefix, Prefix.whole}
 use Rattle.fc_kept.specs.Recoverable.{Recoverable}
 use Rattle.fc_kept.proofs.Marking.{mark_law}
 use Rattle.law_crash.specs.Points.{Point, StandsFor}
-use Rattle.law_crash.specs.Doing.{number_of, actions_by_move, actions_of_steps, with_part, IsWritten, noted, with_disks, Did, Finds, Tells}
+use Rattle.law_crash.specs.Doing.{number_of, actions_by_move, actions_of_steps, with_part, IsWritten, MayFold, noted, with_kept, with_disks, Did, Finds, Tells}
 use Rattle.law_crash.specs.Law.{Begins}
 use Rattle.law_crash.proofs.Answering.{told_with, least_with, answered}
+use Rattle.law_crash.proofs.Folding.{fold_stands, fold_rows}
 use Rattle.law_crash.proofs.Found.{found, found_in}
-use Rattle.law_crash.proofs.Making.{spot_in, steps_in, chains_after, Moves, At, prefix_at, from_found, from_found_in, FoundBehind, found_moves, did_moves, at_first}
+use Rattle.law_crash.proofs.Making.{spot_in, steps_in, chains_after, Moves, At, at_folded, prefix_at, from_found, found_here, from_found_in, FoundBehind, found_moves, did_moves, at_first}
 use Rattle.law_crash.proofs.Noting.{with_all, with_sheet, written_sheet}
 use Rattle.law_crash.proofs.Owning.{CanWriteAt, changing_of, written_of, marked_stands, all_changed, changed_before, own_change, written_stands}
 
@@ -193,21 +195,39 @@ ready_unmarked grain w least part t rows p a none =
       changed = λ content. changed_before content v g p.kept.rows (ap (λ (x : List Row). list_any (is_unmarked v g) x) a.rows_are ∙ none);
     }
 
+-- and metadata may have been folded since
+pub ready_folded : (grain : GrainSize) (w : Whole) (least : List Row) (part : WritePart) (t : ℕ) (p : Point) (k : Kept) → MayFold (chains_in grain w part t) p.kept k → Ready grain w least part t p → Ready grain w least part t (with_kept k p)
+ready_folded grain w least part t p k m a =
+    let x = Wrote part.volume.0 (grain_of_block grain part.block) in
+    let same : k.rows ≡ p.kept.rows = fold_rows (chains_in grain w part t) p.kept k m in
+    record {
+      stands = fold_stands grain (with_sheet w (chains_in grain w part t)) (after_note least x) p k m a.stands;
+      behind = subst (λ (z : List Row). AreMarked (after_note z x) (after_note w.rows x) (after_note least x)) (sym same) a.behind;
+      changed = λ content. let b : Another = record { volume = part.volume.0; grain = grain_of_block grain part.block; content = content } in subst (IsChangedIn b) (sym same) (a.changed content);
+    }
+
 -- behind the record
+abbrev chains_written : GrainSize → Whole → WritePart → ℕ → Sheet
+chains_written grain w part t = sheet_written part.volume.0 (grain_of_block grain part.block) (chains_in grain w part t)
+
 abbrev Over : GrainSize → Whole → List Row → WritePart → List DiskStep → Point → Type 0
 Over grain w least part steps q = StandsFor grain (told_with grain w (Some part) steps None) (least_with grain least (Some part) None) q
 
-own_done : (grain : GrainSize) (w : Whole) (least : List Row) (part : WritePart) (steps : List DiskStep) (o : WriteOf grain w part steps) (p : Point) (disks : List (List NamedDisk)) →
+own_done : (grain : GrainSize) (w : Whole) (least : List Row) (part : WritePart) (steps : List DiskStep) (o : WriteOf grain w part steps) (p : Point) (disks : List (List NamedDisk)) (k : Kept) →
     CanWriteAt (chains_in grain w part o.t) (grain_of_block grain part.block) o.t part.volume.0 → Ready grain w least part o.t p →
     IsWritten grain w part.volume.0 (grain_of_block grain part.block) (change_by grain part (now_of w.picture part.volume.0 (grain_of_block grain part.block))) p.disks disks →
-    Over grain w least part steps (noted (written_of part.volume.0 (grain_of_block grain part.block)) (with_disks disks p))
-own_done grain w least part steps o p disks can ready x =
+    MayFold (chains_written grain w part o.t) (noted (written_of part.volume.0 (grain_of_block grain part.block)) (with_disks disks p)).kept k →
+    Over grain w least part steps (with_kept k (noted (written_of part.volume.0 (grain_of_block grain part.block)) (with_disks disks p)))
+own_done grain w least part steps o p disks k can ready x m =
     let v : ℕ = part.volume.0 in
     let g : ℕ = grain_of_block grain part.block in
-    let q : Point = noted (written_of v g) (with_disks disks p) in
-    let here = written_stands grain (with_sheet w (chains_in grain w part o.t)) (after_note w.rows (Wrote v g)) (after_note least (Wrote v g)) (after_note least (Wrote v g)) p g o.t v (change_by grain part) disks ready.stands can (written_sheet grain w (chains_in grain w part o.t) v g (change_by grain part (now_of w.picture v g)) p.disks disks x) ready.behind in
+    let behind : Point = noted (written_of v g) (with_disks disks p) in
+    let q : Point = with_kept k behind in
+    let left : Whole = left_at grain w part g (map (move_in (spot_in grain w (Write part))) (moves_in grain w part o.t)) in
+    let here : StandsFor grain left (after_note least (Wrote v g)) behind =
+    written_stands grain (with_sheet w (chains_in grain w part o.t)) (after_note w.rows (Wrote v g)) (after_note least (Wrote v g)) (after_note least (Wrote v g)) p g o.t v (change_by grain part) disks ready.stands can (written_sheet grain w (chains_in grain w part o.t) v g (change_by grain part (now_of w.picture v g)) p.disks disks x) ready.behind in
     subst (λ (y : List Row). StandsFor grain (told_with grain w (Some part) steps None) y q) (least_is grain least part)
-    (subst (λ (y : Whole). StandsFor grain y (after_note least (Wrote v g)) q) (told_is grain w part steps o) here)
+    (subst (λ (y : Whole). StandsFor grain y (after_note least (Wrote v g)) q) (told_is grain w part steps o) (fold_stands grain left (after_note least (Wrote v g)) behind k m here))
 
 -- ---- its entry, which isn't answered yet
 
@@ -267,7 +287,7 @@ found_over grain w least part steps q inside o over =
 found_data : (grain : GrainSize) (w : Whole) (least : List Row) (part : WritePart) (steps : List DiskStep) (o : WriteOf grain w part steps) (p q : Point) (one : Option Another) →
     IsInside grain w.books.tables part.volume part.block part.count → CanWriteAt (chains_in grain w part o.t) (grain_of_block grain part.block) o.t part.volume.0 →
     Prefix grain w least (Some (Write part)) (with_sheet w (chains_in grain w part o.t)) (after_note least (Wrote part.volume.0 (grain_of_block grain part.block))) → Ready grain w least part o.t p →
-    Finds grain w (Write part) (Data (record (own_in grain w part o.t) { volume = part.volume.0 }) ∷ Note (written_of part.volume.0 (grain_of_block grain part.block)) ∷ []) p one q →
+    Finds grain w (Write part) (chains_in grain w part o.t) (Data (record (own_in grain w part o.t) { volume = part.volume.0 }) ∷ Note (written_of part.volume.0 (grain_of_block grain part.block)) ∷ []) p one q →
     Recoverable grain q.disks q.kept w least (Some (Write part)) one
 found_data grain w least part steps o p q one inside can is ready f =
     let v : ℕ = part.volume.0 in
@@ -275,12 +295,18 @@ found_data grain w least part steps o p q one inside can is ready f =
     let now : Whole = with_sheet w (chains_in grain w part o.t) in
     let least' : List Row = after_note least (Wrote v g) in
     elim f [
-      | inl x ↦ from_found grain w least (Write part) p q one x (found grain w now least least' (Write part) p is ready.stands)
+      | inl x ↦ found_here grain w now least least' (Write part) p q one is ready.stands x
       | inr y ↦ elim y [
-        | inl x ↦ from_found_in grain w least (Write part) (record (own_in grain w part o.t) { volume = v }) p q one x
-            (found_in grain w now least least' (Write part) p q.disks v g o.t x.content is ready.stands (own_change (chains_in grain w part o.t) g o.t v p.kept.rows can ready.changed) (written_sheet grain w (chains_in grain w part o.t) v g x.content p.disks q.disks x.writes))
-        | inr x ↦ from_found grain w least (Write part) (noted (written_of v g) (with_disks x.0 p)) q one x.2
-            (found_over grain w least part steps (noted (written_of v g) (with_disks x.0 p)) inside o (own_done grain w least part steps o p x.0 can ready x.1))
+        | inl x ↦
+            let z : Point = with_kept q.kept p in
+            let there = ready_folded grain w least part o.t p q.kept x.kept ready in
+            from_found_in grain w least (Write part) (chains_in grain w part o.t) (record (own_in grain w part o.t) { volume = v }) p q one x
+            (found_in grain w now least least' (Write part) z q.disks v g o.t x.content is there.stands (own_change (chains_in grain w part o.t) g o.t v q.kept.rows can there.changed) (written_sheet grain w (chains_in grain w part o.t) v g x.content p.disks q.disks x.writes))
+        | inr x ↦
+            let z : Point = with_kept x.2 p in
+            let behind : Point = noted (written_of v g) (with_disks x.0 z) in
+            from_found grain w least (Write part) (chains_written grain w part o.t) behind q one x.4
+            (λ k m. found_over grain w least part steps (with_kept k behind) inside o (own_done grain w least part steps o z x.0 k can (ready_folded grain w least part o.t p x.2 x.3 ready) x.1 m))
       ]
     ]
 
@@ -292,20 +318,22 @@ found_own : (grain : GrainSize) (w : Whole) (least : List Row) (part : WritePart
     IsInside grain w.books.tables part.volume part.block part.count → CanWriteAt (chains_in grain w part o.t) (grain_of_block grain part.block) o.t part.volume.0 →
     Prefix grain w least (Some (Write part)) (with_sheet w (chains_in grain w part o.t)) (after_note least (Wrote part.volume.0 (grain_of_block grain part.block))) →
     At grain w least (Write part) rows (moves_in grain w part o.t) p → list_any (is_unmarked part.volume.0 (grain_of_block grain part.block)) rows ≡ due →
-    Finds grain w (Write part) (marks_then part (grain_of_block grain part.block) (record (own_in grain w part o.t) { volume = part.volume.0 }) due) p one q →
+    Finds grain w (Write part) (chains_in grain w part o.t) (marks_then part (grain_of_block grain part.block) (record (own_in grain w part o.t) { volume = part.volume.0 }) due) p one q →
     Recoverable grain q.disks q.kept w least (Some (Write part)) one
 found_own grain w least part steps o rows p q one true inside can is a e f =
     let now : Whole = with_sheet w (chains_in grain w part o.t) in
     let least' : List Row = after_note least (Wrote part.volume.0 (grain_of_block grain part.block)) in
     elim f [
-      | inl x ↦ from_found grain w least (Write part) p q one x (found grain w now least least' (Write part) p is (stands_asked grain w least part o.t rows p a))
-      | inr x ↦ found_data grain w least part steps o (noted (changing_of part.volume.0 (grain_of_block grain part.block)) p) q one inside can is (ready_marked grain w least part o.t rows p a) x
+      | inl x ↦ found_here grain w now least least' (Write part) p q one is (stands_asked grain w least part o.t rows p a) x
+      | inr x ↦
+          let z : Point = with_kept x.0 p in
+          found_data grain w least part steps o (noted (changing_of part.volume.0 (grain_of_block grain part.block)) z) q one inside can is (ready_marked grain w least part o.t rows z (at_folded grain w least (Write part) rows (moves_in grain w part o.t) p x.0 x.1 a)) x.2
     ]
 found_own grain w least part steps o rows p q one false inside can is a e f =
     found_data grain w least part steps o p q one inside can is (ready_unmarked grain w least part o.t rows p a e) f
 
 write_found : (grain : GrainSize) (w : Whole) (least : List Row) (part : WritePart) (steps : List DiskStep) (p q : Point) (one : Option Another) → Begins grain w least (Write part) steps p →
-    Finds grain w (Write part) (actions_of_steps p.kept.rows (grain_of_block grain part.block) steps) p one q → Recoverable grain q.disks q.kept w least (Some (Write part)) one
+    Finds grain w (Write part) w.books.sheet (actions_of_steps p.kept.rows (grain_of_block grain part.block) steps) p one q → Recoverable grain q.disks q.kept w least (Some (Write part)) one
 write_found grain w least part steps p q one b f =
     let g : ℕ = grain_of_block grain part.block in
     let rows : List Row = p.kept.rows in
@@ -319,24 +347,32 @@ write_found grain w least part steps p q one b f =
     (subst (λ (z : List ℕ). AreStepsOf grain w (Write part) (steps_in grain w (Write part) z ++ own_in grain w part o.t ∷ [])) (sym (append-nil moves)) m.steps_are)) in
     let behind : FoundBehind grain w least (Write part) rows moves (own_in grain w part o.t ∷ []) one q = λ x a y.
     found_own grain w least part steps o rows x q one (list_any (is_unmarked part.volume.0 g) rows) b.inside can is a refl
-    (subst (λ (z : DiskStep). Finds grain w (Write part) (own_actions rows g z) x one q) (own_is grain w part steps o) y) in
+    (subst (λ (z : DiskStep). Finds grain w (Write part) (chains_in grain w part o.t) (own_actions rows g z) x one q) (own_is grain w part steps o) y) in
     found_moves grain w least (Write part) rows moves (own_in grain w part o.t ∷ []) q one m behind moves [] p refl (at_first grain w least (Write part) p b.stands)
-    (subst (λ (z : List DiskStep). Finds grain w (Write part) (actions_of_steps rows g z) p one q) o.steps_are f)
+    (subst (λ (z : List DiskStep). Finds grain w (Write part) w.books.sheet (actions_of_steps rows g z) p one q) o.steps_are f)
 
 -- ---- all of it
+
+did_data : (grain : GrainSize) (w : Whole) (least : List Row) (part : WritePart) (steps : List DiskStep) (o : WriteOf grain w part steps) (p q : Point) →
+    CanWriteAt (chains_in grain w part o.t) (grain_of_block grain part.block) o.t part.volume.0 → Ready grain w least part o.t p →
+    Did grain w (Write part) (chains_in grain w part o.t) (Data (record (own_in grain w part o.t) { volume = part.volume.0 }) ∷ Note (written_of part.volume.0 (grain_of_block grain part.block)) ∷ []) p q → Over grain w least part steps q
+did_data grain w least part steps o p q can ready f =
+    let z : Point = with_kept f.2.0 p in
+    let behind : Point = noted (written_of part.volume.0 (grain_of_block grain part.block)) (with_disks f.0 z) in
+    subst (Over grain w least part steps) (sym f.2.2) (own_done grain w least part steps o z f.0 behind.kept can (ready_folded grain w least part o.t p f.2.0 f.2.1 ready) f.1 (inl refl))
 
 did_own : (grain : GrainSize) (w : Whole) (least : List Row) (part : WritePart) (steps : List DiskStep) (o : WriteOf grain w part steps) (rows : List Row) (p q : Point) (due : Bool) →
     CanWriteAt (chains_in grain w part o.t) (grain_of_block grain part.block) o.t part.volume.0 →
     At grain w least (Write part) rows (moves_in grain w part o.t) p → list_any (is_unmarked part.volume.0 (grain_of_block grain part.block)) rows ≡ due →
-    Did grain w (Write part) (marks_then part (grain_of_block grain part.block) (record (own_in grain w part o.t) { volume = part.volume.0 }) due) p q → Over grain w least part steps q
+    Did grain w (Write part) (chains_in grain w part o.t) (marks_then part (grain_of_block grain part.block) (record (own_in grain w part o.t) { volume = part.volume.0 }) due) p q → Over grain w least part steps q
 did_own grain w least part steps o rows p q true can a e f =
-    let x : Point = noted (changing_of part.volume.0 (grain_of_block grain part.block)) p in
-    subst (Over grain w least part steps) (sym f.2) (own_done grain w least part steps o x f.0 can (ready_marked grain w least part o.t rows p a) f.1)
-did_own grain w least part steps o rows p q false can a e f =
-    subst (Over grain w least part steps) (sym f.2) (own_done grain w least part steps o p f.0 can (ready_unmarked grain w least part o.t rows p a e) f.1)
+    let x : Point = with_kept f.0 p in
+    let z : Point = noted (changing_of part.volume.0 (grain_of_block grain part.block)) x in
+    did_data grain w least part steps o z q can (ready_marked grain w least part o.t rows x (at_folded grain w least (Write part) rows (moves_in grain w part o.t) p f.0 f.1 a)) f.2
+did_own grain w least part steps o rows p q false can a e f = did_data grain w least part steps o p q can (ready_unmarked grain w least part o.t rows p a e) f
 
 write_stands : (grain : GrainSize) (w : Whole) (least : List Row) (part : WritePart) (steps : List DiskStep) (p q : Point) → Begins grain w least (Write part) steps p →
-    Did grain w (Write part) (actions_of_steps p.kept.rows (grain_of_block grain part.block) steps) p q → Over grain w least part steps q
+    Did grain w (Write part) w.books.sheet (actions_of_steps p.kept.rows (grain_of_block grain part.block) steps) p q → Over grain w least part steps q
 write_stands grain w least part steps p q b f =
     let g : ℕ = grain_of_block grain part.block in
     let rows : List Row = p.kept.rows in
@@ -346,8 +382,8 @@ write_stands grain w least part steps p q b f =
     let can = can_write_at grain w part o.t b.sound b.inside o.place in
     did_moves grain w least (Write part) rows moves (own_in grain w part o.t ∷ []) (own_in grain w part o.t ∷ []) q (Over grain w least part steps q) m moves [] [] p (sym (append-nil moves)) (at_first grain w least (Write part) p b.stands)
     (λ x a y. did_own grain w least part steps o rows x q (list_any (is_unmarked part.volume.0 g) rows) can a refl
-    (subst (λ (z : DiskStep). Did grain w (Write part) (own_actions rows g z) x q) (own_is grain w part steps o) y))
-    (subst (λ (z : List DiskStep). Did grain w (Write part) (actions_of_steps rows g z) p q) o.steps_are f)
+    (subst (λ (z : DiskStep). Did grain w (Write part) (chains_in grain w part o.t) (own_actions rows g z) x q) (own_is grain w part steps o) y))
+    (subst (λ (z : List DiskStep). Did grain w (Write part) w.books.sheet (actions_of_steps rows g z) p q) o.steps_are f)
 
 -- ---- copies and cleanings
 
@@ -387,7 +423,7 @@ fills_given grain w r steps sound o are =
     }
 
 fill_found : (grain : GrainSize) (w : Whole) (least : List Row) (r : Request) (steps : List DiskStep) (p q : Point) (one : Option Another) → Begins grain w least r steps p → FillOf grain w r steps →
-    Finds grain w r (actions_of_steps p.kept.rows (number_of grain r) steps) p one q → Recoverable grain q.disks q.kept w least (Some r) one
+    Finds grain w r w.books.sheet (actions_of_steps p.kept.rows (number_of grain r) steps) p one q → Recoverable grain q.disks q.kept w least (Some r) one
 fill_found grain w least r steps p q one b o f =
     let rows : List Row = p.kept.rows in
     let moves : List ℕ = fills_in grain w r o.k in
@@ -395,9 +431,9 @@ fill_found grain w least r steps p q one b o f =
     let is : Prefix grain w least (Some r) (with_sheet w (chains_after grain w r moves)) (least_asked (single_lane grain) least (Some r)) =
     prefix_at grain w least r moves [] [] (subst (λ (z : List ℕ). AreStepsOf grain w r (steps_in grain w r z ++ [])) (sym (append-nil moves)) m.steps_are) in
     found_moves grain w least r rows moves [] q one m
-    (λ x a y. from_found grain w least r x q one y (found grain w (with_sheet w (chains_after grain w r moves)) least (least_asked (single_lane grain) least (Some r)) r x is a.stands))
+    (λ x a y. found_here grain w (with_sheet w (chains_after grain w r moves)) least (least_asked (single_lane grain) least (Some r)) r x q one is a.stands y)
     moves [] p refl (at_first grain w least r p b.stands)
-    (subst (λ (z : List DiskStep). Finds grain w r (actions_of_steps rows (number_of grain r) z) p one q) (o.steps_are ∙ sym (append-nil (steps_in grain w r moves))) f)
+    (subst (λ (z : List DiskStep). Finds grain w r w.books.sheet (actions_of_steps rows (number_of grain r) z) p one q) (o.steps_are ∙ sym (append-nil (steps_in grain w r moves))) f)
 
 -- nothing was asked to be written
 without_write : (grain : GrainSize) (w : Whole) (least : List Row) (r : Request) (p : Point) → asked_write r ≡ None → StandsFor grain w (least_asked (single_lane grain) least (Some r)) p → StandsFor grain w least p
@@ -405,7 +441,7 @@ without_write grain w least r p none st =
     subst (λ (o : Option WritePart). StandsFor grain w (fold after_note least (write_notes (single_lane grain) o)) p) none st
 
 fill_stands : (grain : GrainSize) (w : Whole) (least : List Row) (r : Request) (steps : List DiskStep) (p q : Point) → Begins grain w least r steps p → FillOf grain w r steps → asked_write r ≡ None →
-    Did grain w r (actions_of_steps p.kept.rows (number_of grain r) steps) p q → StandsFor grain (told_with grain w (asked_write r) steps None) (least_with grain least (asked_write r) None) q
+    Did grain w r w.books.sheet (actions_of_steps p.kept.rows (number_of grain r) steps) p q → StandsFor grain (told_with grain w (asked_write r) steps None) (least_with grain least (asked_write r) None) q
 fill_stands grain w least r steps p q b o none f =
     let rows : List Row = p.kept.rows in
     let moves : List ℕ = fills_in grain w r o.k in
@@ -415,19 +451,19 @@ fill_stands grain w least r steps p q b o none f =
     (λ x a y. subst (λ (z : Option WritePart). StandsFor grain (told_with grain w z steps None) (least_with grain least z None) q) (sym none)
     (subst (λ (z : List Move). StandsFor grain (with_sheet w (fold (sheet_move (single_lane grain)) w.books.sheet z)) least q) told
     (subst (λ (z : Point). StandsFor grain (with_sheet w (chains_after grain w r moves)) least z) (sym y) (without_write grain (with_sheet w (chains_after grain w r moves)) least r x none a.stands))))
-    (subst (λ (z : List DiskStep). Did grain w r (actions_of_steps rows (number_of grain r) z) p q) (o.steps_are ∙ sym (append-nil (steps_in grain w r moves))) f)
+    (subst (λ (z : List DiskStep). Did grain w r w.books.sheet (actions_of_steps rows (number_of grain r) z) p q) (o.steps_are ∙ sym (append-nil (steps_in grain w r moves))) f)
 
 -- ---- all requests
 
 pub all_found : (grain : GrainSize) (w : Whole) (least : List Row) (r : Request) (steps : List DiskStep) (p q : Point) (one : Option Another) → Begins grain w least r steps p →
-    Finds grain w r (actions_of_steps p.kept.rows (number_of grain r) steps) p one q → Recoverable grain q.disks q.kept w least (Some r) one
+    Finds grain w r w.books.sheet (actions_of_steps p.kept.rows (number_of grain r) steps) p one q → Recoverable grain q.disks q.kept w least (Some r) one
 all_found grain w least (Write part) steps p q one b f = write_found grain w least part steps p q one b f
 all_found grain w least (Copy m g) steps p q one b f = fill_found grain w least (Copy m g) steps p q one b (copy_of grain w m g steps b.steps_are) f
 all_found grain w least (Clean m g) steps p q one b f = fill_found grain w least (Clean m g) steps p q one b (clean_of grain w m g steps b.sound b.steps_are) f
 all_found grain w least r steps p q one b f = absurd b.steps_are
 
 pub all_stand : (grain : GrainSize) (w : Whole) (least : List Row) (r : Request) (steps : List DiskStep) (p q : Point) → Begins grain w least r steps p →
-    Did grain w r (actions_of_steps p.kept.rows (number_of grain r) steps) p q → StandsFor grain (told_with grain w (asked_write r) steps None) (least_with grain least (asked_write r) None) q
+    Did grain w r w.books.sheet (actions_of_steps p.kept.rows (number_of grain r) steps) p q → StandsFor grain (told_with grain w (asked_write r) steps None) (least_with grain least (asked_write r) None) q
 all_stand grain w least (Write part) steps p q b f = write_stands grain w least part steps p q b f
 all_stand grain w least (Copy m g) steps p q b f = fill_stands grain w least (Copy m g) steps p q b (copy_of grain w m g steps b.steps_are) refl f
 all_stand grain w least (Clean m g) steps p q b f = fill_stands grain w least (Clean m g) steps p q b (clean_of grain w m g steps b.sound b.steps_are) refl f

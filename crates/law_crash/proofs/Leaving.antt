@@ -28,12 +28,11 @@ use Rattle.fc_decided.proofs.Ordered.{found_by_id}
 use Rattle.fc_entry.specs.Picture.{Lost, Picture, zeros}
 use Rattle.fc_follow.specs.Alike.{AreAlike}
 use Rattle.fc_follow.specs.Following.{Followed, event_notes, followed_event, restarts, rows_event}
-use Rattle.fc_kept.specs.Disks.{NamedDisk, FitDisks, on_disk}
+use Rattle.fc_kept.specs.Disks.{NamedDisk, on_disk}
 use Rattle.fc_kept.specs.Drops.{DropsTo.same}
 use Rattle.fc_kept.specs.Images.{size_in}
 use Rattle.fc_kept.specs.Kept.{LostGrains, Kept, is_lost_in}
 use Rattle.fc_kept.specs.Marks.{IsMarked, AreMarked, least_by, least_events}
-use Rattle.fc_kept.specs.Recoverable.{disks_at}
 use Rattle.fc_kept.specs.Sound.{books_of, AreLost, IsInto, IsSoundKept}
 use Rattle.fc_kept.proofs.Marking.{mark_law}
 use Rattle.fc_kept.proofs.Sizes.{size_is, slot_size}
@@ -45,16 +44,16 @@ use Rattle.fc_moves.proofs.Readers.{IsHolder, holder_is}
 use Rattle.fc_pictures.specs.Law.{StoredAfter}
 use Rattle.fc_rules.specs.LaneTold.{LaneOf, place_of}
 use Rattle.fc_rules.specs.Shows.{Stored, Shown, Shows}
-use Rattle.law_crash.specs.Leaving.{AreFit, AreUnnamed, GoesOn, Leaves, Leaves.decided, Leaves.unsettled, Leaves.settled_alone, lost_of, made_anew}
+use Rattle.law_crash.specs.Leaving.{AreFit, AreUnnamed, GoesOn, HaveTheirDisks, Leaves, Leaves.decided, Leaves.unsettled, Leaves.settled_alone, lost_of, made_anew}
 use Rattle.law_crash.specs.Points.{Point, StandsFor, on_disks, stored_by}
 use Rattle.law_crash.proofs.Coming.{AreAbove, IsAbove, MakesNew, decide_new, next_later, settle_new}
+use Rattle.law_crash.proofs.Fitting.{decided_fit, settled_fit}
 use Rattle.law_crash.proofs.Found.{chains_sound}
 use Rattle.law_crash.proofs.Lost.{all_in_is, row_of}
 use Rattle.law_crash.proofs.Noting.{stands_counted}
 use Rattle.law_stands.proofs.Few.{one_of_all}
 use Rattle.law_stands.proofs.Standing.{command_lawful, settling_lawful, stands_law_holds}
 use Rattle.law_stands.specs.Reached.{IsReached}
-use Rattle.law_volumes.proofs.Steps.{settling_keeps}
 
 -- ---- the events leave what is stored as it is, since a volume that comes stores zeros
 
@@ -370,22 +369,6 @@ decision_leaves grain decisions w least d p few lawful r new alike unnamed fit s
 
 -- ---- a command
 
--- disks that fit a table fit one with the same volumes
-fit_volumes : (l : LaneOf) (disks : List NamedDisk) (t u : Tables) → u.volumes ≡ t.volumes → FitDisks l disks t → FitDisks l disks u
-fit_volumes l disks t u e f =
-    let was : (v : Volume) → Contains u.volumes v → Contains t.volumes v = λ v c. subst (λ (z : List Volume). Contains z v) e c in
-    record {
-      named = λ v d c q. f.named v d (was v c) q;
-      unnamed = λ v c q. f.unnamed v (was v c) q;
-      one = λ v x vc xc p q. f.one v x (was v vc) (was x xc) p q;
-    }
-
-settled_fit : (grain : GrainSize) (w : Whole) (least : List Row) (p : Point) → StandsFor grain w least p → AreFit grain (after_settling grain w) p.disks
-settled_fit grain w least p st i il =
-    let settled : Whole = after_settling grain w in
-    fit_volumes (lane_at grain settled i) (disks_at p.disks i) p.kept.tables settled.books.tables
-    (settling_keeps grain w ∙ sym (ap (λ (t : Tables). t.volumes) st.says.tables)) (st.says.fit i il)
-
 settling_leaves : (grain : GrainSize) (decisions : ℕ) (w : Whole) (least : List Row) (p : Point) → decisions + 3 < 2 ^ 32 → IsReached decisions w → AreAlike (all_followed w) → AreUnnamed w p.disks → StandsFor grain w least p →
     LeftBy grain w least (settle w.books) p
 settling_leaves grain decisions w least p few r alike unnamed st =
@@ -423,17 +406,18 @@ counted grain decisions left least q st on = (
 )
 
 pub leaves_all : (grain : GrainSize) (decisions : ℕ) (w left : Whole) (least least' : List Row) (command : Command) (p : Point) (kept : Kept) → decisions + 4 < 2 ^ 32 → GoesOn decisions w p.disks →
-    StandsFor grain w least p → Leaves grain w least p.kept command left least' kept → AreFit grain left p.disks → AllLeft grain (decisions + 2) left least' (record p { kept = kept })
-leaves_all grain decisions w left least least' command p kept few on st (decided loop told) fit =
+    StandsFor grain w least p → HaveTheirDisks w p.disks → Leaves grain w least p.kept command left least' kept → AllLeft grain (decisions + 2) left least' (record p { kept = kept })
+leaves_all grain decisions w left least least' command p kept few on st have (decided loop told) =
+    let fit = decided_fit grain decisions w least p command loop (omega (arith, few)) on st have told in
     let x = command_leaves grain decisions w least command loop p few on.reached on.alike on.unnamed st told fit in
     let settled : Whole = after_settling grain w in
     let d : Decision = decided_on grain settled command loop in
     counted grain (decisions + 2) (left_by grain settled d) (least_by settled (least_by w least (settle w.books)) d) (behind grain settled d (behind grain w (settle w.books) p)) x.stands
     (record { reached = stands_law_holds.decided grain decisions w command loop (omega (arith, few)) on.reached told; alike = x.alike; unnamed = x.unnamed })
-leaves_all grain decisions w left least least' command p kept few on st unsettled fit =
+leaves_all grain decisions w left least least' command p kept few on st have unsettled =
     counted grain (decisions + 2) w least p st
     (record { reached = stands_law_holds.more decisions (decisions + 2) w (omega arith) on.reached; alike = on.alike; unnamed = on.unnamed })
-leaves_all grain decisions w left least least' command p kept few on st settled_alone fit =
+leaves_all grain decisions w left least least' command p kept few on st have settled_alone =
     let x = settling_leaves grain decisions w least p (omega (arith, few)) on.reached on.alike on.unnamed st in
     let r : IsReached (decisions + 1) (after_settling grain w) = stands_law_holds.settled grain decisions w (omega (arith, few)) on.reached in
     counted grain (decisions + 2) (after_settling grain w) (least_by w least (settle w.books)) (behind grain w (settle w.books) p) x.stands

@@ -27,15 +27,17 @@ use Rattle.fc_rules.specs.Steps.{DiskStep, step_of_move}
 use Rattle.fc_kept.specs.Actions.{Action, actions_of_move}
 use Rattle.fc_kept.specs.Disks.{NamedDisk}
 use Rattle.fc_kept.specs.Images.{size_in}
+use Rattle.fc_kept.specs.Kept.{Kept}
 use Rattle.fc_kept.specs.Marks.{AreMarked, least_asked}
 use Rattle.fc_kept.specs.OneGrain.{Another}
 use Rattle.fc_kept.specs.Prefix.{AreStepsOf, moved_to, Prefix, Prefix.moves as first_moves}
 use Rattle.fc_kept.specs.Recoverable.{Recoverable}
 use Rattle.fc_kept.proofs.Marking.{mark_law}
 use Rattle.fc_kept.proofs.Sizes.{slot_size}
-use Rattle.law_crash.specs.Points.{Point, stored_by, StandsFor}
-use Rattle.law_crash.specs.Doing.{number_of, actions_of_steps, IsWritten, noted, with_disks, Did, IsFound, IsFoundIn, Finds}
+use Rattle.law_crash.specs.Points.{Point, StandsFor}
+use Rattle.law_crash.specs.Doing.{number_of, actions_of_steps, IsWritten, MayFold, noted, with_kept, with_disks, Did, IsFound, IsFoundIn, Finds}
 use Rattle.law_crash.proofs.Found.{chains_sound, found, FoundIn, found_in, CanChange, shows_not}
+use Rattle.law_crash.proofs.Folding.{fold_stands, fold_rows}
 use Rattle.law_crash.proofs.Moving.{CanMoveAt, pair_of, stands_in_place, stands_empty, stands_copied}
 use Rattle.law_crash.proofs.Noting.{with_sheet, written_sheet}
 
@@ -65,9 +67,21 @@ pub record At (grain : GrainSize) (w : Whole) (least : List Row) (r : Request) (
   pub marked : AreMarked p.kept.rows w.rows least
   pub rows_are : p.kept.rows ≡ rows
 
+-- and metadata may have been folded since
+pub at_folded : (grain : GrainSize) (w : Whole) (least : List Row) (r : Request) (rows : List Row) (done : List ℕ) (p : Point) (k : Kept) → MayFold (chains_after grain w r done) p.kept k → At grain w least r rows done p →
+    At grain w least r rows done (with_kept k p)
+at_folded grain w least r rows done p k m a =
+    let chains : Sheet = chains_after grain w r done in
+    let same : k.rows ≡ p.kept.rows = fold_rows chains p.kept k m in
+    record {
+      stands = fold_stands grain (with_sheet w chains) (least_asked (single_lane grain) least (Some r)) p k m a.stands;
+      marked = subst (λ (z : List Row). AreMarked z w.rows least) (sym same) a.marked;
+      rows_are = same ∙ a.rows_are;
+    }
+
 -- ---- a stop between moves
 
-told_moves : (grain : GrainSize) (w : Whole) (r : Request) (done : List ℕ) → moved_to grain w (steps_in grain w r done) ≡ with_sheet w (chains_after grain w r done)
+pub told_moves : (grain : GrainSize) (w : Whole) (r : Request) (done : List ℕ) → moved_to grain w (steps_in grain w r done) ≡ with_sheet w (chains_after grain w r done)
 told_moves grain w r done =
     ap (λ (ms : List Move). with_sheet w (fold (sheet_move (single_lane grain)) w.books.sheet ms)) (lane_law_holds.moves_told (spot_in grain w r) done)
 
@@ -84,10 +98,10 @@ prefix_at grain w least r done rest owns e =
 -- ---- one move
 
 -- the move of a slot by its marks: in place or not, and where there is nothing to copy
-abbrev move_with : Spot → ℕ → Bool → Move
+abbrev pub move_with : Spot → ℕ → Bool → Move
 move_with spot k in_place = record (move_in spot k) { in_place = in_place }
 
-abbrev step_with : Spot → ℕ → Bool → Bool → DiskStep
+abbrev pub step_with : Spot → ℕ → Bool → Bool → DiskStep
 step_with spot k in_place lost = record (step_of_move spot k) { move = Some (move_with spot k in_place); calls = cond (in_place || lost) 0 2 }
 
 can_move_at : (grain : GrainSize) (w : Whole) (r : Request) (moves : List ℕ) (owns : List DiskStep) → Moves grain w r moves owns → (done rest : List ℕ) (k : ℕ) → moves ≡ done ++ k ∷ rest →
@@ -177,19 +191,20 @@ copied_more grain w least r rows done k p disks n x a =
 
 -- ---- what is found
 
-pub from_found : (grain : GrainSize) (w : Whole) (least : List Row) (r : Request) (p q : Point) (one : Option Another) → IsFound p one q → Recoverable grain p.disks p.kept w least (Some r) None → Recoverable grain q.disks q.kept w least (Some r) one
-from_found grain w least r p q one x f =
+pub from_found : (grain : GrainSize) (w : Whole) (least : List Row) (r : Request) (chains : Sheet) (p q : Point) (one : Option Another) → IsFound chains p one q →
+    ((k : Kept) → MayFold chains p.kept k → Recoverable grain p.disks k w least (Some r) None) → Recoverable grain q.disks q.kept w least (Some r) one
+from_found grain w least r chains p q one x f =
     subst (λ (o : Option Another). Recoverable grain q.disks q.kept w least (Some r) o) (sym x.0)
-    (subst (λ (z : Point). Recoverable grain z.disks z.kept w least (Some r) None) (sym x.1) f)
+    (subst (λ (d : List (List NamedDisk)). Recoverable grain d q.kept w least (Some r) None) (sym x.1) (f q.kept x.2))
 
-pub from_found_in : (grain : GrainSize) (w : Whole) (least : List Row) (r : Request) (step : DiskStep) (p q : Point) (one : Option Another) → IsFoundIn grain w r step p one q →
-    FoundIn grain w w least r p q.disks step.volume (number_of grain r) → Recoverable grain q.disks q.kept w least (Some r) one
-from_found_in grain w least r step p q one x f =
-    let v : ℕ = step.volume in
-    let g : ℕ = number_of grain r in
-    let same : with_disks q.disks p ≡ q = λ i. record { kept = sym x.kept i; disks = q.disks } in
-    subst (λ (o : Option Another). Recoverable grain q.disks q.kept w least (Some r) o) (sym x.one_is)
-    (subst (λ (z : Point). Recoverable grain z.disks z.kept w least (Some r) (Some record { volume = v; grain = g; content = stored_by grain w z v g })) same f)
+pub found_here : (grain : GrainSize) (w now : Whole) (least least_now : List Row) (r : Request) (p q : Point) (one : Option Another) → Prefix grain w least (Some r) now least_now → StandsFor grain now least_now p →
+    IsFound now.books.sheet p one q → Recoverable grain q.disks q.kept w least (Some r) one
+found_here grain w now least least_now r p q one is st x =
+    from_found grain w least r now.books.sheet p q one x (λ k m. found grain w now least least_now r (with_kept k p) is (fold_stands grain now least_now p k m st))
+
+pub from_found_in : (grain : GrainSize) (w : Whole) (least : List Row) (r : Request) (chains : Sheet) (step : DiskStep) (p q : Point) (one : Option Another) → IsFoundIn grain w r chains step p one q →
+    FoundIn grain w w least r (with_kept q.kept p) q.disks step.volume (number_of grain r) → Recoverable grain q.disks q.kept w least (Some r) one
+from_found_in grain w least r chains step p q one x f = subst (λ (o : Option Another). Recoverable grain q.disks q.kept w least (Some r) o) (sym x.one_is) f
 
 can_change : (grain : GrainSize) (w : Whole) (least : List Row) (r : Request) (rows : List Row) (done : List ℕ) (k : ℕ) (p : Point) → NextMove grain w r done k false → At grain w least r rows done p →
     CanChange (chains_after grain w r done).slots ((spot_in grain w r).column.volume k) (number_of grain r) k p.kept.rows
@@ -208,81 +223,116 @@ can_change grain w least r rows done k p n a =
 -- behind all moves
 abbrev pub FoundBehind : GrainSize → Whole → List Row → Request → List Row → List ℕ → List DiskStep → Option Another → Point → Type 0
 FoundBehind grain w least r rows moves owns one q =
-    (p : Point) → At grain w least r rows moves p → Finds grain w r (actions_of_steps rows (number_of grain r) owns) p one q → Recoverable grain q.disks q.kept w least (Some r) one
+    (p : Point) → At grain w least r rows moves p → Finds grain w r (chains_after grain w r moves) (actions_of_steps rows (number_of grain r) owns) p one q → Recoverable grain q.disks q.kept w least (Some r) one
+
+-- behind one of them
+abbrev BehindOne : GrainSize → Whole → List Row → Request → List Row → List ℕ → ℕ → List Action → Option Another → Point → Type 0
+BehindOne grain w least r rows done k rest one q =
+    (x : Point) → At grain w least r rows (done ++ k ∷ []) x → Finds grain w r (chains_after grain w r (done ++ k ∷ [])) rest x one q → Recoverable grain q.disks q.kept w least (Some r) one
 
 -- at one of them, or behind it
 found_move : (grain : GrainSize) (w : Whole) (least : List Row) (r : Request) (rows : List Row) (done : List ℕ) (k : ℕ) (p q : Point) (one : Option Another) (rest : List Action) (in_place lost : Bool) →
     NextMove grain w r done k in_place → is_lost ((spot_in grain w r).now ((spot_in grain w r).column.volume k)) ≡ lost → At grain w least r rows done p →
     Prefix grain w least (Some r) (with_sheet w (chains_after grain w r done)) (least_asked (single_lane grain) least (Some r)) →
-    ((x : Point) → At grain w least r rows (done ++ k ∷ []) x → Finds grain w r rest x one q → Recoverable grain q.disks q.kept w least (Some r) one) →
-    Finds grain w r (actions_of_move (step_with (spot_in grain w r) k in_place lost) (move_with (spot_in grain w r) k in_place) ++ rest) p one q →
+    BehindOne grain w least r rows done k rest one q →
+    Finds grain w r (chains_after grain w r done) (actions_of_move (step_with (spot_in grain w r) k in_place lost) (move_with (spot_in grain w r) k in_place) ++ rest) p one q →
     Recoverable grain q.disks q.kept w least (Some r) one
 found_move grain w least r rows done k p q one rest true lost n l a is on f =
     elim f [
-      | inl x ↦ from_found grain w least r p q one x (found grain w (with_sheet w (chains_after grain w r done)) least (least_asked (single_lane grain) least (Some r)) r p is a.stands)
-      | inr y ↦ on (made (spot_in grain w r) k true false p) (in_place_more grain w least r rows done k p n a) y
+      | inl x ↦ found_here grain w (with_sheet w (chains_after grain w r done)) least (least_asked (single_lane grain) least (Some r)) r p q one is a.stands x
+      | inr y ↦
+          let x : Point = with_kept y.0 p in
+          let z : Point = made (spot_in grain w r) k true false x in
+          on z (in_place_more grain w least r rows done k x n (at_folded grain w least r rows done p y.0 y.1 a)) (subst (λ (s : Sheet). Finds grain w r s rest z one q) (sym n.2) y.2)
     ]
 found_move grain w least r rows done k p q one rest false true n l a is on f =
     elim f [
-      | inl x ↦ from_found grain w least r p q one x (found grain w (with_sheet w (chains_after grain w r done)) least (least_asked (single_lane grain) least (Some r)) r p is a.stands)
-      | inr y ↦ on (made (spot_in grain w r) k false true p) (empty_more grain w least r rows done k p n l a) y
+      | inl x ↦ found_here grain w (with_sheet w (chains_after grain w r done)) least (least_asked (single_lane grain) least (Some r)) r p q one is a.stands x
+      | inr y ↦
+          let x : Point = with_kept y.0 p in
+          let z : Point = made (spot_in grain w r) k false true x in
+          on z (empty_more grain w least r rows done k x n l (at_folded grain w least r rows done p y.0 y.1 a)) (subst (λ (s : Sheet). Finds grain w r s rest z one q) (sym n.2) y.2)
     ]
 found_move grain w least r rows done k p q one rest false false n l a is on f =
-    let now : Whole = with_sheet w (chains_after grain w r done) in
+    let s : Sheet = chains_after grain w r done in
+    let now : Whole = with_sheet w s in
     let least' : List Row = least_asked (single_lane grain) least (Some r) in
     let spot : Spot = spot_in grain w r in
     elim f [
-      | inl x ↦ from_found grain w least r p q one x (found grain w now least least' r p is a.stands)
+      | inl x ↦ found_here grain w now least least' r p q one is a.stands x
       | inr y ↦ elim y [
-        | inl x ↦ from_found_in grain w least r (step_with spot k false false) p q one x
-            (found_in grain w now least least' r p q.disks (spot.column.volume k) (number_of grain r) k x.content is a.stands (can_change grain w least r rows done k p n a) (written_sheet grain w (chains_after grain w r done) (spot.column.volume k) (number_of grain r) x.content p.disks q.disks x.writes))
-        | inr x ↦ on (made spot k false false (with_disks x.0 p)) (copied_more grain w least r rows done k p x.0 n x.1 a) x.2
+        | inl x ↦
+            let z : Point = with_kept q.kept p in
+            let az : At grain w least r rows done z = at_folded grain w least r rows done p q.kept x.kept a in
+            from_found_in grain w least r s (step_with spot k false false) p q one x
+            (found_in grain w now least least' r z q.disks (spot.column.volume k) (number_of grain r) k x.content is az.stands (can_change grain w least r rows done k z n az) (written_sheet grain w s (spot.column.volume k) (number_of grain r) x.content p.disks q.disks x.writes))
+        | inr x ↦
+            let u : Point = with_kept x.2 p in
+            let z : Point = made spot k false false (with_disks x.0 u) in
+            on z (copied_more grain w least r rows done k u x.0 n x.1 (at_folded grain w least r rows done p x.2 x.3 a)) (subst (λ (t : Sheet). Finds grain w r t rest z one q) (sym n.2) x.4)
       ]
     ]
 
 pub found_moves : (grain : GrainSize) (w : Whole) (least : List Row) (r : Request) (rows : List Row) (moves : List ℕ) (owns : List DiskStep) (q : Point) (one : Option Another) → Moves grain w r moves owns →
     FoundBehind grain w least r rows moves owns one q →
     (todo done : List ℕ) (p : Point) → moves ≡ done ++ todo → At grain w least r rows done p →
-    Finds grain w r (actions_of_steps rows (number_of grain r) (steps_in grain w r todo ++ owns)) p one q → Recoverable grain q.disks q.kept w least (Some r) one
+    Finds grain w r (chains_after grain w r done) (actions_of_steps rows (number_of grain r) (steps_in grain w r todo ++ owns)) p one q → Recoverable grain q.disks q.kept w least (Some r) one
 found_moves grain w least r rows moves owns q one m behind [] done p split a f =
-    behind p (subst (λ (z : List ℕ). At grain w least r rows z p) (sym (split ∙ append-nil done)) a) f
+    let same : done ≡ moves = sym (split ∙ append-nil done) in
+    behind p (subst (λ (z : List ℕ). At grain w least r rows z p) same a)
+    (subst (λ (z : List ℕ). Finds grain w r (chains_after grain w r z) (actions_of_steps rows (number_of grain r) owns) p one q) same f)
 found_moves grain w least r rows moves owns q one m behind (k ∷ todo) done p split a f =
     let spot : Spot = spot_in grain w r in
     let g : ℕ = number_of grain r in
     let now : Whole = with_sheet w (chains_after grain w r done) in
     let least' : List Row = least_asked (single_lane grain) least (Some r) in
     let is : Prefix grain w least (Some r) now least' = prefix_at grain w least r done (k ∷ todo) owns (subst (λ (z : List ℕ). AreStepsOf grain w r (steps_in grain w r z ++ owns)) split m.steps_are) in
-    let on = λ (x : Point) (ax : At grain w least r rows (done ++ k ∷ []) x). found_moves grain w least r rows moves owns q one m behind todo (done ++ k ∷ []) x (split ∙ sym (append_assoc done (k ∷ []) todo)) ax in
+    let rest : List Action = actions_of_steps rows g (steps_in grain w r todo ++ owns) in
+    let on : BehindOne grain w least r rows done k rest one q = λ x ax. found_moves grain w least r rows moves owns q one m behind todo (done ++ k ∷ []) x (split ∙ sym (append_assoc done (k ∷ []) todo)) ax in
     let next = next_move grain w r moves owns m done todo k split in
     let v : ℕ = spot.column.volume k in
-    let rest : List Action = actions_of_steps rows g (steps_in grain w r todo ++ owns) in
     found_move grain w least r rows done k p q one rest (is_in_place spot.column k) (is_lost (spot.now v)) (next (is_in_place spot.column k) refl) refl a is on f
 
 -- ---- all moves are made
 
+abbrev DidOne : GrainSize → Whole → List Row → Request → List Row → List ℕ → ℕ → List Action → Point → Type 0 → Type 0
+DidOne grain w least r rows done k rest q R =
+    (x : Point) → At grain w least r rows (done ++ k ∷ []) x → Did grain w r (chains_after grain w r (done ++ k ∷ [])) rest x q → R
+
 did_move : (grain : GrainSize) (w : Whole) (least : List Row) (r : Request) (rows : List Row) (done : List ℕ) (k : ℕ) (p q : Point) (rest : List Action) (R : Type 0) (in_place lost : Bool) →
     NextMove grain w r done k in_place → is_lost ((spot_in grain w r).now ((spot_in grain w r).column.volume k)) ≡ lost → At grain w least r rows done p →
-    ((x : Point) → At grain w least r rows (done ++ k ∷ []) x → Did grain w r rest x q → R) →
-    Did grain w r (actions_of_move (step_with (spot_in grain w r) k in_place lost) (move_with (spot_in grain w r) k in_place) ++ rest) p q → R
-did_move grain w least r rows done k p q rest R true lost n l a on f = on (made (spot_in grain w r) k true false p) (in_place_more grain w least r rows done k p n a) f
-did_move grain w least r rows done k p q rest R false true n l a on f = on (made (spot_in grain w r) k false true p) (empty_more grain w least r rows done k p n l a) f
+    DidOne grain w least r rows done k rest q R →
+    Did grain w r (chains_after grain w r done) (actions_of_move (step_with (spot_in grain w r) k in_place lost) (move_with (spot_in grain w r) k in_place) ++ rest) p q → R
+did_move grain w least r rows done k p q rest R true lost n l a on f =
+    let x : Point = with_kept f.0 p in
+    let z : Point = made (spot_in grain w r) k true false x in
+    on z (in_place_more grain w least r rows done k x n (at_folded grain w least r rows done p f.0 f.1 a)) (subst (λ (s : Sheet). Did grain w r s rest z q) (sym n.2) f.2)
+did_move grain w least r rows done k p q rest R false true n l a on f =
+    let x : Point = with_kept f.0 p in
+    let z : Point = made (spot_in grain w r) k false true x in
+    on z (empty_more grain w least r rows done k x n l (at_folded grain w least r rows done p f.0 f.1 a)) (subst (λ (s : Sheet). Did grain w r s rest z q) (sym n.2) f.2)
 did_move grain w least r rows done k p q rest R false false n l a on f =
-    on (made (spot_in grain w r) k false false (with_disks f.0 p)) (copied_more grain w least r rows done k p f.0 n f.1 a) f.2
+    let x : Point = with_kept f.2.0 p in
+    let z : Point = made (spot_in grain w r) k false false (with_disks f.0 x) in
+    on z (copied_more grain w least r rows done k x f.0 n f.1 (at_folded grain w least r rows done p f.2.0 f.2.1 a)) (subst (λ (s : Sheet). Did grain w r s rest z q) (sym n.2) f.2.2)
 
 -- those of them that stand behind `done`, up to `rest`
+abbrev pub DidBehind : GrainSize → Whole → List Row → Request → List Row → List DiskStep → Point → Type 0 → List ℕ → Type 0
+DidBehind grain w least r rows tail q R done =
+    (x : Point) → At grain w least r rows done x → Did grain w r (chains_after grain w r done) (actions_of_steps rows (number_of grain r) tail) x q → R
+
 pub did_moves : (grain : GrainSize) (w : Whole) (least : List Row) (r : Request) (rows : List Row) (moves : List ℕ) (owns tail : List DiskStep) (q : Point) (R : Type 0) → Moves grain w r moves owns →
-    (todo done rest : List ℕ) (p : Point) → moves ≡ done ++ (todo ++ rest) → At grain w least r rows done p →
-    ((x : Point) → At grain w least r rows (done ++ todo) x → Did grain w r (actions_of_steps rows (number_of grain r) tail) x q → R) →
-    Did grain w r (actions_of_steps rows (number_of grain r) (steps_in grain w r todo ++ tail)) p q → R
+    (todo done rest : List ℕ) (p : Point) → moves ≡ done ++ (todo ++ rest) → At grain w least r rows done p → DidBehind grain w least r rows tail q R (done ++ todo) →
+    Did grain w r (chains_after grain w r done) (actions_of_steps rows (number_of grain r) (steps_in grain w r todo ++ tail)) p q → R
 did_moves grain w least r rows moves owns tail q R m [] done rest p split a behind f =
-    behind p (subst (λ (z : List ℕ). At grain w least r rows z p) (sym (append-nil done)) a) f
+    subst (DidBehind grain w least r rows tail q R) (append-nil done) behind p a f
 did_moves grain w least r rows moves owns tail q R m (k ∷ todo) done rest p split a behind f =
     let spot : Spot = spot_in grain w r in
     let v : ℕ = spot.column.volume k in
     let left : List Action = actions_of_steps rows (number_of grain r) (steps_in grain w r todo ++ tail) in
     let more : (done ++ k ∷ []) ++ todo ≡ done ++ k ∷ todo = append_assoc done (k ∷ []) todo in
-    let on = λ (x : Point) (ax : At grain w least r rows (done ++ k ∷ []) x). did_moves grain w least r rows moves owns tail q R m todo (done ++ k ∷ []) rest x (split ∙ sym (append_assoc done (k ∷ []) (todo ++ rest))) ax
-    (λ y ay. behind y (subst (λ (z : List ℕ). At grain w least r rows z y) more ay)) in
+    let on : DidOne grain w least r rows done k left q R = λ x ax. did_moves grain w least r rows moves owns tail q R m todo (done ++ k ∷ []) rest x (split ∙ sym (append_assoc done (k ∷ []) (todo ++ rest))) ax
+    (subst (DidBehind grain w least r rows tail q R) (sym more) behind) in
     let next = next_move grain w r moves owns m done (todo ++ rest) k split in
     did_move grain w least r rows done k p q left R (is_in_place spot.column k) (is_lost (spot.now v)) (next (is_in_place spot.column k) refl) refl a on f
 

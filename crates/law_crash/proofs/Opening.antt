@@ -22,9 +22,10 @@ use Rattle.fc_kept.specs.Recoverable.{Recoverable}
 use Rattle.fc_kept.specs.Sound.{books_of, IsSoundKept}
 use Rattle.fc_kept.proofs.Marking.{mark_law}
 use Rattle.law_crash.specs.Points.{Point, stored_by, StandsFor, nothing_kept}
-use Rattle.law_crash.specs.Doing.{IsFound}
-use Rattle.law_crash.proofs.Found.{found, found_asked}
-use Rattle.law_crash.proofs.Making.{from_found}
+use Rattle.law_crash.specs.Doing.{IsFound, with_kept}
+use Rattle.law_crash.proofs.Folding.{fold_stands}
+use Rattle.law_crash.proofs.Found.{found_asked}
+use Rattle.law_crash.proofs.Making.{from_found, found_here}
 
 -- ---- no volumes
 
@@ -113,9 +114,9 @@ rests grain w least asked p st =
 -- ---- metadata made anew
 
 pub turned : (grain : GrainSize) (w next : Whole) (least least' : List Row) (entry : Entry) (p q x : Point) (one : Option Another) → Step grain w entry next → LeastStep grain w least entry.request entry next least' →
-    StandsFor grain w least p → StandsFor grain next least' q → IsFound p one x ⊎ IsFound q one x → Recoverable grain x.disks x.kept w least (Some entry.request) one
+    StandsFor grain w least p → StandsFor grain next least' q → IsFound w.books.sheet p one x ⊎ IsFound next.books.sheet q one x → Recoverable grain x.disks x.kept w least (Some entry.request) one
 turned grain w next least least' entry p q x one right marks before behind f =
     elim f [
-      | inl y ↦ from_found grain w least entry.request p x one y (rests grain w least (Some entry.request) p before)
-      | inr y ↦ from_found grain w least entry.request q x one y (found grain w next least least' entry.request q (whole entry next least' right marks) behind)
+      | inl y ↦ from_found grain w least entry.request w.books.sheet p x one y (λ k m. rests grain w least (Some entry.request) (with_kept k p) (fold_stands grain w least p k m before))
+      | inr y ↦ found_here grain w next least least' entry.request q x one (whole entry next least' right marks) behind y
     ]

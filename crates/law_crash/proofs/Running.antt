@@ -1,5 +1,5 @@
 -- A whole history: each entry stands on what the last one left, and what a stop finds in the next one may be recovered.
-use Rattle.std.proofs.Common.{◌≡◌, ℕ, ◌+◌, ◌*◌, ◌<◌, ◌≤◌, ◌==◌, true, false, cond, fold, Option, Some, None, List, [], ◌∷◌, ◌++◌, length, set, All, refl, sym, ap, subst, ◌∙◌, arith, inl, inr}
+use Rattle.std.proofs.Common.{◌≡◌, ℕ, ◌+◌, ◌*◌, ◌<◌, ◌≤◌, ◌==◌, cond, fold, Option, Some, None, List, [], ◌∷◌, ◌++◌, length, set, All, refl, sym, ap, subst, ◌∙◌, arith, inl, inr}
 use Rattle.std.specs.List.{AllZip}
 use Rattle.std.proofs.lemmas.Bool.{eqb-true}
 use Rattle.fc_alike.proofs.Lawful.{follow_law_holds}
@@ -28,12 +28,13 @@ use Rattle.fc_follow.specs.Alike.{AreAlike, IsAlike}
 use Rattle.fc_follow.specs.Following.{followed_entry, rows_entry, write_notes}
 use Rattle.fc_kept.specs.Actions.{Action, Action.Data, Action.Note, Action.Fold}
 use Rattle.fc_kept.specs.Disks.{NamedDisk, FitDisks, disk_of}
-use Rattle.fc_kept.specs.Kept.{Kept, is_lost_in}
+use Rattle.fc_kept.specs.Kept.{Kept, is_lost_in, sheet_kept}
 use Rattle.fc_kept.specs.Marks.{LeastLeft, LeastLeft.decided as least_decided, LeastLeft.unsettled as least_unsettled, LeastLeft.settled_alone as least_settled, LeastStep, asked_write, least_asked, least_entry}
 use Rattle.fc_kept.specs.OneGrain.{Another}
 use Rattle.fc_kept.specs.Prefix.{AreStepsOf}
 use Rattle.fc_kept.specs.Recoverable.{Recoverable, disks_at}
 use Rattle.fc_kept.proofs.Marking.{mark_law}
+use Rattle.fc_kept.proofs.Sizes.{size_is, slot_size}
 use Rattle.fc_legal.specs.Legal.{AreSteps}
 use Rattle.fc_legal.specs.Steps.{Step, after_access, one_more}
 use Rattle.fc_legal.specs.Whole.{Whole, all_followed, as_one, lane_at, opened, single_lane}
@@ -43,7 +44,7 @@ use Rattle.fc_parts.proofs.Numbers.{all_place}
 use Rattle.fc_rules.specs.LaneRight.{done_write}
 use Rattle.fc_rules.specs.LaneTold.{picture_entry, picture_tear, picture_write, place_of, sheet_entry, tear_volume}
 use Rattle.fc_rules.specs.Steps.{DiskStep}
-use Rattle.law_crash.specs.Doing.{number_of, actions_of_steps, marks_by_move, content_of, noted, with_disks, IsWritten, SameDisk, Did, Stopped, Tears, Tells}
+use Rattle.law_crash.specs.Doing.{number_of, actions_of_steps, marks_by_move, chains_behind, content_of, noted, with_kept, with_disks, IsWritten, SameDisk, Did, Stopped, Tears, Tells}
 use Rattle.law_crash.specs.Law.{Begins}
 use Rattle.law_crash.specs.Leaving.{AreUnnamed, GoesOn, Leaves, Leaves.decided, Leaves.unsettled, Leaves.settled_alone}
 use Rattle.law_crash.specs.Points.{Point, StandsFor, nothing_kept, on_disks, stored_by}
@@ -56,7 +57,6 @@ use Rattle.law_crash.proofs.Leaving.{SameOfSlots, leaves_all, shows_same, some_v
 use Rattle.law_crash.proofs.Noting.{stands_counted}
 use Rattle.law_crash.proofs.Opening.{opens, rests, turned}
 use Rattle.law_stands.proofs.Standing.{stands_law_holds}
-use Rattle.law_stands.specs.Reached.{IsReached}
 
 -- ---- rows stay alike through an access
 
@@ -108,24 +108,24 @@ still_none xs ys v s e = go (disk_of ys v) refl
 written_unnamed : (grain : GrainSize) (w now : Whole) (v g : ℕ) (content : Content) (old new : List (List NamedDisk)) → IsWritten grain w v g content old new → AreUnnamed now old → AreUnnamed now new
 written_unnamed grain w now v g content old new x u i y le = still_none (disks_at old i) (disks_at new i) y (x.same i) (u i y le)
 
-did_unnamed : (grain : GrainSize) (w now : Whole) (r : Request) (actions : List Action) (p q : Point) → Did grain w r actions p q → AreUnnamed now p.disks → AreUnnamed now q.disks
-did_unnamed grain w now r [] p q d u = subst (λ (z : Point). AreUnnamed now z.disks) (sym d) u
-did_unnamed grain w now r (Data step ∷ rest) p q d u =
-    did_unnamed grain w now r rest (with_disks d.0 p) q d.2 (written_unnamed grain w now step.volume (number_of grain r) (content_of grain w r step) p.disks d.0 d.1 u)
-did_unnamed grain w now r (Note x ∷ rest) p q d u = did_unnamed grain w now r rest (noted x p) q d u
-did_unnamed grain w now r (Fold ∷ rest) p q d u = absurd d
+did_unnamed : (grain : GrainSize) (w now : Whole) (r : Request) (chains : Sheet) (actions : List Action) (p q : Point) → Did grain w r chains actions p q → AreUnnamed now p.disks → AreUnnamed now q.disks
+did_unnamed grain w now r chains [] p q d u = subst (λ (z : Point). AreUnnamed now z.disks) (sym d) u
+did_unnamed grain w now r chains (Data step ∷ rest) p q d u =
+    did_unnamed grain w now r chains rest (with_disks d.0 p) q d.2 (written_unnamed grain w now step.volume (number_of grain r) (content_of grain w r step) p.disks d.0 d.1 u)
+did_unnamed grain w now r chains (Note x ∷ rest) p q d u = did_unnamed grain w now r (sheet_kept chains x) rest (noted x (with_kept d.0 p)) q d.2 u
+did_unnamed grain w now r chains (Fold ∷ rest) p q d u = absurd d
 
-tears_unnamed : (grain : GrainSize) (w now : Whole) (r : Request) (step : DiskStep) (torn : Option Torn) (p q : Point) → Tears grain w r step torn p q → AreUnnamed now p.disks → AreUnnamed now q.disks
-tears_unnamed grain w now r step None p q t u = subst (λ (z : Point). AreUnnamed now z.disks) (sym t) u
-tears_unnamed grain w now r step (Some torn) p q (is, some, content, disks, x, e) u =
+tears_unnamed : (grain : GrainSize) (w now : Whole) (r : Request) (chains : Sheet) (step : DiskStep) (torn : Option Torn) (p q : Point) → Tears grain w r chains step torn p q → AreUnnamed now p.disks → AreUnnamed now q.disks
+tears_unnamed grain w now r chains step None p q t u = subst (λ (z : Point). AreUnnamed now z.disks) (sym t) u
+tears_unnamed grain w now r chains step (Some torn) p q (is, some, content, disks, x, kept, m, e) u =
     subst (λ (z : Point). AreUnnamed now z.disks) (sym e) (written_unnamed grain w now step.volume (number_of grain r) content p.disks disks x u)
 
 stopped_unnamed : (grain : GrainSize) (w now : Whole) (r : Request) (rows : List Row) (front : List DiskStep) (step : DiskStep) (torn : Option Torn) (p q : Point) → Stopped grain w r rows front step torn p q →
     AreUnnamed now p.disks → AreUnnamed now q.disks
 stopped_unnamed grain w now r rows front step torn p q x u =
-    tears_unnamed grain w now r step torn x.marked q x.tears
-    (did_unnamed grain w now r (marks_by_move rows (number_of grain r) step step.move) x.begun x.marked x.marks
-    (did_unnamed grain w now r (actions_of_steps rows (number_of grain r) front) p x.begun x.did u))
+    tears_unnamed grain w now r (chains_behind grain w front) step torn x.marked q x.tears
+    (did_unnamed grain w now r (chains_behind grain w front) (marks_by_move rows (number_of grain r) step step.move) x.begun x.marked x.marks
+    (did_unnamed grain w now r w.books.sheet (actions_of_steps rows (number_of grain r) front) p x.begun x.did u))
 
 -- ---- an access without steps
 
@@ -190,7 +190,7 @@ module _ (grain : GrainSize) (w : Whole) (least : List Row) (p : Point) (few : w
         (subst (λ (o : Option WritePart). StandsFor grain (told_with grain w o steps None) (least_with grain least o None) z) (sym (takes_write entry.request work takes))
         (all_stand grain w least work steps p z (begins work steps inside are) did)),
     access_alike grain w i entry told.no_effects on.alike,
-    did_unnamed grain w (after_access grain w i entry) work (actions_of_steps p.kept.rows (number_of grain work) steps) p z did on.unnamed,
+    did_unnamed grain w (after_access grain w i entry) work w.books.sheet (actions_of_steps p.kept.rows (number_of grain work) steps) p z did on.unnamed,
   )
   does_stand entry next least' q (stopped i work front back step torn z takes inside are x told) = (
     answered grain w least entry.request None front torn z entry i told
@@ -199,8 +199,8 @@ module _ (grain : GrainSize) (w : Whole) (least : List Row) (p : Point) (few : w
     access_alike grain w i entry told.no_effects on.alike,
     stopped_unnamed grain w (after_access grain w i entry) work p.kept.rows front step torn p z x on.unnamed,
   )
-  does_stand entry next least' q (commanded command left rows kept e leaves fit) =
-      let x = leaves_all grain (2 * w.entries) w left least rows command p kept (omega (arith, few)) on st leaves fit in
+  does_stand entry next least' q (commanded command left rows kept e have leaves) =
+      let x = leaves_all grain (2 * w.entries) w left least rows command p kept (omega (arith, few)) on st have leaves in
       (x.0, x.1.alike, x.1.unnamed)
 
 -- ---- disks get other names
@@ -215,8 +215,9 @@ named_stands grain w least p disks sound st x =
     let found = some_volume (volume_with w.books.tables id) (sound.agree.slots k kl) in
     let f = find_from (λ (y : Volume). v == y.id.0) w.books.tables.volumes found.0 found.1 in
     let e : v ≡ found.0.id.0 = eqb-true v found.0.id.0 f.1 in
+    let size : length (slot_at w.books.sheet.slots k).held ≡ found.0.grains = slot_size w.books sound k kl ∙ size_is w.books.tables id found.0 found.1 in
     ap (λ (c : Content). cond (is_lost_in p.kept.lost v g) Lost c)
-    (subst (λ (n : ℕ). on_disks grain w disks n g ≡ on_disks grain w p.disks n g) (sym e) (x.same found.0 f.0 g)) in
+    (subst (λ (n : ℕ). on_disks grain w disks n g ≡ on_disks grain w p.disks n g) (sym e) (x.same found.0 f.0 g (omega (arith, gl, size)))) in
     record {
       says = record {
         sound = s.sound;
@@ -238,10 +239,10 @@ steps_snoc : (grain : GrainSize) (w now next : Whole) (entries : List Entry) (en
 steps_snoc grain w now next [] entry are step = (next, subst (λ (z : Whole). Step grain z entry next) are step, refl)
 steps_snoc grain w now next (e ∷ es) entry are step = (are.0, are.1, steps_snoc grain are.0 now next es entry are.2 step)
 
-abbrev RunsTo : GrainSize → Whole → List Entry → Whole → List Row → Point → Type 0
+abbrev pub RunsTo : GrainSize → Whole → List Entry → Whole → List Row → Point → Type 0
 RunsTo grain first entries w least p = AreSteps grain first entries w × StandsFor grain w least p × GoesOn (2 * w.entries) w p.disks
 
-run_stands : (grain : GrainSize) (first : Whole) (least : List Row) (p : Point) (entries : List Entry) (w : Whole) (least' : List Row) (q : Point) → StandsFor grain first least p → GoesOn (2 * first.entries) first p.disks →
+pub run_stands : (grain : GrainSize) (first : Whole) (least : List Row) (p : Point) (entries : List Entry) (w : Whole) (least' : List Row) (q : Point) → StandsFor grain first least p → GoesOn (2 * first.entries) first p.disks →
     Run grain first least p entries w least' q → w.entries ≤ 262144 → RunsTo grain first entries w least' q
 run_stands grain first least p entries w least' q st on begun few = (refl, st, on)
 run_stands grain first least p entries w least' q st on (more done now least_now x entry next least_next z run step does) few =
@@ -260,13 +261,15 @@ run_stands grain first least p entries w least' q st on (named done now least_no
       record { reached = r.2.reached; alike = r.2.alike; unnamed = stay.unnamed },
     )
 
+pub opened_on : (grain : GrainSize) (pools : List Pool) (disks : List (List NamedDisk)) → 0 < length pools → AreUnnamed (opened pools) disks → GoesOn 0 (opened pools) disks
+opened_on grain pools disks some unnamed =
+    record { reached = stands_law_holds.opened pools some; alike = follow_law_holds.none (as_one (opened pools)); unnamed = unnamed }
+
 pub runs_all : (grain : GrainSize) (pools : List Pool) (disks : List (List NamedDisk)) (entries : List Entry) (w : Whole) (least : List Row) (p : Point) → 0 < length pools → length disks ≡ length pools → AreUnnamed (opened pools) disks →
     let first : Point = record { kept = nothing_kept; disks = disks } in Run grain (opened pools) [] first entries w least p → w.entries ≤ 262144 → RunsTo grain (opened pools) entries w least p
 runs_all grain pools disks entries w least p some count unnamed run few =
     let first : Point = record { kept = nothing_kept; disks = disks } in
-    let r : IsReached 0 (opened pools) = stands_law_holds.opened pools some in
-    run_stands grain (opened pools) [] first entries w least p (opens grain pools disks count)
-    (record { reached = r; alike = follow_law_holds.none (as_one (opened pools)); unnamed = unnamed }) run few
+    run_stands grain (opened pools) [] first entries w least p (opens grain pools disks count) (opened_on grain pools disks some unnamed) run few
 
 -- ---- a stop in the next one
 
@@ -283,11 +286,11 @@ stop_recovers : (grain : GrainSize) (w : Whole) (least : List Row) (p : Point) (
 stop_recovers grain w least p request one q few st on (before r) = rests grain w least (Some r) p st
 stop_recovers grain w least p request one q few st on (within r steps other z inside are finds) =
     all_found grain w least r steps p z other (begins grain w least p few st on r steps inside are) finds
-stop_recovers grain w least p request one q few st on (behind command entry left rows kept e step leaves fit) =
-    let x = leaves_all grain (2 * w.entries) w left least rows command p kept (omega (arith, few)) on st leaves fit in
+stop_recovers grain w least p request one q few st on (behind command entry left rows kept e step have leaves) =
+    let x = leaves_all grain (2 * w.entries) w left least rows command p kept (omega (arith, few)) on st have leaves in
     let y : Point = record p { kept = kept } in
     turned grain w (one_more left) least rows entry p y y None step
-    (least_step grain w left least rows command entry entry.request e (least_left grain w least p.kept command left rows kept leaves)) st x.0 (inr (refl, refl))
+    (least_step grain w left least rows command entry entry.request e (least_left grain w least p.kept command left rows kept leaves)) st x.0 (inr (refl, refl, inl refl))
 
 pub stops_all : (grain : GrainSize) (pools : List Pool) (disks : List (List NamedDisk)) (entries : List Entry) (w : Whole) (least : List Row) (p : Point) (request : Request) (one : Option Another) (q : Point) →
     0 < length pools → length disks ≡ length pools → AreUnnamed (opened pools) disks → let first : Point = record { kept = nothing_kept; disks = disks } in Run grain (opened pools) [] first entries w least p →

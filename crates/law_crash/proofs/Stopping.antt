@@ -23,10 +23,10 @@ use Rattle.fc_rules.specs.Steps.{DiskStep, step_of_move, moves_of}
 use Rattle.fc_kept.specs.Disks.{NamedDisk}
 use Rattle.fc_kept.specs.Marks.{AreMarked, asked_write, least_asked}
 use Rattle.law_crash.specs.Points.{Point, StandsFor}
-use Rattle.law_crash.specs.Doing.{number_of, IsWritten, noted, with_disks, Tears}
+use Rattle.law_crash.specs.Doing.{number_of, IsWritten, noted, with_kept, with_disks, Tears}
 use Rattle.law_crash.proofs.Answering.{told_with, least_with}
 use Rattle.law_crash.proofs.Failing.{torn_of, StandsTorn, move_torn}
-use Rattle.law_crash.proofs.Making.{spot_in, steps_in, chains_after, Moves, At, NextMove, next_move}
+use Rattle.law_crash.proofs.Making.{spot_in, steps_in, chains_after, Moves, At, at_folded, NextMove, next_move}
 use Rattle.law_crash.proofs.Noting.{with_all, with_sheet, written_sheet}
 
 -- ---- which step it is
@@ -104,7 +104,7 @@ move_tears grain w least r rows done k p content disks n a x =
 
 -- by what it tore
 pub move_stopped : (grain : GrainSize) (w : Whole) (least : List Row) (r : Request) (rows : List Row) (moves done rest : List ℕ) (owns : List DiskStep) (k : ℕ) (torn : Option Torn) (p q : Point) → Moves grain w r moves owns →
-    moves ≡ done ++ k ∷ rest → At grain w least r rows done p → Tears grain w r (step_of_move (spot_in grain w r) k) torn p q → Goal grain w least r (steps_in grain w r done) torn q
+    moves ≡ done ++ k ∷ rest → At grain w least r rows done p → Tears grain w r (chains_after grain w r done) (step_of_move (spot_in grain w r) k) torn p q → Goal grain w least r (steps_in grain w r done) torn q
 move_stopped grain w least r rows moves done rest owns k None p q m split a t = subst (Goal grain w least r (steps_in grain w r done) None) (sym t) (move_untorn grain w least r rows done p a)
 move_stopped grain w least r rows moves done rest owns k (Some torn) p q m split a t =
     let spot = spot_in grain w r in
@@ -113,6 +113,7 @@ move_stopped grain w least r rows moves done rest owns k (Some torn) p q m split
     let n = next_move grain w r moves owns m done rest k split false out in
     let v : ℕ = spot.column.volume k in
     let g : ℕ = number_of grain r in
-    let here = move_tears grain w least r rows done k p t.2 t.3 n a t.4 in
-    let to_q : Torn → Type 0 = λ (z : Torn). Goal grain w least r (steps_in grain w r done) (Some z) (noted (TornRecord z.volume z.grain z.side) (with_disks t.3 p)) in
-    subst (Goal grain w least r (steps_in grain w r done) (Some torn)) (sym t.5) (subst to_q (sym t.0) here)
+    let x : Point = with_kept t.5 p in
+    let here = move_tears grain w least r rows done k x t.2 t.3 n (at_folded grain w least r rows done p t.5 t.6 a) t.4 in
+    let to_q : Torn → Type 0 = λ (z : Torn). Goal grain w least r (steps_in grain w r done) (Some z) (noted (TornRecord z.volume z.grain z.side) (with_disks t.3 x)) in
+    subst (Goal grain w least r (steps_in grain w r done) (Some torn)) (sym t.7) (subst to_q (sym t.0) here)

@@ -5,6 +5,7 @@ use Rattle.law_crash.specs.Law.{CrashLaw}
 use Rattle.law_crash.proofs.Answering.{answered}
 use Rattle.law_crash.proofs.Ending.{all_stopped}
 use Rattle.law_crash.proofs.Found.{shows_none, shown_is_read}
+use Rattle.law_crash.proofs.Histories.{histories_run}
 use Rattle.law_crash.proofs.Lawful.{all_found, all_stand}
 use Rattle.law_crash.proofs.Leaving.{leaves_all}
 use Rattle.law_crash.proofs.Opening.{opens, rests, turned}
@@ -23,5 +24,6 @@ crash_law_holds =
       turned = turned;
       leaves = leaves_all;
       runs = runs_all;
+      histories = histories_run;
       stops = stops_all;
     }

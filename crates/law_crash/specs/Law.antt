@@ -27,7 +27,7 @@ use Rattle.fc_kept.specs.OneGrain.{Another, another}
 use Rattle.fc_kept.specs.Prefix.{AreStepsOf}
 use Rattle.fc_kept.specs.Recoverable.{Recoverable}
 use Rattle.law_crash.specs.Points.{Point, StandsFor, stored_by, nothing_kept}
-use Rattle.law_crash.specs.Leaving.{AreFit, AreUnnamed, GoesOn, Leaves}
+use Rattle.law_crash.specs.Leaving.{AreUnnamed, GoesOn, HaveTheirDisks, Leaves}
 use Rattle.law_crash.specs.Running.{Run, Stops}
 use Rattle.law_crash.specs.Doing.{number_of, actions_of_steps, Did, IsFound, Finds, Stopped, Tells}
 
@@ -54,15 +54,15 @@ pub record CrashLaw : Type 0 where
   -- and no volume shows the data of a move before its record, whatever they are
   pub shows_not : (s : Sheet) (g k : ℕ) (content : Content) (v : PlainVolume) → IsSound s → IsSafeMove (column s.slots g) k →
       is_in_place (column s.slots g) k ≡ false → (another (column s.slots g) k g content v).now ≡ v.now
-  -- whatever a stop finds may be recovered
+  -- whatever a stop finds may be recovered, in folds too
   pub recovers : (grain : GrainSize) (w : Whole) (least : List Row) (request : Request) (steps : List DiskStep) (p q : Point) (one : Option Another) →
       Begins grain w least request steps p →
-      Finds grain w request (actions_of_steps p.kept.rows (number_of grain request) steps) p one q →
+      Finds grain w request w.books.sheet (actions_of_steps p.kept.rows (number_of grain request) steps) p one q →
       Recoverable grain q.disks q.kept w least (Some request) one
   -- behind all actions the disks stand for what the history leads to with the entry
   pub stands : (grain : GrainSize) (w : Whole) (least : List Row) (request : Request) (steps : List DiskStep) (p q : Point) (entry : Entry) (i : ℕ) →
       Begins grain w least request steps p →
-      Did grain w request (actions_of_steps p.kept.rows (number_of grain request) steps) p q →
+      Did grain w request w.books.sheet (actions_of_steps p.kept.rows (number_of grain request) steps) p q →
       Tells request (asked_write request) steps None entry →
       StandsFor grain (after_access grain w i entry) (least_entry (single_lane grain) least entry) q
   -- so they do behind a step that stopped
@@ -76,12 +76,13 @@ pub record CrashLaw : Type 0 where
       Step grain w entry next →
       LeastStep grain w least entry.request entry next least' →
       StandsFor grain w least p → StandsFor grain next least' q →
-      IsFound p one x ⊎ IsFound q one x →
+      IsFound w.books.sheet p one x ⊎ IsFound next.books.sheet q one x →
       Recoverable grain x.disks x.kept w least (Some entry.request) one
-  -- and what it leaves, with metadata made anew over the same disks, stands for the history with its entry, if they fit its tables
+  -- and what it leaves, with metadata made anew over the same disks, stands for the history with its entry, where each volume had its
+  -- disk before it, and as many disks are free as the pools say: so they fit the tables that it leaves
   pub leaves : (grain : GrainSize) (decisions : ℕ) (w left : Whole) (least least' : List Row) (command : Command) (p : Point) (kept : Kept) →
       decisions + 4 < 2 ^ 32 → GoesOn decisions w p.disks → StandsFor grain w least p →
-      Leaves grain w least p.kept command left least' kept → AreFit grain left p.disks →
+      HaveTheirDisks w p.disks → Leaves grain w least p.kept command left least' kept →
       StandsFor grain (one_more left) least' (record p { kept = kept }) × GoesOn (decisions + 2) (one_more left) p.disks
   -- so all entries of a history stand, one after the other, with what is done to the disks
   pub runs : (grain : GrainSize) (pools : List Pool) (disks : List (List NamedDisk)) (entries : List Entry) (w : Whole) (least : List Row) (p : Point) →
@@ -89,6 +90,12 @@ pub record CrashLaw : Type 0 where
       let first : Point = record { kept = nothing_kept; disks = disks } in
       Run grain (opened pools) [] first entries w least p → w.entries ≤ 262144 →
       AreSteps grain (opened pools) entries w × StandsFor grain w least p × GoesOn (2 * w.entries) w p.disks
+  -- this is so of every history: any right entries can be done so, where at first as many disks are free as the pools say
+  pub histories : (grain : GrainSize) (pools : List Pool) (disks : List (List NamedDisk)) (entries : List Entry) (w : Whole) →
+      0 < length pools → length disks ≡ length pools → AreUnnamed (opened pools) disks → HaveTheirDisks (opened pools) disks →
+      let first : Point = record { kept = nothing_kept; disks = disks } in
+      AreSteps grain (opened pools) entries w → w.entries ≤ 262144 →
+      (least : List Row) × (p : Point) × Run grain (opened pools) [] first entries w least p
   -- and wherever a stop falls in the next entry, what it finds may be recovered
   pub stops : (grain : GrainSize) (pools : List Pool) (disks : List (List NamedDisk)) (entries : List Entry) (w : Whole) (least : List Row) (p : Point) →
       (request : Request) (one : Option Another) (q : Point) → 0 < length pools → length disks ≡ length pools → AreUnnamed (opened pools) disks →

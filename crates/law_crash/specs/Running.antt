@@ -1,5 +1,5 @@
 -- A whole history on the disks, entry by entry.
-use Rattle.std.specs.Prelude.{◌≡◌, ℕ, List, [], ◌∷◌, ◌++◌, length, Contains, Option, None}
+use Rattle.std.specs.Prelude.{◌≡◌, ℕ, ◌<◌, List, [], ◌∷◌, ◌++◌, length, Contains, Option, None}
 use Rattle.fc_base.specs.declared.command.Command.{Command}
 use Rattle.fc_base.specs.declared.request.Request.{Request}
 use Rattle.fc_base.specs.declared.request.Request.TheVariants.{Command as Asked, Copy, Clean, CopyTurn, CleanTurn}
@@ -19,12 +19,14 @@ use Rattle.fc_kept.specs.OneGrain.{Another}
 use Rattle.fc_kept.specs.Prefix.{AreStepsOf}
 use Rattle.law_crash.specs.Points.{Point, on_disks}
 use Rattle.law_crash.specs.Doing.{number_of, actions_of_steps, with_disks, Did, Finds, Stopped, Tells}
-use Rattle.law_crash.specs.Leaving.{AreFit, AreUnnamed, Leaves}
+use Rattle.law_crash.specs.Leaving.{AreFit, AreUnnamed, HaveTheirDisks, Leaves}
 
--- Between two entries disks may get the names of volumes that came, and lose those of volumes that went: each volume's stay as they are.
+-- Between two entries disks may get the names of volumes that came, and lose those of volumes that went: the grains of each volume stay
+-- as they are.
 pub record StayAs (grain : GrainSize) (w : Whole) (old new : List (List NamedDisk)) : Type 0 where
   pub count : length new ≡ length old
-  pub same : (v : Volume) → Contains w.books.tables.volumes v → (g : ℕ) → on_disks grain w new v.id.0 g ≡ on_disks grain w old v.id.0 g
+  pub same : (v : Volume) → Contains w.books.tables.volumes v → (g : ℕ) → g < v.grains →
+      on_disks grain w new v.id.0 g ≡ on_disks grain w old v.id.0 g
   pub fit : AreFit grain w new
   pub unnamed : AreUnnamed w new
 
@@ -43,7 +45,7 @@ pub data Does (grain : GrainSize) (w : Whole) (least : List Row) (p : Point) (en
       Does grain w least p entry (after_access grain w i entry) (least_entry (single_lane grain) least entry) p
   -- all steps of an access are done
   whole : (i : ℕ) (work : Request) (steps : List DiskStep) (q : Point) → Takes entry.request work → IsInVolume grain w work →
-      AreStepsOf grain w work steps → Did grain w work (actions_of_steps p.kept.rows (number_of grain work) steps) p q →
+      AreStepsOf grain w work steps → Did grain w work w.books.sheet (actions_of_steps p.kept.rows (number_of grain work) steps) p q →
       Tells entry.request (asked_write entry.request) steps None entry →
       Does grain w least p entry (after_access grain w i entry) (least_entry (single_lane grain) least entry) q
   -- or one of them stopped
@@ -51,9 +53,9 @@ pub data Does (grain : GrainSize) (w : Whole) (least : List Row) (p : Point) (en
       Takes entry.request work → IsInVolume grain w work → AreStepsOf grain w work (front ++ step ∷ back) → Stopped grain w work p.kept.rows front step torn p q →
       Tells entry.request None front torn entry →
       Does grain w least p entry (after_access grain w i entry) (least_entry (single_lane grain) least entry) q
-  -- a command has metadata made anew
+  -- a command has metadata made anew, where each volume has its disk
   commanded : (command : Command) (left : Whole) (least' : List Row) (kept : Kept) → entry.request ≡ Asked command →
-      Leaves grain w least p.kept command left least' kept → AreFit grain left p.disks →
+      HaveTheirDisks w p.disks → Leaves grain w least p.kept command left least' kept →
       Does grain w least p entry (one_more left) least' (record p { kept = kept })
 
 -- Right entries, each done on what the last one left.
@@ -71,8 +73,8 @@ pub data Run (grain : GrainSize) (w : Whole) (least : List Row) (p : Point) : Li
 pub data Stops (grain : GrainSize) (w : Whole) (least : List Row) (p : Point) : Request → Option Another → Point → Type 0 where
   before : (request : Request) → Stops grain w least p request None p
   within : (request : Request) (steps : List DiskStep) (one : Option Another) (q : Point) → IsInVolume grain w request →
-      AreStepsOf grain w request steps → Finds grain w request (actions_of_steps p.kept.rows (number_of grain request) steps) p one q →
+      AreStepsOf grain w request steps → Finds grain w request w.books.sheet (actions_of_steps p.kept.rows (number_of grain request) steps) p one q →
       Stops grain w least p request one q
   behind : (command : Command) (entry : Entry) (left : Whole) (least' : List Row) (kept : Kept) → entry.request ≡ Asked command →
-      Step grain w entry (one_more left) → Leaves grain w least p.kept command left least' kept → AreFit grain left p.disks →
+      Step grain w entry (one_more left) → HaveTheirDisks w p.disks → Leaves grain w least p.kept command left least' kept →
       Stops grain w least p entry.request None (record p { kept = kept })
