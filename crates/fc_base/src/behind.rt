@@ -15,7 +15,12 @@ pub enum Behind {
         name: Option<Name>,
     },
     /// It asked for a mapping to this volume. If that was made, its start is next; if not, the volume is removed.
-    Start { volume: u32 },
+    Start {
+        volume: u32,
+    },
     /// It asked for the start of this mapping. If that wasn't done, the mapping is removed, and then the volume.
-    Undo { map: u32, volume: u32 },
+    Undo {
+        map: u32,
+        volume: u32,
+    },
 }

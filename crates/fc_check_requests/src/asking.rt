@@ -193,7 +193,7 @@ fn behind_preset<T: Told>(
 ) -> Result<Behind, NoMemory>
     ensures { IfOk result (λ behind. behind
         ≡ behind_preset source.now preset name.now
-            (volume_named (T.whole told.now).books.tables source.now)) }
+        (volume_named (T.whole told.now).books.tables source.now)) }
 {
     match told.registry().volume(source) {
         Some(_) => {
