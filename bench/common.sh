@@ -9,14 +9,14 @@
 #   disk_calls SESSION GRAIN   prints how many calls of disks the entries of a session tell
 #   copies_read_and_written SHAPE COUNT    prints a session of so many accesses over nine volumes of 64 grains of 64 KiB, in a
 #                          `cascade` of eight targets or a `fan` of eight targets of one source
-#   build_bench CRATE      proves and builds the program of such a crate, if that wasn't done yet
+#   build_bench CRATE WORD..   proves and builds the program of such a crate, if that wasn't done yet, and runs it once with these words
 #   best_by_turns WORD.. -- WORD..   prints the fewest nanoseconds of each of two commands, in three runs made by turns
 #   lesser NUMBER [NUMBER]     prints the lesser of two numbers, of which the second may be none
 set -eu
 
 top=$(cd -- "$(dirname -- "$(readlink -f -- "${BASH_SOURCE[0]}")")/.." && pwd)
 program=$top/crates/flashcopy/out/flashcopy
-traces=$top/crates/traces/out/traces
+product_runs=$top/crates/product_runs/out/product_runs
 room=$(mktemp -d)
 trap 'rm -rf -- "$room"' EXIT
 
@@ -88,7 +88,7 @@ timed() { # SESSION WORD..
 copies() { "$room/copies" "$1" "$2"; } # CALLS KIB
 
 disk_calls() { # SESSION GRAIN
-    { echo "== session $2 4096"; cat "$1"; } | "$traces" | awk '$1 == "+" && $2 == "calls" { n += $3 } END { print n + 0 }'
+    { echo "== session $2 4096"; cat "$1"; } | "$product_runs" traces | awk '$1 == "+" && $2 == "calls" { n += $3 } END { print n + 0 }'
 }
 
 # The source of target k is the volume before it, or the first. Writes and reads come in turn, each inside one grain.
@@ -110,8 +110,8 @@ copies_read_and_written() { # SHAPE COUNT
     }'
 }
 
-build_bench() { # CRATE
-    (cd -- "$top/crates/$1" && rt run </dev/null >/dev/null 2>&1) ||
+build_bench() { # CRATE WORD..
+    (cd -- "$top/crates/$1" && rt run -- "${@:2}" </dev/null >/dev/null 2>&1) ||
         { echo "$1 isn't proved or doesn't build: run rt run in crates/$1" >&2; exit 1; }
 }
 

@@ -1,6 +1,6 @@
 #!/bin/bash
-# Refuses one allocation after the other in the sessions of `memory_tests`: the first of each, the second of each, and so on
-# until none of them wants so many.
+# Refuses one allocation after the other in the sessions of the module `memory` of `session_tests`: the first of each, the second
+# of each, and so on until none of them wants so many.
 #
 #     bash docs/refused_memory.sh [FIRST [STEP [LAST]]]
 #
@@ -9,7 +9,7 @@
 # more. The status is 1 where a session came out wrong, and 2 where the tests couldn't be tried.
 set -u
 
-cd -- "$(dirname -- "$(readlink -f -- "${BASH_SOURCE[0]}")")/../crates/memory_tests" || exit 2
+cd -- "$(dirname -- "$(readlink -f -- "${BASH_SOURCE[0]}")")/../crates/session_tests" || exit 2
 
 first=${1:-1}
 step=${2:-1}
@@ -28,7 +28,7 @@ unwritten=0
 ended=
 
 for ((number = first; number <= last; number += step)); do
-    said=$(rt try --test --fail-alloc "$number" 2>&1)
+    said=$(rt try --test --fail-alloc "$number" -- memory:: 2>&1)
     if ! grep -q '^test result: ' <<<"$said"; then
         printf '%d: the tests could not be tried\n%s\n' "$number" "$said"
         exit 2
@@ -37,8 +37,8 @@ for ((number = first; number <= last; number += step)); do
     while IFS= read -r line; do
         printf '%d: %s\n' "$number" "$line"
         wrong=$((wrong + 1))
-    done < <(grep '^test refused::.* FAILED$' <<<"$said")
-    refused=$(count '^test ample::.* FAILED$')
+    done < <(grep '^test memory::refused::.* FAILED$' <<<"$said")
+    refused=$(count '^test memory::ample::.* FAILED$')
     if ((refused == 0)); then
         ended=yes
         break

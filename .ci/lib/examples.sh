@@ -3,10 +3,10 @@
 # recorded, to the byte. It is sourced, not run, at the top of the repository.
 
 # How many examples there are at the least: fewer are a mistake.
-least_examples=60
+least_examples=96
 
 # How many traces there are at the least.
-least_traces=38
+least_traces=40
 
 # ---- each example is a session, its words and its history, and begins with a comment
 examples_whole() {
@@ -73,7 +73,7 @@ examples_proved() {
     holds "no input: something was written" wrote_nothing
 }
 
-# ---- traces: those of traces/ were worked out by another program, for the examples of the same names
+# ---- traces: those of traces/ were worked out by another program, in part by hand, for the examples of the same names
 traces_proved() {
     echo "== traces of examples, by the proved program"
     local count=0 name trace words

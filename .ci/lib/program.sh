@@ -253,6 +253,14 @@ limits_of_input() {
     holds "a line of 67,108,865 bytes: something was written" wrote_nothing
 }
 
+# Behind a volume and so many reads a preset ends with this status, and the history is full with this entry.
+preset_at_limit() { # READS STATUS ENTRY
+    run_program run --grain 64 < <(accesses "$1"; echo "mkpreset -source A -preset snapshot")
+    is "a preset behind $1 reads: status" "$2" "$status"
+    holds "a preset behind $1 reads: not 262,144 lines" wrote_lines 262144
+    is "the last entry of a preset behind $1 reads" "262143 main $3" "$(tail -n 1 "$room/out")"
+}
+
 limits_of_history() {
     echo "== limits of the history"
     run_program run --grain 64 < <(accesses 262143)
@@ -264,6 +272,12 @@ limits_of_history() {
     holds "262,144 reads of a volume: not 262,144 lines" wrote_lines 262144
     is "the last entry of a full history" "262143 main read 0 0 1 -> data 512*00" "$(tail -n 1 "$room/out")"
     holds "something was written to standard error" complained_of_nothing
+
+    # a preset that meets the limit behind its first line, and behind its second, and one that doesn't: what was made stays
+    preset_at_limit 262142 6 "mkvdisk -size 1024 -unit kb -thin -> Virtual Disk, id [1], successfully created"
+    preset_at_limit 262141 6 \
+        "mkfcmap -source A -target 1 -copyrate 0 -cleanrate 0 -> FlashCopy Mapping, id [0], successfully created"
+    preset_at_limit 262140 0 "startfcmap -prep 0 -> ok"
 
     # a copy of 32 grains a second that meets the limit in its second second: what was made stays
     run_program run --grain 64 < <(

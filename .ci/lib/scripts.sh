@@ -200,7 +200,7 @@ mkvdisk -name A -size 1                      | 0 main mkvdisk -name A -size 1 ->
 write A 0 1 5a                               | 1 main write 0 0 1 5a -> ok
 read A 0 2                                   | 2 main read 0 0 2 -> data 512*5a,512*00" "$(<"$room/out")"
     local name
-    for name in nights-work stopping-cleaned refusals-of-starts limits-of-volumes; do
+    for name in nights-work stopping-cleaned refusals-of-starts limits-of-volumes presets preset-undone; do
         run_script show "$name"
         sed -n 's/^.* | \([0-9a-z].*\)$/\1/p' "$room/out" >"$room/behind"
         holds "bin/flashcopy show $name: its history isn't whole" cmp -s "$room/behind" <(grep -v ' | ' "examples/$name.stdout")
@@ -337,6 +337,7 @@ looking_back() {
     holds "nothing was asked, and something is said" complained_of_nothing
     explanations
     block_explained
+    preset_explained
     every_refusal_explained
     at_a_terminal
 }
@@ -419,6 +420,42 @@ line 6, entry 4
 line 12, entry 5
 line 8, entry 10
 line 14, entry 11" "$(sed -n 's/^flashcopy: \(line [0-9]*, entry [0-9]*\):.*/\1/p' "$room/err")"
+}
+
+# A preset, of which several entries may answer one line: a refused one is explained at the words of that line, also where memory was
+# wanted for one before it.
+preset_explained() {
+    cp -- examples/refusals-of-presets.stdout "$tree/printed"
+    run_script run --grain 64 --explain "$top/examples/refusals-of-presets"
+    is "--explain of presets: the lines of their entries, and the words that are meant" "line 6, entry 3: X
+line 7, entry 4: 7
+line 9, entry 5: B
+line 11, entry 7: m
+line 15, entry 13: B
+line 19, entry 19: mkpreset
+line 21, entry 22: mkpreset
+line 24, entry 24: D" "$(explained_words <"$room/err" | head -n 8)"
+    printf '%s\n' 'mkvdisk -name A -size 1' 'mkpreset -source A -preset clone' 'mkpreset -source A -preset backup -name b' \
+        'mkpreset -source A -preset snapshot' 'read C 0 1' >"$room/session"
+    printf '%s\n' '0 main mkvdisk -name A -size 1 -> Virtual Disk, id [0], successfully created' \
+        '1 main mkvdisk -size 1024 -unit kb -> no memory' \
+        '2 main mkvdisk -name b -size 1024 -unit kb -> Virtual Disk, id [1], successfully created' \
+        '3 main mkfcmap -source A -target 1 -name b -copyrate 50 -incremental -> no memory' '4 main rmvdisk 1 -> ok' \
+        '5 main mkvdisk -size 1024 -unit kb -thin -> Virtual Disk, id [2], successfully created' \
+        '6 main mkfcmap -source A -target 2 -copyrate 0 -cleanrate 0 -> FlashCopy Mapping, id [0], successfully created' \
+        '7 main startfcmap -prep 0 -> no memory' '8 main rmfcmap 0 -> ok' '9 main rmvdisk 2 -> no memory' \
+        '10 main read C 0 1 -> refused no such vdisk' >"$tree/printed"
+    run_script run --explain "$room/session"
+    is "--explain behind presets that wanted memory" "line 5, entry 10: C" "$(explained_words <"$room/err")"
+}
+
+# Of each explanation the line of the session and the entry, and the word over the caret.
+explained_words() {
+    awk '
+        /^flashcopy: line / { sub(/^flashcopy: /, ""); sub(/:.*/, ""); told = $0 }
+        match($0, /\^+$/) { print told ": " substr(before, RSTART, RLENGTH) }
+        { before = $0 }
+    '
 }
 
 # Each refusal of the examples is explained: with its line, a sentence, and but for long lines a caret.

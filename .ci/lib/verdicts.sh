@@ -4,8 +4,8 @@
 # at the top of the repository, beside counting.sh, program.sh and blocks.sh.
 
 # How many changed traces there are at the least, how many with a session, and of how many entries the last session of blocks.
-least_tampered=270
-least_with_sessions=320
+least_tampered=310
+least_with_sessions=385
 least_entries_of_blocks=200
 
 # The trace with the entries numbered anew: an entry begins behind the first line, and behind each point.

@@ -141,15 +141,15 @@ function advise_bad_value(    number, parts, name, plain, value) {
 # The place of the word for what a command is about: its operand, or the value of an option.
 function set_caret(option) { caret = option == "" ? place_of_operand(1) : place_of_value(option) }
 
-function advise_command(reason,    name, parts, count) {
-    name = word[keyword]
+# The name is that of the line, or of the command that the line's preset asked.
+function advise_command(name, reason,    parts, count) {
     count = split(reason, parts, " ")
     set_caret("")
     if (caret == 0) caret = keyword
     if (reason ~ /^no such /) advise_no_such(name, parts[3])
-    else if (reason ~ /^name taken /) advise_name_taken(parts[3])
+    else if (reason ~ /^name taken /) advise_name_taken(name, parts[3])
     else if (reason ~ /^limit /) advise_limit(name, parts[2])
-    else if (reason == "no disk") advice = "All disks of this kind are used up in some lane (a removed volume's disks aren't used again): make fewer volumes, or try the other kind (-thin)."
+    else if (reason == "no disk") advise_no_disk()
     else if (reason ~ /^bad value of /) advise_value(name, parts[4])
     else if (reason ~ /^in use /) advice = "A mapping names volume " parts[3] ", or another volume still reads from it. lsfcmap shows the mappings: remove them (rmfcmap) first."
     else if (reason == "not prepared") advice = "Give -prep, or prepare it first by prestart" substr(name, 6) "."
@@ -158,7 +158,7 @@ function advise_command(reason,    name, parts, count) {
     else if (reason == "empty group") advice = "Put a mapping into the group first, by mkfcmap -consistgrp."
     else if (reason ~ /^target twice /) advice = "Two members of the group have volume " parts[3] " as target: put one of them into a group of its own."
     else if (reason ~ /^source is target /) advice = "Volume " parts[4] " is the source of one member and the target of another: start them in two groups, one after the other."
-    else if (reason ~ /^source not ready /) advice = "The source, volume " parts[4] ", isn't online, since it is the target of a mapping that is prepared, stopping or stopped. Start that mapping, or remove it (rmfcmap -force)."
+    else if (reason ~ /^source not ready /) advise_source(parts[4])
     else if (reason ~ /^target active /) advice = "Mapping " parts[3] " has this target and is active. Stop it first (stopfcmap), or let time pass until its copy is complete and nothing needs it."
     else if (reason ~ /^target is source /) advice = "Volume " parts[4] " is the target here, and other volumes read from it. To write over it, give -restore; behind a prestart it is given again."
     else if (reason ~ /^restore loop /) advice = "Each of the volumes " substr(reason, 14) " would wait for a grain of the next. Let time pass until one of their copies is complete, or stop one."
@@ -172,19 +172,36 @@ function advise_command(reason,    name, parts, count) {
 
 function advise_no_such(name, kind,    shown) {
     if (name == "mkfcmap" && kind == "group") set_caret("-consistgrp")
+    else if (name == "mkpreset") set_caret("-source")
     else if (name == "mkfcmap") set_caret(volume_of(word[place_of_value("-source")]) == "" ? "-source" : "-target")
     shown = kind == "vdisk" ? "volume" : kind == "fcmap" ? "mapping" : "group"
     advice = "No " shown " has this id or name here. " (kind == "vdisk" ? "lsvdisk" : kind == "fcmap" ? "lsfcmap" : "lsfcconsistgrp") " lists those that are there."
 }
 
-function advise_name_taken(id) {
+function advise_name_taken(name, id,    owner) {
+    owner = (name == "mkvdisk" ? "volume " : name == "mkfcmap" ? "mapping " : "group ") id
     set_caret("-name")
     if (caret == 0) {
         caret = keyword
-        advice = "The name that it would be given is taken by the one with id " id ": choose one by -name."
+        advice = "The name that it would be given is taken by " owner ": choose one by -name."
     } else {
-        advice = "The one with id " id " has this name: choose another, or leave -name out."
+        advice = "The name is taken by " owner ": choose another, or leave -name out."
     }
+}
+
+function advise_no_disk(    other) {
+    if (is_preset()) {
+        set_caret("-preset")
+        other = "another preset: a snapshot is thin, and the others are flat"
+    } else {
+        other = "the other kind (-thin)"
+    }
+    advice = "All disks of this kind are used up in some lane (a removed volume's disks aren't used again): make fewer volumes, or try " other "."
+}
+
+function advise_source(id) {
+    if (is_preset()) set_caret("-source")
+    advice = "The source, volume " id ", isn't online, since it is the target of a mapping that is prepared, stopping or stopped. Start that mapping, or remove it (rmfcmap -force)."
 }
 
 function advise_limit(name, count) {
@@ -192,7 +209,7 @@ function advise_limit(name, count) {
         caret = place_of_operand(3)
         advice = "One line reads or writes at most " count " blocks: part it into several."
     } else if (name == "mkvdisk" && count == 8192) {
-        set_caret("-size")
+        set_caret(is_preset() ? "-source" : "-size")
         advice = "All volumes together have at most 8,192 grains, which is " 8 * grain " mb at grains of " grain " KiB."
     } else if (name == "mkfcmap" && count == 256) {
         set_caret("-source")

@@ -35,6 +35,13 @@ function show_line(text,    column) {
     printf "    %s%s\n", blanks_before(text "  ", column), carets(caret > words ? "" : printable(word[caret]))
 }
 
+# The command that an entry asks: that of its line, or one of those that a preset asks.
+function command_of(place,    name) {
+    name = entry_request[place]
+    sub(/ .*/, "", name)
+    return name
+}
+
 function explain(place,    reason, text) {
     text = text_of_entry[place]
     split_line(length(text) > longest_line() ? "" : text)
@@ -42,7 +49,7 @@ function explain(place,    reason, text) {
     caret = keyword
     advice = ""
     if (entry_request[place] == "-") advise_unread(reason)
-    else advise_command(reason)
+    else advise_command(command_of(place), reason)
     printf "flashcopy: line %d, entry %d: refused %s\n", line_of_entry[place], place, reason
     show_line(text)
     printf "    %s\n", advice strange_bytes(text)

@@ -22,6 +22,8 @@ function set_grammar() {
     line_of_grammar("lsfcmap", "-delim", "[fcmap]")
     line_of_grammar("lsfcmapprogress", "-delim", "fcmap")
     line_of_grammar("lsfcmapdependentmaps", "-delim", "fcmap")
+    line_of_grammar("mkpreset", "-source -preset -name", "")
+    line_of_grammar("lsvdiskroom", "-delim", "")
     line_of_grammar("mkfcconsistgrp", "-name", "")
     line_of_grammar("prestartfcconsistgrp", "-restore", "group")
     line_of_grammar("startfcconsistgrp", "-prep -restore", "group")
@@ -38,6 +40,7 @@ function set_grammar() {
     value_of["-source"] = value_of["-target"] = "the name or id of a volume"
     value_of["-consistgrp"] = "the name or id of a group"
     value_of["-delim"] = "one printable byte other than the space"
+    value_of["-preset"] = "snapshot, clone or backup"
     operand_is["vdisk"] = "the name or id of a volume"
     operand_is["fcmap"] = "the name or id of a mapping"
     operand_is["group"] = "the name or id of a group"

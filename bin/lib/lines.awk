@@ -68,6 +68,8 @@ function split_line(text,    at, length_) {
 
 function is_refused(place) { return entry_reply[place] ~ /^refused / }
 
+function is_preset() { return !is_long && word[keyword] == "mkpreset" }
+
 # Whether the entry is background work, which seconds of an advance bring.
 function is_work(place) { return entry_request[place] ~ /^(copy|clean) [0-9]/ }
 
@@ -100,25 +102,42 @@ function answers_of(text) {
     else take_line(text)
 }
 
-# A line outside of blocks, and what it brings.
-function take_line(text,    left) {
+# Gives the next entry, if there is one, to the line at hand.
+function take_entry(text) {
     if (next_entry >= entries) return
     last_entry = next_entry++
     answer(last_entry, line_number, text)
+}
+
+# A line outside of blocks, and what it brings.
+function take_line(text,    left) {
+    if (next_entry >= entries) return
+    take_entry(text)
     if (is_refused(last_entry)) return
     if (entry_request[last_entry] ~ /^(read|write) /) {
         left = word[keyword + 3] - blocks_of(last_entry)
         while (left > 0 && next_entry < entries) {
-            last_entry = next_entry++
-            answer(last_entry, line_number, text)
+            take_entry(text)
             left -= blocks_of(last_entry)
         }
     } else if (entry_request[last_entry] ~ /^advance /) {
-        while (next_entry < entries && is_work(next_entry)) {
-            last_entry = next_entry++
-            answer(last_entry, line_number, text)
-        }
+        while (next_entry < entries && is_work(next_entry)) take_entry(text)
+    } else if (is_preset()) {
+        take_preset(text)
     }
+}
+
+# What a preset asks behind its volume: a mapping and its start, each where the one before was made; and where one of the two wasn't
+# answered so, what undoes those that were.
+function take_preset(text) {
+    if (entry_reply[last_entry] !~ /^Virtual Disk, /) return
+    take_entry(text)
+    if (entry_reply[last_entry] ~ /^FlashCopy Mapping, /) {
+        take_entry(text)
+        if (entry_reply[last_entry] == "ok") return
+        take_entry(text)
+    }
+    take_entry(text)
 }
 
 # ---- blocks of actors

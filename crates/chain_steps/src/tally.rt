@@ -52,7 +52,7 @@ pub fn kind_of(plain: &PlainSheet, event: &LaneEvent) -> Kind {
 }
 
 /// How many of each kind were done.
-#[derive(Drop)]
+#[derive(Clone, Copy)]
 pub struct Tally {
     starts: u32,
     restores: u32,

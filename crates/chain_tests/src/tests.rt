@@ -11,7 +11,7 @@ use std::process::Abort;
 use std::test::Fail;
 
 /// How many steps of each kind were done.
-#[derive(Drop)]
+#[derive(Clone, Copy)]
 struct Done {
     events: u32,
     writes: u32,

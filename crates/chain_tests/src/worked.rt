@@ -94,18 +94,30 @@ fn worked_starts_and_stops(rt: HostRuntime) -> Result<(), Fail> {
     Ok(())
 }
 
+/// A volume has this live slot.
+fn assert_live(rt: &impl Abort, both: &Both, volume: u32, slot: Option<SlotId>) {
+    assert_eq!(rt; both.chains.live(VolId(volume)), slot);
+}
+
+/// Each target in turn becomes the source's newest copy, and its older slot stays ahead of it.
+fn assert_loop(rt: &impl Abort, both: &Both) -> Result<(), NoMemory> {
+    let pairs = [pair(0, A, B), pair(1, B, A), pair(2, A, B)];
+    assert!(rt; both.chains.loop_of(both.alloc, &pairs[..2])?.is_none());
+    let told = both
+        .chains
+        .loop_of(both.alloc, &pairs)?
+        .expect(rt, "a loop");
+    assert_eq!(rt; told.as_slice(), [VolId(A), VolId(B)].as_slice());
+    Ok(())
+}
+
 #[test]
 fn a_loop_of_one_volume_and_its_target(rt: HostRuntime) -> Result<(), Fail> {
-    let alloc = rt.alloc();
-    let mut both = Both::new(alloc, 0, 1);
-    assert_eq!(rt; both.chains.live(VolId(A)), None);
+    let mut both = Both::new(rt.alloc(), 0, 1);
+    assert_live(&rt, &both, A, None);
     assert_rows(&rt, &mut both, &STARTED[..1])?;
-    assert_eq!(rt; both.chains.live(VolId(A)), Some(SlotId(0)));
-    assert_eq!(rt; both.chains.live(VolId(B)), None);
-    // each target in turn becomes the source's newest copy, and its older slot stays ahead of it
-    let pairs = [pair(0, A, B), pair(1, B, A), pair(2, A, B)];
-    assert!(rt; both.chains.loop_of(alloc, &pairs[..2])?.is_none());
-    let told = both.chains.loop_of(alloc, &pairs)?.expect(&rt, "a loop");
-    assert_eq!(rt; told.as_slice(), [VolId(A), VolId(B)].as_slice());
+    assert_live(&rt, &both, A, Some(SlotId(0)));
+    assert_live(&rt, &both, B, None);
+    assert_loop(&rt, &both)?;
     Ok(())
 }

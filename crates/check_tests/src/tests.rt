@@ -177,6 +177,33 @@ fn an_entry_of_another_actor(rt: HostRuntime) -> Result<(), Fail> {
     Ok(())
 }
 
+/// A volume, and a preset of it whose mapping had no memory, so that its own volume went again.
+const UNDONE: &[u8] =
+    b"trace 64 4 flat 1 1 1 1 thin 1 1 1 1\n0 main mkvdisk -name A -size 128 -unit kb -> Virtual Disk, id [0], successfully created\n+ make 0 2\n.\n1 main mkvdisk -name s -size 128 -unit kb -thin -> Virtual Disk, id [1], successfully created\n+ make 1 2\n.\n2 main mkfcmap -source A -target 1 -name s -copyrate 0 -cleanrate 0 -> no memory\n.\n3 main rmvdisk 1 -> ok\n+ remove 1\n.\n";
+
+#[test]
+fn a_preset_is_answered_by_its_lines(rt: HostRuntime) -> Result<(), Fail> {
+    let snapshot =
+        b"mkvdisk -name A -size 128 -unit kb\nmkpreset -source A -preset snapshot -name s\n";
+    assert_eq!(rt;
+        said_of_session(&rt, UNDONE, snapshot)?,
+        Ok(Verdict::Yes(4))
+    );
+    let clone = b"mkvdisk -name A -size 128 -unit kb\nmkpreset -source A -preset clone -name s\n";
+    assert_eq!(rt; said_of_session(&rt, UNDONE, clone)?, Ok(Verdict::No(1)));
+    let by_id =
+        b"mkvdisk -name A -size 128 -unit kb\nmkpreset -source 0 -preset snapshot -name s\n";
+    assert_eq!(rt; said_of_session(&rt, UNDONE, by_id)?, Ok(Verdict::No(2)));
+    let refused =
+        b"trace 64 4 flat 1 1 1 1 thin 1 1 1 1\n0 main mkpreset -source A -preset clone -> refused no such vdisk\n.\n";
+    let session = b"mkpreset -source A -preset clone\n";
+    assert_eq!(rt;
+        said_of_session(&rt, refused, session)?,
+        Ok(Verdict::Yes(1))
+    );
+    Ok(())
+}
+
 #[test]
 fn an_open_block_is_left_out(rt: HostRuntime) -> Result<(), Fail> {
     let open =

@@ -64,7 +64,7 @@ HasRoom (Lane v) = IsReady v
 
 -- ---- when it suits a store
 
--- A command that is no access, makes and removes no volume, and arms no fault.
+-- A command that is no access and no preset, makes and removes no volume, and arms no fault.
 pub record IsOfBlock (command : Command) : Type 0 where
   pub decided : IsDecided command
   pub no_volume : is_of_volumes command ≡ false

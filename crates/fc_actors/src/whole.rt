@@ -58,9 +58,9 @@ fn gather<D: Mdisk>(parts: &mut Vec<StorePart<D>>, lanes: &mut Vec<Lane<D>>) -> 
     control
 }
 
-/// Does a command, which is no access, by an actor who holds all parts. The entry has number 0
-/// until its own is drawn. The tray is an empty list with room for all lanes, and comes back so.
-/// Takes no memory for the parts.
+/// Does a command, which is no access and no preset, by an actor who holds all parts. The entry has
+/// number 0 until its own is drawn. The tray is an empty list with room for all lanes, and comes back
+/// so. Takes no memory for the parts.
 pub(crate) fn command_over<D: Mdisk>(
     alloc: Global,
     actor: u32,

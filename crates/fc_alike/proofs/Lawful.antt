@@ -1,6 +1,7 @@
 -- The law of following.
 use Rattle.std.proofs.Common.{List, [], fold, not, replicate, arith}
 use Rattle.std.proofs.lemmas.List.Elements.{All-nil, All-weaker}
+use Rattle.fc_base.specs.Room.{Room}
 use Rattle.fc_base.specs.SheetFits.{FitsEvent}
 use Rattle.fc_base.specs.SheetStep.{triggered}
 use Rattle.fc_base.specs.declared.decision.LaneEvent.{LaneEvent}
@@ -25,7 +26,7 @@ use Rattle.fc_alike.proofs.Rows.{AlikeIn, AreAlikeIn, row_in, row_out, filter_al
 use Rattle.fc_alike.proofs.Starting.{grains_of, all_new, is_next, is_next_at, all_begun_sound, begun_stays}
 use Rattle.fc_alike.proofs.Triggers.{trigger_alike, pairs_in}
 
-none_alike : (told : LaneTold) → AreAlike record { told = told; rows = [] }
+none_alike : (told : LaneTold) → AreAlike record { told = told; rows = []; rooms = [] }
 none_alike told = record { each = All-nil (IsAlike told.sheet.slots told.picture); distinct = λ i j d ij jl. absurd (omega (arith, jl)) }
 
 -- rows by what plain volumes hold, and back
@@ -37,7 +38,7 @@ rows_in f stored follows =
       distinct = follows.alike.distinct;
     }
 
-follows_from : (told : LaneTold) (rows : List Row) (stored : Stored) → Agrees told.sheet told.picture stored → AreAlikeIn told.picture rows → Follows record { told = told; rows = rows } stored
+follows_from : {rooms : List Room} (told : LaneTold) (rows : List Row) (stored : Stored) → Agrees told.sheet told.picture stored → AreAlikeIn told.picture rows → Follows record { told = told; rows = rows; rooms = rooms } stored
 follows_from told rows stored agrees a =
     let slots = told.sheet.slots in
     record {

@@ -73,7 +73,7 @@ pub record IsNext (restarts : ℕ → List Bool) (s t : Sheet) (p : Pair) : Type
 
 pub record FollowLaw : Type 0 where
   -- with no rows
-  pub none : (told : LaneTold) → AreAlike record { told = told; rows = [] }
+  pub none : (told : LaneTold) → AreAlike record { told = told; rows = []; rooms = [] }
   -- after an event
   pub event : (l : LaneOf) (f : Followed) (e : LaneEvent) (stored after : Stored) → Follows f stored → FitsEvent f.told.sheet e → FitsRows f.rows e →
       StoredAfter l stored e after → Follows (followed_event l f e) after

@@ -35,8 +35,8 @@ pub fn entry_apart(
     }
 }
 
-/// The entry of an access that is refused, or of a line with a fault in its words, by an actor: it settles nothing and does
-/// nothing. Its number is 0 until it is kept. Takes no memory.
+/// The entry of an access or a preset that is refused, or of a line with a fault in its words, by an actor: it settles nothing and
+/// does nothing. Its number is 0 until it is kept. Takes no memory.
 pub fn refused_entry(alloc: Global, actor: u32, request: Request, refusal: Refusal) -> Entry
     ensures { result ≡ entry_apart 0 actor Place.Control request (Reply.Refused refusal) [] }
 {

@@ -15,7 +15,7 @@ use Rattle.fc_grains.specs.Volumes.{VolumeGrains, HoldsNothing, armed, changed, 
 use Rattle.fc_rules.specs.LaneTold.{LaneOf}
 use Rattle.fc_steps.proofs.Stored.{changed_here, changed_other}
 use Rattle.fc_apply.specs.Accesses.{AccessState}
-use Rattle.fc_apply.specs.Parts.{ArmedBy, CanDo, GrainsAfter, IdleAfter, IsArmedAt, armed_event}
+use Rattle.fc_apply.specs.Parts.{ArmedBy, CanDo, GrainsAfter, IdleAfter, IsArmedAt, armed_event, new_grains}
 use Rattle.fc_apply.proofs.Volumes.{push_here, push_other, without_other}
 use Rattle.fc_pick.specs.Flags.{WorkState}
 
@@ -101,7 +101,7 @@ still_one old new x n e at = subst (λ (vs : List VolumeGrains). IsArmedAt n (vo
 
 pub armed_one : (l : LaneOf) (e : LaneEvent) (g : GrainsState) (a : AccessState) (w : WorkState) (new : List VolumeGrains) → CanDo l g a w e → GrainsAfter l g.volumes e new → ArmedBy l (e ∷ []) g.volumes new
 armed_one l (Make volume grains kind) g a w new can (due, unarmed, is) x n at =
-    let come : VolumeGrains = record { volume = volume; kind = kind; contents = _; due = due } in
+    let come : VolumeGrains = new_grains l volume grains kind due in
     subst (λ (vs : List VolumeGrains). IsArmedAt (cond (volume.0 == x) 0 n) (volume_of vs x).due) (sym is) (come_one g.volumes come x n can.2 unarmed at)
 armed_one l (Remove volume) g a w new can is x n at = subst (λ (vs : List VolumeGrains). IsArmedAt n (volume_of vs x).due) (sym is) (go_one g.volumes volume.0 x n at)
 armed_one l (Arm volume grain calls) g a w new can is x n at =

@@ -24,7 +24,7 @@ use Rattle.fc_pictures.specs.Law.{StoredAfter, HasPlace}
 use Rattle.fc_pictures.proofs.Lawful.{picture_law_holds}
 use Rattle.fc_pictures.proofs.Volumes.{found, map_from, at_id, without_from}
 use Rattle.fc_rules.specs.LaneFits.{HasDisk}
-use Rattle.fc_apply.specs.Parts.{GrainsAfter}
+use Rattle.fc_apply.specs.Parts.{GrainsAfter, new_grains}
 use Rattle.fc_steps.specs.Standing.{SameVolumes, kind_of_grains, HasGrains, AllSized, Stands}
 use Rattle.fc_apply.proofs.Volumes.{push_there, push_new, push_other, push_here, without_there, without_other, armed_contents, armed_there, armed_kinds, access_kinds, push_kinds, without_kinds, newest_of}
 
@@ -165,10 +165,10 @@ unchanged l s picture old new e st fits same after from =
 
 -- what is stored after a volume came
 made_stored : (l : LaneOf) (old : List VolumeGrains) (volume : VolId) (grains : ℕ) (kind : DiskKind) (due : Option ℕ) → All (λ (v : VolumeGrains). v.volume.0 < volume.0) old →
-    StoredAfter l (stored old) (Make volume grains kind) (stored (old ++ record { volume = volume; kind = kind; contents = replicate (grains_in l grains) (zeros l.grain); due = due } ∷ []))
+    StoredAfter l (stored old) (Make volume grains kind) (stored (old ++ new_grains l volume grains kind due ∷ []))
 made_stored l old volume grains kind due newest =
     let n : ℕ = grains_in l grains in
-    let come : VolumeGrains = record { volume = volume; kind = kind; contents = replicate n (zeros l.grain); due = due } in
+    let come : VolumeGrains = new_grains l volume grains kind due in
     let here : volume_of (old ++ come ∷ []) volume.0 ≡ come = push_here old come newest in (
       λ g lt. ap (λ (v : VolumeGrains). content_at v.contents g) here ∙ get_or-replicate n g (zeros l.grain) _ lt,
       λ w g ne. ap (λ (v : VolumeGrains). content_at v.contents g) (push_other old come w ne),
@@ -179,7 +179,7 @@ made_stands : (l : LaneOf) (s : Sheet) (picture : Picture) (old new : List Volum
     Stands (sheet_step (grains_in l) s (Make volume grains kind)) (picture_event l s.slots picture (Make volume grains kind)) new
 made_stands l s picture old new volume grains kind st fits newest (due, unarmed, is) =
     let n : ℕ = grains_in l grains in
-    let come : VolumeGrains = record { volume = volume; kind = kind; contents = replicate n (zeros l.grain); due = due } in
+    let come : VolumeGrains = new_grains l volume grains kind due in
     let here : volume_of (old ++ come ∷ []) volume.0 ≡ come = push_here old come newest in
     let after : StoredAfter l (stored old) (Make volume grains kind) (stored (old ++ come ∷ [])) = made_stored l old volume grains kind due newest in
     let plain : PlainVolume = record { volume = volume; now = replicate n (zeros l.grain); under = replicate n (zeros l.grain) } in
@@ -292,7 +292,7 @@ armed_same old new volumes volume calls false is same = same_kinds old new volum
 -- the grains keep the volumes that are told
 pub event_volumes : (l : LaneOf) (old new : List VolumeGrains) (volumes : List LaneVolume) (e : LaneEvent) → SameVolumes old volumes → GrainsAfter l old e new → SameVolumes new (volumes_event volumes e)
 event_volumes l old new volumes (Make volume grains kind) same (due, unarmed, is) =
-    ap (map kind_of_grains) is ∙ push_kinds old volumes (record { volume = volume; kind = kind; contents = replicate (grains_in l grains) (zeros l.grain); due = due }) (record { volume = volume; kind = kind; access = Online }) refl same
+    ap (map kind_of_grains) is ∙ push_kinds old volumes (new_grains l volume grains kind due) (record { volume = volume; kind = kind; access = Online }) refl same
 event_volumes l old new volumes (Remove volume) same is = ap (map kind_of_grains) is ∙ without_kinds old volumes volume.0 same
 event_volumes l old new volumes (Arm volume grain calls) same is = armed_same old new volumes volume calls (grain.0 % l.lanes == l.lane) is same
 event_volumes l old new volumes (Trigger pairs) same is = same_kinds old new volumes is same

@@ -8,3 +8,4 @@ pub mod Noting
 pub mod Beginning
 pub mod Following
 pub mod Arming
+pub mod Rooms

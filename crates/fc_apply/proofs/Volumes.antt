@@ -97,9 +97,17 @@ armed_there (v ∷ vs) id x calls =
     ap (λ (z : VolumeKind). eqb z.volume.0 x || is_there (changed id (armed calls) vs) x) (armed_id (eqb v.volume.0 id) calls v)
     ∙ ap (λ b. eqb v.volume.0 x || b) (armed_there vs id x calls)
 
+-- what a change leaves of each volume, it leaves of all
+pub changed_map : {X : Type 0} (f : VolumeGrains → X) (change : VolumeGrains → VolumeGrains) → ((v : VolumeGrains) → f (change v) ≡ f v) → (vs : List VolumeGrains) (id : ℕ) → map f (changed id change vs) ≡ map f vs
+changed_map f change same [] id = refl
+changed_map f change same (v ∷ vs) id = λ k. one (eqb v.volume.0 id) k ∷ changed_map f change same vs id k
+  where
+    one : (b : Bool) → f (cond b (change v) v) ≡ f v
+    one true = same v
+    one false = refl
+
 pub armed_kinds : (vs : List VolumeGrains) (id calls : ℕ) → map kind_of_grains (changed id (armed calls) vs) ≡ map kind_of_grains vs
-armed_kinds [] id calls = refl
-armed_kinds (v ∷ vs) id calls = λ k. armed_id (eqb v.volume.0 id) calls v k ∷ armed_kinds vs id calls k
+armed_kinds vs id calls = changed_map kind_of_grains (armed calls) (λ v. refl) vs id
 
 -- ---- ids and kinds
 

@@ -4,7 +4,10 @@ use Rattle.std.specs.List.{remove}
 use Rattle.fc_base.specs.declared.decision.LaneEvent.{LaneEvent}
 use Rattle.fc_base.specs.declared.decision.LaneEvent.TheVariants.{Make, Remove, Trigger, Retire, Detach, Split, Force, Drop, Forget, NoteCut, Access, Work, Arm}
 use Rattle.fc_base.specs.Pools.{Pool, of_kind}
+use Rattle.fc_base.specs.Room.{new_reached}
+use Rattle.fc_base.specs.declared.disk.DiskKind.{DiskKind}
 use Rattle.fc_base.specs.declared.ids.MapId.{MapId}
+use Rattle.fc_base.specs.declared.ids.VolId.{VolId}
 use Rattle.fc_chain.specs.Chains.{Chains}
 use Rattle.fc_entry.specs.Picture.{zeros}
 use Rattle.fc_follow.specs.Following.{FitsFollowed, Followed}
@@ -33,11 +36,22 @@ pub record StandsFor (l : LaneOf) (chains : Chains) (grains : GrainsState) (acce
   pub sheet_is : chains.sheet ≡ told.sheet
   pub beside : BesideFor l grains accesses work told
 
+-- A new volume of so many grains has zeros in those of the lane.
+abbrev pub new_grains : LaneOf → VolId → ℕ → DiskKind → Option ℕ → VolumeGrains
+new_grains l volume grains kind due =
+    record {
+      volume = volume;
+      kind = kind;
+      contents = replicate (grains_in l grains) (zeros l.grain);
+      reached = new_reached kind (grains_in l grains);
+      due = due;
+    }
+
 -- What an event does to the grains: a volume comes with zeros, over a disk with no armed fault, or goes, or a fault of its
 -- disk is armed where the grain is one of the lane's.
 abbrev pub GrainsAfter : LaneOf → List VolumeGrains → LaneEvent → List VolumeGrains → Type 0
 GrainsAfter l old (Make volume grains kind) new =
-    (due : Option ℕ) × IfSome due (λ n. n ≡ 0) × (new ≡ old ++ record { volume = volume; kind = kind; contents = replicate (grains_in l grains) (zeros l.grain); due = due } ∷ [])
+    (due : Option ℕ) × IfSome due (λ n. n ≡ 0) × (new ≡ old ++ new_grains l volume grains kind due ∷ [])
 GrainsAfter l old (Remove volume) new = new ≡ without volume.0 old
 GrainsAfter l old (Arm volume grain calls) new = new ≡ cond (grain.0 % l.lanes == l.lane) (changed volume.0 (armed calls) old) old
 GrainsAfter l old (Trigger pairs) new = new ≡ old

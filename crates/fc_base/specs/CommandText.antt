@@ -5,7 +5,9 @@ use Rattle.std.specs.Prelude.{ℕ, ◌/◌, ◌%◌, Bool, false, if◌then◌el
 use Rattle.std.specs.List.{join_with_byte}
 use Rattle.std.specs.Fmt.{digit_glyph}
 use Rattle.fc_base.specs.declared.command.Command.{Command}
-use Rattle.fc_base.specs.declared.command.Command.TheVariants.{Mkvdisk, Rmvdisk, Write, Read, Armfault, Advance, Mkfcmap, Prestartfcmap, Startfcmap, Stopfcmap, Rmfcmap, Mkfcconsistgrp, Prestartfcconsistgrp, Startfcconsistgrp, Stopfcconsistgrp, Rmfcconsistgrp, Lsfcmap, Lsfcconsistgrp, Lsvdisk, Lsfcmapprogress, Lsfcmapdependentmaps}
+use Rattle.fc_base.specs.declared.command.Command.TheVariants.{Mkvdisk, Rmvdisk, Write, Read, Armfault, Advance, Mkfcmap, Prestartfcmap, Startfcmap, Stopfcmap, Rmfcmap, Mkfcconsistgrp, Prestartfcconsistgrp, Startfcconsistgrp, Stopfcconsistgrp, Rmfcconsistgrp, Lsfcmap, Lsfcconsistgrp, Lsvdisk, Lsfcmapprogress, Lsfcmapdependentmaps, Mkpreset, Lsvdiskroom}
+use Rattle.fc_base.specs.declared.command.Preset.{Preset}
+use Rattle.fc_base.specs.declared.command.Preset.TheVariants.{Snapshot, Clone, Backup}
 use Rattle.fc_base.specs.declared.command.StopWay.{StopWay}
 use Rattle.fc_base.specs.declared.command.StopWay.TheVariants.{Plain, Force, Split}
 use Rattle.fc_base.specs.declared.command.Unit.{Unit as SizeUnit}
@@ -34,6 +36,12 @@ unit_word Gb = codes "gb"
 abbrev pub grain_size_word : GrainSize → List ℕ
 grain_size_word K64 = codes "64"
 grain_size_word K256 = codes "256"
+
+-- what a copy is for
+abbrev pub preset_word : Preset → List ℕ
+preset_word Snapshot = codes "snapshot"
+preset_word Clone = codes "clone"
+preset_word Backup = codes "backup"
 
 -- a byte as two hexadecimal digits in lower case
 abbrev pub byte_word : ℕ → List ℕ
@@ -117,6 +125,11 @@ command_words (Lsvdisk delim) = codes "lsvdisk" ∷ delim_words delim
 command_words (Lsfcmapprogress map delim) = codes "lsfcmapprogress" ∷ delim_words delim ++ ref_word map ∷ []
 command_words (Lsfcmapdependentmaps map delim) =
     codes "lsfcmapdependentmaps" ∷ delim_words delim ++ ref_word map ∷ []
+command_words (Mkpreset source preset name) =
+    codes "mkpreset" ∷ option_words (codes "-source") (ref_word source)
+    ++ option_words (codes "-preset") (preset_word preset)
+    ++ given_words (codes "-name") name_word name
+command_words (Lsvdiskroom delim) = codes "lsvdiskroom" ∷ delim_words delim
 
 -- the canonical line of a command, without its end
 abbrev pub command_text : Command → List ℕ

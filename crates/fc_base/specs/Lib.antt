@@ -22,4 +22,5 @@ pub mod SheetFacts
 pub mod SheetFits
 pub mod Counts
 pub mod Pools
+pub mod Room
 pub mod SheetView

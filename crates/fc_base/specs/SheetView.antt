@@ -7,15 +7,17 @@ use Rattle.fc_base.specs.Column.{Shape}
 use Rattle.fc_base.specs.Counts.{need_count_of}
 use Rattle.fc_base.specs.Need.{ReadsAt, IsDependent}
 use Rattle.fc_base.specs.Pools.{Pool}
+use Rattle.fc_base.specs.Room.{Room}
 use Rattle.fc_base.specs.RestoreGraph.{HasNoLoop, IsToldLoop}
 use Rattle.fc_base.specs.Sheet.{Slot, Sheet, slot_at, mapping_place}
 
 -- The sheet of all grains; for each mapping the grains with which it would begin again (its restart set); the disks that
--- each lane has for new volumes.
+-- each lane has for new volumes; and which grains of volumes occupy memory.
 pub record SheetView : Type 0 where
   pub sheet : Sheet
   pub restarts : ℕ → List Bool
   pub pools : List Pool
+  pub rooms : List Room
 
 -- What the slot of a mapping holds; none where it has no slot.
 abbrev pub held_at : List Slot → Option ℕ → List Bool

@@ -26,6 +26,17 @@ pub enum StopWay {
     Split,
 }
 
+/// What the copy that `mkpreset` makes is for.
+#[derive(Clone, Copy, PartialEq, Eq)]
+pub enum Preset {
+    /// A thin copy that takes only what others write over.
+    Snapshot,
+    /// A whole copy, whose mapping goes when it is complete.
+    Clone,
+    /// A whole copy, which a later start brings up to date by what changed.
+    Backup,
+}
+
 /// A line that is answered by one entry or more. An option is None where it wasn't given.
 #[derive(Drop)]
 pub enum Command {
@@ -143,6 +154,17 @@ pub enum Command {
     /// Lists the mappings that depend on a mapping's target.
     Lsfcmapdependentmaps {
         map: Ref,
+        delim: Option<u8>,
+    },
+    /// Makes a volume as large as the source and a mapping to it, and starts that, each asked as a line of its own. It
+    /// stands in an entry itself only where its source names no volume.
+    Mkpreset {
+        source: Ref,
+        preset: Preset,
+        name: Option<Name>,
+    },
+    /// Lists volumes, each with the grains that occupy memory.
+    Lsvdiskroom {
         delim: Option<u8>,
     },
 }

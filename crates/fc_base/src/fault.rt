@@ -23,10 +23,12 @@ pub enum RequiredOption {
     Size,
     /// `-seconds` of `advance`.
     Seconds,
-    /// `-source` of `mkfcmap`.
+    /// `-source` of `mkfcmap` and `mkpreset`.
     Source,
     /// `-target` of `mkfcmap`.
     Target,
+    /// `-preset` of `mkpreset`.
+    Preset,
 }
 
 /// A fault in the words of a line. Word numbers count from 1.

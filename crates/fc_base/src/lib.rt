@@ -6,10 +6,11 @@
 //! bytes that they were made of, `Ranges` always rise, and a `List` is its items.
 //!
 //! In reading order: `outcome`, `list`, `ids`, `limits`, `size`, `name`, `runs`, `ranges`, `state`, `disk`,
-//! `fault`, `command`, `block`, `request`, `move_plan`, `volume`, `decision`; and the trait `sheet::Sheet`, by which
+//! `fault`, `command`, `behind`, `block`, `request`, `move_plan`, `volume`, `decision`; and the trait `sheet::Sheet`, by which
 //! decisions ask the chains of all lanes.
 #![tactic(auto)]
 
+pub mod behind;
 pub mod block;
 pub mod command;
 pub mod decision;

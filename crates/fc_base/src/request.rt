@@ -53,7 +53,7 @@ pub enum Planned {
 /// What was asked.
 #[derive(Drop)]
 pub enum Request {
-    /// A command; `read` and `write` stand here only where they were refused.
+    /// A command; `read`, `write` and `mkpreset` stand here only where they were refused.
     Command(Command),
     /// A line with a fault in its words.
     Unread(WordFault),
@@ -173,6 +173,6 @@ pub enum Place {
     Lane(u8),
     /// All turns: a command.
     Every,
-    /// The turn of the control part: a refused access or an unread line.
+    /// The turn of the control part: a refused access, a refused preset or an unread line.
     Control,
 }

@@ -4,6 +4,7 @@ ghost use Rattle.std.specs.Prelude.{◌≡◌, ℕ, ◌++◌, ◌↔◌, IsTrue,
 ghost use Rattle.fc_base.specs.Counts.{UsedAt, names_below, is_unneeded};
 ghost use Rattle.fc_base.specs.Pools.{least_of_kind};
 ghost use Rattle.fc_base.specs.Ranges.{is_kept};
+ghost use Rattle.fc_base.specs.Room.{used_in};
 ghost use Rattle.fc_base.specs.Sheet.{shape_of};
 ghost use Rattle.fc_base.specs.SheetStep.{triggered};
 ghost use Rattle.fc_base.specs.SheetView.{SheetView, held_of, needed_of, count_true, AreMappings, ReadsMapping, DependsOn, LoopAnswer};
@@ -20,7 +21,7 @@ use std::alloc::Global;
 ///
 /// Decisions on commands ask it and never change it. A store answers from its lanes.
 pub trait Sheet {
-    /// The sheet of all grains, restart sets and pools.
+    /// The sheet of all grains, restart sets, pools, and the room that volumes take.
     ghost meaning: { Self → SheetView };
 
     /// How many grains the slot of a mapping holds; 0 where it has none.
@@ -64,4 +65,9 @@ pub trait Sheet {
     /// How many grains the mapping would begin again with: the size of its restart set.
     fn restart(&self, map: MapId) -> u32
         ensures { result ≡ count_true ((meaning self.now).restarts map.0) };
+
+    /// How many grains of the volume occupy memory: of a flat volume all, of a thin one those that a write reached;
+    /// 0 of a volume that isn't there.
+    fn room(&self, volume: VolId) -> u64
+        ensures { result ≡ used_in (meaning self.now).rooms volume.0 };
 }

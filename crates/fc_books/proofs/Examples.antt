@@ -84,6 +84,7 @@ books volumes mappings sheet flags =
       sheet = sheet;
       flags = flags;
       pools = record { flat = 5; thin = 0 } ∷ [];
+      rooms = [];
     }
 
 abbrev pub no_restarts : ℕ → List Bool

@@ -1,17 +1,21 @@
 -- Reports, on closed examples.
 use Rattle.std.proofs.Common.{◌≡◌, true, false, Some, None, List, [], ◌∷◌, codes, refl}
 use Rattle.fc_base.specs.Column.{first_below, last_below, holder, first_reader}
-use Rattle.fc_base.specs.Sheet.{Sheet, live_place, mapping_place}
-use Rattle.fc_base.specs.declared.command.Command.TheVariants.{Lsfcmap, Lsfcconsistgrp, Lsvdisk, Lsfcmapprogress, Lsfcmapdependentmaps}
+use Rattle.fc_base.specs.Room.{reach}
+use Rattle.fc_base.specs.Sheet.{Sheet, no_slots, live_place, mapping_place}
+use Rattle.fc_base.specs.declared.command.Command.TheVariants.{Lsfcmap, Lsfcconsistgrp, Lsvdisk, Lsfcmapprogress, Lsfcmapdependentmaps, Lsvdiskroom}
+use Rattle.fc_base.specs.declared.disk.DiskKind.TheVariants.{Thin}
 use Rattle.fc_base.specs.declared.name.Ref.TheVariants.{Id, Name}
 use Rattle.fc_base.specs.declared.size.GrainSize.TheVariants.{K64, K256}
 use Rattle.fc_base.specs.declared.state.MapState.TheVariants.{IdleOrCopied, Copying, Stopping, Stopped}
 use Rattle.fc_base.specs.declared.volume.Mapping.{Mapping}
 use Rattle.fc_base.specs.declared.volume.Volume.{Volume}
+use Rattle.fc_books.specs.After.{after_deed}
 use Rattle.fc_books.specs.Books.{Books}
 use Rattle.fc_books.specs.Copies.{dependents}
+use Rattle.fc_books.specs.Making.{make_volume, remove_volume}
 use Rattle.fc_books.specs.Reports.{report_rows}
-use Rattle.fc_books.proofs.Examples.{volume, mapping, slot, old, books, two, apart}
+use Rattle.fc_books.proofs.Examples.{volume, mapping, slot, old, books, no_restarts, two, apart}
 use Rattle.std.specs.Fmt.{digits}
 
 -- ---- a mapping that was copied, in a group, and one in the other direction
@@ -141,3 +145,54 @@ dependent = refl
 no_dependent : report_rows K64 stopping (Lsfcmapdependentmaps (Id 1) None) ≡ codes "fc_id fc_name" ∷ []
 unfolding first_below last_below holder first_reader live_place mapping_place report_rows dependents digits
 no_dependent = refl
+
+-- ---- a flat volume of 2 grains, and a thin one of 3, whose second grain a write reached
+
+abbrev flat : Volume
+flat = volume 0 (codes "A") 2
+
+abbrev thin : Volume
+thin = record (volume 11 (codes "nightly") 3) { kind = Thin }
+
+abbrev both_made : Books
+both_made = after_deed no_restarts (after_deed no_restarts (books [] [] no_slots []) (make_volume flat)) (make_volume thin)
+
+abbrev reached : Books
+reached = record both_made { rooms = reach 11 1 both_made.rooms }
+
+room_delimited :
+    report_rows K64 reached (Lsvdiskroom (Some 58))
+    ≡ codes "id:name:kind:used:grains"
+    ∷ codes "0:A:flat:2:2"
+    ∷ codes "11:nightly:thin:1:3"
+    ∷ []
+unfolding report_rows digits
+room_delimited = refl
+
+room_in_columns :
+    report_rows K64 reached (Lsvdiskroom None)
+    ≡ codes "id name    kind used grains"
+    ∷ codes "0  A       flat 2    2"
+    ∷ codes "11 nightly thin 1    3"
+    ∷ []
+unfolding report_rows digits
+room_in_columns = refl
+
+-- no write reached the thin volume yet
+none_reached :
+    report_rows K64 both_made (Lsvdiskroom (Some 44))
+    ≡ codes "id,name,kind,used,grains"
+    ∷ codes "0,A,flat,2,2"
+    ∷ codes "11,nightly,thin,0,3"
+    ∷ []
+unfolding report_rows digits
+none_reached = refl
+
+-- a grain that is written again is counted once
+reached_again : report_rows K64 (record reached { rooms = reach 11 1 (reach 0 0 reached.rooms) }) (Lsvdiskroom None) ≡ report_rows K64 reached (Lsvdiskroom None)
+unfolding report_rows digits
+reached_again = refl
+
+one_removed : report_rows K64 (after_deed no_restarts reached (remove_volume flat)) (Lsvdiskroom None) ≡ codes "id name    kind used grains" ∷ codes "11 nightly thin 1    3" ∷ []
+unfolding report_rows digits
+one_removed = refl

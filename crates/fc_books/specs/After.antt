@@ -1,6 +1,7 @@
 -- What the books are after a deed: everything follows from its events and changes.
 use Rattle.std.specs.Prelude.{ℕ, ◌+◌, Bool, false, List, ◌++◌, length, map, fold, take, replicate, slice_set}
 use Rattle.fc_base.specs.Pools.{Pool, pool_without}
+use Rattle.fc_base.specs.Room.{rooms_after}
 use Rattle.fc_base.specs.Sheet.{Sheet, slot_at, mapping_place}
 use Rattle.fc_base.specs.SheetStep.{sheet_step, at_place}
 use Rattle.fc_base.specs.Tables.{after_change}
@@ -63,6 +64,7 @@ after_event restarts b event =
       sheet = sheet_after restarts b.sheet event;
       flags = flags_after b.flags event;
       pools = pools_after b.pools event;
+      rooms = rooms_after (λ grains. grains) b.rooms event;
     }
 
 -- ---- all

@@ -1,6 +1,7 @@
 -- The books: all that decides commands.
 use Rattle.std.specs.Prelude.{ℕ, List, [], ◌++◌, flat_map}
 use Rattle.fc_base.specs.Pools.{Pool}
+use Rattle.fc_base.specs.Room.{Room}
 use Rattle.fc_base.specs.Sheet.{Sheet, no_slots}
 use Rattle.fc_base.specs.Tables.{Tables, no_tables}
 use Rattle.fc_base.specs.declared.decision.LaneEvent.{LaneEvent}
@@ -9,7 +10,8 @@ use Rattle.fc_base.specs.declared.volume.Change.{Change}
 use Rattle.fc_pick.specs.declared.work.WorkFlags.{WorkFlags}
 
 -- The tables, and the id that the next volume, mapping and group will get; the chains of copies, at all grains of every
--- volume; the mappings with background work, by id; and for each lane the disks that it has for new volumes.
+-- volume; the mappings with background work, by id; for each lane the disks that it has for new volumes; and which grains of
+-- volumes occupy memory.
 pub record Books : Type 0 where
   pub tables : Tables
   pub next_volume : ℕ
@@ -18,11 +20,21 @@ pub record Books : Type 0 where
   pub sheet : Sheet
   pub flags : List WorkFlags
   pub pools : List Pool
+  pub rooms : List Room
 
 -- The books of a run that begins, with these disks. Groups are counted from 1.
 abbrev pub opened_books : List Pool → Books
 opened_books pools =
-    record { tables = no_tables; next_volume = 0; next_mapping = 0; next_group = 1; sheet = no_slots; flags = []; pools = pools }
+    record {
+      tables = no_tables;
+      next_volume = 0;
+      next_mapping = 0;
+      next_group = 1;
+      sheet = no_slots;
+      flags = [];
+      pools = pools;
+      rooms = [];
+    }
 
 -- A deed, a part of what a command does: the effects that the history tells, the events that lanes are told, and the
 -- changes of the tables, each in their order.

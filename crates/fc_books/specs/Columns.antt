@@ -2,8 +2,11 @@
 use Rattle.std.specs.Prelude.{ℕ, ◌*◌, ◌/◌, ◌-◌, Bool, ◌||◌, ◌==◌, cond, List, [], ◌∷◌, count_by, Option, codes, decimal}
 use Rattle.std.specs.Option.{option_map_or, option_and_then}
 use Rattle.fc_base.specs.Grain.{grain_bytes}
+use Rattle.fc_base.specs.Room.{Room, used_in}
 use Rattle.fc_base.specs.SheetView.{needed_of}
 use Rattle.fc_base.specs.Tables.{Tables, volume_with, mapping_with, group_with, partner_of}
+use Rattle.fc_base.specs.declared.disk.DiskKind.{DiskKind}
+use Rattle.fc_base.specs.declared.disk.DiskKind.TheVariants.{Flat, Thin}
 use Rattle.fc_base.specs.declared.ids.GroupId.{GroupId}
 use Rattle.fc_base.specs.declared.ids.MapId.{MapId}
 use Rattle.fc_base.specs.declared.ids.VolId.{VolId}
@@ -112,4 +115,17 @@ volume_columns grain t =
     ∷ report_column (codes "status") (λ v. access_text (access_in t v.id))
     ∷ report_column (codes "capacity") (λ v. decimal (v.grains * grain_bytes grain))
     ∷ report_column (codes "fc_map_count") (λ v. decimal (count_by (copies_volume v.id) t.mappings))
+    ∷ []
+
+abbrev pub kind_text : DiskKind → List ℕ
+kind_text Flat = codes "flat"
+kind_text Thin = codes "thin"
+
+abbrev pub room_columns : List Room → List (ReportColumn Volume)
+room_columns rooms =
+    report_column (codes "id") (λ v. decimal v.id.0)
+    ∷ report_column (codes "name") (λ v. v.name)
+    ∷ report_column (codes "kind") (λ v. kind_text v.kind)
+    ∷ report_column (codes "used") (λ v. decimal (used_in rooms v.id.0))
+    ∷ report_column (codes "grains") (λ v. decimal v.grains)
     ∷ []

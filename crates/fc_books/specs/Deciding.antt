@@ -5,13 +5,12 @@ use Rattle.fc_base.specs.SheetStep.{triggered}
 use Rattle.fc_base.specs.SheetView.{LoopAnswer}
 use Rattle.fc_base.specs.Tables.{Tables, volume_named, mapping_named, group_named}
 use Rattle.fc_base.specs.declared.command.Command.{Command}
-use Rattle.fc_base.specs.declared.command.Command.TheVariants.{Mkvdisk, Rmvdisk, Write, Read, Armfault, Advance, Mkfcmap, Prestartfcmap, Startfcmap, Stopfcmap, Rmfcmap, Mkfcconsistgrp, Prestartfcconsistgrp, Startfcconsistgrp, Stopfcconsistgrp, Rmfcconsistgrp, Lsfcmap, Lsfcconsistgrp, Lsvdisk, Lsfcmapprogress, Lsfcmapdependentmaps}
+use Rattle.fc_base.specs.declared.command.Command.TheVariants.{Mkvdisk, Rmvdisk, Write, Read, Armfault, Advance, Mkfcmap, Prestartfcmap, Startfcmap, Stopfcmap, Rmfcmap, Mkfcconsistgrp, Prestartfcconsistgrp, Startfcconsistgrp, Stopfcconsistgrp, Rmfcconsistgrp, Lsfcmap, Lsfcconsistgrp, Lsvdisk, Lsfcmapprogress, Lsfcmapdependentmaps, Mkpreset, Lsvdiskroom}
 use Rattle.fc_base.specs.declared.decision.Decision.{Decision}
 use Rattle.fc_base.specs.declared.fault.Kind.TheVariants.{Vdisk, Fcmap, Group as OfGroups}
 use Rattle.fc_base.specs.declared.fault.Refusal.{Refusal}
 use Rattle.fc_base.specs.declared.fault.Refusal.TheVariants.{RestoreLoop}
 use Rattle.fc_base.specs.declared.ids.VolId.{VolId}
-use Rattle.fc_base.specs.declared.request.Effect.{Effect}
 use Rattle.fc_base.specs.declared.request.Reply.{Reply}
 use Rattle.fc_base.specs.declared.request.Reply.TheVariants.{Done, Listed, Made, NoMemory, Refused}
 use Rattle.fc_base.specs.declared.size.GrainSize.{GrainSize}
@@ -21,7 +20,7 @@ use Rattle.fc_books.specs.After.{after_deed, after_all}
 use Rattle.fc_books.specs.Books.{Books, Deed, nothing}
 use Rattle.fc_books.specs.Groups.{members}
 use Rattle.fc_books.specs.Making.{new_volume, make_volume, remove_volume, arm, new_mapping, make_mapping, remove_mapping, new_group, make_group, remove_group}
-use Rattle.fc_books.specs.Refused.{of_mapping, of_group, of_asked, mkvdisk_refused, rmvdisk_refused, access_refused, armfault_refused, advance_refused, mkfcmap_refused, rmfcmap_refused, mkfcconsistgrp_refused, rmfcconsistgrp_refused}
+use Rattle.fc_books.specs.Refused.{of_mapping, of_group, of_asked, mkvdisk_refused, rmvdisk_refused, access_refused, preset_refused, armfault_refused, advance_refused, mkfcmap_refused, rmfcmap_refused, mkfcconsistgrp_refused, rmfcconsistgrp_refused}
 use Rattle.fc_books.specs.RefusedStarts.{prestartfcmap_refused, startfcmap_refused, stopfcmap_refused, prestartfcconsistgrp_refused, startfcconsistgrp_refused, stopfcconsistgrp_refused}
 use Rattle.fc_books.specs.Reports.{report_rows}
 use Rattle.fc_books.specs.Settling.{settling}
@@ -38,8 +37,9 @@ settle b =
 
 -- ---- the first refusal
 
--- Of any command but that a start would close a loop of restores. Lines `read` and `write` are no commands: a refused one is
--- an entry of its own, that settles nothing and sets no flag, and one that isn't refused goes to the lanes.
+-- Of any command but that a start would close a loop of restores. Lines `read`, `write` and `mkpreset` are no commands: a refused
+-- one is an entry of its own, that settles nothing and sets no flag. Of those that aren't refused reads and writes go to the lanes,
+-- and in place of a preset other lines are asked.
 abbrev pub refused : GrainSize → Books → Command → Option Refusal
 refused grain b (Mkvdisk name size unit thin) = mkvdisk_refused grain b name size unit thin
 refused grain b (Rmvdisk volume) = rmvdisk_refused b volume
@@ -63,6 +63,8 @@ refused grain b (Lsfcconsistgrp group delim) = of_asked (of_group b) group (λ f
 refused grain b (Lsvdisk delim) = None
 refused grain b (Lsfcmapprogress m delim) = of_mapping b m (λ found. None)
 refused grain b (Lsfcmapdependentmaps m delim) = of_mapping b m (λ found. None)
+refused grain b (Mkpreset source preset name) = preset_refused b source
+refused grain b (Lsvdiskroom delim) = None
 
 -- ---- what is done
 
@@ -104,6 +106,7 @@ replied grain b (Lsfcconsistgrp group delim) = Listed (report_rows grain b (Lsfc
 replied grain b (Lsvdisk delim) = Listed (report_rows grain b (Lsvdisk delim))
 replied grain b (Lsfcmapprogress m delim) = Listed (report_rows grain b (Lsfcmapprogress m delim))
 replied grain b (Lsfcmapdependentmaps m delim) = Listed (report_rows grain b (Lsfcmapdependentmaps m delim))
+replied grain b (Lsvdiskroom delim) = Listed (report_rows grain b (Lsvdiskroom delim))
 replied grain b command = Done
 
 -- ---- the loop of restores

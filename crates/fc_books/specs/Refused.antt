@@ -82,6 +82,10 @@ rmvdisk_refused b r =
 abbrev pub access_refused : GrainSize → Books → Ref → ℕ → ℕ → Option Refusal
 access_refused grain b r block count = of_volume b r (λ v. blocks_refusal grain v block count)
 
+-- `mkpreset`, of which an entry stands only where its source names no volume: it settles nothing.
+abbrev pub preset_refused : Books → Ref → Option Refusal
+preset_refused b source = of_volume b source (λ v. None)
+
 -- `armfault`: a grain past the end.
 abbrev pub armfault_refused : Books → Ref → ℕ → Option Refusal
 armfault_refused b r grain = of_volume b r (λ v. where_ (nat_le v.grains grain) (BadValue Grain))

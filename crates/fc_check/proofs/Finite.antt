@@ -1,13 +1,14 @@
 -- Without an entry a session goes on finitely: to where it waits for one, or is over.
 use Rattle.std.proofs.Common.{◌≡◌, ℕ, zero, suc, Bool, true, false, cond, Option, Some, None, List, [], ◌∷◌, ◌++◌, refl, ap}
 use Rattle.fc_agenda.specs.Goes.{stays, passes, begins}
+use Rattle.fc_base.specs.declared.behind.Behind.{Behind}
 use Rattle.fc_base.specs.declared.ids.GrainNo.{GrainNo}
 use Rattle.fc_base.specs.declared.request.Request.{Request}
 use Rattle.fc_base.specs.declared.size.GrainSize.{GrainSize}
 use Rattle.fc_blocks.specs.Segments.{Segment, single, together}
 use Rattle.fc_blocks.specs.declared.block.ActorRead.{ActorRead}
 use Rattle.fc_check_lines.specs.Leading.{LeadTo, Waits}
-use Rattle.fc_legal.specs.Agenda.{Actors, Agenda, Begins, Faults, Own, Reading, Seconds, Session, actors_begun, line_seconds, with_names, without_entry, without_fill}
+use Rattle.fc_legal.specs.Agenda.{Actors, Agenda, Begins, Faults, Own, Reading, Seconds, Session, actors_begun, behind_line, with_names, without_entry, without_fill}
 use Rattle.fc_legal.specs.Asked.{asked}
 use Rattle.fc_legal.specs.Scripts.{Script, are_done, faults_asked, scripts_of}
 use Rattle.fc_legal.specs.Seconds.{Passing, Work, fill_at_hand, gained, saved}
@@ -80,9 +81,10 @@ module _ (grain : GrainSize) (read : Reading) where
 
   -- ---- lines and blocks
 
-  own_ends : (requests : List Request) (n : ℕ) (segs : List Segment) (w : Whole) → Ends (Session segs) w → Ends (Own requests n segs) w
-  own_ends [] n segs w rest = ends_behind (Own [] n segs) (Session segs) w refl rest
-  own_ends (request ∷ requests) n segs w rest = ends_here (Own (request ∷ requests) n segs) w (record { none_passes = refl; none_begins = λ b v on. on })
+  own_ends : (requests : List Request) (behind : Behind) (segs : List Segment) (w : Whole) → Ends (Session segs) w → Ends (Own requests behind segs) w
+  own_ends [] behind segs w rest = ends_behind (Own [] behind segs) (Session segs) w refl rest
+  own_ends (request ∷ requests) behind segs w rest =
+      ends_here (Own (request ∷ requests) behind segs) w (record { none_passes = refl; none_begins = λ b v on. on })
 
   scripts_end_by : (scripts : List Script) (segs : List Segment) (w : Whole) (done : Bool) → are_done scripts ≡ done → Ends (Session segs) w → Ends (Actors scripts segs) w
   scripts_end_by scripts segs w true is rest =
@@ -106,15 +108,15 @@ module _ (grain : GrainSize) (read : Reading) where
   session_ends [] w = ends_here (Session []) w (record { none_passes = refl; none_begins = λ b v on. on })
   session_ends (single line ∷ segs) w =
       let requests : List Request = asked grain w.books (read w.books line) in
-      let n : ℕ = line_seconds (read w.books line) in
-      ends_behind (Session (single line ∷ segs)) (Own requests n segs) w refl (own_ends requests n segs w (session_ends segs w))
+      let behind : Behind = behind_line w.books (read w.books line) in
+      ends_behind (Session (single line ∷ segs)) (Own requests behind segs) w refl (own_ends requests behind segs w (session_ends segs w))
   session_ends (together block ∷ segs) w =
       ends_behind (Session (together block ∷ segs)) (Faults (faults_asked block.faults) block.actors segs) w refl
       (faults_end (faults_asked block.faults) block.actors segs w (session_ends segs (with_names w block.actors)))
 
   pub ends : (a : Agenda) (w : Whole) → Ends a w
   ends (Session segs) w = session_ends segs w
-  ends (Own requests n segs) w = own_ends requests n segs w (session_ends segs w)
+  ends (Own requests behind segs) w = own_ends requests behind segs w (session_ends segs w)
   ends (Seconds p segs) w = seconds_from w segs (session_ends segs w) p.seconds p.over p.at_hand p.left
   ends (Faults requests actors segs) w = faults_end requests actors segs w (session_ends segs (with_names w actors))
   ends (Actors scripts segs) w = scripts_end scripts segs w (session_ends segs w)

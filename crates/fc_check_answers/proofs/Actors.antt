@@ -2,7 +2,7 @@
 use Rattle.std.proofs.Common.{ℕ, Option, Some, None, List}
 use Rattle.fc_base.specs.Sheet.{live_place}
 use Rattle.fc_base.specs.declared.command.Command.{Command}
-use Rattle.fc_base.specs.declared.command.Command.TheVariants.{Read as ReadLine, Write as WriteLine}
+use Rattle.fc_base.specs.declared.command.Command.TheVariants.{Read as ReadLine, Write as WriteLine, Mkpreset}
 use Rattle.fc_base.specs.declared.fault.Refusal.{Refusal}
 use Rattle.fc_base.specs.declared.fault.Refusal.TheVariants.{Words}
 use Rattle.fc_base.specs.declared.ids.GrainNo.{GrainNo}
@@ -16,10 +16,10 @@ use Rattle.fc_base.specs.declared.request.WritePart.{WritePart}
 use Rattle.fc_base.specs.declared.size.GrainSize.{GrainSize}
 use Rattle.fc_base.specs.declared.state.Access.{Access}
 use Rattle.fc_base.specs.declared.state.Access.TheVariants.{Online, Offline, NotAccessible}
-use Rattle.fc_books.specs.Refused.{access_refused}
+use Rattle.fc_books.specs.Refused.{access_refused, preset_refused}
 use Rattle.fc_entry.specs.Picture.{grain_of_block}
 use Rattle.fc_entry.specs.declared.entry.Entry.{Entry}
-use Rattle.fc_legal.specs.Steps.{AccessIsRefused, CommandIsRight, CommandStep, IsApart, IsRefused, LaneStep, RequestStep, Step, TurnStep}
+use Rattle.fc_legal.specs.Steps.{MustBeRefused, CommandIsRight, CommandStep, IsApart, IsRefused, LaneStep, RequestStep, Step, TurnStep}
 use Rattle.fc_legal.specs.Whole.{Whole, as_one, lane_at, part_at, single_lane}
 use Rattle.fc_rules.specs.GrainAnswers.{ByAccess, HasRead, ReadAnswers, WriteAnswers, FillAnswers}
 use Rattle.fc_rules.specs.LaneRight.{CleanAnswers, CopyAnswers, LaneAnswers, MappingFill, TurnAnswers, VolumeWrite}
@@ -122,16 +122,17 @@ module _ (actor : ℕ) (e : Entry) where
     refused : (refusal : Refusal) → Stays (λ x. IsRefused refusal w x next)
     refused refusal h = record { apart = apart h.apart; place = h.place; reply = h.reply; next_is = h.next_is; no_effects = h.no_effects }
 
-    access : (refusal : Option Refusal) → Stays (λ x. AccessIsRefused refusal w x next)
-    access (Some refusal) h = refused refusal h
-    access None h = absurd h
+    must : (refusal : Option Refusal) → Stays (λ x. MustBeRefused refusal w x next)
+    must (Some refusal) h = refused refusal h
+    must None h = absurd h
 
     decided : (command : Command) → Stays (λ x. CommandStep grain w command x next)
     decided command h = record { apart = apart h.apart; place = h.place; left = h.left; leaves = h.leaves; next_is = h.next_is }
 
     command : (asked : Command) → Stays (λ x. CommandIsRight grain w asked x next)
-    command (ReadLine volume block count) h = access (access_refused grain w.books volume block count) h
-    command (WriteLine volume block count byte) h = access (access_refused grain w.books volume block count) h
+    command (ReadLine volume block count) h = must (access_refused grain w.books volume block count) h
+    command (WriteLine volume block count byte) h = must (access_refused grain w.books volume block count) h
+    command (Mkpreset source preset name) h = must (preset_refused w.books source) h
     command asked h = decided asked h
 
     in_lane : (i : ℕ) (Answers : Entry → Type 0) → Stays Answers → Stays (λ x. LaneStep grain w i Answers x next)

@@ -1,9 +1,9 @@
--- Ways behind entries of lanes, refused accesses and faulty lines.
+-- Ways behind entries of lanes, refused accesses and presets, and faulty lines.
 use Rattle.std.proofs.Common.{◌≡◌, ◌∙◌, List, [], ◌∷◌, ◌++◌, Option, Some, None, refl, sym, ap, subst}
 use Rattle.fc_base.specs.declared.fault.Refusal.{Refusal}
 use Rattle.fc_base.specs.declared.size.GrainSize.{GrainSize}
 use Rattle.fc_entry.specs.declared.entry.Entry.{Entry}
-use Rattle.fc_legal.specs.Steps.{AccessIsRefused, IsRefused, Step, one_more}
+use Rattle.fc_legal.specs.Steps.{MustBeRefused, IsRefused, Step, one_more}
 use Rattle.fc_legal.specs.Whole.{Whole}
 use Rattle.fc_check_lane.specs.Next.{IsNext, IsOfLanes}
 use Rattle.fc_check_record.specs.Judged.{Judged}
@@ -36,15 +36,15 @@ refusal_one way refusal entry old new says is =
     (record { place = says.place; apart = says.apart; reply = says.reply; no_effects = says.no_effects; next_is = refl })
     (λ next told. told.next_is)
 
--- ---- accesses
+-- ---- accesses and presets
 
-abbrev AccessCame : GrainSize → Whole → Entry → List Judged → List Judged → Option Refusal → Type 0
-AccessCame grain w entry old new refusal = Came grain (AccessIsRefused refusal w entry) old new
+abbrev RefusalCame : GrainSize → Whole → Entry → List Judged → List Judged → Option Refusal → Type 0
+RefusalCame grain w entry old new refusal = Came grain (MustBeRefused refusal w entry) old new
 
-pub access_some : (grain : GrainSize) (w : Whole) (entry : Entry) (old new : List Judged) (asked : Option Refusal) (refusal : Refusal) → asked ≡ Some refusal →
-    Came grain (IsRefused refusal w entry) old new → Came grain (AccessIsRefused asked w entry) old new
-access_some grain w entry old new asked refusal is came = subst (AccessCame grain w entry old new) (sym is) came
+pub refused_some : (grain : GrainSize) (w : Whole) (entry : Entry) (old new : List Judged) (asked : Option Refusal) (refusal : Refusal) → asked ≡ Some refusal →
+    Came grain (IsRefused refusal w entry) old new → Came grain (MustBeRefused asked w entry) old new
+refused_some grain w entry old new asked refusal is came = subst (RefusalCame grain w entry old new) (sym is) came
 
-pub access_none : (grain : GrainSize) (w : Whole) (entry : Entry) (old : List Judged) (asked : Option Refusal) → asked ≡ None → Came grain (AccessIsRefused asked w entry) old old
-access_none grain w entry old asked is =
-    subst (AccessCame grain w entry old old) (sym is) (came_none grain (AccessIsRefused None w entry) old (λ next told. told))
+pub refused_none : (grain : GrainSize) (w : Whole) (entry : Entry) (old : List Judged) (asked : Option Refusal) → asked ≡ None → Came grain (MustBeRefused asked w entry) old old
+refused_none grain w entry old asked is =
+    subst (RefusalCame grain w entry old old) (sym is) (came_none grain (MustBeRefused None w entry) old (λ next told. told))

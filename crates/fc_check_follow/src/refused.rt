@@ -1,8 +1,8 @@
-//! Refused accesses and faulty lines.
+//! Refused accesses and presets, and faulty lines.
 
 ghost use Rattle.std.specs.Prelude.{◌≡◌, ◌∷◌, ◌++◌, [], ◌<◌, OnOk};
-ghost use Rattle.fc_books.specs.Refused.{access_refused};
-ghost use Rattle.fc_legal.specs.Steps.{AccessIsRefused, IsRefused, one_more};
+ghost use Rattle.fc_books.specs.Refused.{access_refused, preset_refused};
+ghost use Rattle.fc_legal.specs.Steps.{MustBeRefused, IsRefused, one_more};
 ghost use Rattle.fc_check_follow.specs.Following.{Came, IsOpen};
 
 use crate::apart::says_refused;
@@ -46,6 +46,23 @@ pub(crate) fn follow_refusal(
     }
 }
 
+/// Goes on behind an entry that must be refused so: there is no way where nothing is refused.
+fn follow_must(
+    way: Record,
+    refusal: Option<Refusal>,
+    entry: &Entry,
+    after: &mut Vec<Record>,
+) -> Result<(), NoMemory>
+    requires { IsOpen way.whole }
+    ensures { OnOk result (Came way.grain (MustBeRefused refusal way.whole entry.now)
+        after.old.items after.new.items) }
+{
+    match refusal {
+        Some(refusal) => follow_refusal(way, &refusal, entry, after),
+        None => Ok(()),
+    }
+}
+
 /// Goes on behind an entry of an access that is a line by itself: there is a way where it is refused.
 pub(crate) fn follow_access(
     way: Record,
@@ -56,10 +73,24 @@ pub(crate) fn follow_access(
     after: &mut Vec<Record>,
 ) -> Result<(), NoMemory>
     requires { IsOpen way.whole }
-    ensures { OnOk result (Came way.grain (AccessIsRefused (access_refused way.grain way.whole.books volume.now block count) way.whole entry.now) after.old.items after.new.items) }
+    ensures { OnOk result (Came way.grain (MustBeRefused (access_refused way.grain way.whole.books volume.now block count) way.whole entry.now) after.old.items after.new.items) }
 {
-    match way.refused_access(volume, block, count) {
-        Some(refusal) => follow_refusal(way, &refusal, entry, after),
-        None => Ok(()),
-    }
+    let refusal = way.refused_access(volume, block, count);
+    follow_must(way, refusal, entry, after)
+}
+
+/// Goes on behind an entry of a preset: there is a way where it is refused. Where it isn't, other lines are asked in its place.
+pub(crate) fn follow_preset(
+    way: Record,
+    source: &Ref,
+    entry: &Entry,
+    after: &mut Vec<Record>,
+) -> Result<(), NoMemory>
+    requires { IsOpen way.whole }
+    ensures { OnOk result (Came way.grain
+        (MustBeRefused (preset_refused way.whole.books source.now) way.whole entry.now)
+        after.old.items after.new.items) }
+{
+    let refusal = way.refused_preset(source);
+    follow_must(way, refusal, entry, after)
 }

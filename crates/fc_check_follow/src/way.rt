@@ -6,7 +6,7 @@ ghost use Rattle.fc_check_lane.specs.Next.{IsOfLanes};
 ghost use Rattle.fc_check_follow.specs.Following.{Came, IsOpen};
 
 use crate::command::follow_command;
-use crate::refused::{follow_access, follow_refusal, keep};
+use crate::refused::{follow_access, follow_preset, follow_refusal, keep};
 use fc_base::command::Command;
 use fc_base::fault::Refusal;
 use fc_base::outcome::NoMemory;
@@ -34,7 +34,7 @@ fn follow_lane(
     keep(next, after)
 }
 
-/// Goes on behind an entry of a line that is a command, `read` or `write`.
+/// Goes on behind an entry of a line that is a command, `read`, `write` or `mkpreset`.
 fn follow_line(
     alloc: Global,
     way: Record,
@@ -57,6 +57,7 @@ fn follow_line(
             count,
             ..
         } => follow_access(way, volume, *block, *count, entry, after),
+        Command::Mkpreset { source, .. } => follow_preset(way, source, entry, after),
         _ => follow_command(alloc, way, command, entry, after),
     }
 }

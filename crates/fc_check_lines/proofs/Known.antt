@@ -5,7 +5,10 @@ use Rattle.std.specs.Option.{option_map}
 use Rattle.std.proofs.lemmas.Bool.{eqb-true}
 use Rattle.std.proofs.lemmas.List.Elements.{All-cons, All-head, All-nil, All-tail}
 use Rattle.fc_agenda.specs.Goes.{Goes, stays, passes, begins, answers}
+use Rattle.fc_base.specs.declared.behind.Behind.{Behind}
+use Rattle.fc_base.specs.declared.behind.Behind.TheVariants.{Passing as PassingSeconds, Mapping as MappingOf, Start, Undo}
 use Rattle.fc_base.specs.declared.ids.GrainNo.{GrainNo}
+use Rattle.fc_base.specs.declared.request.Reply.{Reply}
 use Rattle.fc_base.specs.declared.request.Request.{Request}
 use Rattle.fc_base.specs.declared.size.GrainSize.{GrainSize}
 use Rattle.fc_blocks.specs.Segments.{Segment, single, together}
@@ -16,9 +19,9 @@ use Rattle.fc_check_lines.specs.Asked.{IsAskedBy}
 use Rattle.fc_entry.specs.HistoryState.{number_of_actor, place_of_name}
 use Rattle.fc_entry.specs.declared.entry.Entry.{Entry}
 use Rattle.fc_legal.proofs.Naming.{HasMore, names_more}
-use Rattle.fc_legal.specs.Agenda.{Actors, Agenda, Asks, Begins, Faults, Own, Reading, Seconds, Session, behind_entry, behind_own, is_done, next_of_second, segment_read, session_rules, without_entry, without_fill}
+use Rattle.fc_legal.specs.Agenda.{Actors, Agenda, Asks, Begins, Faults, Own, Reading, Seconds, Session, behind_entry, behind_last, behind_own, is_done, next_of_second, segment_read, session_rules, without_entry, without_fill}
 use Rattle.fc_legal.specs.Scripts.{Script, are_done, names_with, scripts_of}
-use Rattle.fc_legal.specs.Seconds.{Passing, Work, fill_of, goes_on, next_fill}
+use Rattle.fc_legal.specs.Seconds.{Passing, Work, all_work, fill_of, goes_on, next_fill, seconds_begun}
 use Rattle.fc_legal.specs.Whole.{Whole, lanes}
 use Rattle.fc_scripts.proofs.Left.{has_script, asks_has, numbers_behind}
 use Rattle.fc_scripts.proofs.Numbers.{all_known}
@@ -104,23 +107,32 @@ module _ (grain : GrainSize) (read : Reading) (names : List (List ℕ)) where
   passes_known (Session (segment ∷ segs)) b w e =
       let is : segment_read grain read w segment segs ≡ b = cc e in
       subst Here is (begun_known w segment segs)
-  passes_known (Own [] n segs) b w e =
+  passes_known (Own [] behind segs) b w e =
       let is : Session segs ≡ b = cc e in
       subst Here is tt
-  passes_known (Own (request ∷ rest) n segs) b w e = absurd (cc e)
+  passes_known (Own (request ∷ rest) behind segs) b w e = absurd (cc e)
   passes_known (Seconds p segs) b w e = fill_known w p (next_fill grain w p) segs b e
   passes_known (Faults requests actors segs) b w e = absurd (cc e)
   passes_known (Actors scripts segs) b w e = done_known segs (are_done scripts) b e
 
-  own_known : (next : Whole) (done : Bool) (rest : List Request) (n : ℕ) (segs : List Segment) → Here (behind_own next done rest n segs)
-  own_known next true [] n segs = tt
-  own_known next false [] n segs = tt
-  own_known next done (request ∷ rest) n segs = tt
+  begun_by : (p : Passing) (segs : List Segment) (done : Bool) → Here (cond done (Seconds p segs) (Session segs))
+  begun_by p segs true = tt
+  begun_by p segs false = tt
+
+  last_known : (next : Whole) (reply : Reply) (behind : Behind) (segs : List Segment) → Here (behind_last next reply behind segs)
+  last_known next reply (PassingSeconds n) segs = begun_by (seconds_begun n (all_work next.books)) segs (is_done reply)
+  last_known next reply (MappingOf source preset name) segs = tt
+  last_known next reply (Start volume) segs = tt
+  last_known next reply (Undo map volume) segs = tt
+
+  own_known : (next : Whole) (reply : Reply) (rest : List Request) (behind : Behind) (segs : List Segment) → Here (behind_own next reply rest behind segs)
+  own_known next reply [] behind segs = last_known next reply behind segs
+  own_known next reply (request ∷ rest) behind segs = tt
 
   behind_known : (a : Agenda) (next : Whole) (entry : Entry) → Here a → Here (behind_entry grain a next entry)
   behind_known (Session segs) next entry known = tt
-  behind_known (Own [] n segs) next entry known = tt
-  behind_known (Own (request ∷ rest) n segs) next entry known = own_known next (is_done entry.reply) rest n segs
+  behind_known (Own [] behind segs) next entry known = tt
+  behind_known (Own (request ∷ rest) behind segs) next entry known = own_known next entry.reply rest behind segs
   behind_known (Seconds p segs) next entry known = tt
   behind_known (Faults [] actors segs) next entry known = tt
   behind_known (Faults (request ∷ rest) actors segs) next entry known = tt
@@ -152,7 +164,7 @@ module _ (grain : GrainSize) (read : Reading) where
       }))
   begins_known (Faults (request ∷ rest) actors segs) b w v main on = absurd on
   begins_known (Session segs) b w v main on = absurd on
-  begins_known (Own requests n segs) b w v main on = absurd on
+  begins_known (Own requests behind segs) b w v main on = absurd on
   begins_known (Seconds p segs) b w v main on = absurd on
   begins_known (Actors scripts segs) b w v main on = absurd on
 
@@ -202,8 +214,8 @@ module _ (grain : GrainSize) (read : Reading) where
 
   pub number_known : (a : Agenda) (w : Whole) (number : ℕ) (request : Request) → Known a w.actors → Asks grain a w (number, request) → IsKnownAs w.actors number
   number_known (Session segs) w number request known asks = absurd (cc asks)
-  number_known (Own [] n segs) w number request known asks = absurd (cc asks)
-  number_known (Own (x ∷ rest) n segs) w number request known asks = main_known w number known.main (first_is x request number asks)
+  number_known (Own [] behind segs) w number request known asks = absurd (cc asks)
+  number_known (Own (x ∷ rest) behind segs) w number request known asks = main_known w number known.main (first_is x request number asks)
   number_known (Seconds p segs) w number request known asks = main_known w number known.main (fill_first (next_fill grain w p) request number asks)
   number_known (Faults [] actors segs) w number request known asks = absurd (cc asks)
   number_known (Faults (x ∷ rest) actors segs) w number request known asks = main_known w number known.main (first_is x request number asks)

@@ -53,8 +53,8 @@ module _ (grain : GrainSize) (read : Reading) where
 
   pub asks_waits : (a : Agenda) (w : Whole) (wanted : ℕ × Request) → Asks grain a w wanted → Waits grain read a w
   asks_waits (Session segs) w wanted asks = absurd (cc asks)
-  asks_waits (Own [] n segs) w wanted asks = absurd (cc asks)
-  asks_waits (Own (request ∷ rest) n segs) w wanted asks = record { none_passes = refl; none_begins = λ b v on. on }
+  asks_waits (Own [] behind segs) w wanted asks = absurd (cc asks)
+  asks_waits (Own (request ∷ rest) behind segs) w wanted asks = record { none_passes = refl; none_begins = λ b v on. on }
   asks_waits (Seconds p segs) w wanted asks = record { none_passes = fill_waits w p segs (next_fill grain w p) wanted asks; none_begins = λ b v on. on }
   asks_waits (Faults [] actors segs) w wanted asks = absurd (cc asks)
   asks_waits (Faults (request ∷ rest) actors segs) w wanted asks = record { none_passes = refl; none_begins = λ b v on. on }
@@ -69,7 +69,7 @@ module _ (grain : GrainSize) (read : Reading) where
   not_both : (a b c : Agenda) (w v : Whole) → without_entry grain read a w ≡ Some b → Begins grain a w c v → ⊥
   not_both (Faults requests actors segs) b c w v on begun = absurd (cc on)
   not_both (Session segs) b c w v on begun = begun
-  not_both (Own requests n segs) b c w v on begun = begun
+  not_both (Own requests behind segs) b c w v on begun = begun
   not_both (Seconds p segs) b c w v on begun = begun
   not_both (Actors scripts segs) b c w v on begun = begun
 
@@ -79,7 +79,7 @@ module _ (grain : GrainSize) (read : Reading) where
       (on'.1 ∙ ap (λ t. actors_begun grain t actors segs) told ∙ sym on.1, told)
   begins_one (Faults (request ∷ rest) actors segs) b c w v u on on' = absurd on
   begins_one (Session segs) b c w v u on on' = absurd on
-  begins_one (Own requests n segs) b c w v u on on' = absurd on
+  begins_one (Own requests behind segs) b c w v u on on' = absurd on
   begins_one (Seconds p segs) b c w v u on on' = absurd on
   begins_one (Actors scripts segs) b c w v u on on' = absurd on
 
@@ -106,7 +106,7 @@ module _ (grain : GrainSize) (read : Reading) where
   begins_names (Faults [] actors segs) b w v names on = ap (named names) on.0
   begins_names (Faults (request ∷ rest) actors segs) b w v names on = absurd on
   begins_names (Session segs) b w v names on = absurd on
-  begins_names (Own requests n segs) b w v names on = absurd on
+  begins_names (Own requests behind segs) b w v names on = absurd on
   begins_names (Seconds p segs) b w v names on = absurd on
   begins_names (Actors scripts segs) b w v names on = absurd on
 

@@ -3,8 +3,9 @@ use Rattle.std.proofs.Common.{◌≡◌, ◌≢◌, ◌↔◌, ℕ, Bool, true, 
 use Rattle.std.specs.Option.{option_map}
 use Rattle.fc_agenda.proofs.Going.{Goes-append, Goes-pass}
 use Rattle.fc_agenda.specs.Goes.{Goes, stays, passes, begins}
+use Rattle.fc_base.specs.declared.behind.Behind.{Behind}
+use Rattle.fc_base.specs.declared.behind.Behind.TheVariants.{Passing as PassingSeconds, Mapping as MappingOf, Start, Undo}
 use Rattle.fc_base.specs.declared.command.Line.{Line}
-use Rattle.fc_base.specs.declared.command.Line.TheVariants.{Blank, Command, Together, Actor, End}
 use Rattle.fc_base.specs.declared.command.Scope.TheVariants.{Free}
 use Rattle.fc_base.specs.declared.command.ScriptLine.{ScriptLine}
 use Rattle.fc_base.specs.declared.fault.WordFault.{WordFault}
@@ -22,14 +23,16 @@ use Rattle.fc_check_lines.proofs.SecondsPass.{named_behind, named_fill, passes_t
 use Rattle.fc_check_lines.specs.Bytes.{IsSegment, by_grammar, segments_in}
 use Rattle.fc_check_lines.specs.Leading.{LeadTo, Waits}
 use Rattle.fc_check_lines.specs.Passing.{PassTo, PassesUpTo, fill_asked}
-use Rattle.fc_check_lines.specs.Standing.{BeginsAs, GoesOnTo, IsLeftBehind, IsOverWith, MainAsks, TellsNext, agenda_of, left_of, script_seconds}
+use Rattle.fc_check_lines.specs.Standing.{BeginsAs, GoesOnTo, IsLeftBehind, IsLeftOfLine, IsOverWith, MainAsks, TellsNext, agenda_of, left_of}
 use Rattle.fc_check_lines.specs.declared.lines.Asking.{Asking}
 use Rattle.fc_check_lines.specs.declared.lines.Asking.TheVariants.{Nothing, Own as OwnAsked, Seconds as SecondsAsked, Faults as FaultsAsked, Actors as ActorsAsked}
 use Rattle.fc_check_lines.specs.declared.segment.SegmentRead.{SegmentRead}
 use Rattle.fc_check_lines.specs.declared.segment.SegmentRead.TheVariants.{Single, Block}
+use Rattle.fc_check_requests.specs.Lines.{script_behind}
 use Rattle.fc_entry.specs.declared.entry.Entry.{Entry}
-use Rattle.fc_legal.specs.Agenda.{Actors, Agenda, Asks, Faults, Own, Reading, Seconds, Session, behind_entry, behind_fill, is_done, line_seconds, segment_read, session_rules, without_entry, without_fill}
+use Rattle.fc_legal.specs.Agenda.{Actors, Agenda, Asks, Faults, Own, Reading, Seconds, Session, behind_entry, behind_fill, behind_last, behind_line, is_done, segment_read, session_rules, without_entry, without_fill}
 use Rattle.fc_legal.specs.Asked.{asked}
+use Rattle.fc_legal.specs.Presets.{asked_behind}
 use Rattle.fc_legal.specs.Scripts.{Script, are_done, behind_first, behind_next, faults_asked, line_asked, names_with, next_by, next_request, scripts_of}
 use Rattle.fc_legal.specs.Seconds.{Passing, Work, all_work, fill_of, next_fill, seconds_begun}
 use Rattle.fc_legal.specs.Whole.{Whole, lanes}
@@ -42,20 +45,16 @@ asked_read : (grain : GrainSize) (b : Books) (read : Result Line WordFault) → 
 asked_read grain b (Ok line) = refl
 asked_read grain b (Err fault) = refl
 
-seconds_read : (read : Result Line WordFault) → script_seconds (script_line read) ≡ line_seconds read
-seconds_read (Ok Blank) = refl
-seconds_read (Ok (Command command)) = refl
-seconds_read (Ok Together) = refl
-seconds_read (Ok (Actor name role)) = refl
-seconds_read (Ok End) = refl
-seconds_read (Err fault) = refl
+behind_read : (b : Books) (read : Result Line WordFault) → script_behind b (script_line read) ≡ behind_line b read
+behind_read b (Ok line) = refl
+behind_read b (Err fault) = refl
 
 module _ (grain : GrainSize) (w : Whole) where
   single_read : (line : ScriptLine) (s : Segment) (segs : List Segment) (names : List (List ℕ)) → IsSegment (Single line) s →
-      Own (line_asked grain w.books line) (script_seconds line) segs ≡ segment_read grain by_grammar (named names w) s segs
+      Own (line_asked grain w.books line) (script_behind w.books line) segs ≡ segment_read grain by_grammar (named names w) s segs
   single_read line (single bytes) segs names read =
-      ap (λ l. Own (line_asked grain w.books l) (script_seconds l) segs) read
-      ∙ ap₂ (λ rs n. Own rs n segs) (asked_read grain w.books (line_of Free bytes)) (seconds_read (line_of Free bytes))
+      ap (λ l. Own (line_asked grain w.books l) (script_behind w.books l) segs) read
+      ∙ ap₂ (λ rs behind. Own rs behind segs) (asked_read grain w.books (line_of Free bytes)) (behind_read w.books (line_of Free bytes))
   single_read line (together block) segs names read = absurd read
 
   block_read : (block : BlockRead) (s : Segment) (segs : List Segment) (names : List (List ℕ)) → IsSegment (Block block) s →
@@ -66,7 +65,7 @@ module _ (grain : GrainSize) (w : Whole) where
   pub single_begins :
       {E : Type 0} (r : Result Asking E) (segment : SegmentRead) (line : ScriptLine) →
       segment ≡ Single line →
-      IfOk r (λ asking. asking ≡ OwnAsked (line_asked grain w.books line) (script_seconds line)) →
+      IfOk r (λ asking. asking ≡ OwnAsked (line_asked grain w.books line) (script_behind w.books line)) →
       IfOk r (λ asking. BeginsAs grain w segment asking)
   single_begins (Ok asking) segment line is begun = λ s segs names read.
       let P : SegmentRead → Type 0 = λ found. IsSegment found s in
@@ -106,21 +105,21 @@ module _ (grain : GrainSize) (read : Reading) where
   nothing_goes asking w is = subst (GoesOn w None) (sym is) (record { goes = λ segs. stays; waits = λ found segs some. absurd (cc some) })
 
   -- requests of a line
-  own_passes : (requests : List Request) (n : ℕ) (w : Whole) (segs : List Segment) → requests ≡ [] → without_entry grain read (Own requests n segs) w ≡ Some (Session segs)
-  own_passes requests n w segs none = ap (λ rs. without_entry grain read (Own rs n segs) w) none
+  own_passes : (requests : List Request) (behind : Behind) (w : Whole) (segs : List Segment) → requests ≡ [] → without_entry grain read (Own requests behind segs) w ≡ Some (Session segs)
+  own_passes requests behind w segs none = ap (λ rs. without_entry grain read (Own rs behind segs) w) none
 
-  own_waits : (requests : List Request) (n : ℕ) (w : Whole) (segs : List Segment) → requests ≢ [] → Waits grain read (Own requests n segs) w
-  own_waits [] n w segs some = absurd (some refl)
-  own_waits (r ∷ rest) n w segs some = record { none_passes = refl; none_begins = λ b v on. on }
+  own_waits : (requests : List Request) (behind : Behind) (w : Whole) (segs : List Segment) → requests ≢ [] → Waits grain read (Own requests behind segs) w
+  own_waits [] behind w segs some = absurd (some refl)
+  own_waits (r ∷ rest) behind w segs some = record { none_passes = refl; none_begins = λ b v on. on }
 
-  pub own_ends : (asking : Asking) (requests : List Request) (n : ℕ) (w : Whole) → asking ≡ OwnAsked requests n → requests ≡ [] → GoesOnTo grain read asking w None w
-  own_ends asking requests n w is none =
-      subst (GoesOn w None) (sym is) (ends_there (OwnAsked requests n) w (λ segs. own_passes requests n w segs none))
+  pub own_ends : (asking : Asking) (requests : List Request) (behind : Behind) (w : Whole) → asking ≡ OwnAsked requests behind → requests ≡ [] → GoesOnTo grain read asking w None w
+  own_ends asking requests behind w is none =
+      subst (GoesOn w None) (sym is) (ends_there (OwnAsked requests behind) w (λ segs. own_passes requests behind w segs none))
 
-  pub own_stays : (asking : Asking) (requests : List Request) (n : ℕ) (w : Whole) → asking ≡ OwnAsked requests n → requests ≢ [] →
-      GoesOnTo grain read asking w (Some (OwnAsked requests n)) w
-  own_stays asking requests n w is some =
-      subst (GoesOn w (Some (OwnAsked requests n))) (sym is) (stays_there (OwnAsked requests n) w (λ segs. own_waits requests n w segs some))
+  pub own_stays : (asking : Asking) (requests : List Request) (behind : Behind) (w : Whole) → asking ≡ OwnAsked requests behind → requests ≢ [] →
+      GoesOnTo grain read asking w (Some (OwnAsked requests behind)) w
+  own_stays asking requests behind w is some =
+      subst (GoesOn w (Some (OwnAsked requests behind))) (sym is) (stays_there (OwnAsked requests behind) w (λ segs. own_waits requests behind w segs some))
 
   -- faults of a block
   faults_wait : (requests : List Request) (actors : List ActorRead) (w : Whole) (segs : List Segment) → requests ≢ [] → Waits grain read (Faults requests actors segs) w
@@ -304,9 +303,9 @@ module _ (grain : GrainSize) (actor : ℕ) (request : Request) where
     (λ asks. let both : (0 ≡ actor) × (Some r ≡ Some request) = some_pair 0 actor r request asks in (sym both.0, both.1)),
   )
 
-  own_next : (requests : List Request) (n : ℕ) (segs : List Segment) (w : Whole) → MainAsks actor request (next_request requests) ↔ Asks grain (Own requests n segs) w (actor, request)
-  own_next [] n segs w = ((λ both. absurd (cc both.1)), (λ asks. absurd (cc asks)))
-  own_next (r ∷ rest) n segs w = main_next r
+  own_next : (requests : List Request) (behind : Behind) (segs : List Segment) (w : Whole) → MainAsks actor request (next_request requests) ↔ Asks grain (Own requests behind segs) w (actor, request)
+  own_next [] behind segs w = ((λ both. absurd (cc both.1)), (λ asks. absurd (cc asks)))
+  own_next (r ∷ rest) behind segs w = main_next r
 
   faults_next : (requests : List Request) (actors : List ActorRead) (segs : List Segment) (w : Whole) →
       MainAsks actor request (next_request requests) ↔ Asks grain (Faults requests actors segs) w (actor, request)
@@ -331,9 +330,9 @@ module _ (grain : GrainSize) (actor : ℕ) (request : Request) where
     pub nothing_asks : (asking : Asking) → asking ≡ Nothing → TellsNext false grain w asking actor request
     nothing_asks asking is = subst (Tells false w) (sym is) (λ segs names. ((λ tells. absurd (cc tells)), (λ asks. absurd (cc asks))))
 
-    pub own_asks : (asking : Asking) (requests : List Request) (n : ℕ) (tells : Bool) → asking ≡ OwnAsked requests n → (IsTrue tells ↔ MainAsks actor request (next_request requests)) →
+    pub own_asks : (asking : Asking) (requests : List Request) (behind : Behind) (tells : Bool) → asking ≡ OwnAsked requests behind → (IsTrue tells ↔ MainAsks actor request (next_request requests)) →
         TellsNext tells grain w asking actor request
-    own_asks asking requests n tells is says = subst (Tells tells w) (sym is) (λ segs names. both_then says (own_next requests n segs (named names w)))
+    own_asks asking requests behind tells is says = subst (Tells tells w) (sym is) (λ segs names. both_then says (own_next requests behind segs (named names w)))
 
     pub faults_ask : (asking : Asking) (requests : List Request) (actors : List ActorRead) (tells : Bool) → asking ≡ FaultsAsked requests actors →
         (IsTrue tells ↔ MainAsks actor request (next_request requests)) → TellsNext tells grain w asking actor request
@@ -361,7 +360,80 @@ module _ (grain : GrainSize) (actor : ℕ) (request : Request) where
         let P : Agenda → Type 0 = λ a. IsTrue tells ↔ Asks grain a (named names w) (actor, request) in
         subst P (sym (are segs)) says
 
+-- ---- what is left behind the last request of a line
+
+module _ (w : Whole) (reply : Reply) where
+  done_by : (n : ℕ) (segs : List Segment) (done : Bool) → is_done reply ≡ done →
+      behind_last w reply (PassingSeconds n) segs ≡ cond done (Seconds (seconds_begun n (all_work w.books)) segs) (Session segs)
+  done_by n segs done test = ap (λ d. cond {A = Agenda} d (Seconds (seconds_begun n (all_work w.books)) segs) (Session segs)) test
+
+  pub seconds_left : (n : ℕ) (p : Passing) → is_done reply ≡ true → p ≡ seconds_begun n (all_work w.books) → IsLeftOfLine w reply (PassingSeconds n) (SecondsAsked p)
+  seconds_left n p test begun = λ segs names. ap (λ q. Seconds q segs) begun ∙ sym (done_by n segs true test)
+
+  pub over_left : (n : ℕ) → is_done reply ≡ false → IsLeftOfLine w reply (PassingSeconds n) Nothing
+  over_left n test = λ segs names. sym (done_by n segs false test)
+
+  pub passing_left : {E : Type 0} (r : Result Asking E) (behind : Behind) (n : ℕ) → behind ≡ PassingSeconds n →
+      IfOk r (λ left. IsLeftOfLine w reply (PassingSeconds n) left) → IfOk r (λ left. IsLeftOfLine w reply behind left)
+  passing_left r behind n is says =
+      let P : Behind → Type 0 = λ b. IfOk r (λ (left : Asking). IsLeftOfLine w reply b left) in
+      subst P (sym is) says
+
+  -- more is asked
+  abbrev asks_more : Behind → Asking
+  asks_more behind = OwnAsked (asked_behind behind reply).0 (asked_behind behind reply).1
+
+  left_more : (behind : Behind) (left : Asking) → ((n : ℕ) → behind ≡ PassingSeconds n → ⊥) → left ≡ asks_more behind → IsLeftOfLine w reply behind left
+  left_more (PassingSeconds n) left other is = absurd (other n refl)
+  left_more (MappingOf source preset name) left other is = λ segs names. ap (λ a. agenda_of a segs) is
+  left_more (Start volume) left other is = λ segs names. ap (λ a. agenda_of a segs) is
+  left_more (Undo map volume) left other is = λ segs names. ap (λ a. agenda_of a segs) is
+
+  pub others_left : {E : Type 0} (r : Result Asking E) (behind : Behind) → ((n : ℕ) → behind ≡ PassingSeconds n → ⊥) → IfOk r (λ left. left ≡ asks_more behind) →
+      IfOk r (λ left. IsLeftOfLine w reply behind left)
+  others_left (Ok left) behind other is = left_more behind left other is
+  others_left (Err refused) behind other is = tt
+
 -- ---- what is left behind an entry
+
+module _ (grain : GrainSize) (w : Whole) (reply : Reply) where
+  -- of a line
+  abbrev behind_of : List Request → Behind → List Segment → Whole → Entry → Agenda
+  behind_of requests behind segs next entry = behind_entry grain (Own requests behind segs) next entry
+
+  last_behind : (requests : List Request) (behind : Behind) (segs : List Segment) (next : Whole) (entry : Entry) → requests ≢ [] → behind_first requests ≡ [] →
+      behind_of requests behind segs next entry ≡ behind_last next entry.reply behind segs
+  last_behind [] behind segs next entry some last = absurd (some refl)
+  last_behind (r ∷ []) behind segs next entry some last = refl
+  last_behind (r ∷ x ∷ rest) behind segs next entry some last = absurd (cc last)
+
+  more_behind : (requests : List Request) (behind : Behind) (segs : List Segment) (next : Whole) (entry : Entry) → requests ≢ [] → behind_first requests ≢ [] →
+      behind_of requests behind segs next entry ≡ Own (behind_first requests) behind segs
+  more_behind [] behind segs next entry some more = absurd (some refl)
+  more_behind (r ∷ []) behind segs next entry some more = absurd (more refl)
+  more_behind (r ∷ x ∷ rest) behind segs next entry some more = refl
+
+  pub none_left : (actor : ℕ) (requests : List Request) (behind : Behind) → requests ≡ [] → IsLeftBehind grain w (OwnAsked requests behind) actor reply Nothing
+  none_left actor requests behind none = λ entry segs names by so. sym (ap (λ rs. behind_of rs behind segs (named names w) entry) none)
+
+  pub more_left : (actor : ℕ) (requests rest : List Request) (behind : Behind) → requests ≢ [] → rest ≡ behind_first requests → rest ≢ [] →
+      IsLeftBehind grain w (OwnAsked requests behind) actor reply (OwnAsked rest behind)
+  more_left actor requests rest behind some is more = λ entry segs names by so.
+      let P : List Request → Type 0 = λ rs. rs ≢ [] in
+      ap (λ rs. Own rs behind segs) is ∙ sym (more_behind requests behind segs (named names w) entry some (subst P is more))
+
+  pub last_left :
+      {E : Type 0} (r : Result Asking E) (requests rest : List Request) (behind : Behind) →
+      requests ≢ [] →
+      rest ≡ behind_first requests →
+      rest ≡ [] →
+      IfOk r (λ left. IsLeftOfLine w reply behind left) →
+      IfOk r (λ left. (actor : ℕ) → IsLeftBehind grain w (OwnAsked requests behind) actor reply left)
+  last_left (Ok left) requests rest behind some is last says = λ actor entry segs names by so.
+      says segs names
+      ∙ ap (λ answer. behind_last (named names w) answer behind segs) (sym so)
+      ∙ sym (last_behind requests behind segs (named names w) entry some (sym is ∙ last))
+  last_left (Err refused) requests rest behind some is last says = tt
 
 module _ (grain : GrainSize) (w : Whole) (actor : ℕ) (reply : Reply) where
   abbrev IsLeft : Asking → Asking → Type 0
@@ -370,64 +442,13 @@ module _ (grain : GrainSize) (w : Whole) (actor : ℕ) (reply : Reply) where
   pub nothing_left : (asking : Asking) → asking ≡ Nothing → IsLeftBehind grain w asking actor reply Nothing
   nothing_left asking is = subst (IsLeft Nothing) (sym is) (λ entry segs names by so. refl)
 
-  -- of a line
-  abbrev behind_of : List Request → ℕ → List Segment → Whole → Entry → Agenda
-  behind_of requests n segs next entry = behind_entry grain (Own requests n segs) next entry
-
-  last_behind : (requests : List Request) (n : ℕ) (segs : List Segment) (next : Whole) (entry : Entry) → requests ≢ [] → behind_first requests ≡ [] →
-      behind_of requests n segs next entry ≡ cond (is_done entry.reply) (Seconds (seconds_begun n (all_work next.books)) segs) (Session segs)
-  last_behind [] n segs next entry some last = absurd (some refl)
-  last_behind (r ∷ []) n segs next entry some last = refl
-  last_behind (r ∷ x ∷ rest) n segs next entry some last = absurd (cc last)
-
-  more_behind : (requests : List Request) (n : ℕ) (segs : List Segment) (next : Whole) (entry : Entry) → requests ≢ [] → behind_first requests ≢ [] →
-      behind_of requests n segs next entry ≡ Own (behind_first requests) n segs
-  more_behind [] n segs next entry some more = absurd (some refl)
-  more_behind (r ∷ []) n segs next entry some more = absurd (more refl)
-  more_behind (r ∷ x ∷ rest) n segs next entry some more = refl
-
-  pub none_left : (requests : List Request) (n : ℕ) → requests ≡ [] → IsLeftBehind grain w (OwnAsked requests n) actor reply Nothing
-  none_left requests n none = λ entry segs names by so. sym (ap (λ rs. behind_of rs n segs (named names w) entry) none)
-
-  pub more_left : (requests rest : List Request) (n : ℕ) → requests ≢ [] → rest ≡ behind_first requests → rest ≢ [] →
-      IsLeftBehind grain w (OwnAsked requests n) actor reply (OwnAsked rest n)
-  more_left requests rest n some is more = λ entry segs names by so.
-      let P : List Request → Type 0 = λ rs. rs ≢ [] in
-      ap (λ rs. Own rs n segs) is ∙ sym (more_behind requests n segs (named names w) entry some (subst P is more))
-
-  last_left : (requests rest : List Request) (n : ℕ) (done : Bool) (segs : List Segment) (names : List (List ℕ)) (entry : Entry) →
-      requests ≢ [] →
-      rest ≡ behind_first requests →
-      rest ≡ [] →
-      is_done reply ≡ done →
-      entry.reply ≡ reply →
-      behind_of requests n segs (named names w) entry ≡ cond done (Seconds (seconds_begun n (all_work w.books)) segs) (Session segs)
-  last_left requests rest n done segs names entry some is last test so =
-      last_behind requests n segs (named names w) entry some (sym is ∙ last)
-      ∙ ap (λ d. cond {A = Agenda} d (Seconds (seconds_begun n (all_work w.books)) segs) (Session segs)) (ap is_done so ∙ test)
-
-  pub seconds_left :
-      (requests rest : List Request) (n : ℕ) (p : Passing) →
-      requests ≢ [] →
-      rest ≡ behind_first requests →
-      rest ≡ [] →
-      is_done reply ≡ true →
-      p ≡ seconds_begun n (all_work w.books) →
-      IsLeftBehind grain w (OwnAsked requests n) actor reply (SecondsAsked p)
-  seconds_left requests rest n p some is last test begun = λ entry segs names by so.
-      ap (λ q. Seconds q segs) begun ∙ sym (last_left requests rest n true segs names entry some is last test so)
-
-  pub over_left : (requests rest : List Request) (n : ℕ) → requests ≢ [] → rest ≡ behind_first requests → rest ≡ [] → is_done reply ≡ false →
-      IsLeftBehind grain w (OwnAsked requests n) actor reply Nothing
-  over_left requests rest n some is last test = λ entry segs names by so. sym (last_left requests rest n false segs names entry some is last test so)
-
   pub own_left :
-      {E : Type 0} (r : Result Asking E) (asking : Asking) (requests : List Request) (n : ℕ) →
-      asking ≡ OwnAsked requests n →
-      IfOk r (λ left. (any : ℕ) → IsLeftBehind grain w (OwnAsked requests n) any reply left) →
+      {E : Type 0} (r : Result Asking E) (asking : Asking) (requests : List Request) (behind : Behind) →
+      asking ≡ OwnAsked requests behind →
+      IfOk r (λ left. (any : ℕ) → IsLeftBehind grain w (OwnAsked requests behind) any reply left) →
       IfOk r (λ left. IsLeftBehind grain w asking actor reply left)
-  own_left (Ok left) asking requests n is says = subst (IsLeft left) (sym is) (says actor)
-  own_left (Err refused) asking requests n is says = tt
+  own_left (Ok left) asking requests behind is says = subst (IsLeft left) (sym is) (says actor)
+  own_left (Err refused) asking requests behind is says = tt
 
   -- of seconds
   pub fill_left : (asking : Asking) (p q : Passing) → asking ≡ SecondsAsked p → ((entry : Entry) → entry.reply ≡ reply → q ≡ behind_fill grain w p p.at_hand entry) →
@@ -462,14 +483,14 @@ module _ (grain : GrainSize) (w : Whole) (actor : ℕ) (reply : Reply) where
 
 pub over_is : (asking : Asking) (segs : List Segment) → asking ≡ Nothing → IsOverWith asking segs → agenda_of asking segs ≡ Session []
 over_is Nothing segs is over = ap Session over
-over_is (OwnAsked requests n) segs is over = absurd (cc is)
+over_is (OwnAsked requests behind) segs is over = absurd (cc is)
 over_is (SecondsAsked p) segs is over = absurd (cc is)
 over_is (FaultsAsked requests actors) segs is over = absurd (cc is)
 over_is (ActorsAsked scripts) segs is over = absurd (cc is)
 
 pub is_over : (asking : Asking) (segs : List Segment) → agenda_of asking segs ≡ Session [] → asking ≡ Nothing
 is_over Nothing segs is = refl
-is_over (OwnAsked requests n) segs is = absurd (cc is)
+is_over (OwnAsked requests behind) segs is = absurd (cc is)
 is_over (SecondsAsked p) segs is = absurd (cc is)
 is_over (FaultsAsked requests actors) segs is = absurd (cc is)
 is_over (ActorsAsked scripts) segs is = absurd (cc is)
@@ -478,7 +499,7 @@ is_over (ActorsAsked scripts) segs is = absurd (cc is)
 pub over_with : (grain : GrainSize) (read : Reading) (asking : Asking) (segs : List Segment) (v : Whole) → Waits grain read (agenda_of asking segs) v → IsOverWith asking segs
 over_with grain read Nothing [] v waits = refl
 over_with grain read Nothing (s ∷ ss) v waits = absurd (cc waits.none_passes)
-over_with grain read (OwnAsked requests n) segs v waits = tt
+over_with grain read (OwnAsked requests behind) segs v waits = tt
 over_with grain read (SecondsAsked p) segs v waits = tt
 over_with grain read (FaultsAsked requests actors) segs v waits = tt
 over_with grain read (ActorsAsked scripts) segs v waits = tt

@@ -1,9 +1,7 @@
 -- What is left of a session: what was begun of it, and the lines and blocks behind that.
 use Rattle.std.specs.Prelude.{◌≡◌, ◌↔◌, ℕ, Bool, IsTrue, List, [], Option, Some, None}
 use Rattle.fc_agenda.specs.Goes.{Goes}
-use Rattle.fc_base.specs.declared.command.Line.TheVariants.{Command as CommandLine}
-use Rattle.fc_base.specs.declared.command.ScriptLine.{ScriptLine}
-use Rattle.fc_base.specs.declared.command.ScriptLine.TheVariants.{Read}
+use Rattle.fc_base.specs.declared.behind.Behind.{Behind}
 use Rattle.fc_base.specs.declared.request.Reply.{Reply}
 use Rattle.fc_base.specs.declared.request.Request.{Request}
 use Rattle.fc_base.specs.declared.size.GrainSize.{GrainSize}
@@ -14,7 +12,7 @@ use Rattle.fc_check_lines.specs.declared.lines.Asking.{Asking}
 use Rattle.fc_check_lines.specs.declared.lines.Asking.TheVariants.{Nothing, Own as OwnAsked, Seconds as SecondsAsked, Faults as FaultsAsked, Actors as ActorsAsked}
 use Rattle.fc_check_lines.specs.declared.segment.SegmentRead.{SegmentRead}
 use Rattle.fc_entry.specs.declared.entry.Entry.{Entry}
-use Rattle.fc_legal.specs.Agenda.{Agenda, Session, Own, Seconds, Faults, Actors, Asks, Reading, behind_entry, command_seconds, segment_read, session_rules}
+use Rattle.fc_legal.specs.Agenda.{Agenda, Session, Own, Seconds, Faults, Actors, Asks, Reading, behind_entry, behind_last, segment_read, session_rules}
 use Rattle.fc_legal.specs.Whole.{Whole}
 use Rattle.law_stands.specs.Names.{named}
 
@@ -26,7 +24,7 @@ pub record Standing : Type 0 where
 -- What was begun, with these segments behind it.
 abbrev pub agenda_of : Asking → List Segment → Agenda
 agenda_of Nothing segs = Session segs
-agenda_of (OwnAsked requests seconds) segs = Own requests seconds segs
+agenda_of (OwnAsked requests behind) segs = Own requests behind segs
 agenda_of (SecondsAsked passing) segs = Seconds passing segs
 agenda_of (FaultsAsked requests actors) segs = Faults requests actors segs
 agenda_of (ActorsAsked scripts) segs = Actors scripts.items segs
@@ -46,11 +44,6 @@ pub record GoesOnTo (grain : GrainSize) (read : Reading) (asking : Asking) (w : 
   pub goes : (segs : List Segment) → Goes (session_rules grain read) (agenda_of asking segs) w [] (left_of left segs) v
   pub waits : (found : Asking) (segs : List Segment) → left ≡ Some found → Waits grain read (agenda_of found segs) v
 
--- How many seconds a line lets pass, as it was read.
-abbrev pub script_seconds : ScriptLine → ℕ
-script_seconds (Read (CommandLine command)) = command_seconds command
-script_seconds line = 0
-
 -- A line or a block that was read begins so, whatever stands behind it and whoever has a name.
 abbrev pub BeginsAs : GrainSize → Whole → SegmentRead → Asking → Type 0
 BeginsAs grain w read asking = (s : Segment) (segs : List Segment) (names : List (List ℕ)) → IsSegment read s →
@@ -64,6 +57,10 @@ MainAsks actor request next = (actor ≡ 0) × (next ≡ Some request)
 abbrev pub TellsNext : Bool → GrainSize → Whole → Asking → ℕ → Request → Type 0
 TellsNext tells grain w asking actor request = (segs : List Segment) (names : List (List ℕ)) →
     IsTrue tells ↔ Asks grain (agenda_of asking segs) (named names w) (actor, request)
+
+-- This is left of a line behind its last request, which was answered so, whatever stands behind the line and whoever has a name.
+abbrev pub IsLeftOfLine : Whole → Reply → Behind → Asking → Type 0
+IsLeftOfLine w reply behind left = (segs : List Segment) (names : List (List ℕ)) → agenda_of left segs ≡ behind_last (named names w) reply behind segs
 
 -- This is left behind an entry of the actor with this number that answered so.
 abbrev pub IsLeftBehind : GrainSize → Whole → Asking → ℕ → Reply → Asking → Type 0

@@ -10,6 +10,7 @@
 //! a whole run.
 //!
 //! What was told is asked of whoever keeps it (`fc_check_requests`, `told`); requests, scripts and background work are kept there too.
+//! Behind its last request a line may ask more by what that was answered, as a preset does (`fc_preset_lines`).
 //!
 //! In reading order: `segment` (the next line or block of a session's bytes), `passing` (seconds that pass), `lines`; and `laws`.
 #![tactic(auto)]

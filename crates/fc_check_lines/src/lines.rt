@@ -1,28 +1,33 @@
 //! What a session may still bring.
 
-ghost use Rattle.std.specs.Prelude.{◌≡◌, ◌↔◌, [], ◌∷◌, ℕ, List, None, Some, cond, codes, IsTrue, IfOk, OnOk};
+ghost use Rattle.std.specs.Prelude.{◌≡◌, ◌↔◌, [], ◌∷◌, ℕ, List, None, Some, cond, codes, map, IsTrue, IfOk, OnOk};
+ghost use Rattle.fc_base.specs.declared.command.Command.{Command};
+ghost use Rattle.fc_base.specs.declared.request.Request.TheVariants.{Command as CommandAsked};
 ghost use Rattle.fc_blocks.specs.Segments.{Segment};
 ghost use Rattle.fc_check_lines.specs.Asked.{IsAskedBy, entry_by};
 ghost use Rattle.fc_check_lines.specs.Bytes.{by_grammar, segments_in};
 ghost use Rattle.fc_check_lines.specs.Leading.{LeadTo};
 ghost use Rattle.law_stands.specs.Names.{named};
-ghost use Rattle.fc_check_lines.specs.Standing.{BeginsAs, GoesOnTo, IsLeftBehind, IsOverWith, MainAsks, TellsNext, agenda_of, script_seconds};
-ghost use Rattle.fc_legal.specs.Agenda.{Session, behind_entry, command_seconds, is_done};
+ghost use Rattle.fc_check_lines.specs.Standing.{BeginsAs, GoesOnTo, IsLeftBehind, IsLeftOfLine, IsOverWith, MainAsks, TellsNext, agenda_of};
+ghost use Rattle.fc_check_requests.specs.Lines.{script_behind};
+ghost use Rattle.fc_legal.specs.Agenda.{Session, behind_entry, is_done};
+ghost use Rattle.fc_legal.specs.Presets.{asked_behind};
 ghost use Rattle.fc_legal.specs.Scripts.{are_done, faults_asked, line_asked, names_with, next_request, scripts_of};
 ghost use Rattle.fc_legal.specs.Whole.{lanes};
 ghost use Rattle.fc_check_lines.specs.declared.lines.Asking.{Asking};
 
 use crate::passing::Passing;
 use crate::segment::{SegmentRead, next_segment};
-use fc_base::command::{Command, Line, ScriptLine};
+use fc_base::behind::Behind;
+use fc_base::command::{Command, ScriptLine};
 use fc_base::fault::WordFault;
 use fc_base::list::List;
 use fc_base::name::Name;
 use fc_base::outcome::NoMemory;
 use fc_base::request::{Reply, Request};
 use fc_blocks::block::ActorRead;
-use fc_check_requests::asking::push_line;
-use fc_check_requests::copies::{copy_actors, copy_names};
+use fc_check_requests::asking::{behind_line, push_line};
+use fc_check_requests::copies::{copy_actors, copy_behind, copy_names};
 use fc_check_requests::requests::Requests;
 use fc_check_requests::scripts::{
     Script, add_names, are_done, copy_scripts, do_ask, number_of_actor, scripts_of, take_next,
@@ -30,6 +35,7 @@ use fc_check_requests::scripts::{
 use fc_check_requests::told::Told;
 use fc_entry::entry::Entry;
 use fc_entry::history::place_of_name;
+use fc_preset_lines::asked_behind;
 use std::alloc::Global;
 use std::marker::Model;
 
@@ -38,10 +44,10 @@ use std::marker::Model;
 pub enum Asking {
     /// Nothing: the next line or block comes.
     Nothing,
-    /// These requests of a line; and so many seconds behind them, if the last is done.
+    /// These requests of a line, and what it asks behind the last of them.
     Own {
         requests: Requests,
-        seconds: u32,
+        behind: Behind,
     },
     /// Seconds that pass.
     Seconds(Passing),
@@ -76,37 +82,16 @@ impl<'a> Model for Lines<'a> {
     ghost invariant = { λ l. IsOverWith l.asking (segments_in l.rest.now) };
 }
 
-/// How many seconds a command lets pass, if it is done.
-fn seconds_of_command(command: &Command) -> u32
-    ensures { result ≡ command_seconds command.now }
-{
-    match command {
-        Command::Advance { seconds } => *seconds,
-        _ => 0,
-    }
-}
-
-/// How many seconds a line lets pass, if it is done.
-fn seconds_of(line: &ScriptLine) -> u32
-    ensures { result ≡ script_seconds line.now }
-{
-    match line {
-        ScriptLine::Read(Line::Command(command)) => seconds_of_command(command),
-        ScriptLine::Read(_) => 0,
-        ScriptLine::Unread(_) => 0,
-    }
-}
-
 /// What a line outside of blocks asks.
 fn begin_line<T: Told>(alloc: Global, told: &T, line: &ScriptLine) -> Result<Asking, NoMemory>
-    ensures { IfOk result (λ asking. asking ≡ Asking.Own (line_asked (T.grain told.now) (T.whole told.now).books line.now) (script_seconds line.now)) }
+    ensures { IfOk result (λ asking. asking ≡ Asking.Own
+        (line_asked (T.grain told.now) (T.whole told.now).books line.now)
+        (script_behind (T.whole told.now).books line.now)) }
 {
     let mut requests = Requests::new(alloc);
     push_line(alloc, told, line, &mut requests)?;
-    Ok(Asking::Own {
-        requests,
-        seconds: seconds_of(line),
-    })
+    let behind = behind_line(alloc, told, line)?;
+    Ok(Asking::Own { requests, behind })
 }
 
 /// What `main` is told of a block.
@@ -170,11 +155,11 @@ fn go_on<T: Told>(
 {
     match asking {
         Asking::Nothing => Ok(None),
-        Asking::Own { requests, seconds } => {
+        Asking::Own { requests, behind } => {
             if requests.is_empty() {
                 return Ok(None);
             }
-            Ok(Some(Asking::Own { requests, seconds }))
+            Ok(Some(Asking::Own { requests, behind }))
         }
         Asking::Seconds(mut passing) => {
             let fills = passing.pass(told)?;
@@ -241,6 +226,63 @@ fn is_done(reply: &Reply) -> bool
     }
 }
 
+/// The seconds of a line begin behind its last request, if that is done.
+fn begin_seconds<T: Told>(
+    alloc: Global,
+    told: &T,
+    seconds: u32,
+    reply: &Reply,
+) -> Result<Asking, NoMemory>
+    ensures { IfOk result (λ left.
+        IsLeftOfLine (T.whole told.now) reply.now (Behind.Passing seconds) left) }
+{
+    if !is_done(reply) {
+        return Ok(Asking::Nothing);
+    }
+    let passing = Passing::begin(alloc, told, seconds)?;
+    Ok(Asking::Seconds(passing))
+}
+
+/// These commands as requests.
+fn requests_of(alloc: Global, commands: Vec<Command>) -> Result<Requests, NoMemory>
+    ensures { IfOk result (λ requests.
+        requests ≡ map (λ (command : Command). CommandAsked command) commands.items) }
+{
+    let mut requests = Requests::new(alloc);
+    for command in commands {
+        requests.push_command(command)?;
+    }
+    Ok(requests)
+}
+
+/// A line asks more behind its last request, by what that was answered.
+fn ask_more(alloc: Global, behind: Behind, reply: &Reply) -> Result<Asking, NoMemory>
+    ensures { IfOk result (λ left. left
+        ≡ Asking.Own (asked_behind behind reply.now).0 (asked_behind behind reply.now).1) }
+{
+    let coming = asked_behind(alloc, behind, reply)?;
+    let requests = requests_of(alloc, coming.commands)?;
+    Ok(Asking::Own {
+        requests,
+        behind: coming.behind,
+    })
+}
+
+/// What is left of a line behind its last request, which was answered so.
+fn behind_last<T: Told>(
+    alloc: Global,
+    told: &T,
+    behind: Behind,
+    reply: &Reply,
+) -> Result<Asking, NoMemory>
+    ensures { IfOk result (λ left. IsLeftOfLine (T.whole told.now) reply.now behind left) }
+{
+    match behind {
+        Behind::Passing(seconds) => begin_seconds(alloc, told, seconds, reply),
+        _ => ask_more(alloc, behind, reply),
+    }
+}
+
 /// The name of `main`, alone.
 fn main_alone(alloc: Global) -> Result<Vec<Name>, NoMemory>
     ensures { IfOk result (λ names. names.items ≡ codes "main" ∷ []) }
@@ -284,29 +326,24 @@ impl Asking {
         }
     }
 
-    /// The requests of a line, without the first, which was answered so; behind the last, if it is done,
-    /// seconds begin.
+    /// The requests of a line, without the first, which was answered so; or what is left behind the last.
     fn behind_own<T: Told>(
         alloc: Global,
         told: &T,
         mut requests: Requests,
-        seconds: u32,
+        behind: Behind,
         reply: &Reply,
     ) -> Result<Asking, NoMemory>
-        ensures { IfOk result (λ left. (actor : ℕ) → IsLeftBehind (T.grain told.now) (T.whole told.now) (Asking.Own requests seconds) actor reply.now left) }
+        ensures { IfOk result (λ left. (actor : ℕ) → IsLeftBehind (T.grain told.now) (T.whole told.now) (Asking.Own requests behind) actor reply.now left) }
     {
         if requests.is_empty() {
             return Ok(Asking::Nothing);
         }
         requests.take_first();
         if !requests.is_empty() {
-            return Ok(Asking::Own { requests, seconds });
+            return Ok(Asking::Own { requests, behind });
         }
-        if !is_done(reply) {
-            return Ok(Asking::Nothing);
-        }
-        let passing = Passing::begin(alloc, told, seconds)?;
-        Ok(Asking::Seconds(passing))
+        behind_last(alloc, told, behind, reply)
     }
 
     /// What is left behind an entry of the actor with this number that answered the next request so.
@@ -321,8 +358,8 @@ impl Asking {
     {
         match self {
             Asking::Nothing => Ok(Asking::Nothing),
-            Asking::Own { requests, seconds } => {
-                Asking::behind_own(alloc, told, requests, seconds, reply)
+            Asking::Own { requests, behind } => {
+                Asking::behind_own(alloc, told, requests, behind, reply)
             }
             Asking::Seconds(mut passing) => {
                 passing.follow(told, reply)?;
@@ -349,9 +386,9 @@ impl Asking {
     {
         match self {
             Asking::Nothing => Ok(Asking::Nothing),
-            Asking::Own { requests, seconds } => Ok(Asking::Own {
+            Asking::Own { requests, behind } => Ok(Asking::Own {
                 requests: requests.copy(alloc)?,
-                seconds: *seconds,
+                behind: copy_behind(alloc, behind)?,
             }),
             Asking::Seconds(passing) => Ok(Asking::Seconds(passing.copy(alloc)?)),
             Asking::Faults { requests, actors } => Ok(Asking::Faults {

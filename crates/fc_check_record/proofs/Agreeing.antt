@@ -5,6 +5,7 @@ use Rattle.std.proofs.lemmas.Bool.{cases_lt}
 use Rattle.std.proofs.lemmas.List.Elements.{All-get_or, All-replicate, All-set, All-weaker}
 use Rattle.std.proofs.lemmas.Result.{IfOk-weaker}
 use Rattle.fc_base.specs.Pools.{Pool}
+use Rattle.fc_base.specs.Room.{Room}
 use Rattle.fc_base.specs.declared.ids.GrainNo.{GrainNo}
 use Rattle.fc_base.specs.declared.ids.MapId.{MapId}
 use Rattle.fc_base.specs.declared.outcome.NoMemory.{NoMemory}
@@ -23,23 +24,23 @@ use Rattle.fc_legal.specs.Seconds.{Work, next_grain}
 use Rattle.fc_legal.specs.Whole.{Whole}
 
 -- what entries of lanes are judged by is kept of what is told
-pub known_is : (c : ControlState) (k : Known) (rows : List Row) (pools : List Pool) (calls : List ℕ) → AreOne c k calls → k ≡ known_of k.grain (whole_of c k rows pools calls)
-known_is c k rows pools calls one = λ i. record k { volumes = one.volumes i; sizes = one.sizes i; flags = one.flags i }
+pub known_is : (c : ControlState) (k : Known) (rows : List Row) (pools : List Pool) (rooms : List Room) (calls : List ℕ) → AreOne c k calls → k ≡ known_of k.grain (whole_of c k rows pools rooms calls)
+known_is c k rows pools rooms calls one = λ i. record k { volumes = one.volumes i; sizes = one.sizes i; flags = one.flags i }
 
-pub next_is : (c : ControlState) (k : Known) (rows : List Row) (pools : List Pool) (calls : List ℕ) (entry : Entry) (answer : Result Bool NoMemory) → AreOne c k calls →
-    AreSound (whole_of c k rows pools calls).books →
+pub next_is : (c : ControlState) (k : Known) (rows : List Row) (pools : List Pool) (rooms : List Room) (calls : List ℕ) (entry : Entry) (answer : Result Bool NoMemory) → AreOne c k calls →
+    AreSound (whole_of c k rows pools rooms calls).books →
     IfOk answer (λ yes. (grain : GrainSize) (w : Whole) → AreSound w.books → k ≡ known_of grain w → IsTrue yes ↔ IsNext grain w entry) →
-    IfOk answer (λ yes. IsTrue yes ↔ IsNext k.grain (whole_of c k rows pools calls) entry)
-next_is c k rows pools calls entry answer one sound found =
+    IfOk answer (λ yes. IsTrue yes ↔ IsNext k.grain (whole_of c k rows pools rooms calls) entry)
+next_is c k rows pools rooms calls entry answer one sound found =
     IfOk-weaker answer (λ yes. (grain : GrainSize) (w : Whole) → AreSound w.books → k ≡ known_of grain w → IsTrue yes ↔ IsNext grain w entry)
-    (λ yes. IsTrue yes ↔ IsNext k.grain (whole_of c k rows pools calls) entry)
-    (λ yes f. f k.grain (whole_of c k rows pools calls) sound (known_is c k rows pools calls one)) found
+    (λ yes. IsTrue yes ↔ IsNext k.grain (whole_of c k rows pools rooms calls) entry)
+    (λ yes f. f k.grain (whole_of c k rows pools rooms calls) sound (known_is c k rows pools rooms calls one)) found
 
 -- the least grain of background work is that of what is told
-pub next_grain_is : (c : ControlState) (k : Known) (rows : List Row) (pools : List Pool) (calls : List ℕ) (map : MapId) (cleans : Bool) (next : Option GrainNo) → AreOne c k calls →
+pub next_grain_is : (c : ControlState) (k : Known) (rows : List Row) (pools : List Pool) (rooms : List Room) (calls : List ℕ) (map : MapId) (cleans : Bool) (next : Option GrainNo) → AreOne c k calls →
     ((grain : GrainSize) (w : Whole) (work : Work) → k ≡ known_of grain w → work.map ≡ map → work.cleans ≡ cleans → next ≡ next_grain grain w work) →
-    (work : Work) → work.map ≡ map → work.cleans ≡ cleans → next ≡ next_grain k.grain (whole_of c k rows pools calls) work
-next_grain_is c k rows pools calls map cleans next one found work = found k.grain (whole_of c k rows pools calls) work (known_is c k rows pools calls one)
+    (work : Work) → work.map ≡ map → work.cleans ≡ cleans → next ≡ next_grain k.grain (whole_of c k rows pools rooms calls) work
+next_grain_is c k rows pools rooms calls map cleans next one found work = found k.grain (whole_of c k rows pools rooms calls) work (known_is c k rows pools rooms calls one)
 
 -- ---- calls
 

@@ -1,6 +1,7 @@
 -- What decisions see of a record.
 use Rattle.std.proofs.Common.{◌≡◌, ℕ, ◌^◌, ◌<◌, List, length, Option, Result, IfOk, subst, sym, ap, ◌∙◌}
 use Rattle.fc_base.specs.Pools.{Pool}
+use Rattle.fc_base.specs.Room.{Room}
 use Rattle.fc_base.specs.Sheet.{Sheet, slot_at}
 use Rattle.fc_base.specs.declared.command.Command.{Command}
 use Rattle.fc_base.specs.declared.decision.Decision.{Decision}
@@ -34,16 +35,16 @@ are_small s chains rows noted e f small =
     subst (λ (z : Sheet). IsSmall z.slots rows) (sym e) (subst (λ (z : List Row). IsSmall chains.slots z) (sym f) small)
 
 -- and grains have numbers below 2^32
-pub few_grains : (c : ControlState) (k : Known) (rows : List Row) (pools : List Pool) (calls : List ℕ) (j : Judged) → judged c k rows pools calls ≡ j → IsSmall j.whole.books.sheet.slots j.whole.rows → HasFewGrains k
-few_grains c k rows pools calls j is small place = subst (λ (z : Judged). length (slot_at z.whole.books.sheet.slots place).held < 2 ^ 32) (sym is) (small.held place)
+pub few_grains : (c : ControlState) (k : Known) (rows : List Row) (pools : List Pool) (rooms : List Room) (calls : List ℕ) (j : Judged) → judged c k rows pools rooms calls ≡ j → IsSmall j.whole.books.sheet.slots j.whole.rows → HasFewGrains k
+few_grains c k rows pools rooms calls j is small place = subst (λ (z : Judged). length (slot_at z.whole.books.sheet.slots place).held < 2 ^ 32) (sym is) (small.held place)
 
 -- ---- what decisions see
 
 abbrev pub plain_of : Judged → Plain
-plain_of j = record { sheet = j.whole.books.sheet; rows = j.whole.rows; pools = j.whole.books.pools }
+plain_of j = record { sheet = j.whole.books.sheet; rows = j.whole.rows; pools = j.whole.books.pools; rooms = j.whole.books.rooms }
 
-pub seen_books : (c : ControlState) (k : Known) (rows : List Row) (pools : List Pool) (calls : List ℕ) (j : Judged) (p : Plain) → judged c k rows pools calls ≡ j → p ≡ plain_of j → books_of c (view_of p) ≡ j.whole.books
-seen_books c k rows pools calls j p is e =
+pub seen_books : (c : ControlState) (k : Known) (rows : List Row) (pools : List Pool) (rooms : List Room) (calls : List ℕ) (j : Judged) (p : Plain) → judged c k rows pools rooms calls ≡ j → p ≡ plain_of j → books_of c (view_of p) ≡ j.whole.books
+seen_books c k rows pools rooms calls j p is e =
     ap (λ (q : Plain). books_of c (view_of q)) (e ∙ ap plain_of (sym is)) ∙ ap (λ (j : Judged). j.whole.books) is
 
 pub room_same : (b books : Books) (r rows : List Row) → b ≡ books → r ≡ rows → HaveRoom books (restarts rows) → HaveRoom b (restarts r)

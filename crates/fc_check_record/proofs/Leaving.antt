@@ -2,6 +2,7 @@
 use Rattle.std.proofs.Common.{◌≡◌, ℕ, All, Bool, List, [], ◌∷◌, fold, refl, subst, sym, ap, ◌∙◌}
 use Rattle.std.proofs.lemmas.List.Elements.{All-head, All-tail}
 use Rattle.fc_base.specs.Pools.{Pool}
+use Rattle.fc_base.specs.Room.{Room, rooms_after}
 use Rattle.fc_base.specs.Sheet.{Sheet}
 use Rattle.fc_base.specs.SheetView.{SheetView}
 use Rattle.fc_base.specs.declared.decision.Decision.{Decision}
@@ -45,29 +46,30 @@ rows_left c (event ∷ events) = rows_left (chains_event c event) events
 
 -- ---- all
 
--- What a control part, what entries of lanes are judged by, what is kept of incremental mappings and disks left
--- are after a decision.
-pub record AreLeft (c after : ControlState) (k known : Known) (rows noted : List Row) (pools left : List Pool) (d : Decision) : Type 0 where
+-- What a control part, what entries of lanes are judged by, what is kept of incremental mappings, disks left and the
+-- memory that grains occupy are after a decision.
+pub record AreLeft (c after : ControlState) (k known : Known) (rows noted : List Row) (pools left : List Pool) (rooms taken : List Room) (d : Decision) : Type 0 where
   pub books : AreBooksLeft c after d
   pub grain : after.grain ≡ c.grain
   pub known_is : known ≡ known_left after k rows d
   pub rows_are : noted ≡ (chains_left k rows d).rows
   pub pools_are : left ≡ fold pools_after pools d.events
+  pub rooms_are : taken ≡ fold (rooms_after (λ grains. grains)) rooms d.events
 
-pub one_left : (c after : ControlState) (k known : Known) (rows noted : List Row) (pools left : List Pool) (calls : List ℕ) (d : Decision) → AreOne c k calls → AreLeft c after k known rows noted pools left d → AreOne after known calls
-one_left c after k known rows noted pools left calls d one l =
+pub one_left : (c after : ControlState) (k known : Known) (rows noted : List Row) (pools left : List Pool) (rooms taken : List Room) (calls : List ℕ) (d : Decision) → AreOne c k calls → AreLeft c after k known rows noted pools left rooms taken d → AreOne after known calls
+one_left c after k known rows noted pools left rooms taken calls d one l =
     subst (λ (z : Known). AreOne after z calls) (sym l.known_is) (record { grain = one.grain ∙ sym l.grain; volumes = refl; sizes = refl; flags = refl; few = one.few })
 
-abbrev view_of : Known → List Pool → SheetView
-view_of k pools = record { sheet = k.sheet; restarts = λ m. []; pools = pools }
+abbrev view_of : Known → List Pool → List Room → SheetView
+view_of k pools rooms = record { sheet = k.sheet; restarts = λ m. []; pools = pools; rooms = rooms }
 
-books_left : (c after : ControlState) (k known : Known) (rows noted : List Row) (pools left : List Pool) (calls : List ℕ) (d : Decision) → TriggersFirst d.events →
-    AreLeft c after k known rows noted pools left d →
-    (whole_of after known noted left calls).books ≡ after_decision (restarts rows) (whole_of c k rows pools calls).books d
-books_left c after k known rows noted pools left calls d first l =
+books_left : (c after : ControlState) (k known : Known) (rows noted : List Row) (pools left : List Pool) (rooms taken : List Room) (calls : List ℕ) (d : Decision) → TriggersFirst d.events →
+    AreLeft c after k known rows noted pools left rooms taken d →
+    (whole_of after known noted left taken calls).books ≡ after_decision (restarts rows) (whole_of c k rows pools rooms calls).books d
+books_left c after k known rows noted pools left rooms taken calls d first l =
     let sheet : known.sheet ≡ fold (sheet_after (restarts rows)) k.sheet d.events =
     ap (λ (z : Known). z.sheet) l.known_is ∙ sheet_left (record { sheet = k.sheet; rows = rows }) d.events first in
-    let applied = l.books (view_of k pools) in
+    let applied = l.books (view_of k pools rooms) in
     (λ i. record {
       tables = (applied i).tables;
       next_volume = (applied i).next_volume;
@@ -76,13 +78,14 @@ books_left c after k known rows noted pools left calls d first l =
       sheet = sheet i;
       flags = (applied i).flags;
       pools = l.pools_are i;
+      rooms = l.rooms_are i;
     })
-    ∙ sym (all_leave (restarts rows) (whole_of c k rows pools calls).books d.events d.changes)
+    ∙ sym (all_leave (restarts rows) (whole_of c k rows pools rooms calls).books d.events d.changes)
 
-whole_left : (c after : ControlState) (k known : Known) (rows noted : List Row) (pools left : List Pool) (calls : List ℕ) (d : Decision) → TriggersFirst d.events → AreLeft c after k known rows noted pools left d →
-    whole_of after known noted left calls ≡ left_by k.grain (whole_of c k rows pools calls) d
-whole_left c after k known rows noted pools left calls d first l =
-    let books = books_left c after k known rows noted pools left calls d first l in
+whole_left : (c after : ControlState) (k known : Known) (rows noted : List Row) (pools left : List Pool) (rooms taken : List Room) (calls : List ℕ) (d : Decision) → TriggersFirst d.events → AreLeft c after k known rows noted pools left rooms taken d →
+    whole_of after known noted left taken calls ≡ left_by k.grain (whole_of c k rows pools rooms calls) d
+whole_left c after k known rows noted pools left rooms taken calls d first l =
+    let books = books_left c after k known rows noted pools left rooms taken calls d first l in
     let rows_are : noted ≡ rows_after k.sheet rows d.events = l.rows_are ∙ rows_left (record { sheet = k.sheet; rows = rows }) d.events in
     λ i. record {
       actors = [];
@@ -94,8 +97,8 @@ whole_left c after k known rows noted pools left calls d first l =
       entries = (l.known_is i).entries;
     }
 
-pub left_told : (c after : ControlState) (k known : Known) (rows noted : List Row) (pools left : List Pool) (calls : List ℕ) (before : Judged) (d : Decision) → judged c k rows pools calls ≡ before → TriggersFirst d.events →
-    AreLeft c after k known rows noted pools left d → judged after known noted left calls ≡ record before { whole = left_by before.grain before.whole d }
-left_told c after k known rows noted pools left calls before d is first l =
-    let whole = whole_left c after k known rows noted pools left calls d first l in
+pub left_told : (c after : ControlState) (k known : Known) (rows noted : List Row) (pools left : List Pool) (rooms taken : List Room) (calls : List ℕ) (before : Judged) (d : Decision) → judged c k rows pools rooms calls ≡ before → TriggersFirst d.events →
+    AreLeft c after k known rows noted pools left rooms taken d → judged after known noted left taken calls ≡ record before { whole = left_by before.grain before.whole d }
+left_told c after k known rows noted pools left rooms taken calls before d is first l =
+    let whole = whole_left c after k known rows noted pools left rooms taken calls d first l in
     (λ i. record { grain = (l.known_is i).grain; whole = whole i }) ∙ ap (λ (b : Judged). record b { whole = left_by b.grain b.whole d }) is

@@ -1,6 +1,7 @@
 -- One way that all may have been told, as a judge keeps it.
 use Rattle.std.specs.Prelude.{◌≡◌, ℕ, ◌*◌, ◌^◌, ◌≤◌, All, List, [], map}
 use Rattle.fc_base.specs.Pools.{Pool}
+use Rattle.fc_base.specs.Room.{Room}
 use Rattle.fc_base.specs.declared.size.GrainSize.{GrainSize}
 use Rattle.fc_changed.specs.Row.{Row}
 use Rattle.fc_check_lane.specs.Known.{Known, size_of}
@@ -13,10 +14,10 @@ pub record Judged : Type 0 where
   pub whole : Whole
 
 -- What is told, by the tables, next ids and background work of a control part, by what is kept for entries of
--- lanes, by the changed grains of incremental mappings, by the disks left for new volumes, and by the calls of
--- each lane.
-abbrev pub whole_of : ControlState → Known → List Row → List Pool → List ℕ → Whole
-whole_of c k rows pools calls =
+-- lanes, by the changed grains of incremental mappings, by the disks left for new volumes, by which grains occupy
+-- memory, and by the calls of each lane.
+abbrev pub whole_of : ControlState → Known → List Row → List Pool → List Room → List ℕ → Whole
+whole_of c k rows pools rooms calls =
     record {
       actors = [];
       books = record {
@@ -27,6 +28,7 @@ whole_of c k rows pools calls =
         sheet = k.sheet;
         flags = c.flags;
         pools = pools;
+        rooms = rooms;
       };
       picture = k.picture;
       rows = rows;

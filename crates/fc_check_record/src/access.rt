@@ -1,7 +1,7 @@
-//! Why lines `read` and `write` are refused.
+//! Why lines `read`, `write` and `mkpreset` are refused.
 
 ghost use Rattle.std.specs.Prelude.{◌≡◌};
-ghost use Rattle.fc_books.specs.Refused.{access_refused};
+ghost use Rattle.fc_books.specs.Refused.{access_refused, preset_refused};
 ghost use Rattle.fc_entry.specs.Refused.{blocks_refusal};
 
 use crate::record::Record;
@@ -34,6 +34,17 @@ impl Record {
     {
         match self.kept.control.registry().volume(volume) {
             Some(found) => blocks_refusal(self.kept.control.grain(), found, block, count),
+            None => Some(Refusal::NoSuch(Kind::Vdisk)),
+        }
+    }
+
+    /// Why a preset is refused: no volume is meant. None exactly where it isn't refused, and other lines are
+    /// asked in its place.
+    pub fn refused_preset(&self, source: &Ref) -> Option<Refusal>
+        ensures { result ≡ preset_refused self.now.whole.books source.now }
+    {
+        match self.kept.control.registry().volume(source) {
+            Some(_) => None,
             None => Some(Refusal::NoSuch(Kind::Vdisk)),
         }
     }

@@ -19,11 +19,11 @@ use fc_control::decide;
 use std::alloc::Global;
 
 impl Record {
-    /// What decisions see of chains, incremental mappings and disks.
+    /// What decisions see of chains, incremental mappings, disks, and the memory that grains occupy.
     fn view(&self) -> PlainView<'_>
         requires sound { AreSound self.now.whole.books }
         requires small { IsSmall self.now.whole.books.sheet.slots self.now.whole.rows }
-        ensures { result ≡ record { sheet = self.now.whole.books.sheet; rows = self.now.whole.rows; pools = self.now.whole.books.pools } }
+        ensures { result ≡ record { sheet = self.now.whole.books.sheet; rows = self.now.whole.rows; pools = self.now.whole.books.pools; rooms = self.now.whole.books.rooms } }
     {
         let known = &self.kept.known;
         let mappings = self.kept.control.registry().all_mappings();
@@ -32,6 +32,7 @@ impl Record {
             mappings,
             &self.kept.rows,
             self.kept.pools.as_slice(),
+            &self.kept.rooms,
         )
     }
 

@@ -8,12 +8,14 @@ ghost use Rattle.fc_check_sheet.specs.View.{IsSmall};
 ghost use Rattle.fc_legal.specs.Steps.{Step, after_access};
 ghost use Rattle.fc_legal.specs.Whole.{Whole, single_lane};
 ghost use Rattle.fc_follow.specs.Following.{rows_entry};
+ghost use Rattle.fc_rules.specs.Rooms.{rooms_entry};
 
 use crate::record::Record;
 use fc_base::outcome::NoMemory;
 use fc_base::request::Place;
 use fc_base::size::GrainSize;
-use fc_check_lane::done_write;
+use fc_check_lane::{Known, done_write};
+use fc_check_rooms::Rooms;
 use fc_check_rows::Rows;
 use fc_entry::entry::Entry;
 use std::alloc::Global;
@@ -25,6 +27,13 @@ fn follow_rows(rows: &mut Rows, size: GrainSize, entry: &Entry)
 {
     rows.follow_write(size, done_write(&entry.request, &entry.reply));
     rows.follow_torn(entry.torn);
+}
+
+/// Notes an entry in which grains occupy memory: what it wrote, by what plain volumes held before it.
+fn follow_rooms(rooms: &mut Rooms, known: &Known, entry: &Entry)
+    ensures { rooms.new ≡ rooms_entry (single_lane known.now.grain) known.now.picture rooms.old entry.now }
+{
+    rooms.follow_entry(known.grain, &known.picture, entry);
 }
 
 /// Counts the calls of an entry of a lane, among those of as many entries as there were; there may be no such
@@ -56,6 +65,7 @@ impl Record {
         ensures { IfOk result (λ after. after ≡ record self { whole = after_access self.grain self.whole lane entry.now }) }
     {
         let Record { mut kept } = self;
+        follow_rooms(&mut kept.rooms, &kept.known, entry);
         kept.known.follow(alloc, lane, entry)?;
         follow_rows(&mut kept.rows, kept.control.grain(), entry);
         count_calls(kept.calls.as_mut_slice(), lane, entry.calls);

@@ -51,7 +51,8 @@ fn leave_known(
 
 impl Record {
     /// What is told after a decision: the tables, next ids and background work by its changes and events,
-    /// chains, disks left and what is kept of incremental mappings by its events, plain volumes by its effects.
+    /// chains, disks left, the memory that grains occupy and what is kept of incremental mappings by its events, plain
+    /// volumes by its effects.
     /// Refused for want of memory alone, since births stay below 2^64 (`CanBeLeft`); then the record is gone.
     pub fn leave(self, alloc: Global, decision: &Decision) -> Result<Record, NoMemory>
         requires { CanBeLeft self.whole decision.now }
@@ -66,6 +67,7 @@ impl Record {
             &mut kept.rows,
             decision,
         )?;
+        kept.rooms.follow_events(alloc, decision.events.as_slice())?;
         take_for_all(kept.pools.as_mut_slice(), decision.events.as_slice());
         Ok(Record { kept })
     }

@@ -8,6 +8,7 @@ ghost use Rattle.fc_legal.specs.Whole.{opened};
 use fc_base::outcome::NoMemory;
 use fc_base::size::GrainSize;
 use fc_check_lane::{Known, copy_items};
+use fc_check_rooms::Rooms;
 use fc_check_rows::Rows;
 use fc_check_sheet::LanePool;
 use fc_desk::Control;
@@ -24,6 +25,8 @@ pub(crate) struct Kept {
     pub(crate) rows: Rows,
     /// For each lane the disks that it has for new volumes.
     pub(crate) pools: Vec<LanePool>,
+    /// Which grains of volumes occupy memory.
+    pub(crate) rooms: Rooms,
     /// For each lane how many calls its entries made on disks.
     pub(crate) calls: Vec<u64>,
 }
@@ -36,6 +39,7 @@ impl Drop for Kept {
             known: _,
             rows: _,
             pools: _,
+            rooms: _,
             calls: _,
         } = self;
     }
@@ -53,7 +57,7 @@ impl Model for Record {
 
     ghost Value = { Judged };
 
-    ghost view = { λ r. record { grain = r.kept.known.grain; whole = whole_of r.kept.control r.kept.known r.kept.rows (pools_of r.kept.pools.items) r.kept.calls.items } };
+    ghost view = { λ r. record { grain = r.kept.known.grain; whole = whole_of r.kept.control r.kept.known r.kept.rows (pools_of r.kept.pools.items) r.kept.rooms r.kept.calls.items } };
 
     ghost invariant = { λ r. AreOne r.kept.control r.kept.known r.kept.calls.items };
 }
@@ -83,6 +87,7 @@ impl Record {
             known,
             rows: Rows::new(alloc),
             pools,
+            rooms: Rooms::new(alloc),
             calls,
         };
         Ok(Record { kept })
@@ -94,6 +99,7 @@ impl Record {
     {
         let known = self.kept.known.copy(alloc)?;
         let rows = self.kept.rows.copy(alloc)?;
+        let rooms = self.kept.rooms.copy(alloc)?;
         let pools = copy_items(alloc, self.kept.pools.as_slice())?;
         let calls = copy_items(alloc, self.kept.calls.as_slice())?;
         let control = self.kept.control.copy(alloc)?;
@@ -102,6 +108,7 @@ impl Record {
             known,
             rows,
             pools,
+            rooms,
             calls,
         };
         Ok(Record { kept })

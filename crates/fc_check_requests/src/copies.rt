@@ -1,13 +1,14 @@
-//! Copies of the actors of a block, as they were read.
+//! Copies of the actors of a block, as they were read, and of what a line asks behind its last request.
 
 ghost use Rattle.std.specs.Prelude.{◌≡◌, IfOk};
 
+use fc_base::behind::Behind;
 use fc_base::command::{Line, ScriptLine};
 use fc_base::list::List;
 use fc_base::name::Name;
 use fc_base::outcome::NoMemory;
 use fc_blocks::block::ActorRead;
-use fc_copies::copy::copy_command;
+use fc_copies::copy::{copy_command, copy_ref, copy_some_name};
 use std::alloc::Global;
 
 /// A copy of a line.
@@ -74,4 +75,27 @@ pub fn copy_names(alloc: Global, names: &[Name]) -> Result<Vec<Name>, NoMemory>
         }
     }
     Ok(copy)
+}
+
+/// A copy of what a line asks behind its last request. Refused for want of memory alone.
+pub fn copy_behind(alloc: Global, behind: &Behind) -> Result<Behind, NoMemory>
+    ensures { IfOk result (λ copy. copy ≡ behind.now) }
+{
+    match behind {
+        Behind::Passing(seconds) => Ok(Behind::Passing(*seconds)),
+        Behind::Mapping {
+            source,
+            preset,
+            name,
+        } => Ok(Behind::Mapping {
+            source: copy_ref(alloc, source)?,
+            preset: *preset,
+            name: copy_some_name(alloc, name)?,
+        }),
+        Behind::Start { volume } => Ok(Behind::Start { volume: *volume }),
+        Behind::Undo { map, volume } => Ok(Behind::Undo {
+            map: *map,
+            volume: *volume,
+        }),
+    }
 }

@@ -5,6 +5,9 @@
 //! has, and so are the turns of a worker. It is seen as the plain list. `Script` is what an actor of a block has still to ask, `Work`
 //! the copies or cleanings of a mapping with the credit that they save up.
 //!
+//! Behind its last request a line may ask more: an `advance` lets seconds pass, and a preset asks for other lines by what the one before was
+//! answered. That is a `Behind` (`fc_base`), which `asking` begins; the lines of a preset are made by `fc_preset_lines`.
+//!
 //! What was told is asked of whoever keeps it, through the trait `Told`: tables, flags of background work, how many lanes there are,
 //! and the next grain of background work. There is no chain, bitmap, lane or store of what makes entries.
 //!

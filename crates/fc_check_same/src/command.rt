@@ -207,6 +207,21 @@ impl Same for Command {
                     delim: parted,
                 },
             ) => { map.is_same(own) && delim.is_same(parted) }
+            (
+                Command::Mkpreset {
+                    source,
+                    preset,
+                    name,
+                },
+                Command::Mkpreset {
+                    source: own,
+                    preset: meant,
+                    name: named,
+                },
+            ) => { source.is_same(own) && preset == meant && name.is_same(named) }
+            (Command::Lsvdiskroom { delim }, Command::Lsvdiskroom { delim: parted }) => {
+                delim.is_same(parted)
+            }
             _ => false,
         }
     }

@@ -1,6 +1,7 @@
 -- A plain sheet, marks of grains and counts of disks together, as decisions on commands see them.
 use Rattle.std.specs.Prelude.{◌≡◌, ℕ, ◌<◌, ◌^◌, Some, List, length, map, AllPairs, Contains}
 use Rattle.fc_base.specs.Pools.{Pool}
+use Rattle.fc_base.specs.Room.{Room}
 use Rattle.fc_base.specs.Sheet.{Slot, Sheet, slot_at}
 use Rattle.fc_base.specs.SheetView.{SheetView}
 use Rattle.fc_base.specs.declared.volume.Mapping.{Mapping}
@@ -25,13 +26,14 @@ pool_of lane = record { flat = lane.flat; thin = lane.thin }
 abbrev pub pools_of : List LanePool → List Pool
 pools_of lanes = map pool_of lanes
 
--- The chains at all grains, the changed grains of incremental mappings, and the disks that each lane has for
--- new volumes.
+-- The chains at all grains, the changed grains of incremental mappings, the disks that each lane has for new
+-- volumes, and which grains occupy memory.
 pub record Plain : Type 0 where
   pub sheet : Sheet
   pub rows : List Row
   pub pools : List Pool
+  pub rooms : List Room
 
 -- What decisions see of them.
 abbrev pub view_of : Plain → SheetView
-view_of p = record { sheet = p.sheet; restarts = restarts p.rows; pools = p.pools }
+view_of p = record { sheet = p.sheet; restarts = restarts p.rows; pools = p.pools; rooms = p.rooms }

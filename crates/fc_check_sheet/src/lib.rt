@@ -2,8 +2,9 @@
 //! slots, marks of grains and counts of disks.
 //!
 //! `PlainView` is a `Sheet` (`fc_base`, `sheet`) over a `PlainSheet` of all grains, the `Rows` of incremental
-//! mappings, and the disks that each lane has for new volumes; it is seen as the `SheetView` of them. Its code
-//! goes over slots and grains one by one, and shares none with the chains that decide commands in a store.
+//! mappings, the disks that each lane has for new volumes, and the `Rooms` of volumes; it is seen as the
+//! `SheetView` of them. Its code goes over slots and grains one by one, and shares none with the chains that
+//! decide commands in a store.
 //!
 //! To read: `counts` and `kept` (what one slot holds), `readers` and `owners` (who reads from it), `unneeded`,
 //! `links`, `distances` and `loops` (the loop that a start is refused for), `pool`, and `view`, which has the

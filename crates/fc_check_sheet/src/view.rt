@@ -22,19 +22,22 @@ use fc_base::ranges::Ranges;
 use fc_base::request::Pair;
 use fc_base::sheet::Sheet;
 use fc_base::volume::Mapping;
+use fc_check_rooms::Rooms;
 use fc_check_rows::Rows;
 use fc_model::PlainSheet;
 use std::alloc::Global;
 use std::marker::Model;
 
-/// The chains at all grains, the changed grains of incremental mappings, and the disks that each lane has for
-/// new volumes, as decisions on commands ask for them. Beside them stands the table of mappings.
+/// The chains at all grains, the changed grains of incremental mappings, the disks that each lane has for new
+/// volumes, and which grains occupy memory, as decisions on commands ask for them. Beside them stands the table of
+/// mappings.
 #[derive(Drop)]
 pub struct PlainView<'a> {
     sheet: &'a PlainSheet,
     mappings: &'a [Mapping],
     rows: &'a Rows,
     pools: &'a [LanePool],
+    rooms: &'a Rooms,
 }
 
 impl<'a> Model for PlainView<'a> {
@@ -42,7 +45,7 @@ impl<'a> Model for PlainView<'a> {
 
     ghost Value = { Plain };
 
-    ghost view = { λ v. record { sheet = v.sheet.now; rows = v.rows.now; pools = pools_of v.pools.now } };
+    ghost view = { λ v. record { sheet = v.sheet.now; rows = v.rows.now; pools = pools_of v.pools.now; rooms = v.rooms.now } };
 
     ghost invariant = { λ v. IsSmall v.sheet.now.slots v.rows.now × AreListed v.sheet.now.slots v.mappings.now };
 }
@@ -92,23 +95,25 @@ fn dependents_in(
 }
 
 impl<'a> PlainView<'a> {
-    /// The view of a sheet of all grains, of what is kept of incremental mappings, and of the disks that each
-    /// lane has for new volumes. The table of mappings has that of each slot.
+    /// The view of a sheet of all grains, of what is kept of incremental mappings, of the disks that each lane has
+    /// for new volumes, and of which grains occupy memory. The table of mappings has that of each slot.
     pub fn new(
         sheet: &'a PlainSheet,
         mappings: &'a [Mapping],
         rows: &'a Rows,
         pools: &'a [LanePool],
+        rooms: &'a Rooms,
     ) -> Self
         requires small { IsSmall sheet.now.slots rows.now }
         requires listed { AreListed sheet.now.slots mappings.now }
-        ensures { result ≡ record { sheet = sheet.now; rows = rows.now; pools = pools_of pools.now } }
+        ensures { result ≡ record { sheet = sheet.now; rows = rows.now; pools = pools_of pools.now; rooms = rooms.now } }
     {
         PlainView {
             sheet,
             mappings,
             rows,
             pools,
+            rooms,
         }
     }
 }
@@ -158,5 +163,9 @@ impl<'a> Sheet for PlainView<'a> {
 
     fn restart(&self, map: MapId) -> u32 {
         count_marks(self.rows.restart(map))
+    }
+
+    fn room(&self, volume: VolId) -> u64 {
+        self.rooms.used(volume)
     }
 }

@@ -4,7 +4,7 @@ use Rattle.std.proofs.lemmas.List.Elements.{All-nil, All-cons, All-head, All-tai
 use Rattle.std.proofs.lemmas.Nat.{mod_below}
 use Rattle.fc_base.specs.Count.{HasRisen}
 use Rattle.fc_base.specs.declared.command.Command.{Command}
-use Rattle.fc_base.specs.declared.command.Command.TheVariants.{Write as WriteLine, Read as ReadLine}
+use Rattle.fc_base.specs.declared.command.Command.TheVariants.{Write as WriteLine, Read as ReadLine, Mkpreset}
 use Rattle.fc_base.specs.declared.fault.Refusal.{Refusal}
 use Rattle.fc_base.specs.declared.fault.Refusal.TheVariants.{Words}
 use Rattle.fc_base.specs.declared.ids.GrainNo.{GrainNo}
@@ -14,11 +14,11 @@ use Rattle.fc_base.specs.declared.request.Reply.{Reply}
 use Rattle.fc_base.specs.declared.request.Request.{Request}
 use Rattle.fc_base.specs.declared.request.Request.TheVariants.{Command as Asked, Unread, Read, Write, Copy, Clean, CopyTurn, CleanTurn}
 use Rattle.fc_base.specs.declared.size.GrainSize.{GrainSize}
-use Rattle.fc_books.specs.Refused.{access_refused}
+use Rattle.fc_books.specs.Refused.{access_refused, preset_refused}
 use Rattle.fc_complete.specs.Served.{AreFaultless}
 use Rattle.fc_entry.specs.Picture.{grain_of_block}
 use Rattle.fc_entry.specs.declared.entry.Entry.{Entry}
-use Rattle.fc_legal.specs.Steps.{Step, RequestStep, LaneStep, AccessStep, TurnStep, CommandStep, CommandIsRight, CommandLeft, IsRefused, AccessIsRefused}
+use Rattle.fc_legal.specs.Steps.{Step, RequestStep, LaneStep, AccessStep, TurnStep, CommandStep, CommandIsRight, CommandLeft, IsRefused, MustBeRefused}
 use Rattle.fc_legal.specs.Steps.CommandLeft.{decided, unsettled, settled_alone}
 use Rattle.fc_legal.specs.Whole.{Whole, lanes, lane_of_grain}
 
@@ -103,17 +103,18 @@ module _ (grain : GrainSize) (w : Whole) (entry : Entry) (next : Whole) (h : Are
   refused_faultless : (refusal : Refusal) → IsRefused refusal w entry next → AreFaultless w
   refused_faultless refusal step = faultless_of w next (ap (λ (x : Whole). x.faults) step.next_is) h
 
-  access_refused_faultless : (refusal : Option Refusal) → AccessIsRefused refusal w entry next → AreFaultless w
-  access_refused_faultless None step = absurd step
-  access_refused_faultless (Some refusal) step = refused_faultless refusal step
+  must_be_refused_faultless : (refusal : Option Refusal) → MustBeRefused refusal w entry next → AreFaultless w
+  must_be_refused_faultless None step = absurd step
+  must_be_refused_faultless (Some refusal) step = refused_faultless refusal step
 
   command_faultless : (command : Command) → CommandStep grain w command entry next → AreFaultless w
   command_faultless command step =
       faultless_of w next (ap (λ (x : Whole). x.faults) step.next_is ∙ faults_left grain w command entry.reply entry.effects step.left step.leaves) h
 
   asked_faultless : (command : Command) → CommandIsRight grain w command entry next → AreFaultless w
-  asked_faultless (ReadLine volume block count) step = access_refused_faultless (access_refused grain w.books volume block count) step
-  asked_faultless (WriteLine volume block count byte) step = access_refused_faultless (access_refused grain w.books volume block count) step
+  asked_faultless (ReadLine volume block count) step = must_be_refused_faultless (access_refused grain w.books volume block count) step
+  asked_faultless (WriteLine volume block count byte) step = must_be_refused_faultless (access_refused grain w.books volume block count) step
+  asked_faultless (Mkpreset source preset name) step = must_be_refused_faultless (preset_refused w.books source) step
   asked_faultless command step = command_faultless command step
 
   request_faultless : (request : Request) → RequestStep grain w request entry next → AreFaultless w

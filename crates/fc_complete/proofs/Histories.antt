@@ -4,7 +4,7 @@ use Rattle.std.proofs.lemmas.List.Elements.{All-nil, All-cons}
 use Rattle.fc_base.specs.Count.{HasRisen}
 use Rattle.fc_base.specs.Sheet.{live_place}
 use Rattle.fc_base.specs.declared.command.Command.{Command}
-use Rattle.fc_base.specs.declared.command.Command.TheVariants.{Mkvdisk, Write as WriteLine, Read as ReadLine}
+use Rattle.fc_base.specs.declared.command.Command.TheVariants.{Mkvdisk, Write as WriteLine, Read as ReadLine, Mkpreset}
 use Rattle.fc_base.specs.declared.fault.Refusal.{Refusal}
 use Rattle.fc_base.specs.declared.fault.Refusal.TheVariants.{Words}
 use Rattle.fc_base.specs.declared.ids.GrainNo.{GrainNo}
@@ -17,7 +17,7 @@ use Rattle.fc_base.specs.declared.request.Request.TheVariants.{Command as Asked,
 use Rattle.fc_base.specs.declared.size.GrainSize.{GrainSize}
 use Rattle.fc_books.specs.Books.{Books}
 use Rattle.fc_books.specs.Deciding.{settle, refused, replied, answered}
-use Rattle.fc_books.specs.Refused.{access_refused}
+use Rattle.fc_books.specs.Refused.{access_refused, preset_refused}
 use Rattle.fc_complete.proofs.Answers.{read_served, write_served, fill_served, access_served, turn_served, answers_of}
 use Rattle.fc_complete.proofs.Contents.{spot_there}
 use Rattle.fc_complete.proofs.Faults.{HasNoFault, not_risen, access_faultless, step_faultless, turn_faultless}
@@ -29,7 +29,7 @@ use Rattle.fc_entry.specs.Picture.{grain_of_block}
 use Rattle.fc_entry.specs.declared.entry.Entry.{Entry}
 use Rattle.fc_legal.specs.Legal.{IsLegal, IsNamed}
 use Rattle.fc_legal.specs.Stands.{Stands}
-use Rattle.fc_legal.specs.Steps.{Step, RequestStep, LaneStep, AccessStep, TurnStep, CommandStep, CommandIsRight, CommandLeft, IsRefused, AccessIsRefused, after_settling, decided_on}
+use Rattle.fc_legal.specs.Steps.{Step, RequestStep, LaneStep, AccessStep, TurnStep, CommandStep, CommandIsRight, CommandLeft, IsRefused, MustBeRefused, after_settling, decided_on}
 use Rattle.fc_legal.specs.Steps.CommandLeft.{decided, unsettled, settled_alone}
 use Rattle.fc_legal.specs.Whole.{Whole, single_lane, as_one, lane_of_grain}
 use Rattle.fc_parts.proofs.Standing.{access_stands, copy_turn_stands, clean_turn_stands}
@@ -89,9 +89,9 @@ module _ (grain : GrainSize) (decisions : ℕ) (w : Whole) (entry : Entry) (next
         stands = subst P (sym step.next_is) (counted_stands (decisions + 2) w (later_stands decisions (decisions + 2) w (omega arith) before));
       }
 
-  access_refused_well : (refusal : Option Refusal) → AccessIsRefused refusal w entry next → LeavesWell decisions entry next
-  access_refused_well None step = absurd step
-  access_refused_well (Some refusal) step = refused_well refusal step
+  must_be_refused_well : (refusal : Option Refusal) → MustBeRefused refusal w entry next → LeavesWell decisions entry next
+  must_be_refused_well None step = absurd step
+  must_be_refused_well (Some refusal) step = refused_well refusal step
 
   lane_well : (i : ℕ) (Answers : Entry → Type 0) → Stands decisions next → LaneStep grain w i Answers entry next → IsServed entry → LeavesWell decisions entry next
   lane_well i Answers stands step served =
@@ -118,8 +118,9 @@ module _ (grain : GrainSize) (decisions : ℕ) (w : Whole) (entry : Entry) (next
         }
 
     asked_well : (command : Command) → CommandIsRight grain w command entry next → LeavesWell decisions entry next
-    asked_well (ReadLine volume block count) step = access_refused_well (access_refused grain w.books volume block count) step
-    asked_well (WriteLine volume block count byte) step = access_refused_well (access_refused grain w.books volume block count) step
+    asked_well (ReadLine volume block count) step = must_be_refused_well (access_refused grain w.books volume block count) step
+    asked_well (WriteLine volume block count byte) step = must_be_refused_well (access_refused grain w.books volume block count) step
+    asked_well (Mkpreset source preset name) step = must_be_refused_well (preset_refused w.books source) step
     asked_well command step = command_well command step
 
     copy_served : (HasRisen entry.faults_before entry.faults_after → ⊥) → (m : MapId) (g : GrainNo) → CopyAnswers (single_lane grain) (as_one w) m g entry → IsServed entry

@@ -1,7 +1,7 @@
 -- A command that starts nothing asks for no loop of restores.
 use Rattle.std.proofs.Common.{◌≡◌, ℕ, Bool, false, List, Option, Some, None, refl}
 use Rattle.fc_base.specs.declared.command.Command.{Command}
-use Rattle.fc_base.specs.declared.command.Command.TheVariants.{Mkvdisk, Rmvdisk, Write, Read, Armfault, Advance, Mkfcmap, Prestartfcmap, Startfcmap, Stopfcmap, Rmfcmap, Mkfcconsistgrp, Prestartfcconsistgrp, Startfcconsistgrp, Stopfcconsistgrp, Rmfcconsistgrp, Lsfcmap, Lsfcconsistgrp, Lsvdisk, Lsfcmapprogress, Lsfcmapdependentmaps}
+use Rattle.fc_base.specs.declared.command.Command.TheVariants.{Mkvdisk, Rmvdisk, Write, Read, Armfault, Advance, Mkfcmap, Prestartfcmap, Startfcmap, Stopfcmap, Rmfcmap, Mkfcconsistgrp, Prestartfcconsistgrp, Startfcconsistgrp, Stopfcconsistgrp, Rmfcconsistgrp, Lsfcmap, Lsfcconsistgrp, Lsvdisk, Lsfcmapprogress, Lsfcmapdependentmaps, Mkpreset, Lsvdiskroom}
 use Rattle.fc_base.specs.declared.decision.Decision.{Decision}
 use Rattle.fc_base.specs.declared.fault.Refusal.{Refusal}
 use Rattle.fc_base.specs.declared.size.GrainSize.{GrainSize}
@@ -33,6 +33,8 @@ told_none None b (Lsfcconsistgrp group delim) unlooped = refl
 told_none None b (Lsvdisk delim) unlooped = refl
 told_none None b (Lsfcmapprogress m delim) unlooped = refl
 told_none None b (Lsfcmapdependentmaps m delim) unlooped = refl
+told_none None b (Mkpreset source preset name) unlooped = refl
+told_none None b (Lsvdiskroom delim) unlooped = refl
 
 pub unlooped_is_none : (grain : GrainSize) (b : Books) (command : Command) → is_start command ≡ false → IsLoopOf grain b command None
 unlooped_is_none grain b command unlooped = told_none (refused grain b command) b command unlooped

@@ -1,7 +1,7 @@
 -- Kinds of commands.
 use Rattle.std.specs.Prelude.{Bool, true, false}
 use Rattle.fc_base.specs.declared.command.Command.{Command}
-use Rattle.fc_base.specs.declared.command.Command.TheVariants.{Write, Read, Prestartfcmap, Startfcmap, Stopfcmap, Prestartfcconsistgrp, Startfcconsistgrp, Stopfcconsistgrp}
+use Rattle.fc_base.specs.declared.command.Command.TheVariants.{Write, Read, Prestartfcmap, Startfcmap, Stopfcmap, Prestartfcconsistgrp, Startfcconsistgrp, Stopfcconsistgrp, Mkpreset}
 
 -- One that prepares or stops mappings.
 abbrev pub is_on_mappings : Command → Bool
@@ -17,8 +17,9 @@ is_start (Startfcmap m prep restore) = true
 is_start (Startfcconsistgrp group prep restore) = true
 is_start command = false
 
--- Any but a line `read` or `write`, which are no commands.
+-- Any but a line `read`, `write` or `mkpreset`, which are no commands.
 abbrev pub is_decided : Command → Bool
 is_decided (Write volume block count byte) = false
 is_decided (Read volume block count) = false
+is_decided (Mkpreset source preset name) = false
 is_decided command = true

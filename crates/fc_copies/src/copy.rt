@@ -8,7 +8,7 @@ use fc_base::outcome::NoMemory;
 use std::alloc::Global;
 
 /// A copy of a reference.
-fn copy_ref(alloc: Global, object: &Ref) -> Result<Ref, NoMemory>
+pub fn copy_ref(alloc: Global, object: &Ref) -> Result<Ref, NoMemory>
     ensures { IfOk result (λ copy. copy ≡ object.now) }
 {
     match object {
@@ -34,7 +34,7 @@ fn copy_some_ref(alloc: Global, object: &Option<Ref>) -> Result<Option<Ref>, NoM
 }
 
 /// A copy of a name that may be left out.
-fn copy_some_name(alloc: Global, name: &Option<Name>) -> Result<Option<Name>, NoMemory>
+pub fn copy_some_name(alloc: Global, name: &Option<Name>) -> Result<Option<Name>, NoMemory>
     ensures { IfOk result (λ copy. copy ≡ name.now) }
 {
     match name {
@@ -174,5 +174,15 @@ pub fn copy_command(alloc: Global, command: &Command) -> Result<Command, NoMemor
             map: copy_ref(alloc, map)?,
             delim: *delim,
         }),
+        Command::Mkpreset {
+            source,
+            preset,
+            name,
+        } => Ok(Command::Mkpreset {
+            source: copy_ref(alloc, source)?,
+            preset: *preset,
+            name: copy_some_name(alloc, name)?,
+        }),
+        Command::Lsvdiskroom { delim } => Ok(Command::Lsvdiskroom { delim: *delim }),
     }
 }

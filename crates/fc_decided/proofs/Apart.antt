@@ -1,8 +1,9 @@
--- What events do, part by part: to the chains, to plain volumes, to the volumes, to background work and to pools.
+-- What events do, part by part: to the chains, to plain volumes, to the volumes, to background work, to pools and to rooms.
 use Rattle.std.proofs.lemmas.List.{length-map}
 use Rattle.fc_base.specs.declared.disk.DiskKind.TheVariants.{Flat, Thin}
 use Rattle.std.proofs.Common.{◌≡◌, ℕ, Bool, ◌<◌, ◌^◌, List, [], ◌∷◌, ◌++◌, length, fold, refl, ap, ◌∙◌}
 use Rattle.fc_base.specs.Pools.{Pool, pool_without}
+use Rattle.fc_base.specs.Room.{Room, rooms_after}
 use Rattle.fc_base.specs.Sheet.{Sheet}
 use Rattle.fc_base.specs.SheetFacts.{IsSound}
 use Rattle.fc_base.specs.SheetFits.{FitsEvents}
@@ -28,6 +29,10 @@ fold_append f x (y ∷ ys) zs = fold_append f (f x y) ys zs
 -- The chains after events.
 abbrev pub sheet_through : Sheet → List LaneEvent → Sheet
 sheet_through s events = fold (sheet_step (λ grains. grains)) s events
+
+-- Which grains occupy memory after events.
+abbrev pub rooms_left : List Room → List LaneEvent → List Room
+rooms_left rooms events = fold (rooms_after (λ grains. grains)) rooms events
 
 -- What plain volumes hold after events; each looks at the chains before it.
 abbrev pub picture_through : GrainSize → Sheet → Picture → List LaneEvent → Picture
@@ -81,6 +86,7 @@ pub after_apart : (restarts : ℕ → List Bool) (b : Books) (events : List Lane
       sheet = fold (sheet_after restarts) b.sheet events;
       flags = fold flags_after b.flags events;
       pools = fold pools_after b.pools events;
+      rooms = rooms_left b.rooms events;
     }
 after_apart restarts b [] = refl
 after_apart restarts b (e ∷ es) = after_apart restarts (after_event restarts b e) es

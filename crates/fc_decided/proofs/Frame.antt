@@ -31,7 +31,7 @@ use Rattle.fc_books.specs.Books.{Books, Deed}
 use Rattle.fc_books.specs.Deciding.{with_work}
 use Rattle.fc_books.specs.Sound.{AreTables, Agree, HasGrains}
 use Rattle.fc_entry.specs.PlainStep.{after_effects}
-use Rattle.fc_legal.proofs.Events.{rows_told}
+use Rattle.fc_legal.proofs.Events.{rows_told, rooms_through}
 use Rattle.fc_legal.specs.Lawful.{HaveDisks, FitChanges, IsLawful}
 use Rattle.fc_legal.specs.Stands.{ArePlain, AreFew, Stands}
 use Rattle.fc_follow.specs.Following.{followed_event, restarts}
@@ -40,7 +40,7 @@ use Rattle.fc_legal.specs.Whole.{Whole, single_lane, volumes_told, as_one, all_f
 use Rattle.fc_pick.specs.declared.work.WorkFlags.{WorkFlags}
 use Rattle.fc_rules.specs.LaneFits.{WorksFirst}
 use Rattle.fc_rules.specs.LaneTold.{LaneVolume, LaneTold, picture_event, volumes_event}
-use Rattle.fc_decided.proofs.Apart.{fold_append, sheet_through, picture_through, picture_append, told_apart, no_pool, flags_alike, after_apart, pools_count, fits_append, fits_end, fits_sound}
+use Rattle.fc_decided.proofs.Apart.{fold_append, sheet_through, rooms_left, picture_through, picture_append, told_apart, no_pool, flags_alike, after_apart, pools_count, fits_append, fits_end, fits_sound}
 use Rattle.fc_decided.proofs.Working.{AreNoted, noted_through, AllWorkBelow, NoWork, none_below, AreGone, works_of, works_last, works_first, works_sheet, works_picture, works_volumes, works_fit, works_disks, works_below, worked, worked_among, works_are}
 
 -- The tables after changes, with the ids that come next; and with the chains after events.
@@ -60,22 +60,28 @@ pub tables_through : (b : Books) (changes : List Change) → (tabled b changes).
 tables_through b [] = refl
 tables_through b (c ∷ cs) = tables_through (after_table_change b c) cs ∙ ap (λ (t : Tables). fold after_change t cs) (tables_change b c)
 
--- The chains, the flags and the pools are the same.
+-- The chains, the flags, the pools and the rooms are the same.
 record HasSame (b after : Books) : Type 0 where
   sheet : after.sheet ≡ b.sheet
   flags : after.flags ≡ b.flags
   pools : after.pools ≡ b.pools
+  rooms : after.rooms ≡ b.rooms
 
 change_same : (b : Books) (c : Change) → HasSame b (after_table_change b c)
-change_same b (AddVolume volume) = record { sheet = refl; flags = refl; pools = refl }
-change_same b c = record { sheet = refl; flags = refl; pools = refl }
+change_same b (AddVolume volume) = record { sheet = refl; flags = refl; pools = refl; rooms = refl }
+change_same b c = record { sheet = refl; flags = refl; pools = refl; rooms = refl }
 
 tabled_same : (b : Books) (changes : List Change) → HasSame b (tabled b changes)
-tabled_same b [] = record { sheet = refl; flags = refl; pools = refl }
+tabled_same b [] = record { sheet = refl; flags = refl; pools = refl; rooms = refl }
 tabled_same b (c ∷ cs) =
     let first = change_same b c in
     let rest = tabled_same (after_table_change b c) cs in
-    record { sheet = rest.sheet ∙ first.sheet; flags = rest.flags ∙ first.flags; pools = rest.pools ∙ first.pools }
+    record {
+      sheet = rest.sheet ∙ first.sheet;
+      flags = rest.flags ∙ first.flags;
+      pools = rest.pools ∙ first.pools;
+      rooms = rest.rooms ∙ first.rooms;
+    }
 
 pub flags_through : (b : Books) (changes : List Change) → (tabled b changes).flags ≡ b.flags
 flags_through b changes = (tabled_same b changes).flags
@@ -87,6 +93,7 @@ led_books restarts b events changes =
       sheet = fold (sheet_after restarts) b.sheet events;
       flags = fold flags_after b.flags events;
       pools = fold pools_after b.pools events;
+      rooms = rooms_left b.rooms events;
     }
 
 pub all_leave : (restarts : ℕ → List Bool) (b : Books) (events : List LaneEvent) (changes : List Change) → after_all restarts events changes b ≡ led_books restarts b events changes
@@ -96,6 +103,7 @@ all_leave restarts b events changes =
       sheet = fold (sheet_after restarts) ((tabled_same b changes).sheet k) events;
       flags = fold flags_after ((tabled_same b changes).flags k) events;
       pools = fold pools_after ((tabled_same b changes).pools k) events;
+      rooms = rooms_left ((tabled_same b changes).rooms k) events;
     })
 
 -- And where nothing is triggered.
@@ -105,12 +113,18 @@ left_books b events changes =
       sheet = sheet_through b.sheet events;
       flags = fold flags_after b.flags events;
       pools = fold pools_after b.pools events;
+      rooms = rooms_left b.rooms events;
     }
 
 pub all_leave_plain : (t : Tables) (restarts : ℕ → List Bool) (b : Books) (events : List LaneEvent) (changes : List Change) → AreSparing t events → after_all restarts events changes b ≡ left_books b events changes
 all_leave_plain t restarts b events changes all =
     all_leave restarts b events changes
-    ∙ ap (λ (s : Sheet). record (tabled b changes) { sheet = s; flags = fold flags_after b.flags events; pools = fold pools_after b.pools events }) (sheet_led t restarts b.sheet events all)
+    ∙ ap (λ (s : Sheet). record (tabled b changes) {
+      sheet = s;
+      flags = fold flags_after b.flags events;
+      pools = fold pools_after b.pools events;
+      rooms = rooms_left b.rooms events;
+    }) (sheet_led t restarts b.sheet events all)
 
 -- ---- what there is to show
 
@@ -254,7 +268,8 @@ told_after : (grain : GrainSize) (decisions : ℕ) (w : Whole) (effects : List E
 told_after grain decisions w effects events changes does =
     let told = told_led grain w effects events (tabled w.books changes).tables does.begins (record { picture = does.picture; volumes = does.volumes }) in
     let rows = rows_told grain (all_followed w) events in
-    λ k. record { told = told k; rows = rows k }
+    let rooms = rooms_through grain (all_followed w) events in
+    λ k. record { told = told k; rows = rows k; rooms = rooms k }
 
 pub lawful_from : (grain : GrainSize) (decisions : ℕ) (w : Whole) (d : Decision) → Stands decisions w → Does grain decisions w d.effects d.events d.changes → IsLawful grain decisions w d
 lawful_from grain decisions w d st does =

@@ -1,6 +1,7 @@
 -- Deeds of ends one after the other, each on the books that the last left.
 use Rattle.std.proofs.Common.{◌≡◌, ℕ, Bool, ◌+◌, ◌≤◌, List, [], ◌∷◌, ◌++◌, length, fold, refl, sym, ap, subst, ◌∙◌, arith, Contains}
 use Rattle.fc_base.specs.Pools.{Pool}
+use Rattle.fc_base.specs.Room.{Room}
 use Rattle.fc_base.specs.Sheet.{Slot, Sheet}
 use Rattle.fc_base.specs.SheetFacts.{IsSound}
 use Rattle.fc_base.specs.SheetStep.{sheet_step}
@@ -17,7 +18,7 @@ use Rattle.fc_legal.specs.Stands.{ArePlain}
 use Rattle.fc_legal.specs.Whole.{volumes_told}
 use Rattle.fc_pick.specs.declared.work.WorkFlags.{WorkFlags}
 use Rattle.fc_sheets.proofs.Steps.{Nobody}
-use Rattle.fc_decided.proofs.Apart.{fold_append, sheet_through, picture_through, picture_append}
+use Rattle.fc_decided.proofs.Apart.{fold_append, sheet_through, rooms_left, picture_through, picture_append}
 use Rattle.fc_decided.proofs.Ends.{Rows}
 use Rattle.fc_decided.proofs.Frame.{tabled, left_books, all_leave_plain}
 use Rattle.fc_decided.proofs.Keeping.{Stay}
@@ -27,21 +28,21 @@ use Rattle.fc_decided.proofs.Stops.{Sound, Goes}
 use Rattle.fc_decided.proofs.TableSteps.{TableStep, table_then, calm_sparing}
 use Rattle.fc_decided.proofs.Working.{AreGone}
 
--- ---- books with other chains, background work and disks
+-- ---- books with other chains, background work, disks and rooms
 
-abbrev pub with_parts : Books → Sheet → List WorkFlags → List Pool → Books
-with_parts b s flags pools = record b { sheet = s; flags = flags; pools = pools }
+abbrev pub with_parts : Books → Sheet → List WorkFlags → List Pool → List Room → Books
+with_parts b s flags pools rooms = record b { sheet = s; flags = flags; pools = pools; rooms = rooms }
 
-parts_change : (b : Books) (s : Sheet) (flags : List WorkFlags) (pools : List Pool) (c : Change) → after_table_change (with_parts b s flags pools) c ≡ with_parts (after_table_change b c) s flags pools
-parts_change b s flags pools (AddVolume volume) = refl
-parts_change b s flags pools c = refl
+parts_change : (b : Books) (s : Sheet) (flags : List WorkFlags) (pools : List Pool) (rooms : List Room) (c : Change) → after_table_change (with_parts b s flags pools rooms) c ≡ with_parts (after_table_change b c) s flags pools rooms
+parts_change b s flags pools rooms (AddVolume volume) = refl
+parts_change b s flags pools rooms c = refl
 
-pub parts_tabled : (b : Books) (s : Sheet) (flags : List WorkFlags) (pools : List Pool) (changes : List Change) → tabled (with_parts b s flags pools) changes ≡ with_parts (tabled b changes) s flags pools
-parts_tabled b s flags pools [] = refl
-parts_tabled b s flags pools (c ∷ cs) = ap (λ (x : Books). tabled x cs) (parts_change b s flags pools c) ∙ parts_tabled (after_table_change b c) s flags pools cs
+pub parts_tabled : (b : Books) (s : Sheet) (flags : List WorkFlags) (pools : List Pool) (rooms : List Room) (changes : List Change) → tabled (with_parts b s flags pools rooms) changes ≡ with_parts (tabled b changes) s flags pools rooms
+parts_tabled b s flags pools rooms [] = refl
+parts_tabled b s flags pools rooms (c ∷ cs) = ap (λ (x : Books). tabled x cs) (parts_change b s flags pools rooms c) ∙ parts_tabled (after_table_change b c) s flags pools rooms cs
 
-pub rows_parts : (b : Books) (s : Sheet) (flags : List WorkFlags) (pools : List Pool) → Rows b → Rows (with_parts b s flags pools)
-rows_parts b s flags pools r =
+pub rows_parts : (b : Books) (s : Sheet) (flags : List WorkFlags) (pools : List Pool) (rooms : List Room) → Rows b → Rows (with_parts b s flags pools rooms)
+rows_parts b s flags pools rooms r =
     record {
       tables = record {
         volumes = r.tables.volumes;
@@ -56,10 +57,10 @@ rows_parts b s flags pools r =
     }
 
 -- the same back: a step of the tables doesn't know of the other parts
-step_by : (b : Books) (s : Sheet) (flags : List WorkFlags) (pools : List Pool) (events : List LaneEvent) (changes : List Change) (last : Books) → last ≡ with_parts (tabled b changes) s flags pools →
-    tabled (with_parts b s flags pools) changes ≡ last → TableStep (with_parts b s flags pools) events changes → TableStep b events changes
-step_by b s flags pools events changes last e f t =
-    let same : tabled (with_parts b s flags pools) changes ≡ with_parts (tabled b changes) s flags pools = f ∙ e in
+step_by : (b : Books) (s : Sheet) (flags : List WorkFlags) (pools : List Pool) (rooms : List Room) (events : List LaneEvent) (changes : List Change) (last : Books) → last ≡ with_parts (tabled b changes) s flags pools rooms →
+    tabled (with_parts b s flags pools rooms) changes ≡ last → TableStep (with_parts b s flags pools rooms) events changes → TableStep b events changes
+step_by b s flags pools rooms events changes last e f t =
+    let same : tabled (with_parts b s flags pools rooms) changes ≡ with_parts (tabled b changes) s flags pools rooms = f ∙ e in
     record {
       calm = t.calm;
       gone = subst (λ (x : Books). AreGone x.tables.mappings events) same t.gone;
@@ -71,17 +72,17 @@ step_by b s flags pools events changes last e f t =
       next_volume = ap (λ (x : Books). x.next_volume) (sym same) ∙ t.next_volume;
       next_mapping = ap (λ (x : Books). x.next_mapping) (sym same) ∙ t.next_mapping;
       next_group = ap (λ (x : Books). x.next_group) (sym same) ∙ t.next_group;
-      fewer = (let n : length (tabled b changes).tables.mappings ≡ length (tabled (with_parts b s flags pools) changes).tables.mappings = ap (λ (x : Books). length x.tables.mappings) (sym same) in omega (arith, n, t.fewer));
+      fewer = (let n : length (tabled b changes).tables.mappings ≡ length (tabled (with_parts b s flags pools rooms) changes).tables.mappings = ap (λ (x : Books). length x.tables.mappings) (sym same) in omega (arith, n, t.fewer));
     }
 
-step_parts : (b : Books) (s : Sheet) (flags : List WorkFlags) (pools : List Pool) (events : List LaneEvent) (changes : List Change) → TableStep (with_parts b s flags pools) events changes → TableStep b events changes
-step_parts b s flags pools events changes t = step_by b s flags pools events changes (tabled (with_parts b s flags pools) changes) (parts_tabled b s flags pools changes) refl t
+step_parts : (b : Books) (s : Sheet) (flags : List WorkFlags) (pools : List Pool) (rooms : List Room) (events : List LaneEvent) (changes : List Change) → TableStep (with_parts b s flags pools rooms) events changes → TableStep b events changes
+step_parts b s flags pools rooms events changes t = step_by b s flags pools rooms events changes (tabled (with_parts b s flags pools rooms) changes) (parts_tabled b s flags pools rooms changes) refl t
 
-standing_back : (b : Books) (s : Sheet) (flags : List WorkFlags) (pools : List Pool) (changes : List Change) (slots : List Slot) (pending : ℕ → Type 0) → Standing (tabled (with_parts b s flags pools) changes) slots pending → Standing (tabled b changes) slots pending
-standing_back b s flags pools changes slots pending st =
+standing_back : (b : Books) (s : Sheet) (flags : List WorkFlags) (pools : List Pool) (rooms : List Room) (changes : List Change) (slots : List Slot) (pending : ℕ → Type 0) → Standing (tabled (with_parts b s flags pools rooms) changes) slots pending → Standing (tabled b changes) slots pending
+standing_back b s flags pools rooms changes slots pending st =
     let c = tabled b changes in
-    let other : Standing (with_parts c s flags pools) slots pending = subst (λ (x : Books). Standing x slots pending) (parts_tabled b s flags pools changes) st in
-    record { rows = rows_parts (with_parts c s flags pools) c.sheet c.flags c.pools other.rows; joint = other.joint }
+    let other : Standing (with_parts c s flags pools rooms) slots pending = subst (λ (x : Books). Standing x slots pending) (parts_tabled b s flags pools rooms changes) st in
+    record { rows = rows_parts (with_parts c s flags pools rooms) c.sheet c.flags c.pools c.rooms other.rows; joint = other.joint }
 
 -- ---- one after the other
 
@@ -98,7 +99,7 @@ goes_sound grain b picture d births g =
     record {
       sheet = g.sheet;
       stands = record {
-        rows = rows_parts (tabled b d.changes) s (fold flags_after b.flags d.events) (fold pools_after b.pools d.events) g.stands.rows;
+        rows = rows_parts (tabled b d.changes) s (fold flags_after b.flags d.events) (fold pools_after b.pools d.events) (rooms_left b.rooms d.events) g.stands.rows;
         joint = g.stands.joint;
       };
       plain = subst (λ (vs : List Volume). ArePlain vs (after_effects grain picture d.effects)) (sym g.table.same_volumes) g.plain;
@@ -117,6 +118,7 @@ goes_after grain b picture first second n m one two =
     let s = sheet_through b.sheet first.events in
     let flags = fold flags_after b.flags first.events in
     let pools = fold pools_after b.pools first.events in
+    let rooms = rooms_left b.rooms first.events in
     let c = tabled b first.changes in
     let t = sheet_through s second.events in
     let through : sheet_through b.sheet (first.events ++ second.events) ≡ t = fold_append (sheet_step (λ grains. grains)) b.sheet first.events second.events in
@@ -124,7 +126,7 @@ goes_after grain b picture first second n m one two =
     let more : t.births ≤ s.births + m = two.few in
     let effects : after_effects grain picture (first.effects ++ second.effects) ≡ after_effects grain (after_effects grain picture first.effects) second.effects = effects_append grain picture first.effects second.effects in
     record {
-      table = table_then b first.events second.events first.changes second.changes one.table (step_parts c s flags pools second.events second.changes two.table);
+      table = table_then b first.events second.events first.changes second.changes one.table (step_parts c s flags pools rooms second.events second.changes two.table);
       fit = fit_all_append b.sheet first.events second.events one.fit two.fit;
       shows = picture_append grain b.sheet picture first.events second.events
           ∙ ap (λ p. picture_through grain s p second.events) one.shows
@@ -134,7 +136,7 @@ goes_after grain b picture first second n m one two =
       sheet = subst IsSound (sym through) two.sheet;
       stands = subst (λ (x : Sheet). Standing (tabled b (first.changes ++ second.changes)) x.slots Nobody) (sym through)
           (subst (λ (x : Books). Standing x t.slots Nobody) (sym (fold_append after_table_change b first.changes second.changes))
-          (standing_back c s flags pools second.changes t.slots Nobody two.stands));
+          (standing_back c s flags pools rooms second.changes t.slots Nobody two.stands));
       plain = subst (ArePlain b.tables.volumes) (sym effects)
           (subst (λ (vs : List Volume). ArePlain vs (after_effects grain (after_effects grain picture first.effects) second.effects)) one.table.same_volumes two.plain);
     }

@@ -29,7 +29,7 @@ use Rattle.fc_legal.specs.Stands.{ArePlain, Stands}
 use Rattle.fc_legal.specs.Whole.{Whole}
 use Rattle.fc_moves.proofs.Search.{cases_option}
 use Rattle.fc_sheets.proofs.Steps.{Nobody}
-use Rattle.fc_decided.proofs.Apart.{fold_append, sheet_through}
+use Rattle.fc_decided.proofs.Apart.{fold_append, sheet_through, rooms_left}
 use Rattle.fc_decided.proofs.Counting.{old_uncounted, not_counted}
 use Rattle.fc_decided.proofs.Dropping.{needed_or_named, Drops, drop_events, unneeded_names, settling_drops, not_named, old_named}
 use Rattle.fc_decided.proofs.Frame.{all_leave_plain, tabled, Suits, lawful_alone}
@@ -82,7 +82,7 @@ settles_all grain (m ∷ ms) b c picture i st plain ordered there ready =
     let s = sheet_through c.sheet first.events in
     let after = after_effects grain picture first.effects in
     let rest : SettlesAll grain next after more (length ms) = settles_all grain ms b next after one.sheet
-    (record { rows = rows_parts (tabled c first.changes) s (fold flags_after c.flags first.events) (fold pools_after c.pools first.events) one.stands.rows; joint = one.stands.joint })
+    (record { rows = rows_parts (tabled c first.changes) s (fold flags_after c.flags first.events) (fold pools_after c.pools first.events) (rooms_left c.rooms first.events) one.stands.rows; joint = one.stands.joint })
     (subst (ArePlain next.tables.volumes) (sym one.effects) (subst (λ (vs : List Volume). ArePlain vs picture) (sym one.table.same_volumes) plain))
     (rest_ordered m ms ordered)
     (λ x found. one.rows x (there x (later_in m x ms found)) (first_apart m x ms ordered found))
@@ -189,7 +189,7 @@ settling_all grain b picture s =
     let next : Books = left_by b (drops b.sheet.slots) in
     let st : Standing b next.sheet.slots (IsIdOf b.tables.mappings) = dropped_standing b next.sheet s.stands refl d in
     settles_all grain b.tables.mappings b next picture d.sound
-    (record { rows = rows_parts b next.sheet next.flags next.pools st.rows; joint = st.joint }) s.plain s.stands.rows.tables.mappings
+    (record { rows = rows_parts b next.sheet next.flags next.pools next.rooms st.rows; joint = st.joint }) s.plain s.stands.rows.tables.mappings
     (λ m found. found)
     (λ m found. ready_by b picture m m.state s d found (s.stands.joint.by_state m found (λ n. n)))
 

@@ -20,7 +20,7 @@ pub record ControlState : Type 0 where
   pub reserved : Option Change
   pub room : ℕ
 
--- The books: what the control part has, and the chains and disks that it asks for.
+-- The books: what the control part has, and the chains, disks and room that it asks for.
 abbrev pub books_of : ControlState → SheetView → Books
 books_of c view =
     record {
@@ -31,4 +31,5 @@ books_of c view =
       sheet = view.sheet;
       flags = c.flags;
       pools = view.pools;
+      rooms = view.rooms;
     }

@@ -1,7 +1,10 @@
 -- What an agenda asks next, and how it goes on, is determined by what is told, but for the faults of disks.
 use Rattle.std.proofs.Common.{◌≡◌, ℕ, Option, Some, None, List, [], ◌∷◌, refl, sym, ap, ◌∙◌}
 use Rattle.std.specs.Option.{option_map}
+use Rattle.fc_base.specs.declared.behind.Behind.{Behind}
+use Rattle.fc_base.specs.declared.behind.Behind.TheVariants.{Passing as PassingSeconds, Mapping as MappingOf, Start, Undo}
 use Rattle.fc_base.specs.declared.ids.GrainNo.{GrainNo}
+use Rattle.fc_base.specs.declared.request.Reply.{Reply}
 use Rattle.fc_base.specs.declared.request.Request.{Request}
 use Rattle.fc_base.specs.declared.size.GrainSize.{GrainSize}
 use Rattle.fc_blocks.specs.Segments.{Segment, single, together}
@@ -9,7 +12,7 @@ use Rattle.fc_determined.proofs.Commands.{with_faults}
 use Rattle.fc_determined.proofs.Entries.{same_is}
 use Rattle.fc_determined.specs.Smooth.{TellTheSame, but_for_faults}
 use Rattle.fc_entry.specs.declared.entry.Entry.{Entry}
-use Rattle.fc_legal.specs.Agenda.{Agenda, Reading, Session, Own, Seconds, Faults, Actors, behind_entry, behind_fill, next_asked, next_of_second, without_entry, without_fill}
+use Rattle.fc_legal.specs.Agenda.{Agenda, Reading, Session, Own, Seconds, Faults, Actors, behind_entry, behind_fill, behind_last, next_asked, next_of_second, without_entry, without_fill}
 use Rattle.fc_legal.specs.Seconds.{Passing, Work, fill_at_hand, fill_of, goes_on_with, next_fill, next_grain}
 use Rattle.fc_legal.specs.Whole.{Whole}
 
@@ -29,8 +32,8 @@ module _ (grain : GrainSize) (read : Reading) where
 
     asked_alike : (a : Agenda) → next_asked grain a (with_faults w faults) ≡ next_asked grain a w
     asked_alike (Session segs) = refl
-    asked_alike (Own [] n segs) = refl
-    asked_alike (Own (request ∷ rest) n segs) = refl
+    asked_alike (Own [] behind segs) = refl
+    asked_alike (Own (request ∷ rest) behind segs) = refl
     asked_alike (Faults [] actors segs) = refl
     asked_alike (Faults (request ∷ rest) actors segs) = refl
     asked_alike (Actors scripts segs) = refl
@@ -46,8 +49,8 @@ module _ (grain : GrainSize) (read : Reading) where
     passes_alike (Session (together block ∷ segs)) = refl
     passes_alike (Faults requests actors segs) = refl
     passes_alike (Actors scripts segs) = refl
-    passes_alike (Own [] n segs) = refl
-    passes_alike (Own (request ∷ rest) n segs) = refl
+    passes_alike (Own [] behind segs) = refl
+    passes_alike (Own (request ∷ rest) behind segs) = refl
     passes_alike (Seconds p segs) =
         ap (λ fill. without_fill grain (with_faults w faults) p fill segs) (fill_alike p.at_hand)
         ∙ no_fill_alike p (next_fill grain w p) segs
@@ -57,14 +60,20 @@ module _ (grain : GrainSize) (read : Reading) where
     behind_fill_alike p entry None = refl
     behind_fill_alike p entry (Some work) = refl
 
+    last_alike : (reply : Reply) (behind : Behind) (segs : List Segment) → behind_last (with_faults w faults) reply behind segs ≡ behind_last w reply behind segs
+    last_alike reply (PassingSeconds n) segs = refl
+    last_alike reply (MappingOf source preset name) segs = refl
+    last_alike reply (Start volume) segs = refl
+    last_alike reply (Undo map volume) segs = refl
+
     behind_alike : (a : Agenda) (entry : Entry) → behind_entry grain a (with_faults w faults) entry ≡ behind_entry grain a w entry
     behind_alike (Session segs) entry = refl
     behind_alike (Faults [] actors segs) entry = refl
     behind_alike (Faults (request ∷ rest) actors segs) entry = refl
     behind_alike (Actors scripts segs) entry = refl
-    behind_alike (Own [] n segs) entry = refl
-    behind_alike (Own (request ∷ []) n segs) entry = refl
-    behind_alike (Own (request ∷ next ∷ rest) n segs) entry = refl
+    behind_alike (Own [] behind segs) entry = refl
+    behind_alike (Own (request ∷ []) behind segs) entry = last_alike entry.reply behind segs
+    behind_alike (Own (request ∷ next ∷ rest) behind segs) entry = refl
     behind_alike (Seconds p segs) entry = ap (λ (q : Passing). Seconds q segs) (behind_fill_alike p entry p.at_hand)
 
   -- ---- what is behind an entry doesn't speak of the faults that it counts
@@ -78,9 +87,9 @@ module _ (grain : GrainSize) (read : Reading) where
   behind_told (Faults [] actors segs) w entry = refl
   behind_told (Faults (request ∷ rest) actors segs) w entry = refl
   behind_told (Actors scripts segs) w entry = refl
-  behind_told (Own [] n segs) w entry = refl
-  behind_told (Own (request ∷ []) n segs) w entry = refl
-  behind_told (Own (request ∷ next ∷ rest) n segs) w entry = refl
+  behind_told (Own [] behind segs) w entry = refl
+  behind_told (Own (request ∷ []) behind segs) w entry = refl
+  behind_told (Own (request ∷ next ∷ rest) behind segs) w entry = refl
   behind_told (Seconds p segs) w entry = ap (λ (q : Passing). Seconds q segs) (fill_told w p entry p.at_hand)
 
   -- ---- after what tells the same
@@ -115,6 +124,6 @@ module _ (grain : GrainSize) (read : Reading) where
   not_both (Session segs) b w asked h k = absurd (cc h)
   not_both (Faults requests actors segs) b w asked h k = absurd (cc k)
   not_both (Actors scripts segs) b w asked h k = absurd (cc h)
-  not_both (Own [] n segs) b w asked h k = absurd (cc h)
-  not_both (Own (request ∷ rest) n segs) b w asked h k = absurd (cc k)
+  not_both (Own [] behind segs) b w asked h k = absurd (cc h)
+  not_both (Own (request ∷ rest) behind segs) b w asked h k = absurd (cc k)
   not_both (Seconds p segs) b w asked h k = not_both_fill w p segs (next_fill grain w p) asked b h k

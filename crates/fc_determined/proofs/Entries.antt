@@ -2,7 +2,7 @@
 use Rattle.std.proofs.Common.{◌≡◌, ℕ, ◌%◌, Option, Some, None, List, replicate, refl, sym, ap, subst, ◌∙◌, length-set}
 use Rattle.std.proofs.lemmas.List.{length-replicate}
 use Rattle.fc_base.specs.declared.command.Command.{Command}
-use Rattle.fc_base.specs.declared.command.Command.TheVariants.{Write as WriteLine, Read as ReadLine}
+use Rattle.fc_base.specs.declared.command.Command.TheVariants.{Write as WriteLine, Read as ReadLine, Mkpreset}
 use Rattle.fc_base.specs.declared.fault.Refusal.{Refusal}
 use Rattle.fc_base.specs.declared.fault.Refusal.TheVariants.{Words}
 use Rattle.fc_base.specs.declared.ids.GrainNo.{GrainNo}
@@ -11,13 +11,13 @@ use Rattle.fc_base.specs.declared.request.Place.TheVariants.{Lane}
 use Rattle.fc_base.specs.declared.request.Request.{Request}
 use Rattle.fc_base.specs.declared.request.Request.TheVariants.{Command as Asked, Unread, Read, Write, Copy, Clean, CopyTurn, CleanTurn}
 use Rattle.fc_base.specs.declared.size.GrainSize.{GrainSize}
-use Rattle.fc_books.specs.Refused.{access_refused}
+use Rattle.fc_books.specs.Refused.{access_refused, preset_refused}
 use Rattle.fc_determined.proofs.Answers.{DidTheSame, HasOneAnswer, read_did, write_did, copy_did, clean_did, turn_did}
 use Rattle.fc_determined.proofs.Commands.{with_faults, told_alike, LeaveTheSame, command_one}
 use Rattle.fc_determined.specs.Smooth.{IsSmooth, TellTheSame, but_for_faults, without_faults}
 use Rattle.fc_entry.specs.Picture.{grain_of_block}
 use Rattle.fc_entry.specs.declared.entry.Entry.{Entry}
-use Rattle.fc_legal.specs.Steps.{Step, RequestStep, LaneStep, AccessStep, TurnStep, CommandStep, CommandIsRight, IsRefused, AccessIsRefused, IsApart, one_more, after_access}
+use Rattle.fc_legal.specs.Steps.{Step, RequestStep, LaneStep, AccessStep, TurnStep, CommandStep, CommandIsRight, IsRefused, MustBeRefused, IsApart, one_more, after_access}
 use Rattle.fc_legal.specs.Whole.{Whole, lanes, lane_of_grain, lane_at, part_at, part_of_sheet, single_lane, as_one}
 use Rattle.fc_rules.specs.LaneRight.{CleanAnswers, CopyAnswers, LaneAnswers, TurnAnswers}
 use Rattle.fc_rules.specs.LaneTold.{LaneOf}
@@ -63,13 +63,13 @@ module _ (grain : GrainSize) (w : Whole) (faults : List ℕ) (same : lanes (with
         told = told_alike (one_more w) faults next other same h.next_is k.next_is;
       }
 
-  access_refused_one :
+  must_be_refused_one :
       (refusal : Option Refusal) →
-      AccessIsRefused refusal w x next →
-      AccessIsRefused refusal (with_faults w faults) y other →
+      MustBeRefused refusal w x next →
+      MustBeRefused refusal (with_faults w faults) y other →
       AreOneStep x y next other
-  access_refused_one None h k = absurd h
-  access_refused_one (Some refusal) h k = refused_one refusal h k
+  must_be_refused_one None h k = absurd h
+  must_be_refused_one (Some refusal) h k = refused_one refusal h k
 
   module _ (smooth : IsSmooth x.reply) (smooth_other : IsSmooth y.reply) where
     step_one :
@@ -91,8 +91,9 @@ module _ (grain : GrainSize) (w : Whole) (faults : List ℕ) (same : lanes (with
         CommandIsRight grain w command x next →
         CommandIsRight grain (with_faults w faults) command y other →
         AreOneStep x y next other
-    command_step_one (ReadLine volume block count) h k = access_refused_one (access_refused grain w.books volume block count) h k
-    command_step_one (WriteLine volume block count byte) h k = access_refused_one (access_refused grain w.books volume block count) h k
+    command_step_one (ReadLine volume block count) h k = must_be_refused_one (access_refused grain w.books volume block count) h k
+    command_step_one (WriteLine volume block count byte) h k = must_be_refused_one (access_refused grain w.books volume block count) h k
+    command_step_one (Mkpreset source preset name) h k = must_be_refused_one (preset_refused w.books source) h k
     command_step_one command h k = step_one command h k
 
     -- ---- entries of lanes

@@ -3,8 +3,9 @@ use Rattle.std.proofs.Common.{◌≡◌, ℕ, Bool, true, false, if◌then◌els
 use Rattle.std.proofs.lemmas.List.{append-nil}
 use Rattle.std.proofs.lemmas.List.Concat.{flat_map-append}
 use Rattle.std.specs.List.{concat, join_with_byte}
-use Rattle.fc_base.specs.CommandText.{command_text, byte_word, flag_words, given_words, grain_size_word, name_word, option_words, ref_word, unit_word}
+use Rattle.fc_base.specs.CommandText.{command_text, byte_word, flag_words, given_words, grain_size_word, name_word, option_words, preset_word, ref_word, unit_word}
 use Rattle.fc_base.specs.declared.command.Command.TheVariants as command
+use Rattle.fc_base.specs.declared.command.Preset.{Preset}
 use Rattle.fc_base.specs.declared.command.Unit.{Unit as SizeUnit}
 use Rattle.fc_base.specs.declared.name.Ref.{Ref}
 use Rattle.fc_base.specs.declared.size.GrainSize.{GrainSize}
@@ -222,3 +223,28 @@ mapping_flags_line grain_size incremental autodelete z i a of_z of_i of_a =
     mapping_flags_joined z i a (given_words (codes "-grainsize") grain_size_word grain_size)
     (flag_words (codes "-incremental") incremental) (flag_words (codes "-autodelete") autodelete) of_z
     (of_i ∙ flag_spaced (codes "-incremental") incremental) (of_a ∙ flag_spaced (codes "-autodelete") autodelete)
+
+mkpreset_joined :
+    (line : List ℕ) (source preset name : List (List ℕ)) →
+    concat ((line ++ spaced source) ∷ spaced preset ∷ spaced name ∷ [])
+    ≡ join_with_byte 32 (line ∷ source ++ preset ++ name)
+mkpreset_joined line source preset name =
+    let joined : concat ((line ++ spaced source) ∷ spaced preset ∷ spaced name ∷ [])
+    ≡ line ++ spaced (source ++ preset ++ name) = simp (spaced-append, append_assoc, append-nil) in
+    joined ∙ sym (join_with_byte-spaced line (source ++ preset ++ name))
+
+abbrev pub mkpreset_parts : Ref → Preset → Option (List ℕ) → List (List ℕ)
+mkpreset_parts source preset name =
+    (codes "mkpreset -source " ++ ref_word source) ∷ spaced (option_words (codes "-preset") (preset_word preset))
+    ∷ spaced (given_words (codes "-name") name_word name) ∷ []
+
+pub mkpreset_line :
+    (source : Ref) (preset : Preset) (name : Option (List ℕ)) →
+    concat (mkpreset_parts source preset name) ≡ command_text (command.Mkpreset source preset name)
+mkpreset_line source preset name =
+    let of_source : List (List ℕ) = option_words (codes "-source") (ref_word source) in
+    let of_preset : List (List ℕ) = option_words (codes "-preset") (preset_word preset) in
+    let named : List (List ℕ) = given_words (codes "-name") name_word name in
+    ap (λ word. (codes "mkpreset -source " ++ word) ++ (spaced of_preset ++ (spaced named ++ [])))
+    (sym (append-nil (ref_word source)))
+    ∙ mkpreset_joined (codes "mkpreset") of_source of_preset named

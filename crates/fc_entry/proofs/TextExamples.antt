@@ -1,7 +1,8 @@
 -- The texts of replies, refusals and faults, and of a whole history, on closed examples written by hand.
 use Rattle.std.proofs.Common.{◌≡◌, ℕ, List, [], ◌∷◌, ◌++◌, map, false, Some, None, codes, refl}
 use Rattle.std.specs.Fmt.{digits}
-use Rattle.fc_base.specs.declared.command.Command.TheVariants.{Mkvdisk, Lsvdisk}
+use Rattle.fc_base.specs.declared.command.Command.TheVariants.{Mkvdisk, Lsvdisk, Mkpreset}
+use Rattle.fc_base.specs.declared.command.Preset.TheVariants.{Snapshot, Clone, Backup}
 use Rattle.fc_base.specs.declared.fault.Kind.TheVariants.{Vdisk, Fcmap, Group}
 use Rattle.fc_base.specs.declared.fault.Refusal.{Refusal}
 use Rattle.fc_base.specs.declared.fault.Refusal.TheVariants as refusal
@@ -13,6 +14,7 @@ use Rattle.fc_base.specs.declared.ids.GrainNo.{GrainNo}
 use Rattle.fc_base.specs.declared.ids.GroupId.{GroupId}
 use Rattle.fc_base.specs.declared.ids.MapId.{MapId}
 use Rattle.fc_base.specs.declared.ids.VolId.{VolId}
+use Rattle.fc_base.specs.declared.name.Ref.TheVariants.{Id, Name}
 use Rattle.fc_base.specs.declared.request.Place.TheVariants as place
 use Rattle.fc_base.specs.declared.request.Request.{Request}
 use Rattle.fc_base.specs.declared.request.Request.TheVariants as request
@@ -46,6 +48,7 @@ faults =
     ∷ (fault.MissingOption required.Seconds, codes "missing option -seconds")
     ∷ (fault.MissingOption required.Source, codes "missing option -source")
     ∷ (fault.MissingOption required.Target, codes "missing option -target")
+    ∷ (fault.MissingOption required.Preset, codes "missing option -preset")
     ∷ (fault.MissingWord 4, codes "missing word 4")
     ∷ (fault.RepeatedOption 4, codes "option repeated at word 4")
     ∷ (fault.BadNumber 4, codes "bad number at word 4")
@@ -143,6 +146,9 @@ reply_texts = refl
 requests : List (Request × List ℕ)
 requests =
     (request.Command (Lsvdisk (Some 58)), codes "lsvdisk -delim :")
+    ∷ (request.Command (Mkpreset (Name (codes "A")) Snapshot (Some (codes "s1"))), codes "mkpreset -source A -preset snapshot -name s1")
+    ∷ (request.Command (Mkpreset (Id 7) Clone None), codes "mkpreset -source 7 -preset clone")
+    ∷ (request.Command (Mkpreset (Name (codes "A")) Backup None), codes "mkpreset -source A -preset backup")
     ∷ (request.Unread fault.LongLine, codes "-")
     ∷ (request.Read (record { volume = volume 0; block = 0; count = 2 }), codes "read 0 0 2")
     ∷ (request.Write (record { volume = volume 0; block = 0; count = 1; byte = 90 }), codes "write 0 0 1 5a")

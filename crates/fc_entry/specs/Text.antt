@@ -48,6 +48,7 @@ option_text required.Size = codes "-size"
 option_text required.Seconds = codes "-seconds"
 option_text required.Source = codes "-source"
 option_text required.Target = codes "-target"
+option_text required.Preset = codes "-preset"
 
 -- a value that may be out of its range
 abbrev pub value_text : ValueOf → List ℕ

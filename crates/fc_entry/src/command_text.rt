@@ -2,14 +2,14 @@
 
 ghost use Rattle.std.specs.Prelude.{◌≡◌, if◌then◌else◌, [], ◌++◌, codes, decimal, is_err};
 ghost use Rattle.std.specs.List.{join_with_byte};
-ghost use Rattle.fc_base.specs.CommandText.{command_text, command_words, delim_words, flag_words, given_words, grain_size_word, name_word, object_words, option_words, ref_word, unit_word, way_words};
+ghost use Rattle.fc_base.specs.CommandText.{command_text, command_words, delim_words, flag_words, given_words, grain_size_word, name_word, object_words, option_words, preset_word, ref_word, unit_word, way_words};
 ghost use Rattle.fc_base.specs.declared.command.Command.TheVariants as command;
 ghost use Rattle.fc_entry.specs.Spaced.{spaced};
 ghost use Rattle.fc_entry.specs.Text.{two_numbers};
 ghost use Rattle.fc_entry.specs.Written.{Written};
 
 use crate::parts::{byte_digits, put_all, put_number, put_numbers, put_text, put_word};
-use fc_base::command::{Command, StopWay, Unit};
+use fc_base::command::{Command, Preset, StopWay, Unit};
 use fc_base::name::{Name, Ref};
 use fc_base::outcome::Failed;
 use fc_base::size::GrainSize;
@@ -66,6 +66,17 @@ fn grain_size_option(size: Option<GrainSize>) -> &'static [u8]
         None => b"",
         Some(GrainSize::K64) => b" -grainsize 64",
         Some(GrainSize::K256) => b" -grainsize 256",
+    }
+}
+
+/// The option that says what a copy is for.
+fn preset_option(preset: Preset) -> &'static [u8]
+    ensures { result.now ≡ spaced (option_words (codes "-preset") (preset_word preset)) }
+{
+    match preset {
+        Preset::Snapshot => b" -preset snapshot",
+        Preset::Clone => b" -preset clone",
+        Preset::Backup => b" -preset backup",
     }
 }
 
@@ -309,6 +320,21 @@ fn put_mapping_options<K: Sink>(
     put_mapping_flags(grain_size, incremental, autodelete, sink)
 }
 
+/// Puts the line of a preset.
+fn put_mkpreset<K: Sink>(
+    source: &Ref,
+    preset: Preset,
+    name: &Option<Name>,
+    sink: &mut K,
+) -> Result<(), Failed>
+    ensures { Written (K.meaning sink.old) (command_text (command.Mkpreset source.now preset name.now)) (is_err result)
+        (K.meaning sink.new) }
+{
+    put_reference(b"mkpreset -source ", source, sink)?;
+    put_text(sink, preset_option(preset))?;
+    put_name(name, sink)
+}
+
 /// The flag that a restore takes.
 fn restore_flag(restore: bool) -> &'static [u8]
     ensures { result.now ≡ spaced (flag_words (codes "-restore") restore) }
@@ -434,5 +460,11 @@ pub fn put_command<K: Sink>(command: &Command, sink: &mut K) -> Result<(), Faile
             map,
             sink,
         ),
+        Command::Mkpreset {
+            source,
+            preset,
+            name,
+        } => put_mkpreset(source, *preset, name, sink),
+        Command::Lsvdiskroom { delim } => put_delimited(b"lsvdiskroom", *delim, sink),
     }
 }

@@ -43,6 +43,7 @@ fn option_word(option: RequiredOption) -> &'static [u8]
         RequiredOption::Seconds => b"-seconds",
         RequiredOption::Source => b"-source",
         RequiredOption::Target => b"-target",
+        RequiredOption::Preset => b"-preset",
     }
 }
 

@@ -1,6 +1,7 @@
 -- What a lane is told that follows its incremental mappings.
 use Rattle.std.specs.Prelude.{◌≡◌, ℕ, ◌<◌, ◌^◌, Bool, false, cond, fold, find, flat_map, map, All, Option, Some, None, List, [], ◌∷◌, ◌++◌}
 use Rattle.std.specs.Option.{ForSome}
+use Rattle.fc_base.specs.Room.{Room, rooms_after}
 use Rattle.fc_base.specs.Sheet.{Slot, slot_at, mapping_place, volume_grains}
 use Rattle.fc_base.specs.SheetFits.{FitsEvent}
 use Rattle.fc_base.specs.declared.decision.LaneEvent.{LaneEvent}
@@ -19,12 +20,14 @@ use Rattle.fc_entry.specs.Picture.{grain_of_block}
 use Rattle.fc_entry.specs.declared.entry.Entry.{Entry}
 use Rattle.fc_rules.specs.LaneFits.{HasDisk}
 use Rattle.fc_rules.specs.LaneRight.{done_write, record_of}
-use Rattle.fc_rules.specs.LaneTold.{LaneOf, LaneTold, place_of, told_event, told_past}
+use Rattle.fc_rules.specs.LaneTold.{LaneOf, LaneTold, grains_in, place_of, told_event, told_past}
+use Rattle.fc_rules.specs.Rooms.{rooms_entry}
 
--- What a lane is told, and what is kept of its incremental mappings.
+-- What a lane is told, what is kept of its incremental mappings, and which of its grains occupy memory.
 pub record Followed : Type 0 where
   pub told : LaneTold
   pub rows : List Row
+  pub rooms : List Room
 
 -- ---- the notes of an event
 
@@ -94,6 +97,7 @@ followed_event l f e =
     record {
       told = told_with (restarts f.rows) l f.told e;
       rows = rows_event f.told.sheet.slots f.rows e;
+      rooms = rooms_after (grains_in l) f.rooms e;
     }
 
 abbrev pub followed_entry : LaneOf → Followed → Entry → Followed
@@ -101,6 +105,7 @@ followed_entry l f entry =
     record {
       told = told_past l f.told (record_of entry);
       rows = rows_entry l f.rows entry;
+      rooms = rooms_entry l f.told.picture f.rooms entry;
     }
 
 -- ---- which events fit

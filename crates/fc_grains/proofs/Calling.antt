@@ -15,12 +15,12 @@ use Rattle.fc_entry.specs.Picture.{Content, Bytes, Lost, is_lost}
 use Rattle.fc_grains.specs.Calls.{CallsOnce, HasRead, HasWritten}
 use Rattle.fc_grains.specs.Grains.{GrainsState, one_if_silent, stopped}
 use Rattle.fc_grains.specs.Kept.{AddUp, IsKept, all_disks, state_of}
-use Rattle.fc_grains.specs.Parts.{VolumeDiskState, PoolState, IsWhole, contents, grains_of, lost_after}
+use Rattle.fc_grains.specs.Parts.{VolumeDiskState, PoolState, IsWhole, contents, grains_of, lost_after, reached_as}
 use Rattle.fc_grains.specs.Volumes.{VolumeGrains, volume_of, stored, changed, called, armed, holding, after_write}
 use Rattle.fc_grains.specs.declared.sums.Sums.{Sums}
 use Rattle.fc_grains.proofs.Adding.{total-changed, total-covers, sum_rises, calls_rise, faults_rise}
 use Rattle.fc_grains.proofs.Changing.{volume_is, stored_is, grain_there, kept_changed, state_changed, add_up_same}
-use Rattle.fc_grains.proofs.Contents.{contents-set, contents-lose, content-readable}
+use Rattle.fc_grains.proofs.Contents.{contents-set, contents-lose, content-readable, reached-set}
 
 on_false_map : {P Q : Type 0} (b : Bool) → (P → Q) → OnFalse b P → OnFalse b Q
 on_false_map true f h = tt
@@ -44,6 +44,12 @@ length-lost (Ok _) lost place = length-set lost place false
 length-lost (Err Failed) lost place = length-set lost place true
 length-lost (Err NoMemory) lost place = refl
 
+-- a write that was done or failed reached its grain
+reached_by : (was now : DiskState) (place : ℕ) (bytes : List ℕ) → now.kind ≡ was.kind → now.grains ≡ slice_set was.grains place bytes → now.occupied ≡ slice_set was.occupied place true
+    → reached_as now.kind now.grains now.occupied ≡ slice_set (reached_as was.kind was.grains was.occupied) place true
+reached_by was now place bytes kind grains occupied =
+    (λ k. reached_as (kind k) (grains k) (occupied k)) ∙ reached-set was.kind was.grains was.occupied place bytes
+
 -- what contracts see of a volume whose grain was written
 seen_written : (answer : Result (Unit {0}) DiskError) (was now : VolumeDiskState) (place : ℕ) (bytes : List ℕ) → AfterWrite was.disk place bytes answer now.disk
     → now.volume ≡ was.volume → now.lost ≡ lost_after answer was.lost place → grains_of now ≡ after_write answer place bytes (grains_of was)
@@ -51,15 +57,23 @@ seen_written (Ok a) was now place bytes after volume lost =
     let grains : now.disk.grains ≡ slice_set was.disk.grains place bytes = after.others ∙ ap (λ (x : List ℕ). slice_set was.disk.grains place x) after.grain in
     let held : contents now.lost now.disk.grains ≡ slice_set (contents was.lost was.disk.grains) place (Bytes bytes) =
     (λ k. contents (lost k) (grains k)) ∙ contents-set was.lost was.disk.grains place false bytes in
-    λ k. record { volume = volume k; kind = after.call.kind k; contents = held k; due = after.call.due k }
+    let reached = reached_by was.disk now.disk place bytes after.call.kind grains after.occupied in
+    λ k. record { volume = volume k; kind = after.call.kind k; contents = held k; reached = reached k; due = after.call.due k }
 seen_written (Err Failed) was now place bytes after volume lost =
     let held : contents now.lost now.disk.grains ≡ slice_set (contents was.lost was.disk.grains) place Lost =
     (λ k. contents (lost k) (after.others k)) ∙ contents-set was.lost was.disk.grains place true (grain_at now.disk.grains place) in
-    λ k. record { volume = volume k; kind = after.call.kind k; contents = held k; due = after.call.due k }
+    let reached = reached_by was.disk now.disk place (grain_at now.disk.grains place) after.call.kind after.others after.occupied in
+    λ k. record { volume = volume k; kind = after.call.kind k; contents = held k; reached = reached k; due = after.call.due k }
 seen_written (Err NoMemory) was now place bytes after volume lost =
     let grains : now.disk.grains ≡ was.disk.grains =
     after.others ∙ ap (λ (x : List ℕ). slice_set was.disk.grains place x) after.grain ∙ set-get_or was.disk.grains place [] in
-    λ k. record { volume = volume k; kind = after.call.kind k; contents = contents (lost k) (grains k); due = after.call.due k }
+    λ k. record {
+      volume = volume k;
+      kind = after.call.kind k;
+      contents = contents (lost k) (grains k);
+      reached = reached_as (after.call.kind k) (grains k) (after.occupied k);
+      due = after.call.due k;
+    }
 
 module _ (grain : GrainSize) (volumes : List VolumeDiskState) (pool : PoolState) (aside : List DiskState) (buffer : List ℕ) (sums : Sums) (volume_room aside_room : ℕ)
     (kept : IsKept grain volumes pool aside buffer sums volume_room aside_room) (at : ℕ) (within : at < length volumes) (was : VolumeDiskState) (read : was ≡ get_or volumes at was)
@@ -132,6 +146,7 @@ module _ (grain : GrainSize) (volumes : List VolumeDiskState) (pool : PoolState)
       volume = (others k).volume;
       kind = after.call.kind k;
       contents = contents ((others k).lost) (after.grains k);
+      reached = reached_as (after.call.kind k) (after.grains k) (after.occupied k);
       due = after.call.due k;
     }
 

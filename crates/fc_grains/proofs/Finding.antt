@@ -1,5 +1,5 @@
 -- A volume is where the search finds its id.
-use Rattle.std.proofs.Common.{◌≡◌, ℕ, zero, suc, ◌<◌, ◌≤◌, Bool, true, false, not, cond, ◌||◌, nat_eq, List, [], ◌∷◌, length, map, get_or, slice_set, slice_index_or, refl, sym, ◌∙◌, ap, inl, inr, true≢false, Less, Equal, Greater, arith}
+use Rattle.std.proofs.Common.{◌≡◌, ℕ, zero, suc, ◌<◌, ◌≤◌, Bool, true, false, not, cond, ◌||◌, nat_eq, List, [], ◌∷◌, length, map, get_or, slice_set, slice_index_or, refl, sym, ◌∙◌, ap, inl, inr, Less, Equal, Greater, arith}
 use Rattle.std.specs.List.{All, AllPairs, HoldsAt, list_any, remove}
 use Rattle.std.specs.List.Sorted.{IsNonDecreasingBy, IsPartitionPoint}
 use Rattle.std.specs.Ordering.{nat_cmp, ordering_index}
@@ -36,11 +36,11 @@ module _ (xs : List VolumeDiskState) (rising : AreRising xs) (id : ℕ) where
   comparisons_rise : IsNonDecreasingBy (λ (v : VolumeDiskState). ordering_index (nat_cmp v.volume.0 id)) xs
   comparisons_rise i j d le within = higher _ _ id (ids_rise i j d le within)
 
-  -- the search doesn't miss a volume that is there
-  pub not_missed : (at : ℕ) → is_there (map grains_of xs) id ≡ true
-      → (IsNonDecreasingBy (λ (v : VolumeDiskState). ordering_index (nat_cmp v.volume.0 id)) xs
-      → IsPartitionPoint (λ (v : VolumeDiskState). nat_cmp v.volume.0 id ≡ Less) (λ (v : VolumeDiskState). nat_cmp v.volume.0 id ≡ Greater) xs at) → ⊥
-  not_missed at there parted =
+  -- where the search finds no volume none is there
+  pub none_there : (at : ℕ) → (IsNonDecreasingBy (λ (v : VolumeDiskState). ordering_index (nat_cmp v.volume.0 id)) xs
+      → IsPartitionPoint (λ (v : VolumeDiskState). nat_cmp v.volume.0 id ≡ Less) (λ (v : VolumeDiskState). nat_cmp v.volume.0 id ≡ Greater) xs at)
+      → is_there (map grains_of xs) id ≡ false
+  none_there at parted =
       let before = (parted comparisons_rise).0 in
       let behind = (parted comparisons_rise).1 in
       let none : list_any (λ (v : VolumeDiskState). nat_eq v.volume.0 id) xs ≡ false =
@@ -49,7 +49,7 @@ module _ (xs : List VolumeDiskState) (rising : AreRising xs) (id : ℕ) where
         | inl below ↦ lesser _ id (ranked _ id Less (sym (before k d (omega arith) below)))
         | inr above ↦ greater _ id (ranked _ id Greater (sym (behind k d above within)))
       ]) in
-      true≢false (sym there ∙ is_there-map xs id ∙ none)
+      is_there-map xs id ∙ none
 
 pub found_at : (xs : List VolumeDiskState) (id at : ℕ) → HoldsAt (λ (v : VolumeDiskState). nat_cmp v.volume.0 id ≡ Equal) xs at
     → (d : VolumeDiskState) → (slice_index_or xs at d).volume.0 ≡ id

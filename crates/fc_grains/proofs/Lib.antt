@@ -9,5 +9,6 @@ pub mod Queueing
 pub mod Readying
 pub mod Moving
 pub mod Quiet
+pub mod Rooms
 pub mod Whole
 pub mod Handing

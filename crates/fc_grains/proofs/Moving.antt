@@ -8,6 +8,8 @@ use Rattle.std.proofs.lemmas.List.Quantifiers.{all_pairs_push, all_pairs_remove}
 use Rattle.std.proofs.lemmas.List.Sums.{sum_by-append, sum_by-cons, sum_by-remove, sum_by_push}
 use Rattle.fc_base.specs.Grain.{grain_bytes}
 use Rattle.fc_base.specs.Pools.{pool_without}
+use Rattle.fc_base.specs.Room.{new_reached}
+use Rattle.fc_base.specs.declared.disk.DiskKind.{DiskKind}
 use Rattle.fc_base.specs.declared.outcome.NoMemory.{NoMemory}
 use Rattle.fc_base.specs.declared.size.GrainSize.{GrainSize}
 use Rattle.fc_mdisk.specs.Disk.{DiskState, cleared}
@@ -16,11 +18,11 @@ use Rattle.fc_entry.specs.Picture.{Bytes, zeros}
 use Rattle.fc_grains.specs.Calls.{HasMade, HasReadied, HasRemoved}
 use Rattle.fc_grains.specs.Grains.{AreAllOf, GrainsState, IsUnarmed, by_kind, NewVolume, next_of, next_place, one_if_silent, opened, pool_of, silent_of, stopped}
 use Rattle.fc_grains.specs.Kept.{AddUp, IsKept, all_disks, state_of}
-use Rattle.fc_grains.specs.Parts.{HasZeros, IsWhole, PoolState, SameDisks, VolumeDiskState, contents, disks_of, grains_of, left_of, new_of}
+use Rattle.fc_grains.specs.Parts.{HasNoWrites, HasZeros, IsWhole, PoolState, SameDisks, VolumeDiskState, contents, disks_of, grains_of, left_of, new_of, reached_as}
 use Rattle.fc_grains.specs.Volumes.{VolumeGrains, HoldAll, HoldsGrains, HoldsNothing, without}
 use Rattle.fc_grains.specs.declared.sums.Sums.{Sums}
 use Rattle.fc_grains.proofs.Changing.{seen_rise, volume_is}
-use Rattle.fc_grains.proofs.Contents.{contents-replicate}
+use Rattle.fc_grains.proofs.Contents.{contents-replicate, reached-new}
 use Rattle.fc_grains.proofs.Finding.{AreRising, without-at}
 use Rattle.fc_grains.proofs.Handing.{holds_own}
 use Rattle.fc_grains.proofs.KindCounts.{same_kinds}
@@ -79,7 +81,7 @@ module _ (volumes : List VolumeDiskState) (pool pool' : PoolState) (aside : List
 
 module _ (grain : GrainSize) (volumes : List VolumeDiskState) (pool pool' : PoolState) (aside : List DiskState) (buffer : List ℕ) (sums : Sums) (volume_room volume_room' aside_room : ℕ)
     (kept : IsKept grain volumes pool aside buffer sums volume_room aside_room) (v : VolumeDiskState) (new : NewVolume) (kind_is : v.disk.kind ≡ new.kind)
-    (has_zeros : HasZeros pool.bytes new.grains v.disk) (unmarked : v.lost ≡ replicate new.grains false) (unarmed : IsUnarmed v.disk)
+    (has_zeros : HasZeros pool.bytes new.grains v.disk) (unwritten : HasNoWrites new.grains v.disk) (unmarked : v.lost ≡ replicate new.grains false) (unarmed : IsUnarmed v.disk)
     (bytes : pool'.bytes ≡ pool.bytes) (reserved : pool'.reserved ≡ drop 1 pool.reserved) (some : 0 < length pool.reserved)
     (same : SameDisks (v.disk ∷ disks_of pool') (disks_of pool))
     (id : ℕ) (is : v.volume.0 ≡ id) (newest : All (λ (w : VolumeGrains). w.volume.0 < id) (map grains_of volumes)) where
@@ -130,7 +132,7 @@ module _ (grain : GrainSize) (volumes : List VolumeDiskState) (pool pool' : Pool
       → HasMade (state_of grain volumes pool aside buffer sums) id (state_of grain (volumes ++ v ∷ []) pool' aside buffer sums)
   has_made next left first taken =
       let P : NewVolume → Type 0 = λ n. state_of grain (volumes ++ v ∷ []) pool' aside buffer sums ≡ record (state_of grain volumes pool aside buffer sums) {
-        volumes = map grains_of volumes ++ record { volume = record { 0 = id }; kind = n.kind; contents = replicate n.grains (zeros grain); due = v.disk.due } ∷ [];
+        volumes = map grains_of volumes ++ record { volume = record { 0 = id }; kind = n.kind; contents = replicate n.grains (zeros grain); reached = new_reached n.kind n.grains; due = v.disk.due } ∷ [];
         pool = pool_without n.kind (left_of pool);
         reserved = drop 1 (map new_of pool.reserved);
         pooled = remove (disks_of pool) (next_place (map new_of pool.reserved) (left_of pool));
@@ -138,8 +140,12 @@ module _ (grain : GrainSize) (volumes : List VolumeDiskState) (pool pool' : Pool
       let held : contents v.lost v.disk.grains ≡ replicate new.grains (zeros grain) =
       (λ k. contents (unmarked k) (has_zeros k)) ∙ contents-replicate new.grains (replicate pool.bytes 0) ∙ ap (λ (n : ℕ). replicate new.grains (Bytes (replicate n 0))) kept.pool_size in
       let seen : map grains_of (volumes ++ v ∷ []) ≡ map grains_of volumes ++ grains_of v ∷ [] = map-append grains_of volumes (v ∷ []) in
-      let row : grains_of v ≡ record { volume = record { 0 = id }; kind = new.kind; contents = replicate new.grains (zeros grain); due = v.disk.due } =
-      λ k. record { volume = record { 0 = is k }; kind = kind_is k; contents = held k; due = v.disk.due } in
+      let reached : reached_as v.disk.kind v.disk.grains v.disk.occupied ≡ new_reached new.kind new.grains =
+      (λ k. reached_as v.disk.kind (has_zeros k) (unwritten k))
+      ∙ reached-new v.disk.kind new.grains (replicate pool.bytes 0)
+      ∙ ap (λ (kind : DiskKind). new_reached kind new.grains) kind_is in
+      let row : grains_of v ≡ record { volume = record { 0 = id }; kind = new.kind; contents = replicate new.grains (zeros grain); reached = new_reached new.kind new.grains; due = v.disk.due } =
+      λ k. record { volume = record { 0 = is k }; kind = kind_is k; contents = held k; reached = reached k; due = v.disk.due } in
       record {
         due = v.disk.due;
         due_is = ap (λ (d : DiskState). d.due) first;

@@ -5,7 +5,7 @@ use Rattle.std.proofs.lemmas.List.Sums.{sum_by-cons}
 use Rattle.fc_base.specs.declared.disk.DiskKind.{DiskKind}
 use Rattle.fc_base.specs.declared.disk.DiskKind.TheVariants.{Flat, Thin}
 use Rattle.fc_base.specs.Pools.{of_kind}
-use Rattle.fc_mdisk.specs.Disk.{DiskState}
+use Rattle.fc_mdisk.specs.Disk.{DiskState, is_flat}
 use Rattle.fc_mdisk.specs.Disks.{disk_at, formatted_at}
 use Rattle.fc_grains.specs.Grains.{NewVolume, free_place, is_of_kind, place_in, reserved_of}
 use Rattle.fc_grains.specs.Parts.{AreReady, IsReady, QueuesState, disks_in, formatted_in, left_in, new_of, queue_of, with_queue}
@@ -24,12 +24,12 @@ last_ready Flat bytes grains place lost [] thin unmarked first within = absurd (
 last_ready Flat bytes grains (suc place) lost (d ∷ flat) thin unmarked first within = absurd (omega arith)
 last_ready Flat bytes grains zero lost (d ∷ flat) thin unmarked first within =
     let size : grains ≡ length lost = sym (ap length unmarked ∙ length-replicate grains false) in
-    (omega arith, record { zeros = ap (λ (n : ℕ). replicate n (replicate bytes 0)) size; unmarked = unmarked ∙ ap (λ (n : ℕ). replicate n false) size }, tt)
+    (omega arith, record { zeros = ap (λ (n : ℕ). replicate n (replicate bytes 0)) size; unwritten = ap (λ (n : ℕ). replicate n (is_flat d.kind)) size; unmarked = unmarked ∙ ap (λ (n : ℕ). replicate n false) size }, tt)
 last_ready Thin bytes grains place lost flat [] unmarked first within = absurd (omega arith)
 last_ready Thin bytes grains (suc place) lost flat (d ∷ thin) unmarked first within = absurd (omega arith)
 last_ready Thin bytes grains zero lost flat (d ∷ thin) unmarked first within =
     let size : grains ≡ length lost = sym (ap length unmarked ∙ length-replicate grains false) in
-    (omega arith, record { zeros = ap (λ (n : ℕ). replicate n (replicate bytes 0)) size; unmarked = unmarked ∙ ap (λ (n : ℕ). replicate n false) size }, tt)
+    (omega arith, record { zeros = ap (λ (n : ℕ). replicate n (replicate bytes 0)) size; unwritten = ap (λ (n : ℕ). replicate n (is_flat d.kind)) size; unmarked = unmarked ∙ ap (λ (n : ℕ). replicate n false) size }, tt)
 
 -- a volume to come before it
 one_before : (own kind : DiskKind) (x r : Reserved) (bytes grains place count size : ℕ) (flat thin : List DiskState) (rest : List Reserved)

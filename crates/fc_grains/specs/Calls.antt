@@ -5,6 +5,7 @@ use Rattle.std.specs.List.{remove}
 use Rattle.fc_base.specs.Count.{one_more, FaultsAfter}
 use Rattle.fc_base.specs.Grain.{grain_bytes}
 use Rattle.fc_base.specs.Pools.{pool_without}
+use Rattle.fc_base.specs.Room.{new_reached}
 use Rattle.fc_base.specs.declared.disk.DiskError.{DiskError}
 use Rattle.fc_mdisk.specs.Disk.{DiskState, write_failed, MayAnswer, cleared}
 use Rattle.fc_mdisk.specs.Disks.{disk_at}
@@ -71,6 +72,7 @@ pub record HasMade (old : GrainsState) (volume : ℕ) (new : GrainsState) : Type
       volume = record { 0 = volume };
       kind = (next_of old.reserved).kind;
       contents = replicate (next_of old.reserved).grains (zeros old.grain);
+      reached = new_reached (next_of old.reserved).kind (next_of old.reserved).grains;
       due = due;
     } ∷ [];
     pool = pool_without (next_of old.reserved).kind old.pool;

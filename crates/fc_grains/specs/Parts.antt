@@ -1,5 +1,5 @@
 -- The parts that the grains of a lane are made of: volumes with their disks, and the pool.
-use Rattle.std.specs.Prelude.{◌≡◌, ℕ, ◌+◌, ◌^◌, ◌<◌, Bool, true, false, List, [], ◌∷◌, ◌++◌, drop, length, replicate, slice_set, Result, Ok, Err}
+use Rattle.std.specs.Prelude.{◌≡◌, ℕ, ◌+◌, ◌^◌, ◌<◌, Bool, true, false, List, [], ◌∷◌, ◌++◌, drop, length, map, replicate, slice_set, Result, Ok, Err}
 use Rattle.std.specs.List.{All, sum_by}
 use Rattle.std.specs.Simd.Lanes.{zip2}
 use Rattle.fc_base.specs.Pools.{Pool}
@@ -8,7 +8,7 @@ use Rattle.fc_base.specs.declared.disk.DiskError.TheVariants.{Failed, NoMemory}
 use Rattle.fc_base.specs.declared.disk.DiskKind.{DiskKind}
 use Rattle.fc_base.specs.declared.disk.DiskKind.TheVariants.{Flat, Thin}
 use Rattle.fc_base.specs.declared.ids.VolId.{VolId}
-use Rattle.fc_mdisk.specs.Disk.{DiskState, cleared}
+use Rattle.fc_mdisk.specs.Disk.{DiskState, cleared, is_flat}
 use Rattle.fc_mdisk.specs.Disks.{disk_at, formatted_at}
 use Rattle.fc_entry.specs.Picture.{Content, Bytes, Lost}
 use Rattle.fc_grains.specs.Grains.{NewVolume, IsUnarmed}
@@ -29,9 +29,20 @@ content false bytes = Bytes bytes
 abbrev pub contents : List Bool → List (List ℕ) → List Content
 contents lost grains = zip2 content lost grains
 
+-- Which grains occupy memory: all of a flat disk, and of a thin one those that a write reached.
+abbrev pub reached_as : DiskKind → List (List ℕ) → List Bool → List Bool
+reached_as Flat grains occupied = map (λ _. true) grains
+reached_as Thin grains occupied = occupied
+
 abbrev pub grains_of : VolumeDiskState → VolumeGrains
 grains_of v =
-    record { volume = v.volume; kind = v.disk.kind; contents = contents v.lost v.disk.grains; due = v.disk.due }
+    record {
+      volume = v.volume;
+      kind = v.disk.kind;
+      contents = contents v.lost v.disk.grains;
+      reached = reached_as v.disk.kind v.disk.grains v.disk.occupied;
+      due = v.disk.due;
+    }
 
 -- Every grain has so many bytes and a mark.
 pub record IsWhole (bytes : ℕ) (v : VolumeDiskState) : Type 0 where
@@ -95,9 +106,14 @@ disks_of pool = disks_in pool.queues
 abbrev pub HasZeros : ℕ → ℕ → DiskState → Type 0
 HasZeros bytes count disk = disk.grains ≡ replicate count (replicate bytes 0)
 
+-- A disk with so many grains that no write reached: those of a flat disk occupy memory, and those of a thin one don't.
+abbrev pub HasNoWrites : ℕ → DiskState → Type 0
+HasNoWrites count disk = disk.occupied ≡ replicate count (is_flat disk.kind)
+
 -- A disk is formatted for a volume to come, none of whose grains are lost.
 pub record IsReady (bytes : ℕ) (r : Reserved) (disk : DiskState) : Type 0 where
   pub zeros : HasZeros bytes (length r.lost) disk
+  pub unwritten : HasNoWrites (length r.lost) disk
   pub unmarked : r.lost ≡ replicate (length r.lost) false
 
 -- The first disks of each kind are ready for the volumes to come.

@@ -3,10 +3,11 @@
 ghost use Rattle.std.specs.Prelude.{◌≡◌, ◌+◌, ◌^◌, ◌<◌, ◌≤◌, ◌++◌, ℕ, List, true, length, take, drop, replicate};
 ghost use Rattle.fc_base.specs.Grain.{grain_bytes};
 ghost use Rattle.fc_base.specs.Pools.{of_kind};
+ghost use Rattle.fc_base.specs.Room.{used_in};
 ghost use Rattle.fc_entry.specs.Picture.{Bytes, is_lost};
-ghost use Rattle.fc_grains.specs.Volumes.{is_there, volume_of, stored};
+ghost use Rattle.fc_grains.specs.Volumes.{is_there, rooms_of, volume_of, stored};
 
-use crate::find::place_of;
+use crate::find::{find_place, place_of};
 use crate::pool::Pool;
 use crate::sums::Sums;
 use crate::volume_disk::VolumeDisk;
@@ -76,6 +77,16 @@ impl<D: Mdisk> Grains<D> {
         ensures { result ≡ length (volume_of self.now.volumes volume.0).contents }
     {
         self.volumes[place_of(&self.volumes, volume)].grains()
+    }
+
+    /// How many grains of a volume occupy memory, as its disk counts them: 0 where the volume isn't there.
+    pub fn room(&self, volume: VolId) -> u32
+        ensures { result ≡ used_in (rooms_of self.now.volumes) volume.0 }
+    {
+        match find_place(&self.volumes, volume) {
+            Some(place) => self.volumes[place].used(),
+            None => 0,
+        }
     }
 
     /// Whether a grain of a volume is lost, so that it can't be read.

@@ -5,12 +5,13 @@
 //! counts. Contracts see a record of plain data (`specs/Grains`): what each grain of each volume holds, bytes or nothing
 //! that can be read, and the sums. A read gives what the grain holds; a write that failed leaves it lost, and only
 //! a write that is done ends that; each call tells which calls of disks it made, and no other call changes the sums.
-//! Only `new` and `reserve`, and writes of thin disks, take memory. A volume is found by binary search.
+//! Only `new` and `reserve`, and writes of thin disks, take memory; how many grains of a volume occupy it is what its disk
+//! counts. A volume is found by binary search.
 //!
 //! Files: `grains` (the type and what it tells), `making` (volumes come and go), `access` (reads, writes and copies),
 //! `copy_error`; inside `volume_disk`, `pool`, `queues`, `sums`, `find`. The words are in `specs/`: `Volumes`, `Grains`,
-//! `Calls`, `Quiet`. What crates above cite is in `proofs/Stored` (what is stored after a change), `proofs/Quiet` (disks
-//! that can't fail) and `proofs/Calling` (a read leaves what grains hold).
+//! `Calls`, `Quiet`. What crates above cite is in `proofs/Quiet` (disks that can't fail), `proofs/Calling` (a read leaves
+//! what grains hold) and `proofs/Rooms` (which grains occupy memory after each call).
 #![tactic(auto)]
 
 mod access;

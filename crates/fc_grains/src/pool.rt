@@ -6,7 +6,7 @@ ghost use Rattle.fc_base.specs.Pools.{of_kind, pool_without};
 ghost use Rattle.fc_mdisk.specs.Disk.{cleared};
 ghost use Rattle.fc_mdisk.specs.Disks.{disk_at, formatted_at};
 ghost use Rattle.fc_grains.specs.Grains.{IsUnarmed, by_kind, free_place, next_of, next_place, pool_of, reserved_of};
-ghost use Rattle.fc_grains.specs.Parts.{HasZeros, SameDisks, disks_of, left_of, new_of};
+ghost use Rattle.fc_grains.specs.Parts.{HasNoWrites, HasZeros, SameDisks, disks_of, left_of, new_of};
 
 use crate::queues::Queues;
 use crate::volume_disk::VolumeDisk;
@@ -134,6 +134,7 @@ impl<D: Mdisk> Pool<D> {
         ensures volume { result.volume ≡ volume }
         ensures kind { result.disk.kind ≡ (next_of (map new_of self.old.reserved)).kind }
         ensures zeros { HasZeros self.old.bytes (next_of (map new_of self.old.reserved)).grains result.disk }
+        ensures unwritten { HasNoWrites (next_of (map new_of self.old.reserved)).grains result.disk }
         ensures unmarked { result.lost ≡ replicate (next_of (map new_of self.old.reserved)).grains false }
         ensures unarmed { IsUnarmed result.disk }
         ensures bytes { self.new.bytes ≡ self.old.bytes }

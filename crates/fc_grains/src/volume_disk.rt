@@ -1,7 +1,7 @@
 //! A volume's disk and its lost grains.
 
 ghost use Rattle.std.specs.Prelude.{◌≡◌, ◌<◌, false, true, length, is_err, slice_index_or, slice_set};
-ghost use Rattle.fc_mdisk.specs.Disk.{grain_at, AfterRead, AfterWrite, armed, cleared};
+ghost use Rattle.fc_mdisk.specs.Disk.{grain_at, used_of, AfterRead, AfterWrite, armed, cleared};
 ghost use Rattle.fc_grains.specs.Parts.{lost_after};
 
 use fc_base::disk::{DiskError, DiskKind};
@@ -55,6 +55,13 @@ impl<D: Mdisk> VolumeDisk<D> {
         ensures { result ≡ length self.now.lost }
     {
         self.lost.len()
+    }
+
+    /// How many grains occupy memory (`Mdisk::used`).
+    pub(crate) fn used(&self) -> u32
+        ensures { result ≡ used_of self.now.disk }
+    {
+        self.disk.used()
     }
 
     /// Whether the grain is lost.

@@ -16,8 +16,10 @@ use std::alloc::Global;
 /// What is asked.
 #[derive(Clone, Copy)]
 pub(crate) enum Asked<'a> {
-    /// A command; of an access, one that is refused.
+    /// A command; of an access or a preset, one that is refused.
     Command(&'a Command),
+    /// The command with this canonical line.
+    Line(&'a [u8]),
     /// A faulty line is told.
     Unread(WordFault),
     /// Blocks of one grain are read.
@@ -32,12 +34,20 @@ pub(crate) enum Asked<'a> {
 
 /// Whether two commands have one canonical line.
 fn are_same(alloc: Global, one: &Command, other: &Command) -> Result<bool, NoMemory> {
-    let mut first = MemSink::new(alloc, Vec::new(alloc));
-    let mut second = MemSink::new(alloc, Vec::new(alloc));
-    if put_command(one, &mut first).is_err() || put_command(other, &mut second).is_err() {
+    let mut line = MemSink::new(alloc, Vec::new(alloc));
+    if put_command(one, &mut line).is_err() {
         return Err(NoMemory);
     }
-    Ok(first.bytes() == second.bytes())
+    has_line(alloc, other, line.bytes())
+}
+
+/// Whether a command has this canonical line.
+fn has_line(alloc: Global, command: &Command, line: &[u8]) -> Result<bool, NoMemory> {
+    let mut own = MemSink::new(alloc, Vec::new(alloc));
+    if put_command(command, &mut own).is_err() {
+        return Err(NoMemory);
+    }
+    Ok(own.bytes() == line)
 }
 
 impl Asked<'_> {
@@ -45,6 +55,7 @@ impl Asked<'_> {
     pub(crate) fn is(self, alloc: Global, request: &Request) -> Result<bool, NoMemory> {
         match (self, request) {
             (Asked::Command(asked), Request::Command(command)) => are_same(alloc, asked, command),
+            (Asked::Line(asked), Request::Command(command)) => has_line(alloc, command, asked),
             (Asked::Unread(asked), Request::Unread(fault)) => Ok(asked == *fault),
             (Asked::Read(asked), Request::Read(part)) => Ok(asked == *part),
             (Asked::Write(asked), Request::Write(part)) => Ok(asked == *part),

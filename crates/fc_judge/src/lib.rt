@@ -4,12 +4,13 @@
 //! that was worked out. `judge` walks it beside the session's lines. Each entry must be the next of whose turn it is: outside
 //! of blocks `main`'s, and in a block that of any of its actors, each in its own order. A read must give what plain
 //! volumes (`fc_plain`) hold after the entries before it, and a start must trigger its mappings, all at once, as a small table of
-//! what was made has them. There are no chains, bitmaps, lanes or disks here: which grains are moved, how a command is
-//! decided and whether a disk fails is taken as it is told.
+//! what was made has them. In place of a preset stand its lines, each asked by what the one before it was answered. There are no
+//! chains, bitmaps, lanes or disks here: which grains are moved, how a command is decided and whether a disk fails is taken as it
+//! is told.
 //!
 //! In reading order: `verdict` (what is judged, and why not), `lines` (the lines of a session's bytes), `table` and `made` (what
-//! was made, by id and by name), `asked` (what lines and workers ask), `place`, `replies` and `effects` (of one entry), `walk` (the entries one
-//! after the other), `block` (the same in a block), and `judging`.
+//! was made, by id and by name), `asked` (what lines and workers ask), `preset` (the lines of a preset), `place`, `replies` and `effects` (of
+//! one entry), `walk` (the entries one after the other), `block` (the same in a block), and `judging`.
 #![tactic(auto)]
 
 mod asked;
@@ -19,6 +20,7 @@ mod judging;
 mod lines;
 mod made;
 mod place;
+mod preset;
 mod replies;
 mod table;
 mod verdict;

@@ -101,6 +101,12 @@ impl Made {
         u32::try_from(grains).unwrap_or(u32::MAX)
     }
 
+    /// How large the volume is that is named, in kb.
+    pub(crate) fn kib_of(&self, volume: &Ref) -> Option<u64> {
+        let volume = self.volumes.named(volume)?;
+        Some(u64::from(volume.known).saturating_mul(u64::from(self.grain.kib())))
+    }
+
     /// Why an access of so many blocks of a volume is refused, if it is, as far as volumes tell; else its id.
     pub(crate) fn accessed(&self, volume: &Ref, block: u32, count: u32) -> Result<VolId, Refusal> {
         let Some(volume) = self.volumes.named(volume) else {

@@ -16,12 +16,11 @@ fn lane_of_block(size: GrainSize, block: u64) -> Place {
 }
 
 /// Under whose turns a request is answered: that of its grain's lane or of the worker's; all turns for a command; and that of the
-/// control part for an access that is refused, or a line that couldn't be read.
+/// control part for an access or a preset that is refused, or a line that couldn't be read.
 pub(crate) fn place_of(size: GrainSize, request: &Request) -> Place {
     match request {
-        Request::Command(Command::Read { .. } | Command::Write { .. }) | Request::Unread(_) => {
-            Place::Control
-        }
+        Request::Command(Command::Read { .. } | Command::Write { .. } | Command::Mkpreset { .. })
+        | Request::Unread(_) => Place::Control,
         Request::Command(_) => Place::Every,
         Request::Read(part) => lane_of_block(size, part.block),
         Request::Write(part) => lane_of_block(size, part.block),

@@ -3,7 +3,7 @@
 use crate::made::Made;
 use crate::verdict::{Halt, Why};
 use fc_base::command::Command;
-use fc_base::fault::{Refusal, WordFault};
+use fc_base::fault::{Kind, Refusal, WordFault};
 use fc_base::ids::{GrainNo, MapId};
 use fc_base::limits::LANES;
 use fc_base::name::Ref;
@@ -113,6 +113,15 @@ fn refused_fits(
     needs(fits, Why::Reply)
 }
 
+/// A preset that stands as a command is refused, since its source names no volume.
+fn preset_fits(made: &Made, source: &Ref, reply: &Reply) -> Result<(), Halt> {
+    let fits = match reply {
+        Reply::Refused(Refusal::NoSuch(Kind::Vdisk)) => made.volumes.named(source).is_none(),
+        _ => false,
+    };
+    needs(fits, Why::Reply)
+}
+
 /// Any other command is done, makes its object, or tells its rows, or it is refused, or there is no memory. Which object it is
 /// is judged with what was made.
 fn command_fits(made: &Made, command: &Command, reply: &Reply) -> Result<(), Halt> {
@@ -134,6 +143,7 @@ fn command_fits(made: &Made, command: &Command, reply: &Reply) -> Result<(), Hal
             },
             _,
         ) => return refused_fits(made, volume, *block, *count, reply),
+        (Command::Mkpreset { source, .. }, _) => return preset_fits(made, source, reply),
         (_, Reply::Refused(Refusal::Words(_))) => false,
         (_, Reply::Refused(_) | Reply::NoMemory) => true,
         (
@@ -147,7 +157,8 @@ fn command_fits(made: &Made, command: &Command, reply: &Reply) -> Result<(), Hal
             | Command::Lsfcconsistgrp { .. }
             | Command::Lsvdisk { .. }
             | Command::Lsfcmapprogress { .. }
-            | Command::Lsfcmapdependentmaps { .. },
+            | Command::Lsfcmapdependentmaps { .. }
+            | Command::Lsvdiskroom { .. },
             Reply::Listed(_),
         ) => true,
         (
@@ -155,7 +166,8 @@ fn command_fits(made: &Made, command: &Command, reply: &Reply) -> Result<(), Hal
             | Command::Lsfcconsistgrp { .. }
             | Command::Lsvdisk { .. }
             | Command::Lsfcmapprogress { .. }
-            | Command::Lsfcmapdependentmaps { .. },
+            | Command::Lsfcmapdependentmaps { .. }
+            | Command::Lsvdiskroom { .. },
             _,
         ) => false,
         (_, Reply::Done) => true,

@@ -4,6 +4,7 @@ use crate::asked::{Asked, AskedList};
 use crate::effects::effects_fit;
 use crate::made::Made;
 use crate::place::place_of;
+use crate::preset::{LineText, PresetOf, line_on};
 use crate::replies::reply_fits;
 use crate::verdict::{Halt, Why};
 use fc_base::command::{Command, Line, ScriptLine};
@@ -196,20 +197,50 @@ impl<'a> Walk<'a> {
         Ok(())
     }
 
-    /// Whether the entry before the one at hand was done.
+    /// Whether the entry before the one at hand was done, or made something.
     fn was_done(&self) -> bool {
         let last = self.next.saturating_sub(1);
         if last >= self.history.len() {
             return false;
         }
         match &self.history.entry(last).reply {
-            Reply::Done => true,
+            Reply::Done | Reply::Made { .. } => true,
             _ => false,
         }
     }
 
+    /// The entry at hand answers a line of `main`: whether it was done, or made something.
+    fn does(&mut self, line: &LineText) -> Result<bool, Halt> {
+        self.answers(0, Asked::Line(line.as_bytes()))?;
+        Ok(self.was_done())
+    }
+
+    /// A preset is answered: a new volume, a mapping to it and its start, each asked once the one before it was made. Where one wasn't,
+    /// what was made goes, the last of it first.
+    fn preset(&mut self, preset: PresetOf) -> Result<(), Halt> {
+        let alloc = self.alloc;
+        let volume = self.made.volumes.next();
+        if !self.does(&preset.volume_line(alloc)?)? {
+            return Ok(());
+        }
+        let mapping = self.made.mappings.next();
+        if self.does(&preset.mapping_line(alloc, volume)?)? {
+            if self.does(&line_on(alloc, "startfcmap -prep", mapping)?)? {
+                return Ok(());
+            }
+            self.does(&line_on(alloc, "rmfcmap", mapping)?)?;
+        }
+        self.does(&line_on(alloc, "rmvdisk", volume)?)?;
+        Ok(())
+    }
+
     /// A line outside of blocks is answered.
     pub(crate) fn line(&mut self, line: &ScriptLine) -> Result<(), Halt> {
+        if let ScriptLine::Read(Line::Command(command)) = line
+            && let Some(preset) = PresetOf::by(&self.made, command)
+        {
+            return self.preset(preset);
+        }
         let mut asked = AskedList::nothing(self.alloc);
         asked.add_line(&self.made, line)?;
         for next in asked.as_slice() {

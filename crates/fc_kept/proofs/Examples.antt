@@ -239,6 +239,7 @@ whole_with held a =
         sheet = chain_with held;
         flags = [];
         pools = record { flat = 0; thin = 0 } ∷ [];
+        rooms = [];
       };
       picture = plain 0 a nulls ∷ plain 1 ones nulls ∷ [];
       rows = [];

@@ -41,6 +41,7 @@ whole_of mappings next entries =
         sheet = apart;
         flags = [];
         pools = record { flat = 0; thin = 0 } ∷ [];
+        rooms = [];
       };
       picture = plain 0 nulls nulls ∷ plain 1 nulls nulls ∷ [];
       rows = [];

@@ -117,7 +117,7 @@ pub kept_sound : (k : Kept) (r : MetaRecord) → IsSoundKept k → FitsChains k.
 kept_sound k r s f =
     let e : (sheet_kept k.sheet r).births ≡ k.sheet.births = births_stay k.sheet r in
     record {
-      books = books_stay (books_of k) (sheet_kept k.sheet r) (sheet_stay k.sheet r) s.books (sheet_sound k.sheet r s.books.sheet f);
+      books = books_stay (books_of k) (sheet_kept k.sheet r) (books_of k).rooms (sheet_stay k.sheet r) s.books (sheet_sound k.sheet r s.books.sheet f);
       rows = rows_sound k.tables k.rows r s.rows;
       into = rows_into k.rows r s.into;
       lost = lost_sounds k.tables k.lost r s.lost;

@@ -23,7 +23,7 @@ use Rattle.fc_image.specs.declared.image.MetaImage.{MetaImage}
 use Rattle.fc_kept.specs.Kept.{LostGrains, Kept}
 use Rattle.fc_kept.specs.Images.{size_in, tables_in, kept_in}
 
--- The books that metadata has: no background work is noted, and no disks are left.
+-- The books that metadata has: no background work is noted, no disks are left, and no memory that grains occupy.
 abbrev pub books_of : Kept → Books
 books_of k =
     record {
@@ -34,6 +34,7 @@ books_of k =
       sheet = k.sheet;
       flags = [];
       pools = [];
+      rooms = [];
     }
 
 -- The last trigger that joined a row's volumes went into one of the two.

@@ -1,5 +1,6 @@
 -- The events of a command, one after the other: each can be done, and leaves a lane that follows what is told after it.
 use Rattle.std.proofs.Common.{◌≡◌, ℕ, suc, ◌+◌, ◌<◌, ◌≤◌, ◌^◌, List, [], ◌∷◌, length, get_or, drop, map, fold, All, refl, sym, ap, subst, ◌∙◌, arith}
+use Rattle.fc_base.specs.Room.{rooms_after}
 use Rattle.fc_base.specs.Sheet.{Slot, Sheet, volume_grains}
 use Rattle.fc_base.specs.SheetFacts.{IsSound}
 use Rattle.fc_base.specs.SheetFits.{FitsEvent}
@@ -22,6 +23,7 @@ use Rattle.fc_lane.specs.Lane.{LaneView, ArmsNone, CanDoEvents, IsFollowing, IsS
 use Rattle.fc_apply.specs.Parts.{ArmedBy, IdleAfter, IsArmedAt, IsReadyBeside, SameCounts, StandsFor, armed_event}
 use Rattle.fc_steps.specs.Standing.{kind_of_told}
 use Rattle.fc_apply.proofs.Arming.{armed_one, idle_same, idle_then}
+use Rattle.fc_apply.proofs.Rooms.{event_rooms}
 use Rattle.fc_apply.proofs.Following.{event_followed, first_births, restarts_fit, rows_sized, told_counts, told_sheet}
 use Rattle.fc_lane.proofs.LaneEvents.{of_same, same_counts, arms_first, arms_rest}
 use Rattle.fc_apply.proofs.Telling.{can_do, counts_same, counts_then, next_left, still_ready}
@@ -116,6 +118,7 @@ module _ (v : LaneView) (f : Followed) (e : LaneEvent) (es : List LaneEvent) (i 
         };
         rows = d.rows ∙ (λ k. rows_event (sheet_is k).slots (i.rows k) e);
         alike = x.1;
+        rooms = event_rooms (of v) v.grains.volumes v'.grains.volumes e d.done.volumes ∙ ap (λ z. rooms_after (grains_in (of v)) z e) i.rooms;
       }
 
 -- and the others are still ready

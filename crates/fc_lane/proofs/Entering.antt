@@ -1,6 +1,7 @@
 -- What stands after an entry of a lane.
 use Rattle.std.proofs.Common.{◌≡◌, ℕ, zero, suc, ◌+◌, ◌-◌, ◌^◌, min, Option, Some, None, List, [], refl, sym, ap, subst, ◌∙◌, arith}
 use Rattle.fc_base.specs.Count.{one_more}
+use Rattle.fc_base.specs.Room.{Room}
 use Rattle.fc_base.specs.Sheet.{Sheet}
 use Rattle.fc_base.specs.declared.request.Move.{Move}
 use Rattle.fc_base.specs.declared.request.Reply.{Reply}
@@ -8,9 +9,12 @@ use Rattle.fc_base.specs.declared.request.Request.{Request}
 use Rattle.fc_base.specs.declared.request.Torn.{Torn}
 use Rattle.fc_base.specs.declared.request.WritePart.{WritePart}
 use Rattle.fc_chain.specs.Chains.{Chains}
+use Rattle.fc_entry.specs.Picture.{Picture}
 use Rattle.fc_entry.specs.declared.entry.Entry.{Entry}
+use Rattle.fc_entry.specs.declared.entry.Past.{Past}
 use Rattle.fc_entry.specs.declared.entry.Past.TheVariants.{Step}
 use Rattle.fc_grains.specs.Grains.{GrainsState, stopped}
+use Rattle.fc_grains.specs.Volumes.{rooms_of}
 use Rattle.fc_lane.specs.Entering.{HasEntered, SameBeside}
 use Rattle.fc_lane.specs.Lane.{LaneView, IsLaneOf, IsSameLane, KeepsDisks, of}
 use Rattle.fc_steps.specs.Asking.{steps_entry}
@@ -21,8 +25,9 @@ use Rattle.fc_steps.specs.declared.stop.Stop.TheVariants.{Failed, NoMemory}
 use Rattle.fc_steps.proofs.Moving.{same_lane}
 use Rattle.fc_steps.proofs.Nearer.{come_still}
 use Rattle.fc_steps.proofs.StepsMade.{none_counted}
-use Rattle.fc_rules.specs.LaneRight.{LaneAnswers, done_write}
+use Rattle.fc_rules.specs.LaneRight.{LaneAnswers, done_write, record_of}
 use Rattle.fc_rules.specs.LaneTold.{LaneOf, LaneTold, told_past}
+use Rattle.fc_rules.specs.Rooms.{rooms_entry, rooms_told}
 use Rattle.fc_rules.specs.Spot.{Spot}
 use Rattle.fc_rules.specs.Steps.{DiskStep as OneStep, HasDoneNothing}
 
@@ -73,6 +78,16 @@ lane_after old new told number write moves calls torn s b x =
       calls = x.counted.calls_are ∙ (ap (more calls) s.calls ∙ more_stopped calls told.calls);
     }
 
+-- which grains occupy memory after what a record tells
+abbrev pub rooms_past : LaneOf → Picture → List Room → Past → List Room
+rooms_past l picture rooms (Step number write moves torn faults calls) = rooms_told l picture rooms write moves torn
+rooms_past l picture rooms past = rooms
+
+pub room_after : (old new : LaneView) (told : LaneTold) (number : ℕ) (write : Option WritePart) (moves : List Move) (calls : ℕ) (torn : Option Torn) (entry : Entry) →
+    StepsStand (of old) told write moves calls torn old.chains old.grains new.chains new.grains → record_of entry ≡ Step number write moves torn new.grains.faults calls →
+    rooms_of new.grains.volumes ≡ rooms_entry (of old) told.picture (rooms_of old.grains.volumes) entry
+room_after old new told number write moves calls torn entry x is = x.rooms ∙ ap (rooms_past (of old) told.picture (rooms_of old.grains.volumes)) (sym is)
+
 pub same_after : (old new : LaneView) → SameBeside old new → SameLane old.grains new.grains → IsSameLane old new
 same_after old new b x = record { lane = b.lane; lanes = b.lanes; grain = x.grain; disks = x.disks; silent = x.silent }
 
@@ -83,6 +98,7 @@ nothing_stands v told s = record {
   stands = s.parts.beside.stands;
   counted = none_counted v.grains;
   same = same_lane v.grains;
+  rooms = refl;
 }
 
 -- what becomes of the disks
@@ -125,6 +141,7 @@ nothing_entered v Fits number actor request reply entry none answers is =
         subst (λ (o : Option WritePart). IsLaneOf v (told_past (of v) told (Step number o [] None v.grains.faults 0))) (sym none)
             (lane_after v v told number None [] 0 None s (record { lane = refl; lanes = refl; volumes = refl; flags = refl; changes = refl }) (nothing_stands v told s)),
       );
+      rooms = λ told s fits. room_after v v told number None [] 0 None plain (nothing_stands v told s) (ap (λ (o : Option WritePart). Step number o [] None v.grains.faults 0) none);
       asked = record { number_is = refl; actor_is = refl; request_is = refl };
       same = record { lane = refl; lanes = refl; grain = refl; disks = refl; silent = refl };
       quiet = λ q. (q, refl);

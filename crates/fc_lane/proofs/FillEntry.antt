@@ -15,6 +15,7 @@ use Rattle.fc_entry.specs.declared.entry.Entry.{Entry}
 use Rattle.fc_entry.specs.declared.entry.Past.{Past}
 use Rattle.fc_entry.specs.declared.entry.Past.TheVariants.{Step}
 use Rattle.fc_grains.specs.Grains.{GrainsState}
+use Rattle.fc_grains.specs.Volumes.{rooms_of}
 use Rattle.fc_lane.specs.Entering.{HasEntered, HasFilled, IsFill}
 use Rattle.fc_lane.specs.Workers.{IsFilled, ask_of, filled_slot}
 use Rattle.fc_lane.specs.declared.worker.Worker.{Worker}
@@ -25,13 +26,14 @@ use Rattle.fc_steps.specs.StepsEnd.{StepsEnd, torn_in}
 use Rattle.fc_steps.specs.declared.stop.Stop.{Stop}
 use Rattle.fc_steps.specs.declared.stop.Stop.TheVariants.{Failed, NoMemory}
 use Rattle.fc_steps.proofs.Ending.{entry_done, entry_failed, entry_refused}
-use Rattle.fc_lane.proofs.Entering.{disks_after, disks_as, lane_after, same_after}
+use Rattle.fc_lane.proofs.Entering.{disks_after, disks_as, lane_after, room_after, same_after}
 use Rattle.fc_lane.proofs.Workers.{done_moved, fill_answers, fill_writes_none}
 use Rattle.fc_pictures.proofs.Agreeing.{lane_law_holds}
 use Rattle.fc_rules.specs.GrainAnswers.{FillAnswers}
 use Rattle.fc_rules.specs.LaneRight.{IsRightInLane, LaneAnswers, MappingFill, record_of}
 use Rattle.fc_rules.specs.LaneTold.{LaneTold, place_of, told_past}
 use Rattle.fc_rules.specs.LaneTurn.{cleaned_slot, copied_slot, spot_at}
+use Rattle.fc_rules.specs.Rooms.{rooms_entry}
 use Rattle.fc_rules.specs.Spot.{Spot}
 use Rattle.fc_rules.specs.Steps.{steps_of_fill}
 use Rattle.fc_steps.proofs.Filling.{some_of, copied_place, cleaned_place}
@@ -114,11 +116,13 @@ module _ (v new : LaneView) (slot : SlotId) (m : MapId) (grain : GrainNo) (numbe
 
   entered : (Fits : LaneTold → Type 0) (request : Request) (entry : Entry) → (told : LaneTold) × (k : ℕ) × IsLaneOf v told × IsFill (of v) told slot.0 grain.0 k →
       ((told : LaneTold) → IsLaneOf v told → Fits told → IsRightInLane (of v) told entry × IsLaneOf new (told_past (of v) told (record_of entry))) →
+      ((told : LaneTold) → IsLaneOf v told → Fits told → rooms_of new.grains.volumes ≡ rooms_entry (of v) told.picture (rooms_of v.grains.volumes) entry) →
       entry ≡ steps_entry v.lane number actor request (Moved m grain) v.grains.faults new.grains.faults moves calls stop → HasEntered v Fits number actor request entry new
-  entered Fits request entry can right is =
+  entered Fits request entry can right rooms is =
       let x = f.ends can.0 can.1 can.2 can.3 in
       record {
         right = right;
+        rooms = rooms;
         asked = record { number_is = ap (λ (e : Entry). e.number) is; actor_is = ap (λ (e : Entry). e.actor) is; request_is = ap (λ (e : Entry). e.request) is };
         same = same_after v new f.beside x.1.same;
         quiet = x.1.same.quiet;
@@ -135,9 +139,13 @@ module _ (v new : LaneView) (slot : SlotId) (m : MapId) (grain : GrainNo) (numbe
       let asked : Request = request_of (ask_of worker m grain) in
       let is : entry ≡ steps_entry v.lane number actor asked (Moved m grain) v.grains.faults new.grains.faults moves calls stop =
       e ∙ ap (λ (r : Reply). steps_entry v.lane number actor asked r v.grains.faults new.grains.faults moves calls stop) (done_moved worker m grain) in
+      let told_is : record_of entry ≡ Step number None moves (torn_in stop) new.grains.faults calls =
+      ap record_of is ∙ ap (λ (o : Option WritePart). Step number o moves (torn_in stop) new.grains.faults calls) (fill_writes_none worker m grain (reply_in (Moved m grain) stop)) in
       let x = filled can.0 can.1 can.2 in
       entered (λ told. IsSome (filled_slot worker told.sheet.slots m.0 at)) asked entry (can.0, x.0, can.1, x.2)
       (λ told s some.
       let y = filled told s some in
-      fill_right asked entry told y.0 s y.2 (λ a. fill_answers worker (of v) told m grain entry (subst (λ (o : Option ℕ). MappingFill (of v) told m.0 grain.0 o entry) (sym y.1) a))
-      (ap record_of is ∙ ap (λ (o : Option WritePart). Step number o moves (torn_in stop) new.grains.faults calls) (fill_writes_none worker m grain (reply_in (Moved m grain) stop))) is) is
+      fill_right asked entry told y.0 s y.2 (λ a. fill_answers worker (of v) told m grain entry (subst (λ (o : Option ℕ). MappingFill (of v) told m.0 grain.0 o entry) (sym y.1) a)) told_is is)
+      (λ told s some.
+      let y = filled told s some in
+      room_after v new told number None moves calls (torn_in stop) entry (f.ends told y.0 s y.2).1 told_is) is

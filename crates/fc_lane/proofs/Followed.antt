@@ -6,6 +6,7 @@ use Rattle.fc_entry.specs.declared.entry.Entry.{Entry}
 use Rattle.fc_follow.specs.Following.{Followed, followed_entry, rows_entry}
 use Rattle.fc_rules.specs.LaneRight.{record_of}
 use Rattle.fc_rules.specs.LaneTold.{LaneTold, told_past}
+use Rattle.fc_rules.specs.Rooms.{rooms_entry}
 use Rattle.fc_lane.specs.Entering.{HasEntered, HasFollowed}
 use Rattle.fc_lane.specs.Lane.{LaneView, IsFollowing, IsLaneOf, of}
 use Rattle.fc_lane.proofs.LaneEvents.{of_same}
@@ -21,16 +22,17 @@ module _ (old mid new : LaneView) (Fits : LaneTold → Type 0) (number actor : �
   lane_as : (told : LaneTold) → IsLaneOf mid told → IsLaneOf own told
   lane_as told s = record { parts = s.parts; faults = s.faults; calls = s.calls }
 
-  own_follows : (f : Followed) → IsFollowing old f → IsLaneOf mid (told_past (of old) f.told (record_of entry)) → IsFollowing own (followed_entry (of old) f entry)
-  own_follows f i stands = record {
+  own_follows : (f : Followed) → IsFollowing old f → Fits f.told → IsLaneOf mid (told_past (of old) f.told (record_of entry)) → IsFollowing own (followed_entry (of old) f entry)
+  own_follows f i fits stands = record {
     lane = lane_as (told_past (of old) f.told (record_of entry)) stands;
     rows = λ k. rows_entry (sym (of_same old mid e.same) k) ((ap (λ z. z.rows) e.changes ∙ i.rows) k) entry;
     alike = follow_law_holds.entry (of old) f entry i.alike;
+    rooms = e.rooms f.told i.lane fits ∙ ap (λ z. rooms_entry (of old) f.told.picture z entry) i.rooms;
   }
 
   pub entry_followed : HasFollowed old Fits number actor request entry new
   entry_followed = subst (λ (v : LaneView). HasFollowed old Fits number actor request entry v) (sym noted) (record {
-    right = λ f i fits. let r = e.right f.told i.lane fits in (r.0, own_follows f i r.1);
+    right = λ f i fits. let r = e.right f.told i.lane fits in (r.0, own_follows f i fits r.1);
     asked = e.asked;
     same = record { lane = e.same.lane; lanes = e.same.lanes; grain = e.same.grain; disks = e.same.disks; silent = e.same.silent };
     quiet = e.quiet;

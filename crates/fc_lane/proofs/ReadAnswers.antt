@@ -1,5 +1,5 @@
 -- The entry of a read is right, and the lane stands for what is then told.
-use Rattle.std.proofs.Common.{◌≡◌, ℕ, ◌+◌, ◌*◌, ◌≤◌, ◌/◌, Bool, true, false, cond, eqb, None, List, [], ◌∷◌, map, take, drop, refl, sym, ap, subst, ◌∙◌, arith}
+use Rattle.std.proofs.Common.{◌≡◌, ℕ, ◌+◌, ◌*◌, ◌≤◌, ◌/◌, Bool, true, false, None, List, [], map, take, drop, refl, sym, ap, subst, ◌∙◌, arith}
 use Rattle.fc_base.specs.Column.{holder}
 use Rattle.fc_base.specs.Count.{one_more}
 use Rattle.fc_base.specs.Grain.{block_bytes}
@@ -25,10 +25,11 @@ use Rattle.fc_grains.proofs.Quiet.{quiet_read}
 use Rattle.fc_grains.specs.Calls.{HasRead}
 use Rattle.fc_grains.specs.Grains.{GrainsState, stopped}
 use Rattle.fc_grains.specs.Quiet.{IsQuiet}
-use Rattle.fc_grains.specs.Volumes.{VolumeGrains, is_there, stored, changed, called}
+use Rattle.fc_grains.specs.Volumes.{is_there, stored, called}
 use Rattle.fc_lane.specs.Lane.{LaneView, IsLaneOf, KeepsDisks, of}
 use Rattle.fc_apply.specs.Parts.{StandsFor}
 use Rattle.fc_steps.specs.Standing.{SameVolumes, kind_of_grains, HasGrains, Stands}
+use Rattle.fc_apply.proofs.Volumes.{changed_map}
 use Rattle.fc_lane.proofs.Entering.{disks_stay}
 use Rattle.fc_lane.specs.Entering.{HasEntered}
 use Rattle.fc_steps.specs.Asking.{steps_entry}
@@ -46,14 +47,6 @@ use Rattle.fc_rules.specs.LaneTold.{LaneOf, LaneTold, LaneVolume, lane_access, p
 use Rattle.fc_sheets.proofs.Finding.{live_place_at}
 
 -- ---- what a call leaves
-
-called_kinds : (vs : List VolumeGrains) (id : ℕ) → map kind_of_grains (changed id called vs) ≡ map kind_of_grains vs
-called_kinds [] id = refl
-called_kinds (v ∷ vs) id = λ k. one (eqb v.volume.0 id) k ∷ called_kinds vs id k
-  where
-    one : (b : Bool) → kind_of_grains (cond b (called v) v) ≡ kind_of_grains v
-    one true = refl
-    one false = refl
 
 stands_read : (s : Sheet) (picture : Picture) (old new : GrainsState) (failed : Bool) → ReadDone old new failed → Stands s picture old.volumes → Stands s picture new.volumes
 stands_read s picture old new failed r st = record {
@@ -114,7 +107,7 @@ module _ (v v' : LaneView) (same : ReadLane v v') where
       let r = read_done v.grains v'.grains source place failed there read in
       let b = i.parts.beside in
       stands_after told v'.grains.faults 1 i r.same.grain r.same.pool
-      (ap (λ (g : GrainsState). map kind_of_grains g.volumes) read.rest ∙ (called_kinds v.grains.volumes source ∙ b.same))
+      (ap (λ (g : GrainsState). map kind_of_grains g.volumes) read.rest ∙ (changed_map kind_of_grains called (λ x. refl) v.grains.volumes source ∙ b.same))
       (stands_read told.sheet told.picture v.grains v'.grains failed r b.stands) refl (one_call v.grains.calls v'.grains.calls told.calls r.counted.calls_are i.calls)
 
   still_stands : (told : LaneTold) → IsLaneOf v told → v'.grains ≡ v.grains → IsLaneOf v' (counted told v'.grains.faults 0)
@@ -230,6 +223,7 @@ module _ (v w v' : LaneView) (number actor : ℕ) (part : ReadPart) (is : v ≡ 
   has : Entered number actor part v own v'
   has = record {
     right = λ told i f. (is_right told i, e.stands told i);
+    rooms = λ told i f. ends.rooms;
     asked = record { number_is = refl; actor_is = refl; request_is = refl };
     same = record { lane = same.lane; lanes = same.lanes; grain = e.grain; disks = e.disks; silent = e.silent };
     quiet = e.quiet;

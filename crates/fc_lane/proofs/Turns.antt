@@ -11,6 +11,7 @@ use Rattle.fc_base.specs.declared.request.WritePart.{WritePart}
 use Rattle.fc_entry.specs.declared.entry.Entry.{Entry}
 use Rattle.fc_entry.specs.declared.entry.Past.{Past}
 use Rattle.fc_entry.specs.declared.entry.Past.TheVariants.{Step}
+use Rattle.fc_grains.specs.Volumes.{rooms_of}
 use Rattle.fc_steps.specs.Asking.{request_of, steps_entry}
 use Rattle.fc_lane.specs.Entering.{HasEntered}
 use Rattle.fc_lane.specs.Lane.{LaneView, IsLaneOf, of}
@@ -18,7 +19,7 @@ use Rattle.fc_lane.specs.Turns.{CanPick, clean_of, copy_of}
 use Rattle.fc_lane.specs.Workers.{ask_of, filled_slot, next_of, pick_of, turn_of}
 use Rattle.fc_lane.specs.declared.worker.Worker.{Worker}
 use Rattle.fc_lane.specs.declared.worker.Worker.TheVariants.{Copier, Cleaner}
-use Rattle.fc_lane.proofs.Entering.{nothing_entered}
+use Rattle.fc_lane.proofs.Entering.{nothing_entered, rooms_past}
 use Rattle.fc_lane.proofs.Workers.{FillTold, answers_fill, fill_writes_none, turn_answers, turn_writes_none}
 use Rattle.fc_pick.specs.Next.{next_work}
 use Rattle.fc_pick.specs.declared.work.WorkFlags.{WorkFlags}
@@ -111,6 +112,8 @@ work_turned worker old new number actor m g e t inside next h is =
             },
             subst (λ (p : Past). IsLaneOf new (told_past l told p)) (past_turned worker m g old.lane e asked) r.1,
           );
+      rooms = λ told s fits.
+          h.rooms told s (work_can worker old told m g inside (next told s)).0 ∙ ap (rooms_past (of old) told.picture (rooms_of old.grains.volumes)) (past_turned worker m g old.lane e h.asked.request_is);
       asked = record { number_is = h.asked.number_is; actor_is = h.asked.actor_is; request_is = refl };
       same = h.same;
       quiet = h.quiet;
@@ -134,6 +137,7 @@ pub named_entered : (worker : Worker) (old new : LaneView) (number actor : ℕ) 
     HasEntered old (λ told. CanPick (of old) (filled_slot worker told.sheet.slots) (Grain m g)) number actor (pick_of worker old.lane (Grain m g)) entry new
 named_entered worker old new number actor m g entry h = record {
   right = λ told s fits. h.right told s fits.1;
+  rooms = λ told s fits. h.rooms told s fits.1;
   asked = h.asked;
   same = h.same;
   quiet = h.quiet;

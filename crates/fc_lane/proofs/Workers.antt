@@ -1,10 +1,9 @@
 -- What holds of each worker.
-use Rattle.std.proofs.Common.{◌≡◌, ℕ, Option, None, refl, sym, ap, subst}
+use Rattle.std.proofs.Common.{◌≡◌, ℕ, Option, None, refl, sym, subst}
 use Rattle.fc_base.specs.declared.ids.GrainNo.{GrainNo}
 use Rattle.fc_base.specs.declared.ids.MapId.{MapId}
 use Rattle.fc_base.specs.declared.request.Reply.{Reply}
 use Rattle.fc_base.specs.declared.request.Reply.TheVariants.{Moved}
-use Rattle.fc_base.specs.declared.request.Request.{Request}
 use Rattle.fc_entry.specs.declared.entry.Entry.{Entry}
 use Rattle.fc_lane.specs.Workers.{ask_of, filled_slot, next_of, turn_of}
 use Rattle.fc_lane.specs.declared.worker.Worker.{Worker}

@@ -1,5 +1,5 @@
 -- The entry of a write.
-use Rattle.std.proofs.Common.{◌≡◌, ℕ, true, false, Option, Some, None, List, [], refl, sym, ap, subst, ◌∙◌, arith}
+use Rattle.std.proofs.Common.{◌≡◌, ℕ, true, false, Option, Some, None, List, refl, sym, ap, subst, ◌∙◌}
 use Rattle.fc_base.specs.Sheet.{live_place}
 use Rattle.fc_base.specs.declared.request.Move.{Move}
 use Rattle.fc_base.specs.declared.request.Reply.{Reply}
@@ -21,11 +21,11 @@ use Rattle.fc_steps.specs.StepsEnd.{StepsEnd, StepsStand, torn_in}
 use Rattle.fc_steps.specs.declared.stop.Stop.{Stop}
 use Rattle.fc_steps.specs.declared.stop.Stop.TheVariants.{Failed, NoMemory as WantsMemory}
 use Rattle.fc_steps.proofs.Ending.{entry_done, entry_failed, entry_refused}
-use Rattle.fc_lane.proofs.Entering.{lane_after, nothing_stands}
+use Rattle.fc_lane.proofs.Entering.{lane_after}
 use Rattle.fc_pictures.proofs.Agreeing.{lane_law_holds}
 use Rattle.fc_rules.specs.GrainAnswers.{ByAccess, WriteAnswers, cannot_write}
 use Rattle.fc_rules.specs.LaneFits.{FitsPart}
-use Rattle.fc_rules.specs.LaneRight.{IsRightInLane, VolumeWrite, done_write, record_of}
+use Rattle.fc_rules.specs.LaneRight.{IsRightInLane, VolumeWrite, record_of}
 use Rattle.fc_rules.specs.LaneTold.{LaneOf, LaneTold, lane_access, place_of, told_past}
 use Rattle.fc_rules.specs.Steps.{HasDoneNothing, steps_of_write}
 
@@ -38,7 +38,7 @@ fits_write v told part s f =
 
 -- ---- the entry
 
-write_told : (part : WritePart) (stop : Option Stop) (l : LaneOf) (told : LaneTold) (lane number actor before after : ℕ) (moves : List Move) (calls : ℕ) →
+pub write_told : (part : WritePart) (stop : Option Stop) (l : LaneOf) (told : LaneTold) (lane number actor before after : ℕ) (moves : List Move) (calls : ℕ) →
     record_of (steps_entry lane number actor (Write part) Done before after moves calls stop) ≡ Step number (write_in part stop) moves (torn_in stop) after calls
 write_told part None l told lane n actor before after moves calls = refl
 write_told part (Some (Failed torn)) l told lane n actor before after moves calls = refl

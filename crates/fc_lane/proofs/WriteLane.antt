@@ -3,7 +3,7 @@ use Rattle.std.proofs.Common.{◌≡◌, ℕ, ◌<◌, ◌≤◌, ◌/◌, ◌^�
 use Rattle.std.proofs.lemmas.List.{length-map}
 use Rattle.fc_base.specs.Moves.{write_moves}
 use Rattle.fc_base.specs.Plan.{move_at, moves_of_write}
-use Rattle.fc_base.specs.Sheet.{Sheet, column, live_place}
+use Rattle.fc_base.specs.Sheet.{column, live_place}
 use Rattle.fc_base.specs.declared.request.Move.{Move}
 use Rattle.fc_base.specs.declared.ids.MapId.{MapId}
 use Rattle.fc_base.specs.declared.request.Reply.{Reply}
@@ -22,14 +22,14 @@ use Rattle.fc_steps.specs.Asking.{steps_entry}
 use Rattle.fc_lane.specs.Lane.{LaneView, IsLaneOf, IsReady, of}
 use Rattle.fc_steps.specs.StepsEnd.{StandsAt, StepsEnd, StepsStand, torn_in}
 use Rattle.fc_steps.specs.declared.stop.Stop.{Stop}
-use Rattle.fc_lane.proofs.Entering.{disks_after, disks_as, nothing_entered, same_after, stands_at}
-use Rattle.fc_lane.proofs.WriteEntry.{fits_write, lost_answers, unreached, write_right}
+use Rattle.fc_lane.proofs.Entering.{disks_after, disks_as, nothing_entered, room_after, same_after, stands_at}
+use Rattle.fc_lane.proofs.WriteEntry.{fits_write, lost_answers, unreached, write_right, write_told}
 use Rattle.fc_lane.proofs.Room.{count_told, few_moves, moves_fit, some_room}
 use Rattle.fc_steps.proofs.Writable.{write_short}
 use Rattle.fc_steps.proofs.Writable.{plan_of_write}
 use Rattle.fc_rules.specs.GrainAnswers.{ByAccess, cannot_write}
 use Rattle.fc_rules.specs.LaneFits.{FitsPart}
-use Rattle.fc_rules.specs.LaneRight.{VolumeWrite, done_write}
+use Rattle.fc_rules.specs.LaneRight.{VolumeWrite, done_write, record_of}
 use Rattle.fc_rules.specs.LaneTold.{LaneOf, LaneTold, lane_access, place_of}
 use Rattle.fc_rules.specs.Steps.{HasDoneNothing, steps_of_write}
 
@@ -95,6 +95,10 @@ module _ (v : LaneView) (part : WritePart) (grain place : ℕ) (w : IsWritable v
             let f = fits_write v told part s fits in
             let x = ends (of v) told f.0 (planned told f.0 s f.1) in
             write_right v new told part f.0 number actor moves calls stop entry s b f.1 w.online (w.writable told s fits) x.0 x.1 is;
+        rooms = λ told s fits.
+            let f = fits_write v told part s fits in
+            let x = ends (of v) told f.0 (planned told f.0 s f.1) in
+            room_after v new told number (write_in part stop) moves calls (torn_in stop) entry x.1 (ap record_of is ∙ write_told part stop (of v) told v.lane number actor v.grains.faults new.grains.faults moves calls);
         asked = record { number_is = ap (λ (e : Entry). e.number) is; actor_is = ap (λ (e : Entry). e.actor) is; request_is = ap (λ (e : Entry). e.request) is };
         same = same_after v new b x.1.same;
         quiet = x.1.same.quiet;

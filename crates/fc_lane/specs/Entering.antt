@@ -5,6 +5,7 @@ use Rattle.fc_base.specs.declared.request.Request.{Request}
 use Rattle.fc_base.specs.Sheet.{birth_place, column}
 use Rattle.fc_entry.specs.declared.entry.Entry.{Entry}
 use Rattle.fc_follow.specs.Following.{Followed, followed_entry}
+use Rattle.fc_grains.specs.Volumes.{rooms_of}
 use Rattle.fc_lane.specs.Lane.{LaneView, IsFollowing, IsLaneOf, IsAsked, IsSameLane, KeepsDisks, KeepsQuiet, of}
 use Rattle.fc_steps.specs.StepsEnd.{StepsEnd, StepsStand, torn_in}
 use Rattle.fc_steps.specs.declared.stop.Stop.{Stop}
@@ -12,11 +13,13 @@ use Rattle.fc_pictures.specs.StepsLaw.{IsLiveAt}
 use Rattle.fc_rules.specs.LaneRight.{IsRightInLane, record_of}
 use Rattle.fc_rules.specs.LaneTold.{LaneOf, LaneTold, place_of, told_past}
 use Rattle.fc_rules.specs.LaneTurn.{spot_at}
+use Rattle.fc_rules.specs.Rooms.{rooms_entry}
 use Rattle.fc_rules.specs.Steps.{steps_of_fill}
 
 -- It is right for whatever is told and fits, and the lane then stands for what is told with it.
 pub record HasEntered (old : LaneView) (Fits : LaneTold → Type 0) (number actor : ℕ) (request : Request) (entry : Entry) (new : LaneView) : Type 0 where
   pub right : (told : LaneTold) → IsLaneOf old told → Fits told → IsRightInLane (of old) told entry × IsLaneOf new (told_past (of old) told (record_of entry))
+  pub rooms : (told : LaneTold) → IsLaneOf old told → Fits told → rooms_of new.grains.volumes ≡ rooms_entry (of old) told.picture (rooms_of old.grains.volumes) entry
   pub asked : IsAsked number actor request entry
   pub same : IsSameLane old new
   pub quiet : KeepsQuiet old new

@@ -14,7 +14,7 @@ use Rattle.fc_follow.specs.Alike.{AreAlike}
 use Rattle.fc_follow.specs.Following.{Followed}
 use Rattle.fc_grains.specs.Grains.{GrainsState, stopped}
 use Rattle.fc_grains.specs.Quiet.{IsQuiet}
-use Rattle.fc_grains.specs.Volumes.{ComeNearer}
+use Rattle.fc_grains.specs.Volumes.{ComeNearer, rooms_of}
 use Rattle.fc_pick.specs.Flags.{WorkState}
 use Rattle.fc_apply.specs.Accesses.{AccessState}
 use Rattle.fc_apply.specs.Events.{AreRowsReady}
@@ -46,11 +46,13 @@ pub record IsLaneOf (v : LaneView) (told : LaneTold) : Type 0 where
   pub faults : v.grains.faults ≡ told.faults
   pub calls : v.grains.calls ≡ stopped told.calls
 
--- It stands for what it is told, with what is kept of incremental mappings, and at their rows' grains both volumes are alike.
+-- It stands for what it is told, with what is kept of incremental mappings, and at their rows' grains both volumes are alike;
+-- and its disks use memory for the grains that are told.
 pub record IsFollowing (v : LaneView) (f : Followed) : Type 0 where
   pub lane : IsLaneOf v f.told
   pub rows : v.changes.rows ≡ f.rows
   pub alike : AreAlike f
+  pub rooms : rooms_of v.grains.volumes ≡ f.rooms
 
 -- The next entry takes no memory: there is room for one move per volume, in the plan and in the entry; and the calls of so many
 -- moves can be counted.

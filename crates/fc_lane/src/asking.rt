@@ -2,18 +2,27 @@
 
 ghost use Rattle.std.specs.Prelude.{◌≡◌, ◌+◌, ◌≤◌, ◌++◌, List, map as map_list, vec_len, vec_capacity};
 ghost use Rattle.fc_base.specs.Pools.{of_kind};
+ghost use Rattle.fc_base.specs.Room.{used_in};
 ghost use Rattle.fc_base.specs.Sheet.{mapping_place};
 ghost use Rattle.fc_base.specs.SheetView.{count_true, held_of, needed_of};
 ghost use Rattle.fc_chain.specs.Chains.{found};
 ghost use Rattle.fc_grains.specs.Grains.{AreAllOf, total_of};
+ghost use Rattle.fc_grains.specs.Volumes.{rooms_of};
 
 use crate::lane::Lane;
 use fc_base::disk::DiskKind;
-use fc_base::ids::{MapId, SlotId};
+use fc_base::ids::{MapId, SlotId, VolId};
 use fc_chain::Cascade;
 use fc_mdisk::mdisk::Mdisk;
 
 impl<D: Mdisk> Lane<D> {
+    /// Which lane it is.
+    pub fn number(&self) -> u8
+        ensures { result ≡ self.now.lane }
+    {
+        self.lane
+    }
+
     /// How many of the lane's grains the mapping's slot holds, and at how many of them another slot needs it. None of a
     /// mapping without a slot.
     pub fn counts(&self, map: MapId) -> (u32, u32)
@@ -42,6 +51,14 @@ impl<D: Mdisk> Lane<D> {
         ensures { result ≡ of_kind kind self.now.grains.pool }
     {
         self.body.grains.pool(kind)
+    }
+
+    /// How many of the volume's grains in the lane occupy memory: of a flat disk all, of a thin one those that a write
+    /// reached. None of a volume that isn't there.
+    pub fn room(&self, volume: VolId) -> u32
+        ensures { result ≡ used_in (rooms_of self.now.grains.volumes) volume.0 }
+    {
+        self.body.grains.room(volume)
     }
 
     /// The reads and writes of all disks that failed, up to 2^64 - 1.

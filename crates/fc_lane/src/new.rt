@@ -35,7 +35,7 @@ impl<D: Mdisk> Lane<D> {
         ensures lane { IfOk result (λ made. made.lane ≡ lane) }
         ensures lanes { IfOk result (λ made. made.lanes ≡ lanes) }
         ensures grains { IfOk result (λ made. made.grains ≡ opened grain (map D.meaning disks.items)) }
-        ensures stands { IfOk result (λ made. IsFollowing made (record { told = begun (opened grain (map D.meaning disks.items)); rows = [] })) }
+        ensures stands { IfOk result (λ made. IsFollowing made (record { told = begun (opened grain (map D.meaning disks.items)); rows = []; rooms = [] })) }
         ensures quiet { IfOk result (λ made. silent_of (map D.meaning disks.items) ≡ 0 → IsQuiet made.grains) }
     {
         let plan = match RoomyPlan::new(alloc, 0) {

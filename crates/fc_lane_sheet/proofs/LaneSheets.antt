@@ -1,13 +1,14 @@
 -- What lanes tell, taken together, is what the sheet of all grains tells.
-use Rattle.std.proofs.Common.{◌≡◌, ◌<◌, ℕ, ◌+◌, ◌^◌, ◌≤◌, Option, List, [], ◌∷◌, length, map, take, get_or, refl, sym, ap, subst, ◌∙◌, Bool, Some, None, arith}
-use Rattle.std.specs.Prelude.{◌↔◌, slice_index_or, Result, IfOk, fold, min}
+use Rattle.std.proofs.Common.{◌≡◌, ◌<◌, ℕ, ◌^◌, ◌≤◌, Option, List, [], ◌∷◌, length, map, take, get_or, refl, sym, ap, subst, ◌∙◌, Bool, Some, None, arith}
+use Rattle.std.specs.Prelude.{◌↔◌, slice_index_or, sum, Result, IfOk, fold, min}
 use Rattle.std.specs.List.{sum_by}
 use mathlib.Core.List.{map-map}
 use Rattle.std.proofs.lemmas.List.{get_or-map, take_all, length-map}
 use Rattle.std.proofs.lemmas.List.FromFn.{fill_by_all}
-use Rattle.std.proofs.lemmas.List.Sums.{sum_by-cons, count_by-le-length}
+use Rattle.std.proofs.lemmas.List.Sums.{sum-map, count_by-le-length}
 use Rattle.fc_base.specs.Counts.{is_needed_at, UsedAt}
 use Rattle.fc_base.specs.Pools.{of_kind, least_of_kind}
+use Rattle.fc_base.specs.Room.{Room, used_in}
 use Rattle.fc_base.specs.Sheet.{slot_at, Sheet, no_slots, shape_of, mapping_place}
 use Rattle.fc_base.specs.SheetFacts.{IsSound}
 use Rattle.fc_base.specs.SheetStep.{triggered}
@@ -22,23 +23,22 @@ use Rattle.fc_changed.specs.Row.{Row, restart_in}
 use Rattle.fc_tallies.proofs.Tallying.{count_le}
 use Rattle.fc_chain.specs.Chains.{Chains}
 use Rattle.fc_base.specs.Column.{Shape}
+use Rattle.fc_grains.specs.Volumes.{rooms_of}
 use Rattle.fc_lane.specs.Lane.{LaneView}
 use Rattle.fc_sums.specs.Law.{SlotsLaw}
-use Rattle.fc_sums.specs.Parts.{part_of, parts_of, sheet_at, common_to, unneeded_in, joined, parts_of_rows, joined_rows}
+use Rattle.fc_sums.specs.Parts.{part_of, parts_of, sheet_at, common_to, unneeded_in, joined, parts_of_rows, joined_rows, parts_of_rooms, joined_rooms}
 use Rattle.fc_sums.proofs.Lawful.{sum_law_holds}
-use Rattle.fc_lane_sheet.specs.LaneSheet.{chains_of, pools_of, rows_of, all_rows, restart_of, sheet_of, AreInOrder, HaveSheet}
+use Rattle.fc_lane_sheet.specs.LaneSheet.{chains_of, pools_of, rows_of, rooms_in, all_rows, all_rooms, restart_of, sheet_of, AreInOrder, HaveSheet}
 
 -- ---- sums over lanes
 
-pub sum_chains : (f : Sheet → ℕ) (lanes : List LaneView) → sum_by (λ (v : LaneView). f v.chains.sheet) lanes ≡ sum_by f (chains_of lanes)
-sum_chains f [] = refl
-sum_chains f (v ∷ vs) =
-    sum_by-cons (λ (x : LaneView). f x.chains.sheet) v vs
-    ∙ (ap (λ z. f v.chains.sheet + z) (sum_chains f vs)
-    ∙ sym (sum_by-cons f v.chains.sheet (chains_of vs)))
+-- of what each lane tells
+sum_told : {X : Type 0} (tells : LaneView → X) (f : X → ℕ) (lanes : List LaneView) → sum_by (λ (v : LaneView). f (tells v)) lanes ≡ sum_by f (map tells lanes)
+sum_told tells f lanes =
+    sym (sum-map (λ (v : LaneView). f (tells v)) lanes) ∙ (ap sum (sym (map-map f tells lanes)) ∙ sum-map f (map tells lanes))
 
 sum_of : (lanes : List LaneView) → HaveSheet lanes → (f : Sheet → ℕ) (all : ℕ) → ((h : HaveSheet lanes) → sum_by f (parts_of h.grain (length lanes) (sheet_of lanes)) ≡ all) → sum_by (λ (v : LaneView). f v.chains.sheet) lanes ≡ all
-sum_of lanes h f all e = sum_chains f lanes ∙ (ap (sum_by f) h.parts ∙ e h)
+sum_of lanes h f all e = sum_told (λ (v : LaneView). v.chains.sheet) f lanes ∙ (ap (sum_by f) h.parts ∙ e h)
 
 pub held_by_lanes : (lanes : List LaneView) → HaveSheet lanes → (m : ℕ) → sum_by (λ (v : LaneView). count_true (held_of v.chains.sheet.slots m)) lanes ≡ count_true (held_of (sheet_of lanes).slots m)
 held_by_lanes lanes h m =
@@ -67,20 +67,20 @@ needed_fits lanes h m = omega (arith, needed_by_lanes lanes h m, needed_few lane
 
 -- ---- restart sets
 
-sum_rows : (f : List Row → ℕ) (lanes : List LaneView) → sum_by (λ (v : LaneView). f v.changes.rows) lanes ≡ sum_by f (rows_of lanes)
-sum_rows f [] = refl
-sum_rows f (v ∷ vs) =
-    sum_by-cons (λ (x : LaneView). f x.changes.rows) v vs
-    ∙ (ap (λ z. f v.changes.rows + z) (sum_rows f vs)
-    ∙ sym (sum_by-cons f v.changes.rows (rows_of vs)))
-
 pub restart_by_lanes : (lanes : List LaneView) → HaveSheet lanes → (m : ℕ) → sum_by (λ (v : LaneView). count_true (restart_in m v.changes.rows)) lanes ≡ count_true (restart_of lanes m)
 restart_by_lanes lanes h m =
     let count : List Row → ℕ = λ rows. count_true (restart_in m rows) in
-    sum_rows count lanes ∙ (ap (sum_by count) h.row_parts ∙ sum_law_holds.restarts h.grain (length lanes) m (all_rows lanes) h.some)
+    sum_told (λ (v : LaneView). v.changes.rows) count lanes ∙ (ap (sum_by count) h.row_parts ∙ sum_law_holds.restarts h.grain (length lanes) m (all_rows lanes) h.some)
 
 pub restart_fits : (lanes : List LaneView) → HaveSheet lanes → (m : ℕ) → sum_by (λ (v : LaneView). count_true (restart_in m v.changes.rows)) lanes < 2 ^ 32
 restart_fits lanes h m = omega (arith, restart_by_lanes lanes h m, count_by-le-length (λ (b : Bool). b) (restart_of lanes m), h.few_restart m)
+
+-- ---- the room that volumes take
+
+pub room_by_lanes : (lanes : List LaneView) → HaveSheet lanes → (id : ℕ) → sum_by (λ (v : LaneView). used_in (rooms_of v.grains.volumes) id) lanes ≡ used_in (all_rooms lanes) id
+room_by_lanes lanes h id =
+    let count : List Room → ℕ = λ rooms. used_in rooms id in
+    sum_told (λ (v : LaneView). rooms_of v.grains.volumes) count lanes ∙ (ap (sum_by count) h.room_parts ∙ sum_law_holds.used h.grain (length lanes) id (all_rooms lanes) h.some)
 
 -- ---- the first lane
 
@@ -144,7 +144,7 @@ least_by_lanes kind lanes rest v first least i e f le q =
     ∙ (sym (sum_law_holds.pools kind v.grains.pool (pools_of rest))
     ∙ ap (λ z. least_of_kind kind (pools_of z)) (sym e)))))
 
--- ---- lanes that have the parts of a sheet, and of rows
+-- ---- lanes that have the parts of a sheet, of rows and of rooms
 
 chains_are : (grain : GrainSize) (s : Sheet) (lanes : List LaneView) → ((i : ℕ) (d : LaneView) → i < length lanes → (slice_index_or lanes i d).chains.sheet ≡ part_of grain (length lanes) s i) →
     chains_of lanes ≡ parts_of grain (length lanes) s
@@ -153,14 +153,15 @@ chains_are grain s (v ∷ vs) each =
     fill_by_all (part_of grain (length (v ∷ vs)) s) (chains_of (v ∷ vs)) (length (v ∷ vs)) no_slots (length-map (v ∷ vs) (λ (x : LaneView). x.chains.sheet))
     (λ i lt. get_or-map (λ (x : LaneView). x.chains.sheet) (v ∷ vs) i v no_slots lt ∙ each i v lt)
 
-pub have_sheet : (grain : GrainSize) (s : Sheet) (rows : List Row) (lanes : List LaneView) → 0 < length lanes → AreInOrder lanes →
+pub have_sheet : (grain : GrainSize) (s : Sheet) (rows : List Row) (rooms : List Room) (lanes : List LaneView) → 0 < length lanes → AreInOrder lanes →
     ((i : ℕ) (d : LaneView) → i < length lanes → (slice_index_or lanes i d).chains.sheet ≡ part_of grain (length lanes) s i) →
-    rows_of lanes ≡ parts_of_rows grain (length lanes) rows →
+    rows_of lanes ≡ parts_of_rows grain (length lanes) rows → rooms_in lanes ≡ parts_of_rooms grain (length lanes) rooms →
     IsSound s → ((k : ℕ) → length (slot_at s.slots k).held < 2 ^ 32) → ((m : ℕ) → length (restart_in m rows) < 2 ^ 32) → HaveSheet lanes × (sheet_of lanes ≡ s)
-have_sheet grain s rows lanes some in_order each parts sound countable few =
+have_sheet grain s rows rooms lanes some in_order each parts room_parts sound countable few =
     let are : chains_of lanes ≡ parts_of grain (length lanes) s = chains_are grain s lanes each in
     let same : sheet_of lanes ≡ s = ap joined are ∙ sum_law_holds.joins grain (length lanes) s some in
     let all : all_rows lanes ≡ rows = ap joined_rows parts ∙ sum_law_holds.rows_join grain (length lanes) rows some in
+    let all_room : all_rooms lanes ≡ rooms = ap joined_rooms room_parts ∙ sum_law_holds.rooms_join grain (length lanes) rooms some in
     let Few : List Row → Type 0 = λ z. (m : ℕ) → length (restart_in m z) < 2 ^ 32 in
     let Sound : Sheet → Type 0 = λ z. IsSound z in
     let Countable : Sheet → Type 0 = λ z. (k : ℕ) → length (slot_at z.slots k).held < 2 ^ 32 in (
@@ -173,6 +174,7 @@ have_sheet grain s rows lanes some in_order each parts sound countable few =
         countable = subst Countable (sym same) countable;
         row_parts = parts ∙ ap (parts_of_rows grain (length lanes)) (sym all);
         few_restart = subst Few (sym all) few;
+        room_parts = room_parts ∙ ap (parts_of_rooms grain (length lanes)) (sym all_room);
       },
       same,
     )

@@ -3,6 +3,7 @@ use Rattle.std.specs.Prelude.{◌≡◌, ◌≢◌, nat_eq, fold, slice_index_or
 use Rattle.std.specs.List.{list_any, IsDistinct}
 use Rattle.fc_base.specs.Counts.{names_below, is_direct}
 use Rattle.fc_base.specs.Pools.{Pool}
+use Rattle.fc_base.specs.Room.{Room}
 use Rattle.fc_base.specs.Sheet.{Slot, Sheet, slot_at, birth_place, mapping_place}
 use Rattle.fc_base.specs.SheetFacts.{IsSound}
 use Rattle.fc_base.specs.SheetView.{SheetView, AreMappings, ReadsMapping, DependsOn}
@@ -13,8 +14,9 @@ use Rattle.fc_base.specs.declared.volume.Mapping.{Mapping}
 use Rattle.fc_base.specs.declared.volume.Volume.{Volume}
 use Rattle.fc_changed.specs.Row.{Row, restart_in}
 use Rattle.fc_chain.specs.Chains.{found}
+use Rattle.fc_grains.specs.Volumes.{rooms_of}
 use Rattle.fc_lane.specs.Lane.{LaneView}
-use Rattle.fc_sums.specs.Parts.{parts_of, joined, has_name, parts_of_rows, joined_rows}
+use Rattle.fc_sums.specs.Parts.{parts_of, joined, has_name, parts_of_rows, joined_rows, parts_of_rooms, joined_rooms}
 
 abbrev pub chains_of : List LaneView → List Sheet
 chains_of lanes = map (λ (v : LaneView). v.chains.sheet) lanes
@@ -25,19 +27,26 @@ pools_of lanes = map (λ (v : LaneView). v.grains.pool) lanes
 abbrev pub rows_of : List LaneView → List (List Row)
 rows_of lanes = map (λ (v : LaneView). v.changes.rows) lanes
 
+abbrev pub rooms_in : List LaneView → List (List Room)
+rooms_in lanes = map (λ (v : LaneView). rooms_of v.grains.volumes) lanes
+
 -- The sheet of which the lanes have the parts; the restart sets by the rows of which they have the parts; the disks that each lane
--- has for new volumes.
+-- has for new volumes; and the rooms of which the lanes have the parts.
 abbrev pub sheet_of : List LaneView → Sheet
 sheet_of lanes = joined (chains_of lanes)
 
 abbrev pub all_rows : List LaneView → List Row
 all_rows lanes = joined_rows (rows_of lanes)
 
+abbrev pub all_rooms : List LaneView → List Room
+all_rooms lanes = joined_rooms (rooms_in lanes)
+
 abbrev pub restart_of : List LaneView → ℕ → List Bool
 restart_of lanes m = restart_in m (all_rows lanes)
 
 abbrev pub view_of : List LaneView → SheetView
-view_of lanes = record { sheet = sheet_of lanes; restarts = restart_of lanes; pools = pools_of lanes }
+view_of lanes =
+    record { sheet = sheet_of lanes; restarts = restart_of lanes; pools = pools_of lanes; rooms = all_rooms lanes }
 
 -- The slots that have the slot with this name as holder at some grain of a lane; and of all lanes, one after another.
 abbrev pub direct_at : List Slot → Option ℕ → List SlotId
@@ -70,12 +79,13 @@ pub record AreListed (s : Sheet) (mappings : List Mapping) : Type 0 where
   pub rising : AllPairs (λ (a b : Mapping). a.id.0 < b.id.0) mappings
   pub owned : (k n : ℕ) → k < length s.slots → (slot_at s.slots k).mapping ≡ Some n → (m : Mapping) × Contains mappings m × (m.id.0 ≡ n)
 
--- The chains of each lane know which lane it is, of how many.
+-- The chains of each lane know which lane it is, of how many, and so does the lane.
 abbrev pub AreInOrder : List LaneView → Type 0
-AreInOrder lanes = (i : ℕ) (d : LaneView) → i < length lanes → ((slice_index_or lanes i d).chains.lane ≡ i) × ((slice_index_or lanes i d).chains.lanes ≡ length lanes)
+AreInOrder lanes = (i : ℕ) (d : LaneView) → i < length lanes →
+    ((slice_index_or lanes i d).chains.lane ≡ i) × ((slice_index_or lanes i d).chains.lanes ≡ length lanes) × ((slice_index_or lanes i d).lane ≡ i)
 
--- There are lanes, in order; their chains are the parts of one sound sheet, and what they keep of incremental mappings the parts
--- of one list of rows; and grains can be counted.
+-- There are lanes, in order; their chains are the parts of one sound sheet, what they keep of incremental mappings the parts of
+-- one list of rows, and the memory that their disks use that of one list of rooms; and grains can be counted.
 pub record HaveSheet (lanes : List LaneView) : Type 0 where
   pub grain : GrainSize
   pub some : 0 < length lanes
@@ -85,6 +95,7 @@ pub record HaveSheet (lanes : List LaneView) : Type 0 where
   pub countable : (k : ℕ) → length (slot_at (sheet_of lanes).slots k).held < 2 ^ 32
   pub row_parts : rows_of lanes ≡ parts_of_rows grain (length lanes) (all_rows lanes)
   pub few_restart : (m : ℕ) → length (restart_of lanes m) < 2 ^ 32
+  pub room_parts : rooms_in lanes ≡ parts_of_rooms grain (length lanes) (all_rooms lanes)
 
 -- Mappings that depend on this one, each once, with all that read from it; and so many of them were asked who reads from
 -- them.

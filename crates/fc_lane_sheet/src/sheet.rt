@@ -1,18 +1,20 @@
 //! The chains of all lanes together, as the lanes tell them.
 
-ghost use Rattle.std.specs.Prelude.{◌≡◌, ℕ, ◌+◌, ◌<◌, ◌^◌, ◌↔◌, ◌++◌, IsTrue, IfOk, OnOk, length, fold, filter, map as map_list, slice_index_or};
+ghost use Rattle.std.specs.Prelude.{◌≡◌, ℕ, ◌+◌, ◌<◌, ◌≤◌, ◌^◌, ◌↔◌, ◌++◌, IsTrue, IfOk, OnOk, length, fold, filter, map as map_list, slice_index_or};
 ghost use Rattle.std.specs.List.{sum_by};
 ghost use Rattle.fc_base.specs.Counts.{UsedAt};
 ghost use Rattle.fc_base.specs.Pools.{least_of_kind};
+ghost use Rattle.fc_base.specs.Room.{used_in as grains_used};
 ghost use Rattle.fc_base.specs.Sheet.{shape_of};
 ghost use Rattle.fc_base.specs.SheetStep.{triggered};
 ghost use Rattle.fc_base.specs.SheetView.{count_true, held_of, needed_of, AreMappings, ReadsMapping, DependsOn, LoopAnswer};
 ghost use Rattle.fc_base.specs.declared.volume.Mapping.{Mapping};
 ghost use Rattle.fc_changed.specs.Row.{restart_in};
 ghost use Rattle.fc_chain.specs.Chains.{IsThere};
+ghost use Rattle.fc_grains.specs.Volumes.{rooms_of};
 ghost use Rattle.fc_lane.specs.Lane.{LaneView};
 ghost use Rattle.fc_sums.specs.Parts.{has_name, common, common_to, unneeded_in};
-ghost use Rattle.fc_lane_sheet.specs.LaneSheet.{sheet_of, pools_of, restart_of, HaveSheet, direct_of, readers_in, is_owner_among, AreListed, has_map, with_map, AddsReaders, Reached, view_of, IsAsked};
+ghost use Rattle.fc_lane_sheet.specs.LaneSheet.{sheet_of, pools_of, restart_of, all_rooms, HaveSheet, direct_of, readers_in, is_owner_among, AreListed, has_map, with_map, AddsReaders, Reached, view_of, IsAsked};
 
 use crate::kept::kept_in;
 use fc_base::disk::DiskKind;
@@ -64,6 +66,18 @@ fn sum_restart<D: Mdisk>(lanes: &[Lane<D>], map: MapId) -> u32
     grains
 }
 
+/// How many grains of a volume occupy memory in these lanes.
+fn sum_room<D: Mdisk>(lanes: &[Lane<D>], volume: VolId) -> u64
+    requires { length lanes.now ≤ 2 ^ 8 }
+    ensures { result ≡ sum_by (λ (v : LaneView). grains_used (rooms_of v.grains.volumes) volume.0) lanes.now }
+{
+    let mut grains: u64 = 0;
+    for lane in lanes {
+        grains += lane.room(volume) as u64;
+    }
+    grains
+}
+
 /// How many grains the slot of a mapping holds; 0 where it has none.
 pub(crate) fn held_in<D: Mdisk>(lanes: &[Lane<D>], map: MapId) -> u32
     requires { HaveSheet lanes.now }
@@ -86,6 +100,23 @@ pub(crate) fn restart_size<D: Mdisk>(lanes: &[Lane<D>], map: MapId) -> u32
     ensures { result ≡ count_true (restart_of lanes.now map.0) }
 {
     sum_restart(lanes, map)
+}
+
+/// A `u8` numbers the lanes, so there are few. Changes nothing: the last one is asked for what is known of it then.
+fn few_lanes<D: Mdisk>(lanes: &[Lane<D>])
+    requires { HaveSheet lanes.now }
+    ensures { length lanes.now ≤ 2 ^ 8 }
+{
+    let _number = lanes[lanes.len() - 1].number();
+}
+
+/// How many grains of a volume occupy memory; 0 where it isn't there.
+pub(crate) fn room_in<D: Mdisk>(lanes: &[Lane<D>], volume: VolId) -> u64
+    requires { HaveSheet lanes.now }
+    ensures { result ≡ grains_used (all_rooms lanes.now) volume.0 }
+{
+    few_lanes(lanes);
+    sum_room(lanes, volume)
 }
 
 /// Whether a volume is used as a source.
@@ -483,5 +514,9 @@ impl<'a, D: Mdisk> Sheet for LaneSheet<'a, D> {
 
     fn restart(&self, map: MapId) -> u32 {
         restart_size(self.lanes, map)
+    }
+
+    fn room(&self, volume: VolId) -> u64 {
+        room_in(self.lanes, volume)
     }
 }

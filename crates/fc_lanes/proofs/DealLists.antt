@@ -70,7 +70,7 @@ range_more a zero = ap (λ x. x ∷ []) (omega arith)
 range_more a (suc n) = ap (λ (xs : List ℕ). a ∷ xs) (range_more (a + 1) n ∙ ap (λ x. range_with_len (a + 1) n ++ x ∷ []) (omega arith))
 
 pub one_begins : (grain : GrainSize) (n : ℕ) (lists : List (List DiskState)) (ls : List LaneView) (disks : List DiskState) (v : LaneView) →
-    Begin grain n lists ls → v.lane ≡ length ls → v.lanes ≡ n → v.grains ≡ opened grain disks → IsFollowing v (record { told = begun (opened grain disks); rows = [] }) → (silent_of disks ≡ 0 → IsQuiet v.grains) →
+    Begin grain n lists ls → v.lane ≡ length ls → v.lanes ≡ n → v.grains ≡ opened grain disks → IsFollowing v (record { told = begun (opened grain disks); rows = []; rooms = [] }) → (silent_of disks ≡ 0 → IsQuiet v.grains) →
     Begin grain n (lists ++ disks ∷ []) (ls ++ v ∷ [])
 one_begins grain n lists ls disks v begin lane lanes grains stands quiet =
     let number : LaneView → ℕ = λ x. x.lane in
@@ -90,7 +90,7 @@ one_begins grain n lists ls disks v begin lane lanes grains stands quiet =
           ∙ sym (map-append (opened grain) lists (disks ∷ []));
       each = All-append (Begins n) ls (v ∷ []) begin.each (All-cons (Begins n) v [] (record {
         lanes_are = lanes;
-        stands = subst (λ (g : GrainsState). IsFollowing v (record { told = begun g; rows = [] })) (sym grains) stands;
+        stands = subst (λ (g : GrainsState). IsFollowing v (record { told = begun g; rows = []; rooms = [] })) (sym grains) stands;
         quiet = λ told. quiet (sym (ap (λ (g : GrainsState). g.silent) grains) ∙ told);
       }) (All-nil (Begins n)));
     }

@@ -39,7 +39,7 @@ pub record FitLane (disks : List DiskState) : Type 0 where
 -- A lane that begins, among so many.
 pub record Begins (lanes : ℕ) (v : LaneView) : Type 0 where
   pub lanes_are : v.lanes ≡ lanes
-  pub stands : IsFollowing v (record { told = begun v.grains; rows = [] })
+  pub stands : IsFollowing v (record { told = begun v.grains; rows = []; rooms = [] })
   pub quiet : v.grains.silent ≡ 0 → IsQuiet v.grains
 
 -- Lanes that begin, the first of them the lane 0, each over its list of disks.

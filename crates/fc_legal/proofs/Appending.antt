@@ -3,17 +3,20 @@ use Rattle.std.proofs.Common.{◌≡◌, ℕ, Bool, true, false, cond, List, [],
 use Rattle.std.specs.Prelude.{Option, Some, None}
 use Rattle.fc_agenda.proofs.Going.{Goes-append}
 use Rattle.fc_agenda.specs.Goes.{Goes, stays, passes, begins, answers}
+use Rattle.fc_base.specs.declared.behind.Behind.{Behind}
+use Rattle.fc_base.specs.declared.behind.Behind.TheVariants.{Passing as PassingSeconds, Mapping as MappingOf, Start, Undo}
 use Rattle.fc_base.specs.declared.ids.GrainNo.{GrainNo}
+use Rattle.fc_base.specs.declared.request.Reply.{Reply}
 use Rattle.fc_base.specs.declared.request.Request.{Request}
 use Rattle.fc_base.specs.declared.size.GrainSize.{GrainSize}
 use Rattle.fc_blocks.specs.Segments.{Segment, single, together}
 use Rattle.fc_entry.specs.declared.entry.Entry.{Entry}
 use Rattle.fc_legal.proofs.Naming.{IsLegal-named, IsNamed-none, IsNext-step, begins_named}
-use Rattle.fc_legal.specs.Agenda.{Agenda, Reading, Asks, Begins, Session, Own, Seconds, Faults, Actors, behind_entry, behind_own, is_done, segment_read, next_of_second, session_rules, without_entry, without_fill}
+use Rattle.fc_legal.specs.Agenda.{Agenda, Reading, Asks, Begins, Session, Own, Seconds, Faults, Actors, behind_entry, behind_last, behind_own, is_done, segment_read, next_of_second, session_rules, without_entry, without_fill}
 use Rattle.fc_legal.specs.Legal.{IsLegal}
 use Rattle.fc_legal.specs.Run.{IsRun, IsPartialRun, WantsMore}
 use Rattle.fc_legal.specs.Scripts.{Script, are_done}
-use Rattle.fc_legal.specs.Seconds.{Passing, Work, next_fill, goes_on}
+use Rattle.fc_legal.specs.Seconds.{Passing, Work, all_work, next_fill, goes_on, seconds_begun}
 use Rattle.fc_legal.specs.Whole.{Whole}
 
 -- A legal history, and entries that are legal after it.
@@ -42,7 +45,7 @@ IsLegal-goes grain read a b w last xs (answers {next = next} {entry = entry} {en
 
 abbrev pub with_segments : List Segment → Agenda → Agenda
 with_segments more (Session segs) = Session (segs ++ more)
-with_segments more (Own requests n segs) = Own requests n (segs ++ more)
+with_segments more (Own requests behind segs) = Own requests behind (segs ++ more)
 with_segments more (Seconds p segs) = Seconds p (segs ++ more)
 with_segments more (Faults requests actors segs) = Faults requests actors (segs ++ more)
 with_segments more (Actors scripts segs) = Actors scripts (segs ++ more)
@@ -52,25 +55,36 @@ asks_alike :
     Asks grain a w asked →
     Asks grain (with_segments more a) w asked
 asks_alike grain more (Session segs) w asked h = h
-asks_alike grain more (Own [] n segs) w asked h = h
-asks_alike grain more (Own (request ∷ rest) n segs) w asked h = h
+asks_alike grain more (Own [] behind segs) w asked h = h
+asks_alike grain more (Own (request ∷ rest) behind segs) w asked h = h
 asks_alike grain more (Seconds p segs) w asked h = h
 asks_alike grain more (Faults [] actors segs) w asked h = h
 asks_alike grain more (Faults (request ∷ rest) actors segs) w asked h = h
 asks_alike grain more (Actors scripts segs) w asked h = h
 
-behind_done : (done : Bool) (more : List Segment) (next : Whole) (rest : List Request) (n : ℕ) (segs : List Segment) →
-    behind_own next done rest n (segs ++ more) ≡ with_segments more (behind_own next done rest n segs)
-behind_done true more next [] n segs = refl
-behind_done false more next [] n segs = refl
-behind_done done more next (request ∷ rest) n segs = refl
+begun_behind : (done : Bool) (more : List Segment) (p : Passing) (segs : List Segment) →
+    cond done (Seconds p (segs ++ more)) (Session (segs ++ more)) ≡ with_segments more (cond done (Seconds p segs) (Session segs))
+begun_behind true more p segs = refl
+begun_behind false more p segs = refl
+
+last_behind : (reply : Reply) (more : List Segment) (next : Whole) (behind : Behind) (segs : List Segment) →
+    behind_last next reply behind (segs ++ more) ≡ with_segments more (behind_last next reply behind segs)
+last_behind reply more next (PassingSeconds n) segs = begun_behind (is_done reply) more (seconds_begun n (all_work next.books)) segs
+last_behind reply more next (MappingOf source preset name) segs = refl
+last_behind reply more next (Start volume) segs = refl
+last_behind reply more next (Undo map volume) segs = refl
+
+own_behind : (reply : Reply) (more : List Segment) (next : Whole) (rest : List Request) (behind : Behind) (segs : List Segment) →
+    behind_own next reply rest behind (segs ++ more) ≡ with_segments more (behind_own next reply rest behind segs)
+own_behind reply more next [] behind segs = last_behind reply more next behind segs
+own_behind reply more next (request ∷ rest) behind segs = refl
 
 behind_alike :
     (grain : GrainSize) (more : List Segment) (a : Agenda) (next : Whole) (entry : Entry) →
     behind_entry grain (with_segments more a) next entry ≡ with_segments more (behind_entry grain a next entry)
 behind_alike grain more (Session segs) next entry = refl
-behind_alike grain more (Own [] n segs) next entry = refl
-behind_alike grain more (Own (request ∷ rest) n segs) next entry = behind_done (is_done entry.reply) more next rest n segs
+behind_alike grain more (Own [] behind segs) next entry = refl
+behind_alike grain more (Own (request ∷ rest) behind segs) next entry = own_behind entry.reply more next rest behind segs
 behind_alike grain more (Seconds p segs) next entry = refl
 behind_alike grain more (Faults [] actors segs) next entry = refl
 behind_alike grain more (Faults (request ∷ rest) actors segs) next entry = refl
@@ -112,10 +126,10 @@ passes_alike grain read more (Session []) b w e = absurd (cc e)
 passes_alike grain read more (Session (segment ∷ segs)) b w e =
     let is : segment_read grain read w segment segs ≡ b = cc e in
     ap Some (read_alike grain read more w segment segs) ∙ ap (λ (a : Agenda). Some (with_segments more a)) is
-passes_alike grain read more (Own [] n segs) b w e =
+passes_alike grain read more (Own [] behind segs) b w e =
     let is : Session segs ≡ b = cc e in
     ap (λ (a : Agenda). Some (with_segments more a)) is
-passes_alike grain read more (Own (request ∷ rest) n segs) b w e = absurd (cc e)
+passes_alike grain read more (Own (request ∷ rest) behind segs) b w e = absurd (cc e)
 passes_alike grain read more (Seconds p segs) b w e = fill_behind grain w p (next_fill grain w p) more segs b e
 passes_alike grain read more (Faults requests actors segs) b w e = absurd (cc e)
 passes_alike grain read more (Actors scripts segs) b w e = block_behind scripts more segs (are_done scripts) b e
@@ -127,7 +141,7 @@ begins_alike :
 begins_alike grain more (Faults [] actors segs) b w v on = (on.0, ap (with_segments more) on.1)
 begins_alike grain more (Faults (request ∷ rest) actors segs) b w v on = absurd on
 begins_alike grain more (Session segs) b w v on = absurd on
-begins_alike grain more (Own requests n segs) b w v on = absurd on
+begins_alike grain more (Own requests behind segs) b w v on = absurd on
 begins_alike grain more (Seconds p segs) b w v on = absurd on
 begins_alike grain more (Actors scripts segs) b w v on = absurd on
 

@@ -1,5 +1,7 @@
--- What the lane of all grains is told of events: its chains are those of the books, and its rows follow from chains and rows alone.
+-- What the lane of all grains is told of events: its chains are those of the books, its rows follow from chains and rows alone, and
+-- its rooms from rooms alone.
 use Rattle.std.proofs.Common.{◌≡◌, ℕ, Bool, List, [], ◌∷◌, fold, refl, ap, ◌∙◌, arith}
+use Rattle.fc_base.specs.Room.{Room, rooms_after}
 use Rattle.fc_base.specs.Sheet.{Sheet}
 use Rattle.fc_base.specs.SheetStep.{sheet_step}
 use Rattle.fc_base.specs.declared.decision.LaneEvent.{LaneEvent}
@@ -33,3 +35,14 @@ rows_told grain f [] = refl
 rows_told grain f (e ∷ es) =
     rows_told grain (followed_event (single_lane grain) f e) es
     ∙ ap (λ (s : Sheet). rows_after s (rows_event f.told.sheet.slots f.rows e) es) (sheet_told (restarts f.rows) grain f.told e)
+
+-- ---- which grains occupy memory
+
+rooms_alike : (grain : GrainSize) (rooms : List Room) (e : LaneEvent) → rooms_after (grains_in (single_lane grain)) rooms e ≡ rooms_after (λ grains. grains) rooms e
+rooms_alike grain rooms e = ap (λ (f : ℕ → ℕ). rooms_after f rooms e) (all_in grain)
+
+pub rooms_through : (grain : GrainSize) (f : Followed) (events : List LaneEvent) → (fold (followed_event (single_lane grain)) f events).rooms ≡ fold (rooms_after (λ grains. grains)) f.rooms events
+rooms_through grain f [] = refl
+rooms_through grain f (e ∷ es) =
+    rooms_through grain (followed_event (single_lane grain) f e) es
+    ∙ ap (λ (rooms : List Room). fold (rooms_after (λ grains. grains)) rooms es) (rooms_alike grain f.rooms e)

@@ -3,6 +3,7 @@ pub mod Alone
 pub mod Appending
 pub mod Events
 pub mod Naming
+pub mod RoomExamples
 pub mod Rows
 pub mod SecondsExamples
 pub mod TurnExamples

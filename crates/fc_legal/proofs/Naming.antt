@@ -53,7 +53,7 @@ begins_named grain (Faults [] actors segs) b w v on =
     record { more = has.more; named = on.0 ∙ ap (λ (names : List (List ℕ)). record w { actors = names }) has.is }
 begins_named grain (Faults (request ∷ rest) actors segs) b w v on = absurd on
 begins_named grain (Session segs) b w v on = absurd on
-begins_named grain (Own requests n segs) b w v on = absurd on
+begins_named grain (Own requests behind segs) b w v on = absurd on
 begins_named grain (Seconds p segs) b w v on = absurd on
 begins_named grain (Actors scripts segs) b w v on = absurd on
 

@@ -217,13 +217,13 @@ grain_in_two_seconds =
 abbrev pub lacking : Whole
 lacking = told (at_rates 20 0 a_to_b) (at_rates 0 0 b_to_c) (copied 0 ∷ []) (false ∷ true ∷ false ∷ []) none no_calls 9
 
-abbrev lacking_one : Whole
+abbrev pub lacking_one : Whole
 lacking_one = told (at_rates 20 0 a_to_b) (at_rates 0 0 b_to_c) (copied 0 ∷ []) (true ∷ true ∷ false ∷ []) none (2 ∷ 0 ∷ 0 ∷ 0 ∷ []) 10
 
 abbrev lacking_none : Whole
 lacking_none = told (at_rates 20 0 a_to_b) (at_rates 0 0 b_to_c) (copied 0 ∷ []) all none (2 ∷ 0 ∷ 2 ∷ 0 ∷ []) 11
 
-abbrev first_copy : Entry
+abbrev pub first_copy : Entry
 first_copy = filled 9 (Copy (map_id 0) (grain_no 0)) 0 0 3 1
 
 abbrev second_copy : Entry

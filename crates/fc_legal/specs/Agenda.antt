@@ -4,7 +4,10 @@ use Rattle.std.specs.Prelude.{◌≡◌, ℕ, Bool, true, false, cond, List, [],
 use Rattle.std.specs.Option.{option_map}
 use Rattle.fc_agenda.specs.Rules.{Rules}
 use Rattle.fc_base.specs.declared.command.Command.{Command}
-use Rattle.fc_base.specs.declared.command.Command.TheVariants.{Advance}
+use Rattle.fc_base.specs.Tables.{volume_named}
+use Rattle.fc_base.specs.declared.behind.Behind.{Behind}
+use Rattle.fc_base.specs.declared.behind.Behind.TheVariants.{Passing as PassingSeconds}
+use Rattle.fc_base.specs.declared.command.Command.TheVariants.{Advance, Mkpreset}
 use Rattle.fc_base.specs.declared.command.Line.{Line}
 use Rattle.fc_base.specs.declared.command.Line.TheVariants.{Command as CommandLine}
 use Rattle.fc_base.specs.declared.fault.WordFault.{WordFault}
@@ -18,6 +21,7 @@ use Rattle.fc_blocks.specs.declared.block.ActorRead.{ActorRead}
 use Rattle.fc_books.specs.Books.{Books}
 use Rattle.fc_entry.specs.declared.entry.Entry.{Entry}
 use Rattle.fc_legal.specs.Asked.{asked}
+use Rattle.fc_legal.specs.Presets.{asked_behind, behind_preset}
 use Rattle.fc_legal.specs.Scripts.{Script, are_done, behind_next, faults_asked, names_with, next_by, scripts_of}
 use Rattle.fc_legal.specs.Seconds.{Passing, Work, after_fill, all_work, seconds_begun, fill_of, goes_on, next_fill}
 use Rattle.fc_legal.specs.Steps.{Step}
@@ -30,8 +34,8 @@ Reading = Books → List ℕ → Result Line WordFault
 pub data Agenda : Type 0 where
   -- these lines and blocks, one after the other
   Session : List Segment → Agenda
-  -- these requests of the line at hand; then so many seconds, if the last is done; and then the segments behind it
-  Own : List Request → ℕ → List Segment → Agenda
+  -- these requests of the line at hand; then what is asked behind the last of them; and then the segments behind the line
+  Own : List Request → Behind → List Segment → Agenda
   -- seconds that pass, and then the segments behind them
   Seconds : Passing → List Segment → Agenda
   -- the faults of a block that `main` is still told of; then these actors; and then the segments behind the block
@@ -39,14 +43,15 @@ pub data Agenda : Type 0 where
   -- what the actors of a block still ask, in any order among them; and then the segments behind the block
   Actors : List Script → List Segment → Agenda
 
--- How many seconds a line lets pass: those of `advance`.
-abbrev pub command_seconds : Command → ℕ
-command_seconds (Advance seconds) = seconds
-command_seconds command = 0
+-- What a line asks behind its last request: the seconds of `advance`, or the other lines of a preset.
+abbrev pub behind_command : Books → Command → Behind
+behind_command b (Advance seconds) = PassingSeconds seconds
+behind_command b (Mkpreset source preset name) = behind_preset source preset name (volume_named b.tables source)
+behind_command b command = PassingSeconds 0
 
-abbrev pub line_seconds : Result Line WordFault → ℕ
-line_seconds (Ok (CommandLine command)) = command_seconds command
-line_seconds line = 0
+abbrev pub behind_line : Books → Result Line WordFault → Behind
+behind_line b (Ok (CommandLine command)) = behind_command b command
+behind_line b line = PassingSeconds 0
 
 abbrev pub is_done : Reply → Bool
 is_done Done = true
@@ -58,8 +63,8 @@ is_done reply = false
 -- `main` is told of the next fault of a block.
 abbrev pub next_asked : GrainSize → Agenda → Whole → Option (ℕ × Request)
 next_asked grain (Session segs) w = None
-next_asked grain (Own [] n segs) w = None
-next_asked grain (Own (request ∷ rest) n segs) w = Some (0, request)
+next_asked grain (Own [] behind segs) w = None
+next_asked grain (Own (request ∷ rest) behind segs) w = Some (0, request)
 next_asked grain (Seconds p segs) w = option_map (λ (next : Work × GrainNo). (0, fill_of next.0 next.1)) (next_fill grain w p)
 next_asked grain (Faults [] actors segs) w = None
 next_asked grain (Faults (request ∷ rest) actors segs) w = Some (0, request)
@@ -77,15 +82,19 @@ abbrev pub behind_fill : GrainSize → Whole → Passing → Option Work → Ent
 behind_fill grain next p None entry = p
 behind_fill grain next p (Some work) entry = after_fill grain next p work entry
 
--- Behind the last request of a line its seconds begin, if it is done, with the background work as it is then.
-abbrev pub behind_own : Whole → Bool → List Request → ℕ → List Segment → Agenda
-behind_own next done [] n segs = cond done (Seconds (seconds_begun n (all_work next.books)) segs) (Session segs)
-behind_own next done rest n segs = Own rest n segs
+-- Behind the last request of a line its seconds begin, if it is done, with the background work as it is then; or more is asked.
+abbrev pub behind_last : Whole → Reply → Behind → List Segment → Agenda
+behind_last next reply (PassingSeconds n) segs = cond (is_done reply) (Seconds (seconds_begun n (all_work next.books)) segs) (Session segs)
+behind_last next reply behind segs = Own (asked_behind behind reply).0 (asked_behind behind reply).1 segs
+
+abbrev pub behind_own : Whole → Reply → List Request → Behind → List Segment → Agenda
+behind_own next reply [] behind segs = behind_last next reply behind segs
+behind_own next reply rest behind segs = Own rest behind segs
 
 abbrev pub behind_entry : GrainSize → Agenda → Whole → Entry → Agenda
 behind_entry grain (Session segs) next entry = Session segs
-behind_entry grain (Own [] n segs) next entry = Session segs
-behind_entry grain (Own (request ∷ rest) n segs) next entry = behind_own next (is_done entry.reply) rest n segs
+behind_entry grain (Own [] behind segs) next entry = Session segs
+behind_entry grain (Own (request ∷ rest) behind segs) next entry = behind_own next entry.reply rest behind segs
 behind_entry grain (Seconds p segs) next entry = Seconds (behind_fill grain next p p.at_hand entry) segs
 behind_entry grain (Faults [] actors segs) next entry = Faults [] actors segs
 behind_entry grain (Faults (request ∷ rest) actors segs) next entry = Faults rest actors segs
@@ -104,7 +113,7 @@ without_fill grain w p (Some next) segs = None
 
 -- The next line is read.
 abbrev pub line_read : GrainSize → Whole → Result Line WordFault → List Segment → Agenda
-line_read grain w line segs = Own (asked grain w.books line) (line_seconds line) segs
+line_read grain w line segs = Own (asked grain w.books line) (behind_line w.books line) segs
 
 -- The next segment: a line, or a block.
 abbrev pub segment_read : GrainSize → Reading → Whole → Segment → List Segment → Agenda
@@ -115,8 +124,8 @@ segment_read grain read w (together block) segs = Faults (faults_asked block.fau
 abbrev pub without_entry : GrainSize → Reading → Agenda → Whole → Option Agenda
 without_entry grain read (Session []) w = None
 without_entry grain read (Session (segment ∷ segs)) w = Some (segment_read grain read w segment segs)
-without_entry grain read (Own [] n segs) w = Some (Session segs)
-without_entry grain read (Own (request ∷ rest) n segs) w = None
+without_entry grain read (Own [] behind segs) w = Some (Session segs)
+without_entry grain read (Own (request ∷ rest) behind segs) w = None
 without_entry grain read (Seconds p segs) w = without_fill grain w p (next_fill grain w p) segs
 without_entry grain read (Faults requests actors segs) w = None
 without_entry grain read (Actors scripts segs) w = cond (are_done scripts) (Some (Session segs)) None

@@ -3,7 +3,7 @@ use Rattle.std.specs.Prelude.{ℕ, zero, suc, ◌+◌, ◌-◌, ◌*◌, max, mi
 use Rattle.fc_base.specs.Grain.{grain_blocks}
 use Rattle.fc_base.specs.Tables.{volume_named}
 use Rattle.fc_base.specs.declared.command.Command.{Command}
-use Rattle.fc_base.specs.declared.command.Command.TheVariants.{Read as ReadLine, Write as WriteLine}
+use Rattle.fc_base.specs.declared.command.Command.TheVariants.{Read as ReadLine, Write as WriteLine, Mkpreset}
 use Rattle.fc_base.specs.declared.command.Line.{Line}
 use Rattle.fc_base.specs.declared.command.Line.TheVariants.{Blank, Command as CommandLine}
 use Rattle.fc_base.specs.declared.fault.Refusal.{Refusal}
@@ -18,6 +18,7 @@ use Rattle.fc_base.specs.declared.volume.Volume.{Volume}
 use Rattle.fc_books.specs.Books.{Books}
 use Rattle.fc_books.specs.Refused.{access_refused}
 use Rattle.fc_entry.specs.Picture.{grain_of_block}
+use Rattle.fc_legal.specs.Presets.{preset_asked}
 
 -- So many numbers from one on.
 abbrev pub numbers : ℕ → ℕ → List ℕ
@@ -56,12 +57,13 @@ abbrev pub access_asked : GrainSize → Books → Command → Ref → ℕ → �
 access_asked grain b command volume block count request =
     access_requests grain command block count request (access_refused grain b volume block count) (volume_named b.tables volume)
 
--- What a command line asks: an access by its grains; any other command itself.
+-- What a command line asks: an access by its grains; a preset a volume first; any other command itself.
 abbrev pub command_asked : GrainSize → Books → Command → List Request
 command_asked grain b (ReadLine volume block count) =
     access_asked grain b (ReadLine volume block count) volume block count (λ id. read_in grain id block count)
 command_asked grain b (WriteLine volume block count byte) =
     access_asked grain b (WriteLine volume block count byte) volume block count (λ id. write_in grain id block count byte)
+command_asked grain b (Mkpreset source preset name) = preset_asked grain source preset name (volume_named b.tables source)
 command_asked grain b command = Asked command ∷ []
 
 -- What a line asks, as it was read: nothing of a blank one, and a fault is told.

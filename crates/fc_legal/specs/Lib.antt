@@ -4,6 +4,7 @@ pub mod Steps
 pub mod Legal
 pub mod Stands
 pub mod Lawful
+pub mod Presets
 pub mod Asked
 pub mod Scripts
 pub mod Seconds

@@ -4,7 +4,7 @@ use Rattle.fc_base.specs.Grain.{grain_blocks}
 use Rattle.fc_base.specs.Sheet.{Sheet}
 use Rattle.fc_base.specs.Tables.{Tables}
 use Rattle.fc_base.specs.declared.command.Command.{Command}
-use Rattle.fc_base.specs.declared.command.Command.TheVariants.{Read as ReadLine, Write as WriteLine}
+use Rattle.fc_base.specs.declared.command.Command.TheVariants.{Read as ReadLine, Write as WriteLine, Mkpreset}
 use Rattle.fc_base.specs.declared.decision.Decision.{Decision}
 use Rattle.fc_base.specs.declared.decision.LaneEvent.{LaneEvent}
 use Rattle.fc_base.specs.declared.fault.Refusal.{Refusal}
@@ -22,7 +22,7 @@ use Rattle.fc_base.specs.declared.size.GrainSize.{GrainSize}
 use Rattle.fc_base.specs.declared.volume.Volume.{Volume}
 use Rattle.fc_books.specs.After.{sheet_after}
 use Rattle.fc_books.specs.Deciding.{settle, decide, after_decision, IsLoopOf}
-use Rattle.fc_books.specs.Refused.{access_refused}
+use Rattle.fc_books.specs.Refused.{access_refused, preset_refused}
 use Rattle.fc_changed.specs.Row.{Row}
 use Rattle.fc_entry.specs.Picture.{grain_of_block}
 use Rattle.fc_entry.specs.PlainStep.{plain_step, after_effects}
@@ -32,6 +32,7 @@ use Rattle.fc_legal.specs.Whole.{Whole, lanes, lane_of_grain, lane_at, part_at, 
 use Rattle.fc_rules.specs.LaneRight.{CleanAnswers, CopyAnswers, LaneAnswers, TurnAnswers, done_write}
 use Rattle.fc_rules.specs.LaneTold.{sheet_entry}
 use Rattle.fc_rules.specs.LaneTurn.{next_clean, next_copy}
+use Rattle.fc_rules.specs.Rooms.{rooms_entry}
 
 -- ---- entries that no lane makes
 
@@ -47,7 +48,7 @@ pub record IsApart (entry : Entry) : Type 0 where
 abbrev pub one_more : Whole → Whole
 one_more w = record w { entries = w.entries + 1 }
 
--- A refused access and an unread line: they settle nothing and do nothing.
+-- A refused access or preset and an unread line: they settle nothing and do nothing.
 pub record IsRefused (refusal : Refusal) (w : Whole) (entry : Entry) (next : Whole) : Type 0 where
   pub place : entry.place ≡ Control
   pub apart : IsApart entry
@@ -55,9 +56,9 @@ pub record IsRefused (refusal : Refusal) (w : Whole) (entry : Entry) (next : Who
   pub no_effects : entry.effects ≡ []
   pub next_is : next ≡ one_more w
 
-abbrev pub AccessIsRefused : Option Refusal → Whole → Entry → Whole → Type 0
-AccessIsRefused None w entry next = ⊥
-AccessIsRefused (Some refusal) w entry next = IsRefused refusal w entry next
+abbrev pub MustBeRefused : Option Refusal → Whole → Entry → Whole → Type 0
+MustBeRefused None w entry next = ⊥
+MustBeRefused (Some refusal) w entry next = IsRefused refusal w entry next
 
 -- What is kept of incremental mappings after these events: each notes what it does to the chains as they are before it.
 abbrev pub rows_after : Sheet → List Row → List LaneEvent → List Row
@@ -100,8 +101,9 @@ pub record CommandStep (grain : GrainSize) (w : Whole) (command : Command) (entr
   pub next_is : next ≡ one_more left
 
 abbrev pub CommandIsRight : GrainSize → Whole → Command → Entry → Whole → Type 0
-CommandIsRight grain w (ReadLine volume block count) entry next = AccessIsRefused (access_refused grain w.books volume block count) w entry next
-CommandIsRight grain w (WriteLine volume block count byte) entry next = AccessIsRefused (access_refused grain w.books volume block count) w entry next
+CommandIsRight grain w (ReadLine volume block count) entry next = MustBeRefused (access_refused grain w.books volume block count) w entry next
+CommandIsRight grain w (WriteLine volume block count byte) entry next = MustBeRefused (access_refused grain w.books volume block count) w entry next
+CommandIsRight grain w (Mkpreset source preset name) entry next = MustBeRefused (preset_refused w.books source) w entry next
 CommandIsRight grain w command entry next = CommandStep grain w command entry next
 
 -- ---- entries of lanes
@@ -112,6 +114,7 @@ after_access grain w i entry =
     record w {
       books = record w.books {
         sheet = sheet_entry (single_lane grain) w.books.sheet (done_write entry.request entry.reply) entry.moves entry.torn;
+        rooms = rooms_entry (single_lane grain) w.picture w.books.rooms entry;
       };
       picture = plain_step grain w.picture entry;
       rows = rows_entry (single_lane grain) w.rows entry;

@@ -2,6 +2,7 @@
 use Rattle.std.specs.Prelude.{ℕ, ◌%◌, Bool, List, [], ◌∷◌, codes, length, map, replicate, slice_index_or}
 use Rattle.std.specs.List.{range_with_len}
 use Rattle.fc_base.specs.Pools.{Pool}
+use Rattle.fc_base.specs.Room.{Room}
 use Rattle.fc_base.specs.Sheet.{Slot, Sheet}
 use Rattle.fc_base.specs.Tables.{Tables}
 use Rattle.fc_base.specs.declared.size.GrainSize.{GrainSize}
@@ -71,9 +72,9 @@ as_one w =
       calls = 0;
     }
 
--- With what is kept of incremental mappings.
+-- With what is kept of incremental mappings, and which grains occupy memory.
 abbrev pub all_followed : Whole → Followed
-all_followed w = record { told = as_one w; rows = w.rows }
+all_followed w = record { told = as_one w; rows = w.rows; rooms = w.books.rooms }
 
 -- ---- the part of a lane
 
@@ -99,6 +100,12 @@ part_of_row l row = record row { same = part l Bool.false row.same }
 abbrev pub part_of_rows : LaneOf → List Row → List Row
 part_of_rows l rows = map (part_of_row l) rows
 
+abbrev pub part_of_room : LaneOf → Room → Room
+part_of_room l room = record room { reached = part l Bool.false room.reached }
+
+abbrev pub part_of_rooms : LaneOf → List Room → List Room
+part_of_rooms l rooms = map (part_of_room l) rooms
+
 -- The lane of a number, among so many.
 abbrev pub lane_at : GrainSize → Whole → ℕ → LaneOf
 lane_at grain w i = record { lane = i; lanes = lanes w; grain = grain }
@@ -121,6 +128,11 @@ part_at grain w i =
       calls = slice_index_or w.calls i 0;
     }
 
--- With what is kept of incremental mappings, at the lane's grains.
+-- With what is kept of incremental mappings, and which grains occupy memory, at the lane's grains.
 abbrev pub followed_at : GrainSize → Whole → ℕ → Followed
-followed_at grain w i = record { told = part_at grain w i; rows = part_of_rows (lane_at grain w i) w.rows }
+followed_at grain w i =
+    record {
+      told = part_at grain w i;
+      rows = part_of_rows (lane_at grain w i) w.rows;
+      rooms = part_of_rooms (lane_at grain w i) w.books.rooms;
+    }

@@ -11,7 +11,7 @@ AreLines (together block ∷ segs) = ⊥
 
 abbrev pub IsWithoutBlocks : Agenda → Type 0
 IsWithoutBlocks (Session segs) = AreLines segs
-IsWithoutBlocks (Own requests n segs) = AreLines segs
+IsWithoutBlocks (Own requests behind segs) = AreLines segs
 IsWithoutBlocks (Seconds p segs) = AreLines segs
 IsWithoutBlocks (Faults requests actors segs) = ⊥
 IsWithoutBlocks (Actors scripts segs) = ⊥

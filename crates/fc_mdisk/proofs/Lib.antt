@@ -3,3 +3,4 @@ pub mod FlatState
 pub mod DiskList
 pub mod Reached
 mod DiskExamples
+pub mod Fresh

@@ -10,8 +10,8 @@
 //! it is told. A boxed disk is a disk, so that the crates above are generic in `D: Mdisk`.
 //!
 //! Files: `mdisk` (the trait; its words are in `specs/Disk.antt`), `boxed`, `disks` (several disks at their places),
-//! `mem` and `thin`, which are `armed` over grains of two kinds (the trait `grains`; `flat`, `thin_grains`), `fail`, and
-//! `counts`. `proofs/DiskList.antt` has what crates above cite of a list of disks in which one changed.
+//! `mem` and `thin`, which are `armed` over grains of two kinds (the trait `grains`; `flat`, `thin_grains`), `fail`,
+//! `counts`, and `ready` (fresh disks, known by their calls and faults). `proofs/DiskList.antt` has what crates above cite of a list of disks in which one changed.
 #![tactic(auto)]
 
 mod armed;
@@ -23,5 +23,6 @@ mod flat;
 mod grains;
 pub mod mdisk;
 pub mod mem;
+pub mod ready;
 pub mod thin;
 mod thin_grains;

@@ -1,7 +1,7 @@
 -- Kinds of commands: reports, and those on objects.
 use Rattle.std.specs.Prelude.{Bool, true, false}
 use Rattle.fc_base.specs.declared.command.Command.{Command}
-use Rattle.fc_base.specs.declared.command.Command.TheVariants.{Mkvdisk, Mkfcmap, Rmvdisk, Armfault, Advance, Rmfcmap, Mkfcconsistgrp, Rmfcconsistgrp, Lsfcmap, Lsfcconsistgrp, Lsvdisk, Lsfcmapprogress, Lsfcmapdependentmaps}
+use Rattle.fc_base.specs.declared.command.Command.TheVariants.{Mkvdisk, Mkfcmap, Rmvdisk, Armfault, Advance, Rmfcmap, Mkfcconsistgrp, Rmfcconsistgrp, Lsfcmap, Lsfcconsistgrp, Lsvdisk, Lsfcmapprogress, Lsfcmapdependentmaps, Lsvdiskroom}
 
 -- A report.
 abbrev pub is_report : Command → Bool
@@ -10,6 +10,7 @@ is_report (Lsfcconsistgrp group delim) = true
 is_report (Lsvdisk delim) = true
 is_report (Lsfcmapprogress m delim) = true
 is_report (Lsfcmapdependentmaps m delim) = true
+is_report (Lsvdiskroom delim) = true
 is_report command = false
 
 -- One that makes or removes a volume, a mapping or a group; or that arms a fault; or an `advance`.

@@ -104,6 +104,7 @@ pub fn is_report(command: &Command) -> bool
             | Command::Lsvdisk { .. }
             | Command::Lsfcmapprogress { .. }
             | Command::Lsfcmapdependentmaps { .. }
+            | Command::Lsvdiskroom { .. }
     )
 }
 

@@ -56,6 +56,7 @@ fn report_refusal(control: &Control, command: &Command) -> Option<Refusal>
         Command::Lsvdisk { .. } => None,
         Command::Lsfcmapprogress { map, .. } => missing_mapping(control, map),
         Command::Lsfcmapdependentmaps { map, .. } => missing_mapping(control, map),
+        Command::Lsvdiskroom { .. } => None,
         _ => unreachable!(),
     }
 }

@@ -122,8 +122,8 @@ fill_by_main (Some fill) = refl
 
 next_by_main : (grain : GrainSize) (a : Agenda) (w : Whole) → asker (next_asked grain a w) ≡ 0
 next_by_main grain (Session segs) w = refl
-next_by_main grain (Own [] n segs) w = refl
-next_by_main grain (Own (own ∷ rest) n segs) w = refl
+next_by_main grain (Own [] behind segs) w = refl
+next_by_main grain (Own (own ∷ rest) behind segs) w = refl
 next_by_main grain (Seconds p segs) w = fill_by_main (next_fill grain w p)
 next_by_main grain (Faults [] actors segs) w = refl
 next_by_main grain (Faults (request ∷ rest) actors segs) w = refl

@@ -1,4 +1,5 @@
-//! The one owner of a store, who has the lines of a session answered: single lines by the store, blocks by whoever runs them.
+//! The one owner of a store, who has the lines of a session answered: single lines over the store, presets among them, and blocks by
+//! whoever runs them.
 //!
 //! `owner` cuts the lines into single ones and blocks; `session` has a session run by the owner. What is said of the lines by the
 //! history is in terms of what is legal alone (`specs/PlainRuns`): a run of the lines, from what is told before the first entry

@@ -21,6 +21,7 @@ use fc_blocks::reader::BlockReader;
 use fc_entry::history::History;
 use fc_entry::stop::Stop;
 use fc_mdisk::mdisk::Mdisk;
+use fc_preset::answer_line;
 use fc_run::answers::Answers;
 use fc_store::store::Store;
 use std::alloc::Global;
@@ -51,7 +52,7 @@ impl<D: Mdisk> SingleLines for Store<D> {
 
     fn answer(&mut self, line: ScriptLine, history: &mut History) -> Result<(), Stop> {
         match line {
-            ScriptLine::Read(line) => self.run_line(line, history),
+            ScriptLine::Read(line) => answer_line(self, line, history),
             ScriptLine::Unread(fault) => self.push_unread(fault, history),
         }
     }

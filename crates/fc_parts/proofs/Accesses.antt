@@ -20,12 +20,13 @@ use Rattle.fc_entry.specs.declared.entry.Entry.{Entry}
 use Rattle.fc_follow.specs.Following.{followed_entry}
 use Rattle.fc_legal.specs.Stands.{Stands}
 use Rattle.fc_legal.specs.Steps.{IsInside, LaneStep, AccessStep, TurnStep, RequestStep, after_access}
-use Rattle.fc_legal.specs.Whole.{Whole, lanes, lane_of_grain, lane_at, part_at, part_of_picture, part_of_rows, followed_at, single_lane, as_one}
+use Rattle.fc_legal.specs.Whole.{Whole, lanes, lane_of_grain, lane_at, part_at, part_of_picture, part_of_rows, part_of_rooms, followed_at, single_lane, as_one}
 use Rattle.fc_rules.specs.GrainAnswers.{ByAccess}
 use Rattle.fc_rules.specs.LaneFits.{FitsPart}
 use Rattle.fc_rules.specs.LaneRight.{VolumeWrite, MappingFill, CopyAnswers, CleanAnswers, TurnAnswers, LaneAnswers, IsRightInLane, done_write, record_of}
 use Rattle.fc_rules.specs.LaneTold.{LaneOf, LaneTold, place_of, grains_in, lane_access, told_past, sheet_entry, picture_entry}
 use Rattle.fc_rules.specs.LaneTurn.{spot_at, copied_slot, cleaned_slot, next_copy, next_clean}
+use Rattle.fc_rules.specs.Rooms.{rooms_told}
 use Rattle.fc_rules.specs.Steps.{HasDoneNothing}
 use Rattle.fc_parts.specs.Law.{IsAt, IsOfLane, IsInVolume}
 use Rattle.fc_parts.proofs.Numbers.{IsLane, IsOf, grain_below}
@@ -34,6 +35,7 @@ use Rattle.fc_parts.proofs.Told.{part_told, part_is, same_told}
 use Rattle.fc_parts.proofs.Decisions.{part_follows, faults_of_part, calls_of_part, same_followed}
 use Rattle.fc_parts.proofs.Grains.{WriteAt, sheet_here, sheet_away, picture_here, picture_away}
 use Rattle.fc_parts.proofs.Noting.{rows_here, rows_away}
+use Rattle.fc_parts.proofs.Rooms.{rooms_here, rooms_away}
 use Rattle.fc_parts.proofs.Outcomes.{fill_outcome, write_outcome, read_nothing, AllAt, nothing_at, outcome_at}
 use Rattle.fc_parts.proofs.Spots.{copy_by_all, clean_by_all, answers_by_all}
 use Rattle.fc_parts.proofs.Turns.{copied_of, cleaned_of, turn_case, turn_map}
@@ -237,6 +239,9 @@ told grain decisions w i entry stands lt asked right_in =
     (get_or-set_same w.faults i entry.faults_after 0 lt)
     (get_or-set_same w.calls i (get_or w.calls i 0 + entry.calls) 0 (omega arith) ∙ ap (λ n. n + entry.calls) (sym (calls_of_part grain w i))))
     (ap (λ (z : LaneOf). part_of_rows z next.rows) same ∙ rows_here l lt d.number d.is_of w.rows write entry.torn d.write_at d.all.torn)
+    (ap (λ (z : LaneOf). part_of_rooms z next.books.rooms) same
+    ∙ (rooms_here l lt d.number d.is_of w.picture w.books.rooms write entry.moves entry.torn d.write_at d.all.moves d.all.torn
+    ∙ ap (λ (p : Picture). rooms_told l p (part_of_rooms l w.books.rooms) write entry.moves entry.torn) (sym f.picture)))
 
 pub others : (grain : GrainSize) (decisions : ℕ) (w : Whole) (i : ℕ) (entry : Entry) (j : ℕ) → Stands decisions w → i < lanes w → IsOfLane grain w i entry.request →
     IsRightInLane (lane_at grain w i) (part_at grain w i) entry → j < lanes w → j ≢ i →
@@ -261,6 +266,8 @@ others grain decisions w i entry j stands lt asked right_in inside other =
     (get_or-set_other w.faults i j entry.faults_after 0 other ∙ sym (faults_of_part grain w j))
     (get_or-set_other w.calls i j (get_or w.calls i 0 + entry.calls) 0 other ∙ sym (calls_of_part grain w j)))
     (ap (λ (z : LaneOf). part_of_rows z next.rows) same ∙ rows_away l inside d.number away w.rows write entry.torn d.write_at d.all.torn)
+    (ap (λ (z : LaneOf). part_of_rooms z next.books.rooms) same
+    ∙ rooms_away l inside d.number away w.picture w.books.rooms write entry.moves entry.torn d.write_at d.all.moves d.all.torn)
 
 -- ---- an access inside its volume
 

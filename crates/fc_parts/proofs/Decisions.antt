@@ -9,9 +9,9 @@ use Rattle.fc_follow.specs.Following.{Followed, restarts, followed_event, FitsFo
 use Rattle.fc_legal.specs.Lawful.{IsLawful}
 use Rattle.fc_legal.specs.Stands.{Stands}
 use Rattle.fc_legal.specs.Steps.{left_by}
-use Rattle.fc_legal.specs.Whole.{Whole, opened, lanes, lane_at, part_at, part_of_sheet, part_of_picture, part_of_rows, pool_at, as_one, all_followed, followed_at}
+use Rattle.fc_legal.specs.Whole.{Whole, opened, lanes, lane_at, part_at, part_of_sheet, part_of_picture, part_of_rows, part_of_rooms, pool_at, as_one, all_followed, followed_at}
 use Rattle.fc_rules.specs.LaneTold.{LaneOf, nothing_told}
-use Rattle.fc_parts.proofs.Told.{part_told, part_is, same_told, Follows, FollowsRows, follows_all, pool_all, faults_all, fits_all, pools_of_all}
+use Rattle.fc_parts.proofs.Told.{part_told, part_is, same_told, Follows, FollowsAll, follows_all, pool_all, faults_all, fits_all, pools_of_all}
 
 pub opening : (grain : GrainSize) (pools : List Pool) (i : ℕ) → i < length pools → part_at grain (opened pools) i ≡ record nothing_told { pool = pool_at pools i }
 opening grain pools i lt =
@@ -35,11 +35,11 @@ pub calls_of_part : (grain : GrainSize) (w : Whole) (i : ℕ) → (part_at grain
 unfolding part_at
 calls_of_part grain w i = refl
 
-follows_part : (grain : GrainSize) (w : Whole) (i : ℕ) → FollowsRows (lane_at grain w i) (all_followed w) (followed_at grain w i)
-follows_part grain w i = record { told = part_follows grain w i; rows = refl }
+follows_part : (grain : GrainSize) (w : Whole) (i : ℕ) → FollowsAll (lane_at grain w i) (all_followed w) (followed_at grain w i)
+follows_part grain w i = record { told = part_follows grain w i; rows = refl; rooms = refl }
 
-pub same_followed : (a b : Followed) → a.told ≡ b.told → a.rows ≡ b.rows → a ≡ b
-same_followed a b told rows = λ i. record { told = told i; rows = rows i }
+pub same_followed : (a b : Followed) → a.told ≡ b.told → a.rows ≡ b.rows → a.rooms ≡ b.rooms → a ≡ b
+same_followed a b told rows rooms = λ i. record { told = told i; rows = rows i; rooms = rooms i }
 
 pub decision : (grain : GrainSize) (decisions : ℕ) (w : Whole) (d : Decision) (i : ℕ) → Stands decisions w → IsLawful grain decisions w d → i < lanes w →
     FitsFollowed (lane_at grain w i) (followed_at grain w i) d.events
@@ -65,5 +65,6 @@ decision grain decisions w d i stands lawful lt =
           (counts.0 ∙ faults_of_part grain w i)
           (counts.1 ∙ calls_of_part grain w i)
           ∙ sym (part_is grain next i))
-          (after.rows ∙ ap (λ (t : Followed). part_of_rows l t.rows) lawful.told),
+          (after.rows ∙ ap (λ (t : Followed). part_of_rows l t.rows) lawful.told)
+          (after.rooms ∙ ap (λ (t : Followed). part_of_rooms l t.rooms) lawful.told),
     )

@@ -10,6 +10,7 @@ use Rattle.fc_base.specs.declared.ids.MapId.{MapId}
 use Rattle.fc_base.specs.declared.request.Pair.{Pair}
 use Rattle.fc_legal.specs.Whole.{part, part_of_slot, part_of_sheet}
 use Rattle.fc_rules.specs.LaneTold.{LaneOf, grains_in}
+use Rattle.fc_parts.proofs.Lists.{all_seen}
 use Rattle.fc_parts.proofs.Numbers.{IsLane, part_replicate}
 use Rattle.fc_parts.proofs.Views.{sheet_of, parts, slot_parts, size_parts, same_view, live_parts, mapping_parts, birth_parts, grains_parts}
 
@@ -114,13 +115,9 @@ split_slot l chain birth t = by_test (eqb t.chain chain)
     by_test true = refl
     by_test false = refl
 
-split_all : (l : LaneOf) (chain birth : ℕ) (slots : List Slot) → map (part_of_slot l) (map (split_from chain birth) slots) ≡ map (split_from chain birth) (map (part_of_slot l) slots)
-split_all l chain birth [] = refl
-split_all l chain birth (t ∷ ts) = ap₂ (λ a b. a ∷ b) (split_slot l chain birth t) (split_all l chain birth ts)
-
 relabelled_parts : (l : LaneOf) (chain birth k : ℕ) (slots : List Slot) → parts l (relabelled (split_from chain birth) k slots) ≡ relabelled (split_from chain birth) k (parts l slots)
 relabelled_parts l chain birth k [] = refl
-relabelled_parts l chain birth ℕ.zero (t ∷ ts) = ap (λ z. record (part_of_slot l t) { chain = t.birth; mapping = None } ∷ z) (split_all l chain birth ts)
+relabelled_parts l chain birth ℕ.zero (t ∷ ts) = ap (λ z. record (part_of_slot l t) { chain = t.birth; mapping = None } ∷ z) (all_seen (part_of_slot l) (split_from chain birth) (split_from chain birth) (split_slot l chain birth) ts)
 relabelled_parts l chain birth (ℕ.suc k) (t ∷ ts) = ap (λ z. part_of_slot l t ∷ z) (relabelled_parts l chain birth k ts)
 
 split_agrees : (l : LaneOf) → IsLane l → (k : ℕ) (s : Sheet) → Agrees l (split_at k) (split_at k) s

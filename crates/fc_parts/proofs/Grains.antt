@@ -1,5 +1,5 @@
 -- What moves, a write and a torn write at one grain do to a lane's part.
-use Rattle.std.proofs.Common.{◌≡◌, ◌≢◌, ℕ, ◌*◌, ◌%◌, Bool, true, false, cond, not, ◌&&◌, ◌==◌, eqb, Option, Some, None, List, [], ◌∷◌, set, map, fold, refl, sym, ap, ap₂, ◌∙◌}
+use Rattle.std.proofs.Common.{◌≡◌, ◌≢◌, ℕ, ◌*◌, ◌%◌, Bool, true, false, cond, not, ◌&&◌, ◌==◌, eqb, Option, Some, None, List, [], ◌∷◌, set, map, fold, refl, sym, ap, ◌∙◌}
 use Rattle.fc_base.specs.Grain.{block_bytes}
 use Rattle.fc_base.specs.Sheet.{Slot, Sheet}
 use Rattle.fc_base.specs.SheetStep.{grain_taken, grain_kept, grain_lost, sheet_moved, sheet_written, sheet_torn}
@@ -20,6 +20,7 @@ use Rattle.fc_entry.specs.PlainStep.{after_write, after_torn, after_request, aft
 use Rattle.fc_legal.specs.Whole.{part, part_of_slot, part_of_sheet, part_of_volume, part_of_picture, single_lane}
 use Rattle.fc_rules.specs.LaneRight.{done_write}
 use Rattle.fc_rules.specs.LaneTold.{LaneOf, place_of, sheet_move, sheet_write, sheet_tear, sheet_entry, write_volume, picture_write, tear_volume, picture_tear, picture_entry}
+use Rattle.fc_parts.proofs.Lists.{all_seen, none_seen}
 use Rattle.fc_parts.proofs.Numbers.{IsLane, IsOf, of_same, all_place, part_at_grain, part_set, part_set_other}
 use Rattle.fc_parts.proofs.Views.{sheet_of, parts}
 use Rattle.fc_parts.proofs.Pictures.{changed_parts}
@@ -38,6 +39,17 @@ abbrev pub WriteAt : GrainSize → ℕ → Option WritePart → Type 0
 WriteAt grain number None = Unit {0}
 WriteAt grain number (Some part) = grain_of_block grain part.block ≡ number
 
+-- what moves do there, one after the other
+pub moves_seen : {S : Type 0} → (seen : S → S) (f f' : S → Move → S) (number : ℕ) → ((s : S) (m : Move) → m.grain.0 ≡ number → seen (f s m) ≡ f' (seen s) m) →
+    (s : S) (moves : List Move) → MovesAt number moves → seen (fold f s moves) ≡ fold f' (seen s) moves
+moves_seen seen f f' number each s [] at = refl
+moves_seen seen f f' number each s (m ∷ ms) at = moves_seen seen f f' number each (f s m) ms at.1 ∙ ap (λ z. fold f' z ms) (each s m at.0)
+
+pub moves_unseen : {S : Type 0} → (seen : S → S) (f : S → Move → S) (number : ℕ) → ((s : S) (m : Move) → m.grain.0 ≡ number → seen (f s m) ≡ seen s) →
+    (s : S) (moves : List Move) → MovesAt number moves → seen (fold f s moves) ≡ seen s
+moves_unseen seen f number each s [] at = refl
+moves_unseen seen f number each s (m ∷ ms) at = moves_unseen seen f number each (f s m) ms at.1 ∙ each s m at.0
+
 -- ---- one pair
 
 -- a change of slots that does to the part this
@@ -46,11 +58,7 @@ Parted l f f' = (t : Slot) → part_of_slot l (f t) ≡ f' (part_of_slot l t)
 
 all_parted : (l : LaneOf) (f f' : Slot → Slot) → Parted l f f' → (births : ℕ) (slots : List Slot) →
     part_of_sheet l (sheet_of births (map f slots)) ≡ sheet_of births (map f' (parts l slots))
-all_parted l f f' each births slots = ap (sheet_of births) (in_all slots)
-  where
-    in_all : (slots : List Slot) → parts l (map f slots) ≡ map f' (parts l slots)
-    in_all [] = refl
-    in_all (t ∷ ts) = ap₂ (λ a b. a ∷ b) (each t) (in_all ts)
+all_parted l f f' each births slots = ap (sheet_of births) (all_seen (part_of_slot l) f f' each slots)
 
 abbrev with_bit : Bool → ℕ → Bool → Slot → Slot
 with_bit changes g bit t = cond changes (record t { held = set t.held g bit }) t
@@ -77,11 +85,7 @@ abbrev Unseen : LaneOf → (Slot → Slot) → Type 0
 Unseen l f = (t : Slot) → part_of_slot l (f t) ≡ part_of_slot l t
 
 all_unseen : (l : LaneOf) (f : Slot → Slot) → Unseen l f → (births : ℕ) (slots : List Slot) → part_of_sheet l (sheet_of births (map f slots)) ≡ part_of_sheet l (sheet_of births slots)
-all_unseen l f each births slots = ap (sheet_of births) (in_all slots)
-  where
-    in_all : (slots : List Slot) → parts l (map f slots) ≡ parts l slots
-    in_all [] = refl
-    in_all (t ∷ ts) = ap₂ (λ a b. a ∷ b) (each t) (in_all ts)
+all_unseen l f each births slots = ap (sheet_of births) (none_seen (part_of_slot l) f each slots)
 
 taken_away : (l : LaneOf) → IsLane l → (v number : ℕ) → number % l.lanes ≢ l.lane → Unseen l (grain_taken v number)
 taken_away l i v number other t = bit_away l i number other (eqb t.volume v) t.is_live t
@@ -109,13 +113,6 @@ move_here : (l : LaneOf) → IsLane l → (s : Sheet) (m : Move) → IsOf l m.gr
 move_here l i s m is_of =
     ap (λ x. part_of_sheet l (sheet_moved m.volume.0 x m.in_place s)) (all_place l.grain m.grain.0) ∙ moved_here l i m.volume.0 m.grain.0 m.in_place s is_of
 
-moves_here : (l : LaneOf) → IsLane l → (number : ℕ) → IsOf l number → (s : Sheet) (moves : List Move) → MovesAt number moves →
-    part_of_sheet l (fold (sheet_move (single_lane l.grain)) s moves) ≡ fold (sheet_move l) (part_of_sheet l s) moves
-moves_here l i number is_of s [] at = refl
-moves_here l i number is_of s (m ∷ ms) at =
-    moves_here l i number is_of (sheet_move (single_lane l.grain) s m) ms at.1
-    ∙ ap (λ (z : Sheet). fold (sheet_move l) z ms) (move_here l i s m (of_same l m.grain.0 number at.0 is_of))
-
 write_here : (l : LaneOf) → IsLane l → (number : ℕ) → IsOf l number → (s : Sheet) (write : Option WritePart) → WriteAt l.grain number write →
     part_of_sheet l (sheet_write (single_lane l.grain) s write) ≡ sheet_write l (part_of_sheet l s) write
 write_here l i number is_of s None at = refl
@@ -137,7 +134,8 @@ sheet_here l i number is_of s write moves torn w m t =
     let moved : Sheet = fold (sheet_move all) s moves in
     tear_here l i number is_of (sheet_write all moved write) torn t
     ∙ (ap (λ z. sheet_tear l z torn) (write_here l i number is_of moved write w)
-    ∙ ap (λ z. sheet_tear l (sheet_write l z write) torn) (moves_here l i number is_of s moves m))
+    ∙ ap (λ z. sheet_tear l (sheet_write l z write) torn)
+    (moves_seen (part_of_sheet l) (sheet_move all) (sheet_move l) number (λ z x at. move_here l i z x (of_same l x.grain.0 number at is_of)) s moves m))
 
 -- ---- the chains, on another lane
 
@@ -153,11 +151,8 @@ torn_away l i v number Under s other = all_unseen l _ (lost_away l i v number ot
 pub away_same : (l : LaneOf) (x number : ℕ) → x ≡ number → number % l.lanes ≢ l.lane → place_of (single_lane l.grain) x % l.lanes ≢ l.lane
 away_same l x number e other q = other (sym (ap (λ z. z % l.lanes) (all_place l.grain x ∙ e)) ∙ q)
 
-moves_away : (l : LaneOf) → IsLane l → (number : ℕ) → number % l.lanes ≢ l.lane → (s : Sheet) (moves : List Move) → MovesAt number moves → part_of_sheet l (fold (sheet_move (single_lane l.grain)) s moves) ≡ part_of_sheet l s
-moves_away l i number other s [] at = refl
-moves_away l i number other s (m ∷ ms) at =
-    moves_away l i number other (sheet_move (single_lane l.grain) s m) ms at.1
-    ∙ moved_away l i m.volume.0 (place_of (single_lane l.grain) m.grain.0) m.in_place s (away_same l m.grain.0 number at.0 other)
+move_away : (l : LaneOf) → IsLane l → (number : ℕ) → number % l.lanes ≢ l.lane → (s : Sheet) (m : Move) → m.grain.0 ≡ number → part_of_sheet l (sheet_move (single_lane l.grain) s m) ≡ part_of_sheet l s
+move_away l i number other s m at = moved_away l i m.volume.0 (place_of (single_lane l.grain) m.grain.0) m.in_place s (away_same l m.grain.0 number at other)
 
 write_away : (l : LaneOf) → IsLane l → (number : ℕ) → number % l.lanes ≢ l.lane → (s : Sheet) (write : Option WritePart) → WriteAt l.grain number write → part_of_sheet l (sheet_write (single_lane l.grain) s write) ≡ part_of_sheet l s
 write_away l i number other s None at = refl
@@ -173,7 +168,8 @@ pub sheet_away : (l : LaneOf) → IsLane l → (number : ℕ) → number % l.lan
 sheet_away l i number other s write moves torn w m t =
     let all : LaneOf = single_lane l.grain in
     let moved : Sheet = fold (sheet_move all) s moves in
-    tear_away l i number other (sheet_write all moved write) torn t ∙ (write_away l i number other moved write w ∙ moves_away l i number other s moves m)
+    tear_away l i number other (sheet_write all moved write) torn t
+    ∙ (write_away l i number other moved write w ∙ moves_unseen (part_of_sheet l) (sheet_move all) number (move_away l i number other) s moves m)
 
 -- ---- the plain volumes
 
@@ -223,12 +219,12 @@ picture_here l i number is_of picture request reply torn w t =
 -- ---- the plain volumes, on another lane
 
 unseen_volumes : (l : LaneOf) (id : VolId) (f : PlainVolume → PlainVolume) → ((v : PlainVolume) → part_of_volume l (f v) ≡ part_of_volume l v) → (picture : Picture) → part_of_picture l (changed_at id f picture) ≡ part_of_picture l picture
-unseen_volumes l id f each [] = refl
-unseen_volumes l id f each (v ∷ vs) = ap₂ (λ a b. a ∷ b) (by_test (v.volume.0 == id.0)) (unseen_volumes l id f each vs)
+unseen_volumes l id f each picture =
+    none_seen (part_of_volume l) (λ v. cond (v.volume.0 == id.0) (f v) v) (λ v. by_test (v.volume.0 == id.0) v) picture
   where
-    by_test : (b : Bool) → part_of_volume l (cond b (f v) v) ≡ part_of_volume l v
-    by_test true = each v
-    by_test false = refl
+    by_test : (b : Bool) (v : PlainVolume) → part_of_volume l (cond b (f v) v) ≡ part_of_volume l v
+    by_test true v = each v
+    by_test false v = refl
 
 now_away : (l : LaneOf) → IsLane l → (number : ℕ) → number % l.lanes ≢ l.lane → (x : Content) (v : PlainVolume) → part_of_volume l (record v { now = set v.now number x }) ≡ part_of_volume l v
 now_away l i number other x v = ap (λ (z : List Content). record (part_of_volume l v) { now = z }) (sym (part_set_other l i Lost v.now number x other))

@@ -1,3 +1,4 @@
+pub mod Lists
 pub mod Numbers
 pub mod Views
 pub mod Sets
@@ -8,6 +9,7 @@ pub mod Fitting
 pub mod Pictures
 pub mod Grains
 pub mod Noting
+pub mod Rooms
 pub mod Told
 pub mod Decisions
 pub mod Outcomes

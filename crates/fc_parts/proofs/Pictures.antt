@@ -1,5 +1,5 @@
 -- What an event does to a lane's part of the plain volumes is the part of what it does to all.
-use Rattle.std.proofs.Common.{◌≡◌, ℕ, ◌<◌, Bool, true, false, cond, not, ◌==◌, Option, Some, None, List, [], ◌∷◌, ◌++◌, length, get_or, map, filter, fold, replicate, option_map, refl, sym, ap, ap₂, ◌∙◌, arith, inl, inr}
+use Rattle.std.proofs.Common.{◌≡◌, ℕ, ◌<◌, Bool, true, false, cond, not, ◌==◌, Option, Some, None, List, [], ◌∷◌, ◌++◌, length, get_or, fold, replicate, option_map, refl, sym, ap, ◌∙◌, arith, inl, inr}
 use Rattle.std.proofs.lemmas.List.{map-append}
 use Rattle.fc_base.specs.Sheet.{Slot, slot_at, mapping_place}
 use Rattle.fc_base.specs.declared.decision.LaneEvent.{LaneEvent}
@@ -8,14 +8,16 @@ use Rattle.fc_base.specs.declared.ids.MapId.{MapId}
 use Rattle.fc_base.specs.declared.ids.VolId.{VolId}
 use Rattle.fc_base.specs.declared.request.Pair.{Pair}
 use Rattle.fc_base.specs.declared.size.GrainSize.{GrainSize}
-use Rattle.fc_entry.specs.Picture.{Content, Lost, PlainVolume, Picture, zeros, volume_in, changed_at}
+use Rattle.fc_entry.specs.Picture.{Content, Lost, PlainVolume, Picture, zeros, volume_in, changed_at, content_at, now_at}
 use Rattle.fc_entry.specs.PlainStep.{source_in, now_in, after_trigger}
 use Rattle.fc_legal.proofs.Events.{all_in}
 use Rattle.fc_legal.specs.Whole.{part, part_of_volume, part_of_picture, single_lane}
 use Rattle.fc_moves.proofs.Search.{cases_option}
 use Rattle.fc_pictures.proofs.Volumes.{length_cut}
-use Rattle.fc_rules.specs.LaneTold.{LaneOf, number_at, grains_in, cut_by, cut_volume, cut_at, leaves, picture_event}
-use Rattle.fc_parts.proofs.Numbers.{IsLane, number_below, part_length, part_at, is_part, part_replicate}
+use Rattle.fc_pick.proofs.Rows.{map-filter}
+use Rattle.fc_rules.specs.LaneTold.{LaneOf, number_at, grains_in, place_of, cut_by, cut_volume, cut_at, leaves, picture_event}
+use Rattle.fc_parts.proofs.Lists.{all_seen}
+use Rattle.fc_parts.proofs.Numbers.{IsLane, IsOf, number_below, all_place, part_length, part_at, part_at_grain, is_part, part_replicate}
 use Rattle.fc_parts.proofs.Views.{parts, part_nil, slot_parts, mapping_parts}
 
 -- ---- volumes by their ids
@@ -31,12 +33,22 @@ volume_parts l (v ∷ vs) id = by_test (v.volume.0 == id.0) (volume_parts l vs i
 
 pub changed_parts : (l : LaneOf) (id : VolId) (f f' : PlainVolume → PlainVolume) → ((v : PlainVolume) → part_of_volume l (f v) ≡ f' (part_of_volume l v)) → (picture : Picture) →
     part_of_picture l (changed_at id f picture) ≡ changed_at id f' (part_of_picture l picture)
-changed_parts l id f f' agrees [] = refl
-changed_parts l id f f' agrees (v ∷ vs) = ap₂ (λ a b. a ∷ b) (by_test (v.volume.0 == id.0)) (changed_parts l id f f' agrees vs)
+changed_parts l id f f' agrees picture =
+    all_seen (part_of_volume l) (λ v. cond (v.volume.0 == id.0) (f v) v) (λ v. cond (v.volume.0 == id.0) (f' v) v) (λ v. by_test (v.volume.0 == id.0) v) picture
   where
-    by_test : (b : Bool) → part_of_volume l (cond b (f v) v) ≡ cond b (f' (part_of_volume l v)) (part_of_volume l v)
-    by_test true = agrees v
-    by_test false = refl
+    by_test : (b : Bool) (v : PlainVolume) → part_of_volume l (cond b (f v) v) ≡ cond b (f' (part_of_volume l v)) (part_of_volume l v)
+    by_test true v = agrees v
+    by_test false v = refl
+
+-- ---- what a volume shows at a grain of the lane
+
+shown_of_part : (l : LaneOf) → IsLane l → (o : Option PlainVolume) (number : ℕ) → IsOf l number → now_at (option_map (part_of_volume l) o) (place_of l number) ≡ now_at o (place_of (single_lane l.grain) number)
+shown_of_part l i None number is_of = refl
+shown_of_part l i (Some v) number is_of = part_at_grain l i Lost v.now number Lost is_of ∙ ap (content_at v.now) (sym (all_place l.grain number))
+
+pub shown_parts : (l : LaneOf) → IsLane l → (picture : Picture) (number : ℕ) → IsOf l number → (id : VolId) →
+    now_at (volume_in (part_of_picture l picture) id) (place_of l number) ≡ now_at (volume_in picture id) (place_of (single_lane l.grain) number)
+shown_parts l i picture number is_of id = ap (λ o. now_at o (place_of l number)) (volume_parts l picture id) ∙ shown_of_part l i (volume_in picture id) number is_of
 
 -- ---- a volume comes or goes
 
@@ -47,15 +59,6 @@ zeros_part : (l : LaneOf) → IsLane l → (id : VolId) (grains : ℕ) → part_
 zeros_part l i id grains =
     ap (λ (f : ℕ → ℕ). part_of_volume l (zero_volume id l.grain (f grains))) (all_in l.grain)
     ∙ ap (λ (z : List Content). let v : PlainVolume = record { volume = id; now = z; under = z } in v) (sym (part_replicate l i Lost grains (zeros l.grain)))
-
-one_more : (l : LaneOf) (v : PlainVolume) (b : Bool) (rest rest' : Picture) → part_of_picture l rest ≡ rest' → part_of_picture l (cond b (v ∷ rest) rest) ≡ cond b (part_of_volume l v ∷ rest') rest'
-one_more l v true rest rest' e = ap (λ z. part_of_volume l v ∷ z) e
-one_more l v false rest rest' e = e
-
-without_parts : (l : LaneOf) (id : VolId) (picture : Picture) →
-    part_of_picture l (filter (λ (v : PlainVolume). not (v.volume.0 == id.0)) picture) ≡ filter (λ (v : PlainVolume). not (v.volume.0 == id.0)) (part_of_picture l picture)
-without_parts l id [] = refl
-without_parts l id (v ∷ vs) = one_more l v (not (v.volume.0 == id.0)) _ _ (without_parts l id vs)
 
 -- ---- a trigger
 
@@ -90,11 +93,6 @@ trigger_part l i old pairs v =
       | inr some ↦ ap (part_of_volume l) (trigger_some old pairs v some.0 some.1)
           ∙ (ap (λ z. copied_from z (part_of_volume l v)) (now_parts l i old some.0) ∙ sym (trigger_some (part_of_picture l old) pairs (part_of_volume l v) some.0 some.1))
     ]
-
-trigger_parts : (l : LaneOf) → IsLane l → (old : Picture) (pairs : List Pair) (picture : Picture) →
-    part_of_picture l (map (after_trigger old pairs) picture) ≡ map (after_trigger (part_of_picture l old) pairs) (part_of_picture l picture)
-trigger_parts l i old pairs [] = refl
-trigger_parts l i old pairs (v ∷ vs) = ap₂ (λ a b. a ∷ b) (trigger_part l i old pairs v) (trigger_parts l i old pairs vs)
 
 -- ---- a slot that leaves
 
@@ -166,8 +164,9 @@ pub picture_agrees : (l : LaneOf) → IsLane l → (slots : List Slot) (picture 
 picture_agrees l i slots picture (Make volume grains kind) =
     map-append (part_of_volume l) picture (zero_volume volume l.grain (grains_in (single_lane l.grain) grains) ∷ [])
     ∙ ap (λ z. part_of_picture l picture ++ z ∷ []) (zeros_part l i volume grains)
-picture_agrees l i slots picture (Remove volume) = without_parts l volume picture
-picture_agrees l i slots picture (Trigger pairs) = trigger_parts l i picture pairs picture
+picture_agrees l i slots picture (Remove volume) = map-filter (part_of_volume l) (λ (v : PlainVolume). not (v.volume.0 == volume.0)) picture
+picture_agrees l i slots picture (Trigger pairs) =
+    all_seen (part_of_volume l) (after_trigger picture pairs) (after_trigger (part_of_picture l picture) pairs) (trigger_part l i picture pairs) picture
 picture_agrees l i slots picture (Retire m) = leaves_parts l i slots picture m
 picture_agrees l i slots picture (Detach m) = leaves_parts l i slots picture m
 picture_agrees l i slots picture (Force m dependents) =

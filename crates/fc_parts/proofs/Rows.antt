@@ -1,5 +1,5 @@
 -- What a note does to a lane's part of the rows is the part of what it does to all.
-use Rattle.std.proofs.Common.{◌≡◌, ◌≢◌, ℕ, ◌%◌, Bool, true, false, cond, not, ◌&&◌, ◌==◌, Option, Some, None, List, [], ◌∷◌, ◌++◌, length, set, map, filter, find, fold, replicate, option_map, refl, sym, ap, ap₂, ◌∙◌}
+use Rattle.std.proofs.Common.{◌≡◌, ◌≢◌, ℕ, ◌%◌, Bool, true, false, cond, not, ◌&&◌, ◌==◌, Option, Some, None, List, [], ◌∷◌, ◌++◌, length, set, map, find, fold, replicate, option_map, refl, sym, ap, ◌∙◌}
 use Rattle.std.specs.List.{list_any}
 use Rattle.std.specs.Prelude.{if◌then◌else◌}
 use Rattle.std.proofs.lemmas.List.{map-append}
@@ -7,8 +7,9 @@ use Rattle.fc_changed.specs.Notes.{Note, joins}
 use Rattle.fc_changed.specs.Notes.Note.{Began, Wrote, Left, Cut, Forgotten}
 use Rattle.fc_changed.specs.Row.{Row, is_of, row_names, with_all, with_none, row_began, row_wrote, row_left, row_cut, with_new, after_note, row_restart, restart_in}
 use Rattle.fc_legal.specs.Whole.{part, part_of_row, part_of_rows}
-use Rattle.fc_pick.proofs.Rows.{list_any-map}
+use Rattle.fc_pick.proofs.Rows.{list_any-map, map-filter}
 use Rattle.fc_rules.specs.LaneTold.{LaneOf, place_of, grains_in}
+use Rattle.fc_parts.proofs.Lists.{all_seen, none_seen}
 use Rattle.fc_parts.proofs.Numbers.{IsLane, IsOf, part_length, part_replicate, part_set, part_set_other}
 use Rattle.fc_parts.proofs.Sets.{part_of_both}
 use Rattle.fc_parts.proofs.Views.{part_nil}
@@ -73,10 +74,6 @@ cut_part l i target row = part_if l (row_names row target && not (row.into == ta
 
 -- ---- all rows
 
-rows_part : (l : LaneOf) (f f' : Row → Row) → ((row : Row) → part_of_row l (f row) ≡ f' (part_of_row l row)) → (rows : List Row) → part_of_rows l (map f rows) ≡ map f' (part_of_rows l rows)
-rows_part l f f' each [] = refl
-rows_part l f f' each (row ∷ rows) = ap₂ (λ a b. a ∷ b) (each row) (rows_part l f f' each rows)
-
 new_part : (l : LaneOf) → IsLane l → (m source target : ℕ) (followed : Option ℕ) (rows : List Row) →
     part_of_rows l (with_new m source target followed rows) ≡ with_new m source target (option_map (grains_in l) followed) (part_of_rows l rows)
 new_part l i m source target None rows = refl
@@ -94,22 +91,14 @@ new_part l i m source target (Some grains) rows =
         map-append (part_of_row l) rows (new (replicate grains true) ∷ [])
         ∙ ap (λ z. part_of_rows l rows ++ new z ∷ []) (sym (part_replicate l i false grains true))
 
-forgotten_part : (l : LaneOf) (m : ℕ) (rows : List Row) → part_of_rows l (filter (λ row. not (is_of m row)) rows) ≡ filter (λ row. not (is_of m row)) (part_of_rows l rows)
-forgotten_part l m [] = refl
-forgotten_part l m (row ∷ rows) = by_test (not (is_of m row)) _ _ (forgotten_part l m rows)
-  where
-    by_test : (b : Bool) (rest rest' : List Row) → part_of_rows l rest ≡ rest' → part_of_rows l (cond b (row ∷ rest) rest) ≡ cond b (part_of_row l row ∷ rest') rest'
-    by_test true rest rest' e = ap (λ z. part_of_row l row ∷ z) e
-    by_test false rest rest' e = e
-
 note_parts : (l : LaneOf) → IsLane l → (rows : List Row) (note : Note) → IsNoteOf l note → part_of_rows l (after_note rows note) ≡ after_note (part_of_rows l rows) (note_part l note)
-note_parts l i rows (Began m source target followed) is_of =
+note_parts l i rows (Began m source target followed) of_lane =
     new_part l i m source target followed (map (row_began source target) rows)
-    ∙ ap (with_new m source target (option_map (grains_in l) followed)) (rows_part l (row_began source target) (row_began source target) (began_part l i source target) rows)
-note_parts l i rows (Wrote volume grain) is_of = rows_part l (row_wrote volume grain) (row_wrote volume (place_of l grain)) (wrote_part l i volume grain is_of) rows
-note_parts l i rows (Left target held) is_of = rows_part l (row_left target held) (row_left target (part l false held)) (left_part l i target held) rows
-note_parts l i rows (Cut target) is_of = rows_part l (row_cut target) (row_cut target) (cut_part l i target) rows
-note_parts l i rows (Forgotten m) is_of = forgotten_part l m rows
+    ∙ ap (with_new m source target (option_map (grains_in l) followed)) (all_seen (part_of_row l) (row_began source target) (row_began source target) (began_part l i source target) rows)
+note_parts l i rows (Wrote volume grain) of_lane = all_seen (part_of_row l) (row_wrote volume grain) (row_wrote volume (place_of l grain)) (wrote_part l i volume grain of_lane) rows
+note_parts l i rows (Left target held) of_lane = all_seen (part_of_row l) (row_left target held) (row_left target (part l false held)) (left_part l i target held) rows
+note_parts l i rows (Cut target) of_lane = all_seen (part_of_row l) (row_cut target) (row_cut target) (cut_part l i target) rows
+note_parts l i rows (Forgotten m) of_lane = map-filter (part_of_row l) (λ (row : Row). not (is_of m row)) rows
 
 pub all_note_parts : (l : LaneOf) → IsLane l → (rows : List Row) (notes : List Note) → AreNotesOf l notes → part_of_rows l (fold after_note rows notes) ≡ fold after_note (part_of_rows l rows) (map (note_part l) notes)
 all_note_parts l i rows [] are = refl
@@ -127,8 +116,7 @@ unseen_write l i volume grain other row = by_test (row_names row volume)
     by_test false = refl
 
 pub write_unseen : (l : LaneOf) → IsLane l → (volume grain : ℕ) → grain % l.lanes ≢ l.lane → (rows : List Row) → part_of_rows l (map (row_wrote volume grain) rows) ≡ part_of_rows l rows
-write_unseen l i volume grain other [] = refl
-write_unseen l i volume grain other (row ∷ rows) = ap₂ (λ a b. a ∷ b) (unseen_write l i volume grain other row) (write_unseen l i volume grain other rows)
+write_unseen l i volume grain other rows = none_seen (part_of_row l) (row_wrote volume grain) (unseen_write l i volume grain other) rows
 
 -- ---- the row of a mapping
 

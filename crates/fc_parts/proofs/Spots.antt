@@ -1,19 +1,18 @@
 -- What an entry may answer in the lane of its grain it may answer by all grains.
 use mathlib.Core.Path.{fun_ext}
-use Rattle.std.proofs.Common.{◌≡◌, ℕ, true, false, cond, Option, Some, None, List, get_or, option_map, refl, sym, ap, subst, ◌∙◌}
+use Rattle.std.proofs.Common.{◌≡◌, ℕ, true, false, cond, Option, Some, None, List, get_or, refl, sym, ap, subst, ◌∙◌}
 use Rattle.fc_base.specs.Column.{Column, needer}
 use Rattle.fc_base.specs.Sheet.{Slot, Sheet, slot_at, column, live_place, mapping_place}
 use Rattle.fc_base.specs.declared.ids.GrainNo.{GrainNo}
 use Rattle.fc_base.specs.declared.ids.MapId.{MapId}
-use Rattle.fc_base.specs.declared.ids.VolId.{VolId}
 use Rattle.fc_base.specs.declared.request.Request.{Request}
 use Rattle.fc_base.specs.declared.request.Request.TheVariants.{Read, Write, Copy, Clean}
 use Rattle.fc_base.specs.declared.request.WritePart.{WritePart}
 use Rattle.fc_base.specs.declared.state.Access.{Access}
 use Rattle.fc_base.specs.declared.state.Access.TheVariants.{Online, Offline, NotAccessible}
-use Rattle.fc_entry.specs.Picture.{Lost, PlainVolume, Picture, volume_in, now_at, content_at, grain_of_block}
+use Rattle.fc_entry.specs.Picture.{Picture, volume_in, now_at, grain_of_block}
 use Rattle.fc_entry.specs.declared.entry.Entry.{Entry}
-use Rattle.fc_legal.specs.Whole.{part, part_of_volume, part_of_picture, single_lane}
+use Rattle.fc_legal.specs.Whole.{part, single_lane}
 use Rattle.fc_rules.specs.GrainAnswers.{ByAccess, ReadAnswers, WriteAnswers, FillAnswers}
 use Rattle.fc_rules.specs.LaneRight.{VolumeWrite, MappingFill, CopyAnswers, CleanAnswers, LaneAnswers}
 use Rattle.fc_rules.specs.LaneTold.{LaneOf, LaneVolume, LaneTold, place_of, lane_access, is_thin_in}
@@ -22,7 +21,7 @@ use Rattle.fc_rules.specs.Spot.{Spot}
 use Rattle.fc_parts.specs.Law.{IsAt}
 use Rattle.fc_parts.proofs.Numbers.{IsLane, IsOf, of_same, number_of_place, all_place, part_at_grain}
 use Rattle.fc_parts.proofs.Views.{parts, slot_parts, column_parts, live_parts, mapping_parts}
-use Rattle.fc_parts.proofs.Pictures.{volume_parts}
+use Rattle.fc_parts.proofs.Pictures.{shown_parts}
 use Rattle.fc_parts.proofs.Told.{Follows}
 
 -- ---- at a grain of the lane
@@ -30,14 +29,6 @@ use Rattle.fc_parts.proofs.Told.{Follows}
 column_at : (l : LaneOf) → IsLane l → (slots : List Slot) (number : ℕ) → IsOf l number → column (parts l slots) (place_of l number) ≡ column slots (place_of (single_lane l.grain) number)
 column_at l i slots number is_of =
     column_parts l i slots (place_of l number) ∙ ap (column slots) (number_of_place l number is_of ∙ sym (all_place l.grain number))
-
-now_of_part : (l : LaneOf) → IsLane l → (o : Option PlainVolume) (number : ℕ) → IsOf l number → now_at (option_map (part_of_volume l) o) (place_of l number) ≡ now_at o (place_of (single_lane l.grain) number)
-now_of_part l i None number is_of = refl
-now_of_part l i (Some v) number is_of = part_at_grain l i Lost v.now number Lost is_of ∙ ap (content_at v.now) (sym (all_place l.grain number))
-
-now_parts : (l : LaneOf) → IsLane l → (picture : Picture) (number : ℕ) → IsOf l number → (id : VolId) →
-    now_at (volume_in (part_of_picture l picture) id) (place_of l number) ≡ now_at (volume_in picture id) (place_of (single_lane l.grain) number)
-now_parts l i picture number is_of id = ap (λ o. now_at o (place_of l number)) (volume_parts l picture id) ∙ now_of_part l i (volume_in picture id) number is_of
 
 same_spot : (a b : Spot) → a.column ≡ b.column → a.number ≡ b.number → a.now ≡ b.now → a.is_thin ≡ b.is_thin → a ≡ b
 same_spot a b column number now is_thin = λ i. record { column = column i; number = number i; now = now i; is_thin = is_thin i }
@@ -48,7 +39,7 @@ spot_same l i big small f number is_of =
     same_spot (spot_at l small number) (spot_at (single_lane l.grain) big number)
     (ap (λ (s : Sheet). column s.slots (place_of l number)) f.sheet ∙ column_at l i big.sheet.slots number is_of)
     refl
-    (fun_ext (λ v. ap (λ (p : Picture). now_at (volume_in p record { 0 = v }) (place_of l number)) f.picture ∙ now_parts l i big.picture number is_of record { 0 = v }))
+    (fun_ext (λ v. ap (λ (p : Picture). now_at (volume_in p record { 0 = v }) (place_of l number)) f.picture ∙ shown_parts l i big.picture number is_of record { 0 = v }))
     (fun_ext (λ v. ap (λ (z : List LaneVolume). is_thin_in z v) f.volumes))
 
 -- ---- which slot is filled

@@ -27,7 +27,7 @@ after_stands grain decisions w i entry before no_effects sound =
     let s = entry_stay all w.books.sheet (done_write entry.request entry.reply) entry.moves entry.torn in
     let same : lanes next ≡ lanes w = length-set w.faults i entry.faults_after in
     record {
-      sound = books_stay w.books next.books.sheet s.slots before.sound sound;
+      sound = books_stay w.books next.books.sheet next.books.rooms s.slots before.sound sound;
       few = record {
         volumes = before.few.volumes;
         mappings = before.few.mappings;

@@ -1,5 +1,6 @@
 -- What an entry of a lane leaves as it is: slots but for what they hold, and volumes but for their contents.
 use Rattle.std.proofs.Common.{◌≡◌, ℕ, ◌<◌, Bool, true, false, cond, ◌==◌, Option, Some, None, List, [], ◌∷◌, length, IsSome, refl, sym, subst, ◌∙◌, length-set}
+use Rattle.fc_base.specs.Room.{Room}
 use Rattle.fc_base.specs.Sheet.{Slot, Sheet}
 use Rattle.fc_base.specs.SheetFacts.{IsSound}
 use Rattle.fc_base.specs.Tables.{volume_with}
@@ -42,8 +43,8 @@ by_state_stay old new s Copying m h = slot_stay old new s m true h
 by_state_stay old new s Stopping m h = slot_stay old new s m false h
 by_state_stay old new s state m h = mapping_stay old new s m.id.0 ∙ h
 
-agree_stay : (b : Books) (new : Sheet) → Stay b.sheet.slots new.slots → Agree b → Agree (record b { sheet = new })
-agree_stay b new s a =
+agree_stay : (b : Books) (new : Sheet) (rooms : List Room) → Stay b.sheet.slots new.slots → Agree b → Agree (record b { sheet = new; rooms = rooms })
+agree_stay b new rooms s a =
     let old : List Slot = b.sheet.slots in
     record {
       volumes = λ v c. let p = a.volumes v c in (p.0, live_stay old new.slots s v.id.0 ∙ p.1, s.size p.0 ∙ p.2);
@@ -54,8 +55,9 @@ agree_stay b new s a =
       one_busy = a.one_busy;
     }
 
-pub books_stay : (b : Books) (new : Sheet) → Stay b.sheet.slots new.slots → AreSound b → IsSound new → AreSound (record b { sheet = new })
-books_stay b new s a sound =
+-- whatever occupies memory
+pub books_stay : (b : Books) (new : Sheet) (rooms : List Room) → Stay b.sheet.slots new.slots → AreSound b → IsSound new → AreSound (record b { sheet = new; rooms = rooms })
+books_stay b new rooms s a sound =
     record {
       tables = record {
         volumes = a.tables.volumes;
@@ -67,7 +69,7 @@ books_stay b new s a sound =
       };
       flags = record { rising = a.flags.rising; given = a.flags.given };
       sheet = sound;
-      agree = agree_stay b new s a.agree;
+      agree = agree_stay b new rooms s a.agree;
     }
 
 -- ---- plain volumes

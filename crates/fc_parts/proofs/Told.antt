@@ -4,6 +4,7 @@ use Rattle.std.proofs.lemmas.List.{get_or-map, length-map}
 use Rattle.std.proofs.lemmas.List.Elements.{All-map}
 use Rattle.std.specs.Option.{unwrap_or, ForSome}
 use Rattle.fc_base.specs.Pools.{Pool, of_kind, pool_without}
+use Rattle.fc_base.specs.Room.{Room, rooms_after}
 use Rattle.fc_base.specs.Sheet.{Sheet}
 use Rattle.fc_base.specs.SheetFits.{FitsEvent}
 use Rattle.fc_base.specs.SheetStep.{sheet_step}
@@ -18,7 +19,7 @@ use Rattle.fc_changed.specs.Row.{Row, is_of, row_names, restart_in}
 use Rattle.fc_follow.specs.Following.{Followed, rows_event, restarts, told_with, followed_event, IsOfPair, FitsRows, FitsFollowed}
 use Rattle.fc_legal.proofs.Events.{all_in}
 use Rattle.fc_legal.specs.Lawful.{HasDisks, HaveDisks, FitAsOne}
-use Rattle.fc_legal.specs.Whole.{Whole, part_of_sheet, part_of_picture, part_of_row, part_of_rows, single_lane, lane_at, part_at, pool_at, volumes_told}
+use Rattle.fc_legal.specs.Whole.{Whole, part_of_sheet, part_of_picture, part_of_row, part_of_rows, part_of_rooms, single_lane, lane_at, part_at, pool_at, volumes_told}
 use Rattle.fc_pick.specs.declared.work.WorkFlags.{WorkFlags}
 use Rattle.fc_rules.specs.LaneFits.{HasDisk}
 use Rattle.fc_rules.specs.LaneTold.{LaneOf, LaneVolume, LaneTold, grains_in, picture_event, volumes_event, flags_event, pool_event, told_event}
@@ -28,6 +29,7 @@ use Rattle.fc_parts.proofs.Beginning.{ArePartsOf, all_begun}
 use Rattle.fc_parts.proofs.Fitting.{fits_event}
 use Rattle.fc_parts.proofs.Pictures.{picture_agrees}
 use Rattle.fc_parts.proofs.Noting.{rows_agree}
+use Rattle.fc_parts.proofs.Rooms.{rooms_agree}
 use Rattle.fc_parts.proofs.Rows.{find_part, restart_part}
 
 -- ---- all that is told, by its fields
@@ -77,23 +79,25 @@ follows_with l i whole some are big small (Trigger pairs) f =
     }
 follows_with l i whole some are big small e f = follows_event l i big small e f
 
--- The rows are the lane's part of those of all grains.
-pub record FollowsRows (l : LaneOf) (big small : Followed) : Type 0 where
+-- The rows and the rooms too are the lane's part of those of all grains.
+pub record FollowsAll (l : LaneOf) (big small : Followed) : Type 0 where
   pub told : Follows l big.told small.told
   pub rows : small.rows ≡ part_of_rows l big.rows
+  pub rooms : small.rooms ≡ part_of_rooms l big.rooms
 
-restarts_part : (l : LaneOf) → IsLane l → (big small : Followed) → FollowsRows l big small → ArePartsOf l (restarts big.rows) (restarts small.rows)
+restarts_part : (l : LaneOf) → IsLane l → (big small : Followed) → FollowsAll l big small → ArePartsOf l (restarts big.rows) (restarts small.rows)
 restarts_part l i big small f m = ap (restart_in m) f.rows ∙ restart_part l i m big.rows
 
-follows_one : (l : LaneOf) → IsLane l → (big small : Followed) (e : LaneEvent) → FollowsRows l big small → FollowsRows l (followed_event (single_lane l.grain) big e) (followed_event l small e)
+follows_one : (l : LaneOf) → IsLane l → (big small : Followed) (e : LaneEvent) → FollowsAll l big small → FollowsAll l (followed_event (single_lane l.grain) big e) (followed_event l small e)
 follows_one l i big small e f =
     record {
       told = follows_with l i (restarts big.rows) (restarts small.rows) (restarts_part l i big small f) big.told small.told e f.told;
       rows = ap₂ (λ (s : Sheet) (rows : List Row). rows_event s.slots rows e) f.told.sheet f.rows ∙ sym (rows_agree l i big.told.sheet.slots big.rows e);
+      rooms = ap (λ (rooms : List Room). rooms_after (grains_in l) rooms e) f.rooms ∙ sym (rooms_agree l i big.rooms e);
     }
 
-pub follows_all : (l : LaneOf) → IsLane l → (events : List LaneEvent) (big small : Followed) → FollowsRows l big small →
-    FollowsRows l (fold (followed_event (single_lane l.grain)) big events) (fold (followed_event l) small events)
+pub follows_all : (l : LaneOf) → IsLane l → (events : List LaneEvent) (big small : Followed) → FollowsAll l big small →
+    FollowsAll l (fold (followed_event (single_lane l.grain)) big events) (fold (followed_event l) small events)
 follows_all l i [] big small f = f
 follows_all l i (e ∷ es) big small f = follows_all l i es (followed_event (single_lane l.grain) big e) (followed_event l small e) (follows_one l i big small e f)
 
@@ -158,7 +162,7 @@ fits_rows l rows (Trigger pairs) fits =
 fits_rows l rows (Remove volume) fits = All-map (λ (row : Row). row_names row volume.0 ≡ false) (part_of_row l) rows fits
 fits_rows l rows e fits = tt
 
-pub fits_all : (l : LaneOf) → IsLane l → (events : List LaneEvent) (big small : Followed) (pools : List Pool) → FollowsRows l big small → FitAsOne l.grain big events →
+pub fits_all : (l : LaneOf) → IsLane l → (events : List LaneEvent) (big small : Followed) (pools : List Pool) → FollowsAll l big small → FitAsOne l.grain big events →
     HaveDisks pools big.told.volumes events → small.told.pool ≡ pool_at pools l.lane → l.lane < length pools → FitsFollowed l small events
 fits_all l i [] big small pools f fits disks pool lt = subst (λ (s : Sheet). s.births < 2 ^ 64) (sym f.told.sheet) fits
 fits_all l i (e ∷ es) big small pools f fits disks pool lt =

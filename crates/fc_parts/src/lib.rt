@@ -6,15 +6,16 @@
 //! that fits all grains fits each part, and leaves in each the part of what it leaves; that an entry of a lane, an access
 //! at one of its grains or a worker's turn, that is right in the lane is right by all grains, tells its lane its part of what
 //! it leaves and other lanes nothing, and leaves standing what stood; and that an access inside a volume fits the lane of its
-//! grain. So it is with what is kept of incremental mappings: a lane keeps of each what is the same at its grains.
+//! grain. So it is with what is kept of incremental mappings: a lane keeps of each what is the same at its grains; and with
+//! which grains of volumes occupy memory.
 //!
 //! To read: `specs/Law`, what is said; then `proofs/`: `Numbers` (grains by place and by number, parts of lists), `Sets` (parts
 //! of sets of grains), `Views`, `Events`, `Beginning` (what new slots of triggers hold) and `Fitting` (chains and events),
 //! `Pictures` (plain volumes and events), `Rows` (what is kept of incremental mappings, and notes), `Grains` (moves and writes at
-//! one grain), `Noting` (the notes of events and of entries), `Told` and `Decisions` (what is told of decisions), `Outcomes`
-//! (what an entry did), `Turns` (the work that a worker takes), `Spots` (what an entry may answer), `Accesses` (what a lane's
-//! entry tells), `Staying`, `RowsStaying`, `Outside`, `Soundness` and `Standing` (what stood stands), `Marked` (an entry is
-//! right with any number, by any actor), `Lawful`.
+//! one grain), `Noting` (the notes of events and of entries), `Rooms` (which grains occupy memory), `Told` and `Decisions`
+//! (what is told of decisions), `Outcomes` (what an entry did), `Turns` (the work that a worker takes), `Spots` (what an entry
+//! may answer), `Accesses` (what a lane's entry tells), `Staying`, `RowsStaying`, `Outside`, `Soundness` and `Standing` (what
+//! stood stands), `Marked` (an entry is right with any number, by any actor), `Lawful`.
 #![tactic(auto)]
 
 ghost use Rattle.fc_parts.specs.Law.{PartLaw};

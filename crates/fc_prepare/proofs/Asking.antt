@@ -1,5 +1,5 @@
 -- What one line asks, as an item.
-use Rattle.std.proofs.Common.{◌≡◌, ℕ, zero, suc, ◌+◌, ◌-◌, ◌/◌, ◌<◌, ◌≤◌, List, [], ◌∷◌, map, Some, None, refl, sym, ap, ◌∙◌, subst, true≢false, arith}
+use Rattle.std.proofs.Common.{◌≡◌, ℕ, zero, suc, ◌+◌, ◌-◌, ◌/◌, ◌<◌, ◌≤◌, List, [], ◌∷◌, map, Some, None, refl, sym, ap, ◌∙◌, subst, false, true≢false, arith}
 use Rattle.std.specs.List.{range_with_len}
 use Rattle.fc_actors.specs.Scripts.{IsOfBlock}
 use Rattle.fc_actors.specs.Spans.{IsGrainOf, IsSpanOf, span_left}
@@ -7,6 +7,7 @@ use Rattle.fc_actors.specs.declared.script.Item.TheVariants.{Access as OfGrains,
 use Rattle.fc_base.specs.Grain.{grain_blocks}
 use Rattle.fc_base.specs.Tables.{Tables, refers_to, volume_named}
 use Rattle.fc_base.specs.declared.command.Command.{Command}
+use Rattle.fc_base.specs.declared.command.Command.TheVariants.{Read as ReadLine, Write as WriteLine, Mkpreset}
 use Rattle.fc_base.specs.declared.command.Line.TheVariants.{Command as CommandLine}
 use Rattle.fc_base.specs.declared.command.ScriptLine.TheVariants.{Read}
 use Rattle.fc_base.specs.declared.fault.Refusal.{Refusal}
@@ -28,6 +29,8 @@ use Rattle.fc_stands.specs.Apart.{IsRefusalOf}
 use Rattle.fc_stands.specs.Phase.{IsDecided}
 use Rattle.fc_stands.proofs.Asked.{asked-refused, asks_itself, is_taken, refusal_of}
 use Rattle.fc_stands.proofs.Ranging.{first_before, is_touched}
+use Rattle.law_volumes.proofs.Lines.{asks-none}
+use Rattle.law_volumes.specs.Law.{asks_for_volume}
 use Rattle.fc_prepare.specs.Items.{IsItemOf, IsToldBy, arms_fault, whole_span}
 
 -- ---- accesses
@@ -94,12 +97,20 @@ refused_item c access volume block count command copy refusal is same refused = 
 
 -- ---- other commands
 
+-- A command that is no access and asks for no volume is decided.
+pub decided_of : (command : Command) → ((volume : Ref) (block count : ℕ) → command ≡ ReadLine volume block count → ⊥)
+    → ((volume : Ref) (block count byte : ℕ) → command ≡ WriteLine volume block count byte → ⊥) → asks_for_volume command ≡ false → IsDecided command
+decided_of (ReadLine volume block count) no_read no_write none = absurd (no_read volume block count refl)
+decided_of (WriteLine volume block count byte) no_read no_write none = absurd (no_write volume block count byte refl)
+decided_of (Mkpreset source preset name) no_read no_write none = absurd (true≢false none)
+decided_of command no_read no_write none = tt
+
 pub other_item_is : (c : ControlState) (command copy : Command) → IsDecided command → copy ≡ command → IsItemOf c (Read (CommandLine command)) (Whole_command copy)
 other_item_is c command copy decided same = record {
   asked = λ b tables. ap (λ (asked : Command). Asked asked ∷ []) same ∙ sym (asks_itself c.grain b command decided);
   suits = λ s told of. subst IsOfBlock (sym same) record {
     decided = decided;
-    no_volume = of.0;
+    no_volume = asks-none command of.0;
     no_fault = λ volume grain calls e. true≢false (sym (ap arms_fault e) ∙ of.1);
   };
 }

@@ -16,7 +16,7 @@ use Rattle.fc_words.specs.declared.given.Settings.{Settings}
 use Rattle.fc_words.specs.declared.grammar.Family.TheVariants.{Storage}
 use Rattle.fc_words.specs.declared.grammar.Setting.{Setting}
 use Rattle.fc_words.specs.declared.grammar.Verb.{Verb}
-use Rattle.fc_words.specs.declared.grammar.Verb.TheVariants.{MakeVolume, RemoveVolume, WriteBlocks, ReadBlocks, ArmFault, PassTime, MakeMapping, PrepareMapping, StartMapping, StopMapping, RemoveMapping, MakeGroup, PrepareGroup, StartGroup, StopGroup, RemoveGroup, ListMappings, ListGroups, ListVolumes, ShowProgress, ListDependents, BeginBlock, BeginActor, EndBlock}
+use Rattle.fc_words.specs.declared.grammar.Verb.TheVariants.{MakeVolume, RemoveVolume, WriteBlocks, ReadBlocks, ArmFault, PassTime, MakeMapping, PrepareMapping, StartMapping, StopMapping, RemoveMapping, MakeGroup, PrepareGroup, StartGroup, StopGroup, RemoveGroup, ListMappings, ListGroups, ListVolumes, ShowProgress, ListDependents, MakeCopy, ListRoom, BeginBlock, BeginActor, EndBlock}
 use Rattle.fc_words.specs.Given.{nothing_given}
 use Rattle.fc_words.specs.Grammar.{verb_of, family_of, scope_has}
 use Rattle.fc_words.specs.Lines.{then_read, need, role_line, complete, begins_with, read_word, finish, read_words, not_here, named_line, line_behind, is_prefix, line_of_words, line_of}
@@ -84,6 +84,8 @@ module _ (scope : Scope) (inside : scope ≢ Free) where
   complete_arms_none ListVolumes end s f o has = refl
   complete_arms_none ShowProgress end s f o has = need_arms_none o.object _ _ (λ m. refl)
   complete_arms_none ListDependents end s f o has = need_arms_none o.object _ _ (λ m. refl)
+  complete_arms_none MakeCopy end s f o has = absurd (none_of_it has)
+  complete_arms_none ListRoom end s f o has = absurd (none_of_it has)
   complete_arms_none BeginBlock end s f o has = tt
   complete_arms_none BeginActor end s f o has = need_arms_none o.actor _ _ (λ name. need_arms_none o.role _ _ (λ role. role_arms_none name role o end))
   complete_arms_none EndBlock end s f o has = tt

@@ -16,7 +16,7 @@ use Rattle.fc_entry.specs.Picture.{grain_of_block}
 use Rattle.fc_lanes.specs.declared.access.Access.{Access}
 use Rattle.fc_legal.specs.Scripts.{line_asked}
 use Rattle.fc_shares.specs.Situation.{Situation}
-use Rattle.law_volumes.specs.Law.{is_of_volumes}
+use Rattle.law_volumes.specs.Law.{asks_for_volume}
 
 -- ---- lines of actors
 
@@ -25,9 +25,9 @@ abbrev pub arms_fault : Command → Bool
 arms_fault (Armfault volume grain calls) = true
 arms_fault command = false
 
--- A line as it stands under an actor: no command in it makes or removes a volume, or arms a fault.
+-- A line as it stands under an actor: no command in it asks to make or remove a volume, as a preset does, or arms a fault.
 abbrev pub IsOfActor : ScriptLine → Type 0
-IsOfActor (Read (CommandLine command)) = (is_of_volumes command ≡ false) × (arms_fault command ≡ false)
+IsOfActor (Read (CommandLine command)) = (asks_for_volume command ≡ false) × (arms_fault command ≡ false)
 IsOfActor line = Unit {0}
 
 -- ---- items

@@ -1,10 +1,10 @@
 //! What the lines of an actor ask, as items of its script.
 
-ghost use Rattle.std.specs.Prelude.{◌≡◌, ◌<◌, List, [], ◌∷◌, ◌++◌, IfOk, OnOk};
+ghost use Rattle.std.specs.Prelude.{◌≡◌, ◌<◌, List, [], ◌∷◌, ◌++◌, All, IfOk, OnOk};
 ghost use Rattle.fc_desk.specs.Control.{ControlState};
 ghost use Rattle.fc_lanes.specs.Asking.{command_of};
 ghost use Rattle.fc_stands.specs.Phase.{IsDecided};
-ghost use Rattle.fc_prepare.specs.Items.{AreItemsOf, IsItemIf, IsItemOf, whole_span};
+ghost use Rattle.fc_prepare.specs.Items.{AreItemsOf, IsItemIf, IsItemOf, IsOfActor, whole_span};
 
 use fc_actors::script::Item;
 use fc_actors::span::Span;
@@ -64,7 +64,7 @@ fn access_item<D: Mdisk>(
     }
 }
 
-/// What a command asks that is no access: itself.
+/// What a command asks that is no access and no preset: itself.
 fn other_item(alloc: Global, command: &Command) -> Result<Item, NoMemory>
     requires { IsDecided command.now }
     ensures { IfOk result (λ item. (c : ControlState) → IsItemOf c (ScriptLine.Read (Line.Command command.now)) item) }
@@ -75,12 +75,13 @@ fn other_item(alloc: Global, command: &Command) -> Result<Item, NoMemory>
     }
 }
 
-/// What a command asks.
+/// What a command of an actor asks.
 fn command_item<D: Mdisk>(
     alloc: Global,
     store: &Store<D>,
     command: &Command,
 ) -> Result<Item, NoMemory>
+    requires { IsOfActor (ScriptLine.Read (Line.Command command.now)) }
     ensures { IfOk result (λ item. IsItemOf store.now.control (ScriptLine.Read (Line.Command command.now)) item) }
 {
     match command {
@@ -117,12 +118,13 @@ fn unread_item(fault: WordFault) -> Item
     }
 }
 
-/// What a line asks, if anything.
+/// What a line of an actor asks, if anything.
 fn line_item<D: Mdisk>(
     alloc: Global,
     store: &Store<D>,
     line: &ScriptLine,
 ) -> Result<Option<Item>, NoMemory>
+    requires { IsOfActor line.now }
     ensures { IfOk result (λ item. IsItemIf store.now.control line.now item) }
 {
     match line {
@@ -153,6 +155,7 @@ fn push_line<D: Mdisk>(
     line: &ScriptLine,
     items: &mut VecDeque<Item>,
 ) -> Result<(), NoMemory>
+    requires { IsOfActor line.now }
     ensures { OnOk result ((lines : List ScriptLine) → AreItemsOf store.now.control lines items.old.items → AreItemsOf store.now.control (lines ++ line.now ∷ []) items.new.items) }
 {
     match line_item(alloc, store, line) {
@@ -171,6 +174,7 @@ pub fn items_of<D: Mdisk>(
     store: &Store<D>,
     lines: &[ScriptLine],
 ) -> Result<VecDeque<Item>, NoMemory>
+    requires { All IsOfActor lines.now }
     ensures { IfOk result (λ items. AreItemsOf store.now.control lines.now items.items) }
 {
     let mut items = VecDeque::new(alloc);

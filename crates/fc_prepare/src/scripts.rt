@@ -10,6 +10,7 @@ ghost use Rattle.fc_legal.specs.Scripts.{scripts_of as scripts_asked};
 ghost use Rattle.fc_legal.specs.Whole.{Whole, lanes};
 ghost use Rattle.fc_stands.specs.Store.{StandsFor};
 ghost use Rattle.fc_store.specs.StoreParts.{parts_view};
+ghost use Rattle.fc_prepare.specs.Items.{IsOfActor};
 ghost use Rattle.fc_prepare.specs.Scripts.{AreScriptsOf, AskTheirs, IsScriptOf, IsWorkOf};
 
 use crate::items::items_of;
@@ -58,7 +59,8 @@ fn lines_work<D: Mdisk>(
     store: &Store<D>,
     actor: &ActorRead,
 ) -> Result<Left, NoMemory>
-    requires { has_lines actor.now.role ≡ true }
+    requires lines { has_lines actor.now.role ≡ true }
+    requires of { All IsOfActor actor.now.lines }
     ensures { IfOk result (λ work. (lanes : ℕ) → IsWorkOf store.now.control lanes actor.now work) }
 {
     match items_of(alloc, store, actor.lines.as_slice()) {
@@ -69,6 +71,7 @@ fn lines_work<D: Mdisk>(
 
 /// What an actor has to do: what its lines ask, or its turns.
 fn work_of<D: Mdisk>(alloc: Global, store: &Store<D>, actor: &ActorRead) -> Result<Left, NoMemory>
+    requires { All IsOfActor actor.now.lines }
     ensures { IfOk result (λ work. (lanes : ℕ) → IsWorkOf store.now.control lanes actor.now work) }
 {
     match actor.role {
@@ -95,6 +98,7 @@ fn script_of<D: Mdisk>(
 ) -> Result<ActorScript<D>, NoMemory>
     requires names { length history.now.actors < 2 ^ 32 }
     requires lanes { length store.now.lanes < 2 ^ 32 }
+    requires of { All IsOfActor actor.now.lines }
     ensures { IfOk result (λ script. IsScriptOf store.now history.now.actors actor.now script) }
 {
     let lanes = store.lanes();
@@ -117,6 +121,7 @@ fn scripts_of<D: Mdisk>(
     actors: &[ActorRead],
     history: &History,
 ) -> Result<Vec<ActorScript<D>>, NoMemory>
+    requires { All (λ actor. All IsOfActor actor.lines) actors.now }
     ensures { IfOk result (λ scripts. AreScriptsOf store.now history.now.actors actors.now scripts.items) }
 {
     if history.actors() > MOST || store.lanes() > MOST {

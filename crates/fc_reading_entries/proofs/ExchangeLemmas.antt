@@ -216,6 +216,8 @@ command_plain (command.Lsfcconsistgrp group delim) answered bare = (refl, tt)
 command_plain (command.Lsvdisk delim) answered bare = (refl, tt)
 command_plain (command.Lsfcmapprogress map delim) answered bare = (refl, tt)
 command_plain (command.Lsfcmapdependentmaps map delim) answered bare = (refl, tt)
+command_plain (command.Mkpreset source preset name) answered bare = (refl, tt)
+command_plain (command.Lsvdiskroom delim) answered bare = (refl, tt)
 
 read_to :
     (volume : Ref) (block count : ℕ) (line : ReplyLine) (answered : Reply) → IsAsked (Read volume block count) → FitsLine (Read volume block count) line → Answers line answered →
@@ -409,6 +411,8 @@ command_from (command.Lsfcconsistgrp group delim) answered e = e.reply
 command_from (command.Lsvdisk delim) answered e = e.reply
 command_from (command.Lsfcmapprogress map delim) answered e = e.reply
 command_from (command.Lsfcmapdependentmaps map delim) answered e = e.reply
+command_from (command.Mkpreset source preset name) answered e = e.reply
+command_from (command.Lsvdiskroom delim) answered e = e.reply
 
 pub line_from : (r : Request) (answered : Reply) → IsExchange r answered → FitsLine (asked_of r) (said_line answered)
 line_from (request.Command c) answered e = command_from c answered e

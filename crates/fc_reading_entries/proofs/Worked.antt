@@ -1,6 +1,7 @@
 -- Rows worked by hand: under whose turns entries are made, and what reading gives.
 use Rattle.std.proofs.Common.{◌≡◌, [], ◌∷◌, Some, None, Ok, Err, codes, refl}
 use Rattle.fc_base.specs.declared.command.Command.TheVariants as command
+use Rattle.fc_base.specs.declared.command.Preset.TheVariants.{Clone}
 use Rattle.fc_base.specs.declared.fault.WordFault.TheVariants.{Limit}
 use Rattle.fc_base.specs.declared.name.Ref.TheVariants.{Id, Name}
 use Rattle.fc_base.specs.declared.request.Place.TheVariants as place
@@ -22,6 +23,12 @@ copy_in_lane_2 = refl
 
 refused_write : turn_of K64 (request.Command (command.Write (Id 0) 128 1 90)) ≡ place.Control
 refused_write = refl
+
+refused_preset : turn_of K64 (request.Command (command.Mkpreset (Name (codes "A")) Clone None)) ≡ place.Control
+refused_preset = refl
+
+room_in_all_turns : turn_of K64 (request.Command (command.Lsvdiskroom None)) ≡ place.Every
+room_in_all_turns = refl
 
 -- which request it was, by the line of its reply
 a_fault : request_by Unread (fault_told (Limit 5)) ≡ request.Unread (Limit 5)

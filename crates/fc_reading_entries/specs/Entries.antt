@@ -1,7 +1,7 @@
 -- An entry of a trace, read from the left: its line, what it did, the rows of its report, and its end.
 use Rattle.std.specs.Prelude.{◌≡◌, ℕ, ◌/◌, ◌%◌, Bool, true, false, List, [], ◌∷◌, ◌++◌, length, take, Option, Some, None, Result, codes, decimal}
 use Rattle.fc_base.specs.Grain.{grain_blocks}
-use Rattle.fc_base.specs.declared.command.Command.TheVariants.{Read as ReadLine, Write as WriteLine}
+use Rattle.fc_base.specs.declared.command.Command.TheVariants.{Read as ReadLine, Write as WriteLine, Mkpreset}
 use Rattle.fc_base.specs.declared.request.Place.{Place}
 use Rattle.fc_base.specs.declared.request.Place.TheVariants as place
 use Rattle.fc_base.specs.declared.request.Reply.{Reply}
@@ -35,10 +35,11 @@ abbrev pub lane_of : ℕ → Place
 lane_of grain = place.Lane (grain % 4)
 
 -- that of its grain's lane, or of the worker's; all turns for a command; that of the control part for a refused
--- access and for a line that couldn't be read
+-- access or preset, and for a line that couldn't be read
 abbrev pub turn_of : GrainSize → Request → Place
 turn_of size (request.Command (ReadLine volume block count)) = place.Control
 turn_of size (request.Command (WriteLine volume block count byte)) = place.Control
+turn_of size (request.Command (Mkpreset source preset name)) = place.Control
 turn_of size (request.Command command) = place.Every
 turn_of size (request.Unread fault) = place.Control
 turn_of size (request.Read part) = lane_of (part.block / grain_blocks size)

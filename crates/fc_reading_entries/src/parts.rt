@@ -60,6 +60,7 @@ pub(crate) fn turn_of(size: GrainSize, request: &Request) -> Place
     match request {
         Request::Command(Command::Read { .. }) => Place::Control,
         Request::Command(Command::Write { .. }) => Place::Control,
+        Request::Command(Command::Mkpreset { .. }) => Place::Control,
         Request::Command(_) => Place::Every,
         Request::Unread(_) => Place::Control,
         Request::Read(part) => lane_of_block(size, part.block),

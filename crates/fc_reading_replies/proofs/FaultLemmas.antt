@@ -34,7 +34,7 @@ number = case_numbered IsFault fault_line fault_end
 abbrev FaultAt : ℕ → Type 0
 FaultAt i = Case IsFault fault_line fault_end (get_or fault_words i []) (fault_behind i)
 
-whole_cases : AllBelow FaultAt 8
+whole_cases : AllBelow FaultAt 9
 whole_cases =
     let to_1 : AllBelow FaultAt 1 = (tt, whole (codes "unknown command\n") fault.UnknownCommand tt refl refl) in
     let to_2 : AllBelow FaultAt 2 = (to_1, whole (codes "long line\n") fault.LongLine tt refl refl) in
@@ -43,16 +43,17 @@ whole_cases =
     let to_5 : AllBelow FaultAt 5 = (to_4, whole (codes "missing option -size\n") (fault.MissingOption required.Size) tt refl refl) in
     let to_6 : AllBelow FaultAt 6 = (to_5, whole (codes "missing option -seconds\n") (fault.MissingOption required.Seconds) tt refl refl) in
     let to_7 : AllBelow FaultAt 7 = (to_6, whole (codes "missing option -source\n") (fault.MissingOption required.Source) tt refl refl) in
-    (to_7, whole (codes "missing option -target\n") (fault.MissingOption required.Target) tt refl refl)
+    let to_8 : AllBelow FaultAt 8 = (to_7, whole (codes "missing option -target\n") (fault.MissingOption required.Target) tt refl refl) in
+    (to_8, whole (codes "missing option -preset\n") (fault.MissingOption required.Preset) tt refl refl)
 
-fault_cases : AllBelow FaultAt 14
+fault_cases : AllBelow FaultAt 15
 fault_cases =
-    let to_9 : AllBelow FaultAt 9 = (whole_cases, number (codes "unknown option at word ") (numbered_fault 0) (λ n is. is) (λ n. refl) (λ n. refl)) in
-    let to_10 : AllBelow FaultAt 10 = (to_9, number (codes "missing word ") (numbered_fault 1) (λ n is. is) (λ n. refl) (λ n. refl)) in
-    let to_11 : AllBelow FaultAt 11 = (to_10, number (codes "option repeated at word ") (numbered_fault 2) (λ n is. is) (λ n. refl) (λ n. refl)) in
-    let to_12 : AllBelow FaultAt 12 = (to_11, number (codes "bad number at word ") (numbered_fault 3) (λ n is. is) (λ n. refl) (λ n. refl)) in
-    let to_13 : AllBelow FaultAt 13 = (to_12, number (codes "bad name at word ") (numbered_fault 4) (λ n is. is) (λ n. refl) (λ n. refl)) in
-    (to_13, number (codes "limit ") (numbered_fault 5) (λ n is. is) (λ n. refl) (λ n. refl))
+    let to_10 : AllBelow FaultAt 10 = (whole_cases, number (codes "unknown option at word ") (numbered_fault 0) (λ n is. is) (λ n. refl) (λ n. refl)) in
+    let to_11 : AllBelow FaultAt 11 = (to_10, number (codes "missing word ") (numbered_fault 1) (λ n is. is) (λ n. refl) (λ n. refl)) in
+    let to_12 : AllBelow FaultAt 12 = (to_11, number (codes "option repeated at word ") (numbered_fault 2) (λ n is. is) (λ n. refl) (λ n. refl)) in
+    let to_13 : AllBelow FaultAt 13 = (to_12, number (codes "bad number at word ") (numbered_fault 3) (λ n is. is) (λ n. refl) (λ n. refl)) in
+    let to_14 : AllBelow FaultAt 14 = (to_13, number (codes "bad name at word ") (numbered_fault 4) (λ n is. is) (λ n. refl) (λ n. refl)) in
+    (to_14, number (codes "limit ") (numbered_fault 5) (λ n is. is) (λ n. refl) (λ n. refl))
 
 fault_from : (fault : WordFault) → IsFault fault → (i : ℕ) × IsIndexOf fault_words i × Given (fault_behind i) fault
 fault_from fault.UnknownCommand is = (0, omega arith, given_said fault.UnknownCommand)
@@ -63,12 +64,13 @@ fault_from (fault.MissingOption required.Size) is = (4, omega arith, given_said 
 fault_from (fault.MissingOption required.Seconds) is = (5, omega arith, given_said (fault.MissingOption required.Seconds))
 fault_from (fault.MissingOption required.Source) is = (6, omega arith, given_said (fault.MissingOption required.Source))
 fault_from (fault.MissingOption required.Target) is = (7, omega arith, given_said (fault.MissingOption required.Target))
-fault_from (fault.UnknownOption word) is = (8, omega arith, given_numbered (numbered_fault 0) word is)
-fault_from (fault.MissingWord word) is = (9, omega arith, given_numbered (numbered_fault 1) word is)
-fault_from (fault.RepeatedOption word) is = (10, omega arith, given_numbered (numbered_fault 2) word is)
-fault_from (fault.BadNumber word) is = (11, omega arith, given_numbered (numbered_fault 3) word is)
-fault_from (fault.BadName word) is = (12, omega arith, given_numbered (numbered_fault 4) word is)
-fault_from (fault.Limit n) is = (13, omega arith, given_numbered (numbered_fault 5) n is)
+fault_from (fault.MissingOption required.Preset) is = (8, omega arith, given_said (fault.MissingOption required.Preset))
+fault_from (fault.UnknownOption word) is = (9, omega arith, given_numbered (numbered_fault 0) word is)
+fault_from (fault.MissingWord word) is = (10, omega arith, given_numbered (numbered_fault 1) word is)
+fault_from (fault.RepeatedOption word) is = (11, omega arith, given_numbered (numbered_fault 2) word is)
+fault_from (fault.BadNumber word) is = (12, omega arith, given_numbered (numbered_fault 3) word is)
+fault_from (fault.BadName word) is = (13, omega arith, given_numbered (numbered_fault 4) word is)
+fault_from (fault.Limit n) is = (14, omega arith, given_numbered (numbered_fault 5) n is)
 
 pub Exact-fault : Exact IsFault fault_line nothing fault_at
 Exact-fault =

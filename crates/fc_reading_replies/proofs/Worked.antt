@@ -1,7 +1,7 @@
 -- Rows worked by hand: what reading gives.
 use Rattle.std.proofs.Common.{◌≡◌, true, false, [], ◌∷◌, Some, None, Ok, Err, codes, refl}
 use Rattle.fc_base.specs.declared.fault.Refusal.TheVariants as refusal
-use Rattle.fc_base.specs.declared.fault.RequiredOption.TheVariants.{Source}
+use Rattle.fc_base.specs.declared.fault.RequiredOption.TheVariants.{Source, Preset}
 use Rattle.fc_base.specs.declared.fault.WordFault.TheVariants as fault
 use Rattle.fc_base.specs.declared.request.Reply.TheVariants as reply
 use Rattle.fc_base.specs.declared.size.GrainSize.TheVariants.{K64, K256}
@@ -33,6 +33,9 @@ reads_limit_of_words = refl
 
 reads_missing : unread_at (codes "refused missing option -source\n") ≡ Ok (fault.MissingOption Source, [])
 reads_missing = refl
+
+reads_missing_preset : unread_at (codes "refused missing option -preset\n+") ≡ Ok (fault.MissingOption Preset, codes "+")
+reads_missing_preset = refl
 
 -- where no reply goes on
 wants_space : reply_at true (codes "noisy\n") ≡ Err 4

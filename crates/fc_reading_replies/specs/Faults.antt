@@ -23,7 +23,7 @@ abbrev pub fault_words : List (List ℕ)
 fault_words =
     codes "unknown command\n" ∷ codes "long line\n" ∷ codes "no actor\n" ∷ codes "not in a block\n"
     ∷ codes "missing option -size\n" ∷ codes "missing option -seconds\n" ∷ codes "missing option -source\n"
-    ∷ codes "missing option -target\n"
+    ∷ codes "missing option -target\n" ∷ codes "missing option -preset\n"
     ∷ codes "unknown option at word " ∷ codes "missing word " ∷ codes "option repeated at word "
     ∷ codes "bad number at word " ∷ codes "bad name at word " ∷ codes "limit " ∷ []
 
@@ -32,7 +32,7 @@ fault_of n =
     if n == 0 then fault.UnknownCommand else if n == 1 then fault.LongLine else if n == 2 then fault.NoActor
     else if n == 3 then fault.NotInBlock else if n == 4 then fault.MissingOption required.Size
     else if n == 5 then fault.MissingOption required.Seconds else if n == 6 then fault.MissingOption required.Source
-    else fault.MissingOption required.Target
+    else if n == 7 then fault.MissingOption required.Target else fault.MissingOption required.Preset
 
 abbrev pub numbered_fault : ℕ → ℕ → WordFault
 numbered_fault n number =
@@ -41,7 +41,7 @@ numbered_fault n number =
     else if n == 4 then fault.BadName number else fault.Limit number
 
 abbrev pub fault_behind : ℕ → List ℕ → Result (WordFault × List ℕ) ℕ
-fault_behind word = if nat_lt word 8 then said (fault_of word) else numbered (numbered_fault (word - 8))
+fault_behind word = if nat_lt word 9 then said (fault_of word) else numbered (numbered_fault (word - 9))
 
 abbrev pub fault_at : List ℕ → Result (WordFault × List ℕ) ℕ
 fault_at = begun_at fault_words fault_behind

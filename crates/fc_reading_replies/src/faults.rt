@@ -22,7 +22,8 @@ fn fault_of(number: usize) -> WordFault
         4 => WordFault::MissingOption(RequiredOption::Size),
         5 => WordFault::MissingOption(RequiredOption::Seconds),
         6 => WordFault::MissingOption(RequiredOption::Source),
-        _ => WordFault::MissingOption(RequiredOption::Target),
+        7 => WordFault::MissingOption(RequiredOption::Target),
+        _ => WordFault::MissingOption(RequiredOption::Preset),
     }
 }
 
@@ -44,7 +45,7 @@ fn numbered_fault(words: usize, number: u32) -> WordFault
 fn take_words(bytes: &[u8]) -> Result<(usize, &[u8]), Malformed>
     ensures { Reads (λ found. (found.0, found.1.now)) result (one_of_at fault_words bytes.now) }
 {
-    let words: [&[u8]; 14] = [
+    let words: [&[u8]; 15] = [
         b"unknown command\n",
         b"long line\n",
         b"no actor\n",
@@ -53,6 +54,7 @@ fn take_words(bytes: &[u8]) -> Result<(usize, &[u8]), Malformed>
         b"missing option -seconds\n",
         b"missing option -source\n",
         b"missing option -target\n",
+        b"missing option -preset\n",
         b"unknown option at word ",
         b"missing word ",
         b"option repeated at word ",
@@ -68,11 +70,11 @@ fn take_fault(bytes: &[u8]) -> Result<(WordFault, &[u8]), Malformed>
     ensures { Reads (λ found. (found.0, found.1.now)) result (fault_at bytes.now) }
 {
     let (words, rest) = take_words(bytes)?;
-    if words < 8 {
+    if words < 9 {
         return Ok((fault_of(words), rest));
     }
     let (number, rest) = take_id(b"\n", rest)?;
-    Ok((numbered_fault(words - 8, number), rest))
+    Ok((numbered_fault(words - 9, number), rest))
 }
 
 /// Takes the reply of a line with a fault in its words, and the end of its line.

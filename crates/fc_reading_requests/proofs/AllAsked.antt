@@ -24,7 +24,8 @@ use Rattle.fc_reading_requests.proofs.AccessLemmas.{FitsAccess, clean_turns, cle
 use Rattle.fc_reading_requests.proofs.Alternatives.{Alternative, behind_text}
 use Rattle.fc_reading_requests.proofs.MappingLemmas.{FitsMaking, groups, mappings, named_groups}
 use Rattle.fc_reading_requests.proofs.Options.{Exact-words, settings}
-use Rattle.fc_reading_requests.proofs.ReportLemmas.{FitsReport, delimited_list, dependents, group_lists, mapping_lists, progress, volume_list}
+use Rattle.fc_reading_requests.proofs.PresetLemmas.{FitsPreset, presets}
+use Rattle.fc_reading_requests.proofs.ReportLemmas.{FitsReport, FitsRoom, delimited_list, delimited_room_list, dependents, group_lists, mapping_lists, progress, room_list, volume_list}
 use Rattle.fc_reading_requests.proofs.RunLemmas.{FitsFlagged, FitsRunning, group_prestarts, group_removals, group_starts, group_stops, mapping_removals, prestarts, starts, stops}
 use Rattle.fc_reading_requests.proofs.VolumeLemmas.{FitsVolume, advances, armfaults, named_volumes, removals, volumes}
 
@@ -41,7 +42,13 @@ FitsAt i a =
     Pick (nat_lt i 12) (FitsVolume (i - 7) a)
     (
     Pick (nat_lt i 15) (FitsMaking (i - 12) a)
-    (Pick (nat_lt i 19) (FitsFlagged (i - 15) a) (Pick (nat_lt i 23) (FitsRunning (i - 19) a) (FitsReport (i - 23) a)))
+    (
+    Pick (nat_lt i 19) (FitsFlagged (i - 15) a)
+    (
+    Pick (nat_lt i 23) (FitsRunning (i - 19) a)
+    (Pick (nat_lt i 29) (FitsReport (i - 23) a) (Pick (nat_lt i 30) (FitsPreset a) (FitsRoom (i - 30) a)))
+    )
+    )
     )
     )
 
@@ -57,12 +64,15 @@ with_volumes = (((((accesses, named_volumes), volumes), removals), armfaults), a
 with_mappings : AllBelow AlternativeAt 19
 with_mappings = (((((((with_volumes, mappings), groups), named_groups), prestarts), group_prestarts), mapping_removals), group_removals)
 
-all : AllBelow AlternativeAt 29
-all =
+with_reports : AllBelow AlternativeAt 29
+with_reports =
     ((((((((((with_mappings, starts), group_starts), stops), group_stops), mapping_lists), group_lists), volume_list), delimited_list), progress), dependents)
 
-alternatives : (i : ℕ) → i < 29 → AlternativeAt i
-alternatives = below_at AlternativeAt 29 all
+all : AllBelow AlternativeAt 32
+all = (((with_reports, presets), room_list), delimited_room_list)
+
+alternatives : (i : ℕ) → i < 32 → AlternativeAt i
+alternatives = below_at AlternativeAt 32 all
 
 -- ---- each is begun by a word
 
@@ -94,7 +104,7 @@ mapping_end source target name group copy clean (Some K256) true false = (10, om
 mapping_end source target name group copy clean (Some K256) true true = (11, omega arith, refl)
 
 abbrev IsBegun : Asked → Type 0
-IsBegun a = (i : ℕ) × (i < 29) × FitsAt i a
+IsBegun a = (i : ℕ) × (i < 32) × FitsAt i a
 
 command_from : (c : Command) → IsCommand c → IsNoAccess c → IsBegun (OfCommand c)
 command_from (command.Mkvdisk (Some name) size unit thin) is other =
@@ -127,6 +137,9 @@ command_from (command.Lsvdisk None) is other = (25, omega arith, refl)
 command_from (command.Lsvdisk (Some delim)) is other = (26, omega arith, (delim, is, refl))
 command_from (command.Lsfcmapprogress map delim) is other = (27, omega arith, ((delim, map), (is.1, is.0), refl))
 command_from (command.Lsfcmapdependentmaps map delim) is other = (28, omega arith, ((delim, map), (is.1, is.0), refl))
+command_from (command.Mkpreset source preset name) is other = (29, omega arith, ((source, (preset, name)), (is.0, (tt, is.1)), refl))
+command_from (command.Lsvdiskroom None) is other = (30, omega arith, refl)
+command_from (command.Lsvdiskroom (Some delim)) is other = (31, omega arith, (delim, is, refl))
 
 asked_from : (a : Asked) → IsAsked a → IsBegun a
 asked_from Unread is = (0, omega arith, refl)
@@ -144,7 +157,7 @@ abbrev word_at_place : ℕ → List ℕ
 word_at_place i = get_or asked_words i []
 
 abbrev OfWord : ℕ × Asked → Type 0
-OfWord x = (x.0 < 29) × FitsAt x.0 x.1
+OfWord x = (x.0 < 32) × FitsAt x.0 x.1
 
 pub Exact-asked : Exact IsAsked asked_line nothing asked_at
 Exact-asked =

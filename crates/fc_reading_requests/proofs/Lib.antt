@@ -7,6 +7,7 @@ pub mod AccessLemmas
 pub mod VolumeLemmas
 pub mod RunLemmas
 pub mod ReportLemmas
+pub mod PresetLemmas
 pub mod Options
 pub mod MappingLemmas
 pub mod PartLemmas

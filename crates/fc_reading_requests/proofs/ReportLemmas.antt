@@ -268,6 +268,20 @@ delimited_list =
     made {V = ℕ} (codes "lsvdisk -delim ") IsDelim (λ d. delim_word d ++ arrow) (ended_by delim_at arrow) delimited_volumes (Exact-delim_and arrow)
     (λ d fits. refl) (λ d fits. (fits, tt)) 58 some_delim
 
+abbrev pub all_rooms : Asked
+all_rooms = OfCommand (command.Lsvdiskroom None)
+
+pub room_list : Alternative (codes "lsvdiskroom -> ") (said all_rooms) (Is all_rooms)
+room_list = alone_said (codes "lsvdiskroom -> ") all_rooms refl (tt, tt)
+
+abbrev pub delimited_rooms : ℕ → Asked
+delimited_rooms delim = OfCommand (command.Lsvdiskroom (Some delim))
+
+pub delimited_room_list : Alternative (codes "lsvdiskroom -delim ") (map_read (λ delim. OfCommand (command.Lsvdiskroom (Some delim))) (ended_by delim_at arrow)) (Image IsDelim delimited_rooms)
+delimited_room_list =
+    made {V = ℕ} (codes "lsvdiskroom -delim ") IsDelim (λ d. delim_word d ++ arrow) (ended_by delim_at arrow) delimited_rooms (Exact-delim_and arrow)
+    (λ d fits. refl) (λ d fits. (fits, tt)) 58 some_delim
+
 progress_line : (x : Report) → IsReport x → asked_line (reported command.Lsfcmapprogress x) ≡ codes "lsfcmapprogress " ++ report_text x
 progress_line (Some d, o) fits = refl
 progress_line (None, o) fits = refl
@@ -294,3 +308,7 @@ FitsReport (suc (suc zero)) a = Is all_volumes a
 FitsReport (suc (suc (suc zero))) a = Image IsDelim delimited_volumes a
 FitsReport (suc (suc (suc (suc zero)))) a = Image IsReport (reported command.Lsfcmapprogress) a
 FitsReport (suc (suc (suc (suc (suc n))))) a = Image IsReport (reported command.Lsfcmapdependentmaps) a
+
+abbrev pub FitsRoom : ℕ → Asked → Type 0
+FitsRoom zero a = Is all_rooms a
+FitsRoom (suc n) a = Image IsDelim delimited_rooms a

@@ -68,6 +68,8 @@ command_line (command.Lsfcconsistgrp group delim) is = ((is, tt), refl)
 command_line (command.Lsvdisk delim) is = ((is, tt), refl)
 command_line (command.Lsfcmapprogress map delim) is = ((is, tt), refl)
 command_line (command.Lsfcmapdependentmaps map delim) is = ((is, tt), refl)
+command_line (command.Mkpreset source preset name) is = ((is, tt), refl)
+command_line (command.Lsvdiskroom delim) is = ((is, tt), refl)
 
 pub request_line : (r : Request) → IsRequest r → IsAskedSo r
 request_line (request.Command c) is = command_line c is
@@ -142,6 +144,8 @@ command_known (command.Lsfcconsistgrp group delim) reply is may = refl
 command_known (command.Lsvdisk delim) reply is may = refl
 command_known (command.Lsfcmapprogress map delim) reply is may = refl
 command_known (command.Lsfcmapdependentmaps map delim) reply is may = refl
+command_known (command.Mkpreset source preset name) reply is may = refl
+command_known (command.Lsvdiskroom delim) reply is may = refl
 
 known : (r : Request) (reply : Reply) → IsRequest r → MayAnswer r reply → request_of (asked_of r) reply ≡ Some r
 known (request.Command c) reply is may = command_known c reply is may

@@ -1,6 +1,7 @@
 -- Rows worked by hand: what reading gives.
 use Rattle.std.proofs.Common.{◌≡◌, false, true, [], Some, None, Ok, Err, codes, refl}
 use Rattle.fc_base.specs.declared.command.Command.TheVariants as command
+use Rattle.fc_base.specs.declared.command.Preset.TheVariants.{Snapshot, Clone}
 use Rattle.fc_base.specs.declared.name.Ref.TheVariants.{Id, Name}
 use Rattle.fc_base.specs.declared.size.GrainSize.TheVariants.{K256}
 use Rattle.fc_reading_requests.specs.Requests.{asked_at}
@@ -26,9 +27,25 @@ a_mapping = OfCommand (command.Mkfcmap (Name (codes "a")) (Id 1) (Some (codes "m
 reads_mapping : asked_at (codes "mkfcmap -source a -target 1 -name m -copyrate 0 -grainsize 256 -incremental -> ") ≡ Ok (a_mapping, [])
 reads_mapping = refl
 
+reads_preset : asked_at (codes "mkpreset -source A -preset snapshot -name s1 -> ok") ≡ Ok (OfCommand (command.Mkpreset (Name (codes "A")) Snapshot (Some (codes "s1"))), codes "ok")
+reads_preset = refl
+
+reads_nameless : asked_at (codes "mkpreset -source 7 -preset clone -> ") ≡ Ok (OfCommand (command.Mkpreset (Id 7) Clone None), [])
+reads_nameless = refl
+
+reads_room : asked_at (codes "lsvdiskroom -> rows") ≡ Ok (OfCommand (command.Lsvdiskroom None), codes "rows")
+reads_room = refl
+
+reads_delimited_room : asked_at (codes "lsvdiskroom -delim , -> ") ≡ Ok (OfCommand (command.Lsvdiskroom (Some 44)), [])
+reads_delimited_room = refl
+
 -- no byte of a name goes on behind an id, and no option stands before one that it follows
 id_ends : asked_at (codes "read 0a") ≡ Err 1
 id_ends = refl
 
 option_order : asked_at (codes "mkfcmap -source a -target b -cleanrate 5 -copyrate 5") ≡ Err 10
 option_order = refl
+
+-- of the presets, `clone` goes furthest
+no_preset : asked_at (codes "mkpreset -source A -preset copy -> ") ≡ Err 7
+no_preset = refl

@@ -5,6 +5,7 @@ pub mod Lines
 pub mod Mappings
 pub mod Runs
 pub mod Reports
+pub mod Presets
 pub mod Requests
 pub mod Answered
 pub mod Back

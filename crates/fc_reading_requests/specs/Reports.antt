@@ -52,3 +52,12 @@ behind_report word =
     else if word == 3 then map_read (λ delim. OfCommand (command.Lsvdisk (Some delim))) (ended_by delim_at arrow)
     else if word == 4 then map_read (reported command.Lsfcmapprogress) report_at
     else map_read (reported command.Lsfcmapdependentmaps) report_at
+
+-- the room that volumes take
+abbrev pub room_words : List (List ℕ)
+room_words = codes "lsvdiskroom -> " ∷ codes "lsvdiskroom -delim " ∷ []
+
+abbrev pub behind_room : ℕ → List ℕ → Result (Asked × List ℕ) ℕ
+behind_room word =
+    if word == 0 then said (OfCommand (command.Lsvdiskroom None))
+    else map_read (λ delim. OfCommand (command.Lsvdiskroom (Some delim))) (ended_by delim_at arrow)

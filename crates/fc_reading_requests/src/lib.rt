@@ -6,8 +6,8 @@
 //! with a fault in its words has none.
 //!
 //! In reading order: `asked`, what a text tells of a request; `parts`, names, objects and bytes; then what
-//! stands behind the first words: `accesses`, `volumes`, `mappings`, `runs`, `reports`; `requests`, all of
-//! them; and `answered`.
+//! stands behind the first words: `accesses`, `volumes`, `mappings`, `runs`, `reports`, `presets`; `requests`,
+//! all of them; and `answered`.
 #![tactic(auto)]
 
 pub mod accesses;
@@ -15,6 +15,7 @@ pub mod answered;
 pub mod asked;
 pub mod mappings;
 pub mod parts;
+pub mod presets;
 pub mod reports;
 pub mod requests;
 pub mod runs;

@@ -2,7 +2,7 @@
 
 ghost use Rattle.std.specs.Prelude.{◌≡◌};
 ghost use Rattle.fc_reading_notes.specs.Answers.{ReadsOr};
-ghost use Rattle.fc_reading_requests.specs.Reports.{behind_dash, behind_report, list_at, maybe_object_at, report_at};
+ghost use Rattle.fc_reading_requests.specs.Reports.{behind_dash, behind_report, behind_room, list_at, maybe_object_at, report_at};
 
 use crate::asked::Asked;
 use crate::parts::{begins_with_dash, take_delim_and, take_object_and};
@@ -109,4 +109,16 @@ pub(crate) fn take_shown(
             Ok((Asked::Command(command), rest))
         }
     }
+}
+
+/// Takes what stands behind the first word of the report on volumes' room, which is told by its number.
+pub(crate) fn take_room(word: usize, bytes: &[u8]) -> Result<(Asked, &[u8]), ReadStop>
+    ensures { ReadsOr (λ found. (found.0, found.1.now)) result (behind_room word bytes.now) }
+{
+    if word == 0 {
+        return Ok((Asked::Command(Command::Lsvdiskroom { delim: None }), bytes));
+    }
+    let (delim, rest) = take_delim_and(b" -> ", bytes)?;
+    let delim = Some(delim);
+    Ok((Asked::Command(Command::Lsvdiskroom { delim }), rest))
 }

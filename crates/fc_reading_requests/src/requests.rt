@@ -13,7 +13,8 @@ ghost use Rattle.fc_reading_requests.specs.Requests.{asked_at, asked_words, behi
 use crate::accesses::take_access;
 use crate::asked::Asked;
 use crate::mappings::take_making;
-use crate::reports::take_shown;
+use crate::presets::take_preset;
+use crate::reports::{take_room, take_shown};
 use crate::runs::{take_flagged, take_running};
 use crate::volumes::take_volume;
 use fc_reading::pieces::{Malformed, one_of};
@@ -25,7 +26,7 @@ use std::alloc::Global;
 fn take_first(bytes: &[u8]) -> Result<(usize, &[u8]), Malformed>
     ensures { Reads (λ found. (found.0, found.1.now)) result (one_of_at asked_words bytes.now) }
 {
-    let words: [&[u8]; 29] = [
+    let words: [&[u8]; 32] = [
         b"- -> ",
         b"read ",
         b"write ",
@@ -55,6 +56,9 @@ fn take_first(bytes: &[u8]) -> Result<(usize, &[u8]), Malformed>
         b"lsvdisk -delim ",
         b"lsfcmapprogress ",
         b"lsfcmapdependentmaps ",
+        b"mkpreset -source ",
+        b"lsvdiskroom -> ",
+        b"lsvdiskroom -delim ",
     ];
     one_of(&words, bytes)
 }
@@ -69,7 +73,9 @@ fn take_behind(alloc: Global, word: usize, bytes: &[u8]) -> Result<(Asked, &[u8]
         12..=14 => take_making(alloc, word - 12, bytes),
         15..=18 => take_flagged(alloc, word - 15, bytes),
         19..=22 => take_running(alloc, word - 19, bytes),
-        _ => take_shown(alloc, word - 23, bytes),
+        23..=28 => take_shown(alloc, word - 23, bytes),
+        29 => take_preset(alloc, bytes),
+        _ => take_room(word - 30, bytes),
     }
 }
 

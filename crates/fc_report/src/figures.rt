@@ -25,7 +25,7 @@ fn percent(part: u32, whole: u32) -> u64
 
 /// How many grains the mapping's target has.
 fn total<S: Sheet>(registry: &Registry, sheet: &S, mapping: &Mapping) -> u32
-    ensures { result ≡ total (asked registry.now.tables (S.meaning sheet.now).sheet) mapping.now }
+    ensures { result ≡ total (asked registry.now.tables (S.meaning sheet.now)) mapping.now }
 {
     let _sheet = sheet;
     match registry.volume_with(mapping.target) {
@@ -36,7 +36,7 @@ fn total<S: Sheet>(registry: &Registry, sheet: &S, mapping: &Mapping) -> u32
 
 /// How many grains are copied, as far as the state of the mapping tells.
 fn copied<S: Sheet>(sheet: &S, mapping: &Mapping) -> u32
-    ensures { (tables : Tables) → result ≡ copied_in mapping.now.state (asked tables (S.meaning sheet.now).sheet) mapping.now }
+    ensures { (tables : Tables) → result ≡ copied_in mapping.now.state (asked tables (S.meaning sheet.now)) mapping.now }
 {
     match mapping.state {
         MapState::Copying => sheet.held(mapping.id),
@@ -49,7 +49,7 @@ fn copied<S: Sheet>(sheet: &S, mapping: &Mapping) -> u32
 
 /// How much of the mapping's target is copied, in percent.
 pub fn progress<S: Sheet>(registry: &Registry, sheet: &S, mapping: &Mapping) -> u64
-    ensures { result ≡ progress (asked registry.now.tables (S.meaning sheet.now).sheet) mapping.now }
+    ensures { result ≡ progress (asked registry.now.tables (S.meaning sheet.now)) mapping.now }
 {
     let copied = copied(sheet, mapping);
     percent(copied, total(registry, sheet, mapping))
@@ -57,7 +57,7 @@ pub fn progress<S: Sheet>(registry: &Registry, sheet: &S, mapping: &Mapping) -> 
 
 /// How much of the mapping's target nobody needs, in percent.
 fn unneeded<S: Sheet>(registry: &Registry, sheet: &S, mapping: &Mapping) -> u64
-    ensures { result ≡ unneeded (asked registry.now.tables (S.meaning sheet.now).sheet) mapping.now }
+    ensures { result ≡ unneeded (asked registry.now.tables (S.meaning sheet.now)) mapping.now }
 {
     let total = total(registry, sheet, mapping);
     percent(total.saturating_sub(sheet.needed(mapping.id)), total)
@@ -65,7 +65,7 @@ fn unneeded<S: Sheet>(registry: &Registry, sheet: &S, mapping: &Mapping) -> u64
 
 /// How much of the mapping's target nobody needs, in percent: all of it where it is neither copying nor stopping.
 pub fn cleaned<S: Sheet>(registry: &Registry, sheet: &S, mapping: &Mapping) -> u64
-    ensures { result ≡ cleaned_in mapping.now.state (asked registry.now.tables (S.meaning sheet.now).sheet) mapping.now }
+    ensures { result ≡ cleaned_in mapping.now.state (asked registry.now.tables (S.meaning sheet.now)) mapping.now }
 {
     match mapping.state {
         MapState::Copying | MapState::Stopping => unneeded(registry, sheet, mapping),

@@ -5,7 +5,8 @@
 //! holds and who needs it is asked of the sheet, which counts its grains as they change, so no grain is looked at here.
 //!
 //! In reading order: `fields` (a row as it grows), `layout` (the text of rows), `figures` (what is counted),
-//! `mappings`, `objects` (the fields of mappings, groups and volumes), `rows`.
+//! `mappings`, `objects` (the fields of mappings, groups and volumes), `room` (the grains of volumes that occupy memory),
+//! `rows`.
 #![tactic(auto)]
 
 mod fields;
@@ -13,6 +14,7 @@ mod figures;
 mod layout;
 mod mappings;
 mod objects;
+mod room;
 mod rows;
 
 pub use rows::report;

@@ -56,7 +56,7 @@ pub fn mapping_fields<S: Sheet>(
     sheet: &S,
     mapping: &Mapping,
 ) -> Result<Fields, NoMemory>
-    ensures { IfOk result (λ row. row ≡ fields (mapping_columns (asked registry.now.tables (S.meaning sheet.now).sheet)) mapping.now) }
+    ensures { IfOk result (λ row. row ≡ fields (mapping_columns (asked registry.now.tables (S.meaning sheet.now))) mapping.now) }
 {
     let mut row = List::new(alloc);
     put_volumes(alloc, registry, mapping, &mut row)?;
@@ -134,7 +134,7 @@ fn put_figures<S: Sheet>(
     mapping: &Mapping,
     row: &mut Fields,
 ) -> Result<(), NoMemory>
-    ensures { OnOk result (row.new ≡ row.old ++ state_text mapping.now.state ∷ decimal (progress (asked registry.now.tables (S.meaning sheet.now).sheet) mapping.now) ∷ decimal mapping.now.copy_rate ∷ decimal (cleaned_in mapping.now.state (asked registry.now.tables (S.meaning sheet.now).sheet) mapping.now) ∷ cond mapping.now.incremental (codes "on") (codes "off") ∷ []) }
+    ensures { OnOk result (row.new ≡ row.old ++ state_text mapping.now.state ∷ decimal (progress (asked registry.now.tables (S.meaning sheet.now)) mapping.now) ∷ decimal mapping.now.copy_rate ∷ decimal (cleaned_in mapping.now.state (asked registry.now.tables (S.meaning sheet.now)) mapping.now) ∷ cond mapping.now.incremental (codes "on") (codes "off") ∷ []) }
 {
     let copied = progress(registry, sheet, mapping);
     put_text(alloc, row, state_word(mapping.state))?;
@@ -181,7 +181,7 @@ pub fn mapping_table<S: Sheet>(
     registry: &Registry,
     sheet: &S,
 ) -> Result<Table, NoMemory>
-    ensures { IfOk result (λ rows. rows ≡ table (mapping_columns (asked registry.now.tables (S.meaning sheet.now).sheet)) registry.now.tables.mappings) }
+    ensures { IfOk result (λ rows. rows ≡ table (mapping_columns (asked registry.now.tables (S.meaning sheet.now))) registry.now.tables.mappings) }
 {
     let headings = mapping_headings(alloc)?;
     let mut rows = headed(alloc, headings)?;
@@ -200,7 +200,7 @@ fn put_row<S: Sheet>(
     mapping: &Mapping,
     rows: &mut Table,
 ) -> Result<(), NoMemory>
-    ensures { OnOk result (rows.new ≡ rows.old ++ fields (mapping_columns (asked registry.now.tables (S.meaning sheet.now).sheet)) mapping.now ∷ []) }
+    ensures { OnOk result (rows.new ≡ rows.old ++ fields (mapping_columns (asked registry.now.tables (S.meaning sheet.now))) mapping.now ∷ []) }
 {
     let row = mapping_fields(alloc, registry, sheet, mapping)?;
     rows.push(row)
@@ -213,7 +213,7 @@ pub fn progress_table<S: Sheet>(
     sheet: &S,
     mapping: &Mapping,
 ) -> Result<Table, NoMemory>
-    ensures { IfOk result (λ rows. rows ≡ table (progress_columns (asked registry.now.tables (S.meaning sheet.now).sheet)) (mapping.now ∷ [])) }
+    ensures { IfOk result (λ rows. rows ≡ table (progress_columns (asked registry.now.tables (S.meaning sheet.now))) (mapping.now ∷ [])) }
 {
     let headings = row_of(alloc, &[b"id", b"progress"])?;
     let mut rows = headed(alloc, headings)?;
@@ -229,7 +229,7 @@ fn put_progress<S: Sheet>(
     mapping: &Mapping,
     rows: &mut Table,
 ) -> Result<(), NoMemory>
-    ensures { OnOk result (rows.new ≡ rows.old ++ fields (progress_columns (asked registry.now.tables (S.meaning sheet.now).sheet)) mapping.now ∷ []) }
+    ensures { OnOk result (rows.new ≡ rows.old ++ fields (progress_columns (asked registry.now.tables (S.meaning sheet.now))) mapping.now ∷ []) }
 {
     let copied = progress(registry, sheet, mapping);
     let mut row = List::new(alloc);

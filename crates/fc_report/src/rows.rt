@@ -1,9 +1,9 @@
 //! The rows of a report.
 
 ghost use Rattle.std.specs.Prelude.{◌≡◌, IfOk, Some, None};
-ghost use Rattle.fc_base.specs.Sheet.{Sheet};
 ghost use Rattle.fc_base.specs.declared.size.GrainSize.{GrainSize};
 ghost use Rattle.fc_base.specs.SheetFacts.{HasSizes};
+ghost use Rattle.fc_base.specs.SheetView.{SheetView};
 ghost use Rattle.fc_base.specs.declared.command.Command.{Command};
 ghost use Rattle.fc_books.specs.Reports.{report_rows};
 ghost use Rattle.fc_report.specs.Asked.{asked};
@@ -13,6 +13,7 @@ use crate::mappings::{
     dependent_table, mapping_fields, mapping_headings, mapping_table, progress_table,
 };
 use crate::objects::{group_fields, group_headings, group_table, volume_table};
+use crate::room::room_table;
 use fc_base::command::Command;
 use fc_base::list::List;
 use fc_base::name::Ref;
@@ -32,7 +33,7 @@ pub fn report<S: Sheet>(
     sheet: &S,
 ) -> Result<Rows, NoMemory>
     requires sizes { HasSizes (S.meaning sheet.now).sheet.slots }
-    ensures { IfOk result (λ rows. rows ≡ report_rows grain (asked registry.now.tables (S.meaning sheet.now).sheet) command.now) }
+    ensures { IfOk result (λ rows. rows ≡ report_rows grain (asked registry.now.tables (S.meaning sheet.now)) command.now) }
 {
     match command {
         Command::Lsfcmap { map, delim } => match map {
@@ -50,6 +51,7 @@ pub fn report<S: Sheet>(
         Command::Lsfcmapdependentmaps { map, delim } => {
             mapping_dependents(alloc, map, *delim, registry, sheet)
         }
+        Command::Lsvdiskroom { delim } => volumes_room(alloc, *delim, registry, sheet),
         _ => Ok(List::new(alloc)),
     }
 }
@@ -62,7 +64,7 @@ fn all_mappings<S: Sheet>(
     registry: &Registry,
     sheet: &S,
 ) -> Result<Rows, NoMemory>
-    ensures { (grain : GrainSize) → IfOk result (λ rows. rows ≡ report_rows grain (asked registry.now.tables (S.meaning sheet.now).sheet) (Command.Lsfcmap None delim)) }
+    ensures { (grain : GrainSize) → IfOk result (λ rows. rows ≡ report_rows grain (asked registry.now.tables (S.meaning sheet.now)) (Command.Lsfcmap None delim)) }
 {
     let table = mapping_table(alloc, registry, sheet)?;
     laid_out(alloc, delim, table.as_slice())
@@ -77,7 +79,7 @@ fn one_mapping<S: Sheet>(
     registry: &Registry,
     sheet: &S,
 ) -> Result<Rows, NoMemory>
-    ensures { (grain : GrainSize) → IfOk result (λ rows. rows ≡ report_rows grain (asked registry.now.tables (S.meaning sheet.now).sheet) (Command.Lsfcmap (Some map.now) delim)) }
+    ensures { (grain : GrainSize) → IfOk result (λ rows. rows ≡ report_rows grain (asked registry.now.tables (S.meaning sheet.now)) (Command.Lsfcmap (Some map.now) delim)) }
 {
     match registry.mapping(map) {
         None => Ok(List::new(alloc)),
@@ -92,7 +94,7 @@ fn one_mapping<S: Sheet>(
 /// All groups.
 #[tactic(auto, unfolding(fc_books::specs::Reports::report_rows))]
 fn all_groups(alloc: Global, delim: Option<u8>, registry: &Registry) -> Result<Rows, NoMemory>
-    ensures { (grain : GrainSize) (sheet : Sheet) → IfOk result (λ rows. rows ≡ report_rows grain (asked registry.now.tables sheet) (Command.Lsfcconsistgrp None delim)) }
+    ensures { (grain : GrainSize) (view : SheetView) → IfOk result (λ rows. rows ≡ report_rows grain (asked registry.now.tables view) (Command.Lsfcconsistgrp None delim)) }
 {
     let table = group_table(alloc, registry)?;
     laid_out(alloc, delim, table.as_slice())
@@ -106,7 +108,7 @@ fn one_group(
     delim: Option<u8>,
     registry: &Registry,
 ) -> Result<Rows, NoMemory>
-    ensures { (grain : GrainSize) (sheet : Sheet) → IfOk result (λ rows. rows ≡ report_rows grain (asked registry.now.tables sheet) (Command.Lsfcconsistgrp (Some group.now) delim)) }
+    ensures { (grain : GrainSize) (view : SheetView) → IfOk result (λ rows. rows ≡ report_rows grain (asked registry.now.tables view) (Command.Lsfcconsistgrp (Some group.now) delim)) }
 {
     match registry.group(group) {
         None => Ok(List::new(alloc)),
@@ -126,7 +128,7 @@ fn all_volumes(
     grain: GrainSize,
     registry: &Registry,
 ) -> Result<Rows, NoMemory>
-    ensures { (sheet : Sheet) → IfOk result (λ rows. rows ≡ report_rows grain (asked registry.now.tables sheet) (Command.Lsvdisk delim)) }
+    ensures { (view : SheetView) → IfOk result (λ rows. rows ≡ report_rows grain (asked registry.now.tables view) (Command.Lsvdisk delim)) }
 {
     let table = volume_table(alloc, grain, registry)?;
     laid_out(alloc, delim, table.as_slice())
@@ -141,7 +143,7 @@ fn mapping_progress<S: Sheet>(
     registry: &Registry,
     sheet: &S,
 ) -> Result<Rows, NoMemory>
-    ensures { (grain : GrainSize) → IfOk result (λ rows. rows ≡ report_rows grain (asked registry.now.tables (S.meaning sheet.now).sheet) (Command.Lsfcmapprogress map.now delim)) }
+    ensures { (grain : GrainSize) → IfOk result (λ rows. rows ≡ report_rows grain (asked registry.now.tables (S.meaning sheet.now)) (Command.Lsfcmapprogress map.now delim)) }
 {
     match registry.mapping(map) {
         None => Ok(List::new(alloc)),
@@ -162,7 +164,7 @@ fn mapping_dependents<S: Sheet>(
     sheet: &S,
 ) -> Result<Rows, NoMemory>
     requires sizes { HasSizes (S.meaning sheet.now).sheet.slots }
-    ensures { (grain : GrainSize) → IfOk result (λ rows. rows ≡ report_rows grain (asked registry.now.tables (S.meaning sheet.now).sheet) (Command.Lsfcmapdependentmaps map.now delim)) }
+    ensures { (grain : GrainSize) → IfOk result (λ rows. rows ≡ report_rows grain (asked registry.now.tables (S.meaning sheet.now)) (Command.Lsfcmapdependentmaps map.now delim)) }
 {
     match registry.mapping(map) {
         None => Ok(List::new(alloc)),
@@ -172,4 +174,18 @@ fn mapping_dependents<S: Sheet>(
             laid_out(alloc, delim, table.as_slice())
         }
     }
+}
+
+/// All volumes, each with how many of its grains occupy memory.
+#[tactic(auto, unfolding(fc_books::specs::Reports::report_rows))]
+fn volumes_room<S: Sheet>(
+    alloc: Global,
+    delim: Option<u8>,
+    registry: &Registry,
+    sheet: &S,
+) -> Result<Rows, NoMemory>
+    ensures { (grain : GrainSize) → IfOk result (λ rows. rows ≡ report_rows grain (asked registry.now.tables (S.meaning sheet.now)) (Command.Lsvdiskroom delim)) }
+{
+    let table = room_table(alloc, registry, sheet)?;
+    laid_out(alloc, delim, table.as_slice())
 }

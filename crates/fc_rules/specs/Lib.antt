@@ -6,4 +6,5 @@ pub mod LaneTold
 pub mod LaneFits
 pub mod LaneTurn
 pub mod LaneRight
+pub mod Rooms
 pub mod Shows

@@ -1,11 +1,12 @@
 -- What an actor asks goes by the volumes alone.
-use Rattle.std.proofs.Common.{◌≡◌, ℕ, List, [], ◌∷◌, ◌++◌, find, get_or, refl, ap, ◌∙◌}
+use Rattle.std.proofs.Common.{◌≡◌, ℕ, List, [], ◌∷◌, ◌++◌, Option, find, get_or, refl, ap, ◌∙◌}
 use Rattle.std.specs.List.{flat_map}
 use Rattle.std.proofs.lemmas.List.{append-nil}
-use Rattle.fc_base.specs.Tables.{refers_to}
+use Rattle.fc_base.specs.Tables.{refers_to, volume_named}
 use Rattle.fc_base.specs.declared.command.Command.{Command}
-use Rattle.fc_base.specs.declared.command.Command.TheVariants.{Read as ReadLine, Write as WriteLine}
+use Rattle.fc_base.specs.declared.command.Command.TheVariants.{Read as ReadLine, Write as WriteLine, Mkpreset}
 use Rattle.fc_base.specs.declared.command.Line.TheVariants.{Blank, Command as CommandLine, Together, Actor, End}
+use Rattle.fc_base.specs.declared.command.Preset.{Preset}
 use Rattle.fc_base.specs.declared.command.Role.{Role}
 use Rattle.fc_base.specs.declared.command.Role.TheVariants.{Host, Admin, Copier, Cleaner}
 use Rattle.fc_base.specs.declared.command.ScriptLine.{ScriptLine}
@@ -23,6 +24,7 @@ use Rattle.fc_entry.specs.Refused.{blocks_refusal}
 use Rattle.fc_entry.specs.HistoryState.{number_of_actor}
 use Rattle.fc_entry.specs.declared.entry.Entry.{Entry}
 use Rattle.fc_legal.specs.Asked.{access_requests, access_asked, command_asked, read_in, write_in}
+use Rattle.fc_legal.specs.Presets.{preset_asked}
 use Rattle.fc_scripts.proofs.Numbers.{differ_law, not_main_law}
 use Rattle.fc_scripts.proofs.Through.{asking_law, into_law, through_law}
 use Rattle.fc_scripts.specs.Actors.{asks_of, AreAll, AreFirst}
@@ -34,9 +36,15 @@ access_fixed : (grain : GrainSize) (b c : Books) (command : Command) (volume : R
 access_fixed grain b c command volume block count request e =
     ap (λ (volumes : List Volume). access_requests grain command block count request (of_one Vdisk (find (λ (v : Volume). refers_to volume v.id.0 v.name) volumes) (λ (v : Volume). blocks_refusal grain v block count)) (find (λ (v : Volume). refers_to volume v.id.0 v.name) volumes)) e
 
+preset_fixed : (grain : GrainSize) (b c : Books) (source : Ref) (preset : Preset) (name : Option (List ℕ)) → b.tables.volumes ≡ c.tables.volumes →
+    preset_asked grain source preset name (volume_named b.tables source) ≡ preset_asked grain source preset name (volume_named c.tables source)
+preset_fixed grain b c source preset name e =
+    ap (λ (volumes : List Volume). preset_asked grain source preset name (find (λ (v : Volume). refers_to source v.id.0 v.name) volumes)) e
+
 command_fixed : (grain : GrainSize) (b c : Books) (command : Command) → b.tables.volumes ≡ c.tables.volumes → command_asked grain b command ≡ command_asked grain c command
 command_fixed grain b c (ReadLine volume block count) e = access_fixed grain b c (ReadLine volume block count) volume block count (λ id. read_in grain id block count) e
 command_fixed grain b c (WriteLine volume block count byte) e = access_fixed grain b c (WriteLine volume block count byte) volume block count (λ id. write_in grain id block count byte) e
+command_fixed grain b c (Mkpreset source preset name) e = preset_fixed grain b c source preset name e
 command_fixed grain b c command e = refl
 
 line_fixed : (grain : GrainSize) (b c : Books) (line : ScriptLine) → b.tables.volumes ≡ c.tables.volumes → line_asked grain b line ≡ line_asked grain c line

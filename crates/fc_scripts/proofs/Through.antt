@@ -2,15 +2,18 @@
 use Rattle.std.proofs.Common.{◌≡◌, ℕ, ◌+◌, ◌*◌, ◌≤◌, Bool, true, false, cond, Option, Some, None, List, [], ◌∷◌, length, refl, sym, ap, subst, arith}
 use Rattle.fc_agenda.proofs.Going.{Goes-pass}
 use Rattle.fc_agenda.specs.Goes.{Goes, stays, passes, begins, answers}
+use Rattle.fc_base.specs.declared.behind.Behind.{Behind}
+use Rattle.fc_base.specs.declared.behind.Behind.TheVariants.{Passing as PassingSeconds, Mapping as MappingOf, Start, Undo}
 use Rattle.fc_base.specs.declared.ids.GrainNo.{GrainNo}
+use Rattle.fc_base.specs.declared.request.Reply.{Reply}
 use Rattle.fc_base.specs.declared.request.Request.{Request}
 use Rattle.fc_base.specs.declared.size.GrainSize.{GrainSize}
 use Rattle.fc_blocks.specs.Segments.{Segment, single, together}
 use Rattle.fc_entry.specs.declared.entry.Entry.{Entry}
-use Rattle.fc_legal.specs.Agenda.{Agenda, Actors, Begins, Faults, Own, Reading, Seconds, Session, behind_entry, behind_own, is_done, next_of_second, segment_read, session_rules, without_entry, without_fill}
+use Rattle.fc_legal.specs.Agenda.{Agenda, Actors, Begins, Faults, Own, Reading, Seconds, Session, behind_entry, behind_last, behind_own, is_done, next_of_second, segment_read, session_rules, without_entry, without_fill}
 use Rattle.fc_legal.specs.Legal.{AreSteps}
 use Rattle.fc_legal.specs.Scripts.{Script, are_done, behind_next}
-use Rattle.fc_legal.specs.Seconds.{Passing, Work, goes_on, next_fill}
+use Rattle.fc_legal.specs.Seconds.{Passing, Work, all_work, goes_on, next_fill, seconds_begun}
 use Rattle.fc_legal.specs.Whole.{Whole}
 use Rattle.fc_scripts.proofs.Sorted.{AreNext, TakeNext, all_take, are_all, are_first, first_take, taken_done, want_more, wanted_next}
 use Rattle.fc_scripts.specs.Actors.{AreAll, AreFirst, WantMore}
@@ -21,7 +24,7 @@ use Rattle.fc_scripts.specs.Ways.{IsAsking, IsInto, IsThrough}
 
 abbrev extent : Agenda → ℕ
 extent (Session segs) = 2 * length segs
-extent (Own requests n segs) = 2 * length segs + 1
+extent (Own requests behind segs) = 2 * length segs + 1
 extent (Seconds p segs) = 2 * length segs + 1
 extent (Faults requests actors segs) = 2 * length segs + 1
 extent (Actors scripts segs) = 2 * length segs + 1
@@ -62,10 +65,10 @@ module _ (grain : GrainSize) (read : Reading) where
   passes_less : (a b : Agenda) (w : Whole) → without_entry grain read a w ≡ Some b → extent b ≤ extent a
   passes_less (Session []) b w e = absurd (cc e)
   passes_less (Session (segment ∷ segs)) b w e = omega (arith, begun_less segment segs b w e)
-  passes_less (Own [] n segs) b w e =
+  passes_less (Own [] behind segs) b w e =
       let is : Session segs ≡ b = cc e in
       omega (arith, is_at (Session segs) b is)
-  passes_less (Own (request ∷ rest) n segs) b w e = absurd (cc e)
+  passes_less (Own (request ∷ rest) behind segs) b w e = absurd (cc e)
   passes_less (Seconds p segs) b w e = fill_less w p (next_fill grain w p) segs b e
   passes_less (Faults requests actors segs) b w e = absurd (cc e)
   passes_less (Actors scripts segs) b w e =
@@ -76,19 +79,28 @@ module _ (grain : GrainSize) (read : Reading) where
   begins_less (Faults [] actors segs) b w v on = omega (arith, is_at _ b (sym on.1))
   begins_less (Faults (request ∷ rest) actors segs) b w v on = absurd on
   begins_less (Session segs) b w v on = absurd on
-  begins_less (Own requests n segs) b w v on = absurd on
+  begins_less (Own requests behind segs) b w v on = absurd on
   begins_less (Seconds p segs) b w v on = absurd on
   begins_less (Actors scripts segs) b w v on = absurd on
 
-  own_less : (next : Whole) (done : Bool) (rest : List Request) (n : ℕ) (segs : List Segment) → extent (behind_own next done rest n segs) ≤ 2 * length segs + 1
-  own_less next true [] n segs = omega arith
-  own_less next false [] n segs = omega arith
-  own_less next done (request ∷ rest) n segs = omega arith
+  seconds_less : (done : Bool) (p : Passing) (segs : List Segment) → extent (cond done (Seconds p segs) (Session segs)) ≤ 2 * length segs + 1
+  seconds_less true p segs = omega arith
+  seconds_less false p segs = omega arith
+
+  last_less : (next : Whole) (reply : Reply) (behind : Behind) (segs : List Segment) → extent (behind_last next reply behind segs) ≤ 2 * length segs + 1
+  last_less next reply (PassingSeconds n) segs = seconds_less (is_done reply) (seconds_begun n (all_work next.books)) segs
+  last_less next reply (MappingOf source preset name) segs = omega arith
+  last_less next reply (Start volume) segs = omega arith
+  last_less next reply (Undo map volume) segs = omega arith
+
+  own_less : (next : Whole) (reply : Reply) (rest : List Request) (behind : Behind) (segs : List Segment) → extent (behind_own next reply rest behind segs) ≤ 2 * length segs + 1
+  own_less next reply [] behind segs = last_less next reply behind segs
+  own_less next reply (request ∷ rest) behind segs = omega arith
 
   behind_less : (a : Agenda) (next : Whole) (entry : Entry) → extent (behind_entry grain a next entry) ≤ extent a
   behind_less (Session segs) next entry = omega arith
-  behind_less (Own [] n segs) next entry = omega arith
-  behind_less (Own (request ∷ rest) n segs) next entry = own_less next (is_done entry.reply) rest n segs
+  behind_less (Own [] behind segs) next entry = omega arith
+  behind_less (Own (request ∷ rest) behind segs) next entry = own_less next entry.reply rest behind segs
   behind_less (Seconds p segs) next entry = omega arith
   behind_less (Faults [] actors segs) next entry = omega arith
   behind_less (Faults (request ∷ rest) actors segs) next entry = omega arith

@@ -1,5 +1,5 @@
 -- What an actor is to ask doesn't go by the entries that came since: a block's volumes, lanes and grain size stay.
-use Rattle.std.proofs.Common.{◌≡◌, ℕ, ◌%◌, List, Option, find, Contains, sym, ◌∙◌, ap, subst}
+use Rattle.std.proofs.Common.{◌≡◌, ℕ, ◌%◌, List, Option, None, find, Contains, sym, ◌∙◌, ap, subst}
 use Rattle.fc_base.specs.Tables.{refers_to}
 use Rattle.fc_base.specs.declared.command.Command.TheVariants as command
 use Rattle.fc_base.specs.declared.fault.Kind.TheVariants.{Vdisk}
@@ -10,7 +10,7 @@ use Rattle.fc_base.specs.declared.request.Request.{Request}
 use Rattle.fc_base.specs.declared.request.Request.TheVariants.{Command as Asked, Unread, Read, Write, CopyTurn, CleanTurn}
 use Rattle.fc_base.specs.declared.size.GrainSize.{GrainSize}
 use Rattle.fc_base.specs.declared.volume.Volume.{Volume}
-use Rattle.fc_books.specs.Refused.{access_refused, of_one}
+use Rattle.fc_books.specs.Refused.{access_refused, of_one, preset_refused}
 use Rattle.fc_entry.specs.Picture.{grain_of_block}
 use Rattle.fc_entry.specs.Refused.{blocks_refusal}
 use Rattle.fc_lane.specs.Lane.{LaneView, of}
@@ -83,8 +83,15 @@ module _ (first s : Situation) (sound : IsSound first s) where
       of_one Vdisk (find (λ (v : Volume). refers_to volume v.id.0 v.name) volumes) (λ (v : Volume). blocks_refusal grain v block count) in
       ap (refusal s.grain) sound.volumes ∙ ap (λ grain. refusal grain first.whole.books.tables.volumes) sound.grain
 
+  -- and a preset by the volume of its source
+  preset_stays : (source : Ref) → preset_refused s.whole.books source ≡ preset_refused first.whole.books source
+  preset_stays source =
+      let refusal : List Volume → Option Refusal = λ volumes. of_one Vdisk (find (λ (v : Volume). refers_to source v.id.0 v.name) volumes) (λ (v : Volume). None) in
+      ap refusal sound.volumes
+
   pub refused : (request : Request) (refusal : Refusal) → IsRefusalOf first.grain first.whole request refusal → IsRefusalOf s.grain s.whole request refusal
   refused (Asked (command.Read volume block count)) refusal is = access_stays volume block count ∙ is
   refused (Asked (command.Write volume block count byte)) refusal is = access_stays volume block count ∙ is
+  refused (Asked (command.Mkpreset source preset name)) refusal is = preset_stays source ∙ is
   refused (Unread fault) refusal is = is
   refused request refusal is = absurd is

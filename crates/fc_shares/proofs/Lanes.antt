@@ -69,7 +69,7 @@ roomy s i opening v plan entry share =
         lane = share.stands.lane;
         lanes_are = share.stands.lanes_are;
         grain_is = share.stands.grain_is;
-        stands = record { lane = record { parts = follows.lane.parts; faults = follows.lane.faults; calls = follows.lane.calls }; rows = follows.rows; alike = follows.alike };
+        stands = record { lane = record { parts = follows.lane.parts; faults = follows.lane.faults; calls = follows.lane.calls }; rows = follows.rows; alike = follows.alike; rooms = follows.rooms };
       };
       same = record { lane = share.same.lane; lanes = share.same.lanes; grain = share.same.grain; disks = share.same.disks; silent = share.same.silent };
       faults = record { quiet = share.faults.quiet; calls = share.faults.calls; counted = share.faults.counted; near = share.faults.near };

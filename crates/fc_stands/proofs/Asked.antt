@@ -1,9 +1,11 @@
--- What an access asks, from whether it is refused.
-use Rattle.std.proofs.Common.{◌≡◌, ◌≢◌, ◌==◌, ◌||◌, nat_lt, ℕ, ◌+◌, ◌*◌, ◌<◌, ◌≤◌, Bool, true, false, [], ◌∷◌, map, Option, Some, None, refl, sym, ◌∙◌, ap, arith}
+-- What an access or a preset asks, from whether it is refused.
+use Rattle.std.proofs.Common.{◌≡◌, ◌≢◌, ◌==◌, ◌||◌, nat_lt, ℕ, ◌+◌, ◌*◌, ◌<◌, ◌≤◌, Bool, true, false, List, [], ◌∷◌, map, Option, Some, None, refl, sym, ◌∙◌, ap, arith}
 use Rattle.std.proofs.lemmas.Bool.{eqb-false, ltb-false, or_parts}
 use Rattle.std.proofs.lemmas.Option.{none-some}
 use Rattle.fc_base.specs.Grain.{grain_blocks}
 use Rattle.fc_base.specs.Tables.{volume_named}
+use Rattle.fc_base.specs.declared.behind.Behind.TheVariants.{Passing as PassingSeconds, Mapping as MappingOf}
+use Rattle.fc_base.specs.declared.command.Preset.{Preset}
 use Rattle.fc_base.specs.declared.fault.Kind.TheVariants.{Vdisk}
 use Rattle.fc_base.specs.declared.fault.Refusal.{Refusal}
 use Rattle.fc_base.specs.declared.fault.Refusal.TheVariants.{NoSuch}
@@ -12,9 +14,11 @@ use Rattle.fc_base.specs.declared.request.Request.TheVariants.{Command as Asked}
 use Rattle.fc_base.specs.declared.size.GrainSize.{GrainSize}
 use Rattle.fc_base.specs.declared.volume.Volume.{Volume}
 use Rattle.fc_books.specs.Books.{Books}
-use Rattle.fc_books.specs.Refused.{access_refused, of_one}
+use Rattle.fc_books.specs.Refused.{access_refused, of_one, preset_refused}
 use Rattle.fc_entry.specs.Refused.{blocks_refusal, first_of, where_}
+use Rattle.fc_legal.specs.Agenda.{behind_command}
 use Rattle.fc_legal.specs.Asked.{touched, access_requests, command_asked, read_in, write_in}
+use Rattle.fc_legal.specs.Presets.{behind_preset, preset_asked, volume_line}
 use Rattle.fc_legal.specs.Whole.{Whole}
 use Rattle.fc_base.specs.declared.command.Command.{Command}
 use Rattle.fc_base.specs.declared.command.Command.TheVariants as command
@@ -90,7 +94,38 @@ pub refusal_of : (grain : GrainSize) (w : Whole) (access : Access) (volume : Ref
 refusal_of grain w Read volume block count refusal refused = refused
 refusal_of grain w (Write byte) volume block count refusal refused = refused
 
--- A command that is no access asks for itself.
+-- ---- a preset
+
+-- Of a source that names no volume.
+pub preset_unnamed : (b : Books) (source : Ref) → volume_named b.tables source ≡ None → preset_refused b source ≡ Some (NoSuch Vdisk)
+preset_unnamed b source none = ap (λ (o : Option Volume). of_one Vdisk o (λ v. None)) none
+
+pub preset_asks_itself : (grain : GrainSize) (b : Books) (source : Ref) (preset : Preset) (name : Option (List ℕ)) → volume_named b.tables source ≡ None →
+    command_asked grain b (command.Mkpreset source preset name) ≡ Asked (command.Mkpreset source preset name) ∷ []
+preset_asks_itself grain b source preset name none = ap (λ (o : Option Volume). preset_asked grain source preset name o) none
+
+pub behind_unnamed : (b : Books) (source : Ref) (preset : Preset) (name : Option (List ℕ)) → volume_named b.tables source ≡ None →
+    behind_command b (command.Mkpreset source preset name) ≡ PassingSeconds 0
+behind_unnamed b source preset name none = ap (λ (o : Option Volume). behind_preset source preset name o) none
+
+-- Of one that names a volume: that of its size first, and then the rest.
+pub preset_asks : (grain : GrainSize) (b : Books) (source : Ref) (preset : Preset) (name : Option (List ℕ)) (v : Volume) → volume_named b.tables source ≡ Some v →
+    command_asked grain b (command.Mkpreset source preset name) ≡ Asked (volume_line grain preset name v) ∷ []
+preset_asks grain b source preset name v found = ap (λ (o : Option Volume). preset_asked grain source preset name o) found
+
+pub behind_named : (b : Books) (source : Ref) (preset : Preset) (name : Option (List ℕ)) (v : Volume) → volume_named b.tables source ≡ Some v →
+    behind_command b (command.Mkpreset source preset name) ≡ MappingOf source preset name
+behind_named b source preset name v found = ap (λ (o : Option Volume). behind_preset source preset name o) found
+
+-- ---- any other command
+
+-- A command that is no access and no preset lets no second pass, but for an `advance`.
+pub passes_none : (b : Books) (c : Command) → IsDecided c → ((seconds : ℕ) → c ≡ command.Advance seconds → ⊥) → behind_command b c ≡ PassingSeconds 0
+passes_none b (command.Advance seconds) decided other = absurd (other seconds refl)
+passes_none b (command.Mkpreset source preset name) decided other = absurd decided
+passes_none b c decided other = refl
+
+-- A command that is no access and no preset asks for itself.
 pub asks_itself : (grain : GrainSize) (b : Books) (c : Command) → IsDecided c → command_asked grain b c ≡ Asked c ∷ []
 asks_itself grain b (command.Read p q r) decided = absurd decided
 asks_itself grain b (command.Write p q r s) decided = absurd decided
@@ -113,3 +148,5 @@ asks_itself grain b (command.Lsfcconsistgrp p q) decided = refl
 asks_itself grain b (command.Lsvdisk p) decided = refl
 asks_itself grain b (command.Lsfcmapprogress p q) decided = refl
 asks_itself grain b (command.Lsfcmapdependentmaps p q) decided = refl
+asks_itself grain b (command.Mkpreset p q r) decided = absurd decided
+asks_itself grain b (command.Lsvdiskroom p) decided = refl

@@ -13,11 +13,11 @@ use Rattle.fc_decided.proofs.Lists.{find_from}
 use Rattle.fc_lane.specs.Lane.{LaneView}
 use Rattle.fc_legal.specs.Whole.{Whole, lanes}
 use Rattle.fc_sheets.proofs.Finding.{live_place_at}
-use Rattle.fc_sums.specs.Parts.{part_of, parts_of_rows}
-use Rattle.fc_lane_sheet.specs.LaneSheet.{rows_of, AreInOrder, AreListed, IsAsked, AreCountable}
+use Rattle.fc_sums.specs.Parts.{part_of, parts_of_rows, parts_of_rooms}
+use Rattle.fc_lane_sheet.specs.LaneSheet.{rows_of, rooms_in, AreInOrder, AreListed, IsAsked, AreCountable}
 use Rattle.fc_stands.specs.Phase.{StandsAt}
 use Rattle.fc_stands.specs.Store.{StoreView}
-use Rattle.fc_stands.proofs.CommandSheet.{rows_are, sheet_of_part}
+use Rattle.fc_stands.proofs.CommandSheet.{rows_are, rooms_are, sheet_of_part}
 use Rattle.fc_lane_sheet.proofs.LaneSheets.{have_sheet}
 use Rattle.fc_stands.proofs.Restarts.{few_restart}
 
@@ -57,7 +57,7 @@ countable b sound few k = by (order k (length b.sheet.slots))
 in_order : (decisions : ℕ) (s : StoreView) (w : Whole) → StandsAt decisions s w → AreInOrder s.lanes
 in_order decisions s w stands i d lt =
     let lane = stands.each i d lt in
-    (lane.stands.lane.parts.lane_is ∙ lane.lane, lane.stands.lane.parts.lanes_are ∙ (lane.lanes_are ∙ sym stands.count))
+    (lane.stands.lane.parts.lane_is ∙ lane.lane, lane.stands.lane.parts.lanes_are ∙ (lane.lanes_are ∙ sym stands.count), lane.lane)
 
 lane_sheet : (decisions : ℕ) (s : StoreView) (w : Whole) → StandsAt decisions s w → (i : ℕ) (d : LaneView) → i < length s.lanes →
     (slice_index_or s.lanes i d).chains.sheet ≡ part_of s.control.grain (length s.lanes) w.books.sheet i
@@ -68,6 +68,10 @@ lane_sheet decisions s w stands i d lt =
 
 lane_rows : (decisions : ℕ) (s : StoreView) (w : Whole) → StandsAt decisions s w → rows_of s.lanes ≡ parts_of_rows s.control.grain (length s.lanes) w.rows
 lane_rows decisions s w stands = rows_are s.control.grain w s.lanes stands.count stands.each ∙ ap (λ n. parts_of_rows s.control.grain n w.rows) (sym stands.count)
+
+lane_rooms : (decisions : ℕ) (s : StoreView) (w : Whole) → StandsAt decisions s w → rooms_in s.lanes ≡ parts_of_rooms s.control.grain (length s.lanes) w.books.rooms
+lane_rooms decisions s w stands =
+    rooms_are s.control.grain w s.lanes stands.count stands.each ∙ ap (λ n. parts_of_rooms s.control.grain n w.books.rooms) (sym stands.count)
 
 -- ---- the table
 
@@ -84,8 +88,8 @@ is_asked decisions s w stands few mappings same =
     let some : 0 < lanes w = stands.stands.each_lane.some in
     let sound : AreSound w.books = stands.stands.sound in
     let Few : Tables → Type 0 = λ t. AreCountable t.volumes in
-    let have = have_sheet s.control.grain w.books.sheet w.rows s.lanes (omega (arith, some, stands.count)) (in_order decisions s w stands) (lane_sheet decisions s w stands)
-    (lane_rows decisions s w stands) sound.sheet (countable w.books sound (subst Few tables few)) (few_restart w.books.tables w.rows stands.stands.rows (subst Few tables few)) in
+    let have = have_sheet s.control.grain w.books.sheet w.rows w.books.rooms s.lanes (omega (arith, some, stands.count)) (in_order decisions s w stands) (lane_sheet decisions s w stands)
+    (lane_rows decisions s w stands) (lane_rooms decisions s w stands) sound.sheet (countable w.books sound (subst Few tables few)) (few_restart w.books.tables w.rows stands.stands.rows (subst Few tables few)) in
     let Of : Sheet → Type 0 = λ z. AreListed z mappings in
     let By : List Mapping → Type 0 = λ z. AreListed w.books.sheet z in
     record {

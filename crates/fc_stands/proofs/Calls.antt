@@ -3,7 +3,7 @@ use Rattle.std.proofs.Common.{◌≡◌, ◌≢◌, ℕ, ◌+◌, ◌<◌, Bool,
 use Rattle.std.proofs.lemmas.Bool.{cases_eq, ne_eqb}
 use Rattle.std.proofs.lemmas.List.{get_or-set_same, get_or-set_other, length-set}
 use Rattle.fc_base.specs.declared.command.Command.{Command}
-use Rattle.fc_base.specs.declared.command.Command.TheVariants.{Read as ReadLine, Write as WriteLine}
+use Rattle.fc_base.specs.declared.command.Command.TheVariants.{Read as ReadLine, Write as WriteLine, Mkpreset}
 use Rattle.fc_base.specs.declared.fault.Refusal.{Refusal}
 use Rattle.fc_base.specs.declared.fault.Refusal.TheVariants.{Words}
 use Rattle.fc_base.specs.declared.request.Effect.{Effect}
@@ -12,9 +12,9 @@ use Rattle.fc_base.specs.declared.request.Reply.{Reply}
 use Rattle.fc_base.specs.declared.request.Request.{Request}
 use Rattle.fc_base.specs.declared.request.Request.TheVariants.{Command as Asked, Unread, Read, Write, Copy, Clean, CopyTurn, CleanTurn}
 use Rattle.fc_base.specs.declared.size.GrainSize.{GrainSize}
-use Rattle.fc_books.specs.Refused.{access_refused}
+use Rattle.fc_books.specs.Refused.{access_refused, preset_refused}
 use Rattle.fc_entry.specs.declared.entry.Entry.{Entry}
-use Rattle.fc_legal.specs.Steps.{AccessIsRefused, CommandIsRight, CommandLeft, CommandStep, IsRefused, LaneStep, RequestStep, Step}
+use Rattle.fc_legal.specs.Steps.{MustBeRefused, CommandIsRight, CommandLeft, CommandStep, IsRefused, LaneStep, RequestStep, Step}
 use Rattle.fc_legal.specs.Steps.CommandLeft.{decided, unsettled, settled_alone}
 use Rattle.fc_legal.specs.Whole.{Whole}
 use Rattle.fc_stands.specs.Arming.{calls_in}
@@ -36,7 +36,7 @@ refused_tells : (refusal : Refusal) (w : Whole) (entry : Entry) (next : Whole) �
 refused_tells refusal w entry next is =
     apart_tells entry w next (λ i. ap (λ (p : Place). calls_in i p entry.calls) is.place) (ap (λ (x : Whole). x.calls) is.next_is)
 
-access_tells : (refusal : Option Refusal) (w : Whole) (entry : Entry) (next : Whole) → AccessIsRefused refusal w entry next → TellsCalls entry w next
+access_tells : (refusal : Option Refusal) (w : Whole) (entry : Entry) (next : Whole) → MustBeRefused refusal w entry next → TellsCalls entry w next
 access_tells None w entry next is = absurd is
 access_tells (Some refusal) w entry next is = refused_tells refusal w entry next is
 
@@ -53,6 +53,7 @@ command_tells grain w command entry next step =
 asked_tells : (grain : GrainSize) (w : Whole) (command : Command) (entry : Entry) (next : Whole) → CommandIsRight grain w command entry next → TellsCalls entry w next
 asked_tells grain w (ReadLine volume block count) entry next right = access_tells (access_refused grain w.books volume block count) w entry next right
 asked_tells grain w (WriteLine volume block count byte) entry next right = access_tells (access_refused grain w.books volume block count) w entry next right
+asked_tells grain w (Mkpreset source preset name) entry next right = access_tells (preset_refused w.books source) w entry next right
 asked_tells grain w command entry next right = command_tells grain w command entry next right
 
 -- One of a lane.

@@ -1,7 +1,7 @@
 -- The entry of a command is right after what was told: settled and decided, or left as it was or settled for want of memory.
 use Rattle.std.proofs.Common.{◌≡◌, ℕ, ◌+◌, ◌*◌, ◌^◌, ◌<◌, ◌≤◌, List, [], ◌++◌, Option, refl, sym, subst, arith}
 use Rattle.fc_base.specs.declared.command.Command.{Command}
-use Rattle.fc_base.specs.declared.command.Command.TheVariants.{Read as ReadLine, Write as WriteLine}
+use Rattle.fc_base.specs.declared.command.Command.TheVariants.{Read as ReadLine, Write as WriteLine, Mkpreset}
 use Rattle.fc_base.specs.declared.decision.Decision.{Decision}
 use Rattle.fc_base.specs.declared.ids.VolId.{VolId}
 use Rattle.fc_base.specs.declared.request.Effect.{Effect}
@@ -23,10 +23,11 @@ use Rattle.fc_stands.specs.Phase.{IsDecided, StandsAt}
 use Rattle.fc_stands.specs.Store.{StoreView}
 use Rattle.fc_stands.proofs.PhaseStands.{entry_stands}
 
--- Of a command that is no line `read` or `write`.
+-- Of a command that is no line `read`, `write` or `mkpreset`.
 right : (grain : GrainSize) (w : Whole) (command : Command) (entry : Entry) (next : Whole) → IsDecided command → CommandStep grain w command entry next → CommandIsRight grain w command entry next
 right grain w (ReadLine volume block count) entry next decided step = absurd decided
 right grain w (WriteLine volume block count byte) entry next decided step = absurd decided
+right grain w (Mkpreset source preset name) entry next decided step = absurd decided
 right grain w command entry next decided step = step
 
 -- The next entry, by what the command leaves.

@@ -111,7 +111,7 @@ module _ (grain : GrainSize) (n : ℕ) (disks : List DiskState) (ls : List LaneV
         lane = number_at i d lt;
         lanes_are = begins.lanes_are ∙ sym (lanes_told (pools_dealt n disks) ∙ length-map (all_dealt n disks) pool_of ∙ count_dealt n disks);
         grain_is = ap (λ (g : GrainsState). g.grain) (grains_at i d lt);
-        stands = subst (λ (t : LaneTold). IsFollowing v (record { told = t; rows = [] })) (ap (λ (g : GrainsState). begun g) (grains_at i d lt) ∙ sym (told_begun grain n disks i lt fresh)) begins.stands;
+        stands = subst (λ (t : LaneTold). IsFollowing v (record { told = t; rows = []; rooms = [] })) (ap (λ (g : GrainsState). begun g) (grains_at i d lt) ∙ sym (told_begun grain n disks i lt fresh)) begins.stands;
       }
 
   pub store_begins : (c : ControlState) → c ≡ record { grain = grain; tables = no_tables; next_volume = 0; next_mapping = 0; next_group = 1; flags = []; reserved = None; room = 0 } → 0 < n → All IsFresh disks →

@@ -43,7 +43,7 @@ module _ (s : StoreView) (w : Whole) (g place : ℕ) (old ready : LaneView) (pla
       let P : LaneView → Type 0 = λ v. IsLaneAt s.control.grain w place v in
       let here : IsLaneAt s.control.grain w place old = subst P (sym is_old) (stands.each place old inside) in
       let roomed : IsLaneAt s.control.grain w place (roomy old plan entry_room) =
-      record { lane = here.lane; lanes_are = here.lanes_are; grain_is = here.grain_is; stands = record { lane = record { parts = here.stands.lane.parts; faults = here.stands.lane.faults; calls = here.stands.lane.calls }; rows = here.stands.rows; alike = here.stands.alike } } in
+      record { lane = here.lane; lanes_are = here.lanes_are; grain_is = here.grain_is; stands = record { lane = record { parts = here.stands.lane.parts; faults = here.stands.lane.faults; calls = here.stands.lane.calls }; rows = here.stands.rows; alike = here.stands.alike; rooms = here.stands.rooms } } in
       subst (λ p. IsLaneAt s.control.grain w p ready) place_is (subst P (sym is_ready) roomed)
 
   there_told : (v : Volume) → Contains s.control.tables.volumes v → Contains w.books.tables.volumes v

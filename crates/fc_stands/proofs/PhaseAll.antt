@@ -100,7 +100,7 @@ control_can s d c ready same =
     }
 
 no_view : SheetView
-no_view = record { sheet = no_slots; restarts = λ m. []; pools = [] }
+no_view = record { sheet = no_slots; restarts = λ m. []; pools = []; rooms = [] }
 
 pub control_done : (old new : ControlState) (d : Decision) → new.grain ≡ old.grain → new.tables ≡ fold after_change old.tables d.changes →
     ((view : SheetView) → books_of new view ≡ record (fold after_table_change (books_of old view) d.changes) { flags = fold flags_after old.flags d.events }) → IsControlAfter old new d

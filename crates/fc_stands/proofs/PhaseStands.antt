@@ -25,9 +25,9 @@ use Rattle.fc_stands.proofs.OneMore.{lane_still, still_stands, still_few}
 
 -- ---- the control part
 
--- The books are what the control part has, with the chains, restart sets and disks of the lanes.
+-- The books are what the control part has, with the chains, restart sets, disks and room of the lanes.
 abbrev pub view_in : Whole → SheetView
-view_in w = record { sheet = w.books.sheet; restarts = restarts w.rows; pools = w.books.pools }
+view_in w = record { sheet = w.books.sheet; restarts = restarts w.rows; pools = w.books.pools; rooms = w.books.rooms }
 
 pub books_are : (c : ControlState) (w : Whole) → IsControlOf c w.books → books_of c (view_in w) ≡ w.books
 books_are c w is = λ k. record {
@@ -38,6 +38,7 @@ books_are c w is = λ k. record {
   sheet = w.books.sheet;
   flags = is.flags k;
   pools = w.books.pools;
+  rooms = w.books.rooms;
 }
 
 -- Events change no table and no id that comes next, and flags one by one.

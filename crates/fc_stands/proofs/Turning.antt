@@ -16,7 +16,7 @@ use Rattle.fc_entry.specs.declared.entry.Entry.{Entry}
 use Rattle.fc_lane.specs.Lane.{LaneView, of}
 use Rattle.fc_legal.specs.Asked.{end_in, first_in}
 use Rattle.fc_legal.specs.Stands.{Stands}
-use Rattle.fc_legal.specs.Steps.{RequestStep, IsInside, IsRefused, AccessIsRefused, one_more}
+use Rattle.fc_legal.specs.Steps.{RequestStep, IsInside, IsRefused, MustBeRefused, one_more}
 use Rattle.fc_legal.specs.Whole.{Whole, lanes, lane_of_grain, lane_at, part_at}
 use Rattle.fc_parts.proofs.Lawful.{part_law_holds}
 use Rattle.fc_parts.specs.Law.{IsAt, IsInVolume}
@@ -113,10 +113,13 @@ pub by_request :
     IsRefused refusal w entry (one_more w) →
     RequestStep grain w request entry (one_more w)
 by_request grain w entry (Asked (command.Read volume block count)) refusal is refused =
-    let P : Option Refusal → Type 0 = λ o. AccessIsRefused o w entry (one_more w) in
+    let P : Option Refusal → Type 0 = λ o. MustBeRefused o w entry (one_more w) in
     subst P (sym is) refused
 by_request grain w entry (Asked (command.Write volume block count byte)) refusal is refused =
-    let P : Option Refusal → Type 0 = λ o. AccessIsRefused o w entry (one_more w) in
+    let P : Option Refusal → Type 0 = λ o. MustBeRefused o w entry (one_more w) in
+    subst P (sym is) refused
+by_request grain w entry (Asked (command.Mkpreset source preset name)) refusal is refused =
+    let P : Option Refusal → Type 0 = λ o. MustBeRefused o w entry (one_more w) in
     subst P (sym is) refused
 by_request grain w entry (Unread fault) refusal is refused =
     let P : Refusal → Type 0 = λ r. IsRefused r w entry (one_more w) in
@@ -140,6 +143,7 @@ by_request grain w entry (Asked (command.Lsfcconsistgrp a b)) refusal is refused
 by_request grain w entry (Asked (command.Lsvdisk a)) refusal is refused = absurd is
 by_request grain w entry (Asked (command.Lsfcmapprogress a b)) refusal is refused = absurd is
 by_request grain w entry (Asked (command.Lsfcmapdependentmaps a b)) refusal is refused = absurd is
+by_request grain w entry (Asked (command.Lsvdiskroom a)) refusal is refused = absurd is
 by_request grain w entry (Read part) refusal is refused = absurd is
 by_request grain w entry (Write part) refusal is refused = absurd is
 by_request grain w entry (Copy m g) refusal is refused = absurd is

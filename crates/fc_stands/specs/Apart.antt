@@ -1,11 +1,11 @@
 -- An entry that no lane makes.
 use Rattle.std.specs.Prelude.{◌≡◌, ℕ, List, [], Some, None}
-use Rattle.fc_base.specs.declared.command.Command.TheVariants.{Read as ReadLine, Write as WriteLine}
+use Rattle.fc_base.specs.declared.command.Command.TheVariants.{Read as ReadLine, Write as WriteLine, Mkpreset}
 use Rattle.fc_base.specs.declared.fault.Refusal.{Refusal}
 use Rattle.fc_base.specs.declared.fault.Refusal.TheVariants.{Words}
 use Rattle.fc_base.specs.declared.request.Request.TheVariants.{Command as Asked, Unread}
 use Rattle.fc_base.specs.declared.size.GrainSize.{GrainSize}
-use Rattle.fc_books.specs.Refused.{access_refused}
+use Rattle.fc_books.specs.Refused.{access_refused, preset_refused}
 use Rattle.fc_legal.specs.Whole.{Whole}
 use Rattle.fc_base.specs.declared.request.Effect.{Effect}
 use Rattle.fc_base.specs.declared.request.Place.{Place}
@@ -30,9 +30,10 @@ entry_apart number actor place request reply effects =
       calls = 0;
     }
 
--- A request that is refused for this: an access by its volume and blocks, or a line with a fault in its words.
+-- A request that is refused for this: an access by its volume and blocks, a preset by its source, or a line with a fault in its words.
 abbrev pub IsRefusalOf : GrainSize → Whole → Request → Refusal → Type 0
 IsRefusalOf grain w (Asked (ReadLine volume block count)) refusal = access_refused grain w.books volume block count ≡ Some refusal
 IsRefusalOf grain w (Asked (WriteLine volume block count byte)) refusal = access_refused grain w.books volume block count ≡ Some refusal
+IsRefusalOf grain w (Asked (Mkpreset source preset name)) refusal = preset_refused w.books source ≡ Some refusal
 IsRefusalOf grain w (Unread fault) refusal = refusal ≡ Words fault
 IsRefusalOf grain w request refusal = ⊥

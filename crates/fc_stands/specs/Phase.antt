@@ -3,7 +3,7 @@ use Rattle.std.specs.Prelude.{◌≡◌, ℕ, ◌+◌, ◌≤◌, filter, fold, 
 use Rattle.fc_base.specs.SheetView.{SheetView}
 use Rattle.fc_base.specs.Tables.{after_change}
 use Rattle.fc_base.specs.declared.command.Command.{Command}
-use Rattle.fc_base.specs.declared.command.Command.TheVariants.{Read as ReadLine, Write as WriteLine}
+use Rattle.fc_base.specs.declared.command.Command.TheVariants.{Read as ReadLine, Write as WriteLine, Mkpreset}
 use Rattle.fc_base.specs.declared.decision.Decision.{Decision}
 use Rattle.fc_books.specs.After.{after_table_change, flags_after}
 use Rattle.fc_desk.specs.Changes.{FitChanges, AreCountable, CanApply, adds}
@@ -81,8 +81,9 @@ pub record IsDone (d : Decision) (old new : StoreView) : Type 0 where
 
 -- ---- commands
 
--- A line that is a command of its own: no access.
+-- A line that is a command of its own: no access and no preset.
 abbrev pub IsDecided : Command → Type 0
 IsDecided (ReadLine volume block count) = ⊥
 IsDecided (WriteLine volume block count byte) = ⊥
+IsDecided (Mkpreset source preset name) = ⊥
 IsDecided command = Unit {0}

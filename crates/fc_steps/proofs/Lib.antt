@@ -1,6 +1,7 @@
 -- Lemmas of the steps of an entry.
 pub mod Stored
 pub mod Nearer
+pub mod Rooms
 pub mod Naming
 pub mod Moving
 pub mod MoveEnds

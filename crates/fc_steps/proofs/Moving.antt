@@ -4,6 +4,7 @@ use Rattle.std.proofs.lemmas.Bool.{cases_Bool, cases_eq}
 use Rattle.std.specs.Bool.{OnTrue}
 use Rattle.fc_base.specs.Column.{holder}
 use Rattle.fc_base.specs.Count.{HasRisen}
+use Rattle.fc_base.specs.Room.{reach}
 use Rattle.fc_base.specs.Sheet.{Sheet, slot_at, column}
 use Rattle.fc_base.specs.SheetFacts.{IsSound}
 use Rattle.fc_base.specs.declared.disk.DiskError.{DiskError}
@@ -15,13 +16,14 @@ use Rattle.fc_grains.specs.Quiet.{IsQuiet}
 use Rattle.fc_grains.proofs.Quiet.{quiet_read, quiet_written}
 use Rattle.fc_steps.specs.Standing.{kind_of_grains, HasGrains, AllSized}
 use Rattle.std.proofs.lemmas.List.Elements.{All-cons}
-use Rattle.fc_grains.specs.Volumes.{VolumeGrains, ComeNearer, ComesNearer, is_there, volume_of, stored, changed, called, after_write}
+use Rattle.fc_grains.specs.Volumes.{VolumeGrains, ComeNearer, ComesNearer, is_there, volume_of, stored, changed, called, after_write, rooms_of}
 use Rattle.fc_mdisk.specs.Disk.{write_failed}
 use Rattle.fc_moves.proofs.Readers.{IsHolder, holder_is}
 use Rattle.fc_pictures.specs.Law.{StoredAt}
-use Rattle.fc_steps.specs.Moving.{Counted, SameLane, SameKinds, more}
+use Rattle.fc_steps.specs.Moving.{Counted, SameLane, SameKinds, SameRooms, more}
 use Rattle.fc_steps.proofs.Naming.{some_is}
 use Rattle.fc_steps.proofs.Nearer.{come_changed, come_then, nearer_called}
+use Rattle.fc_steps.proofs.Rooms.{rooms_stay, rooms_reached}
 use Rattle.fc_steps.proofs.Stored.{KeepsId, KeepsContents, KeepsSize, changed_here, changed_other, stored_stays, stored_at, holds_size, contents_size, there_stays, size_stays}
 
 -- ---- changes of volumes
@@ -191,6 +193,7 @@ called_kind v = refl
 pub record ReadDone (old : GrainsState) (mid : GrainsState) (failed : Bool) : Type 0 where
   pub same : SameLane old mid
   pub stored_same : (w y : ℕ) → stored mid.volumes w y ≡ stored old.volumes w y
+  pub rooms_same : SameRooms old.volumes mid.volumes
   pub counted : Counted old 1 failed mid
 
 pub read_done : (old mid : GrainsState) (v g : ℕ) (failed : Bool) → is_there old.volumes v ≡ true → HasRead old v g failed mid → ReadDone old mid failed
@@ -200,6 +203,7 @@ read_done old mid v g failed t h =
     record {
       same = changed_lane old mid called v called_id called_kind (contents_size called called_contents) t vs (ap beside h.rest) (λ q. let s = quiet_read old mid v g failed q t h in (s.quiet, s.faults));
       stored_same = λ w y. ap (λ (z : List VolumeGrains). stored z w y) vs ∙ stored_stays called called_id called_contents old.volumes v t w y;
+      rooms_same = ap rooms_of vs ∙ rooms_stay called (λ x. refl) v old.volumes;
       counted = record {
         calls_are = h.call.calls;
         kept = h.call.faults.kept;
@@ -257,6 +261,18 @@ pub refused_stored : {A : Type 0} (old new : GrainsState) (v g : ℕ) → is_the
 refused_stored {A} old new v g t h w y =
     ap (λ (z : List VolumeGrains). stored z w y) (ap (λ (s : GrainsState). s.volumes) h.rest)
     ∙ stored_stays (after_write {A = A} (Err NoMemory) g old.buffer) (λ x. refl) (λ x. refl) old.volumes v t w y
+
+pub wrote_reached : {A : Type 0} (old new : GrainsState) (v g : ℕ) (a : A) → HasWritten {A = A} old v g (Ok a) new → rooms_of new.volumes ≡ reach v g (rooms_of old.volumes)
+wrote_reached {A} old new v g a h =
+    ap (λ (s : GrainsState). rooms_of s.volumes) h.rest ∙ rooms_reached (after_write {A = A} (Ok a) g old.buffer) g (λ x. refl) v old.volumes
+
+pub failed_reached : {A : Type 0} (old new : GrainsState) (v g : ℕ) → HasWritten {A = A} old v g (Err Failed) new → rooms_of new.volumes ≡ reach v g (rooms_of old.volumes)
+failed_reached {A} old new v g h =
+    ap (λ (s : GrainsState). rooms_of s.volumes) h.rest ∙ rooms_reached (after_write {A = A} (Err Failed) g old.buffer) g (λ x. refl) v old.volumes
+
+pub refused_rooms : {A : Type 0} (old new : GrainsState) (v g : ℕ) → HasWritten {A = A} old v g (Err NoMemory) new → SameRooms old.volumes new.volumes
+refused_rooms {A} old new v g h =
+    ap (λ (s : GrainsState). rooms_of s.volumes) h.rest ∙ rooms_stay (after_write {A = A} (Err NoMemory) g old.buffer) (λ x. refl) v old.volumes
 
 -- a change after a read that stored nothing
 pub stored_after : (old mid new : List VolumeGrains) (v g : ℕ) (content : Content) → ((w y : ℕ) → stored mid w y ≡ stored old w y) → StoredAt (stored mid) v g content (stored new) → StoredAt (stored old) v g content (stored new)

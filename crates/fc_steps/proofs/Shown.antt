@@ -1,15 +1,17 @@
 -- The volume from which a read of another is read, and how the read of its grain ends.
-use Rattle.std.proofs.Common.{◌≡◌, ℕ, ◌<◌, ◌%◌, ◌/◌, Bool, Some, Result, is_err, length, sym, ap, subst, ◌∙◌}
+use Rattle.std.proofs.Common.{◌≡◌, ℕ, ◌<◌, ◌%◌, ◌/◌, Bool, true, false, Some, Result, is_err, length, sym, ap, subst, ◌∙◌}
 use Rattle.fc_base.specs.Column.{holder}
 use Rattle.fc_base.specs.Sheet.{Sheet, slot_at, column, live_place}
 use Rattle.fc_base.specs.SheetFacts.{IsSound}
 use Rattle.fc_chain.specs.Chains.{Chains, in_lane}
 use Rattle.fc_grains.specs.Calls.{HasRead}
 use Rattle.fc_grains.specs.Grains.{GrainsState}
-use Rattle.fc_grains.specs.Volumes.{volume_of}
+use Rattle.fc_grains.specs.Volumes.{volume_of, is_there, rooms_of}
+use Rattle.fc_steps.specs.Moving.{SameRooms}
 use Rattle.fc_steps.specs.Reading.{CanRead, GrainEnds, HasHolder, IsOfHolder, ReadEnds}
 use Rattle.fc_steps.specs.declared.read.GrainRead.{GrainRead}
-use Rattle.fc_steps.proofs.Moving.{Source, source_at}
+use Rattle.fc_steps.specs.declared.read.GrainRead.TheVariants.{Done, IsLost, Failed}
+use Rattle.fc_steps.proofs.Moving.{Source, source_at, read_done}
 use Rattle.fc_rules.specs.LaneTold.{LaneOf, place_of}
 
 -- the chains of a lane have this sheet, in which the volume's live slot, at place `t`, has the slot at place `h` as holder of a grain
@@ -38,6 +40,12 @@ module _ (l : LaneOf) (s : Sheet) (v t number h : ℕ) (chains : Chains) (x : Sh
   volume_shown from n e is =
       let y = holder_shown n e in
       is t h y.there y.holds ∙ ap (λ (z : Sheet). (slot_at z.slots h).volume) x.sheet_is
+
+-- a read reaches no grain
+ended_rooms : (old new : GrainsState) (from place : ℕ) (end : GrainRead) → is_there old.volumes from ≡ true → GrainEnds old from place end new → SameRooms old.volumes new.volumes
+ended_rooms old new from place Done t e = (read_done old new from place false t e.1).rooms_same
+ended_rooms old new from place IsLost t e = ap (λ (s : GrainsState). rooms_of s.volumes) e.1
+ended_rooms old new from place Failed t e = (read_done old new from place true t e.1).rooms_same
 
 -- the holder of the slot that is read
 pub record Shown (chains : Chains) (grains : GrainsState) (place number reader : ℕ) : Type 0 where
@@ -75,6 +83,7 @@ module _ (chains : Chains) (grains : GrainsState) (volume number place : ℕ) (c
       holds = shown.from.holds;
       is_there = shown.from.there;
       ends = subst (λ (v : ℕ). GrainEnds grains v place end new) (sym from_source) ends;
+      rooms = ended_rooms grains new from place end (ap (is_there grains.volumes) (sym from_source) ∙ shown.from.there) ends;
     }
 
 pub read_was : {A E : Type 0} (old new : GrainsState) (from place : ℕ) (answer : Result A E) (failed : Bool) → is_err answer ≡ failed → HasRead old from place (is_err answer) new → HasRead old from place failed new

@@ -1,8 +1,9 @@
 -- Moves made one after the other, as entries tell them.
-use Rattle.std.proofs.Common.{◌≡◌, ℕ, ◌+◌, ◌≤◌, ◌%◌, ◌/◌, ◌||◌, Bool, true, false, cond, eqb, Option, Some, None, List, [], ◌∷◌, ◌++◌, length, map, sum, refl, sym, ap, subst, ◌∙◌, arith, inl, inr, append_assoc, append-nil}
+use Rattle.std.proofs.Common.{◌≡◌, ℕ, ◌+◌, ◌≤◌, ◌%◌, ◌/◌, ◌||◌, Bool, true, false, cond, eqb, Option, Some, None, List, [], ◌∷◌, ◌++◌, length, map, fold, sum, refl, sym, ap, subst, ◌∙◌, arith, inl, inr, append_assoc, append-nil}
 use Rattle.fc_base.specs.Column.{holder, Shape}
 use Rattle.fc_base.specs.Count.{one_more}
 use Rattle.fc_base.specs.Moves.{is_in_place}
+use Rattle.fc_base.specs.Room.{reach}
 use Rattle.fc_base.specs.Sheet.{Slot, Sheet, slot_at, shape_of, column, birth_place}
 use Rattle.fc_base.specs.SheetStep.{sheet_torn, sheet_written, grain_lost, grain_taken}
 use Rattle.fc_base.specs.declared.disk.DiskKind.TheVariants.{Thin}
@@ -13,8 +14,8 @@ use Rattle.fc_base.specs.declared.request.Torn.{Torn}
 use Rattle.fc_chain.specs.Chains.{Chains}
 use Rattle.fc_entry.specs.Picture.{Content, Bytes, Lost, is_lost}
 use Rattle.fc_grains.specs.Grains.{GrainsState}
-use Rattle.fc_grains.specs.Volumes.{VolumeGrains, is_there, volume_of, stored}
-use Rattle.fc_steps.specs.Moving.{CanMove, Counted, MoveEnds, MoveNotMade, SameLane, more}
+use Rattle.fc_grains.specs.Volumes.{VolumeGrains, is_there, volume_of, stored, rooms_of}
+use Rattle.fc_steps.specs.Moving.{CanMove, Counted, MoveEnds, MoveNotMade, SameLane, SameRooms, more}
 use Rattle.fc_steps.specs.Standing.{VolumeKind, SameVolumes, kind_of_grains, kind_of_told, AllSized, Stands}
 use Rattle.fc_steps.specs.StepsEnd.{CanMakeMoves, FailedIn, RefusedIn, StepsEnd, StepsStand, StoppedIn, torn_in}
 use Rattle.fc_steps.specs.declared.stop.Stop.{Stop}
@@ -31,6 +32,7 @@ use Rattle.fc_pictures.proofs.Staying.{stored_shows}
 use Rattle.fc_pictures.proofs.Running.{sheet_after_push}
 use Rattle.fc_rules.specs.LaneTold.{LaneOf, LaneTold, LaneVolume, place_of, is_thin_in, is_thin_kind}
 use Rattle.fc_rules.specs.LaneTurn.{spot_at}
+use Rattle.fc_rules.specs.Rooms.{rooms_move}
 use Rattle.fc_rules.specs.Spot.{Spot, move_in}
 use Rattle.fc_rules.specs.Steps.{DiskStep, calls_of_steps, moves_of, step_of_move}
 use Rattle.fc_sheets.proofs.Columns.{shape_torn}
@@ -38,7 +40,7 @@ use Rattle.fc_sheets.proofs.Holding.{at_map, regrained, bit_taken, bit_lost}
 use Rattle.std.proofs.lemmas.Bool.{cases_Bool}
 use Rattle.std.proofs.lemmas.List.{map-append}
 use Rattle.std.proofs.lemmas.List.Elements.{filter_map-append}
-use Rattle.std.proofs.lemmas.List.Sums.{sum_by-append}
+use Rattle.std.proofs.lemmas.List.Sums.{fold-append, sum_by-append}
 use Rattle.fc_base.specs.SheetFacts.{IsSound}
 
 -- ---- counts
@@ -149,6 +151,7 @@ pub record MovesMade (l : LaneOf) (told : LaneTold) (number : ℕ) (ks : List �
   pub calls_are : calls ≡ calls_of_steps (map (step_of_move (spot_at l told number)) done)
   pub counted : Counted old calls false new
   pub same : SameLane old new
+  pub rooms : rooms_of new.volumes ≡ fold (rooms_move l told.picture) (rooms_of old.volumes) made
 
 module _ (l : LaneOf) (told : LaneTold) (number : ℕ) (ks : List ℕ) (chains : Chains) (old : GrainsState) (can : CanMakeMoves l told number ks chains old) where
   abbrev spot : Spot
@@ -172,6 +175,7 @@ module _ (l : LaneOf) (told : LaneTold) (number : ℕ) (ks : List ℕ) (chains :
     calls_are = refl;
     counted = none_counted old;
     same = same_lane old;
+    rooms = refl;
   }
 
   module _ (after : Chains) (new : GrainsState) (calls : ℕ) (made rest : List Move) (m : Move) (so : MovesMade l told number ks chains old after new calls made (m ∷ rest)) where
@@ -250,6 +254,8 @@ module _ (l : LaneOf) (told : LaneTold) (number : ℕ) (ks : List ℕ) (chains :
         let c = can.run.can_move so.done later next split_is in
         let r = picture_law_holds.read (now so.done) told.picture (stored new.volumes) next g so.stands.sound so.stands.shows c.live.there c.live.is_live c.live.inside in
         let counts : n ≡ step.calls = e.0.calls_are r.0 r.1 ∙ ap (λ (b : Bool). cond (is_in_place spot.column next || b) 0 2) (shown_by r.0 r.1) in
+        let reached_one : rooms_of new'.volumes ≡ rooms_move l told.picture (rooms_of new.volumes) (move_in spot next) =
+        e.0.rooms r.0 r.1 ∙ ap (λ (b : Bool). cond (is_in_place spot.column next || b) (rooms_of new.volumes) (reach (spot.column.volume next) g (rooms_of new.volumes))) (shown_by r.0 r.1) in
         let pushed = sheet_after_push l told number so.done next c.volume in
         let agrees = lane_law_holds.moved l told number ks so.done later next (stored new.volumes) (stored new'.volumes) can.run split_is
         (record { sound = so.stands.sound; shows = so.stands.shows }) e.0.stored_is in
@@ -270,6 +276,7 @@ module _ (l : LaneOf) (told : LaneTold) (number : ℕ) (ks : List ℕ) (chains :
           calls_are = (λ i. so.calls_are i + counts i) ∙ (sym (calls_push (map (step_of_move spot) so.done) step) ∙ ap calls_of_steps (sym (map-append (step_of_move spot) so.done (next ∷ []))));
           counted = both_counted old new new' calls n false so.counted e.1;
           same = all;
+          rooms = reached_one ∙ ((λ i. rooms_move l told.picture (so.rooms i) (sym m_is i)) ∙ sym (fold-append (rooms_move l told.picture) (rooms_of old.volumes) made (m ∷ [])));
         }
 
     -- how far the moves came when this one wasn't made
@@ -286,10 +293,14 @@ module _ (l : LaneOf) (told : LaneTold) (number : ℕ) (ks : List ℕ) (chains :
     copies : MoveNotMade (record chains { sheet = now so.done }) new g next (move_in spot next) → step.calls ≡ 2
     copies x = (λ i. cond (x.out i || is_lost (spot.now (spot.column.volume next))) 0 2) ∙ ap (λ (b : Bool). cond b 0 2) (sym (shown_by x.holder_is x.holds) ∙ x.readable)
 
+    -- which grains occupy memory before it
+    rooms_so : rooms_of new.volumes ≡ fold (rooms_move l told.picture) (rooms_of old.volumes) (map (move_in spot) so.done)
+    rooms_so = so.rooms ∙ ap (fold (rooms_move l told.picture) (rooms_of old.volumes)) so.made_are
+
     -- what stands when nothing of it was done
     unmade : (n : ℕ) (after' : Chains) (new' : GrainsState) → after' ≡ record chains { sheet = now so.done } → ((w y : ℕ) → stored new'.volumes w y ≡ stored new.volumes w y) →
-        Counted old (calls + n) false new' → SameLane new new' → StepsStand l told None made (calls + n) None chains old after' new'
-    unmade n after' new' is same_stored counted same =
+        SameRooms new.volumes new'.volumes → Counted old (calls + n) false new' → SameLane new new' → StepsStand l told None made (calls + n) None chains old after' new'
+    unmade n after' new' is same_stored same_rooms counted same =
         let all : SameLane old new' = same_then old new new' so.same same in
         let reached = can.run.reached so.done (next ∷ later) split_is in
         subst (λ (z : List Move). StepsStand l told None z (calls + n) None chains old after' new') (sym so.made_are)
@@ -302,6 +313,7 @@ module _ (l : LaneOf) (told : LaneTold) (number : ℕ) (ks : List ℕ) (chains :
           };
           counted = counted;
           same = all;
+          rooms = same_rooms ∙ rooms_so;
         })
 
     pub one_failed : (n : ℕ) (torn : Option Torn) (after' : Chains) (new' : GrainsState) → MoveEnds after new g next m n (Some (Failed torn)) after' new' → SameLane new new' →
@@ -321,7 +333,7 @@ module _ (l : LaneOf) (told : LaneTold) (number : ℕ) (ks : List ℕ) (chains :
             risen = counted.risen refl;
             torn_by_write = tt;
           },
-          unmade n after' new' e.1.1 e.1.2 (counted_any old new' (calls + n) true counted) same,
+          unmade n after' new' e.1.1 e.1.2 e.1.3 (counted_any old new' (calls + n) true counted) same,
         )
     one_failed n (Some torn) after' new' ends same =
         let e = plain_ends n (Some (Failed (Some torn))) after' new' ends in
@@ -358,6 +370,7 @@ module _ (l : LaneOf) (told : LaneTold) (number : ℕ) (ks : List ℕ) (chains :
                 };
                 counted = counted_any old new' (calls + n) true counted;
                 same = all;
+                rooms = e.1.5 ∙ ap (reach v g) rooms_so;
               })),
         )
 
@@ -374,9 +387,9 @@ module _ (l : LaneOf) (told : LaneTold) (number : ℕ) (ks : List ℕ) (chains :
             step = step;
             extra = n;
             stopped = stopped n le two;
-            thin = thin_told new.volumes told.volumes (spot.column.volume next) volumes (ap (λ (z : ℕ). (volume_of new.volumes z).kind) c.volume ∙ e.4);
+            thin = thin_told new.volumes told.volumes (spot.column.volume next) volumes (ap (λ (z : ℕ). (volume_of new.volumes z).kind) c.volume ∙ e.5);
           },
-          unmade n after' new' e.2 e.3 (both_counted old new new' calls n false so.counted e.5) same,
+          unmade n after' new' e.2 e.3 e.4 (both_counted old new new' calls n false so.counted e.6) same,
         )
 
   -- the moves ended
@@ -385,7 +398,13 @@ module _ (l : LaneOf) (told : LaneTold) (number : ℕ) (ks : List ℕ) (chains :
   all_made after new calls made so =
       let whole : so.done ≡ ks = sym (append-nil so.done) ∙ (ap (λ z. so.done ++ z) (sym (nil_map so.left so.rest_are)) ∙ sym so.split) in (
         (so.made_are ∙ (ap (map (move_in spot)) whole ∙ sym (lane_law_holds.moves_told spot ks)), so.calls_are ∙ ap (λ z. calls_of_steps (map (step_of_move spot) z)) whole),
-        subst (λ (z : List Move). StepsStand l told None z calls None chains old after new) (sym so.made_are) (record { chains_are = so.chains_are; stands = so.stands; counted = so.counted; same = so.same }),
+        subst (λ (z : List Move). StepsStand l told None z calls None chains old after new) (sym so.made_are) (record {
+          chains_are = so.chains_are;
+          stands = so.stands;
+          counted = so.counted;
+          same = so.same;
+          rooms = so.rooms ∙ ap (fold (rooms_move l told.picture) (rooms_of old.volumes)) so.made_are;
+        }),
       )
     where
       nil_map : (xs : List ℕ) → [] ≡ map (move_in spot) xs → xs ≡ []

@@ -1,6 +1,7 @@
 -- A write with all its moves.
-use Rattle.std.proofs.Common.{◌≡◌, ℕ, ◌+◌, ◌≤◌, true, false, Option, Some, None, List, [], ◌∷◌, ◌++◌, map, is_some, refl, sym, ap, subst, ◌∙◌, append_assoc}
+use Rattle.std.proofs.Common.{◌≡◌, ℕ, ◌+◌, ◌≤◌, true, false, Option, Some, None, List, [], ◌∷◌, ◌++◌, map, fold, is_some, refl, sym, ap, subst, ◌∙◌, append_assoc}
 use Rattle.fc_base.specs.Moves.{write_moves}
+use Rattle.fc_base.specs.Room.{Room}
 use Rattle.fc_base.specs.Sheet.{Sheet}
 use Rattle.fc_base.specs.declared.request.Move.{Move}
 use Rattle.fc_base.specs.declared.request.Torn.{Torn}
@@ -9,6 +10,7 @@ use Rattle.fc_chain.specs.Chains.{Chains}
 use Rattle.fc_entry.specs.Picture.{grain_of_block}
 use Rattle.fc_entry.specs.Writes.{calls_of_write}
 use Rattle.fc_grains.specs.Grains.{GrainsState}
+use Rattle.fc_grains.specs.Volumes.{rooms_of}
 use Rattle.fc_steps.specs.Moving.{IsTornBy}
 use Rattle.fc_steps.specs.Standing.{Stands}
 use Rattle.fc_steps.specs.StepsEnd.{CanMakeMoves, StepsEnd, StepsStand, StoppedIn, torn_in}
@@ -23,6 +25,7 @@ use Rattle.fc_pictures.proofs.Agreeing.{lane_law_holds}
 use Rattle.fc_pictures.proofs.Running.{steps_law_holds}
 use Rattle.fc_rules.specs.LaneTold.{LaneOf, LaneTold, place_of, sheet_entry, sheet_tear, sheet_write}
 use Rattle.fc_rules.specs.LaneTurn.{spot_at}
+use Rattle.fc_rules.specs.Rooms.{rooms_move, rooms_write, rooms_tear}
 use Rattle.fc_rules.specs.Spot.{Spot, move_in}
 use Rattle.fc_rules.specs.Steps.{DiskStep, own_step, step_of_move, steps_of_write}
 use Rattle.fc_sheets.proofs.Finding.{live_place_at}
@@ -108,6 +111,10 @@ module _ (l : LaneOf) (told : LaneTold) (part : WritePart) (t : ℕ) (chains : C
       same = x.1.same.each ∙ w.at.same;
     }
 
+    -- which grains occupy memory then
+    moves_reached : rooms_of mid.volumes ≡ fold (rooms_move l told.picture) (rooms_of old.volumes) (map (move_in spot) ks)
+    moves_reached = x.1.rooms ∙ ap (fold (rooms_move l told.picture) (rooms_of old.volumes)) made_is
+
     all_stands : (write : Option WritePart) (m : ℕ) (torn : Option Torn) (after' : Chains) (new : GrainsState) → OwnStands l told part t write m torn after mid after' new →
         StepsStand l told write made (calls + m) torn chains old after' new
     all_stands write m torn after' new o =
@@ -116,6 +123,7 @@ module _ (l : LaneOf) (told : LaneTold) (part : WritePart) (t : ℕ) (chains : C
           stands = o.stands;
           counted = both_counted old mid new calls m false x.1.counted o.counted;
           same = same_then old mid new x.1.same o.same;
+          rooms = o.rooms ∙ ap (λ (rooms : List Room). rooms_tear l (rooms_write l rooms write) torn) moves_reached;
         })
 
     stopped_own : (m : ℕ) → m ≤ calls_of_write l.grain part → StoppedIn (steps_of_write l.grain spot part t) made (calls + m) own m

@@ -21,15 +21,16 @@ use Rattle.fc_entry.specs.Picture.{Content, Bytes, Lost, byte_in_grain, grain_of
 use Rattle.fc_entry.specs.Writes.{calls_of_write, covers_grain}
 use Rattle.fc_grains.specs.Calls.{HasWritten}
 use Rattle.fc_grains.specs.Grains.{GrainsState}
-use Rattle.fc_grains.specs.Volumes.{is_there, volume_of, stored}
-use Rattle.fc_steps.specs.Moving.{Counted, SameLane}
+use Rattle.fc_grains.specs.Volumes.{is_there, volume_of, stored, rooms_of}
+use Rattle.fc_steps.specs.Moving.{Counted, SameLane, SameRooms}
 use Rattle.fc_steps.specs.Reading.{HasHolder, IsOfHolder}
 use Rattle.fc_steps.specs.Standing.{AllSized}
 use Rattle.fc_steps.specs.WriteStep.{CanWriteOwn, IsInGrain, IsPrepared, OwnEnds, OwnStands, spot_of}
 use Rattle.fc_steps.specs.declared.body.StepEnd.{StepEnd}
 use Rattle.fc_steps.specs.declared.stop.Stop.{Stop}
 use Rattle.fc_steps.specs.declared.stop.Stop.TheVariants.{Failed, NoMemory}
-use Rattle.fc_steps.proofs.Moving.{Source, source_at, one_holder, risen_then, same_then, stored_after, wrote_done, wrote_stored, failed_done, failed_stored, refused_done, refused_stored}
+use Rattle.fc_steps.proofs.Moving.{Source, source_at, one_holder, risen_then, same_then, stored_after, wrote_done, wrote_stored, wrote_reached, failed_done, failed_stored, failed_reached, refused_done, refused_stored, refused_rooms}
+use Rattle.fc_steps.proofs.Rooms.{reached_after}
 use Rattle.fc_steps.proofs.Shown.{ShownIn, holder_shown, volume_shown}
 use Rattle.fc_steps.proofs.StepsMade.{both_counted, counted_any, sized_again, size_torn, size_written, thin_told}
 use Rattle.fc_steps.proofs.WritePrepare.{bytes_of_blocks}
@@ -166,9 +167,9 @@ module _ (l : LaneOf) (told : LaneTold) (part : WritePart) (t : ℕ) (chains : C
 
   -- ---- what stands
 
-  unmade : (calls : ℕ) (new : GrainsState) → ((w y : ℕ) → stored new.volumes w y ≡ stored old.volumes w y) → Counted old calls false new → SameLane old new →
+  unmade : (calls : ℕ) (new : GrainsState) → ((w y : ℕ) → stored new.volumes w y ≡ stored old.volumes w y) → SameRooms old.volumes new.volumes → Counted old calls false new → SameLane old new →
       OwnStands l told part t None calls None chains old chains new
-  unmade calls new same_stored counted same = record {
+  unmade calls new same_stored same_rooms counted same = record {
     chains_are = ap (λ (s : Sheet). record chains { sheet = s }) can.sheet_is;
     stands = record {
       sound = can.stands.sound;
@@ -177,6 +178,7 @@ module _ (l : LaneOf) (told : LaneTold) (part : WritePart) (t : ℕ) (chains : C
     };
     counted = counted;
     same = same;
+    rooms = same_rooms;
   }
 
   -- the read failed
@@ -191,7 +193,7 @@ module _ (l : LaneOf) (told : LaneTold) (part : WritePart) (t : ℕ) (chains : C
           risen = counted.risen refl;
           torn_by_write = tt;
         },
-        unmade 1 mid p.stored_same (counted_any old mid 1 true counted) p.same,
+        unmade 1 mid p.stored_same p.rooms_same (counted_any old mid 1 true counted) p.same,
       )
 
   -- all calls of it
@@ -238,6 +240,7 @@ module _ (l : LaneOf) (told : LaneTold) (part : WritePart) (t : ℕ) (chains : C
             };
             counted = calls_all false d.counted;
             same = same_then old mid new p.same d.same;
+            rooms = reached_after (rooms_of old.volumes) (rooms_of mid.volumes) (rooms_of new.volumes) part.volume.0 part.volume.0 place g refl at p.rooms_same (wrote_reached {A = A} mid new part.volume.0 place a w);
           },
         )
 
@@ -270,6 +273,7 @@ module _ (l : LaneOf) (told : LaneTold) (part : WritePart) (t : ℕ) (chains : C
                 };
                 counted = counted_any old new (calls_of_write l.grain part) true counted;
                 same = same_then old mid new p.same d.same;
+                rooms = reached_after (rooms_of old.volumes) (rooms_of mid.volumes) (rooms_of new.volumes) part.volume.0 own.volume place g (sym named) at p.rooms_same (failed_reached {A = A} mid new part.volume.0 place w);
               }),
         )
       where
@@ -284,7 +288,7 @@ module _ (l : LaneOf) (told : LaneTold) (part : WritePart) (t : ℕ) (chains : C
         let thin : (volume_of old.volumes part.volume.0).kind ≡ Thin = sym (p.same.kinds part.volume.0) ∙ w.allowed in (
           omega arith,
           thin_told old.volumes told.volumes part.volume.0 can.same thin,
-          unmade (calls_of_write l.grain part) new same_stored (calls_all false d.counted) (same_then old mid new p.same d.same),
+          unmade (calls_of_write l.grain part) new same_stored (refused_rooms {A = A} mid new part.volume.0 place w ∙ p.rooms_same) (calls_all false d.counted) (same_then old mid new p.same d.same),
         )
 
   -- the side of a failed write

@@ -10,7 +10,7 @@ use Rattle.fc_entry.specs.Picture.{Content, Bytes, Lost, byte_in_grain, written}
 use Rattle.fc_entry.specs.Writes.{covers_grain}
 use Rattle.fc_grains.specs.Calls.{HasRead}
 use Rattle.fc_grains.specs.Grains.{GrainsState}
-use Rattle.fc_grains.specs.Volumes.{ComeNearer, is_there, stored}
+use Rattle.fc_grains.specs.Volumes.{ComeNearer, is_there, stored, rooms_of}
 use Rattle.fc_steps.specs.Moving.{Counted, SameLane}
 use Rattle.fc_steps.specs.WriteStep.{IsInGrain, IsPrepared}
 use Rattle.fc_steps.proofs.Moving.{not_counted, counted_then, read_done, same_then}
@@ -81,6 +81,7 @@ module _ (grain : GrainSize) (part : WritePart) (inside : IsInGrain grain part) 
               ∙ sym (ap (λ (k : ℕ). written k (block_bytes * part.count) part.byte content) from_first
               ∙ (ap (λ (k : ℕ). written 0 k part.byte content) all_bytes ∙ all_written n part.byte content sizes));
           stored_same = λ w y. ap (λ (s : GrainsState). stored s.volumes w y) e;
+          rooms_same = ap (λ (s : GrainsState). rooms_of s.volumes) e;
           same = subst (λ (s : GrainsState). SameLane old s) (sym e) (filled_same old _);
         }
 
@@ -103,6 +104,7 @@ module _ (grain : GrainSize) (part : WritePart) (inside : IsInGrain grain part) 
               sym (ap (λ (c : Content). written (byte_in_grain grain part.block) (block_bytes * part.count) part.byte c) (holds ∙ read.bytes)
               ∙ sym (ap (λ (s : GrainsState). Bytes s.buffer) e));
           stored_same = λ w y. ap (λ (s : GrainsState). stored s.volumes w y) e ∙ r.stored_same w y;
+          rooms_same = ap (λ (s : GrainsState). rooms_of s.volumes) e ∙ r.rooms_same;
           same = same_then old mid new r.same same;
         }
 
@@ -114,5 +116,6 @@ module _ (grain : GrainSize) (part : WritePart) (inside : IsInGrain grain part) 
           part_failed = λ t. is_part;
           bytes = λ t. absurd cc;
           stored_same = r.stored_same;
+          rooms_same = r.rooms_same;
           same = r.same;
         }

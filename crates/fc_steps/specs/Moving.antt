@@ -3,6 +3,7 @@ use Rattle.std.specs.Prelude.{◌≡◌, ℕ, zero, suc, ◌<◌, ◌≤◌, ◌
 use Rattle.fc_base.specs.Column.{holder}
 use Rattle.fc_base.specs.Count.{one_more, HasRisen}
 use Rattle.fc_base.specs.Moves.{is_in_place}
+use Rattle.fc_base.specs.Room.{reach}
 use Rattle.fc_base.specs.Safety.{IsSafeMove}
 use Rattle.fc_base.specs.Sheet.{Slot, slot_at, column, birth_place}
 use Rattle.fc_base.specs.SheetStep.{sheet_moved, sheet_torn}
@@ -14,7 +15,7 @@ use Rattle.fc_chain.specs.Chains.{Chains}
 use Rattle.fc_entry.specs.Picture.{Lost, is_lost}
 use Rattle.fc_grains.specs.Grains.{GrainsState}
 use Rattle.fc_grains.specs.Quiet.{IsQuiet}
-use Rattle.fc_grains.specs.Volumes.{VolumeGrains, ComeNearer, is_there, volume_of, stored}
+use Rattle.fc_grains.specs.Volumes.{VolumeGrains, ComeNearer, is_there, volume_of, stored, rooms_of}
 use Rattle.fc_steps.specs.Standing.{kind_of_grains}
 use Rattle.fc_steps.specs.declared.stop.Stop.{Stop}
 use Rattle.fc_steps.specs.declared.stop.Stop.TheVariants.{Failed, NoMemory}
@@ -74,15 +75,25 @@ pub record CanMove (chains : Chains) (g : ℕ) (m : Move) (k : ℕ) : Type 0 whe
   pub of_lane : m.grain.0 % chains.lanes ≡ chains.lane
   pub place : m.grain.0 / chains.lanes ≡ g
 
--- The calls of the move: two, or none in place and where there is nothing to copy.
-abbrev pub calls_of_move : List Slot → List VolumeGrains → ℕ → Bool → ℕ → ℕ
-calls_of_move slots vs g in_place h = cond (in_place || is_lost (stored vs (slot_at slots h).volume g)) 0 2
+-- The move calls no disk in place and where there is nothing to copy.
+abbrev pub calls_none : List Slot → List VolumeGrains → ℕ → Bool → ℕ → Bool
+calls_none slots vs g in_place h = in_place || is_lost (stored vs (slot_at slots h).volume g)
 
--- It was made.
+-- Otherwise it makes two calls.
+abbrev pub calls_of_move : List Slot → List VolumeGrains → ℕ → Bool → ℕ → ℕ
+calls_of_move slots vs g in_place h = cond (calls_none slots vs g in_place h) 0 2
+
+-- The volumes occupy the memory that they did.
+abbrev pub SameRooms : List VolumeGrains → List VolumeGrains → Type 0
+SameRooms old new = rooms_of new ≡ rooms_of old
+
+-- It was made. Where it called disks, its write reached its grain.
 pub record MoveMade (chains : Chains) (old : GrainsState) (g k : ℕ) (m : Move) (calls : ℕ) (after : Chains) (new : GrainsState) : Type 0 where
   pub chains_are : after ≡ record chains { sheet = sheet_moved (slot_at chains.sheet.slots k).volume g m.in_place chains.sheet }
   pub stored_is : StoredMoved chains.sheet.slots (stored old.volumes) k g m.in_place (stored new.volumes)
   pub calls_are : (h : ℕ) → holder (column chains.sheet.slots g) k ≡ Some h → calls ≡ calls_of_move chains.sheet.slots old.volumes g m.in_place h
+  pub rooms : (h : ℕ) → holder (column chains.sheet.slots g) k ≡ Some h →
+      rooms_of new.volumes ≡ cond (calls_none chains.sheet.slots old.volumes g m.in_place h) (rooms_of old.volumes) (reach m.volume.0 g (rooms_of old.volumes))
 
 -- It wasn't: it is out of place and there was something to copy.
 pub record MoveNotMade (chains : Chains) (old : GrainsState) (g k : ℕ) (m : Move) : Type 0 where
@@ -91,16 +102,17 @@ pub record MoveNotMade (chains : Chains) (old : GrainsState) (g k : ℕ) (m : Mo
   pub holds : holder (column chains.sheet.slots g) k ≡ Some holder_is
   pub readable : is_lost (stored old.volumes (slot_at chains.sheet.slots holder_is).volume g) ≡ false
 
--- A call failed: its read, and then nothing changed; or its write, which tore the volume's grain.
+-- A call failed: its read, and then nothing changed; or its write, which tore the volume's grain, and reached it.
 abbrev pub MoveTorn : Chains → GrainsState → ℕ → ℕ → Move → ℕ → Option Torn → Chains → GrainsState → Type 0
 MoveTorn chains old g k m calls None after new =
-    (calls ≡ 1) × (after ≡ chains) × ((w y : ℕ) → stored new.volumes w y ≡ stored old.volumes w y)
+    (calls ≡ 1) × (after ≡ chains) × ((w y : ℕ) → stored new.volumes w y ≡ stored old.volumes w y) × SameRooms old.volumes new.volumes
 MoveTorn chains old g k m calls (Some torn) after new =
     (calls ≡ 2)
     × (torn ≡ record { volume = m.volume; grain = m.grain; side = Under })
     × (after ≡ record chains { sheet = sheet_torn (slot_at chains.sheet.slots k).volume g Under chains.sheet })
     × StoredAt (stored old.volumes) (slot_at chains.sheet.slots k).volume g Lost (stored new.volumes)
     × HasRisen old.write_faults new.write_faults
+    × (rooms_of new.volumes ≡ reach m.volume.0 g (rooms_of old.volumes))
 
 abbrev pub MoveEnds : Chains → GrainsState → ℕ → ℕ → Move → ℕ → Option Stop → Chains → GrainsState → Type 0
 MoveEnds chains old g k m calls None after new = MoveMade chains old g k m calls after new × Counted old calls false new
@@ -111,5 +123,6 @@ MoveEnds chains old g k m calls (Some NoMemory) after new =
     × (calls ≡ 2)
     × (after ≡ chains)
     × ((w y : ℕ) → stored new.volumes w y ≡ stored old.volumes w y)
+    × SameRooms old.volumes new.volumes
     × ((volume_of old.volumes (slot_at chains.sheet.slots k).volume).kind ≡ Thin)
     × Counted old calls false new

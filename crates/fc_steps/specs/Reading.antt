@@ -8,6 +8,7 @@ use Rattle.fc_entry.specs.Picture.{is_lost}
 use Rattle.fc_grains.specs.Calls.{HasRead}
 use Rattle.fc_grains.specs.Grains.{GrainsState}
 use Rattle.fc_grains.specs.Volumes.{is_there, stored}
+use Rattle.fc_steps.specs.Moving.{SameRooms}
 use Rattle.fc_steps.specs.Standing.{AllSized}
 use Rattle.fc_steps.specs.declared.read.GrainRead.{GrainRead}
 use Rattle.fc_steps.specs.declared.read.GrainRead.TheVariants.{Done, IsLost, Failed}
@@ -43,7 +44,7 @@ GrainEnds old source place Done new = (is_lost (stored old.volumes source place)
 GrainEnds old source place IsLost new = (is_lost (stored old.volumes source place) ≡ true) × (new ≡ old)
 GrainEnds old source place Failed new = (is_lost (stored old.volumes source place) ≡ false) × HasRead old source place true new
 
--- The volume's live slot was read, from the volume of its holder.
+-- The volume's live slot was read, from the volume of its holder. This reached no grain.
 pub record ReadEnds (sheet : Sheet) (old : GrainsState) (volume place : ℕ) (end : GrainRead) (new : GrainsState) : Type 0 where
   pub reader : ℕ
   pub source : ℕ
@@ -52,3 +53,4 @@ pub record ReadEnds (sheet : Sheet) (old : GrainsState) (volume place : ℕ) (en
   pub holds : holder (column sheet.slots place) reader ≡ Some source
   pub is_there : is_there old.volumes (slot_at sheet.slots source).volume ≡ true
   pub ends : GrainEnds old (slot_at sheet.slots source).volume place end new
+  pub rooms : SameRooms old.volumes new.volumes

@@ -6,12 +6,14 @@ use Rattle.fc_base.specs.declared.request.Torn.{Torn}
 use Rattle.fc_base.specs.declared.request.WritePart.{WritePart}
 use Rattle.fc_chain.specs.Chains.{Chains}
 use Rattle.fc_grains.specs.Grains.{GrainsState}
+use Rattle.fc_grains.specs.Volumes.{rooms_of}
 use Rattle.fc_steps.specs.Moving.{Counted, IsTornBy, SameLane}
 use Rattle.fc_steps.specs.Standing.{SameVolumes, Stands}
 use Rattle.fc_steps.specs.declared.stop.Stop.{Stop}
 use Rattle.fc_steps.specs.declared.stop.Stop.TheVariants.{Failed, NoMemory}
 use Rattle.fc_pictures.specs.StepsLaw.{MovesRun}
 use Rattle.fc_rules.specs.LaneTold.{LaneOf, LaneTold, sheet_entry, picture_entry}
+use Rattle.fc_rules.specs.Rooms.{rooms_told}
 use Rattle.fc_rules.specs.Spot.{Spot}
 use Rattle.fc_rules.specs.Steps.{DiskStep, calls_of_steps, moves_of, torn_by}
 
@@ -57,12 +59,14 @@ StepsEnd spot steps moves calls (Some NoMemory) old new = RefusedIn spot steps m
 
 -- ---- what stands then
 
--- The chains and the grains are as an entry with this write, these moves and this torn grain tells.
+-- The chains and the grains are as an entry with this write, these moves and this torn grain tells, and so is the memory that
+-- the disks use.
 pub record StepsStand (l : LaneOf) (told : LaneTold) (write : Option WritePart) (moves : List Move) (calls : ℕ) (torn : Option Torn) (chains : Chains) (old : GrainsState) (after : Chains) (new : GrainsState) : Type 0 where
   pub chains_are : after ≡ record chains { sheet = sheet_entry l told.sheet write moves torn }
   pub stands : Stands (sheet_entry l told.sheet write moves torn) (picture_entry l told.picture write torn) new.volumes
   pub counted : Counted old calls false new
   pub same : SameLane old new
+  pub rooms : rooms_of new.volumes ≡ rooms_told l told.picture (rooms_of old.volumes) write moves torn
 
 -- ---- where moves can be made
 

@@ -13,8 +13,8 @@ use Rattle.fc_chain.specs.Chains.{Chains}
 use Rattle.fc_entry.specs.Picture.{Content, Bytes, written, byte_in_grain, grain_of_block}
 use Rattle.fc_entry.specs.Writes.{calls_of_write, covers_grain}
 use Rattle.fc_grains.specs.Grains.{GrainsState}
-use Rattle.fc_grains.specs.Volumes.{stored}
-use Rattle.fc_steps.specs.Moving.{Counted, IsTornBy, SameLane}
+use Rattle.fc_grains.specs.Volumes.{stored, rooms_of}
+use Rattle.fc_steps.specs.Moving.{Counted, IsTornBy, SameLane, SameRooms}
 use Rattle.fc_steps.specs.Standing.{SameVolumes, Stands}
 use Rattle.fc_steps.specs.StepsEnd.{StandsAt}
 use Rattle.fc_steps.specs.declared.stop.Stop.{Stop}
@@ -25,6 +25,7 @@ use Rattle.fc_rules.specs.GrainAnswers.{cannot_write}
 use Rattle.fc_rules.specs.LaneFits.{FitsPart}
 use Rattle.fc_rules.specs.LaneTold.{LaneOf, LaneTold, place_of, sheet_write, sheet_tear, picture_entry}
 use Rattle.fc_rules.specs.LaneTurn.{spot_at}
+use Rattle.fc_rules.specs.Rooms.{rooms_write, rooms_tear}
 use Rattle.fc_rules.specs.Spot.{Spot, move_in}
 use Rattle.fc_rules.specs.Steps.{own_step, torn_by}
 
@@ -35,6 +36,7 @@ pub record IsPrepared (grain : GrainSize) (part : WritePart) (content : Content)
   pub part_failed : failed ≡ true → covers_grain grain part ≡ false
   pub bytes : failed ≡ false → Bytes new.buffer ≡ written (byte_in_grain grain part.block) (block_bytes * part.count) part.byte content
   pub stored_same : (w y : ℕ) → stored new.volumes w y ≡ stored old.volumes w y
+  pub rooms_same : SameRooms old.volumes new.volumes
   pub same : SameLane old new
 
 -- What is written is a part of a grain.
@@ -70,12 +72,13 @@ pub record CanWriteOwn (l : LaneOf) (told : LaneTold) (part : WritePart) (t : �
   pub stands : Stands (sheet_before_write l told part t) told.picture grains.volumes
   pub same : SameVolumes grains.volumes told.volumes
 
--- What stands after it.
+-- What stands after it. Done or torn, it reached its grain.
 pub record OwnStands (l : LaneOf) (told : LaneTold) (part : WritePart) (t : ℕ) (write : Option WritePart) (calls : ℕ) (torn : Option Torn) (chains : Chains) (old : GrainsState) (after : Chains) (new : GrainsState) : Type 0 where
   pub chains_are : after ≡ record chains { sheet = sheet_tear l (sheet_write l (sheet_before_write l told part t) write) torn }
   pub stands : Stands (sheet_tear l (sheet_write l (sheet_before_write l told part t) write) torn) (picture_entry l told.picture write torn) new.volumes
   pub counted : Counted old calls false new
   pub same : SameLane old new
+  pub rooms : rooms_of new.volumes ≡ rooms_tear l (rooms_write l (rooms_of old.volumes) write) torn
 
 -- A call failed.
 pub record OwnFailed (l : LaneOf) (told : LaneTold) (part : WritePart) (t calls : ℕ) (torn : Option Torn) (old new : GrainsState) : Type 0 where

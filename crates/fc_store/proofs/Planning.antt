@@ -8,7 +8,7 @@ use Rattle.fc_base.specs.Tables.{volume_with}
 use Rattle.fc_base.specs.declared.volume.Mapping.{Mapping}
 use Rattle.fc_base.specs.declared.volume.Volume.{Volume}
 use Rattle.fc_base.specs.declared.command.Command.{Command}
-use Rattle.fc_base.specs.declared.command.Command.TheVariants.{Read as ReadLine, Write as WriteLine}
+use Rattle.fc_base.specs.declared.command.Command.TheVariants.{Read as ReadLine, Write as WriteLine, Mkpreset}
 use Rattle.fc_base.specs.declared.decision.Decision.{Decision}
 use Rattle.fc_base.specs.declared.ids.VolId.{VolId}
 use Rattle.fc_base.specs.declared.outcome.NoMemory.{NoMemory}
@@ -84,10 +84,11 @@ may_decide_here s can =
 pub may_decide : (s : StoreView) (c : ControlState) (m : SheetView) → c ≡ s.control → m ≡ view_of s.lanes → CanDecide s → MayDecide c m
 may_decide s c m control view can = subst (λ (x : ControlState). MayDecide x m) (sym control) (subst (λ (x : SheetView). MayDecide s.control x) (sym view) (may_decide_here s can))
 
--- A command that is no access is decided.
+-- A command that is no access and no preset is decided.
 pub is_a_command : (command : Command) → IsDecided command → IsTrue (is_decided command)
 is_a_command (ReadLine volume block count) decided = absurd decided
 is_a_command (WriteLine volume block count byte) decided = absurd decided
+is_a_command (Mkpreset source preset name) decided = absurd decided
 is_a_command command decided = refl
 
 abbrev DecidedBy : ControlState → SheetView → Command → Decision → Type 0

@@ -33,13 +33,9 @@ use fc_mdisk::mdisk::Mdisk;
 use std::alloc::Global;
 
 impl<D: Mdisk> Store<D> {
-    /// Runs a command, which is no access, by `main`: all is settled, and then it is decided and done. Want of memory is its
-    /// answer. Says whether it is done.
-    pub(crate) fn run_command(
-        &mut self,
-        command: Command,
-        history: &mut History,
-    ) -> Result<bool, Stop>
+    /// Runs a command, which is no access and no preset, by `main`: all is settled, and then it is decided and done. Want of
+    /// memory is its answer. Says whether it is done.
+    pub fn run_command(&mut self, command: Command, history: &mut History) -> Result<bool, Stop>
         requires stands { TellsSome (StandsFor self.old) history.old }
         requires room { length history.old.entries ≤ MAX_ENTRIES }
         requires decided { IsDecided command }
@@ -59,10 +55,11 @@ impl<D: Mdisk> Store<D> {
         log_telling(history, entry, done)
     }
 
-    /// Does a command, which is no access, by an actor: all is settled, and then it is decided and done. Want of memory is its
-    /// reply: then nothing is done, or all is settled alone. The entry leads on to what the store then stands for; its number is
-    /// 0 until it is kept. Each lane stays the lane that it is, and as quiet as it was unless the entry arms a fault: an `armfault`
-    /// that is done arms the disk of the volume that it names, in its grain's lane, with its number, and nothing else arms one.
+    /// Does a command, which is no access and no preset, by an actor: all is settled, and then it is decided and done. Want of
+    /// memory is its reply: then nothing is done, or all is settled alone. The entry leads on to what the store then stands for;
+    /// its number is 0 until it is kept. Each lane stays the lane that it is, and as quiet as it was unless the entry arms a fault:
+    /// an `armfault` that is done arms the disk of the volume that it names, in its grain's lane, with its number, and nothing else
+    /// arms one.
     pub fn command_entry(&mut self, actor: u32, command: Command) -> Entry
         requires can { (w : Whole) × StandsFor self.old w × (w.entries < MAX_ENTRIES) }
         requires decided { IsDecided command }

@@ -1,9 +1,10 @@
-//! Reads and writes, refused accesses and unread lines: what they ask, entry by entry.
+//! Reads and writes, refused accesses and presets, and unread lines: what they ask, entry by entry.
 
 ghost use Rattle.std.specs.Prelude.{◌≡◌, ◌+◌, ◌*◌, ◌<◌, ◌≤◌, ◌∷◌, [], ℕ, List as Items, length, map, Contains, Some, None, Err, IfOk, IfErr};
 ghost use Rattle.fc_stands.specs.Quiet.{QuietBy};
 ghost use Rattle.fc_base.specs.Grain.{grain_blocks};
 ghost use Rattle.fc_base.specs.Tables.{volume_named};
+ghost use Rattle.fc_base.specs.declared.behind.Behind.TheVariants.{Passing as PassingSeconds};
 ghost use Rattle.fc_base.specs.declared.volume.Volume.{Volume};
 ghost use Rattle.fc_books.specs.Books.{Books};
 ghost use Rattle.fc_books.specs.Refused.{access_refused};
@@ -18,14 +19,16 @@ ghost use Rattle.fc_stands.specs.Apart.{IsRefusalOf};
 ghost use Rattle.fc_lanes.specs.Asking.{command_of, part_of};
 ghost use Rattle.fc_lanes.specs.Dealing.{disks_in};
 ghost use Rattle.fc_stands.specs.Store.{StandsFor};
+ghost use Rattle.fc_store.specs.Answering.{AnswersCommand};
 
 use crate::store::Store;
 use fc_apart::apart::refused_entry;
 use fc_apart::log::{is_full, log};
+use fc_base::command::{Command, Preset};
 use fc_base::fault::{Kind, Refusal, ValueOf, WordFault};
 use fc_base::ids::VolId;
 use fc_base::limits::{MAX_BLOCKS, MAX_ENTRIES};
-use fc_base::name::Ref;
+use fc_base::name::{Name, Ref};
 use fc_base::request::Request;
 use fc_base::size::GrainSize;
 use fc_base::volume::Volume;
@@ -101,7 +104,7 @@ impl<D: Mdisk> Store<D> {
         requires there { (v : Volume) × Contains self.old.control.tables.volumes v × (v.id ≡ volume) × (block + count ≤ v.grains * grain_blocks self.old.control.grain) }
         ensures answered { (read : Reading) (w : Whole) → IsTold (StandsFor self.old) history.old w →
             Answered result (StandsFor self.new) (session_rules self.old.control.grain read)
-            (Own (map (part_of self.old.control.grain access volume block count) (touched self.old.control.grain block count)) 0 []) w history.old history.new }
+            (Own (map (part_of self.old.control.grain access volume block count) (touched self.old.control.grain block count)) (PassingSeconds 0) []) w history.old history.new }
         ensures control { self.new.control ≡ self.old.control }
         ensures disks { disks_in self.new.lanes ≡ disks_in self.old.lanes }
         ensures quiet { QuietBy history.old.entries self.old → StaysUp result (QuietBy history.new.entries self.new) }
@@ -117,7 +120,7 @@ impl<D: Mdisk> Store<D> {
         Ok(())
     }
 
-    /// Logs a refused access or an unread line, which settles nothing and does nothing.
+    /// Logs a refused access, a refused preset or an unread line, which settles nothing and does nothing.
     fn log_refused(
         &self,
         history: &mut History,
@@ -167,7 +170,7 @@ impl<D: Mdisk> Store<D> {
         requires room { length history.old.entries ≤ MAX_ENTRIES }
         ensures answered { (read : Reading) (w : Whole) → IsTold (StandsFor self.old) history.old w →
             Answered result (StandsFor self.new) (session_rules self.old.control.grain read)
-            (Own (command_asked self.old.control.grain w.books (command_of access volume block count)) 0 []) w history.old history.new }
+            (Own (command_asked self.old.control.grain w.books (command_of access volume block count)) (PassingSeconds 0) []) w history.old history.new }
         ensures control { self.new.control ≡ self.old.control }
         ensures disks { disks_in self.new.lanes ≡ disks_in self.old.lanes }
         ensures quiet { QuietBy history.old.entries self.old → StaysUp result (QuietBy history.new.entries self.new) }
@@ -180,6 +183,29 @@ impl<D: Mdisk> Store<D> {
                 self.log_refused(history, request, refusal)
             }
         }
+    }
+
+    /// Logs a preset whose source names no volume, with the refusal.
+    pub(crate) fn refuse_preset(
+        &self,
+        source: Ref,
+        preset: Preset,
+        name: Option<Name>,
+        history: &mut History,
+    ) -> Result<(), Stop>
+        requires stands { TellsSome (StandsFor self.now) history.old }
+        requires room { length history.old.entries ≤ MAX_ENTRIES }
+        requires unnamed { volume_named self.now.control.tables source ≡ None }
+        ensures answered { AnswersCommand result (Command.Mkpreset source preset name) self.now self.now history.old history.new }
+        ensures quiet { QuietBy history.old.entries self.now → StaysUp result (QuietBy history.new.entries self.now) }
+        ensures limit { length history.new.entries ≤ MAX_ENTRIES }
+    {
+        let request = Request::Command(Command::Mkpreset {
+            source,
+            preset,
+            name,
+        });
+        self.log_refused(history, request, Refusal::NoSuch(Kind::Vdisk))
     }
 
     /// Logs a line with a fault in its words, by `main`: one entry. `LogFull` where the history is full, `NoMemory` where memory

@@ -5,6 +5,7 @@ pub mod Reading
 pub mod Depending
 pub mod Unneeded
 pub mod Joining
+pub mod JoiningBits
 pub mod JoiningRows
 pub mod Pooling
 pub mod Lawful

@@ -4,6 +4,7 @@ use Rattle.std.specs.List.{sum_by, list_any, list_all}
 use Rattle.fc_base.specs.Counts.{UsedAt, reads_some, is_direct, is_unneeded}
 use Rattle.fc_base.specs.Need.{ReadsAt, IsDependent}
 use Rattle.fc_base.specs.Pools.{Pool, of_kind, least_of_kind}
+use Rattle.fc_base.specs.Room.{Room, used_in}
 use Rattle.fc_base.specs.Sheet.{Sheet, slot_at, slot_id, shape_of, live_place, mapping_place, birth_place, volume_grains}
 use Rattle.fc_base.specs.SheetFacts.{HasNames, HasSizes, HasMappings}
 use Rattle.fc_base.specs.SheetStep.{triggered}
@@ -14,7 +15,7 @@ use Rattle.fc_base.specs.declared.ids.SlotId.{SlotId}
 use Rattle.fc_base.specs.declared.request.Pair.{Pair}
 use Rattle.fc_base.specs.declared.size.GrainSize.{GrainSize}
 use Rattle.fc_changed.specs.Row.{Row, restart_in}
-use Rattle.fc_sums.specs.Parts.{part_of, parts_of, sheet_at, joined, has_name, unneeded_in, common_to, parts_of_rows, joined_rows}
+use Rattle.fc_sums.specs.Parts.{part_of, parts_of, sheet_at, joined, has_name, unneeded_in, common_to, parts_of_rows, joined_rows, parts_of_rooms, joined_rooms}
 
 -- The parts of so many lanes, by their numbers.
 pub record PartsLaw (grain : GrainSize) (lanes : ℕ) (s : Sheet) : Type 0 where
@@ -103,6 +104,10 @@ pub record SumLaw : Type 0 where
   pub restarts : (grain : GrainSize) (lanes m : ℕ) (rows : List Row) → 0 < lanes →
       sum_by (λ (part : List Row). count_true (restart_in m part)) (parts_of_rows grain lanes rows) ≡ count_true (restart_in m rows)
   pub rows_join : (grain : GrainSize) (lanes : ℕ) (rows : List Row) → 0 < lanes → joined_rows (parts_of_rows grain lanes rows) ≡ rows
+  -- the grains of a volume that occupy memory are counted lane by lane, and the rooms of all are found again from their parts
+  pub used : (grain : GrainSize) (lanes id : ℕ) (rooms : List Room) → 0 < lanes →
+      sum_by (λ (part : List Room). used_in part id) (parts_of_rooms grain lanes rooms) ≡ used_in rooms id
+  pub rooms_join : (grain : GrainSize) (lanes : ℕ) (rooms : List Room) → 0 < lanes → joined_rooms (parts_of_rooms grain lanes rooms) ≡ rooms
   -- the least pool, lane by lane
   pub pools : (kind : DiskKind) (pool : Pool) (pools : List Pool) →
       least_of_kind kind (pool ∷ pools) ≡ fold (λ least p. min least (of_kind kind p)) (of_kind kind pool) pools

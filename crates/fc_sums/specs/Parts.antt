@@ -2,11 +2,12 @@
 use Rattle.std.specs.Prelude.{ℕ, ◌/◌, ◌%◌, Bool, false, ◌==◌, List, [], ◌∷◌, length, map, filter, fold, slice_index_or}
 use Rattle.std.specs.List.{sum_by, list_any, range_with_len}
 use Rattle.fc_base.specs.Counts.{names_below, is_unneeded}
+use Rattle.fc_base.specs.Room.{Room}
 use Rattle.fc_base.specs.Sheet.{Slot, Sheet, no_slots, slot_at}
 use Rattle.fc_base.specs.declared.ids.SlotId.{SlotId}
 use Rattle.fc_base.specs.declared.size.GrainSize.{GrainSize}
 use Rattle.fc_changed.specs.Row.{Row}
-use Rattle.fc_legal.specs.Whole.{part_of_sheet, part_of_rows}
+use Rattle.fc_legal.specs.Whole.{part_of_sheet, part_of_rows, part_of_rooms}
 use Rattle.fc_rules.specs.LaneTold.{LaneOf}
 
 -- A lane of so many.
@@ -88,3 +89,27 @@ joined_row parts k = record (row_at (rows_at parts 0) k) { same = joined_same pa
 
 abbrev pub joined_rows : List (List Row) → List Row
 joined_rows parts = map (joined_row parts) (range_with_len 0 (length (rows_at parts 0)))
+
+-- ---- which grains occupy memory
+
+-- The rooms of the parts, and the rooms that they are parts of: those of the first part, with the grains of all.
+abbrev pub parts_of_rooms : GrainSize → ℕ → List Room → List (List Room)
+parts_of_rooms grain lanes rooms = map (λ i. part_of_rooms (lane_of grain lanes i) rooms) (range_with_len 0 lanes)
+
+abbrev pub rooms_at : List (List Room) → ℕ → List Room
+rooms_at parts i = slice_index_or parts i []
+
+abbrev pub room_at : List Room → ℕ → Room
+room_at rooms k = slice_index_or rooms k (record { volume = record { 0 = 0 }; reached = [] })
+
+abbrev pub reached_at : List (List Room) → ℕ → ℕ → Bool
+reached_at parts k g = slice_index_or (room_at (rooms_at parts (g % length parts)) k).reached (g / length parts) false
+
+abbrev pub joined_reached : List (List Room) → ℕ → List Bool
+joined_reached parts k = map (reached_at parts k) (range_with_len 0 (sum_by (λ (rooms : List Room). length (room_at rooms k).reached) parts))
+
+abbrev pub joined_room : List (List Room) → ℕ → Room
+joined_room parts k = record (room_at (rooms_at parts 0) k) { reached = joined_reached parts k }
+
+abbrev pub joined_rooms : List (List Room) → List Room
+joined_rooms parts = map (joined_room parts) (range_with_len 0 (length (rooms_at parts 0)))

@@ -4,11 +4,12 @@
 //! `Sheet`) from what its lanes tell. The law says that the grains held and needed are sums over the lanes; that a part has
 //! all slots, in their order; that a slot reads from another where it does in some lane, and so who depends on it; that a
 //! slot is unneeded where it is in every lane; and that the sheet of all is found again from its parts. So are the grains with
-//! which an incremental mapping would begin again: they are counted lane by lane, and the rows of all are found again.
+//! which an incremental mapping would begin again, and the grains of a volume that occupy memory: they are counted lane by lane,
+//! and the rows and the rooms of all are found again.
 //!
-//! To read: `specs/Parts` (the parts of all lanes, and the sheet and the rows that they are parts of), `specs/Law` (what is
-//! said); then `proofs/`: `Sums` (numbers counted lane by lane), `Dividing` (counts), `Slots`, `Reading`, `Depending`,
-//! `Unneeded`, `Joining`, `JoiningRows`, `Pooling`, `Lawful`.
+//! To read: `specs/Parts` (the parts of all lanes, and the sheet, the rows and the rooms that they are parts of), `specs/Law`
+//! (what is said); then `proofs/`: `Sums` (numbers counted lane by lane), `Dividing` (counts), `Slots`, `Reading`, `Depending`,
+//! `Unneeded`, `Joining`, `JoiningBits`, `JoiningRows`, `Pooling`, `Lawful`.
 #![tactic(auto)]
 
 ghost use Rattle.fc_sums.specs.Law.{SumLaw};

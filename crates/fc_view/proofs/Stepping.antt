@@ -2,7 +2,7 @@
 use Rattle.std.proofs.Common.{◌≡◌, ℕ, Option, Some, None, List, [], refl, sym, ap, ◌∙◌}
 use Rattle.fc_base.specs.Sheet.{Sheet}
 use Rattle.fc_base.specs.declared.command.Command.{Command}
-use Rattle.fc_base.specs.declared.command.Command.TheVariants.{Read as ReadLine, Write as WriteLine}
+use Rattle.fc_base.specs.declared.command.Command.TheVariants.{Read as ReadLine, Write as WriteLine, Mkpreset}
 use Rattle.fc_base.specs.declared.fault.Refusal.{Refusal}
 use Rattle.fc_base.specs.declared.request.Move.{Move}
 use Rattle.fc_base.specs.declared.request.Place.TheVariants.{Every}
@@ -11,12 +11,12 @@ use Rattle.fc_base.specs.declared.request.Request.TheVariants.{Command as Asked,
 use Rattle.fc_base.specs.declared.request.Torn.{Torn}
 use Rattle.fc_base.specs.declared.request.WritePart.{WritePart}
 use Rattle.fc_base.specs.declared.size.GrainSize.{GrainSize}
-use Rattle.fc_books.specs.Refused.{access_refused}
+use Rattle.fc_books.specs.Refused.{access_refused, preset_refused}
 use Rattle.fc_check_lane.specs.After.{chains_torn, chains_written}
 use Rattle.fc_check_lane.proofs.Following.{chains_plain}
 use Rattle.fc_drawing.specs.Sources.{all_made}
 use Rattle.fc_entry.specs.declared.entry.Entry.{Entry}
-use Rattle.fc_legal.specs.Steps.{AccessIsRefused, CommandIsRight, IsApart, IsRefused, LaneStep, RequestStep, Step}
+use Rattle.fc_legal.specs.Steps.{MustBeRefused, CommandIsRight, IsApart, IsRefused, LaneStep, RequestStep, Step}
 use Rattle.fc_legal.specs.Whole.{Whole}
 use Rattle.fc_rules.specs.LaneRight.{done_write}
 use Rattle.fc_view.specs.Behind.{chains_behind}
@@ -33,10 +33,10 @@ refused_sheet : (grain : GrainSize) (w : Whole) (entry : Entry) (next : Whole) (
 refused_sheet grain w entry next refusal refused none =
     ap (λ (x : Whole). x.books.sheet) refused.next_is ∙ sym (apart_same grain w.books.sheet entry refused.apart none)
 
-access_sheet : (grain : GrainSize) (w : Whole) (entry : Entry) (next : Whole) (refusal : Option Refusal) → AccessIsRefused refusal w entry next → done_write entry.request entry.reply ≡ None →
+must_sheet : (grain : GrainSize) (w : Whole) (entry : Entry) (next : Whole) (refusal : Option Refusal) → MustBeRefused refusal w entry next → done_write entry.request entry.reply ≡ None →
     next.books.sheet ≡ chains_behind grain w.books.sheet entry
-access_sheet grain w entry next None refused none = absurd refused
-access_sheet grain w entry next (Some refusal) refused none = refused_sheet grain w entry next refusal refused none
+must_sheet grain w entry next None refused none = absurd refused
+must_sheet grain w entry next (Some refusal) refused none = refused_sheet grain w entry next refusal refused none
 
 no_write : (entry : Entry) (command : Command) → entry.request ≡ Asked command → done_write entry.request entry.reply ≡ None
 no_write entry command e = ap (λ (r : Request). done_write r entry.reply) e
@@ -44,9 +44,11 @@ no_write entry command e = ap (λ (r : Request). done_write r entry.reply) e
 command_sheet : (grain : GrainSize) (w : Whole) (entry : Entry) (next : Whole) (command : Command) → entry.request ≡ Asked command → (entry.place ≡ Every → ⊥) → CommandIsRight grain w command entry next →
     next.books.sheet ≡ chains_behind grain w.books.sheet entry
 command_sheet grain w entry next (ReadLine volume block count) e apart right =
-    access_sheet grain w entry next (access_refused grain w.books volume block count) right (no_write entry (ReadLine volume block count) e)
+    must_sheet grain w entry next (access_refused grain w.books volume block count) right (no_write entry (ReadLine volume block count) e)
 command_sheet grain w entry next (WriteLine volume block count byte) e apart right =
-    access_sheet grain w entry next (access_refused grain w.books volume block count) right (no_write entry (WriteLine volume block count byte) e)
+    must_sheet grain w entry next (access_refused grain w.books volume block count) right (no_write entry (WriteLine volume block count byte) e)
+command_sheet grain w entry next (Mkpreset source preset name) e apart right =
+    must_sheet grain w entry next (preset_refused w.books source) right (no_write entry (Mkpreset source preset name) e)
 command_sheet grain w entry next command e apart right = absurd (apart right.place)
 
 -- an entry of a lane does just these

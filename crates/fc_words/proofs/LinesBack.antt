@@ -4,20 +4,20 @@ use Rattle.std.specs.List.{list_all, join_with_byte}
 use Rattle.std.proofs.lemmas.Bool.{le-ltb}
 use Rattle.fc_base.specs.CommandText.{command_text, command_words}
 use Rattle.fc_base.specs.declared.command.Command.{Command}
-use Rattle.fc_base.specs.declared.command.Command.TheVariants.{Mkvdisk, Rmvdisk, Write, Read, Armfault, Advance, Mkfcmap, Prestartfcmap, Startfcmap, Stopfcmap, Rmfcmap, Mkfcconsistgrp, Prestartfcconsistgrp, Startfcconsistgrp, Stopfcconsistgrp, Rmfcconsistgrp, Lsfcmap, Lsfcconsistgrp, Lsvdisk, Lsfcmapprogress, Lsfcmapdependentmaps}
+use Rattle.fc_base.specs.declared.command.Command.TheVariants.{Mkvdisk, Rmvdisk, Write, Read, Armfault, Advance, Mkfcmap, Prestartfcmap, Startfcmap, Stopfcmap, Rmfcmap, Mkfcconsistgrp, Prestartfcconsistgrp, Startfcconsistgrp, Stopfcconsistgrp, Rmfcconsistgrp, Lsfcmap, Lsfcconsistgrp, Lsvdisk, Lsfcmapprogress, Lsfcmapdependentmaps, Mkpreset, Lsvdiskroom}
 use Rattle.fc_base.specs.declared.command.Line.TheVariants.{Command as OfCommand}
 use Rattle.fc_base.specs.declared.command.Scope.TheVariants.{Free}
 use Rattle.fc_words.specs.declared.grammar.Flag.TheVariants.{Thin, Incremental, Autodelete, Restore, Force}
 use Rattle.fc_words.specs.declared.grammar.Operand.TheVariants.{Block, Count, Byte, Grain, Calls}
-use Rattle.fc_words.specs.declared.grammar.Setting.TheVariants.{Name, Size, Unit as SizeUnit, Source, Target, Group, CopyRate, CleanRate, GrainSize, Seconds}
+use Rattle.fc_words.specs.declared.grammar.Setting.TheVariants.{Name, Size, Unit as SizeUnit, Source, Target, Group, CopyRate, CleanRate, GrainSize, Seconds, Preset}
 use Rattle.fc_words.specs.declared.grammar.Verb.{Verb}
-use Rattle.fc_words.specs.declared.grammar.Verb.TheVariants.{MakeVolume, RemoveVolume, WriteBlocks, ReadBlocks, ArmFault, PassTime, MakeMapping, PrepareMapping, StartMapping, StopMapping, RemoveMapping, MakeGroup, PrepareGroup, StartGroup, StopGroup, RemoveGroup, ListMappings, ListGroups, ListVolumes, ShowProgress, ListDependents}
+use Rattle.fc_words.specs.declared.grammar.Verb.TheVariants.{MakeVolume, RemoveVolume, WriteBlocks, ReadBlocks, ArmFault, PassTime, MakeMapping, PrepareMapping, StartMapping, StopMapping, RemoveMapping, MakeGroup, PrepareGroup, StartGroup, StopGroup, RemoveGroup, ListMappings, ListGroups, ListVolumes, ShowProgress, ListDependents, MakeCopy, ListRoom}
 use Rattle.fc_words.specs.Canonical.{IsCommand}
 use Rattle.fc_words.specs.Given.{no_settings, no_flags, no_operands}
 use Rattle.fc_words.specs.Grammar.{verb_of, family_of, scope_has}
 use Rattle.fc_words.specs.Lines.{begins_with, is_prefix, line_of}
 use Rattle.fc_words.proofs.JoinLemmas.{is_word, words_of-join, length-join}
-use Rattle.fc_words.proofs.OptionsBack.{always, byte_values, grain_sizes, names, numbers, objects, units, stop_way-flags, Reads-option, Reads-given, Reads-taken, Reads-number, Reads-object, Reads-last, Reads-maybe, Reads-delim, Reads-flagged, Reads-start, Reads-stop}
+use Rattle.fc_words.proofs.OptionsBack.{always, byte_values, grain_sizes, names, numbers, objects, presets, units, stop_way-flags, Reads-option, Reads-given, Reads-taken, Reads-number, Reads-object, Reads-last, Reads-maybe, Reads-delim, Reads-flagged, Reads-start, Reads-stop}
 use Rattle.fc_words.proofs.ReadsBack.{Reads, Reads-end, Reads-raised}
 use Rattle.fc_words.proofs.ValueLemmas.{begins_with-byte}
 
@@ -126,3 +126,12 @@ reads_back (Lsfcmapprogress map delim) good =
 reads_back (Lsfcmapdependentmaps map delim) good =
     line_back ListDependents (codes "lsfcmapdependentmaps") (Lsfcmapdependentmaps map delim) refl refl refl refl refl refl (omega arith)
     (Reads-delim ListDependents delim refl good.1 (Reads-last ListDependents map refl good.0 (λ at. refl)))
+reads_back (Mkpreset source preset name) good =
+    line_back MakeCopy (codes "mkpreset") (Mkpreset source preset name) (simp (append_assoc, append-nil)) refl refl refl refl refl (omega arith)
+    (Reads-option objects MakeCopy Source (λ v. record no_settings { source = v }) source refl refl refl refl (λ at w. refl) good.0
+    (Reads-option presets MakeCopy Preset (λ v. record no_settings { source = Some source; preset = v }) preset refl refl refl refl (λ at w. refl) tt
+    (Reads-given names MakeCopy Name (λ v. record no_settings { source = Some source; preset = Some preset; name = v }) name refl refl refl refl (λ at w. refl) good.1
+    (Reads-end MakeCopy (record no_settings { source = Some source; preset = Some preset; name = name }) no_flags no_operands _ (λ at. refl)))))
+reads_back (Lsvdiskroom delim) good =
+    line_back ListRoom (codes "lsvdiskroom") (Lsvdiskroom delim) (simp append-nil) refl refl refl refl refl (omega arith)
+    (Reads-delim ListRoom delim refl good (Reads-end ListRoom (record no_settings { delim = delim }) no_flags no_operands _ (λ at. refl)))

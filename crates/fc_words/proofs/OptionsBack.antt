@@ -3,9 +3,11 @@ use Rattle.std.proofs.Common.{◌≡◌, ℕ, ◌+◌, ◌<◌, Bool, true, fals
 use Rattle.std.specs.List.{find}
 use Rattle.std.specs.Option.{ok_or}
 use Rattle.std.specs.Prelude.{⊤}
-use Rattle.fc_base.specs.CommandText.{byte_word, delim_word, flag_words, given_words, grain_size_word, name_word, object_words, option_words, ref_word, unit_word, way_words}
+use Rattle.fc_base.specs.CommandText.{byte_word, delim_word, flag_words, given_words, grain_size_word, name_word, object_words, option_words, preset_word, ref_word, unit_word, way_words}
 use Rattle.fc_base.specs.declared.command.Command.{Command}
 use Rattle.fc_base.specs.declared.command.Line.TheVariants.{Command as OfCommand}
+use Rattle.fc_base.specs.declared.command.Preset.{Preset as CopyPreset}
+use Rattle.fc_base.specs.declared.command.Preset.TheVariants.{Snapshot, Clone, Backup}
 use Rattle.fc_base.specs.declared.command.StopWay.{StopWay}
 use Rattle.fc_base.specs.declared.command.StopWay.TheVariants.{Plain, Force as ByForce, Split as BySplit}
 use Rattle.fc_base.specs.declared.command.Unit.{Unit as SizeUnit}
@@ -30,7 +32,7 @@ use Rattle.fc_words.specs.Canonical.{IsName, IsNumber, IsObject, IsDelim}
 use Rattle.fc_words.specs.Given.{no_settings, no_flags, no_operands, raise, is_raised, set, is_set, is_wanted, take}
 use Rattle.fc_words.specs.Grammar.{option_of, option_spelling, operands_of}
 use Rattle.fc_words.specs.Lines.{begins_with, read_words, stop_way}
-use Rattle.fc_words.specs.Values.{on_read, number_of, byte_of, delim_of, unit_of, grain_size_of, name_of, ref_at}
+use Rattle.fc_words.specs.Values.{on_read, number_of, byte_of, delim_of, unit_of, grain_size_of, preset_of, name_of, ref_at}
 use Rattle.fc_words.proofs.JoinLemmas.{is_word, is_word-decimal, is_word-name, is_word-ref, is_word-byte, is_word-delim}
 use Rattle.fc_words.proofs.ReadsBack.{having, Reads, Reads-end, Reads-flag, Reads-setting, Reads-operand, Reads-more, Reads-raised}
 use Rattle.fc_words.proofs.ValueLemmas.{number_of-decimal, name_of-name, ref_at-word, begins_with-decimal, begins_with-ref, byte_of-word, delim_of-printable}
@@ -104,6 +106,22 @@ grain_size_at-word K256 at = refl
 
 pub grain_sizes : Values grain_size_word grain_size_at (λ _. ⊤)
 grain_sizes = record { stands = λ size good. is_word-grain size; back = λ size good at. grain_size_at-word size at }
+
+abbrev preset_at : ℕ → List ℕ → Result CopyPreset WordFault
+preset_at at word = ok_or (preset_of word) (BadNumber at)
+
+is_word-preset : (preset : CopyPreset) → is_word (preset_word preset) ≡ true
+is_word-preset Snapshot = refl
+is_word-preset Clone = refl
+is_word-preset Backup = refl
+
+preset_at-word : (preset : CopyPreset) (at : ℕ) → preset_at at (preset_word preset) ≡ Ok preset
+preset_at-word Snapshot at = refl
+preset_at-word Clone at = refl
+preset_at-word Backup at = refl
+
+pub presets : Values preset_word preset_at (λ _. ⊤)
+presets = record { stands = λ preset good. is_word-preset preset; back = λ preset good at. preset_at-word preset at }
 
 -- what is read is put to use
 read_well : {T U : Type 0} (put : T → U) (result : Result T WordFault) (x : T) → result ≡ Ok x → on_read put result ≡ Ok (put x)

@@ -3,7 +3,7 @@
 use Rattle.std.specs.Prelude.{◌≡◌, ℕ, ◌^◌, ◌<◌, ◌≤◌, true, List, IfSome}
 use Rattle.fc_base.specs.Names.{is_name}
 use Rattle.fc_base.specs.declared.command.Command.{Command}
-use Rattle.fc_base.specs.declared.command.Command.TheVariants.{Mkvdisk, Rmvdisk, Write, Read, Armfault, Advance, Mkfcmap, Prestartfcmap, Startfcmap, Stopfcmap, Rmfcmap, Mkfcconsistgrp, Prestartfcconsistgrp, Startfcconsistgrp, Stopfcconsistgrp, Rmfcconsistgrp, Lsfcmap, Lsfcconsistgrp, Lsvdisk, Lsfcmapprogress, Lsfcmapdependentmaps}
+use Rattle.fc_base.specs.declared.command.Command.TheVariants.{Mkvdisk, Rmvdisk, Write, Read, Armfault, Advance, Mkfcmap, Prestartfcmap, Startfcmap, Stopfcmap, Rmfcmap, Mkfcconsistgrp, Prestartfcconsistgrp, Startfcconsistgrp, Stopfcconsistgrp, Rmfcconsistgrp, Lsfcmap, Lsfcconsistgrp, Lsvdisk, Lsfcmapprogress, Lsfcmapdependentmaps, Mkpreset, Lsvdiskroom}
 use Rattle.fc_base.specs.declared.name.Ref.{Ref}
 use Rattle.fc_base.specs.declared.name.Ref.TheVariants.{Id, Name}
 
@@ -49,3 +49,5 @@ IsCommand (Lsfcconsistgrp group delim) = IfSome group IsObject × IfSome delim I
 IsCommand (Lsvdisk delim) = IfSome delim IsDelim
 IsCommand (Lsfcmapprogress map delim) = IsObject map × IfSome delim IsDelim
 IsCommand (Lsfcmapdependentmaps map delim) = IsObject map × IfSome delim IsDelim
+IsCommand (Mkpreset source preset name) = IsObject source × IfSome name IsName
+IsCommand (Lsvdiskroom delim) = IfSome delim IsDelim

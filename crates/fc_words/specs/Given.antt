@@ -16,8 +16,8 @@ use Rattle.fc_words.specs.declared.grammar.LineOption.TheVariants.{Flag as OfFla
 use Rattle.fc_words.specs.declared.grammar.Operand.{Operand}
 use Rattle.fc_words.specs.declared.grammar.Operand.TheVariants.{Object, Block, Count, Byte, Grain, Calls, Actor, Role, Turns}
 use Rattle.fc_words.specs.declared.grammar.Setting.{Setting}
-use Rattle.fc_words.specs.declared.grammar.Setting.TheVariants.{Name, Size, Unit as SizeUnit, Source, Target, Group, CopyRate, CleanRate, GrainSize, Seconds, Delim}
-use Rattle.fc_words.specs.Values.{on_read, number_of, byte_of, delim_of, turns_of, unit_of, grain_size_of, role_of, name_of, ref_at}
+use Rattle.fc_words.specs.declared.grammar.Setting.TheVariants.{Name, Size, Unit as SizeUnit, Source, Target, Group, CopyRate, CleanRate, GrainSize, Seconds, Delim, Preset}
+use Rattle.fc_words.specs.Values.{on_read, number_of, byte_of, delim_of, turns_of, unit_of, grain_size_of, preset_of, role_of, name_of, ref_at}
 
 -- no option has a value
 abbrev pub no_settings : Settings
@@ -33,6 +33,7 @@ no_settings = record {
   grain_size = None;
   seconds = None;
   delim = None;
+  preset = None;
 }
 
 -- no option without a value
@@ -70,6 +71,7 @@ set CleanRate at word s = on_read (λ rate. record s { clean_rate = Some rate })
 set GrainSize at word s = on_read (λ size. record s { grain_size = Some size }) (ok_or (grain_size_of word) (BadNumber at))
 set Seconds at word s = on_read (λ seconds. record s { seconds = Some seconds }) (ok_or (number_of word) (BadNumber at))
 set Delim at word s = on_read (λ delim. record s { delim = Some delim }) (ok_or (delim_of word) (BadName at))
+set Preset at word s = on_read (λ preset. record s { preset = Some preset }) (ok_or (preset_of word) (BadNumber at))
 
 -- whether an option has its value
 abbrev pub is_set : Setting → Settings → Bool
@@ -84,6 +86,7 @@ is_set CleanRate s = is_some s.clean_rate
 is_set GrainSize s = is_some s.grain_size
 is_set Seconds s = is_some s.seconds
 is_set Delim s = is_some s.delim
+is_set Preset s = is_some s.preset
 
 -- the flags with one more
 abbrev pub raise : Flag → Flags → Flags

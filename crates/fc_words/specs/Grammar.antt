@@ -2,9 +2,9 @@
 use Rattle.std.specs.Prelude.{ℕ, Bool, true, false, List, [], ◌∷◌, Option, codes, find}
 use Rattle.std.specs.Str.{bytes_eq}
 use Rattle.fc_words.specs.declared.grammar.Verb.{Verb}
-use Rattle.fc_words.specs.declared.grammar.Verb.TheVariants.{MakeVolume, RemoveVolume, WriteBlocks, ReadBlocks, ArmFault, PassTime, MakeMapping, PrepareMapping, StartMapping, StopMapping, RemoveMapping, MakeGroup, PrepareGroup, StartGroup, StopGroup, RemoveGroup, ListMappings, ListGroups, ListVolumes, ShowProgress, ListDependents, BeginBlock, BeginActor, EndBlock}
+use Rattle.fc_words.specs.declared.grammar.Verb.TheVariants.{MakeVolume, RemoveVolume, WriteBlocks, ReadBlocks, ArmFault, PassTime, MakeMapping, PrepareMapping, StartMapping, StopMapping, RemoveMapping, MakeGroup, PrepareGroup, StartGroup, StopGroup, RemoveGroup, ListMappings, ListGroups, ListVolumes, ShowProgress, ListDependents, MakeCopy, ListRoom, BeginBlock, BeginActor, EndBlock}
 use Rattle.fc_words.specs.declared.grammar.Flag.TheVariants.{Thin, Incremental, Autodelete, Restore, Prep, Force, Split}
-use Rattle.fc_words.specs.declared.grammar.Setting.TheVariants.{Name, Size, Unit as SizeUnit, Source, Target, Group, CopyRate, CleanRate, GrainSize, Seconds, Delim}
+use Rattle.fc_words.specs.declared.grammar.Setting.TheVariants.{Name, Size, Unit as SizeUnit, Source, Target, Group, CopyRate, CleanRate, GrainSize, Seconds, Delim, Preset}
 use Rattle.fc_words.specs.declared.grammar.LineOption.{LineOption}
 use Rattle.fc_words.specs.declared.grammar.LineOption.TheVariants.{Flag as OfFlag, Setting as OfSetting}
 use Rattle.fc_words.specs.declared.grammar.Operand.{Operand}
@@ -37,6 +37,8 @@ verb_spelling ListGroups = codes "lsfcconsistgrp"
 verb_spelling ListVolumes = codes "lsvdisk"
 verb_spelling ShowProgress = codes "lsfcmapprogress"
 verb_spelling ListDependents = codes "lsfcmapdependentmaps"
+verb_spelling MakeCopy = codes "mkpreset"
+verb_spelling ListRoom = codes "lsvdiskroom"
 verb_spelling BeginBlock = codes "together"
 verb_spelling BeginActor = codes "actor"
 verb_spelling EndBlock = codes "end"
@@ -47,8 +49,8 @@ all_verbs =
     MakeVolume ∷ RemoveVolume ∷ WriteBlocks ∷ ReadBlocks ∷ ArmFault ∷ PassTime
     ∷ MakeMapping ∷ PrepareMapping ∷ StartMapping ∷ StopMapping ∷ RemoveMapping
     ∷ MakeGroup ∷ PrepareGroup ∷ StartGroup ∷ StopGroup ∷ RemoveGroup
-    ∷ ListMappings ∷ ListGroups ∷ ListVolumes ∷ ShowProgress ∷ ListDependents
-    ∷ BeginBlock ∷ BeginActor ∷ EndBlock ∷ []
+    ∷ ListMappings ∷ ListGroups ∷ ListVolumes ∷ ShowProgress ∷ ListDependents ∷ MakeCopy
+    ∷ ListRoom ∷ BeginBlock ∷ BeginActor ∷ EndBlock ∷ []
 
 -- the line whose first word this is
 abbrev pub verb_of : List ℕ → Option Verb
@@ -60,6 +62,8 @@ family_of MakeVolume = Storage
 family_of RemoveVolume = Storage
 family_of ArmFault = Storage
 family_of PassTime = Storage
+family_of MakeCopy = Storage
+family_of ListRoom = Storage
 family_of BeginBlock = Storage
 family_of WriteBlocks = Access
 family_of ReadBlocks = Access
@@ -95,6 +99,7 @@ option_spelling (OfSetting CleanRate) = codes "-cleanrate"
 option_spelling (OfSetting GrainSize) = codes "-grainsize"
 option_spelling (OfSetting Seconds) = codes "-seconds"
 option_spelling (OfSetting Delim) = codes "-delim"
+option_spelling (OfSetting Preset) = codes "-preset"
 option_spelling (OfFlag Thin) = codes "-thin"
 option_spelling (OfFlag Incremental) = codes "-incremental"
 option_spelling (OfFlag Autodelete) = codes "-autodelete"
@@ -111,6 +116,7 @@ options_of MakeMapping =
     OfSetting Source ∷ OfSetting Target ∷ OfSetting Name ∷ OfSetting Group ∷ OfSetting CopyRate ∷ OfSetting CleanRate
     ∷ OfSetting GrainSize ∷ OfFlag Incremental ∷ OfFlag Autodelete ∷ []
 options_of MakeGroup = OfSetting Name ∷ []
+options_of MakeCopy = OfSetting Source ∷ OfSetting Preset ∷ OfSetting Name ∷ []
 options_of PrepareMapping = OfFlag Restore ∷ []
 options_of PrepareGroup = OfFlag Restore ∷ []
 options_of StartMapping = OfFlag Prep ∷ OfFlag Restore ∷ []
@@ -124,6 +130,7 @@ options_of ListGroups = OfSetting Delim ∷ []
 options_of ListVolumes = OfSetting Delim ∷ []
 options_of ShowProgress = OfSetting Delim ∷ []
 options_of ListDependents = OfSetting Delim ∷ []
+options_of ListRoom = OfSetting Delim ∷ []
 options_of _ = []
 
 -- the option of a line that a word names
@@ -141,6 +148,8 @@ operands_of PassTime = []
 operands_of MakeMapping = []
 operands_of MakeGroup = []
 operands_of ListVolumes = []
+operands_of MakeCopy = []
+operands_of ListRoom = []
 operands_of BeginBlock = []
 operands_of EndBlock = []
 operands_of _ = Object ∷ []

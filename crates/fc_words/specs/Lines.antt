@@ -2,7 +2,7 @@
 use Rattle.std.specs.Prelude.{ℕ, ◌+◌, Bool, false, ◌||◌, ◌==◌, if◌then◌else◌, List, [], ◌∷◌, length, Option, Some, None, Result, Ok, Err, nat_lt, codes, find}
 use Rattle.std.specs.Str.{bytes_eq}
 use Rattle.fc_base.specs.declared.command.Command.{Command}
-use Rattle.fc_base.specs.declared.command.Command.TheVariants.{Mkvdisk, Rmvdisk, Write, Read, Armfault, Advance, Mkfcmap, Prestartfcmap, Startfcmap, Stopfcmap, Rmfcmap, Mkfcconsistgrp, Prestartfcconsistgrp, Startfcconsistgrp, Stopfcconsistgrp, Rmfcconsistgrp, Lsfcmap, Lsfcconsistgrp, Lsvdisk, Lsfcmapprogress, Lsfcmapdependentmaps}
+use Rattle.fc_base.specs.declared.command.Command.TheVariants.{Mkvdisk, Rmvdisk, Write, Read, Armfault, Advance, Mkfcmap, Prestartfcmap, Startfcmap, Stopfcmap, Rmfcmap, Mkfcconsistgrp, Prestartfcconsistgrp, Startfcconsistgrp, Stopfcconsistgrp, Rmfcconsistgrp, Lsfcmap, Lsfcconsistgrp, Lsvdisk, Lsfcmapprogress, Lsfcmapdependentmaps, Mkpreset, Lsvdiskroom}
 use Rattle.fc_base.specs.declared.command.Line.{Line}
 use Rattle.fc_base.specs.declared.command.Line.TheVariants.{Blank, Command as OfCommand, Together, Actor as OfActor, End}
 use Rattle.fc_base.specs.declared.command.Role.TheVariants.{Host as HostRole, Admin as AdminRole, Copier as CopierRole, Cleaner as CleanerRole}
@@ -10,7 +10,7 @@ use Rattle.fc_base.specs.declared.command.Scope.{Scope}
 use Rattle.fc_base.specs.declared.command.Scope.TheVariants.{NoActor}
 use Rattle.fc_base.specs.declared.command.StopWay.{StopWay}
 use Rattle.fc_base.specs.declared.command.StopWay.TheVariants.{Plain, Force, Split}
-use Rattle.fc_base.specs.declared.fault.RequiredOption.TheVariants.{Size, Seconds, Source, Target}
+use Rattle.fc_base.specs.declared.fault.RequiredOption.TheVariants.{Size, Seconds, Source, Target, Preset}
 use Rattle.fc_base.specs.declared.fault.WordFault.{WordFault}
 use Rattle.fc_base.specs.declared.fault.WordFault.TheVariants.{UnknownCommand, UnknownOption, MissingOption, MissingWord, RepeatedOption, LongLine, NoActor as NoActorYet, NotInBlock}
 use Rattle.fc_base.specs.declared.limits.TheConstants.{MAX_LINE_BYTES}
@@ -24,7 +24,7 @@ use Rattle.fc_words.specs.declared.grammar.LineOption.{LineOption}
 use Rattle.fc_words.specs.declared.grammar.LineOption.TheVariants.{Flag, Setting}
 use Rattle.fc_words.specs.declared.grammar.Operand.{Operand}
 use Rattle.fc_words.specs.declared.grammar.Verb.{Verb}
-use Rattle.fc_words.specs.declared.grammar.Verb.TheVariants.{MakeVolume, RemoveVolume, WriteBlocks, ReadBlocks, ArmFault, PassTime, MakeMapping, PrepareMapping, StartMapping, StopMapping, RemoveMapping, MakeGroup, PrepareGroup, StartGroup, StopGroup, RemoveGroup, ListMappings, ListGroups, ListVolumes, ShowProgress, ListDependents, BeginBlock, BeginActor, EndBlock}
+use Rattle.fc_words.specs.declared.grammar.Verb.TheVariants.{MakeVolume, RemoveVolume, WriteBlocks, ReadBlocks, ArmFault, PassTime, MakeMapping, PrepareMapping, StartMapping, StopMapping, RemoveMapping, MakeGroup, PrepareGroup, StartGroup, StopGroup, RemoveGroup, ListMappings, ListGroups, ListVolumes, ShowProgress, ListDependents, MakeCopy, ListRoom, BeginBlock, BeginActor, EndBlock}
 use Rattle.fc_words.specs.declared.grammar.Setting.{Setting as SettingName}
 use Rattle.fc_words.specs.Given.{nothing_given, set, raise, is_given, is_wanted, take}
 use Rattle.fc_words.specs.Grammar.{verb_of, family_of, scope_has, option_of, operands_of}
@@ -88,6 +88,10 @@ complete ListGroups end s f o = good (Lsfcconsistgrp o.object s.delim)
 complete ListVolumes end s f o = good (Lsvdisk s.delim)
 complete ShowProgress end s f o = need o.object (MissingWord end) (λ map. good (Lsfcmapprogress map s.delim))
 complete ListDependents end s f o = need o.object (MissingWord end) (λ map. good (Lsfcmapdependentmaps map s.delim))
+complete MakeCopy end s f o =
+    need s.source (MissingOption Source) (λ source. need s.preset (MissingOption Preset) (λ preset.
+    good (Mkpreset source preset s.name)))
+complete ListRoom end s f o = good (Lsvdiskroom s.delim)
 complete BeginBlock end s f o = Ok Together
 complete BeginActor end s f o =
     need o.actor (MissingWord end) (λ name. need o.role (MissingWord end) (λ role. role_line name role o end))

@@ -7,6 +7,8 @@ use Rattle.std.specs.Option.{ok_or, option_map, option_and_then}
 use Rattle.std.specs.Str.{bytes_eq}
 use Rattle.std.specs.Str.Parse.{digits_value}
 use Rattle.fc_base.specs.Names.{is_name}
+use Rattle.fc_base.specs.declared.command.Preset.{Preset}
+use Rattle.fc_base.specs.declared.command.Preset.TheVariants.{Snapshot, Clone, Backup}
 use Rattle.fc_base.specs.declared.command.Unit.{Unit as SizeUnit}
 use Rattle.fc_base.specs.declared.command.Unit.TheVariants.{Kb, Mb, Gb}
 use Rattle.fc_base.specs.declared.fault.WordFault.{WordFault}
@@ -60,6 +62,11 @@ unit_of word =
 -- `64` or `256`
 abbrev pub grain_size_of : List ℕ → Option GrainSize
 grain_size_of word = if bytes_eq word (codes "64") then Some K64 else (if bytes_eq word (codes "256") then Some K256 else None)
+
+-- `snapshot`, `clone` or `backup`
+abbrev pub preset_of : List ℕ → Option Preset
+preset_of word =
+    if bytes_eq word (codes "snapshot") then Some Snapshot else (if bytes_eq word (codes "clone") then Some Clone else (if bytes_eq word (codes "backup") then Some Backup else None))
 
 -- `host`, `admin`, `copier` or `cleaner`
 abbrev pub role_of : List ℕ → Option RoleWord

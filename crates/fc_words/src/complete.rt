@@ -101,6 +101,8 @@ fn line_of_parts(
             map: object_in(operands, end)?,
             delim,
         })),
+        Verb::MakeCopy => make_copy(settings),
+        Verb::ListRoom => Ok(Line::Command(Command::Lsvdiskroom { delim })),
         Verb::BeginBlock => Ok(Line::Together),
         Verb::BeginActor => begin_actor(operands, end),
         Verb::EndBlock => Ok(Line::End),
@@ -202,6 +204,23 @@ fn make_mapping(settings: &mut Settings, flags: Flags) -> Result<Line, WordFault
         grain_size: settings.grain_size,
         incremental: flags.incremental,
         autodelete: flags.autodelete,
+    }))
+}
+
+/// `mkpreset`
+fn make_copy(settings: &mut Settings) -> Result<Line, WordFault>
+    ensures { result ≡ complete Verb.MakeCopy 0 settings.old no_flags no_operands }
+{
+    let Some(source) = settings.source.take() else {
+        return Err(WordFault::MissingOption(RequiredOption::Source));
+    };
+    let Some(preset) = settings.preset else {
+        return Err(WordFault::MissingOption(RequiredOption::Preset));
+    };
+    Ok(Line::Command(Command::Mkpreset {
+        source,
+        preset,
+        name: settings.name.take(),
     }))
 }
 

@@ -8,10 +8,10 @@ ghost use Rattle.fc_words.specs.Given.{no_settings, no_flags, no_operands, nothi
 use crate::grammar::{Flag, LineOption, Operand, Setting};
 use crate::refused::WordRefused;
 use crate::values::{
-    read_byte, read_delim, read_grain_size, read_name, read_number, read_ref, read_role,
-    read_turns, read_unit,
+    read_byte, read_delim, read_grain_size, read_name, read_number, read_preset, read_ref,
+    read_role, read_turns, read_unit,
 };
-use fc_base::command::Unit;
+use fc_base::command::{Preset, Unit};
 use fc_base::fault::WordFault;
 use fc_base::name::{Name, Ref};
 use fc_base::size::GrainSize;
@@ -44,6 +44,7 @@ pub struct Settings {
     pub grain_size: Option<GrainSize>,
     pub seconds: Option<u32>,
     pub delim: Option<u8>,
+    pub preset: Option<Preset>,
 }
 
 /// The options without values so far.
@@ -129,6 +130,7 @@ impl Settings {
             grain_size: None,
             seconds: None,
             delim: None,
+            preset: None,
         }
     }
 
@@ -148,6 +150,7 @@ impl Settings {
             Setting::GrainSize => self.grain_size.is_some(),
             Setting::Seconds => self.seconds.is_some(),
             Setting::Delim => self.delim.is_some(),
+            Setting::Preset => self.preset.is_some(),
         }
     }
 
@@ -173,6 +176,7 @@ impl Settings {
             Setting::GrainSize => put(&mut self.grain_size, read_grain_size(word, at)),
             Setting::Seconds => put(&mut self.seconds, read_number(word, at)),
             Setting::Delim => put(&mut self.delim, read_delim(word, at)),
+            Setting::Preset => put(&mut self.preset, read_preset(word, at)),
         }
     }
 }

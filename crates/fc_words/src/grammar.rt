@@ -50,6 +50,10 @@ pub enum Verb {
     ShowProgress,
     /// `lsfcmapdependentmaps`
     ListDependents,
+    /// `mkpreset`
+    MakeCopy,
+    /// `lsvdiskroom`
+    ListRoom,
     /// `together`
     BeginBlock,
     /// `actor`
@@ -61,11 +65,11 @@ pub enum Verb {
 /// The kinds of lines that scopes have.
 #[derive(Clone, Copy, PartialEq, Eq)]
 pub enum Family {
-    /// Volumes, faults, time and blocks: outside blocks alone.
+    /// Volumes, the room that they take, presets, faults, time and blocks: outside blocks alone.
     Storage,
     /// Reads and writes.
     Access,
-    /// Mappings, groups and reports.
+    /// Mappings, groups and the other reports.
     CopyServices,
     /// The lines of a block itself.
     Block,
@@ -115,6 +119,8 @@ pub enum Setting {
     Seconds,
     /// `-delim`
     Delim,
+    /// `-preset`
+    Preset,
 }
 
 /// An option of a line.
@@ -176,6 +182,8 @@ impl Verb {
             Verb::ListVolumes,
             Verb::ShowProgress,
             Verb::ListDependents,
+            Verb::MakeCopy,
+            Verb::ListRoom,
             Verb::BeginBlock,
             Verb::BeginActor,
             Verb::EndBlock,
@@ -208,6 +216,8 @@ impl Verb {
             Verb::ListVolumes => b"lsvdisk",
             Verb::ShowProgress => b"lsfcmapprogress",
             Verb::ListDependents => b"lsfcmapdependentmaps",
+            Verb::MakeCopy => b"mkpreset",
+            Verb::ListRoom => b"lsvdiskroom",
             Verb::BeginBlock => b"together",
             Verb::BeginActor => b"actor",
             Verb::EndBlock => b"end",
@@ -233,6 +243,8 @@ impl Verb {
             | Verb::RemoveVolume
             | Verb::ArmFault
             | Verb::PassTime
+            | Verb::MakeCopy
+            | Verb::ListRoom
             | Verb::BeginBlock => Family::Storage,
             Verb::WriteBlocks | Verb::ReadBlocks => Family::Access,
             Verb::BeginActor | Verb::EndBlock => Family::Block,
@@ -277,6 +289,11 @@ impl Verb {
                 LineOption::Flag(Flag::Autodelete),
             ],
             Verb::MakeGroup => &[LineOption::Setting(Setting::Name)],
+            Verb::MakeCopy => &[
+                LineOption::Setting(Setting::Source),
+                LineOption::Setting(Setting::Preset),
+                LineOption::Setting(Setting::Name),
+            ],
             Verb::PrepareMapping | Verb::PrepareGroup => &[LineOption::Flag(Flag::Restore)],
             Verb::StartMapping | Verb::StartGroup => &[
                 LineOption::Flag(Flag::Prep),
@@ -291,7 +308,8 @@ impl Verb {
             | Verb::ListGroups
             | Verb::ListVolumes
             | Verb::ShowProgress
-            | Verb::ListDependents => &[LineOption::Setting(Setting::Delim)],
+            | Verb::ListDependents
+            | Verb::ListRoom => &[LineOption::Setting(Setting::Delim)],
             _ => &[],
         }
     }
@@ -325,6 +343,8 @@ impl Verb {
             | Verb::MakeMapping
             | Verb::MakeGroup
             | Verb::ListVolumes
+            | Verb::MakeCopy
+            | Verb::ListRoom
             | Verb::BeginBlock
             | Verb::EndBlock => &[],
             _ => &[Operand::Object],
@@ -349,6 +369,7 @@ impl Setting {
             Setting::GrainSize => b"-grainsize",
             Setting::Seconds => b"-seconds",
             Setting::Delim => b"-delim",
+            Setting::Preset => b"-preset",
         }
     }
 }

@@ -6,11 +6,11 @@ ghost use Rattle.std.specs.Char.{is_digit};
 ghost use Rattle.std.specs.List.{list_all};
 ghost use Rattle.fc_words.specs.Answers.{Answers};
 ghost use Rattle.fc_words.specs.Digits.{pushed};
-ghost use Rattle.fc_words.specs.Values.{is_numeral, number_of, hex_of, byte_of, delim_of, turns_of, unit_of, grain_size_of, role_of, name_of, ref_at};
+ghost use Rattle.fc_words.specs.Values.{is_numeral, number_of, hex_of, byte_of, delim_of, turns_of, unit_of, grain_size_of, preset_of, role_of, name_of, ref_at};
 
 use crate::given::RoleWord;
 use crate::refused::WordRefused;
-use fc_base::command::Unit;
+use fc_base::command::{Preset, Unit};
 use fc_base::fault::WordFault;
 use fc_base::name::{Name, Ref};
 use fc_base::size::GrainSize;
@@ -143,6 +143,21 @@ pub(crate) fn read_grain_size(word: &[u8], at: u32) -> Result<GrainSize, WordFau
         Ok(GrainSize::K64)
     } else if word == b"256".as_slice() {
         Ok(GrainSize::K256)
+    } else {
+        Err(WordFault::BadNumber(at))
+    }
+}
+
+/// `snapshot`, `clone` or `backup`.
+pub(crate) fn read_preset(word: &[u8], at: u32) -> Result<Preset, WordFault>
+    ensures { result ≡ ok_or (preset_of word.now) (WordFault.BadNumber at) }
+{
+    if word == b"snapshot".as_slice() {
+        Ok(Preset::Snapshot)
+    } else if word == b"clone".as_slice() {
+        Ok(Preset::Clone)
+    } else if word == b"backup".as_slice() {
+        Ok(Preset::Backup)
     } else {
         Err(WordFault::BadNumber(at))
     }

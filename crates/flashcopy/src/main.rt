@@ -5,9 +5,6 @@
 //! the status's code.
 #![tactic(auto)]
 
-mod disks;
-
-use crate::disks::make_ready;
 use fc_base::limits::LANES;
 use fc_entry::history::History;
 use fc_io::sink::Sink;
@@ -15,6 +12,7 @@ use fc_io::source::Source;
 use fc_io::std_sink::StdSink;
 use fc_io::std_source::StdSource;
 use fc_mdisk::mem::MemDisk;
+use fc_mdisk::ready::make_ready;
 use fc_mdisk::thin::ThinDisk;
 use fc_top::flashcopy::{BoxedDisk, flashcopy};
 use fc_top::gate::FreeGate;

@@ -1,6 +1,6 @@
 //! Histories told by hand, right ones and wrong ones.
 
-use crate::told::{Step, tell};
+use crate::told::{Answer, Step, tell};
 use fc_base::outcome::NoMemory;
 use fc_base::size::GrainSize;
 use fc_judge::{Verdict, Why, judge};
@@ -342,5 +342,245 @@ advance -seconds 1
         let history = tell(alloc, steps.as_slice(), &["main"])?;
         assert_eq!(rt; judge(alloc, GrainSize::K64, session, &history)?, verdict);
     }
+    Ok(())
+}
+
+/// A preset of A, and the lines that stand in place of it.
+#[derive(Clone, Copy)]
+struct Preset {
+    line: &'static str,
+    volume: &'static str,
+    mapping: &'static str,
+    incremental: bool,
+}
+
+const SNAPSHOT: Preset = Preset {
+    line: "mkpreset -source A -preset snapshot -name s1",
+    volume: "mkvdisk -name s1 -size 128 -unit kb -thin",
+    mapping: "mkfcmap -source A -target 1 -name s1 -copyrate 0 -cleanrate 0",
+    incremental: false,
+};
+
+const CLONE: Preset = Preset {
+    line: "mkpreset -source 0 -preset clone",
+    volume: "mkvdisk -size 128 -unit kb",
+    mapping: "mkfcmap -source 0 -target 1 -copyrate 50 -autodelete",
+    incremental: false,
+};
+
+const BACKUP: Preset = Preset {
+    line: "mkpreset -name b -preset backup -source A",
+    volume: "mkvdisk -name b -size 128 -unit kb",
+    mapping: "mkfcmap -source A -target 1 -name b -copyrate 50 -incremental",
+    incremental: true,
+};
+
+impl Preset {
+    /// Its volume is asked.
+    fn volume(self, answer: Answer) -> Step {
+        Step::Line {
+            line: self.volume,
+            answer,
+        }
+    }
+
+    /// Its mapping is asked.
+    fn mapping(self, answer: Answer) -> Step {
+        Step::Line {
+            line: self.mapping,
+            answer,
+        }
+    }
+
+    /// Its volume is made.
+    fn makes(self) -> Step {
+        self.volume(Answer::Volume(1))
+    }
+
+    /// Its mapping is made.
+    fn maps(self) -> Step {
+        self.mapping(Answer::Mapping(0))
+    }
+
+    /// Its mapping is started.
+    fn starts(self) -> Step {
+        start(Answer::Starts {
+            map: 0,
+            target: 1,
+            incremental: self.incremental,
+        })
+    }
+
+    /// The verdict on these steps behind the making of A, where the preset is all that is asked then.
+    fn judged(self, alloc: Global, steps: &[Step]) -> Result<Verdict, NoMemory> {
+        let mut all = Vec::new(alloc);
+        if all.push(Step::Make { volume: 0 }).is_err() || all.extend_from_slice(steps).is_err() {
+            return Err(NoMemory);
+        }
+        let history = tell(alloc, all.as_slice(), &["main"])?;
+        let line = self.line;
+        match format!(in alloc; "mkvdisk -name A -size 128 -unit kb\n{line}\n") {
+            Ok(session) => judge(alloc, GrainSize::K64, session.as_bytes(), &history),
+            Err(_) => Err(NoMemory),
+        }
+    }
+}
+
+/// The start of the new mapping is asked.
+fn start(answer: Answer) -> Step {
+    Step::Line {
+        line: "startfcmap -prep 0",
+        answer,
+    }
+}
+
+/// The new mapping goes, and the new volume.
+const UNMAPS: Step = Step::Line {
+    line: "rmfcmap 0",
+    answer: Answer::MappingGone(0),
+};
+
+const UNMAKES: Step = Step::Line {
+    line: "rmvdisk 1",
+    answer: Answer::VolumeGone(1),
+};
+
+/// The verdict on a wrong entry with this number.
+fn wrong_at(entry: usize, why: Why) -> Verdict {
+    Verdict::Wrong { entry, why }
+}
+
+#[test]
+fn a_preset_is_a_volume_a_mapping_and_its_start(rt: HostRuntime) -> Result<(), Fail> {
+    let alloc = rt.alloc();
+    for preset in [SNAPSHOT, CLONE, BACKUP] {
+        let steps = [preset.makes(), preset.maps(), preset.starts()];
+        assert_eq!(rt; preset.judged(alloc, &steps)?, Verdict::Right);
+        for count in 0..steps.len() {
+            let first = Verdict::FirstPart { segment: 1 };
+            assert_eq!(rt; preset.judged(alloc, &steps[..count])?, first);
+        }
+    }
+    Ok(())
+}
+
+#[test]
+fn what_a_preset_made_goes_where_it_is_refused(rt: HostRuntime) -> Result<(), Fail> {
+    let alloc = rt.alloc();
+    for preset in [SNAPSHOT, CLONE, BACKUP] {
+        for answer in [Answer::NoDisk, Answer::NoMemory] {
+            let volume = [preset.volume(answer)];
+            assert_eq!(rt; preset.judged(alloc, &volume)?, Verdict::Right);
+            let mapping = [preset.makes(), preset.mapping(answer), UNMAKES];
+            assert_eq!(rt; preset.judged(alloc, &mapping)?, Verdict::Right);
+            let started = [
+                preset.makes(),
+                preset.maps(),
+                start(answer),
+                UNMAPS,
+                UNMAKES,
+            ];
+            assert_eq!(rt; preset.judged(alloc, &started)?, Verdict::Right);
+        }
+    }
+    let undone = [
+        CLONE.makes(),
+        CLONE.maps(),
+        start(Answer::NoMemory),
+        Step::Line {
+            line: "rmfcmap 0",
+            answer: Answer::NoMemory,
+        },
+        Step::Line {
+            line: "rmvdisk 1",
+            answer: Answer::NoMemory,
+        },
+    ];
+    assert_eq!(rt; CLONE.judged(alloc, &undone)?, Verdict::Right);
+    Ok(())
+}
+
+#[test]
+fn a_preset_of_no_volume_is_refused_itself(rt: HostRuntime) -> Result<(), Fail> {
+    let alloc = rt.alloc();
+    let session = b"mkpreset -source A -preset backup\n";
+    for (answer, verdict) in [
+        (Answer::NoVolume, Verdict::Right),
+        (Answer::NoDisk, wrong_at(0, Why::Reply)),
+        (Answer::NoMemory, wrong_at(0, Why::Reply)),
+    ] {
+        let steps = [Step::Line {
+            line: "mkpreset -source A -preset backup",
+            answer,
+        }];
+        let history = tell(alloc, &steps, &["main"])?;
+        assert_eq!(rt; judge(alloc, GrainSize::K64, session, &history)?, verdict);
+    }
+    let itself = [Step::Line {
+        line: SNAPSHOT.line,
+        answer: Answer::NoVolume,
+    }];
+    let of_a_volume = SNAPSHOT.judged(alloc, &itself)?;
+    assert_eq!(rt; of_a_volume, wrong_at(1, Why::Request));
+    Ok(())
+}
+
+#[test]
+fn a_line_of_a_preset_that_comes_otherwise_is_wrong(rt: HostRuntime) -> Result<(), Fail> {
+    let alloc = rt.alloc();
+    let left_out = [SNAPSHOT.makes(), SNAPSHOT.starts()];
+    let verdict = SNAPSHOT.judged(alloc, &left_out)?;
+    assert_eq!(rt; verdict, wrong_at(2, Why::Request));
+    let behind_a_refusal = [SNAPSHOT.volume(Answer::NoDisk), SNAPSHOT.maps()];
+    let verdict = SNAPSHOT.judged(alloc, &behind_a_refusal)?;
+    assert_eq!(rt; verdict, wrong_at(2, Why::NothingAsked));
+    let started_again = [CLONE.makes(), CLONE.maps(), CLONE.starts(), CLONE.starts()];
+    let verdict = CLONE.judged(alloc, &started_again)?;
+    assert_eq!(rt; verdict, wrong_at(4, Why::NothingAsked));
+    for mapping in [
+        "mkfcmap -source A -target 1 -name s1 -copyrate 50 -autodelete",
+        "mkfcmap -source A -target 0 -name s1 -copyrate 0 -cleanrate 0",
+        "mkfcmap -source A -target 1 -copyrate 0 -cleanrate 0",
+    ] {
+        let steps = [
+            SNAPSHOT.makes(),
+            Step::Line {
+                line: mapping,
+                answer: Answer::Mapping(0),
+            },
+        ];
+        let verdict = SNAPSHOT.judged(alloc, &steps)?;
+        assert_eq!(rt; verdict, wrong_at(2, Why::Request));
+    }
+    let another_id = [SNAPSHOT.makes(), SNAPSHOT.mapping(Answer::Mapping(3))];
+    let verdict = SNAPSHOT.judged(alloc, &another_id)?;
+    assert_eq!(rt; verdict, wrong_at(2, Why::Id));
+    Ok(())
+}
+
+#[test]
+fn a_preset_is_undone_from_its_end(rt: HostRuntime) -> Result<(), Fail> {
+    let alloc = rt.alloc();
+    let refused = [BACKUP.makes(), BACKUP.maps(), start(Answer::NoMemory)];
+    for (behind, verdict) in [
+        ([UNMAKES, UNMAPS], wrong_at(4, Why::Request)),
+        ([UNMAPS, UNMAPS], wrong_at(5, Why::Request)),
+        ([UNMAPS, UNMAKES], Verdict::Right),
+    ] {
+        let mut steps = Vec::from_slice(alloc, &refused)?;
+        steps.extend_from_slice(&behind)?;
+        assert_eq!(rt; BACKUP.judged(alloc, steps.as_slice())?, verdict);
+    }
+    let undone_in_part = [
+        BACKUP.makes(),
+        BACKUP.maps(),
+        start(Answer::NoMemory),
+        UNMAPS,
+    ];
+    let left = Verdict::FirstPart { segment: 1 };
+    assert_eq!(rt; BACKUP.judged(alloc, &refused)?, left);
+    assert_eq!(rt; BACKUP.judged(alloc, &undone_in_part)?, left);
+    let volume_left = [BACKUP.makes(), BACKUP.mapping(Answer::NoDisk)];
+    assert_eq!(rt; BACKUP.judged(alloc, &volume_left)?, left);
     Ok(())
 }

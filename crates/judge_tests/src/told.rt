@@ -13,6 +13,31 @@ use fc_entry::history::History;
 use fc_words::line::read_line;
 use std::alloc::Global;
 
+/// What a line of `main` was answered, beside objects that go by their ids.
+#[derive(Clone, Copy)]
+pub enum Answer {
+    /// A volume of two grains is made.
+    Volume(u32),
+    /// A mapping is made.
+    Mapping(u32),
+    /// The mapping from A to the target is started.
+    Starts {
+        map: u32,
+        target: u32,
+        incremental: bool,
+    },
+    /// The volume is removed.
+    VolumeGone(u32),
+    /// The mapping is removed.
+    MappingGone(u32),
+    /// It is refused: a pool has no disk.
+    NoDisk,
+    /// It is refused: no volume is meant.
+    NoVolume,
+    /// There is no memory for it.
+    NoMemory,
+}
+
 /// A step of a history. Actors and volumes go by their numbers; each access is of the first block.
 #[derive(Clone, Copy)]
 pub enum Step {
@@ -66,6 +91,11 @@ pub enum Step {
     StartGroup {
         pairs: u32,
     },
+    /// `main` asks a line, which is answered so.
+    Line {
+        line: &'static str,
+        answer: Answer,
+    },
     /// A second passes.
     Advance,
     /// A grain of mapping 0 is copied as time passes.
@@ -110,10 +140,15 @@ impl Telling {
         }
     }
 
-    /// The same with a trigger of these pairs.
-    fn with_trigger(mut self, pairs: List<Pair>) -> Result<Telling, NoMemory> {
-        self.effects.push(Effect::Trigger { pairs })?;
+    /// The same with one effect more.
+    fn with_effect(mut self, effect: Effect) -> Result<Telling, NoMemory> {
+        self.effects.push(effect)?;
         Ok(self)
+    }
+
+    /// The same with a trigger of these pairs.
+    fn with_trigger(self, pairs: List<Pair>) -> Result<Telling, NoMemory> {
+        self.with_effect(Effect::Trigger { pairs })
     }
 }
 
@@ -150,14 +185,54 @@ fn made(alloc: Global, line: &[u8], kind: Kind, id: u32) -> Result<Telling, NoMe
     Telling::command(alloc, 0, line, Reply::Made { kind, id })
 }
 
-/// A volume is made.
-fn volume_made(alloc: Global, volume: u32) -> Result<Telling, NoMemory> {
-    let mut told = made(alloc, volume_line(volume), Kind::Vdisk, volume)?;
-    told.effects.push(Effect::Make {
+/// A volume of two grains is made, by its line.
+fn volume_made(alloc: Global, line: &[u8], volume: u32) -> Result<Telling, NoMemory> {
+    let told = made(alloc, line, Kind::Vdisk, volume)?;
+    told.with_effect(Effect::Make {
         volume: VolId(volume),
         grains: 2,
-    })?;
-    Ok(told)
+    })
+}
+
+/// A line that is done, with an effect.
+fn done(alloc: Global, line: &[u8], effect: Effect) -> Result<Telling, NoMemory> {
+    Telling::command(alloc, 0, line, Reply::Done)?.with_effect(effect)
+}
+
+/// A line that is refused.
+fn refused(alloc: Global, line: &[u8], refusal: Refusal) -> Result<Telling, NoMemory> {
+    Telling::command(alloc, 0, line, Reply::Refused(refusal))
+}
+
+/// A line of `main`, as it was answered.
+fn answered(alloc: Global, line: &[u8], answer: Answer) -> Result<Telling, NoMemory> {
+    match answer {
+        Answer::Volume(volume) => volume_made(alloc, line, volume),
+        Answer::Mapping(map) => made(alloc, line, Kind::Fcmap, map),
+        Answer::Starts {
+            map,
+            target,
+            incremental,
+        } => {
+            let mut pairs = List::new(alloc);
+            pairs.push(Pair {
+                incremental,
+                ..pair(map, 0, target)
+            })?;
+            done(alloc, line, Effect::Trigger { pairs })
+        }
+        Answer::VolumeGone(volume) => {
+            let volume = VolId(volume);
+            done(alloc, line, Effect::Remove { volume })
+        }
+        Answer::MappingGone(map) => {
+            let map = MapId(map);
+            done(alloc, line, Effect::Gone { map })
+        }
+        Answer::NoDisk => refused(alloc, line, Refusal::NoDisk),
+        Answer::NoVolume => refused(alloc, line, Refusal::NoSuch(Kind::Vdisk)),
+        Answer::NoMemory => Telling::command(alloc, 0, line, Reply::NoMemory),
+    }
 }
 
 /// Mapping 0 is started, with so many triggers of this pair.
@@ -232,7 +307,7 @@ fn copied(alloc: Global, actor: u32, request: Request, grain: u32) -> Telling {
 /// What a step tells that is a command's, where so many mappings were made before it; another step nothing.
 fn command_told(alloc: Global, step: Step, mappings: u32) -> Result<Option<Telling>, NoMemory> {
     let told = match step {
-        Step::Make { volume } => volume_made(alloc, volume)?,
+        Step::Make { volume } => volume_made(alloc, volume_line(volume), volume)?,
         Step::Map => made(alloc, b"mkfcmap -source A -target B", Kind::Fcmap, mappings)?,
         Step::Group => made(alloc, b"mkfcconsistgrp", Kind::Group, 1)?,
         Step::InGroup { source } => made(alloc, mapping_line(source), Kind::Fcmap, mappings)?,
@@ -247,6 +322,7 @@ fn command_told(alloc: Global, step: Step, mappings: u32) -> Result<Option<Telli
             times,
         } => started(alloc, actor, pair(0, source, target), times)?,
         Step::StartGroup { pairs } => group_started(alloc, pairs)?,
+        Step::Line { line, answer } => answered(alloc, line.as_bytes(), answer)?,
         Step::Advance => Telling::command(alloc, 0, b"advance -seconds 1", Reply::Done)?,
         _ => return Ok(None),
     };
@@ -288,7 +364,9 @@ fn told_by(alloc: Global, step: Step, mappings: u32) -> Result<Telling, NoMemory
 /// Under whose turns a step is told.
 fn place_of(request: &Request) -> Place {
     match request {
-        Request::Command(Command::Read { .. }) | Request::Unread(_) => Place::Control,
+        Request::Command(Command::Read { .. } | Command::Mkpreset { .. }) | Request::Unread(_) => {
+            Place::Control
+        }
         Request::Command(_) => Place::Every,
         Request::CopyTurn { lane } => Place::Lane(*lane),
         Request::Copy { grain, .. } if grain.0 == 1 => Place::Lane(1),

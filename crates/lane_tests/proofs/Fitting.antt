@@ -1,54 +1,46 @@
--- The first volume fits a lane that begins, and its blocks can be read.
-use Rattle.std.proofs.Common.{◌≡◌, ℕ, ◌<◌, Option, Some, IsSome, List, fold, refl, sym, ap, subst, ◌∙◌, arith}
-use Rattle.std.proofs.lemmas.List.Elements.{All-nil}
+-- Events that fit a lane, and what follows.
+use Rattle.std.proofs.Common.{◌≡◌, List, fold, sym, ap, subst, ◌∙◌}
 use Rattle.fc_base.specs.declared.decision.LaneEvent.{LaneEvent}
-use Rattle.fc_base.specs.Column.{first_below}
-use Rattle.fc_base.specs.Sheet.{live_place, grains_at, volume_grains}
-use Rattle.fc_grains.specs.Grains.{pool_of}
+use Rattle.fc_base.specs.declared.ids.VolId.{VolId}
 use Rattle.fc_lane.specs.Lane.{LaneView, IsFollowing, IsSameLane, of}
-use Rattle.fc_mdisk.specs.Disk.{DiskState}
 use Rattle.fc_follow.specs.Following.{FitsFollowed, Followed, followed_event}
 use Rattle.fc_rules.specs.LaneFits.{FitsPart}
-use Rattle.fc_rules.specs.LaneTold.{LaneOf, LaneVolume}
-use Rattle.lane_tests.specs.First.{first, the_lane, told_begun, told_first}
-
-pub first_fits : (disks : List DiskState) → 0 < (pool_of disks).flat → FitsFollowed the_lane (told_begun disks) first
-first_fits disks flat = ((λ k kl. absurd (omega arith)), (flat, All-nil (λ (v : LaneVolume). v.volume.0 < 0)), tt, omega arith)
-
-place : (disks : List DiskState) → live_place (told_first disks).told.sheet.slots 0 ≡ Some 0
-unfolding live_place first_below
-place disks = refl
-
-pub part_fits : (disks : List DiskState) → FitsPart the_lane (told_first disks).told record { 0 = 0 } 130 2
-part_fits disks =
-    let grains : volume_grains (told_first disks).told.sheet.slots 0 ≡ 2 = ap (grains_at (told_first disks).told.sheet.slots) (place disks) in
-    record {
-      some = omega arith;
-      in_one = omega arith;
-      of_lane = refl;
-      there = subst (λ (o : Option ℕ). IsSome o) (sym (place disks)) cc;
-      inside = omega (arith, grains);
-    }
-
--- and so for a lane that is this one
-pub fits_now : (v : LaneView) (disks : List DiskState) (events : List LaneEvent) → of v ≡ the_lane → 0 < (pool_of disks).flat → IsFollowing v (told_begun disks) → events ≡ first →
-    (f : Followed) × IsFollowing v f × FitsFollowed (of v) f events
-fits_now v disks events is flat i e = (
-  told_begun disks,
-  i,
-  subst (λ (l : LaneOf). FitsFollowed l (told_begun disks) events) (sym is) (subst (λ (es : List LaneEvent). FitsFollowed the_lane (told_begun disks) es) (sym e) (first_fits disks flat)),
-)
-
-pub reads_now : (v : LaneView) (disks : List DiskState) → of v ≡ the_lane → IsFollowing v (told_first disks) → (f : Followed) × IsFollowing v f × FitsPart (of v) f.told record { 0 = 0 } 130 2
-reads_now v disks is i = (told_first disks, i, subst (λ (l : LaneOf). FitsPart l (told_first disks).told record { 0 = 0 } 130 2) (sym is) (part_fits disks))
+use Rattle.fc_rules.specs.LaneTold.{LaneOf}
+use Rattle.lane_tests.specs.First.{the_lane, told_after}
 
 pub same_of : (v v' : LaneView) → IsSameLane v v' → of v ≡ the_lane → of v' ≡ the_lane
 same_of v v' s is = (λ k. record { lane = s.lane k; lanes = s.lanes k; grain = s.grain k }) ∙ is
 
-pub applied : (v v' : LaneView) (disks : List DiskState) (events : List LaneEvent) → of v ≡ the_lane → 0 < (pool_of disks).flat → IsFollowing v (told_begun disks) → events ≡ first →
-    ((f : Followed) → IsFollowing v f → FitsFollowed (of v) f events → IsFollowing v' (fold (followed_event (of v)) f events)) → IsFollowing v' (told_first disks)
-applied v v' disks events is flat i e stands =
-    let f : FitsFollowed (of v) (told_begun disks) events =
-    subst (λ (l : LaneOf). FitsFollowed l (told_begun disks) events) (sym is) (subst (λ (es : List LaneEvent). FitsFollowed the_lane (told_begun disks) es) (sym e) (first_fits disks flat)) in
-    subst (λ (es : List LaneEvent). IsFollowing v' (fold (followed_event the_lane) (told_begun disks) es)) e
-    (subst (λ (l : LaneOf). IsFollowing v' (fold (followed_event l) (told_begun disks) events)) is (stands (told_begun disks) i f))
+-- ---- by events
+
+abbrev pub Fit : LaneOf → LaneView → List LaneEvent → Type 0
+Fit l v events = (f : Followed) × IsFollowing v f × FitsFollowed l f events
+
+-- where events lead
+abbrev pub Leads : LaneOf → LaneView → List LaneEvent → LaneView → Type 0
+Leads l v events v' = (f : Followed) → IsFollowing v f → FitsFollowed l f events → IsFollowing v' (fold (followed_event l) f events)
+
+pub fits_now : (v : LaneView) (events : List LaneEvent) → of v ≡ the_lane → Fit the_lane v events → Fit (of v) v events
+fits_now v events is fit = subst (λ (l : LaneOf). Fit l v events) (sym is) fit
+
+pub leads_now : (v v' : LaneView) (events : List LaneEvent) → of v ≡ the_lane → Leads (of v) v events v' → Leads the_lane v events v'
+leads_now v v' events is leads = subst (λ (l : LaneOf). Leads l v events v') is leads
+
+module _ (v : LaneView) (f : Followed) (events es : List LaneEvent) (i : IsFollowing v f) (is : events ≡ es) (fits : FitsFollowed the_lane f es) where
+  pub can_do : Fit the_lane v events
+  can_do = (f, i, subst (λ (z : List LaneEvent). FitsFollowed the_lane f z) (sym is) fits)
+
+  pub has_done : (v' : LaneView) → Leads the_lane v events v' → IsFollowing v' (told_after f es)
+  has_done v' leads = subst (λ (z : List LaneEvent). Leads the_lane v z v') is leads f i fits
+
+-- ---- a part
+
+abbrev pub FitPart : LaneOf → LaneView → VolId → Type 0
+FitPart l v volume = (f : Followed) × IsFollowing v f × FitsPart l f.told volume 0 1
+
+-- room changes nothing
+pub part_now : (v v' : LaneView) (volume : VolId) → of v ≡ the_lane → v' ≡ record v { plan_room = v'.plan_room; entry_room = v'.entry_room } → FitPart the_lane v volume → FitPart (of v') v' volume
+part_now v v' volume is same (f, i, fits) =
+    let roomy : LaneView = record v { plan_room = v'.plan_room; entry_room = v'.entry_room } in
+    let there : IsFollowing roomy f = record { lane = record { parts = i.lane.parts; faults = i.lane.faults; calls = i.lane.calls }; rows = i.rows; alike = i.alike; rooms = i.rooms } in
+    (f, subst (λ (w : LaneView). IsFollowing w f) (sym same) there, subst (λ (l : LaneOf). FitsPart l f.told volume 0 1) (sym (ap of same ∙ is)) fits)

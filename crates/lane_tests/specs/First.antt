@@ -19,7 +19,11 @@ abbrev pub first : List LaneEvent
 first = Make record { 0 = 0 } 2 Flat ∷ []
 
 abbrev pub told_begun : List DiskState → Followed
-told_begun disks = record { told = begun (opened K64 disks); rows = [] }
+told_begun disks = record { told = begun (opened K64 disks); rows = []; rooms = [] }
+
+-- After events.
+abbrev pub told_after : Followed → List LaneEvent → Followed
+told_after f events = fold (followed_event the_lane) f events
 
 abbrev pub told_first : List DiskState → Followed
-told_first disks = fold (followed_event the_lane) (told_begun disks) first
+told_first disks = told_after (told_begun disks) first

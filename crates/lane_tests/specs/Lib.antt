@@ -1,2 +1,3 @@
 -- What the tests cite.
 pub mod First
+pub mod Thin

@@ -1,17 +1,17 @@
-//! Reads of a new volume, with ample memory.
+//! Reads of a new volume, and the room that it takes.
 
 ghost use Rattle.std.specs.Prelude.{◌≡◌, ◌<◌, ◌^◌, map, vec_len};
 ghost use Rattle.std.specs.List.{All};
 ghost use Rattle.fc_grains.specs.Grains.{IsUnarmed, pool_of};
 ghost use Rattle.fc_lane.specs.Lane.{IsFollowing, of};
-ghost use Rattle.lane_tests.specs.First.{first, the_lane, told_begun, told_first};
+ghost use Rattle.lane_tests.specs.First.{first, the_lane, told_first};
 
+use crate::lanes::{done, is_fault, new_lane};
 use fc_base::decision::{LaneEvent, LaneEvents};
 use fc_base::disk::DiskKind;
 use fc_base::ids::VolId;
 use fc_base::request::{ReadPart, Reply};
 use fc_base::runs::Run;
-use fc_base::size::GrainSize;
 use fc_entry::entry::Entry;
 use fc_lane::lane::Lane;
 use fc_mdisk::fail::FailDisk;
@@ -35,16 +35,6 @@ fn first_volume(rt: &impl Abort, alloc: Global) -> LaneEvents
     events
 }
 
-/// A lane without volumes.
-fn new_lane<D: Mdisk>(rt: &impl Abort, alloc: Global, disks: Vec<D>) -> Lane<D>
-    requires few { vec_len disks < 2 ^ 30 }
-    requires unarmed { All IsUnarmed (map D.meaning disks.items) }
-    ensures of { of result ≡ the_lane }
-    ensures stands { IsFollowing result (told_begun (map D.meaning disks.items)) }
-{
-    Lane::new(alloc, 0, 1, GrainSize::K64, disks).expect(rt, "memory")
-}
-
 /// A lane with the first volume.
 fn lane_over<D: Mdisk>(rt: &impl Abort, alloc: Global, disks: Vec<D>) -> Lane<D>
     requires few { vec_len disks < 2 ^ 30 }
@@ -55,8 +45,7 @@ fn lane_over<D: Mdisk>(rt: &impl Abort, alloc: Global, disks: Vec<D>) -> Lane<D>
 {
     let mut lane = new_lane(rt, alloc, disks);
     let events = first_volume(rt, alloc);
-    lane.reserve(&events).expect(rt, "memory");
-    lane.apply(&events);
+    done(rt, &mut lane, &events);
     lane
 }
 
@@ -91,14 +80,6 @@ fn is_zeros(entry: &Entry) -> bool {
     }
 }
 
-/// Whether a disk failed.
-fn is_fault(entry: &Entry) -> bool {
-    match &entry.reply {
-        Reply::DiskFault => true,
-        _ => false,
-    }
-}
-
 #[test]
 fn a_new_volume_reads_as_zeros(rt: HostRuntime) -> Result<(), Fail> {
     let alloc = rt.alloc();
@@ -119,5 +100,14 @@ fn a_failed_read_is_told(rt: HostRuntime) -> Result<(), Fail> {
         (entry.calls, entry.faults_before, entry.faults_after),
         (1, 0, 1)
     );
+    Ok(())
+}
+
+#[test]
+fn a_flat_volume_takes_room_for_each_grain(rt: HostRuntime) -> Result<(), Fail> {
+    let alloc = rt.alloc();
+    let disks = vec![in alloc; MemDisk::new(alloc)]?;
+    let lane = lane_over(&rt, alloc, disks);
+    assert_eq!(rt; (lane.room(VolId(0)), lane.room(VolId(1))), (2, 0));
     Ok(())
 }

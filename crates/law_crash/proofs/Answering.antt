@@ -18,6 +18,7 @@ use Rattle.fc_legal.specs.Whole.{Whole, single_lane}
 use Rattle.fc_parts.proofs.Accesses.{plain_is}
 use Rattle.fc_rules.specs.LaneRight.{done_write}
 use Rattle.fc_rules.specs.LaneTold.{sheet_entry}
+use Rattle.fc_rules.specs.Rooms.{rooms_entry}
 use Rattle.fc_rules.specs.Steps.{DiskStep, moves_of}
 use Rattle.fc_kept.specs.Marks.{asked_write, least_entry}
 use Rattle.law_crash.specs.Points.{Point, StandsFor}
@@ -63,4 +64,4 @@ answered grain w least r write steps torn q entry i t st =
     (subst (λ (x : Picture). StandsFor grain (with_all w (sheet_entry l w.books.sheet (done_write entry.request entry.reply) entry.moves entry.torn) x (fold after_note w.rows (write_notes l write ++ torn_notes l torn))) (least_with grain least (asked_write r) torn) q) plain
     (subst (λ (x : Sheet). StandsFor grain (with_all w x (after_loss (plain_after grain w.picture write) torn) (fold after_note w.rows (write_notes l write ++ torn_notes l torn))) (least_with grain least (asked_write r) torn) q) sheet st))) in
     stands_counted grain (with_all w (sheet_entry l w.books.sheet (done_write entry.request entry.reply) entry.moves entry.torn) (plain_step grain w.picture entry) (rows_entry l w.rows entry)) (least_entry l least entry) q
-    (set w.faults i entry.faults_after) (set w.calls i (get_or w.calls i 0 + entry.calls)) (w.entries + 1) (length-set w.faults i entry.faults_after) all
+    (rooms_entry l w.picture w.books.rooms entry) (set w.faults i entry.faults_after) (set w.calls i (get_or w.calls i 0 + entry.calls)) (w.entries + 1) (length-set w.faults i entry.faults_after) all

@@ -5,7 +5,7 @@ use Rattle.std.proofs.lemmas.List.{append_assoc, append-nil}
 use Rattle.fc_base.specs.Pools.{Pool, of_kind}
 use Rattle.fc_base.specs.Sheet.{live_place}
 use Rattle.fc_base.specs.declared.command.Command.{Command}
-use Rattle.fc_base.specs.declared.command.Command.TheVariants.{Read as ReadLine, Write as WriteLine}
+use Rattle.fc_base.specs.declared.command.Command.TheVariants.{Read as ReadLine, Write as WriteLine, Mkpreset}
 use Rattle.fc_base.specs.declared.decision.Decision.{Decision}
 use Rattle.fc_base.specs.declared.disk.DiskKind.{DiskKind}
 use Rattle.fc_base.specs.declared.fault.Refusal.{Refusal}
@@ -26,7 +26,7 @@ use Rattle.fc_base.specs.declared.state.Access.TheVariants.{Online, Offline as I
 use Rattle.fc_base.specs.declared.volume.Volume.{Volume}
 use Rattle.fc_books.specs.After.{pools_after}
 use Rattle.fc_books.specs.Deciding.{IsLoopOf, settle}
-use Rattle.fc_books.specs.Refused.{access_refused}
+use Rattle.fc_books.specs.Refused.{access_refused, preset_refused}
 use Rattle.fc_books.specs.Sound.{AreSound}
 use Rattle.fc_changed.specs.Row.{Row}
 use Rattle.fc_entry.specs.Picture.{grain_of_block}
@@ -37,7 +37,7 @@ use Rattle.fc_kept.specs.Kept.{Kept}
 use Rattle.fc_kept.specs.Marks.{asked_write, least_by, least_entry}
 use Rattle.fc_kept.specs.Prefix.{AreFillSteps, AreStepsOf, AreWriteSteps}
 use Rattle.fc_legal.specs.Legal.{AreSteps}
-use Rattle.fc_legal.specs.Steps.{AccessIsRefused, CommandIsRight, CommandLeft, CommandLeft.decided as left_decided, CommandLeft.unsettled as left_unsettled, CommandLeft.settled_alone as left_settled, CommandStep, IsInside, IsRefused, RequestStep, Step, after_access, after_settling, decided_on, left_by, one_more}
+use Rattle.fc_legal.specs.Steps.{MustBeRefused, CommandIsRight, CommandLeft, CommandLeft.decided as left_decided, CommandLeft.unsettled as left_unsettled, CommandLeft.settled_alone as left_settled, CommandStep, IsInside, IsRefused, RequestStep, Step, after_access, after_settling, decided_on, left_by, one_more}
 use Rattle.fc_legal.specs.Whole.{Whole, as_one, lane_at, lane_of_grain, lanes, opened, part_at, pool_at, single_lane}
 use Rattle.fc_parts.specs.Law.{IsInVolume}
 use Rattle.fc_parts.proofs.Told.{pools_of_all}
@@ -263,9 +263,9 @@ refused_ends : (grain : GrainSize) (w : Whole) (least : List Row) (p : Point) (e
 refused_ends grain w least p entry next refusal have none x =
     subst (EndsIn grain w least p entry) (sym x.next_is) (record { least_next = least; behind = p; does = refused none; have = record { named = have.named; free = have.free } })
 
-access_ends : (grain : GrainSize) (w : Whole) (least : List Row) (p : Point) (entry : Entry) (next : Whole) (o : Option Refusal) → HaveTheirDisks w p.disks → asked_write entry.request ≡ None → AccessIsRefused o w entry next → Ends grain w least p entry next
-access_ends grain w least p entry next None have none x = absurd x
-access_ends grain w least p entry next (Some refusal) have none x = refused_ends grain w least p entry next refusal have none x
+must_be_refused_ends : (grain : GrainSize) (w : Whole) (least : List Row) (p : Point) (entry : Entry) (next : Whole) (o : Option Refusal) → HaveTheirDisks w p.disks → asked_write entry.request ≡ None → MustBeRefused o w entry next → Ends grain w least p entry next
+must_be_refused_ends grain w least p entry next None have none x = absurd x
+must_be_refused_ends grain w least p entry next (Some refusal) have none x = refused_ends grain w least p entry next refusal have none x
 
 -- ---- a command
 
@@ -391,8 +391,9 @@ module _ (grain : GrainSize) (first : Whole) (least : List Row) (p : Point) (st 
     disked = record { some = stood.2.reached.stands.each_lane.some; count = stood.1.says.count; fit = fits_now grain now least_now x stood.1; have = have }
 
     by_command : (command : Command) → entry.request ≡ Asked command → CommandIsRight grain now command entry next → MoreHere
-    by_command (ReadLine volume block count) e right = from_ends (access_ends grain now least_now x entry next (access_refused grain now.books volume block count) have (ap asked_write e) right)
-    by_command (WriteLine volume block count byte) e right = from_ends (access_ends grain now least_now x entry next (access_refused grain now.books volume block count) have (ap asked_write e) right)
+    by_command (ReadLine volume block count) e right = from_ends (must_be_refused_ends grain now least_now x entry next (access_refused grain now.books volume block count) have (ap asked_write e) right)
+    by_command (WriteLine volume block count byte) e right = from_ends (must_be_refused_ends grain now least_now x entry next (access_refused grain now.books volume block count) have (ap asked_write e) right)
+    by_command (Mkpreset source preset name) e right = from_ends (must_be_refused_ends grain now least_now x entry next (preset_refused now.books source) have (ap asked_write e) right)
     by_command command e right = from_command (command_ends grain now least_now x few stood.1 stood.2 have command entry next e right)
 
     by_request : (request : Request) → entry.request ≡ request → RequestStep grain now request entry next → MoreHere

@@ -280,7 +280,7 @@ events_into s now rows (e ∷ es) all =
 -- that books are sound doesn't go by the disks that are left, nor by background work
 books_alone : (b : Books) (k : Kept) → AreSound b → k.tables ≡ b.tables → k.next_volume ≡ b.next_volume → k.next_mapping ≡ b.next_mapping → k.next_group ≡ b.next_group → k.sheet ≡ b.sheet → AreSound (books_of k)
 books_alone b k a t v m g s =
-    let left : Books = record b { flags = []; pools = [] } in
+    let left : Books = record b { flags = []; pools = []; rooms = [] } in
     let alone : AreSound left =
     record {
       tables = record {
@@ -302,7 +302,7 @@ books_alone b k a t v m g s =
         one_busy = a.agree.one_busy;
       };
     } in
-    subst AreSound (λ i. record { tables = sym t i; next_volume = sym v i; next_mapping = sym m i; next_group = sym g i; sheet = sym s i; flags = []; pools = [] }) alone
+    subst AreSound (λ i. record { tables = sym t i; next_volume = sym v i; next_mapping = sym m i; next_group = sym g i; sheet = sym s i; flags = []; pools = []; rooms = [] }) alone
 
 anew_sound : (decisions : ℕ) (left : Whole) (least rows : List Row) (lost : List LostGrains) → decisions + 2 < 2 ^ 32 → IsReached decisions left → AreMarked rows left.rows least → AreInto rows → IsSoundKept (made_anew left rows lost)
 anew_sound decisions left least rows lost few r marked into =
@@ -397,7 +397,7 @@ AllLeft grain decisions left least q = StandsFor grain (one_more left) least q �
 
 counted : (grain : GrainSize) (decisions : ℕ) (left : Whole) (least : List Row) (q : Point) → StandsFor grain left least q → GoesOn decisions left q.disks → AllLeft grain decisions left least q
 counted grain decisions left least q st on = (
-  stands_counted grain left least q left.faults left.calls (left.entries + 1) refl st,
+  stands_counted grain left least q left.books.rooms left.faults left.calls (left.entries + 1) refl st,
   record {
     reached = stands_law_holds.refused decisions left on.reached;
     alike = record { each = on.alike.each; distinct = on.alike.distinct };

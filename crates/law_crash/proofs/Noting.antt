@@ -1,5 +1,6 @@
 -- A record that fits is put into metadata.
 use Rattle.std.proofs.Common.{◌≡◌, ℕ, ◌%◌, cond, List, length, sym, subst, ◌∙◌}
+use Rattle.fc_base.specs.Room.{Room}
 use Rattle.fc_base.specs.Sheet.{Sheet}
 use Rattle.fc_base.specs.SheetFacts.{IsSound}
 use Rattle.fc_base.specs.declared.size.GrainSize.{GrainSize}
@@ -58,11 +59,13 @@ stored_lanes grain n p v g =
     let l : LaneOf = record { lane = g % n; lanes = n; grain = grain } in
     cond (is_lost_in p.kept.lost v g) Lost (on_disk l (disk_of (disks_at p.disks (g % n)) v) (place_of l g))
 
--- the faults, the calls and the number of entries
-pub stands_counted : (grain : GrainSize) (w : Whole) (least : List Row) (p : Point) (faults calls : List ℕ) (entries : ℕ) → length faults ≡ lanes w → StandsFor grain w least p →
-    StandsFor grain (record w { faults = faults; calls = calls; entries = entries }) least p
-stands_counted grain w least p faults calls entries e st =
-    let next : Whole = record w { faults = faults; calls = calls; entries = entries } in
+-- which grains occupy memory, the faults, the calls and the number of entries
+abbrev counted : Whole → List Room → (faults calls : List ℕ) → (entries : ℕ) → Whole
+counted w rooms faults calls entries = record w { books = record w.books { rooms = rooms }; faults = faults; calls = calls; entries = entries }
+
+pub stands_counted : (grain : GrainSize) (w : Whole) (least : List Row) (p : Point) (rooms : List Room) (faults calls : List ℕ) (entries : ℕ) → length faults ≡ lanes w → StandsFor grain w least p →
+    StandsFor grain (counted w rooms faults calls entries) least p
+stands_counted grain w least p rooms faults calls entries e st =
     let s = st.says in
     record {
       says = record {

@@ -176,7 +176,7 @@ module _ (grain : GrainSize) (w : Whole) (least : List Row) (p : Point) (few : w
 
   does_stand : (entry : Entry) (next : Whole) (least' : List Row) (q : Point) → Does grain w least p entry next least' q → Behind grain next least' q
   does_stand entry next least' q (refused none) = (
-    stands_counted grain w least p w.faults w.calls (w.entries + 1) refl st,
+    stands_counted grain w least p w.books.rooms w.faults w.calls (w.entries + 1) refl st,
     record { each = on.alike.each; distinct = on.alike.distinct },
     on.unnamed,
   )

@@ -8,7 +8,7 @@ use Rattle.fc_base.specs.declared.command.Scope.{Scope}
 use Rattle.fc_base.specs.declared.command.Scope.TheVariants.{Free}
 use Rattle.fc_base.specs.declared.fault.WordFault.{WordFault}
 use Rattle.fc_base.specs.declared.fault.WordFault.TheVariants.{MissingWord, MissingOption, LongLine, UnknownCommand}
-use Rattle.fc_base.specs.declared.fault.RequiredOption.TheVariants.{Size, Seconds, Source, Target}
+use Rattle.fc_base.specs.declared.fault.RequiredOption.TheVariants.{Size, Seconds, Source, Target, Preset}
 use Rattle.fc_base.specs.declared.limits.TheConstants.{MAX_LINE_BYTES}
 use Rattle.fc_words.specs.declared.given.Flags.{Flags}
 use Rattle.fc_words.specs.declared.given.Given.{Given}
@@ -20,7 +20,7 @@ use Rattle.fc_words.specs.declared.grammar.Family.{Family}
 use Rattle.fc_words.specs.declared.grammar.Family.TheVariants.{Storage, Access, CopyServices, Block}
 use Rattle.fc_words.specs.declared.grammar.Setting.{Setting}
 use Rattle.fc_words.specs.declared.grammar.Verb.{Verb}
-use Rattle.fc_words.specs.declared.grammar.Verb.TheVariants.{MakeVolume, RemoveVolume, WriteBlocks, ReadBlocks, ArmFault, PassTime, MakeMapping, PrepareMapping, StartMapping, StopMapping, RemoveMapping, MakeGroup, PrepareGroup, StartGroup, StopGroup, RemoveGroup, ListMappings, ListGroups, ListVolumes, ShowProgress, ListDependents, BeginBlock, BeginActor, EndBlock}
+use Rattle.fc_words.specs.declared.grammar.Verb.TheVariants.{MakeVolume, RemoveVolume, WriteBlocks, ReadBlocks, ArmFault, PassTime, MakeMapping, PrepareMapping, StartMapping, StopMapping, RemoveMapping, MakeGroup, PrepareGroup, StartGroup, StopGroup, RemoveGroup, ListMappings, ListGroups, ListVolumes, ShowProgress, ListDependents, MakeCopy, ListRoom, BeginBlock, BeginActor, EndBlock}
 use Rattle.fc_words.specs.Given.{nothing_given}
 use Rattle.fc_words.specs.Grammar.{verb_of, family_of, scope_has}
 use Rattle.fc_words.specs.Words.{words_of}
@@ -76,6 +76,9 @@ complete_of ListGroups end s f o = refl
 complete_of ListVolumes end s f o = refl
 complete_of ShowProgress end s f o = need_of CopyServices o.object (MissingWord end) _ (λ map. refl)
 complete_of ListDependents end s f o = need_of CopyServices o.object (MissingWord end) _ (λ map. refl)
+complete_of MakeCopy end s f o =
+    need_of Storage s.source (MissingOption Source) _ (λ source. need_of Storage s.preset (MissingOption Preset) _ (λ preset. refl))
+complete_of ListRoom end s f o = refl
 complete_of BeginBlock end s f o = tt
 complete_of BeginActor end s f o =
     need_of Block o.actor (MissingWord end) _ (λ name. need_of Block o.role (MissingWord end) _ (λ role. role_of name role o end))

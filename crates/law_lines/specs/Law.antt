@@ -2,7 +2,7 @@
 use Rattle.std.specs.Prelude.{◌≡◌, ℕ, if◌then◌else◌, List, Result, Ok, Err}
 use Rattle.fc_base.specs.CommandText.{command_text}
 use Rattle.fc_base.specs.declared.command.Command.{Command}
-use Rattle.fc_base.specs.declared.command.Command.TheVariants.{Mkvdisk, Rmvdisk, Write, Read, Armfault, Advance}
+use Rattle.fc_base.specs.declared.command.Command.TheVariants.{Mkvdisk, Rmvdisk, Write, Read, Armfault, Advance, Mkpreset, Lsvdiskroom}
 use Rattle.fc_base.specs.declared.command.Line.{Line}
 use Rattle.fc_base.specs.declared.command.Line.TheVariants.{Command as OfCommand}
 use Rattle.fc_base.specs.declared.command.Scope.{Scope}
@@ -13,12 +13,15 @@ use Rattle.fc_words.specs.Canonical.{IsCommand}
 use Rattle.fc_words.specs.Grammar.{scope_has}
 use Rattle.fc_words.specs.Lines.{line_of, not_here}
 
--- what kind of line a command is: of volumes, faults and time; a read or write; of mappings, groups and reports
+-- what kind of line a command is: of volumes, the room that they take, presets, faults and time; a read or write; of mappings,
+-- groups and the other reports
 abbrev pub command_family : Command → Family
 command_family (Mkvdisk name size unit thin) = Storage
 command_family (Rmvdisk volume) = Storage
 command_family (Armfault volume grain calls) = Storage
 command_family (Advance seconds) = Storage
+command_family (Mkpreset source preset name) = Storage
+command_family (Lsvdiskroom delim) = Storage
 command_family (Write volume block count byte) = Access
 command_family (Read volume block count) = Access
 command_family _ = CopyServices

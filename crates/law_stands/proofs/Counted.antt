@@ -1,7 +1,7 @@
 -- What a right entry changes by one rule, whichever it is: a property of what is told that no decision touches.
 use Rattle.std.proofs.Common.{◌≡◌, ℕ, ◌+◌, Option, Some, None, List, refl, ap, ◌∙◌}
 use Rattle.fc_base.specs.declared.command.Command.{Command}
-use Rattle.fc_base.specs.declared.command.Command.TheVariants.{Read as ReadLine, Write as WriteLine}
+use Rattle.fc_base.specs.declared.command.Command.TheVariants.{Read as ReadLine, Write as WriteLine, Mkpreset}
 use Rattle.fc_base.specs.declared.decision.Decision.{Decision}
 use Rattle.fc_base.specs.declared.fault.Refusal.{Refusal}
 use Rattle.fc_base.specs.declared.fault.Refusal.TheVariants.{Words}
@@ -11,9 +11,9 @@ use Rattle.fc_base.specs.declared.request.Request.{Request}
 use Rattle.fc_base.specs.declared.request.Request.TheVariants.{Command as Asked, Unread, Read, Write, Copy, Clean, CopyTurn, CleanTurn}
 use Rattle.fc_base.specs.declared.size.GrainSize.{GrainSize}
 use Rattle.fc_books.specs.Deciding.{settle}
-use Rattle.fc_books.specs.Refused.{access_refused}
+use Rattle.fc_books.specs.Refused.{access_refused, preset_refused}
 use Rattle.fc_entry.specs.declared.entry.Entry.{Entry}
-use Rattle.fc_legal.specs.Steps.{AccessIsRefused, CommandIsRight, CommandLeft, CommandStep, IsRefused, LaneStep, RequestStep, Step, after_access, after_settling, decided_on, left_by, one_more}
+use Rattle.fc_legal.specs.Steps.{MustBeRefused, CommandIsRight, CommandLeft, CommandStep, IsRefused, LaneStep, RequestStep, Step, after_access, after_settling, decided_on, left_by, one_more}
 use Rattle.fc_legal.specs.Steps.CommandLeft.{decided, unsettled, settled_alone}
 use Rattle.fc_legal.specs.Whole.{Whole}
 
@@ -27,9 +27,9 @@ module _ {X : Type 0} (grain : GrainSize) (of : Whole → X) (change : X → X) 
   refusal_changes : (refusal : Refusal) → IsRefused refusal w entry next → of next ≡ change (of w)
   refusal_changes refusal is = ap of is.next_is ∙ by.one w
 
-  access_changes : (refusal : Option Refusal) → AccessIsRefused refusal w entry next → of next ≡ change (of w)
-  access_changes None is = absurd is
-  access_changes (Some refusal) is = refusal_changes refusal is
+  must_be_refused_changes : (refusal : Option Refusal) → MustBeRefused refusal w entry next → of next ≡ change (of w)
+  must_be_refused_changes None is = absurd is
+  must_be_refused_changes (Some refusal) is = refusal_changes refusal is
 
   left_changes : (command : Command) (reply : Reply) (effects : List Effect) (left : Whole) → CommandLeft grain w command reply effects left → of left ≡ of w
   left_changes command reply effects left (decided loop told) = by.decision (after_settling grain w) (decided_on grain (after_settling grain w) command loop) ∙ by.decision w (settle w.books)
@@ -40,8 +40,9 @@ module _ {X : Type 0} (grain : GrainSize) (of : Whole → X) (change : X → X) 
   step_changes command step = ap of step.next_is ∙ by.one step.left ∙ ap change (left_changes command entry.reply entry.effects step.left step.leaves)
 
   command_changes : (command : Command) → CommandIsRight grain w command entry next → of next ≡ change (of w)
-  command_changes (ReadLine volume block count) right = access_changes (access_refused grain w.books volume block count) right
-  command_changes (WriteLine volume block count byte) right = access_changes (access_refused grain w.books volume block count) right
+  command_changes (ReadLine volume block count) right = must_be_refused_changes (access_refused grain w.books volume block count) right
+  command_changes (WriteLine volume block count byte) right = must_be_refused_changes (access_refused grain w.books volume block count) right
+  command_changes (Mkpreset source preset name) right = must_be_refused_changes (preset_refused w.books source) right
   command_changes command right = step_changes command right
 
   lane_changes : (i : ℕ) (Answers : Entry → Type 0) → LaneStep grain w i Answers entry next → of next ≡ change (of w)

@@ -1,7 +1,7 @@
 -- What a command leaves: it was decided, or for want of memory nothing was done, or all was settled.
 use Rattle.std.proofs.Common.{◌≡◌, ◌≢◌, ◌⊎◌, inl, inr, ℕ, Bool, List, ◌++◌, Option, Some, None, refl, ap}
 use Rattle.fc_base.specs.declared.command.Command.{Command}
-use Rattle.fc_base.specs.declared.command.Command.TheVariants.{Mkvdisk, Mkfcmap, Mkfcconsistgrp, Lsfcmap, Lsfcconsistgrp, Lsvdisk, Lsfcmapprogress, Lsfcmapdependentmaps}
+use Rattle.fc_base.specs.declared.command.Command.TheVariants.{Mkvdisk, Mkfcmap, Mkfcconsistgrp, Lsfcmap, Lsfcconsistgrp, Lsvdisk, Lsfcmapprogress, Lsfcmapdependentmaps, Lsvdiskroom}
 use Rattle.fc_base.specs.declared.fault.Refusal.{Refusal}
 use Rattle.fc_base.specs.declared.ids.VolId.{VolId}
 use Rattle.fc_base.specs.declared.request.Effect.{Effect}
@@ -29,6 +29,7 @@ replied_some grain b (Lsfcconsistgrp group delim) e = cc
 replied_some grain b (Lsvdisk delim) e = cc
 replied_some grain b (Lsfcmapprogress m delim) e = cc
 replied_some grain b (Lsfcmapdependentmaps m delim) e = cc
+replied_some grain b (Lsvdiskroom delim) e = cc
 replied_some grain b command e = cc
 
 answered_some : (sets : ℕ → List Bool) (grain : GrainSize) (b : Books) (command : Command) (refusal : Option Refusal) (loop : Option (List VolId)) → (answered sets grain b command refusal loop).reply ≢ NoMemory

@@ -1,7 +1,7 @@
 -- Right entries with other names of actors, and legal histories without any.
 use Rattle.std.proofs.Common.{◌≡◌, ℕ, List, [], ◌∷◌, Option, Some, None, refl, sym, ap, subst}
 use Rattle.fc_base.specs.declared.command.Command.{Command}
-use Rattle.fc_base.specs.declared.command.Command.TheVariants.{Read as ReadLine, Write as WriteLine}
+use Rattle.fc_base.specs.declared.command.Command.TheVariants.{Read as ReadLine, Write as WriteLine, Mkpreset}
 use Rattle.fc_base.specs.declared.fault.Refusal.{Refusal}
 use Rattle.fc_base.specs.declared.fault.Refusal.TheVariants.{Words}
 use Rattle.fc_base.specs.declared.request.Effect.{Effect}
@@ -9,11 +9,11 @@ use Rattle.fc_base.specs.declared.request.Reply.{Reply}
 use Rattle.fc_base.specs.declared.request.Request.{Request}
 use Rattle.fc_base.specs.declared.request.Request.TheVariants.{Command as Asked, Unread, Read, Write, Copy, Clean, CopyTurn, CleanTurn}
 use Rattle.fc_base.specs.declared.size.GrainSize.{GrainSize}
-use Rattle.fc_books.specs.Refused.{access_refused}
+use Rattle.fc_books.specs.Refused.{access_refused, preset_refused}
 use Rattle.fc_entry.specs.declared.entry.Entry.{Entry}
 use Rattle.fc_legal.proofs.Naming.{IsNamed-none, IsNext-step}
 use Rattle.fc_legal.specs.Legal.{AreSteps, IsLegal, IsNamed}
-use Rattle.fc_legal.specs.Steps.{AccessIsRefused, CommandIsRight, CommandLeft, CommandStep, IsRefused, LaneStep, RequestStep, Step}
+use Rattle.fc_legal.specs.Steps.{MustBeRefused, CommandIsRight, CommandLeft, CommandStep, IsRefused, LaneStep, RequestStep, Step}
 use Rattle.fc_legal.specs.Steps.CommandLeft.{decided, unsettled, settled_alone}
 use Rattle.fc_legal.specs.Whole.{Whole, part_at}
 use Rattle.law_stands.proofs.Counted.{names_kept}
@@ -26,9 +26,9 @@ module _ (grain : GrainSize) (names : List (List ℕ)) (w : Whole) (entry : Entr
   refusal_named : (refusal : Refusal) → IsRefused refusal w entry next → IsRefused refusal (named names w) entry (named names next)
   refusal_named refusal is = record { place = is.place; apart = is.apart; reply = is.reply; no_effects = is.no_effects; next_is = ap (named names) is.next_is }
 
-  access_named : (refusal : Option Refusal) → AccessIsRefused refusal w entry next → AccessIsRefused refusal (named names w) entry (named names next)
-  access_named None is = is
-  access_named (Some refusal) is = refusal_named refusal is
+  must_be_refused_named : (refusal : Option Refusal) → MustBeRefused refusal w entry next → MustBeRefused refusal (named names w) entry (named names next)
+  must_be_refused_named None is = is
+  must_be_refused_named (Some refusal) is = refusal_named refusal is
 
   left_named : (command : Command) (reply : Reply) (effects : List Effect) (left : Whole) → CommandLeft grain w command reply effects left →
       CommandLeft grain (named names w) command reply effects (named names left)
@@ -47,8 +47,9 @@ module _ (grain : GrainSize) (names : List (List ℕ)) (w : Whole) (entry : Entr
       }
 
   command_named : (command : Command) → CommandIsRight grain w command entry next → CommandIsRight grain (named names w) command entry (named names next)
-  command_named (ReadLine volume block count) right = access_named (access_refused grain w.books volume block count) right
-  command_named (WriteLine volume block count byte) right = access_named (access_refused grain w.books volume block count) right
+  command_named (ReadLine volume block count) right = must_be_refused_named (access_refused grain w.books volume block count) right
+  command_named (WriteLine volume block count byte) right = must_be_refused_named (access_refused grain w.books volume block count) right
+  command_named (Mkpreset source preset name) right = must_be_refused_named (preset_refused w.books source) right
   command_named command right = step_named command right
 
   lane_named : (i : ℕ) (Answers : Entry → Type 0) → LaneStep grain w i Answers entry next → LaneStep grain (named names w) i Answers entry (named names next)

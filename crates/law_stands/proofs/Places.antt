@@ -2,17 +2,17 @@
 use Rattle.std.proofs.Common.{◌≡◌, ℕ, ◌<◌, Option, Some, None, refl, sym, subst}
 use Rattle.std.proofs.Math.Nat.{mod-lt}
 use Rattle.fc_base.specs.declared.command.Command.{Command}
-use Rattle.fc_base.specs.declared.command.Command.TheVariants.{Read as ReadLine, Write as WriteLine}
+use Rattle.fc_base.specs.declared.command.Command.TheVariants.{Read as ReadLine, Write as WriteLine, Mkpreset}
 use Rattle.fc_base.specs.declared.fault.Refusal.{Refusal}
 use Rattle.fc_base.specs.declared.fault.Refusal.TheVariants.{Words}
 use Rattle.fc_base.specs.declared.request.Place.{Place}
 use Rattle.fc_base.specs.declared.request.Request.{Request}
 use Rattle.fc_base.specs.declared.request.Request.TheVariants.{Command as Asked, Unread, Read, Write, Copy, Clean, CopyTurn, CleanTurn}
 use Rattle.fc_base.specs.declared.size.GrainSize.{GrainSize}
-use Rattle.fc_books.specs.Refused.{access_refused}
+use Rattle.fc_books.specs.Refused.{access_refused, preset_refused}
 use Rattle.fc_entry.specs.Picture.{grain_of_block}
 use Rattle.fc_entry.specs.declared.entry.Entry.{Entry}
-use Rattle.fc_legal.specs.Steps.{AccessIsRefused, AccessStep, CommandIsRight, CommandStep, IsRefused, LaneStep, RequestStep}
+use Rattle.fc_legal.specs.Steps.{MustBeRefused, AccessStep, CommandIsRight, CommandStep, IsRefused, LaneStep, RequestStep}
 use Rattle.fc_legal.specs.Whole.{Whole, lane_of_grain, lanes}
 use Rattle.fc_parts.proofs.Accesses.{access_of_lane}
 use Rattle.fc_parts.specs.Law.{IsAt, IsOfLane}
@@ -24,9 +24,9 @@ module _ (grain : GrainSize) (w : Whole) (entry : Entry) (next : Whole) where
   refusal_left : (refusal : Refusal) → IsRefused refusal w entry next → LeftAt grain w entry entry.place next
   refusal_left refusal is = subst (λ (p : Place). LeftAt grain w entry p next) (sym is.place) is.next_is
 
-  access_left : (refusal : Option Refusal) → AccessIsRefused refusal w entry next → LeftAt grain w entry entry.place next
-  access_left None is = absurd is
-  access_left (Some refusal) is = refusal_left refusal is
+  must_be_refused_left : (refusal : Option Refusal) → MustBeRefused refusal w entry next → LeftAt grain w entry entry.place next
+  must_be_refused_left None is = absurd is
+  must_be_refused_left (Some refusal) is = refusal_left refusal is
 
   -- ---- of every lane
 
@@ -34,8 +34,9 @@ module _ (grain : GrainSize) (w : Whole) (entry : Entry) (next : Whole) where
   step_left command e step = subst (λ (p : Place). LeftAt grain w entry p next) (sym step.place) (command, e, step)
 
   command_left : (command : Command) → entry.request ≡ Asked command → CommandIsRight grain w command entry next → LeftAt grain w entry entry.place next
-  command_left (ReadLine volume block count) e right = access_left (access_refused grain w.books volume block count) right
-  command_left (WriteLine volume block count byte) e right = access_left (access_refused grain w.books volume block count) right
+  command_left (ReadLine volume block count) e right = must_be_refused_left (access_refused grain w.books volume block count) right
+  command_left (WriteLine volume block count byte) e right = must_be_refused_left (access_refused grain w.books volume block count) right
+  command_left (Mkpreset source preset name) e right = must_be_refused_left (preset_refused w.books source) right
   command_left command e right = step_left command e right
 
   -- ---- of a lane

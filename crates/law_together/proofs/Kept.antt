@@ -2,18 +2,18 @@
 use Rattle.std.proofs.Common.{◌≡◌, ℕ, ◌+◌, List, [], ◌∷◌, ◌++◌, length, Option, Some, None, refl, ◌∙◌, ap, arith}
 use Rattle.std.proofs.lemmas.List.{length-set}
 use Rattle.fc_base.specs.declared.command.Command.{Command}
-use Rattle.fc_base.specs.declared.command.Command.TheVariants.{Mkvdisk, Rmvdisk, Write as WriteLine, Read as ReadLine, Armfault, Advance, Mkfcmap, Prestartfcmap, Startfcmap, Stopfcmap, Rmfcmap, Mkfcconsistgrp, Prestartfcconsistgrp, Startfcconsistgrp, Stopfcconsistgrp, Rmfcconsistgrp, Lsfcmap, Lsfcconsistgrp, Lsvdisk, Lsfcmapprogress, Lsfcmapdependentmaps}
+use Rattle.fc_base.specs.declared.command.Command.TheVariants.{Mkvdisk, Rmvdisk, Write as WriteLine, Read as ReadLine, Armfault, Advance, Mkfcmap, Prestartfcmap, Startfcmap, Stopfcmap, Rmfcmap, Mkfcconsistgrp, Prestartfcconsistgrp, Startfcconsistgrp, Stopfcconsistgrp, Rmfcconsistgrp, Lsfcmap, Lsfcconsistgrp, Lsvdisk, Lsfcmapprogress, Lsfcmapdependentmaps, Mkpreset, Lsvdiskroom}
 use Rattle.fc_base.specs.declared.fault.Refusal.{Refusal}
 use Rattle.fc_base.specs.declared.request.Effect.{Effect}
 use Rattle.fc_base.specs.declared.request.Reply.{Reply}
 use Rattle.fc_base.specs.declared.request.Request.{Request}
 use Rattle.fc_base.specs.declared.request.Request.TheVariants.{Command as Asked, Unread, Read, Write, Copy, Clean, CopyTurn, CleanTurn}
 use Rattle.fc_base.specs.declared.size.GrainSize.{GrainSize}
-use Rattle.fc_books.specs.Refused.{access_refused}
+use Rattle.fc_books.specs.Refused.{access_refused, preset_refused}
 use Rattle.fc_entry.specs.Picture.{grain_of_block}
 use Rattle.fc_entry.specs.declared.entry.Entry.{Entry}
 use Rattle.fc_legal.specs.Legal.{AreSteps, IsLegal}
-use Rattle.fc_legal.specs.Steps.{RequestStep, CommandIsRight, CommandStep, CommandLeft, AccessIsRefused, LaneStep}
+use Rattle.fc_legal.specs.Steps.{RequestStep, CommandIsRight, CommandStep, CommandLeft, MustBeRefused, LaneStep}
 use Rattle.fc_legal.specs.Steps.CommandLeft.{decided, unsettled, settled_alone}
 use Rattle.fc_legal.specs.Whole.{Whole, lanes, lane_of_grain}
 
@@ -25,7 +25,7 @@ pub record Keeps (more : ℕ) (w next : Whole) : Type 0 where
 
 refused_keeps :
     (refusal : Option Refusal) (w : Whole) (entry : Entry) (next : Whole) →
-    AccessIsRefused refusal w entry next →
+    MustBeRefused refusal w entry next →
     Keeps 1 w next
 refused_keeps None w entry next step = absurd step
 refused_keeps (Some refusal) w entry next step = record {
@@ -62,6 +62,7 @@ command_keeps grain w (ReadLine volume block count) entry next step =
     refused_keeps (access_refused grain w.books volume block count) w entry next step
 command_keeps grain w (WriteLine volume block count byte) entry next step =
     refused_keeps (access_refused grain w.books volume block count) w entry next step
+command_keeps grain w (Mkpreset source preset name) entry next step = refused_keeps (preset_refused w.books source) w entry next step
 command_keeps grain w (Mkvdisk name size unit thin) entry next step = decided_keeps grain w (Mkvdisk name size unit thin) entry next step
 command_keeps grain w (Rmvdisk volume) entry next step = decided_keeps grain w (Rmvdisk volume) entry next step
 command_keeps grain w (Armfault volume number calls) entry next step = decided_keeps grain w (Armfault volume number calls) entry next step
@@ -82,6 +83,7 @@ command_keeps grain w (Lsfcconsistgrp group delim) entry next step = decided_kee
 command_keeps grain w (Lsvdisk delim) entry next step = decided_keeps grain w (Lsvdisk delim) entry next step
 command_keeps grain w (Lsfcmapprogress m delim) entry next step = decided_keeps grain w (Lsfcmapprogress m delim) entry next step
 command_keeps grain w (Lsfcmapdependentmaps m delim) entry next step = decided_keeps grain w (Lsfcmapdependentmaps m delim) entry next step
+command_keeps grain w (Lsvdiskroom delim) entry next step = decided_keeps grain w (Lsvdiskroom delim) entry next step
 
 lane_keeps :
     (grain : GrainSize) (w : Whole) (i : ℕ) (Answers : Entry → Type 0) (entry : Entry) (next : Whole) →

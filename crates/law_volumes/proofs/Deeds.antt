@@ -2,7 +2,7 @@
 use Rattle.std.proofs.Common.{◌≡◌, ℕ, Bool, true, false, cond, ◌&&◌, List, [], ◌∷◌, map, filter, Option, Some, None, Result, Ok, Err, true≢false}
 use Rattle.fc_base.specs.Tables.{Tables, volume_named, mapping_named, group_named, mapping_with}
 use Rattle.fc_base.specs.declared.command.Command.{Command}
-use Rattle.fc_base.specs.declared.command.Command.TheVariants.{Mkvdisk, Rmvdisk, Write, Read, Armfault, Advance, Mkfcmap, Prestartfcmap, Startfcmap, Stopfcmap, Rmfcmap, Mkfcconsistgrp, Prestartfcconsistgrp, Startfcconsistgrp, Stopfcconsistgrp, Rmfcconsistgrp, Lsfcmap, Lsfcconsistgrp, Lsvdisk, Lsfcmapprogress, Lsfcmapdependentmaps}
+use Rattle.fc_base.specs.declared.command.Command.TheVariants.{Mkvdisk, Rmvdisk, Write, Read, Armfault, Advance, Mkfcmap, Prestartfcmap, Startfcmap, Stopfcmap, Rmfcmap, Mkfcconsistgrp, Prestartfcconsistgrp, Startfcconsistgrp, Stopfcconsistgrp, Rmfcconsistgrp, Lsfcmap, Lsfcconsistgrp, Lsvdisk, Lsfcmapprogress, Lsfcmapdependentmaps, Mkpreset, Lsvdiskroom}
 use Rattle.fc_base.specs.declared.command.StopWay.{StopWay}
 use Rattle.fc_base.specs.declared.command.StopWay.TheVariants.{Plain, Force, Split}
 use Rattle.fc_base.specs.declared.decision.LaneEvent.TheVariants.{Detach}
@@ -192,6 +192,8 @@ done_spares grain b (Lsfcconsistgrp group delim) other = nothing_spares
 done_spares grain b (Lsvdisk delim) other = nothing_spares
 done_spares grain b (Lsfcmapprogress m delim) other = nothing_spares
 done_spares grain b (Lsfcmapdependentmaps m delim) other = nothing_spares
+done_spares grain b (Mkpreset source preset name) other = nothing_spares
+done_spares grain b (Lsvdiskroom delim) other = nothing_spares
 
 answered_keeps : (restarts : ℕ → List Bool) (grain : GrainSize) (b : Books) (command : Command) (refusal : Option Refusal) (loop : Option (List VolId)) → Spares (done grain b command) →
     KeepsVolumes b (answered restarts grain b command refusal loop)

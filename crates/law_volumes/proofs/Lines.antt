@@ -1,5 +1,7 @@
--- No line in a block is a command that makes or removes a volume.
+-- No line in a block is a command that asks to make or remove a volume.
 use Rattle.std.proofs.Common.{◌≡◌, ◌≢◌, ℕ, ◌+◌, Bool, true, false, if◌then◌else◌, List, [], ◌∷◌, length, Option, Some, None, Result, Ok, Err, refl, sym, ◌∙◌, true≢false, nat_lt}
+use Rattle.fc_base.specs.declared.command.Command.{Command}
+use Rattle.fc_base.specs.declared.command.Command.TheVariants.{Mkpreset}
 use Rattle.fc_base.specs.declared.command.Line.{Line}
 use Rattle.fc_base.specs.declared.command.Line.TheVariants.{Blank, Command as CommandLine}
 use Rattle.fc_base.specs.declared.command.Scope.{Scope}
@@ -16,17 +18,22 @@ use Rattle.fc_words.specs.declared.given.Settings.{Settings}
 use Rattle.fc_words.specs.declared.grammar.Family.TheVariants.{Storage}
 use Rattle.fc_words.specs.declared.grammar.Setting.{Setting}
 use Rattle.fc_words.specs.declared.grammar.Verb.{Verb}
-use Rattle.fc_words.specs.declared.grammar.Verb.TheVariants.{MakeVolume, RemoveVolume, WriteBlocks, ReadBlocks, ArmFault, PassTime, MakeMapping, PrepareMapping, StartMapping, StopMapping, RemoveMapping, MakeGroup, PrepareGroup, StartGroup, StopGroup, RemoveGroup, ListMappings, ListGroups, ListVolumes, ShowProgress, ListDependents, BeginBlock, BeginActor, EndBlock}
+use Rattle.fc_words.specs.declared.grammar.Verb.TheVariants.{MakeVolume, RemoveVolume, WriteBlocks, ReadBlocks, ArmFault, PassTime, MakeMapping, PrepareMapping, StartMapping, StopMapping, RemoveMapping, MakeGroup, PrepareGroup, StartGroup, StopGroup, RemoveGroup, ListMappings, ListGroups, ListVolumes, ShowProgress, ListDependents, MakeCopy, ListRoom, BeginBlock, BeginActor, EndBlock}
 use Rattle.fc_words.specs.Given.{nothing_given}
 use Rattle.fc_words.specs.Grammar.{verb_of, family_of, scope_has}
 use Rattle.fc_words.specs.Lines.{then_read, need, role_line, complete, begins_with, read_word, finish, read_words, not_here, named_line, line_behind, is_prefix, line_of_words, line_of}
 use Rattle.fc_words.specs.Words.{words_of}
-use Rattle.law_volumes.specs.Law.{is_of_volumes}
+use Rattle.law_volumes.specs.Law.{is_of_volumes, asks_for_volume}
 
--- A line, as it was read, is no command that makes or removes a volume.
+-- A line, as it was read, is no command that asks to make or remove a volume.
 abbrev pub LineSpares : Result Line WordFault → Type 0
-LineSpares (Ok (CommandLine command)) = is_of_volumes command ≡ false
+LineSpares (Ok (CommandLine command)) = asks_for_volume command ≡ false
 LineSpares line = Unit {0}
+
+-- Then it makes or removes none itself.
+pub asks-none : (command : Command) → asks_for_volume command ≡ false → is_of_volumes command ≡ false
+asks-none (Mkpreset source preset name) none = absurd (true≢false none)
+asks-none command none = none
 
 -- ---- in general
 
@@ -50,7 +57,7 @@ role_spares name AdminWord o end = tt
 role_spares name CopierWord o end = need_spares o.turns _ _ (λ turns. tt)
 role_spares name CleanerWord o end = need_spares o.turns _ _ (λ turns. tt)
 
--- No scope in a block has lines of the family that `mkvdisk` and `rmvdisk` are of.
+-- No scope in a block has lines of the family that `mkvdisk`, `rmvdisk` and `mkpreset` are of.
 no_storage : (scope : Scope) → scope ≢ Free → scope_has scope Storage ≡ false
 no_storage Free inside = absurd (inside refl)
 no_storage Host inside = refl
@@ -84,6 +91,8 @@ module _ (scope : Scope) (inside : scope ≢ Free) where
   complete_spares ListVolumes end s f o has = refl
   complete_spares ShowProgress end s f o has = need_spares o.object _ _ (λ m. refl)
   complete_spares ListDependents end s f o has = need_spares o.object _ _ (λ m. refl)
+  complete_spares MakeCopy end s f o has = absurd (none_made has)
+  complete_spares ListRoom end s f o has = refl
   complete_spares BeginBlock end s f o has = tt
   complete_spares BeginActor end s f o has = need_spares o.actor _ _ (λ name. need_spares o.role _ _ (λ role. role_spares name role o end))
   complete_spares EndBlock end s f o has = tt

@@ -4,7 +4,7 @@ use Rattle.std.specs.List.{flat_map, range_with_len}
 use Rattle.std.proofs.lemmas.List.Elements.{All-nil, All-cons, All-head, All-tail, All-append, All-map}
 use Rattle.fc_base.specs.Tables.{volume_named}
 use Rattle.fc_base.specs.declared.command.Command.{Command}
-use Rattle.fc_base.specs.declared.command.Command.TheVariants.{Read as ReadLine, Write as WriteLine}
+use Rattle.fc_base.specs.declared.command.Command.TheVariants.{Read as ReadLine, Write as WriteLine, Mkpreset}
 use Rattle.fc_base.specs.declared.command.Line.{Line}
 use Rattle.fc_base.specs.declared.command.Line.TheVariants.{Blank, Command as CommandLine}
 use Rattle.fc_base.specs.declared.command.Role.{Role}
@@ -31,7 +31,7 @@ use Rattle.fc_words.specs.Lines.{line_of}
 use Rattle.fc_words.specs.declared.grammar.Family.TheVariants.{Storage}
 use Rattle.law_blocks.specs.Law.{IsReadUnder}
 use Rattle.law_blocks.proofs.Actors.{blocks_law_holds}
-use Rattle.law_volumes.specs.Law.{is_of_volumes, asks_of_volumes, AskOfNoVolume}
+use Rattle.law_volumes.specs.Law.{is_of_volumes, asks_for_volume, asks_of_volumes, AskOfNoVolume}
 use Rattle.law_volumes.proofs.Lines.{LineSpares, line_spares}
 
 -- ---- lines
@@ -47,13 +47,14 @@ access_asks grain command block count request None (Some v) none each =
 access_asks grain command block count request None None none each = one_asks _ none
 access_asks grain command block count request (Some refusal) found none each = one_asks _ none
 
-command_asks : (grain : GrainSize) (b : Books) (command : Command) → is_of_volumes command ≡ false → AskOfNoVolume (command_asked grain b command)
+command_asks : (grain : GrainSize) (b : Books) (command : Command) → asks_for_volume command ≡ false → AskOfNoVolume (command_asked grain b command)
 command_asks grain b (ReadLine volume block count) none =
     access_asks grain (ReadLine volume block count) block count (λ id. read_in grain id block count) (access_refused grain b volume block count) (volume_named b.tables volume)
     refl (λ id g. refl)
 command_asks grain b (WriteLine volume block count byte) none =
     access_asks grain (WriteLine volume block count byte) block count (λ id. write_in grain id block count byte) (access_refused grain b volume block count) (volume_named b.tables volume)
     refl (λ id g. refl)
+command_asks grain b (Mkpreset source preset name) none = absurd (true≢false none)
 command_asks grain b command none = one_asks _ none
 
 pub line_asks : (grain : GrainSize) (b : Books) (line : Result Line WordFault) → LineSpares line → AskOfNoVolume (asked grain b line)

@@ -1,7 +1,7 @@
 -- An entry that is right keeps the volumes, but for `mkvdisk` and `rmvdisk`.
 use Rattle.std.proofs.Common.{◌≡◌, ℕ, Bool, false, List, Option, Some, None, refl, ap, ◌∙◌}
 use Rattle.fc_base.specs.declared.command.Command.{Command}
-use Rattle.fc_base.specs.declared.command.Command.TheVariants.{Read as ReadLine, Write as WriteLine}
+use Rattle.fc_base.specs.declared.command.Command.TheVariants.{Read as ReadLine, Write as WriteLine, Mkpreset}
 use Rattle.fc_base.specs.declared.fault.Refusal.{Refusal}
 use Rattle.fc_base.specs.declared.fault.Refusal.TheVariants.{Words}
 use Rattle.fc_base.specs.declared.request.Effect.{Effect}
@@ -10,10 +10,10 @@ use Rattle.fc_base.specs.declared.request.Request.{Request}
 use Rattle.fc_base.specs.declared.request.Request.TheVariants.{Command as Asked, Unread, Read, Write, Copy, Clean, CopyTurn, CleanTurn}
 use Rattle.fc_base.specs.declared.size.GrainSize.{GrainSize}
 use Rattle.fc_base.specs.declared.volume.Volume.{Volume}
-use Rattle.fc_books.specs.Refused.{access_refused}
+use Rattle.fc_books.specs.Refused.{access_refused, preset_refused}
 use Rattle.fc_entry.specs.declared.entry.Entry.{Entry}
 use Rattle.fc_follow.specs.Following.{restarts}
-use Rattle.fc_legal.specs.Steps.{IsRefused, AccessIsRefused, CommandLeft, CommandStep, CommandIsRight, LaneStep, RequestStep, after_settling}
+use Rattle.fc_legal.specs.Steps.{IsRefused, MustBeRefused, CommandLeft, CommandStep, CommandIsRight, LaneStep, RequestStep, after_settling}
 use Rattle.fc_legal.specs.Steps.CommandLeft.{decided, unsettled, settled_alone}
 use Rattle.fc_legal.specs.Whole.{Whole}
 use Rattle.law_volumes.specs.Law.{is_of_volumes, asks_of_volumes}
@@ -46,7 +46,7 @@ command_keeps grain w command entry next other step =
 refusal_keeps : (refusal : Refusal) (w : Whole) (entry : Entry) (next : Whole) → IsRefused refusal w entry next → volumes next ≡ volumes w
 refusal_keeps refusal w entry next is = ap volumes is.next_is
 
-access_keeps : (refusal : Option Refusal) (w : Whole) (entry : Entry) (next : Whole) → AccessIsRefused refusal w entry next → volumes next ≡ volumes w
+access_keeps : (refusal : Option Refusal) (w : Whole) (entry : Entry) (next : Whole) → MustBeRefused refusal w entry next → volumes next ≡ volumes w
 access_keeps None w entry next is = absurd is
 access_keeps (Some refusal) w entry next is = refusal_keeps refusal w entry next is
 
@@ -54,6 +54,7 @@ asked_keeps : (grain : GrainSize) (w : Whole) (command : Command) (entry : Entry
     CommandIsRight grain w command entry next → volumes next ≡ volumes w
 asked_keeps grain w (ReadLine volume block count) entry next other right = access_keeps (access_refused grain w.books volume block count) w entry next right
 asked_keeps grain w (WriteLine volume block count byte) entry next other right = access_keeps (access_refused grain w.books volume block count) w entry next right
+asked_keeps grain w (Mkpreset source preset name) entry next other right = access_keeps (preset_refused w.books source) w entry next right
 asked_keeps grain w command entry next other right = command_keeps grain w command entry next other right
 
 -- ---- lanes

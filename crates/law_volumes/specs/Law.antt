@@ -1,8 +1,8 @@
 -- The law of volumes: nothing but `mkvdisk` and `rmvdisk` changes the table of volumes, and nobody in a block asks for one of
--- them.
+-- them, nor for a preset, in place of which a `mkvdisk` is asked.
 use Rattle.std.specs.Prelude.{◌≡◌, ◌≢◌, ◌⊎◌, ℕ, Bool, true, false, List, Option, Ok, All, Contains}
 use Rattle.fc_base.specs.declared.command.Command.{Command}
-use Rattle.fc_base.specs.declared.command.Command.TheVariants.{Mkvdisk, Rmvdisk}
+use Rattle.fc_base.specs.declared.command.Command.TheVariants.{Mkvdisk, Rmvdisk, Mkpreset}
 use Rattle.fc_base.specs.declared.command.Line.TheVariants.{Command as CommandLine}
 use Rattle.fc_base.specs.declared.command.Scope.{Scope}
 use Rattle.fc_base.specs.declared.command.Scope.TheVariants.{Free}
@@ -32,6 +32,11 @@ is_of_volumes (Mkvdisk name size unit thin) = true
 is_of_volumes (Rmvdisk volume) = true
 is_of_volumes command = false
 
+-- The commands whose lines ask for one of them: themselves, and a preset.
+abbrev pub asks_for_volume : Command → Bool
+asks_for_volume (Mkpreset source preset name) = true
+asks_for_volume command = is_of_volumes command
+
 -- The requests that do.
 abbrev pub asks_of_volumes : Request → Bool
 asks_of_volumes (Asked command) = is_of_volumes command
@@ -55,15 +60,16 @@ pub record VolumesLaw : Type 0 where
   pub settled : (b : Books) → KeepsVolumes b (settle b)
   pub decided : (restarts : ℕ → List Bool) (grain : GrainSize) (b : Books) (command : Command) (loop : Option (List VolId)) →
       is_of_volumes command ≡ false → KeepsVolumes b (decide restarts grain b command loop)
-  -- so does each entry that is right after what was told, but for those two: a turn, an access and a refusal among them
+  -- so does each entry that is right after what was told, but for those two: a turn, an access, a refusal and a preset among them,
+  -- of which an entry stands only where it is refused
   pub steps : (grain : GrainSize) (w : Whole) (entry : Entry) (next : Whole) →
       asks_of_volumes entry.request ≡ false → Step grain w entry next → next.books.tables.volumes ≡ w.books.tables.volumes
   -- and what is there after any entry that is right was there before it, or a `mkvdisk` made it
   pub comes : (grain : GrainSize) (w : Whole) (entry : Entry) (next : Whole) → Step grain w entry next →
       (v : Volume) → Contains next.books.tables.volumes v → Contains w.books.tables.volumes v ⊎ Makes entry.request entry.reply v.id.0
-  -- no line in a block is one of those two commands, and none asks for it
+  -- no line in a block is one of those two commands or a preset, and none asks for it
   pub lines : (scope : Scope) (line : List ℕ) (command : Command) →
-      scope ≢ Free → line_of scope line ≡ Ok (CommandLine command) → is_of_volumes command ≡ false
+      scope ≢ Free → line_of scope line ≡ Ok (CommandLine command) → asks_for_volume command ≡ false
   pub lines_ask : (grain : GrainSize) (b : Books) (scope : Scope) (line : List ℕ) →
       scope ≢ Free → AskOfNoVolume (asked grain b (line_of scope line))
   -- so no script of a block's actors asks for it, whatever the lines of the session are

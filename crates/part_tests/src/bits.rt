@@ -55,28 +55,33 @@ fn plain_next(plain: &[bool], from: u32, wanted: bool) -> Option<u32> {
     None
 }
 
-/// What two lists hold together.
-#[derive(Drop)]
-struct Together {
-    apart: Vec<bool>,
-    common: Vec<bool>,
-    union: Vec<bool>,
+/// How the values of two lists are put together.
+#[derive(Clone, Copy)]
+enum How {
+    /// What the first has alone.
+    Apart,
+    /// What both have.
+    Common,
+    /// What one of them has.
+    Union,
 }
 
-fn plain_together(alloc: Global, plain: &[bool], others: &[bool]) -> Result<Together, Fail> {
-    let mut apart = Vec::new(alloc);
-    let mut common = Vec::new(alloc);
-    let mut union = Vec::new(alloc);
+/// The list of what two lists hold together.
+fn plain_together(
+    alloc: Global,
+    how: How,
+    plain: &[bool],
+    others: &[bool],
+) -> Result<Vec<bool>, Fail> {
+    let mut together = Vec::new(alloc);
     for (value, other) in plain.iter().zip(others) {
-        apart.push(*value && !*other)?;
-        common.push(*value && *other)?;
-        union.push(*value || *other)?;
+        together.push(match how {
+            How::Apart => *value && !*other,
+            How::Common => *value && *other,
+            How::Union => *value || *other,
+        })?;
     }
-    Ok(Together {
-        apart,
-        common,
-        union,
-    })
+    Ok(together)
 }
 
 /// How many values of the list are true.
@@ -122,12 +127,19 @@ fn assert_same(rt: &impl Abort, set: &GrainSet, plain: &[bool]) {
     }
 }
 
+/// A set of a pattern answers what its list does.
+fn assert_pattern(rt: &impl Abort, alloc: Global, grains: u32, pattern: u32) -> Result<(), Fail> {
+    let plain = plain_of(alloc, grains, pattern)?;
+    let set = set_of(alloc, grains, pattern)?;
+    assert_same(rt, &set, &plain);
+    Ok(())
+}
+
 #[test]
 fn one_set(rt: HostRuntime) -> Result<(), Fail> {
     for grains in 0..201 {
         for pattern in 0..PATTERNS {
-            let plain = plain_of(rt.alloc(), grains, pattern)?;
-            assert_same(&rt, &set_of(rt.alloc(), grains, pattern)?, &plain);
+            assert_pattern(&rt, rt.alloc(), grains, pattern)?;
         }
     }
     Ok(())
@@ -145,42 +157,34 @@ fn whole_sets(rt: HostRuntime) -> Result<(), Fail> {
     Ok(())
 }
 
+/// A grain of every third is cleared and set again.
+fn assert_grain(rt: &impl Abort, set: &mut GrainSet, grain: u32) {
+    if grain < set.len() {
+        set.clear(grain);
+        assert!(rt; !set.has(grain));
+        assert_eq!(rt; set.next_clear(grain), Some(grain));
+        set.set(grain);
+        assert!(rt; set.has(grain));
+    }
+    assert_eq!(rt; set.next_set(grain / 3 * 3), Some(grain / 3 * 3));
+}
+
 #[test]
 fn one_grain(rt: HostRuntime) -> Result<(), Fail> {
     for grain in 0..200 {
         let mut set = set_of(rt.alloc(), 200, 6)?;
-        if grain < set.len() {
-            set.clear(grain);
-            assert!(rt; !set.has(grain));
-            assert_eq!(rt; set.next_clear(grain), Some(grain));
-            set.set(grain);
-            assert!(rt; set.has(grain));
-        }
-        assert_eq!(rt; set.next_set(grain / 3 * 3), Some(grain / 3 * 3));
+        assert_grain(&rt, &mut set, grain);
     }
     Ok(())
 }
 
-/// Each call over two sets answers and does what the lists do.
-fn assert_pair(
-    rt: &impl Abort,
-    alloc: Global,
-    grains: u32,
-    left: u32,
-    right: u32,
-) -> Result<(), Fail> {
-    let mut set = set_of(alloc, grains, left)?;
-    let other = set_of(alloc, grains, right)?;
-    let (plain, others) = (
-        plain_of(alloc, grains, left)?,
-        plain_of(alloc, grains, right)?,
-    );
-    let together = plain_together(alloc, &plain, &others)?;
+/// Each call that reads two sets answers what these lists do.
+fn assert_read(rt: &impl Abort, set: &GrainSet, other: &GrainSet, apart: &[bool], common: &[bool]) {
     assert_eq!(rt; set.len(), other.len());
     for from in 0..set.len().min(200) + 3 {
-        let first = plain_next(&together.apart, from, true);
+        let first = plain_next(apart, from, true);
         assert_eq!(rt;
-            set.next_in_difference(&other, from),
+            set.next_in_difference(other, from),
             first,
             "apart from {from}"
         );
@@ -190,23 +194,85 @@ fn assert_pair(
             "words from {from}"
         );
         assert_eq!(rt;
-            set.next_shared(&other, from),
-            plain_next(&together.common, from, true),
+            set.next_shared(other, from),
+            plain_next(common, from, true),
             "shared from {from}"
         );
     }
-    let mut kept = set_of(alloc, grains, left)?;
-    assert_eq!(rt; kept.len(), other.len());
-    kept.keep_all(&other);
-    assert_same(rt, &kept, &together.common);
-    set.add_all(&other);
-    assert_same(rt, &set, &together.union);
+}
+
+/// What is added to a set, removed from it and copied to it, is so in these lists.
+fn assert_changed(
+    rt: &impl Abort,
+    set: &mut GrainSet,
+    other: &GrainSet,
+    union: &[bool],
+    apart: &[bool],
+    others: &[bool],
+) {
     assert_eq!(rt; set.len(), other.len());
-    set.remove_all(&other);
-    assert_same(rt, &set, &together.apart);
+    set.add_all(other);
+    assert_same(rt, set, union);
     assert_eq!(rt; set.len(), other.len());
-    set.copy_from(&other);
-    assert_same(rt, &set, &others);
+    set.remove_all(other);
+    assert_same(rt, set, apart);
+    assert_eq!(rt; set.len(), other.len());
+    set.copy_from(other);
+    assert_same(rt, set, others);
+}
+
+/// What is kept in a set is so in this list.
+fn assert_kept(rt: &impl Abort, set: &mut GrainSet, other: &GrainSet, common: &[bool]) {
+    assert_eq!(rt; set.len(), other.len());
+    set.keep_all(other);
+    assert_same(rt, set, common);
+}
+
+/// Each call over a set of the first list and this one answers and does what the lists do.
+fn assert_beside(
+    rt: &impl Abort,
+    alloc: Global,
+    set: &mut GrainSet,
+    other: &GrainSet,
+    plain: &[bool],
+    others: &[bool],
+) -> Result<(), Fail> {
+    let apart = plain_together(alloc, How::Apart, plain, others)?;
+    let common = plain_together(alloc, How::Common, plain, others)?;
+    let union = plain_together(alloc, How::Union, plain, others)?;
+    assert_read(rt, set, other, &apart, &common);
+    assert_changed(rt, set, other, &union, &apart, others);
+    Ok(())
+}
+
+/// Each call over sets of two patterns answers and does what the lists do.
+fn assert_pair(
+    rt: &impl Abort,
+    alloc: Global,
+    grains: u32,
+    left: u32,
+    right: u32,
+) -> Result<(), Fail> {
+    let other = set_of(alloc, grains, right)?;
+    let plain = plain_of(alloc, grains, left)?;
+    let others = plain_of(alloc, grains, right)?;
+    let mut set = set_of(alloc, grains, left)?;
+    assert_beside(rt, alloc, &mut set, &other, &plain, &others)
+}
+
+/// What is kept of a pattern is so in the lists.
+fn assert_kept_pair(
+    rt: &impl Abort,
+    alloc: Global,
+    grains: u32,
+    left: u32,
+    right: u32,
+) -> Result<(), Fail> {
+    let plain = plain_of(alloc, grains, left)?;
+    let common = plain_together(alloc, How::Common, &plain, &plain_of(alloc, grains, right)?)?;
+    let other = set_of(alloc, grains, right)?;
+    let mut set = set_of(alloc, grains, left)?;
+    assert_kept(rt, &mut set, &other, &common);
     Ok(())
 }
 
@@ -215,9 +281,21 @@ fn two_sets(rt: HostRuntime) -> Result<(), Fail> {
     for grains in 0..201 {
         for pattern in 0..PATTERNS {
             assert_pair(&rt, rt.alloc(), grains, pattern, 7 - pattern)?;
+            assert_kept_pair(&rt, rt.alloc(), grains, pattern, 7 - pattern)?;
         }
     }
     Ok(())
+}
+
+/// A set is cut to so many grains, and filled.
+fn assert_cut(rt: &impl Abort, set: &mut GrainSet, cut: u32) {
+    assert!(rt; cut <= set.len());
+    set.reset(cut);
+    assert_eq!(rt; set.len(), cut);
+    assert_eq!(rt; set.count(), 0);
+    assert_eq!(rt; set.next_clear(0).is_some(), cut > 0);
+    set.set_all();
+    assert_eq!(rt; set.count(), cut);
 }
 
 #[test]
@@ -225,13 +303,7 @@ fn a_cut_set(rt: HostRuntime) -> Result<(), Fail> {
     for grains in [0, 1, 63, 64, 65, 128, 200] {
         for cut in 0..grains + 1 {
             let mut set = set_of(rt.alloc(), grains, 1)?;
-            assert!(rt; cut <= set.len());
-            set.reset(cut);
-            assert_eq!(rt; set.len(), cut);
-            assert_eq!(rt; set.count(), 0);
-            assert_eq!(rt; set.next_clear(0).is_some(), cut > 0);
-            set.set_all();
-            assert_eq!(rt; set.count(), cut);
+            assert_cut(&rt, &mut set, cut);
         }
     }
     Ok(())

@@ -7,7 +7,7 @@ use fc_pick::{Grid, Work};
 use std::process::Abort;
 
 /// A grid on which one mapping alone lacks a grain and is needed at one.
-#[derive(Drop)]
+#[derive(Clone, Copy)]
 struct OneMapping {
     map: MapId,
     lacking: GrainNo,
@@ -65,8 +65,9 @@ fn expect_work(rt: &impl Abort, work: &Work, map: u32, copies: bool, cleans: boo
     } else {
         None
     };
-    assert_eq!(rt; work.next_copy(&grid_of(map)), copy, "copy of {map}");
-    assert_eq!(rt; work.next_clean(&grid_of(map)), clean, "cleaning of {map}");
+    let grid = grid_of(map);
+    assert_eq!(rt; work.next_copy(&grid), copy, "copy of {map}");
+    assert_eq!(rt; work.next_clean(&grid), clean, "cleaning of {map}");
 }
 
 #[test]
@@ -80,15 +81,20 @@ fn each_flag_is_its_own(rt: HostRuntime) {
     expect_work(&rt, &work, 4, false, false);
 }
 
+/// Mapping 9 goes on cleaning alone, and is then forgotten, and one that isn't there.
+fn change_flags(rt: &impl Abort, work: &mut Work) {
+    assert!(rt; work.set(MapId(9), false, true).is_ok());
+    assert!(rt; work.track(MapId(9)).is_ok());
+    expect_work(rt, work, 9, false, true);
+    work.forget(MapId(9));
+    work.forget(MapId(7));
+    expect_work(rt, work, 9, false, false);
+    expect_work(rt, work, 2, true, false);
+}
+
 #[test]
 fn flags_change_and_go(rt: HostRuntime) {
     let mut work = Work::new(rt.alloc());
     three_mappings(&rt, &mut work);
-    assert!(rt; work.set(MapId(9), false, true).is_ok());
-    assert!(rt; work.track(MapId(9)).is_ok());
-    expect_work(&rt, &work, 9, false, true);
-    work.forget(MapId(9));
-    work.forget(MapId(7));
-    expect_work(&rt, &work, 9, false, false);
-    expect_work(&rt, &work, 2, true, false);
+    change_flags(&rt, &mut work);
 }

@@ -9,12 +9,11 @@ use fc_io::std_sink::StdSink;
 use fc_io::std_source::StdSource;
 use std::io;
 use std::io::Write;
+use std::process::Abort;
 use std::test::Fail;
 
-#[test]
-fn a_source_gives_its_bytes_in_pieces(rt: HostRuntime) -> Result<(), Fail> {
-    let alloc = rt.alloc();
-    let mut source = MemSource::new(vec![in alloc; 1, 2, 3]?, 2, vec![in alloc; 2]?);
+/// A source of 1, 2 and 3 in pieces of two, whose second call fails.
+fn assert_taken(rt: &impl Abort, source: &mut MemSource) {
     let mut out = [0; 8];
     assert_eq!(rt; source.take(&mut out), Ok(2));
     assert_eq!(rt; source.take(&mut out), Err(Failed));
@@ -22,13 +21,18 @@ fn a_source_gives_its_bytes_in_pieces(rt: HostRuntime) -> Result<(), Fail> {
     assert_eq!(rt; (out[0], out[1]), (3, 2));
     assert_eq!(rt; source.take(&mut out), Ok(0));
     assert_eq!(rt; source.faults(), 1);
-    Ok(())
 }
 
 #[test]
-fn a_sink_keeps_what_is_put(rt: HostRuntime) -> Result<(), Fail> {
-    let alloc = rt.alloc();
-    let mut sink = MemSink::new(alloc, vec![in alloc; 2, 4]?);
+fn a_source_gives_its_bytes_in_pieces(rt: HostRuntime) -> Result<(), Fail> {
+    let bytes = Vec::from_slice(rt.alloc(), &[1, 2, 3])?;
+    let failing = Vec::from_slice(rt.alloc(), &[2])?;
+    assert_taken(&rt, &mut MemSource::new(bytes, 2, failing));
+    Ok(())
+}
+
+/// A sink whose second and fourth calls fail.
+fn assert_put(rt: &impl Abort, sink: &mut MemSink) {
     assert_eq!(rt; sink.put(b"ab"), Ok(()));
     assert_eq!(rt; sink.put(b"cdef"), Err(Failed));
     assert_eq!(rt; sink.bytes(), b"abcd".as_slice());
@@ -37,17 +41,28 @@ fn a_sink_keeps_what_is_put(rt: HostRuntime) -> Result<(), Fail> {
     assert_eq!(rt; sink.sent(), b"abcd".as_slice());
     assert_eq!(rt; sink.flush(), Err(Failed));
     assert_eq!(rt; sink.faults(), 2);
-    Ok(())
 }
 
 #[test]
-fn a_reader_is_a_source(rt: HostRuntime) -> Result<(), Fail> {
-    let mut source = StdSource::new(rt.alloc(), b"abc".as_slice())?;
+fn a_sink_keeps_what_is_put(rt: HostRuntime) -> Result<(), Fail> {
+    let failing = Vec::from_slice(rt.alloc(), &[2, 4])?;
+    assert_put(&rt, &mut MemSink::new(rt.alloc(), failing));
+    Ok(())
+}
+
+/// A source of `abc`, for two bytes at once.
+fn assert_read<S: Source>(rt: &impl Abort, source: &mut S) {
     let mut out = [0; 2];
     assert_eq!(rt; source.take(&mut out), Ok(2));
     assert_eq!(rt; out, [97, 98]);
     assert_eq!(rt; source.take(&mut out), Ok(1));
     assert_eq!(rt; source.take(&mut out), Ok(0));
+}
+
+#[test]
+fn a_reader_is_a_source(rt: HostRuntime) -> Result<(), Fail> {
+    let mut source = StdSource::new(rt.alloc(), b"abc".as_slice())?;
+    assert_read(&rt, &mut source);
     Ok(())
 }
 
@@ -65,17 +80,27 @@ impl Write for Stuck {
     }
 }
 
+/// A sink over a writer that takes nothing: what fits its own memory waits there.
+fn assert_stuck<K: Sink>(rt: &impl Abort, sink: &mut K, long: &[u8]) {
+    assert_eq!(rt; sink.put(b"waits"), Ok(()));
+    assert_eq!(rt; sink.put(long), Err(Failed));
+    assert_eq!(rt; sink.flush(), Err(Failed));
+    assert_eq!(rt; sink.faults(), 2);
+}
+
+/// A sink over a writer that takes all.
+fn assert_written<K: Sink>(rt: &impl Abort, sink: &mut K, long: &[u8]) {
+    assert_eq!(rt; sink.put(long), Ok(()));
+    assert_eq!(rt; sink.flush(), Ok(()));
+}
+
 #[test]
 fn a_write_that_takes_nothing_is_a_fault(rt: HostRuntime) -> Result<(), Fail> {
     let alloc = rt.alloc();
     let long = vec![in alloc; 7; 70_000]?;
     let mut sink = StdSink::new(alloc, Stuck)?;
-    assert_eq!(rt; sink.put(b"waits"), Ok(()));
-    assert_eq!(rt; sink.put(&long), Err(Failed));
-    assert_eq!(rt; sink.flush(), Err(Failed));
-    assert_eq!(rt; sink.faults(), 2);
+    assert_stuck(&rt, &mut sink, &long);
     let mut kept = StdSink::new(alloc, Vec::new(alloc))?;
-    assert_eq!(rt; kept.put(&long), Ok(()));
-    assert_eq!(rt; kept.flush(), Ok(()));
+    assert_written(&rt, &mut kept, &long);
     Ok(())
 }

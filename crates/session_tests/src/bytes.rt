@@ -1,7 +1,6 @@
 //! Lines that the input ends, the greatest length of a line, and bytes that are no text.
 
-use fc_top::status::Status;
-use session_runs::sessions::run;
+use crate::sessions::{Calls, expect_done, run_flat};
 use std::alloc::{AllocError, Global};
 use std::process::Abort;
 use std::sync::Wait;
@@ -14,9 +13,8 @@ fn is_answered<R: Abort + Threads + Wait + Sync>(
     session: &[u8],
     text: &[u8],
 ) -> Result<(), AllocError> {
-    let outcome = run(rt, alloc, session, 64, Vec::new(alloc), Vec::new(alloc))?;
-    assert!(rt; outcome.status == Status::Done);
-    assert!(rt; outcome.written.as_slice() == text);
+    let outcome = run_flat(rt, alloc, 4, "64", session, Calls::of(64))?;
+    expect_done(rt, &outcome, text);
     Ok(())
 }
 

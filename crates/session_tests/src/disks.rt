@@ -4,13 +4,15 @@ ghost use Rattle.std.specs.Prelude.{◌≤◌, map, vec_len, IfOk};
 ghost use Rattle.std.specs.List.{All};
 ghost use Rattle.fc_mdisk.specs.Disk.{IsFresh};
 
+use crate::sessions::{Calls, run_on};
 use fc_base::disk::{DiskError, DiskKind};
 use fc_base::outcome::{Failed, NoMemory};
 use fc_mdisk::mdisk::Mdisk;
 use fc_mdisk::mem::MemDisk;
+use fc_top::gate::FreeGate;
 use fc_top::status::Status;
-use session_runs::sessions::run_on;
 use std::alloc::{AllocError, Global};
+use std::process::Abort;
 
 /// A flat disk with a mark that no call changes, which remembers the first byte of its last write.
 #[derive(Drop)]
@@ -117,28 +119,25 @@ fn written(disks: &[MarkedDisk], byte: u8) -> usize {
     disks.iter().filter(|disk| disk.written == byte).count()
 }
 
+/// Each disk came back, and each byte of the session was written on one of them.
+fn expect_all(rt: &impl Abort, disks: &[MarkedDisk]) {
+    assert_eq!(rt; disks.len(), DISKS as usize);
+    for mark in 0..DISKS {
+        assert_eq!(rt; found(disks, mark), 1);
+    }
+    for lane in 0u8..4 {
+        assert_eq!(rt; written(disks, 0x10 + lane), 1);
+        assert_eq!(rt; written(disks, 0x20 + lane), 1);
+    }
+}
+
 #[test]
 fn the_disks_that_come_back_are_the_very_ones(rt: HostRuntime) -> Result<(), AllocError> {
     let alloc = rt.alloc();
     let mut disks = marked_disks(alloc, DISKS)?;
-    let outcome = run_on(
-        &rt,
-        alloc,
-        &mut disks,
-        "64",
-        TWO_VOLUMES,
-        65_536,
-        Vec::new(alloc),
-        Vec::new(alloc),
-    )?;
-    assert!(rt; outcome.status == Status::Done);
-    assert_eq!(rt; (outcome.entries, disks.len()), (11, 8));
-    for mark in 0..DISKS {
-        assert_eq!(rt; found(disks.as_slice(), mark), 1);
-    }
-    for lane in 0u8..4 {
-        assert_eq!(rt; written(disks.as_slice(), 0x10 + lane), 1);
-        assert_eq!(rt; written(disks.as_slice(), 0x20 + lane), 1);
-    }
+    let calls = Calls::of(65_536);
+    let outcome = run_on(&rt, alloc, &mut disks, &FreeGate, "64", TWO_VOLUMES, calls)?;
+    assert!(rt; outcome.status == Status::Done && outcome.entries == 11);
+    expect_all(&rt, disks.as_slice());
     Ok(())
 }

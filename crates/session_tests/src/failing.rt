@@ -2,11 +2,10 @@
 
 ghost use Rattle.std.specs.Prelude.{◌<◌};
 
+use crate::sessions::{Calls, Outcome, run_flat};
 use fc_top::status::Status;
-use made_disks::flat_disks;
-use session_runs::longer::{all_answers, first_lines, session};
-use session_runs::sessions::{Outcome, run_over};
-use session_runs::texts::{COMPLETE_STOPPED, FIRST_VOLUME, NIGHTS_WORK, RESTORED_WRITE, Session};
+use session_texts::longer::{all_answers, first_lines, session};
+use session_texts::texts::{COMPLETE_STOPPED, FIRST_VOLUME, NIGHTS_WORK, RESTORED_WRITE, Session};
 use std::alloc::{AllocError, Global};
 use std::process::Abort;
 use std::sync::Wait;
@@ -20,28 +19,6 @@ const PIECE: usize = 16;
 
 /// No session makes so many calls of its source or of its sink.
 const MOST_CALLS: u64 = 5_000;
-
-/// Runs a session with failing calls.
-fn run<R: Threads + Wait + Sync>(
-    rt: &R,
-    alloc: Global,
-    grain: &str,
-    lines: &[u8],
-    failing_takes: Vec<u64>,
-    failing_puts: Vec<u64>,
-) -> Result<Outcome, AllocError> {
-    let disks = flat_disks(alloc, DISKS)?;
-    run_over(
-        rt,
-        alloc,
-        disks,
-        grain,
-        lines,
-        PIECE,
-        failing_takes,
-        failing_puts,
-    )
-}
 
 /// How many entries a text has: each begins a line with its number and the name of its actor.
 fn entries_in(alloc: Global, text: &[u8]) -> Result<usize, AllocError> {
@@ -66,8 +43,54 @@ fn ended_lines(lines: &[u8], bytes: usize) -> usize {
     ended
 }
 
-/// Each take fails once, in a session each line of which has an entry at least: then the entries are the first of all,
-/// and their text is whole. The take behind the end of the session is never made.
+/// What comes of a session of which this take fails, each line of which has an entry at least: then the entries are the first of
+/// all, no fewer than where an earlier one failed, and their text is whole. The take behind the end of the session is never made.
+fn expect_taken(
+    rt: &impl Abort,
+    alloc: Global,
+    session: Session,
+    number: u64,
+    least: usize,
+    outcome: &Outcome,
+) -> Result<(), AllocError> {
+    let before = (number as usize).saturating_sub(1);
+    let ended = ended_lines(session.lines, PIECE.saturating_mul(before));
+    let written = outcome.written.as_slice();
+    assert!(rt; session.text.starts_with(written));
+    assert_eq!(rt; entries_in(alloc, written)?, outcome.entries);
+    assert!(rt; outcome.entries >= ended && outcome.entries >= least);
+    assert!(rt; outcome.disks == DISKS as usize);
+    if outcome.status == Status::Done {
+        // so many takes give bytes, and one more finds the end
+        assert_eq!(rt; before, session.lines.len().div_ceil(PIECE) + 1);
+        assert!(rt; written == session.text);
+    } else {
+        assert!(rt; outcome.status == Status::ReadFault);
+        assert!(rt; written.is_empty() || written.ends_with(b"\n"));
+    }
+    Ok(())
+}
+
+/// This take of a session fails, behind which there were so many entries at least. Returns how many there were, and None where it
+/// was never made.
+fn take_fails<R: Abort + Threads + Wait + Sync>(
+    rt: &R,
+    alloc: Global,
+    session: Session,
+    number: u64,
+    least: usize,
+) -> Result<Option<usize>, AllocError> {
+    let calls = Calls::of(PIECE).without_take(number);
+    let outcome = run_flat(rt, alloc, DISKS, session.grain, session.lines, calls)?;
+    expect_taken(rt, alloc, session, number, least, &outcome)?;
+    if outcome.status == Status::Done {
+        Ok(None)
+    } else {
+        Ok(Some(outcome.entries))
+    }
+}
+
+/// Each take of a session fails once.
 fn each_take_fails<R: Abort + Threads + Wait + Sync>(
     rt: &R,
     alloc: Global,
@@ -75,38 +98,85 @@ fn each_take_fails<R: Abort + Threads + Wait + Sync>(
 ) -> Result<(), AllocError> {
     let mut most = 0usize;
     for number in 1..MOST_CALLS {
-        let outcome = run(
-            rt,
-            alloc,
-            session.grain,
-            session.lines,
-            vec![in alloc; number]?,
-            Vec::new(alloc),
-        )?;
-        let ended = ended_lines(session.lines, PIECE.saturating_mul(number as usize - 1));
-        assert!(rt; session.text.starts_with(outcome.written.as_slice()));
-        assert_eq!(rt;
-            entries_in(alloc, outcome.written.as_slice())?,
-            outcome.entries
-        );
-        assert!(rt; outcome.entries >= ended && outcome.entries >= most);
-        assert!(rt; outcome.disks == DISKS as usize);
-        most = outcome.entries;
-        if outcome.status == Status::Done {
-            // so many takes give bytes, and one more finds the end
-            assert_eq!(rt; number as usize, session.lines.len().div_ceil(PIECE) + 2);
-            assert!(rt; outcome.written.as_slice() == session.text);
-            return Ok(());
+        match take_fails(rt, alloc, session, number, most)? {
+            Some(entries) => most = entries,
+            None => return Ok(()),
         }
-        assert!(rt; outcome.status == Status::ReadFault);
-        assert!(rt; outcome.written.is_empty() || outcome.written.ends_with(b"\n"));
     }
     assert!(rt; false);
     Ok(())
 }
 
-/// Each call of the sink fails once, a put or a flush: then the sink got a front of the text, and as nothing more is taken, maybe
-/// not all lines are answered.
+/// A session and its history.
+#[derive(Clone, Copy)]
+struct Told<'a> {
+    /// The size of grains in KiB.
+    grain: &'a str,
+    /// The session.
+    lines: &'a [u8],
+    /// The text of its history.
+    text: &'a [u8],
+    /// How many entries it has.
+    entries: usize,
+}
+
+/// How far a session came.
+#[derive(Clone, Copy)]
+struct Came {
+    /// How many bytes were written.
+    written: usize,
+    /// How many entries there were.
+    entries: usize,
+}
+
+/// What comes of a session of which this call of the sink fails, a put or a flush: the sink got a front of the text, no less than
+/// where an earlier one failed, and as nothing more is taken, maybe not all lines are answered.
+fn expect_put(
+    rt: &impl Abort,
+    alloc: Global,
+    told: Told,
+    number: u64,
+    least: Came,
+    outcome: &Outcome,
+) -> Result<(), AllocError> {
+    let written = outcome.written.as_slice();
+    let entries = entries_in(alloc, written)?;
+    assert!(rt; told.text.starts_with(written));
+    assert!(rt; written.len() >= least.written);
+    assert!(rt; outcome.entries >= least.entries && outcome.entries >= entries);
+    assert!(rt; outcome.disks == DISKS as usize);
+    if outcome.status == Status::Done {
+        // at least one `put` an entry, and the `flush` at the end
+        assert!(rt; number as usize > told.entries && written.len() == told.text.len());
+        assert_eq!(rt; outcome.entries, told.entries);
+    } else {
+        assert!(rt; outcome.status == Status::WriteFault);
+    }
+    Ok(())
+}
+
+/// This call of the sink fails, and the session comes so far at least. Returns how far it came, and None where the call was never
+/// made.
+fn put_fails<R: Abort + Threads + Wait + Sync>(
+    rt: &R,
+    alloc: Global,
+    told: Told,
+    number: u64,
+    least: Came,
+) -> Result<Option<Came>, AllocError> {
+    let calls = Calls::of(PIECE).without_put(number);
+    let outcome = run_flat(rt, alloc, DISKS, told.grain, told.lines, calls)?;
+    expect_put(rt, alloc, told, number, least, &outcome)?;
+    if outcome.status == Status::Done {
+        return Ok(None);
+    }
+    Ok(Some(Came {
+        written: outcome.written.len(),
+        entries: outcome.entries,
+    }))
+}
+
+/// Each call of the sink fails once.
 fn each_put_fails<R: Abort + Threads + Wait + Sync>(
     rt: &R,
     alloc: Global,
@@ -114,32 +184,21 @@ fn each_put_fails<R: Abort + Threads + Wait + Sync>(
     lines: &[u8],
     text: &[u8],
 ) -> Result<(), AllocError> {
-    let entries = entries_in(alloc, text)?;
-    let mut longest = 0usize;
-    let mut most = 0usize;
+    let told = Told {
+        grain,
+        lines,
+        text,
+        entries: entries_in(alloc, text)?,
+    };
+    let mut came = Came {
+        written: 0,
+        entries: 0,
+    };
     for number in 1..MOST_CALLS {
-        let outcome = run(
-            rt,
-            alloc,
-            grain,
-            lines,
-            Vec::new(alloc),
-            vec![in alloc; number]?,
-        )?;
-        let written = entries_in(alloc, outcome.written.as_slice())?;
-        assert!(rt; text.starts_with(outcome.written.as_slice()));
-        assert!(rt; outcome.written.len() >= longest);
-        assert!(rt; outcome.entries >= most && outcome.entries >= written);
-        assert!(rt; outcome.disks == DISKS as usize);
-        longest = outcome.written.len();
-        most = outcome.entries;
-        if outcome.status == Status::Done {
-            // at least one `put` an entry, and the `flush` at the end
-            assert!(rt; number as usize > entries && longest == text.len());
-            assert_eq!(rt; outcome.entries, entries);
-            return Ok(());
+        match put_fails(rt, alloc, told, number, came)? {
+            Some(next) => came = next,
+            None => return Ok(()),
         }
-        assert!(rt; outcome.status == Status::WriteFault);
     }
     assert!(rt; false);
     Ok(())
@@ -154,15 +213,14 @@ fn calls_of_sink<R: Threads + Wait + Sync>(
     requires { 0 < piece }
 {
     for number in 1..MOST_CALLS {
-        let outcome = run_over(
+        let calls = Calls::of(piece).without_put(number);
+        let outcome = run_flat(
             rt,
             alloc,
-            flat_disks(alloc, DISKS)?,
+            DISKS,
             FIRST_VOLUME.grain,
             FIRST_VOLUME.lines,
-            piece,
-            Vec::new(alloc),
-            vec![in alloc; number]?,
+            calls,
         )?;
         if outcome.status == Status::Done {
             return Ok(number - 1);

@@ -19,12 +19,17 @@ pub fn three_parts(text: &str) -> Option<(&str, &str, &str)> {
     Some((first, second, third))
 }
 
-/// How many rows there were, and how many differ.
+/// How many rows of a table there were, and how many differ.
 #[derive(Clone, Copy)]
-struct Counts {
-    rows: u64,
-    differ: u64,
+pub struct Counts {
+    /// The rows.
+    pub rows: u64,
+    /// Those that differ.
+    pub differ: u64,
 }
+
+/// No rows.
+pub const NO_ROWS: Counts = Counts { rows: 0, differ: 0 };
 
 /// What a text is read as, where that isn't what it says as a row; or that it isn't one.
 fn differing<T: TableRow>(alloc: Global, text: &str) -> Result<Option<String>, AllocError> {
@@ -35,7 +40,7 @@ fn differing<T: TableRow>(alloc: Global, text: &str) -> Result<Option<String>, A
 }
 
 /// Compares a row, if the text is one: a blank line and a comment aren't. Prints it where it differs.
-fn count<R: Print, T: TableRow>(
+pub fn compare_row<R: Print, T: TableRow>(
     rt: &R,
     alloc: Global,
     text: &str,
@@ -57,9 +62,9 @@ fn count<R: Print, T: TableRow>(
 /// Compares the rows of standard input. Prints each that is read as something else, with what it was read as, and last how many
 /// rows there are and how many of them differ.
 pub fn compare_rows<R: Input + Print, T: TableRow>(rt: &R, alloc: Global) -> io::Result<()> {
-    let mut counts = Counts { rows: 0, differ: 0 };
+    let mut counts = NO_ROWS;
     for line in rt.lines(alloc) {
-        counts = count::<R, T>(rt, alloc, line?.as_str(), counts)?;
+        counts = compare_row::<R, T>(rt, alloc, line?.as_str(), counts)?;
     }
     println!(rt; "{} rows, {} differ", counts.rows, counts.differ)
 }

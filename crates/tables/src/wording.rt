@@ -52,5 +52,6 @@ fn option_name(option: RequiredOption) -> &'static str {
         RequiredOption::Seconds => "-seconds",
         RequiredOption::Source => "-source",
         RequiredOption::Target => "-target",
+        RequiredOption::Preset => "-preset",
     }
 }

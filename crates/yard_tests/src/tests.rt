@@ -11,8 +11,7 @@ use std::thread::Threads;
 /// How many parts the yards have.
 const PARTS: usize = 5;
 
-/// What sixteen actors drew between the first number and the limit, in order of the numbers, and how often the
-/// parts were counted in all.
+/// What sixteen actors drew between the first number and the limit, and how often the parts were counted in all.
 fn run<R: Threads + Wait + Sync>(
     rt: &R,
     alloc: Global,
@@ -27,9 +26,8 @@ fn run<R: Threads + Wait + Sync>(
     let Ok((yard, pass)) = Counters::new(alloc, counters, first, limit, 16) else {
         return None;
     };
-    let (pass, mut numbers) = crowd(rt, alloc, &yard, PARTS, pass, 0, 16, rounds);
+    let (pass, numbers) = crowd(rt, alloc, &yard, PARTS, pass, 0, 16, rounds);
     yard.close(pass, &mut back);
-    numbers.sort().ok()?;
     Some((numbers, sum(back.as_slice())))
 }
 
@@ -38,14 +36,18 @@ fn are_from(numbers: &[u64], first: u64) -> bool {
     numbers.iter().enumerate().all(|(place, number)| *number == first.wrapping_add(place as u64))
 }
 
+/// Whether these are so many numbers from the first on, each once, in whatever order.
+fn are_each_once(alloc: Global, numbers: &mut [u64], first: u64, count: usize) -> bool {
+    numbers.sort(alloc).is_ok() && numbers.len() == count && are_from(numbers, first)
+}
+
 /// Whether sixteen actors, who want 100,000 numbers together, draw so many between 7 and the limit, each once.
 fn draws<R: Threads + Wait + Sync>(rt: &R, alloc: Global, limit: u64, count: usize) -> bool
     requires { 7 ≤ limit }
 {
     match run(rt, alloc, 7, limit, 6_250) {
-        Some((numbers, all)) => {
-            numbers.len() == count && all == count as u64 && are_from(numbers.as_slice(), 7)
-        }
+        Some((mut numbers, all)) => all == count as u64
+            && are_each_once(alloc, &mut numbers, 7, count),
         None => false,
     }
 }
@@ -93,10 +95,12 @@ fn a_held_turn_is_refused_and_a_free_one_had(rt: HostRuntime) -> Result<(), Fail
     Ok(())
 }
 
+/// The numbers that four passes draw.
+type Drawn = [Option<u64>; 4];
+
 /// Splits a pass three times, counts with each of the four, and joins them in this order: the numbers drawn,
 /// and how often the parts were counted.
-fn joined<R: Wait>(rt: &R, alloc: Global, backwards: bool) -> Option<(Vec<u64>, u64)> {
-    let mut numbers = Vec::with_capacity(alloc, 4).ok()?;
+fn joined<R: Wait>(rt: &R, alloc: Global, backwards: bool) -> Option<(Drawn, u64)> {
     let mut back = Vec::with_capacity(alloc, PARTS).ok()?;
     let counters = zeros(alloc, PARTS)?;
     let Ok((yard, mut pass)) = Counters::new(alloc, counters, 1, 10, 4) else {
@@ -105,14 +109,12 @@ fn joined<R: Wait>(rt: &R, alloc: Global, backwards: bool) -> Option<(Vec<u64>, 
     let mut second = yard.split(&mut pass);
     let mut third = yard.split(&mut pass);
     let mut fourth = yard.split(&mut pass);
-    for drawn in [
+    let drawn = [
         count_once(rt, &yard, &mut third, 2),
         count_once(rt, &yard, &mut pass, 0),
         count_once(rt, &yard, &mut fourth, 2),
         count_once(rt, &yard, &mut second, 4),
-    ] {
-        numbers.push(drawn?).ok()?;
-    }
+    ];
     if backwards {
         yard.join(&mut third, fourth);
         yard.join(&mut second, third);
@@ -123,16 +125,17 @@ fn joined<R: Wait>(rt: &R, alloc: Global, backwards: bool) -> Option<(Vec<u64>, 
         yard.join(&mut pass, fourth);
     }
     yard.close(pass, &mut back);
-    Some((numbers, sum(back.as_slice())))
+    Some((drawn, sum(back.as_slice())))
 }
 
 #[test]
 fn passes_are_joined_in_any_order(rt: HostRuntime) -> Result<(), Fail> {
     for backwards in [false, true] {
-        let Some((numbers, all)) = joined(&rt, rt.alloc(), backwards) else {
+        let Some((drawn, all)) = joined(&rt, rt.alloc(), backwards) else {
             panic!(rt; "no memory")
         };
-        assert!(rt; are_from(numbers.as_slice(), 1) && all == 4);
+        assert_eq!(rt; drawn, [Some(1), Some(2), Some(3), Some(4)]);
+        assert_eq!(rt; all, 4);
     }
     Ok(())
 }

@@ -1,11 +1,13 @@
-use Rattle.std.proofs.Common.{sym, ◌∙◌}
+use Rattle.std.proofs.Common.{Option, subst}
 use Rattle.std.proofs.lemmas.Result.{on_ok_weaker}
-use Rattle.fc_books.specs.Refused.{access_refused}
-use Rattle.fc_check_follow.proofs.Refusing.{access_some}
+use Rattle.fc_base.specs.declared.fault.Refusal.{Refusal}
+use Rattle.fc_legal.specs.Steps.{MustBeRefused}
+use Rattle.fc_check_follow.specs.Following.{Came}
 use Rattle.fc_check_follow.proofs.refused.follow_access.Goals as goal
 
-pub returns-in-Some : goal.returns-in-Some
-returns-in-Some c =
-    on_ok_weaker c.follow_refusal.result
-    (access_some c.args.way.grain c.args.way.whole c.args.entry.now c.args.after.now.items c.follow_refusal.new.after.items (access_refused c.args.way.grain c.args.way.whole.books c.args.volume.now c.args.block c.args.count) c.in-Some.refusal (sym c.refused_access.ensures ∙ c.in-Some.is))
-    c.follow_refusal.ensures
+pub returns : goal.returns
+returns c =
+    on_ok_weaker c.follow_must.result
+    (subst (λ (refusal : Option Refusal). Came c.args.way.grain (MustBeRefused refusal c.args.way.whole c.args.entry.now) c.args.after.now.items c.follow_must.new.after.items)
+    c.refused_access-refusal.ensures)
+    c.follow_must.ensures

@@ -15,12 +15,12 @@ returns-in-Nothing g c =
 
 pub returns-then-is_empty : goal.returns-then-is_empty
 returns-then-is_empty g c =
-    own_ends (g.T.Told.grain c.args.told.now) by_grammar c.args.asking c.in-Own.requests c.in-Own.seconds (named c.args.names.now.items (g.T.Told.whole c.args.told.now)) c.in-Own.is
+    own_ends (g.T.Told.grain c.args.told.now) by_grammar c.args.asking c.in-Own.requests c.in-Own.behind (named c.args.names.now.items (g.T.Told.whole c.args.told.now)) c.in-Own.is
     (c.is_empty.ensures.0 c.if-is_empty.true)
 
 pub returns-else-is_empty : goal.returns-else-is_empty
 returns-else-is_empty g c =
-    own_stays (g.T.Told.grain c.args.told.now) by_grammar c.args.asking c.in-Own.requests c.in-Own.seconds (named c.args.names.now.items (g.T.Told.whole c.args.told.now)) c.in-Own.is
+    own_stays (g.T.Told.grain c.args.told.now) by_grammar c.args.asking c.in-Own.requests c.in-Own.behind (named c.args.names.now.items (g.T.Told.whole c.args.told.now)) c.in-Own.is
     (iff_false c.is_empty.ensures c.if-is_empty.false)
 
 pub returns-then-fills : goal.returns-then-fills

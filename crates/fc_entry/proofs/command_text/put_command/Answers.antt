@@ -77,3 +77,9 @@ returns-in-Lsfcmapprogress g c = rw (c.in-Lsfcmapprogress.is, ← object_line) c
 
 pub returns-in-Lsfcmapdependentmaps : goal.returns-in-Lsfcmapdependentmaps
 returns-in-Lsfcmapdependentmaps g c = rw (c.in-Lsfcmapdependentmaps.is, ← object_line) c.put_report-in-Lsfcmapdependentmaps.ensures
+
+pub returns-in-Mkpreset : goal.returns-in-Mkpreset
+returns-in-Mkpreset g c = rw c.in-Mkpreset.is c.put_mkpreset.ensures
+
+pub returns-in-Lsvdiskroom : goal.returns-in-Lsvdiskroom
+returns-in-Lsvdiskroom g c = rw (c.in-Lsvdiskroom.is, join_with_byte-spaced) c.put_delimited-in-Lsvdiskroom.ensures

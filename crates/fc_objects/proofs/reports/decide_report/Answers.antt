@@ -16,8 +16,8 @@ returns-in_ok-rows-in-None g c =
     let rows = c.in_ok-rows-in-None.rows in
     rw (report_told view.restarts c.args.control.now.grain books c.args.command.now rows c.requires.report (c.in-None.ensures view)
     (c.in_ok-rows-in-None.ensures
-    ∙ ap (λ grain. report_rows grain (asked c.registry.result.now.tables view.sheet) c.args.command.now) c.grain.ensures
-    ∙ ap (λ tables. report_rows c.args.control.now.grain (asked tables view.sheet) c.args.command.now) c.registry.ensures
+    ∙ ap (λ grain. report_rows grain (asked c.registry.result.now.tables view) c.args.command.now) c.grain.ensures
+    ∙ ap (λ tables. report_rows c.args.control.now.grain (asked tables view) c.args.command.now) c.registry.ensures
     ∙ same_rows c.args.control.now.grain books c.args.command.now))
     (subst
     (λ (d : Deed). IfOk c.conclude.result (λ decision. decision ≡ record { reply = Listed rows; effects = d.effects; events = d.events ++ work_events books; changes = d.changes }))

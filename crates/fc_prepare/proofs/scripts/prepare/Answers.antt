@@ -6,6 +6,11 @@ use Rattle.fc_prepare.proofs.Actors.{of_actors}
 use Rattle.fc_prepare.proofs.Prepared.{ask_theirs, suit_all}
 use Rattle.fc_prepare.proofs.scripts.prepare.Goals as goal
 
+pub scripts_of-requires : goal.scripts_of-requires
+scripts_of-requires g c =
+    let block = c.requires.of_block in
+    subst (λ (actors : List ActorRead). All (λ (a : ActorRead). All IsOfActor a.lines) actors) block.3 (of_actors block.0 block.1 block.2)
+
 pub returns-in-Ok-clause-asked : goal.returns-in-Ok-clause-asked
 returns-in-Ok-clause-asked g c = λ w stands. ask_theirs c.args.store.now c.args.history.now.actors c.args.actors.now c.in-Ok.scripts.items w stands c.in-Ok.ensures
 

@@ -1,10 +1,15 @@
 -- One script more.
-use Rattle.std.proofs.Common.{◌≡◌, ℕ, ◌+◌, List, [], ◌∷◌, ◌++◌, take, sym, ap, ◌∙◌, subst}
+use Rattle.std.proofs.Common.{◌≡◌, ℕ, ◌+◌, List, [], ◌∷◌, ◌++◌, All, take, sym, ap, ◌∙◌, subst}
 use Rattle.std.proofs.lemmas.List.{take_more}
 use Rattle.fc_blocks.specs.declared.block.ActorRead.{ActorRead}
+use Rattle.fc_prepare.specs.Items.{IsOfActor}
 use Rattle.fc_prepare.specs.Scripts.{AreScriptsOf, IsScriptOf}
 use Rattle.fc_prepare.proofs.Lines.{zip_push}
 use Rattle.fc_prepare.proofs.scripts.scripts_of.Goals as goal
+
+pub script_of-requires-clause-of : goal.script_of-requires-clause-of
+script_of-requires-clause-of g c =
+    subst (λ (a : ActorRead). All IsOfActor a.lines) (sym c.actor-item.is) (c.requires c.loop-actor.actor-index c.actor-item.result c.loop-actor-test.true)
 
 pub loop-actor-preserved : goal.loop-actor-preserved
 loop-actor-preserved g c =

@@ -1,4 +1,4 @@
-use Rattle.std.proofs.Common.{◌∙◌, ap, [], ◌∷◌, ◌++◌, arith}
+use Rattle.std.proofs.Common.{◌∙◌, ap, [], ◌∷◌, arith}
 use Rattle.fc_books.specs.Columns.{volume_columns}
 use Rattle.fc_report.proofs.Tables.{table_more}
 use Rattle.fc_report.proofs.objects.volume_table.Goals as goal

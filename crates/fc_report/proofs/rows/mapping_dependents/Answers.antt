@@ -9,7 +9,7 @@ use Rattle.fc_report.proofs.rows.mapping_dependents.Goals as goal
 
 pub returns-in_ok-table-in-Some : goal.returns-in_ok-table-in-Some
 returns-in_ok-table-in-Some g c =
-    let books = asked c.args.registry.now.tables (g.S.Sheet.meaning c.args.sheet.now).sheet in
+    let books = asked c.args.registry.now.tables (g.S.Sheet.meaning c.args.sheet.now) in
     λ grain.
     rw (dependents_listed grain books c.args.map.now c.args.delim c.in-Some.mapping.now c.in_ok-ids-in-Some.ids c.as_slice-in-Some.result.now c.in-Some.ensures c.requires.sizes c.in_ok-ids-in-Some.ensures
     (c.as_slice-in-Some.ensures

@@ -1,5 +1,5 @@
-use Rattle.std.proofs.Common.{rules, map}
-use Rattle.lane_tests.proofs.Fitting.{reads_now}
+use Rattle.std.proofs.Common.{map}
+use Rattle.lane_tests.proofs.FirstFits.{reads_now}
 use Rattle.lane_tests.proofs.tests.read_first.Goals as goal
 
 pub read-requires-clause-can : goal.read-requires-clause-can

@@ -10,7 +10,7 @@ returns-in-Nothing g c = nothing_asks (g.T.Told.grain c.args.told.now) c.args.ac
 
 pub returns-in-Own : goal.returns-in-Own
 returns-in-Own g c =
-    own_asks (g.T.Told.grain c.args.told.now) c.args.actor c.args.request.now (g.T.Told.whole c.args.told.now) c.args.self.now c.in-Own.requests c.in-Own.seconds c.main_asks.result c.in-Own.is c.main_asks.ensures
+    own_asks (g.T.Told.grain c.args.told.now) c.args.actor c.args.request.now (g.T.Told.whole c.args.told.now) c.args.self.now c.in-Own.requests c.in-Own.behind c.main_asks.result c.in-Own.is c.main_asks.ensures
 
 pub returns-then-actor-ne0 : goal.returns-then-actor-ne0
 returns-then-actor-ne0 g c =

@@ -6,7 +6,7 @@ returns-in-Nothing g c = nothing_left (g.T.Told.grain c.args.told.now) (g.T.Told
 
 pub returns-in-Own : goal.returns-in-Own
 returns-in-Own g c =
-    own_left (g.T.Told.grain c.args.told.now) (g.T.Told.whole c.args.told.now) c.args.actor c.args.reply.now c.behind_own.result c.args.self c.in-Own.requests c.in-Own.seconds c.in-Own.is c.behind_own.ensures
+    own_left (g.T.Told.grain c.args.told.now) (g.T.Told.whole c.args.told.now) c.args.actor c.args.reply.now c.behind_own.result c.args.self c.in-Own.requests c.in-Own.behind c.in-Own.is c.behind_own.ensures
 
 pub returns-in_ok-follow-in-Seconds : goal.returns-in_ok-follow-in-Seconds
 returns-in_ok-follow-in-Seconds g c =

@@ -33,6 +33,7 @@ invariant_of-result c =
 pub returns : goal.returns
 returns c =
     let i = c.self.inside.kept in
-    entry_told i.control i.known c.follow.new.self i.rows c.follow_rows.new.rows (pools_of i.pools.items) i.calls.items _ c.args.self c.args.lane c.args.entry.now c.self.invariant c.self.view_is c.in_ok-follow.ensures
+    entry_told i.control i.known c.follow.new.self i.rows c.follow_rows.new.rows (pools_of i.pools.items) i.rooms c.follow_rooms.new.rooms i.calls.items _ c.args.self c.args.lane c.args.entry.now c.self.invariant c.self.view_is c.in_ok-follow.ensures
     (c.follow_rows.ensures ∙ ap (λ (size : GrainSize). rows_entry (single_lane size) i.rows c.args.entry.now) c.grain.ensures)
+    c.follow_rooms.ensures
     (with_items_is i.calls c.count_calls.new.calls (omega arith) ∙ counted c)

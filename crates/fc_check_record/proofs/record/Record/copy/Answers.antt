@@ -12,6 +12,6 @@ invariant_of-result c =
 pub returns : goal.returns
 returns c =
     let i = c.self.inside.kept in
-    copied_told i.control c.in_ok-control.control i.known c.in_ok-known.known i.rows c.in_ok-rows.rows i.pools.items c.in_ok-pools.pools.items i.calls.items c.in_ok-calls.calls.items
-    None c.in_ok-control.control.room c.args.self.now c.in_ok-control.ensures c.in_ok-known.ensures c.in_ok-rows.ensures (c.in_ok-pools.ensures ∙ c.as_slice.ensures.value)
+    copied_told i.control c.in_ok-control.control i.known c.in_ok-known.known i.rows c.in_ok-rows.rows i.pools.items c.in_ok-pools.pools.items i.rooms c.in_ok-rooms.rooms i.calls.items c.in_ok-calls.calls.items
+    None c.in_ok-control.control.room c.args.self.now c.in_ok-control.ensures c.in_ok-known.ensures c.in_ok-rows.ensures (c.in_ok-pools.ensures ∙ c.as_slice.ensures.value) c.in_ok-rooms.ensures
     (c.in_ok-calls.ensures ∙ c.as_slice-2.ensures.value) c.self.view_is

@@ -10,7 +10,7 @@ use Rattle.fc_check_record.proofs.record.Record.decide.Goals as goal
 seen : (c : goal.After-view-1) → books_of c.self.inside.kept.control (view_of c.view-view.result) ≡ c.args.self.now.whole.books
 seen c =
     let i = c.self.inside.kept in
-    seen_books i.control i.known i.rows (pools_of i.pools.items) i.calls.items c.args.self.now c.view-view.result c.self.view_is c.view-view.ensures
+    seen_books i.control i.known i.rows (pools_of i.pools.items) i.rooms i.calls.items c.args.self.now c.view-view.result c.self.view_is c.view-view.ensures
 
 pub decide-requires : goal.decide-requires
 decide-requires c =
@@ -26,6 +26,6 @@ pub returns : goal.returns
 returns c =
     let i = c.self.inside.kept in
     let j = c.args.self.now in
-    let books = seen_books i.control i.known i.rows (pools_of i.pools.items) i.calls.items j c.view-view.result c.self.view_is c.view-view.ensures in
+    let books = seen_books i.control i.known i.rows (pools_of i.pools.items) i.rooms i.calls.items j c.view-view.result c.self.view_is c.view-view.ensures in
     decided_same i.control.grain j.grain (books_of i.control (view_of c.view-view.result)) j.whole.books c.view-view.result.rows j.whole.rows c.args.command.now c.decide.result
     (sym c.self.invariant.grain ∙ ap (λ (j : Judged). j.grain) c.self.view_is) books (ap (λ (p : Plain). p.rows) c.view-view.ensures) c.decide.ensures

@@ -10,11 +10,11 @@ use Rattle.fc_check_record.proofs.record.Record.is_next.Goals as goal
 pub is_next-requires : goal.is_next-requires
 is_next-requires c =
     let i = c.self.inside.kept in
-    few_grains i.control i.known i.rows (pools_of i.pools.items) i.calls.items c.args.self.now c.self.view_is c.requires.small
+    few_grains i.control i.known i.rows (pools_of i.pools.items) i.rooms i.calls.items c.args.self.now c.self.view_is c.requires.small
 
 pub returns : goal.returns
 returns c =
     let i = c.self.inside.kept in
     let sound = subst (λ (j : Judged). AreSound j.whole.books) (sym c.self.view_is) c.requires.sound in
     subst (λ (j : Judged). IfOk c.is_next.result (λ yes. IsTrue yes ↔ IsNext j.grain j.whole c.args.entry.now)) c.self.view_is
-    (next_is i.control i.known i.rows (pools_of i.pools.items) i.calls.items c.args.entry.now c.is_next.result c.self.invariant sound c.is_next.ensures)
+    (next_is i.control i.known i.rows (pools_of i.pools.items) i.rooms i.calls.items c.args.entry.now c.is_next.result c.self.invariant sound c.is_next.ensures)

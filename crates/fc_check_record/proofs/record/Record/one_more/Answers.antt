@@ -18,4 +18,4 @@ invariant_of-self c =
 pub returns : goal.returns
 returns c =
     let i = c.self.inside.kept in
-    more_told i.control i.known _ i.rows (pools_of i.pools.items) i.calls.items c.args.self.now c.self.view_is (ap (λ (k : Known). record k { entries = k.entries + 1 }) c.known.view_is)
+    more_told i.control i.known _ i.rows (pools_of i.pools.items) i.rooms i.calls.items c.args.self.now c.self.view_is (ap (λ (k : Known). record k { entries = k.entries + 1 }) c.known.view_is)

@@ -10,5 +10,5 @@ invariant_of-result c =
 
 pub returns : goal.returns
 returns c =
-    first_told c.args.grain c.args.lanes.now c.new-2.result c.in_ok-known.known c.new-3.result c.in_ok-pools.pools.items c.in_ok-calls.calls.items c.new-2.ensures c.in_ok-known.ensures c.new-3.ensures
-    c.in_ok-pools.ensures c.in_ok-calls.ensures
+    first_told c.args.grain c.args.lanes.now c.new-2.result c.in_ok-known.known c.new-3.result c.in_ok-pools.pools.items c.new-4.result c.in_ok-calls.calls.items c.new-2.ensures c.in_ok-known.ensures c.new-3.ensures
+    c.in_ok-pools.ensures c.new-4.ensures c.in_ok-calls.ensures

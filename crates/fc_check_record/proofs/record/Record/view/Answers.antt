@@ -21,4 +21,5 @@ returns c =
     let sheet = ap (λ (k : Known). k.sheet) c.known.view_is ∙ ap (λ (j : Judged). j.whole.books.sheet) c.self.view_is in
     let rows = ap (λ (j : Judged). j.whole.rows) c.self.view_is in
     let pools = ap pools_of c.as_slice.ensures.value ∙ ap (λ (j : Judged). j.whole.books.pools) c.self.view_is in
-    c.new.ensures ∙ (λ i. record { sheet = sheet i; rows = rows i; pools = pools i })
+    let rooms = ap (λ (j : Judged). j.whole.books.rooms) c.self.view_is in
+    c.new.ensures ∙ (λ i. record { sheet = sheet i; rows = rows i; pools = pools i; rooms = rooms i })

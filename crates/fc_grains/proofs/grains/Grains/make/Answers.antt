@@ -18,7 +18,7 @@ invariant_of-self g c =
     let P : List VolumeDiskState → Type 0 = λ vs. IsKept c.self.inside.grain vs c.take_next-disk.new.self (map g.D.Mdisk.meaning c.self.inside.aside.items) c.self.inside.buffer.items c.self.inside.sums c.push.new.self.cap c.self.inside.aside.cap in
     subst P (sym items)
     (kept_made c.self.inside.grain c.self.inside.volumes.items c.self.inside.pool c.take_next-disk.new.self _ _ _ _ _ _ c.self.invariant c.take_next-disk.result (next_of (map new_of c.self.inside.pool.reserved))
-    c.take_next-disk.ensures.kind c.take_next-disk.ensures.zeros c.take_next-disk.ensures.unmarked c.take_next-disk.ensures.unarmed c.take_next-disk.ensures.bytes c.take_next-disk.ensures.reserved
+    c.take_next-disk.ensures.kind c.take_next-disk.ensures.zeros c.take_next-disk.ensures.unwritten c.take_next-disk.ensures.unmarked c.take_next-disk.ensures.unarmed c.take_next-disk.ensures.bytes c.take_next-disk.ensures.reserved
     (omega (arith, length-map c.self.inside.pool.reserved new_of)) c.take_next-disk.ensures.disks c.args.volume.0 (λ k. (c.take_next-disk.ensures.volume k).0) newest c.push.ensures.capacity)
 
 pub returns : goal.returns
@@ -32,5 +32,5 @@ returns g c =
     rw (← c.self.view_is)
     (subst P (sym items)
     (has_made c.self.inside.grain c.self.inside.volumes.items c.self.inside.pool c.take_next-disk.new.self _ _ _ c.self.inside.volumes.cap c.self.inside.volumes.cap c.self.inside.aside.cap c.self.invariant c.take_next-disk.result (next_of (map new_of c.self.inside.pool.reserved))
-    c.take_next-disk.ensures.kind c.take_next-disk.ensures.zeros c.take_next-disk.ensures.unmarked c.take_next-disk.ensures.unarmed c.take_next-disk.ensures.bytes c.take_next-disk.ensures.reserved
+    c.take_next-disk.ensures.kind c.take_next-disk.ensures.zeros c.take_next-disk.ensures.unwritten c.take_next-disk.ensures.unmarked c.take_next-disk.ensures.unarmed c.take_next-disk.ensures.bytes c.take_next-disk.ensures.reserved
     (omega (arith, length-map c.self.inside.pool.reserved new_of)) c.take_next-disk.ensures.disks c.args.volume.0 (λ k. (c.take_next-disk.ensures.volume k).0) newest refl c.take_next-disk.ensures.left c.take_next-disk.ensures.first c.take_next-disk.ensures.taken))

@@ -6,7 +6,7 @@ use Rattle.fc_owner.proofs.owner.StoreSingleLines.answer.Goals as goal
 
 pub returns-in-Read-clause-answered : goal.returns-in-Read-clause-answered
 returns-in-Read-clause-answered g c = λ bytes w is told.
-    c.run_line.ensures.answered reading bytes w (reading_line w.books bytes c.in-Read.line (sym c.in-Read.is ∙ is)) told
+    c.answer_line.ensures.answered reading bytes w (reading_line w.books bytes c.in-Read.line (sym c.in-Read.is ∙ is)) told
 
 pub returns-in-Unread-clause-answered : goal.returns-in-Unread-clause-answered
 returns-in-Unread-clause-answered g c = λ bytes w is told.

@@ -1,6 +1,7 @@
 -- An access that isn't refused asks for its grains, and a refused one for itself.
 use Rattle.std.proofs.Common.{◌≡◌, ◌∷◌, [], List, map, Some, subst, sym}
 use Rattle.fc_base.specs.Tables.{Tables, refers_to, volume_named}
+use Rattle.fc_base.specs.declared.behind.Behind.TheVariants.{Passing as PassingSeconds}
 use Rattle.fc_base.specs.declared.command.Command.{Command}
 use Rattle.fc_base.specs.declared.ids.VolId.{VolId}
 use Rattle.fc_base.specs.declared.request.Request.{Request}
@@ -36,14 +37,14 @@ returns-in-Ok-clause-answered g c = λ read w told.
     let stands : StandsFor c.args.self.now w = told.0 in
     let found : volume_named w.books.tables c.args.volume ≡ Some v = subst (λ (t : Tables). volume_named t c.args.volume ≡ Some v) stands.control.tables c.in-Ok.ensures.taken.1 in
     let taken = is_taken c.args.self.now.control.grain w.books c.args.access c.args.volume c.args.block c.args.count v found c.in-Ok.ensures.taken.3 in
-    let P : List Request → Type 0 = λ rs. Answered c.run_parts.result (StandsFor c.run_parts.new.self) (session_rules c.args.self.now.control.grain read) (Own rs 0 []) w c.args.history.now c.run_parts.new.history in
+    let P : List Request → Type 0 = λ rs. Answered c.run_parts.result (StandsFor c.run_parts.new.self) (session_rules c.args.self.now.control.grain read) (Own rs (PassingSeconds 0) []) w c.args.history.now c.run_parts.new.history in
     let Q : VolId → Type 0 = λ id. P (map (part_of c.args.self.now.control.grain c.args.access id c.args.block c.args.count) (touched c.args.self.now.control.grain c.args.block c.args.count)) in
     subst P (sym taken.asked) (subst Q (sym c.in-Ok.ensures.taken.2) (c.run_parts.ensures.answered read w told))
 
 pub returns-in-Err-clause-answered : goal.returns-in-Err-clause-answered
 returns-in-Err-clause-answered g c = λ read w told.
     let stands : StandsFor c.args.self.now w = told.0 in
-    let P : List Request → Type 0 = λ rs. Answered c.log_refused.result (StandsFor c.args.self.now) (session_rules c.args.self.now.control.grain read) (Own rs 0 []) w c.args.history.now c.log_refused.new.history in
+    let P : List Request → Type 0 = λ rs. Answered c.log_refused.result (StandsFor c.args.self.now) (session_rules c.args.self.now.control.grain read) (Own rs (PassingSeconds 0) []) w c.args.history.now c.log_refused.new.history in
     let Q : Command → Type 0 = λ asked. P (Asked asked ∷ []) in
     subst P (sym (asked-refused c.args.self.now.control.grain w.books c.args.access c.args.volume c.args.block c.args.count c.in-Err.refusal
     (c.in-Err.ensures.refused w.books (sym stands.control.tables))))

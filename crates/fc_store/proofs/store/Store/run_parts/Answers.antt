@@ -1,5 +1,6 @@
 -- One grain more, and a grain at which it stops.
 use Rattle.std.proofs.Common.{◌≡◌, ℕ, ◌+◌, ◌-◌, [], map, Ok, Err, ◌∙◌, ap, subst, arith}
+use Rattle.fc_base.specs.declared.behind.Behind.TheVariants.{Passing as PassingSeconds}
 use Rattle.fc_base.specs.declared.request.Request.{Request}
 use Rattle.fc_base.specs.declared.size.GrainSize.{GrainSize}
 use Rattle.fc_control.specs.Control.{ControlState}
@@ -47,7 +48,7 @@ returns-in-Err-clause-answered g c = λ read w told.
     let request : ℕ → Request = part_of grain c.args.access c.args.volume c.args.block c.args.count in
     let end : ℕ = c.touched_grains-first.result.1 + 1 in
     let Q : ℕ → ℕ → Type 0 = λ first last. Answered {A = Unit {0}} (Err c.in-Err.stop) (StandsFor c.run_part.new.self) (session_rules grain read)
-    (Own (map request (numbers first (last + 1 - first))) 0 []) w c.args.history.now c.run_part.new.history in
+    (Own (map request (numbers first (last + 1 - first))) (PassingSeconds 0) []) w c.args.history.now c.run_part.new.history in
     let P : GrainSize → Type 0 = λ s. (mid : Whole) → IsTold (StandsFor c.loop-grain.self) c.loop-grain.history mid →
     Logged {A = Unit {0}} (Err c.in-Err.stop) anything (StandsFor c.run_part.new.self) s mid (part_of s c.args.access c.args.volume c.args.block c.args.count c.loop-grain.grain) c.loop-grain.history c.run_part.new.history in
     let size : c.grain.result ≡ grain = c.grain.ensures ∙ ap (λ (s : StoreView). s.control.grain) c.self.view_is in
@@ -67,10 +68,10 @@ returns-clause-answered g c = λ read w told.
     let request : ℕ → Request = part_of grain c.args.access c.args.volume c.args.block c.args.count in
     let end : ℕ = c.touched_grains-first.result.1 + 1 in
     let Q : ℕ → ℕ → Type 0 = λ first last. Answered {A = Unit {0}} (Ok tt) (StandsFor c.loop-grain.self) (session_rules grain read)
-    (Own (map request (numbers first (last + 1 - first))) 0 []) w c.args.history.now c.loop-grain.history in
+    (Own (map request (numbers first (last + 1 - first))) (PassingSeconds 0) []) w c.args.history.now c.loop-grain.history in
     let none : end - c.loop-grain.grain ≡ 0 = omega (arith, c.loop-grain-test.false) in
     let P : ℕ → Type 0 = λ n. Brought {A = Unit {0}} (Ok tt) (StandsFor c.loop-grain.self) (session_rules grain read)
-    (Own (map request (numbers c.touched_grains-first.result.0 (end - c.touched_grains-first.result.0))) 0 [])
+    (Own (map request (numbers c.touched_grains-first.result.0 (end - c.touched_grains-first.result.0))) (PassingSeconds 0) [])
     (own_left (map request (numbers c.loop-grain.grain n))) w c.args.history.now c.loop-grain.history in
     let size : c.grain.result ≡ grain = c.grain.ensures ∙ ap (λ (s : StoreView). s.control.grain) c.self.view_is in
     subst (λ (first : ℕ). Q first (grain_of_block grain (c.args.block + c.args.count - 1))) (c.touched_grains-first.ensures.first ∙ ap (λ (s : GrainSize). grain_of_block s c.args.block) size)

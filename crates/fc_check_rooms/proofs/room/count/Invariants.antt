@@ -1,0 +1,7 @@
+use Rattle.std.proofs.Common.{◌≡◌, take}
+use Rattle.std.specs.List.{count_by}
+use Rattle.fc_check_rooms.proofs.room.count.Given as goal
+
+-- the marks so far are counted
+abbrev pub invariant-loop-mark : goal.invariant-loop-mark
+invariant-loop-mark l = l.count ≡ count_by (λ b. b) (take l.mark-index l.marks)

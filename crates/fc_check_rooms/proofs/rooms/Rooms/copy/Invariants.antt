@@ -1,0 +1,6 @@
+use Rattle.std.proofs.Common.{◌≡◌, take}
+use Rattle.fc_check_rooms.proofs.rooms.Rooms.copy.Given as goal
+
+-- the rooms so far
+abbrev pub invariant-loop-room : goal.invariant-loop-room
+invariant-loop-room l = l.copy ≡ take l.room-index l.room-items

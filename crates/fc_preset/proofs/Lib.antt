@@ -1,0 +1,4 @@
+-- Lemmas, one subject a file.
+pub mod Replies
+pub mod Runs
+pub mod First

@@ -1,0 +1,2 @@
+-- What a stage of a preset leaves.
+pub mod Stages

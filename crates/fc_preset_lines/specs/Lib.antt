@@ -1,0 +1,2 @@
+-- What is asked behind a reply, as contracts see it.
+pub mod Coming

@@ -1,0 +1,2 @@
+-- The definitions on closed examples.
+pub mod RoomExamples

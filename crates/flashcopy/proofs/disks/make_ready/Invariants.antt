@@ -1,7 +1,0 @@
-use Rattle.std.proofs.Common.{ℕ, ◌<◌, map, get_or}
-use Rattle.fc_mdisk.specs.Disk.{DiskState, IsFresh}
-use Rattle.flashcopy.proofs.disks.make_ready.Given as goal
-
--- the disks so far are fresh
-abbrev pub invariant-loop-place : goal.invariant-loop-place
-invariant-loop-place g l = (k : ℕ) (d : DiskState) → k < l.place → IsFresh (get_or (map g.D.Mdisk.meaning l.disks) k d)
