@@ -56,9 +56,8 @@ count_gate() { # STATUS FILE
     fi
 }
 
-# How long a gate took that has just ended, by clock and by the processors.
+# How long the gate took, by clock and by the processors, as noted right behind it.
 said_of_time() { # SECONDS
-    times >"$room/times"
     printf '== the gate of the proofs took %d minutes of clock, and of the processors, for programs and for the system: %s\n' \
         $(($1 / 60)) "$(tail -n 1 -- "$room/times")"
 }
