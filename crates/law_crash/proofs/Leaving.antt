@@ -33,6 +33,7 @@ use Rattle.fc_kept.specs.Drops.{DropsTo.same}
 use Rattle.fc_kept.specs.Images.{size_in}
 use Rattle.fc_kept.specs.Kept.{LostGrains, Kept, is_lost_in}
 use Rattle.fc_kept.specs.Marks.{IsMarked, AreMarked, LeastLeft, LeastLeft.decided as least_decided, LeastLeft.unsettled as least_unsettled, LeastLeft.settled_alone as least_settled, least_by}
+use Rattle.fc_kept.specs.Recoverable.{Says}
 use Rattle.fc_kept.specs.Sound.{books_of, AreLost, IsInto, IsSoundKept}
 use Rattle.fc_kept.proofs.Marking.{mark_law}
 use Rattle.fc_kept.proofs.Sizes.{size_is, slot_size}
@@ -400,56 +401,72 @@ counted grain decisions left least q st on = (
   },
 )
 
--- metadata made anew behind it
-anew_all : (grain : GrainSize) (decisions : ℕ) (w left : Whole) (least least' rows : List Row) (p : Point) → decisions + 2 < 2 ^ 32 → StandsFor grain w least p → left.faults ≡ w.faults → Through grain w p left → AreFit grain left p.disks →
-    IsReached decisions left → AreMarked rows left.rows least' → AllLeft grain decisions left least' (record p { kept = made_anew left rows p.kept.lost })
-anew_all grain decisions w left least least' rows p few st faults x fit r between =
-    let q : Point = record p { kept = made_anew left rows p.kept.lost } in
-    counted grain decisions left least' q
-    (record {
-      says = record {
-        sound = anew_sound decisions left least' rows p.kept.lost few r between (kept_into rows left.rows least' between (all_from IsInto left.rows x.into));
-        tables = refl;
-        next_volume = refl;
-        next_mapping = refl;
-        next_group = refl;
-        slots = same;
-        rows = between;
-        count = st.says.count ∙ sym (ap (λ (f : List ℕ). length f) faults);
-        fit = fit;
-      };
-      shows = shows_same left.books.sheet.slots left.picture (stored_by grain w p) (stored_by grain left q) (same_of_slots grain w left p rows faults r.stands.sound) x.follows.agrees.shows;
-    })
-    (record { reached = r; alike = x.follows.alike; unnamed = x.unnamed })
+-- what it leaves of the history, over the same disks
+record LeftSo (grain : GrainSize) (decisions : ℕ) (w : Whole) (p : Point) (left : Whole) : Type 0 where
+  lanes_are : left.faults ≡ w.faults
+  through : Through grain w p left
+  reached : IsReached decisions left
+
+goes_on : (grain : GrainSize) (decisions : ℕ) (w left : Whole) (p : Point) → LeftSo grain decisions w p left → GoesOn decisions left p.disks
+goes_on grain decisions w left p x = record { reached = x.reached; alike = x.through.follows.alike; unnamed = x.through.unnamed }
+
+module _ (grain : GrainSize) (decisions : ℕ) (w : Whole) (least : List Row) (command : Command) (p : Point) (few : decisions + 4 < 2 ^ 32) (on : GoesOn decisions w p.disks) (st : StandsFor grain w least p) where
+  left_so : (left : Whole) (least' : List Row) → LeastLeft grain w least command left least' → LeftSo grain (decisions + 2) w p left
+  left_so left least' (least_decided loop told) =
+      record {
+        lanes_are = refl;
+        through = command_through grain decisions w command loop (stored_by grain w p) p.disks (omega (arith, few)) on.reached told (at_first grain w least p on.alike on.unnamed st);
+        reached = stands_law_holds.decided grain decisions w command loop (omega (arith, few)) on.reached told;
+      }
+  left_so left least' least_unsettled =
+      record { lanes_are = refl; through = at_first grain w least p on.alike on.unnamed st; reached = stands_law_holds.more decisions (decisions + 2) w (omega arith) on.reached }
+  left_so left least' least_settled =
+      record {
+        lanes_are = refl;
+        through = settling_through grain decisions w (stored_by grain w p) p.disks (omega (arith, few)) on.reached (at_first grain w least p on.alike on.unnamed st);
+        reached = stands_law_holds.more (decisions + 1) (decisions + 2) (after_settling grain w) (omega arith) (stands_law_holds.settled grain decisions w (omega (arith, few)) on.reached);
+      }
+
+  left_fit : (left : Whole) (least' : List Row) → HaveTheirDisks w p.disks → LeastLeft grain w least command left least' → AreFit grain left p.disks
+  left_fit left least' have (least_decided loop told) = decided_fit grain decisions w least p command loop (omega (arith, few)) on st have told
+  left_fit left least' have least_unsettled = fits_now grain w least p st
+  left_fit left least' have least_settled = settled_fit grain w least p st
+
+  -- metadata is made anew
+  anew_all : (left : Whole) (least' rows : List Row) → HaveTheirDisks w p.disks → LeastLeft grain w least command left least' → AreMarked rows left.rows least' →
+      AllLeft grain (decisions + 2) left least' (record p { kept = made_anew left rows p.kept.lost })
+  anew_all left least' rows have marks between =
+      let q : Point = record p { kept = made_anew left rows p.kept.lost } in
+      let x = left_so left least' marks in
+      counted grain (decisions + 2) left least' q
+      (record {
+        says = record {
+          sound = anew_sound (decisions + 2) left least' rows p.kept.lost (omega (arith, few)) x.reached between (kept_into rows left.rows least' between (all_from IsInto left.rows x.through.into));
+          tables = refl;
+          next_volume = refl;
+          next_mapping = refl;
+          next_group = refl;
+          slots = same;
+          rows = between;
+          count = st.says.count ∙ sym (ap (λ (f : List ℕ). length f) x.lanes_are);
+          fit = left_fit left least' have marks;
+        };
+        shows = shows_same left.books.sheet.slots left.picture (stored_by grain w p) (stored_by grain left q) (same_of_slots grain w left p rows x.lanes_are x.reached.stands.sound) x.through.follows.agrees.shows;
+      })
+      (goes_on grain (decisions + 2) w left p x)
+
+  -- or it stays
+  pub stays_all : (left : Whole) (least' : List Row) → LeastLeft grain w least command left least' → Says grain p.disks p.kept left least' → AllLeft grain (decisions + 2) left least' p
+  stays_all left least' marks says =
+      let x = left_so left least' marks in
+      counted grain (decisions + 2) left least' p
+      (record { says = says; shows = subst (λ (f : List ℕ). Shows left.books.sheet.slots left.picture (stored_by grain (record w { faults = f }) p)) (sym x.lanes_are) x.through.follows.agrees.shows })
+      (goes_on grain (decisions + 2) w left p x)
 
 pub leaves_all : (grain : GrainSize) (decisions : ℕ) (w left : Whole) (least least' : List Row) (command : Command) (p : Point) (kept : Kept) → decisions + 4 < 2 ^ 32 → GoesOn decisions w p.disks →
     StandsFor grain w least p → HaveTheirDisks w p.disks → Leaves grain w least p.kept command left least' kept → AllLeft grain (decisions + 2) left least' (record p { kept = kept })
-leaves_all grain decisions w left least least' command p kept few on st have (anew behind least_behind rows marks between) = by_marks behind least_behind rows marks between
-  where
-    first : Through grain w p w
-    first = at_first grain w least p on.alike on.unnamed st
-
-    by_marks : (behind : Whole) (least_behind rows : List Row) → LeastLeft grain w least command behind least_behind → AreMarked rows behind.rows least_behind →
-        AllLeft grain (decisions + 2) behind least_behind (record p { kept = made_anew behind rows p.kept.lost })
-    by_marks behind least_behind rows (least_decided loop told) between =
-        let settled : Whole = after_settling grain w in
-        let d : Decision = decided_on grain settled command loop in
-        anew_all grain (decisions + 2) w (left_by grain settled d) least (least_by settled (least_by w least (settle w.books)) d) rows p (omega (arith, few)) st refl
-        (command_through grain decisions w command loop (stored_by grain w p) p.disks (omega (arith, few)) on.reached told first)
-        (decided_fit grain decisions w least p command loop (omega (arith, few)) on st have told)
-        (stands_law_holds.decided grain decisions w command loop (omega (arith, few)) on.reached told) between
-    by_marks behind least_behind rows least_unsettled between =
-        anew_all grain (decisions + 2) w w least least rows p (omega (arith, few)) st refl first (fits_now grain w least p st)
-        (stands_law_holds.more decisions (decisions + 2) w (omega arith) on.reached) between
-    by_marks behind least_behind rows least_settled between =
-        let r : IsReached (decisions + 1) (after_settling grain w) = stands_law_holds.settled grain decisions w (omega (arith, few)) on.reached in
-        anew_all grain (decisions + 2) w (after_settling grain w) least (least_by w least (settle w.books)) rows p (omega (arith, few)) st refl
-        (settling_through grain decisions w (stored_by grain w p) p.disks (omega (arith, few)) on.reached first)
-        (settled_fit grain w least p st)
-        (stands_law_holds.more (decisions + 1) (decisions + 2) (after_settling grain w) (omega arith) r) between
-leaves_all grain decisions w left least least' command p kept few on st have unsettled =
-    counted grain (decisions + 2) w least p st
-    (record { reached = stands_law_holds.more decisions (decisions + 2) w (omega arith) on.reached; alike = on.alike; unnamed = on.unnamed })
+leaves_all grain decisions w left least least' command p kept few on st have (anew behind least_behind rows marks between) = anew_all grain decisions w least command p few on st behind least_behind rows have marks between
+leaves_all grain decisions w left least least' command p kept few on st have unsettled = stays_all grain decisions w least command p few on st w least least_unsettled st.says
 
 -- ---- metadata may have the rows that it had, to which a command notes what it notes to the history's
 

@@ -48,12 +48,12 @@ use Rattle.law_crash.specs.Doing.{number_of, actions_of_steps, marks_by_move, ch
 use Rattle.law_crash.specs.Law.{Begins}
 use Rattle.law_crash.specs.Leaving.{AreUnnamed, GoesOn, Leaves, Leaves.anew, Leaves.unsettled}
 use Rattle.law_crash.specs.Points.{Point, StandsFor, nothing_kept, on_disks, stored_by}
-use Rattle.law_crash.specs.Running.{Does, Does.refused, Does.read, Does.whole, Does.stopped, Does.commanded, Run, Run.begun, Run.more, Run.named, StayAs, Takes, Stops, Stops.before, Stops.within, Stops.done}
+use Rattle.law_crash.specs.Running.{Does, Does.refused, Does.read, Does.whole, Does.stopped, Does.commanded, Does.unchanged, Run, Run.begun, Run.more, Run.named, StayAs, Takes, Stops, Stops.before, Stops.within, Stops.done}
 use Rattle.law_crash.proofs.Answering.{answered, least_with, plain_after, request_is, told_with}
 use Rattle.law_crash.proofs.Disks.{was_of}
 use Rattle.law_crash.proofs.Ending.{all_stopped}
 use Rattle.law_crash.proofs.Lawful.{all_found, all_stand}
-use Rattle.law_crash.proofs.Leaving.{SameOfSlots, leaves_all, shows_same, some_volume}
+use Rattle.law_crash.proofs.Leaving.{SameOfSlots, leaves_all, shows_same, some_volume, stays_all}
 use Rattle.law_crash.proofs.Noting.{stands_counted}
 use Rattle.law_crash.proofs.Opening.{opens, rests, turned}
 use Rattle.law_stands.proofs.Standing.{stands_law_holds}
@@ -202,6 +202,9 @@ module _ (grain : GrainSize) (w : Whole) (least : List Row) (p : Point) (few : w
   does_stand entry next least' q (commanded command left rows kept e have leaves) =
       let x = leaves_all grain (2 * w.entries) w left least rows command p kept (omega (arith, few)) on st have leaves in
       (x.0, x.1.alike, x.1.unnamed)
+  does_stand entry next least' q (unchanged command left rows e marks says) =
+      let x = stays_all grain (2 * w.entries) w least command p (omega (arith, few)) on st left rows marks says in
+      (x.0, x.1.alike, x.1.unnamed)
 
 -- ---- disks get other names
 
@@ -293,6 +296,7 @@ least_done grain w least p entry next least' q (read i told) = inl refl
 least_done grain w least p entry next least' q (whole i work steps z takes inside are did told) = inr (least_access grain w least entry.request work steps entry (after_access grain w i entry) takes are)
 least_done grain w least p entry next least' q (stopped i work front back step torn z takes inside are x told) =
     inr (least_access grain w least entry.request work (front ++ step ∷ back) entry (after_access grain w i entry) takes are)
+least_done grain w least p entry next least' q (unchanged command left rows e marks says) = inl refl
 least_done grain w least p entry next least' q (commanded command left rows kept e have leaves) =
     inr (least_step grain w left least rows command entry entry.request e (least_left grain w least p.kept command left rows kept leaves))
 

@@ -14,9 +14,10 @@ use Rattle.fc_parts.specs.Law.{IsInVolume}
 use Rattle.fc_rules.specs.Steps.{DiskStep}
 use Rattle.fc_kept.specs.Disks.{NamedDisk}
 use Rattle.fc_kept.specs.Kept.{Kept}
-use Rattle.fc_kept.specs.Marks.{asked_write, least_entry}
+use Rattle.fc_kept.specs.Marks.{LeastLeft, asked_write, least_entry}
 use Rattle.fc_kept.specs.OneGrain.{Another}
 use Rattle.fc_kept.specs.Prefix.{AreStepsOf}
+use Rattle.fc_kept.specs.Recoverable.{Says}
 use Rattle.law_crash.specs.Points.{Point, on_disks}
 use Rattle.law_crash.specs.Doing.{number_of, actions_of_steps, with_disks, Did, Finds, Stopped, Tells}
 use Rattle.law_crash.specs.Leaving.{AreFit, AreUnnamed, HaveTheirDisks, Leaves}
@@ -57,6 +58,9 @@ pub data Does (grain : GrainSize) (w : Whole) (least : List Row) (p : Point) (en
   commanded : (command : Command) (left : Whole) (least' : List Row) (kept : Kept) → entry.request ≡ Asked command →
       HaveTheirDisks w p.disks → Leaves grain w least p.kept command left least' kept →
       Does grain w least p entry (one_more left) least' (record p { kept = kept })
+  -- or leaves it as it is, where that says so much of what the command leaves, as where nothing is changed
+  unchanged : (command : Command) (left : Whole) (least' : List Row) → entry.request ≡ Asked command → LeastLeft grain w least command left least' →
+      Says grain p.disks p.kept left least' → Does grain w least p entry (one_more left) least' p
 
 -- Right entries, each done on what the last one left.
 pub data Run (grain : GrainSize) (w : Whole) (least : List Row) (p : Point) : List Entry → Whole → List Row → Point → Type 0 where
