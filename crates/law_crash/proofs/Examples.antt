@@ -11,13 +11,14 @@ use Rattle.fc_changed.specs.Row.{Row}
 use Rattle.fc_entry.specs.Picture.{Content, Bytes}
 use Rattle.fc_image.specs.declared.record.MetaRecord.{MetaRecord}
 use Rattle.fc_image.specs.declared.record.MetaRecord.TheVariants.{Pair, Written, Changing}
-use Rattle.fc_kept.specs.Actions.{Action.Data, Action.Note}
+use Rattle.fc_kept.specs.Actions.{Action, Action.Data, Action.Note, Action.Fold}
 use Rattle.fc_legal.specs.Whole.{lane_at}
 use Rattle.fc_kept.specs.Disks.{NamedDisk, disk_of, on_disk}
 use Rattle.fc_kept.specs.Kept.{Kept, sheet_kept}
 use Rattle.fc_kept.specs.OneGrain.{Another}
 use Rattle.fc_kept.specs.Recoverable.{disks_at}
 use Rattle.fc_kept.proofs.Examples.{grain_no, slot_id, started, copied, ones, nulls, before, part, move_step, own_step, disk_with}
+use Rattle.law_crash.specs.Costs.{Sizes, calls_of_actions, calls_of_history, used_behind_all}
 use Rattle.law_crash.specs.Points.{Point, on_disks, stored_by}
 use Rattle.law_crash.specs.Doing.{number_of, actions_of_steps, content_of, SameDisk, StepWrites, folded, noted, with_kept, with_disks, Finds}
 
@@ -38,6 +39,35 @@ followed = record { map = 0; source = 0; target = 1; into = 1; same = true ∷ t
 
 the_marked_actions : actions_of_steps followed (number_of K64 (Write part)) (move_step ∷ own_step ∷ []) ≡ Data move_step ∷ Note pair ∷ Note (Changing (vol 0) (grain_no 0)) ∷ Data own_step ∷ Note wrote ∷ []
 the_marked_actions = refl
+
+-- ---- the calls that metadata costs
+
+-- Two volumes, a write, a mapping, its start, and the write above.
+abbrev small : Sizes
+small = record { batch = λ r. 28; image = 300; half = 4096 }
+
+abbrev entries : List (Sizes × List Action)
+entries =
+    (small, Fold ∷ [])
+    ∷ (small, Fold ∷ [])
+    ∷ (small, actions_of_steps [] (number_of K64 (Write part)) (own_step ∷ []))
+    ∷ (small, Fold ∷ [])
+    ∷ (small, Fold ∷ [])
+    ∷ (small, actions_of_steps [] (number_of K64 (Write part)) (move_step ∷ own_step ∷ []))
+    ∷ []
+
+forty_calls : calls_of_history 27 entries ≡ 40
+forty_calls = refl
+
+-- where the second batch of a write doesn't fit, there is a fold before it
+abbrev full : Sizes
+full = record small { half = 340 }
+
+the_write_folds : calls_of_actions full 300 (actions_of_steps [] (number_of K64 (Write part)) (move_step ∷ own_step ∷ [])) ≡ 14
+the_write_folds = refl
+
+behind_the_write : used_behind_all full 300 (actions_of_steps [] (number_of K64 (Write part)) (move_step ∷ own_step ∷ [])) ≡ 328
+behind_the_write = refl
 
 -- ---- what they do
 

@@ -34,7 +34,7 @@ use Rattle.fc_entry.specs.declared.entry.Entry.{Entry}
 use Rattle.fc_kept.specs.Disks.{NamedDisk}
 use Rattle.fc_follow.specs.Following.{restarts}
 use Rattle.fc_kept.specs.Kept.{Kept}
-use Rattle.fc_kept.specs.Marks.{asked_write, least_by, least_entry}
+use Rattle.fc_kept.specs.Marks.{AreMarked, LeastLeft, LeastLeft.decided as least_decided, LeastLeft.unsettled as least_unsettled, LeastLeft.settled_alone as least_settled, asked_write, least_by, least_entry}
 use Rattle.fc_kept.specs.Prefix.{AreFillSteps, AreStepsOf, AreWriteSteps}
 use Rattle.fc_legal.specs.Legal.{AreSteps}
 use Rattle.fc_legal.specs.Steps.{MustBeRefused, CommandIsRight, CommandLeft, CommandLeft.decided as left_decided, CommandLeft.unsettled as left_unsettled, CommandLeft.settled_alone as left_settled, CommandStep, IsInside, IsRefused, RequestStep, Step, after_access, after_settling, decided_on, left_by, one_more}
@@ -48,18 +48,18 @@ use Rattle.fc_rules.specs.LaneTurn.{cleaned_slot, copied_slot, next_clean, next_
 use Rattle.fc_rules.specs.Spot.{Spot}
 use Rattle.fc_rules.specs.Steps.{DiskStep, HasDone, HasFailed, HasNoMemory, StoppedAt, steps_of_fill, steps_of_write}
 use Rattle.law_crash.specs.Doing.{actions_of_steps, number_of, with_disks, with_kept}
-use Rattle.law_crash.specs.Leaving.{AreUnnamed, GoesOn, HaveTheirDisks, Leaves, Leaves.decided, Leaves.unsettled, Leaves.settled_alone, decided_anew, settled_anew}
+use Rattle.law_crash.specs.Leaving.{AreUnnamed, GoesOn, HaveTheirDisks, Leaves, Leaves.unsettled, made_anew}
 use Rattle.law_crash.specs.Points.{Point, StandsFor, nothing_kept}
 use Rattle.law_crash.specs.Running.{Does, Does.refused, Does.read, Does.whole, Does.stopped, Does.commanded, Run, Run.begun, Run.more, Run.named, Takes}
 use Rattle.law_crash.proofs.Coming.{next_later, settle_new}
 use Rattle.law_crash.proofs.Doable.{can_stop, fill_doable, torn_of_step, write_doable}
 use Rattle.law_crash.proofs.Fitting.{TakesDisks, decided_comes, fits_now, pools_fewer, settling_pools}
 use Rattle.law_crash.proofs.Lawful.{clean_of, copy_of}
-use Rattle.law_crash.proofs.Leaving.{leaves_all}
+use Rattle.law_crash.proofs.Leaving.{leaves_all, leaves_noted}
 use Rattle.law_crash.proofs.Making.{spot_in}
 use Rattle.law_crash.proofs.Opening.{opens}
 use Rattle.law_crash.proofs.Renaming.{Renamed, WasOrTook, renamed}
-use Rattle.law_crash.proofs.Running.{RunsTo, opened_on, run_stands}
+use Rattle.law_crash.proofs.Running.{RunsTo, least_left, opened_on, run_stands}
 use Rattle.law_crash.proofs.Writing.{AreDoable, Disked, can_do}
 use Rattle.law_stands.proofs.Standing.{command_lawful, stands_law_holds}
 use Rattle.law_volumes.proofs.Steps.{settling_keeps}
@@ -282,14 +282,19 @@ CommandEndsIn grain w least p entry next = CommandEnds grain w least p entry nex
 abbrev AnyLeaves : GrainSize → Whole → List Row → Kept → Command → Whole → Type 0
 AnyLeaves grain w least k command left = (least' : List Row) × (kept : Kept) × Leaves grain w least k command left least' kept
 
-any_leaves : (grain : GrainSize) (w : Whole) (least : List Row) (k : Kept) (command : Command) (reply : Reply) (effects : List Effect) (left : Whole) → CommandLeft grain w command reply effects left → AnyLeaves grain w least k command left
-any_leaves grain w least k command reply effects left (left_decided loop told) = (
-  least_by (after_settling grain w) (least_by w least (settle w.books)) (decided_on grain (after_settling grain w) command loop),
-  decided_anew grain w command loop k,
-  decided loop told,
-)
-any_leaves grain w least k command reply effects left left_unsettled = (least, k, unsettled)
-any_leaves grain w least k command reply effects left left_settled = (least_by w least (settle w.books), settled_anew grain w k, settled_alone)
+noted_behind : (grain : GrainSize) (w : Whole) (least : List Row) (k : Kept) (command : Command) (left : Whole) (least' : List Row) → AreMarked k.rows w.rows least → LeastLeft grain w least command left least' → AnyLeaves grain w least k command left
+noted_behind grain w least k command left least' between marks =
+    let x = leaves_noted grain w left least least' k command between marks in
+    (least', made_anew left x.0 k.lost, x.2)
+
+any_leaves : (grain : GrainSize) (w : Whole) (least : List Row) (k : Kept) (command : Command) (reply : Reply) (effects : List Effect) (left : Whole) → AreMarked k.rows w.rows least → CommandLeft grain w command reply effects left →
+    AnyLeaves grain w least k command left
+any_leaves grain w least k command reply effects left between (left_decided loop told) =
+    let settled : Whole = after_settling grain w in
+    let d : Decision = decided_on grain settled command loop in
+    noted_behind grain w least k command (left_by grain settled d) (least_by settled (least_by w least (settle w.books)) d) between (least_decided loop told)
+any_leaves grain w least k command reply effects left between left_unsettled = (least, k, unsettled)
+any_leaves grain w least k command reply effects left between left_settled = noted_behind grain w least k command (after_settling grain w) (least_by w least (settle w.books)) between least_settled
 
 module _ (grain : GrainSize) (w : Whole) (least : List Row) (p : Point) (few : w.entries < 262144) (st : StandsFor grain w least p) (on : GoesOn (2 * w.entries) w p.disks) (have : HaveTheirDisks w p.disks) where
   -- the disks get their names
@@ -334,18 +339,19 @@ module _ (grain : GrainSize) (w : Whole) (least : List Row) (p : Point) (few : w
       ])
       (λ i kind il. subst (λ (ps : List Pool). of_kind kind (pool_at ps i) ≤ of_kind kind (pool_at w.books.pools i)) (sym pools) (pools_fewer d.events w.books.pools i kind (here i il)))
 
-  names : (command : Command) (left : Whole) (least' : List Row) (kept : Kept) → Leaves grain w least p.kept command left least' kept → Renamed grain (one_more left) p.disks
-  names command left least' kept (decided loop told) = names_decided command loop least' kept told (decided loop told)
-  names command left least' kept unsettled = names_given w least' command kept w.books.next_volume unsettled (omega arith) (λ v c. inl c) (λ i kind il. omega arith)
-  names command left least' kept settled_alone =
-      names_given left least' command kept w.books.next_volume settled_alone (omega arith) (λ v c. inl (subst (λ (vs : List Volume). Contains vs v) (settling_keeps grain w) c))
+  names : (command : Command) (left : Whole) (least' : List Row) (kept : Kept) → LeastLeft grain w least command left least' → Leaves grain w least p.kept command left least' kept → Renamed grain (one_more left) p.disks
+  names command left least' kept (least_decided loop told) leaves = names_decided command loop least' kept told leaves
+  names command left least' kept least_unsettled leaves = names_given w least' command kept w.books.next_volume leaves (omega arith) (λ v c. inl c) (λ i kind il. omega arith)
+  names command left least' kept least_settled leaves =
+      names_given left least' command kept w.books.next_volume leaves (omega arith) (λ v c. inl (subst (λ (vs : List Volume). Contains vs v) (settling_keeps grain w) c))
       (λ i kind il. subst (λ (ps : List Pool). of_kind kind (pool_at ps i) ≤ of_kind kind (pool_at w.books.pools i)) (sym (settling_pools grain w)) (omega arith))
 
   command_ends : (command : Command) (entry : Entry) (next : Whole) → entry.request ≡ Asked command → CommandStep grain w command entry next → CommandEnds grain w least p entry next
   command_ends command entry next e s =
-      let x = any_leaves grain w least p.kept command entry.reply entry.effects s.left s.leaves in
+      let x = any_leaves grain w least p.kept command entry.reply entry.effects s.left st.says.rows s.leaves in
+      let marks : LeastLeft grain w least command s.left x.0 = least_left grain w least p.kept command s.left x.0 x.1 x.2 in
       subst (CommandEndsIn grain w least p entry) (sym s.next_is)
-      (record { least_next = x.0; kept = x.1; does = commanded command s.left x.0 x.1 e have x.2; renamed = names command s.left x.0 x.1 x.2 })
+      (record { least_next = x.0; kept = x.1; does = commanded command s.left x.0 x.1 e have x.2; renamed = names command s.left x.0 x.1 marks x.2 })
 
 -- ---- all entries
 

@@ -1,5 +1,5 @@
 -- What a command leaves, with metadata made anew over the same disks, stands for the history with its entry.
-use Rattle.std.proofs.Common.{◌≡◌, ◌≢◌, ℕ, ◌+◌, ◌^◌, ◌<◌, ◌≤◌, Bool, true, false, cond, ◌&&◌, ◌==◌, Option, Some, None, IsSome, List, [], ◌∷◌, ◌++◌, length, get_or, set, map, fold, find, replicate, not, Contains, refl, sym, ap, subst, ◌∙◌, arith, ◌⊎◌, inl, inr}
+use Rattle.std.proofs.Common.{◌≡◌, ◌≢◌, ℕ, suc, ◌+◌, ◌^◌, ◌<◌, ◌≤◌, Bool, true, false, cond, ◌&&◌, ◌==◌, Option, Some, None, IsSome, List, [], ◌∷◌, ◌++◌, length, get_or, set, map, fold, find, replicate, not, All, Contains, refl, sym, ap, subst, ◌∙◌, arith, ◌⊎◌, inl, inr}
 use Rattle.std.specs.List.{list_any}
 use Rattle.std.proofs.lemmas.Bool.{cases_eq, eq-eqb, ne_eqb, eqb-true, or_cases, and_parts}
 use Rattle.std.proofs.lemmas.List.Elements.{Contains-append_cases}
@@ -32,22 +32,23 @@ use Rattle.fc_kept.specs.Disks.{NamedDisk, on_disk}
 use Rattle.fc_kept.specs.Drops.{DropsTo.same}
 use Rattle.fc_kept.specs.Images.{size_in}
 use Rattle.fc_kept.specs.Kept.{LostGrains, Kept, is_lost_in}
-use Rattle.fc_kept.specs.Marks.{IsMarked, AreMarked, least_by, least_events}
+use Rattle.fc_kept.specs.Marks.{IsMarked, AreMarked, LeastLeft, LeastLeft.decided as least_decided, LeastLeft.unsettled as least_unsettled, LeastLeft.settled_alone as least_settled, least_by}
+use Rattle.fc_kept.specs.Recoverable.{Says}
 use Rattle.fc_kept.specs.Sound.{books_of, AreLost, IsInto, IsSoundKept}
 use Rattle.fc_kept.proofs.Marking.{mark_law}
 use Rattle.fc_kept.proofs.Sizes.{size_is, slot_size}
 use Rattle.fc_legal.specs.Lawful.{FitAsOne, IsLawful}
 use Rattle.fc_legal.specs.Stands.{AreRows, IsOfMapping}
-use Rattle.fc_legal.specs.Steps.{after_settling, decided_on, left_by, one_more}
+use Rattle.fc_legal.specs.Steps.{after_settling, decided_on, left_by, one_more, rows_after}
 use Rattle.fc_legal.specs.Whole.{Whole, all_followed, lane_at, lane_of_grain, single_lane}
 use Rattle.fc_moves.proofs.Readers.{IsHolder, holder_is}
 use Rattle.fc_pictures.specs.Law.{StoredAfter}
 use Rattle.fc_rules.specs.LaneTold.{LaneOf, place_of}
 use Rattle.fc_rules.specs.Shows.{Stored, Shown, Shows}
-use Rattle.law_crash.specs.Leaving.{AreFit, AreUnnamed, GoesOn, HaveTheirDisks, Leaves, Leaves.decided, Leaves.unsettled, Leaves.settled_alone, lost_of, made_anew}
+use Rattle.law_crash.specs.Leaving.{AreFit, AreUnnamed, GoesOn, HaveTheirDisks, Leaves, Leaves.anew, Leaves.unsettled, lost_of, made_anew}
 use Rattle.law_crash.specs.Points.{Point, StandsFor, on_disks, stored_by}
 use Rattle.law_crash.proofs.Coming.{AreAbove, IsAbove, MakesNew, decide_new, next_later, settle_new}
-use Rattle.law_crash.proofs.Fitting.{decided_fit, settled_fit}
+use Rattle.law_crash.proofs.Fitting.{decided_fit, fits_now, settled_fit}
 use Rattle.law_crash.proofs.Found.{chains_sound}
 use Rattle.law_crash.proofs.Lost.{all_in_is, row_of}
 use Rattle.law_crash.proofs.Noting.{stands_counted}
@@ -218,6 +219,23 @@ rows_are t ks ns ls m a =
           a.distinct i j d ij y.0 (sym (map_is (get_or ks i d) (get_or ns i d) (get_or ls i d) x.1) ∙ (e ∙ map_is (get_or ks j d) (get_or ns j d) (get_or ls j d) y.1));
     }
 
+rows_count : (ks ns ls : List Row) → AreMarked ks ns ls → length ks ≡ length ns
+rows_count [] [] [] m = refl
+rows_count (k ∷ ks) (n ∷ ns) (l ∷ ls) m = ap (λ (c : ℕ). suc c) (rows_count ks ns ls m.1)
+rows_count ks ns ls m = absurd m
+
+-- the last trigger of a row that lies between went where that of the history's row did
+kept_into : (ks ns ls : List Row) → AreMarked ks ns ls → All IsInto ns → All IsInto ks
+kept_into ks ns ls m all i d il =
+    let r = marked_at ks ns ls i d m il in
+    subst IsInto (sym r.1.kept_is) (all i d r.0)
+
+now_into : (ks ns ls : List Row) → AreMarked ks ns ls → All IsInto ks → All IsInto ns
+now_into ks ns ls m all i d il =
+    let count : length ks ≡ length ns = rows_count ks ns ls m in
+    let there : i < length ks = omega (arith, count, il) in
+    subst IsInto (marked_at ks ns ls i d m there).1.kept_is (all i d there)
+
 -- the last trigger of a row went into one of its volumes
 either_into : (b : Bool) (x y : Row) → IsInto x → IsInto y → IsInto (cond b x y)
 either_into true x y first second = first
@@ -270,10 +288,9 @@ notes_into : (rows : List Row) (notes : List Note) → AreInto rows → AreInto 
 notes_into rows [] all = all
 notes_into rows (n ∷ ns) all = notes_into (after_note rows n) ns (note_into rows n all)
 
-events_into : (s : Sheet) (now rows : List Row) (es : List LaneEvent) → AreInto rows → AreInto (least_events s now rows es)
-events_into s now rows [] all = all
-events_into s now rows (e ∷ es) all =
-    events_into (sheet_after (restarts now) s e) (rows_event s.slots now e) (rows_event s.slots rows e) es (notes_into rows (event_notes s.slots e) all)
+rows_into : (s : Sheet) (rows : List Row) (es : List LaneEvent) → AreInto rows → AreInto (rows_after s rows es)
+rows_into s rows [] all = all
+rows_into s rows (e ∷ es) all = rows_into (sheet_after (restarts rows) s e) (rows_event s.slots rows e) es (notes_into rows (event_notes s.slots e) all)
 
 -- ---- what metadata that is made anew says is sound
 
@@ -304,7 +321,7 @@ books_alone b k a t v m g s =
     } in
     subst AreSound (λ i. record { tables = sym t i; next_volume = sym v i; next_mapping = sym m i; next_group = sym g i; sheet = sym s i; flags = []; pools = []; rooms = [] }) alone
 
-anew_sound : (decisions : ℕ) (left : Whole) (least rows : List Row) (lost : List LostGrains) → decisions + 2 < 2 ^ 32 → IsReached decisions left → AreMarked rows left.rows least → AreInto rows → IsSoundKept (made_anew left rows lost)
+anew_sound : (decisions : ℕ) (left : Whole) (least rows : List Row) (lost : List LostGrains) → decisions + 2 < 2 ^ 32 → IsReached decisions left → AreMarked rows left.rows least → All IsInto rows → IsSoundKept (made_anew left rows lost)
 anew_sound decisions left least rows lost few r marked into =
     let b : Books = left.books in
     let f = r.stands.few in
@@ -316,7 +333,7 @@ anew_sound decisions left least rows lost few r marked into =
     record {
       books = books_alone b (made_anew left rows lost) r.stands.sound refl refl refl refl refl;
       rows = rows_are b.tables rows left.rows least marked r.stands.rows;
-      into = all_from IsInto rows into;
+      into = into;
       lost = lost_by_left b lost r.stands.sound.tables;
       grains = all_from (λ (v : Volume). v.grains < 2 ^ 32) b.tables.volumes (λ v c. let one = one_of_all b.tables.volumes v c in omega (arith, one, all));
       births = omega (arith, births, few);
@@ -325,71 +342,50 @@ anew_sound decisions left least rows lost few r marked into =
       group_ids = omega (arith, groups, few);
     }
 
--- ---- one decision
+-- ---- through decisions, what is stored stays what it was, and shows what is told
 
--- metadata made anew behind it
-abbrev pub behind : GrainSize → Whole → Decision → Point → Point
-behind grain w d p = record p { kept = made_anew (left_by grain w d) (least_by w p.kept.rows d) p.kept.lost }
+pub record GoesThrough (grain : GrainSize) (w : Whole) (stored : Stored) (disks : List (List NamedDisk)) : Type 0 where
+  pub follows : Follows (all_followed w) stored
+  pub null : NullAbove grain w.books.next_volume stored
+  pub unnamed : AreUnnamed w disks
+  pub into : AreInto w.rows
 
-pub record LeftBy (grain : GrainSize) (w : Whole) (least : List Row) (d : Decision) (p : Point) : Type 0 where
-  pub stands : StandsFor grain (left_by grain w d) (least_by w least d) (behind grain w d p)
-  pub alike : AreAlike (all_followed (left_by grain w d))
-  pub unnamed : AreUnnamed (left_by grain w d) p.disks
+abbrev Through : GrainSize → Whole → Point → Whole → Type 0
+Through grain w p left = GoesThrough grain left (stored_by grain w p) p.disks
 
-pub decision_leaves : (grain : GrainSize) (decisions : ℕ) (w : Whole) (least : List Row) (d : Decision) (p : Point) → decisions + 3 < 2 ^ 32 → IsLawful grain decisions w d → IsReached (decisions + 1) (left_by grain w d) →
-    MakesNew w.books.next_volume d.events d.changes → AreAlike (all_followed w) → AreUnnamed w p.disks → AreFit grain (left_by grain w d) p.disks → StandsFor grain w least p → LeftBy grain w least d p
-decision_leaves grain decisions w least d p few lawful r new alike unnamed fit st =
-    let left : Whole = left_by grain w d in
-    let rows : List Row = least_by w p.kept.rows d in
-    let stored : Stored = stored_by grain w p in
-    let start : Follows (all_followed w) stored = record { agrees = record { sound = chains_sound grain w least p st; shows = st.shows }; alike = alike } in
-    let after : Follows (all_followed left) stored =
-    subst (λ (f : Followed). Follows f stored) lawful.told (follows_all grain w.books.next_volume (all_followed w) d.events stored start lawful.events new.0 (null_above grain w least p st unnamed)) in
-    let marked : AreMarked rows left.rows (least_by w least d) = mark_law.decided w.books.sheet p.kept.rows w.rows least d.events st.says.rows in
-    let was : AreInto p.kept.rows = λ row c. all_in_is IsInto p.kept.rows st.says.sound.into row c in
-    let later : w.books.next_volume ≤ left.books.next_volume = next_later (restarts w.rows) w.books d.events d.changes new.1 in
+at_first : (grain : GrainSize) (w : Whole) (least : List Row) (p : Point) → AreAlike (all_followed w) → AreUnnamed w p.disks → StandsFor grain w least p → Through grain w p w
+at_first grain w least p alike unnamed st =
     record {
-      stands = record {
-        says = record {
-          sound = anew_sound (decisions + 1) left (least_by w least d) rows p.kept.lost (omega (arith, few)) r marked (events_into w.books.sheet w.rows p.kept.rows d.events was);
-          tables = refl;
-          next_volume = refl;
-          next_mapping = refl;
-          next_group = refl;
-          slots = same;
-          rows = marked;
-          count = st.says.count;
-          fit = fit;
-        };
-        shows = shows_same left.books.sheet.slots left.picture stored (stored_by grain left (behind grain w d p)) (same_of_slots grain w left p rows refl r.stands.sound) after.agrees.shows;
-      };
-      alike = after.alike;
-      unnamed = λ i v le. unnamed i v (omega (arith, later, le));
+      follows = record { agrees = record { sound = chains_sound grain w least p st; shows = st.shows }; alike = alike };
+      null = null_above grain w least p st unnamed;
+      unnamed = unnamed;
+      into = λ row c. all_in_is IsInto w.rows (now_into p.kept.rows w.rows least st.says.rows st.says.sound.into) row c;
     }
 
--- ---- a command
+decision_through : (grain : GrainSize) (decisions : ℕ) (w : Whole) (d : Decision) (stored : Stored) (disks : List (List NamedDisk)) → IsLawful grain decisions w d → MakesNew w.books.next_volume d.events d.changes →
+    GoesThrough grain w stored disks → GoesThrough grain (left_by grain w d) stored disks
+decision_through grain decisions w d stored disks lawful new x =
+    let left : Whole = left_by grain w d in
+    let later : w.books.next_volume ≤ left.books.next_volume = next_later (restarts w.rows) w.books d.events d.changes new.1 in
+    record {
+      follows = subst (λ (f : Followed). Follows f stored) lawful.told (follows_all grain w.books.next_volume (all_followed w) d.events stored x.follows lawful.events new.0 x.null);
+      null = λ v g le. x.null v g (omega (arith, later, le));
+      unnamed = λ i v le. x.unnamed i v (omega (arith, later, le));
+      into = rows_into w.books.sheet w.rows d.events x.into;
+    }
 
-settling_leaves : (grain : GrainSize) (decisions : ℕ) (w : Whole) (least : List Row) (p : Point) → decisions + 3 < 2 ^ 32 → IsReached decisions w → AreAlike (all_followed w) → AreUnnamed w p.disks → StandsFor grain w least p →
-    LeftBy grain w least (settle w.books) p
-settling_leaves grain decisions w least p few r alike unnamed st =
-    let small : decisions < 2 ^ 32 = omega (arith, few) in
-    decision_leaves grain decisions w least (settle w.books) p (omega (arith, few)) (settling_lawful grain decisions w small r.stands) (stands_law_holds.settled grain decisions w small r)
-    (settle_new w.books) alike unnamed (settled_fit grain w least p st) st
+settling_through : (grain : GrainSize) (decisions : ℕ) (w : Whole) (stored : Stored) (disks : List (List NamedDisk)) → decisions < 2 ^ 32 → IsReached decisions w → GoesThrough grain w stored disks → GoesThrough grain (after_settling grain w) stored disks
+settling_through grain decisions w stored disks few r x = decision_through grain decisions w (settle w.books) stored disks (settling_lawful grain decisions w few r.stands) (settle_new w.books) x
 
-command_leaves : (grain : GrainSize) (decisions : ℕ) (w : Whole) (least : List Row) (command : Command) (loop : Option (List VolId)) (p : Point) → decisions + 4 < 2 ^ 32 → IsReached decisions w → AreAlike (all_followed w) →
-    AreUnnamed w p.disks → StandsFor grain w least p → IsLoopOf grain (after_settling grain w).books command loop →
-    AreFit grain (left_by grain (after_settling grain w) (decided_on grain (after_settling grain w) command loop)) p.disks →
-    LeftBy grain (after_settling grain w) (least_by w least (settle w.books)) (decided_on grain (after_settling grain w) command loop) (behind grain w (settle w.books) p)
-command_leaves grain decisions w least command loop p few r alike unnamed st told fit =
+command_through : (grain : GrainSize) (decisions : ℕ) (w : Whole) (command : Command) (loop : Option (List VolId)) (stored : Stored) (disks : List (List NamedDisk)) → decisions + 1 < 2 ^ 32 → IsReached decisions w →
+    IsLoopOf grain (after_settling grain w).books command loop → GoesThrough grain w stored disks →
+    GoesThrough grain (left_by grain (after_settling grain w) (decided_on grain (after_settling grain w) command loop)) stored disks
+command_through grain decisions w command loop stored disks few r told x =
     let settled : Whole = after_settling grain w in
-    let d : Decision = decided_on grain settled command loop in
-    let first : LeftBy grain w least (settle w.books) p = settling_leaves grain decisions w least p (omega (arith, few)) r alike unnamed st in
-    let small : decisions + 1 < 2 ^ 32 = omega (arith, few) in
-    let more : decisions + 2 ≡ decisions + 1 + 1 = omega arith in
-    decision_leaves grain (decisions + 1) settled (least_by w least (settle w.books)) d (behind grain w (settle w.books) p) (omega (arith, few))
-    (command_lawful grain decisions w command loop small r.stands told)
-    (subst (λ (n : ℕ). IsReached n (left_by grain settled d)) more (stands_law_holds.decided grain decisions w command loop small r told))
-    (decide_new (restarts settled.rows) grain settled.books command loop) first.alike first.unnamed fit first.stands
+    decision_through grain (decisions + 1) settled (decided_on grain settled command loop) stored disks (command_lawful grain decisions w command loop few r.stands told)
+    (decide_new (restarts settled.rows) grain settled.books command loop) (settling_through grain decisions w stored disks (omega (arith, few)) r x)
+
+-- ---- a command
 
 -- all that it leaves
 abbrev AllLeft : GrainSize → ℕ → Whole → List Row → Point → Type 0
@@ -405,20 +401,90 @@ counted grain decisions left least q st on = (
   },
 )
 
+-- what it leaves of the history, over the same disks
+record LeftSo (grain : GrainSize) (decisions : ℕ) (w : Whole) (p : Point) (left : Whole) : Type 0 where
+  lanes_are : left.faults ≡ w.faults
+  through : Through grain w p left
+  reached : IsReached decisions left
+
+goes_on : (grain : GrainSize) (decisions : ℕ) (w left : Whole) (p : Point) → LeftSo grain decisions w p left → GoesOn decisions left p.disks
+goes_on grain decisions w left p x = record { reached = x.reached; alike = x.through.follows.alike; unnamed = x.through.unnamed }
+
+module _ (grain : GrainSize) (decisions : ℕ) (w : Whole) (least : List Row) (command : Command) (p : Point) (few : decisions + 4 < 2 ^ 32) (on : GoesOn decisions w p.disks) (st : StandsFor grain w least p) where
+  left_so : (left : Whole) (least' : List Row) → LeastLeft grain w least command left least' → LeftSo grain (decisions + 2) w p left
+  left_so left least' (least_decided loop told) =
+      record {
+        lanes_are = refl;
+        through = command_through grain decisions w command loop (stored_by grain w p) p.disks (omega (arith, few)) on.reached told (at_first grain w least p on.alike on.unnamed st);
+        reached = stands_law_holds.decided grain decisions w command loop (omega (arith, few)) on.reached told;
+      }
+  left_so left least' least_unsettled =
+      record { lanes_are = refl; through = at_first grain w least p on.alike on.unnamed st; reached = stands_law_holds.more decisions (decisions + 2) w (omega arith) on.reached }
+  left_so left least' least_settled =
+      record {
+        lanes_are = refl;
+        through = settling_through grain decisions w (stored_by grain w p) p.disks (omega (arith, few)) on.reached (at_first grain w least p on.alike on.unnamed st);
+        reached = stands_law_holds.more (decisions + 1) (decisions + 2) (after_settling grain w) (omega arith) (stands_law_holds.settled grain decisions w (omega (arith, few)) on.reached);
+      }
+
+  left_fit : (left : Whole) (least' : List Row) → HaveTheirDisks w p.disks → LeastLeft grain w least command left least' → AreFit grain left p.disks
+  left_fit left least' have (least_decided loop told) = decided_fit grain decisions w least p command loop (omega (arith, few)) on st have told
+  left_fit left least' have least_unsettled = fits_now grain w least p st
+  left_fit left least' have least_settled = settled_fit grain w least p st
+
+  -- metadata is made anew
+  anew_all : (left : Whole) (least' rows : List Row) → HaveTheirDisks w p.disks → LeastLeft grain w least command left least' → AreMarked rows left.rows least' →
+      AllLeft grain (decisions + 2) left least' (record p { kept = made_anew left rows p.kept.lost })
+  anew_all left least' rows have marks between =
+      let q : Point = record p { kept = made_anew left rows p.kept.lost } in
+      let x = left_so left least' marks in
+      counted grain (decisions + 2) left least' q
+      (record {
+        says = record {
+          sound = anew_sound (decisions + 2) left least' rows p.kept.lost (omega (arith, few)) x.reached between (kept_into rows left.rows least' between (all_from IsInto left.rows x.through.into));
+          tables = refl;
+          next_volume = refl;
+          next_mapping = refl;
+          next_group = refl;
+          slots = same;
+          rows = between;
+          count = st.says.count ∙ sym (ap (λ (f : List ℕ). length f) x.lanes_are);
+          fit = left_fit left least' have marks;
+        };
+        shows = shows_same left.books.sheet.slots left.picture (stored_by grain w p) (stored_by grain left q) (same_of_slots grain w left p rows x.lanes_are x.reached.stands.sound) x.through.follows.agrees.shows;
+      })
+      (goes_on grain (decisions + 2) w left p x)
+
+  -- or it stays
+  pub stays_all : (left : Whole) (least' : List Row) → LeastLeft grain w least command left least' → Says grain p.disks p.kept left least' → AllLeft grain (decisions + 2) left least' p
+  stays_all left least' marks says =
+      let x = left_so left least' marks in
+      counted grain (decisions + 2) left least' p
+      (record { says = says; shows = subst (λ (f : List ℕ). Shows left.books.sheet.slots left.picture (stored_by grain (record w { faults = f }) p)) (sym x.lanes_are) x.through.follows.agrees.shows })
+      (goes_on grain (decisions + 2) w left p x)
+
 pub leaves_all : (grain : GrainSize) (decisions : ℕ) (w left : Whole) (least least' : List Row) (command : Command) (p : Point) (kept : Kept) → decisions + 4 < 2 ^ 32 → GoesOn decisions w p.disks →
     StandsFor grain w least p → HaveTheirDisks w p.disks → Leaves grain w least p.kept command left least' kept → AllLeft grain (decisions + 2) left least' (record p { kept = kept })
-leaves_all grain decisions w left least least' command p kept few on st have (decided loop told) =
-    let fit = decided_fit grain decisions w least p command loop (omega (arith, few)) on st have told in
-    let x = command_leaves grain decisions w least command loop p few on.reached on.alike on.unnamed st told fit in
+leaves_all grain decisions w left least least' command p kept few on st have (anew behind least_behind rows marks between) = anew_all grain decisions w least command p few on st behind least_behind rows have marks between
+leaves_all grain decisions w left least least' command p kept few on st have unsettled = stays_all grain decisions w least command p few on st w least least_unsettled st.says
+
+-- ---- metadata may have the rows that it had, to which a command notes what it notes to the history's
+
+noted_rows : (grain : GrainSize) (w left : Whole) (kept least least' : List Row) (command : Command) → AreMarked kept w.rows least → LeastLeft grain w least command left least' →
+    (rows : List Row) × LeastLeft grain w kept command left rows × AreMarked rows left.rows least'
+noted_rows grain w left kept least least' command m (least_decided loop told) =
     let settled : Whole = after_settling grain w in
     let d : Decision = decided_on grain settled command loop in
-    counted grain (decisions + 2) (left_by grain settled d) (least_by settled (least_by w least (settle w.books)) d) (behind grain settled d (behind grain w (settle w.books) p)) x.stands
-    (record { reached = stands_law_holds.decided grain decisions w command loop (omega (arith, few)) on.reached told; alike = x.alike; unnamed = x.unnamed })
-leaves_all grain decisions w left least least' command p kept few on st have unsettled =
-    counted grain (decisions + 2) w least p st
-    (record { reached = stands_law_holds.more decisions (decisions + 2) w (omega arith) on.reached; alike = on.alike; unnamed = on.unnamed })
-leaves_all grain decisions w left least least' command p kept few on st have settled_alone =
-    let x = settling_leaves grain decisions w least p (omega (arith, few)) on.reached on.alike on.unnamed st in
-    let r : IsReached (decisions + 1) (after_settling grain w) = stands_law_holds.settled grain decisions w (omega (arith, few)) on.reached in
-    counted grain (decisions + 2) (after_settling grain w) (least_by w least (settle w.books)) (behind grain w (settle w.books) p) x.stands
-    (record { reached = stands_law_holds.more (decisions + 1) (decisions + 2) (after_settling grain w) (omega arith) r; alike = x.alike; unnamed = x.unnamed })
+    let kept_settled : List Row = least_by w kept (settle w.books) in
+    let least_settling : List Row = least_by w least (settle w.books) in
+    let first : AreMarked kept_settled settled.rows least_settling = mark_law.decided w.books.sheet kept w.rows least (settle w.books).events m in
+    (least_by settled kept_settled d, least_decided loop told, mark_law.decided settled.books.sheet kept_settled settled.rows least_settling d.events first)
+noted_rows grain w left kept least least' command m least_unsettled = (kept, least_unsettled, m)
+noted_rows grain w left kept least least' command m least_settled =
+    (least_by w kept (settle w.books), least_settled, mark_law.decided w.books.sheet kept w.rows least (settle w.books).events m)
+
+pub leaves_noted : (grain : GrainSize) (w left : Whole) (least least' : List Row) (k : Kept) (command : Command) → AreMarked k.rows w.rows least → LeastLeft grain w least command left least' →
+    (rows : List Row) × LeastLeft grain w k.rows command left rows × Leaves grain w least k command left least' (made_anew left rows k.lost)
+leaves_noted grain w left least least' k command m marks =
+    let x = noted_rows grain w left k.rows least least' command m marks in
+    (x.0, x.1, anew left least' x.0 marks x.2)

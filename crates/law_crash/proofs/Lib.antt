@@ -23,5 +23,6 @@ pub mod Naming
 pub mod Renaming
 pub mod Doable
 pub mod Histories
+pub mod Costs
 pub mod Whole
 mod Examples

@@ -1,5 +1,5 @@
 -- A whole history: each entry stands on what the last one left, and what a stop finds in the next one may be recovered.
-use Rattle.std.proofs.Common.{◌≡◌, ℕ, ◌+◌, ◌*◌, ◌<◌, ◌≤◌, ◌==◌, cond, fold, Option, Some, None, List, [], ◌∷◌, ◌++◌, length, set, All, refl, sym, ap, subst, ◌∙◌, arith, inl, inr}
+use Rattle.std.proofs.Common.{◌≡◌, ℕ, ◌+◌, ◌*◌, ◌<◌, ◌≤◌, ◌==◌, cond, fold, Option, Some, None, List, [], ◌∷◌, ◌++◌, length, set, All, refl, sym, ap, subst, ◌∙◌, arith, ◌⊎◌, inl, inr}
 use Rattle.std.specs.List.{AllZip}
 use Rattle.std.proofs.lemmas.Bool.{eqb-true}
 use Rattle.fc_alike.proofs.Lawful.{follow_law_holds}
@@ -29,7 +29,7 @@ use Rattle.fc_follow.specs.Following.{followed_entry, rows_entry, write_notes}
 use Rattle.fc_kept.specs.Actions.{Action, Action.Data, Action.Note, Action.Fold}
 use Rattle.fc_kept.specs.Disks.{NamedDisk, FitDisks, disk_of}
 use Rattle.fc_kept.specs.Kept.{Kept, is_lost_in, sheet_kept}
-use Rattle.fc_kept.specs.Marks.{LeastLeft, LeastLeft.decided as least_decided, LeastLeft.unsettled as least_unsettled, LeastLeft.settled_alone as least_settled, LeastStep, asked_write, least_asked, least_entry}
+use Rattle.fc_kept.specs.Marks.{LeastLeft, LeastLeft.unsettled as least_unsettled, LeastStep, asked_write, least_asked, least_entry}
 use Rattle.fc_kept.specs.OneGrain.{Another}
 use Rattle.fc_kept.specs.Prefix.{AreStepsOf}
 use Rattle.fc_kept.specs.Recoverable.{Recoverable, disks_at}
@@ -46,14 +46,14 @@ use Rattle.fc_rules.specs.LaneTold.{picture_entry, picture_tear, picture_write, 
 use Rattle.fc_rules.specs.Steps.{DiskStep}
 use Rattle.law_crash.specs.Doing.{number_of, actions_of_steps, marks_by_move, chains_behind, content_of, noted, with_kept, with_disks, IsWritten, SameDisk, Did, Stopped, Tears, Tells}
 use Rattle.law_crash.specs.Law.{Begins}
-use Rattle.law_crash.specs.Leaving.{AreUnnamed, GoesOn, Leaves, Leaves.decided, Leaves.unsettled, Leaves.settled_alone}
+use Rattle.law_crash.specs.Leaving.{AreUnnamed, GoesOn, Leaves, Leaves.anew, Leaves.unsettled}
 use Rattle.law_crash.specs.Points.{Point, StandsFor, nothing_kept, on_disks, stored_by}
-use Rattle.law_crash.specs.Running.{Does, Does.refused, Does.read, Does.whole, Does.stopped, Does.commanded, Run, Run.begun, Run.more, Run.named, StayAs, Takes, Stops, Stops.before, Stops.within, Stops.behind}
+use Rattle.law_crash.specs.Running.{Does, Does.refused, Does.read, Does.whole, Does.stopped, Does.commanded, Does.unchanged, Run, Run.begun, Run.more, Run.named, StayAs, Takes, Stops, Stops.before, Stops.within, Stops.done}
 use Rattle.law_crash.proofs.Answering.{answered, least_with, plain_after, request_is, told_with}
 use Rattle.law_crash.proofs.Disks.{was_of}
 use Rattle.law_crash.proofs.Ending.{all_stopped}
 use Rattle.law_crash.proofs.Lawful.{all_found, all_stand}
-use Rattle.law_crash.proofs.Leaving.{SameOfSlots, leaves_all, shows_same, some_volume}
+use Rattle.law_crash.proofs.Leaving.{SameOfSlots, leaves_all, shows_same, some_volume, stays_all}
 use Rattle.law_crash.proofs.Noting.{stands_counted}
 use Rattle.law_crash.proofs.Opening.{opens, rests, turned}
 use Rattle.law_stands.proofs.Standing.{stands_law_holds}
@@ -202,6 +202,9 @@ module _ (grain : GrainSize) (w : Whole) (least : List Row) (p : Point) (few : w
   does_stand entry next least' q (commanded command left rows kept e have leaves) =
       let x = leaves_all grain (2 * w.entries) w left least rows command p kept (omega (arith, few)) on st have leaves in
       (x.0, x.1.alike, x.1.unnamed)
+  does_stand entry next least' q (unchanged command left rows e marks says) =
+      let x = stays_all grain (2 * w.entries) w least command p (omega (arith, few)) on st left rows marks says in
+      (x.0, x.1.alike, x.1.unnamed)
 
 -- ---- disks get other names
 
@@ -245,17 +248,17 @@ RunsTo grain first entries w least p = AreSteps grain first entries w × StandsF
 pub run_stands : (grain : GrainSize) (first : Whole) (least : List Row) (p : Point) (entries : List Entry) (w : Whole) (least' : List Row) (q : Point) → StandsFor grain first least p → GoesOn (2 * first.entries) first p.disks →
     Run grain first least p entries w least' q → w.entries ≤ 262144 → RunsTo grain first entries w least' q
 run_stands grain first least p entries w least' q st on begun few = (refl, st, on)
-run_stands grain first least p entries w least' q st on (more done now least_now x entry next least_next z run step does) few =
+run_stands grain first least p entries w least' q st on (more front now least_now x entry next least_next z run step does) few =
     let count : next.entries ≡ now.entries + 1 = stands_law_holds.counted grain now entry next step in
     let below : now.entries < 262144 = omega (arith, count, few) in
-    let r = run_stands grain first least p done now least_now x st on run (omega (arith, below)) in
+    let r = run_stands grain first least p front now least_now x st on run (omega (arith, below)) in
     let b = does_stand grain now least_now x below r.1 r.2 entry next least_next z does in (
-      steps_snoc grain first now next done entry r.0 step,
+      steps_snoc grain first now next front entry r.0 step,
       b.0,
       record { reached = stands_law_holds.by_entries grain now entry next below r.2.reached step; alike = b.1; unnamed = b.2 },
     )
-run_stands grain first least p entries w least' q st on (named done now least_now x disks run stay) few =
-    let r = run_stands grain first least p done now least_now x st on run few in (
+run_stands grain first least p entries w least' q st on (named front now least_now x disks run stay) few =
+    let r = run_stands grain first least p front now least_now x st on run few in (
       r.0,
       named_stands grain now least_now x disks r.2.reached.stands.sound r.1 stay,
       record { reached = r.2.reached; alike = r.2.alike; unnamed = stay.unnamed },
@@ -273,24 +276,40 @@ runs_all grain pools disks entries w least p some count unnamed run few =
 
 -- ---- a stop in the next one
 
-least_left : (grain : GrainSize) (w : Whole) (least : List Row) (k : Kept) (command : Command) (left : Whole) (least' : List Row) (kept : Kept) → Leaves grain w least k command left least' kept → LeastLeft grain w least command left least'
-least_left grain w least k command left least' kept (decided loop told) = least_decided loop told
+pub least_left : (grain : GrainSize) (w : Whole) (least : List Row) (k : Kept) (command : Command) (left : Whole) (least' : List Row) (kept : Kept) → Leaves grain w least k command left least' kept → LeastLeft grain w least command left least'
+least_left grain w least k command left least' kept (anew behind least_behind rows marks between) = marks
 least_left grain w least k command left least' kept unsettled = least_unsettled
-least_left grain w least k command left least' kept settled_alone = least_settled
 
 least_step : (grain : GrainSize) (w left : Whole) (least least' : List Row) (command : Command) (entry : Entry) (request : Request) → request ≡ Asked command → LeastLeft grain w least command left least' → LeastStep grain w least request entry (one_more left) least'
 least_step grain w left least least' command entry request e x = subst (λ (r : Request). LeastStep grain w least r entry (one_more left) least') (sym e) (left, x, refl)
+
+least_access : (grain : GrainSize) (w : Whole) (least : List Row) (request work : Request) (steps : List DiskStep) (entry : Entry) (next : Whole) → Takes request work → AreStepsOf grain w work steps →
+    LeastStep grain w least request entry next (least_entry (single_lane grain) least entry)
+least_access grain w least (Asked command) work steps entry next takes are = absurd (subst (λ (r : Request). AreStepsOf grain w r steps) takes are)
+least_access grain w least request work steps entry next takes are = refl
+
+-- an entry leaves all as it was, or its least rows are those that the history has behind it
+least_done : (grain : GrainSize) (w : Whole) (least : List Row) (p : Point) (entry : Entry) (next : Whole) (least' : List Row) (q : Point) → Does grain w least p entry next least' q →
+    (q ≡ p) ⊎ LeastStep grain w least entry.request entry next least'
+least_done grain w least p entry next least' q (refused none) = inl refl
+least_done grain w least p entry next least' q (read i told) = inl refl
+least_done grain w least p entry next least' q (whole i work steps z takes inside are did told) = inr (least_access grain w least entry.request work steps entry (after_access grain w i entry) takes are)
+least_done grain w least p entry next least' q (stopped i work front back step torn z takes inside are x told) =
+    inr (least_access grain w least entry.request work (front ++ step ∷ back) entry (after_access grain w i entry) takes are)
+least_done grain w least p entry next least' q (unchanged command left rows e marks says) = inl refl
+least_done grain w least p entry next least' q (commanded command left rows kept e have leaves) =
+    inr (least_step grain w left least rows command entry entry.request e (least_left grain w least p.kept command left rows kept leaves))
 
 stop_recovers : (grain : GrainSize) (w : Whole) (least : List Row) (p : Point) (request : Request) (one : Option Another) (q : Point) → w.entries < 262144 → StandsFor grain w least p → GoesOn (2 * w.entries) w p.disks →
     Stops grain w least p request one q → Recoverable grain q.disks q.kept w least (Some request) one
 stop_recovers grain w least p request one q few st on (before r) = rests grain w least (Some r) p st
 stop_recovers grain w least p request one q few st on (within r steps other z inside are finds) =
     all_found grain w least r steps p z other (begins grain w least p few st on r steps inside are) finds
-stop_recovers grain w least p request one q few st on (behind command entry left rows kept e step have leaves) =
-    let x = leaves_all grain (2 * w.entries) w left least rows command p kept (omega (arith, few)) on st have leaves in
-    let y : Point = record p { kept = kept } in
-    turned grain w (one_more left) least rows entry p y y None step
-    (least_step grain w left least rows command entry entry.request e (least_left grain w least p.kept command left rows kept leaves)) st x.0 (inr (refl, refl, inl refl))
+stop_recovers grain w least p request one q few st on (done entry next rows z step does) =
+    elim (least_done grain w least p entry next rows z does) [
+      | inl same ↦ subst (λ (x : Point). Recoverable grain x.disks x.kept w least (Some entry.request) None) (sym same) (rests grain w least (Some entry.request) p st)
+      | inr marks ↦ turned grain w next least rows entry p z z None step marks st (does_stand grain w least p few st on entry next rows z does).0 (inr (refl, refl, inl refl))
+    ]
 
 pub stops_all : (grain : GrainSize) (pools : List Pool) (disks : List (List NamedDisk)) (entries : List Entry) (w : Whole) (least : List Row) (p : Point) (request : Request) (one : Option Another) (q : Point) →
     0 < length pools → length disks ≡ length pools → AreUnnamed (opened pools) disks → let first : Point = record { kept = nothing_kept; disks = disks } in Run grain (opened pools) [] first entries w least p →

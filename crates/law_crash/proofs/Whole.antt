@@ -3,6 +3,7 @@ use Rattle.fc_kept.specs.Marks.{asked_write}
 use Rattle.std.proofs.Common.{None}
 use Rattle.law_crash.specs.Law.{CrashLaw}
 use Rattle.law_crash.proofs.Answering.{answered}
+use Rattle.law_crash.proofs.Costs.{cost_law}
 use Rattle.law_crash.proofs.Ending.{all_stopped}
 use Rattle.law_crash.proofs.Found.{shows_none, shown_is_read}
 use Rattle.law_crash.proofs.Histories.{histories_run}
@@ -26,4 +27,5 @@ crash_law_holds =
       runs = runs_all;
       histories = histories_run;
       stops = stops_all;
+      costs = cost_law;
     }

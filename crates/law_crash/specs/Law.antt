@@ -29,6 +29,7 @@ use Rattle.fc_kept.specs.Recoverable.{Recoverable}
 use Rattle.law_crash.specs.Points.{Point, StandsFor, stored_by, nothing_kept}
 use Rattle.law_crash.specs.Leaving.{AreUnnamed, GoesOn, HaveTheirDisks, Leaves}
 use Rattle.law_crash.specs.Running.{Run, Stops}
+use Rattle.law_crash.specs.Costs.{CostLaw}
 use Rattle.law_crash.specs.Doing.{number_of, actions_of_steps, Did, IsFound, Finds, Stopped, Tells}
 
 -- A write, a copy or a cleaning begins, with these steps, where the disks stand for what the history leads to.
@@ -102,3 +103,5 @@ pub record CrashLaw : Type 0 where
       let first : Point = record { kept = nothing_kept; disks = disks } in
       Run grain (opened pools) [] first entries w least p → w.entries < 262144 → Stops grain w least p request one q →
       Recoverable grain q.disks q.kept w least (Some request) one
+  -- and how many calls of its disk metadata costs
+  pub costs : CostLaw

@@ -1,22 +1,19 @@
 -- What a command leaves of metadata.
-use Rattle.std.specs.Prelude.{◌≡◌, ℕ, ◌<◌, ◌≤◌, Bool, true, false, ◌&&◌, not, List, length, filter, Contains, Option, None, IsSome, is_some, map}
+use Rattle.std.specs.Prelude.{◌≡◌, ℕ, ◌<◌, ◌≤◌, Bool, true, false, ◌&&◌, not, List, length, filter, Contains, None, IsSome, is_some, map}
 use Rattle.fc_base.specs.Pools.{of_kind}
 use Rattle.fc_base.specs.declared.command.Command.{Command}
 use Rattle.fc_base.specs.declared.disk.DiskKind.{DiskKind}
 use Rattle.fc_base.specs.declared.disk.DiskKind.TheVariants.{Flat, Thin}
-use Rattle.fc_base.specs.declared.ids.VolId.{VolId}
 use Rattle.fc_base.specs.declared.size.GrainSize.{GrainSize}
 use Rattle.fc_base.specs.declared.volume.Volume.{Volume}
-use Rattle.fc_books.specs.Deciding.{settle, IsLoopOf}
 use Rattle.fc_changed.specs.Notes.{grains_with}
 use Rattle.fc_changed.specs.Row.{Row}
 use Rattle.fc_follow.specs.Alike.{AreAlike}
-use Rattle.fc_legal.specs.Steps.{left_by, after_settling, decided_on}
 use Rattle.fc_legal.specs.Whole.{Whole, all_followed, lane_at, pool_at}
 use Rattle.law_stands.specs.Reached.{IsReached}
 use Rattle.fc_kept.specs.Disks.{NamedDisk, FitDisks, disk_of}
 use Rattle.fc_kept.specs.Kept.{LostGrains, Kept, is_lost_in}
-use Rattle.fc_kept.specs.Marks.{least_by}
+use Rattle.fc_kept.specs.Marks.{AreMarked, LeastLeft}
 use Rattle.fc_kept.specs.Recoverable.{disks_at}
 
 -- The lost grains of the volumes that are left, in their order, as they were. Of a volume that came none is lost.
@@ -39,26 +36,12 @@ made_anew left rows lost =
       lost = lost_left left lost;
     }
 
--- What a settling leaves, and a command that is decided behind it. To the rows of metadata it notes what it notes to the history's.
-abbrev pub settled_anew : GrainSize → Whole → Kept → Kept
-settled_anew grain w k = made_anew (after_settling grain w) (least_by w k.rows (settle w.books)) k.lost
-
-abbrev pub decided_anew : GrainSize → Whole → Command → Option (List VolId) → Kept → Kept
-decided_anew grain w command loop k =
-    let settled = after_settling grain w in
-    let d = decided_on grain settled command loop in
-    made_anew (left_by grain settled d) (least_by settled (settled_anew grain w k).rows d) (settled_anew grain w k).lost
-
--- A command leaves what it decides, or, for want of memory, the settling alone or all as it was: the history's whole, its least rows,
--- and metadata that was this.
+-- A command leaves metadata made anew behind what it leaves of the history, with any rows that lie between the history's and the least
+-- rows; or, where nothing was done for want of memory, all as it was.
 pub data Leaves (grain : GrainSize) (w : Whole) (least : List Row) (k : Kept) (command : Command) : Whole → List Row → Kept → Type 0 where
-  decided : (loop : Option (List VolId)) → IsLoopOf grain (after_settling grain w).books command loop →
-      Leaves grain w least k command
-      (left_by grain (after_settling grain w) (decided_on grain (after_settling grain w) command loop))
-      (least_by (after_settling grain w) (least_by w least (settle w.books)) (decided_on grain (after_settling grain w) command loop))
-      (decided_anew grain w command loop k)
+  anew : (left : Whole) (least' rows : List Row) → LeastLeft grain w least command left least' → AreMarked rows left.rows least' →
+      Leaves grain w least k command left least' (made_anew left rows k.lost)
   unsettled : Leaves grain w least k command w least k
-  settled_alone : Leaves grain w least k command (after_settling grain w) (least_by w least (settle w.books)) (settled_anew grain w k)
 
 -- No disk has the name of a volume that is yet to come.
 abbrev pub AreUnnamed : Whole → List (List NamedDisk) → Type 0

@@ -3,4 +3,5 @@ pub mod Points
 pub mod Doing
 pub mod Leaving
 pub mod Running
+pub mod Costs
 pub mod Law

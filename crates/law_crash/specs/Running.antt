@@ -14,9 +14,10 @@ use Rattle.fc_parts.specs.Law.{IsInVolume}
 use Rattle.fc_rules.specs.Steps.{DiskStep}
 use Rattle.fc_kept.specs.Disks.{NamedDisk}
 use Rattle.fc_kept.specs.Kept.{Kept}
-use Rattle.fc_kept.specs.Marks.{asked_write, least_entry}
+use Rattle.fc_kept.specs.Marks.{LeastLeft, asked_write, least_entry}
 use Rattle.fc_kept.specs.OneGrain.{Another}
 use Rattle.fc_kept.specs.Prefix.{AreStepsOf}
+use Rattle.fc_kept.specs.Recoverable.{Says}
 use Rattle.law_crash.specs.Points.{Point, on_disks}
 use Rattle.law_crash.specs.Doing.{number_of, actions_of_steps, with_disks, Did, Finds, Stopped, Tells}
 use Rattle.law_crash.specs.Leaving.{AreFit, AreUnnamed, HaveTheirDisks, Leaves}
@@ -57,6 +58,9 @@ pub data Does (grain : GrainSize) (w : Whole) (least : List Row) (p : Point) (en
   commanded : (command : Command) (left : Whole) (least' : List Row) (kept : Kept) → entry.request ≡ Asked command →
       HaveTheirDisks w p.disks → Leaves grain w least p.kept command left least' kept →
       Does grain w least p entry (one_more left) least' (record p { kept = kept })
+  -- or leaves it as it is, where that says so much of what the command leaves, as where nothing is changed
+  unchanged : (command : Command) (left : Whole) (least' : List Row) → entry.request ≡ Asked command → LeastLeft grain w least command left least' →
+      Says grain p.disks p.kept left least' → Does grain w least p entry (one_more left) least' p
 
 -- Right entries, each done on what the last one left.
 pub data Run (grain : GrainSize) (w : Whole) (least : List Row) (p : Point) : List Entry → Whole → List Row → Point → Type 0 where
@@ -69,12 +73,13 @@ pub data Run (grain : GrainSize) (w : Whole) (least : List Row) (p : Point) : Li
       Run grain w least p entries now least_now x → StayAs grain now x.disks disks →
       Run grain w least p entries now least_now (with_disks disks x)
 
--- What a stop finds while a request is under way, or the work that a worker's turn takes: what stood before it; or, in its steps, what is found there; or metadata made anew.
+-- What a stop finds while a request is under way, or the work that a worker's turn takes: what stood before it; what is found in its
+-- steps; or, behind the last action of its entry, what the entry leads to, before it is answered: metadata that a command made anew,
+-- or the record of what a failed write tore, as much as the record of the last step.
 pub data Stops (grain : GrainSize) (w : Whole) (least : List Row) (p : Point) : Request → Option Another → Point → Type 0 where
   before : (request : Request) → Stops grain w least p request None p
   within : (request : Request) (steps : List DiskStep) (one : Option Another) (q : Point) → IsInVolume grain w request →
       AreStepsOf grain w request steps → Finds grain w request w.books.sheet (actions_of_steps p.kept.rows (number_of grain request) steps) p one q →
       Stops grain w least p request one q
-  behind : (command : Command) (entry : Entry) (left : Whole) (least' : List Row) (kept : Kept) → entry.request ≡ Asked command →
-      Step grain w entry (one_more left) → HaveTheirDisks w p.disks → Leaves grain w least p.kept command left least' kept →
-      Stops grain w least p entry.request None (record p { kept = kept })
+  done : (entry : Entry) (next : Whole) (least' : List Row) (q : Point) → Step grain w entry next → Does grain w least p entry next least' q →
+      Stops grain w least p entry.request None q

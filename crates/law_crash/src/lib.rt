@@ -9,7 +9,7 @@
 //!
 //! To read, in `specs/`: `Points` (what stands on the disks, and when they stand for a history), `Doing` (what actions do to them,
 //! and what a stop finds), `Leaving` (what a command leaves of metadata), `Running` (a whole history, and a stop in its next entry),
-//! `Law`; then `proofs/`.
+//! `Costs` (how many calls of its disk metadata costs), `Law`; then `proofs/`.
 #![tactic(auto)]
 
 ghost use Rattle.law_crash.specs.Law.{CrashLaw};
