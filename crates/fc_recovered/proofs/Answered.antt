@@ -28,10 +28,10 @@ use Rattle.fc_kept.specs.Sound.{HasTidySlots, HasTidyLost, IsSoundImage}
 use Rattle.fc_legal.specs.Steps.{IsInside}
 use Rattle.fc_legal.specs.Whole.{Whole}
 use Rattle.fc_mdisk.specs.Disk.{grain_at}
-use Rattle.fc_recovered.specs.Answering.{named_at, ReadsDisk, ReadsGrain, ReadsOne, HasGrain, IsReadBy, AfterReply}
-use Rattle.fc_recovered.specs.Recovered.{RecoveredState, IsRecovered, StandsFor}
+use Rattle.fc_recovered.specs.Answering.{disk_in, ReadsDisk, ReadsGrain, ReadsOne, HasDiskGrain, IsAnswerBy, AfterReply}
+use Rattle.fc_recovered.specs.Recovered.{RecoveredState, IsRecovered, RecoversTo}
 use Rattle.fc_recovered.specs.Showing.{shown_at}
-use Rattle.fc_recovered.specs.Walk.{holder_volume, id_of}
+use Rattle.fc_recovered.specs.Walk.{holder_volume, id_number}
 use Rattle.fc_recovered.proofs.Called.{one_stands}
 use Rattle.fc_recovered.proofs.Reading.{slots_of, Source, source_of, source_is, never_lost, lost_shown, has_grain, bytes_shown}
 use Rattle.fc_recovered.proofs.Standing.{stands_shown}
@@ -39,10 +39,10 @@ use Rattle.fc_recovered.proofs.Standing.{stands_shown}
 -- ---- what the image is asked
 
 pub found_by : (image : MetaImage) (chains : List MetaChain) (v number : ℕ) (result : Option VolId) → chains ≡ image.chains → IsSoundImage image →
-    ((t : Tables) → All (HasTidySlots t) chains → id_of result ≡ holder_volume v number (flat_map (slots_in t) chains)) → id_of result ≡ holder_volume v number (slots_of image)
+    ((t : Tables) → All (HasTidySlots t) chains → id_number result ≡ holder_volume v number (flat_map (slots_in t) chains)) → id_number result ≡ holder_volume v number (slots_of image)
 found_by image chains v number result e sound f =
     let t : Tables = tables_in image in
-    subst (λ (cs : List MetaChain). id_of result ≡ holder_volume v number (flat_map (slots_in t) cs)) e
+    subst (λ (cs : List MetaChain). id_number result ≡ holder_volume v number (flat_map (slots_in t) cs)) e
     (f t (subst (λ (cs : List MetaChain). All (HasTidySlots t) cs) (sym e) sound.slots))
 
 pub lost_by : (image : MetaImage) (rows : List MetaLost) (v number : ℕ) (b : Bool) → rows ≡ image.lost → IsSoundImage image →
@@ -71,16 +71,16 @@ source grain image disks buffer part number a =
     (source_of image a.holds.sound a.inside.of a.inside.there number (subst (λ (n : ℕ). n < a.inside.of.grains) (sym a.number_is) a.inside.inside))
 
 pub found_one : (grain : GrainSize) (image : MetaImage) (disks : List (List NamedDisk)) (buffer : List ℕ) (part : ReadPart) (number : ℕ) → Asked grain image disks buffer part number →
-    id_of None ≡ holder_volume part.volume.0 number (slots_of image) → ⊥
+    id_number None ≡ holder_volume part.volume.0 number (slots_of image) → ⊥
 found_one grain image disks buffer part number a e = never_lost image part.volume.0 number (source grain image disks buffer part number a) e
 
 -- the volume that was found has its grain on its disk
 pub found_grain : (grain : GrainSize) (image : MetaImage) (disks : List (List NamedDisk)) (buffer : List ℕ) (part : ReadPart) (number : ℕ) → Asked grain image disks buffer part number →
-    (found : VolId) → id_of (Some found) ≡ holder_volume part.volume.0 number (slots_of image) →
-    HasGrain (disks_at disks (number % length disks)) found.0 (number / length disks) (length buffer)
+    (found : VolId) → id_number (Some found) ≡ holder_volume part.volume.0 number (slots_of image) →
+    HasDiskGrain (disks_at disks (number % length disks)) found.0 (number / length disks) (length buffer)
 found_grain grain image disks buffer part number a found e =
     let s : Source image part.volume.0 number = source grain image disks buffer part number a in
-    subst (λ (v : ℕ). HasGrain (disks_at disks (number % length disks)) v (number / length disks) (length buffer)) (sym (source_is image part.volume.0 number s found e))
+    subst (λ (v : ℕ). HasDiskGrain (disks_at disks (number % length disks)) v (number / length disks) (length buffer)) (sym (source_is image part.volume.0 number s found e))
     (has_grain grain image disks buffer part.volume.0 number a.holds s)
 
 -- ---- the content
@@ -89,7 +89,7 @@ abbrev shown : GrainSize → MetaImage → List (List NamedDisk) → ReadPart �
 shown grain image disks part = shown_at grain disks (kept_in image) part.volume.0 (grain_of_block grain part.block)
 
 pub when_lost : (grain : GrainSize) (image : MetaImage) (disks : List (List NamedDisk)) (buffer : List ℕ) (part : ReadPart) (number : ℕ) → Asked grain image disks buffer part number →
-    (found : VolId) → id_of (Some found) ≡ holder_volume part.volume.0 number (slots_of image) →
+    (found : VolId) → id_number (Some found) ≡ holder_volume part.volume.0 number (slots_of image) →
     (b : Bool) → b ≡ is_lost_in (kept_in image).lost found.0 number → b ≡ true → is_lost (shown grain image disks part) ≡ true
 when_lost grain image disks buffer part number a found e b is t =
     let s : Source image part.volume.0 number = source grain image disks buffer part number a in
@@ -100,28 +100,28 @@ when_lost grain image disks buffer part number a found e b is t =
 
 -- else it is what a read of the disk gives
 when_read : (grain : GrainSize) (image : MetaImage) (disks : List (List NamedDisk)) (buffer : List ℕ) (part : ReadPart) (number : ℕ) → Asked grain image disks buffer part number →
-    (found : VolId) → id_of (Some found) ≡ holder_volume part.volume.0 number (slots_of image) →
+    (found : VolId) → id_number (Some found) ≡ holder_volume part.volume.0 number (slots_of image) →
     (b : Bool) → b ≡ is_lost_in (kept_in image).lost found.0 number → b ≡ false →
     (failed : Bool) (out : List ℕ) (after : List NamedDisk) (r : ReadsDisk (disks_at disks (number % length disks)) found.0 (number / length disks) failed out after) →
-    shown grain image disks part ≡ Bytes (grain_at (named_at (disks_at disks (number % length disks)) r.place).disk.grains (number / length disks))
+    shown grain image disks part ≡ Bytes (grain_at (disk_in (disks_at disks (number % length disks)) r.place).disk.grains (number / length disks))
 when_read grain image disks buffer part number a found e b is f failed out after r =
     let s : Source image part.volume.0 number = source grain image disks buffer part number a in
     let own : found.0 ≡ s.volume.id.0 = source_is image part.volume.0 number s found e in
     ap (shown_at grain disks (kept_in image) part.volume.0) (sym a.number_is)
     ∙ bytes_shown grain image disks part.volume.0 number s a.holds.some
     (ap (λ (v : ℕ). is_lost_in (kept_in image).lost v number) (sym own) ∙ (sym is ∙ f))
-    (named_at (disks_at disks (number % length disks)) r.place)
+    (disk_in (disks_at disks (number % length disks)) r.place)
     (ap (λ (v : ℕ). disk_of (disks_at disks (number % length disks)) v) (sym own) ∙ r.found)
 
 pub when_whole : (grain : GrainSize) (image : MetaImage) (disks : List (List NamedDisk)) (buffer : List ℕ) (part : ReadPart) (number : ℕ) → Asked grain image disks buffer part number →
-    (found : VolId) → id_of (Some found) ≡ holder_volume part.volume.0 number (slots_of image) →
+    (found : VolId) → id_number (Some found) ≡ holder_volume part.volume.0 number (slots_of image) →
     (b : Bool) → b ≡ is_lost_in (kept_in image).lost found.0 number → b ≡ false →
     (failed : Bool) (out : List ℕ) (after : List NamedDisk) → ReadsDisk (disks_at disks (number % length disks)) found.0 (number / length disks) failed out after →
     is_lost (shown grain image disks part) ≡ false
 when_whole grain image disks buffer part number a found e b is f failed out after r = ap is_lost (when_read grain image disks buffer part number a found e b is f failed out after r)
 
 pub when_done : (grain : GrainSize) (image : MetaImage) (disks : List (List NamedDisk)) (buffer : List ℕ) (part : ReadPart) (number : ℕ) → Asked grain image disks buffer part number →
-    (found : VolId) → id_of (Some found) ≡ holder_volume part.volume.0 number (slots_of image) →
+    (found : VolId) → id_number (Some found) ≡ holder_volume part.volume.0 number (slots_of image) →
     (b : Bool) → b ≡ is_lost_in (kept_in image).lost found.0 number → b ≡ false →
     (out : List ℕ) (after : List NamedDisk) → ReadsDisk (disks_at disks (number % length disks)) found.0 (number / length disks) false out after →
     (runs : List Run) → IsRightIn (byte_in_grain grain part.block) (block_bytes * part.count) (Bytes out) runs →
@@ -138,13 +138,13 @@ one_read disks new v number failed out some r =
 
 -- whatever is answered, the disks stand for what they did
 pub reply_stands : (grain : GrainSize) (image : MetaImage) (old new : List (List NamedDisk)) (buffer : List ℕ) (reply : Reply) → IsRecovered grain image old buffer → AfterReply reply old new →
-    (now : Whole) (one : Option Another) → StandsFor grain old (kept_in image) now one → StandsFor grain new (kept_in image) now one
+    (now : Whole) (one : Option Another) → RecoversTo grain old (kept_in image) now one → RecoversTo grain new (kept_in image) now one
 reply_stands grain image old new buffer reply i after now one s = by reply after
   where
-    same : new ≡ old → StandsFor grain new (kept_in image) now one
-    same e = subst (λ (ds : List (List NamedDisk)). StandsFor grain ds (kept_in image) now one) (sym e) s
+    same : new ≡ old → RecoversTo grain new (kept_in image) now one
+    same e = subst (λ (ds : List (List NamedDisk)). RecoversTo grain ds (kept_in image) now one) (sym e) s
 
-    by : (r : Reply) → AfterReply r old new → StandsFor grain new (kept_in image) now one
+    by : (r : Reply) → AfterReply r old new → RecoversTo grain new (kept_in image) now one
     by Done e = same e
     by (Made kind id) e = same e
     by (Read runs) r = one_stands grain image old new false buffer r i now one s
@@ -162,9 +162,9 @@ reply_stands grain image old new buffer reply i after now one s = by reply after
 
 -- the answer by metadata and disks is the one by what they stand for
 pub plain_reply : (s : RecoveredState) (part : ReadPart) (r : Reply) → 0 < length s.disks → IsInside s.grain (tables_in s.image) part.volume part.block part.count →
-    IsReadBy (access_in (tables_in s.image) part.volume) s.grain part (shown s.grain s.image s.disks part) r →
-    (now : Whole) (one : Option Another) → StandsFor s.grain s.disks (kept_in s.image) now one →
-    IsReadBy (access_in now.books.tables part.volume) s.grain part
+    IsAnswerBy (access_in (tables_in s.image) part.volume) s.grain part (shown s.grain s.image s.disks part) r →
+    (now : Whole) (one : Option Another) → RecoversTo s.grain s.disks (kept_in s.image) now one →
+    IsAnswerBy (access_in now.books.tables part.volume) s.grain part
     (now_at (volume_in (with_another one (kept_in s.image).sheet.slots now.picture) part.volume) (grain_of_block s.grain part.block)) r
 plain_reply s part r some inside answer now one stands =
     let plain : shown s.grain s.image s.disks part
@@ -172,5 +172,5 @@ plain_reply s part r some inside answer now one stands =
     subst (λ (v : VolId). shown_at s.grain s.disks (kept_in s.image) v.0 (grain_of_block s.grain part.block)
     ≡ now_at (volume_in (with_another one (kept_in s.image).sheet.slots now.picture) v) (grain_of_block s.grain part.block)) inside.id_is
     (stands_shown s.grain s.disks (kept_in s.image) now one stands some inside.of inside.there (grain_of_block s.grain part.block) inside.inside) in
-    subst (λ (c : Content). IsReadBy (access_in now.books.tables part.volume) s.grain part c r) plain
-    (subst (λ (a : Access). IsReadBy a s.grain part (shown s.grain s.image s.disks part) r) (ap (λ (t : Tables). access_in t part.volume) stands.says.tables) answer)
+    subst (λ (c : Content). IsAnswerBy (access_in now.books.tables part.volume) s.grain part c r) plain
+    (subst (λ (a : Access). IsAnswerBy a s.grain part (shown s.grain s.image s.disks part) r) (ap (λ (t : Tables). access_in t part.volume) stands.says.tables) answer)

@@ -14,9 +14,9 @@ use Rattle.fc_kept.specs.Recoverable.{disks_at}
 use Rattle.fc_legal.specs.Whole.{Whole}
 use Rattle.fc_mdisk.specs.Disk.{grain_at}
 use Rattle.fc_rules.specs.LaneTold.{LaneOf}
-use Rattle.fc_recovered.specs.Answering.{named_at, no_disk, ReadsDisk, ReadsOne}
-use Rattle.fc_recovered.specs.Readying.{IsWhole, HasDisk, AreReady}
-use Rattle.fc_recovered.specs.Recovered.{IsRecovered, StandsFor}
+use Rattle.fc_recovered.specs.Answering.{disk_in, no_disk, ReadsDisk, ReadsOne}
+use Rattle.fc_recovered.specs.Readying.{HasWholeGrains, HasOwnDisk, AllHaveDisks}
+use Rattle.fc_recovered.specs.Recovered.{IsRecovered, RecoversTo}
 use Rattle.fc_recovered.specs.Showing.{lane_over}
 use Rattle.fc_recovered.proofs.Carrying.{StoreSame, stands_on}
 use Rattle.fc_recovered.proofs.Finding.{SameDisk, swapped}
@@ -27,10 +27,10 @@ same_disks : (old new : List NamedDisk) (v g : ℕ) (failed : Bool) (out : List 
 same_disks old new v g failed out r w =
     subst (λ (ds : List NamedDisk). SameDisk (disk_of old w) (disk_of ds w)) (sym r.is) (swapped w old r.place r.disk r.there r.read.call.kind r.read.grains)
 
-has_same : (l : LaneOf) (old new : List NamedDisk) (v : Volume) → HasDisk l old v → SameDisk (disk_of old v.id.0) (disk_of new v.id.0) → HasDisk l new v
+has_same : (l : LaneOf) (old new : List NamedDisk) (v : Volume) → HasOwnDisk l old v → SameDisk (disk_of old v.id.0) (disk_of new v.id.0) → HasOwnDisk l new v
 has_same l old new v h s = by (disk_of new v.id.0) refl (subst (λ (o : Option NamedDisk). SameDisk o (disk_of new v.id.0)) h.there s)
   where
-    by : (o : Option NamedDisk) → disk_of new v.id.0 ≡ o → SameDisk (Some h.disk) o → HasDisk l new v
+    by : (o : Option NamedDisk) → disk_of new v.id.0 ≡ o → SameDisk (Some h.disk) o → HasOwnDisk l new v
     by None e x = absurd x
     by (Some d) e x = record { disk = d; there = e; kind = x.0 ∙ h.kind; grains = ap (length {A = List ℕ}) x.1 ∙ h.grains }
 
@@ -40,13 +40,13 @@ stores_same l g (Some a) (Some b) s = ap (λ (z : List (List ℕ)). Bytes (grain
 stores_same l g None (Some b) s = absurd s
 stores_same l g (Some a) None s = absurd s
 
-ready_same : (l : LaneOf) (volumes : List Volume) (old new : List NamedDisk) (v g : ℕ) (failed : Bool) (out : List ℕ) → ReadsDisk old v g failed out new → AreReady l volumes old → AreReady l volumes new
+ready_same : (l : LaneOf) (volumes : List Volume) (old new : List NamedDisk) (v g : ℕ) (failed : Bool) (out : List ℕ) → ReadsDisk old v g failed out new → AllHaveDisks l volumes old → AllHaveDisks l volumes new
 ready_same l volumes old new v g failed out r a =
     record {
       each = λ w c. has_same l old new w (a.each w c) (same_disks old new v g failed out r w.id.0);
       whole =
-          subst (λ (ds : List NamedDisk). All (IsWhole l.grain) ds) (sym r.is)
-          (All-set (IsWhole l.grain) old r.place (record (named_at old r.place) { disk = r.disk })
+          subst (λ (ds : List NamedDisk). All (HasWholeGrains l.grain) ds) (sym r.is)
+          (All-set (HasWholeGrains l.grain) old r.place (record (disk_in old r.place) { disk = r.disk })
           (subst (λ (z : List (List ℕ)). All (λ (bytes : List ℕ). length bytes ≡ grain_bytes l.grain) z) (sym r.read.grains) (a.whole r.place no_disk r.there)) a.whole);
     }
 
@@ -62,15 +62,15 @@ abbrev numbered : GrainSize → ℕ → ℕ → LaneOf
 numbered grain i n = record { lane = i; lanes = n; grain = grain }
 
 one_ready : (grain : GrainSize) (volumes : List Volume) (old new : List (List NamedDisk)) (failed : Bool) → ReadsOne old failed new →
-    ((i : ℕ) → i < length old → AreReady (lane_over grain old i) volumes (disks_at old i)) → (i : ℕ) → i < length new → AreReady (lane_over grain new i) volumes (disks_at new i)
+    ((i : ℕ) → i < length old → AllHaveDisks (lane_over grain old i) volumes (disks_at old i)) → (i : ℕ) → i < length new → AllHaveDisks (lane_over grain new i) volumes (disks_at new i)
 one_ready grain volumes old new failed r ready i il =
     let count : length new ≡ length old = one_count old new failed r in
     let below : i < length old = omega arith in
-    subst (λ (n : ℕ). AreReady (numbered grain i n) volumes (disks_at new i)) (sym count)
+    subst (λ (n : ℕ). AllHaveDisks (numbered grain i n) volumes (disks_at new i)) (sym count)
     (elim (cases_eq i r.lane) [
       | inl e ↦ ready_same (numbered grain i (length old)) volumes (disks_at old i) (disks_at new i) r.volume r.grain failed r.out
           (subst (λ (x : ℕ). ReadsDisk (disks_at old x) r.volume r.grain failed r.out (disks_at new x)) (sym e) r.reads) (ready i below)
-      | inr ne ↦ subst (λ (ds : List NamedDisk). AreReady (numbered grain i (length old)) volumes ds) (other_lane old new failed r i ne) (ready i below)
+      | inr ne ↦ subst (λ (ds : List NamedDisk). AllHaveDisks (numbered grain i (length old)) volumes ds) (other_lane old new failed r i ne) (ready i below)
     ])
 
 one_stores : (grain : GrainSize) (volumes : List Volume) (old new : List (List NamedDisk)) (failed : Bool) → ReadsOne old failed new →
@@ -98,7 +98,7 @@ one_stays grain image old new failed buffer after r size i =
 
 -- and what the disks stand for
 pub one_stands : (grain : GrainSize) (image : MetaImage) (old new : List (List NamedDisk)) (failed : Bool) (buffer : List ℕ) → ReadsOne old failed new → IsRecovered grain image old buffer →
-    (now : Whole) (one : Option Another) → StandsFor grain old (kept_in image) now one → StandsFor grain new (kept_in image) now one
+    (now : Whole) (one : Option Another) → RecoversTo grain old (kept_in image) now one → RecoversTo grain new (kept_in image) now one
 one_stands grain image old new failed buffer r i now one s =
     stands_on grain (kept_in image) old new (one_count old new failed r)
     (λ j jl. (one_ready grain image.volumes old new failed r i.ready j jl).each)

@@ -23,8 +23,8 @@ use Rattle.fc_rules.specs.LaneTold.{LaneOf, number_at, grains_in}
 use Rattle.fc_rules.specs.Shows.{Stored, Shows}
 use Rattle.fc_parts.proofs.Numbers.{IsLane}
 use Rattle.fc_parts.proofs.Views.{parts, slot_parts, count_parts, size_parts}
-use Rattle.fc_recovered.specs.Readying.{HasDisk}
-use Rattle.fc_recovered.specs.Recovered.{StandsFor}
+use Rattle.fc_recovered.specs.Readying.{HasOwnDisk}
+use Rattle.fc_recovered.specs.Recovered.{RecoversTo}
 use Rattle.fc_recovered.specs.Showing.{lane_over}
 
 -- ---- in a lane
@@ -93,7 +93,7 @@ stored_alike l i k sound old new same h g hl gl =
 
 -- ---- all of it
 
-fits : (l : LaneOf) (t : Tables) (disks : List NamedDisk) → ((v : Volume) → Contains t.volumes v → HasDisk l disks v) → FitDisks l disks t
+fits : (l : LaneOf) (t : Tables) (disks : List NamedDisk) → ((v : Volume) → Contains t.volumes v → HasOwnDisk l disks v) → FitDisks l disks t
 fits l t disks each =
     record {
       named = λ v disk c e.
@@ -115,9 +115,9 @@ numbered grain i n = record { lane = i; lanes = n; grain = grain }
 
 -- what the disks stand for the others stand for
 pub stands_on : (grain : GrainSize) (k : Kept) (old new : List (List NamedDisk)) → length new ≡ length old →
-    ((i : ℕ) → i < length new → (v : Volume) → Contains k.tables.volumes v → HasDisk (lane_over grain new i) (disks_at new i) v) →
+    ((i : ℕ) → i < length new → (v : Volume) → Contains k.tables.volumes v → HasOwnDisk (lane_over grain new i) (disks_at new i) v) →
     ((i : ℕ) → i < length old → StoreSame (lane_over grain old i) k.tables.volumes (disks_at old i) (disks_at new i)) →
-    (now : Whole) (one : Option Another) → StandsFor grain old k now one → StandsFor grain new k now one
+    (now : Whole) (one : Option Another) → RecoversTo grain old k now one → RecoversTo grain new k now one
 stands_on grain k old new count ready same now one s =
     let all : length new ≡ lanes now = count ∙ s.says.count in
     record {

@@ -3,7 +3,7 @@ use Rattle.std.proofs.Common.{◌≡◌, ℕ, zero, suc, ◌<◌, Bool, true, fa
 use Rattle.std.specs.Prelude.{find}
 use Rattle.fc_mdisk.specs.Disk.{DiskState}
 use Rattle.fc_kept.specs.Disks.{NamedDisk, is_of, disk_of}
-use Rattle.fc_recovered.specs.Answering.{named_at}
+use Rattle.fc_recovered.specs.Answering.{disk_in}
 
 -- where none passed, the one that is put is found
 pub find_only : {X : Type 0} (p : X → Bool) (xs : List X) (i : ℕ) (y : X) → find p xs ≡ None → i < length xs → p y ≡ true → find p (set xs i y) ≡ Some y
@@ -27,8 +27,8 @@ same_self (Some a) = (refl, refl)
 
 -- a disk that changed but for its name, its kind and its grains
 pub swapped : (v : ℕ) (xs : List NamedDisk) (i : ℕ) (disk : DiskState) → i < length xs →
-    disk.kind ≡ (named_at xs i).disk.kind → disk.grains ≡ (named_at xs i).disk.grains →
-    SameDisk (disk_of xs v) (disk_of (set xs i (record (named_at xs i) { disk = disk })) v)
+    disk.kind ≡ (disk_in xs i).disk.kind → disk.grains ≡ (disk_in xs i).disk.grains →
+    SameDisk (disk_of xs v) (disk_of (set xs i (record (disk_in xs i) { disk = disk })) v)
 swapped v [] i disk lt k g = absurd (omega arith)
 swapped v (x ∷ xs) zero disk lt k g = by (is_of v x)
   where
@@ -37,7 +37,7 @@ swapped v (x ∷ xs) zero disk lt k g = by (is_of v x)
     by false = same_self (find (is_of v) xs)
 swapped v (x ∷ xs) (suc i) disk lt k g = by (is_of v x) (swapped v xs i disk (omega arith) k g)
   where
-    by : (b : Bool) → SameDisk (disk_of xs v) (disk_of (set xs i (record (named_at xs i) { disk = disk })) v) →
-        SameDisk (cond b (Some x) (find (is_of v) xs)) (cond b (Some x) (find (is_of v) (set xs i (record (named_at xs i) { disk = disk }))))
+    by : (b : Bool) → SameDisk (disk_of xs v) (disk_of (set xs i (record (disk_in xs i) { disk = disk })) v) →
+        SameDisk (cond b (Some x) (find (is_of v) xs)) (cond b (Some x) (find (is_of v) (set xs i (record (disk_in xs i) { disk = disk }))))
     by true rest = (refl, refl)
     by false rest = rest

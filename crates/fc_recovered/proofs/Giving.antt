@@ -20,20 +20,20 @@ use Rattle.fc_entry.specs.Picture.{Bytes}
 use Rattle.fc_kept.specs.Disks.{NamedDisk, FitDisks, is_of, disk_of, on_disk}
 use Rattle.fc_moves.proofs.Search.{cases_option}
 use Rattle.fc_rules.specs.LaneTold.{LaneOf, grains_in}
-use Rattle.fc_recovered.specs.Answering.{no_disk, named_at}
-use Rattle.fc_recovered.specs.Readying.{is_kind, is_new_of, given_to, given_at, given, lacks_disk, readied, IsWhole, HasDisk, AreReady}
+use Rattle.fc_recovered.specs.Answering.{no_disk, disk_in}
+use Rattle.fc_recovered.specs.Readying.{is_kind_of, is_new_of, given_to, given_from, given, is_diskless, readied, HasWholeGrains, HasOwnDisk, AllHaveDisks}
 use Rattle.fc_recovered.proofs.Carrying.{StoreSame}
 use Rattle.fc_recovered.proofs.Finding.{find_only}
 
 -- ---- tests
 
-one_kind : (a b : DiskKind) → is_kind a b ≡ true → b ≡ a
+one_kind : (a b : DiskKind) → is_kind_of a b ≡ true → b ≡ a
 one_kind Flat Flat e = refl
 one_kind Thin Thin e = refl
 one_kind Flat Thin e = absurd cc
 one_kind Thin Flat e = absurd cc
 
-same_kind : (a b : DiskKind) → b ≡ a → is_kind a b ≡ true
+same_kind : (a b : DiskKind) → b ≡ a → is_kind_of a b ≡ true
 same_kind Flat Flat e = refl
 same_kind Thin Thin e = refl
 same_kind Flat Thin e = absurd cc
@@ -69,57 +69,57 @@ record Lacking (l : LaneOf) (t : Tables) (disks : List NamedDisk) (v : Volume) (
   within : Contains t.volumes v
   lacks : disk_of disks v.id.0 ≡ None
   there : p < length disks
-  new : is_new_of v.kind (named_at disks p) ≡ true
+  new : is_new_of v.kind (disk_in disks p) ≡ true
 
 abbrev after : LaneOf → Volume → List NamedDisk → ℕ → List NamedDisk
-after l v disks p = set disks p (given_to l v (named_at disks p))
+after l v disks p = set disks p (given_to l v (disk_in disks p))
 
 -- its disk is the one that it got
-own_disk : (l : LaneOf) (t : Tables) (disks : List NamedDisk) (v : Volume) (p : ℕ) → Lacking l t disks v p → disk_of (after l v disks p) v.id.0 ≡ Some (given_to l v (named_at disks p))
-own_disk l t disks v p a = find_only (is_of v.id.0) disks p (given_to l v (named_at disks p)) a.lacks a.there (eq-eqb v.id.0 v.id.0 refl)
+own_disk : (l : LaneOf) (t : Tables) (disks : List NamedDisk) (v : Volume) (p : ℕ) → Lacking l t disks v p → disk_of (after l v disks p) v.id.0 ≡ Some (given_to l v (disk_in disks p))
+own_disk l t disks v p a = find_only (is_of v.id.0) disks p (given_to l v (disk_in disks p)) a.lacks a.there (eq-eqb v.id.0 v.id.0 refl)
 
 -- every other volume has the disk that it had
 other_disk : (l : LaneOf) (t : Tables) (disks : List NamedDisk) (v : Volume) (p : ℕ) → Lacking l t disks v p → (w : ℕ) → v.id.0 ≢ w → disk_of (after l v disks p) w ≡ disk_of disks w
 other_disk l t disks v p a w ne =
-    let q = and_parts (is_none (named_at disks p).volume) (is_kind v.kind (named_at disks p).disk.kind) a.new in
-    find_past (is_of w) disks p (given_to l v (named_at disks p)) no_disk
-    (nobodys w (named_at disks p) (none_is (named_at disks p).volume q.0)) (ne_eqb v.id.0 w ne)
+    let q = and_parts (is_none (disk_in disks p).volume) (is_kind_of v.kind (disk_in disks p).disk.kind) a.new in
+    find_past (is_of w) disks p (given_to l v (disk_in disks p)) no_disk
+    (nobodys w (disk_in disks p) (none_is (disk_in disks p).volume q.0)) (ne_eqb v.id.0 w ne)
 
 same_volume : (l : LaneOf) (t : Tables) (disks : List NamedDisk) (v : Volume) (p : ℕ) → Lacking l t disks v p → (w : Volume) → Contains t.volumes w → v.id.0 ≡ w.id.0 → v ≡ w
 same_volume l t disks v p a w c e = one_of_id (λ (x : Volume). x.id.0) (λ (x : Volume). x.name) t.volumes v w a.ordered a.within c e
 
-got : (l : LaneOf) (t : Tables) (disks : List NamedDisk) (v : Volume) (p : ℕ) → Lacking l t disks v p → HasDisk l (after l v disks p) v
+got : (l : LaneOf) (t : Tables) (disks : List NamedDisk) (v : Volume) (p : ℕ) → Lacking l t disks v p → HasOwnDisk l (after l v disks p) v
 got l t disks v p a =
-    let q = and_parts (is_none (named_at disks p).volume) (is_kind v.kind (named_at disks p).disk.kind) a.new in
+    let q = and_parts (is_none (disk_in disks p).volume) (is_kind_of v.kind (disk_in disks p).disk.kind) a.new in
     record {
-      disk = given_to l v (named_at disks p);
+      disk = given_to l v (disk_in disks p);
       there = own_disk l t disks v p a;
-      kind = one_kind v.kind (named_at disks p).disk.kind q.1;
+      kind = one_kind v.kind (disk_in disks p).disk.kind q.1;
       grains = length-replicate (grains_in l v.grains) (replicate (grain_bytes l.grain) 0);
     }
 
-had : (l : LaneOf) (t : Tables) (disks : List NamedDisk) → FitDisks l disks t → (w : Volume) → Contains t.volumes w → (disk : NamedDisk) → disk_of disks w.id.0 ≡ Some disk → HasDisk l disks w
+had : (l : LaneOf) (t : Tables) (disks : List NamedDisk) → FitDisks l disks t → (w : Volume) → Contains t.volumes w → (disk : NamedDisk) → disk_of disks w.id.0 ≡ Some disk → HasOwnDisk l disks w
 had l t disks f w c disk e = let n = f.named w disk c e in record { disk = disk; there = e; kind = n.0; grains = n.1 }
 
 -- a volume other than the one that lacks its disk has its own
-kept : (l : LaneOf) (t : Tables) (disks : List NamedDisk) (v : Volume) (p : ℕ) → Lacking l t disks v p → (w : Volume) → Contains t.volumes w → v.id.0 ≢ w.id.0 → HasDisk l disks w
+kept : (l : LaneOf) (t : Tables) (disks : List NamedDisk) (v : Volume) (p : ℕ) → Lacking l t disks v p → (w : Volume) → Contains t.volumes w → v.id.0 ≢ w.id.0 → HasOwnDisk l disks w
 kept l t disks v p a w c ne =
     elim (cases_option (disk_of disks w.id.0)) [
       | inl none ↦ absurd (ne (a.fit.one v w a.within c a.lacks none))
       | inr s ↦ had l t disks a.fit w c s.0 s.1
     ]
 
-has_after : (l : LaneOf) (t : Tables) (disks : List NamedDisk) (v : Volume) (p : ℕ) → Lacking l t disks v p → (w : Volume) → Contains t.volumes w → HasDisk l (after l v disks p) w
+has_after : (l : LaneOf) (t : Tables) (disks : List NamedDisk) (v : Volume) (p : ℕ) → Lacking l t disks v p → (w : Volume) → Contains t.volumes w → HasOwnDisk l (after l v disks p) w
 has_after l t disks v p a w c =
     elim (cases_eq v.id.0 w.id.0) [
-      | inl e ↦ subst (λ (x : Volume). HasDisk l (after l v disks p) x) (same_volume l t disks v p a w c e) (got l t disks v p a)
+      | inl e ↦ subst (λ (x : Volume). HasOwnDisk l (after l v disks p) x) (same_volume l t disks v p a w c e) (got l t disks v p a)
       | inr ne ↦ let h = kept l t disks v p a w c ne in
           record { disk = h.disk; there = other_disk l t disks v p a w.id.0 ne ∙ h.there; kind = h.kind; grains = h.grains }
     ]
 
-whole_after : (l : LaneOf) (v : Volume) (disks : List NamedDisk) (p : ℕ) → All (IsWhole l.grain) disks → All (IsWhole l.grain) (after l v disks p)
+whole_after : (l : LaneOf) (v : Volume) (disks : List NamedDisk) (p : ℕ) → All (HasWholeGrains l.grain) disks → All (HasWholeGrains l.grain) (after l v disks p)
 whole_after l v disks p all =
-    All-set (IsWhole l.grain) disks p (given_to l v (named_at disks p))
+    All-set (HasWholeGrains l.grain) disks p (given_to l v (disk_in disks p))
     (All-replicate (λ (bytes : List ℕ). length bytes ≡ grain_bytes l.grain) (grains_in l v.grains) (replicate (grain_bytes l.grain) 0) (length-replicate (grain_bytes l.grain) 0)) all
 
 stores_after : (l : LaneOf) (t : Tables) (disks : List NamedDisk) (v : Volume) (p : ℕ) → Lacking l t disks v p → StoreSame l t.volumes disks (after l v disks p)
@@ -136,33 +136,33 @@ stores_after l t disks v p a w c g lt =
 
 -- the disks of a lane, and those when all are ready
 pub record MadeReady (l : LaneOf) (t : Tables) (old new : List NamedDisk) : Type 0 where
-  pub ready : AreReady l t.volumes new
+  pub ready : AllHaveDisks l t.volumes new
   pub stores : StoreSame l t.volumes old new
 
 pub made_ready : (l : LaneOf) (t : Tables) (disks : List NamedDisk) → FitDisks l disks t → IsOrdered (λ (x : Volume). x.id.0) (λ (x : Volume). x.name) t.volumes →
-    All (IsWhole l.grain) disks → MadeReady l t disks (readied l t.volumes disks)
+    All (HasWholeGrains l.grain) disks → MadeReady l t disks (readied l t.volumes disks)
 made_ready l t disks f ordered whole =
-    elim (cases_option (find (lacks_disk disks) t.volumes)) [
+    elim (cases_option (find (is_diskless disks) t.volumes)) [
       | inl none ↦ subst (λ (o : Option Volume). MadeReady l t disks (given l disks o)) (sym none)
           (record {
             ready = record {
-              each = λ w c. let s = some_is (disk_of disks w.id.0) (find_misses (lacks_disk disks) t.volumes w none c) in had l t disks f w c s.0 s.1;
+              each = λ w c. let s = some_is (disk_of disks w.id.0) (find_misses (is_diskless disks) t.volumes w none c) in had l t disks f w c s.0 s.1;
               whole = whole;
             };
             stores = λ w c g lt. refl;
           })
-      | inr s ↦ subst (λ (o : Option Volume). MadeReady l t disks (given l disks o)) (sym s.1) (gives s.0 (find_from (lacks_disk disks) t.volumes s.0 s.1))
+      | inr s ↦ subst (λ (o : Option Volume). MadeReady l t disks (given l disks o)) (sym s.1) (gives s.0 (find_from (is_diskless disks) t.volumes s.0 s.1))
     ]
   where
-    gives_at : (v : Volume) → Contains t.volumes v → disk_of disks v.id.0 ≡ None → (o : Option ℕ) → position (is_new_of v.kind) disks ≡ o → MadeReady l t disks (given_at l v disks o)
+    gives_at : (v : Volume) → Contains t.volumes v → disk_of disks v.id.0 ≡ None → (o : Option ℕ) → position (is_new_of v.kind) disks ≡ o → MadeReady l t disks (given_from l v disks o)
     gives_at v c none None e =
         let u = f.unnamed v c none in
-        let new : is_new_of v.kind u.0 ≡ true = and_from (is_none u.0.volume) (is_kind v.kind u.0.disk.kind) (ap is_none u.2) (same_kind v.kind u.0.disk.kind u.3) in
+        let new : is_new_of v.kind u.0 ≡ true = and_from (is_none u.0.volume) (is_kind_of v.kind u.0.disk.kind) (ap is_none u.2) (same_kind v.kind u.0.disk.kind u.3) in
         absurd (both_ways (is_new_of v.kind u.0) (find_misses (is_new_of v.kind) disks u.0 (position_none (is_new_of v.kind) disks e) u.1) new)
     gives_at v c none (Some p) e =
         let q = position-Some (is_new_of v.kind) disks p no_disk e in
         let a : Lacking l t disks v p = record { fit = f; ordered = ordered; within = c; lacks = none; there = q.0; new = q.1 } in
         record { ready = record { each = has_after l t disks v p a; whole = whole_after l v disks p whole }; stores = stores_after l t disks v p a }
 
-    gives : (v : Volume) → Contains t.volumes v × (lacks_disk disks v ≡ true) → MadeReady l t disks (given l disks (Some v))
+    gives : (v : Volume) → Contains t.volumes v × (is_diskless disks v ≡ true) → MadeReady l t disks (given l disks (Some v))
     gives v x = gives_at v x.0 (none_is (disk_of disks v.id.0) x.1) (position (is_new_of v.kind) disks) refl

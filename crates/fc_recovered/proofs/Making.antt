@@ -12,8 +12,8 @@ use Rattle.fc_kept.specs.OneGrain.{Another}
 use Rattle.fc_kept.specs.Recoverable.{disks_at}
 use Rattle.fc_legal.specs.Whole.{Whole}
 use Rattle.fc_rules.specs.LaneTold.{LaneOf}
-use Rattle.fc_recovered.specs.Readying.{AreReady, readied}
-use Rattle.fc_recovered.specs.Recovered.{CanRecover, AreReadied, IsRecovered, StandsFor}
+use Rattle.fc_recovered.specs.Readying.{AllHaveDisks, readied}
+use Rattle.fc_recovered.specs.Recovered.{CanRecover, AreReadied, IsRecovered, RecoversTo}
 use Rattle.fc_recovered.specs.Showing.{lane_over}
 use Rattle.fc_recovered.proofs.Carrying.{stands_on}
 use Rattle.fc_recovered.proofs.Giving.{MadeReady, made_ready}
@@ -67,10 +67,10 @@ made_at grain image old new can r i il =
     (made_ready (lane_over grain old i) (tables_in image) (disks_at old i) (can.fit i il) can.sound.says.books.tables.volumes (can.whole i il))
 
 ready_at : (grain : GrainSize) (image : MetaImage) (old new : List (List NamedDisk)) → CanRecover grain image old → AreReadied grain image.volumes old new → (i : ℕ) → i < length new →
-    AreReady (lane_over grain new i) image.volumes (disks_at new i)
+    AllHaveDisks (lane_over grain new i) image.volumes (disks_at new i)
 ready_at grain image old new can r i il =
     let count : length new ≡ length old = r.count in
-    subst (λ (n : ℕ). AreReady (numbered grain i n) image.volumes (disks_at new i)) (sym count) (made_at grain image old new can r i (omega arith)).ready
+    subst (λ (n : ℕ). AllHaveDisks (numbered grain i n) image.volumes (disks_at new i)) (sym count) (made_at grain image old new can r i (omega arith)).ready
 
 pub made : (grain : GrainSize) (image : MetaImage) (old new : List (List NamedDisk)) (buffer : List ℕ) → CanRecover grain image old → AreReadied grain image.volumes old new →
     length buffer ≡ grain_bytes grain → IsRecovered grain image new buffer
@@ -80,7 +80,7 @@ made grain image old new buffer can r room =
     record { sound = can.sound; some = omega arith; ready = ready_at grain image old new can r; room = room }
 
 pub made_stands : (grain : GrainSize) (image : MetaImage) (old new : List (List NamedDisk)) → CanRecover grain image old → AreReadied grain image.volumes old new →
-    (now : Whole) (one : Option Another) → StandsFor grain old (kept_in image) now one → StandsFor grain new (kept_in image) now one
+    (now : Whole) (one : Option Another) → RecoversTo grain old (kept_in image) now one → RecoversTo grain new (kept_in image) now one
 made_stands grain image old new can r now one s =
     stands_on grain (kept_in image) old new r.count
     (λ i il. (ready_at grain image old new can r i il).each)

@@ -5,7 +5,7 @@ use Rattle.std.proofs.lemmas.List.{get_or_default}
 use Rattle.std.proofs.lemmas.List.Quantifiers.{position-Some}
 use Rattle.fc_mdisk.specs.Disk.{AfterRead, grain_at}
 use Rattle.fc_kept.specs.Disks.{NamedDisk, is_of, disk_of}
-use Rattle.fc_recovered.specs.Answering.{named_at, no_disk, HasGrain, ReadsDisk}
+use Rattle.fc_recovered.specs.Answering.{disk_in, no_disk, HasDiskGrain, ReadsDisk}
 use Rattle.fc_recovered.proofs.Giving.{position_none}
 
 find_first : {X : Type 0} (p : X → Bool) (xs : List X) (i : ℕ) (d : X) → i < length xs → p (get_or xs i d) ≡ true → ((k : ℕ) → k < i → p (get_or xs k d) ≡ false) → find p xs ≡ Some (get_or xs i d)
@@ -17,7 +17,7 @@ find_first p (x ∷ xs) (suc i) d lt e none =
 
 pub record FoundAt (disks : List NamedDisk) (v at : ℕ) : Type 0 where
   pub there : at < length disks
-  pub found : disk_of disks v ≡ Some (named_at disks at)
+  pub found : disk_of disks v ≡ Some (disk_in disks at)
 
 pub found_at : (disks : List NamedDisk) (v at : ℕ) → Some at ≡ position (is_of v) disks → FoundAt disks v at
 found_at disks v at e =
@@ -28,7 +28,7 @@ pub at_there : (disks : List NamedDisk) (v at : ℕ) → Some at ≡ position (i
 at_there disks v at e = (found_at disks v at e).there
 
 -- where there is none, none is of the volume
-pub never_none : (disks : List NamedDisk) (v g bytes : ℕ) → HasGrain disks v g bytes → None ≡ position (is_of v) disks → ⊥
+pub never_none : (disks : List NamedDisk) (v g bytes : ℕ) → HasDiskGrain disks v g bytes → None ≡ position (is_of v) disks → ⊥
 never_none disks v g bytes h e = no_some h.disk (sym h.there ∙ position_none (is_of v) disks (sym e))
   where
     no_some : (a : NamedDisk) → Some a ≡ None → ⊥
@@ -38,22 +38,22 @@ same_some : (a b : NamedDisk) → Some a ≡ Some b → a ≡ b
 same_some a b e = cc
 
 -- the disk at the place
-pub its_disk : (disks : List NamedDisk) (v g bytes at : ℕ) (d : NamedDisk) (h : HasGrain disks v g bytes) → Some at ≡ position (is_of v) disks → d ≡ get_or disks at d → d ≡ h.disk
+pub its_disk : (disks : List NamedDisk) (v g bytes at : ℕ) (d : NamedDisk) (h : HasDiskGrain disks v g bytes) → Some at ≡ position (is_of v) disks → d ≡ get_or disks at d → d ≡ h.disk
 its_disk disks v g bytes at d h e is =
     let f = found_at disks v at e in
-    is ∙ (get_or_default disks at d no_disk f.there ∙ same_some (named_at disks at) h.disk (sym f.found ∙ h.there))
+    is ∙ (get_or_default disks at d no_disk f.there ∙ same_some (disk_in disks at) h.disk (sym f.found ∙ h.there))
 
-pub its_grain : (disks : List NamedDisk) (v g bytes at : ℕ) (d : NamedDisk) → HasGrain disks v g bytes → Some at ≡ position (is_of v) disks → d ≡ get_or disks at d → g < length d.disk.grains
+pub its_grain : (disks : List NamedDisk) (v g bytes at : ℕ) (d : NamedDisk) → HasDiskGrain disks v g bytes → Some at ≡ position (is_of v) disks → d ≡ get_or disks at d → g < length d.disk.grains
 its_grain disks v g bytes at d h e is = subst (λ (z : NamedDisk). g < length z.disk.grains) (sym (its_disk disks v g bytes at d h e is)) h.within
 
-pub its_size : (disks : List NamedDisk) (v g bytes at : ℕ) (d : NamedDisk) → HasGrain disks v g bytes → Some at ≡ position (is_of v) disks → d ≡ get_or disks at d → bytes ≡ length (grain_at d.disk.grains g)
+pub its_size : (disks : List NamedDisk) (v g bytes at : ℕ) (d : NamedDisk) → HasDiskGrain disks v g bytes → Some at ≡ position (is_of v) disks → d ≡ get_or disks at d → bytes ≡ length (grain_at d.disk.grains g)
 its_size disks v g bytes at d h e is = subst (λ (z : NamedDisk). bytes ≡ length (grain_at z.disk.grains g)) (sym (its_disk disks v g bytes at d h e is)) h.size
 
 pub its_read : (disks after : List NamedDisk) (v g at : ℕ) (d new : NamedDisk) (failed : Bool) (out : List ℕ) → Some at ≡ position (is_of v) disks → d ≡ get_or disks at d →
     AfterRead d.disk g failed out new.disk → new ≡ record d { disk = new.disk } → after ≡ set disks at new → ReadsDisk disks v g failed out after
 its_read disks after v g at d new failed out e is read own put =
     let f = found_at disks v at e in
-    let same : d ≡ named_at disks at = is ∙ get_or_default disks at d no_disk f.there in
+    let same : d ≡ disk_in disks at = is ∙ get_or_default disks at d no_disk f.there in
     record {
       place = at;
       there = f.there;

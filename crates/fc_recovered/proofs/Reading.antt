@@ -25,11 +25,11 @@ use Rattle.fc_moves.proofs.Readers.{holder_is}
 use Rattle.fc_parts.proofs.Numbers.{number_of_place, grain_below}
 use Rattle.fc_rules.specs.LaneTold.{LaneOf, place_of, grains_in}
 use Rattle.fc_sheets.proofs.Finding.{live_place_at}
-use Rattle.fc_recovered.specs.Answering.{HasGrain}
-use Rattle.fc_recovered.specs.Readying.{IsWhole, HasDisk, AreReady}
+use Rattle.fc_recovered.specs.Answering.{HasDiskGrain}
+use Rattle.fc_recovered.specs.Readying.{HasWholeGrains, HasOwnDisk, AllHaveDisks}
 use Rattle.fc_recovered.specs.Recovered.{IsRecovered}
 use Rattle.fc_recovered.specs.Showing.{lane_over, holder_for, shown_by, shown_at, stored_at}
-use Rattle.fc_recovered.specs.Walk.{holder_volume, id_of}
+use Rattle.fc_recovered.specs.Walk.{holder_volume, id_number}
 use Rattle.fc_recovered.proofs.Holding.{walk_ends}
 
 abbrev pub slots_of : MetaImage → List Slot
@@ -83,13 +83,13 @@ source_of image sound v c number lt =
 source_walk : (image : MetaImage) (v number : ℕ) (s : Source image v number) → holder_volume v number (slots_of image) ≡ Some s.volume.id.0
 source_walk image v number s = walk_ends v number (slots_of image) s.live s.place s.is_live s.holds ∙ ap Some s.own
 
-pub never_lost : (image : MetaImage) (v number : ℕ) → Source image v number → id_of None ≡ holder_volume v number (slots_of image) → ⊥
+pub never_lost : (image : MetaImage) (v number : ℕ) → Source image v number → id_number None ≡ holder_volume v number (slots_of image) → ⊥
 never_lost image v number s e = no_some s.volume.id.0 (sym (source_walk image v number s) ∙ sym e)
   where
     no_some : (n : ℕ) → Some n ≡ None → ⊥
     no_some n q = cc
 
-pub source_is : (image : MetaImage) (v number : ℕ) (s : Source image v number) (found : VolId) → id_of (Some found) ≡ holder_volume v number (slots_of image) → found.0 ≡ s.volume.id.0
+pub source_is : (image : MetaImage) (v number : ℕ) (s : Source image v number) (found : VolId) → id_number (Some found) ≡ holder_volume v number (slots_of image) → found.0 ≡ s.volume.id.0
 source_is image v number s found e = same found.0 s.volume.id.0 (e ∙ source_walk image v number s)
   where
     same : (a b : ℕ) → Some a ≡ Some b → a ≡ b
@@ -123,18 +123,18 @@ lost_shown grain image disks v number s some e =
 
 -- its disk has the grain
 pub has_grain : (grain : GrainSize) (image : MetaImage) (disks : List (List NamedDisk)) (buffer : List ℕ) (v number : ℕ) → IsRecovered grain image disks buffer → (s : Source image v number) →
-    HasGrain (disks_at disks (number % length disks)) s.volume.id.0 (number / length disks) (length buffer)
+    HasDiskGrain (disks_at disks (number % length disks)) s.volume.id.0 (number / length disks) (length buffer)
 has_grain grain image disks buffer v number i s =
     let n : ℕ = number % length disks in
     let nl : n < length disks = mod-lt number i.some in
     let l : LaneOf = lane_over grain disks n in
-    let ready : AreReady l image.volumes (disks_at disks n) = i.ready n nl in
-    let h : HasDisk l (disks_at disks n) s.volume = ready.each s.volume s.within in
+    let ready : AllHaveDisks l image.volumes (disks_at disks n) = i.ready n nl in
+    let h : HasOwnDisk l (disks_at disks n) s.volume = ready.each s.volume s.within in
     let within : place_of l number < grains_in l s.volume.grains = grain_below l nl number s.volume.grains refl s.inside in
     let count : length h.disk.disk.grains ≡ grains_in l s.volume.grains = h.grains in
     let below : place_of l number < length h.disk.disk.grains = omega arith in
     let c = (find_from (is_of s.volume.id.0) (disks_at disks n) h.disk h.there).0 in
-    let whole : IsWhole grain h.disk = subst (IsWhole grain) c.2 (ready.whole c.0 h.disk c.1) in
+    let whole : HasWholeGrains grain h.disk = subst (HasWholeGrains grain) c.2 (ready.whole c.0 h.disk c.1) in
     record {
       disk = h.disk;
       there = h.there;

@@ -18,7 +18,7 @@ use Rattle.fc_parts.proofs.Numbers.{IsLane, IsOf, number_of_place, grain_below, 
 use Rattle.fc_parts.proofs.Pictures.{shown_parts}
 use Rattle.fc_parts.proofs.Views.{parts, slot_parts, count_parts, column_parts, size_parts}
 use Rattle.fc_sheets.proofs.Finding.{live_place_at}
-use Rattle.fc_recovered.specs.Recovered.{StandsFor}
+use Rattle.fc_recovered.specs.Recovered.{RecoversTo}
 use Rattle.fc_recovered.specs.Showing.{holder_for, shown_by, shown_at}
 
 -- in the lane of a grain, what the live slot's holder stores there is what its volume holds
@@ -47,7 +47,7 @@ lane_shows l i slots picture stored shows id number t h is_of live holds within 
 abbrev numbered : GrainSize → ℕ → ℕ → LaneOf
 numbered grain i n = record { lane = i; lanes = n; grain = grain }
 
-pub stands_shown : (grain : GrainSize) (disks : List (List NamedDisk)) (k : Kept) (now : Whole) (one : Option Another) → StandsFor grain disks k now one → 0 < length disks →
+pub stands_shown : (grain : GrainSize) (disks : List (List NamedDisk)) (k : Kept) (now : Whole) (one : Option Another) → RecoversTo grain disks k now one → 0 < length disks →
     (v : Volume) → Contains k.tables.volumes v → (number : ℕ) → number < v.grains →
     shown_at grain disks k v.id.0 number ≡ now_at (volume_in (with_another one k.sheet.slots now.picture) v.id) number
 stands_shown grain disks k now one s some v c number lt =

@@ -17,7 +17,7 @@ use Rattle.fc_image.specs.declared.image.MetaSlot.{MetaSlot}
 use Rattle.fc_kept.specs.Images.{size_in, slot_in, slots_in, lost_in}
 use Rattle.fc_kept.specs.Kept.{is_lost_in}
 use Rattle.fc_kept.specs.Sound.{HasTidyLost}
-use Rattle.fc_recovered.specs.Walk.{chain_with, noted, walked, id_of}
+use Rattle.fc_recovered.specs.Walk.{chain_with, seen_with, walked, id_number}
 
 -- ---- where the live slot stands
 
@@ -65,7 +65,7 @@ next_chain t v chains i chain b lt is any misses before =
 
 -- ---- who holds the grain
 
-pick_volume : (a b c : Bool) (own : VolId) (seen : Option VolId) → b ≡ c → cond (a && b) (Some own.0) (id_of seen) ≡ id_of (cond (a && c) (Some own) seen)
+pick_volume : (a b c : Bool) (own : VolId) (seen : Option VolId) → b ≡ c → cond (a && b) (Some own.0) (id_number seen) ≡ id_number (cond (a && c) (Some own) seen)
 pick_volume true true true own seen e = refl
 pick_volume true false false own seen e = refl
 pick_volume true true false own seen e = absurd cc
@@ -76,15 +76,15 @@ abbrev pub HasTidy : Tables → List MetaSlot → Type 0
 HasTidy t slots = All (λ (slot : MetaSlot). IsTidy (size_in t slot.volume) slot.held) slots
 
 noted_in : (t : Tables) (label own g : ℕ) (slot : MetaSlot) (seen : Option VolId) → IsTidy (size_in t slot.volume) slot.held →
-    noted g label (slot_in t own slot) (id_of seen) ≡ id_of (cond ((own == label) && bit_of slot.held g) (Some slot.volume) seen)
+    seen_with g label (slot_in t own slot) (id_number seen) ≡ id_number (cond ((own == label) && bit_of slot.held g) (Some slot.volume) seen)
 noted_in t label own g slot seen tidy =
     pick_volume (own == label) (has (grains_of (size_in t slot.volume) slot.held) g) (bit_of slot.held g) slot.volume seen
     (has-tidy (size_in t slot.volume) slot.held tidy g)
 
 slot_step : (t : Tables) (v g label own : ℕ) (slots : List MetaSlot) (rest : List Slot) (j : ℕ) (d : MetaSlot) (seen : Option ℕ) → j < length slots →
     walked v g label (map (slot_in t own) (drop j slots) ++ rest) seen
-    ≡ cond (is_live_in v (get_or slots j d)) (noted g label (slot_in t own (get_or slots j d)) seen)
-    (walked v g label (map (slot_in t own) (drop (suc j) slots) ++ rest) (noted g label (slot_in t own (get_or slots j d)) seen))
+    ≡ cond (is_live_in v (get_or slots j d)) (seen_with g label (slot_in t own (get_or slots j d)) seen)
+    (walked v g label (map (slot_in t own) (drop (suc j) slots) ++ rest) (seen_with g label (slot_in t own (get_or slots j d)) seen))
 slot_step t v g label own slots rest j d seen lt =
     ap (λ (z : List MetaSlot). walked v g label (map (slot_in t own) z ++ rest) seen) (drop-cons slots j d lt)
 
@@ -92,32 +92,32 @@ slot_step t v g label own slots rest j d seen lt =
 walk_slot : (t : Tables) (v g label own : ℕ) (slots : List MetaSlot) (rest : List Slot) (j : ℕ) (slot : MetaSlot) (seen next : Option VolId) →
     j < length slots → slot ≡ get_or slots j slot → HasTidy t slots →
     next ≡ cond ((own == label) && bit_of slot.held g) (Some slot.volume) seen →
-    walked v g label (map (slot_in t own) (drop j slots) ++ rest) (id_of seen)
-    ≡ cond (is_live_in v slot) (id_of next) (walked v g label (map (slot_in t own) (drop (suc j) slots) ++ rest) (id_of next))
+    walked v g label (map (slot_in t own) (drop j slots) ++ rest) (id_number seen)
+    ≡ cond (is_live_in v slot) (id_number next) (walked v g label (map (slot_in t own) (drop (suc j) slots) ++ rest) (id_number next))
 walk_slot t v g label own slots rest j slot seen next lt is tidy e =
     let more : List Slot = map (slot_in t own) (drop (suc j) slots) ++ rest in
     let own_tidy : IsTidy (size_in t slot.volume) slot.held = subst (λ (z : MetaSlot). IsTidy (size_in t z.volume) z.held) (sym is) (tidy j slot lt) in
-    slot_step t v g label own slots rest j slot (id_of seen) lt
-    ∙ (ap (λ (z : MetaSlot). cond (is_live_in v z) (noted g label (slot_in t own z) (id_of seen)) (walked v g label more (noted g label (slot_in t own z) (id_of seen)))) (sym is)
-    ∙ ap (λ (o : Option ℕ). cond (is_live_in v slot) o (walked v g label more o)) (noted_in t label own g slot seen own_tidy ∙ ap id_of (sym e)))
+    slot_step t v g label own slots rest j slot (id_number seen) lt
+    ∙ (ap (λ (z : MetaSlot). cond (is_live_in v z) (seen_with g label (slot_in t own z) (id_number seen)) (walked v g label more (seen_with g label (slot_in t own z) (id_number seen)))) (sym is)
+    ∙ ap (λ (o : Option ℕ). cond (is_live_in v slot) o (walked v g label more o)) (noted_in t label own g slot seen own_tidy ∙ ap id_number (sym e)))
 
 pub found_slot : (t : Tables) (v g label own : ℕ) (slots items : List MetaSlot) (rest : List Slot) (j : ℕ) (slot : MetaSlot) (seen next : Option VolId) (all : Option ℕ) (b : Bool) →
     items ≡ slots → j < length items → slot ≡ get_or items j slot → HasTidy t slots →
     next ≡ cond ((own == label) && bit_of slot.held g) (Some slot.volume) seen → b ≡ is_live_in v slot → b ≡ true →
-    walked v g label (map (slot_in t own) (drop j slots) ++ rest) (id_of seen) ≡ all → all ≡ id_of next
+    walked v g label (map (slot_in t own) (drop j slots) ++ rest) (id_number seen) ≡ all → all ≡ id_number next
 found_slot t v g label own slots items rest j slot seen next all b q lt is tidy e live does before =
     sym before
     ∙ (walk_slot t v g label own slots rest j slot seen next (subst (λ (z : List MetaSlot). j < length z) q lt) (subst (λ (z : List MetaSlot). slot ≡ get_or z j slot) q is) tidy e
-    ∙ ap (λ (z : Bool). cond z (id_of next) (walked v g label (map (slot_in t own) (drop (suc j) slots) ++ rest) (id_of next))) (sym live ∙ does))
+    ∙ ap (λ (z : Bool). cond z (id_number next) (walked v g label (map (slot_in t own) (drop (suc j) slots) ++ rest) (id_number next))) (sym live ∙ does))
 
 pub next_slot : (t : Tables) (v g label own : ℕ) (slots items : List MetaSlot) (rest : List Slot) (j : ℕ) (slot : MetaSlot) (seen next : Option VolId) (all : Option ℕ) (b : Bool) →
     items ≡ slots → j < length items → slot ≡ get_or items j slot → HasTidy t slots →
     next ≡ cond ((own == label) && bit_of slot.held g) (Some slot.volume) seen → b ≡ is_live_in v slot → b ≡ false →
-    walked v g label (map (slot_in t own) (drop j slots) ++ rest) (id_of seen) ≡ all →
-    walked v g label (map (slot_in t own) (drop (j + 1) slots) ++ rest) (id_of next) ≡ all
+    walked v g label (map (slot_in t own) (drop j slots) ++ rest) (id_number seen) ≡ all →
+    walked v g label (map (slot_in t own) (drop (j + 1) slots) ++ rest) (id_number next) ≡ all
 next_slot t v g label own slots items rest j slot seen next all b q lt is tidy e live misses before =
-    ap (λ (z : ℕ). walked v g label (map (slot_in t own) (drop z slots) ++ rest) (id_of next)) (add-one j)
-    ∙ (ap (λ (z : Bool). cond z (id_of next) (walked v g label (map (slot_in t own) (drop (suc j) slots) ++ rest) (id_of next))) (sym misses ∙ live)
+    ap (λ (z : ℕ). walked v g label (map (slot_in t own) (drop z slots) ++ rest) (id_number next)) (add-one j)
+    ∙ (ap (λ (z : Bool). cond z (id_number next) (walked v g label (map (slot_in t own) (drop (suc j) slots) ++ rest) (id_number next))) (sym misses ∙ live)
     ∙ (sym (walk_slot t v g label own slots rest j slot seen next (subst (λ (z : List MetaSlot). j < length z) q lt) (subst (λ (z : List MetaSlot). slot ≡ get_or z j slot) q is) tidy e)
     ∙ before))
 

@@ -18,18 +18,18 @@ use Rattle.fc_kept.specs.Recoverable.{disks_at}
 
 -- A volume that is online answers the bytes of its grain, as a canonical row of runs; a medium error exactly where the grain is
 -- lost; a disk fault where the read of its disk failed; or it wants memory.
-abbrev pub IsReadOf : GrainSize → ReadPart → Content → Reply → Type 0
-IsReadOf grain part content (Bytes runs) = IsRightIn (byte_in_grain grain part.block) (block_bytes * part.count) content runs
-IsReadOf grain part content MediumError = is_lost content ≡ true
-IsReadOf grain part content DiskFault = is_lost content ≡ false
-IsReadOf grain part content NoMemory = is_lost content ≡ false
-IsReadOf grain part content reply = ⊥
+abbrev pub IsAnswerOf : GrainSize → ReadPart → Content → Reply → Type 0
+IsAnswerOf grain part content (Bytes runs) = IsRightIn (byte_in_grain grain part.block) (block_bytes * part.count) content runs
+IsAnswerOf grain part content MediumError = is_lost content ≡ true
+IsAnswerOf grain part content DiskFault = is_lost content ≡ false
+IsAnswerOf grain part content NoMemory = is_lost content ≡ false
+IsAnswerOf grain part content reply = ⊥
 
 -- A volume that isn't online answers how it may be reached.
-abbrev pub IsReadBy : Access → GrainSize → ReadPart → Content → Reply → Type 0
-IsReadBy Online grain part content reply = IsReadOf grain part content reply
-IsReadBy (IsOffline map state) grain part content reply = reply ≡ Offline map state
-IsReadBy (IsNotAccessible map) grain part content reply = reply ≡ NotAccessible map
+abbrev pub IsAnswerBy : Access → GrainSize → ReadPart → Content → Reply → Type 0
+IsAnswerBy Online grain part content reply = IsAnswerOf grain part content reply
+IsAnswerBy (IsOffline map state) grain part content reply = reply ≡ Offline map state
+IsAnswerBy (IsNotAccessible map) grain part content reply = reply ≡ NotAccessible map
 
 -- ---- the disks
 
@@ -37,11 +37,11 @@ IsReadBy (IsNotAccessible map) grain part content reply = reply ≡ NotAccessibl
 abbrev pub no_disk : NamedDisk
 no_disk = record { volume = None; disk = blank Flat None }
 
-abbrev pub named_at : List NamedDisk → ℕ → NamedDisk
-named_at disks p = slice_index_or disks p no_disk
+abbrev pub disk_in : List NamedDisk → ℕ → NamedDisk
+disk_in disks p = slice_index_or disks p no_disk
 
 -- A lane's disk of a volume has the grain, of so many bytes.
-pub record HasGrain (disks : List NamedDisk) (v g bytes : ℕ) : Type 0 where
+pub record HasDiskGrain (disks : List NamedDisk) (v g bytes : ℕ) : Type 0 where
   pub disk : NamedDisk
   pub there : disk_of disks v ≡ Some disk
   pub within : g < length disk.disk.grains
@@ -51,10 +51,10 @@ pub record HasGrain (disks : List NamedDisk) (v g bytes : ℕ) : Type 0 where
 pub record ReadsDisk (old : List NamedDisk) (v g : ℕ) (failed : Bool) (out : List ℕ) (new : List NamedDisk) : Type 0 where
   pub place : ℕ
   pub there : place < length old
-  pub found : disk_of old v ≡ Some (named_at old place)
+  pub found : disk_of old v ≡ Some (disk_in old place)
   pub disk : DiskState
-  pub read : AfterRead (named_at old place).disk g failed out disk
-  pub is : new ≡ slice_set old place (record (named_at old place) { disk = disk })
+  pub read : AfterRead (disk_in old place).disk g failed out disk
+  pub is : new ≡ slice_set old place (record (disk_in old place) { disk = disk })
 
 -- A volume's disk in the lane of a grain was read at the grain.
 pub record ReadsGrain (old : List (List NamedDisk)) (v number : ℕ) (failed : Bool) (out : List ℕ) (new : List (List NamedDisk)) : Type 0 where

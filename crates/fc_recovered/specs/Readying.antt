@@ -8,7 +8,7 @@ use Rattle.fc_base.specs.declared.volume.Volume.{Volume}
 use Rattle.fc_mdisk.specs.Disk.{formatted}
 use Rattle.fc_rules.specs.LaneTold.{LaneOf, grains_in}
 use Rattle.fc_kept.specs.Disks.{NamedDisk, disk_of}
-use Rattle.fc_recovered.specs.Answering.{named_at}
+use Rattle.fc_recovered.specs.Answering.{disk_in}
 use Rattle.fc_recovered.specs.declared.lane_size.LaneSize.{LaneSize}
 
 -- ---- the lane
@@ -18,49 +18,49 @@ of_size size = record { lane = size.lane; lanes = size.lanes; grain = size.grain
 
 -- ---- the disk
 
-abbrev pub is_kind : DiskKind → DiskKind → Bool
-is_kind Flat Flat = true
-is_kind Thin Thin = true
-is_kind kind other = false
+abbrev pub is_kind_of : DiskKind → DiskKind → Bool
+is_kind_of Flat Flat = true
+is_kind_of Thin Thin = true
+is_kind_of kind other = false
 
 -- A disk for new volumes of this kind.
 abbrev pub is_new_of : DiskKind → NamedDisk → Bool
-is_new_of kind disk = is_none disk.volume && is_kind kind disk.disk.kind
+is_new_of kind disk = is_none disk.volume && is_kind_of kind disk.disk.kind
 
 -- It becomes the volume's, with zeros for each of the volume's grains of the lane.
 abbrev pub given_to : LaneOf → Volume → NamedDisk → NamedDisk
 given_to l v disk = record { volume = Some v.id; disk = formatted disk.disk (grains_in l v.grains) (grain_bytes l.grain) }
 
 -- The first one does; without one nothing changes.
-abbrev pub given_at : LaneOf → Volume → List NamedDisk → Option ℕ → List NamedDisk
-given_at l v disks None = disks
-given_at l v disks (Some p) = slice_set disks p (given_to l v (named_at disks p))
+abbrev pub given_from : LaneOf → Volume → List NamedDisk → Option ℕ → List NamedDisk
+given_from l v disks None = disks
+given_from l v disks (Some p) = slice_set disks p (given_to l v (disk_in disks p))
 
 abbrev pub given : LaneOf → List NamedDisk → Option Volume → List NamedDisk
 given l disks None = disks
-given l disks (Some v) = given_at l v disks (position (is_new_of v.kind) disks)
+given l disks (Some v) = given_from l v disks (position (is_new_of v.kind) disks)
 
 -- The first volume of the table that has no disk gets one.
-abbrev pub lacks_disk : List NamedDisk → Volume → Bool
-lacks_disk disks v = is_none (disk_of disks v.id.0)
+abbrev pub is_diskless : List NamedDisk → Volume → Bool
+is_diskless disks v = is_none (disk_of disks v.id.0)
 
 abbrev pub readied : LaneOf → List Volume → List NamedDisk → List NamedDisk
-readied l volumes disks = given l disks (find (lacks_disk disks) volumes)
+readied l volumes disks = given l disks (find (is_diskless disks) volumes)
 
 -- ---- disks that are ready
 
 -- Every grain of the disk is a whole one.
-abbrev pub IsWhole : GrainSize → NamedDisk → Type 0
-IsWhole grain disk = All (λ (bytes : List ℕ). length bytes ≡ grain_bytes grain) disk.disk.grains
+abbrev pub HasWholeGrains : GrainSize → NamedDisk → Type 0
+HasWholeGrains grain disk = All (λ (bytes : List ℕ). length bytes ≡ grain_bytes grain) disk.disk.grains
 
 -- The volume has a disk of its kind, with a grain for each of the volume's in this lane.
-pub record HasDisk (l : LaneOf) (disks : List NamedDisk) (v : Volume) : Type 0 where
+pub record HasOwnDisk (l : LaneOf) (disks : List NamedDisk) (v : Volume) : Type 0 where
   pub disk : NamedDisk
   pub there : disk_of disks v.id.0 ≡ Some disk
   pub kind : disk.disk.kind ≡ v.kind
   pub grains : length disk.disk.grains ≡ grains_in l v.grains
 
 -- Each volume has one, and the grains of all disks are whole.
-pub record AreReady (l : LaneOf) (volumes : List Volume) (disks : List NamedDisk) : Type 0 where
-  pub each : (v : Volume) → Contains volumes v → HasDisk l disks v
-  pub whole : All (IsWhole l.grain) disks
+pub record AllHaveDisks (l : LaneOf) (volumes : List Volume) (disks : List NamedDisk) : Type 0 where
+  pub each : (v : Volume) → Contains volumes v → HasOwnDisk l disks v
+  pub whole : All (HasWholeGrains l.grain) disks

@@ -25,8 +25,8 @@ abbrev pub holder_for : List Slot → ℕ → Option ℕ → Option ℕ
 holder_for slots number None = None
 holder_for slots number (Some t) = holder (column slots number) t
 
-abbrev pub holder_at : List Slot → ℕ → ℕ → Option ℕ
-holder_at slots v number = holder_for slots number (live_place slots v)
+abbrev pub holder_place : List Slot → ℕ → ℕ → Option ℕ
+holder_place slots v number = holder_for slots number (live_place slots v)
 
 -- The volume shows what is stored of its holder's volume; without a holder, nothing.
 abbrev pub shown_by : GrainSize → List (List NamedDisk) → Kept → ℕ → Option ℕ → Content
@@ -34,4 +34,4 @@ shown_by grain disks k number None = Lost
 shown_by grain disks k number (Some h) = stored_at grain disks k (slot_at k.sheet.slots h).volume number
 
 abbrev pub shown_at : GrainSize → List (List NamedDisk) → Kept → ℕ → ℕ → Content
-shown_at grain disks k v number = shown_by grain disks k number (holder_at k.sheet.slots v number)
+shown_at grain disks k v number = shown_by grain disks k number (holder_place k.sheet.slots v number)

@@ -8,7 +8,7 @@ ghost use Rattle.fc_base.specs.Tables.{Tables};
 ghost use Rattle.fc_bits.specs.Words.{bit_of};
 ghost use Rattle.fc_kept.specs.Images.{slots_in, slot_in};
 ghost use Rattle.fc_kept.specs.Sound.{HasTidySlots};
-ghost use Rattle.fc_recovered.specs.Walk.{is_live_of, chain_with, noted, walked, walked_on, holder_volume, id_of};
+ghost use Rattle.fc_recovered.specs.Walk.{is_live_slot, chain_with, seen_with, walked, walked_on, holder_volume, id_number};
 
 use fc_base::ids::VolId;
 use fc_image::{MetaChain, MetaSlot, Words};
@@ -36,7 +36,7 @@ pub(crate) fn has_bit(words: &Words, grain: u32) -> bool
 }
 
 /// Whether the slot is the volume's live one.
-fn is_live_of(slot: &MetaSlot, volume: VolId) -> bool
+fn is_live_slot(slot: &MetaSlot, volume: VolId) -> bool
     ensures { result ≡ (slot.now.live && (slot.now.volume.0 == volume.0)) }
 {
     slot.live && slot.volume.0 == volume.0
@@ -50,7 +50,7 @@ fn has_live(chain: &MetaChain, volume: VolId) -> bool
         .slots
         .as_slice()
         .iter()
-        .any(|slot| is_live_of(slot, volume))
+        .any(|slot| is_live_slot(slot, volume))
 }
 
 /// The label of the chain in which the volume's live slot stands.
@@ -66,7 +66,7 @@ fn chain_with(chains: &[MetaChain], volume: VolId) -> Option<u64>
 }
 
 /// The volume of the last slot so far that is of the chain and holds the grain, with one more slot.
-fn noted(of_chain: bool, slot: &MetaSlot, grain: u32, seen: Option<VolId>) -> Option<VolId>
+fn seen_with(of_chain: bool, slot: &MetaSlot, grain: u32, seen: Option<VolId>) -> Option<VolId>
     ensures { result ≡ (if of_chain && bit_of slot.now.held grain then Some slot.now.volume else seen) }
 {
     if of_chain && has_bit(&slot.held, grain) {
@@ -78,13 +78,13 @@ fn noted(of_chain: bool, slot: &MetaSlot, grain: u32, seen: Option<VolId>) -> Op
 
 /// Walks along a chain, to the volume's live slot if it is there.
 fn walk_chain(chain: &MetaChain, volume: VolId, grain: u32, label: u64, seen: Option<VolId>) -> Walk
-    ensures { (t : Tables) (rest : List Slot) → HasTidySlots t chain.now → walked volume.0 grain label (slots_in t chain.now ++ rest) (id_of seen) ≡ walked_on volume.0 grain label result rest }
+    ensures { (t : Tables) (rest : List Slot) → HasTidySlots t chain.now → walked volume.0 grain label (slots_in t chain.now ++ rest) (id_number seen) ≡ walked_on volume.0 grain label result rest }
 {
     let of_chain = chain.label == label;
     let mut seen = seen;
     for slot in chain.slots.as_slice() {
-        seen = noted(of_chain, slot, grain, seen);
-        if is_live_of(slot, volume) {
+        seen = seen_with(of_chain, slot, grain, seen);
+        if is_live_slot(slot, volume) {
             return Walk::Ended(seen);
         }
     }
@@ -93,7 +93,7 @@ fn walk_chain(chain: &MetaChain, volume: VolId, grain: u32, label: u64, seen: Op
 
 /// Walks along all chains, to the volume's live slot.
 fn walk_all(chains: &[MetaChain], volume: VolId, grain: u32, label: u64) -> Option<VolId>
-    ensures { (t : Tables) → All (HasTidySlots t) chains.now → id_of result ≡ walked volume.0 grain label (flat_map (slots_in t) chains.now) None }
+    ensures { (t : Tables) → All (HasTidySlots t) chains.now → id_number result ≡ walked volume.0 grain label (flat_map (slots_in t) chains.now) None }
 {
     let mut seen = None;
     for chain in chains {
@@ -107,7 +107,7 @@ fn walk_all(chains: &[MetaChain], volume: VolId, grain: u32, label: u64) -> Opti
 
 /// The volume of the slot that holds the volume's grain: the last one, up to the volume's live slot, of its chain that does.
 pub(crate) fn holder_volume(chains: &[MetaChain], volume: VolId, grain: u32) -> Option<VolId>
-    ensures { (t : Tables) → All (HasTidySlots t) chains.now → id_of result ≡ holder_volume volume.0 grain (flat_map (slots_in t) chains.now) }
+    ensures { (t : Tables) → All (HasTidySlots t) chains.now → id_number result ≡ holder_volume volume.0 grain (flat_map (slots_in t) chains.now) }
 {
     match chain_with(chains, volume) {
         Some(label) => walk_all(chains, volume, grain, label),

@@ -2,8 +2,8 @@
 
 ghost use Rattle.std.specs.Prelude.{◌≡◌, ◌<◌, length, is_err, find, position, option_copied, OnOk, Some};
 ghost use Rattle.fc_kept.specs.Disks.{is_of};
-ghost use Rattle.fc_recovered.specs.Answering.{HasGrain, ReadsDisk};
-ghost use Rattle.fc_recovered.specs.Readying.{is_new_of, lacks_disk, given, of_size, readied};
+ghost use Rattle.fc_recovered.specs.Answering.{HasDiskGrain, ReadsDisk};
+ghost use Rattle.fc_recovered.specs.Readying.{is_new_of, is_diskless, given, of_size, readied};
 
 use crate::lane_size::LaneSize;
 use crate::named_disk::NamedDisk;
@@ -52,17 +52,17 @@ impl<D: Mdisk> LaneDisks<D> {
     }
 
     /// Whether a volume has no disk here.
-    fn lacks_disk(&self, volume: &Volume) -> bool
-        ensures { result ≡ lacks_disk self.now volume.now }
+    fn is_diskless(&self, volume: &Volume) -> bool
+        ensures { result ≡ is_diskless self.now volume.now }
     {
         self.place_of(volume.id).is_none()
     }
 
     /// The first volume that has no disk here.
     fn first_without<'a>(&self, volumes: &'a [Volume]) -> Option<&'a Volume>
-        ensures { option_copied result ≡ find (lacks_disk self.now) volumes.now }
+        ensures { option_copied result ≡ find (is_diskless self.now) volumes.now }
     {
-        volumes.iter().find(|volume| self.lacks_disk(volume))
+        volumes.iter().find(|volume| self.is_diskless(volume))
     }
 
     /// The place of the first disk that is for new volumes of this kind.
@@ -99,7 +99,7 @@ impl<D: Mdisk> LaneDisks<D> {
 
     /// Reads a grain of a volume, by its place in this lane: one call of the volume's disk.
     pub(crate) fn read(&mut self, volume: VolId, place: u32, out: &mut [u8]) -> Result<(), Failed>
-        requires { HasGrain self.old volume.0 place (length out.old) }
+        requires { HasDiskGrain self.old volume.0 place (length out.old) }
         ensures { ReadsDisk self.old volume.0 place (is_err result) out.new self.new }
     {
         match self.place_of(volume) {

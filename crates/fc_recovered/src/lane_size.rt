@@ -6,11 +6,14 @@ ghost use Rattle.fc_rules.specs.LaneTold.{grains_in};
 
 use fc_base::size::GrainSize;
 
-/// A lane, how many lanes there are, and the size of a grain.
+/// A lane among all lanes of a store.
 #[derive(Clone, Copy)]
 pub(crate) struct LaneSize {
+    /// Its number, from 0.
     pub lane: u32,
+    /// How many lanes there are.
     pub lanes: u32,
+    /// The size of a grain.
     pub grain: GrainSize,
 }
 

@@ -3,7 +3,7 @@
 ghost use Rattle.std.specs.Prelude.{◌≡◌, ◌<◌, ◌==◌, Some, None, length, is_err, OnOk, OnErr};
 ghost use Rattle.fc_kept.specs.Disks.{is_of};
 ghost use Rattle.fc_mdisk.specs.Disk.{AfterRead, formatted, grain_at};
-ghost use Rattle.fc_recovered.specs.Readying.{is_kind, is_new_of};
+ghost use Rattle.fc_recovered.specs.Readying.{is_kind_of, is_new_of};
 
 use fc_base::disk::DiskKind;
 use fc_base::ids::VolId;
@@ -27,8 +27,8 @@ impl<D: Mdisk> Model for NamedDisk<D> {
 }
 
 /// Whether the kinds are the same.
-fn is_kind(kind: DiskKind, other: DiskKind) -> bool
-    ensures { result ≡ is_kind kind other }
+fn is_kind_of(kind: DiskKind, other: DiskKind) -> bool
+    ensures { result ≡ is_kind_of kind other }
 {
     match kind {
         DiskKind::Flat => matches!(other, DiskKind::Flat),
@@ -72,7 +72,7 @@ impl<D: Mdisk> NamedDisk<D> {
     pub(crate) fn is_new_of(&self, kind: DiskKind) -> bool
         ensures { result ≡ is_new_of kind self.now }
     {
-        self.volume.is_none() && is_kind(kind, self.disk.kind())
+        self.volume.is_none() && is_kind_of(kind, self.disk.kind())
     }
 
     /// Becomes this volume's, with so many grains of zeros. Refused, it is as it was.

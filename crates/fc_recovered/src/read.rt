@@ -10,8 +10,8 @@ ghost use Rattle.fc_kept.specs.OneGrain.{Another, with_another};
 ghost use Rattle.fc_kept.specs.Recoverable.{disks_at};
 ghost use Rattle.fc_legal.specs.Steps.{IsInside};
 ghost use Rattle.fc_legal.specs.Whole.{Whole};
-ghost use Rattle.fc_recovered.specs.Answering.{IsReadBy, IsReadOf, AfterReply, HasGrain, ReadsGrain};
-ghost use Rattle.fc_recovered.specs.Recovered.{IsRecovered, StandsFor};
+ghost use Rattle.fc_recovered.specs.Answering.{IsAnswerBy, IsAnswerOf, AfterReply, HasDiskGrain, ReadsGrain};
+ghost use Rattle.fc_recovered.specs.Recovered.{IsRecovered, RecoversTo};
 ghost use Rattle.fc_recovered.specs.Showing.{shown_at};
 
 use crate::chains::holder_volume;
@@ -36,11 +36,11 @@ impl<D: Mdisk> Recovered<D> {
     /// counted. The bytes may want memory.
     pub fn read(&mut self, alloc: Global, part: ReadPart) -> Reply
         requires { IsInside self.old.grain (tables_in self.old.image) part.volume part.block part.count }
-        ensures shown { IsReadBy (access_in (tables_in self.old.image) part.volume) self.old.grain part (shown_at self.old.grain self.old.disks (kept_in self.old.image) part.volume.0 (grain_of_block self.old.grain part.block)) result }
-        ensures plain { (now : Whole) (one : Option Another) → StandsFor self.old.grain self.old.disks (kept_in self.old.image) now one →
-            IsReadBy (access_in now.books.tables part.volume) self.old.grain part (now_at (volume_in (with_another one (kept_in self.old.image).sheet.slots now.picture) part.volume) (grain_of_block self.old.grain part.block)) result }
+        ensures shown { IsAnswerBy (access_in (tables_in self.old.image) part.volume) self.old.grain part (shown_at self.old.grain self.old.disks (kept_in self.old.image) part.volume.0 (grain_of_block self.old.grain part.block)) result }
+        ensures plain { (now : Whole) (one : Option Another) → RecoversTo self.old.grain self.old.disks (kept_in self.old.image) now one →
+            IsAnswerBy (access_in now.books.tables part.volume) self.old.grain part (now_at (volume_in (with_another one (kept_in self.old.image).sheet.slots now.picture) part.volume) (grain_of_block self.old.grain part.block)) result }
         ensures disks { AfterReply result self.old.disks self.new.disks }
-        ensures stands { (now : Whole) (one : Option Another) → StandsFor self.old.grain self.old.disks (kept_in self.old.image) now one → StandsFor self.old.grain self.new.disks (kept_in self.old.image) now one }
+        ensures stands { (now : Whole) (one : Option Another) → RecoversTo self.old.grain self.old.disks (kept_in self.old.image) now one → RecoversTo self.old.grain self.new.disks (kept_in self.old.image) now one }
         ensures grain { self.new.grain ≡ self.old.grain }
         ensures image { self.new.image ≡ self.old.image }
     {
@@ -71,7 +71,7 @@ fn read_online<D: Mdisk>(
     requires holds { IsRecovered grain image.now disks.old.items buffer.old.items }
     requires inside { IsInside grain (tables_in image.now) part.volume part.block part.count }
     ensures holds { IsRecovered grain image.now disks.new.items buffer.new.items }
-    ensures shown { IsReadOf grain part (shown_at grain disks.old.items (kept_in image.now) part.volume.0 (grain_of_block grain part.block)) result }
+    ensures shown { IsAnswerOf grain part (shown_at grain disks.old.items (kept_in image.now) part.volume.0 (grain_of_block grain part.block)) result }
     ensures disks { AfterReply result disks.old.items disks.new.items }
 {
     let number = (part.block / grain.blocks() as u64) as u32;
@@ -100,7 +100,7 @@ fn read_grain<D: Mdisk>(
     out: &mut Vec<u8>,
 ) -> Result<(), Failed>
     requires some { 0 < length disks.old.items }
-    requires there { HasGrain (disks_at disks.old.items (number % length disks.old.items)) volume.0 (number / length disks.old.items) (length out.old.items) }
+    requires there { HasDiskGrain (disks_at disks.old.items (number % length disks.old.items)) volume.0 (number / length disks.old.items) (length out.old.items) }
     ensures reads { ReadsGrain disks.old.items volume.0 number (is_err result) out.new.items disks.new.items }
     ensures size { length out.new.items ≡ length out.old.items }
 {

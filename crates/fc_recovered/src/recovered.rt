@@ -6,7 +6,7 @@ ghost use Rattle.fc_kept.specs.OneGrain.{Another};
 ghost use Rattle.fc_base.specs.declared.volume.Volume.{Volume};
 ghost use Rattle.fc_legal.specs.Steps.{IsInside};
 ghost use Rattle.fc_legal.specs.Whole.{Whole};
-ghost use Rattle.fc_recovered.specs.Recovered.{CanRecover, AreReadied, StandsFor};
+ghost use Rattle.fc_recovered.specs.Recovered.{CanRecover, AreReadied, RecoversTo};
 
 use crate::lane_disks::LaneDisks;
 use crate::lane_size::LaneSize;
@@ -53,7 +53,7 @@ impl<D: Mdisk> Recovered<D> {
         ensures grain { IfOk result (λ made. made.grain ≡ grain) }
         ensures image { IfOk result (λ made. made.image ≡ image) }
         ensures disks { IfOk result (λ made. AreReadied grain image.volumes disks.items made.disks) }
-        ensures stands { IfOk result (λ made. (now : Whole) (one : Option Another) → StandsFor grain disks.items (kept_in image) now one → StandsFor grain made.disks (kept_in image) now one) }
+        ensures stands { IfOk result (λ made. (now : Whole) (one : Option Another) → RecoversTo grain disks.items (kept_in image) now one → RecoversTo grain made.disks (kept_in image) now one) }
     {
         let Ok(buffer) = vec![in alloc; 0u8; grain.bytes() as usize] else {
             return Err(NoMemory);

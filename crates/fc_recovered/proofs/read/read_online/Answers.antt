@@ -2,7 +2,7 @@ use Rattle.std.proofs.Common.{◌∙◌, ◌/◌, ◌*◌, ℕ, List, is_err, ap
 use Rattle.fc_base.specs.Grain.{block_bytes}
 use Rattle.fc_entry.specs.Picture.{Bytes, byte_in_grain}
 use Rattle.fc_entry.specs.Reads.{IsRightIn}
-use Rattle.fc_recovered.specs.Walk.{id_of}
+use Rattle.fc_recovered.specs.Walk.{id_number}
 use Rattle.fc_recovered.proofs.Answered.{found_by, lost_by, found_one, found_grain, when_lost, when_whole, when_done, one_read}
 use Rattle.fc_recovered.proofs.Called.{one_stays}
 use Rattle.fc_recovered.proofs.read.read_online.Goals as goal
@@ -13,7 +13,7 @@ returns-then-is_lost-clause-shown g c =
     when_lost c.args.grain c.args.image.now c.args.disks.now.items c.args.buffer.now.items c.args.part number
     (record { holds = c.requires.holds; inside = c.requires.inside; number_is = ap (λ (n : ℕ). c.args.part.block / n) c.blocks-2.ensures })
     c.in-Some.source
-    (ap id_of (sym c.in-Some.is) ∙ found_by c.args.image.now c.as_slice.result.now c.args.part.volume.0 number c.holder_volume.result c.as_slice.ensures c.requires.holds.sound c.holder_volume.ensures)
+    (ap id_number (sym c.in-Some.is) ∙ found_by c.args.image.now c.as_slice.result.now c.args.part.volume.0 number c.holder_volume.result c.as_slice.ensures c.requires.holds.sound c.holder_volume.ensures)
     c.is_lost.result
     (lost_by c.args.image.now c.as_slice-in-Some.result.now c.in-Some.source.0 number c.is_lost.result c.as_slice-in-Some.ensures c.requires.holds.sound c.is_lost.ensures)
     c.if-is_lost.true
@@ -24,14 +24,14 @@ read_grain-requires-clause-there g c =
     found_grain c.args.grain c.args.image.now c.args.disks.now.items c.args.buffer.now.items c.args.part number
     (record { holds = c.requires.holds; inside = c.requires.inside; number_is = ap (λ (n : ℕ). c.args.part.block / n) c.blocks-2.ensures })
     c.in-Some.source
-    (ap id_of (sym c.in-Some.is) ∙ found_by c.args.image.now c.as_slice.result.now c.args.part.volume.0 number c.holder_volume.result c.as_slice.ensures c.requires.holds.sound c.holder_volume.ensures)
+    (ap id_number (sym c.in-Some.is) ∙ found_by c.args.image.now c.as_slice.result.now c.args.part.volume.0 number c.holder_volume.result c.as_slice.ensures c.requires.holds.sound c.holder_volume.ensures)
 
 pub unreachable-requires : goal.unreachable-requires
 unreachable-requires g c =
     let number : ℕ = c.args.part.block / c.blocks-2.result in
     found_one c.args.grain c.args.image.now c.args.disks.now.items c.args.buffer.now.items c.args.part number
     (record { holds = c.requires.holds; inside = c.requires.inside; number_is = ap (λ (n : ℕ). c.args.part.block / n) c.blocks-2.ensures })
-    (ap id_of (sym c.in-None.is) ∙ found_by c.args.image.now c.as_slice.result.now c.args.part.volume.0 number c.holder_volume.result c.as_slice.ensures c.requires.holds.sound c.holder_volume.ensures)
+    (ap id_number (sym c.in-None.is) ∙ found_by c.args.image.now c.as_slice.result.now c.args.part.volume.0 number c.holder_volume.result c.as_slice.ensures c.requires.holds.sound c.holder_volume.ensures)
 
 pub returns-in-Err-clause-holds : goal.returns-in-Err-clause-holds
 returns-in-Err-clause-holds g c =
@@ -57,7 +57,7 @@ returns-in-Err-clause-shown g c =
     when_whole c.args.grain c.args.image.now c.args.disks.now.items c.args.buffer.now.items c.args.part number
     (record { holds = c.requires.holds; inside = c.requires.inside; number_is = ap (λ (n : ℕ). c.args.part.block / n) c.blocks-2.ensures })
     c.in-Some.source
-    (ap id_of (sym c.in-Some.is) ∙ found_by c.args.image.now c.as_slice.result.now c.args.part.volume.0 number c.holder_volume.result c.as_slice.ensures c.requires.holds.sound c.holder_volume.ensures)
+    (ap id_number (sym c.in-Some.is) ∙ found_by c.args.image.now c.as_slice.result.now c.args.part.volume.0 number c.holder_volume.result c.as_slice.ensures c.requires.holds.sound c.holder_volume.ensures)
     c.is_lost.result
     (lost_by c.args.image.now c.as_slice-in-Some.result.now c.in-Some.source.0 number c.is_lost.result c.as_slice-in-Some.ensures c.requires.holds.sound c.is_lost.ensures)
     c.if-is_lost.false (is_err c.read_grain.result) c.read_grain.new.out.items _ c.read_grain.ensures.reads.reads
@@ -68,7 +68,7 @@ returns-in-Err-runs_of-clause-shown g c =
     when_whole c.args.grain c.args.image.now c.args.disks.now.items c.args.buffer.now.items c.args.part number
     (record { holds = c.requires.holds; inside = c.requires.inside; number_is = ap (λ (n : ℕ). c.args.part.block / n) c.blocks-2.ensures })
     c.in-Some.source
-    (ap id_of (sym c.in-Some.is) ∙ found_by c.args.image.now c.as_slice.result.now c.args.part.volume.0 number c.holder_volume.result c.as_slice.ensures c.requires.holds.sound c.holder_volume.ensures)
+    (ap id_number (sym c.in-Some.is) ∙ found_by c.args.image.now c.as_slice.result.now c.args.part.volume.0 number c.holder_volume.result c.as_slice.ensures c.requires.holds.sound c.holder_volume.ensures)
     c.is_lost.result
     (lost_by c.args.image.now c.as_slice-in-Some.result.now c.in-Some.source.0 number c.is_lost.result c.as_slice-in-Some.ensures c.requires.holds.sound c.is_lost.ensures)
     c.if-is_lost.false (is_err c.read_grain.result) c.read_grain.new.out.items _ c.read_grain.ensures.reads.reads
@@ -79,7 +79,7 @@ returns-in-Ok-runs_of-clause-shown g c =
     when_done c.args.grain c.args.image.now c.args.disks.now.items c.args.buffer.now.items c.args.part number
     (record { holds = c.requires.holds; inside = c.requires.inside; number_is = ap (λ (n : ℕ). c.args.part.block / n) c.blocks-2.ensures })
     c.in-Some.source
-    (ap id_of (sym c.in-Some.is) ∙ found_by c.args.image.now c.as_slice.result.now c.args.part.volume.0 number c.holder_volume.result c.as_slice.ensures c.requires.holds.sound c.holder_volume.ensures)
+    (ap id_number (sym c.in-Some.is) ∙ found_by c.args.image.now c.as_slice.result.now c.args.part.volume.0 number c.holder_volume.result c.as_slice.ensures c.requires.holds.sound c.holder_volume.ensures)
     c.is_lost.result
     (lost_by c.args.image.now c.as_slice-in-Some.result.now c.in-Some.source.0 number c.is_lost.result c.as_slice-in-Some.ensures c.requires.holds.sound c.is_lost.ensures)
     c.if-is_lost.false c.read_grain.new.out.items _ c.in-Ok.ensures.reads.reads c.in-Ok-runs_of.runs
