@@ -23,14 +23,17 @@ use Rattle.law_crash.specs.Doing.{folded, MayFold, with_kept}
 
 -- ---- books stay sound without old slots that nobody needs, and that are no mapping's
 
+pub left_dropped : (s : Sheet) (birth : ℕ) → IsSound s → (f : FitsDrop s.slots birth) → Left s.slots (dropped birth s).slots (OfSlot s.slots f.place)
+left_dropped s birth sound f =
+    let there : f.place < length s.slots = (birth_place_at s.slots birth f.place f.is_there).0 in
+    subst (λ (z : Sheet). Left s.slots z.slots (OfSlot s.slots f.place)) (sym (small_of s birth f)) (old_left s.slots f.place sound.mappings sound.one_live there f.is_old)
+
 one_dropped : (b : Books) (birth : ℕ) (f : FitsDrop b.sheet.slots birth) → (slot_at b.sheet.slots f.place).mapping ≡ None → AreSound b → AreSound (record b { sheet = dropped birth b.sheet })
 one_dropped b birth f none a =
     let s : Sheet = b.sheet in
     let p : ℕ = f.place in
     let next : Books = record b { sheet = dropped birth s } in
-    let there : p < length s.slots = (birth_place_at s.slots birth p f.is_there).0 in
-    let left : Left s.slots (dropped birth s).slots (OfSlot s.slots p) =
-    subst (λ (z : Sheet). Left s.slots z.slots (OfSlot s.slots p)) (sym (small_of s birth f)) (old_left s.slots p a.sheet.mappings a.sheet.one_live there f.is_old) in
+    let left : Left s.slots (dropped birth s).slots (OfSlot s.slots p) = left_dropped s birth a.sheet f in
     let sound : IsSound (dropped birth s) = dropped_sound s birth a.sheet f in
     let joint : Joint b.tables (dropped birth s).slots Nobody =
     joint_kept b.tables s.slots (dropped birth s).slots (OfSlot s.slots p) Nobody Nobody (kept_left s.slots (dropped birth s).slots (OfSlot s.slots p) left)

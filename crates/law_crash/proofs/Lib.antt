@@ -24,5 +24,7 @@ pub mod Renaming
 pub mod Doable
 pub mod Histories
 pub mod Costs
+pub mod Resting
+pub mod Unchanged
 pub mod Whole
 mod Examples

@@ -11,6 +11,7 @@ use Rattle.law_crash.proofs.Lawful.{all_found, all_stand}
 use Rattle.law_crash.proofs.Leaving.{leaves_all}
 use Rattle.law_crash.proofs.Opening.{opens, rests, turned}
 use Rattle.law_crash.proofs.Running.{runs_all, stops_all}
+use Rattle.law_crash.proofs.Unchanged.{says_still}
 
 pub crash_law_holds : CrashLaw
 crash_law_holds =
@@ -24,6 +25,7 @@ crash_law_holds =
       stands_stopped = λ grain w least r front back step torn p q entry i b x told. answered grain w least r None front torn q entry i told (all_stopped grain w least r front back step torn p q b x);
       turned = turned;
       leaves = leaves_all;
+      stays = says_still;
       runs = runs_all;
       histories = histories_run;
       stops = stops_all;

@@ -7,25 +7,28 @@ use Rattle.fc_base.specs.Sheet.{Sheet, slot_at, column}
 use Rattle.fc_base.specs.SheetFacts.{IsSound}
 use Rattle.fc_base.specs.Pools.{Pool}
 use Rattle.fc_base.specs.declared.command.Command.{Command}
+use Rattle.fc_base.specs.declared.ids.VolId.{VolId}
 use Rattle.fc_base.specs.declared.request.Request.{Request}
 use Rattle.fc_base.specs.declared.request.Torn.{Torn}
 use Rattle.fc_base.specs.declared.size.GrainSize.{GrainSize}
+use Rattle.fc_books.specs.Deciding.{settle}
 use Rattle.fc_books.specs.Sound.{AreSound}
 use Rattle.fc_changed.specs.Row.{Row}
 use Rattle.fc_entry.specs.Picture.{Content, PlainVolume}
 use Rattle.fc_entry.specs.declared.entry.Entry.{Entry}
 use Rattle.fc_legal.specs.Legal.{AreSteps}
-use Rattle.fc_legal.specs.Steps.{Step, after_access, one_more}
+use Rattle.fc_legal.specs.Steps.{Step, after_access, after_settling, decided_on, left_by, one_more}
 use Rattle.fc_legal.specs.Whole.{Whole, opened, single_lane}
 use Rattle.fc_parts.specs.Law.{IsInVolume}
 use Rattle.fc_pictures.specs.Law.{now_of}
 use Rattle.fc_rules.specs.Steps.{DiskStep}
+use Rattle.fc_kept.specs.Actions.{actions_of_command}
 use Rattle.fc_kept.specs.Disks.{NamedDisk}
 use Rattle.fc_kept.specs.Kept.{Kept}
-use Rattle.fc_kept.specs.Marks.{asked_write, least_entry, LeastStep}
+use Rattle.fc_kept.specs.Marks.{asked_write, least_by, least_entry, LeastStep}
 use Rattle.fc_kept.specs.OneGrain.{Another, another}
 use Rattle.fc_kept.specs.Prefix.{AreStepsOf}
-use Rattle.fc_kept.specs.Recoverable.{Recoverable}
+use Rattle.fc_kept.specs.Recoverable.{Recoverable, Says}
 use Rattle.law_crash.specs.Points.{Point, StandsFor, stored_by, nothing_kept}
 use Rattle.law_crash.specs.Leaving.{AreUnnamed, GoesOn, HaveTheirDisks, Leaves}
 use Rattle.law_crash.specs.Running.{Run, Stops}
@@ -85,6 +88,12 @@ pub record CrashLaw : Type 0 where
       decisions + 4 < 2 ^ 32 → GoesOn decisions w p.disks → StandsFor grain w least p →
       HaveTheirDisks w p.disks → Leaves grain w least p.kept command left least' kept →
       StandsFor grain (one_more left) least' (record p { kept = kept }) × GoesOn (decisions + 2) (one_more left) p.disks
+  -- where a command has no action, what metadata says is so much of what it leaves already
+  pub stays : (grain : GrainSize) (decisions : ℕ) (w : Whole) (least : List Row) (command : Command) (loop : Option (List VolId)) (p : Point) →
+      decisions + 1 < 2 ^ 32 → GoesOn decisions w p.disks → StandsFor grain w least p →
+      let settled = after_settling grain w in let d = decided_on grain settled command loop in
+      actions_of_command (settle w.books) d ≡ [] →
+      Says grain p.disks p.kept (left_by grain settled d) (least_by settled (least_by w least (settle w.books)) d)
   -- so all entries of a history stand, one after the other, with what is done to the disks
   pub runs : (grain : GrainSize) (pools : List Pool) (disks : List (List NamedDisk)) (entries : List Entry) (w : Whole) (least : List Row) (p : Point) →
       0 < length pools → length disks ≡ length pools → AreUnnamed (opened pools) disks →

@@ -58,7 +58,7 @@ pub data Does (grain : GrainSize) (w : Whole) (least : List Row) (p : Point) (en
   commanded : (command : Command) (left : Whole) (least' : List Row) (kept : Kept) → entry.request ≡ Asked command →
       HaveTheirDisks w p.disks → Leaves grain w least p.kept command left least' kept →
       Does grain w least p entry (one_more left) least' (record p { kept = kept })
-  -- or leaves it as it is, where that says so much of what the command leaves, as where nothing is changed
+  -- or leaves it as it is, where that says so much of what the command leaves, as where it has no action
   unchanged : (command : Command) (left : Whole) (least' : List Row) → entry.request ≡ Asked command → LeastLeft grain w least command left least' →
       Says grain p.disks p.kept left least' → Does grain w least p entry (one_more left) least' p
 

@@ -1,6 +1,7 @@
 //! Sets of grains beside their plain body, a list of truth values: over all lengths from 0 to 200, and where the grains stand at
 //! the edges of words.
 
+use crate::expect::expect_same;
 use fc_bits::{GrainSet, count_words, first_in_difference};
 use std::alloc::Global;
 use std::process::Abort;
@@ -93,37 +94,41 @@ fn plain_count(plain: &[bool]) -> usize {
     count
 }
 
+/// The bit of a grain in the words of a set, and false behind them.
+fn bit_of(set: &GrainSet, grain: u32) -> bool {
+    match set.words().get(grain as usize / 64) {
+        Some(word) => *word >> (grain % 64) & 1 == 1,
+        None => false,
+    }
+}
+
+/// Each call that reads the set at this grain answers what the list does.
+fn assert_at(rt: &impl Abort, set: &GrainSet, plain: &[bool], from: u32) {
+    let at = u64::from(from);
+    let next = plain_next(plain, from, true);
+    expect_same(rt, &set.next_set(from), &next, "set from", at);
+    let clear = plain_next(plain, from, false);
+    expect_same(rt, &set.next_clear(from), &clear, "clear from", at);
+    let held = plain.get(from as usize).copied().unwrap_or(false);
+    expect_same(rt, &bit_of(set, from), &held, "bit", at);
+    if from < set.len() {
+        expect_same(rt, &set.has(from), &held, "grain", at);
+    }
+}
+
 /// Each call that reads the set answers what the list does.
 fn assert_same(rt: &impl Abort, set: &GrainSet, plain: &[bool]) {
+    let grains = plain.len();
+    let of = grains as u64;
     let members = plain_count(plain);
-    assert_eq!(rt; set.len() as usize, plain.len());
-    assert_eq!(rt; set.count() as usize, members);
-    assert_eq!(rt; count_words(set.words()) as usize, members);
-    assert_eq!(rt; set.is_full(), members == plain.len());
-    assert_eq!(rt; set.is_clear(), members == 0);
+    let counted = count_words(set.words()) as usize;
+    expect_same(rt, &(set.len() as usize), &grains, "length", of);
+    expect_same(rt, &(set.count() as usize), &members, "count of", of);
+    expect_same(rt, &counted, &members, "words of", of);
+    expect_same(rt, &set.is_full(), &(members == grains), "full of", of);
+    expect_same(rt, &set.is_clear(), &(members == 0), "clear of", of);
     for from in 0..set.len().min(200) + 3 {
-        assert_eq!(rt;
-            set.next_set(from),
-            plain_next(plain, from, true),
-            "set from {from}"
-        );
-        assert_eq!(rt;
-            set.next_clear(from),
-            plain_next(plain, from, false),
-            "clear from {from}"
-        );
-        let bit = match set.words().get(from as usize / 64) {
-            Some(word) => *word >> (from % 64) & 1 == 1,
-            None => false,
-        };
-        assert_eq!(rt;
-            bit,
-            plain.get(from as usize).copied().unwrap_or(false),
-            "bit {from}"
-        );
-        if from < set.len() {
-            assert_eq!(rt; set.has(from), bit, "grain {from}");
-        }
+        assert_at(rt, set, plain, from);
     }
 }
 
@@ -145,14 +150,27 @@ fn one_set(rt: HostRuntime) -> Result<(), Fail> {
     Ok(())
 }
 
+/// A set that is filled and then cleared answers what these lists do.
+fn assert_filled(rt: &impl Abort, set: &mut GrainSet, full: &[bool], clear: &[bool]) {
+    set.set_all();
+    assert_same(rt, set, full);
+    set.clear_all();
+    assert_same(rt, set, clear);
+}
+
+/// A set of so many grains is filled and cleared.
+fn assert_whole(rt: &impl Abort, alloc: Global, grains: u32) -> Result<(), Fail> {
+    let full = plain_of(alloc, grains, 1)?;
+    let clear = plain_of(alloc, grains, 0)?;
+    let mut set = set_of(alloc, grains, 7)?;
+    assert_filled(rt, &mut set, &full, &clear);
+    Ok(())
+}
+
 #[test]
 fn whole_sets(rt: HostRuntime) -> Result<(), Fail> {
     for grains in 0..201 {
-        let mut set = set_of(rt.alloc(), grains, 7)?;
-        set.set_all();
-        assert_same(&rt, &set, &plain_of(rt.alloc(), grains, 1)?);
-        set.clear_all();
-        assert_same(&rt, &set, &plain_of(rt.alloc(), grains, 0)?);
+        assert_whole(&rt, rt.alloc(), grains)?;
     }
     Ok(())
 }
@@ -161,12 +179,25 @@ fn whole_sets(rt: HostRuntime) -> Result<(), Fail> {
 fn assert_grain(rt: &impl Abort, set: &mut GrainSet, grain: u32) {
     if grain < set.len() {
         set.clear(grain);
-        assert!(rt; !set.has(grain));
-        assert_eq!(rt; set.next_clear(grain), Some(grain));
+        expect_same(rt, &set.has(grain), &false, "cleared", u64::from(grain));
+        expect_same(
+            rt,
+            &set.next_clear(grain),
+            &Some(grain),
+            "next",
+            u64::from(grain),
+        );
         set.set(grain);
-        assert!(rt; set.has(grain));
+        expect_same(rt, &set.has(grain), &true, "set", u64::from(grain));
     }
-    assert_eq!(rt; set.next_set(grain / 3 * 3), Some(grain / 3 * 3));
+    let third = grain / 3 * 3;
+    expect_same(
+        rt,
+        &set.next_set(third),
+        &Some(third),
+        "third",
+        u64::from(third),
+    );
 }
 
 #[test]
@@ -180,23 +211,26 @@ fn one_grain(rt: HostRuntime) -> Result<(), Fail> {
 
 /// Each call that reads two sets answers what these lists do.
 fn assert_read(rt: &impl Abort, set: &GrainSet, other: &GrainSet, apart: &[bool], common: &[bool]) {
-    assert_eq!(rt; set.len(), other.len());
+    assert!(rt; set.len() == other.len());
     for from in 0..set.len().min(200) + 3 {
-        let first = plain_next(apart, from, true);
-        assert_eq!(rt;
-            set.next_in_difference(other, from),
-            first,
-            "apart from {from}"
+        let at = u64::from(from);
+        let apart = plain_next(apart, from, true);
+        expect_same(
+            rt,
+            &set.next_in_difference(other, from),
+            &apart,
+            "apart from",
+            at,
         );
-        assert_eq!(rt;
-            first_in_difference(set.words(), other.words(), from),
-            first,
-            "words from {from}"
-        );
-        assert_eq!(rt;
-            set.next_shared(other, from),
-            plain_next(common, from, true),
-            "shared from {from}"
+        let first = first_in_difference(set.words(), other.words(), from);
+        expect_same(rt, &first, &apart, "words from", at);
+        let common = plain_next(common, from, true);
+        expect_same(
+            rt,
+            &set.next_shared(other, from),
+            &common,
+            "shared from",
+            at,
         );
     }
 }
@@ -210,20 +244,20 @@ fn assert_changed(
     apart: &[bool],
     others: &[bool],
 ) {
-    assert_eq!(rt; set.len(), other.len());
+    assert!(rt; set.len() == other.len());
     set.add_all(other);
     assert_same(rt, set, union);
-    assert_eq!(rt; set.len(), other.len());
+    assert!(rt; set.len() == other.len());
     set.remove_all(other);
     assert_same(rt, set, apart);
-    assert_eq!(rt; set.len(), other.len());
+    assert!(rt; set.len() == other.len());
     set.copy_from(other);
     assert_same(rt, set, others);
 }
 
 /// What is kept in a set is so in this list.
 fn assert_kept(rt: &impl Abort, set: &mut GrainSet, other: &GrainSet, common: &[bool]) {
-    assert_eq!(rt; set.len(), other.len());
+    assert!(rt; set.len() == other.len());
     set.keep_all(other);
     assert_same(rt, set, common);
 }
@@ -245,33 +279,46 @@ fn assert_beside(
     Ok(())
 }
 
-/// Each call over sets of two patterns answers and does what the lists do.
-fn assert_pair(
-    rt: &impl Abort,
-    alloc: Global,
+/// Two patterns over so many grains.
+#[derive(Clone, Copy)]
+struct Patterns {
     grains: u32,
     left: u32,
     right: u32,
+}
+
+/// Each call over sets of two patterns answers and does what these lists of theirs do.
+fn assert_sets(
+    rt: &impl Abort,
+    alloc: Global,
+    of: Patterns,
+    plain: &[bool],
+    others: &[bool],
 ) -> Result<(), Fail> {
-    let other = set_of(alloc, grains, right)?;
-    let plain = plain_of(alloc, grains, left)?;
-    let others = plain_of(alloc, grains, right)?;
-    let mut set = set_of(alloc, grains, left)?;
-    assert_beside(rt, alloc, &mut set, &other, &plain, &others)
+    let other = set_of(alloc, of.grains, of.right)?;
+    let mut set = set_of(alloc, of.grains, of.left)?;
+    assert_beside(rt, alloc, &mut set, &other, plain, others)
+}
+
+/// Each call over sets of two patterns answers and does what the lists do.
+fn assert_pair(rt: &impl Abort, alloc: Global, of: Patterns) -> Result<(), Fail> {
+    let plain = plain_of(alloc, of.grains, of.left)?;
+    let others = plain_of(alloc, of.grains, of.right)?;
+    assert_sets(rt, alloc, of, &plain, &others)
+}
+
+/// The list of what both patterns have.
+fn common_of(alloc: Global, of: Patterns) -> Result<Vec<bool>, Fail> {
+    let plain = plain_of(alloc, of.grains, of.left)?;
+    let others = plain_of(alloc, of.grains, of.right)?;
+    plain_together(alloc, How::Common, &plain, &others)
 }
 
 /// What is kept of a pattern is so in the lists.
-fn assert_kept_pair(
-    rt: &impl Abort,
-    alloc: Global,
-    grains: u32,
-    left: u32,
-    right: u32,
-) -> Result<(), Fail> {
-    let plain = plain_of(alloc, grains, left)?;
-    let common = plain_together(alloc, How::Common, &plain, &plain_of(alloc, grains, right)?)?;
-    let other = set_of(alloc, grains, right)?;
-    let mut set = set_of(alloc, grains, left)?;
+fn assert_kept_pair(rt: &impl Abort, alloc: Global, of: Patterns) -> Result<(), Fail> {
+    let common = common_of(alloc, of)?;
+    let other = set_of(alloc, of.grains, of.right)?;
+    let mut set = set_of(alloc, of.grains, of.left)?;
     assert_kept(rt, &mut set, &other, &common);
     Ok(())
 }
@@ -279,9 +326,14 @@ fn assert_kept_pair(
 #[test]
 fn two_sets(rt: HostRuntime) -> Result<(), Fail> {
     for grains in 0..201 {
-        for pattern in 0..PATTERNS {
-            assert_pair(&rt, rt.alloc(), grains, pattern, 7 - pattern)?;
-            assert_kept_pair(&rt, rt.alloc(), grains, pattern, 7 - pattern)?;
+        for left in 0..PATTERNS {
+            let of = Patterns {
+                grains,
+                left,
+                right: 7 - left,
+            };
+            assert_pair(&rt, rt.alloc(), of)?;
+            assert_kept_pair(&rt, rt.alloc(), of)?;
         }
     }
     Ok(())
@@ -290,12 +342,13 @@ fn two_sets(rt: HostRuntime) -> Result<(), Fail> {
 /// A set is cut to so many grains, and filled.
 fn assert_cut(rt: &impl Abort, set: &mut GrainSet, cut: u32) {
     assert!(rt; cut <= set.len());
+    let to = u64::from(cut);
     set.reset(cut);
-    assert_eq!(rt; set.len(), cut);
-    assert_eq!(rt; set.count(), 0);
-    assert_eq!(rt; set.next_clear(0).is_some(), cut > 0);
+    expect_same(rt, &set.len(), &cut, "cut to", to);
+    expect_same(rt, &set.count(), &0, "clear, cut to", to);
+    expect_same(rt, &set.next_clear(0).is_some(), &(cut > 0), "first of", to);
     set.set_all();
-    assert_eq!(rt; set.count(), cut);
+    expect_same(rt, &set.count(), &cut, "full, cut to", to);
 }
 
 #[test]

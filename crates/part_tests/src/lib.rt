@@ -7,6 +7,8 @@ mod bits;
 #[cfg(test)]
 mod drills;
 #[cfg(test)]
+mod expect;
+#[cfg(test)]
 mod picks;
 #[cfg(test)]
 mod rates;

@@ -2,6 +2,7 @@
 
 ghost use Rattle.std.specs.Prelude.{Some, None, ◌==◌, if◌then◌else◌};
 
+use crate::expect::expect_same;
 use fc_base::ids::{GrainNo, MapId};
 use fc_pick::{Grid, Work};
 use std::process::Abort;
@@ -45,12 +46,24 @@ fn grid_of(map: u32) -> OneMapping {
     }
 }
 
+/// The flags of a mapping are set.
+fn set_flags(rt: &impl Abort, work: &mut Work, map: u32, copies: bool, cleans: bool) {
+    let done = work.set(MapId(map), copies, cleans).is_ok();
+    expect_same(rt, &done, &true, "flags of", u64::from(map));
+}
+
+/// A mapping is made known.
+fn track(rt: &impl Abort, work: &mut Work, map: u32) {
+    let done = work.track(MapId(map)).is_ok();
+    expect_same(rt, &done, &true, "known", u64::from(map));
+}
+
 /// The work of mappings 2, 5 and 9, told in another order: 2 and 9 copy, 5 and 9 clean.
 fn three_mappings(rt: &impl Abort, work: &mut Work) {
-    assert!(rt; work.set(MapId(9), true, true).is_ok());
-    assert!(rt; work.set(MapId(2), true, false).is_ok());
-    assert!(rt; work.track(MapId(5)).is_ok());
-    assert!(rt; work.set(MapId(5), false, true).is_ok());
+    set_flags(rt, work, 9, true, true);
+    set_flags(rt, work, 2, true, false);
+    track(rt, work, 5);
+    set_flags(rt, work, 5, false, true);
 }
 
 /// Asserts what a copy and a cleaning would take where this mapping alone has grains.
@@ -66,8 +79,14 @@ fn expect_work(rt: &impl Abort, work: &Work, map: u32, copies: bool, cleans: boo
         None
     };
     let grid = grid_of(map);
-    assert_eq!(rt; work.next_copy(&grid), copy, "copy of {map}");
-    assert_eq!(rt; work.next_clean(&grid), clean, "cleaning of {map}");
+    expect_same(rt, &work.next_copy(&grid), &copy, "copy of", u64::from(map));
+    expect_same(
+        rt,
+        &work.next_clean(&grid),
+        &clean,
+        "cleaning of",
+        u64::from(map),
+    );
 }
 
 #[test]
@@ -83,8 +102,8 @@ fn each_flag_is_its_own(rt: HostRuntime) {
 
 /// Mapping 9 goes on cleaning alone, and is then forgotten, and one that isn't there.
 fn change_flags(rt: &impl Abort, work: &mut Work) {
-    assert!(rt; work.set(MapId(9), false, true).is_ok());
-    assert!(rt; work.track(MapId(9)).is_ok());
+    set_flags(rt, work, 9, false, true);
+    track(rt, work, 9);
     expect_work(rt, work, 9, false, true);
     work.forget(MapId(9));
     work.forget(MapId(7));

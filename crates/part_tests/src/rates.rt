@@ -1,5 +1,6 @@
 //! Rates at the ends of their rows, and a credit that is saved and spent.
 
+use crate::expect::expect_same;
 use fc_rates::{Credits, kib_per_second};
 
 #[test]
@@ -22,7 +23,7 @@ fn rates_at_the_ends_of_their_rows(rt: HostRuntime) {
         (255, 0),
     ];
     for (rate, kib) in table {
-        assert_eq!(rt; kib_per_second(rate), kib, "at {rate}");
+        expect_same(&rt, &kib_per_second(rate), &kib, "at", u64::from(rate));
     }
 }
 

@@ -6,6 +6,7 @@ use fc_base::fault::Refusal;
 use fc_base::ids::MapId;
 use fc_base::state::{Access, MapEvent, MapState};
 use fc_states::{access, next};
+use std::process::Abort;
 
 const STATES: [MapState; 7] = [
     MapState::IdleOrCopied,
@@ -89,23 +90,34 @@ fn is_asked(state: MapState, event: MapEvent, complete: bool) -> bool
     }
 }
 
+/// The letter of a cell: - where it isn't asked for.
+fn cell_of(state: MapState, event: MapEvent, complete: bool, needed: bool) -> u8 {
+    if is_asked(state, event, complete) {
+        letter(&next(state, event, complete, needed), state)
+    } else {
+        b'-'
+    }
+}
+
+/// The letter of a cell is the one that is wanted there.
+fn expect_letter(
+    rt: &impl Abort,
+    letter: u8,
+    wanted: u8,
+    state: MapState,
+    event: MapEvent,
+    place: usize,
+) {
+    assert_eq!(rt; letter, wanted, "{state:?} {event:?} {place}");
+}
+
 #[test]
 fn every_cell_of_the_state_table(rt: HostRuntime) {
     for (state, row) in STATES.iter().zip(NEXT.iter()) {
         for (event, cell) in EVENTS.iter().zip(row.iter()) {
             for (place, wanted) in cell.iter().enumerate() {
-                let complete = place >= 2;
-                let needed = place % 2 == 1;
-                if is_asked(*state, *event, complete) {
-                    let outcome = next(*state, *event, complete, needed);
-                    assert_eq!(rt;
-                        letter(&outcome, *state),
-                        *wanted,
-                        "{state:?} {event:?} {place}"
-                    );
-                } else {
-                    assert_eq!(rt; *wanted, b'-', "{state:?} {event:?} {place}");
-                }
+                let letter = cell_of(*state, *event, place >= 2, place % 2 == 1);
+                expect_letter(&rt, letter, *wanted, *state, *event, place);
             }
         }
     }
@@ -114,21 +126,30 @@ fn every_cell_of_the_state_table(rt: HostRuntime) {
 /// For each of `STATES`: o online, x offline in that state, p not accessible; where incomplete, and where complete.
 const ACCESS: [[u8; 2]; 7] = [*b"oo", *b"xx", *b"pp", *b"pp", *b"oo", *b"xo", *b"oo"];
 
+/// The letter of the access to a target in `state`.
+fn access_letter(map: MapId, state: MapState, complete: bool) -> u8 {
+    match access(map, state, complete) {
+        Access::Online => b'o',
+        Access::Offline {
+            map: told,
+            state: why,
+        } if told == map && why == state => b'x',
+        Access::NotAccessible { map: told } if told == map => b'p',
+        _ => b'?',
+    }
+}
+
+/// The letter of an access is the one that is wanted there.
+fn expect_access(rt: &impl Abort, letter: u8, wanted: u8, state: MapState, place: usize) {
+    assert_eq!(rt; letter, wanted, "{state:?} {place}");
+}
+
 #[test]
 fn every_cell_of_the_access_table(rt: HostRuntime) {
-    let map = MapId(3);
     for (state, row) in STATES.iter().zip(ACCESS.iter()) {
         for (place, wanted) in row.iter().enumerate() {
-            let told = match access(map, *state, place == 1) {
-                Access::Online => b'o',
-                Access::Offline {
-                    map: told,
-                    state: why,
-                } if told == map && why == *state => b'x',
-                Access::NotAccessible { map: told } if told == map => b'p',
-                _ => b'?',
-            };
-            assert_eq!(rt; told, *wanted, "{state:?} {place}");
+            let letter = access_letter(MapId(3), *state, place == 1);
+            expect_access(&rt, letter, *wanted, *state, place);
         }
     }
 }
