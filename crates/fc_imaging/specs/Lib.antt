@@ -1,0 +1,3 @@
+-- What an image has of a store.
+pub mod Imaging
+pub mod Bits
