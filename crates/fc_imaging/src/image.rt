@@ -42,7 +42,8 @@ fn told<D: Mdisk>(
 }
 
 /// All that metadata is to say of the control part and these lanes: of whatever they stand for, the tables, the ids that come
-/// next, the chains of copies, what changed, and the lost grains. Refused for want of memory alone.
+/// next, the chains of copies, what changed, and the lost grains. Refused for want of memory alone; so would be a slot of 2^32
+/// grains, which no store has.
 pub fn image_of<D: Mdisk>(
     alloc: Global,
     control: &Control,
