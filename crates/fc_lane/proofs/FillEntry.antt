@@ -16,7 +16,7 @@ use Rattle.fc_entry.specs.declared.entry.Past.{Past}
 use Rattle.fc_entry.specs.declared.entry.Past.TheVariants.{Step}
 use Rattle.fc_grains.specs.Grains.{GrainsState}
 use Rattle.fc_grains.specs.Volumes.{rooms_of}
-use Rattle.fc_lane.specs.Entering.{HasEntered, HasFilled, IsFill, SameBeside}
+use Rattle.fc_lane.specs.Entering.{HasEntered, HasFilled, SameBeside}
 use Rattle.fc_lane.specs.Workers.{IsFilled, ask_of, filled_slot}
 use Rattle.fc_lane.specs.declared.worker.Worker.{Worker}
 use Rattle.fc_lane.specs.declared.worker.Worker.TheVariants.{Copier, Cleaner}

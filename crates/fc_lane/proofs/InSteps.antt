@@ -1,5 +1,5 @@
 -- Entries of a lane, step by step.
-use Rattle.std.proofs.Common.{◌≡◌, ℕ, ◌≤◌, ◌<◌, ◌/◌, ◌%◌, ◌^◌, Option, Some, None, IsSome, List, [], length, take, refl, sym, ap, subst, ◌∙◌}
+use Rattle.std.proofs.Common.{◌≡◌, ℕ, ◌≤◌, ◌<◌, ◌/◌, ◌^◌, Option, Some, None, IsSome, List, length, take, refl, sym, ap, subst, ◌∙◌}
 use Rattle.fc_base.specs.MovePlan.{PlannedMoves}
 use Rattle.fc_base.specs.declared.ids.GrainNo.{GrainNo}
 use Rattle.fc_base.specs.declared.ids.MapId.{MapId}
@@ -16,8 +16,8 @@ use Rattle.fc_chain.specs.Planning.{planned_moves}
 use Rattle.fc_entry.specs.Picture.{grain_of_block}
 use Rattle.fc_entry.specs.declared.entry.Entry.{Entry}
 use Rattle.fc_grains.specs.Grains.{GrainsState}
-use Rattle.fc_lane.specs.Doing.{CanWrite, FitsAsk, HasBegun, HasCome, IsNextWork, IsUnderWay}
-use Rattle.fc_lane.specs.Entering.{HasEntered, IsFill, SameBeside}
+use Rattle.fc_lane.specs.Doing.{CanWrite, FitsAsk, HasBegun, IsNextWork, IsUnderWay}
+use Rattle.fc_lane.specs.Entering.{HasEntered, SameBeside}
 use Rattle.fc_lane.specs.Lane.{LaneView, IsLaneOf, IsReady, of}
 use Rattle.fc_lane.specs.Turns.{CanPick}
 use Rattle.fc_lane.specs.Workers.{IsFilled, ask_of, filled_slot, turn_of}

@@ -6,7 +6,6 @@ use Rattle.fc_lane.specs.Lane.{LaneView, of}
 use Rattle.fc_lane.proofs.InSteps.{write_begins}
 use Rattle.fc_lane.proofs.Followed.{untouched_followed}
 use Rattle.fc_lane.proofs.WriteLane.{IsOnline, IsWritable, TellsWritable, is_writable, lost_entered, plan_fits, plan_some, write_fits, write_plannable}
-use Rattle.fc_lane.proofs.lane.Lane.begin_online.Given as given
 use Rattle.fc_lane.proofs.lane.Lane.begin_online.Goals as goal
 use Rattle.fc_lane.proofs.lane.Lane.begin_online.Goals.{After-can_write}
 use Rattle.fc_rules.specs.LaneFits.{FitsPart}
