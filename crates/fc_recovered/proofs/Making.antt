@@ -1,18 +1,20 @@
 -- The disks of all lanes, made ready.
-use Rattle.std.proofs.Common.{◌≡◌, ℕ, ◌+◌, ◌<◌, ◌≤◌, Option, List, [], length, get_or, set, refl, sym, ap, subst, ◌∙◌, arith, inl, inr, length-set, get_or-set_same, get_or-set_other}
+use Rattle.std.proofs.Common.{◌≡◌, ℕ, ◌+◌, ◌^◌, ◌<◌, ◌≤◌, All, Option, List, [], length, get_or, set, refl, sym, ap, subst, ◌∙◌, arith, inl, inr, length-set, get_or-set_same, get_or-set_other}
 use Rattle.std.proofs.lemmas.Bool.{cases_eq}
 use Rattle.std.proofs.lemmas.List.{get_or_default}
 use Rattle.fc_base.specs.Grain.{grain_bytes}
 use Rattle.fc_base.specs.declared.size.GrainSize.{GrainSize}
 use Rattle.fc_base.specs.declared.volume.Volume.{Volume}
 use Rattle.fc_image.specs.declared.image.MetaImage.{MetaImage}
-use Rattle.fc_kept.specs.Disks.{NamedDisk}
+use Rattle.fc_changed.specs.Row.{Row}
+use Rattle.fc_kept.specs.Disks.{NamedDisk, FitDisks}
 use Rattle.fc_kept.specs.Images.{tables_in, kept_in}
 use Rattle.fc_kept.specs.OneGrain.{Another}
-use Rattle.fc_kept.specs.Recoverable.{disks_at}
+use Rattle.fc_kept.specs.Recoverable.{disks_at, Says}
+use Rattle.fc_kept.specs.Sound.{IsSoundImage}
 use Rattle.fc_legal.specs.Whole.{Whole}
 use Rattle.fc_rules.specs.LaneTold.{LaneOf}
-use Rattle.fc_recovered.specs.Readying.{AllHaveDisks, readied}
+use Rattle.fc_recovered.specs.Readying.{HasWholeGrains, AllHaveDisks, readied}
 use Rattle.fc_recovered.specs.Recovered.{CanRecover, AreReadied, IsRecovered, RecoversTo}
 use Rattle.fc_recovered.specs.Showing.{lane_over}
 use Rattle.fc_recovered.proofs.Carrying.{stands_on}
@@ -59,6 +61,18 @@ pub all_ready : (grain : GrainSize) (volumes : List Volume) (old new : List (Lis
 all_ready grain volumes old new lane le r = record { count = r.count; each = λ i il. r.ready i (omega arith) }
 
 -- ---- all of it
+
+-- disks over which metadata says what is told may be read
+pub says_can : (grain : GrainSize) (image : MetaImage) (disks : List (List NamedDisk)) (now : Whole) (least : List Row) → IsSoundImage image → Says grain disks (kept_in image) now least →
+    0 < length disks → length disks < 2 ^ 32 → ((i : ℕ) → i < length disks → All (HasWholeGrains grain) (disks_at disks i)) → CanRecover grain image disks
+says_can grain image disks now least sound says some few whole =
+    record {
+      sound = sound;
+      some = some;
+      few = few;
+      fit = λ i il. subst (λ (n : ℕ). FitDisks (numbered grain i n) (disks_at disks i) (tables_in image)) (sym says.count) (says.fit i il);
+      whole = whole;
+    }
 
 made_at : (grain : GrainSize) (image : MetaImage) (old new : List (List NamedDisk)) → CanRecover grain image old → AreReadied grain image.volumes old new → (i : ℕ) → i < length old →
     MadeReady (lane_over grain old i) (tables_in image) (disks_at old i) (disks_at new i)
