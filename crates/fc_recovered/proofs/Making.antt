@@ -1,6 +1,6 @@
 -- The disks of all lanes, made ready.
 use Rattle.std.proofs.Common.{◌≡◌, ℕ, ◌+◌, ◌^◌, ◌<◌, ◌≤◌, All, Option, List, [], length, get_or, set, refl, sym, ap, subst, ◌∙◌, arith, inl, inr, length-set, get_or-set_same, get_or-set_other}
-use Rattle.std.proofs.lemmas.Bool.{cases_eq}
+use Rattle.std.proofs.lemmas.Bool.{cases_lt, cases_eq}
 use Rattle.std.proofs.lemmas.List.{get_or_default}
 use Rattle.fc_base.specs.Grain.{grain_bytes}
 use Rattle.fc_base.specs.declared.size.GrainSize.{GrainSize}
@@ -15,7 +15,7 @@ use Rattle.fc_kept.specs.Sound.{IsSoundImage}
 use Rattle.fc_legal.specs.Whole.{Whole}
 use Rattle.fc_rules.specs.LaneTold.{LaneOf}
 use Rattle.fc_recovered.specs.Readying.{HasWholeGrains, AllHaveDisks, readied}
-use Rattle.fc_recovered.specs.Recovered.{CanRecover, AreReadied, IsRecovered, RecoversTo}
+use Rattle.fc_recovered.specs.Recovered.{CanRecover, AreReadied, AreHandedBack, IsRecovered, RecoversTo}
 use Rattle.fc_recovered.specs.Showing.{lane_over}
 use Rattle.fc_recovered.proofs.Carrying.{stands_on}
 use Rattle.fc_recovered.proofs.Giving.{MadeReady, made_ready}
@@ -56,6 +56,23 @@ one_more grain volumes old so_far lane lanes disks made lt count is e r =
     one_more_ready grain volumes old so_far (set so_far lane made) lane made below refl
     (subst (λ (n : ℕ). made ≡ readied (numbered grain lane n) volumes (disks_at so_far lane)) count
     (e ∙ ap (readied (numbered grain lane lanes) volumes) (is ∙ get_or_default so_far lane disks [] below))) r
+
+-- where this lane isn't made ready
+pub handed_back : (grain : GrainSize) (volumes : List Volume) (old so_far : List (List NamedDisk)) (lane lanes : ℕ) (disks left : List NamedDisk) → lane < lanes → lanes ≡ length old →
+    disks ≡ get_or so_far lane disks → left ≡ disks → ReadySoFar grain volumes old so_far lane → AreHandedBack grain volumes old (set so_far lane left)
+handed_back grain volumes old so_far lane lanes disks left lt count is e r =
+    let below : lane < length so_far = omega (arith, r.count) in
+    record {
+      count = length-set so_far lane left ∙ r.count;
+      each = λ i il. elim (cases_lt i lane) [
+        | inl before ↦ inr (get_or-set_other so_far lane i left [] (omega arith) ∙ r.ready i before)
+        | inr from ↦ inl (elim (cases_eq i lane) [
+          | inl same ↦ subst (λ (x : ℕ). disks_at (set so_far lane left) x ≡ disks_at old x) (sym same)
+              (get_or-set_same so_far lane left [] below ∙ (e ∙ (is ∙ (get_or_default so_far lane disks [] below ∙ r.rest lane (omega arith)))))
+          | inr ne ↦ get_or-set_other so_far lane i left [] ne ∙ r.rest i from
+        ])
+      ];
+    }
 
 pub all_ready : (grain : GrainSize) (volumes : List Volume) (old new : List (List NamedDisk)) (lane : ℕ) → length old ≤ lane → ReadySoFar grain volumes old new lane → AreReadied grain volumes old new
 all_ready grain volumes old new lane le r = record { count = r.count; each = λ i il. r.ready i (omega arith) }
