@@ -1,5 +1,5 @@
 -- All words of the program, as `clap` walks over them.
-use Rattle.std.proofs.Common.{◌≡◌, ◌∙◌, Bool, true, false, ◌^◌, true≢false, List, [], ◌∷◌, Option, Some, None, is_some, fold, option_map, refl, sym, ap, subst, codes, option_and_then, ◌⊎◌, inl, inr}
+use Rattle.std.proofs.Common.{◌≡◌, ◌∙◌, ℕ, Bool, true, false, ◌^◌, true≢false, List, [], ◌∷◌, Option, Some, None, is_some, fold, option_map, refl, sym, ap, subst, codes, option_and_then, ◌⊎◌, inl, inr}
 use Rattle.std.specs.List.{list_any}
 use Rattle.std.specs.Str.{bytes_eq}
 use Rattle.clap.specs.Faults.{check_fault, defaults_fault, entered_fault, fault_of, level_fault, settle_fault, turn_fault, walk_fault}
@@ -16,7 +16,7 @@ use Rattle.fc_args.specs.Matches.{found_in, number_in}
 use Rattle.fc_args.specs.Program.{flashcopy, is_stray}
 use Rattle.fc_args.specs.declared.asked.Asked.{Asked}
 use Rattle.fc_args.specs.declared.asked.Asked.TheVariants.{Run, Drill, Stop}
-use Rattle.fc_args.proofs.HyphenLemmas.{IsPlain, OptionForm, classify, or_parts}
+use Rattle.fc_args.proofs.HyphenLemmas.{IsOption, IsPlain, OptionForm, classify, or_parts}
 use Rattle.fc_args.proofs.NumberLevel.{check_level, number_level, number_taken}
 use Rattle.fc_args.proofs.RunLevel.{level, read_given}
 use Rattle.fc_args.proofs.RunSteps.{run_taken}
@@ -82,27 +82,30 @@ run_goes : (words : List Text) → list_any is_stray words ≡ false → outcome
 unfolding defaults_fault
 run_goes words clean = run_outcome (level_fault level [] nothing_held words false []) (rows_after level.rules [] words) ∙ ap (λ given. option_map Run (option_and_then options_of_words given)) (run_taken words clean)
 
-drill_outcome : (ks : Kinds) (rows : List Row) → outcome (or_else ks []) (Some (codes "drill", rows)) ≡ option_map Drill (option_and_then drill_number (ended number_in ks rows))
-drill_outcome [] rows = refl
-drill_outcome (k ∷ ks) rows = refl
+-- a command of one number: what is made of the number, and how it is read
+module _ (name : Text) (made : ℕ → Asked) (read : Text → Option ℕ)
+    (whole : (rows : List Row) → outcome [] (Some (name, rows)) ≡ option_map made (option_and_then read (ended number_in [] rows)))
+    (hyphen : (word text : Text) (value : Option Text) → IsOption word text value → read word ≡ None) where
+  number_outcome : (ks : Kinds) (rows : List Row) → outcome (or_else ks []) (Some (name, rows)) ≡ option_map made (option_and_then read (ended number_in ks rows))
+  number_outcome [] rows = whole rows
+  number_outcome (k ∷ ks) rows = refl
+
+  number_goes : (words : List Text) → list_any is_stray words ≡ false
+      → outcome (or_else (level_fault (number_level name) [] nothing_held words false []) []) (Some (name, rows_after (number_level name).rules [] words)) ≡ option_map made (option_and_then read (alone words))
+  unfolding defaults_fault
+  number_goes words clean =
+      number_outcome (level_fault (number_level name) [] nothing_held words false []) (rows_after (number_level name).rules [] words)
+      ∙ ap (option_map made) (number_taken name read hyphen words clean)
 
 drill_goes : (words : List Text) → list_any is_stray words ≡ false
     → outcome (total (entered_walk (codes "drill") words) []) (entered program (Some (codes "drill", words))) ≡ option_map Drill (option_and_then drill_number (alone words))
 unfolding defaults_fault
-drill_goes words clean =
-    drill_outcome (level_fault (number_level (codes "drill")) [] nothing_held words false []) (rows_after (number_level (codes "drill")).rules [] words)
-    ∙ ap (option_map Drill) (number_taken (codes "drill") drill_number (λ word text value is. hyphen_number 0 (2 ^ 64) word is.hyphen) words clean)
-
-stop_outcome : (ks : Kinds) (rows : List Row) → outcome (or_else ks []) (Some (codes "stop", rows)) ≡ option_map Stop (option_and_then stop_call (ended number_in ks rows))
-stop_outcome [] rows = refl
-stop_outcome (k ∷ ks) rows = refl
+drill_goes words clean = number_goes (codes "drill") Drill drill_number (λ rows. refl) (λ word text value is. hyphen_number 0 (2 ^ 64) word is.hyphen) words clean
 
 stop_goes : (words : List Text) → list_any is_stray words ≡ false
     → outcome (total (entered_walk (codes "stop") words) []) (entered program (Some (codes "stop", words))) ≡ option_map Stop (option_and_then stop_call (alone words))
 unfolding defaults_fault
-stop_goes words clean =
-    stop_outcome (level_fault (number_level (codes "stop")) [] nothing_held words false []) (rows_after (number_level (codes "stop")).rules [] words)
-    ∙ ap (option_map Stop) (number_taken (codes "stop") stop_call (λ word text value is. hyphen_number 1 (2 ^ 32) word is.hyphen) words clean)
+stop_goes words clean = number_goes (codes "stop") Stop stop_call (λ rows. refl) (λ word text value is. hyphen_number 1 (2 ^ 32) word is.hyphen) words clean
 
 check_turn : (word : Text) → IsPlain word ⊎ OptionForm word → turn_fault check_level [] start word ≡ kind.UnknownArgument ∷ []
 check_turn word (inl is) = rw (is.no_end, is.long, is.short) refl

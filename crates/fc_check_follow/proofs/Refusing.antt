@@ -1,5 +1,5 @@
 -- Ways behind entries of lanes, refused accesses and presets, and faulty lines.
-use Rattle.std.proofs.Common.{◌≡◌, ◌∙◌, List, [], ◌∷◌, ◌++◌, Option, Some, None, refl, sym, ap, subst}
+use Rattle.std.proofs.Common.{◌≡◌, ◌∙◌, List, [], ◌∷◌, ◌++◌, Option, Some, None, Result, OnOk, refl, sym, ap, subst}
 use Rattle.fc_base.specs.declared.fault.Refusal.{Refusal}
 use Rattle.fc_base.specs.declared.size.GrainSize.{GrainSize}
 use Rattle.fc_entry.specs.declared.entry.Entry.{Entry}
@@ -48,3 +48,7 @@ refused_some grain w entry old new asked refusal is came = subst (RefusalCame gr
 pub refused_none : (grain : GrainSize) (w : Whole) (entry : Entry) (old : List Judged) (asked : Option Refusal) → asked ≡ None → Came grain (MustBeRefused asked w entry) old old
 refused_none grain w entry old asked is =
     subst (RefusalCame grain w entry old old) (sym is) (came_none grain (MustBeRefused None w entry) old (λ next told. told))
+
+pub asked_came : {T E : Type 0} (grain : GrainSize) (w : Whole) (entry : Entry) (old new : List Judged) (answer : Result T E) (refusal asked : Option Refusal) → refusal ≡ asked →
+    OnOk answer (Came grain (MustBeRefused refusal w entry) old new) → OnOk answer (Came grain (MustBeRefused asked w entry) old new)
+asked_came grain w entry old new answer refusal asked is came = subst (λ (r : Option Refusal). OnOk answer (RefusalCame grain w entry old new r)) is came

@@ -11,7 +11,7 @@ use Rattle.fc_base.specs.declared.ids.VolId.{VolId}
 use Rattle.fc_base.specs.declared.outcome.NoMemory.{NoMemory}
 use Rattle.fc_base.specs.declared.request.ReadPart.{ReadPart}
 use Rattle.fc_base.specs.declared.request.Reply.{Reply}
-use Rattle.fc_base.specs.declared.request.Reply.TheVariants.{Idle}
+use Rattle.fc_base.specs.declared.request.Reply.TheVariants.{Done, DiskFault, Idle, MediumError, NoMemory as WantsMemory}
 use Rattle.fc_base.specs.declared.request.WritePart.{WritePart}
 use Rattle.fc_base.specs.declared.size.GrainSize.{GrainSize}
 use Rattle.fc_base.specs.declared.state.Access.{Access}
@@ -69,9 +69,20 @@ no_live_fit k part entry is = false_is (λ a. subst (λ (o : Option ℕ). Volume
 
 -- ---- what a write owes
 
--- the answer is no where a part of a lost grain is written
-pub cannot_fit : {H : Type 0} (cannot kept : Bool) → cannot ≡ true → cannot ≡ kept → IsTrue false ↔ ((kept ≡ false) × H)
-cannot_fit cannot kept so is = false_is (λ p. both_ways kept p.0 (sym is ∙ so))
+-- a medium error is the answer where a part of a lost grain is written
+pub cannot_fit : (k : Known) (part : WritePart) (number t : ℕ) (entry : Entry) (reply : Reply) (cannot so : Bool) → cannot ≡ true → cannot ≡ cannot_write k.grain (spot_in k number) part →
+    IsTrue so ↔ ((reply ≡ MediumError) × HasDoneNothing entry) → IsTrue so ↔ WriteAnswers k.grain (spot_in k number) part t entry reply
+cannot_fit k part number t entry reply cannot so on is f = iff_trans f (by_reply reply)
+  where
+    lost : cannot_write k.grain (spot_in k number) part ≡ true
+    lost = sym is ∙ on
+
+    by_reply : (answer : Reply) → ((answer ≡ MediumError) × HasDoneNothing entry) ↔ WriteAnswers k.grain (spot_in k number) part t entry answer
+    by_reply MediumError = (λ p. (lost, p.1), λ p. (refl, p.1))
+    by_reply Done = (λ p. absurd (cc p.0), λ p. absurd (both_ways _ p.0 lost))
+    by_reply DiskFault = (λ p. absurd (cc p.0), λ p. absurd (both_ways _ p.0 lost))
+    by_reply WantsMemory = (λ p. absurd (cc p.0), λ p. absurd (both_ways _ p.0 lost))
+    by_reply answer = (λ p. absurd (cc p.0), λ p. absurd p)
 
 -- and else it is that of its steps
 pub write_fit : (k : Known) (part : WritePart) (number t : ℕ) (Holds : List DiskStep → Type 0) (cannot : Bool) (slice steps : List DiskStep) (r : Result Bool NoMemory) →
@@ -81,6 +92,12 @@ write_fit k part number t Holds cannot slice steps r off is same made found =
     IfOk-weaker r (λ so. IsTrue so ↔ Holds slice) (λ so. CanWrite k number t → IsTrue so ↔ ((cannot_write k.grain (spot_in k number) part ≡ false) × Holds (steps_of_write k.grain (spot_in k number) part t)))
     (λ so f can. iff_trans f (iff_trans (iff_along Holds slice (steps_of_write k.grain (spot_in k number) part t) (same ∙ made can)) (λ h. (sym is ∙ off, h), λ p. p.1)))
     found
+
+pub answers_as : (k : Known) (part : WritePart) (number t : ℕ) (entry : Entry) (r : Result Bool NoMemory) (reply same : Reply) → reply ≡ same →
+    IfOk r (λ so. CanWrite k number t → IsTrue so ↔ WriteAnswers k.grain (spot_in k number) part t entry same) →
+    IfOk r (λ so. CanWrite k number t → IsTrue so ↔ WriteAnswers k.grain (spot_in k number) part t entry reply)
+answers_as k part number t entry r reply same is found =
+    subst (λ (a : Reply). IfOk r (λ so. CanWrite k number t → IsTrue so ↔ WriteAnswers k.grain (spot_in k number) part t entry a)) (sym is) found
 
 -- what a failure and want of memory say of a spot
 pub failed_fit : (k : Known) (number : ℕ) (slice : List DiskStep) (entry : Entry) (r : Result Bool NoMemory) →

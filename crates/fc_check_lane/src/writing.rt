@@ -1,10 +1,11 @@
 //! What a write may answer.
 
-ghost use Rattle.std.specs.Prelude.{◌≡◌, ◌↔◌, IsTrue, IfOk, Some};
+ghost use Rattle.std.specs.Prelude.{◌≡◌, ◌↔◌, IsTrue, IfOk};
 ghost use Rattle.fc_base.specs.Sheet.{live_place};
-ghost use Rattle.fc_base.specs.declared.request.Reply.TheVariants.{Done, MediumError, DiskFault, NoMemory as WantsMemory};
+ghost use Rattle.fc_base.specs.declared.request.Reply.TheVariants.{MediumError};
 ghost use Rattle.fc_entry.specs.Picture.{grain_of_block};
 ghost use Rattle.fc_rules.specs.GrainAnswers.{WriteAnswers, cannot_write};
+ghost use Rattle.fc_rules.specs.Steps.{HasDoneNothing};
 ghost use Rattle.fc_check_lane.specs.Known.{spot_in};
 ghost use Rattle.fc_check_lane.specs.Steps.{CanWrite, CanWriteTo};
 ghost use Rattle.fc_check_lane.specs.Answers.{VolumeWriteIn, WriteIn};
@@ -19,82 +20,22 @@ use fc_check_steps::{access_of, has_done, has_done_nothing, has_failed, has_no_m
 use fc_entry::entry::Entry;
 use std::alloc::Global;
 
+/// Whether a reply is a medium error, and its entry did nothing.
+fn is_medium_error(entry: &Entry, reply: &Reply) -> bool
+    ensures { IsTrue result ↔ ((reply.now ≡ MediumError) × HasDoneNothing entry.now) }
+{
+    match reply {
+        Reply::MediumError => has_done_nothing(entry),
+        _ => false,
+    }
+}
+
 impl Known {
     /// Whether a write covers a part of a lost grain.
     fn cannot_write(&self, part: WritePart, number: u32) -> bool
         ensures { result ≡ cannot_write self.now.grain (spot_in self.now number) part }
     {
         self.is_lost(part.volume, number) && !covers_grain(self.grain_size(), part)
-    }
-
-    /// Whether an entry did all that a write owes.
-    fn done_fits(
-        &self,
-        alloc: Global,
-        part: WritePart,
-        live: usize,
-        number: u32,
-        entry: &Entry,
-    ) -> Result<bool, NoMemory>
-        ensures { IfOk result (λ yes. CanWrite self.now number live → IsTrue yes ↔ WriteAnswers self.now.grain (spot_in self.now number) part live entry.now Done) }
-    {
-        let cannot = self.cannot_write(part, number);
-        if cannot {
-            return Ok(false);
-        }
-        let steps = self.write_steps(alloc, part, live, number)?;
-        has_done(alloc, steps.as_slice(), entry)
-    }
-
-    /// Whether a medium error is a right answer of a write.
-    fn medium_error_of_write_fits(
-        &self,
-        part: WritePart,
-        live: usize,
-        number: u32,
-        entry: &Entry,
-    ) -> bool
-        ensures { IsTrue result ↔ WriteAnswers self.now.grain (spot_in self.now number) part live entry.now MediumError }
-    {
-        self.cannot_write(part, number) && has_done_nothing(entry)
-    }
-
-    /// Whether a call failed among those that a write makes.
-    fn fault_fits(
-        &self,
-        alloc: Global,
-        part: WritePart,
-        live: usize,
-        number: u32,
-        entry: &Entry,
-    ) -> Result<bool, NoMemory>
-        ensures { IfOk result (λ yes. CanWrite self.now number live → IsTrue yes ↔ WriteAnswers self.now.grain (spot_in self.now number) part live entry.now DiskFault) }
-    {
-        let cannot = self.cannot_write(part, number);
-        if cannot {
-            return Ok(false);
-        }
-        let steps = self.write_steps(alloc, part, live, number)?;
-        has_failed(alloc, number, steps.as_slice(), entry)
-    }
-
-    /// Whether a thin disk among those that a write is made on wanted memory.
-    fn want_fits(
-        &self,
-        alloc: Global,
-        part: WritePart,
-        live: usize,
-        number: u32,
-        entry: &Entry,
-    ) -> Result<bool, NoMemory>
-        ensures { IfOk result (λ yes. CanWrite self.now number live → IsTrue yes ↔ WriteAnswers self.now.grain (spot_in self.now number) part live entry.now WantsMemory) }
-    {
-        let cannot = self.cannot_write(part, number);
-        if cannot {
-            return Ok(false);
-        }
-        let steps = self.write_steps(alloc, part, live, number)?;
-        has_no_memory(alloc, self.lane_volumes(), steps.as_slice(), entry)
     }
 
     /// Whether a reply is a right answer of a write to the volume of a live slot, which is online.
@@ -109,11 +50,15 @@ impl Known {
     ) -> Result<bool, NoMemory>
         ensures { IfOk result (λ yes. CanWrite self.now number live → IsTrue yes ↔ WriteAnswers self.now.grain (spot_in self.now number) part live entry.now reply.now) }
     {
+        let cannot = self.cannot_write(part, number);
+        if cannot {
+            return Ok(is_medium_error(entry, reply));
+        }
+        let steps = self.write_steps(alloc, part, live, number)?;
         match reply {
-            Reply::Done => self.done_fits(alloc, part, live, number, entry),
-            Reply::MediumError => { Ok(self.medium_error_of_write_fits(part, live, number, entry)) }
-            Reply::DiskFault => self.fault_fits(alloc, part, live, number, entry),
-            Reply::NoMemory => self.want_fits(alloc, part, live, number, entry),
+            Reply::Done => has_done(alloc, steps.as_slice(), entry),
+            Reply::DiskFault => has_failed(alloc, number, steps.as_slice(), entry),
+            Reply::NoMemory => has_no_memory(alloc, self.lane_volumes(), steps.as_slice(), entry),
             _ => Ok(false),
         }
     }

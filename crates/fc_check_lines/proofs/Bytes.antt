@@ -215,41 +215,33 @@ ends_so bytes rest behind line taken before after s so first next ended =
     ∙ cut_behind lines (all_lines behind) shut
     ∙ ap (λ segs. segs ++ segments_in behind) segments
 
-pub begins_single :
-    (bytes rest behind line : List ℕ) (taken : Taken) (read : ScriptLine) (before after : Option Opened) (so : SoFar bytes rest before) →
-    all_lines rest ≡ line ∷ all_lines behind →
-    length behind < length rest →
-    taken ≡ TakenSingle read →
-    ((lines : List (List ℕ)) → (cut lines).open_block ≡ before → IsNext taken before after lines line) →
-    BeginWith bytes (Single read) behind
-begins_single bytes rest behind line taken read before after so first less is reads =
-    let next : IsNext taken before after so.lines line = reads so.lines so.open_block in
-    let P : Taken → Type 0 = λ t. Tells t line next.ended in
-    let told : (next.ended ≡ single line ∷ []) × (read ≡ script_line (line_of Free line)) = subst P is next.told in
-    record {
-      segment = single line;
-      is_read = told.1;
-      segments = ends_so bytes rest behind line taken before after (single line) so first next told.0;
-      less = omega (arith, less, so.within);
-    }
+module _ (bytes rest behind line : List ℕ) (taken : Taken) (before after : Option Opened) (so : SoFar bytes rest before)
+    (first : all_lines rest ≡ line ∷ all_lines behind) (less : length behind < length rest)
+    (reads : (lines : List (List ℕ)) → (cut lines).open_block ≡ before → IsNext taken before after lines line) where
+  next : IsNext taken before after so.lines line
+  next = reads so.lines so.open_block
 
-pub begins_block :
-    (bytes rest behind line : List ℕ) (taken : Taken) (block : BlockRead) (before after : Option Opened) (so : SoFar bytes rest before) →
-    all_lines rest ≡ line ∷ all_lines behind →
-    length behind < length rest →
-    taken ≡ TakenBlock block →
-    ((lines : List (List ℕ)) → (cut lines).open_block ≡ before → IsNext taken before after lines line) →
-    BeginWith bytes (Block block) behind
-begins_block bytes rest behind line taken block before after so first less is reads =
-    let next : IsNext taken before after so.lines line = reads so.lines so.open_block in
-    let P : Taken → Type 0 = λ t. Tells t line next.ended in
-    let told : next.ended ≡ together block ∷ [] = subst P is next.told in
-    record {
-      segment = together block;
-      is_read = refl;
-      segments = ends_so bytes rest behind line taken before after (together block) so first next told;
-      less = omega (arith, less, so.within);
-    }
+  pub begins_single : (read : ScriptLine) → taken ≡ TakenSingle read → BeginWith bytes (Single read) behind
+  begins_single read is =
+      let P : Taken → Type 0 = λ t. Tells t line next.ended in
+      let told : (next.ended ≡ single line ∷ []) × (read ≡ script_line (line_of Free line)) = subst P is next.told in
+      record {
+        segment = single line;
+        is_read = told.1;
+        segments = ends_so bytes rest behind line taken before after (single line) so first next told.0;
+        less = omega (arith, less, so.within);
+      }
+
+  pub begins_block : (block : BlockRead) → taken ≡ TakenBlock block → BeginWith bytes (Block block) behind
+  begins_block block is =
+      let P : Taken → Type 0 = λ t. Tells t line next.ended in
+      let told : next.ended ≡ together block ∷ [] = subst P is next.told in
+      record {
+        segment = together block;
+        is_read = refl;
+        segments = ends_so bytes rest behind line taken before after (together block) so first next told;
+        less = omega (arith, less, so.within);
+      }
 
 pub none_so : (bytes rest : List ℕ) (block : Option Opened) → SoFar bytes rest block → rest ≡ [] → segments_in bytes ≡ []
 none_so bytes rest block so none =

@@ -4,8 +4,8 @@ use Rattle.std.proofs.Math.Seq.{drop-append-add, take-append-add}
 use Rattle.std.proofs.lemmas.List.{length-replicate, replicate-append-replicate}
 use Rattle.fc_check_picture.specs.Blocks.{filled}
 
-block_first : (size n : ℕ) → size * suc n ≡ size + size * n
-block_first size n = omega arith
+block_first : (size n b : ℕ) → size * suc n ≡ length (replicate size b) + size * n
+block_first size n b = let e : size * suc n ≡ size + size * n = omega arith in e ∙ ap (λ z. z + size * n) (sym (length-replicate size b))
 
 abbrev none : List ℕ
 none = []
@@ -23,17 +23,13 @@ pub drop_filled : (size n : ℕ) (blocks : List ℕ) → drop (size * n) (filled
 drop_filled size zero blocks = let e : size * zero ≡ zero = omega arith in ap (λ z. drop z (filled size blocks)) e
 drop_filled size (suc n) [] = drop_none (size * suc n)
 drop_filled size (suc n) (b ∷ bs) =
-    let len : length (replicate size b) ≡ size = length-replicate size b in
-    let e : size * suc n ≡ length (replicate size b) + size * n = block_first size n ∙ ap (λ z. z + size * n) (sym len) in
-    ap (λ z. drop z (replicate size b ++ filled size bs)) e ∙ (drop-append-add (replicate size b) (filled size bs) (size * n) ∙ drop_filled size n bs)
+    ap (λ z. drop z (replicate size b ++ filled size bs)) (block_first size n b) ∙ (drop-append-add (replicate size b) (filled size bs) (size * n) ∙ drop_filled size n bs)
 
 pub take_filled : (size n : ℕ) (blocks : List ℕ) → take (size * n) (filled size blocks) ≡ filled size (take n blocks)
 take_filled size zero blocks = let e : size * zero ≡ zero = omega arith in ap (λ z. take z (filled size blocks)) e
 take_filled size (suc n) [] = take_none (size * suc n)
 take_filled size (suc n) (b ∷ bs) =
-    let len : length (replicate size b) ≡ size = length-replicate size b in
-    let e : size * suc n ≡ length (replicate size b) + size * n = block_first size n ∙ ap (λ z. z + size * n) (sym len) in
-    ap (λ z. take z (replicate size b ++ filled size bs)) e
+    ap (λ z. take z (replicate size b ++ filled size bs)) (block_first size n b)
     ∙ (take-append-add (replicate size b) (filled size bs) (size * n) ∙ ap (λ z. replicate size b ++ z) (take_filled size n bs))
 
 pub part_filled : (size from count : ℕ) (blocks : List ℕ) → take (size * count) (drop (size * from) (filled size blocks)) ≡ filled size (take count (drop from blocks))

@@ -18,11 +18,10 @@ use fc_plain::grain_at;
 use std::alloc::Global;
 
 impl Rooms {
-    /// A move: it wrote its grain, unless it was in place or what the volume shows there is lost.
-    fn follow_move(&mut self, size: GrainSize, picture: &Picture<u8>, mv: &Move)
-        ensures { self.new ≡ rooms_move (single_lane size) picture.now self.old mv.now }
+    /// A move: it wrote its grain, unless it was in place or what the volume shows there is lost. In one lane, whatever the grain size.
+    fn follow_move(&mut self, picture: &Picture<u8>, mv: &Move)
+        ensures { (size : GrainSize) → self.new ≡ rooms_move (single_lane size) picture.now self.old mv.now }
     {
-        let _size = size;
         let grain = mv.grain.0 as usize;
         if !(mv.in_place || picture.is_lost(mv.volume, grain)) {
             self.reach(mv.volume, grain);
@@ -30,11 +29,11 @@ impl Rooms {
     }
 
     /// All moves of an entry, in order.
-    fn follow_moves(&mut self, size: GrainSize, picture: &Picture<u8>, moves: &[Move])
-        ensures { self.new ≡ fold (rooms_move (single_lane size) picture.now) self.old moves.now }
+    fn follow_moves(&mut self, picture: &Picture<u8>, moves: &[Move])
+        ensures { (size : GrainSize) → self.new ≡ fold (rooms_move (single_lane size) picture.now) self.old moves.now }
     {
         for mv in moves {
-            self.follow_move(size, picture, mv);
+            self.follow_move(picture, mv);
         }
     }
 
@@ -48,11 +47,10 @@ impl Rooms {
         }
     }
 
-    /// A torn grain, if there is one: the write that failed reached it.
-    fn follow_torn(&mut self, size: GrainSize, torn: Option<Torn>)
-        ensures { self.new ≡ rooms_tear (single_lane size) self.old torn }
+    /// A torn grain, if there is one: the write that failed reached it, whatever the grain size.
+    fn follow_torn(&mut self, torn: Option<Torn>)
+        ensures { (size : GrainSize) → self.new ≡ rooms_tear (single_lane size) self.old torn }
     {
-        let _size = size;
         match torn {
             Some(torn) => self.reach(torn.volume, torn.grain.0 as usize),
             None => {}
@@ -63,9 +61,9 @@ impl Rooms {
     pub fn follow_entry(&mut self, size: GrainSize, picture: &Picture<u8>, entry: &Entry)
         ensures { self.new ≡ rooms_entry (single_lane size) picture.now self.old entry.now }
     {
-        self.follow_moves(size, picture, entry.moves.as_slice());
+        self.follow_moves(picture, entry.moves.as_slice());
         self.follow_write(size, done_write(&entry.request, &entry.reply));
-        self.follow_torn(size, entry.torn);
+        self.follow_torn(entry.torn);
     }
 
     /// Notes what an event of a decision does. Refused for want of memory alone.

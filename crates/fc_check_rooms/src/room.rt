@@ -7,6 +7,7 @@ ghost use Rattle.fc_base.specs.Room.{new_reached, reaching};
 use fc_base::disk::DiskKind;
 use fc_base::ids::VolId;
 use fc_base::outcome::NoMemory;
+use fc_check_lane::copy_items;
 use std::alloc::Global;
 use std::marker::Model;
 
@@ -71,13 +72,11 @@ impl Room {
     pub(crate) fn copy(&self, alloc: Global) -> Result<Room, NoMemory>
         ensures { IfOk result (λ copy. copy ≡ self.now) }
     {
-        match Vec::from_slice(alloc, self.reached.as_slice()) {
-            Ok(reached) => Ok(Room {
-                volume: self.volume,
-                reached,
-            }),
-            Err(_) => Err(NoMemory),
-        }
+        let reached = copy_items(alloc, self.reached.as_slice())?;
+        Ok(Room {
+            volume: self.volume,
+            reached,
+        })
     }
 
     /// Whether it is the volume's.

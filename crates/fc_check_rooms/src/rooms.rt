@@ -8,6 +8,7 @@ use crate::room::Room;
 use fc_base::disk::DiskKind;
 use fc_base::ids::VolId;
 use fc_base::outcome::NoMemory;
+use fc_check_lane::push_item;
 use std::alloc::Global;
 use std::marker::Model;
 
@@ -45,25 +46,15 @@ impl Rooms {
         }
     }
 
-    /// Puts a room at the end.
-    fn push(&mut self, room: Room) -> Result<(), NoMemory>
-        ensures { OnOk result (self.new ≡ self.old ++ room ∷ []) }
-    {
-        match self.rooms.push(room) {
-            Ok(()) => Ok(()),
-            Err(_) => Err(NoMemory),
-        }
-    }
-
     /// Other rooms of the same volumes, with the same marks. Refused for want of memory alone.
     pub fn copy(&self, alloc: Global) -> Result<Rooms, NoMemory>
         ensures { IfOk result (λ copy. copy ≡ self.now) }
     {
-        let mut copy = Rooms::new(alloc);
+        let mut rooms = Vec::new(alloc);
         for room in self.rooms.as_slice() {
-            copy.push(room.copy(alloc)?)?;
+            push_item(&mut rooms, room.copy(alloc)?)?;
         }
-        Ok(copy)
+        Ok(Rooms { rooms })
     }
 
     /// A volume comes, with so many grains. Refused for want of memory alone.
@@ -77,7 +68,7 @@ impl Rooms {
         ensures { OnOk result (self.new ≡ self.old ++ record { volume = volume; reached = new_reached kind grains } ∷ []) }
     {
         let room = Room::new(alloc, volume, kind, grains)?;
-        self.push(room)
+        push_item(&mut self.rooms, room)
     }
 
     /// A volume goes.

@@ -1,7 +1,6 @@
 -- Lemmas, one subject a file.
 pub mod Asking
 pub mod Lines
-pub mod Unarmed
 pub mod Actors
 pub mod Prepared
 pub mod Numbers

@@ -1,6 +1,6 @@
 //! The scripts of a block's actors.
 
-ghost use Rattle.std.specs.Prelude.{◌≡◌, ℕ, ◌<◌, ◌^◌, ◌++◌, [], ◌∷◌, true, List, All, Contains, length, IfOk, OnOk};
+ghost use Rattle.std.specs.Prelude.{◌≡◌, ℕ, ◌<◌, ◌^◌, true, List, All, Contains, length, IfOk};
 ghost use Rattle.fc_entry.specs.HistoryState.{number_of_actor};
 ghost use Rattle.fc_actors.specs.Scripts.{Suits};
 ghost use Rattle.fc_blocks.specs.Blocks.{has_lines};
@@ -41,16 +41,6 @@ fn number_of(history: &History, name: &Name) -> u32
         number += 1;
     }
     count
-}
-
-/// Puts a script behind others.
-fn push_script<T: Drop>(scripts: &mut Vec<T>, script: T) -> Result<(), NoMemory>
-    ensures { OnOk result (scripts.new.items ≡ scripts.old.items ++ script ∷ []) }
-{
-    match scripts.push(script) {
-        Ok(()) => Ok(()),
-        Err(_) => Err(NoMemory),
-    }
 }
 
 /// What an actor has to do who has lines: what they ask.
@@ -133,9 +123,9 @@ fn scripts_of<D: Mdisk>(
             Ok(script) => script,
             Err(NoMemory) => return Err(NoMemory),
         };
-        match push_script(&mut scripts, script) {
+        match scripts.push(script) {
             Ok(()) => {}
-            Err(NoMemory) => return Err(NoMemory),
+            Err(_) => return Err(NoMemory),
         }
     }
     Ok(scripts)

@@ -83,35 +83,6 @@ pub fn run_preset<D: Mdisk>(
     }
 }
 
-/// Answers a command line, a preset or any other.
-fn answer_command<D: Mdisk>(
-    store: &mut Store<D>,
-    command: Command,
-    history: &mut History,
-) -> Result<(), Stop>
-    requires stands { TellsSome (StandsFor store.old) history.old }
-    requires room { length history.old.entries ≤ MAX_ENTRIES }
-    ensures answered { (read : Reading) (bytes : List ℕ) (w : Whole) →
-        read w.books bytes ≡ Ok (Line.Command command) →
-        IsTold (StandsFor store.old) history.old w →
-        Answered result (StandsFor store.new) (session_rules store.old.control.grain read)
-        (Session (single bytes ∷ [])) w history.old history.new }
-    ensures grain { store.new.control.grain ≡ store.old.control.grain }
-    ensures disks { disks_in store.new.lanes ≡ disks_in store.old.lanes }
-    ensures quiet { QuietBy history.old.entries store.old
-        → StaysUp result (QuietBy history.new.entries store.new) }
-    ensures limit { length history.new.entries ≤ MAX_ENTRIES }
-{
-    match command {
-        Command::Mkpreset {
-            source,
-            preset,
-            name,
-        } => run_preset(store, source, preset, name, history),
-        other => store.run_line(Line::Command(other), history),
-    }
-}
-
 /// Answers a single line, as it was read: its entries at the history's end, or none for a blank
 /// one. A preset is answered by the lines that stand in its place, and any other line by the store.
 /// Stopped, the first of the entries are there; but for want of memory the store goes on to stand
@@ -135,7 +106,13 @@ pub fn answer_line<D: Mdisk>(
     ensures limit { length history.new.entries ≤ MAX_ENTRIES }
 {
     match line {
-        Line::Command(command) => answer_command(store, command, history),
+        Line::Command(
+            Command::Mkpreset {
+                source,
+                preset,
+                name,
+            },
+        ) => run_preset(store, source, preset, name, history),
         other => store.run_line(other, history),
     }
 }

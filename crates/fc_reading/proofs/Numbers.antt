@@ -46,6 +46,17 @@ goes_on-some most value byte h = grind (arith, nat_tests)
 goes_on-below : (most value byte : ℕ) → goes_on most value byte ≡ true → value * 10 + (byte - 48) ≤ most
 goes_on-below most value byte h = grind (arith, nat_tests)
 
+-- what is split behind the number with one more digit is so split behind the number
+split_more : (most value byte : ℕ) (bytes : List ℕ) (n : ℕ) (rest : List ℕ) → most < 2 ^ 64 → is_decimal byte ≡ true → goes_on most value byte ≡ true →
+    decimal (value * 10 + (byte - 48)) ++ bytes ≡ decimal n ++ rest → decimal value ++ byte ∷ bytes ≡ decimal n ++ rest
+split_more most value byte bytes n rest small digit goes split =
+    let next : ℕ = value * 10 + (byte - 48) in
+    let below : next ≤ most = goes_on-below most value byte goes in
+    sym (append_assoc (decimal value) (byte ∷ []) bytes)
+    ∙ ap (λ b. (decimal value ++ b ∷ []) ++ bytes) (sym (digit-is byte digit))
+    ∙ ap (λ t. t ++ bytes) (sym (decimal-more value (byte - 48) next (goes_on-some most value byte goes) (digit-below byte digit) refl (omega (arith, below, small))))
+    ∙ split
+
 -- behind the digits of a number its reading goes on as it began
 decimal-from : (most : ℕ) → most < 2 ^ 64 → (n : ℕ) → n < 2 ^ 64 → n ≤ most → (rest : List ℕ) → number_at most (decimal n ++ rest) ≡ number_from most n rest
 decimal-from most small n below fits =
@@ -99,11 +110,7 @@ from_takes most small value (byte ∷ bytes) n rest within e =
                 let t = from_takes most small next bytes n rest below (sym (from_digit most value byte bytes digit goes) ∙ e) in
                 record {
                   fits = t.fits;
-                  split =
-                      sym (append_assoc (decimal value) (byte ∷ []) bytes)
-                      ∙ ap (λ b. (decimal value ++ b ∷ []) ++ bytes) (sym (digit-is byte digit))
-                      ∙ ap (λ t. t ++ bytes) (sym (decimal-more value (byte - 48) next (goes_on-some most value byte goes) (digit-below byte digit) refl (omega (arith, below, small))))
-                      ∙ t.split;
+                  split = split_more most value byte bytes n rest small digit goes t.split;
                   ends = t.ends;
                 }
             | inr far ↦ absurd (ok_no_err _ _ (sym e ∙ from_too_far most value byte bytes digit far))
@@ -140,11 +147,7 @@ from_stops most small value (byte ∷ bytes) left within e =
                   fits = s.fits;
                   byte = s.byte;
                   after = s.after;
-                  split =
-                      sym (append_assoc (decimal value) (byte ∷ []) bytes)
-                      ∙ ap (λ b. (decimal value ++ b ∷ []) ++ bytes) (sym (digit-is byte digit))
-                      ∙ ap (λ t. t ++ bytes) (sym (decimal-more value (byte - 48) next (goes_on-some most value byte goes) (digit-below byte digit) refl (omega (arith, below, small))))
-                      ∙ s.split;
+                  split = split_more most value byte bytes s.n (s.byte ∷ s.after) small digit goes s.split;
                   left_is = s.left_is;
                   digit = s.digit;
                   far = s.far;

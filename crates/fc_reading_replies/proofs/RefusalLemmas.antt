@@ -9,6 +9,7 @@ use Rattle.fc_base.specs.declared.fault.Refusal.TheVariants as refusal
 use Rattle.fc_base.specs.declared.fault.ValueOf.TheVariants as value
 use Rattle.fc_base.specs.declared.ids.VolId.{VolId}
 use Rattle.fc_base.specs.declared.size.GrainSize.TheVariants.{K64, K256}
+use Rattle.fc_base.specs.declared.state.MapState.{MapState}
 use Rattle.fc_base.specs.declared.state.MapState.TheVariants as state
 use Rattle.fc_entry.specs.Text.{refusal_text, volume_text}
 use Rattle.fc_reading_notes.specs.Lines.{ending_at}
@@ -217,6 +218,15 @@ refusal_cases =
     let to_38 : AllBelow RefusalAt 38 = (to_37, two (codes "size differs ") size_differs (λ x is. is) (λ x. refl) (λ x. refl)) in
     (to_38, loop)
 
+state_from : (s : MapState) → (i : ℕ) × IsIndexOf refusal_words i × Given (refusal_behind i) (refusal.NotAllowed s)
+state_from state.Empty = (9, omega arith, given_said (refusal.NotAllowed state.Empty))
+state_from state.IdleOrCopied = (10, omega arith, given_said (refusal.NotAllowed state.IdleOrCopied))
+state_from state.Preparing = (11, omega arith, given_said (refusal.NotAllowed state.Preparing))
+state_from state.Prepared = (12, omega arith, given_said (refusal.NotAllowed state.Prepared))
+state_from state.Copying = (13, omega arith, given_said (refusal.NotAllowed state.Copying))
+state_from state.Stopping = (14, omega arith, given_said (refusal.NotAllowed state.Stopping))
+state_from state.Stopped = (15, omega arith, given_said (refusal.NotAllowed state.Stopped))
+
 refusal_from : (refusal : Refusal) → IsRefusal refusal → (i : ℕ) × IsIndexOf refusal_words i × Given (refusal_behind i) refusal
 refusal_from (refusal.Words fault) is = absurd is
 refusal_from (refusal.NoSuch Vdisk) is = (0, omega arith, given_said (refusal.NoSuch Vdisk))
@@ -228,13 +238,7 @@ refusal_from (refusal.BadValue value.CleanRate) is = (5, omega arith, given_said
 refusal_from (refusal.BadValue value.Seconds) is = (6, omega arith, given_said (refusal.BadValue value.Seconds))
 refusal_from (refusal.BadValue value.Blocks) is = (7, omega arith, given_said (refusal.BadValue value.Blocks))
 refusal_from (refusal.BadValue value.Grain) is = (8, omega arith, given_said (refusal.BadValue value.Grain))
-refusal_from (refusal.NotAllowed state.Empty) is = (9, omega arith, given_said (refusal.NotAllowed state.Empty))
-refusal_from (refusal.NotAllowed state.IdleOrCopied) is = (10, omega arith, given_said (refusal.NotAllowed state.IdleOrCopied))
-refusal_from (refusal.NotAllowed state.Preparing) is = (11, omega arith, given_said (refusal.NotAllowed state.Preparing))
-refusal_from (refusal.NotAllowed state.Prepared) is = (12, omega arith, given_said (refusal.NotAllowed state.Prepared))
-refusal_from (refusal.NotAllowed state.Copying) is = (13, omega arith, given_said (refusal.NotAllowed state.Copying))
-refusal_from (refusal.NotAllowed state.Stopping) is = (14, omega arith, given_said (refusal.NotAllowed state.Stopping))
-refusal_from (refusal.NotAllowed state.Stopped) is = (15, omega arith, given_said (refusal.NotAllowed state.Stopped))
+refusal_from (refusal.NotAllowed s) is = state_from s
 refusal_from (refusal.GrainDiffers K64 K64) is = (16, omega arith, given_said (refusal.GrainDiffers K64 K64))
 refusal_from (refusal.GrainDiffers K64 K256) is = (17, omega arith, given_said (refusal.GrainDiffers K64 K256))
 refusal_from (refusal.GrainDiffers K256 K64) is = (18, omega arith, given_said (refusal.GrainDiffers K256 K64))

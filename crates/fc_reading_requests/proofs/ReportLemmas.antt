@@ -1,11 +1,12 @@
 -- Commands that show are read exactly.
 use Rattle.std.proofs.Common.{◌≡◌, ℕ, zero, suc, true, List, [], ◌∷◌, ◌++◌, get_or, codes, Option, Some, None, IfSome, refl, sym, subst, arith, inl, inr}
 use Rattle.fc_base.specs.CommandText.{delim_word}
+use Rattle.fc_base.specs.declared.command.Command.{Command}
 use Rattle.fc_base.specs.declared.command.Command.TheVariants as command
 use Rattle.fc_base.specs.declared.name.Ref.{Ref}
 use Rattle.fc_words.specs.Canonical.{IsDelim, IsObject}
 use Rattle.fc_reading.specs.Readers.{map_read, one_of_at, the_word, then_read}
-use Rattle.fc_reading_requests.specs.Asked.{asked_line}
+use Rattle.fc_reading_requests.specs.Asked.{IsAsked, asked_line}
 use Rattle.fc_reading_notes.specs.Lists.{first_byte_is}
 use Rattle.fc_reading_requests.specs.Parts.{arrow, delim_at, ended_by, is_dash, object_and, said}
 use Rattle.fc_reading_requests.specs.Reports.{behind_dash, dash_words, delim_and_object, list_at, listed, maybe_object_at, report_at, reported}
@@ -254,33 +255,30 @@ pub group_lists : Alternative (codes "lsfcconsistgrp ") (map_read (listed comman
 group_lists =
     made {V = Listed} (codes "lsfcconsistgrp ") IsList list_text list_at (listed command.Lsfcconsistgrp) Exact-list group_list_line (λ x fits. ((fits.1, fits.0), tt)) bare (tt, tt)
 
-abbrev pub all_volumes : Asked
-all_volumes = OfCommand (command.Lsvdisk None)
+-- a report on all volumes, without a byte between its columns and with one
+abbrev pub plain_report : (Option ℕ → Command) → Asked
+plain_report list = OfCommand (list None)
 
-pub volume_list : Alternative (codes "lsvdisk -> ") (said all_volumes) (Is all_volumes)
-volume_list = alone_said (codes "lsvdisk -> ") all_volumes refl (tt, tt)
+abbrev pub delimited_report : (Option ℕ → Command) → ℕ → Asked
+delimited_report list delim = OfCommand (list (Some delim))
 
-abbrev pub delimited_volumes : ℕ → Asked
-delimited_volumes delim = OfCommand (command.Lsvdisk (Some delim))
+delimited_lists : (list : Option ℕ → Command) (word : List ℕ) → ((d : ℕ) → IsDelim d → asked_line (delimited_report list d) ≡ word ++ (delim_word d ++ arrow)) →
+    ((d : ℕ) → IsDelim d → IsAsked (delimited_report list d)) →
+    Alternative word (map_read (λ delim. delimited_report list delim) (ended_by delim_at arrow)) (Image IsDelim (λ delim. delimited_report list delim))
+delimited_lists list word line asks =
+    made {V = ℕ} word IsDelim (λ d. delim_word d ++ arrow) (ended_by delim_at arrow) (λ delim. delimited_report list delim) (Exact-delim_and arrow) line asks 58 some_delim
 
-pub delimited_list : Alternative (codes "lsvdisk -delim ") (map_read (λ delim. OfCommand (command.Lsvdisk (Some delim))) (ended_by delim_at arrow)) (Image IsDelim delimited_volumes)
-delimited_list =
-    made {V = ℕ} (codes "lsvdisk -delim ") IsDelim (λ d. delim_word d ++ arrow) (ended_by delim_at arrow) delimited_volumes (Exact-delim_and arrow)
-    (λ d fits. refl) (λ d fits. (fits, tt)) 58 some_delim
+pub volume_list : Alternative (codes "lsvdisk -> ") (said (plain_report command.Lsvdisk)) (Is (plain_report command.Lsvdisk))
+volume_list = alone_said (codes "lsvdisk -> ") (plain_report command.Lsvdisk) refl (tt, tt)
 
-abbrev pub all_rooms : Asked
-all_rooms = OfCommand (command.Lsvdiskroom None)
+pub delimited_list : Alternative (codes "lsvdisk -delim ") (map_read (λ delim. OfCommand (command.Lsvdisk (Some delim))) (ended_by delim_at arrow)) (Image IsDelim (λ delim. delimited_report command.Lsvdisk delim))
+delimited_list = delimited_lists command.Lsvdisk (codes "lsvdisk -delim ") (λ d fits. refl) (λ d fits. (fits, tt))
 
-pub room_list : Alternative (codes "lsvdiskroom -> ") (said all_rooms) (Is all_rooms)
-room_list = alone_said (codes "lsvdiskroom -> ") all_rooms refl (tt, tt)
+pub room_list : Alternative (codes "lsvdiskroom -> ") (said (plain_report command.Lsvdiskroom)) (Is (plain_report command.Lsvdiskroom))
+room_list = alone_said (codes "lsvdiskroom -> ") (plain_report command.Lsvdiskroom) refl (tt, tt)
 
-abbrev pub delimited_rooms : ℕ → Asked
-delimited_rooms delim = OfCommand (command.Lsvdiskroom (Some delim))
-
-pub delimited_room_list : Alternative (codes "lsvdiskroom -delim ") (map_read (λ delim. OfCommand (command.Lsvdiskroom (Some delim))) (ended_by delim_at arrow)) (Image IsDelim delimited_rooms)
-delimited_room_list =
-    made {V = ℕ} (codes "lsvdiskroom -delim ") IsDelim (λ d. delim_word d ++ arrow) (ended_by delim_at arrow) delimited_rooms (Exact-delim_and arrow)
-    (λ d fits. refl) (λ d fits. (fits, tt)) 58 some_delim
+pub delimited_room_list : Alternative (codes "lsvdiskroom -delim ") (map_read (λ delim. OfCommand (command.Lsvdiskroom (Some delim))) (ended_by delim_at arrow)) (Image IsDelim (λ delim. delimited_report command.Lsvdiskroom delim))
+delimited_room_list = delimited_lists command.Lsvdiskroom (codes "lsvdiskroom -delim ") (λ d fits. refl) (λ d fits. (fits, tt))
 
 progress_line : (x : Report) → IsReport x → asked_line (reported command.Lsfcmapprogress x) ≡ codes "lsfcmapprogress " ++ report_text x
 progress_line (Some d, o) fits = refl
@@ -304,11 +302,11 @@ dependents =
 abbrev pub FitsReport : ℕ → Asked → Type 0
 FitsReport zero a = Image IsList (listed command.Lsfcmap) a
 FitsReport (suc zero) a = Image IsList (listed command.Lsfcconsistgrp) a
-FitsReport (suc (suc zero)) a = Is all_volumes a
-FitsReport (suc (suc (suc zero))) a = Image IsDelim delimited_volumes a
+FitsReport (suc (suc zero)) a = Is (plain_report command.Lsvdisk) a
+FitsReport (suc (suc (suc zero))) a = Image IsDelim (λ delim. delimited_report command.Lsvdisk delim) a
 FitsReport (suc (suc (suc (suc zero)))) a = Image IsReport (reported command.Lsfcmapprogress) a
 FitsReport (suc (suc (suc (suc (suc n))))) a = Image IsReport (reported command.Lsfcmapdependentmaps) a
 
 abbrev pub FitsRoom : ℕ → Asked → Type 0
-FitsRoom zero a = Is all_rooms a
-FitsRoom (suc n) a = Image IsDelim delimited_rooms a
+FitsRoom zero a = Is (plain_report command.Lsvdiskroom) a
+FitsRoom (suc n) a = Image IsDelim (λ delim. delimited_report command.Lsvdiskroom delim) a

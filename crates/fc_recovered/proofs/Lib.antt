@@ -11,3 +11,4 @@ pub mod Making
 pub mod Reading
 pub mod Lanes
 pub mod Answered
+pub mod Examples

@@ -1,19 +1,21 @@
 -- The disks of all lanes, made ready.
-use Rattle.std.proofs.Common.{◌≡◌, ℕ, ◌+◌, ◌<◌, ◌≤◌, Option, List, [], length, get_or, set, refl, sym, ap, subst, ◌∙◌, arith, inl, inr, length-set, get_or-set_same, get_or-set_other}
-use Rattle.std.proofs.lemmas.Bool.{cases_eq}
+use Rattle.std.proofs.Common.{◌≡◌, ℕ, ◌+◌, ◌^◌, ◌<◌, ◌≤◌, All, Option, List, [], length, get_or, set, refl, sym, ap, subst, ◌∙◌, arith, inl, inr, length-set, get_or-set_same, get_or-set_other}
+use Rattle.std.proofs.lemmas.Bool.{cases_lt, cases_eq}
 use Rattle.std.proofs.lemmas.List.{get_or_default}
 use Rattle.fc_base.specs.Grain.{grain_bytes}
 use Rattle.fc_base.specs.declared.size.GrainSize.{GrainSize}
 use Rattle.fc_base.specs.declared.volume.Volume.{Volume}
 use Rattle.fc_image.specs.declared.image.MetaImage.{MetaImage}
-use Rattle.fc_kept.specs.Disks.{NamedDisk}
+use Rattle.fc_changed.specs.Row.{Row}
+use Rattle.fc_kept.specs.Disks.{NamedDisk, FitDisks}
 use Rattle.fc_kept.specs.Images.{tables_in, kept_in}
 use Rattle.fc_kept.specs.OneGrain.{Another}
-use Rattle.fc_kept.specs.Recoverable.{disks_at}
+use Rattle.fc_kept.specs.Recoverable.{disks_at, Says}
+use Rattle.fc_kept.specs.Sound.{IsSoundImage}
 use Rattle.fc_legal.specs.Whole.{Whole}
 use Rattle.fc_rules.specs.LaneTold.{LaneOf}
-use Rattle.fc_recovered.specs.Readying.{AllHaveDisks, readied}
-use Rattle.fc_recovered.specs.Recovered.{CanRecover, AreReadied, IsRecovered, RecoversTo}
+use Rattle.fc_recovered.specs.Readying.{HasWholeGrains, AllHaveDisks, readied}
+use Rattle.fc_recovered.specs.Recovered.{CanRecover, AreReadied, AreHandedBack, IsRecovered, RecoversTo}
 use Rattle.fc_recovered.specs.Showing.{lane_over}
 use Rattle.fc_recovered.proofs.Carrying.{stands_on}
 use Rattle.fc_recovered.proofs.Giving.{MadeReady, made_ready}
@@ -55,10 +57,39 @@ one_more grain volumes old so_far lane lanes disks made lt count is e r =
     (subst (λ (n : ℕ). made ≡ readied (numbered grain lane n) volumes (disks_at so_far lane)) count
     (e ∙ ap (readied (numbered grain lane lanes) volumes) (is ∙ get_or_default so_far lane disks [] below))) r
 
+-- where this lane isn't made ready
+pub handed_back : (grain : GrainSize) (volumes : List Volume) (old so_far : List (List NamedDisk)) (lane lanes : ℕ) (disks left : List NamedDisk) → lane < lanes → lanes ≡ length old →
+    disks ≡ get_or so_far lane disks → left ≡ disks → ReadySoFar grain volumes old so_far lane → AreHandedBack grain volumes old (set so_far lane left)
+handed_back grain volumes old so_far lane lanes disks left lt count is e r =
+    let below : lane < length so_far = omega (arith, r.count) in
+    record {
+      count = length-set so_far lane left ∙ r.count;
+      each = λ i il. elim (cases_lt i lane) [
+        | inl before ↦ inr (get_or-set_other so_far lane i left [] (omega arith) ∙ r.ready i before)
+        | inr from ↦ inl (elim (cases_eq i lane) [
+          | inl same ↦ subst (λ (x : ℕ). disks_at (set so_far lane left) x ≡ disks_at old x) (sym same)
+              (get_or-set_same so_far lane left [] below ∙ (e ∙ (is ∙ (get_or_default so_far lane disks [] below ∙ r.rest lane (omega arith)))))
+          | inr ne ↦ get_or-set_other so_far lane i left [] ne ∙ r.rest i from
+        ])
+      ];
+    }
+
 pub all_ready : (grain : GrainSize) (volumes : List Volume) (old new : List (List NamedDisk)) (lane : ℕ) → length old ≤ lane → ReadySoFar grain volumes old new lane → AreReadied grain volumes old new
 all_ready grain volumes old new lane le r = record { count = r.count; each = λ i il. r.ready i (omega arith) }
 
 -- ---- all of it
+
+-- disks over which metadata says what is told may be read
+pub says_can : (grain : GrainSize) (image : MetaImage) (disks : List (List NamedDisk)) (now : Whole) (least : List Row) → IsSoundImage image → Says grain disks (kept_in image) now least →
+    0 < length disks → length disks < 2 ^ 32 → ((i : ℕ) → i < length disks → All (HasWholeGrains grain) (disks_at disks i)) → CanRecover grain image disks
+says_can grain image disks now least sound says some few whole =
+    record {
+      sound = sound;
+      some = some;
+      few = few;
+      fit = λ i il. subst (λ (n : ℕ). FitDisks (numbered grain i n) (disks_at disks i) (tables_in image)) (sym says.count) (says.fit i il);
+      whole = whole;
+    }
 
 made_at : (grain : GrainSize) (image : MetaImage) (old new : List (List NamedDisk)) → CanRecover grain image old → AreReadied grain image.volumes old new → (i : ℕ) → i < length old →
     MadeReady (lane_over grain old i) (tables_in image) (disks_at old i) (disks_at new i)

@@ -1,5 +1,5 @@
 -- What a stopped store's metadata and disks are together.
-use Rattle.std.specs.Prelude.{◌≡◌, ℕ, ◌<◌, ◌^◌, List, length, All, Option}
+use Rattle.std.specs.Prelude.{◌≡◌, ◌⊎◌, ℕ, ◌<◌, ◌^◌, List, length, All, Option}
 use Rattle.fc_base.specs.Grain.{grain_bytes}
 use Rattle.fc_base.specs.declared.request.Request.{Request}
 use Rattle.fc_base.specs.declared.size.GrainSize.{GrainSize}
@@ -35,6 +35,11 @@ pub record CanRecover (grain : GrainSize) (image : MetaImage) (disks : List (Lis
 pub record AreReadied (grain : GrainSize) (volumes : List Volume) (old new : List (List NamedDisk)) : Type 0 where
   pub count : length new ≡ length old
   pub each : (i : ℕ) → i < length old → disks_at new i ≡ readied (lane_over grain old i) volumes (disks_at old i)
+
+-- For want of memory the disks of each lane are as they were or so.
+pub record AreHandedBack (grain : GrainSize) (volumes : List Volume) (old new : List (List NamedDisk)) : Type 0 where
+  pub count : length new ≡ length old
+  pub each : (i : ℕ) → i < length old → (disks_at new i ≡ disks_at old i) ⊎ (disks_at new i ≡ readied (lane_over grain old i) volumes (disks_at old i))
 
 -- What always holds: every volume of the table has its disk in every lane; and there is room for the bytes of a grain.
 pub record IsRecovered (grain : GrainSize) (image : MetaImage) (disks : List (List NamedDisk)) (buffer : List ℕ) : Type 0 where

@@ -1,6 +1,6 @@
 //! The disks of a lane.
 
-ghost use Rattle.std.specs.Prelude.{◌≡◌, ◌<◌, length, is_err, find, position, option_copied, OnOk, Some};
+ghost use Rattle.std.specs.Prelude.{◌≡◌, ◌<◌, length, is_err, find, position, option_copied, OnOk, OnErr, Some};
 ghost use Rattle.fc_kept.specs.Disks.{is_of};
 ghost use Rattle.fc_recovered.specs.Answering.{HasDiskGrain, ReadsDisk};
 ghost use Rattle.fc_recovered.specs.Readying.{is_new_of, is_diskless, given, of_size, readied};
@@ -72,10 +72,11 @@ impl<D: Mdisk> LaneDisks<D> {
         self.disks.iter().position(|disk| disk.is_new_of(kind))
     }
 
-    /// Gives a volume the first disk of its kind that is for new volumes. Without one nothing changes.
+    /// Gives a volume the first disk of its kind that is for new volumes. Without one, or refused, nothing changes.
     fn give(&mut self, lane: &LaneSize, volume: &Volume) -> Result<(), NoMemory>
         requires { lane.now.lane < lane.now.lanes }
-        ensures { OnOk result (self.new ≡ given (of_size lane.now) self.old (Some volume.now)) }
+        ensures ok { OnOk result (self.new ≡ given (of_size lane.now) self.old (Some volume.now)) }
+        ensures err { OnErr result (self.new ≡ self.old) }
     {
         match self.place_of_new(volume.kind) {
             Some(at) => {
@@ -89,7 +90,8 @@ impl<D: Mdisk> LaneDisks<D> {
     /// hold what they held.
     pub(crate) fn ready(&mut self, lane: &LaneSize, volumes: &[Volume]) -> Result<(), NoMemory>
         requires { lane.now.lane < lane.now.lanes }
-        ensures { OnOk result (self.new ≡ readied (of_size lane.now) volumes.now self.old) }
+        ensures ok { OnOk result (self.new ≡ readied (of_size lane.now) volumes.now self.old) }
+        ensures err { OnErr result (self.new ≡ self.old) }
     {
         match self.first_without(volumes) {
             Some(volume) => self.give(lane, volume),

@@ -1,12 +1,12 @@
 //! A stopped store's metadata and disks together.
 
-ghost use Rattle.std.specs.Prelude.{◌≡◌, ◌<◌, ◌^◌, length, slice_get, Option, Some, IfOk, IfSome, MatchOption};
+ghost use Rattle.std.specs.Prelude.{◌≡◌, ◌<◌, ◌^◌, length, slice_get, Option, Some, IfOk, IfErr, IfSome, MatchOption};
 ghost use Rattle.fc_kept.specs.Images.{tables_in, kept_in};
 ghost use Rattle.fc_kept.specs.OneGrain.{Another};
 ghost use Rattle.fc_base.specs.declared.volume.Volume.{Volume};
 ghost use Rattle.fc_legal.specs.Steps.{IsInside};
 ghost use Rattle.fc_legal.specs.Whole.{Whole};
-ghost use Rattle.fc_recovered.specs.Recovered.{CanRecover, AreReadied, RecoversTo};
+ghost use Rattle.fc_recovered.specs.Recovered.{CanRecover, AreReadied, AreHandedBack, RecoversTo};
 
 use crate::lane_disks::LaneDisks;
 use crate::lane_size::LaneSize;
@@ -42,21 +42,22 @@ impl<D: Mdisk> Recovered<D> {
     /// An image over the disks of all lanes, lane by lane. In each lane the volume that came back without a disk, if there is one,
     /// gets the first disk of its kind that is for new volumes, formatted with zeros.
     ///
-    /// Want of memory alone refuses, and then the disks are let go.
+    /// Want of memory alone refuses. Then the disks come back, those of each lane as they were or with the volume's disk among them.
     pub fn new(
         alloc: Global,
         grain: GrainSize,
         image: MetaImage,
         disks: Vec<LaneDisks<D>>,
-    ) -> Result<Recovered<D>, NoMemory>
+    ) -> Result<Recovered<D>, (Vec<LaneDisks<D>>, NoMemory)>
         requires { CanRecover grain image disks.items }
         ensures grain { IfOk result (λ made. made.grain ≡ grain) }
         ensures image { IfOk result (λ made. made.image ≡ image) }
         ensures disks { IfOk result (λ made. AreReadied grain image.volumes disks.items made.disks) }
+        ensures back { IfErr result (λ back. AreHandedBack grain image.volumes disks.items back.0.items) }
         ensures stands { IfOk result (λ made. (now : Whole) (one : Option Another) → RecoversTo grain disks.items (kept_in image) now one → RecoversTo grain made.disks (kept_in image) now one) }
     {
         let Ok(buffer) = vec![in alloc; 0u8; grain.bytes() as usize] else {
-            return Err(NoMemory);
+            return Err((disks, NoMemory));
         };
         let disks = ready_all(grain, image.volumes.as_slice(), disks)?;
         Ok(Recovered {
@@ -106,20 +107,24 @@ impl<D: Mdisk> Recovered<D> {
     }
 }
 
-/// Makes the disks of all lanes ready for the volumes.
+/// Makes the disks of all lanes ready for the volumes. Refused, those of each lane are as they were or ready.
 fn ready_all<D: Mdisk>(
     grain: GrainSize,
     volumes: &[Volume],
     disks: Vec<LaneDisks<D>>,
-) -> Result<Vec<LaneDisks<D>>, NoMemory>
+) -> Result<Vec<LaneDisks<D>>, (Vec<LaneDisks<D>>, NoMemory)>
     requires { length disks.items < 2 ^ 32 }
-    ensures { IfOk result (λ made. AreReadied grain volumes.now disks.items made.items) }
+    ensures ok { IfOk result (λ made. AreReadied grain volumes.now disks.items made.items) }
+    ensures err { IfErr result (λ back. AreHandedBack grain volumes.now disks.items back.0.items) }
 {
     let mut disks = disks;
     let lanes = disks.len() as u32;
     for lane in 0..lanes {
         let size = LaneSize { lane, lanes, grain };
-        disks[lane as usize].ready(&size, volumes)?;
+        match disks[lane as usize].ready(&size, volumes) {
+            Ok(()) => {}
+            Err(NoMemory) => return Err((disks, NoMemory)),
+        }
     }
     Ok(disks)
 }

@@ -1,5 +1,5 @@
 -- Blocks, whole, on closed examples: two hosts in either order, an order that isn't theirs, and an actor of each role.
-use Rattle.std.proofs.Common.{ℕ, ◌+◌, Ok, None, List, [], ◌∷◌, codes, refl, arith}
+use Rattle.std.proofs.Common.{◌≡◌, ℕ, ◌+◌, ◌<◌, Ok, Option, None, List, [], ◌∷◌, slice_index_or, codes, refl, sym, subst, arith}
 use Rattle.fc_agenda.specs.Goes.{Goes, stays, passes, begins, answers}
 use Rattle.fc_base.specs.Sheet.{mapping_place}
 use Rattle.fc_base.specs.declared.command.Command.{Command}
@@ -11,6 +11,8 @@ use Rattle.fc_base.specs.declared.fault.Kind.TheVariants.{Vdisk}
 use Rattle.fc_base.specs.declared.fault.Refusal.TheVariants.{NoSuch, Words}
 use Rattle.fc_base.specs.declared.fault.WordFault.{WordFault}
 use Rattle.fc_base.specs.declared.fault.WordFault.TheVariants.{MissingWord, NotInBlock, NoActor}
+use Rattle.fc_base.specs.declared.ids.GrainNo.{GrainNo}
+use Rattle.fc_base.specs.declared.ids.MapId.{MapId}
 use Rattle.fc_base.specs.declared.name.Ref.TheVariants.{Name}
 use Rattle.fc_base.specs.declared.request.Place.TheVariants.{Every, Lane}
 use Rattle.fc_base.specs.declared.request.Reply.TheVariants.{Idle, NoMemory, Refused}
@@ -24,9 +26,10 @@ use Rattle.fc_entry.specs.declared.entry.Entry.{Entry}
 use Rattle.fc_legal.specs.Agenda.{Agenda, Actors, Reading, Session, session_rules}
 use Rattle.fc_legal.specs.Run.{IsRun}
 use Rattle.fc_legal.specs.Scripts.{Script, scripts_of}
-use Rattle.fc_legal.specs.Steps.{Step}
+use Rattle.fc_legal.specs.Steps.{Step, TurnStep, after_access}
 use Rattle.fc_legal.specs.Steps.CommandLeft.{unsettled}
 use Rattle.fc_legal.specs.Whole.{Whole, part_at}
+use Rattle.fc_rules.specs.LaneRight.{TurnAnswers}
 use Rattle.fc_scripts.proofs.ScriptExamples.{actor, entry, two}
 
 -- ---- parts
@@ -164,59 +167,38 @@ with_each = codes "main" ∷ codes "h" ∷ codes "a" ∷ codes "c" ∷ codes "d"
 abbrev idle : ℕ → ℕ → ℕ → Request → Entry
 idle number by lane turn = record (entry number by turn) { place = Lane lane; reply = Idle }
 
-idle_copier : (names : List (List ℕ)) (k by : ℕ) → Step K64 (told names k) (idle k by 0 (CopyTurn 0)) (told names (k + 1))
-unfolding mapping_place part_at
-idle_copier names k by =
+idle_turn :
+    (names : List (List ℕ)) (k by lane : ℕ) (turn : Request) (Answers : MapId → GrainNo → Entry → Type 0) (work : Option (MapId × GrainNo)) →
+    lane < 4 →
+    work ≡ None →
+    slice_index_or (told names k).faults lane 0 ≡ 0 →
+    after_access K64 (told names k) lane (idle k by lane turn) ≡ told names (k + 1) →
+    TurnStep K64 (told names k) lane Answers work (idle k by lane turn) (told names (k + 1))
+idle_turn names k by lane turn Answers work within none faults next =
+    let P : Option (MapId × GrainNo) → Type 0 = λ o. TurnAnswers Answers o (idle k by lane turn) in
     record {
-      number = refl;
-      right = record {
-        within = omega arith;
-        step = record {
-          place = refl;
-          faults_before = refl;
-          faults_kept = omega arith;
-          no_effects = refl;
-          answers = (refl, record { moves = refl; calls = refl; untorn = refl });
-          next_is = refl;
-        };
+      within = within;
+      step = record {
+        place = refl;
+        faults_before = sym faults;
+        faults_kept = omega arith;
+        no_effects = refl;
+        answers = subst P (sym none) (refl, record { moves = refl; calls = refl; untorn = refl });
+        next_is = sym next;
       };
     }
+
+idle_copier : (names : List (List ℕ)) (k by : ℕ) → Step K64 (told names k) (idle k by 0 (CopyTurn 0)) (told names (k + 1))
+unfolding mapping_place part_at
+idle_copier names k by = record { number = refl; right = idle_turn names k by 0 (CopyTurn 0) _ _ (omega arith) refl refl refl }
 
 idle_copier_on : (names : List (List ℕ)) (k by : ℕ) → Step K64 (told names k) (idle k by 1 (CopyTurn 1)) (told names (k + 1))
 unfolding mapping_place part_at
-idle_copier_on names k by =
-    record {
-      number = refl;
-      right = record {
-        within = omega arith;
-        step = record {
-          place = refl;
-          faults_before = refl;
-          faults_kept = omega arith;
-          no_effects = refl;
-          answers = (refl, record { moves = refl; calls = refl; untorn = refl });
-          next_is = refl;
-        };
-      };
-    }
+idle_copier_on names k by = record { number = refl; right = idle_turn names k by 1 (CopyTurn 1) _ _ (omega arith) refl refl refl }
 
 idle_cleaner : (names : List (List ℕ)) (k by : ℕ) → Step K64 (told names k) (idle k by 0 (CleanTurn 0)) (told names (k + 1))
 unfolding mapping_place part_at
-idle_cleaner names k by =
-    record {
-      number = refl;
-      right = record {
-        within = omega arith;
-        step = record {
-          place = refl;
-          faults_before = refl;
-          faults_kept = omega arith;
-          no_effects = refl;
-          answers = (refl, record { moves = refl; calls = refl; untorn = refl });
-          next_is = refl;
-        };
-      };
-    }
+idle_cleaner names k by = record { number = refl; right = idle_turn names k by 0 (CleanTurn 0) _ _ (omega arith) refl refl refl }
 
 -- a command for which there is no memory
 abbrev starved : ℕ → ℕ → Entry

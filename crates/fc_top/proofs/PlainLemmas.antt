@@ -6,6 +6,7 @@ use Rattle.fc_call.specs.declared.status.Status.{Status}
 use Rattle.fc_call.specs.declared.status.Status.TheVariants as status
 use Rattle.fc_entry.specs.HistoryState.{HistoryState}
 use Rattle.fc_entry.specs.declared.entry.Entry.{Entry}
+use Rattle.fc_io.specs.Sink.{SinkState}
 use Rattle.fc_io.specs.Source.{SourceState}
 use Rattle.fc_legal.proofs.Naming.{IsNamed-none}
 use Rattle.fc_legal.specs.Added.{IsOf}
@@ -85,8 +86,30 @@ starved_ends form grain source source' call is same_source same_sink none named 
     or_empty (inl of) = inl of
     or_empty (inr none) = inr (is, none)
 
+-- The same of a call that left source and sink alone.
+pub starved_alone :
+    (form : Form) (grain : GrainSize) (source : SourceState) (sink : SinkState) (disks disks' : List DiskState) (history : HistoryState) →
+    history.entries ≡ [] →
+    IsOf (first_told disks) history ⊎ (history ≡ empty) →
+    (outer outer' : SourceState) →
+    PlainEnds form grain source source
+    (record { status = status.NoMemory; source = outer; source' = outer'; sink = sink; sink' = sink; disks = disks; disks' = disks'; history = history })
+starved_alone form grain source sink disks disks' history none named outer outer' =
+    let call : Call = record { status = status.NoMemory; source = outer; source' = outer'; sink = sink; sink' = sink; disks = disks; disks' = disks'; history = history } in
+    starved_ends form grain source source call refl refl refl none named
+
 -- `main` has its name, and nothing is answered yet.
 pub main_told : (disks : List DiskState) (history : HistoryState) → history ≡ record { actors = codes "main" ∷ []; entries = [] } → IsOf (first_told disks) history
 main_told disks history is =
     let P : HistoryState → Type 0 = λ h. IsOf (first_told disks) h in
     subst P (sym is) record { actors = refl; entries = refl }
+
+-- Such a call wanted memory though `main` had its name.
+pub named_alone :
+    (form : Form) (grain : GrainSize) (source : SourceState) (sink : SinkState) (disks disks' : List DiskState) (history : HistoryState) →
+    history ≡ record { actors = codes "main" ∷ []; entries = [] } →
+    (outer outer' : SourceState) →
+    PlainEnds form grain source source
+    (record { status = status.NoMemory; source = outer; source' = outer'; sink = sink; sink' = sink; disks = disks; disks' = disks'; history = history })
+named_alone form grain source sink disks disks' history is outer outer' =
+    starved_alone form grain source sink disks disks' history (ap (λ (h : HistoryState). h.entries) is) (inl (main_told disks history is)) outer outer'

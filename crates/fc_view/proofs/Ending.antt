@@ -1,5 +1,5 @@
 -- What was drawn so far, and how a view ends.
-use Rattle.std.proofs.Common.{◌≡◌, ℕ, ◌+◌, ◌-◌, ◌<◌, ◌≤◌, Option, Some, None, IfSome, Ok, Err, Result, List, [], ◌++◌, length, take, drop, inl, inr, refl, sym, ap, subst, ◌∙◌, arith}
+use Rattle.std.proofs.Common.{◌≡◌, ℕ, ◌+◌, ◌-◌, ◌<◌, ◌≤◌, Option, Some, None, IfSome, Ok, Err, Result, IfErr, MatchResult, OnOk, List, [], ◌++◌, length, take, drop, inl, inr, refl, sym, ap, subst, ◌∙◌, arith}
 use Rattle.std.proofs.lemmas.List.{drop_all, length-drop, take_rest}
 use Rattle.fc_check.specs.Checked.{IsAll}
 use Rattle.fc_check.specs.Input.{TakenSome, TakenTo}
@@ -50,27 +50,30 @@ so_far_first header at bytes place behind old within four line known none = reco
   drawings = drawings_none header at behind.progress.history.entries (ap (λ (h : HistoryState). h.entries) none);
 }
 
-pub so_far_more : (header : Header) (at : Option ℕ) (bytes : List ℕ) (place count : ℕ) (behind new : Behind) (old now next : Option (List Drawn)) →
-    IsSoFar header at bytes place behind old now → IsNextDrawn header at behind (drop place bytes) count new now next → IsSoFar header at bytes (place + count) new old next
-so_far_more header at bytes place count behind new old now next so_far more = record {
-  within = omega (arith, more.within, so_far.within, length-drop place bytes);
-  trace = trace_read header behind.progress.history new.progress.history bytes place count so_far.within so_far.trace more.read;
-  known = more.behind;
-  drawn = so_far.drawn ++ more.drawn;
-  now_is =
-      more.now_is ∙ ap (λ (o : Option (List Drawn)). behind_those o more.drawn) so_far.now_is ∙ behind_both old so_far.drawn more.drawn;
-  drawings =
-      subst (λ (l : List Entry). AreDrawings header at l (so_far.drawn ++ more.drawn))
-      (sym (entries_more header.grain behind.progress.history new.progress.history (drop place bytes) count more.read))
-      (drawings_more header at behind.progress.history.entries more.read.entry so_far.drawn more.drawn so_far.drawings more.drawings);
-}
-
-pub next_some : (header : Header) (at : Option ℕ) (bytes : List ℕ) (count : ℕ) (behind new : Behind) (now next : Option (List Drawn)) → IsNextDrawn header at behind bytes count new now next → 0 < count
-next_some header at bytes count behind new now next more = read_some header.grain behind.progress.history new.progress.history bytes count more.read
-
 -- what stands from the place on
 pub from_place : (bytes : List ℕ) (place : ℕ) (Holds : List ℕ → Type 0) → Holds (take (length bytes - place) (drop place bytes)) → Holds (drop place bytes)
 from_place bytes place Holds holds = subst Holds (take_rest bytes place) holds
+
+pub so_far_more : (header : Header) (at : Option ℕ) (bytes : List ℕ) (place count : ℕ) (behind new : Behind) (old now next : Option (List Drawn)) →
+    IsSoFar header at bytes place behind old now → IsNextDrawn header at behind (take (length bytes - place) (drop place bytes)) count new now next →
+    IsSoFar header at bytes (place + count) new old next
+so_far_more header at bytes place count behind new old now next so_far drawn =
+    let more = from_place bytes place (λ l. IsNextDrawn header at behind l count new now next) drawn in
+    record {
+      within = omega (arith, more.within, so_far.within, length-drop place bytes);
+      trace = trace_read header behind.progress.history new.progress.history bytes place count so_far.within so_far.trace more.read;
+      known = more.behind;
+      drawn = so_far.drawn ++ more.drawn;
+      now_is =
+          more.now_is ∙ ap (λ (o : Option (List Drawn)). behind_those o more.drawn) so_far.now_is ∙ behind_both old so_far.drawn more.drawn;
+      drawings =
+          subst (λ (l : List Entry). AreDrawings header at l (so_far.drawn ++ more.drawn))
+          (sym (entries_more header.grain behind.progress.history new.progress.history (drop place bytes) count more.read))
+          (drawings_more header at behind.progress.history.entries more.read.entry so_far.drawn more.drawn so_far.drawings more.drawings);
+    }
+
+pub next_some : (header : Header) (at : Option ℕ) (bytes : List ℕ) (count : ℕ) (behind new : Behind) (now next : Option (List Drawn)) → IsNextDrawn header at behind bytes count new now next → 0 < count
+next_some header at bytes count behind new now next more = read_some header.grain behind.progress.history new.progress.history bytes count more.read
 
 -- ---- the end
 
@@ -106,9 +109,13 @@ want_viewed ReadFault at bytes old now want = absurd want
 want_viewed TooLong at bytes old now want = absurd want
 want_viewed LogFull at bytes old now want = absurd want
 
--- where no more was drawn
-pub same_viewed : (seen : Seen) (at : Option ℕ) (bytes : List ℕ) (old now next : Option (List Drawn)) → next ≡ now → IsView (Ok seen) at bytes old now → IsView (Ok seen) at bytes old next
-same_viewed seen at bytes old now next same view = subst (λ (n : Option (List Drawn)). IsView (Ok seen) at bytes old n) (sym same) view
+-- where no more was drawn by what was put behind the entries
+pub put_viewed : (put : Result (Unit {0}) ViewStop) (answer : Result Seen ViewStop) (seen : Seen) (at : Option ℕ) (bytes : List ℕ) (old now next : Option (List Drawn)) →
+    MatchResult put (λ done. answer ≡ Ok seen) (λ stop. answer ≡ Err stop) → OnOk put (next ≡ now) → IfErr put IsWant → IsView (Ok seen) at bytes old now → IsView answer at bytes old next
+put_viewed (Ok done) answer seen at bytes old now next is same refused view =
+    subst (λ (a : Result Seen ViewStop). IsView a at bytes old next) (sym is) (subst (λ (n : Option (List Drawn)). IsView (Ok seen) at bytes old n) (sym same) view)
+put_viewed (Err stop) answer seen at bytes old now next is same refused view =
+    subst (λ (a : Result Seen ViewStop). IsView a at bytes old next) (sym is) (want_viewed stop at bytes old next refused)
 
 -- all bytes of a source
 pub views_all : (answer : Result Seen ViewStop) (at : Option ℕ) (before after : SourceState) (bytes past : List ℕ) (old now : Option (List Drawn)) → IsView answer at bytes old now →

@@ -45,9 +45,10 @@ last_there xs before k y last split =
     ∙ ap Some (ap (λ l. get_or l k y) split ∙ get_or_push before y y k (omega (arith, last, ap length split, length-append before (y ∷ []))))
 
 -- an entry is followed as the last, which it is
-pub followed_as : (size : GrainSize) (ways : ℕ) (last entry : Entry) (old : Behind) (step : Followed) (new : Behind) → last ≡ entry → IsFollowed size ways last old step new →
-    IsFollowed size ways entry old step new
-followed_as size ways last entry old step new same followed = subst (λ (e : Entry). IsFollowed size ways e old step new) same followed
+pub followed_last : (size : GrainSize) (ways : ℕ) (entries before : List Entry) (number : ℕ) (last entry : Entry) (old : Behind) (step : Followed) (new : Behind) → number + 1 ≡ length entries →
+    slice_get entries number ≡ Some last → entries ≡ before ++ entry ∷ [] → IsFollowed size ways last old step new → IsFollowed size ways entry old step new
+followed_last size ways entries before number last entry old step new end there split followed =
+    subst (λ (e : Entry). IsFollowed size ways e old step new) (last_is entries before number last entry end there split) followed
 
 -- ---- the first way
 

@@ -1,6 +1,6 @@
 //! The trace that a source gives, viewed.
 
-ghost use Rattle.std.specs.Prelude.{◌≡◌, ◌≢◌, ◌<◌, ◌≤◌, ◌+◌, ◌^◌, ◌++◌, [], ◌∷◌, List, ℕ, IfErr, IfOk, OnOk, length, take};
+ghost use Rattle.std.specs.Prelude.{◌≡◌, ◌≢◌, ◌<◌, ◌≤◌, ◌+◌, ◌^◌, ◌++◌, [], ◌∷◌, List, ℕ, Ok, Err, IfErr, IfOk, MatchResult, OnOk, length, take};
 ghost use Rattle.fc_check.specs.Traces.{nothing_told};
 ghost use Rattle.fc_reading.specs.Header.{AreFour};
 ghost use Rattle.fc_trace.specs.Trace.{header_text};
@@ -157,28 +157,12 @@ fn sum_up<C: Canvas>(
     }
 }
 
-/// Draws the entries behind the first line, which ends at this place, and sums up.
-fn draw_all<C: Canvas>(
-    alloc: Global,
-    header: &Header,
-    behind: &mut Behind,
-    start: usize,
-    bytes: &[u8],
-    at: Option<u64>,
-    canvas: &mut C,
-) -> Result<Seen, ViewStop>
-    requires within { start ≤ length bytes.now }
-    requires lanes { AreFour header.now.lanes }
-    requires line { take start bytes.now ≡ header_text header.now.grain header.now.lanes }
-    requires known { IsBehind header.now behind.old }
-    requires none { behind.old.progress.history ≡ nothing_told }
-    ensures { IsView result at bytes.now (C.drawn canvas.old) (C.drawn canvas.new) }
+/// What was seen, where the canvas took what was put behind it.
+fn seen_where(put: Result<(), ViewStop>, seen: Seen) -> Result<Seen, ViewStop>
+    ensures { MatchResult put (λ done. result ≡ Ok seen) (λ stop. result ≡ Err stop) }
 {
-    match draw_entries(alloc, header, behind, start, bytes, at, canvas) {
-        Ok(seen) => match sum_up(behind, seen, at, canvas) {
-            Ok(()) => Ok(seen),
-            Err(stop) => Err(stop),
-        },
+    match put {
+        Ok(()) => Ok(seen),
         Err(stop) => Err(stop),
     }
 }
@@ -198,7 +182,12 @@ fn draw_trace<C: Canvas>(
     ensures { IsView result at bytes.now (C.drawn canvas.old) (C.drawn canvas.new) }
 {
     match Behind::open(alloc, header) {
-        Ok(mut behind) => draw_all(alloc, header, &mut behind, start, bytes, at, canvas),
+        Ok(mut behind) => {
+            match draw_entries(alloc, header, &mut behind, start, bytes, at, canvas) {
+                Ok(seen) => seen_where(sum_up(&behind, seen, at, canvas), seen),
+                Err(stop) => Err(stop),
+            }
+        }
         Err(NoMemory) => Err(ViewStop::NoMemory),
     }
 }
@@ -241,10 +230,7 @@ pub fn view_bytes<C: Canvas>(
     ensures { IsView result at bytes.now (C.drawn canvas.old) (C.drawn canvas.new) }
 {
     match draw_bytes(alloc, bytes, at, canvas) {
-        Ok(seen) => match end_view(seen, canvas) {
-            Ok(()) => Ok(seen),
-            Err(stop) => Err(stop),
-        },
+        Ok(seen) => seen_where(end_view(seen, canvas), seen),
         Err(stop) => Err(stop),
     }
 }

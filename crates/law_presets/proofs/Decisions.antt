@@ -6,6 +6,7 @@ use Rattle.std.proofs.lemmas.Bool.{ne_eqb}
 use Rattle.std.proofs.lemmas.List.Elements.{All-contains}
 use Rattle.fc_base.specs.States.{next_state}
 use Rattle.fc_base.specs.Tables.{Tables, mapping_named, volume_named}
+use Rattle.fc_base.specs.declared.command.Command.{Command}
 use Rattle.fc_base.specs.declared.command.Command.TheVariants.{Mkvdisk, Rmvdisk, Mkfcmap, Startfcmap, Rmfcmap}
 use Rattle.fc_base.specs.declared.command.Unit.{Unit as SizeUnit}
 use Rattle.fc_base.specs.declared.decision.LaneEvent.TheVariants.{Access, Forget}
@@ -83,6 +84,21 @@ module _ (before : Tables) (sets : ℕ → List Bool) (b : Books) where
   both_same : (id n : ℕ) (reply : Reply) → BothIn before id n b → BothIn before id n (left reply nothing)
   both_same id n reply h = (subst (HasBoth before id n) (sym (same_tables reply)) h.0, left_alone id reply nothing tt h.1)
 
+  -- ---- a command that is allowed, and closes no loop, is done
+
+  allowed_done :
+      (grain : GrainSize) (command : Command) (P : Books → Type 0) →
+      refused grain b command ≡ None →
+      ((volumes : List VolId) → LoopTold None b command (Some volumes) → ⊥) →
+      P (after_decision sets b (answered sets grain b command None None)) →
+      (o : Option Refusal) (loop : Option (List VolId)) → refused grain b command ≡ o → LoopTold o b command loop →
+      P (after_decision sets b (answered sets grain b command o loop))
+  allowed_done grain command P allowed no_loop made (Some refusal) loop e told =
+      let clash : ◌≡◌ {A = Option Refusal} None (Some refusal) = sym allowed ∙ e in
+      absurd (cc clash)
+  allowed_done grain command P allowed no_loop made None (Some volumes) e told = absurd (no_loop volumes told)
+  allowed_done grain command P allowed no_loop made None None e told = made
+
   -- ---- the start, unless it is done
 
   pub start_decided : (grain : GrainSize) (map : Ref) (prep restore : Bool) (id n : ℕ) (o : Option Refusal) (loop : Option (List VolId)) → BothIn before id n b →
@@ -134,14 +150,11 @@ module _ (before : Tables) (sets : ℕ → List Bool) (b : Books) where
 
     pub unmap_decided : (grain : GrainSize) (o : Option Refusal) (loop : Option (List VolId)) → refused grain b (Rmfcmap (Id n) false) ≡ o →
         LoopTold o b (Rmfcmap (Id n) false) loop → VolumeIn before id (after_decision sets b (answered sets grain b (Rmfcmap (Id n) false) o loop))
-    unmap_decided grain (Some refusal) loop e told =
-        let clash : ◌≡◌ {A = Option Refusal} None (Some refusal) = sym (unmap_allowed grain) ∙ e in
-        absurd (cc clash)
-    unmap_decided grain None (Some volumes) e told = absurd (cc told)
-    unmap_decided grain None None e told =
+    unmap_decided grain =
         let is : for_one (mapping_named b.tables (Id n)) remove_mapping ≡ remove_mapping h.0.mapping =
         ap (λ (o : Option Mapping). for_one o remove_mapping) map_found in
-        subst (λ (deed : Deed). VolumeIn before id (left Done deed)) (sym is) map_removed
+        allowed_done grain (Rmfcmap (Id n) false) (VolumeIn before id) (unmap_allowed grain) (λ volumes told. cc told)
+        (subst (λ (deed : Deed). VolumeIn before id (left Done deed)) (sym is) map_removed)
 
   -- ---- what undoes the volume
 
@@ -183,14 +196,11 @@ module _ (before : Tables) (sets : ℕ → List Bool) (b : Books) where
 
     pub unmake_decided : (grain : GrainSize) (o : Option Refusal) (loop : Option (List VolId)) → refused grain b (Rmvdisk (Id id)) ≡ o →
         LoopTold o b (Rmvdisk (Id id)) loop → IsAsBefore before (after_decision sets b (answered sets grain b (Rmvdisk (Id id)) o loop)).tables
-    unmake_decided grain (Some refusal) loop e told =
-        let clash : ◌≡◌ {A = Option Refusal} None (Some refusal) = sym (unmake_allowed grain) ∙ e in
-        absurd (cc clash)
-    unmake_decided grain None (Some volumes) e told = absurd (cc told)
-    unmake_decided grain None None e told =
+    unmake_decided grain =
         let is : for_one (volume_named b.tables (Id id)) remove_volume ≡ remove_volume h.0.volume =
         ap (λ (o : Option Volume). for_one o remove_volume) volume_found in
-        subst (λ (deed : Deed). IsAsBefore before (left Done deed).tables) (sym is) volume_removed
+        allowed_done grain (Rmvdisk (Id id)) (λ (books : Books). IsAsBefore before books.tables) (unmake_allowed grain) (λ volumes told. cc told)
+        (subst (λ (deed : Deed). IsAsBefore before (left Done deed).tables) (sym is) volume_removed)
 
   -- ---- the volume and the mapping
 

@@ -29,7 +29,7 @@ use Rattle.fc_books.specs.Sound.{AreSound}
 use Rattle.fc_decided.proofs.Setting.{AreOrdered}
 use Rattle.fc_entry.specs.declared.entry.Entry.{Entry}
 use Rattle.fc_follow.specs.Following.{restarts}
-use Rattle.fc_legal.specs.Agenda.{Agenda, Own, Reading, Seconds, Session, behind_last, behind_own, is_done, session_rules}
+use Rattle.fc_legal.specs.Agenda.{Agenda, Asks, Begins, Own, Reading, Seconds, Session, behind_last, behind_own, is_done, session_rules, without_entry}
 use Rattle.fc_legal.specs.Presets.{behind_preset, is_thin, mapping_line, preset_asked, start_line, unmake_line, unmap_line, volume_line}
 use Rattle.fc_legal.specs.Seconds.{Work, all_work, seconds_begun}
 use Rattle.fc_legal.specs.Steps.{CommandLeft, CommandStep, MustBeRefused, RequestStep, Step, after_settling, one_more}
@@ -179,22 +179,27 @@ module _ (grain : GrainSize) (read : Reading) where
   none_left c w v xs (begins on way) = absurd on
   none_left c w v xs (answers asked right way) = absurd (cc asked)
 
+  -- from where the line is over without an entry, and in no other way
+  none_behind : (a c : Agenda) (w v : Whole) (xs : List Entry) →
+      ((then : Agenda) → without_entry grain read a w ≡ Some then → Session [] ≡ then) →
+      ((then : Agenda) (next : Whole) → Begins grain a w then next → ⊥) →
+      ((asked : ℕ × Request) → Asks grain a w asked → ⊥) →
+      (a ≡ Session [] → ⊥) →
+      c ≡ Session [] → Goes (session_rules grain read) a w xs c v → (xs ≡ []) × (v ≡ w)
+  none_behind a c w v xs over no_names no_entry apart e stays = absurd (apart e)
+  none_behind a c w v xs over no_names no_entry apart e (passes {b = then} on way) =
+      none_left c w v xs (subst (λ (b : Agenda). Goes (session_rules grain read) b w xs c v) (sym (over then on)) way)
+  none_behind a c w v xs over no_names no_entry apart e (begins on way) = absurd (no_names _ _ on)
+  none_behind a c w v xs over no_names no_entry apart e (answers asked right way) = absurd (no_entry _ asked)
+
   own_left : (c : Agenda) (w v : Whole) (xs : List Entry) (behind : Behind) → c ≡ Session [] → Goes (session_rules grain read) (Own [] behind []) w xs c v → (xs ≡ []) × (v ≡ w)
-  own_left c w v xs behind e stays = absurd (cc e)
-  own_left c w v xs behind e (passes {b = then} on way) =
-      let is : Session [] ≡ then = cc on in
-      none_left c w v xs (subst (λ (a : Agenda). Goes (session_rules grain read) a w xs c v) (sym is) way)
-  own_left c w v xs behind e (begins on way) = absurd on
-  own_left c w v xs behind e (answers asked right way) = absurd (cc asked)
+  own_left c w v xs behind e way =
+      none_behind (Own [] behind []) c w v xs (λ then on. cc on) (λ then next on. on) (λ asked on. cc on) (λ is. cc is) e way
 
   seconds_left : (c : Agenda) (w v : Whole) (xs : List Entry) (works : List Work) → c ≡ Session [] →
       Goes (session_rules grain read) (Seconds (seconds_begun 0 works) []) w xs c v → (xs ≡ []) × (v ≡ w)
-  seconds_left c w v xs works e stays = absurd (cc e)
-  seconds_left c w v xs works e (passes {b = then} on way) =
-      let is : Session [] ≡ then = cc on in
-      none_left c w v xs (subst (λ (a : Agenda). Goes (session_rules grain read) a w xs c v) (sym is) way)
-  seconds_left c w v xs works e (begins on way) = absurd on
-  seconds_left c w v xs works e (answers asked right way) = absurd (cc asked)
+  seconds_left c w v xs works e way =
+      none_behind (Seconds (seconds_begun 0 works) []) c w v xs (λ then on. cc on) (λ then next on. on) (λ asked on. cc on) (λ is. cc is) e way
 
   by_done : (done : Bool) (c : Agenda) (w v : Whole) (xs : List Entry) (works : List Work) → c ≡ Session [] →
       Goes (session_rules grain read) (cond done (Seconds (seconds_begun 0 works) []) (Session [])) w xs c v → (xs ≡ []) × (v ≡ w)

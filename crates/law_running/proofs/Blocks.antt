@@ -27,8 +27,8 @@ module _ (Stands : Whole → Type 0) (lines : List (List ℕ)) (grain : GrainSiz
   pub block_answered : (result : Result (Unit {0}) Stop) → ScriptsRan result Stands grain (named mid block) (scripts_then grain mid block) middle new →
       Answered result Stands (session_rules grain read) (block_alone block) w old new
   block_answered (Ok done) ran =
-      (ran.0, ran.1, adds_both _ _ (λ more are. block_law_holds.through lines grain read block w mid ran.0 faults more is_block told are.0 are.1) ran.2)
+      (ran.0, ran.1, adds_both _ _ (λ more are. (block_law_holds.goes_on lines grain read block w mid ran.0 faults more is_block told are.0).through are.1) ran.2)
   block_answered (Err LogFull) ran =
-      (ran.0, (ran.1.0, ran.1.1, adds_both _ _ (λ more are. block_law_holds.asking lines grain read block w mid ran.1.0 faults more is_block told are.0 are.1) ran.1.2))
+      (ran.0, (ran.1.0, ran.1.1, adds_both _ _ (λ more are. (block_law_holds.goes_on lines grain read block w mid ran.1.0 faults more is_block told are.0).asking are.1) ran.1.2))
   block_answered (Err NoMemory) ran =
-      (ran.0, ran.1, adds_both _ _ (λ more are. block_law_holds.into lines grain read block w mid ran.0 faults more is_block told are.0 are.1) ran.2)
+      (ran.0, ran.1, adds_both _ _ (λ more are. (block_law_holds.goes_on lines grain read block w mid ran.0 faults more is_block told are.0).into are.1) ran.2)

@@ -94,52 +94,40 @@ module _ (grain : GrainSize) (read : Reading) where
       AreOfDifferent (scripts_then grain mid block)
   different lines block mid there = scripts_law_holds.differ lines block grain (lanes mid) mid.books mid.actors there
 
-  goes_through :
-      (lines : List (List ℕ)) (block : BlockRead) (w mid last : Whole) (entries more : List Entry) →
-      Contains (cut lines).segments (together block) →
-      AreTold grain w block.faults entries [] mid →
-      AreSteps grain (named mid block) more last →
-      AreAll (scripts_then grain mid block) more →
-      GoesToEnd (session_rules grain read) (block_alone block) w (entries ++ more) last
-  goes_through lines block w mid last entries more there told steps all =
-      let way : IsThrough grain read (scripts_then grain mid block) [] (named mid block) more last =
-      (scripts_law_holds.through grain read (scripts_then grain mid block) [] (named mid block) last more (different lines block mid there)).1 steps all in
-      record { end = Session []; goes = on_goes block w mid last entries more (Session []) told way; over = refl }
+  -- all faults were told to `main`, the names came, and the actors of a block of these lines were answered more
+  module _ (lines : List (List ℕ)) (block : BlockRead) (w mid last : Whole) (entries more : List Entry)
+      (there : Contains (cut lines).segments (together block)) (told : AreTold grain w block.faults entries [] mid)
+      (steps : AreSteps grain (named mid block) more last) where
+    goes_through : AreAll (scripts_then grain mid block) more → GoesToEnd (session_rules grain read) (block_alone block) w (entries ++ more) last
+    goes_through all =
+        let way : IsThrough grain read (scripts_then grain mid block) [] (named mid block) more last =
+        (scripts_law_holds.through grain read (scripts_then grain mid block) [] (named mid block) last more (different lines block mid there)).1 steps all in
+        record { end = Session []; goes = on_goes block w mid last entries more (Session []) told way; over = refl }
 
-  goes_into :
-      (lines : List (List ℕ)) (block : BlockRead) (w mid last : Whole) (entries more : List Entry) →
-      Contains (cut lines).segments (together block) →
-      AreTold grain w block.faults entries [] mid →
-      AreSteps grain (named mid block) more last →
-      AreFirst (scripts_then grain mid block) more →
-      GoesSome (session_rules grain read) (block_alone block) w (entries ++ more) last
-  goes_into lines block w mid last entries more there told steps first =
-      let way : IsInto grain read (scripts_then grain mid block) [] (named mid block) more last =
-      (scripts_law_holds.into grain read (scripts_then grain mid block) [] (named mid block) last more (different lines block mid there)).1 steps first in
-      record { end = Actors way.left []; goes = on_goes block w mid last entries more (Actors way.left []) told way.goes }
+    goes_into : AreFirst (scripts_then grain mid block) more → GoesSome (session_rules grain read) (block_alone block) w (entries ++ more) last
+    goes_into first =
+        let way : IsInto grain read (scripts_then grain mid block) [] (named mid block) more last =
+        (scripts_law_holds.into grain read (scripts_then grain mid block) [] (named mid block) last more (different lines block mid there)).1 steps first in
+        record { end = Actors way.left []; goes = on_goes block w mid last entries more (Actors way.left []) told way.goes }
 
-  goes_asking :
-      (lines : List (List ℕ)) (block : BlockRead) (w mid last : Whole) (entries more : List Entry) →
-      Contains (cut lines).segments (together block) →
-      AreTold grain w block.faults entries [] mid →
-      AreSteps grain (named mid block) more last →
-      WantMore (scripts_then grain mid block) more →
-      GoesAsking (session_rules grain read) (block_alone block) w (entries ++ more) last
-  goes_asking lines block w mid last entries more there told steps wants =
-      let way : IsAsking grain read (scripts_then grain mid block) [] (named mid block) more last =
-      (scripts_law_holds.asking grain read (scripts_then grain mid block) [] (named mid block) last more (different lines block mid there)).1 steps wants in
-      record {
-        end = Actors way.left [];
-        goes = on_goes block w mid last entries more (Actors way.left []) told way.goes;
-        wanted = way.wanted;
-        asks = way.asks;
-      }
+    goes_asking : WantMore (scripts_then grain mid block) more → GoesAsking (session_rules grain read) (block_alone block) w (entries ++ more) last
+    goes_asking wants =
+        let way : IsAsking grain read (scripts_then grain mid block) [] (named mid block) more last =
+        (scripts_law_holds.asking grain read (scripts_then grain mid block) [] (named mid block) last more (different lines block mid there)).1 steps wants in
+        record {
+          end = Actors way.left [];
+          goes = on_goes block w mid last entries more (Actors way.left []) told way.goes;
+          wanted = way.wanted;
+          asks = way.asks;
+        }
 
 pub block_law_holds : BlockLaw
 block_law_holds = record {
   told = told_some;
   told_asking = told_more;
-  through = λ lines grain read. goes_through grain read lines;
-  into = λ lines grain read. goes_into grain read lines;
-  asking = λ lines grain read. goes_asking grain read lines;
+  goes_on = λ lines grain read block w mid last entries more there told steps. record {
+    through = goes_through grain read lines block w mid last entries more there told steps;
+    into = goes_into grain read lines block w mid last entries more there told steps;
+    asking = goes_asking grain read lines block w mid last entries more there told steps;
+  };
 }

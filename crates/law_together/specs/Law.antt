@@ -60,6 +60,16 @@ pub record AskLaw : Type 0 where
       IsMerged first count lists merged →
       WantMore scripts merged
 
+-- All of a block's faults were told, the names came, and its actors asked all; or the first; or the first, and one of them wants
+-- one more.
+pub record GoesOn (grain : GrainSize) (read : Reading) (block : BlockRead) (w mid last : Whole) (entries more : List Entry) : Type 0 where
+  pub through : AreAll (scripts_then grain mid block) more →
+      GoesToEnd (session_rules grain read) (block_alone block) w (entries ++ more) last
+  pub into : AreFirst (scripts_then grain mid block) more →
+      GoesSome (session_rules grain read) (block_alone block) w (entries ++ more) last
+  pub asking : WantMore (scripts_then grain mid block) more →
+      GoesAsking (session_rules grain read) (block_alone block) w (entries ++ more) last
+
 -- A block, from its faults on.
 pub record BlockLaw : Type 0 where
   -- `main` was told some of the faults; or it was, and one more is next
@@ -72,28 +82,14 @@ pub record BlockLaw : Type 0 where
       (wanted : Request) (behind : List Request) →
       AreTold grain w block.faults entries (wanted ∷ behind) last →
       GoesAsking (session_rules grain read) (block_alone block) w entries last
-  -- it was told all of them, the names came, and the actors asked all; or the first; or the first, and one of them wants one more
-  pub through :
+  -- it was told all of them, and the actors were answered
+  pub goes_on :
       (lines : List (List ℕ)) (grain : GrainSize) (read : Reading) (block : BlockRead) (w mid last : Whole)
       (entries more : List Entry) →
       Contains (cut lines).segments (together block) →
       AreTold grain w block.faults entries [] mid →
-      AreSteps grain (named mid block) more last → AreAll (scripts_then grain mid block) more →
-      GoesToEnd (session_rules grain read) (block_alone block) w (entries ++ more) last
-  pub into :
-      (lines : List (List ℕ)) (grain : GrainSize) (read : Reading) (block : BlockRead) (w mid last : Whole)
-      (entries more : List Entry) →
-      Contains (cut lines).segments (together block) →
-      AreTold grain w block.faults entries [] mid →
-      AreSteps grain (named mid block) more last → AreFirst (scripts_then grain mid block) more →
-      GoesSome (session_rules grain read) (block_alone block) w (entries ++ more) last
-  pub asking :
-      (lines : List (List ℕ)) (grain : GrainSize) (read : Reading) (block : BlockRead) (w mid last : Whole)
-      (entries more : List Entry) →
-      Contains (cut lines).segments (together block) →
-      AreTold grain w block.faults entries [] mid →
-      AreSteps grain (named mid block) more last → WantMore (scripts_then grain mid block) more →
-      GoesAsking (session_rules grain read) (block_alone block) w (entries ++ more) last
+      AreSteps grain (named mid block) more last →
+      GoesOn grain read block w mid last entries more
 
 -- The first of some right entries are right, and so are more behind them; each is one more, of as many lanes and the same actors.
 pub record StepsLaw : Type 0 where

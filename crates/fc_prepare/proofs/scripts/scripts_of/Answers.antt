@@ -17,6 +17,6 @@ loop-actor-preserved g c =
     let i : ℕ = c.loop-actor.actor-index in
     let one_more : take (i + 1) actors ≡ take i actors ++ c.actor-item.result ∷ [] =
     take_more actors i c.actor-item.result c.loop-actor-test.true ∙ ap (λ (a : ActorRead). take i actors ++ a ∷ []) (sym c.actor-item.is) in
-    subst (λ ys. AreScriptsOf c.args.store.now c.args.history.now.actors (take (i + 1) actors) ys) (sym c.in-Ok-push_script.ensures)
+    subst (λ ys. AreScriptsOf c.args.store.now c.args.history.now.actors (take (i + 1) actors) ys) (sym c.in-Ok-push.ensures.items)
     (subst (λ xs. AreScriptsOf c.args.store.now c.args.history.now.actors xs (c.loop-actor.scripts.items ++ c.in-Ok.script ∷ [])) (sym one_more)
     (zip_push (λ a s. IsScriptOf c.args.store.now c.args.history.now.actors a s) (take i actors) c.loop-actor.scripts.items c.actor-item.result c.in-Ok.script c.loop-actor.invariant c.in-Ok.ensures))

@@ -1,67 +1,35 @@
 -- Memory was wanted before anything was read; or the store is made over the disks.
-use Rattle.std.proofs.Common.{◌≡◌, List, ◌∙◌, ap, arith, length, map, refl, subst, inl, inr, vec_capacity}
+use Rattle.std.proofs.Common.{◌≡◌, List, ◌∙◌, ap, arith, length, map, subst, inr, vec_capacity}
 use Rattle.std.proofs.lemmas.List.{length-map}
 use Rattle.fc_base.specs.declared.size.GrainSize.{GrainSize}
 use Rattle.fc_call.specs.Call.{Call}
-use Rattle.fc_call.specs.declared.status.Status.TheVariants.{NoMemory}
 use Rattle.fc_entry.specs.HistoryState.{HistoryState}
 use Rattle.fc_grains.proofs.KindCounts.{total-pool}
 use Rattle.fc_grains.specs.Grains.{pool_of, silent_of, total_of}
 use Rattle.fc_lanes.specs.Dealing.{disks_in}
 use Rattle.fc_mdisk.specs.Disk.{DiskState}
 use Rattle.fc_stands.specs.Store.{StandsFor}
-use Rattle.fc_top.proofs.PlainLemmas.{main_told, starved_ends}
+use Rattle.fc_top.proofs.PlainLemmas.{named_alone, starved_alone}
 use Rattle.fc_owner.specs.FirstTold.{first_told}
 use Rattle.fc_top.specs.PlainEnds.{PlainEnds}
 use Rattle.fc_top.proofs.plain.run_plain.Goals as goal
 
 pub returns-in-Err-clause-ends : goal.returns-in-Err-clause-ends
-returns-in-Err-clause-ends g c = λ outer outer'.
-    let source = g.S.Source.meaning c.args.source.now in
-    let sink = g.K.Sink.meaning c.args.sink.now in
-    let call : Call = record {
-      status = NoMemory;
-      source = outer;
-      source' = outer';
-      sink = sink;
-      sink' = sink;
-      disks = map g.D.Mdisk.meaning c.args.disks.now.items;
-      disks' = map g.D.Mdisk.meaning c.args.disks.now.items;
-      history = c.add_main.new.history;
-    } in
-    starved_ends c.args.form c.args.grain source source call refl refl refl (ap (λ (h : HistoryState). h.entries) (c.in-Err.ensures.err ∙ c.requires.empty)) (inr (c.in-Err.ensures.err ∙ c.requires.empty))
+returns-in-Err-clause-ends g c =
+    let old : List DiskState = map g.D.Mdisk.meaning c.args.disks.now.items in
+    let is = c.in-Err.ensures.err ∙ c.requires.empty in
+    starved_alone c.args.form c.args.grain (g.S.Source.meaning c.args.source.now) (g.K.Sink.meaning c.args.sink.now) old old c.add_main.new.history
+    (ap (λ (h : HistoryState). h.entries) is) (inr is)
 
 pub returns-in-Err-with_capacity-clause-ends : goal.returns-in-Err-with_capacity-clause-ends
-returns-in-Err-with_capacity-clause-ends g c = λ outer outer'.
-    let source = g.S.Source.meaning c.args.source.now in
-    let sink = g.K.Sink.meaning c.args.sink.now in
-    let call : Call = record {
-      status = NoMemory;
-      source = outer;
-      source' = outer';
-      sink = sink;
-      sink' = sink;
-      disks = map g.D.Mdisk.meaning c.args.disks.now.items;
-      disks' = map g.D.Mdisk.meaning c.args.disks.now.items;
-      history = c.add_main.new.history;
-    } in
-    starved_ends c.args.form c.args.grain source source call refl refl refl (ap (λ (h : HistoryState). h.entries) c.in-Ok.ensures.ok) (inl (main_told (map g.D.Mdisk.meaning c.args.disks.now.items) c.add_main.new.history c.in-Ok.ensures.ok))
+returns-in-Err-with_capacity-clause-ends g c =
+    let old : List DiskState = map g.D.Mdisk.meaning c.args.disks.now.items in
+    named_alone c.args.form c.args.grain (g.S.Source.meaning c.args.source.now) (g.K.Sink.meaning c.args.sink.now) old old c.add_main.new.history c.in-Ok.ensures.ok
 
 pub returns-in-Err-new-clause-ends : goal.returns-in-Err-new-clause-ends
-returns-in-Err-new-clause-ends g c = λ outer outer'.
-    let source = g.S.Source.meaning c.args.source.now in
-    let sink = g.K.Sink.meaning c.args.sink.now in
-    let call : Call = record {
-      status = NoMemory;
-      source = outer;
-      source' = outer';
-      sink = sink;
-      sink' = sink;
-      disks = map g.D.Mdisk.meaning c.args.disks.now.items;
-      disks' = map g.D.Mdisk.meaning c.replace-taken.new.dest.items;
-      history = c.add_main.new.history;
-    } in
-    starved_ends c.args.form c.args.grain source source call refl refl refl (ap (λ (h : HistoryState). h.entries) c.in-Ok.ensures.ok) (inl (main_told (map g.D.Mdisk.meaning c.args.disks.now.items) c.add_main.new.history c.in-Ok.ensures.ok))
+returns-in-Err-new-clause-ends g c =
+    named_alone c.args.form c.args.grain (g.S.Source.meaning c.args.source.now) (g.K.Sink.meaning c.args.sink.now) (map g.D.Mdisk.meaning c.args.disks.now.items)
+    (map g.D.Mdisk.meaning c.replace-taken.new.dest.items) c.add_main.new.history c.in-Ok.ensures.ok
 
 -- The store has the disks that were handed in.
 pub run_store-requires-clause-stands : goal.run_store-requires-clause-stands

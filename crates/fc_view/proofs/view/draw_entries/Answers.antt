@@ -1,8 +1,7 @@
 -- Entry by entry, and how it ends.
-use Rattle.std.proofs.Common.{List, Option, length, drop, sym, ap, subst, arith}
+use Rattle.std.proofs.Common.{◌-◌, List, Option, length, drop, take, sym, ap, subst, arith}
 use Rattle.std.proofs.lemmas.List.{length-drop, take_rest}
 use Rattle.fc_drawing.specs.Drawn.{Drawn}
-use Rattle.fc_view.specs.Behind.{IsNextDrawn}
 use Rattle.fc_view.specs.Views.{EndsAs}
 use Rattle.fc_view.proofs.Ending.{IsSoFar, from_place, next_some, so_far_first, so_far_more, viewed, viewed_all, want_viewed}
 use Rattle.fc_view.proofs.view.draw_entries.Goals as goal
@@ -14,29 +13,17 @@ loop-place-init g c =
 
 pub loop-place-preserved : goal.loop-place-preserved
 loop-place-preserved g c =
-    let header = c.args.header.now in
-    let bytes = c.args.bytes.now in
-    let place = c.loop-place.place in
-    let count = c.in-Ok-Drawn.count in
-    let new = c.draw_next.new.behind in
-    let now = g.C.Canvas.drawn c.loop-place.canvas in
-    let next = g.C.Canvas.drawn c.draw_next.new.canvas in
-    so_far_more header c.args.at bytes place count c.loop-place.behind new (g.C.Canvas.drawn c.args.canvas.now) now next c.loop-place.invariant
-    (from_place bytes place (λ l. IsNextDrawn header c.args.at c.loop-place.behind l count new now next) (rw c.in-Ok-Drawn.field-0-is at c.in-Ok-Drawn.ensures.next))
+    so_far_more c.args.header.now c.args.at c.args.bytes.now c.loop-place.place c.in-Ok-Drawn.count c.loop-place.behind c.draw_next.new.behind
+    (g.C.Canvas.drawn c.args.canvas.now) (g.C.Canvas.drawn c.loop-place.canvas) (g.C.Canvas.drawn c.draw_next.new.canvas) c.loop-place.invariant
+    (rw c.in-Ok-Drawn.field-0-is at c.in-Ok-Drawn.ensures.next)
 
 pub loop-place-smaller : goal.loop-place-smaller
 loop-place-smaller g c =
-    let header = c.args.header.now in
-    let bytes = c.args.bytes.now in
-    let place = c.loop-place.place in
-    let count = c.in-Ok-Drawn.count in
-    let new = c.draw_next.new.behind in
-    let now = g.C.Canvas.drawn c.loop-place.canvas in
-    let next = g.C.Canvas.drawn c.draw_next.new.canvas in
     omega (
       arith,
-      next_some header c.args.at (drop place bytes) count c.loop-place.behind new now next
-          (from_place bytes place (λ l. IsNextDrawn header c.args.at c.loop-place.behind l count new now next) (rw c.in-Ok-Drawn.field-0-is at c.in-Ok-Drawn.ensures.next)),
+      next_some c.args.header.now c.args.at (take (length c.args.bytes.now - c.loop-place.place) (drop c.loop-place.place c.args.bytes.now)) c.in-Ok-Drawn.count
+          c.loop-place.behind c.draw_next.new.behind (g.C.Canvas.drawn c.loop-place.canvas) (g.C.Canvas.drawn c.draw_next.new.canvas)
+          (rw c.in-Ok-Drawn.field-0-is at c.in-Ok-Drawn.ensures.next),
       c.loop-place-test.true,
     )
 

@@ -1,6 +1,6 @@
 -- The last entry is followed.
-use Rattle.std.proofs.Common.{◌≡◌, ℕ, ◌-◌, take, inl, inr, arith}
-use Rattle.fc_view.proofs.Following.{followed_as, last_is, last_split}
+use Rattle.std.proofs.Common.{ℕ, ◌-◌, take, inl, inr, arith}
+use Rattle.fc_view.proofs.Following.{followed_last, last_split}
 use Rattle.fc_view.proofs.behind.Behind.go_on.Goals as goal
 
 pub follow-requires : goal.follow-requires
@@ -13,10 +13,8 @@ follow-requires c =
 pub returns-then-follows_alone-clause-followed : goal.returns-then-follows_alone-clause-followed
 returns-then-follows_alone-clause-followed c = λ before entry split.
     let alone = c.follows_alone.ensures c.if-follows_alone.true in
-    let last : c.entry-entry.result.now ≡ entry =
-    last_is c.args.self.now.progress.history.entries before (c.len.result - 1) c.entry-entry.result.now entry (omega (arith, c.len.ensures, c.requires.some))
-    c.entry-entry.ensures split in
-    followed_as c.args.size c.args.ways c.entry-entry.result.now entry c.args.self.now _ _ last
+    followed_last c.args.size c.args.ways c.args.self.now.progress.history.entries before (c.len.result - 1) c.entry-entry.result.now entry c.args.self.now _ _
+    (omega (arith, c.len.ensures, c.requires.some)) c.entry-entry.ensures split
     (record {
       origins_are = c.in_ok-follow.ensures;
       sources_are = c.in_ok-step.ensures.sources;
@@ -25,10 +23,8 @@ returns-then-follows_alone-clause-followed c = λ before entry split.
 
 pub returns-clause-followed : goal.returns-clause-followed
 returns-clause-followed c = λ before entry split.
-    let last : c.entry-entry.result.now ≡ entry =
-    last_is c.args.self.now.progress.history.entries before (c.len.result - 1) c.entry-entry.result.now entry (omega (arith, c.len.ensures, c.requires.some))
-    c.entry-entry.ensures split in
-    followed_as c.args.size c.args.ways c.entry-entry.result.now entry c.args.self.now _ _ last
+    followed_last c.args.size c.args.ways c.args.self.now.progress.history.entries before (c.len.result - 1) c.entry-entry.result.now entry c.args.self.now _ _
+    (omega (arith, c.len.ensures, c.requires.some)) c.entry-entry.ensures split
     (record {
       origins_are = c.in_ok-follow.ensures;
       sources_are = c.in_ok-step.ensures.sources;
