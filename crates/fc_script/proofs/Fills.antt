@@ -77,7 +77,7 @@ module _ (grain : GrainSize) (w : Whole) where
   saved_idle true work none =
       let le : nat_le (grain_kib grain) (work.credit + grain_kib grain) ≡ true = le-leb (grain_kib grain) (work.credit + grain_kib grain) (omega arith) in
       let idle : next_grain grain w (before_pay grain true work) ≡ None = none_there (before_pay grain true work) (next_grain grain w (before_pay grain true work))
-          (ap (λ b. cond b (option_map {U = Work × GrainNo} (λ h. (before_pay grain true work, h)) (next_grain grain w (before_pay grain true work))) None) (sym le) ∙ none) in
+      (ap (λ b. cond b (option_map {U = Work × GrainNo} (λ h. (before_pay grain true work, h)) (next_grain grain w (before_pay grain true work))) None) (sym le) ∙ none) in
       ap (λ (o : Option GrainNo). record work { credit = cond (is_some o) (work.credit + grain_kib grain) 0 }) idle
       ∙ sym (ap (λ (o : Option GrainNo). record work { credit = cond (is_some o) work.credit 0 }) (sym (same_grain true work) ∙ idle))
     where

@@ -31,7 +31,7 @@ use Rattle.fc_script.specs.declared.script.Script.TheVariants.{Over, Unread, Com
 use Rattle.fc_stands.specs.Store.{StandsFor, StoreView}
 
 -- Where nothing is asked there is no answer.
-nothing : Option (ℕ × Request)
+abbrev nothing : Option (ℕ × Request)
 nothing = None
 
 no_asked : (asked : ℕ × Request) → nothing ≡ Some asked → ⊥

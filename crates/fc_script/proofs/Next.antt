@@ -35,7 +35,7 @@ use Rattle.fc_script.proofs.Fills.{fill_is, pass_over}
 the_same : (a b : Asked) → Some a ≡ Some b → a ≡ b
 the_same a b e = cc e
 
-none_asked : Option Asked
+abbrev none_asked : Option Asked
 none_asked = None
 
 no_other : (a : Asked) → none_asked ≡ Some a → ⊥

@@ -1,9 +1,12 @@
 -- A line answered request by request: one request more, and an end.
-use Rattle.std.proofs.Common.{◌≡◌, ℕ, ◌+◌, ◌≤◌, List, [], ◌∷◌, ◌++◌, length, Option, Some, None, Result, Ok, Err, refl, sym, ◌∙◌, ap, subst, arith}
-use Rattle.std.proofs.lemmas.List.{append-nil}
+use Rattle.std.proofs.Common.{◌≡◌, ℕ, ◌+◌, ◌≤◌, List, [], ◌∷◌, ◌++◌, length, get_or, slice_get, Option, Some, None, Result, Ok, Err, OnOk, refl, sym, ◌∙◌, ap, subst, arith}
+use Rattle.std.proofs.Math.Seq.{get_or-append_seam}
+use Rattle.std.proofs.lemmas.List.{append-nil, length-append}
+use Rattle.std.proofs.lemmas.Option.{get_or_from_slice_get}
 use Rattle.fc_agenda.specs.Goes.{Goes, stays, answers}
 use Rattle.fc_base.specs.Tables.{Tables}
 use Rattle.fc_base.specs.declared.command.Line.{Line}
+use Rattle.fc_base.specs.declared.outcome.NoMemory.{NoMemory as OutOfMemory}
 use Rattle.fc_base.specs.declared.request.Reply.{Reply}
 use Rattle.fc_base.specs.declared.request.Request.{Request}
 use Rattle.fc_base.specs.declared.size.GrainSize.{GrainSize}
@@ -76,6 +79,24 @@ pub stopped_any : (A : Type 0) (stop : Stop) (Says : A → Reply → Type 0) (St
     Logged {A = A} (Err stop) Says Stands grain w request x y → Logged {A = Unit {0}} (Err stop) anything Stands grain w request x y
 stopped_any A LogFull Says Stands grain w request x y stopped = stopped
 stopped_any A NoMemory Says Stands grain w request x y stopped = stopped
+
+-- ---- the last entry
+
+last_is : (entries before : List Entry) (last entry : Entry) (n : ℕ) → entries ≡ before ++ last ∷ [] → n + 1 ≡ length entries → slice_get entries n ≡ Some entry → entry ≡ last
+last_is entries before last entry n is count got =
+    let at : n ≡ length before = omega (arith, count, ap length is, length-append before (last ∷ [])) in
+    sym (get_or_from_slice_get entries n entry entry got)
+    ∙ ap (λ (es : List Entry). get_or es n entry) is
+    ∙ ap (λ (k : ℕ). get_or (before ++ last ∷ []) k entry) at
+    ∙ get_or-append_seam before last [] entry
+
+pub behind_last : (result : Result (Unit {0}) OutOfMemory) (s : StoreView) (old new : Script) (entries : List Entry) (last : Entry) (n : ℕ) → n + 1 ≡ length entries → slice_get entries n ≡ Some last →
+    OnOk result ((w : Whole) (v : Whole) → IsAnswer s.control.grain old w last v → StandsFor s v → IsLeft s.control.grain old w last v new) →
+    OnOk result ((before : List Entry) (entry : Entry) (w v : Whole) → entries ≡ before ++ entry ∷ [] → IsAnswer s.control.grain old w entry v → StandsFor s v → IsLeft s.control.grain old w entry v new)
+behind_last (Err e) s old new entries last n count got behind = tt
+behind_last (Ok done) s old new entries last n count got behind = λ before entry w v is.
+    let P : Entry → Type 0 = λ e. IsAnswer s.control.grain old w e v → StandsFor s v → IsLeft s.control.grain old w e v new in
+    subst P (last_is entries before entry last n is count got) (behind w v)
 
 -- ---- one request
 
@@ -152,7 +173,7 @@ module _ {old mid : StoreView} {before between : HistoryState} {begun script ask
         let left : Left grain = subst Left same left_by in
         let is_left : (m : Whole) (m_told : IsTold (StandsFor mid) between m) → IsLeft grain asking m (logged m m_told).entry (logged m m_told).next then =
         λ m m_told. left between.entries (logged m m_told).entry m (logged m m_told).next (ap (λ (h : HistoryState). h.entries) (logged m m_told).pushed)
-            record { asked = the_entry m m_told; right = (logged m m_told).right } (logged m m_told).told.0 in
+        record { asked = the_entry m m_told; right = (logged m m_told).right } (logged m m_told).told.0 in
         let l = logged comes.stands.0 comes.stands.1 in
         let Fit : GrainSize → Tables → Type 0 = λ s t. Fits s t then in
         record {
@@ -192,7 +213,7 @@ module _ {old mid : StoreView} {before between : HistoryState} {begun script : S
       let P : GrainSize → Type 0 = λ s. Brought {A = Unit {0}} (Ok tt) (StandsFor mid) (session_rules s read) (agenda_of s begun) (agenda_of s script) w before between in
       let Q : GrainSize → Type 0 = λ s. Brought {A = Unit {0}} (Ok tt) (StandsFor mid) (session_rules s read) (agenda_of s begun) (Session []) w before between in
       let on : (m : Whole) → StandsFor mid m → GoesOn grain m (agenda_of grain script) (Session []) = λ m stands.
-          subst (λ (a : Agenda). GoesOn grain m (agenda_of grain script) a) (next.next m stands) (next.goes m stands) in
+      subst (λ (a : Agenda). GoesOn grain m (agenda_of grain script) a) (next.next m stands) (next.goes m stands) in
       subst Q comes.grain
       (goes_further (StandsFor mid) grain read w (agenda_of grain begun) (agenda_of grain script) (Session []) before between
       (subst P (sym comes.grain) (comes.brought read w told)) on)

@@ -147,11 +147,7 @@ fn ask_fill(passage: &Passage, grain: GrainNo) -> Option<Asked>
 }
 
 /// What is left behind a command that lets so many seconds pass if it is done: they, or nothing.
-fn behind_command<D: Mdisk>(
-    store: &Store<D>,
-    seconds: u32,
-    done: bool,
-) -> Result<Script, NoMemory>
+fn behind_command<D: Mdisk>(store: &Store<D>, seconds: u32, done: bool) -> Result<Script, NoMemory>
     ensures goes { IfOk result (λ script. (w : Whole) → StandsFor store.now w →
         GoesOn store.now.control.grain w (cond done (SecondsAgenda (seconds_begun seconds (all_work w.books)) []) (Session [])) (agenda_of store.now.control.grain script)) }
     ensures fits { IfOk result (λ script. (grain : GrainSize) (t : Tables) → Fits grain t script) }

@@ -41,12 +41,7 @@ impl<D: Mdisk> Store<D> {
     }
 
     /// Copies or cleans the grain, which is the work's next, and logs it: whether it was moved.
-    pub fn fill(
-        &mut self,
-        work: &Work,
-        grain: GrainNo,
-        history: &mut History,
-    ) -> Result<bool, Stop>
+    pub fn fill(&mut self, work: &Work, grain: GrainNo, history: &mut History) -> Result<bool, Stop>
         requires stands { TellsSome (StandsFor self.old) history.old }
         requires room { length history.old.entries ≤ MAX_ENTRIES }
         requires next { (w : Whole) → StandsFor self.old w → next_grain self.old.control.grain w work.now ≡ GhostSome grain }

@@ -1,5 +1,5 @@
 -- Script by script.
-use Rattle.std.proofs.Common.{◌≡◌, Option, Some, None, subst, sym}
+use Rattle.std.proofs.Common.{◌≡◌, Option, Some, None, refl, subst, sym}
 use Rattle.fc_base.specs.declared.fault.Refusal.TheVariants.{Words}
 use Rattle.fc_base.specs.declared.ids.GrainNo.{GrainNo}
 use Rattle.fc_base.specs.declared.request.Request.TheVariants.{Unread as UnreadAsked}
@@ -17,18 +17,18 @@ returns-in-Over g c = next_as c.args.store.now c.args.self.now _ Over Over None 
 pub returns-in-Unread : goal.returns-in-Unread
 returns-in-Unread g c =
     next_as c.args.store.now c.args.self.now _ (Unread c.in-Unread.fault) (Unread c.in-Unread.fault) (Some (Refused (UnreadAsked c.in-Unread.fault) (Words c.in-Unread.fault)))
-    c.in-Unread.is (cc c.in-Unread.is) (unread_next c.args.store.now c.in-Unread.fault)
+    c.in-Unread.is refl (unread_next c.args.store.now c.in-Unread.fault)
 
 pub returns-in-Ok : goal.returns-in-Ok
 returns-in-Ok g c =
-    next_as c.args.store.now c.args.self.now _ (Alone c.in-Command.command) (Alone c.in-Command.command) (Some c.in-Ok.asked) c.in-Command.is (cc c.in-Command.is)
+    next_as c.args.store.now c.args.self.now _ (Alone c.in-Command.command) (Alone c.in-Command.command) (Some c.in-Ok.asked) c.in-Command.is refl
     (alone_next c.args.store.now c.in-Command.command c.in-Ok.asked
     (subst (λ (x : Script). Fits c.args.store.now.control.grain c.args.store.now.control.tables x) c.in-Command.is c.requires.fits) c.in-Ok.ensures.request c.in-Ok.ensures.can c.in-Ok.ensures.no_fill)
 
 pub returns-in-Parts : goal.returns-in-Parts
 returns-in-Parts g c =
     let script : Script = Parts c.in-Parts.access c.in-Parts.volume c.in-Parts.block c.in-Parts.count c.in-Parts.next c.in-Parts.last in
-    next_as c.args.store.now c.args.self.now _ script script (Some (Part c.in-Parts.access c.in-Parts.volume c.in-Parts.block c.in-Parts.count c.in-Parts.next)) c.in-Parts.is (cc c.in-Parts.is)
+    next_as c.args.store.now c.args.self.now _ script script (Some (Part c.in-Parts.access c.in-Parts.volume c.in-Parts.block c.in-Parts.count c.in-Parts.next)) c.in-Parts.is refl
     (parts_next c.args.store.now c.in-Parts.access c.in-Parts.volume c.in-Parts.block c.in-Parts.count c.in-Parts.next c.in-Parts.last
     (subst (λ (x : Script). Fits c.args.store.now.control.grain c.args.store.now.control.tables x) c.in-Parts.is c.requires.fits))
 
