@@ -6,6 +6,7 @@ use Rattle.std.proofs.lemmas.Option.{get_or_from_slice_get}
 use Rattle.fc_agenda.specs.Goes.{Goes, stays, answers}
 use Rattle.fc_base.specs.Tables.{Tables}
 use Rattle.fc_base.specs.declared.command.Line.{Line}
+use Rattle.fc_base.specs.declared.fault.WordFault.{WordFault}
 use Rattle.fc_base.specs.declared.outcome.NoMemory.{NoMemory as OutOfMemory}
 use Rattle.fc_base.specs.declared.request.Reply.{Reply}
 use Rattle.fc_base.specs.declared.request.Request.{Request}
@@ -65,8 +66,8 @@ goes_further Stands grain read w a b c x y first goes =
 is_asked : (grain : GrainSize) (a : Agenda) (w : Whole) (request : Request) (entry : Entry) → entry.actor ≡ 0 → entry.request ≡ request → Asks grain a w (0, request) →
     Asks grain a w (entry.actor, entry.request)
 is_asked grain a w request entry by_main asked asks =
-    let Asked : ℕ × Request → Type 0 = λ wanted. Asks grain a w wanted in
-    subst Asked (ap (λ (n : ℕ). (n, request)) (sym by_main) ∙ ap (λ (r : Request). (entry.actor, r)) (sym asked)) asks
+    let P : ℕ × Request → Type 0 = λ wanted. Asks grain a w wanted in
+    subst P (ap (λ (n : ℕ). (n, request)) (sym by_main) ∙ ap (λ (r : Request). (entry.actor, r)) (sym asked)) asks
 
 -- ---- an entry that was logged, whatever its reply
 
@@ -155,11 +156,7 @@ module _ {old mid : StoreView} {before between : HistoryState} {begun script ask
     pub one_longer : length after.entries ≡ length between.entries + 1
     one_longer =
         let l = logged comes.stands.0 comes.stands.1 in
-        ap (λ (h : HistoryState). length h.entries) l.pushed ∙ longer between.entries l.entry
-      where
-        longer : (es : List Entry) (e : Entry) → length (es ++ e ∷ []) ≡ length es + 1
-        longer [] e = refl
-        longer (x ∷ es) e = omega (arith, longer es e)
+        ap (λ (h : HistoryState). length h.entries) l.pushed ∙ length-append between.entries (l.entry ∷ [])
 
     -- And the script went on behind it.
     pub comes_then : (then : Script) → new.control.grain ≡ mid.control.grain → disks_in new.lanes ≡ disks_in mid.lanes → (QuietBy between.entries mid → QuietBy after.entries new) →
@@ -237,7 +234,7 @@ line_answered result old Stands begun line before after goes brought read bytes 
     let grain : GrainSize = old.control.grain in
     brought_all (Unit {0}) result Stands grain read w (Session (single bytes ∷ [])) before after
     (passed_before (Unit {0}) result Stands (session_rules grain read) w (Session (single bytes ∷ [])) (line_read grain w (Ok line) []) (Session []) before after
-    (ap (λ l. Some (line_read grain w l [])) is)
+    (ap (λ (l : Result Line WordFault). Some (line_read grain w l [])) is)
     (then_brought (Unit {0}) (Unit {0}) result tt (StandsFor old) Stands (session_rules grain read) w (line_read grain w (Ok line) []) (agenda_of grain begun) (Session []) before before after
     (w, told, record { more = []; entries = sym (append-nil before.entries); are = goes w told.0 read })
     (λ m m_told. brought read m m_told)))
