@@ -77,7 +77,7 @@ fn slot_told<D: Mdisk>(
 }
 
 /// The chain of the slots from a place on, up to another.
-fn chain_told<D: Mdisk>(
+pub(crate) fn chain_told<D: Mdisk>(
     alloc: Global,
     lanes: &[Lane<D>],
     slots: &[Slot],
@@ -100,7 +100,7 @@ fn chain_told<D: Mdisk>(
 }
 
 /// The place behind the last slot of the chain that begins at a place.
-fn end_of_chain(slots: &[Slot], from: usize) -> usize
+pub(crate) fn end_of_chain(slots: &[Slot], from: usize) -> usize
     requires { from < length slots.now }
     ensures some { from < result }
     ensures within { result ≤ length slots.now }

@@ -13,5 +13,7 @@ mod image;
 mod lost;
 mod rows;
 mod tables;
+mod without;
 
 pub use image::image_of;
+pub use without::image_without;

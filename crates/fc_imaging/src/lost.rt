@@ -14,7 +14,7 @@ use fc_mdisk::mdisk::Mdisk;
 use std::alloc::Global;
 
 /// The lost grains of a volume.
-fn row_told<D: Mdisk>(
+pub(crate) fn row_told<D: Mdisk>(
     alloc: Global,
     lanes: &[Lane<D>],
     volume: &Volume,

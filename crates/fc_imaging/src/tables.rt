@@ -10,7 +10,7 @@ use fc_image::{GroupList, MappingList, VolumeList};
 use std::alloc::Global;
 
 /// The same volume again.
-fn copy_volume(alloc: Global, volume: &Volume) -> Result<Volume, NoMemory>
+pub(crate) fn copy_volume(alloc: Global, volume: &Volume) -> Result<Volume, NoMemory>
     ensures { IfOk result (λ copy. copy ≡ volume.now) }
 {
     Ok(Volume {
