@@ -48,7 +48,7 @@ use std::marker::Model;
 pub struct Cascade {
     lane: u8,
     lanes: u8,
-    table: SlotTable,
+    pub(crate) table: SlotTable,
     tallies: Tallies,
     directory: Directory,
     room: usize,
@@ -100,7 +100,7 @@ impl Cascade {
     }
 
     /// The slots, with what a plan rests on.
-    fn slots(&self) -> &[Slot]
+    pub(crate) fn slots(&self) -> &[Slot]
         ensures value { result.now ≡ self.now.sheet.slots }
         ensures plannable { Plannable result.now }
         ensures together { IsContiguous result.now }

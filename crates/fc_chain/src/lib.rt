@@ -18,10 +18,11 @@
 //! counts that are kept of each slot (`fc_tallies`). A move or a write changes the slots of its volume alone, at the places that
 //! the directory lists, and counts for them and one holder. No clause speaks of this.
 //!
-//! To read: `plan` (what must move) and `cascade`, which has the calls. The words are in `specs/`: `Chains`, `Planning` and `Room`.
+//! To read: `plan` (what must move), `cascade`, which has the calls, and `listing` (all slots). The words are in `specs/`: `Chains`, `Planning` and `Room`.
 #![tactic(auto)]
 
 mod cascade;
+mod listing;
 mod plan;
 
 pub use cascade::Cascade;

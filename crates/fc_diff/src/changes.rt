@@ -9,7 +9,7 @@ ghost use Rattle.fc_diff.specs.State.{with_ready, after_beginning, CanBegin};
 ghost use Rattle.fc_diff.specs.Told.{row_after, FitsRow};
 
 use crate::table::Table;
-use crate::tracked::Event;
+use crate::tracked::{Event, Tracked};
 use fc_base::ids::{MapId, VolId};
 use fc_base::outcome::NoMemory;
 use fc_bits::GrainSet;
@@ -148,6 +148,13 @@ impl Changes {
             Some(place) => self.table.same(place).count(),
             None => 0,
         }
+    }
+
+    /// The mappings that are followed, in the order of their first triggers.
+    pub fn rows(&self) -> &[Tracked]
+        ensures { result.now ≡ self.now.rows }
+    {
+        self.table.first(self.followed)
     }
 
     /// Whether no mapping is followed: then there is nothing to note.

@@ -22,6 +22,7 @@ mod table;
 mod tracked;
 
 pub use changes::Changes;
+pub use tracked::Tracked;
 
 /// The law of restart sets. It does nothing; a caller learns the law.
 pub fn restart_law()

@@ -102,6 +102,14 @@ impl Table {
             .all(|row| row.same().len() == grains)
     }
 
+    /// The first so many rows.
+    pub(crate) fn first(&self, first: usize) -> &[Tracked]
+        requires { first ≤ length self.now }
+        ensures { result.now ≡ take first self.now }
+    {
+        &self.rows[..first]
+    }
+
     /// At which grains the volumes of the mapping with this row are the same.
     pub(crate) fn same(&self, place: usize) -> &GrainSet
         requires { place < length self.now }

@@ -25,7 +25,7 @@ pub(crate) enum Event<'a> {
 
 /// A mapping that is followed, or stands ready to be.
 #[derive(Drop)]
-pub(crate) struct Tracked {
+pub struct Tracked {
     map: u32,
     source: u32,
     target: u32,
@@ -76,28 +76,35 @@ impl Tracked {
     }
 
     /// Its id.
-    pub(crate) fn map(&self) -> u32
+    pub fn map(&self) -> u32
         ensures { result ≡ self.now.map }
     {
         self.map
     }
 
     /// Its source.
-    pub(crate) fn source(&self) -> u32
+    pub fn source(&self) -> u32
         ensures { result ≡ self.now.source }
     {
         self.source
     }
 
     /// Its target.
-    pub(crate) fn target(&self) -> u32
+    pub fn target(&self) -> u32
         ensures { result ≡ self.now.target }
     {
         self.target
     }
 
+    /// The target of the last trigger that joined its volumes; its own before the first one.
+    pub fn into(&self) -> u32
+        ensures { result ≡ self.now.into }
+    {
+        self.into
+    }
+
     /// The grains at which both volumes show the same.
-    pub(crate) fn same(&self) -> &GrainSet
+    pub fn same(&self) -> &GrainSet
         ensures { result.now ≡ self.now.same }
     {
         &self.same

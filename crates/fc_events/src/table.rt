@@ -72,6 +72,13 @@ impl SlotTable {
         self.width
     }
 
+    /// How many births were given: the birth of the next slot.
+    pub fn births(&self) -> u64
+        ensures { result ≡ self.now.sheet.births }
+    {
+        self.births
+    }
+
     /// The slots, none of which has more grains than `width`.
     pub fn as_slice(&self) -> &[Slot]
         ensures value { result.now ≡ self.now.sheet.slots }

@@ -11,4 +11,5 @@ pub mod Moving
 pub mod Quiet
 pub mod Rooms
 pub mod Whole
+pub mod Unreadable
 pub mod Handing

@@ -97,6 +97,16 @@ impl<D: Mdisk> Grains<D> {
         self.volumes[place_of(&self.volumes, volume)].is_lost(place)
     }
 
+    /// Whether a grain of a volume can't be read: it is lost, or isn't there.
+    pub fn is_unreadable(&self, volume: VolId, place: u32) -> bool
+        ensures { result ≡ is_lost (stored self.now.volumes volume.0 place) }
+    {
+        match find_place(&self.volumes, volume) {
+            Some(at) => self.volumes[at].is_unreadable(place),
+            None => true,
+        }
+    }
+
     /// How many disks of a kind are left for new volumes.
     pub fn pool(&self, kind: DiskKind) -> u32
         ensures { result ≡ of_kind kind self.now.pool }

@@ -72,6 +72,13 @@ impl<D: Mdisk> VolumeDisk<D> {
         self.lost.has(place)
     }
 
+    /// Whether the grain is lost, or isn't there.
+    pub(crate) fn is_unreadable(&self, place: u32) -> bool
+        ensures { result ≡ slice_index_or self.now.lost place true }
+    {
+        place >= self.lost.len() || self.lost.has(place)
+    }
+
     /// The calls of the disk that failed.
     pub(crate) fn faults(&self) -> u64
         ensures { result ≡ self.now.disk.faults }

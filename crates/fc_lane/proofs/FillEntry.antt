@@ -16,13 +16,13 @@ use Rattle.fc_entry.specs.declared.entry.Past.{Past}
 use Rattle.fc_entry.specs.declared.entry.Past.TheVariants.{Step}
 use Rattle.fc_grains.specs.Grains.{GrainsState}
 use Rattle.fc_grains.specs.Volumes.{rooms_of}
-use Rattle.fc_lane.specs.Entering.{HasEntered, HasFilled, IsFill}
+use Rattle.fc_lane.specs.Entering.{HasEntered, HasFilled, SameBeside}
 use Rattle.fc_lane.specs.Workers.{IsFilled, ask_of, filled_slot}
 use Rattle.fc_lane.specs.declared.worker.Worker.{Worker}
 use Rattle.fc_lane.specs.declared.worker.Worker.TheVariants.{Copier, Cleaner}
 use Rattle.fc_steps.specs.Asking.{done_of, reply_in, request_of, steps_entry}
 use Rattle.fc_lane.specs.Lane.{LaneView, IsLaneOf, of}
-use Rattle.fc_steps.specs.StepsEnd.{StepsEnd, torn_in}
+use Rattle.fc_steps.specs.StepsEnd.{StepsEnd, StepsStand, torn_in}
 use Rattle.fc_steps.specs.declared.stop.Stop.{Stop}
 use Rattle.fc_steps.specs.declared.stop.Stop.TheVariants.{Failed, NoMemory}
 use Rattle.fc_steps.proofs.Ending.{entry_done, entry_failed, entry_refused}
@@ -91,16 +91,21 @@ fill_ended spot k lane number actor request map grain old new moves calls (Some 
 fill_ended spot k lane number actor request map grain old new moves calls (Some NoMemory) at e =
     entry_refused lane number actor request (Moved map grain) old new spot (steps_of_fill spot k) moves calls e
 
-module _ (v new : LaneView) (slot : SlotId) (m : MapId) (grain : GrainNo) (number actor : ℕ) (moves : List Move) (calls : ℕ) (stop : Option Stop) (f : HasFilled v slot.0 grain.0 moves calls stop new) where
+module _ (v new : LaneView) (m : MapId) (grain : GrainNo) (number actor : ℕ) (moves : List Move) (calls : ℕ) (stop : Option Stop) (b : SameBeside v new) (room : new.plan_room ≡ v.plan_room) where
   abbrev at : ℕ
   at = place_of (of v) grain.0
 
+  -- the steps of a fill of the slot at place `k` ended so
+  abbrev Ends : LaneTold → ℕ → Type 0
+  Ends told k =
+      StepsEnd (spot_at (of v) told grain.0) (steps_of_fill (spot_at (of v) told grain.0) k) moves calls stop v.grains new.grains
+      × StepsStand (of v) told None moves calls (torn_in stop) v.chains v.grains new.chains new.grains
+
   -- for whatever fits
-  fill_right : (request : Request) (entry : Entry) (told : LaneTold) (k : ℕ) → IsLaneOf v told → IsFill (of v) told slot.0 grain.0 k →
+  fill_right : (request : Request) (entry : Entry) (told : LaneTold) (k : ℕ) → IsLaneOf v told → Ends told k →
       (FillAnswers (spot_at (of v) told grain.0) m.0 k entry entry.reply → LaneAnswers (of v) told request entry) → record_of entry ≡ Step number None moves (torn_in stop) new.grains.faults calls →
       entry ≡ steps_entry v.lane number actor request (Moved m grain) v.grains.faults new.grains.faults moves calls stop → IsRightInLane (of v) told entry × IsLaneOf new (told_past (of v) told (record_of entry))
-  fill_right request entry told k s fill answers told_is is =
-      let x = f.ends told k s fill in
+  fill_right request entry told k s x answers told_is is =
       let plain : Entry = steps_entry v.lane number actor request (Moved m grain) v.grains.faults new.grains.faults moves calls stop in
       let filled : FillAnswers (spot_at (of v) told grain.0) m.0 k plain plain.reply = fill_ended (spot_at (of v) told grain.0) k v.lane number actor request m grain v.grains new.grains moves calls stop refl x.0 in
       let right : LaneAnswers (of v) told request entry = answers (subst (λ (z : Entry). FillAnswers (spot_at (of v) told grain.0) m.0 k z z.reply) (sym is) filled) in (
@@ -111,41 +116,49 @@ module _ (v new : LaneView) (slot : SlotId) (m : MapId) (grain : GrainNo) (numbe
           no_effects = ap (λ (e : Entry). e.effects) is;
           answers = subst (λ (r : Request). LaneAnswers (of v) told r entry) (sym (ap (λ (e : Entry). e.request) is)) right;
         },
-        subst (λ (p : Past). IsLaneOf new (told_past (of v) told p)) (sym told_is) (lane_after v new told number None moves calls (torn_in stop) s f.beside x.1),
+        subst (λ (p : Past). IsLaneOf new (told_past (of v) told p)) (sym told_is) (lane_after v new told number None moves calls (torn_in stop) s b x.1),
       )
 
-  entered : (Fits : LaneTold → Type 0) (request : Request) (entry : Entry) → (told : LaneTold) × (k : ℕ) × IsLaneOf v told × IsFill (of v) told slot.0 grain.0 k →
+  entered : (Fits : LaneTold → Type 0) (request : Request) (entry : Entry) (told : LaneTold) (k : ℕ) → Ends told k →
       ((told : LaneTold) → IsLaneOf v told → Fits told → IsRightInLane (of v) told entry × IsLaneOf new (told_past (of v) told (record_of entry))) →
       ((told : LaneTold) → IsLaneOf v told → Fits told → rooms_of new.grains.volumes ≡ rooms_entry (of v) told.picture (rooms_of v.grains.volumes) entry) →
       entry ≡ steps_entry v.lane number actor request (Moved m grain) v.grains.faults new.grains.faults moves calls stop → HasEntered v Fits number actor request entry new
-  entered Fits request entry can right rooms is =
-      let x = f.ends can.0 can.1 can.2 can.3 in
+  entered Fits request entry told k x right rooms is =
       record {
         right = right;
         rooms = rooms;
         asked = record { number_is = ap (λ (e : Entry). e.number) is; actor_is = ap (λ (e : Entry). e.actor) is; request_is = ap (λ (e : Entry). e.request) is };
-        same = same_after v new f.beside x.1.same;
+        same = same_after v new b x.1.same;
         quiet = x.1.same.quiet;
-        disks = disks_as entry _ v.grains new.grains is (disks_after (spot_at (of v) can.0 grain.0) (steps_of_fill (spot_at (of v) can.0 grain.0) can.1) (of v) can.0 None moves calls stop v.chains new.chains v.grains new.grains x.0 x.1);
-        plan_room = f.plan_room;
-        changes = f.beside.changes;
+        disks = disks_as entry _ v.grains new.grains is (disks_after (spot_at (of v) told grain.0) (steps_of_fill (spot_at (of v) told grain.0) k) (of v) told None moves calls stop v.chains new.chains v.grains new.grains x.0 x.1);
+        plan_room = room;
+        changes = b.changes;
       }
 
-  -- by the worker
-  pub work_entered : (worker : Worker) (entry : Entry) → IsFilled v worker m grain slot.0 → (told : LaneTold) × IsLaneOf v told × IsSome (filled_slot worker told.sheet.slots m.0 at) →
+  -- by the worker, where for whatever is told and fits its steps ended so
+  pub fill_entered : (worker : Worker) (entry : Entry) → (told : LaneTold) × IsLaneOf v told × IsSome (filled_slot worker told.sheet.slots m.0 at) →
+      (slot : (told : LaneTold) → IsLaneOf v told → IsSome (filled_slot worker told.sheet.slots m.0 at) → ℕ) →
+      ((told : LaneTold) (s : IsLaneOf v told) (some : IsSome (filled_slot worker told.sheet.slots m.0 at)) → filled_slot worker told.sheet.slots m.0 at ≡ Some (slot told s some)) →
+      ((told : LaneTold) (s : IsLaneOf v told) (some : IsSome (filled_slot worker told.sheet.slots m.0 at)) → Ends told (slot told s some)) →
       entry ≡ steps_entry v.lane number actor (request_of (ask_of worker m grain)) (done_of (ask_of worker m grain)) v.grains.faults new.grains.faults moves calls stop →
       HasEntered v (λ told. IsSome (filled_slot worker told.sheet.slots m.0 at)) number actor (request_of (ask_of worker m grain)) entry new
-  work_entered worker entry filled can e =
+  fill_entered worker entry can slot slot_is ends e =
       let asked : Request = request_of (ask_of worker m grain) in
       let is : entry ≡ steps_entry v.lane number actor asked (Moved m grain) v.grains.faults new.grains.faults moves calls stop =
       e ∙ ap (λ (r : Reply). steps_entry v.lane number actor asked r v.grains.faults new.grains.faults moves calls stop) (done_moved worker m grain) in
       let told_is : record_of entry ≡ Step number None moves (torn_in stop) new.grains.faults calls =
       ap record_of is ∙ ap (λ (o : Option WritePart). Step number o moves (torn_in stop) new.grains.faults calls) (fill_writes_none worker m grain (reply_in (Moved m grain) stop)) in
-      let x = filled can.0 can.1 can.2 in
-      entered (λ told. IsSome (filled_slot worker told.sheet.slots m.0 at)) asked entry (can.0, x.0, can.1, x.2)
+      entered (λ told. IsSome (filled_slot worker told.sheet.slots m.0 at)) asked entry can.0 (slot can.0 can.1 can.2) (ends can.0 can.1 can.2)
       (λ told s some.
-      let y = filled told s some in
-      fill_right asked entry told y.0 s y.2 (λ a. fill_answers worker (of v) told m grain entry (subst (λ (o : Option ℕ). MappingFill (of v) told m.0 grain.0 o entry) (sym y.1) a)) told_is is)
-      (λ told s some.
-      let y = filled told s some in
-      room_after v new told number None moves calls (torn_in stop) entry (f.ends told y.0 s y.2).1 told_is) is
+      fill_right asked entry told (slot told s some) s (ends told s some)
+      (λ a. fill_answers worker (of v) told m grain entry (subst (λ (o : Option ℕ). MappingFill (of v) told m.0 grain.0 o entry) (sym (slot_is told s some)) a)) told_is is)
+      (λ told s some. room_after v new told number None moves calls (torn_in stop) entry (ends told s some).1 told_is) is
+
+-- a fill of the slot with this name
+pub work_entered : (v new : LaneView) (slot : SlotId) (m : MapId) (grain : GrainNo) (number actor : ℕ) (moves : List Move) (calls : ℕ) (stop : Option Stop) → HasFilled v slot.0 grain.0 moves calls stop new →
+    (worker : Worker) (entry : Entry) → IsFilled v worker m grain slot.0 → (told : LaneTold) × IsLaneOf v told × IsSome (filled_slot worker told.sheet.slots m.0 (place_of (of v) grain.0)) →
+    entry ≡ steps_entry v.lane number actor (request_of (ask_of worker m grain)) (done_of (ask_of worker m grain)) v.grains.faults new.grains.faults moves calls stop →
+    HasEntered v (λ told. IsSome (filled_slot worker told.sheet.slots m.0 (place_of (of v) grain.0))) number actor (request_of (ask_of worker m grain)) entry new
+work_entered v new slot m grain number actor moves calls stop f worker entry filled can e =
+    fill_entered v new m grain number actor moves calls stop f.beside f.plan_room worker entry can
+    (λ told s some. (filled told s some).0) (λ told s some. (filled told s some).1) (λ told s some. f.ends told (filled told s some).0 s (filled told s some).2) e

@@ -14,7 +14,7 @@ use Rattle.fc_lane.specs.Lane.{LaneView, IsLaneOf, IsReady, of}
 use Rattle.fc_steps.specs.StepsEnd.{CanMakeMoves, StepsEnd, StepsStand, torn_in}
 use Rattle.fc_steps.specs.declared.stop.Stop.{Stop}
 use Rattle.fc_lane.proofs.Entering.{stands_at}
-use Rattle.fc_lane.proofs.Room.{count_told, few_moves, moves_fit}
+use Rattle.fc_lane.proofs.Room.{count_told, few_moves, moves_fit, some_room}
 use Rattle.fc_moves.proofs.Filling.{filled}
 use Rattle.fc_moves.proofs.Listing.{reached_root}
 use Rattle.fc_moves.proofs.Members.{not_in_nil}
@@ -67,7 +67,7 @@ module _ (v : LaneView) (slot number place : ℕ) (w : CanFillHere v slot number
       )
 
   module _ (plan : List Move) (plan_is : plan ≡ moves_of_named v.chains.sheet.slots (number / v.chains.lanes) number (birth_place v.chains.sheet.slots slot)) where
-    plan_of : (told' : LaneTold) (k' : ℕ) → IsLaneOf v told' → IsFill (of v) told' slot number k' → plan ≡ map (move_at told'.sheet.slots (number / v.lanes) number) (fill_moves (column told'.sheet.slots (number / v.lanes)) k')
+    pub plan_of : (told' : LaneTold) (k' : ℕ) → IsLaneOf v told' → IsFill (of v) told' slot number k' → plan ≡ map (move_at told'.sheet.slots (number / v.lanes) number) (fill_moves (column told'.sheet.slots (number / v.lanes)) k')
     plan_of told' k' s f =
         let p = s.parts in
         plan_is
@@ -88,7 +88,13 @@ module _ (v : LaneView) (slot number place : ℕ) (w : CanFillHere v slot number
     pub fill_fits : length plan ≤ v.entry_room
     fill_fits = moves_fit v w.ready (length plan) plan_short
 
-    runs : (told' : LaneTold) (k' : ℕ) (s : IsLaneOf v told') → IsFill (of v) told' slot number k' → CanMakeMoves (of v) told' number (fill_moves (column told'.sheet.slots (number / v.lanes)) k') v.chains v.grains
+    pub fill_held : length plan ≤ v.plan_room
+    fill_held = let room = w.ready.plan in let short = plan_short in omega arith
+
+    pub fill_some : 0 < v.entry_room
+    fill_some = some_room v w.ready told k stands fill.live.there fill.live.is_live
+
+    pub runs : (told' : LaneTold) (k' : ℕ) (s : IsLaneOf v told') → IsFill (of v) told' slot number k' → CanMakeMoves (of v) told' number (fill_moves (column told'.sheet.slots (number / v.lanes)) k') v.chains v.grains
     runs told' k' s f = record {
       at = stands_at v told' s;
       of_lane = f.of_lane;

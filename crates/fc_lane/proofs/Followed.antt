@@ -1,15 +1,19 @@
 -- A lane that follows its incremental mappings keeps standing for what it is told, after an entry.
-use Rattle.std.proofs.Common.{◌≡◌, ℕ, sym, ap, subst, ◌∙◌}
+use Rattle.std.proofs.Common.{◌≡◌, ℕ, Option, None, List, [], ◌++◌, fold, sym, ap, subst, ◌∙◌}
 use Rattle.fc_alike.proofs.Lawful.{follow_law_holds}
+use Rattle.fc_base.specs.declared.request.Reply.{Reply}
 use Rattle.fc_base.specs.declared.request.Request.{Request}
+use Rattle.fc_base.specs.declared.request.WritePart.{WritePart}
+use Rattle.fc_changed.specs.Row.{Row, after_note}
 use Rattle.fc_entry.specs.declared.entry.Entry.{Entry}
-use Rattle.fc_follow.specs.Following.{Followed, followed_entry, rows_entry}
-use Rattle.fc_rules.specs.LaneRight.{record_of}
+use Rattle.fc_follow.specs.Following.{Followed, followed_entry, rows_entry, write_notes}
+use Rattle.fc_rules.specs.LaneRight.{done_write, record_of}
 use Rattle.fc_rules.specs.LaneTold.{LaneTold, told_past}
 use Rattle.fc_rules.specs.Rooms.{rooms_entry}
 use Rattle.fc_lane.specs.Entering.{HasEntered, HasFollowed}
 use Rattle.fc_lane.specs.Lane.{LaneView, IsFollowing, IsLaneOf, of}
 use Rattle.fc_lane.proofs.LaneEvents.{of_same}
+use Rattle.fc_steps.specs.Asking.{steps_entry}
 
 -- ---- an entry
 
@@ -39,3 +43,11 @@ module _ (old mid new : LaneView) (Fits : LaneTold → Type 0) (number actor : �
     disks = e.disks;
     plan_room = e.plan_room;
   })
+
+-- an entry for which nothing was done and nothing is to be noted
+pub untouched_followed : (v : LaneView) (Fits : LaneTold → Type 0) (number actor : ℕ) (request : Request) (reply : Reply) (entry : Entry) → HasEntered v Fits number actor request entry v → done_write request reply ≡ None →
+    entry ≡ steps_entry v.lane number actor request reply v.grains.faults v.grains.faults [] 0 None → HasFollowed v Fits number actor request entry v
+untouched_followed v Fits number actor request reply entry e none is =
+    let same : rows_entry (of v) v.changes.rows entry ≡ v.changes.rows =
+    ap (rows_entry (of v) v.changes.rows) is ∙ ap (λ (o : Option WritePart). fold after_note v.changes.rows (write_notes (of v) o ++ [])) none in
+    entry_followed v v v Fits number actor request entry e (ap (λ (rows : List Row). record v { changes = record v.changes { rows = rows } }) (sym same))

@@ -13,3 +13,4 @@ pub mod FillEntry
 pub mod Turns
 pub mod Followed
 pub mod Applying
+pub mod InSteps

@@ -1,9 +1,9 @@
 -- A write of a grain in a lane.
-use Rattle.std.proofs.Common.{◌≡◌, ℕ, ◌<◌, ◌≤◌, ◌/◌, ◌^◌, Bool, true, false, not, Option, None, List, [], length, map, refl, sym, ap, ◌∙◌, arith}
+use Rattle.std.proofs.Common.{◌≡◌, ℕ, ◌<◌, ◌≤◌, ◌/◌, ◌%◌, ◌^◌, Bool, true, false, not, Option, None, IsSome, List, [], length, map, refl, sym, ap, subst, ◌∙◌, arith}
 use Rattle.std.proofs.lemmas.List.{length-map}
 use Rattle.fc_base.specs.Moves.{write_moves}
 use Rattle.fc_base.specs.Plan.{move_at, moves_of_write}
-use Rattle.fc_base.specs.Sheet.{column, live_place}
+use Rattle.fc_base.specs.Sheet.{Sheet, column, live_place}
 use Rattle.fc_base.specs.declared.request.Move.{Move}
 use Rattle.fc_base.specs.declared.ids.MapId.{MapId}
 use Rattle.fc_base.specs.declared.request.Reply.{Reply}
@@ -16,7 +16,7 @@ use Rattle.fc_base.specs.declared.state.MapState.{MapState}
 use Rattle.fc_chain.specs.Planning.{volume_count}
 use Rattle.fc_entry.specs.Picture.{grain_of_block}
 use Rattle.fc_entry.specs.declared.entry.Entry.{Entry}
-use Rattle.fc_steps.specs.WriteStep.{FitsWrite, IsPlannedWrite, spot_of, write_in}
+use Rattle.fc_steps.specs.WriteStep.{FitsWrite, IsPlannedWrite, IsWrite, spot_of, write_in}
 use Rattle.fc_lane.specs.Entering.{HasEntered, SameBeside}
 use Rattle.fc_steps.specs.Asking.{steps_entry}
 use Rattle.fc_lane.specs.Lane.{LaneView, IsLaneOf, IsReady, of}
@@ -42,12 +42,41 @@ pub record IsWritable (v : LaneView) (part : WritePart) (grain place : ℕ) : Ty
   pub number_is : grain ≡ grain_of_block v.grains.grain part.block
   pub place_is : place ≡ grain / v.lanes
 
+-- the steps of a write, for what is told, ended so
+pub record WriteEnds (v new : LaneView) (told : LaneTold) (part : WritePart) (moves : List Move) (calls : ℕ) (stop : Option Stop) : Type 0 where
+  pub place : ℕ
+  pub is : IsWrite (of v) told part place
+  pub ends : StepsEnd (spot_of (of v) told part) (steps_of_write (of v).grain (spot_of (of v) told part) part place) moves calls stop v.grains new.grains
+  pub stands : StepsStand (of v) told (write_in part stop) moves calls (torn_in stop) v.chains v.grains new.chains new.grains
+
+pub write_done : (v new : LaneView) (part : WritePart) (number actor : ℕ) (moves : List Move) (calls : ℕ) (stop : Option Stop) (entry : Entry) → SameBeside v new → new.plan_room ≡ v.plan_room → lane_access v.accesses.volumes part.volume ≡ Online →
+    (told : LaneTold) × IsLaneOf v told × FitsPart (of v) told part.volume part.block part.count →
+    ((told : LaneTold) → IsLaneOf v told → FitsPart (of v) told part.volume part.block part.count → WriteEnds v new told part moves calls stop) →
+    entry ≡ steps_entry v.lane number actor (Write part) Done v.grains.faults new.grains.faults moves calls stop →
+    HasEntered v (λ told. FitsPart (of v) told part.volume part.block part.count) number actor (Write part) entry new
+write_done v new part number actor moves calls stop entry b room online can ends is =
+    let told = can.0 in
+    let x = ends told can.1 can.2 in
+    record {
+      right = λ told s fits.
+          let x = ends told s fits in
+          write_right v new told part x.place number actor moves calls stop entry s b (record { fits = x.is.fits; place = x.is.place; live = x.is.live; sound = x.is.sound }) online x.is.writable x.ends x.stands is;
+      rooms = λ told s fits.
+          room_after v new told number (write_in part stop) moves calls (torn_in stop) entry (ends told s fits).stands (ap record_of is ∙ write_told part stop (of v) told v.lane number actor v.grains.faults new.grains.faults moves calls);
+      asked = record { number_is = ap (λ (e : Entry). e.number) is; actor_is = ap (λ (e : Entry). e.actor) is; request_is = ap (λ (e : Entry). e.request) is };
+      same = same_after v new b x.stands.same;
+      quiet = x.stands.same.quiet;
+      disks = disks_as entry _ v.grains new.grains is (disks_after (spot_of (of v) told part) (steps_of_write (of v).grain (spot_of (of v) told part) part x.place) (of v) told (write_in part stop) moves calls stop v.chains new.chains v.grains new.grains x.ends x.stands);
+      plan_room = room;
+      changes = b.changes;
+    }
+
 module _ (v : LaneView) (part : WritePart) (grain place : ℕ) (w : IsWritable v part grain place) (plan : List Move)
     (plan_is : plan ≡ moves_of_write v.chains.sheet.slots (grain / v.chains.lanes) grain (live_place v.chains.sheet.slots part.volume.0)) where
   abbrev Fits : LaneTold → Type 0
   Fits told = FitsPart (of v) told part.volume part.block part.count
 
-  planned : (told : LaneTold) (t : ℕ) → IsLaneOf v told → FitsWrite (of v) told part t → IsPlannedWrite (of v) told part t v.chains v.grains plan grain place
+  pub planned : (told : LaneTold) (t : ℕ) → IsLaneOf v told → FitsWrite (of v) told part t → IsPlannedWrite (of v) told part t v.chains v.grains plan grain place
   planned told t s f = record {
     at = stands_at v told s;
     is = record { fits = f.fits; place = f.place; live = f.live; sound = f.sound; writable = w.writable told s f.fits };
@@ -79,6 +108,9 @@ module _ (v : LaneView) (part : WritePart) (grain place : ℕ) (w : IsWritable v
   pub plan_fits : length plan ≤ v.entry_room
   plan_fits = moves_fit v w.ready (length plan) plan_short
 
+  pub plan_held : length plan ≤ v.plan_room
+  plan_held = let room = w.ready.plan in let short = plan_short in omega arith
+
   pub plan_some : 0 < v.entry_room
   plan_some = let f = fits_write v w.can.0 part w.can.1 w.can.2 in some_room v w.ready w.can.0 f.0 w.can.1 f.1.live.there f.1.live.is_live
 
@@ -87,25 +119,11 @@ module _ (v : LaneView) (part : WritePart) (grain place : ℕ) (w : IsWritable v
       × StepsStand l told (write_in part stop) moves calls (torn_in stop) v.chains v.grains new.chains new.grains) →
       entry ≡ steps_entry v.lane number actor (Write part) Done v.grains.faults new.grains.faults moves calls stop → HasEntered v Fits number actor (Write part) entry new
   write_entered new number actor moves calls stop entry b room ends is =
-      let told = w.can.0 in
-      let f = fits_write v told part w.can.1 w.can.2 in
-      let x = ends (of v) told f.0 (planned told f.0 w.can.1 f.1) in
-      record {
-        right = λ told s fits.
-            let f = fits_write v told part s fits in
-            let x = ends (of v) told f.0 (planned told f.0 s f.1) in
-            write_right v new told part f.0 number actor moves calls stop entry s b f.1 w.online (w.writable told s fits) x.0 x.1 is;
-        rooms = λ told s fits.
-            let f = fits_write v told part s fits in
-            let x = ends (of v) told f.0 (planned told f.0 s f.1) in
-            room_after v new told number (write_in part stop) moves calls (torn_in stop) entry x.1 (ap record_of is ∙ write_told part stop (of v) told v.lane number actor v.grains.faults new.grains.faults moves calls);
-        asked = record { number_is = ap (λ (e : Entry). e.number) is; actor_is = ap (λ (e : Entry). e.actor) is; request_is = ap (λ (e : Entry). e.request) is };
-        same = same_after v new b x.1.same;
-        quiet = x.1.same.quiet;
-        disks = disks_as entry _ v.grains new.grains is (disks_after (spot_of (of v) told part) (steps_of_write (of v).grain (spot_of (of v) told part) part f.0) (of v) told (write_in part stop) moves calls stop v.chains new.chains v.grains new.grains x.0 x.1);
-        plan_room = room;
-        changes = b.changes;
-      }
+      write_done v new part number actor moves calls stop entry b room w.online w.can
+      (λ told s fits.
+      let f = fits_write v told part s fits in
+      let x = ends (of v) told f.0 (planned told f.0 s f.1) in
+      record { place = f.0; is = (planned told f.0 s f.1).is; ends = x.0; stands = x.1 }) is
 
 -- ---- a write for which nothing is done
 
@@ -136,6 +154,15 @@ barred_entered v part number actor map entry is e =
     (λ told s f x r n. unreached told part (IsNotAccessible map) (NotAccessible map) x _ (access_told v told part (IsNotAccessible map) s is) (λ y q d. (q, d)) r n) refl e
 
 -- ---- whether it can be written
+
+-- the chains can plan it
+pub write_plannable : (v : LaneView) (part : WritePart) (grain place : ℕ) → IsWritable v part grain place → (grain % v.chains.lanes ≡ v.chains.lane) × IsSome (live_place v.chains.sheet.slots part.volume.0)
+write_plannable v part grain place w =
+    let p = w.can.1.parts in
+    let fits = w.can.2 in (
+      (λ i. w.number_is i % p.lanes_are i) ∙ (fits.of_lane ∙ sym p.lane_is),
+      subst (λ (s : Sheet). IsSome (live_place s.slots part.volume.0)) (sym p.sheet_is) fits.there,
+    )
 
 -- a lane with a volume that is online
 pub record IsOnline (v : LaneView) (part : WritePart) : Type 0 where

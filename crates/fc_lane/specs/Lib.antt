@@ -4,3 +4,4 @@ pub mod Entering
 pub mod Turns
 pub mod Workers
 pub mod Applying
+pub mod Doing

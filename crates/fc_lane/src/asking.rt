@@ -6,13 +6,15 @@ ghost use Rattle.fc_base.specs.Room.{used_in};
 ghost use Rattle.fc_base.specs.Sheet.{mapping_place};
 ghost use Rattle.fc_base.specs.SheetView.{count_true, held_of, needed_of};
 ghost use Rattle.fc_chain.specs.Chains.{found};
+ghost use Rattle.fc_entry.specs.Picture.{is_lost};
 ghost use Rattle.fc_grains.specs.Grains.{AreAllOf, total_of};
-ghost use Rattle.fc_grains.specs.Volumes.{rooms_of};
+ghost use Rattle.fc_grains.specs.Volumes.{rooms_of, stored};
 
 use crate::lane::Lane;
 use fc_base::disk::DiskKind;
 use fc_base::ids::{MapId, SlotId, VolId};
 use fc_chain::Cascade;
+use fc_diff::Changes;
 use fc_mdisk::mdisk::Mdisk;
 
 impl<D: Mdisk> Lane<D> {
@@ -44,6 +46,20 @@ impl<D: Mdisk> Lane<D> {
         ensures { result.now ≡ self.now.chains }
     {
         &self.body.cascade
+    }
+
+    /// The incremental mappings that the lane follows.
+    pub fn changes(&self) -> &Changes
+        ensures { result.now ≡ self.now.changes }
+    {
+        &self.changes
+    }
+
+    /// Whether a grain of the volume, at this place among the lane's, can't be read: it is lost, or isn't there.
+    pub fn is_unreadable(&self, volume: VolId, place: u32) -> bool
+        ensures { result ≡ is_lost (stored self.now.grains.volumes volume.0 place) }
+    {
+        self.body.grains.is_unreadable(volume, place)
     }
 
     /// How many disks of a kind are left for new volumes.

@@ -45,7 +45,7 @@ impl<D: Mdisk> Lane<D> {
     }
 
     /// The slot that a worker fills for a mapping.
-    fn filled_slot(&self, worker: Worker, map: MapId, grain: GrainNo) -> SlotId
+    pub(crate) fn filled_slot(&self, worker: Worker, map: MapId, grain: GrainNo) -> SlotId
         requires can { (told : LaneTold) × IsLaneOf self.now told × IsSome (filled_slot worker told.sheet.slots map.0 (place_of (of self.now) grain.0)) }
         requires of_lane { grain.0 % self.now.lanes ≡ self.now.lane }
         ensures { IsFilled self.now worker map grain result.0 }

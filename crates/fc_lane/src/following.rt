@@ -25,7 +25,7 @@ use std::alloc::Global;
 
 impl<D: Mdisk> Lane<D> {
     /// Notes what the entry changed: the grain that it wrote, or spoiled of what a volume shows. Takes no memory.
-    fn note(&mut self, entry: &Entry)
+    pub(crate) fn note(&mut self, entry: &Entry)
         requires number { (part : WritePart) → entry.now.request ≡ Write part → grain_of_block self.old.grains.grain part.block < 2 ^ 32 }
         ensures { self.new ≡ record self.old { changes = record self.old.changes { rows = rows_entry (of self.old) self.old.changes.rows entry.now } } }
     {

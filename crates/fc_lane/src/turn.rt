@@ -19,7 +19,7 @@ use fc_pick::Grid;
 use std::alloc::Global;
 
 /// The entry of a turn: what was done, which this entry tells, was asked by this request.
-fn turned(mut entry: Entry, request: Request) -> Entry
+pub(crate) fn turned(mut entry: Entry, request: Request) -> Entry
     ensures { result ≡ record entry { request = request } }
 {
     entry.request = request;
@@ -60,7 +60,7 @@ impl<D: Mdisk> Lane<D> {
     }
 
     /// The first mapping by id that has work for the worker in the lane, and the least grain of it.
-    fn next_of(&self, worker: Worker) -> Option<(MapId, GrainNo)>
+    pub(crate) fn next_of(&self, worker: Worker) -> Option<(MapId, GrainNo)>
         ensures { (told : LaneTold) → IsLaneOf self.now told → result ≡ next_of worker (of self.now) told }
     {
         match worker {

@@ -13,6 +13,7 @@ pub mod Runs
 pub mod SeriesExamples
 pub mod DiskCallsExamples
 pub mod Recovered
+pub mod ReadAgain
 pub mod Asked
 pub mod Promised
 pub mod Whole

@@ -4,13 +4,13 @@ ghost use Rattle.std.specs.Prelude.{◌≡◌, ◌⊎◌, ◌<◌, ◌≤◌, �
 ghost use Rattle.fc_base.specs.Count.{FaultsAfter, HasRisen, one_more};
 ghost use Rattle.fc_metadisk.specs.Disk.{LeavesOnly, Only};
 ghost use Rattle.fc_metadisk.specs.Calls.{Syncs, one_made};
-ghost use Rattle.fc_format.specs.Halves.{half_of, half_size, half_start, front, least_half, recovered, IsHalfRead};
+ghost use Rattle.fc_format.specs.Halves.{Image, half_of, half_size, half_start, front, least_half, recovered, IsHalfRead};
 ghost use Rattle.fc_meta.specs.Standing.{Rests};
-ghost use Rattle.fc_meta.specs.States.{found, recovered_disk, IsResting, IsAnswer};
+ghost use Rattle.fc_meta.specs.States.{disk_of, found, head_of, recovered_disk, IsResting, IsAnswer};
 ghost use Rattle.fc_meta.specs.Recovering.{current_of, open_generation, IsBadHalf, IsCause, IsImageRead};
 
 use crate::disk::{half_len, start_of};
-use crate::error::RecoverError;
+use crate::error::{MetaError, RecoverError};
 use crate::meta::Meta;
 use byteorder::{BigEndian, ByteOrder};
 use fc_base::outcome::Failed;
@@ -73,6 +73,33 @@ impl<M: MetaDisk> Meta<M> {
                 standing.image,
             )),
             Err(error) => Err((disk, error)),
+        }
+    }
+
+    /// What the disk stands for, read again from the half that is read: the image with all batches. It reads once, and writes and
+    /// syncs nothing, so that a crash leaves what it might before; the writer is as before.
+    ///
+    /// Failed if the disk failed, and NoMemory; no other error comes.
+    pub fn image(&mut self, alloc: Global) -> Result<MetaImage, MetaError>
+        requires { IsResting M.seen M.may_leave self.old }
+        ensures image { IfOk result (λ image. found M.seen self.old ≡ Image image) }
+        ensures rests { IsResting M.seen M.may_leave self.new }
+        ensures seen { M.seen (disk_of self.new) ≡ M.seen (disk_of self.old) }
+        ensures head { head_of self.new ≡ head_of self.old }
+        ensures any_moment { LeavesOnly M.moment M.left_since (disk_of self.old) (disk_of self.new)
+            (M.may_leave (disk_of self.old)) }
+        ensures calls { M.calls (disk_of self.new) ≡ M.calls (disk_of self.old) }
+        ensures made { M.leads (disk_of self.old) [] (disk_of self.new) }
+        ensures failed { IsErrOf result MetaError.Failed → HasRisen
+            (M.fault_count (disk_of self.old)) (M.fault_count (disk_of self.new)) }
+        ensures quiet { OnOk result
+            (M.fault_count (disk_of self.new) ≡ M.fault_count (disk_of self.old)) }
+        ensures not_full { IsErrOf result MetaError.Full → ⊥ }
+    {
+        match read_image(alloc, &mut self.disk, self.half) {
+            Ok((image, _)) => Ok(image),
+            Err(RecoverError::Failed) => Err(MetaError::Failed),
+            Err(_) => Err(MetaError::NoMemory),
         }
     }
 }

@@ -1,5 +1,5 @@
 -- Which slot a copy or a cleaning fills, and at which grain.
-use Rattle.std.proofs.Common.{◌≡◌, ℕ, ◌<◌, ◌%◌, Bool, true, false, cond, Option, Some, None, IsSome, List, length, refl, sym, ap, subst, ◌∙◌, inl, inr, slice_index_or, is_some, option_map, option_and_then, find}
+use Rattle.std.proofs.Common.{◌≡◌, ℕ, ◌<◌, ◌%◌, Bool, true, false, cond, Option, Some, None, IsSome, List, refl, sym, ap, subst, ◌∙◌, inl, inr, slice_index_or, is_some, option_map, option_and_then, find}
 use Rattle.fc_base.specs.Column.{needer, first_below}
 use Rattle.fc_base.specs.Sheet.{Slot, slot_at, column, mapping_place}
 use Rattle.fc_base.specs.declared.ids.GrainNo.{GrainNo}

@@ -15,3 +15,4 @@ pub mod Writable
 pub mod Turning
 pub mod Filling
 pub mod Ending
+pub mod UnderWay

@@ -16,7 +16,7 @@ use Rattle.fc_entry.specs.Picture.{Content, Bytes, Lost, is_lost}
 use Rattle.fc_grains.specs.Grains.{GrainsState}
 use Rattle.fc_grains.specs.declared.copy_error.CopyError.{CopyError}
 use Rattle.fc_grains.specs.declared.copy_error.CopyError.TheVariants.{Write}
-use Rattle.fc_grains.specs.Calls.{HasRead, HasWritten, HasCopied}
+use Rattle.fc_grains.specs.Calls.{HasRead, HasCopied}
 use Rattle.fc_grains.specs.Volumes.{VolumeGrains, volume_of, stored, is_there, changed, holding, rooms_of}
 use Rattle.fc_pictures.specs.Law.{StoredAt, StoredMoved}
 use Rattle.fc_steps.specs.Moving.{CanMove, Counted, MoveEnds, SameLane, SameRooms}

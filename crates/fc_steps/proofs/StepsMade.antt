@@ -12,7 +12,7 @@ use Rattle.fc_base.specs.declared.request.Side.{Side}
 use Rattle.fc_base.specs.declared.request.Side.TheVariants.{Under, Now}
 use Rattle.fc_base.specs.declared.request.Torn.{Torn}
 use Rattle.fc_chain.specs.Chains.{Chains}
-use Rattle.fc_entry.specs.Picture.{Content, Bytes, Lost, is_lost}
+use Rattle.fc_entry.specs.Picture.{Lost, is_lost}
 use Rattle.fc_grains.specs.Grains.{GrainsState}
 use Rattle.fc_grains.specs.Volumes.{VolumeGrains, is_there, volume_of, stored, rooms_of}
 use Rattle.fc_steps.specs.Moving.{CanMove, Counted, MoveEnds, MoveNotMade, SameLane, SameRooms, more}

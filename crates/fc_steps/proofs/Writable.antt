@@ -1,5 +1,5 @@
 -- Whether a part of a grain can be written, and what the write owes.
-use Rattle.std.proofs.Common.{◌≡◌, ℕ, ◌<◌, ◌%◌, ◌/◌, ◌&&◌, Bool, true, false, not, Some, List, length, map, refl, sym, ap, subst, ◌∙◌, arith, zero, suc, ◌+◌, ◌≤◌, cond, [], ◌∷◌, reverse}
+use Rattle.std.proofs.Common.{◌≡◌, ℕ, ◌<◌, ◌/◌, ◌&&◌, Bool, true, false, not, List, length, map, refl, sym, ap, ◌∙◌, arith, zero, suc, ◌+◌, ◌≤◌, cond, [], ◌∷◌, reverse}
 use Rattle.std.proofs.lemmas.Bool.{and_right, eq-eqb, ne_eqb}
 use Rattle.fc_base.specs.Column.{holder, Column}
 use Rattle.fc_base.specs.Grain.{grain_blocks}

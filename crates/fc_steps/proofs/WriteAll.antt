@@ -42,7 +42,7 @@ stopped_longer steps last moves calls step extra s = record {
   within = s.within;
 }
 
-ends_longer : (spot : Spot) (steps : List DiskStep) (last : DiskStep) (moves : List Move) (calls : ℕ) (stop : Stop) (old new : GrainsState) → StepsEnd spot steps moves calls (Some stop) old new →
+pub ends_longer : (spot : Spot) (steps : List DiskStep) (last : DiskStep) (moves : List Move) (calls : ℕ) (stop : Stop) (old new : GrainsState) → StepsEnd spot steps moves calls (Some stop) old new →
     StepsEnd spot (steps ++ last ∷ []) moves calls (Some stop) old new
 ends_longer spot steps last moves calls (Failed torn) old new e =
     record {

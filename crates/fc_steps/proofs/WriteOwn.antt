@@ -1,11 +1,10 @@
 -- The write itself, once its moves are made: what it needs, and what stands after it.
-use Rattle.std.proofs.Common.{◌≡◌, ℕ, ◌+◌, ◌*◌, ◌<◌, ◌≤◌, ◌%◌, ◌/◌, ◌==◌, ◌&&◌, Bool, true, false, not, cond, eqb, Option, Some, None, Ok, Err, List, [], length, refl, sym, ap, subst, ◌∙◌, arith, append-nil}
+use Rattle.std.proofs.Common.{◌≡◌, ℕ, ◌+◌, ◌*◌, ◌<◌, ◌≤◌, ◌/◌, ◌==◌, ◌&&◌, Bool, true, false, not, cond, eqb, Option, Some, None, Ok, Err, List, [], length, refl, sym, ap, subst, ◌∙◌, arith, append-nil}
 use Rattle.std.proofs.lemmas.Bool.{eq-eqb}
 use Rattle.fc_base.specs.Column.{holder}
-use Rattle.fc_base.specs.Grain.{block_bytes, grain_blocks, grain_bytes}
+use Rattle.fc_base.specs.Grain.{block_bytes}
 use Rattle.fc_base.specs.Moves.{after_moves, write_moves}
 use Rattle.fc_base.specs.Sheet.{Sheet, slot_at, shape_of, column, live_place}
-use Rattle.fc_base.specs.SheetFacts.{IsSound}
 use Rattle.fc_base.specs.SheetFits.{FitsTaken, FitsLost}
 use Rattle.fc_base.specs.SheetStep.{sheet_torn, sheet_written}
 use Rattle.fc_base.specs.declared.disk.DiskError.{DiskError}
@@ -25,7 +24,8 @@ use Rattle.fc_grains.specs.Volumes.{is_there, volume_of, stored, rooms_of}
 use Rattle.fc_steps.specs.Moving.{Counted, SameLane, SameRooms}
 use Rattle.fc_steps.specs.Reading.{HasHolder, IsOfHolder}
 use Rattle.fc_steps.specs.Standing.{AllSized}
-use Rattle.fc_steps.specs.WriteStep.{CanWriteOwn, IsInGrain, IsPrepared, OwnEnds, OwnStands, spot_of}
+use Rattle.fc_steps.specs.UnderWay.{OwnStored}
+use Rattle.fc_steps.specs.WriteStep.{CanWriteOwn, IsPrepared, OwnEnds, OwnStands, spot_of}
 use Rattle.fc_steps.specs.declared.body.StepEnd.{StepEnd}
 use Rattle.fc_steps.specs.declared.stop.Stop.{Stop}
 use Rattle.fc_steps.specs.declared.stop.Stop.TheVariants.{Failed, NoMemory}
@@ -33,15 +33,15 @@ use Rattle.fc_steps.proofs.Moving.{Source, source_at, one_holder, risen_then, sa
 use Rattle.fc_steps.proofs.Rooms.{reached_after}
 use Rattle.fc_steps.proofs.Shown.{ShownIn, holder_shown, volume_shown}
 use Rattle.fc_steps.proofs.StepsMade.{both_counted, counted_any, sized_again, size_torn, size_written, thin_told}
-use Rattle.fc_steps.proofs.WritePrepare.{bytes_of_blocks}
 use Rattle.fc_pictures.specs.Law.{StoredAt, now_of}
-use Rattle.fc_pictures.specs.LaneLaw.{sheet_before_write, torn_of}
+use Rattle.fc_pictures.specs.LaneLaw.{StoredWritten, sheet_before_write, torn_of}
 use Rattle.fc_pictures.specs.StepsLaw.{CanWrite, Reached}
 use Rattle.fc_pictures.proofs.Agreeing.{lane_law_holds}
 use Rattle.fc_pictures.proofs.Lawful.{picture_law_holds}
 use Rattle.fc_pictures.proofs.Running.{steps_law_holds}
 use Rattle.fc_pictures.proofs.Staying.{stored_shows}
 use Rattle.fc_rules.specs.LaneTold.{LaneOf, LaneTold, place_of}
+use Rattle.fc_rules.specs.Shows.{Stored}
 use Rattle.fc_rules.specs.Spot.{Spot}
 use Rattle.fc_rules.specs.Steps.{DiskStep, is_of_volume, own_step, reads_own}
 use Rattle.fc_sheets.proofs.Columns.{shape_torn, shape_written}
@@ -216,20 +216,32 @@ module _ (l : LaneOf) (told : LaneTold) (part : WritePart) (t : ℕ) (chains : C
     after_sized : (now : Sheet) → shape_of now.slots ≡ shape_of before.slots → ((k : ℕ) → length (slot_at now.slots k).held ≡ length (slot_at before.slots k).held) → SameLane mid new → AllSized now new.volumes
     after_sized now shape long same = sized_again before now old new shape long (same_then old mid new p.same same) can.stands.sized
 
+    -- what is stored
+    pub done_stored : {A : Type 0} (a : A) → HasWritten {A = A} mid part.volume.0 place (Ok a) new → StoredWritten l told.picture part (stored old.volumes) (stored new.volumes)
+    done_stored {A} a w =
+        let x = target_mid in
+        let st = stored_after old.volumes mid.volumes new.volumes part.volume.0 place (Bytes mid.buffer) p.stored_same (wrote_stored {A = A} mid new part.volume.0 place a x.0 x.1 w) in
+        let content : Bytes mid.buffer ≡ written (byte_in_grain l.grain part.block) (block_bytes * part.count) part.byte (now_of told.picture part.volume.0 g) =
+        p.bytes refl ∙ (λ i. written (byte_in_grain (can.grain_is i) part.block) (block_bytes * part.count) part.byte (content_is from place e at i)) in
+        subst (λ (c : Content). StoredAt (stored old.volumes) part.volume.0 g c (stored new.volumes)) content
+        (subst (λ (y : ℕ). StoredAt (stored old.volumes) part.volume.0 y (Bytes mid.buffer) (stored new.volumes)) at st)
+
+    pub torn_stored : {A : Type 0} → HasWritten {A = A} mid part.volume.0 place (Err Fails) new → StoredAt (stored old.volumes) part.volume.0 g Lost (stored new.volumes)
+    torn_stored {A} w =
+        let x = target_mid in
+        subst (λ (y : ℕ). StoredAt (stored old.volumes) part.volume.0 y Lost (stored new.volumes)) at
+        (stored_after old.volumes mid.volumes new.volumes part.volume.0 place Lost p.stored_same (failed_stored {A = A} mid new part.volume.0 place x.0 x.1 w))
+
+    pub refused_same : {A : Type 0} → HasWritten {A = A} mid part.volume.0 place (Err NoRoom) new → (v y : ℕ) → stored new.volumes v y ≡ stored old.volumes v y
+    refused_same {A} w v y = let x = target_mid in refused_stored {A = A} mid new part.volume.0 place x.0 w v y ∙ p.stored_same v y
+
     pub own_done : {A : Type 0} (n : ℕ) (a : A) (after : Chains) → n ≡ number → after ≡ record chains { sheet = sheet_written part.volume.0 (n / chains.lanes) chains.sheet } →
         HasWritten {A = A} mid part.volume.0 place (Ok a) new → OwnEnds l told part t (calls_of_write l.grain part) None chains old after new
     own_done {A} n a after q is w =
         let x = target_mid in
         let d = wrote_done {A = A} mid new part.volume.0 place a x.0 w in
-        let there : is_there old.volumes part.volume.0 ≡ true = (own_target place at).0 in
-        let st = stored_after old.volumes mid.volumes new.volumes part.volume.0 place (Bytes mid.buffer) p.stored_same (wrote_stored {A = A} mid new part.volume.0 place a x.0 x.1 w) in
-        let content : Bytes mid.buffer ≡ written (byte_in_grain l.grain part.block) (block_bytes * part.count) part.byte (now_of told.picture part.volume.0 g) =
-        p.bytes refl ∙ (λ i. written (byte_in_grain (can.grain_is i) part.block) (block_bytes * part.count) part.byte (content_is from place e at i)) in
-        let written_at : StoredAt (stored old.volumes) part.volume.0 g (written (byte_in_grain l.grain part.block) (block_bytes * part.count) part.byte (now_of told.picture part.volume.0 g)) (stored new.volumes) =
-        subst (λ (c : Content). StoredAt (stored old.volumes) part.volume.0 g c (stored new.volumes)) content
-        (subst (λ (y : ℕ). StoredAt (stored old.volumes) part.volume.0 y (Bytes mid.buffer) (stored new.volumes)) at st) in
         let agrees = lane_law_holds.written l told part t (stored old.volumes) (stored new.volumes) can.is.sound can.is.place can.is.live
-        (record { sound = can.stands.sound; shows = can.stands.shows }) written_at in (
+        (record { sound = can.stands.sound; shows = can.stands.shows }) (done_stored {A = A} a w) in (
           refl,
           record {
             chains_are = is ∙ (λ i. record chains { sheet = sheet_written part.volume.0 (q i / can.lanes_are i) (can.sheet_is i) });
@@ -250,10 +262,8 @@ module _ (l : LaneOf) (told : LaneTold) (part : WritePart) (t : ℕ) (chains : C
     own_torn {A} n side torn after q s r is w =
         let x = target_mid in
         let d = failed_done {A = A} mid new part.volume.0 place x.0 w in
-        let st = stored_after old.volumes mid.volumes new.volumes part.volume.0 place Lost p.stored_same (failed_stored {A = A} mid new part.volume.0 place x.0 x.1 w) in
         let agrees = lane_law_holds.torn_write l told part t (stored old.volumes) (stored new.volumes) can.is.sound can.is.place can.is.live
-        (record { sound = can.stands.sound; shows = can.stands.shows })
-        (subst (λ (y : ℕ). StoredAt (stored old.volumes) part.volume.0 y Lost (stored new.volumes)) at st) in
+        (record { sound = can.stands.sound; shows = can.stands.shows }) (torn_stored {A = A} w) in
         let torn_is : torn ≡ torn_of spot own = r ∙ (λ i. record { volume = record { 0 = sym named i }; grain = record { 0 = q i }; side = s i }) in
         let counted = calls_all true d.counted in (
           record {
@@ -284,11 +294,10 @@ module _ (l : LaneOf) (told : LaneTold) (part : WritePart) (t : ℕ) (chains : C
     own_refused {A} w =
         let x = target_mid in
         let d = refused_done {A = A} mid new part.volume.0 place x.0 w in
-        let same_stored : (v y : ℕ) → stored new.volumes v y ≡ stored old.volumes v y = λ v y. refused_stored {A = A} mid new part.volume.0 place x.0 w v y ∙ p.stored_same v y in
         let thin : (volume_of old.volumes part.volume.0).kind ≡ Thin = sym (p.same.kinds part.volume.0) ∙ w.allowed in (
           omega arith,
           thin_told old.volumes told.volumes part.volume.0 can.same thin,
-          unmade (calls_of_write l.grain part) new same_stored (refused_rooms {A = A} mid new part.volume.0 place w ∙ p.rooms_same) (calls_all false d.counted) (same_then old mid new p.same d.same),
+          unmade (calls_of_write l.grain part) new (refused_same {A = A} w) (refused_rooms {A = A} mid new part.volume.0 place w ∙ p.rooms_same) (calls_all false d.counted) (same_then old mid new p.same d.same),
         )
 
   -- the side of a failed write
@@ -312,6 +321,9 @@ pub own_ends_as : (l : LaneOf) (told : LaneTold) (part : WritePart) (t : ℕ) (c
     OwnEnds l told part t m o chains old after new → OwnEnds l told part t end.calls end.stop chains old after new
 own_ends_as l told part t chains after old new n m o end e q x =
     subst (λ (z : StepEnd). OwnEnds l told part t z.calls z.stop chains old after new) (sym e) (subst (λ (z : ℕ). OwnEnds l told part t z o chains old after new) (sym q) x)
+
+pub own_stored_as : (l : LaneOf) (told : LaneTold) (part : WritePart) (old new : Stored) (n : ℕ) (o : Option Stop) (end : StepEnd) → end ≡ record { calls = n; stop = o } → OwnStored l told part o old new → OwnStored l told part end.stop old new
+own_stored_as l told part old new n o end e x = subst (λ (z : StepEnd). OwnStored l told part z.stop old new) (sym e) x
 
 -- why a write wasn't done
 pub written_as : (A : Type 0) (old new : GrainsState) (v g : ℕ) (e d : DiskError) → e ≡ d → HasWritten {A = A} old v g (Err e) new → HasWritten {A = A} old v g (Err d) new

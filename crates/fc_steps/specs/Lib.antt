@@ -6,3 +6,4 @@ pub mod Plans
 pub mod WriteStep
 pub mod Reading
 pub mod Asking
+pub mod UnderWay

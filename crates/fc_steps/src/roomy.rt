@@ -1,6 +1,6 @@
 //! A plan of moves that tells its room.
 
-ghost use Rattle.std.specs.Prelude.{◌≡◌, ◌≤◌, [], IfOk, OnOk, ◌<◌, None};
+ghost use Rattle.std.specs.Prelude.{◌≡◌, ◌≤◌, [], IfOk, OnOk, ◌<◌, None, length};
 ghost use Rattle.fc_chain.specs.Planning.{CanPlan, planned_moves, volume_count};
 ghost use Rattle.fc_steps.specs.Plans.{room_of};
 
@@ -63,11 +63,30 @@ impl RoomyPlan {
         cascade.plan(write, &mut self.plan);
     }
 
+    /// Holds these moves, and no others. Takes no memory.
+    pub(crate) fn hold(&mut self, moves: &[Move])
+        requires { length moves.now ≤ self.old.room }
+        ensures { self.new ≡ record self.old { moves = moves.now } }
+    {
+        hold(&mut self.plan, moves);
+    }
+
     /// The plan itself.
     pub(crate) fn into_plan(self) -> MovePlan
         ensures { result ≡ self }
     {
         self.plan
+    }
+}
+
+/// Makes a plan hold these moves, and no others. Takes no memory.
+pub fn hold(plan: &mut MovePlan, moves: &[Move])
+    requires { length moves.now ≤ plan.old.room }
+    ensures { plan.new ≡ record plan.old { moves = moves.now } }
+{
+    plan.clear();
+    for mv in moves {
+        plan.push(*mv);
     }
 }
 

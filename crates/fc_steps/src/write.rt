@@ -8,6 +8,7 @@ ghost use Rattle.fc_entry.specs.Writes.{calls_of_write, covers_grain};
 ghost use Rattle.fc_grains.specs.Volumes.{is_there, stored, volume_of};
 ghost use Rattle.fc_steps.specs.Reading.{HasHolder, IsOfHolder};
 ghost use Rattle.fc_steps.specs.WriteStep.{CanWriteOwn, IsInGrain, IsPlannedWrite, IsPrepared, OwnEnds, spot_of, write_in, FitsWrite};
+ghost use Rattle.fc_steps.specs.UnderWay.{OwnStored};
 ghost use Rattle.fc_steps.specs.StepsEnd.{StepsEnd, StepsStand, torn_in, StandsAt};
 ghost use Rattle.fc_rules.specs.Steps.{steps_of_write};
 ghost use Rattle.fc_rules.specs.LaneTold.{LaneOf, LaneTold, place_of};
@@ -105,9 +106,10 @@ impl<D: Mdisk> Body<D> {
     }
 
     /// Writes a part of a grain, which stands at this place among the lane's, once the write's moves are made.
-    fn write_own(&mut self, part: WritePart, grain: GrainNo, place: u32) -> StepEnd
+    pub(crate) fn write_own(&mut self, part: WritePart, grain: GrainNo, place: u32) -> StepEnd
         requires can { (l : LaneOf) × (told : LaneTold) × (t : ℕ) × CanWriteOwn l told part t self.old.cascade self.old.grains × (grain.0 ≡ grain_of_block l.grain part.block) × (place ≡ place_of l (grain_of_block l.grain part.block)) }
         ensures ends { (l : LaneOf) (told : LaneTold) (t : ℕ) → CanWriteOwn l told part t self.old.cascade self.old.grains → grain.0 ≡ grain_of_block l.grain part.block → place ≡ place_of l (grain_of_block l.grain part.block) → OwnEnds l told part t result.calls result.stop self.old.cascade self.old.grains self.new.cascade self.new.grains }
+        ensures stored { (l : LaneOf) (told : LaneTold) (t : ℕ) → CanWriteOwn l told part t self.old.cascade self.old.grains → grain.0 ≡ grain_of_block l.grain part.block → place ≡ place_of l (grain_of_block l.grain part.block) → OwnStored l told part result.stop (stored self.old.grains.volumes) (stored self.new.grains.volumes) }
         ensures few { result.calls ≤ 2 }
     {
         let source = self.shown_by(part.volume, grain.0);

@@ -6,3 +6,4 @@ pub use Rattle.fc_stands.specs.Quiet
 pub mod StoreParts
 pub mod Ready
 pub mod Answering
+pub mod Stepping

@@ -36,6 +36,17 @@ fn work_by(alloc: Global, control: &Control) -> Result<Vec<Work>, NoMemory>
 }
 
 impl<D: Mdisk> Store<D> {
+    /// All background work, by the tables and the flags: all copies by mapping, and then all cleanings, each without credit.
+    /// `NoMemory` where memory was wanted for the list.
+    pub fn background_work(&self) -> Result<Vec<Work>, NoMemory>
+        ensures { IfOk result (λ works. (w : Whole) → StandsFor self.now w → works.items ≡ all_work w.books) }
+    {
+        match work_by(self.alloc, &self.control) {
+            Ok(works) => Ok(works),
+            Err(NoMemory) => Err(NoMemory),
+        }
+    }
+
     /// One turn of a work at hand: a fill, if its credit is worth a grain and it has something to do. Whether it goes on.
     fn take_turn(&mut self, work: &mut Work, history: &mut History) -> Result<bool, Stop>
         requires stands { TellsSome (StandsFor self.old) history.old }

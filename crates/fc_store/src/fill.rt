@@ -22,7 +22,7 @@ use fc_mdisk::mdisk::Mdisk;
 
 impl<D: Mdisk> Store<D> {
     /// The least grain of all lanes at which the work has something to do.
-    pub(crate) fn next_grain(&self, work: &Work) -> Option<GrainNo>
+    pub fn next_grain(&self, work: &Work) -> Option<GrainNo>
         requires { (w : Whole) × StandsFor self.now w }
         ensures { (w : Whole) → StandsFor self.now w → result ≡ next_grain self.now.control.grain w work.now }
     {
@@ -30,7 +30,7 @@ impl<D: Mdisk> Store<D> {
     }
 
     /// The work keeps its credit where it has something left to do, and loses it else.
-    pub(crate) fn save(&self, work: &mut Work)
+    pub fn save(&self, work: &mut Work)
         requires { (w : Whole) × StandsFor self.now w }
         ensures { (w : Whole) → StandsFor self.now w → work.new ≡ saved self.now.control.grain w work.old }
     {
@@ -41,12 +41,7 @@ impl<D: Mdisk> Store<D> {
     }
 
     /// Copies or cleans the grain, which is the work's next, and logs it: whether it was moved.
-    pub(crate) fn fill(
-        &mut self,
-        work: &Work,
-        grain: GrainNo,
-        history: &mut History,
-    ) -> Result<bool, Stop>
+    pub fn fill(&mut self, work: &Work, grain: GrainNo, history: &mut History) -> Result<bool, Stop>
         requires stands { TellsSome (StandsFor self.old) history.old }
         requires room { length history.old.entries ≤ MAX_ENTRIES }
         requires next { (w : Whole) → StandsFor self.old w → next_grain self.old.control.grain w work.now ≡ GhostSome grain }

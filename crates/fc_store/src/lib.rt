@@ -18,6 +18,7 @@ mod plan;
 mod ready;
 mod settling;
 mod size;
+mod stepping;
 pub mod store;
 pub mod store_part;
 mod tables;

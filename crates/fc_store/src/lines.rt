@@ -55,7 +55,7 @@ fn blocks_refusal(grain: GrainSize, volume: &Volume, block: u32, count: u32) -> 
 
 impl<D: Mdisk> Store<D> {
     /// Does an access in one of its grains, and logs it.
-    fn run_part(
+    pub fn run_part(
         &mut self,
         access: Access,
         volume: VolId,
@@ -121,7 +121,7 @@ impl<D: Mdisk> Store<D> {
     }
 
     /// Logs a refused access, a refused preset or an unread line, which settles nothing and does nothing.
-    fn log_refused(
+    pub fn log_refused(
         &self,
         history: &mut History,
         request: Request,

@@ -33,7 +33,7 @@ impl<D: Mdisk> Store<D> {
     }
 
     /// Makes all ready for a decision, so that `apply_all` of it takes no memory. What is told stays.
-    pub(crate) fn reserve_all(&mut self, decision: &Decision) -> Result<(), NoMemory>
+    pub fn reserve_all(&mut self, decision: &Decision) -> Result<(), NoMemory>
         requires can { CanPrepare self.old decision.now }
         ensures ok { OnOk result (IsReadyFor self.new decision.now) }
         ensures reserved { IsReserved self.old self.new }
@@ -64,7 +64,7 @@ impl<D: Mdisk> Store<D> {
     }
 
     /// Does what is decided, in the lanes and then in the tables. Takes no memory.
-    pub(crate) fn apply_all(&mut self, decision: &Decision)
+    pub fn apply_all(&mut self, decision: &Decision)
         requires ready { IsReadyFor self.old decision.now }
         ensures done { IsDone decision.now self.old self.new }
     {

@@ -33,7 +33,7 @@ impl<D: Mdisk> Store<D> {
     }
 
     /// The settling.
-    pub(crate) fn plan_settling(&self) -> Result<Decision, NoMemory>
+    pub fn plan_settling(&self) -> Result<Decision, NoMemory>
         requires stands { CanSettle self.now }
         ensures { IfOk result (λ decision. IsSettling self.now decision) }
     {
@@ -41,7 +41,7 @@ impl<D: Mdisk> Store<D> {
     }
 
     /// What is decided of a command.
-    pub(crate) fn plan_command(&self, command: &Command) -> Result<Decision, NoMemory>
+    pub fn plan_command(&self, command: &Command) -> Result<Decision, NoMemory>
         requires stands { CanDecide self.now }
         requires decided { IsDecided command.now }
         ensures { IfOk result (λ decision. IsDecisionOn self.now command.now decision) }

@@ -16,7 +16,7 @@ use fc_mdisk::mdisk::Mdisk;
 impl<D: Mdisk> Store<D> {
     /// The place of a grain's lane, once room for an entry was made in it, where the history has room for one too. Else the
     /// answer is `LogFull`, or `NoMemory` where memory was wanted. Either way the store stands for what it did.
-    pub(crate) fn ready_lane(&mut self, grain: u32, history: &History) -> Result<usize, Stop>
+    pub fn ready_lane(&mut self, grain: u32, history: &History) -> Result<usize, Stop>
         requires stands { TellsSome (StandsFor self.old) history.now }
         ensures ready { IfOk result (λ place. IsReadyAt self.new grain place) }
         ensures room { IfOk result (λ place. length history.now.entries < MAX_ENTRIES) }

@@ -21,7 +21,7 @@ use fc_mdisk::mdisk::Mdisk;
 
 impl<D: Mdisk> Store<D> {
     /// Settles all, and tells the effects. Where no memory is had all is as it was.
-    pub(crate) fn settle_all(&mut self) -> Result<List<Effect>, NoMemory>
+    pub fn settle_all(&mut self) -> Result<List<Effect>, NoMemory>
         requires stands { CanSettle self.old }
         ensures settles { Settles result self.old self.new }
         ensures grain { self.new.control.grain ≡ self.old.control.grain }

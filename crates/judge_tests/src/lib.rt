@@ -5,4 +5,5 @@
 
 #[cfg(test)]
 mod tests;
-pub mod told;
+#[cfg(test)]
+mod told;

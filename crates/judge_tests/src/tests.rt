@@ -5,7 +5,7 @@ use fc_base::outcome::NoMemory;
 use fc_base::size::GrainSize;
 use fc_judge::{Verdict, Why, judge};
 use std::alloc::Global;
-use std::test::Fail;
+use std::process::Abort;
 
 /// Two volumes of two grains, a mapping, and a block: a host writes and reads while an administrator starts the mapping and a copier
 /// works, under which stands a line that nobody knows. Its lines and the block are six segments.
@@ -69,43 +69,82 @@ fn reads_b(byte: u8) -> Step {
     }
 }
 
-/// The verdict on these steps, behind those before the block.
-fn judged(alloc: Global, steps: &[Step]) -> Result<Verdict, NoMemory> {
+/// Whose entries stand in histories of the session.
+const NAMES: [&str; 4] = ["main", "h1", "adm", "c"];
+
+/// The verdict on the history of these steps, with actors of these names.
+fn verdict_on(
+    alloc: Global,
+    session: &[u8],
+    steps: &[Step],
+    names: &[&str],
+) -> Result<Verdict, NoMemory> {
+    let history = tell(alloc, steps, names)?;
+    judge(alloc, GrainSize::K64, session, &history)
+}
+
+/// This is the verdict on the history of these steps, with actors of these names.
+fn expect(
+    rt: &impl Abort,
+    alloc: Global,
+    session: &[u8],
+    steps: &[Step],
+    names: &[&str],
+    verdict: Verdict,
+) -> Result<(), NoMemory> {
+    let found = verdict_on(alloc, session, steps, names)?;
+    assert_eq!(rt; found, verdict);
+    Ok(())
+}
+
+/// These steps, one list behind the other.
+fn joined(alloc: Global, first: &[Step], then: &[Step]) -> Result<Vec<Step>, NoMemory> {
     let mut all = Vec::new(alloc);
-    if all.extend_from_slice(&BEFORE).is_err() || all.extend_from_slice(steps).is_err() {
+    if all.extend_from_slice(first).is_err() || all.extend_from_slice(then).is_err() {
         return Err(NoMemory);
     }
-    let history = tell(alloc, all.as_slice(), &["main", "h1", "adm", "c"])?;
-    judge(alloc, GrainSize::K64, SESSION, &history)
+    Ok(all)
+}
+
+/// This is the verdict on these steps, behind those before the block.
+fn judged(
+    rt: &impl Abort,
+    alloc: Global,
+    steps: &[Step],
+    verdict: Verdict,
+) -> Result<(), NoMemory> {
+    let all = joined(alloc, &BEFORE, steps)?;
+    expect(rt, alloc, SESSION, all.as_slice(), &NAMES, verdict)
+}
+
+/// The verdict on a wrong entry with this number.
+fn wrong_at(entry: usize, why: Why) -> Verdict {
+    Verdict::Wrong { entry, why }
 }
 
 /// The verdict on a wrong entry at this place behind those before the block.
 fn wrong(place: usize, why: Why) -> Verdict {
-    Verdict::Wrong {
-        entry: place.saturating_add(BEFORE.len()),
-        why,
-    }
+    wrong_at(place.saturating_add(BEFORE.len()), why)
 }
 
 #[test]
-fn each_order_of_the_actors_is_right(rt: HostRuntime) -> Result<(), Fail> {
+fn each_order_of_the_actors_is_right(rt: HostRuntime) -> Result<(), NoMemory> {
     let alloc = rt.alloc();
-    for steps in [
-        [WRITES, READS, STARTS, TURN, NEXT_TURN, reads_b(0x22)],
-        [WRITES, STARTS, TURN, READS, NEXT_TURN, reads_b(0x22)],
-        [STARTS, WRITES, READS, TURN, NEXT_TURN, reads_b(0x11)],
-        [TURN, STARTS, NEXT_TURN, WRITES, READS, reads_b(0x11)],
-    ] {
-        assert_eq!(rt; judged(alloc, &steps)?, Verdict::Right);
-    }
-    Ok(())
+    let steps = [WRITES, READS, STARTS, TURN, NEXT_TURN, reads_b(0x22)];
+    judged(&rt, alloc, &steps, Verdict::Right)?;
+    let steps = [WRITES, STARTS, TURN, READS, NEXT_TURN, reads_b(0x22)];
+    judged(&rt, alloc, &steps, Verdict::Right)?;
+    let steps = [STARTS, WRITES, READS, TURN, NEXT_TURN, reads_b(0x11)];
+    judged(&rt, alloc, &steps, Verdict::Right)?;
+    let steps = [TURN, STARTS, NEXT_TURN, WRITES, READS, reads_b(0x11)];
+    judged(&rt, alloc, &steps, Verdict::Right)
 }
 
 #[test]
-fn an_entry_left_out_or_twice_or_before_its_turn_is_wrong(rt: HostRuntime) -> Result<(), Fail> {
+fn an_entry_left_out_or_twice_or_before_its_turn_is_wrong(rt: HostRuntime) -> Result<(), NoMemory> {
     let alloc = rt.alloc();
     let left_out = [WRITES, READS, STARTS, TURN, reads_b(0x22)];
-    assert_eq!(rt; judged(alloc, &left_out)?, wrong(4, Why::Actor));
+    judged(&rt, alloc, &left_out, wrong(4, Why::Actor))?;
     let twice = [
         WRITES,
         WRITES,
@@ -115,25 +154,24 @@ fn an_entry_left_out_or_twice_or_before_its_turn_is_wrong(rt: HostRuntime) -> Re
         NEXT_TURN,
         reads_b(0x22),
     ];
-    assert_eq!(rt; judged(alloc, &twice)?, wrong(1, Why::Request));
+    judged(&rt, alloc, &twice, wrong(1, Why::Request))?;
     let turned = [STARTS, NEXT_TURN, TURN, WRITES, READS, reads_b(0x11)];
-    assert_eq!(rt; judged(alloc, &turned)?, wrong(1, Why::Request));
+    judged(&rt, alloc, &turned, wrong(1, Why::Request))?;
     let one_more = [WRITES, READS, STARTS, TURN, NEXT_TURN, TURN, reads_b(0x22)];
-    assert_eq!(rt; judged(alloc, &one_more)?, wrong(5, Why::Actor));
+    judged(&rt, alloc, &one_more, wrong(5, Why::Actor))?;
     let behind_all = [WRITES, READS, STARTS, TURN, NEXT_TURN, reads_b(0x22), TURN];
-    assert_eq!(rt; judged(alloc, &behind_all)?, wrong(6, Why::NothingAsked));
-    Ok(())
+    judged(&rt, alloc, &behind_all, wrong(6, Why::NothingAsked))
 }
 
 #[test]
-fn a_read_of_what_was_before_is_wrong(rt: HostRuntime) -> Result<(), Fail> {
+fn a_read_of_what_was_before_is_wrong(rt: HostRuntime) -> Result<(), NoMemory> {
     let alloc = rt.alloc();
     let before_the_start = [WRITES, READS, STARTS, TURN, NEXT_TURN, reads_b(0)];
-    assert_eq!(rt; judged(alloc, &before_the_start)?, wrong(5, Why::Bytes));
+    judged(&rt, alloc, &before_the_start, wrong(5, Why::Bytes))?;
     let behind_the_start = [STARTS, WRITES, READS, TURN, NEXT_TURN, reads_b(0x22)];
-    assert_eq!(rt; judged(alloc, &behind_the_start)?, wrong(5, Why::Bytes));
+    judged(&rt, alloc, &behind_the_start, wrong(5, Why::Bytes))?;
     let before_its_write = [READS, WRITES, STARTS, TURN, NEXT_TURN, reads_b(0x22)];
-    assert_eq!(rt; judged(alloc, &before_its_write)?, wrong(0, Why::Request));
+    judged(&rt, alloc, &before_its_write, wrong(0, Why::Request))?;
     let lost = [
         WRITES,
         Step::MediumError {
@@ -145,82 +183,76 @@ fn a_read_of_what_was_before_is_wrong(rt: HostRuntime) -> Result<(), Fail> {
         NEXT_TURN,
         reads_b(0x22),
     ];
-    assert_eq!(rt; judged(alloc, &lost)?, wrong(1, Why::NotLost));
-    Ok(())
+    judged(&rt, alloc, &lost, wrong(1, Why::NotLost))
+}
+
+/// A start of the mapping that tells so many triggers of this pair is wrong.
+fn starts_wrong(
+    rt: &impl Abort,
+    alloc: Global,
+    source: u32,
+    target: u32,
+    times: u32,
+) -> Result<(), NoMemory> {
+    let start = Step::Start {
+        actor: 2,
+        source,
+        target,
+        times,
+    };
+    let steps = [WRITES, start, READS, TURN, NEXT_TURN, reads_b(0x22)];
+    judged(rt, alloc, &steps, wrong(1, Why::Trigger))
 }
 
 #[test]
-fn a_start_triggers_its_mapping_once(rt: HostRuntime) -> Result<(), Fail> {
+fn a_start_triggers_its_mapping_once(rt: HostRuntime) -> Result<(), NoMemory> {
     let alloc = rt.alloc();
-    for start in [
-        Step::Start {
-            actor: 2,
-            source: 1,
-            target: 0,
-            times: 1,
-        },
-        Step::Start {
-            actor: 2,
-            source: 0,
-            target: 1,
-            times: 0,
-        },
-        Step::Start {
-            actor: 2,
-            source: 0,
-            target: 1,
-            times: 2,
-        },
-    ] {
-        let steps = [WRITES, start, READS, TURN, NEXT_TURN, reads_b(0x22)];
-        assert_eq!(rt; judged(alloc, &steps)?, wrong(1, Why::Trigger));
-    }
-    Ok(())
+    starts_wrong(&rt, alloc, 1, 0, 1)?;
+    starts_wrong(&rt, alloc, 0, 1, 0)?;
+    starts_wrong(&rt, alloc, 0, 1, 2)
 }
 
 #[test]
-fn a_first_part_says_how_far_it_goes(rt: HostRuntime) -> Result<(), Fail> {
+fn a_first_part_says_how_far_it_goes(rt: HostRuntime) -> Result<(), NoMemory> {
     let alloc = rt.alloc();
-    let in_the_block = judged(alloc, &[STARTS, WRITES])?;
-    assert_eq!(rt; in_the_block, Verdict::FirstPart { segment: 4 });
-    let behind_it = judged(alloc, &[STARTS, WRITES, READS, TURN, NEXT_TURN])?;
-    assert_eq!(rt; behind_it, Verdict::FirstPart { segment: 5 });
-    let history = tell(alloc, &BEFORE[..2], &["main"])?;
-    let before_it = judge(alloc, GrainSize::K64, SESSION, &history)?;
-    assert_eq!(rt; before_it, Verdict::FirstPart { segment: 2 });
-    Ok(())
+    let in_the_block = Verdict::FirstPart { segment: 4 };
+    judged(&rt, alloc, &[STARTS, WRITES], in_the_block)?;
+    let behind_it = Verdict::FirstPart { segment: 5 };
+    let steps = [STARTS, WRITES, READS, TURN, NEXT_TURN];
+    judged(&rt, alloc, &steps, behind_it)?;
+    let before_it = Verdict::FirstPart { segment: 2 };
+    expect(&rt, alloc, SESSION, &BEFORE[..2], &["main"], before_it)
 }
 
 #[test]
-fn the_actors_have_their_names(rt: HostRuntime) -> Result<(), Fail> {
+fn the_actors_have_their_names(rt: HostRuntime) -> Result<(), NoMemory> {
     let alloc = rt.alloc();
     let session = b"together\nactor h1 host\nread A 0 1\nactor h2 host\nend\n";
     let refused = [Step::Refused { actor: 1 }];
-    for (names, verdict) in [
-        (["main", "h1", "h2"], Verdict::Right),
-        (
-            ["main", "h2", "h1"],
-            Verdict::Wrong {
-                entry: 0,
-                why: Why::Names,
-            },
-        ),
-        (
-            ["main", "h1", "h3"],
-            Verdict::Wrong {
-                entry: 1,
-                why: Why::Names,
-            },
-        ),
-    ] {
-        let history = tell(alloc, &refused, &names)?;
-        assert_eq!(rt; judge(alloc, GrainSize::K64, session, &history)?, verdict);
-    }
-    Ok(())
+    let names = ["main", "h1", "h2"];
+    expect(&rt, alloc, session, &refused, &names, Verdict::Right)?;
+    let exchanged = ["main", "h2", "h1"];
+    let verdict = wrong_at(0, Why::Names);
+    expect(&rt, alloc, session, &refused, &exchanged, verdict)?;
+    let another = ["main", "h1", "h3"];
+    let verdict = wrong_at(1, Why::Names);
+    expect(&rt, alloc, session, &refused, &another, verdict)
+}
+
+/// A group of two mappings is made and started, and a trigger of so many of them is told.
+fn with_pairs(pairs: u32) -> [Step; 6] {
+    [
+        Step::Make { volume: 0 },
+        Step::Make { volume: 1 },
+        Step::Group,
+        Step::InGroup { source: 0 },
+        Step::InGroup { source: 1 },
+        Step::StartGroup { pairs },
+    ]
 }
 
 #[test]
-fn a_group_is_started_with_all_its_mappings(rt: HostRuntime) -> Result<(), Fail> {
+fn a_group_is_started_with_all_its_mappings(rt: HostRuntime) -> Result<(), NoMemory> {
     let alloc = rt.alloc();
     let session = b"mkvdisk -name A -size 128 -unit kb
 mkvdisk -name B -size 128 -unit kb
@@ -232,32 +264,14 @@ actor adm admin
 startfcconsistgrp 1
 end
 ";
-    for (pairs, verdict) in [
-        (2, Verdict::Right),
-        (
-            1,
-            Verdict::Wrong {
-                entry: 5,
-                why: Why::Trigger,
-            },
-        ),
-    ] {
-        let steps = [
-            Step::Make { volume: 0 },
-            Step::Make { volume: 1 },
-            Step::Group,
-            Step::InGroup { source: 0 },
-            Step::InGroup { source: 1 },
-            Step::StartGroup { pairs },
-        ];
-        let history = tell(alloc, &steps, &["main", "adm"])?;
-        assert_eq!(rt; judge(alloc, GrainSize::K64, session, &history)?, verdict);
-    }
-    Ok(())
+    let names = ["main", "adm"];
+    expect(&rt, alloc, session, &with_pairs(2), &names, Verdict::Right)?;
+    let verdict = wrong_at(5, Why::Trigger);
+    expect(&rt, alloc, session, &with_pairs(1), &names, verdict)
 }
 
 #[test]
-fn a_torn_grain_is_lost_until_it_is_written_whole(rt: HostRuntime) -> Result<(), Fail> {
+fn a_torn_grain_is_lost_until_it_is_written_whole(rt: HostRuntime) -> Result<(), NoMemory> {
     let alloc = rt.alloc();
     let session = b"mkvdisk -name A -size 128 -unit kb\nwrite A 0 1 11\nread A 0 1\n";
     let tear = Step::Tear {
@@ -273,33 +287,25 @@ fn a_torn_grain_is_lost_until_it_is_written_whole(rt: HostRuntime) -> Result<(),
         volume: 0,
         byte: 0x11,
     };
-    let bytes = Verdict::Wrong {
-        entry: 2,
-        why: Why::Bytes,
-    };
-    for (last, verdict) in [(lost, Verdict::Right), (reads, bytes)] {
-        let history = tell(alloc, &[Step::Make { volume: 0 }, tear, last], &["main"])?;
-        assert_eq!(rt; judge(alloc, GrainSize::K64, session, &history)?, verdict);
-    }
+    let make = Step::Make { volume: 0 };
+    let names = ["main"];
+    let steps = [make, tear, lost];
+    expect(&rt, alloc, session, &steps, &names, Verdict::Right)?;
+    let steps = [make, tear, reads];
+    let verdict = wrong_at(2, Why::Bytes);
+    expect(&rt, alloc, session, &steps, &names, verdict)?;
     let again = b"mkvdisk -name A -size 128 -unit kb\nwrite A 0 1 11\nwrite A 0 1 11\n";
     let writes = Step::Write {
         actor: 0,
         byte: 0x11,
     };
-    let history = tell(alloc, &[Step::Make { volume: 0 }, tear, writes], &["main"])?;
-    let part_of_lost = Verdict::Wrong {
-        entry: 2,
-        why: Why::WriteOfLost,
-    };
-    assert_eq!(rt;
-        judge(alloc, GrainSize::K64, again, &history)?,
-        part_of_lost
-    );
-    Ok(())
+    let steps = [make, tear, writes];
+    let verdict = wrong_at(2, Why::WriteOfLost);
+    expect(&rt, alloc, again, &steps, &names, verdict)
 }
 
 #[test]
-fn seconds_copy_as_much_as_they_do(rt: HostRuntime) -> Result<(), Fail> {
+fn seconds_copy_as_much_as_they_do(rt: HostRuntime) -> Result<(), NoMemory> {
     let alloc = rt.alloc();
     let session = b"mkvdisk -name A -size 128 -unit kb
 mkvdisk -name B -size 128 -unit kb
@@ -307,7 +313,7 @@ mkfcmap -source A -target B
 startfcmap -prep 0
 advance -seconds 1
 ";
-    let before = [
+    let steps = [
         Step::Make { volume: 0 },
         Step::Make { volume: 1 },
         Step::Map,
@@ -317,32 +323,19 @@ advance -seconds 1
             target: 1,
             times: 1,
         },
-    ];
-    let behind = [
         Step::Advance,
         Step::Copy { grain: 0 },
         Step::Copy { grain: 1 },
         Step::Fault,
     ];
-    let too_much = Verdict::Wrong {
-        entry: 7,
-        why: Why::NothingAsked,
-    };
-    for (count, verdict) in [
-        (0, Verdict::FirstPart { segment: 4 }),
-        (1, Verdict::Right),
-        (2, Verdict::Right),
-        (3, Verdict::Right),
-        (4, too_much),
-    ] {
-        let mut steps = Vec::from_slice(alloc, &before)?;
-        for step in behind.iter().take(count) {
-            steps.push(*step)?;
-        }
-        let history = tell(alloc, steps.as_slice(), &["main"])?;
-        assert_eq!(rt; judge(alloc, GrainSize::K64, session, &history)?, verdict);
-    }
-    Ok(())
+    let names = ["main"];
+    let before = Verdict::FirstPart { segment: 4 };
+    expect(&rt, alloc, session, &steps[..4], &names, before)?;
+    expect(&rt, alloc, session, &steps[..5], &names, Verdict::Right)?;
+    expect(&rt, alloc, session, &steps[..6], &names, Verdict::Right)?;
+    expect(&rt, alloc, session, &steps[..7], &names, Verdict::Right)?;
+    let too_much = wrong_at(7, Why::NothingAsked);
+    expect(&rt, alloc, session, &steps, &names, too_much)
 }
 
 /// A preset of A, and the lines that stand in place of it.
@@ -411,18 +404,33 @@ impl Preset {
         })
     }
 
-    /// The verdict on these steps behind the making of A, where the preset is all that is asked then.
-    fn judged(self, alloc: Global, steps: &[Step]) -> Result<Verdict, NoMemory> {
-        let mut all = Vec::new(alloc);
-        if all.push(Step::Make { volume: 0 }).is_err() || all.extend_from_slice(steps).is_err() {
-            return Err(NoMemory);
-        }
-        let history = tell(alloc, all.as_slice(), &["main"])?;
+    /// The session in which it is all that is asked behind the making of A.
+    fn session(self, alloc: Global) -> Result<String, NoMemory> {
         let line = self.line;
         match format!(in alloc; "mkvdisk -name A -size 128 -unit kb\n{line}\n") {
-            Ok(session) => judge(alloc, GrainSize::K64, session.as_bytes(), &history),
+            Ok(session) => Ok(session),
             Err(_) => Err(NoMemory),
         }
+    }
+
+    /// This is the verdict on these steps behind the making of A, where the preset is all that is asked then.
+    fn judged(
+        self,
+        rt: &impl Abort,
+        alloc: Global,
+        steps: &[Step],
+        verdict: Verdict,
+    ) -> Result<(), NoMemory> {
+        let all = joined(alloc, &[Step::Make { volume: 0 }], steps)?;
+        let session = self.session(alloc)?;
+        expect(
+            rt,
+            alloc,
+            session.as_bytes(),
+            all.as_slice(),
+            &["main"],
+            verdict,
+        )
     }
 }
 
@@ -445,43 +453,51 @@ const UNMAKES: Step = Step::Line {
     answer: Answer::VolumeGone(1),
 };
 
-/// The verdict on a wrong entry with this number.
-fn wrong_at(entry: usize, why: Why) -> Verdict {
-    Verdict::Wrong { entry, why }
+/// All three steps of a preset are right, and fewer of them are a first part.
+fn comes_in_full(rt: &impl Abort, alloc: Global, preset: Preset) -> Result<(), NoMemory> {
+    let steps = [preset.makes(), preset.maps(), preset.starts()];
+    preset.judged(rt, alloc, &steps, Verdict::Right)?;
+    let first = Verdict::FirstPart { segment: 1 };
+    preset.judged(rt, alloc, &steps[..0], first)?;
+    preset.judged(rt, alloc, &steps[..1], first)?;
+    preset.judged(rt, alloc, &steps[..2], first)
 }
 
 #[test]
-fn a_preset_is_a_volume_a_mapping_and_its_start(rt: HostRuntime) -> Result<(), Fail> {
+fn a_preset_is_a_volume_a_mapping_and_its_start(rt: HostRuntime) -> Result<(), NoMemory> {
     let alloc = rt.alloc();
-    for preset in [SNAPSHOT, CLONE, BACKUP] {
-        let steps = [preset.makes(), preset.maps(), preset.starts()];
-        assert_eq!(rt; preset.judged(alloc, &steps)?, Verdict::Right);
-        for count in 0..steps.len() {
-            let first = Verdict::FirstPart { segment: 1 };
-            assert_eq!(rt; preset.judged(alloc, &steps[..count])?, first);
-        }
-    }
-    Ok(())
+    comes_in_full(&rt, alloc, SNAPSHOT)?;
+    comes_in_full(&rt, alloc, CLONE)?;
+    comes_in_full(&rt, alloc, BACKUP)
+}
+
+/// What a preset made goes where its volume, its mapping or its start is answered so.
+fn goes_again(
+    rt: &impl Abort,
+    alloc: Global,
+    preset: Preset,
+    answer: Answer,
+) -> Result<(), NoMemory> {
+    let volume = [preset.volume(answer)];
+    preset.judged(rt, alloc, &volume, Verdict::Right)?;
+    let mapping = [preset.makes(), preset.mapping(answer), UNMAKES];
+    preset.judged(rt, alloc, &mapping, Verdict::Right)?;
+    let started = [
+        preset.makes(),
+        preset.maps(),
+        start(answer),
+        UNMAPS,
+        UNMAKES,
+    ];
+    preset.judged(rt, alloc, &started, Verdict::Right)
 }
 
 #[test]
-fn what_a_preset_made_goes_where_it_is_refused(rt: HostRuntime) -> Result<(), Fail> {
+fn what_a_preset_made_goes_where_it_is_refused(rt: HostRuntime) -> Result<(), NoMemory> {
     let alloc = rt.alloc();
     for preset in [SNAPSHOT, CLONE, BACKUP] {
-        for answer in [Answer::NoDisk, Answer::NoMemory] {
-            let volume = [preset.volume(answer)];
-            assert_eq!(rt; preset.judged(alloc, &volume)?, Verdict::Right);
-            let mapping = [preset.makes(), preset.mapping(answer), UNMAKES];
-            assert_eq!(rt; preset.judged(alloc, &mapping)?, Verdict::Right);
-            let started = [
-                preset.makes(),
-                preset.maps(),
-                start(answer),
-                UNMAPS,
-                UNMAKES,
-            ];
-            assert_eq!(rt; preset.judged(alloc, &started)?, Verdict::Right);
-        }
+        goes_again(&rt, alloc, preset, Answer::NoDisk)?;
+        goes_again(&rt, alloc, preset, Answer::NoMemory)?;
     }
     let undone = [
         CLONE.makes(),
@@ -496,81 +512,93 @@ fn what_a_preset_made_goes_where_it_is_refused(rt: HostRuntime) -> Result<(), Fa
             answer: Answer::NoMemory,
         },
     ];
-    assert_eq!(rt; CLONE.judged(alloc, &undone)?, Verdict::Right);
-    Ok(())
+    CLONE.judged(&rt, alloc, &undone, Verdict::Right)
+}
+
+/// A preset of A is answered itself.
+fn preset_answered(answer: Answer) -> Step {
+    Step::Line {
+        line: "mkpreset -source A -preset backup",
+        answer,
+    }
 }
 
 #[test]
-fn a_preset_of_no_volume_is_refused_itself(rt: HostRuntime) -> Result<(), Fail> {
+fn a_preset_of_no_volume_is_refused_itself(rt: HostRuntime) -> Result<(), NoMemory> {
     let alloc = rt.alloc();
     let session = b"mkpreset -source A -preset backup\n";
-    for (answer, verdict) in [
-        (Answer::NoVolume, Verdict::Right),
-        (Answer::NoDisk, wrong_at(0, Why::Reply)),
-        (Answer::NoMemory, wrong_at(0, Why::Reply)),
-    ] {
-        let steps = [Step::Line {
-            line: "mkpreset -source A -preset backup",
-            answer,
-        }];
-        let history = tell(alloc, &steps, &["main"])?;
-        assert_eq!(rt; judge(alloc, GrainSize::K64, session, &history)?, verdict);
-    }
+    let names = ["main"];
+    let steps = [preset_answered(Answer::NoVolume)];
+    expect(&rt, alloc, session, &steps, &names, Verdict::Right)?;
+    let verdict = wrong_at(0, Why::Reply);
+    let steps = [preset_answered(Answer::NoDisk)];
+    expect(&rt, alloc, session, &steps, &names, verdict)?;
+    let steps = [preset_answered(Answer::NoMemory)];
+    expect(&rt, alloc, session, &steps, &names, verdict)?;
     let itself = [Step::Line {
         line: SNAPSHOT.line,
         answer: Answer::NoVolume,
     }];
-    let of_a_volume = SNAPSHOT.judged(alloc, &itself)?;
-    assert_eq!(rt; of_a_volume, wrong_at(1, Why::Request));
-    Ok(())
+    SNAPSHOT.judged(&rt, alloc, &itself, wrong_at(1, Why::Request))
+}
+
+/// Another mapping than a snapshot's is wrong.
+fn maps_wrong(rt: &impl Abort, alloc: Global, mapping: &'static str) -> Result<(), NoMemory> {
+    let steps = [
+        SNAPSHOT.makes(),
+        Step::Line {
+            line: mapping,
+            answer: Answer::Mapping(0),
+        },
+    ];
+    SNAPSHOT.judged(rt, alloc, &steps, wrong_at(2, Why::Request))
 }
 
 #[test]
-fn a_line_of_a_preset_that_comes_otherwise_is_wrong(rt: HostRuntime) -> Result<(), Fail> {
+fn a_line_of_a_preset_that_comes_otherwise_is_wrong(rt: HostRuntime) -> Result<(), NoMemory> {
     let alloc = rt.alloc();
     let left_out = [SNAPSHOT.makes(), SNAPSHOT.starts()];
-    let verdict = SNAPSHOT.judged(alloc, &left_out)?;
-    assert_eq!(rt; verdict, wrong_at(2, Why::Request));
+    SNAPSHOT.judged(&rt, alloc, &left_out, wrong_at(2, Why::Request))?;
     let behind_a_refusal = [SNAPSHOT.volume(Answer::NoDisk), SNAPSHOT.maps()];
-    let verdict = SNAPSHOT.judged(alloc, &behind_a_refusal)?;
-    assert_eq!(rt; verdict, wrong_at(2, Why::NothingAsked));
+    SNAPSHOT.judged(&rt, alloc, &behind_a_refusal, wrong_at(2, Why::NothingAsked))?;
     let started_again = [CLONE.makes(), CLONE.maps(), CLONE.starts(), CLONE.starts()];
-    let verdict = CLONE.judged(alloc, &started_again)?;
-    assert_eq!(rt; verdict, wrong_at(4, Why::NothingAsked));
+    CLONE.judged(&rt, alloc, &started_again, wrong_at(4, Why::NothingAsked))?;
     for mapping in [
         "mkfcmap -source A -target 1 -name s1 -copyrate 50 -autodelete",
         "mkfcmap -source A -target 0 -name s1 -copyrate 0 -cleanrate 0",
         "mkfcmap -source A -target 1 -copyrate 0 -cleanrate 0",
     ] {
-        let steps = [
-            SNAPSHOT.makes(),
-            Step::Line {
-                line: mapping,
-                answer: Answer::Mapping(0),
-            },
-        ];
-        let verdict = SNAPSHOT.judged(alloc, &steps)?;
-        assert_eq!(rt; verdict, wrong_at(2, Why::Request));
+        maps_wrong(&rt, alloc, mapping)?;
     }
     let another_id = [SNAPSHOT.makes(), SNAPSHOT.mapping(Answer::Mapping(3))];
-    let verdict = SNAPSHOT.judged(alloc, &another_id)?;
-    assert_eq!(rt; verdict, wrong_at(2, Why::Id));
-    Ok(())
+    SNAPSHOT.judged(&rt, alloc, &another_id, wrong_at(2, Why::Id))
+}
+
+/// This is the verdict where a preset whose start is refused is undone by these two steps.
+fn undoes(
+    rt: &impl Abort,
+    alloc: Global,
+    first: Step,
+    then: Step,
+    verdict: Verdict,
+) -> Result<(), NoMemory> {
+    let steps = [
+        BACKUP.makes(),
+        BACKUP.maps(),
+        start(Answer::NoMemory),
+        first,
+        then,
+    ];
+    BACKUP.judged(rt, alloc, &steps, verdict)
 }
 
 #[test]
-fn a_preset_is_undone_from_its_end(rt: HostRuntime) -> Result<(), Fail> {
+fn a_preset_is_undone_from_its_end(rt: HostRuntime) -> Result<(), NoMemory> {
     let alloc = rt.alloc();
     let refused = [BACKUP.makes(), BACKUP.maps(), start(Answer::NoMemory)];
-    for (behind, verdict) in [
-        ([UNMAKES, UNMAPS], wrong_at(4, Why::Request)),
-        ([UNMAPS, UNMAPS], wrong_at(5, Why::Request)),
-        ([UNMAPS, UNMAKES], Verdict::Right),
-    ] {
-        let mut steps = Vec::from_slice(alloc, &refused)?;
-        steps.extend_from_slice(&behind)?;
-        assert_eq!(rt; BACKUP.judged(alloc, steps.as_slice())?, verdict);
-    }
+    undoes(&rt, alloc, UNMAKES, UNMAPS, wrong_at(4, Why::Request))?;
+    undoes(&rt, alloc, UNMAPS, UNMAPS, wrong_at(5, Why::Request))?;
+    undoes(&rt, alloc, UNMAPS, UNMAKES, Verdict::Right)?;
     let undone_in_part = [
         BACKUP.makes(),
         BACKUP.maps(),
@@ -578,9 +606,8 @@ fn a_preset_is_undone_from_its_end(rt: HostRuntime) -> Result<(), Fail> {
         UNMAPS,
     ];
     let left = Verdict::FirstPart { segment: 1 };
-    assert_eq!(rt; BACKUP.judged(alloc, &refused)?, left);
-    assert_eq!(rt; BACKUP.judged(alloc, &undone_in_part)?, left);
+    BACKUP.judged(&rt, alloc, &refused, left)?;
+    BACKUP.judged(&rt, alloc, &undone_in_part, left)?;
     let volume_left = [BACKUP.makes(), BACKUP.mapping(Answer::NoDisk)];
-    assert_eq!(rt; BACKUP.judged(alloc, &volume_left)?, left);
-    Ok(())
+    BACKUP.judged(&rt, alloc, &volume_left, left)
 }

@@ -1,10 +1,12 @@
 //! Histories told step by step.
 
+ghost use Rattle.std.specs.Prelude.{◌≡◌, IfOk};
+
 use fc_base::command::{Command, Line, Scope};
 use fc_base::fault::{Kind, Refusal, WordFault};
 use fc_base::ids::{GrainNo, MapId, VolId};
 use fc_base::list::List;
-use fc_base::name::{Name, Ref};
+use fc_base::name::Name;
 use fc_base::outcome::NoMemory;
 use fc_base::request::{Effect, Pair, Place, ReadPart, Reply, Request, Side, Torn, WritePart};
 use fc_base::runs::Runs;
@@ -108,68 +110,6 @@ pub enum Step {
     },
 }
 
-/// What an entry tells.
-#[derive(Drop)]
-struct Telling {
-    actor: u32,
-    request: Request,
-    reply: Reply,
-    effects: List<Effect>,
-    torn: Option<Torn>,
-}
-
-impl Telling {
-    /// A request and its reply, and nothing more.
-    fn new(alloc: Global, actor: u32, request: Request, reply: Reply) -> Telling {
-        Telling {
-            actor,
-            request,
-            reply,
-            effects: List::new(alloc),
-            torn: None,
-        }
-    }
-
-    /// A command, by its line, and its reply.
-    fn command(alloc: Global, actor: u32, line: &[u8], reply: Reply) -> Result<Telling, NoMemory> {
-        match read_line(alloc, line, Scope::Free) {
-            Ok(Line::Command(command)) => {
-                Ok(Telling::new(alloc, actor, Request::Command(command), reply))
-            }
-            _ => Err(NoMemory),
-        }
-    }
-
-    /// The same with one effect more.
-    fn with_effect(mut self, effect: Effect) -> Result<Telling, NoMemory> {
-        self.effects.push(effect)?;
-        Ok(self)
-    }
-
-    /// The same with a trigger of these pairs.
-    fn with_trigger(self, pairs: List<Pair>) -> Result<Telling, NoMemory> {
-        self.with_effect(Effect::Trigger { pairs })
-    }
-}
-
-/// The line that makes a volume.
-fn volume_line(volume: u32) -> &'static [u8] {
-    if volume == 0 {
-        b"mkvdisk -name A -size 128 -unit kb"
-    } else {
-        b"mkvdisk -name B -size 128 -unit kb"
-    }
-}
-
-/// The line that makes a mapping in the group.
-fn mapping_line(source: u32) -> &'static [u8] {
-    if source == 0 {
-        b"mkfcmap -source A -target B -consistgrp 1"
-    } else {
-        b"mkfcmap -source B -target A -consistgrp 1"
-    }
-}
-
 /// A pair of a trigger.
 fn pair(map: u32, source: u32, target: u32) -> Pair {
     Pair {
@@ -180,112 +120,94 @@ fn pair(map: u32, source: u32, target: u32) -> Pair {
     }
 }
 
-/// An object is made, by its line.
-fn made(alloc: Global, line: &[u8], kind: Kind, id: u32) -> Result<Telling, NoMemory> {
-    Telling::command(alloc, 0, line, Reply::Made { kind, id })
-}
-
-/// A volume of two grains is made, by its line.
-fn volume_made(alloc: Global, line: &[u8], volume: u32) -> Result<Telling, NoMemory> {
-    let told = made(alloc, line, Kind::Vdisk, volume)?;
-    told.with_effect(Effect::Make {
-        volume: VolId(volume),
-        grains: 2,
+/// The line of a step that is a command's; another step has none.
+fn line_of(step: Step) -> Option<&'static str> {
+    Some(match step {
+        Step::Make { volume: 0 } => "mkvdisk -name A -size 128 -unit kb",
+        Step::Make { .. } => "mkvdisk -name B -size 128 -unit kb",
+        Step::Map => "mkfcmap -source A -target B",
+        Step::Group => "mkfcconsistgrp",
+        Step::InGroup { source: 0 } => "mkfcmap -source A -target B -consistgrp 1",
+        Step::InGroup { .. } => "mkfcmap -source B -target A -consistgrp 1",
+        Step::Refused { .. } => "read A 0 1",
+        Step::Start { .. } => "startfcmap -prep 0",
+        Step::StartGroup { .. } => "startfcconsistgrp 1",
+        Step::Line { line, .. } => line,
+        Step::Advance => "advance -seconds 1",
+        _ => return None,
     })
 }
 
-/// A line that is done, with an effect.
-fn done(alloc: Global, line: &[u8], effect: Effect) -> Result<Telling, NoMemory> {
-    Telling::command(alloc, 0, line, Reply::Done)?.with_effect(effect)
-}
-
-/// A line that is refused.
-fn refused(alloc: Global, line: &[u8], refusal: Refusal) -> Result<Telling, NoMemory> {
-    Telling::command(alloc, 0, line, Reply::Refused(refusal))
-}
-
-/// A line of `main`, as it was answered.
-fn answered(alloc: Global, line: &[u8], answer: Answer) -> Result<Telling, NoMemory> {
-    match answer {
-        Answer::Volume(volume) => volume_made(alloc, line, volume),
-        Answer::Mapping(map) => made(alloc, line, Kind::Fcmap, map),
-        Answer::Starts {
-            map,
-            target,
-            incremental,
-        } => {
-            let mut pairs = List::new(alloc);
-            pairs.push(Pair {
-                incremental,
-                ..pair(map, 0, target)
-            })?;
-            done(alloc, line, Effect::Trigger { pairs })
-        }
-        Answer::VolumeGone(volume) => {
-            let volume = VolId(volume);
-            done(alloc, line, Effect::Remove { volume })
-        }
-        Answer::MappingGone(map) => {
-            let map = MapId(map);
-            done(alloc, line, Effect::Gone { map })
-        }
-        Answer::NoDisk => refused(alloc, line, Refusal::NoDisk),
-        Answer::NoVolume => refused(alloc, line, Refusal::NoSuch(Kind::Vdisk)),
-        Answer::NoMemory => Telling::command(alloc, 0, line, Reply::NoMemory),
+/// Who does a step.
+fn actor_of(step: Step) -> u32 {
+    match step {
+        Step::Write { actor, .. }
+        | Step::Tear { actor, .. }
+        | Step::Read { actor, .. }
+        | Step::MediumError { actor, .. }
+        | Step::Refused { actor }
+        | Step::Start { actor, .. } => actor,
+        Step::StartGroup { .. } => 1,
+        Step::Turn { .. } => 3,
+        _ => 0,
     }
-}
-
-/// Mapping 0 is started, with so many triggers of this pair.
-fn started(alloc: Global, actor: u32, pair: Pair, times: u32) -> Result<Telling, NoMemory> {
-    let mut told = Telling::command(alloc, actor, b"startfcmap -prep 0", Reply::Done)?;
-    for _ in 0..times {
-        let mut pairs = List::new(alloc);
-        pairs.push(pair)?;
-        told = told.with_trigger(pairs)?;
-    }
-    Ok(told)
-}
-
-/// The group is started, with a trigger of its first so many mappings.
-fn group_started(alloc: Global, count: u32) -> Result<Telling, NoMemory> {
-    let mut pairs = List::new(alloc);
-    for map in 0..count {
-        let source = map % 2;
-        pairs.push(pair(map, source, 1 - source))?;
-    }
-    Telling::command(alloc, 1, b"startfcconsistgrp 1", Reply::Done)?.with_trigger(pairs)
 }
 
 /// The first block of a volume is read.
-fn read_told(alloc: Global, actor: u32, volume: u32, reply: Reply) -> Telling {
-    let part = ReadPart {
+fn read_part(volume: u32) -> Request {
+    Request::Read(ReadPart {
         volume: VolId(volume),
         block: 0,
         count: 1,
-    };
-    Telling::new(alloc, actor, Request::Read(part), reply)
+    })
 }
 
 /// The first block of A is written.
-fn write_told(alloc: Global, actor: u32, byte: u8, reply: Reply) -> Telling {
-    let part = WritePart {
+fn write_part(byte: u8) -> Request {
+    Request::Write(WritePart {
         volume: VolId(0),
         block: 0,
         count: 1,
         byte,
-    };
-    Telling::new(alloc, actor, Request::Write(part), reply)
+    })
 }
 
-/// The same, torn by a disk fault.
-fn torn_told(alloc: Global, actor: u32, byte: u8) -> Telling {
-    let mut told = write_told(alloc, actor, byte, Reply::DiskFault);
-    told.torn = Some(Torn {
-        volume: VolId(0),
-        grain: GrainNo(0),
-        side: Side::Now,
-    });
-    told
+/// A command, by its line.
+fn command(alloc: Global, line: &[u8]) -> Result<Request, NoMemory> {
+    match read_line(alloc, line, Scope::Free) {
+        Ok(Line::Command(command)) => Ok(Request::Command(command)),
+        _ => Err(NoMemory),
+    }
+}
+
+/// What a step asks.
+fn request_of(alloc: Global, step: Step) -> Result<Request, NoMemory> {
+    if let Some(line) = line_of(step) {
+        return command(alloc, line.as_bytes());
+    }
+    Ok(match step {
+        Step::Write { byte, .. } | Step::Tear { byte, .. } => write_part(byte),
+        Step::Read { volume, .. } | Step::MediumError { volume, .. } => read_part(volume),
+        Step::Copy { grain } => Request::Copy {
+            map: MapId(0),
+            grain: GrainNo(grain),
+        },
+        Step::Turn { lane } => Request::CopyTurn { lane },
+        _ => Request::Unread(WordFault::UnknownCommand),
+    })
+}
+
+/// An object is made.
+fn made(kind: Kind, id: u32) -> Reply {
+    Reply::Made { kind, id }
+}
+
+/// A grain of mapping 0 is copied.
+fn copied(grain: u32) -> Reply {
+    Reply::Moved {
+        map: MapId(0),
+        grain: GrainNo(grain),
+    }
 }
 
 /// The bytes of a block of one byte.
@@ -295,70 +217,135 @@ fn block_of(alloc: Global, byte: u8) -> Result<Reply, NoMemory> {
     Ok(Reply::Bytes(runs))
 }
 
-/// A grain of mapping 0 is copied.
-fn copied(alloc: Global, actor: u32, request: Request, grain: u32) -> Telling {
-    let reply = Reply::Moved {
-        map: MapId(0),
-        grain: GrainNo(grain),
-    };
-    Telling::new(alloc, actor, request, reply)
+/// How a line of `main` is answered.
+fn answer_of(answer: Answer) -> Reply {
+    match answer {
+        Answer::Volume(volume) => made(Kind::Vdisk, volume),
+        Answer::Mapping(map) => made(Kind::Fcmap, map),
+        Answer::Starts { .. } | Answer::VolumeGone(_) | Answer::MappingGone(_) => Reply::Done,
+        Answer::NoDisk => Reply::Refused(Refusal::NoDisk),
+        Answer::NoVolume => Reply::Refused(Refusal::NoSuch(Kind::Vdisk)),
+        Answer::NoMemory => Reply::NoMemory,
+    }
 }
 
-/// What a step tells that is a command's, where so many mappings were made before it; another step nothing.
-fn command_told(alloc: Global, step: Step, mappings: u32) -> Result<Option<Telling>, NoMemory> {
-    let told = match step {
-        Step::Make { volume } => volume_made(alloc, volume_line(volume), volume)?,
-        Step::Map => made(alloc, b"mkfcmap -source A -target B", Kind::Fcmap, mappings)?,
-        Step::Group => made(alloc, b"mkfcconsistgrp", Kind::Group, 1)?,
-        Step::InGroup { source } => made(alloc, mapping_line(source), Kind::Fcmap, mappings)?,
-        Step::Refused { actor } => {
-            let reply = Reply::Refused(Refusal::NoSuch(Kind::Vdisk));
-            Telling::command(alloc, actor, b"read A 0 1", reply)?
+/// How a step is answered that reads nothing, where so many mappings were made before it.
+fn plain_reply(step: Step, mappings: u32) -> Reply {
+    match step {
+        Step::Make { volume } => made(Kind::Vdisk, volume),
+        Step::Map | Step::InGroup { .. } => made(Kind::Fcmap, mappings),
+        Step::Group => made(Kind::Group, 1),
+        Step::Tear { .. } => Reply::DiskFault,
+        Step::MediumError { .. } => Reply::MediumError,
+        Step::Refused { .. } => Reply::Refused(Refusal::NoSuch(Kind::Vdisk)),
+        Step::Line { answer, .. } => answer_of(answer),
+        Step::Copy { grain } => copied(grain),
+        Step::Turn { lane } => copied(u32::from(lane)),
+        Step::Fault => Reply::Refused(Refusal::Words(WordFault::UnknownCommand)),
+        _ => Reply::Done,
+    }
+}
+
+/// How a step is answered, where so many mappings were made before it.
+fn reply_of(alloc: Global, step: Step, mappings: u32) -> Result<Reply, NoMemory> {
+    match step {
+        Step::Read { byte, .. } => block_of(alloc, byte),
+        _ => Ok(plain_reply(step, mappings)),
+    }
+}
+
+/// One effect.
+fn one(alloc: Global, effect: Effect) -> Result<List<Effect>, NoMemory> {
+    let mut effects = List::new(alloc);
+    effects.push(effect)?;
+    Ok(effects)
+}
+
+/// A volume of two grains came.
+fn came(alloc: Global, volume: u32) -> Result<List<Effect>, NoMemory> {
+    let volume = VolId(volume);
+    one(alloc, Effect::Make { volume, grains: 2 })
+}
+
+/// A trigger of a pair.
+fn trigger(alloc: Global, pair: Pair) -> Result<Effect, NoMemory> {
+    let mut pairs = List::new(alloc);
+    pairs.push(pair)?;
+    Ok(Effect::Trigger { pairs })
+}
+
+/// So many triggers of a pair.
+fn triggers(alloc: Global, pair: Pair, times: u32) -> Result<List<Effect>, NoMemory> {
+    let mut effects = List::new(alloc);
+    for _ in 0..times {
+        effects.push(trigger(alloc, pair)?)?;
+    }
+    Ok(effects)
+}
+
+/// A trigger of the first so many mappings of the group.
+fn group_trigger(alloc: Global, count: u32) -> Result<Effect, NoMemory> {
+    let mut pairs = List::new(alloc);
+    for map in 0..count {
+        let source = map % 2;
+        pairs.push(pair(map, source, 1 - source))?;
+    }
+    Ok(Effect::Trigger { pairs })
+}
+
+/// What a line of `main` changes.
+fn changed_by(alloc: Global, answer: Answer) -> Result<List<Effect>, NoMemory> {
+    match answer {
+        Answer::Volume(volume) => came(alloc, volume),
+        Answer::Starts {
+            map,
+            target,
+            incremental,
+        } => {
+            let pair = Pair {
+                incremental,
+                ..pair(map, 0, target)
+            };
+            triggers(alloc, pair, 1)
         }
+        Answer::VolumeGone(volume) => {
+            let volume = VolId(volume);
+            one(alloc, Effect::Remove { volume })
+        }
+        Answer::MappingGone(map) => {
+            let map = MapId(map);
+            one(alloc, Effect::Gone { map })
+        }
+        _ => Ok(List::new(alloc)),
+    }
+}
+
+/// What a step changes.
+fn effects_of(alloc: Global, step: Step) -> Result<List<Effect>, NoMemory> {
+    match step {
+        Step::Make { volume } => came(alloc, volume),
         Step::Start {
-            actor,
             source,
             target,
             times,
-        } => started(alloc, actor, pair(0, source, target), times)?,
-        Step::StartGroup { pairs } => group_started(alloc, pairs)?,
-        Step::Line { line, answer } => answered(alloc, line.as_bytes(), answer)?,
-        Step::Advance => Telling::command(alloc, 0, b"advance -seconds 1", Reply::Done)?,
-        _ => return Ok(None),
-    };
-    Ok(Some(told))
+            ..
+        } => triggers(alloc, pair(0, source, target), times),
+        Step::StartGroup { pairs } => one(alloc, group_trigger(alloc, pairs)?),
+        Step::Line { answer, .. } => changed_by(alloc, answer),
+        _ => Ok(List::new(alloc)),
+    }
 }
 
-/// What a step tells, where so many mappings were made before it.
-fn told_by(alloc: Global, step: Step, mappings: u32) -> Result<Telling, NoMemory> {
-    if let Some(told) = command_told(alloc, step, mappings)? {
-        return Ok(told);
+/// What a step tears: a torn write the first grain of A.
+fn torn_by(step: Step) -> Option<Torn> {
+    match step {
+        Step::Tear { .. } => Some(Torn {
+            volume: VolId(0),
+            grain: GrainNo(0),
+            side: Side::Now,
+        }),
+        _ => None,
     }
-    Ok(match step {
-        Step::Write { actor, byte } => write_told(alloc, actor, byte, Reply::Done),
-        Step::Tear { actor, byte } => torn_told(alloc, actor, byte),
-        Step::Read {
-            actor,
-            volume,
-            byte,
-        } => read_told(alloc, actor, volume, block_of(alloc, byte)?),
-        Step::MediumError { actor, volume } => {
-            read_told(alloc, actor, volume, Reply::MediumError)
-        }
-        Step::Copy { grain } => {
-            let request = Request::Copy {
-                map: MapId(0),
-                grain: GrainNo(grain),
-            };
-            copied(alloc, 0, request, grain)
-        }
-        Step::Turn { lane } => copied(alloc, 3, Request::CopyTurn { lane }, u32::from(lane)),
-        _ => {
-            let fault = WordFault::UnknownCommand;
-            let reply = Reply::Refused(Refusal::Words(fault));
-            Telling::new(alloc, 0, Request::Unread(fault), reply)
-        }
-    })
 }
 
 /// Under whose turns a step is told.
@@ -374,30 +361,30 @@ fn place_of(request: &Request) -> Place {
     }
 }
 
-/// Adds an entry.
-fn add(alloc: Global, history: &mut History, told: Telling) -> Result<(), NoMemory> {
-    let entry = Entry {
-        number: history.len() as u64,
-        actor: told.actor,
-        place: place_of(&told.request),
-        request: told.request,
-        reply: told.reply,
+/// The entry of a step with this number, where so many mappings were made before it.
+fn entry_of(alloc: Global, step: Step, number: u64, mappings: u32) -> Result<Entry, NoMemory>
+    ensures { IfOk result (λ entry. entry.number ≡ number) }
+{
+    let effects = effects_of(alloc, step)?;
+    let reply = reply_of(alloc, step, mappings)?;
+    let request = request_of(alloc, step)?;
+    Ok(Entry {
+        number,
+        actor: actor_of(step),
+        place: place_of(&request),
+        request,
+        reply,
         moves: List::new(alloc),
-        effects: told.effects,
-        torn: told.torn,
+        effects,
+        torn: torn_by(step),
         faults_before: 0,
         faults_after: 0,
         calls: 0,
-    };
-    match history.push(entry) {
-        Ok(()) => Ok(()),
-        Err(_) => Err(NoMemory),
-    }
+    })
 }
 
-/// The history of these steps, with actors of these names.
-pub fn tell(alloc: Global, steps: &[Step], names: &[&str]) -> Result<History, NoMemory> {
-    let mut history = History::new(alloc);
+/// Adds the actors of these names.
+fn add_names(alloc: Global, history: &mut History, names: &[&str]) -> Result<(), NoMemory> {
     for name in names {
         if let Some(name) = Name::new(alloc, name.as_bytes())?
             && history.actors() < 16
@@ -405,12 +392,39 @@ pub fn tell(alloc: Global, steps: &[Step], names: &[&str]) -> Result<History, No
             history.actor(alloc, &name)?;
         }
     }
+    Ok(())
+}
+
+/// Adds the entry of a step, where so many mappings were made before it.
+fn add_step(
+    alloc: Global,
+    history: &mut History,
+    step: Step,
+    mappings: u32,
+) -> Result<(), NoMemory> {
+    let entry = entry_of(alloc, step, history.len() as u64, mappings)?;
+    match history.push(entry) {
+        Ok(()) => Ok(()),
+        Err(_) => Err(NoMemory),
+    }
+}
+
+/// Adds an entry for each of these steps.
+fn add_steps(alloc: Global, history: &mut History, steps: &[Step]) -> Result<(), NoMemory> {
     let mut mappings = 0u32;
     for step in steps {
-        add(alloc, &mut history, told_by(alloc, *step, mappings)?)?;
+        add_step(alloc, history, *step, mappings)?;
         if let Step::Map | Step::InGroup { .. } = step {
             mappings = mappings.saturating_add(1);
         }
     }
+    Ok(())
+}
+
+/// The history of these steps, with actors of these names.
+pub fn tell(alloc: Global, steps: &[Step], names: &[&str]) -> Result<History, NoMemory> {
+    let mut history = History::new(alloc);
+    add_names(alloc, &mut history, names)?;
+    add_steps(alloc, &mut history, steps)?;
     Ok(history)
 }

@@ -121,13 +121,13 @@ fn written(disks: &[MarkedDisk], byte: u8) -> usize {
 
 /// Each disk came back, and each byte of the session was written on one of them.
 fn expect_all(rt: &impl Abort, disks: &[MarkedDisk]) {
-    assert_eq!(rt; disks.len(), DISKS as usize);
+    assert!(rt; disks.len() == DISKS as usize);
     for mark in 0..DISKS {
-        assert_eq!(rt; found(disks, mark), 1);
+        assert!(rt; found(disks, mark) == 1);
     }
     for lane in 0u8..4 {
-        assert_eq!(rt; written(disks, 0x10 + lane), 1);
-        assert_eq!(rt; written(disks, 0x20 + lane), 1);
+        assert!(rt; written(disks, 0x10 + lane) == 1);
+        assert!(rt; written(disks, 0x20 + lane) == 1);
     }
 }
 

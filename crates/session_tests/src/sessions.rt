@@ -99,6 +99,55 @@ fn settled_in(history: &History) -> usize {
     settled
 }
 
+/// How a session ended, how many entries its history has, and how many of them tell what their settling changed and want of memory.
+#[derive(Clone, Copy)]
+struct Ended {
+    status: Status,
+    entries: usize,
+    settled: usize,
+}
+
+/// Runs the session of this source over these disks with this gate, with grains of so many KiB, and answers to this sink.
+fn run_between<R: Threads + Wait + Sync, D: Mdisk + Send, G: Gate>(
+    rt: &R,
+    alloc: Global,
+    disks: &mut Vec<D>,
+    gate: &G,
+    grain: &str,
+    source: &mut MemSource,
+    sink: &mut MemSink,
+) -> Ended
+    requires few { vec_len disks.old < 2 ^ 30 }
+    requires fresh { All IsFresh (map D.meaning disks.old.items) }
+{
+    let mut history = History::new(alloc);
+    let words = ["run", "--grain", grain];
+    let status = flashcopy_over(
+        rt,
+        alloc,
+        &words,
+        source,
+        sink,
+        disks,
+        gate,
+        &mut history,
+    );
+    Ended {
+        status,
+        entries: history.len(),
+        settled: settled_in(&history),
+    }
+}
+
+/// A source of a session, with its calls.
+fn source_of(alloc: Global, session: &[u8], calls: Calls) -> Result<MemSource, AllocError>
+    requires { 0 < calls.piece }
+{
+    let bytes = Vec::from_slice(alloc, session)?;
+    let failing = list_of(alloc, calls.failing_take)?;
+    Ok(MemSource::new(bytes, calls.piece, failing))
+}
+
 /// Runs a session over these disks with this gate, with grains of so many KiB. The disks that the program gives back stand in the
 /// list then.
 pub fn run_on<R: Threads + Wait + Sync, D: Mdisk + Send, G: Gate>(
@@ -114,27 +163,15 @@ pub fn run_on<R: Threads + Wait + Sync, D: Mdisk + Send, G: Gate>(
     requires few { vec_len disks.old < 2 ^ 30 }
     requires fresh { All IsFresh (map D.meaning disks.old.items) }
 {
-    let bytes = Vec::from_slice(alloc, session)?;
-    let mut source = MemSource::new(bytes, calls.piece, list_of(alloc, calls.failing_take)?);
+    let mut source = source_of(alloc, session, calls)?;
     let mut sink = MemSink::new(alloc, list_of(alloc, calls.failing_put)?);
-    let mut history = History::new(alloc);
-    let words = ["run", "--grain", grain];
-    let status = flashcopy_over(
-        rt,
-        alloc,
-        &words,
-        &mut source,
-        &mut sink,
-        disks,
-        gate,
-        &mut history,
-    );
+    let ended = run_between(rt, alloc, disks, gate, grain, &mut source, &mut sink);
     Ok(Outcome {
-        status,
+        status: ended.status,
         written: Vec::from_slice(alloc, sink.bytes())?,
-        entries: history.len(),
+        entries: ended.entries,
         disks: disks.len(),
-        settled: settled_in(&history),
+        settled: ended.settled,
     })
 }
 

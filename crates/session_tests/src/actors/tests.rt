@@ -115,16 +115,17 @@ mkfcconsistgrp
 end
 ";
 
+/// A hold has this outcome.
+fn expect_hold(rt: &impl Abort, gate: &HoldingGate, index: usize, outcome: Outcome) {
+    assert_eq!(rt; gate.outcome(index), Some(outcome), "hold {index}");
+}
+
 /// The holds of the hosts are released, and those until the command is answered give up.
 fn expect_given_up(rt: &impl Abort, gate: &HoldingGate) {
-    for (index, outcome) in [
-        (0, Outcome::Released),
-        (1, Outcome::Released),
-        (2, Outcome::GaveUp),
-        (3, Outcome::GaveUp),
-    ] {
-        assert_eq!(rt; gate.outcome(index), Some(outcome), "hold {index}");
-    }
+    expect_hold(rt, gate, 0, Outcome::Released);
+    expect_hold(rt, gate, 1, Outcome::Released);
+    expect_hold(rt, gate, 2, Outcome::GaveUp);
+    expect_hold(rt, gate, 3, Outcome::GaveUp);
 }
 
 #[test]

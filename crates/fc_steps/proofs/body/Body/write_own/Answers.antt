@@ -1,12 +1,10 @@
-use Rattle.std.proofs.Common.{◌≡◌, ℕ, Some, None, ap, sym, subst, ◌∙◌, refl}
+use Rattle.std.proofs.Common.{ℕ, Some, None, ap, sym, subst, ◌∙◌, refl}
 use Rattle.fc_base.specs.declared.disk.DiskError.TheVariants.{Failed as Fails, NoMemory as NoRoom}
 use Rattle.fc_base.specs.declared.size.GrainSize.{GrainSize}
-use Rattle.fc_entry.specs.Picture.{grain_of_block}
 use Rattle.fc_entry.specs.Writes.{calls_of_write}
-use Rattle.fc_rules.specs.LaneTold.{LaneOf, LaneTold}
-use Rattle.fc_steps.specs.WriteStep.{CanWriteOwn, OwnEnds}
+use Rattle.fc_steps.specs.WriteStep.{OwnEnds}
 use Rattle.fc_steps.specs.declared.stop.Stop.TheVariants.{Failed, NoMemory}
-use Rattle.fc_steps.proofs.WriteOwn.{OwnNeeds, own_held, own_needs, own_from, own_unread, own_done, own_torn, own_refused, own_side, own_ends_as, shows_from, written_as}
+use Rattle.fc_steps.proofs.WriteOwn.{OwnNeeds, own_held, own_needs, own_from, own_unread, own_done, own_torn, own_refused, own_side, own_ends_as, own_stored_as, done_stored, torn_stored, refused_same, written_as}
 use Rattle.fc_steps.proofs.body.Body.write_own.Given as given
 use Rattle.fc_steps.proofs.body.Body.write_own.Goals as goal
 use Rattle.fc_steps.proofs.body.Body.write_own.Goals.{After-shown_by-source}
@@ -68,3 +66,22 @@ returns-in-Err-NoMemory-clause-ends g c l told t can number place =
     subst (λ (z : ℕ). OwnEnds l told c.args.part t z (Some NoMemory) c.args.self.now.cascade c.args.self.now.grains c.args.self.now.cascade c.write.new.self) (sym calls)
     (own_refused l told c.args.part t c.args.self.now.cascade c.args.self.now.grains can c.shown_by-source.result.0 c.args.place c.prepare.new.grains c.write.new.self from place c.in-Ok.ensures
     (written_as _ c.prepare.new.grains c.write.new.self c.args.part.volume.0 c.args.place c.in-Err-NoMemory.field-0 NoRoom c.in-Err-NoMemory.field-0-is c.in-Err-NoMemory.ensures))
+
+pub returns-in-Ok-write-clause-stored : goal.returns-in-Ok-write-clause-stored
+returns-in-Ok-write-clause-stored g c l told t can number place =
+    let from = own_from l told c.args.part t c.args.self.now.cascade c.args.self.now.grains can c.shown_by-source.result.0 c.args.grain.0 number c.shown_by-source.ensures in
+    own_stored_as l told c.args.part _ _ c.calls_of-calls.result None c.done.result c.done.ensures
+    (done_stored l told c.args.part t c.args.self.now.cascade c.args.self.now.grains can c.shown_by-source.result.0 c.args.place c.prepare.new.grains c.write.new.self from place c.in-Ok.ensures c.in-Ok-write.field-0 c.in-Ok-write.ensures)
+
+pub returns-in-Err-Failed-clause-stored : goal.returns-in-Err-Failed-clause-stored
+returns-in-Err-Failed-clause-stored g c l told t can number place =
+    let from = own_from l told c.args.part t c.args.self.now.cascade c.args.self.now.grains can c.shown_by-source.result.0 c.args.grain.0 number c.shown_by-source.ensures in
+    own_stored_as l told c.args.part _ _ c.calls_of-calls.result (Some (Failed (Some _))) c.failed-in-Err-Failed.result c.failed-in-Err-Failed.ensures
+    (torn_stored l told c.args.part t c.args.self.now.cascade c.args.self.now.grains can c.shown_by-source.result.0 c.args.place c.prepare.new.grains c.write.new.self from place c.in-Ok.ensures
+    (written_as _ c.prepare.new.grains c.write.new.self c.args.part.volume.0 c.args.place c.in-Err-Failed.field-0 Fails c.in-Err-Failed.field-0-is c.in-Err-Failed.ensures))
+
+pub returns-in-Err-NoMemory-clause-stored : goal.returns-in-Err-NoMemory-clause-stored
+returns-in-Err-NoMemory-clause-stored g c l told t can number place =
+    let from = own_from l told c.args.part t c.args.self.now.cascade c.args.self.now.grains can c.shown_by-source.result.0 c.args.grain.0 number c.shown_by-source.ensures in
+    refused_same l told c.args.part t c.args.self.now.cascade c.args.self.now.grains can c.shown_by-source.result.0 c.args.place c.prepare.new.grains c.write.new.self from place c.in-Ok.ensures
+    (written_as _ c.prepare.new.grains c.write.new.self c.args.part.volume.0 c.args.place c.in-Err-NoMemory.field-0 NoRoom c.in-Err-NoMemory.field-0-is c.in-Err-NoMemory.ensures)

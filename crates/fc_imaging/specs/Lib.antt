@@ -1,0 +1,4 @@
+-- What an image has of a store.
+pub mod Imaging
+pub mod Bits
+pub mod Without

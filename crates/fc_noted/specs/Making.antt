@@ -1,0 +1,175 @@
+-- What a step makes, and what it leaves.
+use Rattle.std.specs.Prelude.{◌≡◌, ◌⊎◌, ℕ, ◌≤◌, ◌/◌, Bool, true, false, cond, List, [], ◌∷◌, ◌++◌, length, Option, Some, None, Result, Ok, Err, IfOk, OnErr, IsErrOf, Contains, map, ◌<◌}
+use Rattle.fc_base.specs.Column.{holder}
+use Rattle.fc_base.specs.Sheet.{birth_place, column, slot_at}
+use Rattle.fc_base.specs.declared.decision.Decision.{Decision}
+use Rattle.fc_base.specs.declared.ids.VolId.{VolId}
+use Rattle.fc_base.specs.declared.request.Move.{Move}
+use Rattle.fc_base.specs.declared.request.Side.TheVariants.{Now, Under}
+use Rattle.fc_base.specs.declared.request.Side.{Side}
+use Rattle.fc_base.specs.declared.volume.Volume.{Volume}
+use Rattle.fc_changed.specs.Row.{Row}
+use Rattle.fc_entry.specs.HistoryState.{HistoryState}
+use Rattle.fc_entry.specs.Picture.{is_lost}
+use Rattle.fc_entry.specs.declared.entry.Entry.{Entry}
+use Rattle.fc_format.specs.Halves.{Image, recovered}
+use Rattle.fc_grains.specs.Volumes.{stored}
+use Rattle.fc_image.specs.declared.image.MetaImage.{MetaImage}
+use Rattle.fc_kept.specs.Disks.{NamedDisk}
+use Rattle.fc_imaging.specs.Imaging.{is_lost_at, kept_of}
+use Rattle.fc_kept.specs.Images.{kept_in}
+use Rattle.fc_kept.specs.Kept.{LostGrains, is_lost_in}
+use Rattle.fc_kept.specs.Recoverable.{Recoverable}
+use Rattle.fc_lane.specs.Lane.{LaneView}
+use Rattle.fc_legal.specs.Lawful.{IsLawful}
+use Rattle.fc_legal.specs.Steps.{Step, left_by}
+use Rattle.fc_legal.specs.Whole.{Whole}
+use Rattle.fc_meta.specs.States.{IsResting, found}
+use Rattle.fc_metadisk.specs.Disk.{LeavesOnly}
+use Rattle.fc_stands.specs.Phase.{StandsAt}
+use Rattle.fc_stands.specs.Store.{StoreView}
+use Rattle.fc_steps.specs.UnderWay.{next_of}
+use Rattle.fc_steps.specs.declared.ask.Ask.{Ask}
+use Rattle.fc_steps.specs.declared.ask.Ask.TheVariants.{Write, Copy, Clean}
+use Rattle.fc_steps.specs.declared.stepping.Next.{Next}
+use Rattle.fc_steps.specs.declared.stepping.Next.TheVariants.{Move as NextMove, Own, Over}
+use Rattle.fc_steps.specs.declared.stepping.Steps.{Steps}
+use Rattle.fc_steps.specs.declared.stop.Stop.{Stop}
+use Rattle.fc_steps.specs.declared.stop.Stop.TheVariants.{Failed, NoMemory}
+use Rattle.fc_store.specs.Stepping.{lane_in}
+use Rattle.fc_noted.specs.Held.{HaveVolumes, HoldAllOf}
+use Rattle.fc_noted.specs.Marks.{is_open_any}
+use Rattle.fc_noted.specs.Noted.{GoesOnTo, IsAt, IsNotedAt}
+use Rattle.fc_noted.specs.Stopping.{HasStopped, LeavesRecoverable}
+use Rattle.fc_noted.specs.declared.error.NotedStop.{NotedStop}
+use Rattle.fc_noted.specs.declared.error.NotedStop.TheVariants.{LogFull, NoMemory as WantsMemory}
+use Rattle.fc_noted.specs.declared.noted.Noted.{Noted}
+use Rattle.fc_noted.specs.declared.noted.UnderWay.{UnderWay}
+
+-- ---- what comes next of an entry
+
+-- A move copies nothing where it is in place, or where the grain is lost of the volume that it reads, that of the slot's holder.
+abbrev pub lost_of : LaneView → ℕ → Option ℕ → Bool
+lost_of lane place None = true
+lost_of lane place (Some h) = is_lost (stored lane.grains.volumes (slot_at lane.chains.sheet.slots h).volume place)
+
+abbrev pub lost_for : LaneView → ℕ → Option ℕ → Bool
+lost_for lane place None = true
+lost_for lane place (Some k) = lost_of lane place (holder (column lane.chains.sheet.slots place) k)
+
+abbrev pub copies_nothing : LaneView → ℕ → Move → Bool
+copies_nothing lane place m = cond m.in_place true (lost_for lane place (birth_place lane.chains.sheet.slots m.slot.0))
+
+-- A move that is next copies something.
+abbrev pub Copies : LaneView → ℕ → Next → Type 0
+Copies lane place (NextMove m) = copies_nothing lane place m ≡ false
+Copies lane place next = Unit {0}
+
+abbrev pub CopiesNext : {D : Type 0} → Noted D → UnderWay → Type 0
+CopiesNext n way = Copies (lane_in n.store way.place) way.doing.steps.place (next_of way.doing.steps)
+
+-- A write that is next is marked, where that is wanted.
+abbrev pub IsMarkedBy : {D : Type 0} → Noted D → UnderWay → Next → Type 0
+IsMarkedBy n way (Own part) =
+    is_open_any (lane_in n.store way.place).changes.rows n.marks part.volume way.doing.steps.grain way.doing.steps.place ≡ false
+IsMarkedBy n way next = Unit {0}
+
+abbrev pub IsMarkedNext : {D : Type 0} → Noted D → UnderWay → Type 0
+IsMarkedNext n way = IsMarkedBy n way (next_of way.doing.steps)
+
+-- The volume whose grain an entry that is over notes as changed.
+abbrev pub torn_side : Side → VolId → Option VolId
+torn_side Now volume = Some volume
+torn_side Under volume = None
+
+abbrev pub volume_torn : Option Stop → Option VolId
+volume_torn None = None
+volume_torn (Some (Failed None)) = None
+volume_torn (Some (Failed (Some torn))) = torn_side torn.side torn.volume
+volume_torn (Some NoMemory) = None
+
+abbrev pub volume_by : Ask → Bool → Option Stop → Option VolId
+volume_by (Write part) written stop = cond written (Some part.volume) (volume_torn stop)
+volume_by (Copy m grain) written stop = None
+volume_by (Clean m grain) written stop = None
+
+abbrev pub volume_noted : Steps → Option VolId
+volume_noted s = volume_by s.ask s.written s.stop
+
+-- ---- an error behind an entry
+
+module _ {D : Type 0} (seen : D → List ℕ) (may_leave : D → List ℕ → Type 0) (moment : D → ℕ) (left_since : D → ℕ → List ℕ → Type 0) where
+  -- An entry was logged, and memory was wanted behind it: what stands is what the history leads to with it.
+  pub record HasStoppedBehind (old new : Noted D) (before after : HistoryState) (w : Whole) : Type 0 where
+    pub entry : Entry
+    pub next : Whole
+    pub least : List Row
+    pub pushed : after ≡ record before { entries = before.entries ++ entry ∷ [] }
+    pub right : Step old.store.control.grain w entry next
+    pub volumes : HaveVolumes new.disks new.store
+    pub found : (c : List ℕ) → may_leave new.meta.disk c →
+        (image : MetaImage) × (recovered c ≡ Image image)
+        × ((back : List (List NamedDisk)) → HoldAllOf new.named new.store.lanes back → Recoverable old.store.control.grain back (kept_in image) next least None None)
+
+  abbrev pub Stopped : Result Bool NotedStop → Noted D → Noted D → HistoryState → HistoryState → Whole → List Row → Type 0
+  Stopped result old new before after w least =
+      ((after ≡ before) × HasStopped may_leave old new w least)
+      ⊎ (IsErrOf result WantsMemory × HasStoppedBehind old new before after w)
+
+  -- ---- a step
+
+  -- On Ok it goes on. At any moment, and behind an error, what a stop leaves may be recovered.
+  pub record StepMade (result : Result Bool NotedStop) (old new : Noted D) (before after : HistoryState) : Type 0 where
+    pub on : IfOk result (λ more. (w : Whole) (least : List Row) → IsAt seen may_leave old before w least → GoesOnTo seen may_leave more w least old before new after)
+    pub any_moment : (w : Whole) (least : List Row) → IsAt seen may_leave old before w least →
+        LeavesOnly moment left_since old.meta.disk new.meta.disk (LeavesRecoverable old new w least)
+    pub stopped : OnErr result ((w : Whole) (least : List Row) → IsAt seen may_leave old before w least → Stopped result old new before after w least)
+    pub full : IsErrOf result LogFull → 262144 ≤ length before.entries
+
+  -- The same of a step that takes part of what is asked whenever it is made.
+  abbrev pub always : Result (Unit {0}) NotedStop → Result Bool NotedStop
+  always (Ok none) = Ok true
+  always (Err stop) = Err stop
+
+  -- Of an entry that was taken out of the noted store.
+  abbrev pub WayMade : Result (Unit {0}) NotedStop → Noted D → UnderWay → Noted D → HistoryState → HistoryState → Type 0
+  WayMade result old way new before after = StepMade (always result) (record old { under_way = Some way }) new before after
+
+-- A step that no error comes of.
+abbrev pub done : Result (Unit {0}) NotedStop
+done = Ok tt
+
+-- ---- a command
+
+-- An image of what a decision leaves of what the store stood for: a grain of a volume that was there is lost where its lane had it so.
+pub record IsImageAfter (s : StoreView) (d : Decision) (image : MetaImage) : Type 0 where
+  pub lost : List LostGrains
+  pub says : (decisions : ℕ) (w : Whole) → StandsAt decisions s w → IsLawful s.control.grain decisions w d → kept_in image ≡ kept_of (left_by s.control.grain w d) lost
+  pub as_was : (v : Volume) (g : ℕ) → Contains s.control.tables.volumes v → g < v.grains → Contains (map (λ (row : LostGrains). row.volume) lost) v.id.0 →
+      is_lost_in lost v.id.0 g ≡ is_lost_at s.lanes v.id.0 g
+
+module _ {D : Type 0} (seen : D → List ℕ) (may_leave : D → List ℕ → Type 0) where
+  -- Metadata was made anew by what the decision leaves: no write is marked, and all volumes have names.
+  pub record IsAnew (d : Decision) (old new : Noted D) : Type 0 where
+    pub rests : IsResting seen may_leave new.meta
+    pub image : MetaImage
+    pub found_is : found seen new.meta ≡ Image image
+    pub after : IsImageAfter old.store d image
+    pub named : new.named ≡ image.next_volume
+    pub unmarked : new.marks ≡ []
+
+  -- Where there is no action it stays.
+  abbrev pub AnewOr : Bool → Decision → Noted D → Noted D → Type 0
+  AnewOr true d old new = IsAnew d old new
+  AnewOr false d old new = (new.meta ≡ old.meta) × (new.named ≡ old.named) × (new.marks ≡ old.marks)
+
+  -- A crash meanwhile leaves what stood, or such an image.
+  abbrev pub LeavesAnew : Decision → Noted D → List ℕ → Type 0
+  LeavesAnew d old c = (recovered c ≡ found seen old.meta) ⊎ ((image : MetaImage) × (recovered c ≡ Image image) × IsImageAfter old.store d image)
+
+  -- A command's entry leads on, once it is logged, to what the noted store then stands for.
+  abbrev pub LeadsOn : Noted D → HistoryState → Entry → Noted D → Type 0
+  LeadsOn old before entry new =
+      (w : Whole) (least : List Row) → IsNotedAt seen may_leave old before w least →
+      (next : Whole) × (least_next : List Row) × Step old.store.control.grain w (record entry { number = w.entries }) next
+      × IsNotedAt seen may_leave new (record before { entries = before.entries ++ (record entry { number = w.entries }) ∷ [] }) next least_next

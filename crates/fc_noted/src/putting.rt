@@ -1,0 +1,62 @@
+//! A record is put into metadata.
+
+ghost use Rattle.std.specs.Prelude.{◌≡◌, ◌⊎◌, ◌∷◌, [], OnOk, OnErr, IsErrOf};
+ghost use Rattle.fc_base.specs.Count.{HasRisen};
+ghost use Rattle.fc_format.specs.Halves.{Image};
+ghost use Rattle.fc_format.specs.Ranges.{HasGoodIds};
+ghost use Rattle.fc_image.specs.declared.image.MetaImage.{MetaImage as Said};
+ghost use Rattle.fc_meta.specs.Answers.{LeavesEither, found_with};
+ghost use Rattle.fc_meta.specs.States.{IsResting, disk_of, found};
+ghost use Rattle.fc_metadisk.specs.Disk.{LeavesOnly};
+
+use crate::error::NotedStop;
+use fc_image::MetaRecord;
+use fc_meta::Meta;
+use fc_metadisk::MetaDisk;
+use std::alloc::Global;
+
+/// Folds metadata as it stands: its image, with all batches, becomes the image of the other half. Nothing that it says changes.
+fn fold_same<M: MetaDisk>(alloc: Global, meta: &mut Meta<M>) -> Result<(), NotedStop>
+    requires rests { IsResting M.seen M.may_leave meta.old }
+    requires ids { (image : Said) → found M.seen meta.old ≡ Image image → HasGoodIds image }
+    ensures rests { OnOk result (IsResting M.seen M.may_leave meta.new) }
+    ensures found { OnOk result (found M.seen meta.new ≡ found M.seen meta.old) }
+    ensures any_moment { LeavesOnly M.moment M.left_since (disk_of meta.old) (disk_of meta.new)
+        (LeavesEither (found M.seen meta.old) (found M.seen meta.old)) }
+    ensures quiet { OnOk result (M.fault_count (disk_of meta.new) ≡ M.fault_count (disk_of meta.old)) }
+    ensures failed { IsErrOf result NotedStop.MetaFailed →
+        HasRisen (M.fault_count (disk_of meta.old)) (M.fault_count (disk_of meta.new)) }
+    ensures not_log { IsErrOf result NotedStop.LogFull → ⊥ }
+{
+    let image = meta.image(alloc)?;
+    meta.fold(alloc, &image)?;
+    Ok(())
+}
+
+/// Puts a record into metadata, as a batch; where the batch doesn't fit behind the others, metadata is folded as it stands before it.
+/// A crash leaves what stood before, or that with the record.
+///
+/// MetaFull where the image doesn't fit a half, or leaves no room in it for the batch.
+pub(crate) fn put_record<M: MetaDisk>(
+    alloc: Global,
+    meta: &mut Meta<M>,
+    record: MetaRecord,
+) -> Result<(), NotedStop>
+    requires rests { IsResting M.seen M.may_leave meta.old }
+    requires ids { (image : Said) → found M.seen meta.old ≡ Image image → HasGoodIds image }
+    ensures rests { OnOk result (IsResting M.seen M.may_leave meta.new) }
+    ensures found { OnOk result (found M.seen meta.new ≡ found_with (found M.seen meta.old) (record ∷ [])) }
+    ensures any_moment { LeavesOnly M.moment M.left_since (disk_of meta.old) (disk_of meta.new)
+        (LeavesEither (found M.seen meta.old) (found_with (found M.seen meta.old) (record ∷ []))) }
+    ensures quiet { OnOk result (M.fault_count (disk_of meta.new) ≡ M.fault_count (disk_of meta.old)) }
+    ensures failed { IsErrOf result NotedStop.MetaFailed →
+        HasRisen (M.fault_count (disk_of meta.old)) (M.fault_count (disk_of meta.new)) }
+    ensures not_log { IsErrOf result NotedStop.LogFull → ⊥ }
+{
+    let records = [record];
+    if !meta.fits(&records) {
+        fold_same(alloc, meta)?;
+    }
+    meta.put(alloc, &records)?;
+    Ok(())
+}

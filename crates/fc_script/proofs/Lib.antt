@@ -1,0 +1,5 @@
+mod Fills
+mod Next
+mod Left
+mod Begun
+mod Running

@@ -1,0 +1,45 @@
+-- Script by script.
+use Rattle.std.proofs.Common.{◌≡◌, Option, Some, None, refl, subst, sym}
+use Rattle.fc_base.specs.declared.fault.Refusal.TheVariants.{Words}
+use Rattle.fc_base.specs.declared.ids.GrainNo.{GrainNo}
+use Rattle.fc_base.specs.declared.request.Request.TheVariants.{Unread as UnreadAsked}
+use Rattle.fc_script.specs.Asking.{Fits, IsNextOf}
+use Rattle.fc_script.specs.Passage.{PassesUpTo}
+use Rattle.fc_script.specs.declared.asking.Asked.TheVariants.{Refused, Part}
+use Rattle.fc_script.specs.declared.script.Script.{Script}
+use Rattle.fc_script.specs.declared.script.Script.TheVariants.{Over, Unread, Command as Alone, Parts, Seconds as Passes}
+use Rattle.fc_script.proofs.Next.{alone_next, next_as, over_next, parts_next, seconds_next, seconds_over, unread_next}
+use Rattle.fc_script.proofs.script.Script.next.Goals as goal
+
+pub returns-in-Over : goal.returns-in-Over
+returns-in-Over g c = next_as c.args.store.now c.args.self.now _ Over Over None c.in-Over.is (cc c.in-Over.is) (over_next c.args.store.now)
+
+pub returns-in-Unread : goal.returns-in-Unread
+returns-in-Unread g c =
+    next_as c.args.store.now c.args.self.now _ (Unread c.in-Unread.fault) (Unread c.in-Unread.fault) (Some (Refused (UnreadAsked c.in-Unread.fault) (Words c.in-Unread.fault)))
+    c.in-Unread.is refl (unread_next c.args.store.now c.in-Unread.fault)
+
+pub returns-in-Ok : goal.returns-in-Ok
+returns-in-Ok g c =
+    next_as c.args.store.now c.args.self.now _ (Alone c.in-Command.command) (Alone c.in-Command.command) (Some c.in-Ok.asked) c.in-Command.is refl
+    (alone_next c.args.store.now c.in-Command.command c.in-Ok.asked
+    (subst (λ (x : Script). Fits c.args.store.now.control.grain c.args.store.now.control.tables x) c.in-Command.is c.requires.fits) c.in-Ok.ensures.request c.in-Ok.ensures.can c.in-Ok.ensures.no_fill)
+
+pub returns-in-Parts : goal.returns-in-Parts
+returns-in-Parts g c =
+    let script : Script = Parts c.in-Parts.access c.in-Parts.volume c.in-Parts.block c.in-Parts.count c.in-Parts.next c.in-Parts.last in
+    next_as c.args.store.now c.args.self.now _ script script (Some (Part c.in-Parts.access c.in-Parts.volume c.in-Parts.block c.in-Parts.count c.in-Parts.next)) c.in-Parts.is refl
+    (parts_next c.args.store.now c.in-Parts.access c.in-Parts.volume c.in-Parts.block c.in-Parts.count c.in-Parts.next c.in-Parts.last
+    (subst (λ (x : Script). Fits c.args.store.now.control.grain c.args.store.now.control.tables x) c.in-Parts.is c.requires.fits))
+
+pub returns-in-Ok-Some : goal.returns-in-Ok-Some
+returns-in-Ok-Some g c =
+    subst (λ (x : Script). IsNextOf c.args.store.now x (Passes c.pass.new.self) c.ask_fill.result) (sym c.in-Seconds.is)
+    (seconds_next c.args.store.now c.in-Seconds.passage c.pass.new.self c.in-Ok-Some.grain c.ask_fill.result c.requires.stands c.in-Ok-Some.ensures.passed
+    (λ w stands. subst (λ (o : Option GrainNo). PassesUpTo c.args.store.now.control.grain w o c.pass.new.self) c.in-Ok-Some.field-0-is (c.in-Ok-Some.ensures.upto w stands)) c.ask_fill.ensures)
+
+pub returns-in-Ok-None : goal.returns-in-Ok-None
+returns-in-Ok-None g c =
+    subst (λ (x : Script). IsNextOf c.args.store.now x Over None) (sym c.in-Seconds.is)
+    (seconds_over c.args.store.now c.in-Seconds.passage c.pass.new.self c.in-Ok-None.ensures.passed
+    (λ w stands. subst (λ (o : Option GrainNo). PassesUpTo c.args.store.now.control.grain w o c.pass.new.self) c.in-Ok-None.field-0-is (c.in-Ok-None.ensures.upto w stands)))

@@ -1,0 +1,5 @@
+pub mod Fitting
+pub mod Recovering
+pub mod Putting
+pub mod Coming
+pub mod Whole
