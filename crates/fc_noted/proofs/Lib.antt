@@ -1,2 +1,2 @@
-pub mod Holding
-pub mod Stepping
+-- Lemmas, one subject a file.
+mod Resting

@@ -37,12 +37,12 @@ use Rattle.fc_steps.specs.declared.stepping.Steps.{Steps}
 use Rattle.fc_steps.specs.declared.stop.Stop.{Stop}
 use Rattle.fc_steps.specs.declared.stop.Stop.TheVariants.{Failed, NoMemory}
 use Rattle.fc_store.specs.Stepping.{lane_in}
-use Rattle.fc_noted.specs.Held.{HaveVolumes, HoldAllOf}
-use Rattle.fc_noted.specs.Marks.{is_open_any}
+use Rattle.fc_held.specs.Held.{HaveVolumes, HoldAllOf}
+use Rattle.fc_marks.specs.Marks.{is_open_any}
 use Rattle.fc_noted.specs.Noted.{GoesOnTo, IsAt, IsNotedAt}
 use Rattle.fc_noted.specs.Stopping.{HasStopped, LeavesRecoverable}
-use Rattle.fc_noted.specs.declared.error.NotedStop.{NotedStop}
-use Rattle.fc_noted.specs.declared.error.NotedStop.TheVariants.{LogFull, NoMemory as WantsMemory}
+use Rattle.fc_marks.specs.declared.error.NotedStop.{NotedStop}
+use Rattle.fc_marks.specs.declared.error.NotedStop.TheVariants.{LogFull, NoMemory as WantsMemory}
 use Rattle.fc_noted.specs.declared.noted.Noted.{Noted}
 use Rattle.fc_noted.specs.declared.noted.UnderWay.{UnderWay}
 

@@ -32,9 +32,9 @@ use Rattle.fc_store.specs.Stepping.{lane_in}
 use Rattle.law_crash.specs.Leaving.{AreUnnamed, HaveTheirDisks}
 use Rattle.law_crash.specs.Points.{Point, nothing_kept}
 use Rattle.law_crash.specs.Running.{Run}
-use Rattle.fc_noted.specs.Came.{Came, steps_done}
-use Rattle.fc_noted.specs.Held.{HaveVolumes, MatchAll}
-use Rattle.fc_noted.specs.Marks.{marked}
+use Rattle.law_noted.specs.Came.{Came, steps_done}
+use Rattle.fc_held.specs.Held.{HaveVolumes, MatchAll}
+use Rattle.fc_marks.specs.Marks.{marked}
 use Rattle.fc_noted.specs.declared.noted.Noted.{Noted}
 use Rattle.fc_noted.specs.declared.noted.UnderWay.{UnderWay}
 

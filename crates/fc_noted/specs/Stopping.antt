@@ -18,8 +18,8 @@ use Rattle.fc_script.specs.Passage.{GoesOn}
 use Rattle.fc_script.specs.Script.{agenda_of}
 use Rattle.fc_script.specs.declared.script.Script.{Script}
 use Rattle.fc_stands.specs.Store.{StoreView}
-use Rattle.fc_noted.specs.Held.{HaveVolumes, HoldAllOf}
-use Rattle.fc_noted.specs.declared.error.NotedStop.{NotedStop}
+use Rattle.fc_held.specs.Held.{HaveVolumes, HoldAllOf}
+use Rattle.fc_marks.specs.declared.error.NotedStop.{NotedStop}
 use Rattle.fc_noted.specs.declared.noted.Noted.{Noted}
 
 -- Nothing is asked, or the script asks this next.

@@ -10,7 +10,6 @@ ghost use Rattle.fc_script.specs.Asking.{CanBeAsked, HasNextFill, IsNext, work_o
 ghost use Rattle.fc_script.specs.Script.{agenda_of};
 ghost use Rattle.fc_stands.specs.Store.{StandsFor};
 
-use crate::error::NotedStop;
 use crate::noted::{Noted, UnderWay};
 use fc_base::ids::{GrainNo, MapId, VolId};
 use fc_base::request::WritePart;
@@ -19,6 +18,7 @@ use fc_lane::doing::{Begun, Doing};
 use fc_lane::worker::Worker;
 use fc_lanes::access::Access;
 use fc_lanes::touched::blocks_in;
+use fc_marks::NotedStop;
 use fc_mdisk::mdisk::Mdisk;
 use fc_metadisk::MetaDisk;
 use fc_script::asking::Asked;

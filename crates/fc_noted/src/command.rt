@@ -17,7 +17,7 @@ ghost use Rattle.fc_meta.specs.States.{IsResting, disk_of, found};
 ghost use Rattle.fc_metadisk.specs.Disk.{LeavesOnly};
 ghost use Rattle.fc_noted.specs.Making.{AnewOr, LeadsOn, LeavesAnew, StepMade, always};
 ghost use Rattle.fc_noted.specs.Noted.{IsNotedAt};
-ghost use Rattle.fc_noted.specs.Records.{removed_by};
+ghost use Rattle.law_noted.specs.Records.{removed_by};
 ghost use Rattle.fc_noted.specs.Stopping.{HasStopped, HoldStill, LeavesRecoverable};
 ghost use Rattle.fc_script.specs.Asking.{CanBeAsked, IsNext};
 ghost use Rattle.fc_script.specs.Script.{agenda_of};
@@ -26,7 +26,6 @@ ghost use Rattle.fc_stands.specs.Phase.{CanPrepare, IsDecided, IsDone, StandsAt}
 ghost use Rattle.fc_stands.specs.Settling.{AreFew, CanSettle};
 ghost use Rattle.fc_stands.specs.Store.{StandsFor};
 
-use crate::error::NotedStop;
 use crate::noted::Noted;
 use fc_apart::apart::entry_apart;
 use fc_apart::effects::{join, taken};
@@ -40,6 +39,7 @@ use fc_entry::entry::Entry;
 use fc_entry::history::History;
 use fc_image::MetaImage;
 use fc_imaging::{image_of, image_without};
+use fc_marks::NotedStop;
 use fc_mdisk::mdisk::Mdisk;
 use fc_metadisk::MetaDisk;
 use fc_script::asking::Asked;
@@ -172,12 +172,7 @@ impl<D: Mdisk, M: MetaDisk> Noted<D, M> {
 }
 
 /// The entry of a command that was decided, with the effects of the settling before its own.
-fn decided_entry(
-    alloc: Global,
-    command: Command,
-    decision: Decision,
-    joined: List<Effect>,
-) -> Entry
+fn decided_entry(alloc: Global, command: Command, decision: Decision, joined: List<Effect>) -> Entry
     ensures { (settled : Items EffectValue) → IsJoined settled decision.effects joined →
         result ≡ entry_apart 0 0 Place.Every (Request.Command command) decision.reply (settled ++ decision.effects) }
 {

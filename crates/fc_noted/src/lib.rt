@@ -6,23 +6,16 @@
 //! recovery gives what the answered entries lead to, with all, some moves, or none of the one that wasn't answered; but for one grain
 //! of it, which nobody reads or which counts as changed (`fc_kept`, `law_crash`).
 //!
-//! To read: `specs/Held` (the disks that lanes hold, with their names), `specs/Came` (how far the actions of an entry came),
-//! `specs/Noted` (when a noted store stands for a history), `specs/Stopping` (what a stop leaves); then `noted` (the store, how it
-//! begins and ends), `step` (one step), `line` (all steps of a line), `asking` (how an entry begins), `command`, `putting` (a record is put), `marks`.
+//! To read: `fc_held` (the disks that lanes hold, with their names), `law_noted` (how far the actions of an entry came), `fc_marks` (a
+//! record is put; writes that are marked); then `specs/Noted` (when a noted store stands for a history), `specs/Stopping` (what a stop
+//! leaves), `noted` (the store, how it begins and ends), `step` (one step), `line` (all steps of a line), `asking` (how an entry
+//! begins), `command`.
 #![tactic(auto)]
 
 mod asking;
 mod command;
-mod error;
-mod held;
-mod law;
 mod line;
-mod marks;
 mod noted;
-mod putting;
 mod step;
 
-pub use error::NotedStop;
-pub use law::held_law;
-pub use marks::Mark;
 pub use noted::{Noted, UnderWay};

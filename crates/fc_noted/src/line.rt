@@ -10,10 +10,10 @@ ghost use Rattle.fc_legal.specs.Whole.{Whole};
 ghost use Rattle.fc_noted.specs.Noted.{IsNotedAt};
 ghost use Rattle.fc_store.specs.Answering.{IsStoreLine};
 
-use crate::error::NotedStop;
 use crate::noted::Noted;
 use fc_base::command::Line;
 use fc_entry::history::History;
+use fc_marks::NotedStop;
 use fc_mdisk::mdisk::Mdisk;
 use fc_metadisk::MetaDisk;
 

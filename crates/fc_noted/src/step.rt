@@ -6,15 +6,12 @@ ghost use Rattle.fc_entry.specs.HistoryState.{HistoryState};
 ghost use Rattle.fc_legal.specs.Whole.{Whole};
 ghost use Rattle.fc_noted.specs.Making.{CopiesNext, IsMarkedNext, StepMade, WayMade, copies_nothing, done, volume_noted};
 ghost use Rattle.fc_noted.specs.Noted.{CanStep, IsDoing};
-ghost use Rattle.fc_noted.specs.Records.{record_after};
+ghost use Rattle.law_noted.specs.Records.{record_after};
 ghost use Rattle.fc_steps.specs.UnderWay.{next_of};
 ghost use Rattle.fc_steps.specs.declared.stepping.Next.TheVariants.{Move as NextMove, Own, Over};
 ghost use Rattle.fc_store.specs.Stepping.{lane_in};
 
-use crate::error::NotedStop;
-use crate::marks::{forget, remember, wants_mark};
 use crate::noted::{Noted, UnderWay};
-use crate::putting::put_record;
 use fc_apart::log::log;
 use fc_base::ids::{GrainNo, VolId};
 use fc_base::request::{Move, Side, WritePart};
@@ -22,6 +19,7 @@ use fc_entry::entry::Entry;
 use fc_entry::history::History;
 use fc_image::MetaRecord;
 use fc_lane::doing::Doing;
+use fc_marks::{NotedStop, forget, put_record, remember, wants_mark};
 use fc_mdisk::mdisk::Mdisk;
 use fc_metadisk::MetaDisk;
 use fc_steps::ask::Ask;
@@ -115,13 +113,13 @@ impl<D: Mdisk, M: MetaDisk> Noted<D, M> {
     }
 
     /// Puts the record of the last step of data.
-    fn put_due(&mut self, way: UnderWay, record: MetaRecord) -> Result<(), NotedStop>
+    fn put_due(&mut self, way: UnderWay, note: MetaRecord) -> Result<(), NotedStop>
         requires at { (w : Whole) × (least : List Row) × (history : HistoryState) × IsDoing M.seen M.may_leave self.old way history w least }
-        requires due { way.due ≡ Some record }
+        requires due { way.due ≡ Some note }
         ensures made { (history : HistoryState) → WayMade M.seen M.may_leave M.moment M.left_since result self.old way self.new history history }
         ensures live { self.new.live ≡ self.old.live }
     {
-        put_record(self.alloc, &mut self.meta, record)?;
+        put_record(self.alloc, &mut self.meta, note)?;
         let UnderWay { place, doing, .. } = way;
         self.under_way = Some(UnderWay {
             place,
@@ -172,7 +170,9 @@ impl<D: Mdisk, M: MetaDisk> Noted<D, M> {
             },
         )?;
         let UnderWay {
-            place, mut doing, ..
+            place,
+            mut doing,
+            ..
         } = way;
         self.store.step(place, &mut doing);
         self.under_way = Some(UnderWay {
@@ -220,7 +220,9 @@ impl<D: Mdisk, M: MetaDisk> Noted<D, M> {
         ensures live { self.new.live ≡ self.old.live }
     {
         let UnderWay {
-            place, mut doing, ..
+            place,
+            mut doing,
+            ..
         } = way;
         let next = doing.next();
         let grain = doing.steps.grain;

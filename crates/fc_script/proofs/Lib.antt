@@ -2,4 +2,3 @@ mod Fills
 mod Next
 mod Left
 mod Begun
-mod Running

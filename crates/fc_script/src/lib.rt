@@ -11,5 +11,4 @@
 
 pub mod asking;
 pub mod passage;
-pub mod run;
 pub mod script;

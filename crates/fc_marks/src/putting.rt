@@ -37,23 +37,23 @@ fn fold_same<M: MetaDisk>(alloc: Global, meta: &mut Meta<M>) -> Result<(), Noted
 /// A crash leaves what stood before, or that with the record.
 ///
 /// MetaFull where the image doesn't fit a half, or leaves no room in it for the batch.
-pub(crate) fn put_record<M: MetaDisk>(
+pub fn put_record<M: MetaDisk>(
     alloc: Global,
     meta: &mut Meta<M>,
-    record: MetaRecord,
+    note: MetaRecord,
 ) -> Result<(), NotedStop>
     requires rests { IsResting M.seen M.may_leave meta.old }
     requires ids { (image : Said) → found M.seen meta.old ≡ Image image → HasGoodIds image }
     ensures rests { OnOk result (IsResting M.seen M.may_leave meta.new) }
-    ensures found { OnOk result (found M.seen meta.new ≡ found_with (found M.seen meta.old) (record ∷ [])) }
+    ensures found { OnOk result (found M.seen meta.new ≡ found_with (found M.seen meta.old) (note ∷ [])) }
     ensures any_moment { LeavesOnly M.moment M.left_since (disk_of meta.old) (disk_of meta.new)
-        (LeavesEither (found M.seen meta.old) (found_with (found M.seen meta.old) (record ∷ []))) }
+        (LeavesEither (found M.seen meta.old) (found_with (found M.seen meta.old) (note ∷ []))) }
     ensures quiet { OnOk result (M.fault_count (disk_of meta.new) ≡ M.fault_count (disk_of meta.old)) }
     ensures failed { IsErrOf result NotedStop.MetaFailed →
         HasRisen (M.fault_count (disk_of meta.old)) (M.fault_count (disk_of meta.new)) }
     ensures not_log { IsErrOf result NotedStop.LogFull → ⊥ }
 {
-    let records = [record];
+    let records = [note];
     if !meta.fits(&records) {
         fold_same(alloc, meta)?;
     }

@@ -21,7 +21,7 @@ use Rattle.fc_rules.specs.LaneTold.{LaneOf, number_at}
 use Rattle.law_crash.specs.Leaving.{is_free, is_kind}
 use Rattle.law_crash.proofs.Disks.{find_by}
 use Rattle.law_agreeing.specs.Agreeing.{Agree, AllAgree, SameSize, lane_over}
-use Rattle.fc_noted.specs.Held.{HeldBy, HoldLane, HoldAllOf, HasNoName, HasDisk, Matches, MatchAll, name_below, is_unknown, is_of_kind, free_in}
+use Rattle.fc_held.specs.Held.{HeldBy, HoldLane, HoldAllOf, HasNoName, HasDisk, Matches, MatchAll, name_below, is_unknown, is_of_kind, free_in}
 
 -- ---- names
 
@@ -178,6 +178,7 @@ free_own named kind (x ∷ vs) (d ∷ own) rest z =
     known named kind x d false e k =
         ap (λ (o : Option VolId). not (is_some o) && is_kind kind d.disk.kind) (named_by named x false e)
         ∙ (ap (is_kind kind) k ∙ sym (ap (λ (b : Bool). not b && is_kind kind x.kind) e))
+
     counts : (b : Bool) (n m r : ℕ) → n ≡ m + r → cond b (suc n) n ≡ cond b (suc m) m + r
     counts true n m r e = omega (arith, e)
     counts false n m r e = e

@@ -9,7 +9,7 @@ use Rattle.fc_lane.specs.Lane.{LaneView}
 use Rattle.fc_rules.specs.LaneTold.{LaneOf}
 use Rattle.law_agreeing.specs.Agreeing.{AllAgree}
 use Rattle.law_crash.specs.Doing.{SameDisk}
-use Rattle.fc_noted.specs.Held.{AreOnce, GoesAlong, HoldAllOf, MatchAll, Matches, StayHeld}
+use Rattle.fc_held.specs.Held.{AreOnce, GoesAlong, HoldAllOf, MatchAll, Matches, StayHeld}
 
 pub record HeldLaw : Type 0 where
   -- disks that match what the lanes hold agree with whatever disks the lanes give back

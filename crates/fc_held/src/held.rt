@@ -4,7 +4,7 @@ ghost use Rattle.std.specs.Prelude.{◌≡◌, ◌<◌, ◌≤◌, ◌-◌, IfOk
 ghost use Rattle.fc_base.specs.declared.volume.Volume.{Volume as VolumeValue};
 ghost use Rattle.fc_grains.specs.Grains.{total_of};
 ghost use Rattle.fc_grains.specs.Volumes.{VolumeGrains};
-ghost use Rattle.fc_noted.specs.Held.{HoldAllOf, HoldLane, HaveVolumes, HasVolumes, name_in};
+ghost use Rattle.fc_held.specs.Held.{HoldAllOf, HoldLane, HaveVolumes, HasVolumes, name_in};
 
 use fc_base::ids::VolId;
 use fc_base::outcome::NoMemory;
@@ -24,11 +24,7 @@ fn name_at(volumes: &[Volume], named: u32, place: usize) -> Option<VolId>
         return None;
     }
     let id = volumes[volumes.len() - 1 - place].id;
-    if id.0 < named {
-        Some(id)
-    } else {
-        None
-    }
+    if id.0 < named { Some(id) } else { None }
 }
 
 /// The disks of a lane, named; there are no more than so many.
@@ -57,7 +53,7 @@ fn lane_named<D: Mdisk>(
 }
 
 /// The disks of all lanes of a store, named; no lane has more than so many.
-pub(crate) fn all_named<D: Mdisk>(
+pub fn all_named<D: Mdisk>(
     alloc: Global,
     store: Store<D>,
     named: u32,

@@ -3,8 +3,8 @@ use Rattle.fc_entry.specs.declared.stop.Stop.{Stop}
 use Rattle.fc_entry.specs.declared.stop.Stop.TheVariants.{LogFull as Full, NoMemory as NoRoom}
 use Rattle.fc_meta.specs.declared.error.MetaError.{MetaError}
 use Rattle.fc_meta.specs.declared.error.MetaError.TheVariants.{Failed, NoMemory, Full as NoSpace}
-use Rattle.fc_noted.specs.declared.error.NotedStop.{NotedStop}
-use Rattle.fc_noted.specs.declared.error.NotedStop.TheVariants.{LogFull, NoMemory as WantsMemory, MetaFailed, MetaFull}
+use Rattle.fc_marks.specs.declared.error.NotedStop.{NotedStop}
+use Rattle.fc_marks.specs.declared.error.NotedStop.TheVariants.{LogFull, NoMemory as WantsMemory, MetaFailed, MetaFull}
 
 abbrev pub stop_of_meta : MetaError → NotedStop
 stop_of_meta Failed = MetaFailed

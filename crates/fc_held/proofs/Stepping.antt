@@ -19,7 +19,7 @@ use Rattle.fc_steps.specs.Standing.{VolumeKind, kind_of_grains}
 use Rattle.law_crash.specs.Doing.{SameDisk}
 use Rattle.law_crash.specs.Leaving.{is_free, is_kind}
 use Rattle.law_crash.proofs.Disks.{find_by, same_name, was_of}
-use Rattle.fc_noted.specs.Held.{AreOnce, GoesAlong, HasDisk, Matches, StayHeld, free_in, is_of_kind, is_unknown}
+use Rattle.fc_held.specs.Held.{AreOnce, GoesAlong, HasDisk, Matches, StayHeld, free_in, is_of_kind, is_unknown}
 
 -- ---- the disk of a volume
 

@@ -1,8 +1,8 @@
 //! Why a step isn't made.
 
 ghost use Rattle.std.specs.Prelude.{◌≡◌};
-ghost use Rattle.fc_noted.specs.Stops.{stop_of_meta, stop_of_log};
-ghost use Rattle.fc_noted.specs.declared.error.NotedStop.TheVariants.{NoMemory as WantsMemory};
+ghost use Rattle.fc_marks.specs.Stops.{stop_of_meta, stop_of_log};
+ghost use Rattle.fc_marks.specs.declared.error.NotedStop.TheVariants.{NoMemory as WantsMemory};
 
 use fc_base::outcome::NoMemory;
 use fc_entry::stop::Stop;

@@ -2,7 +2,7 @@
 
 ghost use Rattle.std.specs.Prelude.{◌≡◌, ◌∷◌, ◌++◌, [], filter, not, OnOk, OnErr};
 ghost use Rattle.std.specs.List.{list_any};
-ghost use Rattle.fc_noted.specs.Marks.{is_at, is_open, is_open_any, is_told};
+ghost use Rattle.fc_marks.specs.Marks.{is_at, is_open, is_open_any, is_told};
 
 use fc_base::ids::{GrainNo, VolId};
 use fc_base::outcome::NoMemory;
@@ -32,8 +32,7 @@ fn is_told(row: &Tracked, marks: &[Mark], grain: GrainNo) -> bool
     ensures { result ≡ is_told row.now marks.now grain }
 {
     marks.iter().any(|mark| {
-        mark.grain.0 == grain.0
-            && (row.source() == mark.volume.0 || row.target() == mark.volume.0)
+        mark.grain.0 == grain.0 && (row.source() == mark.volume.0 || row.target() == mark.volume.0)
     })
 }
 
@@ -49,7 +48,7 @@ fn is_open(row: &Tracked, marks: &[Mark], volume: VolId, grain: GrainNo, place: 
 }
 
 /// Whether a write of a grain, which is at this place among the lane's, is to be marked before it is begun.
-pub(crate) fn wants_mark(
+pub fn wants_mark(
     rows: &[Tracked],
     marks: &[Mark],
     volume: VolId,
@@ -63,18 +62,14 @@ pub(crate) fn wants_mark(
 }
 
 /// Takes off the marks of a volume's grain.
-pub(crate) fn forget(marks: &mut Vec<Mark>, volume: VolId, grain: GrainNo)
+pub fn forget(marks: &mut Vec<Mark>, volume: VolId, grain: GrainNo)
     ensures { marks.new.items ≡ filter (λ mark. not (is_at volume grain mark)) marks.old.items }
 {
     marks.retain(|mark| !mark.is_at(volume, grain));
 }
 
 /// Notes a mark. Refused, the marks are as they were.
-pub(crate) fn remember(
-    marks: &mut Vec<Mark>,
-    volume: VolId,
-    grain: GrainNo,
-) -> Result<(), NoMemory>
+pub fn remember(marks: &mut Vec<Mark>, volume: VolId, grain: GrainNo) -> Result<(), NoMemory>
     ensures ok { OnOk result (marks.new.items ≡ marks.old.items ++ (record { volume = volume; grain = grain }) ∷ []) }
     ensures err { OnErr result (marks.new.items ≡ marks.old.items) }
 {

@@ -6,7 +6,7 @@ use Rattle.fc_base.specs.declared.ids.VolId.{VolId}
 use Rattle.fc_changed.specs.Notes.{has}
 use Rattle.fc_changed.specs.Notes.Note.{Wrote}
 use Rattle.fc_changed.specs.Row.{Row, after_note, row_names}
-use Rattle.fc_noted.specs.declared.marks.Mark.{Mark}
+use Rattle.fc_marks.specs.declared.marks.Mark.{Mark}
 
 abbrev pub is_at : VolId → GrainNo → Mark → Bool
 is_at volume grain mark = (mark.volume.0 == volume.0) && (mark.grain.0 == grain.0)

@@ -1,0 +1,3 @@
+-- The law of the disks that lanes hold.
+pub mod Holding
+pub mod Stepping

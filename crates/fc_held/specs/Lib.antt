@@ -1,0 +1,3 @@
+-- The disks that lanes hold, with the names of their volumes.
+pub mod Held
+pub mod Law

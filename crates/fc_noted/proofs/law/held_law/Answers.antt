@@ -1,7 +1,0 @@
--- The law is proved in `Holding` and `Stepping`.
-use Rattle.fc_noted.proofs.Holding.{all_agree}
-use Rattle.fc_noted.proofs.Stepping.{steps}
-use Rattle.fc_noted.proofs.law.held_law.Goals as goal
-
-pub returns : goal.returns
-returns c = record { agree = all_agree; steps = steps }

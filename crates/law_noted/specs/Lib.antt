@@ -1,0 +1,3 @@
+-- How far the actions of an entry came.
+pub mod Records
+pub mod Came
