@@ -1,3 +1,4 @@
 -- How far the actions of an entry came.
 pub mod Records
 pub mod Came
+pub mod Advancing

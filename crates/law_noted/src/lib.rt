@@ -1,2 +1,10 @@
 //! How far the actions of an entry came that is made step by step, and what a stop finds then.
 #![tactic(auto)]
+
+ghost use Rattle.law_noted.specs.Advancing.{AdvanceLaw};
+
+/// The law of records and marks: how an entry that is under way goes on by them, what a stop finds of it, and how it ends. It does
+/// nothing; a caller learns the law.
+pub fn advance_law()
+    ensures { AdvanceLaw }
+{}
