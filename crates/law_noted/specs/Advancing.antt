@@ -91,10 +91,10 @@ pub record RowLaw : Type 0 where
       marked (filter (λ mark. not (is_at volume grain mark)) marks) (after_note rows (Wrote volume.0 grain.0)) ≡ marked marks rows
   -- what an entry notes that is over, all of it or up to a step that stopped, metadata's rows have
   pub whole : (grain : GrainSize) (w : Whole) (request : Request) (steps : List DiskStep) (p : Point) (q : Point) (entry : Entry) → AreStepsOf grain w request steps →
-      Came grain w request p.kept.rows steps p (length steps) None None q → Tells entry.request (asked_write request) steps None entry →
+      Came grain w request p.kept.rows steps p (length steps) None None q → Tells request (asked_write request) steps None entry →
       rows_entry (single_lane grain) q.kept.rows entry ≡ q.kept.rows
   pub stopped : (grain : GrainSize) (w : Whole) (request : Request) (steps : List DiskStep) (p : Point) (n : ℕ) (stop : Stop) (q : Point) (entry : Entry) → AreStepsOf grain w request steps →
-      Came grain w request p.kept.rows steps p n (Some stop) None q → Tells entry.request None (take n steps) (torn_in (Some stop)) entry →
+      Came grain w request p.kept.rows steps p n (Some stop) None q → Tells request None (take n steps) (torn_in (Some stop)) entry →
       rows_entry (single_lane grain) q.kept.rows entry ≡ q.kept.rows
 
 -- ---- what a stop finds

@@ -30,8 +30,8 @@ pub data Came (grain : GrainSize) (w : Whole) (request : Request) (rows : List R
   marked : (front : List DiskStep) (own : DiskStep) (q : Point) → steps ≡ front ++ own ∷ [] → own.move ≡ None →
       Did grain w request w.books.sheet (actions_of_steps rows (number_of grain request) front ++ mark_of rows own.volume (number_of grain request)) p q →
       Came grain w request rows steps p (length front) None None q
-  -- all actions of them but the last record, which waits
-  waits : (front back : List DiskStep) (step : DiskStep) (first : List Action) (r : MetaRecord) (q : Point) → steps ≡ front ++ step ∷ back →
+  -- all actions of them but the last record, which waits behind the data of its step
+  waits : (front back : List DiskStep) (step : DiskStep) (first : List Action) (r : MetaRecord) (q : Point) → steps ≡ front ++ step ∷ back → 1 ≤ step.calls →
       actions_of_step rows (number_of grain request) step ≡ first ++ Note r ∷ [] →
       Did grain w request w.books.sheet (actions_of_steps rows (number_of grain request) front ++ first) p q →
       Came grain w request rows steps p (length front + 1) None (Some r) q
