@@ -2,3 +2,4 @@
 pub mod Records
 pub mod Came
 pub mod Advancing
+pub mod DataSteps
