@@ -3,3 +3,4 @@ pub mod Records
 pub mod Came
 pub mod Advancing
 pub mod DataSteps
+pub mod Runs
