@@ -6,3 +6,14 @@ pub mod Places
 pub mod NextSteps
 pub mod DataCame
 pub mod DataEnds
+pub mod Acting
+pub mod Nexts
+pub mod Recording
+pub mod MarkRows
+pub mod Marking
+pub mod Losing
+pub mod Parts
+pub mod Tearing
+pub mod Finding
+pub mod Ending
+pub mod Advancing

@@ -20,7 +20,7 @@ use Rattle.fc_kept.specs.OneGrain.{Another}
 use Rattle.fc_kept.specs.Prefix.{AreStepsOf}
 use Rattle.fc_kept.specs.Recoverable.{Recoverable}
 use Rattle.fc_legal.specs.Steps.{after_access}
-use Rattle.fc_legal.specs.Whole.{Whole, part_of_rows, single_lane}
+use Rattle.fc_legal.specs.Whole.{Whole, lanes, part_of_rows, single_lane}
 use Rattle.fc_marks.specs.Marks.{is_at, is_open_any, marked}
 use Rattle.fc_marks.specs.declared.marks.Mark.{Mark}
 use Rattle.fc_parts.specs.Law.{IsInVolume}
@@ -108,7 +108,7 @@ pub record StopLaw : Type 0 where
       (one : Option Another) × Recoverable grain back q.kept w least (Some request) one
   -- the data of a step were written, and their record isn't put
   pub due : (grain : GrainSize) (w : Whole) (least : List Row) (request : Request) (steps : List DiskStep) (p : Point) (n : ℕ) (stop : Option Stop) (r : MetaRecord) (q : Point) (back : List (List NamedDisk)) →
-      Begins grain w least request steps p → HaveTheirDisks w p.disks →
+      Begins grain w least request steps p → 0 < lanes w → HaveTheirDisks w p.disks →
       Came grain w request p.kept.rows steps p n stop (Some r) q → AllAgree grain (kept_after q.kept r) q.disks back →
       (one : Option Another) × Recoverable grain back q.kept w least (Some request) one
   -- a mark, and the record of a move that copies nothing, leave no grain that was lost
@@ -129,8 +129,9 @@ pub record EndLaw : Type 0 where
       Tells entry.request None (take n steps) (torn_in (Some stop)) entry →
       Does grain w least p entry (after_access grain w i entry) (least_entry (single_lane grain) least entry) q
   -- and each volume has its disk still
-  pub have : (grain : GrainSize) (w : Whole) (request : Request) (rows : List Row) (steps : List DiskStep) (p : Point) (n : ℕ) (stop : Option Stop) (due : Option MetaRecord) (q : Point) (entry : Entry) (i : ℕ) →
-      Came grain w request rows steps p n stop due q → HaveTheirDisks w p.disks → HaveTheirDisks (after_access grain w i entry) q.disks
+  pub have : (grain : GrainSize) (w : Whole) (least : List Row) (request : Request) (rows : List Row) (steps : List DiskStep) (p : Point) (n : ℕ) (stop : Option Stop) (due : Option MetaRecord) (q : Point) (entry : Entry) (i : ℕ) →
+      Begins grain w least request steps p → 0 < lanes w → HaveTheirDisks w p.disks → Came grain w request rows steps p n stop due q →
+      HaveTheirDisks (after_access grain w i entry) q.disks
 
 pub record AdvanceLaw : Type 0 where
   pub records : RecordLaw
