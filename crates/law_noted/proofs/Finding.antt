@@ -1,6 +1,6 @@
 -- Whatever stands at a moment of an entry may be recovered, with whatever disks agree.
-use Rattle.std.proofs.Common.{◌≡◌, ℕ, ◌<◌, ◌≤◌, false, List, [], ◌∷◌, ◌++◌, length, Option, Some, None, refl, sym, ap, subst, ◌∙◌, ◌⊎◌, inl, inr}
-use Rattle.std.proofs.lemmas.List.{append_assoc, append-nil}
+use Rattle.std.proofs.Common.{◌≡◌, ℕ, ◌<◌, ◌≤◌, false, List, [], ◌∷◌, ◌++◌, Option, Some, None, refl, sym, ap, subst, ◌∙◌}
+use Rattle.std.proofs.lemmas.List.{append_assoc}
 use Rattle.fc_base.specs.Sheet.{Sheet}
 use Rattle.fc_base.specs.declared.ids.VolId.{VolId}
 use Rattle.fc_base.specs.declared.request.Request.{Request}
@@ -30,18 +30,18 @@ use Rattle.law_agreeing.proofs.Recovering.{recovers_agreeing}
 use Rattle.law_crash.specs.Doing.{Did, Finds, Stopped, StepWrites, Tears, actions_of_step, actions_of_steps, chains_behind, content_of, marks_by_move, noted, number_of, with_disks, with_kept}
 use Rattle.law_crash.specs.Law.{Begins}
 use Rattle.law_crash.specs.Leaving.{HaveTheirDisks}
-use Rattle.law_crash.specs.Points.{Point, on_disks}
+use Rattle.law_crash.specs.Points.{Point}
 use Rattle.law_crash.proofs.Doable.{fill_doable, write_doable}
 use Rattle.law_crash.proofs.Fitting.{fits_now}
 use Rattle.law_crash.proofs.Lawful.{all_found, clean_of, copy_of}
-use Rattle.law_crash.proofs.Writing.{AreDoable, CanBeDone, Disked, disked_still, split_doable}
+use Rattle.law_crash.proofs.Writing.{AreDoable, Disked, disked_still, split_doable}
 use Rattle.law_noted.specs.Advancing.{StopLaw}
 use Rattle.law_noted.specs.Came.{Came, Came.behind, Came.marked, Came.waits, Came.stopped, Came.tears}
 use Rattle.law_noted.proofs.Acting.{Halves, actions_both, halves}
 use Rattle.law_noted.proofs.Losing.{agree_fewer, marked_agree, put_agree, uncopied_agree}
 use Rattle.law_noted.proofs.Marking.{note_is}
 use Rattle.law_noted.proofs.Nexts.{same_end}
-use Rattle.law_noted.proofs.Parts.{FromStep, IsDataStep, any_step, data_step, did_marks, front_paired, in_parts, steps_paired}
+use Rattle.law_noted.proofs.Parts.{IsDataStep, any_step, data_step, did_marks, front_paired, in_parts, steps_paired}
 use Rattle.law_noted.proofs.Tearing.{torn_found}
 
 -- ---- between actions
@@ -137,11 +137,11 @@ waits_found grain w least r steps front back step first x p q disks b split some
     let now : Point = with_disks h.rest.0 y in
     let here : Recoverable grain now.disks now.kept w least (Some r) (Some (one_of grain w r step now)) =
     found_within grain w least r steps front back step p y (content_of grain w r step) h.rest.0 b split some h.first h.rest.1 in
-    let whole : AllAgree grain (kept_after now.kept x) now.disks disks = subst (λ (z : Point). AllAgree grain (kept_after z.kept x) z.disks disks) h.rest.2 agree in
+    let whole : AllAgree grain (kept_after now.kept x) now.disks disks = subst (λ (z : Point). AllAgree grain (kept_after z.kept x) z.disks disks) {y = now} h.rest.2 agree in
     let fewer : AllAgree grain now.kept now.disks disks =
     agree_fewer grain (kept_after now.kept x) now.kept now.disks disks
     (λ v u e. subst (λ (n : MetaRecord). is_lost_in (kept_after now.kept n).lost v u ≡ false) is (s.whole now.kept.lost v u e)) whole in
-    subst (λ (z : Point). Found grain w least r disks z.kept) (sym h.rest.2)
+    subst (λ (z : Point). Found grain w least r disks z.kept) (sym {b = now} h.rest.2)
     (Some (one_of grain w r step now), recovers_agreeing grain now.disks disks now.kept w least (Some r) (Some (one_of grain w r step now)) fewer here)
 
 -- ---- a step whose write failed
@@ -193,10 +193,12 @@ tears_found grain w least r steps front back step torn p q disks b some have spl
     let torn_agree : AllAgree grain (kept_after q.kept (TornRecord record { 0 = v } record { 0 = g } step.side)) q.disks disks =
     subst (λ (t : Torn). AllAgree grain (kept_after q.kept (TornRecord t.volume t.grain t.side)) q.disks disks) is agree in
     let new : List (List NamedDisk) = put.new in
-    let one : Another = one_of grain w r step (with_disks new q) in
-    (Some one, recovers_agreeing grain new disks q.kept w least (Some r) (Some one)
-    (put_agree grain w q.kept v g step.side on.0 q.disks new disks here.count torn_agree put.writes on.1)
-    (found_within grain w least r steps front back step p q (Bytes on.0) new b split calls did put.writes))
+    let one : Another = one_of grain w r step (with_disks new q) in (
+      Some one,
+      recovers_agreeing grain new disks q.kept w least (Some r) (Some one)
+          (put_agree grain w q.kept v g step.side on.0 q.disks new disks here.count torn_agree put.writes on.1)
+          (found_within grain w least r steps front back step p q (Bytes on.0) new b split calls did put.writes),
+    )
 
 due : (grain : GrainSize) (w : Whole) (least : List Row) (r : Request) (steps : List DiskStep) (p : Point) (n : ℕ) (stop : Option Stop) (x : MetaRecord) (q : Point) (back : List (List NamedDisk)) →
     Begins grain w least r steps p → 0 < lanes w → HaveTheirDisks w p.disks →

@@ -1,5 +1,5 @@
 -- Disks that agree by metadata agree where more is lost, and where one grain that is lost was made the same.
-use Rattle.std.proofs.Common.{◌≡◌, ◌≢◌, ℕ, zero, suc, ◌<◌, ◌%◌, ◌==◌, Bool, true, false, not, ◌&&◌, cond, eqb, is_some, Option, Some, None, List, [], ◌∷◌, length, get_or, set, map, filter, refl, sym, ap, subst, ◌∙◌, ◌⊎◌, inl, inr, get_or-set_other}
+use Rattle.std.proofs.Common.{◌≡◌, ◌≢◌, ℕ, zero, suc, ◌<◌, ◌==◌, Bool, true, false, not, ◌&&◌, cond, is_some, Option, Some, None, List, [], ◌∷◌, length, set, map, filter, refl, sym, ap, subst, ◌∙◌, ◌⊎◌, inl, inr, get_or-set_other}
 use Rattle.std.specs.List.{AllZip}
 use Rattle.std.proofs.lemmas.Bool.{cases_Bool, cases_eq, eqb-true, ne_eqb}
 use Rattle.fc_base.specs.declared.disk.DiskKind.{DiskKind}
@@ -7,13 +7,13 @@ use Rattle.fc_base.specs.declared.request.Move.{Move}
 use Rattle.fc_base.specs.declared.request.Side.{Side}
 use Rattle.fc_base.specs.declared.size.GrainSize.{GrainSize}
 use Rattle.fc_changed.specs.Notes.{has}
-use Rattle.fc_entry.specs.Picture.{Content, Bytes}
+use Rattle.fc_entry.specs.Picture.{Bytes}
 use Rattle.fc_image.specs.declared.record.MetaRecord.{MetaRecord}
 use Rattle.fc_image.specs.declared.record.MetaRecord.TheVariants.{Pair, Written, Torn}
 use Rattle.fc_kept.specs.Disks.{NamedDisk, disk_of, is_of, on_disk}
 use Rattle.fc_kept.specs.Kept.{Kept, LostGrains, is_lost_in, kept_after, lost_kept, lost_put}
 use Rattle.fc_kept.specs.Recoverable.{disks_at}
-use Rattle.fc_legal.specs.Whole.{Whole, lane_at, lane_of_grain, lanes}
+use Rattle.fc_legal.specs.Whole.{Whole, lane_at, lanes}
 use Rattle.fc_parts.proofs.Numbers.{number_is_of, place_of_number}
 use Rattle.fc_rules.specs.LaneTold.{LaneOf, number_at, place_of}
 use Rattle.law_agreeing.specs.Agreeing.{Agree, AllAgree, SameSize}
@@ -175,37 +175,37 @@ torn_at v g side = Torn record { 0 = v } record { 0 = g } side
 module _ (grain : GrainSize) (w : Whole) (k : Kept) (v g : ℕ) (side : Side) (bytes : List ℕ) (old put back : List (List NamedDisk)) (count : length old ≡ lanes w)
     (a : AllAgree grain (kept_after k (torn_at v g side)) old back) (x : IsWritten grain w v g (Bytes bytes) old put) (there : on_disks grain w back v g ≡ Bytes bytes)
   where
-  same_at : (u number : ℕ) → is_lost_in k.lost u number ≡ false → (is_lost_in (kept_after k (torn_at v g side)).lost u number ≡ false → on_disks grain w back u number ≡ on_disks grain w old u number) →
-      on_disks grain w back u number ≡ on_disks grain w put u number
-  same_at u number e f = elim (cases_eq u v) [
-    | inl eu ↦ elim (cases_eq number g) [
-      | inl eg ↦ (λ i. on_disks grain w back (eu i) (eg i)) ∙ (there ∙ (sym x.stored.here ∙ sym (λ i. on_disks grain w put (eu i) (eg i))))
-      | inr ng ↦ f (lost_other v g k.lost u number (inr ng) ∙ e) ∙ sym (x.stored.elsewhere u number (inr ng))
+    same_at : (u number : ℕ) → is_lost_in k.lost u number ≡ false → (is_lost_in (kept_after k (torn_at v g side)).lost u number ≡ false → on_disks grain w back u number ≡ on_disks grain w old u number) →
+        on_disks grain w back u number ≡ on_disks grain w put u number
+    same_at u number e f = elim (cases_eq u v) [
+      | inl eu ↦ elim (cases_eq number g) [
+        | inl eg ↦ (λ i. on_disks grain w back (eu i) (eg i)) ∙ (there ∙ (sym x.stored.here ∙ sym (λ i. on_disks grain w put (eu i) (eg i))))
+        | inr ng ↦ f (lost_other v g k.lost u number (inr ng) ∙ e) ∙ sym (x.stored.elsewhere u number (inr ng))
+      ]
+      | inr nu ↦ f (lost_other v g k.lost u number (inl nu) ∙ e) ∙ sym (x.stored.elsewhere u number (inl nu))
     ]
-    | inr nu ↦ f (lost_other v g k.lost u number (inl nu) ∙ e) ∙ sym (x.stored.elsewhere u number (inl nu))
-  ]
 
-  at_lane : (i : ℕ) → i < length put → Agree (lane_at grain w i) k (disks_at put i) (disks_at back i)
-  at_lane i il =
-      let l : LaneOf = lane_at grain w i in
-      let below : i < length old = subst (λ (n : ℕ). i < n) x.count il in
-      let inside : i < lanes w = subst (λ (n : ℕ). i < n) count below in
-      let of_count : ℕ → LaneOf = λ n. record { lane = i; lanes = n; grain = grain } in
-      let was : Agree l (kept_after k (torn_at v g side)) (disks_at old i) (disks_at back i) =
-      subst (λ (n : ℕ). Agree (of_count n) (kept_after k (torn_at v g side)) (disks_at old i) (disks_at back i)) count (a.each i below) in
-      record {
-        named = λ u. sizes (disks_at old i) (disks_at put i) u (disk_of (disks_at back i) u) (x.same i) (was.named u);
-        free = λ kind. was.free kind ∙ sym (frees kind (disks_at old i) (disks_at put i) (x.same i));
-        bytes = λ u y e.
-            sym (in_lane grain w back i u y inside)
-            ∙ (same_at u (number_at l y) e (λ q. in_lane grain w back i u y inside ∙ (was.bytes u y q ∙ sym (in_lane grain w old i u y inside)))
-            ∙ in_lane grain w put i u y inside);
-      }
-
-  pub put_agree : AllAgree grain k put back
-  put_agree = record {
-    count = a.count ∙ sym x.count;
-    each = λ i il.
+    at_lane : (i : ℕ) → i < length put → Agree (lane_at grain w i) k (disks_at put i) (disks_at back i)
+    at_lane i il =
+        let l : LaneOf = lane_at grain w i in
+        let below : i < length old = subst (λ (n : ℕ). i < n) x.count il in
+        let inside : i < lanes w = subst (λ (n : ℕ). i < n) count below in
         let of_count : ℕ → LaneOf = λ n. record { lane = i; lanes = n; grain = grain } in
-        subst (λ (n : ℕ). Agree (of_count n) k (disks_at put i) (disks_at back i)) (sym (x.count ∙ count)) (at_lane i il);
-  }
+        let was : Agree l (kept_after k (torn_at v g side)) (disks_at old i) (disks_at back i) =
+        subst (λ (n : ℕ). Agree (of_count n) (kept_after k (torn_at v g side)) (disks_at old i) (disks_at back i)) count (a.each i below) in
+        record {
+          named = λ u. sizes (disks_at old i) (disks_at put i) u (disk_of (disks_at back i) u) (x.same i) (was.named u);
+          free = λ kind. was.free kind ∙ sym (frees kind (disks_at old i) (disks_at put i) (x.same i));
+          bytes = λ u y e.
+              sym (in_lane grain w back i u y inside)
+              ∙ (same_at u (number_at l y) e (λ q. in_lane grain w back i u y inside ∙ (was.bytes u y q ∙ sym (in_lane grain w old i u y inside)))
+              ∙ in_lane grain w put i u y inside);
+        }
+
+    pub put_agree : AllAgree grain k put back
+    put_agree = record {
+      count = a.count ∙ sym x.count;
+      each = λ i il.
+          let of_count : ℕ → LaneOf = λ n. record { lane = i; lanes = n; grain = grain } in
+          subst (λ (n : ℕ). Agree (of_count n) k (disks_at put i) (disks_at back i)) (sym (x.count ∙ count)) (at_lane i il);
+    }

@@ -1,5 +1,5 @@
 -- Rows, and the grains of them that are marked.
-use Rattle.std.proofs.Common.{◌≡◌, ℕ, zero, suc, ◌<◌, ◌%◌, Bool, true, false, not, ◌&&◌, ◌||◌, cond, eqb, List, [], ◌∷◌, ◌++◌, get_or, set, map, fold, filter, refl, sym, ap, subst, ◌∙◌, inl, inr, get_or-set_other}
+use Rattle.std.proofs.Common.{◌≡◌, ℕ, zero, suc, ◌<◌, ◌%◌, Bool, true, false, not, ◌&&◌, ◌||◌, cond, List, [], ◌∷◌, ◌++◌, set, map, filter, refl, sym, ap, subst, ◌∙◌, inl, inr, get_or-set_other}
 use Rattle.std.specs.Prelude.{◌==◌}
 use Rattle.std.specs.List.{list_any}
 use Rattle.std.proofs.lemmas.Bool.{and_parts, cases_eq, eq-eqb, eqb-true, ne_eqb}
@@ -10,7 +10,7 @@ use Rattle.fc_changed.specs.Notes.Note.{Wrote}
 use Rattle.fc_changed.specs.Row.{Row, after_note, row_names, row_wrote}
 use Rattle.fc_kept.specs.Actions.{is_unmarked}
 use Rattle.fc_kept.specs.Kept.{rows_kept}
-use Rattle.fc_legal.specs.Whole.{part, part_of_row, part_of_rows}
+use Rattle.fc_legal.specs.Whole.{part_of_row, part_of_rows}
 use Rattle.fc_marks.specs.Marks.{is_at, is_open, is_open_any, is_told, mark_row, marked}
 use Rattle.fc_marks.specs.declared.marks.Mark.{Mark}
 use Rattle.fc_parts.proofs.Numbers.{IsLane, IsOf, part_at_grain}

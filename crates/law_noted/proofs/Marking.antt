@@ -1,5 +1,5 @@
 -- The mark of a write is put before its data, and the rows of metadata stay those of the history with the grains that are marked.
-use Rattle.std.proofs.Common.{◌≡◌, ℕ, ◌+◌, ◌==◌, Bool, true, false, cond, List, [], ◌∷◌, ◌++◌, length, take, fold, Option, Some, None, refl, sym, ap, subst, ◌∙◌, ◌⊎◌, inl, inr, arith, length-append}
+use Rattle.std.proofs.Common.{◌≡◌, ℕ, ◌+◌, Bool, true, false, cond, List, [], ◌∷◌, ◌++◌, length, take, fold, Option, Some, None, refl, sym, ap, subst, ◌∙◌, ◌⊎◌, inl, inr, arith, length-append}
 use Rattle.std.specs.List.{list_any}
 use Rattle.std.proofs.lemmas.List.{append_assoc, append-nil}
 use Rattle.fc_base.specs.Sheet.{Sheet}
@@ -11,36 +11,32 @@ use Rattle.fc_base.specs.declared.request.Side.TheVariants.{Now, Under}
 use Rattle.fc_base.specs.declared.request.Torn.{Torn}
 use Rattle.fc_base.specs.declared.request.WritePart.{WritePart}
 use Rattle.fc_base.specs.declared.size.GrainSize.{GrainSize}
-use Rattle.fc_changed.specs.Notes.{Note as RowNote}
 use Rattle.fc_changed.specs.Notes.Note.{Wrote}
 use Rattle.fc_changed.specs.Row.{Row, after_note}
 use Rattle.fc_entry.specs.Picture.{grain_of_block}
 use Rattle.fc_entry.specs.declared.entry.Entry.{Entry}
 use Rattle.fc_follow.specs.Following.{rows_entry, torn_notes, write_notes}
 use Rattle.fc_image.specs.declared.record.MetaRecord.{MetaRecord}
-use Rattle.fc_image.specs.declared.record.MetaRecord.TheVariants.{Pair, Written, Changing, Torn as TornRecord}
-use Rattle.fc_kept.specs.Actions.{Action, Action.Data, Action.Note, Action.Fold, actions_of_move, data_of, is_unmarked, mark_of, record_of_move}
-use Rattle.fc_kept.specs.Kept.{rows_kept, sheet_kept}
+use Rattle.fc_image.specs.declared.record.MetaRecord.TheVariants.{Written, Torn as TornRecord}
+use Rattle.fc_kept.specs.Actions.{Action, Action.Data, Action.Note, data_of, is_unmarked, mark_of, record_of_move}
+use Rattle.fc_kept.specs.Kept.{rows_kept}
 use Rattle.fc_kept.specs.Marks.{asked_write}
 use Rattle.fc_kept.specs.Prefix.{AreStepsOf}
 use Rattle.fc_legal.specs.Whole.{Whole, single_lane}
 use Rattle.fc_parts.proofs.Numbers.{all_place}
-use Rattle.fc_rules.specs.LaneTold.{place_of}
 use Rattle.fc_rules.specs.Steps.{DiskStep}
 use Rattle.fc_steps.specs.StepsEnd.{torn_in}
 use Rattle.fc_steps.specs.declared.stop.Stop.{Stop}
-use Rattle.fc_steps.specs.declared.stop.Stop.TheVariants.{Failed, NoMemory}
 use Rattle.law_agreeing.specs.Coming.{chains_by}
-use Rattle.law_crash.specs.Doing.{Did, Tells, Tears, actions_by_move, actions_of_step, actions_of_steps, chains_behind, marks_by_move, noted, number_of, with_disks, with_kept}
+use Rattle.law_crash.specs.Doing.{Did, Tells, Tears, actions_by_move, actions_of_step, actions_of_steps, chains_behind, marks_by_move, noted, number_of}
 use Rattle.law_crash.specs.Points.{Point}
-use Rattle.law_crash.proofs.Folding.{fold_rows}
 use Rattle.law_crash.proofs.Lawful.{moves_in, own_is, own_in, write_of}
 use Rattle.law_crash.proofs.Making.{steps_in}
 use Rattle.law_noted.specs.Advancing.{IsNext, MarkingLaw, RowLaw, mark_at}
 use Rattle.law_noted.specs.Came.{Came, Came.behind, Came.marked, Came.waits, Came.stopped, Came.tears}
 use Rattle.law_noted.proofs.Acting.{Halves, actions_both, data_rows, did_both, did_note, halves, note_rows, rows_left}
 use Rattle.law_noted.proofs.MarkRows.{changed, forgotten, once, remembered, wanted, wrote}
-use Rattle.law_noted.proofs.Nexts.{IsMoving, IsLast, front_moves, head_is, here, kind_of, moves_leave, own_last, same_end, same_front}
+use Rattle.law_noted.proofs.Nexts.{front_moves, head_is, here, kind_of, moves_leave, own_last, same_end, same_front}
 
 -- ---- a mark
 

@@ -1,5 +1,5 @@
 -- The entry of a step that stopped, whose failed write tore a grain: it may come, so what stands behind its record may be recovered.
-use Rattle.std.proofs.Common.{◌≡◌, ℕ, ◌+◌, ◌≤◌, eqb, Bool, true, false, cond, List, [], ◌∷◌, ◌++◌, Option, Some, None, refl, sym, ap, subst, ◌∙◌, inl, arith}
+use Rattle.std.proofs.Common.{◌≡◌, ℕ, ◌+◌, ◌≤◌, Bool, cond, List, [], ◌∷◌, ◌++◌, Option, Some, None, refl, sym, ap, subst, ◌∙◌, inl, arith}
 use Rattle.std.specs.Prelude.{slice_index_or}
 use Rattle.std.proofs.lemmas.Bool.{eq-eqb}
 use Rattle.fc_base.specs.Sheet.{live_place}
@@ -9,13 +9,12 @@ use Rattle.fc_base.specs.declared.request.Reply.TheVariants.{DiskFault}
 use Rattle.fc_base.specs.declared.request.Request.{Request}
 use Rattle.fc_base.specs.declared.request.Request.TheVariants.{Write, Copy, Clean}
 use Rattle.fc_base.specs.declared.request.Torn.{Torn}
-use Rattle.fc_base.specs.declared.request.WritePart.{WritePart}
 use Rattle.fc_base.specs.declared.size.GrainSize.{GrainSize}
 use Rattle.fc_base.specs.declared.state.Access.{Access}
 use Rattle.fc_changed.specs.Row.{Row}
 use Rattle.fc_entry.specs.declared.entry.Entry.{Entry}
 use Rattle.fc_kept.specs.Marks.{LeastStep, least_entry}
-use Rattle.fc_kept.specs.Prefix.{AreFillSteps, AreStepsOf, Prefix, Prefix.whole, spot_of}
+use Rattle.fc_kept.specs.Prefix.{AreFillSteps, AreStepsOf, Prefix.whole, spot_of}
 use Rattle.fc_kept.specs.Recoverable.{Recoverable}
 use Rattle.fc_legal.specs.Steps.{AccessStep, Step, after_access}
 use Rattle.fc_legal.specs.Whole.{Whole, as_one, lane_of_grain, single_lane}
@@ -25,7 +24,7 @@ use Rattle.fc_rules.specs.LaneRight.{LaneAnswers, MappingFill, VolumeWrite, done
 use Rattle.fc_rules.specs.LaneTold.{LaneTold, place_of}
 use Rattle.fc_rules.specs.LaneTurn.{cleaned_slot, copied_slot}
 use Rattle.fc_rules.specs.Spot.{Spot}
-use Rattle.fc_rules.specs.Steps.{DiskStep, HasFailed, calls_of_steps, moves_of, steps_of_fill, torn_by}
+use Rattle.fc_rules.specs.Steps.{DiskStep, HasFailed, calls_of_steps, moves_of}
 use Rattle.law_crash.specs.Doing.{Stopped, Tells, number_of}
 use Rattle.law_crash.specs.Law.{Begins}
 use Rattle.law_crash.specs.Points.{Point}
