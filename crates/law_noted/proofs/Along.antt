@@ -1,6 +1,5 @@
 -- Disks go along with what a lane holds, where the bytes of one grain changed, or it was torn.
-use Rattle.std.proofs.Common.{◌≡◌, ◌≢◌, ◌⊎◌, ℕ, ◌<◌, ◌%◌, Bool, true, false, cond, List, length, map, Some, None, refl, sym, ap, subst, ◌∙◌, inl, inr}
-use Rattle.std.specs.List.{AllZip}
+use Rattle.std.proofs.Common.{◌≡◌, ◌≢◌, ◌⊎◌, ℕ, ◌<◌, ◌%◌, Bool, true, false, List, map, refl, sym, ap, ◌∙◌, inl, inr}
 use Rattle.std.proofs.lemmas.Bool.{cases_eq}
 use Rattle.fc_base.specs.Tables.{Tables}
 use Rattle.fc_base.specs.declared.ids.VolId.{VolId}
@@ -17,10 +16,9 @@ use Rattle.fc_legal.specs.Whole.{Whole, lane_at, lane_of_grain, lanes}
 use Rattle.fc_parts.proofs.Numbers.{number_is_of, number_of_place, place_of_number}
 use Rattle.fc_pictures.specs.Law.{StoredAt}
 use Rattle.fc_rules.specs.LaneTold.{LaneOf, number_at, place_of}
-use Rattle.fc_rules.specs.Shows.{Stored}
 use Rattle.law_crash.specs.Doing.{IsWritten}
 use Rattle.law_crash.specs.Points.{on_disks}
-use Rattle.law_crash.proofs.Lost.{SameElsewhere, lost_by_tables, lost_elsewhere, whole_here}
+use Rattle.law_crash.proofs.Lost.{SameElsewhere, lost_by_tables, lost_elsewhere}
 use Rattle.law_noted.specs.DataSteps.{Along}
 
 -- what a lane's disks have at a place is what all disks have at its number

@@ -1,7 +1,6 @@
 -- Actions that were done, one after the other.
-use Rattle.std.proofs.Common.{◌≡◌, ℕ, Bool, true, false, cond, ◌==◌, ◌&&◌, not, if◌then◌else◌, Some, List, [], ◌∷◌, ◌++◌, length, get_or, map, fold, All, refl, sym, ap, subst, ◌∙◌, inl, inr, length-set}
+use Rattle.std.proofs.Common.{◌≡◌, ℕ, Bool, true, false, ◌==◌, ◌&&◌, not, if◌then◌else◌, List, [], ◌∷◌, ◌++◌, length, get_or, map, fold, refl, sym, ap, subst, ◌∙◌, inl, inr, length-set}
 use Rattle.std.proofs.lemmas.Bool.{cond_both}
-use Rattle.std.proofs.lemmas.List.{append_assoc}
 use Rattle.std.proofs.lemmas.List.Elements.{All-map}
 use Rattle.fc_base.specs.Sheet.{Sheet}
 use Rattle.fc_base.specs.Tables.{Tables}
@@ -15,7 +14,7 @@ use Rattle.fc_image.specs.declared.record.MetaRecord.TheVariants.{Pair, Written,
 use Rattle.fc_kept.specs.Actions.{Action, Action.Data, Action.Note, Action.Fold, actions_of_move, record_of_move}
 use Rattle.fc_kept.specs.Disks.{NamedDisk}
 use Rattle.fc_kept.specs.Images.{size_in}
-use Rattle.fc_kept.specs.Kept.{Kept, LostGrains, kept_after, lost_kept, lost_put, sheet_kept}
+use Rattle.fc_kept.specs.Kept.{Kept, LostGrains, lost_kept, lost_put, sheet_kept}
 use Rattle.fc_kept.specs.Sound.{AreLost}
 use Rattle.fc_legal.specs.Whole.{Whole, single_lane}
 use Rattle.fc_parts.proofs.Numbers.{all_place}
@@ -24,7 +23,7 @@ use Rattle.fc_base.specs.SheetStep.{sheet_moved}
 use Rattle.fc_rules.specs.Spot.{Spot, move_in}
 use Rattle.fc_rules.specs.Steps.{DiskStep, step_of_move}
 use Rattle.law_agreeing.specs.Coming.{chains_by}
-use Rattle.law_crash.specs.Doing.{Did, MayFold, StepWrites, actions_of_step, actions_of_steps, chains_behind, content_of, folded, noted, number_of, with_disks, with_kept}
+use Rattle.law_crash.specs.Doing.{Did, MayFold, StepWrites, actions_of_steps, chains_behind, content_of, folded, noted, number_of, with_disks, with_kept}
 use Rattle.law_crash.specs.Points.{Point}
 use Rattle.law_crash.proofs.Folding.{fold_rows}
 use Rattle.law_crash.proofs.Making.{spot_in, steps_in, told_moves}

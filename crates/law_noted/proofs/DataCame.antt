@@ -1,5 +1,5 @@
 -- How the actions of an entry go on by the data of its next step.
-use Rattle.std.proofs.Common.{◌≡◌, ◌⊎◌, ℕ, ◌+◌, ◌≤◌, ◌<◌, Bool, true, false, Option, Some, None, List, [], ◌∷◌, ◌++◌, length, map, inl, inr, refl, sym, ap, subst, ◌∙◌, arith}
+use Rattle.std.proofs.Common.{◌≡◌, ◌⊎◌, ℕ, ◌+◌, ◌≤◌, Option, Some, None, List, [], ◌∷◌, ◌++◌, length, inl, inr, refl, sym, ap, subst, ◌∙◌}
 use Rattle.std.proofs.lemmas.List.{append_assoc, append-nil}
 use Rattle.fc_base.specs.Sheet.{Sheet}
 use Rattle.fc_base.specs.declared.request.Move.{Move}
@@ -15,8 +15,7 @@ use Rattle.fc_legal.specs.Whole.{Whole}
 use Rattle.fc_rules.specs.Steps.{DiskStep}
 use Rattle.fc_steps.specs.StepsEnd.{torn_in}
 use Rattle.fc_steps.specs.declared.stop.Stop.{Stop}
-use Rattle.fc_steps.specs.declared.stop.Stop.TheVariants.{Failed, NoMemory}
-use Rattle.law_agreeing.specs.Coming.{chains_by}
+use Rattle.fc_steps.specs.declared.stop.Stop.TheVariants.{Failed}
 use Rattle.law_crash.specs.Doing.{Did, StepWrites, Tears, actions_of_step, actions_of_steps, chains_behind, content_of, marks_by_move, number_of, with_disks}
 use Rattle.law_crash.specs.Points.{Point}
 use Rattle.law_crash.proofs.Making.{spot_in, steps_in}

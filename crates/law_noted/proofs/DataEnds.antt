@@ -1,23 +1,20 @@
 -- What a step of data leaves: of the actions, of the disks, and of what goes along.
-use Rattle.std.proofs.Common.{◌≡◌, ◌≢◌, ℕ, ◌+◌, ◌≤◌, ◌<◌, Bool, true, false, Option, Some, None, List, [], ◌∷◌, ◌++◌, length, map, refl, sym, ap, subst, ◌∙◌}
+use Rattle.std.proofs.Common.{◌≡◌, ◌≢◌, ℕ, ◌+◌, ◌≤◌, ◌<◌, true, false, Option, Some, None, List, [], ◌∷◌, ◌++◌, length, map, refl, sym, ap, subst}
 use Rattle.std.specs.List.{AllZip}
 use Rattle.std.proofs.lemmas.Grind.{flat_map-append}
-use Rattle.fc_base.specs.Tables.{Tables}
-use Rattle.fc_base.specs.declared.ids.VolId.{VolId}
 use Rattle.fc_base.specs.declared.request.Request.{Request}
 use Rattle.fc_base.specs.declared.request.Torn.{Torn}
 use Rattle.fc_base.specs.declared.size.GrainSize.{GrainSize}
 use Rattle.fc_books.specs.Sound.{AreSound}
 use Rattle.fc_changed.specs.Row.{Row}
-use Rattle.fc_entry.specs.Picture.{Content, Bytes, Lost}
+use Rattle.fc_entry.specs.Picture.{Content, Lost}
 use Rattle.fc_grains.specs.Grains.{GrainsState}
 use Rattle.fc_grains.specs.Volumes.{stored}
 use Rattle.fc_image.specs.declared.record.MetaRecord.{MetaRecord}
 use Rattle.fc_image.specs.declared.record.MetaRecord.TheVariants.{Torn as TornRecord}
 use Rattle.fc_kept.specs.Actions.{Action, Action.Data, Action.Note}
-use Rattle.fc_kept.specs.Disks.{NamedDisk, FitDisks}
-use Rattle.fc_kept.specs.Images.{size_in}
-use Rattle.fc_kept.specs.Kept.{Kept, LostGrains, kept_after, lost_put}
+use Rattle.fc_kept.specs.Disks.{NamedDisk}
+use Rattle.fc_kept.specs.Kept.{Kept, kept_after, lost_put}
 use Rattle.fc_kept.specs.Prefix.{AreStepsOf}
 use Rattle.fc_kept.specs.Recoverable.{disks_at}
 use Rattle.fc_kept.specs.Sound.{AreLost}
@@ -32,7 +29,7 @@ use Rattle.fc_steps.specs.declared.ask.Ask.{Ask}
 use Rattle.fc_steps.specs.declared.ask.Ask.TheVariants.{Write, Copy, Clean}
 use Rattle.fc_steps.specs.declared.stop.Stop.{Stop}
 use Rattle.fc_steps.specs.declared.stop.Stop.TheVariants.{Failed}
-use Rattle.law_crash.specs.Doing.{Did, IsWritten, SameDisk, StepWrites, actions_of_step, actions_of_steps, content_of, marks_by_move, number_of, with_disks}
+use Rattle.law_crash.specs.Doing.{SameDisk, StepWrites, actions_of_step, actions_of_steps, content_of, marks_by_move, number_of, with_disks}
 use Rattle.law_crash.specs.Points.{Point}
 use Rattle.law_crash.proofs.Doable.{fill_doable, write_doable}
 use Rattle.law_crash.proofs.Lawful.{clean_of, copy_of}

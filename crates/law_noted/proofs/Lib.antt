@@ -6,6 +6,9 @@ pub mod Places
 pub mod NextSteps
 pub mod DataCame
 pub mod DataEnds
+pub mod DataMoves
+pub mod DataInHand
+pub mod DataWhole
 pub mod Acting
 pub mod Nexts
 pub mod Recording

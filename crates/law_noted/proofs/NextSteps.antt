@@ -1,5 +1,5 @@
 -- Which step of an entry is next, what a move reads, and what a step that failed tore.
-use Rattle.std.proofs.Common.{◌≡◌, ◌⊎◌, ℕ, ◌+◌, ◌≤◌, ◌<◌, Bool, true, false, cond, eqb, take, drop, Option, Some, None, List, [], ◌∷◌, ◌++◌, length, map, inl, inr, refl, sym, ap, subst, ◌∙◌, arith}
+use Rattle.std.proofs.Common.{◌≡◌, ℕ, ◌≤◌, Bool, true, false, cond, eqb, take, drop, Option, Some, None, List, [], ◌∷◌, ◌++◌, length, map, inl, inr, refl, sym, ap, subst, ◌∙◌, arith}
 use Rattle.std.proofs.lemmas.List.{append-nil, length-map, length-take-le}
 use Rattle.fc_base.specs.Column.{holder}
 use Rattle.fc_base.specs.Sheet.{Slot, birth_place, column, slot_at}
@@ -15,7 +15,7 @@ use Rattle.fc_pictures.proofs.Agreeing.{lane_law_holds}
 use Rattle.fc_pictures.proofs.Fitting.{read_is}
 use Rattle.fc_rules.specs.LaneTold.{LaneOf, LaneTold}
 use Rattle.fc_rules.specs.Spot.{Spot, move_in}
-use Rattle.fc_rules.specs.Steps.{DiskStep, moves_of, step_of_move, torn_by}
+use Rattle.fc_rules.specs.Steps.{DiskStep, moves_of, step_of_move}
 use Rattle.fc_steps.specs.Moving.{CanMove, SameLane}
 use Rattle.fc_steps.specs.Standing.{Stands}
 use Rattle.fc_steps.specs.StepsEnd.{FailedIn}
