@@ -33,7 +33,7 @@ use Rattle.law_crash.specs.Points.{Point}
 use Rattle.law_crash.proofs.Making.{spot_in, steps_in}
 use Rattle.law_crash.proofs.Stopping.{one_step}
 use Rattle.law_crash.proofs.Writing.{AreDoable, Disked}
-use Rattle.law_noted.specs.Came.{Came, steps_done}
+use Rattle.law_noted.specs.Came.{Came, own_done, steps_done}
 use Rattle.law_noted.specs.DataSteps.{IsInHand}
 use Rattle.law_noted.proofs.DataCame.{DoneTo, done_to}
 use Rattle.law_noted.proofs.DataEnds.{asked_doable}
@@ -162,7 +162,7 @@ module _ (grain : GrainSize) (w : Whole) (least : List Row) (place : ℕ) (doing
   pub done_so : (done : List ℕ) (back : List DiskStep) (step : DiskStep) → s.stop ≡ None → s.written ≡ false → steps ≡ steps_in grain w r done ++ step ∷ back → length done ≡ s.made →
       DoneTo grain w r before.kept.rows steps before (steps_in grain w r done) step q
   done_so done back step none unwritten split count =
-      let index : steps_done s ≡ s.made = ap (λ (b : Bool). s.made + cond b 1 0) unwritten ∙ omega arith in
+      let index : steps_done s ≡ s.made = (λ i. s.made + own_done (none i) (unwritten i)) ∙ omega arith in
       done_to grain w r before.kept.rows steps before s.made s.stop None q (steps_in grain w r done) back step
       (subst (λ (n : ℕ). Came grain w r before.kept.rows steps before n s.stop None q) index h.came) none refl split (count_at done count)
 

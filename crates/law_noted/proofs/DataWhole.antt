@@ -42,7 +42,7 @@ use Rattle.law_crash.specs.Doing.{content_of, number_of, with_disks, with_part}
 use Rattle.law_crash.specs.Law.{Begins}
 use Rattle.law_crash.specs.Points.{Point}
 use Rattle.law_crash.proofs.Making.{spot_in, steps_in}
-use Rattle.law_noted.specs.Came.{Came, steps_done}
+use Rattle.law_noted.specs.Came.{Came, own_done, steps_done}
 use Rattle.law_noted.specs.DataSteps.{Copies, DataLaw, IsInHand, IsNextStep, IsStepped, NeedsNoMark, copies_nothing}
 use Rattle.law_noted.specs.Records.{record_after, record_by}
 use Rattle.law_noted.proofs.DataCame.{before_move, before_own, no_mark}
@@ -57,9 +57,13 @@ some_calls : (b : Bool) → 1 ≤ cond b 1 2
 some_calls true = omega arith
 some_calls false = omega arith
 
-done_by : (b : Bool) (n : ℕ) → cond b n (n + 1) ≡ n + cond (not b) 1 0
-done_by true n = omega arith
-done_by false n = omega arith
+done_by : (o : Option Stop) (n : ℕ) → cond (is_some o) n (n + 1) ≡ n + own_done o (not (is_some o))
+done_by (Some stop) n = omega arith
+done_by None n = omega arith
+
+none_done : (o : Option Stop) → 0 ≡ own_done o false
+none_done (Some stop) = refl
+none_done None = refl
 
 module _ (grain : GrainSize) (w : Whole) (least : List Row) (place : ℕ) (doing : Doing) (begun old : LaneView) (steps : List DiskStep) (before q : Point) (h : IsInHand grain w least place doing begun old steps before None q)
     (end : StepEnd) (new : LaneView) where
@@ -217,8 +221,8 @@ module _ (grain : GrainSize) (w : Whole) (least : List Row) (place : ℕ) (doing
       subst (λ (x : Next). IsUnderWay begun (record doing { steps = after_step x end s }) new) is (subst (λ (d : Doing). IsUnderWay begun d new) n.after (n.way begun h.under)) in
       let u = under (NextMove m) e in
       let made : ℕ = cond (is_some end.stop) s.made (s.made + 1) in
-      let index : made ≡ made + cond s.written 1 0 =
-      (let zero : made ≡ made + 0 = omega arith in zero) ∙ ap (λ (b : Bool). made + cond b 1 0) (sym (move_comes s.stop s.written s.made s.planned.moves s.ask m e).written_is) in
+      let index : made ≡ made + own_done end.stop s.written =
+      (let zero : made ≡ made + 0 = omega arith in zero) ∙ (ap (λ (n : ℕ). made + n) (none_done end.stop) ∙ ap (λ (b : Bool). made + own_done end.stop b) (sym (move_comes s.stop s.written s.made s.planned.moves s.ask m e).written_is)) in
       stepped (record doing { steps = after_step (NextMove m) end s }) (record_after (NextMove m) end s.grain) refl u
       (subst (λ (k : ℕ). Ended k end.stop (record_by (NextMove m) end.stop end.calls s.grain)) index (move_ended m e (n.moved m e) copies u))
   by_next doing_new n (Own part) e some copies needs =
@@ -228,7 +232,7 @@ module _ (grain : GrainSize) (w : Whole) (least : List Row) (place : ℕ) (doing
       let st = subst (λ (z : LaneOf). OwnStored z told part end.stop (stored old.grains.volumes) (stored new.grains.volumes)) h.lane_is
       (n.wrote part e begun h.under told h.told (fits_here grain w least place doing begun old steps before q h)) in
       stepped (record doing { steps = after_step (Own part) end s }) (record_after (Own part) end s.grain) refl u
-      (subst (λ (k : ℕ). Ended k end.stop (record_by (Own part) end.stop end.calls s.grain)) (done_by (is_some end.stop) s.made) (own_ended part e st needs u))
+      (subst (λ (k : ℕ). Ended k end.stop (record_by (Own part) end.stop end.calls s.grain)) (done_by end.stop s.made) (own_ended part e st needs u))
   by_next doing_new n Over e some copies needs = absurd (some refl)
 
 data_steps : (grain : GrainSize) (w : Whole) (least : List Row) (place : ℕ) (doing : Doing) (begun old : LaneView) (steps : List DiskStep) (before q : Point) (end : StepEnd) (doing_new : Doing) (new : LaneView) →

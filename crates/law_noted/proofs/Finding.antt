@@ -141,7 +141,7 @@ waits_found grain w least r steps front back step first x p q disks b split some
     let fewer : AllAgree grain now.kept now.disks disks =
     agree_fewer grain (kept_after now.kept x) now.kept now.disks disks
     (λ v u e. subst (λ (n : MetaRecord). is_lost_in (kept_after now.kept n).lost v u ≡ false) is (s.whole now.kept.lost v u e)) whole in
-    subst (λ (z : Point). Found grain w least r disks z.kept) (sym {b = now} h.rest.2)
+    subst (λ (z : Point). Found grain w least r disks z.kept) {x = now} (sym {b = now} h.rest.2)
     (Some (one_of grain w r step now), recovers_agreeing grain now.disks disks now.kept w least (Some r) (Some (one_of grain w r step now)) fewer here)
 
 -- ---- a step whose write failed

@@ -1,5 +1,5 @@
 -- How far the actions of an entry came.
-use Rattle.std.specs.Prelude.{◌≡◌, ℕ, ◌+◌, ◌≤◌, cond, List, [], ◌∷◌, ◌++◌, length, Option, Some, None}
+use Rattle.std.specs.Prelude.{◌≡◌, ℕ, ◌+◌, ◌≤◌, Bool, cond, List, [], ◌∷◌, ◌++◌, length, Option, Some, None}
 use Rattle.fc_base.specs.declared.request.Request.{Request}
 use Rattle.fc_base.specs.declared.request.Torn.{Torn as TornGrain}
 use Rattle.fc_base.specs.declared.size.GrainSize.{GrainSize}
@@ -16,9 +16,13 @@ use Rattle.fc_steps.specs.declared.stop.Stop.TheVariants.{Failed}
 use Rattle.law_crash.specs.Doing.{Did, Stopped, actions_of_step, actions_of_steps, chains_behind, marks_by_move, number_of}
 use Rattle.law_crash.specs.Points.{Point}
 
--- How many steps were done: the moves that were made, and the write itself.
+-- How many steps were done: the moves that were made, and the write itself, where no step stopped.
+abbrev pub own_done : Option Stop → Bool → ℕ
+own_done None written = cond written 1 0
+own_done (Some stop) written = 0
+
 abbrev pub steps_done : Steps → ℕ
-steps_done s = s.made + cond s.written 1 0
+steps_done s = s.made + own_done s.stop s.written
 
 -- By how many steps were done, why the next one stopped, and the record that is due: what stands then. The rows are those of metadata when the entry began.
 pub data Came (grain : GrainSize) (w : Whole) (request : Request) (rows : List Row) (steps : List DiskStep) (p : Point) : ℕ → Option Stop → Option MetaRecord → Point → Type 0 where
