@@ -8,6 +8,7 @@ pub mod DataCame
 pub mod DataEnds
 pub mod DataMoves
 pub mod DataInHand
+pub mod DataNext
 pub mod DataWhole
 pub mod Acting
 pub mod Nexts
