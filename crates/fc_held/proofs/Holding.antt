@@ -75,10 +75,10 @@ pub record Missed (named : ℕ) (vs : List VolumeGrains) (v : ℕ) (o : Option N
   pub unknown : (x : VolumeGrains) → Contains vs x → x.volume.0 ≡ v → named ≤ v
 
 -- none of them has a name
-abbrev Unnamed : List NamedDisk → Type 0
+abbrev pub Unnamed : List NamedDisk → Type 0
 Unnamed rest = (d : NamedDisk) → Contains rest d → HasNoName d
 
-no_name : (rest : List NamedDisk) (v : ℕ) → Unnamed rest → disk_of rest v ≡ None
+pub no_name : (rest : List NamedDisk) (v : ℕ) → Unnamed rest → disk_of rest v ≡ None
 no_name [] v all = refl
 no_name (d ∷ rest) v all = find_by v d rest false (of_name v None d (all d (first_in d rest))) ∙ no_name rest v (λ x c. all x (later_in d x rest c))
 
@@ -147,7 +147,7 @@ kind_by p x xs false e = ap (λ (c : Bool). length (cond c (x ∷ filter p xs) (
 free_of : (kind : DiskKind) (d : NamedDisk) (o : Option VolId) → d.volume ≡ o → is_free kind d ≡ (not (is_some o) && is_kind kind d.disk.kind)
 free_of kind d o e = ap (λ (p : Option VolId). not (is_some p) && is_kind kind d.disk.kind) e
 
-free_rest : (kind : DiskKind) (rest : List NamedDisk) (ds : List DiskState) → Unnamed rest → map (λ (d : NamedDisk). d.disk) rest ≡ ds → length (filter (is_free kind) rest) ≡ length (filter (is_of_kind kind) ds)
+pub free_rest : (kind : DiskKind) (rest : List NamedDisk) (ds : List DiskState) → Unnamed rest → map (λ (d : NamedDisk). d.disk) rest ≡ ds → length (filter (is_free kind) rest) ≡ length (filter (is_of_kind kind) ds)
 free_rest kind [] [] all e = refl
 free_rest kind [] (x ∷ ds) all e = absurd cc
 free_rest kind (d ∷ rest) [] all e = absurd cc
