@@ -51,20 +51,20 @@ abbrev pub MayHold : StoreView → StoreView → List LaneView → Type 0
 MayHold old new lanes = (lanes ≡ old.lanes) ⊎ ((lanes ≡ new.lanes) × HoldStill old.lanes new.lanes)
 
 -- A crash of the disk of metadata leaves an image, and with it what may be recovered.
-abbrev pub LeavesRecoverable : {D : Type 0} → Noted D → Noted D → Whole → List Row → List ℕ → Type 0
+abbrev pub LeavesRecoverable : {C D : Type 0} → Noted C D → Noted C D → Whole → List Row → List ℕ → Type 0
 LeavesRecoverable old new w least c =
     (image : MetaImage) × (recovered c ≡ Image image)
     × ((lanes : List LaneView) → MayHold old.store new.store lanes →
     MayBeRecovered old.store.control.grain old.script old.named lanes w least image)
 
 -- Behind an error: whatever a crash leaves now, with what the lanes hold now. The disks can be given back.
-pub record HasStopped {D : Type 0} (may_leave : D → List ℕ → Type 0) (old new : Noted D) (w : Whole) (least : List Row) : Type 0 where
+pub record HasStopped {C D : Type 0} (may_leave : D → List ℕ → Type 0) (old new : Noted C D) (w : Whole) (least : List Row) : Type 0 where
   pub volumes : HaveVolumes new.disks new.store
   pub leaves : (c : List ℕ) → may_leave new.meta.disk c →
       (image : MetaImage) × (recovered c ≡ Image image) × MayBeRecovered old.store.control.grain old.script new.named new.store.lanes w least image
 
 -- The disk of metadata behind `open`; and before the first image stands, a crash leaves it or none.
-abbrev pub opened_meta : {D : Type 0} → Result (Noted D) (D × NotedStop) → D
+abbrev pub opened_meta : {C D : Type 0} → Result (Noted C D) (D × NotedStop) → D
 opened_meta (Ok n) = n.meta.disk
 opened_meta (Err e) = e.0
 
