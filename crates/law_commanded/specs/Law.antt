@@ -1,5 +1,5 @@
 -- What a command leaves on all disks, and what a stop in it finds.
-use Rattle.std.specs.Prelude.{◌≡◌, ◌⊎◌, ℕ, ◌+◌, ◌^◌, ◌<◌, ◌≤◌, List, [], ◌∷◌, ◌++◌, Contains, Option, Some, None}
+use Rattle.std.specs.Prelude.{◌≡◌, ◌⊎◌, ℕ, ◌<◌, ◌≤◌, List, [], ◌∷◌, ◌++◌, Contains, Option, Some, None}
 use Rattle.fc_base.specs.declared.command.Command.{Command}
 use Rattle.fc_base.specs.declared.decision.Decision.{Decision}
 use Rattle.fc_base.specs.declared.ids.VolId.{VolId}
@@ -7,6 +7,7 @@ use Rattle.fc_base.specs.declared.request.Request.{Request}
 use Rattle.fc_base.specs.declared.request.Request.TheVariants.{Command as Asked}
 use Rattle.fc_base.specs.declared.size.GrainSize.{GrainSize}
 use Rattle.fc_base.specs.declared.volume.Volume.{Volume}
+use Rattle.fc_books.specs.Books.{Books}
 use Rattle.fc_books.specs.Deciding.{IsLoopOf, settle}
 use Rattle.fc_changed.specs.Row.{Row}
 use Rattle.fc_entry.specs.declared.entry.Entry.{Entry}
@@ -18,12 +19,12 @@ use Rattle.fc_kept.specs.Images.{kept_in, meta_of}
 use Rattle.fc_kept.specs.Kept.{Kept}
 use Rattle.fc_kept.specs.Marks.{least_by}
 use Rattle.fc_kept.specs.Recoverable.{Recoverable}
+use Rattle.fc_kept.specs.Sound.{IsSoundImage, IsSoundKept}
 use Rattle.fc_lane.specs.Lane.{LaneView}
 use Rattle.fc_lanes.specs.AllLanes.{EachLane}
 use Rattle.fc_legal.specs.Steps.{Step, after_settling, decided_on, left_by, one_more}
 use Rattle.fc_legal.specs.Whole.{Whole}
 use Rattle.law_crash.specs.Points.{Point}
-use Rattle.law_stands.specs.Reached.{IsReached}
 use Rattle.fc_held.specs.Held.{HoldAllOf, MatchAll}
 use Rattle.law_noted.specs.Records.{removed_by}
 use Rattle.law_noted.specs.Runs.{HasRun}
@@ -106,8 +107,15 @@ pub record CommandedLaw : Type 0 where
       EachLane (StaysKnown w.books.next_volume) old new → HaveLanes grain left new →
       (left.rows ≡ w.rows) × (left.books.next_volume ≡ w.books.next_volume)
       × HasCome grain (entries ++ entry ∷ []) (one_more left) (least_behind grain w least command loop) new p
-  -- the image without a volume that is about to go says what is left
-  pub without_is : (grain : GrainSize) (decisions : ℕ) (w : Whole) (command : Command) (loop : Option (List VolId)) (gone : VolId) (ls : List LaneView) →
-      let settled = after_settling grain w in let left = left_behind grain w command loop in
-      decisions + 1 < 2 ^ 32 → IsReached decisions w → IsLoopOf grain settled.books command loop → gone_by grain w command loop ≡ Some gone →
-      (kept_in (without gone (meta_of (by_lanes settled ls))) ≡ by_lanes left ls) × NoneCame w left
+  -- the image without a volume that is about to go says what is left; and that none goes by a settling
+  pub without_is : (grain : GrainSize) (entries : List Entry) (w : Whole) (least : List Row) (command : Command) (loop : Option (List VolId)) (entry : Entry) (gone : VolId) →
+      (old now : List LaneView) (p : Point) → let settled = after_settling grain w in
+      HasCome grain entries w least old p → w.entries < 262144 → IsCommanded grain w command loop entry → gone_by grain w command loop ≡ Some gone →
+      EachLane (StaysKnown w.books.next_volume) old now → HaveLanes grain settled now →
+      let left = left_behind grain w command loop in let image = without gone (meta_of (by_lanes settled now)) in
+      (kept_in image ≡ by_lanes left old) × NoneCame w left × IsSoundImage image
+  pub settles : (b : Books) → removed_by (settle b).events ≡ None
+  -- what metadata says that is made anew is sound
+  pub sound : (grain : GrainSize) (entries : List Entry) (w : Whole) (least : List Row) (command : Command) (loop : Option (List VolId)) (entry : Entry) →
+      (old : List LaneView) (p : Point) (kept : Kept) → HasCome grain entries w least old p → w.entries < 262144 → IsCommanded grain w command loop entry →
+      IsAnew grain w command loop old kept → IsSoundKept kept
