@@ -1,5 +1,5 @@
 -- Metadata made anew: what it says, what a stop finds, and what stands behind it.
-use Rattle.std.proofs.Common.{◌≡◌, ◌⊎◌, ℕ, ◌+◌, ◌*◌, ◌<◌, ◌≤◌, Bool, true, false, Option, Some, None, List, [], ◌∷◌, ◌++◌, length, get_or, Contains, inl, inr, refl, sym, ap, subst, ◌∙◌, arith}
+use Rattle.std.proofs.Common.{◌≡◌, ℕ, ◌+◌, ◌*◌, ◌<◌, ◌≤◌, false, Option, Some, None, List, [], ◌∷◌, ◌++◌, length, get_or, Contains, inl, inr, refl, sym, ap, subst, ◌∙◌, arith}
 use Rattle.std.proofs.lemmas.Bool.{cases_lt}
 use Rattle.fc_base.specs.Sheet.{Sheet}
 use Rattle.fc_base.specs.declared.command.Command.{Command}
@@ -21,31 +21,30 @@ use Rattle.fc_follow.specs.Following.{restarts, rows_event}
 use Rattle.fc_grains.specs.Volumes.{VolumeGrains, volume_of}
 use Rattle.fc_imaging.specs.Imaging.{is_lost_at, kept_of}
 use Rattle.fc_kept.specs.Disks.{NamedDisk, disk_of, on_disk}
-use Rattle.fc_kept.specs.Kept.{Kept, LostGrains, is_lost_in}
-use Rattle.fc_kept.specs.Marks.{AreMarked, IsMarked, LeastLeft, LeastLeft.decided, LeastStep, least_by, least_events}
+use Rattle.fc_kept.specs.Kept.{Kept, is_lost_in}
+use Rattle.fc_kept.specs.Marks.{AreMarked, LeastLeft, LeastLeft.decided, LeastStep, least_by, least_events}
 use Rattle.fc_kept.specs.Recoverable.{Recoverable, disks_at}
-use Rattle.fc_kept.specs.Sound.{IsSoundKept}
 use Rattle.fc_kept.proofs.Lawful.{kept_law_holds}
 use Rattle.fc_lane.specs.Lane.{LaneView}
 use Rattle.fc_lanes.specs.AllLanes.{EachLane}
-use Rattle.fc_legal.specs.Steps.{Step, after_settling, decided_on, left_by, one_more, rows_after}
+use Rattle.fc_legal.specs.Steps.{after_settling, decided_on, left_by, one_more, rows_after}
 use Rattle.fc_legal.specs.Whole.{Whole, lane_at, lanes}
 use Rattle.fc_parts.proofs.Numbers.{number_below}
 use Rattle.fc_rules.specs.LaneTold.{LaneOf, number_at}
 use Rattle.fc_stands.proofs.OneMore.{lane_still}
-use Rattle.law_agreeing.proofs.Recovering.{have_agreeing, recovers_agreeing, stands_agreeing, unnamed_agreeing}
-use Rattle.law_agreeing.specs.Agreeing.{AllAgree, lane_over}
+use Rattle.law_agreeing.proofs.Recovering.{have_agreeing, stands_agreeing, unnamed_agreeing}
+use Rattle.law_agreeing.specs.Agreeing.{AllAgree}
 use Rattle.law_crash.proofs.Whole.{crash_law_holds}
 use Rattle.law_crash.specs.Leaving.{GoesOn, HaveTheirDisks, Leaves, Leaves.anew, made_anew}
-use Rattle.law_crash.specs.Points.{Point, StandsFor, nothing_kept}
-use Rattle.law_crash.specs.Running.{Does, Does.commanded, Run, Run.more, Run.named}
-use Rattle.fc_held.specs.Held.{HoldAllOf, MatchAll, Matches}
+use Rattle.law_crash.specs.Points.{Point, StandsFor}
+use Rattle.law_crash.specs.Running.{Does.commanded, Run.more, Run.named}
+use Rattle.fc_held.specs.Held.{HoldAllOf, Matches}
 use Rattle.fc_held.proofs.Holding.{all_agree}
 use Rattle.law_noted.specs.Runs.{HasRun}
-use Rattle.law_commanded.specs.Lanes.{AreCounted, AreLostIn, HaveLanes, HeldVolume, IsAfter, StaysKnown}
-use Rattle.law_commanded.specs.Law.{HasCome, HaveLeft, IsAnew, IsCommanded, NoneCame, by_lanes, gone_by, least_behind, left_behind}
+use Rattle.law_commanded.specs.Lanes.{AreCounted, HaveLanes, HeldVolume, StaysKnown}
+use Rattle.law_commanded.specs.Law.{HasCome, HaveLeft, IsAnew, IsCommanded, by_lanes, gone_by, least_behind, left_behind}
 use Rattle.law_commanded.proofs.Known.{match_all_still}
-use Rattle.law_commanded.proofs.Lost.{in_table, tables_alike, table_by}
+use Rattle.law_commanded.proofs.Lost.{in_table, tables_alike}
 use Rattle.law_commanded.proofs.Lasting.{IsLeft, grains_left, has_left, known_before, lost_left_is, step_at}
 use Rattle.law_commanded.proofs.Standing.{IsTold}
 use Rattle.law_commanded.proofs.Naming.{IsSet, all_disks, have_disks, match_named, stay_as}

@@ -1,5 +1,5 @@
 -- What stood before a command may be recovered while it is done.
-use Rattle.std.proofs.Common.{◌≡◌, ℕ, ◌≤◌, Option, None, List}
+use Rattle.std.proofs.Common.{◌≤◌, Option, None, List}
 use Rattle.fc_base.specs.declared.request.Request.{Request}
 use Rattle.fc_base.specs.declared.size.GrainSize.{GrainSize}
 use Rattle.fc_changed.specs.Row.{Row}

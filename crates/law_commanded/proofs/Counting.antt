@@ -1,5 +1,5 @@
 -- How many disks of a lane are free.
-use Rattle.std.proofs.Common.{◌≡◌, ℕ, suc, ◌+◌, ◌<◌, Bool, true, false, cond, not, ◌&&◌, List, [], ◌∷◌, ◌++◌, length, map, reverse, refl, sym, ap, ◌∙◌, arith}
+use Rattle.std.proofs.Common.{◌≡◌, ℕ, suc, ◌+◌, Bool, true, false, cond, not, ◌&&◌, List, [], ◌∷◌, ◌++◌, length, map, reverse, refl, ap, ◌∙◌, arith}
 use Rattle.std.specs.List.{filter}
 use Rattle.std.specs.Prelude.{ltb}
 use Rattle.std.proofs.lemmas.Grind.{reverse_onto}
@@ -10,7 +10,7 @@ use Rattle.fc_base.specs.declared.disk.DiskKind.{DiskKind}
 use Rattle.fc_grains.specs.Grains.{GrainsState}
 use Rattle.fc_grains.specs.Volumes.{VolumeGrains}
 use Rattle.law_crash.specs.Leaving.{is_kind}
-use Rattle.fc_held.specs.Held.{free_in, is_of_kind, is_unknown}
+use Rattle.fc_held.specs.Held.{free_in, is_unknown}
 use Rattle.law_commanded.specs.Lanes.{HeldVolume, IsCounted, has_kind, held_of, is_known, known}
 
 -- ---- the other way round

@@ -1,23 +1,22 @@
 -- The disks that a lane holds, each volume's with its name; what is lost is what it was on other disks.
-use Rattle.std.proofs.Common.{◌≡◌, ◌⊎◌, ℕ, suc, ◌+◌, ◌<◌, ◌≤◌, ◌==◌, ◌&&◌, Bool, true, false, cond, not, is_some, Option, Some, None, List, [], ◌∷◌, ◌++◌, length, map, get_or, reverse, Contains, inl, inr, refl, sym, ap, subst, ◌∙◌, arith}
-use Rattle.std.specs.List.{filter, list_any, range_with_len}
+use Rattle.std.proofs.Common.{◌≡◌, ℕ, suc, ◌+◌, ◌<◌, ◌==◌, ◌&&◌, Bool, true, false, cond, not, Option, Some, None, List, [], ◌∷◌, ◌++◌, length, map, Contains, inl, inr, refl, sym, ap, subst, ◌∙◌, arith}
+use Rattle.std.specs.List.{filter, range_with_len}
 use Rattle.std.specs.Prelude.{ltb}
 use Rattle.std.proofs.lemmas.Bool.{eqb-true, eq-eqb, ne_eqb, lt-ltb}
 use Rattle.std.proofs.lemmas.List.{length-append}
 use Rattle.std.proofs.lemmas.List.Elements.{Contains-append_cases, Contains-append_left, filter-append}
 use Rattle.std.proofs.lemmas.List.FromFn.{get_or-map-range_with_len, length-map-range_with_len}
 use Rattle.fc_base.specs.declared.disk.DiskKind.{DiskKind}
-use Rattle.fc_base.specs.declared.ids.VolId.{VolId}
 use Rattle.fc_decided.proofs.Lists.{any_there, find_none, find_one, filter_from, first_in, map_from, map_in}
 use Rattle.fc_entry.specs.Picture.{Content, Bytes, Lost, content_at}
 use Rattle.fc_grains.specs.Grains.{GrainsState}
-use Rattle.fc_grains.specs.Volumes.{VolumeGrains, is_there, volume_of}
+use Rattle.fc_grains.specs.Volumes.{VolumeGrains, volume_of}
 use Rattle.fc_kept.specs.Disks.{NamedDisk, disk_of, is_of, on_disk}
 use Rattle.fc_kept.specs.Kept.{Kept, is_lost_in}
-use Rattle.fc_mdisk.specs.Disk.{DiskState, grain_at}
+use Rattle.fc_mdisk.specs.Disk.{DiskState}
 use Rattle.fc_rules.specs.LaneTold.{LaneOf, number_at}
 use Rattle.law_crash.specs.Leaving.{is_free, is_kind}
-use Rattle.fc_held.specs.Held.{AreOnce, HasDisk, Matches, free_in, is_of_kind, is_unknown}
+use Rattle.fc_held.specs.Held.{AreOnce, Matches, is_of_kind, is_unknown}
 use Rattle.law_commanded.specs.Lanes.{IsCounted}
 use Rattle.law_commanded.proofs.Counting.{count_reverse}
 

@@ -1,6 +1,5 @@
 -- What a command leaves of a lane's volumes, and of their lost grains.
-use Rattle.std.proofs.Common.{◌≡◌, ◌⊎◌, ℕ, ◌+◌, ◌<◌, ◌≤◌, ◌%◌, ◌/◌, ◌==◌, Bool, true, false, not, Option, Some, None, List, [], ◌∷◌, length, map, get_or, Contains, inl, inr, refl, sym, ap, subst, ◌∙◌, arith, mod-lt}
-use Rattle.std.specs.List.{filter}
+use Rattle.std.proofs.Common.{◌≡◌, ℕ, ◌<◌, ◌≤◌, ◌%◌, ◌/◌, ◌==◌, false, not, Option, Some, None, List, [], ◌∷◌, length, map, get_or, Contains, inl, inr, refl, sym, ap, subst, ◌∙◌, arith, mod-lt}
 use Rattle.std.proofs.lemmas.Bool.{cases_lt}
 use Rattle.fc_base.specs.declared.ids.VolId.{VolId}
 use Rattle.fc_base.specs.declared.size.GrainSize.{GrainSize}
@@ -17,9 +16,9 @@ use Rattle.fc_lane.specs.Lane.{LaneView}
 use Rattle.fc_lanes.specs.AllLanes.{EachLane}
 use Rattle.fc_legal.specs.Whole.{Whole, lane_at, lane_of_grain, lanes}
 use Rattle.fc_parts.proofs.Numbers.{grain_below, number_below, number_of_place}
-use Rattle.fc_rules.specs.LaneTold.{LaneOf, grains_in, number_at, place_of}
+use Rattle.fc_rules.specs.LaneTold.{LaneOf, number_at, place_of}
 use Rattle.law_crash.proofs.Lost.{all_in_is}
-use Rattle.law_commanded.specs.Lanes.{AreLostIn, HaveLanes, HeldVolume, IsAfter, held_of, known, left_of}
+use Rattle.law_commanded.specs.Lanes.{AreLostIn, HaveLanes, HeldVolume, IsAfter, known, left_of}
 use Rattle.law_commanded.proofs.Known.{IsHeldIn, held_before}
 use Rattle.law_commanded.proofs.Lost.{never_new}
 use Rattle.law_commanded.proofs.Standing.{HasVolume, IsTold, LaneHas, lane_has}

@@ -1,14 +1,13 @@
 -- Which grains are lost: by a table of them, and by the lanes.
-use Rattle.std.proofs.Common.{◌≡◌, ◌≢◌, ℕ, ◌+◌, ◌<◌, ◌==◌, Bool, true, false, cond, List, [], ◌∷◌, length, map, get_or, Contains, inl, inr, refl, sym, ap, subst, ◌∙◌, arith}
+use Rattle.std.proofs.Common.{◌≡◌, ◌≢◌, ℕ, ◌+◌, ◌<◌, Bool, true, false, List, [], ◌∷◌, map, Contains, inl, inr, refl, sym, ap, subst, ◌∙◌, arith}
 use Rattle.std.specs.List.{range_with_len}
 use Rattle.std.proofs.lemmas.Bool.{cases_eq, eq-eqb, ne_eqb}
-use Rattle.std.proofs.lemmas.List.FromFn.{get_or-map-range_with_len, length-map-range_with_len}
+use Rattle.std.proofs.lemmas.List.FromFn.{get_or-map-range_with_len}
 use Rattle.fc_base.specs.declared.volume.Volume.{Volume}
 use Rattle.fc_decided.proofs.Lists.{first_in, in_cases, later_in, map_alike, map_from, map_in, none_in}
-use Rattle.fc_changed.specs.Notes.{has}
 use Rattle.fc_kept.specs.Kept.{Kept, LostGrains, is_lost_in}
 use Rattle.fc_kept.specs.Sound.{IsSoundKept}
-use Rattle.law_crash.proofs.Lost.{all_in_is, row_of}
+use Rattle.law_crash.proofs.Lost.{row_of}
 
 -- The lost grains of volumes, by this test.
 abbrev pub row_by : (ℕ → ℕ → Bool) → Volume → LostGrains

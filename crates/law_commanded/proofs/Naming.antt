@@ -1,34 +1,32 @@
 -- The disks of all lanes, with the names of the volumes that are left.
-use Rattle.std.proofs.Common.{◌≡◌, ◌⊎◌, ℕ, ◌+◌, mod-lt, ◌<◌, ◌≤◌, ◌%◌, ◌/◌, Bool, false, IsSome, Option, Some, None, List, [], ◌∷◌, ◌++◌, length, map, get_or, All, Contains, inl, inr, refl, sym, ap, subst, ◌∙◌, arith}
+use Rattle.std.proofs.Common.{◌≡◌, ℕ, ◌+◌, mod-lt, ◌<◌, ◌≤◌, false, IsSome, Option, Some, None, List, [], ◌∷◌, ◌++◌, length, map, get_or, Contains, inl, inr, refl, sym, ap, subst, ◌∙◌, arith}
 use Rattle.std.specs.List.{filter, range_with_len}
 use Rattle.std.proofs.lemmas.Bool.{cases_lt}
 use Rattle.std.proofs.lemmas.List.{length-append}
 use Rattle.std.proofs.lemmas.List.Elements.{filter-append}
 use Rattle.std.proofs.lemmas.List.FromFn.{get_or-map-range_with_len, length-map-range_with_len}
-use Rattle.fc_base.specs.Pools.{Pool, of_kind}
-use Rattle.fc_base.specs.declared.disk.DiskKind.{DiskKind}
+use Rattle.fc_base.specs.Pools.{of_kind}
 use Rattle.fc_base.specs.declared.size.GrainSize.{GrainSize}
 use Rattle.fc_base.specs.declared.volume.Volume.{Volume}
 use Rattle.fc_books.specs.Sound.{AreSound}
-use Rattle.fc_entry.specs.Picture.{Content, content_at}
+use Rattle.fc_entry.specs.Picture.{content_at}
 use Rattle.fc_grains.specs.Grains.{GrainsState}
 use Rattle.fc_grains.specs.Volumes.{VolumeGrains}
-use Rattle.fc_kept.specs.Disks.{FitDisks, NamedDisk, disk_of, on_disk}
+use Rattle.fc_kept.specs.Disks.{NamedDisk, disk_of, on_disk}
 use Rattle.fc_kept.specs.Kept.{Kept, is_lost_in}
 use Rattle.fc_kept.specs.Recoverable.{disks_at}
 use Rattle.fc_lane.specs.Lane.{LaneView}
 use Rattle.fc_legal.specs.Whole.{Whole, lane_at, lane_of_grain, lanes, pool_at}
-use Rattle.fc_mdisk.specs.Disk.{DiskState}
 use Rattle.fc_parts.proofs.Numbers.{grain_below}
-use Rattle.fc_rules.specs.LaneTold.{LaneOf, grains_in, number_at, place_of}
+use Rattle.fc_rules.specs.LaneTold.{LaneOf, number_at, place_of}
 use Rattle.law_crash.proofs.Lost.{all_in_is}
-use Rattle.law_crash.specs.Leaving.{AreFit, AreUnnamed, HaveTheirDisks, is_free}
+use Rattle.law_crash.specs.Leaving.{AreFit, HaveTheirDisks, is_free}
 use Rattle.law_crash.specs.Points.{on_disks}
 use Rattle.law_crash.specs.Running.{StayAs}
 use Rattle.fc_held.specs.Held.{MatchAll, Matches, is_of_kind}
 use Rattle.law_commanded.specs.Lanes.{HaveLanes}
 use Rattle.law_commanded.proofs.Disks.{disks_match, free_are, lane_disks, none_is, own_bytes, own_disk, own_is, own_size}
-use Rattle.law_commanded.proofs.Standing.{HasVolume, LaneHas, lane_has}
+use Rattle.law_commanded.proofs.Standing.{LaneHas, lane_has}
 
 -- The lanes stand for this, and there are disks for each; the other lane is any.
 pub record IsSet (grain : GrainSize) (w : Whole) (ds : List (List NamedDisk)) (ls : List LaneView) : Type 0 where

@@ -1,5 +1,5 @@
 -- Which decision takes a volume away.
-use Rattle.std.proofs.Common.{◌≡◌, ℕ, Bool, true, false, cond, ◌&&◌, List, [], ◌∷◌, ◌++◌, map, filter, length, Contains, Option, Some, None, Result, Ok, Err, refl, sym, ap, ◌∙◌}
+use Rattle.std.proofs.Common.{◌≡◌, ℕ, Bool, true, false, cond, ◌&&◌, List, [], ◌∷◌, ◌++◌, map, filter, length, Option, Some, None, Result, Ok, Err, refl, sym, ◌∙◌}
 use Rattle.fc_base.specs.Counts.{names_below, is_unneeded}
 use Rattle.fc_base.specs.States.{next_state}
 use Rattle.fc_base.specs.Tables.{Tables, group_named, mapping_named, mapping_with, volume_named}

@@ -1,15 +1,14 @@
 -- What a lane that stands has of the tables.
-use Rattle.std.proofs.Common.{◌≡◌, ℕ, ◌<◌, Option, List, length, map, get_or, Contains, sym, ap, subst, ◌∙◌, arith}
-use Rattle.fc_base.specs.Pools.{Pool}
-use Rattle.fc_base.specs.Sheet.{Sheet, Slot, slot_at}
+use Rattle.std.proofs.Common.{◌≡◌, ℕ, ◌<◌, List, length, map, Contains, sym, ap, subst, ◌∙◌}
+use Rattle.fc_base.specs.Sheet.{Slot, slot_at}
 use Rattle.fc_base.specs.declared.size.GrainSize.{GrainSize}
 use Rattle.fc_base.specs.declared.volume.Volume.{Volume}
 use Rattle.fc_books.specs.Sound.{AreSound}
 use Rattle.fc_decided.proofs.Lists.{map_from, map_in}
 use Rattle.fc_grains.specs.Grains.{GrainsState}
-use Rattle.fc_grains.specs.Volumes.{VolumeGrains, is_there, volume_of}
+use Rattle.fc_grains.specs.Volumes.{VolumeGrains, volume_of}
 use Rattle.fc_lane.specs.Lane.{LaneView}
-use Rattle.fc_legal.specs.Whole.{Whole, lane_at, lanes, part_at, part_of_sheet, part_of_slot, pool_at, volume_told, volumes_told}
+use Rattle.fc_legal.specs.Whole.{Whole, lane_at, lanes, part_of_sheet, pool_at, volume_told, volumes_told}
 use Rattle.fc_parts.proofs.Decisions.{pool_of_part}
 use Rattle.fc_parts.proofs.Told.{part_is}
 use Rattle.fc_parts.proofs.Views.{count_parts, size_parts, slot_parts}

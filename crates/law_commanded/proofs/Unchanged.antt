@@ -1,17 +1,16 @@
 -- A command without an action leaves metadata as it is.
-use Rattle.std.proofs.Common.{◌≡◌, ℕ, ◌+◌, ◌*◌, ◌<◌, ◌≤◌, ◌==◌, ◌||◌, Bool, true, false, not, if◌then◌else◌, IsSome, Option, Some, None, List, [], ◌∷◌, ◌++◌, length, get_or, Contains, refl, sym, ap, subst, ◌∙◌, arith}
+use Rattle.std.proofs.Common.{◌≡◌, ℕ, ◌+◌, ◌*◌, ◌<◌, ◌==◌, ◌||◌, Bool, true, false, not, if◌then◌else◌, Option, None, List, [], ◌∷◌, ◌++◌, length, get_or, Contains, refl, sym, ap, subst, ◌∙◌, arith}
 use Rattle.std.specs.List.{filter, fold}
 use Rattle.std.proofs.lemmas.Bool.{eqb-true}
 use Rattle.std.proofs.lemmas.List.{length-append}
 use Rattle.std.proofs.lemmas.List.Elements.{filter-append}
-use Rattle.fc_base.specs.Pools.{Pool, of_kind}
+use Rattle.fc_base.specs.Pools.{of_kind}
 use Rattle.fc_base.specs.Sheet.{Sheet, Slot}
 use Rattle.fc_base.specs.Tables.{Tables}
 use Rattle.fc_base.specs.declared.command.Command.{Command}
 use Rattle.fc_base.specs.declared.decision.Decision.{Decision}
 use Rattle.fc_base.specs.declared.decision.LaneEvent.{LaneEvent}
-use Rattle.fc_base.specs.declared.decision.LaneEvent.TheVariants.{Access, Arm, Drop, Work}
-use Rattle.fc_base.specs.declared.disk.DiskKind.{DiskKind}
+use Rattle.fc_base.specs.declared.decision.LaneEvent.TheVariants.{Access, Arm, Work}
 use Rattle.fc_base.specs.declared.ids.SlotId.{SlotId}
 use Rattle.fc_base.specs.declared.ids.VolId.{VolId}
 use Rattle.fc_base.specs.declared.size.GrainSize.{GrainSize}
@@ -21,20 +20,19 @@ use Rattle.fc_books.specs.Deciding.{settle}
 use Rattle.fc_changed.specs.Row.{Row, after_note}
 use Rattle.fc_decided.proofs.Dropping.{drop_events, unneeded_names}
 use Rattle.fc_entry.specs.declared.entry.Entry.{Entry}
-use Rattle.fc_follow.specs.Following.{event_notes, restarts, rows_event}
+use Rattle.fc_follow.specs.Following.{event_notes, restarts}
 use Rattle.fc_grains.specs.Grains.{GrainsState}
-use Rattle.fc_kept.specs.Actions.{Action, Action.Fold, actions_of_command, has_effect}
-use Rattle.fc_kept.specs.Disks.{disk_of}
+use Rattle.fc_kept.specs.Actions.{Action.Fold, actions_of_command, has_effect}
 use Rattle.fc_kept.specs.Marks.{LeastLeft.decided}
-use Rattle.fc_kept.specs.Recoverable.{Says, disks_at}
+use Rattle.fc_kept.specs.Recoverable.{Says}
 use Rattle.fc_lane.specs.Lane.{LaneView}
 use Rattle.fc_lanes.specs.AllLanes.{EachLane}
 use Rattle.fc_legal.specs.Steps.{after_settling, decided_on, one_more, rows_after}
 use Rattle.fc_legal.specs.Whole.{Whole, lanes, pool_at}
 use Rattle.law_crash.proofs.Lost.{all_in_is}
-use Rattle.law_crash.proofs.Resting.{AreStill, IsStill, decide_rests, settle_rests}
+use Rattle.law_crash.proofs.Resting.{AreStill, decide_rests, settle_rests}
 use Rattle.law_crash.proofs.Whole.{crash_law_holds}
-use Rattle.law_crash.specs.Leaving.{HaveTheirDisks, is_free}
+use Rattle.law_crash.specs.Leaving.{HaveTheirDisks}
 use Rattle.law_crash.specs.Points.{Point}
 use Rattle.law_crash.specs.Running.{Does.unchanged, Run.more}
 use Rattle.fc_held.specs.Held.{MatchAll, is_of_kind}
@@ -108,9 +106,9 @@ rows_stay grain w command loop none =
 -- ---- so all stays
 
 module _ (grain : GrainSize) (entries : List Entry) (w : Whole) (least : List Row) (command : Command) (loop : Option (List VolId)) (entry : Entry) (old new : List LaneView) (p : Point)
-  (come : HasCome grain entries w least old p) (few : w.entries < 262144) (c : IsCommanded grain w command loop entry)
-  (none : actions_of_command (settle w.books) (decision_on grain w command loop) ≡ []) (stays : EachLane (StaysKnown w.books.next_volume) old new)
-  (are : HaveLanes grain (left_behind grain w command loop) new) (other : LaneView) where
+    (come : HasCome grain entries w least old p) (few : w.entries < 262144) (c : IsCommanded grain w command loop entry)
+    (none : actions_of_command (settle w.books) (decision_on grain w command loop) ≡ []) (stays : EachLane (StaysKnown w.books.next_volume) old new)
+    (are : HaveLanes grain (left_behind grain w command loop) new) (other : LaneView) where
   abbrev left : Whole
   left = left_behind grain w command loop
 

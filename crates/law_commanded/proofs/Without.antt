@@ -1,11 +1,11 @@
 -- The image without a volume that is about to go.
-use Rattle.std.proofs.Common.{◌≡◌, ◌≢◌, ◌⊎◌, ℕ, suc, ◌+◌, ◌*◌, ◌<◌, ◌≤◌, ◌==◌, Bool, true, false, cond, not, Option, Some, None, List, [], ◌∷◌, length, map, get_or, All, Contains, inl, inr, refl, sym, ap, subst, ◌∙◌, arith}
+use Rattle.std.proofs.Common.{◌≡◌, ℕ, suc, ◌*◌, ◌<◌, ◌==◌, Bool, true, false, cond, not, Option, Some, None, List, [], ◌∷◌, length, map, get_or, All, Contains, inl, inr, refl, sym, ap, subst, ◌∙◌, arith}
 use Rattle.std.specs.List.{filter, flat_map, fold, remove}
-use Rattle.std.proofs.lemmas.Bool.{eqb-true, eq-eqb, ne_eqb, cases_eq}
+use Rattle.std.proofs.lemmas.Bool.{eq-eqb, ne_eqb, cases_eq}
 use Rattle.fc_base.specs.Sheet.{Sheet, Slot, slot_at}
-use Rattle.fc_base.specs.SheetFits.{FitsEvent, FitsRemove}
+use Rattle.fc_base.specs.SheetFits.{FitsRemove}
 use Rattle.fc_base.specs.SheetStep.{removed, at_place, without as without_slot}
-use Rattle.fc_base.specs.Tables.{Tables, after_change}
+use Rattle.fc_base.specs.Tables.{Tables}
 use Rattle.fc_base.specs.declared.command.Command.{Command}
 use Rattle.fc_base.specs.declared.decision.Decision.{Decision}
 use Rattle.fc_base.specs.declared.decision.LaneEvent.{LaneEvent}
@@ -25,11 +25,10 @@ use Rattle.fc_decided.proofs.Lists.{filter_from, filter_in}
 use Rattle.fc_entry.specs.declared.entry.Entry.{Entry}
 use Rattle.fc_follow.specs.Following.{restarts}
 use Rattle.fc_image.specs.declared.image.MetaImage.{MetaImage}
-use Rattle.fc_image.specs.declared.image.MetaLost.{MetaLost}
-use Rattle.fc_imaging.specs.Imaging.{is_lost_at, lost_grains, lost_of}
+use Rattle.fc_imaging.specs.Imaging.{lost_grains, lost_of}
 use Rattle.fc_imaging.specs.Without.{begins_else, is_other, is_other_row, without}
-use Rattle.fc_kept.specs.Images.{chains_told, changes_told, kept_in, lost_in, lost_told, meta_of, row_in, slots_in, tables_in}
-use Rattle.fc_kept.specs.Kept.{Kept, LostGrains, is_lost_in}
+use Rattle.fc_kept.specs.Images.{chains_told, changes_told, kept_in, lost_in, lost_told, meta_of, row_in, slots_in}
+use Rattle.fc_kept.specs.Kept.{Kept, LostGrains}
 use Rattle.fc_kept.specs.Sound.{HasTidyLost, IsSoundImage, IsSoundKept}
 use Rattle.fc_kept.proofs.Said.{said}
 use Rattle.fc_kept.proofs.Tidy.{image_sound}
@@ -47,11 +46,11 @@ use Rattle.law_volumes.proofs.Steps.{settling_keeps}
 use Rattle.law_commanded.specs.Lanes.{HaveLanes, StaysKnown}
 use Rattle.law_commanded.specs.Law.{HasCome, IsCommanded, NoneCame, by_lanes, gone_by, left_behind}
 use Rattle.law_commanded.proofs.Anew.{Here, all_behind, anew_kept, here, says_by}
-use Rattle.law_commanded.proofs.Chains.{AreApart, AreTidy, back, flat_left, flat_told, is_else, taken_out, tidy_left, tidy_slot}
+use Rattle.law_commanded.proofs.Chains.{AreApart, flat_left, flat_told, is_else, taken_out, tidy_left, tidy_slot}
 use Rattle.law_commanded.proofs.Lasting.{IsLeft, lost_left_is}
 use Rattle.law_commanded.proofs.Removing.{IsRemoval, removal_is}
 use Rattle.law_commanded.proofs.Standing.{lane_has}
-use Rattle.law_commanded.proofs.Unchanged.{AreNoteless, rows_still, still_noteless}
+use Rattle.law_commanded.proofs.Unchanged.{rows_still, still_noteless}
 
 -- ---- lists
 
@@ -113,11 +112,12 @@ still_books sets (e ∷ es) b still = absurd still.0
 -- ---- a slot alone in its chain
 
 alone_apart : (gone : VolId) (slots : List Slot) → FitsRemove slots gone.0 → AreApart gone slots
-alone_apart gone slots f i il e =
-    (λ v. let first = f.alone i (omega (arith, il)) (inl v) in
-    let second = f.alone (suc i) il (inr (sym e ∙ ap (λ (j : ℕ). (slot_at slots j).chain) first)) in absurd (omega (arith, first, second)),
-    λ v. let second = f.alone (suc i) il (inl v) in
-    let first = f.alone i (omega (arith, il)) (inr (e ∙ ap (λ (j : ℕ). (slot_at slots j).chain) second)) in absurd (omega (arith, first, second)))
+alone_apart gone slots f i il e = (
+  λ v. let first = f.alone i (omega (arith, il)) (inl v) in
+      let second = f.alone (suc i) il (inr (sym e ∙ ap (λ (j : ℕ). (slot_at slots j).chain) first)) in absurd (omega (arith, first, second)),
+  λ v. let second = f.alone (suc i) il (inl v) in
+      let first = f.alone i (omega (arith, il)) (inr (e ∙ ap (λ (j : ℕ). (slot_at slots j).chain) second)) in absurd (omega (arith, first, second)),
+)
 
 -- ---- the volume goes
 
@@ -173,8 +173,8 @@ image_is_sound gone w ls apart s =
     }
 
 module _ (grain : GrainSize) (entries : List Entry) (w : Whole) (least : List Row) (command : Command) (loop : Option (List VolId)) (entry : Entry) (gone : VolId) (old now : List LaneView) (p : Point)
-  (come : HasCome grain entries w least old p) (few : w.entries < 262144) (c : IsCommanded grain w command loop entry) (goes : gone_by grain w command loop ≡ Some gone)
-  (stays : EachLane (StaysKnown w.books.next_volume) old now) (are : HaveLanes grain (after_settling grain w) now) (other : LaneView) where
+    (come : HasCome grain entries w least old p) (few : w.entries < 262144) (c : IsCommanded grain w command loop entry) (goes : gone_by grain w command loop ≡ Some gone)
+    (stays : EachLane (StaysKnown w.books.next_volume) old now) (are : HaveLanes grain (after_settling grain w) now) (other : LaneView) where
   abbrev settled : Whole
   settled = after_settling grain w
 
