@@ -14,7 +14,8 @@ use Rattle.law_agreeing.proofs.Recovering.{recovers_agreeing}
 use Rattle.law_crash.proofs.Whole.{crash_law_holds}
 use Rattle.law_crash.specs.Points.{Point, StandsFor}
 use Rattle.fc_held.specs.Held.{HoldAllOf}
-use Rattle.fc_noted.specs.Noted.{HasRun, IsNotedAt}
+use Rattle.fc_noted.specs.Noted.{IsNotedAt}
+use Rattle.law_noted.specs.Runs.{HasRun}
 use Rattle.fc_noted.specs.declared.noted.Noted.{Noted}
 use Rattle.fc_held.proofs.Holding.{all_agree}
 

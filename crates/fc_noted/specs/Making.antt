@@ -38,6 +38,7 @@ use Rattle.fc_steps.specs.declared.stop.Stop.{Stop}
 use Rattle.fc_steps.specs.declared.stop.Stop.TheVariants.{Failed, NoMemory}
 use Rattle.fc_store.specs.Stepping.{lane_in}
 use Rattle.fc_held.specs.Held.{HaveVolumes, HoldAllOf}
+use Rattle.law_noted.specs.DataSteps.{Copies}
 use Rattle.fc_marks.specs.Marks.{is_open_any}
 use Rattle.fc_noted.specs.Noted.{GoesOnTo, IsAt, IsNotedAt}
 use Rattle.fc_noted.specs.Stopping.{HasStopped, LeavesRecoverable}
@@ -48,23 +49,7 @@ use Rattle.fc_noted.specs.declared.noted.UnderWay.{UnderWay}
 
 -- ---- what comes next of an entry
 
--- A move copies nothing where it is in place, or where the grain is lost of the volume that it reads, that of the slot's holder.
-abbrev pub lost_of : LaneView → ℕ → Option ℕ → Bool
-lost_of lane place None = true
-lost_of lane place (Some h) = is_lost (stored lane.grains.volumes (slot_at lane.chains.sheet.slots h).volume place)
-
-abbrev pub lost_for : LaneView → ℕ → Option ℕ → Bool
-lost_for lane place None = true
-lost_for lane place (Some k) = lost_of lane place (holder (column lane.chains.sheet.slots place) k)
-
-abbrev pub copies_nothing : LaneView → ℕ → Move → Bool
-copies_nothing lane place m = cond m.in_place true (lost_for lane place (birth_place lane.chains.sheet.slots m.slot.0))
-
 -- A move that is next copies something.
-abbrev pub Copies : LaneView → ℕ → Next → Type 0
-Copies lane place (NextMove m) = copies_nothing lane place m ≡ false
-Copies lane place next = Unit {0}
-
 abbrev pub CopiesNext : {C D : Type 0} → Noted C D → UnderWay → Type 0
 CopiesNext n way = Copies (lane_in n.store way.place) way.doing.steps.place (next_of way.doing.steps)
 

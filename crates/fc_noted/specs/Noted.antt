@@ -33,6 +33,8 @@ use Rattle.law_crash.specs.Leaving.{AreUnnamed, HaveTheirDisks}
 use Rattle.law_crash.specs.Points.{Point, nothing_kept}
 use Rattle.law_crash.specs.Running.{Run}
 use Rattle.law_noted.specs.Came.{Came, steps_done}
+use Rattle.law_noted.specs.Records.{kept_by}
+use Rattle.law_noted.specs.Runs.{HasRun}
 use Rattle.fc_held.specs.Held.{HaveVolumes, MatchAll}
 use Rattle.fc_marks.specs.Marks.{marked}
 use Rattle.fc_noted.specs.declared.noted.Noted.{Noted}
@@ -41,21 +43,6 @@ use Rattle.fc_noted.specs.declared.noted.UnderWay.{UnderWay}
 -- The history of `main` alone, without entries.
 abbrev pub NoHistory : HistoryState
 NoHistory = record { actors = codes "main" ∷ []; entries = [] }
-
--- A history's entries were done on what stood on the disks at first, and led to a point.
-pub record HasRun (grain : GrainSize) (entries : List Entry) (w : Whole) (least : List Row) (p : Point) : Type 0 where
-  pub pools : List Pool
-  pub disks : List (List NamedDisk)
-  pub some : 0 < length pools
-  pub count : length disks ≡ length pools
-  pub unnamed : AreUnnamed (opened pools) disks
-  pub run : let first : Point = record { kept = nothing_kept; disks = disks } in Run grain (opened pools) [] first entries w least p
-  pub have : HaveTheirDisks w p.disks
-
--- Metadata with the record that is due, if one is.
-abbrev pub kept_by : Option MetaRecord → Kept → Kept
-kept_by None k = k
-kept_by (Some r) k = kept_after k r
 
 module _ {C D : Type 0} (seen : D → List ℕ) (may_leave : D → List ℕ → Type 0) where
   -- Metadata stands for what a point keeps, all of it synced; its rows are those of the history, but for writes that are marked. And
@@ -85,6 +72,7 @@ module _ {C D : Type 0} (seen : D → List ℕ) (may_leave : D → List ℕ → 
   -- script asks it next.
   pub record IsDoing (n : Noted C D) (way : UnderWay) (history : HistoryState) (w : Whole) (least : List Row) : Type 0 where
     pub begun : StoreView
+    pub few : w.entries ≤ 262144
     pub told : IsTold (StandsFor begun) history w
     pub inside : way.place < length begun.lanes
     pub since : n.store ≡ record begun { lanes = slice_set begun.lanes way.place (lane_in n.store way.place) }

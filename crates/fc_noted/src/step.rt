@@ -4,8 +4,9 @@ ghost use Rattle.std.specs.Prelude.{◌≡◌, ◌≢◌, ◌≤◌, ◌↔◌, 
 ghost use Rattle.fc_changed.specs.Row.{Row};
 ghost use Rattle.fc_entry.specs.HistoryState.{HistoryState};
 ghost use Rattle.fc_legal.specs.Whole.{Whole};
-ghost use Rattle.fc_noted.specs.Making.{CopiesNext, IsMarkedNext, StepMade, WayMade, copies_nothing, done, volume_noted};
+ghost use Rattle.fc_noted.specs.Making.{CopiesNext, IsMarkedNext, StepMade, WayMade, done, volume_noted};
 ghost use Rattle.fc_noted.specs.Noted.{CanStep, IsDoing};
+ghost use Rattle.law_noted.specs.DataSteps.{copies_nothing};
 ghost use Rattle.law_noted.specs.Records.{record_after};
 ghost use Rattle.fc_steps.specs.UnderWay.{next_of};
 ghost use Rattle.fc_steps.specs.declared.stepping.Next.TheVariants.{Move as NextMove, Own, Over};
