@@ -21,3 +21,7 @@ pub mod Tearing
 pub mod Finding
 pub mod Ending
 pub mod Advancing
+pub mod HandNext
+pub mod HandOn
+pub mod HandMoved
+pub mod HandEnds

@@ -104,7 +104,7 @@ lost_other v g (row ∷ rows) u y ne = other_by v g row rows u y (row.volume == 
 pub marked_agree : (grain : GrainSize) (k : Kept) (v g : ℕ) (old new : List (List NamedDisk)) → AllAgree grain k old new → AllAgree grain (kept_after k (mark_at v g)) old new
 marked_agree grain k v g old new a = agree_fewer grain k (kept_after k (mark_at v g)) old new (λ u y e. e) a
 
-uncopied_more : (m : Move) (in_place : Bool) (lost : List LostGrains) (u y : ℕ) → is_lost_in (lost_kept lost (Pair m.slot m.volume m.grain in_place (not in_place))) u y ≡ false → is_lost_in lost u y ≡ false
+pub uncopied_more : (m : Move) (in_place : Bool) (lost : List LostGrains) (u y : ℕ) → is_lost_in (lost_kept lost (Pair m.slot m.volume m.grain in_place (not in_place))) u y ≡ false → is_lost_in lost u y ≡ false
 uncopied_more m true lost u y e = e
 uncopied_more m false lost u y e = lost_more m.volume.0 m.grain.0 lost u y e
 

@@ -15,7 +15,7 @@ use Rattle.fc_pictures.proofs.Agreeing.{lane_law_holds}
 use Rattle.fc_pictures.proofs.Fitting.{read_is}
 use Rattle.fc_rules.specs.LaneTold.{LaneOf, LaneTold}
 use Rattle.fc_rules.specs.Spot.{Spot, move_in}
-use Rattle.fc_rules.specs.Steps.{DiskStep, moves_of, step_of_move}
+use Rattle.fc_rules.specs.Steps.{DiskStep, calls_of_steps, moves_of, step_of_move}
 use Rattle.fc_steps.specs.Moving.{CanMove, SameLane}
 use Rattle.fc_steps.specs.Standing.{Stands}
 use Rattle.fc_steps.specs.StepsEnd.{FailedIn}
@@ -39,6 +39,7 @@ pub record MadeAt (spot : Spot) (told : LaneTold) (x : ℕ) (s : Steps) (left : 
   pub made_are : take s.made s.planned.moves ≡ map (move_in spot) done
   pub rest_are : left ≡ map (move_in spot) rest
   pub count : length done ≡ s.made
+  pub calls : s.calls ≡ calls_of_steps (map (step_of_move spot) done)
   pub stands : Stands after.sheet told.picture new.volumes
 
 module _ (l : LaneOf) (told : LaneTold) (x : ℕ) (chains : Chains) (old : GrainsState) (s : Steps) (after : Chains) (new : GrainsState) (u : AreUnderWay l told x chains old s after new) where
@@ -57,6 +58,7 @@ module _ (l : LaneOf) (told : LaneTold) (x : ℕ) (chains : Chains) (old : Grain
         made_are = c.made_are;
         rest_are = c.rest_are;
         count = sym (length-map c.done (move_in spot)) ∙ (ap length (sym c.made_are) ∙ length-take-le s.made s.planned.moves within);
+        calls = c.calls_are;
         stands = subst (λ (z : Chains). Stands z.sheet told.picture new.volumes) (sym c.stands.chains_are) c.stands.stands;
       }
 

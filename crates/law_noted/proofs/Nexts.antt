@@ -1,6 +1,8 @@
 -- Which step of an entry is which: the moves come first, and the write itself is last.
 use Rattle.std.proofs.Common.{◌≡◌, ℕ, List, [], ◌∷◌, ◌++◌, length, map, Option, Some, None, refl, sym, subst, ◌∙◌, ◌⊎◌, inl, inr, arith}
 use Rattle.std.proofs.lemmas.List.{append-nil}
+use Rattle.fc_base.specs.declared.ids.GrainNo.{GrainNo}
+use Rattle.fc_base.specs.declared.ids.MapId.{MapId}
 use Rattle.fc_base.specs.declared.request.Move.{Move}
 use Rattle.fc_base.specs.declared.request.Request.{Request}
 use Rattle.fc_base.specs.declared.request.Request.TheVariants.{Write, Copy, Clean}
@@ -140,6 +142,23 @@ own_last grain w r steps front back step are split none =
       | inl x ↦ absurd (some_none step.move x.0 x.1 none)
       | inr x ↦ x.1
     ]
+
+-- every step of a copy or a cleaning is a move
+fill_moving : (spot : Spot) (o : Option ℕ) (steps : List DiskStep) → AreFillSteps spot o steps → AreMoving steps
+fill_moving spot None steps are = absurd are
+fill_moving spot (Some k) steps are = subst AreMoving (sym are) (all_moving spot (fill_moves spot.column k))
+
+moving_at : (front back : List DiskStep) (step : DiskStep) → AreMoving (front ++ step ∷ back) → IsMoving step
+moving_at [] back step m = m.0
+moving_at (x ∷ front) back step m = moving_at front back step m.1
+
+pub copy_step : (grain : GrainSize) (w : Whole) (m : MapId) (g : GrainNo) (steps front back : List DiskStep) (step : DiskStep) → AreStepsOf grain w (Copy m g) steps → steps ≡ front ++ step ∷ back → IsMoving step
+copy_step grain w m g steps front back step are split =
+    moving_at front back step (subst AreMoving split (fill_moving (spot_of grain w g.0) (copied_slot w.books.sheet.slots m.0 (place_of (single_lane grain) g.0)) steps are))
+
+pub clean_step : (grain : GrainSize) (w : Whole) (m : MapId) (g : GrainNo) (steps front back : List DiskStep) (step : DiskStep) → AreStepsOf grain w (Clean m g) steps → steps ≡ front ++ step ∷ back → IsMoving step
+clean_step grain w m g steps front back step are split =
+    moving_at front back step (subst AreMoving split (fill_moving (spot_of grain w g.0) (cleaned_slot w.books.sheet.slots m.0 (place_of (single_lane grain) g.0)) steps are))
 
 -- ---- what is next behind a front
 

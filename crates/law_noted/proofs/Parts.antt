@@ -81,7 +81,7 @@ move_chains grain rows g chains step m e =
     ap (λ (o : Option Move). chains_by chains (actions_by_move rows g step o)) e
     ∙ (data_chains chains step m (step.calls == 0) ∙ ap (λ (y : ℕ). sheet_moved m.volume.0 y m.in_place chains) (sym (all_place grain m.grain.0)))
 
-moves_first : (s : DiskStep) (steps : List DiskStep) (m : Move) → s.move ≡ Some m → moves_of (s ∷ steps) ≡ m ∷ moves_of steps
+pub moves_first : (s : DiskStep) (steps : List DiskStep) (m : Move) → s.move ≡ Some m → moves_of (s ∷ steps) ≡ m ∷ moves_of steps
 moves_first s steps m e = ap (λ (o : Option Move). moves_of ((record s { move = o }) ∷ steps)) e
 
 moves_chains : (grain : GrainSize) (rows : List Row) (g : ℕ) (steps : List DiskStep) → AreMoving steps → (chains : Sheet) →

@@ -25,7 +25,7 @@ use Rattle.law_noted.proofs.Nexts.{head_is, here}
 
 -- ---- disks that stay
 
-all_same : (ds : List NamedDisk) → AllZip SameDisk ds ds
+pub all_same : (ds : List NamedDisk) → AllZip SameDisk ds ds
 all_same [] = tt
 all_same (d ∷ ds) = (record { volume = refl; kind = refl; grains = refl }, all_same ds)
 

@@ -4,3 +4,4 @@ pub mod Came
 pub mod Advancing
 pub mod DataSteps
 pub mod Runs
+pub mod Going
