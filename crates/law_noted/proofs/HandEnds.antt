@@ -1,10 +1,9 @@
 -- How an entry in hand ends: what its lane tells, where its history leads, and which rows metadata has then.
-use Rattle.std.proofs.Common.{◌≡◌, ◌⊎◌, ℕ, ◌+◌, ◌<◌, ◌≤◌, Bool, true, false, cond, take, drop, Option, Some, None, List, [], ◌∷◌, ◌++◌, length, map, fold, filter, refl, sym, ap, subst, ◌∙◌, inl, inr, arith, length-append}
-use Rattle.std.proofs.lemmas.List.{append-nil, length-map, length-take-le}
+use Rattle.std.proofs.Common.{◌≡◌, ℕ, ◌+◌, ◌≤◌, Bool, true, false, cond, take, drop, Option, Some, None, List, [], ◌∷◌, ◌++◌, length, map, fold, refl, sym, ap, subst, ◌∙◌, arith, length-append}
+use Rattle.std.proofs.lemmas.List.{length-map, length-take-le}
 use Rattle.fc_base.specs.declared.ids.GrainNo.{GrainNo}
 use Rattle.fc_base.specs.declared.ids.VolId.{VolId}
 use Rattle.fc_base.specs.declared.request.Move.{Move}
-use Rattle.fc_base.specs.declared.request.Reply.{Reply}
 use Rattle.fc_base.specs.declared.request.Request.{Request}
 use Rattle.fc_base.specs.declared.request.Side.{Side}
 use Rattle.fc_base.specs.declared.request.Side.TheVariants.{Now, Under}
@@ -26,9 +25,8 @@ use Rattle.fc_legal.specs.Whole.{Whole, lane_at, part_at, single_lane}
 use Rattle.fc_marks.specs.Marks.{marked}
 use Rattle.fc_marks.specs.declared.marks.Mark.{Mark}
 use Rattle.fc_parts.proofs.Numbers.{all_place}
-use Rattle.fc_pictures.proofs.Agreeing.{lane_law_holds}
 use Rattle.fc_rules.specs.LaneRight.{done_write}
-use Rattle.fc_rules.specs.LaneTold.{LaneOf, LaneTold, place_of}
+use Rattle.fc_rules.specs.LaneTold.{LaneOf, LaneTold}
 use Rattle.fc_rules.specs.Spot.{Spot, move_in}
 use Rattle.fc_rules.specs.Steps.{DiskStep, moves_of, step_of_move}
 use Rattle.fc_steps.specs.Asking.{done_of, reply_in, request_of}
@@ -44,7 +42,7 @@ use Rattle.fc_steps.specs.declared.stop.Stop.TheVariants.{Failed, NoMemory}
 use Rattle.fc_steps.proofs.UnderWay.{way_ends}
 use Rattle.law_crash.specs.Doing.{Tears, Tells, chains_behind, number_of}
 use Rattle.law_crash.specs.Points.{Point}
-use Rattle.law_crash.specs.Running.{Does, Run, Run.more, Takes}
+use Rattle.law_crash.specs.Running.{Does, Run.more, Takes}
 use Rattle.law_crash.proofs.Making.{spot_in}
 use Rattle.law_noted.specs.Came.{Came, Came.behind, Came.marked as came_marked, Came.stopped, own_done, steps_done}
 use Rattle.law_noted.specs.DataSteps.{IsInHand}

@@ -1,5 +1,5 @@
 -- A move of an entry in hand that copies nothing is made, over the same disks.
-use Rattle.std.proofs.Common.{◌≡◌, ◌≢◌, ◌⊎◌, ℕ, suc, ◌+◌, ◌<◌, ◌≤◌, Bool, true, false, cond, not, is_some, take, drop, Option, Some, None, List, [], ◌∷◌, ◌++◌, length, map, refl, sym, ap, subst, ◌∙◌, inl, inr, arith}
+use Rattle.std.proofs.Common.{◌≡◌, ℕ, suc, ◌+◌, ◌<◌, ◌≤◌, Bool, true, false, cond, not, is_some, take, drop, Option, Some, None, List, [], ◌∷◌, ◌++◌, length, map, refl, sym, ap, subst, ◌∙◌, inl, inr, arith}
 use Rattle.std.proofs.lemmas.Bool.{cases_Bool}
 use Rattle.std.proofs.lemmas.List.{append-nil, length-take-le}
 use Rattle.fc_base.specs.Sheet.{slot_at}
@@ -12,15 +12,14 @@ use Rattle.fc_changed.specs.Row.{Row}
 use Rattle.fc_entry.specs.Picture.{Content, Bytes, Lost, is_lost}
 use Rattle.fc_grains.specs.Grains.{GrainsState}
 use Rattle.fc_grains.specs.Volumes.{stored}
-use Rattle.fc_image.specs.declared.record.MetaRecord.{MetaRecord}
 use Rattle.fc_kept.specs.Images.{size_in}
-use Rattle.fc_kept.specs.Kept.{Kept, LostGrains, kept_after, lost_kept, lost_put}
+use Rattle.fc_kept.specs.Kept.{Kept, kept_after, lost_put}
 use Rattle.fc_kept.specs.Recoverable.{disks_at}
 use Rattle.fc_kept.specs.Sound.{AreLost}
 use Rattle.fc_lane.specs.Doing.{HasCome, IsUnderWay}
 use Rattle.fc_lane.specs.Lane.{LaneView, of}
 use Rattle.fc_lane.specs.declared.doing.Doing.{Doing}
-use Rattle.fc_legal.specs.Whole.{Whole, lane_at, lane_of_grain, lanes, part_at}
+use Rattle.fc_legal.specs.Whole.{Whole, lane_at, lane_of_grain, part_at}
 use Rattle.fc_parts.proofs.Decisions.{part_follows}
 use Rattle.fc_pictures.specs.Law.{StoredAt, now_of}
 use Rattle.fc_rules.specs.LaneTold.{LaneOf, LaneTold, number_at, place_of}

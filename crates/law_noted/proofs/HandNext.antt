@@ -1,9 +1,8 @@
 -- What comes next of an entry in hand, among the steps of the entry.
-use Rattle.std.proofs.Common.{◌≡◌, ℕ, ◌+◌, ◌<◌, ◌≤◌, Bool, true, false, cond, ◌||◌, take, drop, Option, Some, None, List, [], ◌∷◌, ◌++◌, length, map, refl, sym, ap, subst, ◌∙◌, inl, inr, arith}
+use Rattle.std.proofs.Common.{◌≡◌, ℕ, ◌+◌, Bool, true, false, cond, ◌||◌, drop, Some, None, List, [], ◌∷◌, ◌++◌, length, map, refl, sym, ap, ◌∙◌, inl, inr, arith}
 use Rattle.std.proofs.lemmas.Bool.{cases_Bool}
-use Rattle.fc_base.specs.Column.{holder}
 use Rattle.fc_base.specs.Moves.{is_in_place}
-use Rattle.fc_base.specs.Sheet.{Slot, birth_place, column, slot_at}
+use Rattle.fc_base.specs.Sheet.{Slot, birth_place}
 use Rattle.fc_base.specs.declared.request.Move.{Move}
 use Rattle.fc_base.specs.declared.request.Request.{Request}
 use Rattle.fc_base.specs.declared.request.WritePart.{WritePart}
@@ -18,7 +17,7 @@ use Rattle.fc_parts.proofs.Numbers.{all_place}
 use Rattle.fc_pictures.specs.Law.{now_of}
 use Rattle.fc_pictures.proofs.Fitting.{read_is}
 use Rattle.fc_rules.specs.LaneTold.{LaneOf, LaneTold}
-use Rattle.fc_rules.specs.Spot.{Spot, move_in}
+use Rattle.fc_rules.specs.Spot.{Spot}
 use Rattle.fc_rules.specs.Steps.{DiskStep, calls_of_steps, own_step, step_of_move}
 use Rattle.fc_sheets.proofs.Finding.{live_place_at}
 use Rattle.fc_steps.specs.Asking.{request_of}
@@ -27,7 +26,6 @@ use Rattle.fc_steps.specs.declared.ask.Ask.{Ask}
 use Rattle.fc_steps.specs.declared.ask.Ask.TheVariants.{Write}
 use Rattle.fc_steps.specs.declared.stepping.Next.TheVariants.{Move as NextMove, Own}
 use Rattle.fc_steps.specs.declared.stepping.Steps.{Steps}
-use Rattle.fc_steps.specs.declared.stop.Stop.{Stop}
 use Rattle.fc_steps.proofs.UnderWay.{move_comes, own_comes, way_can}
 use Rattle.law_crash.specs.Doing.{number_of}
 use Rattle.law_crash.specs.Points.{Point}
@@ -36,7 +34,7 @@ use Rattle.law_noted.specs.Advancing.{IsNext}
 use Rattle.law_noted.specs.Came.{own_done, steps_done}
 use Rattle.law_noted.specs.DataSteps.{IsInHand, copies_nothing, lost_for, lost_of}
 use Rattle.law_noted.proofs.DataCame.{DoneTo}
-use Rattle.law_noted.proofs.DataInHand.{count_at, done_so, grain_is, made_so, owns, shown, slot, slot_whole, split_at, way}
+use Rattle.law_noted.proofs.DataInHand.{count_at, done_so, made_so, owns, shown, slot, slot_whole, split_at, way}
 use Rattle.law_noted.proofs.NextSteps.{MadeAt, next_slot, none_next}
 use Rattle.law_noted.proofs.Places.{owns_asked, slot_all}
 

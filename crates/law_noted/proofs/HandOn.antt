@@ -1,5 +1,5 @@
 -- How an entry in hand goes on by records and marks, and what may be recovered of it.
-use Rattle.std.proofs.Common.{◌≡◌, ℕ, ◌+◌, ◌<◌, ◌≤◌, ◌%◌, Bool, true, false, Option, Some, None, List, [], ◌∷◌, ◌++◌, refl, sym, ap, subst, ◌∙◌}
+use Rattle.std.proofs.Common.{◌≡◌, ℕ, ◌+◌, ◌<◌, ◌≤◌, ◌%◌, true, Option, Some, None, List, [], refl, sym, ap, subst, ◌∙◌}
 use Rattle.std.specs.List.{list_any}
 use Rattle.fc_base.specs.declared.ids.GrainNo.{GrainNo}
 use Rattle.fc_base.specs.declared.request.Move.{Move}
@@ -28,7 +28,7 @@ use Rattle.fc_parts.specs.Law.{IsInVolume}
 use Rattle.fc_rules.specs.LaneTold.{LaneOf, place_of}
 use Rattle.fc_rules.specs.Steps.{DiskStep}
 use Rattle.fc_steps.specs.Asking.{request_of}
-use Rattle.fc_steps.specs.UnderWay.{first_steps, next_of}
+use Rattle.fc_steps.specs.UnderWay.{next_of}
 use Rattle.fc_steps.specs.declared.ask.Ask.{Ask}
 use Rattle.fc_steps.specs.declared.stepping.Next.TheVariants.{Move as NextMove, Own}
 use Rattle.fc_steps.specs.declared.stepping.Steps.{Steps}
