@@ -116,6 +116,7 @@ impl<D: Mdisk, M: MetaDisk> Noted<D, M> {
     /// Puts the record of the last step of data.
     fn put_due(&mut self, way: UnderWay, note: MetaRecord) -> Result<(), NotedStop>
         requires at { (w : Whole) × (least : List Row) × (history : HistoryState) × IsDoing M.seen M.may_leave self.old way history w least }
+        requires live { self.old.live ≡ true }
         requires due { way.due ≡ Some note }
         ensures made { (history : HistoryState) → WayMade M.seen M.may_leave M.moment M.left_since result self.old way self.new history history }
         ensures live { self.new.live ≡ self.old.live }
@@ -150,6 +151,7 @@ impl<D: Mdisk, M: MetaDisk> Noted<D, M> {
     /// A move. One that copies nothing calls no disk of data: its record is put before it is made.
     fn make_move(&mut self, way: UnderWay, mv: Move) -> Result<(), NotedStop>
         requires at { (w : Whole) × (least : List Row) × (history : HistoryState) × IsDoing M.seen M.may_leave self.old way history w least }
+        requires live { self.old.live ≡ true }
         requires due { way.due ≡ None }
         requires next { next_of way.doing.steps ≡ NextMove mv }
         ensures made { (history : HistoryState) → WayMade M.seen M.may_leave M.moment M.left_since result self.old way self.new history history }
@@ -187,6 +189,7 @@ impl<D: Mdisk, M: MetaDisk> Noted<D, M> {
     /// The write itself: it is marked first, where by metadata a row that names its volume has its grain as the same.
     fn own(&mut self, way: UnderWay, part: WritePart) -> Result<(), NotedStop>
         requires at { (w : Whole) × (least : List Row) × (history : HistoryState) × IsDoing M.seen M.may_leave self.old way history w least }
+        requires live { self.old.live ≡ true }
         requires due { way.due ≡ None }
         requires next { next_of way.doing.steps ≡ Own part }
         ensures made { (history : HistoryState) → WayMade M.seen M.may_leave M.moment M.left_since result self.old way self.new history history }
@@ -213,6 +216,7 @@ impl<D: Mdisk, M: MetaDisk> Noted<D, M> {
     /// A step of data. Its record waits then.
     fn data_step(&mut self, way: UnderWay)
         requires at { (w : Whole) × (least : List Row) × (history : HistoryState) × IsDoing M.seen M.may_leave self.old way history w least }
+        requires live { self.old.live ≡ true }
         requires due { way.due ≡ None }
         requires next { next_of way.doing.steps ≢ Over }
         requires marked { IsMarkedNext self.old way }
@@ -235,6 +239,7 @@ impl<D: Mdisk, M: MetaDisk> Noted<D, M> {
     /// The entry of steps that are over is logged.
     fn finish(&mut self, way: UnderWay, history: &mut History) -> Result<(), NotedStop>
         requires at { (w : Whole) × (least : List Row) × IsDoing M.seen M.may_leave self.old way history.old w least }
+        requires live { self.old.live ≡ true }
         requires due { way.due ≡ None }
         requires over { next_of way.doing.steps ≡ Over }
         requires room { length history.old.entries ≤ 262144 }
