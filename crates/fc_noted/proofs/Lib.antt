@@ -1,2 +1,3 @@
 -- Lemmas, one subject a file.
 mod Resting
+mod InHand

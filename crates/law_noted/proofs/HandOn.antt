@@ -7,7 +7,6 @@ use Rattle.fc_base.specs.declared.request.Request.{Request}
 use Rattle.fc_base.specs.declared.request.WritePart.{WritePart}
 use Rattle.fc_base.specs.declared.size.GrainSize.{GrainSize}
 use Rattle.fc_changed.specs.Row.{Row}
-use Rattle.fc_diff.specs.State.{ChangesState}
 use Rattle.fc_entry.specs.declared.entry.Entry.{Entry}
 use Rattle.fc_image.specs.declared.record.MetaRecord.{MetaRecord}
 use Rattle.fc_image.specs.declared.record.MetaRecord.TheVariants.{Changing}
@@ -153,7 +152,7 @@ module _ (grain : GrainSize) (w : Whole) (least : List Row) (place : ℕ) (doing
       let l : LaneOf = lane_at grain w place in
       let number : GrainNo = doing.steps.grain in
       let is : number.0 ≡ g = grain_is grain w least place doing begun now steps before q h in
-      let rows : now.changes.rows ≡ part_of_rows l w.rows = ap (λ (c : ChangesState). c.rows) h.under.beside.changes ∙ rows_are in
+      let rows : now.changes.rows ≡ part_of_rows l w.rows = (λ i. (h.under.beside.changes i).rows) ∙ rows_are in
       let at : doing.steps.place ≡ place_of l number.0 = place_is grain w least place doing begun now steps before q h ∙ ap (place_of l) (sym is) in
       let of_lane : number.0 % l.lanes ≡ l.lane = ap (λ (z : ℕ). z % lanes w) is ∙ lane_is_of grain w least place doing begun now steps before q h in
       (λ i. is_open_any (rows i) marks part.volume number (at i))
