@@ -1,6 +1,6 @@
 -- Disks that match what lanes hold agree with whatever disks the lanes give back.
-use Rattle.std.proofs.Common.{◌≡◌, ◌⊎◌, ℕ, suc, ◌+◌, ◌<◌, ◌≤◌, ◌==◌, Bool, true, false, cond, not, ◌&&◌, is_some, Option, Some, None, List, [], ◌∷◌, ◌++◌, length, map, get_or, reverse, All, Contains, inl, inr, refl, sym, ap, subst, ◌∙◌, arith}
-use Rattle.std.specs.List.{AllZip, filter, list_any}
+use Rattle.std.proofs.Common.{◌≡◌, ◌⊎◌, ℕ, suc, ◌+◌, ◌<◌, ◌≤◌, ◌==◌, Bool, true, false, cond, not, ◌&&◌, is_some, Option, Some, None, List, [], ◌∷◌, ◌++◌, length, map, get_or, reverse, Contains, inl, inr, refl, sym, ap, subst, ◌∙◌, arith}
+use Rattle.std.specs.List.{AllZip, filter}
 use Rattle.std.specs.Prelude.{ltb}
 use Rattle.std.proofs.lemmas.Bool.{cases_Bool, cases_eq, cases_lt, eqb-true, eq-eqb, le-ltb, lt-ltb, ne_eqb}
 use Rattle.std.proofs.lemmas.Grind.{reverse_onto}
@@ -9,7 +9,7 @@ use Rattle.fc_base.specs.declared.disk.DiskKind.{DiskKind}
 use Rattle.fc_base.specs.declared.ids.VolId.{VolId}
 use Rattle.fc_base.specs.declared.size.GrainSize.{GrainSize}
 use Rattle.fc_decided.proofs.Lists.{first_in, later_in, in_cases, none_in, any_from}
-use Rattle.fc_entry.specs.Picture.{Content, Bytes, content_at}
+use Rattle.fc_entry.specs.Picture.{Bytes}
 use Rattle.fc_grains.specs.Grains.{GrainsState}
 use Rattle.fc_grains.specs.Volumes.{HoldsGrains, VolumeGrains, is_there}
 use Rattle.fc_kept.specs.Disks.{NamedDisk, is_of, disk_of, on_disk}
@@ -21,7 +21,7 @@ use Rattle.fc_rules.specs.LaneTold.{LaneOf, number_at}
 use Rattle.law_crash.specs.Leaving.{is_free, is_kind}
 use Rattle.law_crash.proofs.Disks.{find_by}
 use Rattle.law_agreeing.specs.Agreeing.{Agree, AllAgree, SameSize, lane_over}
-use Rattle.fc_held.specs.Held.{HeldBy, HoldLane, HoldAllOf, HasNoName, HasDisk, Matches, MatchAll, name_below, is_unknown, is_of_kind, free_in}
+use Rattle.fc_held.specs.Held.{HeldBy, HoldLane, HoldAllOf, HasNoName, HasDisk, Matches, MatchAll, name_below, is_unknown, is_of_kind}
 
 -- ---- names
 

@@ -1,5 +1,5 @@
 -- The disks that a lane gives back, with their names.
-use Rattle.std.proofs.Common.{◌≡◌, ℕ, zero, suc, ◌+◌, ◌-◌, ◌<◌, ◌≤◌, Bool, cond, Option, Some, None, List, [], ◌∷◌, ◌++◌, length, map, drop, get_or, reverse, slice_get, Contains, inl, inr, refl, sym, ap, subst, ◌∙◌, arith}
+use Rattle.std.proofs.Common.{◌≡◌, ℕ, zero, suc, ◌+◌, ◌-◌, ◌<◌, ◌≤◌, cond, Option, Some, None, List, [], ◌∷◌, ◌++◌, length, map, drop, get_or, reverse, slice_get, Contains, inl, inr, refl, sym, ap, subst, ◌∙◌, arith}
 use Rattle.std.specs.List.{All, AllZip}
 use Rattle.std.specs.Prelude.{ltb}
 use Rattle.std.proofs.lemmas.Grind.{reverse_onto}
@@ -13,7 +13,7 @@ use Rattle.fc_grains.specs.Volumes.{HoldAll, VolumeGrains}
 use Rattle.fc_kept.specs.Disks.{NamedDisk}
 use Rattle.fc_lane.specs.Lane.{LaneView}
 use Rattle.fc_mdisk.specs.Disk.{DiskState}
-use Rattle.fc_held.specs.Held.{HasNoName, HeldBy, HoldAllOf, HoldLane, name_below, name_in, name_of}
+use Rattle.fc_held.specs.Held.{HasNoName, HeldBy, HoldAllOf, HoldLane, name_in, name_of}
 
 -- ---- the name at a place
 

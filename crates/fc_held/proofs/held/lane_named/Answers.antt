@@ -1,7 +1,6 @@
 use Rattle.std.proofs.Common.{◌≡◌, ◌+◌, ◌∙◌, ◌∷◌, ◌++◌, [], List, length, map, drop, reverse, ap, sym, arith}
 use Rattle.fc_base.specs.declared.volume.Volume.{Volume}
 use Rattle.fc_kept.specs.Disks.{NamedDisk}
-use Rattle.fc_mdisk.specs.Disk.{DiskState}
 use Rattle.fc_held.proofs.Naming.{all_named, lane_held, none_left, one_named, with_names}
 use Rattle.fc_held.proofs.held.lane_named.Goals as goal
 
