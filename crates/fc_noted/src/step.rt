@@ -134,6 +134,7 @@ impl<D: Mdisk, M: MetaDisk> Noted<D, M> {
     /// Whether a move copies nothing: its slot has the grain on its own disk already, or the grain is lost where it would be read.
     fn copies_nothing(&self, way: &UnderWay, mv: &Move) -> bool
         requires at { (w : Whole) × (least : List Row) × (history : HistoryState) × IsDoing M.seen M.may_leave self.now way.now history w least }
+        requires due { way.now.due ≡ None }
         requires next { next_of way.now.doing.steps ≡ NextMove mv.now }
         ensures { result ≡ copies_nothing (lane_in self.now.store way.now.place) way.now.doing.steps.place mv.now }
     {
