@@ -16,7 +16,7 @@ use Rattle.fc_grains.specs.Volumes.{VolumeGrains}
 use Rattle.fc_kept.specs.Disks.{NamedDisk}
 use Rattle.fc_mdisk.specs.Disk.{DiskState, is_flat}
 use Rattle.law_crash.specs.Leaving.{is_free, is_kind}
-use Rattle.fc_held.specs.Held.{HeldBy, HoldLane, HasNoName, is_known, name_below}
+use Rattle.fc_held.specs.Held.{HeldBy, HoldLane, HasNoName, is_known}
 
 -- ---- counts
 

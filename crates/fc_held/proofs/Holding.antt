@@ -1,12 +1,11 @@
 -- Disks that match what lanes hold agree with whatever disks the lanes give back.
-use Rattle.std.proofs.Common.{◌≡◌, ◌⊎◌, ℕ, suc, ◌+◌, ◌<◌, ◌≤◌, ◌==◌, Bool, true, false, cond, not, ◌&&◌, is_some, Option, Some, None, List, [], ◌∷◌, ◌++◌, length, map, get_or, reverse, Contains, inl, inr, refl, sym, ap, subst, ◌∙◌, arith}
+use Rattle.std.proofs.Common.{◌≡◌, ◌⊎◌, ℕ, ◌+◌, ◌<◌, ◌≤◌, ◌==◌, Bool, true, false, cond, Option, Some, None, List, [], ◌∷◌, ◌++◌, length, get_or, reverse, Contains, inl, inr, refl, sym, ap, subst, ◌∙◌, arith}
 use Rattle.std.specs.List.{AllZip, filter}
 use Rattle.std.specs.Prelude.{ltb}
 use Rattle.std.proofs.lemmas.Bool.{cases_Bool, cases_eq, cases_lt, eqb-true, eq-eqb, le-ltb, lt-ltb, ne_eqb}
 use Rattle.std.proofs.lemmas.Grind.{reverse_onto}
 use Rattle.std.proofs.lemmas.List.Elements.{Contains-append_cases, Contains-append_left, Contains-push}
 use Rattle.fc_base.specs.Pools.{of_kind}
-use Rattle.fc_base.specs.declared.disk.DiskKind.{DiskKind}
 use Rattle.fc_base.specs.declared.ids.VolId.{VolId}
 use Rattle.fc_base.specs.declared.size.GrainSize.{GrainSize}
 use Rattle.fc_decided.proofs.Lists.{first_in, later_in, in_cases, none_in, any_from}
@@ -17,9 +16,9 @@ use Rattle.fc_kept.specs.Disks.{NamedDisk, is_of, disk_of, on_disk}
 use Rattle.fc_kept.specs.Kept.{Kept, is_lost_in}
 use Rattle.fc_kept.specs.Recoverable.{disks_at}
 use Rattle.fc_lane.specs.Lane.{LaneView}
-use Rattle.fc_mdisk.specs.Disk.{DiskState, grain_at}
+use Rattle.fc_mdisk.specs.Disk.{grain_at}
 use Rattle.fc_rules.specs.LaneTold.{LaneOf, number_at}
-use Rattle.law_crash.specs.Leaving.{is_free, is_kind}
+use Rattle.law_crash.specs.Leaving.{is_free}
 use Rattle.law_crash.proofs.Disks.{find_by}
 use Rattle.law_agreeing.specs.Agreeing.{Agree, AllAgree, SameSize, lane_over}
 use Rattle.fc_held.specs.Held.{HeldBy, HoldLane, HoldAllOf, HasNoName, HasDisk, Matches, MatchAll, is_known, name_below}

@@ -1,5 +1,5 @@
 -- The disks that lanes hold, with the names of their volumes; and disks of which these are known but for lost grains.
-use Rattle.std.specs.Prelude.{◌≡◌, ◌⊎◌, ℕ, ◌+◌, ◌<◌, ◌≤◌, ltb, Bool, false, ◌&&◌, not, if◌then◌else◌, List, ◌++◌, length, map, filter, reverse, slice_get, slice_index_or, All, Contains, Option, Some, None}
+use Rattle.std.specs.Prelude.{◌≡◌, ◌⊎◌, ℕ, ◌+◌, ◌<◌, ◌≤◌, ltb, Bool, false, ◌&&◌, if◌then◌else◌, List, ◌++◌, length, map, filter, reverse, slice_get, slice_index_or, All, Contains, Option, Some, None}
 use Rattle.std.specs.List.{AllZip}
 use Rattle.fc_base.specs.Pools.{of_kind}
 use Rattle.fc_base.specs.declared.disk.DiskKind.{DiskKind}

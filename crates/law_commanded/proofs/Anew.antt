@@ -178,7 +178,8 @@ pub anew_all : (grain : GrainSize) (entries : List Entry) (w : Whole) (least : L
     (old new : List LaneView) (p : Point) (kept : Kept) → LaneView → let left = left_behind grain w command loop in
     HasCome grain entries w least old p → w.entries < 262144 → IsCommanded grain w command loop entry → IsAnew grain w least command loop kept → HaveLanes grain left new → EachLane HasSameDisks old new →
     (q : Point) × (q.kept ≡ kept) × HasCome grain (entries ++ entry ∷ []) (one_more left) (least_behind grain w least command loop) new q
-anew_all grain entries w least command loop entry old new p kept other come few c is stand same =
-    (point_left grain entries w least command loop entry old p come few c other new stand same,
-    sym (anew_is grain entries w least command loop entry old p come few c other kept is),
-    comes grain entries w least command loop entry old p come few c other new stand same)
+anew_all grain entries w least command loop entry old new p kept other come few c is stand same = (
+  point_left grain entries w least command loop entry old p come few c other new stand same,
+  sym (anew_is grain entries w least command loop entry old p come few c other kept is),
+  comes grain entries w least command loop entry old p come few c other new stand same,
+)

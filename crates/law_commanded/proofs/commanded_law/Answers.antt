@@ -1,6 +1,6 @@
 use Rattle.std.proofs.Common.{arith}
 use Rattle.law_volumes.proofs.Steps.{settling_keeps}
-use Rattle.law_commanded.proofs.Anew.{anew_all, before_all, here, sound_all, turned_all}
+use Rattle.law_commanded.proofs.Anew.{anew_all, before_all, sound_all, turned_all}
 use Rattle.law_commanded.proofs.Going.{none_goes}
 use Rattle.law_commanded.proofs.Leaving.{from_run}
 use Rattle.law_commanded.proofs.Unchanged.{comes_still, next_is, rows_stay}
