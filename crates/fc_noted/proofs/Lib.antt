@@ -1,6 +1,7 @@
 -- Lemmas, one subject a file.
 mod Copying
 mod Data
+mod Finishing
 mod GoingAlong
 mod InHand
 mod Moments
