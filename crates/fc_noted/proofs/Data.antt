@@ -209,7 +209,7 @@ module _ {C D : Type 0} (seen : D → List ℕ) (may_leave : D → List ℕ → 
   unfolding goes_behind data_doing doing_on kept_on
   data_made history =
       record {
-        on = λ w least d. inl (record { same = refl; live = live; at = goes_behind history w least d; goes = λ read. stays });
+        on = λ w least d. inl (record { same = refl; live = live; grain = ap (λ (s : StoreView). s.control.grain) is; at = goes_behind history w least d; goes = λ read. stays });
         any_moment = λ w least d.
             still_leaves seen may_leave moment left_since only_now old behind w least d.keeps.image refl d.keeps.says d.keeps.rests.durable
             (hold_either n.store store n.script n.named w least d.keeps.image (ap (λ (s : StoreView). s.control.grain) is) (doing_found seen may_leave old way history w least d)

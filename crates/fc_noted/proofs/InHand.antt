@@ -1,6 +1,6 @@
 -- The entry that is under way in a noted store is in hand, and what stands on metadata's disk may be recovered with whatever disks the
 -- lanes give back: between its steps, in them, and in the calls that put a record.
-use Rattle.std.proofs.Common.{◌≡◌, ℕ, ◌<◌, true, Option, Some, None, List, sym, subst}
+use Rattle.std.proofs.Common.{◌≡◌, ℕ, ◌<◌, ◌≤◌, true, Option, Some, None, List, sym, subst, arith}
 use Rattle.std.specs.List.{list_any}
 use Rattle.fc_agenda.specs.Goes.{stays}
 use Rattle.fc_base.specs.declared.request.Move.{Move}
@@ -77,11 +77,14 @@ module _ {C D : Type 0} (seen : D → List ℕ) (may_leave : D → List ℕ → 
   pub at_lane : IsLaneAt d.begun.control.grain w way.place (lane_in d.begun way.place)
   at_lane = d.told.0.each way.place no_lane d.inside
 
+  few : w.entries ≤ 262144
+  few = omega (arith, d.few)
+
   pub in_hand : IsInHand d.begun.control.grain w least way.place way.doing (lane_in d.begun way.place) (lane_in n.store way.place) d.steps d.before way.due d.point
   in_hand = record {
     decisions = d.told.0.decisions;
     stands = d.told.0.stands;
-    begins = begins grain history.entries w least d.before r d.steps d.run d.few d.in_volume d.steps_are;
+    begins = begins grain history.entries w least d.before r d.steps d.run few d.in_volume d.steps_are;
     have = d.run.have;
     inside = subst (λ (m : ℕ). way.place < m) d.told.0.count d.inside;
     lane_is = λ i. record { lane = at_lane.lane i; lanes = at_lane.lanes_are i; grain = at_lane.grain_is i };

@@ -67,6 +67,7 @@ module _ {C D : Type 0} (seen : D → List ℕ) (may_leave : D → List ℕ → 
     pub entry : Entry
     pub next : Whole
     pub least : List Row
+    pub room : length before.entries < 262144
     pub pushed : after ≡ record before { entries = before.entries ++ entry ∷ [] }
     pub right : Step old.store.control.grain w entry next
     pub volumes : HaveVolumes new.disks new.store

@@ -72,7 +72,7 @@ module _ {C D : Type 0} (seen : D → List ℕ) (may_leave : D → List ℕ → 
   -- script asks it next.
   pub record IsDoing (n : Noted C D) (way : UnderWay) (history : HistoryState) (w : Whole) (least : List Row) : Type 0 where
     pub begun : StoreView
-    pub few : w.entries ≤ 262144
+    pub few : w.entries < 262144
     pub told : IsTold (StandsFor begun) history w
     pub inside : way.place < length begun.lanes
     pub since : n.store ≡ record begun { lanes = slice_set begun.lanes way.place (lane_in n.store way.place) }
@@ -110,6 +110,7 @@ module _ {C D : Type 0} (seen : D → List ℕ) (may_leave : D → List ℕ → 
   pub record Stays (w : Whole) (least : List Row) (old_history : HistoryState) (old new : Noted C D) (new_history : HistoryState) : Type 0 where
     pub same : new_history ≡ old_history
     pub live : new.live ≡ true
+    pub grain : new.store.control.grain ≡ old.store.control.grain
     pub at : IsAt new new_history w least
     pub goes : GoesOn new.store.control.grain w (agenda_of new.store.control.grain old.script) (agenda_of new.store.control.grain new.script)
 
@@ -118,8 +119,10 @@ module _ {C D : Type 0} (seen : D → List ℕ) (may_leave : D → List ℕ → 
     pub entry : Entry
     pub next : Whole
     pub least_next : List Row
+    pub room : length old_history.entries < 262144
     pub pushed : new_history ≡ record old_history { entries = old_history.entries ++ entry ∷ [] }
     pub live : new.live ≡ true
+    pub grain : new.store.control.grain ≡ old.store.control.grain
     pub asking : Script
     pub reached : GoesOn old.store.control.grain w (agenda_of old.store.control.grain old.script) (agenda_of old.store.control.grain asking)
     pub answer : IsAnswer old.store.control.grain asking w entry next
