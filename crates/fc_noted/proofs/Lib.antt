@@ -1,8 +1,11 @@
 -- Lemmas, one subject a file.
+mod Beginning
+mod Begun
 mod Copying
 mod Data
 mod Finishing
 mod GoingAlong
+mod Holding
 mod InHand
 mod Moments
 mod Opening
