@@ -9,7 +9,8 @@ ghost use Rattle.fc_entry.specs.HistoryState.{HistoryState};
 ghost use Rattle.fc_format.specs.Halves.{Image};
 ghost use Rattle.fc_format.specs.Ranges.{HasGoodIds};
 ghost use Rattle.fc_kept.specs.Actions.{has_effect};
-ghost use Rattle.fc_lane.specs.Lane.{IsAsked};
+ghost use Rattle.fc_lane.specs.Lane.{IsAsked, IsSameLane};
+ghost use Rattle.fc_lanes.specs.AllLanes.{EachLane};
 ghost use Rattle.fc_legal.specs.Steps.{after_settling};
 ghost use Rattle.fc_legal.specs.Whole.{Whole};
 ghost use Rattle.fc_meta.specs.Answers.{LeavesEither};
@@ -18,7 +19,7 @@ ghost use Rattle.fc_metadisk.specs.Disk.{LeavesOnly};
 ghost use Rattle.fc_noted.specs.Making.{AnewOr, LeadsOn, LeavesAnew, StepMade, always};
 ghost use Rattle.fc_noted.specs.Noted.{IsNotedAt};
 ghost use Rattle.law_noted.specs.Records.{removed_by};
-ghost use Rattle.fc_noted.specs.Stopping.{HasStopped, HoldStill, LeavesRecoverable};
+ghost use Rattle.fc_noted.specs.Stopping.{HasStopped, LeavesRecoverable};
 ghost use Rattle.fc_script.specs.Asking.{CanBeAsked, IsNext};
 ghost use Rattle.fc_script.specs.Script.{agenda_of};
 ghost use Rattle.fc_stands.specs.Apart.{entry_apart};
@@ -112,7 +113,8 @@ impl<D: Mdisk, M: MetaDisk> Noted<D, M> {
         ensures settled { IfOk result (λ d. (decisions : ℕ) (w : Whole) → AreFew decisions w → StandsAt decisions self.old.store w →
             (d ≡ settle w.books) × StandsAt (decisions + 1) self.new.store (after_settling self.old.store.control.grain w)) }
         ensures starved { OnErr result ((decisions : ℕ) (w : Whole) → StandsAt decisions self.old.store w → StandsAt decisions self.new.store w) }
-        ensures holds { HoldStill self.old.store.lanes self.new.store.lanes }
+        ensures grain { self.new.store.control.grain ≡ self.old.store.control.grain }
+        ensures lanes { EachLane IsSameLane self.old.store.lanes self.new.store.lanes }
         ensures others { self.new ≡ record self.old { store = self.new.store } }
     {
         let settling = self.store.plan_settling()?;
