@@ -1,5 +1,5 @@
 -- An entry begins in its lane, and is under way.
-use Rattle.std.proofs.Common.{◌≡◌, ℕ, ◌<◌, ◌≤◌, Bool, true, Option, Some, None, List, length, Ok, Err, refl, sym, ap, subst, ◌∙◌, inl, inr}
+use Rattle.std.proofs.Common.{◌≡◌, ℕ, ◌<◌, ◌≤◌, Bool, true, Option, Some, None, List, length, Ok, Err, refl, sym, ap, subst, ◌∙◌, inl, arith}
 use Rattle.std.specs.Prelude.{IsErrOf}
 use Rattle.fc_agenda.specs.Goes.{stays}
 use Rattle.fc_base.specs.declared.request.Request.{Request}
@@ -73,7 +73,7 @@ module _ {C D : Type 0} (seen : D → List ℕ) (may_leave : D → List ℕ → 
 
   -- ---- an entry begins in a lane with room
 
-  module _ (n : Noted C D) (history : HistoryState) (room : length history.entries ≤ 262144) (place number : ℕ) (inside : place < length n.store.lanes) (ask : Ask) (doing : Doing) (store : StoreView)
+  module _ (n : Noted C D) (history : HistoryState) (room : length history.entries < 262144) (place number : ℕ) (inside : place < length n.store.lanes) (ask : Ask) (doing : Doing) (store : StoreView)
       (begun : HasBegun (lane_in n.store place) number 0 ask doing (lane_in store place)) (numbered : number ≡ length history.entries) (is : IsInLane place n.store store) where
     abbrev way : UnderWay
     way = record { place = place; doing = doing; due = None }
@@ -104,8 +104,8 @@ module _ {C D : Type 0} (seen : D → List ℕ) (may_leave : D → List ℕ → 
       below : place < lanes w
       below = subst (λ (k : ℕ). place < k) at.told.0.count inside
 
-      few : w.entries ≤ 262144
-      few = subst (λ (k : ℕ). k ≤ 262144) (sym at.told.1.entries) room
+      few : w.entries < 262144
+      few = subst (λ (k : ℕ). k < 262144) (sym at.told.1.entries) room
 
       steps : List DiskStep
       steps = begun_steps grain w place below lane (lane_in store place) doing lane_is lane_at_place.stands.lane begun.way
@@ -120,7 +120,7 @@ module _ {C D : Type 0} (seen : D → List ℕ) (may_leave : D → List ℕ → 
       hand : IsInHand grain w least place doing lane (lane_in store place) steps at.point None at.point
       hand =
           first grain w least place number 0 at.told.0.decisions doing.steps.ask doing lane (lane_in store place) steps at.point at.told.0.stands
-          (begins grain history.entries w least at.point (request_of doing.steps.ask) steps at.run few in_volume_here are) at.run.have below lane_is lane_at_place.stands.lane
+          (begins grain history.entries w least at.point (request_of doing.steps.ask) steps at.run (omega (arith, few)) in_volume_here are) at.run.have below lane_is lane_at_place.stands.lane
           (subst (λ (a : Ask). HasBegun lane number 0 a doing (lane_in store place)) (sym ask_is) begun)
 
       pub begun_doing : IsDoing seen may_leave new way history w least
@@ -207,14 +207,14 @@ module _ {C D : Type 0} (seen : D → List ℕ) (may_leave : D → List ℕ → 
 
   module _ (place number : ℕ) (inside : place < length roomy.lanes) (ask : Ask) (doing : Doing) (store : StoreView) (begun : HasBegun (lane_in roomy place) number 0 ask doing (lane_in store place)) (numbered : number ≡ length history.entries)
       (is : IsInLane place roomy store) (asks : (w : Whole) → StandsFor old.store w → Asks old.store.control.grain (agenda_of old.store.control.grain old.script) w (0, request_of ask))
-      (in_volume : (w : Whole) → StandsFor old.store w → IsInVolume old.store.control.grain w (request_of ask)) where
+      (in_volume : (w : Whole) → StandsFor old.store w → IsInVolume old.store.control.grain w (request_of ask)) (more : length history.entries < 262144) where
     abbrev behind : Noted C D
     behind = record old { store = store; under_way = Some (record { place = place; doing = doing; due = None }) }
 
     doing_at : (w : Whole) (least : List Row) → IsAt seen may_leave old history w least → IsDoing seen may_leave behind (record { place = place; doing = doing; due = None }) history w least
     doing_at w least at =
         let told : StandsFor old.store w = (at_rest seen may_leave old history w least idle at).told.0 in
-        begun_doing seen may_leave n history room place number inside ask doing store begun numbered is w least (at_roomy w least at)
+        begun_doing seen may_leave n history more place number inside ask doing store begun numbered is w least (at_roomy w least at)
         (subst (λ c. Asks c.grain (agenda_of c.grain old.script) w (0, request_of ask)) (sym control) (asks w told))
         (subst (λ c. IsInVolume c.grain w (request_of ask)) (sym control) (in_volume w told))
 
@@ -222,7 +222,8 @@ module _ {C D : Type 0} (seen : D → List ℕ) (may_leave : D → List ℕ → 
     unfolding doing_at begun_doing
     begun_made =
         record {
-          on = λ w least at. inl (record { same = refl; live = live; at = doing_at w least at; goes = λ read. stays });
+          on = λ w least at.
+              inl (record { same = refl; live = live; grain = ap (λ (s : StoreView). s.control.grain) is ∙ ap (λ c. c.grain) control; at = doing_at w least at; goes = λ read. stays });
           any_moment = λ w least at.
               let k = (at_roomy w least at).keeps in
               still_leaves seen may_leave moment left_since only_now old behind w least k.image refl k.says k.rests.durable
