@@ -10,3 +10,5 @@ mod InHand
 mod Moments
 mod Opening
 mod Resting
+mod GoodIds
+mod Acting

@@ -1,6 +1,7 @@
 -- What a step makes, and what it leaves.
-use Rattle.std.specs.Prelude.{◌≡◌, ◌⊎◌, ℕ, ◌≤◌, ◌/◌, Bool, true, false, List, [], ◌∷◌, ◌++◌, length, Some, None, Result, Ok, Err, IfOk, OnErr, IsErrOf, Contains, map, ◌<◌}
+use Rattle.std.specs.Prelude.{◌+◌, ◌≡◌, ◌⊎◌, ℕ, ◌≤◌, ◌/◌, Bool, true, false, List, [], ◌∷◌, ◌++◌, length, Some, None, Result, Ok, Err, IfOk, OnErr, IsErrOf, Contains, map, ◌<◌}
 use Rattle.fc_base.specs.declared.decision.Decision.{Decision}
+use Rattle.fc_base.specs.declared.ids.VolId.{VolId}
 use Rattle.fc_base.specs.declared.volume.Volume.{Volume}
 use Rattle.fc_changed.specs.Row.{Row}
 use Rattle.fc_entry.specs.HistoryState.{HistoryState}
@@ -8,17 +9,20 @@ use Rattle.fc_entry.specs.declared.entry.Entry.{Entry}
 use Rattle.fc_format.specs.Halves.{Image, recovered}
 use Rattle.fc_image.specs.declared.image.MetaImage.{MetaImage}
 use Rattle.fc_kept.specs.Disks.{NamedDisk}
-use Rattle.fc_imaging.specs.Imaging.{is_lost_at, kept_of}
-use Rattle.fc_kept.specs.Images.{kept_in}
-use Rattle.fc_kept.specs.Kept.{LostGrains, is_lost_in}
+use Rattle.fc_imaging.specs.Imaging.{kept_of, lost_grains}
+use Rattle.fc_imaging.specs.Without.{without}
+use Rattle.fc_kept.specs.Images.{kept_in, meta_of}
 use Rattle.fc_kept.specs.Recoverable.{Recoverable}
+use Rattle.fc_lane.specs.Lane.{IsSameLane}
+use Rattle.fc_lanes.specs.AllLanes.{EachLane}
 use Rattle.fc_legal.specs.Lawful.{IsLawful}
 use Rattle.fc_legal.specs.Steps.{Step, left_by}
 use Rattle.fc_legal.specs.Whole.{Whole}
 use Rattle.fc_meta.specs.States.{IsResting, found}
 use Rattle.fc_metadisk.specs.Disk.{LeavesOnly}
 use Rattle.fc_stands.specs.Phase.{StandsAt}
-use Rattle.fc_stands.specs.Store.{StoreView}
+use Rattle.fc_stands.specs.Store.{StandsFor, StoreView}
+use Rattle.law_noted.specs.Records.{removed_by}
 use Rattle.fc_steps.specs.UnderWay.{next_of}
 use Rattle.fc_steps.specs.declared.stepping.Next.{Next}
 use Rattle.fc_steps.specs.declared.stepping.Next.TheVariants.{Own}
@@ -96,12 +100,35 @@ module _ {C D : Type 0} (seen : D → List ℕ) (may_leave : D → List ℕ → 
 
 -- ---- a command
 
--- An image of what a decision leaves of what the store stood for: a grain of a volume that was there is lost where its lane had it so.
-pub record IsImageAfter (s : StoreView) (d : Decision) (image : MetaImage) : Type 0 where
-  pub lost : List LostGrains
-  pub says : (decisions : ℕ) (w : Whole) → StandsAt decisions s w → IsLawful s.control.grain decisions w d → kept_in image ≡ kept_of (left_by s.control.grain w d) lost
-  pub as_was : (v : Volume) (g : ℕ) → Contains s.control.tables.volumes v → g < v.grains → Contains (map (λ (row : LostGrains). row.volume) lost) v.id.0 →
-      is_lost_in lost v.id.0 g ≡ is_lost_at s.lanes v.id.0 g
+-- Each lane stays the lane that it is, and the store stands for what it did; or for what a decision leaves.
+pub record HasStayed (old new : StoreView) : Type 0 where
+  pub grain : new.control.grain ≡ old.control.grain
+  pub lanes : EachLane IsSameLane old.lanes new.lanes
+  pub stands : (decisions : ℕ) (w : Whole) → StandsAt decisions old w → StandsAt decisions new w
+
+pub record HasActed (d : Decision) (old new : StoreView) : Type 0 where
+  pub grain : new.control.grain ≡ old.control.grain
+  pub lanes : EachLane IsSameLane old.lanes new.lanes
+  pub stands : (decisions : ℕ) (w : Whole) → StandsAt decisions old w → IsLawful old.control.grain decisions w d → StandsAt (decisions + 1) new (left_by old.control.grain w d)
+
+-- An image of what a store stands for; and one without a volume.
+abbrev pub told_by : StoreView → Whole → MetaImage
+told_by s w = meta_of (kept_of w (lost_grains s.lanes w.books.tables.volumes))
+
+abbrev pub IsImageOf : StoreView → MetaImage → Type 0
+IsImageOf s image = (w : Whole) → StandsFor s w → image ≡ told_by s w
+
+abbrev pub IsImageWithout : VolId → StoreView → MetaImage → Type 0
+IsImageWithout gone s image = (w : Whole) → StandsFor s w → image ≡ without gone (told_by s w)
+
+-- What metadata becomes by a decision: an image of the store that did it; or, where a volume goes, one without it of the store that is about to.
+pub data IsImageAfter (s : StoreView) (d : Decision) (image : MetaImage) : Type 0 where
+  acted : (new : StoreView) → HasActed d s new → removed_by d.events ≡ None → IsImageOf new image → IsImageAfter s d image
+  about : (now : StoreView) (gone : VolId) → HasStayed s now → removed_by d.events ≡ Some gone → IsImageWithout gone now image → IsImageAfter s d image
+
+-- Behind an error the decision isn't done, or no volume went by it.
+abbrev pub MayHaveActed : Decision → StoreView → StoreView → Type 0
+MayHaveActed d old new = HasStayed old new ⊎ (HasActed d old new × (removed_by d.events ≡ None))
 
 module _ {C D : Type 0} (seen : D → List ℕ) (may_leave : D → List ℕ → Type 0) where
   -- Metadata was made anew by what the decision leaves: no write is marked, and all volumes have names.

@@ -8,6 +8,7 @@ ghost use Rattle.fc_changed.specs.Row.{Row};
 ghost use Rattle.fc_entry.specs.HistoryState.{HistoryState};
 ghost use Rattle.fc_format.specs.Halves.{Image};
 ghost use Rattle.fc_format.specs.Ranges.{HasGoodIds};
+ghost use Rattle.fc_image.specs.declared.image.MetaImage.{MetaImage as ImageValue};
 ghost use Rattle.fc_kept.specs.Actions.{has_effect};
 ghost use Rattle.fc_lane.specs.Lane.{IsAsked, IsSameLane};
 ghost use Rattle.fc_lanes.specs.AllLanes.{EachLane};
@@ -16,14 +17,14 @@ ghost use Rattle.fc_legal.specs.Whole.{Whole};
 ghost use Rattle.fc_meta.specs.Answers.{LeavesEither};
 ghost use Rattle.fc_meta.specs.States.{IsResting, disk_of, found};
 ghost use Rattle.fc_metadisk.specs.Disk.{LeavesOnly};
-ghost use Rattle.fc_noted.specs.Making.{AnewOr, LeadsOn, LeavesAnew, StepMade, always};
+ghost use Rattle.fc_noted.specs.Making.{AnewOr, HasActed, IsImageAfter, LeadsOn, LeavesAnew, MayHaveActed, StepMade, always};
 ghost use Rattle.fc_noted.specs.Noted.{IsNotedAt};
 ghost use Rattle.law_noted.specs.Records.{removed_by};
 ghost use Rattle.fc_noted.specs.Stopping.{HasStopped, LeavesRecoverable};
 ghost use Rattle.fc_script.specs.Asking.{CanBeAsked, IsNext};
 ghost use Rattle.fc_script.specs.Script.{agenda_of};
 ghost use Rattle.fc_stands.specs.Apart.{entry_apart};
-ghost use Rattle.fc_stands.specs.Phase.{CanPrepare, IsDecided, IsDone, StandsAt};
+ghost use Rattle.fc_stands.specs.Phase.{CanPrepare, IsDecided, StandsAt};
 ghost use Rattle.fc_stands.specs.Settling.{AreFew, CanSettle};
 ghost use Rattle.fc_stands.specs.Store.{StandsFor};
 
@@ -128,7 +129,10 @@ impl<D: Mdisk, M: MetaDisk> Noted<D, M> {
     fn act(&mut self, decision: &Decision, has_action: bool) -> Result<(), NotedStop>
         requires can { CanPrepare self.old.store decision.now }
         requires rests { IsResting M.seen M.may_leave self.old.meta }
-        ensures done { OnOk result (IsDone decision.now self.old.store self.new.store) }
+        requires good { (image : ImageValue) → IsImageAfter self.old.store decision.now image → HasGoodIds image }
+        ensures done { OnOk result (HasActed decision.now self.old.store self.new.store) }
+        ensures undone { OnErr result (MayHaveActed decision.now self.old.store self.new.store) }
+        ensures kept { OnErr result ((self.new.named ≡ self.old.named) × (self.new.marks.items ≡ self.old.marks.items)) }
         ensures anew { OnOk result (AnewOr M.seen M.may_leave (has_action || is_some (removed_by decision.now.events)) decision.now self.old self.new) }
         ensures any_moment { LeavesOnly M.moment M.left_since (disk_of self.old.meta) (disk_of self.new.meta) (LeavesAnew M.seen M.may_leave decision.now self.old) }
         ensures others { self.new ≡ record self.old { store = self.new.store; meta = self.new.meta; named = self.new.named; marks = self.new.marks } }
