@@ -8,6 +8,7 @@ mod GoingAlong
 mod Holding
 mod InHand
 mod Moments
+mod Nexts
 mod Opening
 mod Resting
 mod GoodIds
