@@ -99,7 +99,7 @@ module _ {C D : Type 0} (seen : D → List ℕ) (may_leave : D → List ℕ → 
   pub seen_lane : (all : List LaneView) (v : LaneView) → all ≡ old.store.lanes → v ≡ slice_index_or all way.place v → v ≡ lane_in old.store way.place
   seen_lane all v are is = is ∙ (ap (λ (ls : List LaneView). slice_index_or ls way.place v) are ∙ sym (get_or_default old.store.lanes way.place no_lane v doing_inside))
 
-  rows_are : lane.changes.rows ≡ part_of_rows (lane_at grain w way.place) w.rows
+  pub rows_are : (lane_in d.begun way.place).changes.rows ≡ part_of_rows (lane_at d.begun.control.grain w way.place) w.rows
   rows_are = let at : IsLaneAt grain w way.place lane = d.told.0.each way.place no_lane d.inside in at.stands.rows
 
   needs_by : (z : Next) → IsMarkedBy old way z → NeedsNoMark d.point.kept.rows way.doing.steps.grain z

@@ -1,15 +1,20 @@
 -- Lemmas, one subject a file.
+mod Acting
 mod Beginning
 mod Begun
 mod Copying
 mod Data
+mod Due
 mod Finishing
+mod Fitting
 mod GoingAlong
+mod GoodIds
 mod Holding
 mod InHand
+mod Marked
 mod Moments
 mod Nexts
 mod Opening
+mod Putting
 mod Resting
-mod GoodIds
-mod Acting
+mod Tidying
