@@ -108,7 +108,7 @@ module _ {C D : Type 0} (seen : D → List ℕ) (may_leave : D → List ℕ → 
   needs_by (NextMove m) marked = tt
   needs_by Over marked = tt
 
-  matches_none : MatchAll grain old.named d.point.kept old.store.lanes d.point.disks
+  pub matches_none : MatchAll d.begun.control.grain old.named d.point.kept old.store.lanes d.point.disks
   matches_none = subst (λ (o : Option MetaRecord). MatchAll grain old.named (kept_by o d.point.kept) old.store.lanes d.point.disks) none d.keeps.matches
 
   -- the entry behind a step, with a record that is due and other disks

@@ -1,5 +1,6 @@
 -- Lemmas, one subject a file.
 mod Acting
+mod Alone
 mod Beginning
 mod Begun
 mod Copying
