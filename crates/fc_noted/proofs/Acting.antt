@@ -1,5 +1,6 @@
 -- What a decision that is done leaves of a store, and the images of it.
-use Rattle.std.proofs.Common.{◌≡◌, ℕ, ◌⊎◌, ◌+◌, List, inl, inr, sym, ap, subst, ◌∙◌}
+use Rattle.std.proofs.Common.{◌≡◌, ℕ, ◌⊎◌, ◌+◌, ◌||◌, Bool, true, false, List, Option, Some, None, Result, Ok, Err, inl, inr, refl, sym, ap, subst, ◌∙◌}
+use Rattle.std.specs.Prelude.{OnErr}
 use Rattle.fc_base.specs.declared.decision.Decision.{Decision}
 use Rattle.fc_base.specs.declared.ids.VolId.{VolId}
 use Rattle.fc_base.specs.declared.size.GrainSize.{GrainSize}
@@ -23,13 +24,15 @@ use Rattle.fc_stands.specs.Phase.{IsDone, IsReserved, StandsAt}
 use Rattle.fc_stands.specs.Store.{StandsFor, StoreView}
 use Rattle.fc_stands.proofs.Frames.{all_stay}
 use Rattle.fc_stands.proofs.PhaseAll.{lanes_through}
-use Rattle.fc_noted.specs.Making.{HasActed, HasStayed, IsImageOf, IsImageWithout, told_by}
+use Rattle.law_noted.specs.Records.{removed_by}
+use Rattle.fc_noted.specs.Making.{HasActed, HasStayed, IsImageAfter, IsImageAfter.about, IsImageAfter.acted, IsImageOf, IsImageWithout}
 
 pub stayed : (old new : StoreView) → IsReserved old new → HasStayed old new
 stayed old new r = record { grain = r.grain; lanes = r.lanes; stands = r.stands }
 
-pub acted_on : (old mid new : StoreView) (d : Decision) → IsReserved old mid → IsDone d mid new → HasActed d old new
-acted_on old mid new d r done =
+pub acted_on : (old mid now new : StoreView) (d : Decision) → IsReserved old mid → now ≡ mid → IsDone d now new → HasActed d old new
+acted_on old mid now new d r same was =
+    let done : IsDone d mid new = subst (λ (s : StoreView). IsDone d s new) same was in
     record {
       grain = done.grain ∙ r.grain;
       lanes = lanes_through r done;
@@ -48,6 +51,33 @@ pub image_without_is : (s : StoreView) (control : ControlState) (lanes : List La
     IsImageWithout gone s image
 image_without_is s control lanes gone image c l is w st =
     is ∙ ((λ i. without gone (meta_of (kept_by_parts (c i) (l i)))) ∙ ap (λ k. without gone (meta_of k)) (parts_are s w st))
+
+-- ---- the image that metadata becomes
+
+pub about_image : (old now : StoreView) (d : Decision) (gone : VolId) (control : ControlState) (lanes : List LaneView) (image : MetaImage) → IsReserved old now → removed_by d.events ≡ Some gone →
+    control ≡ now.control → lanes ≡ now.lanes → image ≡ without gone (meta_of (kept_by_parts control lanes)) → IsImageAfter old d image
+about_image old now d gone control lanes image r e c l is = about now gone (stayed old now r) e (image_without_is now control lanes gone image c l is)
+
+pub acted_image : (old new : StoreView) (d : Decision) (control : ControlState) (lanes : List LaneView) (image : MetaImage) → HasActed d old new → removed_by d.events ≡ None → control ≡ new.control → lanes ≡ new.lanes →
+    (let parts : StoreView = record { control = control; lanes = lanes } in (w : Whole) → StandsFor parts w → image ≡ meta_of (kept_of w (lost_grains lanes w.books.tables.volumes))) → IsImageAfter old d image
+acted_image old new d control lanes image done e c l is = acted new done e (image_is new control lanes image c l is)
+
+-- a volume that isn't found
+pub none_gone : (o : Option VolId) → ((id : VolId) → o ≡ Some id → ⊥) → o ≡ None
+none_gone None never = refl
+none_gone (Some id) never = absurd (never id refl)
+
+pub always_true : (a b : Bool) → b ≡ true → (a || b) ≡ true
+always_true true b e = refl
+always_true false b e = e
+
+pub first_true : (a b : Bool) → a ≡ true → (a || b) ≡ true
+first_true true b e = refl
+first_true false b e = absurd cc
+
+pub on_error : {A E : Type 0} (r : Result A E) (P : Type 0) → P → OnErr r P
+on_error (Ok a) P p = tt
+on_error (Err e) P p = p
 
 -- ---- at any moment
 
