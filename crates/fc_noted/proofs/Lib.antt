@@ -12,6 +12,7 @@ mod GoingAlong
 mod GoodIds
 mod Holding
 mod InHand
+mod Lines
 mod Marked
 mod Moments
 mod Nexts

@@ -19,6 +19,8 @@ use fc_metadisk::MetaDisk;
 
 impl<D: Mdisk, M: MetaDisk> Noted<D, M> {
     /// Answers a line as `Store::run_line` does, step by step. Behind an error, only the disks are of use.
+    ///
+    /// LogFull also where 2^64 - 1 steps didn't answer it.
     pub fn run_line(&mut self, line: Line, history: &mut History) -> Result<(), NotedStop>
         requires at { (w : Whole) × (least : List Row) × IsNotedAt M.seen M.may_leave self.old history.old w least }
         requires live { self.old.live ≡ true }
@@ -32,12 +34,14 @@ impl<D: Mdisk, M: MetaDisk> Noted<D, M> {
         ensures limit { length history.new.entries ≤ 262144 }
     {
         self.begin_line(line);
-        'steps: loop {
+        'steps: for _ in 0..u64::MAX {
             match self.make_step(history) {
                 Ok(true) => {}
                 Ok(false) => return Ok(()),
                 Err(stop) => return Err(stop),
             }
         }
+        self.live = false;
+        Err(NotedStop::LogFull)
     }
 }
