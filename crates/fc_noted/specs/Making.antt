@@ -2,6 +2,7 @@
 use Rattle.std.specs.Prelude.{◌+◌, ◌≡◌, ◌⊎◌, ℕ, ◌≤◌, ◌/◌, Bool, true, false, List, [], ◌∷◌, ◌++◌, length, Some, None, Result, Ok, Err, IfOk, OnErr, IsErrOf, Contains, map, ◌<◌}
 use Rattle.fc_base.specs.declared.decision.Decision.{Decision}
 use Rattle.fc_base.specs.declared.ids.VolId.{VolId}
+use Rattle.fc_base.specs.declared.size.GrainSize.{GrainSize}
 use Rattle.fc_base.specs.declared.volume.Volume.{Volume}
 use Rattle.fc_changed.specs.Row.{Row}
 use Rattle.fc_entry.specs.HistoryState.{HistoryState}
@@ -20,6 +21,8 @@ use Rattle.fc_legal.specs.Steps.{Step, left_by}
 use Rattle.fc_legal.specs.Whole.{Whole}
 use Rattle.fc_meta.specs.States.{IsResting, found}
 use Rattle.fc_metadisk.specs.Disk.{LeavesOnly}
+use Rattle.fc_script.specs.Asking.{IsAnswer, IsLeft}
+use Rattle.fc_script.specs.declared.script.Script.{Script}
 use Rattle.fc_stands.specs.Phase.{StandsAt}
 use Rattle.fc_stands.specs.Store.{StandsFor, StoreView}
 use Rattle.law_noted.specs.Records.{removed_by}
@@ -62,6 +65,12 @@ always (Err stop) = Err stop
 -- That of a step that no error comes of.
 abbrev pub done : Result (Unit {0}) NotedStop
 done = Ok tt
+
+-- ---- behind an entry
+
+-- The script goes on behind an entry that answered what it asks, whatever a store stands for with it.
+abbrev pub GoesBehind : GrainSize → (Whole → Type 0) → Script → Entry → Script → Type 0
+GoesBehind grain Stands script entry new = (w next : Whole) → IsAnswer grain script w entry next → Stands next → IsLeft grain script w entry next new
 
 -- ---- an error behind an entry
 

@@ -1,16 +1,18 @@
 //! One step of what a line asks.
 
-ghost use Rattle.std.specs.Prelude.{◌≡◌, ◌≢◌, ◌≤◌, ◌↔◌, List, length, true, None, Some, IsTrue, OnErr};
+ghost use Rattle.std.specs.Prelude.{◌≡◌, ◌≢◌, ◌<◌, ◌≤◌, ◌↔◌, List, [], ◌∷◌, ◌++◌, length, true, None, Some, IfErr, IsTrue, OnErr, OnOk};
 ghost use Rattle.fc_changed.specs.Row.{Row};
 ghost use Rattle.fc_entry.specs.HistoryState.{HistoryState};
+ghost use Rattle.fc_entry.specs.declared.entry.Entry.{Entry as EntryLogged};
 ghost use Rattle.fc_legal.specs.Whole.{Whole};
-ghost use Rattle.fc_noted.specs.Making.{CopiesNext, IsMarkedNext, StepMade, WayMade, done};
+ghost use Rattle.fc_noted.specs.Making.{CopiesNext, GoesBehind, IsMarkedNext, StepMade, WayMade, done};
 ghost use Rattle.fc_noted.specs.Noted.{CanStep, IsDoing};
 ghost use Rattle.law_noted.specs.DataSteps.{copies_nothing};
-ghost use Rattle.law_noted.specs.Going.{volume_noted};
+ghost use Rattle.law_noted.specs.Going.{marks_left, volume_noted};
 ghost use Rattle.law_noted.specs.Records.{record_after};
 ghost use Rattle.fc_steps.specs.UnderWay.{next_of};
 ghost use Rattle.fc_steps.specs.declared.stepping.Next.TheVariants.{Move as NextMove, Own, Over};
+ghost use Rattle.fc_stands.specs.Store.{StandsFor};
 ghost use Rattle.fc_store.specs.Stepping.{lane_in};
 
 use crate::noted::{Noted, UnderWay};
@@ -21,7 +23,7 @@ use fc_entry::entry::Entry;
 use fc_entry::history::History;
 use fc_image::MetaRecord;
 use fc_lane::doing::Doing;
-use fc_marks::{NotedStop, forget, put_record, remember, wants_mark};
+use fc_marks::{Mark, NotedStop, forget, put_record, remember, wants_mark};
 use fc_mdisk::mdisk::Mdisk;
 use fc_metadisk::MetaDisk;
 use fc_steps::ask::Ask;
@@ -244,7 +246,7 @@ impl<D: Mdisk, M: MetaDisk> Noted<D, M> {
         requires live { self.old.live ≡ true }
         requires due { way.due ≡ None }
         requires over { next_of way.doing.steps ≡ Over }
-        requires room { length history.old.entries ≤ 262144 }
+        requires taken { self.old.under_way ≡ None }
         ensures made { WayMade M.seen M.may_leave M.moment M.left_since result self.old way self.new history.old history.new }
         ensures live { self.new.live ≡ self.old.live }
     {
@@ -252,28 +254,51 @@ impl<D: Mdisk, M: MetaDisk> Noted<D, M> {
         let grain = doing.steps.grain;
         let written = volume_noted(&doing);
         let entry = self.store.finish(place, doing);
-        if let Some(volume) = written {
-            forget(&mut self.marks, volume, grain);
-        }
+        forget_noted(&mut self.marks, written, grain);
         self.log_entry(entry, history)
     }
 
-    /// Lets the script go on behind an entry, and logs it.
+    /// Lets the script go on behind an entry, and logs it. NoMemory where memory was wanted; the history is then as it was.
     pub(crate) fn log_entry(
         &mut self,
         entry: Entry,
         history: &mut History,
-    ) -> Result<(), NotedStop> {
+    ) -> Result<(), NotedStop>
+        requires stands { (w : Whole) × StandsFor self.old.store w }
+        requires number { entry.number ≡ length history.old.entries }
+        ensures logged { OnOk result (history.new ≡ record history.old { entries = history.old.entries ++ entry ∷ [] }) }
+        ensures goes { OnOk result (GoesBehind self.old.store.control.grain (StandsFor self.old.store) self.old.script entry self.new.script) }
+        ensures unlogged { OnErr result (history.new ≡ history.old) }
+        ensures stop { IfErr result (λ stop. stop ≡ NotedStop.NoMemory) }
+        ensures others { self.new ≡ record self.old { script = self.new.script } }
+    {
         self.script.answered(&self.store, &entry)?;
         log(history, entry)?;
         Ok(())
     }
 
     /// The script goes on behind the history's last entry.
-    pub(crate) fn go_behind(&mut self, history: &History) -> Result<(), NotedStop> {
+    pub(crate) fn go_behind(&mut self, history: &History) -> Result<(), NotedStop>
+        requires stands { (w : Whole) × StandsFor self.old.store w }
+        requires some { 0 < length history.now.entries }
+        ensures goes { OnOk result ((before : List EntryLogged) (entry : EntryLogged) → history.now.entries ≡ before ++ entry ∷ [] →
+            GoesBehind self.old.store.control.grain (StandsFor self.old.store) self.old.script entry self.new.script) }
+        ensures stop { IfErr result (λ stop. stop ≡ NotedStop.NoMemory) }
+        ensures others { self.new ≡ record self.old { script = self.new.script } }
+    {
         self.script
             .answered(&self.store, history.entry(history.len() - 1))?;
         Ok(())
+    }
+}
+
+/// The marks of a grain that an entry notes as changed are forgotten.
+fn forget_noted(marks: &mut Vec<Mark>, written: Option<VolId>, grain: GrainNo)
+    ensures { marks.new.items ≡ marks_left written grain marks.old.items }
+{
+    match written {
+        Some(volume) => forget(marks, volume, grain),
+        None => {}
     }
 }
 
