@@ -6,6 +6,7 @@ mod Begun
 mod Copying
 mod Data
 mod Due
+mod Ended
 mod Finishing
 mod Fitting
 mod GoingAlong
