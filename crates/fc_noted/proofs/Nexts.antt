@@ -53,9 +53,8 @@ module _ {C D : Type 0} (seen : D → List ℕ) (may_leave : D → List ℕ → 
 
   module _ (goes : (w : Whole) → StandsFor old.store w → GoesOn old.store.control.grain w (agenda_of old.store.control.grain old.script) (agenda_of old.store.control.grain script))
       (fits : Fits old.store.control.grain old.store.control.tables script) where
-    pub script_at : (w : Whole) (least : List Row) → IsAt seen may_leave old before w least → IsNotedAt seen may_leave (record old { script = script }) before w least
-    script_at w least at =
-        let h = at_rest seen may_leave old before w least idle at in
+    pub script_noted : (w : Whole) (least : List Row) → IsNotedAt seen may_leave old before w least → IsNotedAt seen may_leave (record old { script = script }) before w least
+    script_noted w least h =
         let k = h.keeps in
         record {
           idle = h.idle;
@@ -76,6 +75,9 @@ module _ {C D : Type 0} (seen : D → List ℕ) (may_leave : D → List ℕ → 
             matches = k.matches;
           };
         }
+
+    script_at : (w : Whole) (least : List Row) → IsAt seen may_leave old before w least → IsNotedAt seen may_leave (record old { script = script }) before w least
+    script_at w least at = script_noted w least (at_rest seen may_leave old before w least idle at)
 
     script_is_at : (w : Whole) (least : List Row) → IsAt seen may_leave old before w least → IsAt seen may_leave on_script before w least
     script_is_at w least at = subst (λ (o : Option UnderWay). IsAtBy seen may_leave o on_script before w least) (sym idle) (script_at w least at)
