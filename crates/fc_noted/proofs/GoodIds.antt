@@ -53,7 +53,7 @@ group_below k id s some =
 
 good_group : (k : Kept) (o : Option GroupId) → IsSoundKept k → ForSome o (λ g. IsSome (group_with k.tables g)) → IsGroupId o
 good_group k None s of = tt
-good_group k (Some g) s of = let lt = group_below k g s of in let few = s.group_ids in omega (arith, lt, few)
+good_group k (Some g) s of = let lt = group_below k g s (of g refl) in let few = s.group_ids in omega (arith, lt, few)
 
 -- ---- slots
 
@@ -90,9 +90,10 @@ good_chains (s ∷ ss) good = good_before s (chains_told ss) (good 0 (omega arit
 good_slot : (k : Kept) (slot : Slot) (o : Option ℕ) → slot.mapping ≡ o → IsSoundKept k → ForSome o (λ n. (m : Mapping) × Contains k.tables.mappings m × (m.id.0 ≡ n)) → IsGoodSlot (slot_told slot)
 good_slot k slot None e s of = subst (λ (o : Option ℕ). IsGoodSlot (slot_told (record slot { mapping = o }))) (sym e) tt
 good_slot k slot (Some n) e s of =
-    let lt : of.0.id.0 < k.next_mapping = all_in_is (λ (m : Mapping). m.id.0 < k.next_mapping) k.tables.mappings s.books.tables.new_mapping of.0 of.1 in
+    let x = of n refl in
+    let lt : x.0.id.0 < k.next_mapping = all_in_is (λ (m : Mapping). m.id.0 < k.next_mapping) k.tables.mappings s.books.tables.new_mapping x.0 x.1 in
     let few = s.mapping_ids in
-    let same = of.2 in
+    let same = x.2 in
     subst (λ (o : Option ℕ). IsGoodSlot (slot_told (record slot { mapping = o }))) (sym e) (omega (arith, lt, few, same))
 
 -- ---- rows

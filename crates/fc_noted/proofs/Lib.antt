@@ -21,3 +21,4 @@ mod Opening
 mod Putting
 mod Resting
 mod Tidying
+mod Commanding
