@@ -90,7 +90,7 @@ doing_taken seen may_leave n way o history w least d =
 module _ {C D : Type 0} (seen : D → List ℕ) (may_leave : D → List ℕ → Type 0) (n : Noted C D) (way : UnderWay) (none : way.due ≡ None) (over : next_of way.doing.steps ≡ Over) (store : StoreView) (entry : Entry)
     (x : IsEntryOf way.doing entry) (calls : entry.calls < 2 ^ 32)
     (followed : (lane : LaneView) → IsUnderWay lane way.doing (lane_in n.store way.place) →
-        HasFollowed lane (FitsAsk (of lane) way.doing.steps.ask) way.doing.number way.doing.actor (request_of way.doing.steps.ask) entry (lane_in store way.place))
+    HasFollowed lane (FitsAsk (of lane) way.doing.steps.ask) way.doing.number way.doing.actor (request_of way.doing.steps.ask) entry (lane_in store way.place))
     (grains : (lane_in store way.place).grains ≡ (lane_in n.store way.place).grains) (is : IsInLane way.place n.store store) where
   abbrev old : Noted C D
   old = record n { under_way = Some way }

@@ -7,6 +7,7 @@ mod Copying
 mod Data
 mod Due
 mod Ended
+mod Filling
 mod Finishing
 mod Fitting
 mod GoingAlong

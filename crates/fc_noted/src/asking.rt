@@ -1,7 +1,8 @@
 //! How the next entry of a line begins.
 
-ghost use Rattle.std.specs.Prelude.{◌≡◌, ◌≤◌, List, length, true, None, Some};
+ghost use Rattle.std.specs.Prelude.{◌≡◌, ◌≤◌, List, cond, length, true, None, Some};
 ghost use Rattle.fc_changed.specs.Row.{Row};
+ghost use Rattle.fc_lane.specs.declared.worker.Worker.TheVariants.{Cleaner, Copier};
 ghost use Rattle.fc_lanes.specs.declared.access.Access.TheVariants.{Write};
 ghost use Rattle.fc_legal.specs.Whole.{Whole};
 ghost use Rattle.fc_noted.specs.Making.{StepMade, always};
@@ -22,6 +23,16 @@ use fc_marks::NotedStop;
 use fc_mdisk::mdisk::Mdisk;
 use fc_metadisk::MetaDisk;
 use fc_script::asking::Asked;
+
+/// Who copies or cleans.
+fn worker_of(cleans: bool) -> Worker
+    ensures { result ≡ cond cleans Cleaner Copier }
+{
+    if cleans {
+        return Worker::Cleaner;
+    }
+    Worker::Copier
+}
 
 impl<D: Mdisk, M: MetaDisk> Noted<D, M> {
     /// Begins what the line asks next; false exactly where nothing is left.
@@ -132,11 +143,7 @@ impl<D: Mdisk, M: MetaDisk> Noted<D, M> {
         ensures live { self.new.live ≡ self.old.live }
     {
         let place = self.store.ready_lane(grain.0, history)?;
-        let worker = if cleans {
-            Worker::Cleaner
-        } else {
-            Worker::Copier
-        };
+        let worker = worker_of(cleans);
         let doing = self
             .store
             .begin_fill(place, history.len() as u64, worker, map, grain);

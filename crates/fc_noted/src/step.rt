@@ -259,11 +259,7 @@ impl<D: Mdisk, M: MetaDisk> Noted<D, M> {
     }
 
     /// Lets the script go on behind an entry, and logs it. NoMemory where memory was wanted; the history is then as it was.
-    pub(crate) fn log_entry(
-        &mut self,
-        entry: Entry,
-        history: &mut History,
-    ) -> Result<(), NotedStop>
+    pub(crate) fn log_entry(&mut self, entry: Entry, history: &mut History) -> Result<(), NotedStop>
         requires stands { (w : Whole) × StandsFor self.old.store w }
         requires number { entry.number ≡ length history.old.entries }
         ensures logged { OnOk result (history.new ≡ record history.old { entries = history.old.entries ++ entry ∷ [] }) }
