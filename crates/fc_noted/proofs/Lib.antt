@@ -21,5 +21,6 @@ mod Nexts
 mod Opening
 mod Putting
 mod Resting
+mod Stepping
 mod Tidying
 mod Commanding
