@@ -1,11 +1,10 @@
 -- A move that is next of an entry under way and copies nothing: its record is put, and then it is made.
-use Rattle.std.proofs.Common.{◌≡◌, ◌⊎◌, ℕ, ◌<◌, ◌≤◌, Bool, true, false, Option, Some, None, List, [], ◌∷◌, length, map, set, refl, sym, ap, subst, ◌∙◌, inl, inr}
-use Rattle.std.specs.Prelude.{Err, Result, slice_index_or, slice_set}
+use Rattle.std.proofs.Common.{◌≡◌, ℕ, ◌<◌, ◌≤◌, true, Some, None, List, [], ◌∷◌, length, refl, sym, ap, subst, ◌∙◌, inl, inr}
+use Rattle.std.specs.Prelude.{Err, Result}
 use Rattle.std.proofs.lemmas.Bool.{cases_Bool}
 use Rattle.std.proofs.lemmas.List.{get_or_default}
 use Rattle.fc_agenda.specs.Goes.{stays}
 use Rattle.fc_base.specs.declared.request.Move.{Move}
-use Rattle.fc_base.specs.declared.request.Request.{Request}
 use Rattle.fc_base.specs.declared.size.GrainSize.{GrainSize}
 use Rattle.fc_changed.specs.Row.{Row}
 use Rattle.fc_entry.specs.HistoryState.{HistoryState}
@@ -14,7 +13,7 @@ use Rattle.fc_grains.proofs.Unreadable.{unreadable_away}
 use Rattle.fc_grains.specs.Grains.{GrainsState}
 use Rattle.fc_grains.specs.Volumes.{VolumeGrains, is_there, stored, volume_of}
 use Rattle.fc_held.proofs.Holding.{all_agree}
-use Rattle.fc_held.specs.Held.{HaveVolumes, HoldAllOf, MatchAll}
+use Rattle.fc_held.specs.Held.{HoldAllOf, MatchAll}
 use Rattle.fc_image.specs.Records.{after_record}
 use Rattle.fc_image.specs.declared.image.MetaImage.{MetaImage}
 use Rattle.fc_image.specs.declared.record.MetaRecord.{MetaRecord}
@@ -39,8 +38,8 @@ use Rattle.fc_noted.proofs.GoingAlong.{matches_along}
 use Rattle.fc_noted.proofs.InHand.{alone_recovered, recovered_of, stands_recovered}
 use Rattle.fc_noted.proofs.Putting.{hold_both, put_keeps, put_leaves, put_says, put_stops, same_stop}
 use Rattle.fc_noted.specs.Making.{WayMade, done}
-use Rattle.fc_noted.specs.Noted.{IsDoing, Keeps}
-use Rattle.fc_noted.specs.Stopping.{HasStopped, HoldStill, HoldsTheSame, LeavesRecoverable, MayBeRecovered, MayHold}
+use Rattle.fc_noted.specs.Noted.{IsDoing}
+use Rattle.fc_noted.specs.Stopping.{HasStopped, HoldStill, HoldsTheSame, LeavesRecoverable, MayBeRecovered}
 use Rattle.fc_noted.specs.declared.noted.Noted.{Noted}
 use Rattle.fc_noted.specs.declared.noted.UnderWay.{UnderWay}
 use Rattle.fc_parts.specs.Law.{IsInVolume}
@@ -60,8 +59,7 @@ use Rattle.law_noted.proofs.DataInHand.{same_new, same_old}
 use Rattle.law_noted.proofs.HandMoved.{moved_alone}
 use Rattle.law_noted.proofs.HandOn.{alone_found, found as hand_found}
 use Rattle.law_noted.specs.Advancing.{uncopied}
-use Rattle.law_noted.specs.DataSteps.{GoAlong, IsInHand, IsNextStep, copies_nothing}
-use Rattle.law_noted.specs.Records.{kept_by}
+use Rattle.law_noted.specs.DataSteps.{GoAlong, IsInHand, copies_nothing}
 
 -- ---- lanes that hold still
 

@@ -1,5 +1,5 @@
 -- The record that is due of an entry under way is put.
-use Rattle.std.proofs.Common.{◌≡◌, ◌⊎◌, ℕ, ◌≤◌, true, Option, Some, None, List, [], ◌∷◌, refl, sym, ap, subst, ◌∙◌, inl, inr}
+use Rattle.std.proofs.Common.{◌≡◌, ℕ, ◌≤◌, true, Option, Some, None, List, [], ◌∷◌, refl, sym, ap, subst, ◌∙◌, inl}
 use Rattle.std.specs.Prelude.{Err, Result}
 use Rattle.fc_agenda.specs.Goes.{stays}
 use Rattle.fc_base.specs.declared.size.GrainSize.{GrainSize}
@@ -9,7 +9,6 @@ use Rattle.fc_held.specs.Held.{MatchAll}
 use Rattle.fc_image.specs.Records.{after_record}
 use Rattle.fc_image.specs.declared.image.MetaImage.{MetaImage}
 use Rattle.fc_image.specs.declared.record.MetaRecord.{MetaRecord}
-use Rattle.fc_lane.specs.Lane.{LaneView}
 use Rattle.fc_legal.specs.Whole.{Whole}
 use Rattle.fc_marks.specs.declared.error.NotedStop.{NotedStop}
 use Rattle.fc_marks.specs.declared.error.NotedStop.TheVariants.{LogFull}
@@ -21,13 +20,12 @@ use Rattle.fc_noted.proofs.Fitting.{IsFit, due_fits}
 use Rattle.fc_noted.proofs.InHand.{in_hand, put_recovered, stands_recovered}
 use Rattle.fc_noted.proofs.Putting.{hold_both, put_doing, put_keeps, put_leaves, put_says, put_stops, same_stop}
 use Rattle.fc_noted.specs.Making.{WayMade, done}
-use Rattle.fc_noted.specs.Noted.{IsDoing, Keeps}
-use Rattle.fc_noted.specs.Stopping.{HasStopped, LeavesRecoverable, MayBeRecovered, MayHold}
+use Rattle.fc_noted.specs.Noted.{IsDoing}
+use Rattle.fc_noted.specs.Stopping.{HasStopped, LeavesRecoverable, MayBeRecovered}
 use Rattle.fc_noted.specs.declared.noted.Noted.{Noted}
 use Rattle.fc_noted.specs.declared.noted.UnderWay.{UnderWay}
 use Rattle.fc_stands.specs.Store.{StoreView}
 use Rattle.fc_store.specs.Stepping.{lane_in}
-use Rattle.law_crash.specs.Doing.{noted}
 use Rattle.law_noted.proofs.HandOn.{put}
 use Rattle.law_noted.specs.DataSteps.{IsInHand}
 use Rattle.law_noted.specs.Records.{kept_by}

@@ -1,5 +1,5 @@
 -- The entry of steps that are over is logged: the history leads on with it, and the script goes on behind it.
-use Rattle.std.proofs.Common.{◌≡◌, ◌⊎◌, ℕ, suc, ◌+◌, ◌<◌, ◌≤◌, ◌^◌, true, Option, Some, None, List, [], ◌∷◌, ◌++◌, length, slice_set, refl, sym, ap, subst, ◌∙◌, inl, inr, arith, Vec, Global}
+use Rattle.std.proofs.Common.{◌≡◌, ℕ, ◌+◌, ◌<◌, ◌^◌, true, Option, Some, None, List, [], ◌∷◌, ◌++◌, length, slice_set, refl, sym, ap, subst, ◌∙◌, inl, inr, arith, Vec, Global}
 use Rattle.std.specs.Prelude.{Err, IfErr, Ok, OnErr, OnOk, Result}
 use Rattle.std.proofs.lemmas.List.{length-append}
 use Rattle.fc_agenda.specs.Goes.{stays}
@@ -34,7 +34,7 @@ use Rattle.fc_noted.proofs.InHand.{recovered_of}
 use Rattle.fc_noted.proofs.Moments.{doing_found, hold_either, still_leaves}
 use Rattle.fc_noted.proofs.Putting.{same_stop}
 use Rattle.fc_noted.specs.Making.{GoesBehind, WayMade}
-use Rattle.fc_noted.specs.Noted.{IsAt, IsAtBy, IsDoing, IsNotedAt, Keeps, Logs}
+use Rattle.fc_noted.specs.Noted.{IsAtBy, IsDoing, IsNotedAt, Keeps, Logs}
 use Rattle.fc_noted.specs.Stopping.{HasStopped, LeavesRecoverable, MayBeRecovered}
 use Rattle.fc_noted.specs.declared.noted.Noted.{Noted}
 use Rattle.fc_noted.specs.declared.noted.UnderWay.{UnderWay}

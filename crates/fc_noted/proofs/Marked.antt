@@ -1,5 +1,5 @@
 -- A write that is next of an entry under way is marked.
-use Rattle.std.proofs.Common.{◌≡◌, ◌⊎◌, ℕ, ◌≤◌, Bool, true, Option, Some, None, List, [], ◌∷◌, ◌++◌, refl, sym, ap, subst, ◌∙◌, inl, inr, Vec, Global}
+use Rattle.std.proofs.Common.{◌≡◌, ℕ, ◌≤◌, Bool, true, Option, Some, None, List, [], ◌∷◌, ◌++◌, refl, sym, ap, subst, ◌∙◌, inl, Vec, Global}
 use Rattle.std.specs.List.{list_any}
 use Rattle.std.specs.Prelude.{Err, Result}
 use Rattle.fc_agenda.specs.Goes.{stays}
@@ -42,7 +42,6 @@ use Rattle.fc_stands.specs.Store.{StoreView}
 use Rattle.fc_steps.specs.UnderWay.{next_of}
 use Rattle.fc_steps.specs.declared.stepping.Next.TheVariants.{Own}
 use Rattle.fc_store.specs.Stepping.{lane_in}
-use Rattle.law_crash.specs.Doing.{noted}
 use Rattle.law_noted.proofs.HandOn.{is_wanted, put_mark}
 use Rattle.law_noted.proofs.Marking.{row_law_holds}
 use Rattle.law_noted.specs.DataSteps.{IsInHand}

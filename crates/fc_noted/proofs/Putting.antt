@@ -1,6 +1,6 @@
 -- A record that an entry under way puts: what metadata says behind it, and what a stop leaves at each moment of it.
 use Rattle.std.specs.Prelude.{Err, IsErrOf, Result}
-use Rattle.std.proofs.Common.{◌≡◌, ℕ, ◌≤◌, Bool, true, Option, Some, None, List, [], ◌∷◌, refl, sym, ap, subst, ◌∙◌, inl, inr, Vec, Global}
+use Rattle.std.proofs.Common.{◌≡◌, ℕ, ◌≤◌, Bool, Option, Some, None, List, [], ◌∷◌, sym, ap, subst, ◌∙◌, inl, inr, Vec, Global}
 use Rattle.fc_base.specs.declared.size.GrainSize.{GrainSize}
 use Rattle.fc_changed.specs.Row.{Row}
 use Rattle.fc_entry.specs.HistoryState.{HistoryState}
@@ -25,7 +25,6 @@ use Rattle.fc_meta.specs.States.{IsResting, found}
 use Rattle.fc_meta.specs.declared.meta.Meta.{Meta}
 use Rattle.fc_metadisk.specs.Disk.{LeavesOnly}
 use Rattle.fc_noted.proofs.Fitting.{IsFit}
-use Rattle.fc_noted.proofs.InHand.{in_hand}
 use Rattle.fc_noted.proofs.Tidying.{ids_with, image_with}
 use Rattle.fc_noted.specs.Noted.{IsDoing, Keeps}
 use Rattle.fc_noted.specs.Stopping.{HasStopped, LeavesRecoverable, MayBeRecovered, MayHold}
@@ -36,9 +35,7 @@ use Rattle.fc_stands.specs.Store.{StoreView}
 use Rattle.fc_store.specs.Stepping.{lane_in}
 use Rattle.law_crash.specs.Doing.{noted}
 use Rattle.law_crash.specs.Points.{Point}
-use Rattle.law_noted.specs.Came.{Came, steps_done}
 use Rattle.law_noted.specs.DataSteps.{IsInHand}
-use Rattle.law_noted.specs.Records.{kept_by}
 
 -- ---- the image with it
 

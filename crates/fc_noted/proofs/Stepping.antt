@@ -1,9 +1,9 @@
 -- What a step makes, by what is made with the entry that was taken out of the noted store; and behind an error no step may be made.
-use Rattle.std.proofs.Common.{◌≡◌, ◌⊎◌, ℕ, Bool, true, false, Option, Some, List, refl, sym, ap, subst, ◌∙◌, inl, inr}
+use Rattle.std.proofs.Common.{◌≡◌, ℕ, Bool, true, false, Option, List, sym, ap, subst, ◌∙◌, inl, inr}
 use Rattle.std.specs.Prelude.{Err, Ok, Result, is_err}
 use Rattle.fc_entry.specs.HistoryState.{HistoryState}
 use Rattle.fc_marks.specs.declared.error.NotedStop.{NotedStop}
-use Rattle.fc_noted.specs.Making.{HasStoppedBehind, StepMade}
+use Rattle.fc_noted.specs.Making.{StepMade}
 use Rattle.fc_noted.specs.declared.noted.Noted.{Noted}
 use Rattle.fc_noted.specs.declared.noted.UnderWay.{UnderWay}
 
@@ -29,16 +29,19 @@ module _ {C D : Type 0} (seen : D → List ℕ) (may_leave : D → List ℕ → 
         any_moment = made.any_moment;
         stopped = λ w least at. elim (made.stopped w least at) [
           | inl x ↦ inl (x.0, record { volumes = x.1.volumes; leaves = x.1.leaves })
-          | inr x ↦ inr (x.0, record {
-            entry = x.1.entry;
-            next = x.1.next;
-            least = x.1.least;
-            room = x.1.room;
-            pushed = x.1.pushed;
-            right = x.1.right;
-            volumes = x.1.volumes;
-            found = x.1.found;
-          })
+          | inr x ↦ inr (
+            x.0,
+            record {
+              entry = x.1.entry;
+              next = x.1.next;
+              least = x.1.least;
+              room = x.1.room;
+              pushed = x.1.pushed;
+              right = x.1.right;
+              volumes = x.1.volumes;
+              found = x.1.found;
+            },
+          )
         ];
         full = made.full;
       }

@@ -1,3 +1,4 @@
+-- The next step makes what its kind makes.
 use Rattle.fc_noted.proofs.noted.Noted.go_on.Goals as goal
 
 pub returns-in-Some-clause-made : goal.returns-in-Some-clause-made

@@ -1,3 +1,4 @@
+-- Behind an error no step may be made.
 use Rattle.std.proofs.Common.{sym, ◌∙◌}
 use Rattle.fc_noted.proofs.Stepping.{step_ended}
 use Rattle.fc_noted.proofs.noted.Noted.make_step.Goals as goal

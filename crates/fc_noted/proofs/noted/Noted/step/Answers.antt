@@ -1,3 +1,4 @@
+-- With the entry that was under way, or with the next one.
 use Rattle.std.proofs.Common.{Some, sym, ◌∙◌}
 use Rattle.std.specs.Prelude.{Ok, true}
 use Rattle.std.proofs.lemmas.Result.{err_from_is_err_and}
