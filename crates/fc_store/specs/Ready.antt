@@ -1,5 +1,6 @@
 -- The lane of a grain, made ready for one more entry.
 use Rattle.std.specs.Prelude.{◌≡◌, ℕ, ◌%◌, ◌<◌, ◌≤◌, List, length, map, slice_index_or}
+use Rattle.fc_base.specs.Pools.{Pool}
 use Rattle.fc_base.specs.declared.limits.TheConstants.{MAX_ENTRIES}
 use Rattle.fc_entry.specs.HistoryState.{HistoryState}
 use Rattle.fc_entry.specs.declared.entry.Entry.{Entry}
@@ -16,6 +17,10 @@ pub record IsReadyAt (s : StoreView) (grain place : ℕ) : Type 0 where
   pub at : place ≡ grain % length s.lanes
   pub inside : place < length s.lanes
   pub ready : (d : LaneView) → IsReady (slice_index_or s.lanes place d)
+
+-- How many disks of each kind a lane has.
+abbrev pub disks_of : LaneView → Pool
+disks_of v = v.grains.disks
 
 -- Why no entry is made: the history is full, or memory was wanted.
 abbrev pub IsStopped : Stop → HistoryState → Type 0
