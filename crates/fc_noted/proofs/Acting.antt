@@ -1,5 +1,5 @@
 -- What a decision that is done leaves of a store, and the images of it.
-use Rattle.std.proofs.Common.{◌≡◌, ℕ, ◌⊎◌, ◌+◌, ◌||◌, Bool, true, false, List, Option, Some, None, Result, Ok, Err, inl, inr, refl, sym, ap, subst, ◌∙◌}
+use Rattle.std.proofs.Common.{◌≡◌, ℕ, ◌+◌, ◌||◌, Bool, true, false, List, Option, Some, None, Result, Ok, Err, inl, inr, refl, sym, ap, subst, ◌∙◌}
 use Rattle.std.specs.Prelude.{OnErr}
 use Rattle.fc_base.specs.declared.decision.Decision.{Decision}
 use Rattle.fc_base.specs.declared.ids.VolId.{VolId}
@@ -22,7 +22,6 @@ use Rattle.fc_meta.specs.declared.meta.Meta.{Meta}
 use Rattle.fc_metadisk.specs.Disk.{LeavesOnly}
 use Rattle.fc_stands.specs.Phase.{IsDone, IsReserved, StandsAt}
 use Rattle.fc_stands.specs.Store.{StandsFor, StoreView}
-use Rattle.fc_stands.proofs.Frames.{all_stay}
 use Rattle.fc_stands.proofs.PhaseAll.{lanes_through}
 use Rattle.law_noted.specs.Records.{removed_by}
 use Rattle.fc_noted.specs.Making.{HasActed, HasStayed, IsImageAfter, IsImageAfter.about, IsImageAfter.acted, IsImageOf, IsImageWithout}

@@ -1,6 +1,5 @@
 -- What a command's two decisions, done one after the other, leave of a store and of its metadata.
-use Rattle.std.proofs.Common.{◌≡◌, ◌⊎◌, ℕ, ◌+◌, ◌*◌, ◌^◌, ◌<◌, ◌≤◌, Option, Some, None, List, [], ◌∷◌, ◌++◌, length, get_or, inl, inr, refl, sym, ap, subst, ◌∙◌, arith}
-use Rattle.fc_apart.specs.Effects.{IsJoined}
+use Rattle.std.proofs.Common.{◌≡◌, ℕ, ◌+◌, ◌*◌, ◌<◌, ◌≤◌, Option, Some, None, List, ◌++◌, get_or, refl, sym, ap, subst, ◌∙◌, arith}
 use Rattle.fc_base.specs.declared.command.Command.TheVariants.{Mkpreset, Read as ReadLine, Write as WriteLine}
 use Rattle.fc_base.specs.declared.command.Command.{Command}
 use Rattle.fc_base.specs.declared.decision.Decision.{Decision}
@@ -10,7 +9,6 @@ use Rattle.fc_base.specs.declared.request.Place.TheVariants.{Every}
 use Rattle.fc_base.specs.declared.request.Reply.{Reply}
 use Rattle.fc_base.specs.declared.request.Request.TheVariants.{Command as Asked}
 use Rattle.fc_base.specs.declared.size.GrainSize.{GrainSize}
-use Rattle.fc_base.specs.declared.volume.Volume.{Volume}
 use Rattle.fc_books.specs.Deciding.{IsLoopOf, settle}
 use Rattle.fc_changed.specs.Row.{Row}
 use Rattle.fc_entry.specs.declared.entry.Entry.{Entry}
@@ -27,7 +25,7 @@ use Rattle.fc_kept.proofs.Tidy.{image_sound}
 use Rattle.fc_lane.specs.Lane.{IsSameLane, LaneView}
 use Rattle.fc_lanes.specs.AllLanes.{EachLane}
 use Rattle.fc_legal.specs.Lawful.{IsLawful}
-use Rattle.fc_legal.specs.Steps.{CommandIsRight, CommandLeft, CommandLeft.decided, CommandStep, Step, after_settling, decided_on, left_by, one_more}
+use Rattle.fc_legal.specs.Steps.{CommandIsRight, CommandLeft, CommandLeft.decided, CommandStep, after_settling, decided_on, left_by, one_more}
 use Rattle.fc_legal.specs.Whole.{Whole}
 use Rattle.fc_stands.specs.Apart.{entry_apart}
 use Rattle.fc_stands.specs.Phase.{IsDecided, StandsAt}
@@ -41,7 +39,6 @@ use Rattle.law_commanded.proofs.Whole.{some_lane}
 use Rattle.law_commanded.specs.Lanes.{HasSameDisks, HaveLanes, NoneWent}
 use Rattle.law_commanded.specs.Law.{AreLanesIn, CommandedLaw, HasCome, IsAnew, IsCommanded, by_lanes, gone_by, left_behind}
 use Rattle.law_crash.specs.Points.{Point}
-use Rattle.law_noted.specs.Records.{removed_by}
 use Rattle.fc_noted.proofs.GoodIds.{good_ids, good_without}
 use Rattle.fc_noted.specs.Making.{HasActed, HasStayed, IsImageAfter, IsImageAfter.about, IsImageAfter.acted, told_by}
 

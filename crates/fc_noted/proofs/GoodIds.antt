@@ -1,11 +1,11 @@
 -- The ids in an image of what is sound are ids.
-use Rattle.std.proofs.Common.{◌≡◌, ◌⊎◌, ℕ, suc, ◌+◌, ◌-◌, ◌^◌, ◌<◌, ◌==◌, Bool, true, false, cond, IsSome, Option, Some, None, List, [], ◌∷◌, length, map, get_or, All, Contains, inl, inr, refl, sym, ap, subst, ◌∙◌, arith}
-use Rattle.std.specs.List.{filter, find}
+use Rattle.std.proofs.Common.{◌≡◌, ℕ, suc, ◌<◌, ◌==◌, Bool, true, false, cond, IsSome, Option, Some, None, List, [], ◌∷◌, length, map, get_or, All, Contains, inl, inr, refl, sym, subst, arith}
+use Rattle.std.specs.List.{filter}
 use Rattle.std.specs.Option.{ForSome}
 use Rattle.std.proofs.lemmas.Bool.{eqb-true}
 use Rattle.std.proofs.lemmas.List.Elements.{All-map}
 use Rattle.fc_base.specs.Sheet.{Slot, slot_at}
-use Rattle.fc_base.specs.Tables.{Tables, group_with, volume_with}
+use Rattle.fc_base.specs.Tables.{group_with, volume_with}
 use Rattle.fc_base.specs.declared.ids.GroupId.{GroupId}
 use Rattle.fc_base.specs.declared.ids.VolId.{VolId}
 use Rattle.fc_base.specs.declared.volume.Group.{Group}
