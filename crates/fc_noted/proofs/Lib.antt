@@ -21,6 +21,7 @@ mod Nexts
 mod Opening
 mod Putting
 mod Resting
+mod Standing
 mod Stepping
 mod Tidying
 mod Commanding
