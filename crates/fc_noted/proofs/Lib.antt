@@ -24,4 +24,5 @@ mod Resting
 mod Standing
 mod Stepping
 mod Tidying
+mod Writing
 mod Commanding
