@@ -13,6 +13,7 @@ mod Fitting
 mod GoingAlong
 mod GoodIds
 mod Holding
+mod Idle
 mod InHand
 mod Lines
 mod Marked

@@ -1,5 +1,5 @@
 -- A write that is next can begin in the lane of its grain.
-use Rattle.std.proofs.Common.{◌≡◌, ℕ, ◌+◌, ◌-◌, ◌*◌, ◌%◌, ◌^◌, ◌<◌, Contains, List, length, slice_index_or, refl, sym, ap, subst, ◌∙◌}
+use Rattle.std.proofs.Common.{◌≡◌, ℕ, ◌+◌, ◌-◌, ◌*◌, ◌%◌, ◌^◌, ◌<◌, Contains, List, [], length, slice_index_or, refl, sym, ap, subst, ◌∙◌}
 use Rattle.std.proofs.lemmas.List.{get_or_default}
 use Rattle.fc_base.specs.Grain.{grain_blocks}
 use Rattle.fc_base.specs.Tables.{Tables}
@@ -8,21 +8,25 @@ use Rattle.fc_base.specs.declared.request.Request.TheVariants.{Write as WriteBlo
 use Rattle.fc_base.specs.declared.size.GrainSize.{GrainSize}
 use Rattle.fc_desk.specs.Control.{ControlState}
 use Rattle.fc_entry.specs.Picture.{grain_of_block}
+use Rattle.fc_entry.specs.declared.entry.Entry.{Entry}
 use Rattle.fc_follow.specs.Following.{Followed}
+use Rattle.fc_lane.specs.Entering.{HasFollowed}
 use Rattle.fc_lane.specs.Lane.{IsFollowing, LaneView, of}
 use Rattle.fc_lanes.specs.Asking.{part_of}
 use Rattle.fc_lanes.specs.declared.access.Access.TheVariants.{Write}
 use Rattle.fc_legal.specs.Asked.{end_in, first_in}
-use Rattle.fc_legal.specs.Whole.{Whole}
+use Rattle.fc_legal.specs.Steps.{after_access}
+use Rattle.fc_legal.specs.Whole.{Whole, lane_of_grain}
 use Rattle.fc_parts.specs.Law.{IsInVolume}
 use Rattle.fc_rules.specs.LaneFits.{FitsPart}
 use Rattle.fc_script.specs.Asking.{TouchesGrain}
-use Rattle.fc_stands.proofs.Parting.{can_access}
+use Rattle.fc_stands.proofs.Parting.{can_access, turn}
 use Rattle.fc_stands.proofs.Ranging.{is_part_of}
 use Rattle.fc_stands.proofs.Turning.{IsInGrain, inside_of, is_in_grain, is_inside}
+use Rattle.fc_stands.proofs.Turns.{IsTurn}
 use Rattle.fc_stands.specs.Store.{StandsFor, StoreView}
 use Rattle.fc_store.specs.Ready.{IsReadyAt}
-use Rattle.fc_store.specs.Stepping.{lane_in, no_lane}
+use Rattle.fc_store.specs.Stepping.{IsInLane, lane_in, no_lane}
 
 -- the grain that blocks touch, by a control part that is the same
 pub touches_there : (old now : ControlState) (volume : VolId) (block count g : ℕ) → now ≡ old → TouchesGrain old.grain old.tables volume block count g → TouchesGrain now.grain now.tables volume block count g
@@ -62,3 +66,17 @@ module _ (s : StoreView) (w : Whole) (stands : StandsFor s w) (g place : ℕ) (r
   write_can volume block count first many t within =
       let lane : LaneView = lane_in s place in
       can_access s w g place lane lane lane.plan_room lane.entry_room stands ready.at lane_is refl t.of volume first many t.there t.id_is within t.inside
+
+  -- it was answered at once: nothing was done, and the history goes on with its entry
+  module _ (volume : VolId) (block count first many : ℕ) (t : TouchesGrain s.control.grain s.control.tables volume block count g) (within : IsInGrain s.control.grain first many g) (byte number : ℕ) (entry : Entry) (then : StoreView)
+      (followed : HasFollowed (lane_in s place) (λ told. FitsPart (of (lane_in s place)) told volume first many) number 0 (WriteBlocks (record { volume = volume; block = first; count = many; byte = byte })) entry (lane_in then place))
+      (is : IsInLane place s then) (few : entry.calls < 2 ^ 32) (counted : w.entries ≡ number) where
+    pub answered_turn : IsTurn (StandsFor then) s.control.grain w (WriteBlocks (record { volume = volume; block = first; count = many; byte = byte })) entry (after_access s.control.grain w (lane_of_grain w g) entry)
+    answered_turn =
+        let lane : LaneView = lane_in s place in
+        subst (λ (x : StoreView). IsTurn (StandsFor x) s.control.grain w (WriteBlocks (record { volume = volume; block = first; count = many; byte = byte })) entry (after_access s.control.grain w (lane_of_grain w g) entry)) (sym is)
+        (turn s w g place lane lane lane.plan_room lane.entry_room stands ready.at lane_is refl t.of volume (Write byte) first many number entry (lane_in then place) t.there t.id_is within t.inside
+        followed.right followed.asked followed.same few counted)
+
+    pub no_effects : entry.effects ≡ []
+    no_effects = let can = write_can volume block count first many t within in (followed.right can.0 can.1 can.2).0.no_effects
