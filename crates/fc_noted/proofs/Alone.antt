@@ -179,7 +179,7 @@ module _ {C D : Type 0} (seen : D → List ℕ) (may_leave : D → List ℕ → 
       still_agree : HoldStill n.store.lanes store.lanes → (back : List (List NamedDisk)) → HoldAllOf n.named store.lanes back → AllAgree d.begun.control.grain d.point.kept d.point.disks back
       still_agree still back hold =
           let stored_same : (v y : ℕ) → stored then.grains.volumes v y ≡ stored now.grains.volumes v y =
-          λ v y. stored_still now.grains.volumes then.grains.volumes v y (stay_new.there v ∙ sym (stay_old.there v)) (λ there. still way.place v no_lane there) in
+          λ v y. stored_still now.grains.volumes then.grains.volumes v y (stay_new.there v ∙ sym (stay_old.there v)) (λ there. (still way.place v no_lane there).1) in
           let along : GoAlong grain w way.place d.point.kept d.point.kept now.grains then.grains d.point.disks d.point.disks = along_still grain w way.place d.point.kept (kept_after d.point.kept x) now.grains then.grains d.point.disks moved.1 stored_same in
           all_agree grain n.named d.point.kept store.lanes d.point.disks back no_lane (matches_by d.point.kept along) hold
 

@@ -16,6 +16,7 @@ use Rattle.fc_kept.specs.Images.{kept_in, meta_of}
 use Rattle.fc_kept.specs.Recoverable.{Recoverable}
 use Rattle.fc_lane.specs.Lane.{IsSameLane}
 use Rattle.fc_lanes.specs.AllLanes.{EachLane}
+use Rattle.fc_legal.specs.Added.{IsTold}
 use Rattle.fc_legal.specs.Lawful.{IsLawful}
 use Rattle.fc_legal.specs.Steps.{Step, left_by}
 use Rattle.fc_legal.specs.Whole.{Whole}
@@ -25,7 +26,9 @@ use Rattle.fc_script.specs.Asking.{IsAnswer, IsLeft}
 use Rattle.fc_script.specs.declared.script.Script.{Script}
 use Rattle.fc_stands.specs.Phase.{StandsAt}
 use Rattle.fc_stands.specs.Store.{StandsFor, StoreView}
+use Rattle.law_crash.specs.Points.{Point}
 use Rattle.law_noted.specs.Records.{removed_by}
+use Rattle.law_noted.specs.Runs.{HasRun}
 use Rattle.fc_steps.specs.UnderWay.{next_of}
 use Rattle.fc_steps.specs.declared.stepping.Next.{Next}
 use Rattle.fc_steps.specs.declared.stepping.Next.TheVariants.{Own}
@@ -33,7 +36,7 @@ use Rattle.fc_store.specs.Stepping.{lane_in}
 use Rattle.fc_held.specs.Held.{HaveVolumes, HoldAllOf}
 use Rattle.law_noted.specs.DataSteps.{Copies}
 use Rattle.fc_marks.specs.Marks.{is_open_any}
-use Rattle.fc_noted.specs.Noted.{GoesOnTo, IsAt, IsNotedAt}
+use Rattle.fc_noted.specs.Noted.{GoesOnTo, IsAt, IsNotedAt, Keeps}
 use Rattle.fc_noted.specs.Stopping.{HasStopped, LeavesRecoverable}
 use Rattle.fc_marks.specs.declared.error.NotedStop.{NotedStop}
 use Rattle.fc_marks.specs.declared.error.NotedStop.TheVariants.{LogFull, NoMemory as WantsMemory}
@@ -158,9 +161,17 @@ module _ {C D : Type 0} (seen : D → List ℕ) (may_leave : D → List ℕ → 
   abbrev pub LeavesAnew : Decision → Noted C D → List ℕ → Type 0
   LeavesAnew d old c = (recovered c ≡ found seen old.meta) ⊎ ((image : MetaImage) × (recovered c ≡ Image image) × IsImageAfter old.store d image)
 
+  -- Between two entries, whatever the script goes on to ask.
+  pub record IsHeldAt (n : Noted C D) (history : HistoryState) (w : Whole) (least : List Row) : Type 0 where
+    pub idle : n.under_way ≡ None
+    pub told : IsTold (StandsFor n.store) history w
+    pub point : Point
+    pub run : HasRun n.store.control.grain history.entries w least point
+    pub keeps : Keeps seen may_leave n.store.control.grain n.meta n w None point
+
   -- A command's entry leads on, once it is logged, to what the noted store then stands for.
   abbrev pub LeadsOn : Noted C D → HistoryState → Entry → Noted C D → Type 0
   LeadsOn old before entry new =
       (w : Whole) (least : List Row) → IsNotedAt seen may_leave old before w least →
       (next : Whole) × (least_next : List Row) × Step old.store.control.grain w (record entry { number = w.entries }) next
-      × IsNotedAt seen may_leave new (record before { entries = before.entries ++ (record entry { number = w.entries }) ∷ [] }) next least_next
+      × IsHeldAt new (record before { entries = before.entries ++ (record entry { number = w.entries }) ∷ [] }) next least_next

@@ -44,7 +44,7 @@ HoldsTheSame old new = (new.kind ≡ old.kind) × (new.contents ≡ old.contents
 
 abbrev pub HoldStill : List LaneView → List LaneView → Type 0
 HoldStill old new = (i v : ℕ) (d : LaneView) → is_there (slice_index_or old i d).grains.volumes v ≡ true →
-    HoldsTheSame (volume_of (slice_index_or old i d).grains.volumes v) (volume_of (slice_index_or new i d).grains.volumes v)
+    (is_there (slice_index_or new i d).grains.volumes v ≡ true) × HoldsTheSame (volume_of (slice_index_or old i d).grains.volumes v) (volume_of (slice_index_or new i d).grains.volumes v)
 
 -- While metadata is written, the lanes hold what they held before the step; or what they do behind it, where that is still so.
 abbrev pub MayHold : StoreView → StoreView → List LaneView → Type 0

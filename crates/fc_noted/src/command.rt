@@ -160,12 +160,13 @@ impl<D: Mdisk, M: MetaDisk> Noted<D, M> {
     /// The entry of a command that is done.
     fn command_entry(&mut self, command: Command) -> Result<Entry, NotedStop>
         requires at { (w : Whole) × (least : List Row) × (history : HistoryState) × IsNotedAt M.seen M.may_leave self.old history w least × (length history.entries < 262144) }
+        requires next { (w : Whole) → StandsFor self.old.store w → IsNext self.old.store.control.grain w (Some (Asked.Command command)) (agenda_of self.old.store.control.grain self.old.script) }
         requires decided { IsDecided command }
         ensures leads { IfOk result (λ entry. (history : HistoryState) → length history.entries < 262144 → LeadsOn M.seen M.may_leave self.old history entry self.new) }
         ensures asked { IfOk result (λ entry. IsAsked 0 0 (Request.Command command) entry) }
-        ensures any_moment { (history : HistoryState) (w : Whole) (least : List Row) → IsNotedAt M.seen M.may_leave self.old history w least →
+        ensures any_moment { (history : HistoryState) (w : Whole) (least : List Row) → length history.entries < 262144 → IsNotedAt M.seen M.may_leave self.old history w least →
             LeavesOnly M.moment M.left_since (disk_of self.old.meta) (disk_of self.new.meta) (LeavesRecoverable self.old self.new w least) }
-        ensures stopped { OnErr result ((history : HistoryState) (w : Whole) (least : List Row) → IsNotedAt M.seen M.may_leave self.old history w least → HasStopped M.may_leave self.old self.new w least) }
+        ensures stopped { OnErr result ((history : HistoryState) (w : Whole) (least : List Row) → length history.entries < 262144 → IsNotedAt M.seen M.may_leave self.old history w least → HasStopped M.may_leave self.old self.new w least) }
         ensures script { self.new.script ≡ self.old.script }
         ensures live { self.new.live ≡ self.old.live }
     {
