@@ -9,8 +9,8 @@ use Rattle.fc_base.specs.Pools.{of_kind}
 use Rattle.fc_base.specs.declared.disk.DiskKind.{DiskKind}
 use Rattle.fc_grains.specs.Grains.{GrainsState}
 use Rattle.fc_grains.specs.Volumes.{VolumeGrains}
-use Rattle.law_crash.specs.Leaving.{is_kind}
 use Rattle.fc_held.specs.Held.{free_in, is_unknown}
+use Rattle.fc_kept.specs.Disks.{is_kind}
 use Rattle.law_commanded.specs.Lanes.{HeldVolume, IsCounted, has_kind, held_of, is_known, known}
 
 -- ---- the other way round

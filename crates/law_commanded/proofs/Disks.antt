@@ -11,11 +11,10 @@ use Rattle.fc_decided.proofs.Lists.{any_there, find_none, find_one, filter_from,
 use Rattle.fc_entry.specs.Picture.{Content, Bytes, Lost, content_at}
 use Rattle.fc_grains.specs.Grains.{GrainsState}
 use Rattle.fc_grains.specs.Volumes.{VolumeGrains, volume_of}
-use Rattle.fc_kept.specs.Disks.{NamedDisk, disk_of, is_of, on_disk}
+use Rattle.fc_kept.specs.Disks.{NamedDisk, disk_of, is_of, on_disk, is_free, is_kind}
 use Rattle.fc_kept.specs.Kept.{Kept, is_lost_in}
 use Rattle.fc_mdisk.specs.Disk.{DiskState}
 use Rattle.fc_rules.specs.LaneTold.{LaneOf, number_at}
-use Rattle.law_crash.specs.Leaving.{is_free, is_kind}
 use Rattle.fc_held.specs.Held.{AreOnce, Matches, is_of_kind, is_unknown}
 use Rattle.law_commanded.specs.Lanes.{IsCounted}
 use Rattle.law_commanded.proofs.Counting.{count_reverse}

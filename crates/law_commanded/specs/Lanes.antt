@@ -9,11 +9,11 @@ use Rattle.fc_entry.specs.Picture.{Content, content_at, zeros}
 use Rattle.fc_grains.specs.Grains.{GrainsState}
 use Rattle.fc_grains.specs.Volumes.{VolumeGrains, without}
 use Rattle.fc_imaging.specs.Imaging.{is_lost_at}
+use Rattle.fc_kept.specs.Disks.{is_kind}
 use Rattle.fc_kept.specs.Kept.{Kept, is_lost_in}
 use Rattle.fc_lane.specs.Lane.{LaneView}
 use Rattle.fc_legal.specs.Whole.{Whole, lanes}
 use Rattle.fc_stands.specs.Store.{AreLanesOf}
-use Rattle.law_crash.specs.Leaving.{is_kind}
 use Rattle.fc_held.specs.Held.{AreOnce, is_of_kind}
 
 -- ---- a lane by itself
