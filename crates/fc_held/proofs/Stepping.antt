@@ -9,12 +9,11 @@ use Rattle.fc_decided.proofs.Lists.{map_from, map_in}
 use Rattle.fc_entry.specs.Picture.{content_at}
 use Rattle.fc_grains.specs.Grains.{GrainsState}
 use Rattle.fc_grains.specs.Volumes.{VolumeGrains, is_there, stored, volume_of}
-use Rattle.fc_kept.specs.Disks.{NamedDisk, is_of, disk_of, on_disk}
+use Rattle.fc_kept.specs.Disks.{NamedDisk, is_of, disk_of, on_disk, is_free, is_kind}
 use Rattle.fc_kept.specs.Kept.{Kept, is_lost_in}
 use Rattle.fc_rules.specs.LaneTold.{LaneOf, number_at}
 use Rattle.fc_steps.specs.Standing.{VolumeKind, kind_of_grains}
 use Rattle.law_crash.specs.Doing.{SameDisk}
-use Rattle.law_crash.specs.Leaving.{is_free, is_kind}
 use Rattle.law_crash.proofs.Disks.{find_by, same_name, was_of}
 use Rattle.fc_held.specs.Held.{AreOnce, GoesAlong, Matches, StayHeld, is_known}
 
