@@ -5,4 +5,5 @@ mod Finishing
 mod GoingAlong
 mod InHand
 mod Moments
+mod Opening
 mod Resting

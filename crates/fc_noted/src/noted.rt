@@ -4,7 +4,7 @@ ghost use Rattle.std.specs.Prelude.{◌≡◌, ◌<◌, ◌^◌, [], IfErr, IfOk
 ghost use Rattle.std.specs.List.{All};
 ghost use Rattle.fc_changed.specs.Row.{Row};
 ghost use Rattle.fc_entry.specs.HistoryState.{HistoryState};
-ghost use Rattle.fc_lanes.specs.Dealing.{pools_dealt};
+ghost use Rattle.fc_lanes.specs.Dealing.{Begin, all_dealt, pools_dealt};
 ghost use Rattle.fc_legal.specs.Agenda.{line_read};
 ghost use Rattle.fc_legal.specs.Whole.{Whole, opened};
 ghost use Rattle.fc_mdisk.specs.Disk.{IsFresh};
@@ -21,10 +21,12 @@ use fc_base::command::Line;
 use fc_base::limits::LANES;
 use fc_base::outcome::NoMemory;
 use fc_base::size::GrainSize;
+use fc_desk::Control;
 use fc_held::all_named;
 use fc_image::MetaRecord;
 use fc_imaging::image_of;
 use fc_lane::doing::Doing;
+use fc_lanes::deal::{deal, make_lanes};
 use fc_marks::{Mark, NotedStop};
 use fc_mdisk::mdisk::Mdisk;
 use fc_meta::{Meta, MetaError};
@@ -84,7 +86,7 @@ impl<D: Mdisk, M: MetaDisk> Noted<D, M> {
         ensures any_moment { LeavesOnly M.moment M.left_since disk (opened_meta result) LeavesNothingYet }
     {
         let count = disks.len();
-        let store = match Store::new(alloc, grain, disks) {
+        let store = match first_store(alloc, grain, disks) {
             Ok(store) => store,
             Err(NoMemory) => return Err((disk, NotedStop::NoMemory)),
         };
@@ -150,6 +152,29 @@ impl<D: Mdisk, M: MetaDisk> Noted<D, M> {
             Err(NoMemory) => Err((meta.into_disk(), NoMemory)),
         }
     }
+}
+
+/// A store without volumes, whose lanes begin over these disks, which are dealt to them in turn. Refused, the disks are gone.
+fn first_store<D: Mdisk>(
+    alloc: Global,
+    grain: GrainSize,
+    disks: Vec<D>,
+) -> Result<Store<D>, NoMemory>
+    requires few { vec_len disks < 2 ^ 30 }
+    requires fresh { All IsFresh (map D.meaning disks.items) }
+    ensures stands { IfOk result (λ s. StandsFor s (opened (pools_dealt LANES (map D.meaning disks.items)))) }
+    ensures grain { IfOk result (λ s. s.control.grain ≡ grain) }
+    ensures begin { IfOk result (λ s. Begin grain LANES (all_dealt LANES (map D.meaning disks.items)) s.lanes) }
+{
+    let lists = match deal(alloc, LANES as usize, disks) {
+        Ok(lists) => lists,
+        Err(NoMemory) => return Err(NoMemory),
+    };
+    let lanes = match make_lanes(alloc, grain, lists) {
+        Ok(lanes) => lanes,
+        Err(NoMemory) => return Err(NoMemory),
+    };
+    Ok(Store::from_parts_in(alloc, Control::new(alloc, grain), lanes))
 }
 
 /// The stop of an error of the writer.
