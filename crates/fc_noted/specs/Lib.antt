@@ -1,4 +1,0 @@
--- A noted store, to be read top to bottom.
-pub mod Noted
-pub mod Stopping
-pub mod Making
